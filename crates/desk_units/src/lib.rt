@@ -1,0 +1,79 @@
+//! Widths of type in atoms, of which a step of 0.0005 inch has 648.
+#![tactic(auto)]
+
+ghost use Rattle.std.specs.Prelude.{◌≡◌, ◌≤◌, SomeIff};
+
+use std::marker::Model;
+
+/// A width in atoms; a step of 0.0005 inch has 648 of them.
+#[derive(Clone, Copy, PartialEq, Eq, Debug)]
+pub struct Atoms(i64);
+
+impl Model for Atoms {
+    ghost use Rattle.std.specs.Prelude.{ℤ};
+
+    ghost Value = { ℤ };
+
+    ghost view = { λ a. a.0 };
+
+    ghost inverse = { λ z. record { 0 = z } };
+}
+
+impl Atoms {
+    pub fn new(atoms: i64) -> Atoms
+        ensures { result ≡ atoms }
+    {
+        Atoms(atoms)
+    }
+
+    pub fn get(self) -> i64
+        ensures { result ≡ self }
+    {
+        self.0
+    }
+}
+
+/// The length of a pica: a sixth of an inch, or 0.1660 inch.
+#[derive(Clone, Copy, PartialEq, Eq, Debug)]
+pub enum Pica {
+    Sixth,
+    American,
+}
+
+/// The set of a wedge in quarter points, 20 to 96.
+#[derive(Clone, Copy, PartialEq, Eq, Debug)]
+pub struct SetQ {
+    quarters: u8,
+}
+
+impl Model for SetQ {
+    ghost use Rattle.std.specs.Prelude.{ℕ, ◌≤◌};
+
+    ghost Value = { ℕ };
+
+    ghost view = { λ q. q.quarters };
+
+    ghost invariant = { λ q. (20 ≤ q.quarters) × (q.quarters ≤ 96) };
+
+    ghost inverse = { λ n. record { quarters = n } };
+}
+
+impl SetQ {
+    pub fn new(quarters: u8) -> Option<SetQ>
+        ensures { SomeIff result ((20 ≤ quarters) × (quarters ≤ 96)) quarters }
+    {
+        if quarters >= 20 && quarters <= 96 {
+            Some(SetQ { quarters })
+        } else {
+            None
+        }
+    }
+
+    pub fn get(self) -> u8
+        ensures value { result ≡ self }
+        ensures low { 20 ≤ self }
+        ensures high { self ≤ 96 }
+    {
+        self.quarters
+    }
+}
