@@ -1,0 +1,58 @@
+-- The laws of the definitions.
+use Rattle.std.specs.Prelude.{◌≡◌, ℕ, false, Some, List, map}
+use Rattle.std.specs.List.{AllByRecursion, insert}
+use Rattle.std.specs.Cmp.{IsTotalOrder}
+use Rattle.std.specs.declared.cmp.Ordering.TheVariants.{Equal}
+use Rattle.desk_ops.specs.declared.op.Op.{Op}
+use Rattle.desk_ops.specs.Stamp.{same, head}
+use Rattle.desk_ops.specs.Op.{IsLawful, Insertion, insertion}
+use Rattle.desk_ops.specs.OpSet.{OpSet, with_op, in_order, union, IsWithin, AllLawful}
+use Rattle.desk_ops.specs.Lists.{Among, Precedes}
+use Rattle.desk_ops.specs.Held.{is_borne, live_inserts, clear_inserts, IsUnforked}
+use Rattle.desk_ops.specs.Walk.{walk_from, walk}
+use Rattle.desk_ops.specs.Kids.{IsWalkOfKids}
+use Rattle.desk_ops.specs.PathOrder.{path, path_cmp, InPathOrder}
+use Rattle.desk_ops.specs.Shown.{shown}
+use Rattle.desk_ops.specs.Scan.{scan_insert, with_insert, IsAscending, IsNext}
+use Rattle.desk_ops.specs.Place.{IsPlace}
+use Rattle.desk_ops.specs.Drain.{IsThere, IsTakenIn, IsDrained}
+
+abbrev pub WalkGoesByKids : Type 0
+WalkGoesByKids = (h : OpSet) → AllLawful h → IsWalkOfKids (in_order h)
+
+-- elements that are shown before and after stand in one order, forks and all
+abbrev pub OrderIsKept : Type 0
+OrderIsKept = (h g : OpSet) → AllLawful h → AllLawful g → IsWithin h g → (x y : Insertion)
+    → Precedes x y (shown (in_order h)) → Among x (shown (in_order g)) → Among y (shown (in_order g)) → Precedes x y (shown (in_order g))
+
+-- where no stamp of the larger set is forked, its path order is total, tells its live inserts apart, and what the smaller shows stands in it
+pub record IsOneOrder (h g : OpSet) : Type 0 where
+  pub total : IsTotalOrder path_cmp
+  pub apart : (x y : Insertion) → Among x (live_inserts (in_order g)) → Among y (live_inserts (in_order g)) → path_cmp (path (in_order g) x.stamp) (path (in_order g) y.stamp) ≡ Equal → x ≡ y
+  pub holds : InPathOrder (path (in_order g)) (shown (in_order h))
+
+abbrev pub OneOrder : Type 0
+OneOrder = (h g : OpSet) → AllLawful h → AllLawful g → IsUnforked g → IsWithin h g → IsOneOrder h g
+
+-- an insert whose stamp is new, and for which no clear insert waits
+abbrev pub ScanGivesWalk : Type 0
+ScanGivesWalk = (h : OpSet) (o : Op) (x : Insertion) → AllLawful h → IsLawful o → insertion o ≡ Some x → is_borne (in_order h) x.stamp ≡ false
+    → AllByRecursion (λ y. same y.parent x.stamp ≡ false) (clear_inserts (in_order h)) → walk (in_order (with_op h o)) ≡ scan_insert x (walk (in_order h))
+
+-- of inserts in ascending order, with one more whose stamp is new, on which none hangs, and whose parent is older:
+-- put at the place that the walk's stamps tell, it gives the walk with it
+abbrev pub PlaceGivesWalk : Type 0
+PlaceGivesWalk = (xs : List Insertion) (e : Insertion) (i : ℕ) → IsAscending xs → AllByRecursion (λ x. same x.stamp head ≡ false) xs → IsNext e xs
+    → IsPlace (map (λ x. x.stamp) (walk_from xs head)) e.parent e.stamp i → walk_from (with_insert e xs) head ≡ insert (walk_from xs head) i e
+
+-- an insert that is taken in by the scan, and the end of a drain: then the walk is the set's
+pub record DrainGivesWalk : Type 0 where
+  pub step : (h : OpSet) → AllLawful h → (xs : List Insertion) → IsTakenIn h xs → (e : Insertion) → Among e (clear_inserts (in_order h)) → AllByRecursion (λ x. same x.stamp e.stamp ≡ false) xs → IsThere xs e.parent
+      → IsTakenIn h (with_insert e xs) × (walk_from (with_insert e xs) head ≡ scan_insert e (walk_from xs head))
+  pub done : (h : OpSet) → AllLawful h → (xs : List Insertion) → IsDrained h xs → walk_from xs head ≡ walk (in_order h)
+
+-- merging is a union of sets
+pub record MergingIsUnion : Type 0 where
+  pub comm : (h g : OpSet) → union h g ≡ union g h
+  pub assoc : (h g k : OpSet) → union (union h g) k ≡ union h (union g k)
+  pub idempotent : (h : OpSet) → union h h ≡ h

@@ -1,0 +1,37 @@
+//! The laws of the definitions, each on a function with an empty body.
+ghost use Rattle.desk_ops.specs.Laws.{DrainGivesWalk, MergingIsUnion, OneOrder, OrderIsKept, PlaceGivesWalk, ScanGivesWalk, WalkGoesByKids};
+
+/// The walk gives each child in turn, each directly followed by its own walk.
+pub fn walk_goes_by_kids()
+    ensures { WalkGoesByKids }
+{}
+
+/// Elements that two sets of lawful operations show, the one within the other, stand in one order.
+pub fn order_is_kept()
+    ensures { OrderIsKept }
+{}
+
+/// Where no stamp is forked, one order holds what each part of the set shows.
+pub fn one_order_holds()
+    ensures { OneOrder }
+{}
+
+/// One insert more, put by the scan, gives the walk with it.
+pub fn scan_gives_walk()
+    ensures { ScanGivesWalk }
+{}
+
+/// The place that the walk's stamps tell gives the walk with one insert more.
+pub fn place_gives_walk()
+    ensures { PlaceGivesWalk }
+{}
+
+/// A drain takes in one insert after another, and at its end has the set's walk.
+pub fn drain_gives_walk()
+    ensures { DrainGivesWalk }
+{}
+
+/// Merging is commutative, associative and idempotent.
+pub fn merging_is_union()
+    ensures { MergingIsUnion }
+{}
