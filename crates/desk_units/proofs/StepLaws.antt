@@ -1,9 +1,9 @@
 -- One number of steps leaves less than a step for each space.
-use Rattle.std.proofs.Common.{◌≡◌, ℕ, zero, suc, ◌+◌, ◌-◌, ◌*◌, ◌/◌, ◌%◌, ◌<◌, ◌≤◌, ◌⊎◌, inl, inr, refl, arith}
-use Rattle.std.specs.Prelude.{ℤ, pos, negsuc, ◌+ℤ◌, ◌-ℤ◌, ◌*ℤ◌, ◌≤ℤ◌, ◌<ℤ◌}
+use Rattle.std.proofs.Common.{◌≡◌, ℕ, suc, ◌+◌, ◌*◌, ◌<◌, arith}
+use Rattle.std.specs.Prelude.{ℤ, pos, negsuc, ◌-ℤ◌, ◌*ℤ◌, ◌≤ℤ◌, ◌<ℤ◌}
 use Rattle.std.proofs.lemmas.Int.{ints, by_lt_z}
 use Rattle.std.proofs.Math.Nat.{mul-le-mul_left}
-use Rattle.desk_units.specs.Widths.{step, IsSteps, steps_of, floor_div, OneNumberOfSteps}
+use Rattle.desk_units.specs.Widths.{step, steps_of, floor_div, OneNumberOfSteps}
 
 pub steps_are : (rest : ℤ) (n : ℕ) → 0 < n → (pos 0 ≤ℤ (rest -ℤ pos n *ℤ floor_div rest n)) × ((rest -ℤ pos n *ℤ floor_div rest n) <ℤ pos n)
 steps_are (pos a) n some = (omega (arith, ints), omega (arith, ints))

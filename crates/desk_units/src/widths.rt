@@ -89,6 +89,7 @@ mod tests {
             (i64::MAX, 4_294_967_296, 3_314_017),
             (i64::MIN, 4_294_967_296, -3_314_018),
         ] {
+            assert!(rt; spaces >= 1 && spaces <= 4_294_967_296);
             assert_eq!(rt;
                 floor_steps(Atoms::new(atoms), spaces),
                 want,
