@@ -1,0 +1,12 @@
+use Rattle.std.proofs.Common.{◌≡◌, ◌+◌, ◌*◌, ◌≤◌, length, drop}
+use Rattle.std.specs.List.{flat_map}
+use Rattle.desk_codec.specs.Feed.{spelling, feed}
+use Rattle.desk_codec.proofs.writing.feed_size.Given as goal
+
+-- what is counted, and what is left
+abbrev pub invariant-loop-op : goal.invariant-loop-op
+invariant-loop-op l =
+    record {
+      bound : l.size ≤ 26 * l.op-index + 4;
+      counted : l.size + length (flat_map spelling (drop l.op-index l.ops)) ≡ length (feed l.ops);
+    }

@@ -1,0 +1,26 @@
+//! What holds of feeds, whoever writes or reads them.
+
+ghost use Rattle.desk_codec.specs.Laws.{Sizes, PrefixFree, OneList, OneFeed};
+
+/// An insert takes 26 bytes, a delete 21, and a setting 16.
+#[tactic(auto, using(crate::proofs::Grammar::sizes))]
+pub fn law_of_sizes()
+    ensures { Sizes }
+{}
+
+/// No operation's bytes begin another's.
+#[tactic(auto, using(crate::proofs::Grammar::prefix_free))]
+pub fn law_of_prefixes()
+    ensures { PrefixFree }
+{}
+
+/// Bytes are the feed of at most one list of operations.
+pub fn law_of_one_list()
+    ensures { OneList }
+{}
+
+/// Operations have one feed.
+#[tactic(auto, using(crate::proofs::Grammar::one_feed))]
+pub fn law_of_one_feed()
+    ensures { OneFeed }
+{}

@@ -1,0 +1,105 @@
+//! Writing operations.
+
+ghost use Rattle.std.specs.Prelude.{◌≡◌, ◌+◌, ◌≤◌, ◌++◌, List, length, All, IfOk};
+ghost use Rattle.arrayvec.specs.ArrayVec.{array_vec_len};
+ghost use Rattle.desk_ops.specs.declared.op.Op.{Op};
+ghost use Rattle.desk_ops.specs.Op.{IsLawful};
+ghost use Rattle.desk_ops.specs.Order.{style_code, key_code};
+ghost use Rattle.desk_codec.specs.Feed.{stamp_spelling, spelling, feed, IsFeed};
+
+use crate::form::{Kind, MAGIC, op_size};
+use crate::values::op_known;
+use arrayvec::ArrayVec;
+use desk_ops::{Key, NoMemory, Op, Stamp, Style};
+use std::alloc::Allocator;
+
+/// Appends bytes, for which there is room.
+fn put(out: &mut ArrayVec<u8, 26>, bytes: &[u8])
+    requires { array_vec_len out.old + length bytes.now ≤ 26 }
+    ensures items { out.new.items ≡ out.old.items ++ bytes.now }
+    ensures len { array_vec_len out.new ≡ array_vec_len out.old + length bytes.now }
+{
+    out.try_extend_from_slice(bytes).unwrap()
+}
+
+fn put_stamp(out: &mut ArrayVec<u8, 26>, stamp: &Stamp)
+    requires { array_vec_len out.old + 10 ≤ 26 }
+    ensures items { out.new.items ≡ out.old.items ++ stamp_spelling stamp.now }
+    ensures len { array_vec_len out.new ≡ array_vec_len out.old + 10 }
+{
+    put(out, &stamp.counter.to_be_bytes());
+    put(out, &stamp.site.to_be_bytes());
+}
+
+fn style_byte(style: Style) -> u8
+    ensures { result ≡ style_code style }
+{
+    style as u8
+}
+
+fn key_byte(key: Key) -> u8
+    ensures { result ≡ key_code key }
+{
+    key as u8
+}
+
+/// The bytes of an operation.
+pub fn write_op(op: &Op) -> ArrayVec<u8, 26>
+    requires { IsLawful op.now }
+    ensures { result.items ≡ spelling op.now }
+{
+    let mut out = ArrayVec::new();
+    match op {
+        Op::Insert {
+            stamp,
+            parent,
+            symbol,
+        } => {
+            out.push(Kind::Insert as u8);
+            put_stamp(&mut out, stamp);
+            put_stamp(&mut out, parent);
+            out.push(style_byte(symbol.style));
+            put(&mut out, &u32::from(symbol.ch).to_be_bytes());
+        }
+        Op::Delete { stamp, target } => {
+            out.push(Kind::Delete as u8);
+            put_stamp(&mut out, stamp);
+            put_stamp(&mut out, target);
+        }
+        Op::Set { stamp, key, value } => {
+            out.push(Kind::Set as u8);
+            put_stamp(&mut out, stamp);
+            out.push(key_byte(*key));
+            put(&mut out, &value.to_be_bytes());
+        }
+    }
+    out
+}
+
+/// How many bytes a feed of the operations takes.
+fn feed_size(ops: &[Op]) -> usize
+    ensures { result ≡ length (feed ops.now) }
+{
+    let mut size = MAGIC.len();
+    for op in ops {
+        size += op_size(op);
+    }
+    size
+}
+
+/// The feed of the operations, in their order. Its memory is taken at once.
+pub fn write_feed<A: Allocator>(alloc: A, ops: &[Op]) -> Result<Vec<u8, A>, NoMemory>
+    requires { All IsLawful ops.now }
+    ensures bytes { IfOk result (λ v. v.items ≡ feed ops.now) }
+    // They are the feed of these operations, and of no others.
+    ensures grammar { IfOk result (λ v. IsFeed v.items ops.now) }
+    ensures only { IfOk result (λ v. (others : List Op) → IsFeed v.items others → others ≡ ops.now) }
+{
+    let mut out = Vec::with_capacity(alloc, feed_size(ops))?;
+    out.extend_from_slice(&MAGIC)?;
+    for op in ops {
+        op_known(*op);
+        out.extend_from_slice(write_op(op).as_slice())?;
+    }
+    Ok(out)
+}
