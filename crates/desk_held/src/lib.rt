@@ -38,11 +38,11 @@ pub enum AddRefusal {
 
 /// A finite set of lawful operations, with room for some more.
 #[derive(Drop)]
-pub struct Held<A: Allocator> {
+pub struct Held<A: Allocator + Copy> {
     ops: Vec<Op, A>,
 }
 
-impl<A: Allocator> Model for Held<A> {
+impl<A: Allocator + Copy> Model for Held<A> {
     ghost use Rattle.std.specs.Prelude.{◌-◌, vec_capacity, vec_len};
     ghost use Rattle.desk_ops.specs.OpSet.{from_rising};
     ghost use Rattle.desk_held.specs.Holding.{Holding, holding_code, IsKept};
@@ -56,7 +56,7 @@ impl<A: Allocator> Model for Held<A> {
     ghost invariant = { λ a. IsKept a.ops.items };
 }
 
-impl<A: Allocator> Held<A> {
+impl<A: Allocator + Copy> Held<A> {
     ghost use Rattle.desk_held.specs.Holding.{added_to, greatest_counter};
 
     #[tactic(auto, using(desk_ops::proofs::OpSets::op_sets))]
@@ -171,10 +171,10 @@ impl<A: Allocator> Held<A> {
 
     /// The operations, by stamp and then by bytes.
     #[tactic(auto, using(desk_ops::proofs::OpSets::op_sets))]
-    pub fn in_order<B: Allocator>(&self, alloc: B) -> Result<Vec<Op, B>, NoMemory>
+    pub fn in_order(&self) -> Result<Vec<Op, A>, NoMemory>
         ensures { IfOk result (λ v. v.items ≡ in_order self.now.ops) }
     {
-        Ok(self.ops.to_vec(alloc)?)
+        Ok(self.ops.to_vec(*self.ops.allocator())?)
     }
 }
 
