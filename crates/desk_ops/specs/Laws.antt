@@ -1,24 +1,59 @@
 -- The laws of the definitions.
-use Rattle.std.specs.Prelude.{◌≡◌, ℕ, false, Some, List, map}
-use Rattle.std.specs.List.{AllByRecursion, insert}
+use Rattle.std.specs.Prelude.{◌≡◌, ◌↔◌, ℕ, true, false, not, Some, List, [], ◌∷◌, map}
+use Rattle.std.specs.List.{AllByRecursion, filter, insert}
 use Rattle.std.specs.Cmp.{IsTotalOrder}
 use Rattle.std.specs.declared.cmp.Ordering.TheVariants.{Equal}
 use Rattle.desk_ops.specs.declared.op.Op.{Op}
+use Rattle.desk_ops.specs.declared.op.Stamp.{Stamp}
+use Rattle.desk_ops.specs.declared.op.Key.{Key}
+use Rattle.desk_ops.specs.declared.op.Op.TheVariants.{Delete}
+use Rattle.desk_ops.specs.declared.fault.CopyFault.{CopyFault}
 use Rattle.desk_ops.specs.Stamp.{same, head}
 use Rattle.desk_ops.specs.Op.{IsLawful, Insertion, insertion}
 use Rattle.desk_ops.specs.OpSet.{OpSet, with_op, in_order, union, IsWithin, AllLawful}
 use Rattle.desk_ops.specs.Lists.{Among, Precedes}
-use Rattle.desk_ops.specs.Held.{is_borne, live_inserts, clear_inserts, IsUnforked}
-use Rattle.desk_ops.specs.Walk.{walk_from, walk}
+use Rattle.desk_ops.specs.Held.{is_borne, live_inserts, live_inserts_of, clear_inserts, IsUnforked}
+use Rattle.desk_ops.specs.Live.{insert_of, IsClearOp, IsLiveOp}
+use Rattle.desk_ops.specs.Walk.{walk_from, walk, walk_of}
 use Rattle.desk_ops.specs.Kids.{IsWalkOfKids}
 use Rattle.desk_ops.specs.PathOrder.{path, path_cmp, InPathOrder}
-use Rattle.desk_ops.specs.Shown.{shown}
+use Rattle.desk_ops.specs.Shown.{shown, shown_of, is_deleted_in}
+use Rattle.desk_ops.specs.Settings.{setting_of, IsSetting}
+use Rattle.desk_ops.specs.Faults.{faults_of, HasFault, IsByStamp}
 use Rattle.desk_ops.specs.Scan.{scan_insert, with_insert, IsAscending, IsNext}
 use Rattle.desk_ops.specs.Place.{IsPlace}
 use Rattle.desk_ops.specs.Drain.{IsThere, IsTakenIn, IsDrained}
 
+-- an insert is live exactly if it is clear and its parent is the head or a live insert
+abbrev pub LiveByParents : Type 0
+LiveByParents = (h : OpSet) → AllLawful h → (x : Insertion) → Among x (live_inserts_of h) ↔ IsLiveOp h (insert_of x)
+
+-- no two have one stamp
+abbrev pub AreApart : List Insertion → Type 0
+AreApart [] = Unit {0}
+AreApart (x ∷ xs) = AllByRecursion (λ y. same y.stamp x.stamp ≡ false) xs × AreApart xs
+
+-- the walk holds each live insert, nothing else, and none twice
+pub record WalkHoldsTheLive : Type 0 where
+  pub each : (h : OpSet) → AllLawful h → (x : Insertion) → Among x (walk_of h) ↔ Among x (live_inserts_of h)
+  pub once : (h : OpSet) → AllLawful h → AreApart (walk_of h)
+
 abbrev pub WalkGoesByKids : Type 0
 WalkGoesByKids = (h : OpSet) → AllLawful h → IsWalkOfKids (in_order h)
+
+-- what is shown is the walk, without the elements that a live delete targets
+pub record ShownIsWhatIsLeft : Type 0 where
+  pub left : (h : OpSet) → shown_of h ≡ filter (λ x. not (is_deleted_in h x.stamp)) (walk_of h)
+  pub deleted : (h : OpSet) → AllLawful h → (x : Insertion) → Among x (walk_of h) → (is_deleted_in h x.stamp ≡ true) ↔ ((s : Stamp) × IsLiveOp h (Delete s x.stamp))
+  pub clear_is_live : (h : OpSet) → AllLawful h → (x : Insertion) → Among x (walk_of h) → (s : Stamp) → IsClearOp h (Delete s x.stamp) ↔ IsLiveOp h (Delete s x.stamp)
+
+abbrev pub SettingsByStamp : Type 0
+SettingsByStamp = (h : OpSet) (key : Key) → IsSetting h key (setting_of h key)
+
+-- the faults are those of the stamps that have one, one per stamp, in stamp order
+pub record FaultsByEnds : Type 0 where
+  pub each : (h : OpSet) → AllLawful h → (f : CopyFault) → Among f (faults_of h) ↔ HasFault h f.stamp f.kind
+  pub in_order : (h : OpSet) → IsByStamp (faults_of h)
 
 -- elements that are shown before and after stand in one order, forks and all
 abbrev pub OrderIsKept : Type 0

@@ -1,9 +1,29 @@
 //! The laws of the definitions, each on a function with an empty body.
-ghost use Rattle.desk_ops.specs.Laws.{DrainGivesWalk, MergingIsUnion, OneOrder, OrderIsKept, PlaceGivesWalk, ScanGivesWalk, WalkGoesByKids};
+ghost use Rattle.desk_ops.specs.Laws.{DrainGivesWalk, LiveByParents, MergingIsUnion, OneOrder, OrderIsKept, PlaceGivesWalk, ScanGivesWalk, SettingsByStamp, ShownIsWhatIsLeft, WalkGoesByKids, WalkHoldsTheLive};
+
+/// An insert is live exactly if it is clear and its parent is the head or a live insert.
+pub fn live_goes_by_parents()
+    ensures { LiveByParents }
+{}
+
+/// The walk holds each live insert once, and nothing else.
+pub fn walk_holds_the_live()
+    ensures { WalkHoldsTheLive }
+{}
 
 /// The walk gives each child in turn, each directly followed by its own walk.
 pub fn walk_goes_by_kids()
     ensures { WalkGoesByKids }
+{}
+
+/// What is shown is the walk without the elements that a live delete targets.
+pub fn shown_is_what_is_left()
+    ensures { ShownIsWhatIsLeft }
+{}
+
+/// A setting is the value of the live set of its key with the greatest stamp.
+pub fn settings_go_by_stamp()
+    ensures { SettingsByStamp }
 {}
 
 /// Elements that two sets of lawful operations show, the one within the other, stand in one order.
