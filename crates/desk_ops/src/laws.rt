@@ -1,5 +1,5 @@
 //! The laws of the definitions, each on a function with an empty body.
-ghost use Rattle.desk_ops.specs.Laws.{DrainGivesWalk, LiveByParents, MergingIsUnion, OneOrder, OrderIsKept, PlaceGivesWalk, ScanGivesWalk, SettingsByStamp, ShownIsWhatIsLeft, WalkGoesByKids, WalkHoldsTheLive};
+ghost use Rattle.desk_ops.specs.Laws.{DrainGivesWalk, FaultsByEnds, LiveByParents, MergingIsUnion, OneOrder, OrderIsKept, PlaceGivesWalk, ScanGivesWalk, SettingsByStamp, ShownIsWhatIsLeft, WalkGoesByKids, WalkHoldsTheLive};
 
 /// An insert is live exactly if it is clear and its parent is the head or a live insert.
 pub fn live_goes_by_parents()
@@ -24,6 +24,11 @@ pub fn shown_is_what_is_left()
 /// A setting is the value of the live set of its key with the greatest stamp.
 pub fn settings_go_by_stamp()
     ensures { SettingsByStamp }
+{}
+
+/// A stamp has a fault exactly where it is forked or its operation is stuck: void or waiting by where its way ends.
+pub fn faults_go_by_ends()
+    ensures { FaultsByEnds }
 {}
 
 /// Elements that two sets of lawful operations show, the one within the other, stand in one order.
