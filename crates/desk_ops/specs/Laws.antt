@@ -1,5 +1,5 @@
 -- The laws of the definitions.
-use Rattle.std.specs.Prelude.{◌≡◌, ◌↔◌, ℕ, true, false, not, Some, List, [], ◌∷◌, map}
+use Rattle.std.specs.Prelude.{◌≡◌, ◌↔◌, ℕ, true, false, not, Ok, Some, List, [], ◌∷◌, map}
 use Rattle.std.specs.List.{AllByRecursion, filter, insert}
 use Rattle.std.specs.Cmp.{IsTotalOrder}
 use Rattle.std.specs.declared.cmp.Ordering.TheVariants.{Equal}
@@ -9,7 +9,7 @@ use Rattle.desk_ops.specs.declared.op.Key.{Key}
 use Rattle.desk_ops.specs.declared.op.Op.TheVariants.{Delete}
 use Rattle.desk_ops.specs.declared.fault.CopyFault.{CopyFault}
 use Rattle.desk_ops.specs.Stamp.{same, head}
-use Rattle.desk_ops.specs.Op.{IsLawful, Insertion, insertion}
+use Rattle.desk_ops.specs.Op.{IsLawful, verdict, Insertion, insertion}
 use Rattle.desk_ops.specs.OpSet.{OpSet, with_op, in_order, union, IsWithin, AllLawful}
 use Rattle.desk_ops.specs.Lists.{Among, Precedes}
 use Rattle.desk_ops.specs.Held.{is_borne, live_inserts, live_inserts_of, clear_inserts, IsUnforked}
@@ -23,6 +23,10 @@ use Rattle.desk_ops.specs.Faults.{faults_of, HasFault, IsByStamp}
 use Rattle.desk_ops.specs.Scan.{scan_insert, with_insert, IsAscending, IsNext}
 use Rattle.desk_ops.specs.Place.{IsPlace}
 use Rattle.desk_ops.specs.Drain.{IsThere, IsTakenIn, IsDrained}
+
+-- an operation is lawful exactly where the list of causes finds none
+abbrev pub LawfulIsTold : Type 0
+LawfulIsTold = (op : Op) → (verdict op ≡ Ok tt) ↔ IsLawful op
 
 -- an insert is live exactly if it is clear and its parent is the head or a live insert
 abbrev pub LiveByParents : Type 0

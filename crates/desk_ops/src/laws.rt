@@ -1,5 +1,10 @@
 //! The laws of the definitions, each on a function with an empty body.
-ghost use Rattle.desk_ops.specs.Laws.{DrainGivesWalk, FaultsByEnds, LiveByParents, MergingIsUnion, OneOrder, OrderIsKept, PlaceGivesWalk, ScanGivesWalk, SettingsByStamp, ShownIsWhatIsLeft, WalkGoesByKids, WalkHoldsTheLive};
+ghost use Rattle.desk_ops.specs.Laws.{DrainGivesWalk, FaultsByEnds, LawfulIsTold, LiveByParents, MergingIsUnion, OneOrder, OrderIsKept, PlaceGivesWalk, ScanGivesWalk, SettingsByStamp, ShownIsWhatIsLeft, WalkGoesByKids, WalkHoldsTheLive};
+
+/// An operation is lawful exactly where no cause against it is found.
+pub fn lawful_is_told()
+    ensures { LawfulIsTold }
+{}
 
 /// An insert is live exactly if it is clear and its parent is the head or a live insert.
 pub fn live_goes_by_parents()
