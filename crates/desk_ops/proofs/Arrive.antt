@@ -20,7 +20,7 @@ use Rattle.desk_ops.proofs.Lists.{Each, Each-weaker, each-among, each-from_among
 use Rattle.desk_ops.proofs.Stamps.{same-refl, same-symm, by_cases, before-irrefl, before-trans, before-asym, before-other}
 use Rattle.desk_ops.proofs.Scans.{place-walk, with-later, with-here}
 use Rattle.desk_ops.specs.OrderLaws.{op_total, op_antisymmetric}
-use Rattle.desk_ops.proofs.Unions.{has-with_op}
+use Rattle.desk_ops.proofs.Unions.{has_op-with_op}
 use Rattle.desk_ops.proofs.Means.{IsOrdered, ordered, among-any, any-among, IsClearInsert, clear_insert, clear_one, insert_stamp, some-same, clear_ascending, clear_grows, insert_parent, counter-before, equal}
 use Rattle.desk_ops.proofs.Tree.{walk-clear}
 
@@ -99,7 +99,7 @@ with_insert-ascending e (x ∷ xs) up fresh =
 -- ---- the operations of a set with one more
 
 pub among-with_op : (h : OpSet) (o p : Op) → Among p (in_order (with_op h o)) → (o ≡ p) ⊎ Among p (in_order h)
-among-with_op h o p m = go (sym (has-with_op h o p) ∙ fin.contains_key-keys (with_op h o) p ∙ among-any p (in_order (with_op h o)) m)
+among-with_op h o p m = go (sym (has_op-with_op h o p) ∙ fin.contains_key-keys (with_op h o) p ∙ among-any p (in_order (with_op h o)) m)
   where
     go : (eq_by_cmp op_cmp p o || has_op h p) ≡ true → (o ≡ p) ⊎ Among p (in_order h)
     go e = by_cases (eq_by_cmp op_cmp p o)
@@ -107,7 +107,7 @@ among-with_op h o p m = go (sym (has-with_op h o p) ∙ fin.contains_key-keys (w
         (λ k. inr (any-among p (in_order h) (sym (fin.contains_key-keys h p) ∙ sym (ap (λ b. b || has_op h p) k) ∙ e)))
 
 pub with_op-among : (h : OpSet) (o p : Op) → (o ≡ p) ⊎ Among p (in_order h) → Among p (in_order (with_op h o))
-with_op-among h o p m = any-among p (in_order (with_op h o)) (sym (fin.contains_key-keys (with_op h o) p) ∙ has-with_op h o p ∙ go m)
+with_op-among h o p m = any-among p (in_order (with_op h o)) (sym (fin.contains_key-keys (with_op h o) p) ∙ has_op-with_op h o p ∙ go m)
   where
     or-true : (a : Bool) → (a || true) ≡ true
     or-true true = refl

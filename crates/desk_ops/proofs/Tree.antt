@@ -63,10 +63,10 @@ flat_map-alike : (f g : Insertion → List Insertion) (ks : List Insertion) → 
 flat_map-alike f g [] h = refl
 flat_map-alike f g (k ∷ ks) h = λ i. h.0 i ++ flat_map-alike f g ks h.1 i
 
-filter-hit : (p : Insertion → Bool) (x : Insertion) (xs : List Insertion) → p x ≡ true → filter p (x ∷ xs) ≡ x ∷ filter p xs
+pub filter-hit : {A : Type 0} (p : A → Bool) (x : A) (xs : List A) → p x ≡ true → filter p (x ∷ xs) ≡ x ∷ filter p xs
 filter-hit p x xs h = ap (λ b. cond b (x ∷ filter p xs) (filter p xs)) h
 
-filter-miss : (p : Insertion → Bool) (x : Insertion) (xs : List Insertion) → p x ≡ false → filter p (x ∷ xs) ≡ filter p xs
+pub filter-miss : {A : Type 0} (p : A → Bool) (x : A) (xs : List A) → p x ≡ false → filter p (x ∷ xs) ≡ filter p xs
 filter-miss p x xs h = ap (λ b. cond b (x ∷ filter p xs) (filter p xs)) h
 
 -- what is older hangs on nothing younger
