@@ -1,5 +1,5 @@
 -- The laws of the definitions.
-use Rattle.std.specs.Prelude.{◌≡◌, ◌↔◌, ℕ, true, false, not, Ok, Some, List, [], ◌∷◌, map}
+use Rattle.std.specs.Prelude.{◌≡◌, ◌↔◌, ℕ, true, false, not, ◌||◌, Ok, Some, List, [], ◌∷◌, map}
 use Rattle.std.specs.List.{AllByRecursion, filter, insert}
 use Rattle.std.specs.Cmp.{IsTotalOrder}
 use Rattle.std.specs.declared.cmp.Ordering.TheVariants.{Equal}
@@ -10,7 +10,7 @@ use Rattle.desk_ops.specs.declared.op.Op.TheVariants.{Delete}
 use Rattle.desk_ops.specs.declared.fault.CopyFault.{CopyFault}
 use Rattle.desk_ops.specs.Stamp.{same, head}
 use Rattle.desk_ops.specs.Op.{IsLawful, verdict, Insertion, insertion}
-use Rattle.desk_ops.specs.OpSet.{OpSet, with_op, in_order, union, IsWithin, AllLawful}
+use Rattle.desk_ops.specs.OpSet.{OpSet, has_op, with_op, in_order, union, IsWithin, AllLawful}
 use Rattle.desk_ops.specs.Lists.{Among, Precedes}
 use Rattle.desk_ops.specs.Held.{is_borne, live_inserts, live_inserts_of, clear_inserts, IsUnforked}
 use Rattle.desk_ops.specs.Live.{insert_of, IsClearOp, IsLiveOp}
@@ -90,8 +90,11 @@ pub record DrainGivesWalk : Type 0 where
       → IsTakenIn h (with_insert e xs) × (walk_from (with_insert e xs) head ≡ scan_insert e (walk_from xs head))
   pub done : (h : OpSet) → AllLawful h → (xs : List Insertion) → IsDrained h xs → walk_from xs head ≡ walk (in_order h)
 
--- merging is a union of sets
+-- merging is a union of sets; in which order operations come, and whether again, says nothing
 pub record MergingIsUnion : Type 0 where
+  pub holds : (h g : OpSet) (o : Op) → has_op (union h g) o ≡ (has_op h o || has_op g o)
   pub comm : (h g : OpSet) → union h g ≡ union g h
   pub assoc : (h g k : OpSet) → union (union h g) k ≡ union h (union g k)
   pub idempotent : (h : OpSet) → union h h ≡ h
+  pub any_order : (h : OpSet) (o p : Op) → with_op (with_op h o) p ≡ with_op (with_op h p) o
+  pub again : (h : OpSet) (o : Op) → has_op h o ≡ true → with_op h o ≡ h

@@ -1,4 +1,5 @@
 //! The laws of the definitions, each on a function with an empty body.
+ghost use Rattle.desk_ops.specs.Rows.{ConcurrentDeleteAndInsert, FiveArrivals, ForkedStamp, LaterSiblingFirst, SettingsByStamps, TombstonesKept, WaitingThenLive};
 ghost use Rattle.desk_ops.specs.Laws.{DrainGivesWalk, FaultsByEnds, LawfulIsTold, LiveByParents, MergingIsUnion, OneOrder, OrderIsKept, PlaceGivesWalk, ScanGivesWalk, SettingsByStamp, ShownIsWhatIsLeft, WalkGoesByKids, WalkHoldsTheLive};
 
 /// An operation is lawful exactly where no cause against it is found.
@@ -64,4 +65,15 @@ pub fn drain_gives_walk()
 /// Merging is commutative, associative and idempotent.
 pub fn merging_is_union()
     ensures { MergingIsUnion }
+{}
+
+/// Worked sets: what they show, their faults and settings.
+pub fn worked_sets()
+    ensures later_sibling_first { LaterSiblingFirst }
+    ensures five_arrivals { FiveArrivals }
+    ensures forked_stamp { ForkedStamp }
+    ensures waiting_then_live { WaitingThenLive }
+    ensures tombstones_kept { TombstonesKept }
+    ensures concurrent_delete_and_insert { ConcurrentDeleteAndInsert }
+    ensures settings_by_stamp { SettingsByStamps }
 {}
