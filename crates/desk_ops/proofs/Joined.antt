@@ -83,7 +83,7 @@ pub is_forked-with_op_new : (h : OpSet) (o : Op) → is_borne_in h (stamp_of o) 
 unfolding is_forked
 is_forked-with_op_new h o e = ap is_more (bearers-with_op_new h o e)
 
-more_from : (os : List Op) (a b : Op) → Among a os → Among b os → (a ≡ b → ⊥) → is_more os ≡ true
+pub more_from : (os : List Op) (a b : Op) → Among a os → Among b os → (a ≡ b → ⊥) → is_more os ≡ true
 more_from [] a b m n f = absurd m
 more_from (o ∷ []) a b (inl e) (inl g) f = absurd (f (sym e ∙ g))
 more_from (o ∷ []) a b (inl e) (inr n) f = absurd n

@@ -47,7 +47,7 @@ both-right : (a b : Bool) → (a && b) ≡ true → b ≡ true
 both-right true b e = e
 both-right false b e = absurd (true≢false (sym e))
 
-of-T : (b : Bool) → T b → b ≡ true
+pub of-T : (b : Bool) → T b → b ≡ true
 of-T true t = refl
 of-T false t = absurd t
 
@@ -55,7 +55,7 @@ ordered_below : (o : Op) (es : List (Op × Unit {0})) → below_all op_cmp o es 
 ordered_below o [] h = tt
 ordered_below o (e ∷ es) h = (less (op_cmp o e.0) (both-left (is_lt (op_cmp o e.0)) (below_all op_cmp o es) h), ordered_below o es (both-right (is_lt (op_cmp o e.0)) (below_all op_cmp o es) h))
 
-ordered_entries : (es : List (Op × Unit {0})) → is_sorted op_cmp es ≡ true → IsOrdered (map (λ (e : Op × Unit {0}). e.0) es)
+pub ordered_entries : (es : List (Op × Unit {0})) → is_sorted op_cmp es ≡ true → IsOrdered (map (λ (e : Op × Unit {0}). e.0) es)
 ordered_entries [] h = tt
 ordered_entries (e ∷ es) h = (ordered_below e.0 es (both-left (below_all op_cmp e.0 es) (is_sorted op_cmp es) h), ordered_entries es (both-right (below_all op_cmp e.0 es) (is_sorted op_cmp es) h))
 

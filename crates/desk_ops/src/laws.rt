@@ -1,10 +1,20 @@
 //! The laws of the definitions, each on a function with an empty body.
 ghost use Rattle.desk_ops.specs.Rows.{ConcurrentDeleteAndInsert, FiveArrivals, ForkedStamp, LaterSiblingFirst, SettingsByStamps, TombstonesKept, WaitingThenLive};
-ghost use Rattle.desk_ops.specs.Laws.{DrainGivesWalk, FaultsByEnds, LawfulIsTold, LiveByParents, MergingIsUnion, OneOrder, OrderIsKept, PlaceGivesWalk, ScanGivesWalk, SettingsByStamp, ShownIsWhatIsLeft, WalkGoesByKids, WalkHoldsTheLive};
+ghost use Rattle.desk_ops.specs.Laws.{DrainGivesWalk, FaultsByEnds, HeldIsTold, LawfulIsTold, LiveByParents, MergingIsUnion, OneOrder, OrderGoesByStamp, OrderIsKept, PlaceGivesWalk, ScanGivesWalk, SettingsByStamp, ShownIsWhatIsLeft, WalkGoesByKids, WalkHoldsTheLive};
 
 /// An operation is lawful exactly where no cause against it is found.
 pub fn lawful_is_told()
     ensures { LawfulIsTold }
+{}
+
+/// Operations stand by stamp, and those of one stamp by kind and fields.
+pub fn order_goes_by_stamp()
+    ensures { OrderGoesByStamp }
+{}
+
+/// Which operations of a set bear a stamp, and the greatest counter that it holds.
+pub fn held_is_told()
+    ensures { HeldIsTold }
 {}
 
 /// An insert is live exactly if it is clear and its parent is the head or a live insert.
