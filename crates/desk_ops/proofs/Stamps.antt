@@ -1,10 +1,11 @@
 -- The order of stamps.
-use Rattle.std.proofs.Common.{◌≡◌, Bool, true, false, ◌&&◌, ◌==◌, Some, refl, sym, ap, ◌∙◌, arith}
+use Rattle.std.proofs.Common.{◌<◌, ◌⊎◌, inl, inr, ◌≡◌, Bool, true, false, ◌&&◌, ◌==◌, Some, refl, sym, ap, ◌∙◌, arith}
 use Rattle.std.specs.Ordering.{nat_cmp, ordering_then, partial_ordering_then, is_eq, is_lt, is_some_and, ordering_reverse}
 use Rattle.std.specs.Cmp.{IsTotalOrder, unsigned_tied}
 use Rattle.std.proofs.lemmas.Cmp.{then_total, on_total, nat_cmp_total, tied_itself}
 use Rattle.std.proofs.lemmas.Bool.Decides.{nat_tests}
 use Rattle.std.proofs.lemmas.Bool.{true≢false}
+use Rattle.std.specs.FinMap.{nat_cmp-IsAntisymmetric}
 use Rattle.std.specs.declared.cmp.Ordering.{Ordering}
 use Rattle.std.specs.declared.cmp.Ordering.TheVariants.{Less, Equal, Greater}
 use Rattle.desk_ops.specs.declared.op.Stamp.{Stamp}
@@ -82,6 +83,21 @@ before-apart_left a b p = by_cases (same a b) (λ e. absurd (before-irrefl b (rw
 
 pub before-asym : (a b : Stamp) → before a b ≡ true → before b a ≡ false
 before-asym a b p = by_cases (before b a) (λ e. absurd (before-irrefl a (before-trans a b a p e))) (λ e. e)
+
+-- by counter, and then by site
+pub before_from : (a b : Stamp) → before a b ≡ true → (a.counter < b.counter) ⊎ ((a.counter ≡ b.counter) × (a.site < b.site))
+unfolding before stamp_cmp
+before_from a b e = go (nat_cmp a.counter b.counter) refl e
+  where
+    go : (r : Ordering) → nat_cmp a.counter b.counter ≡ r → is_lt (ordering_then r (nat_cmp a.site b.site)) ≡ true → (a.counter < b.counter) ⊎ ((a.counter ≡ b.counter) × (a.site < b.site))
+    go Less k e = inl (grind (arith, nat_tests))
+    go Equal k e = let m : nat_cmp a.site b.site ≡ Less = is_less (nat_cmp a.site b.site) e in inr (nat_cmp-IsAntisymmetric a.counter b.counter k, grind (arith, nat_tests))
+    go Greater k e = absurd (true≢false (sym e))
+
+pub before_true : (a b : Stamp) → (a.counter < b.counter) ⊎ ((a.counter ≡ b.counter) × (a.site < b.site)) → before a b ≡ true
+unfolding before stamp_cmp
+before_true a b (inl h) = grind (arith, nat_tests)
+before_true a b (inr h) = let e : a.counter ≡ b.counter = h.0 in let l : a.site < b.site = h.1 in grind (arith, nat_tests)
 
 -- ---- what Rust's operators on stamps say
 
