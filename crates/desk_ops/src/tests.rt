@@ -112,12 +112,7 @@ fn stamps_and_targets(rt: HostRuntime) {
         stamp: at(2, 1),
         kind: FaultKind::Void,
     };
-    assert!(rt;
-        fault
-            < CopyFault {
-                kind: FaultKind::Waiting,
-                ..fault
-            }
-    );
+    let copied = fault;
+    assert_eq!(rt; copied, fault);
     assert_eq!(rt; NoMemory::from(std::alloc::AllocError), NoMemory);
 }
