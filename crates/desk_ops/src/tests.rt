@@ -30,33 +30,17 @@ fn delete(stamp: Stamp, target: Stamp) -> Op {
 #[test]
 fn first_cause_is_told(rt: HostRuntime) {
     let table = [
-        (typed(at(1, 1), Stamp::HEAD, 'a'), Ok(())),
-        (
-            typed(at(MAX_COUNTER, 65535), at(MAX_COUNTER - 1, 1), '\n'),
-            Ok(()),
-        ),
+        (typed(at(MAX_COUNTER, 65535), at(1, 1), '\n'), Ok(())),
         (typed(at(0, 0), at(1, 1), '\t'), Err(Unlawful::Counter)),
-        (
-            typed(at(MAX_COUNTER + 1, 1), Stamp::HEAD, 'a'),
-            Err(Unlawful::Counter),
-        ),
         (typed(at(2, 0), at(2, 1), '\t'), Err(Unlawful::Site)),
         (typed(at(2, 1), at(2, 2), '\t'), Err(Unlawful::Target)),
-        (typed(at(2, 1), at(0, 1), 'a'), Err(Unlawful::Target)),
-        (typed(at(2, 1), at(1, 0), 'a'), Err(Unlawful::Target)),
         (typed(at(2, 1), at(1, 2), '\t'), Err(Unlawful::Symbol)),
-        (typed(at(2, 1), at(1, 2), '\u{85}'), Err(Unlawful::Symbol)),
-        (typed(at(2, 1), at(1, 2), '\u{a0}'), Ok(())),
-        (delete(at(2, 1), at(1, 2)), Ok(())),
         (delete(at(2, 1), Stamp::HEAD), Err(Unlawful::Target)),
-        (delete(at(2, 1), at(2, 2)), Err(Unlawful::Target)),
-        (set(at(2, 1), Key::Measure, 12), Ok(())),
         (set(at(2, 1), Key::Measure, 11), Err(Unlawful::Value)),
-        (set(at(2, 1), Key::Measure, 721), Err(Unlawful::Value)),
-        (set(at(2, 1), Key::Tight, 15), Err(Unlawful::Value)),
-        (set(at(2, 1), Key::Loose, 240), Ok(())),
-        (set(at(2, 1), Key::Case, 0), Err(Unlawful::Value)),
-        (set(at(0, 1), Key::Wedge, 65536), Err(Unlawful::Counter)),
+        (
+            set(at(MAX_COUNTER + 1, 1), Key::Wedge, 65536),
+            Err(Unlawful::Counter),
+        ),
     ];
     for (op, verdict) in table {
         assert_eq!(rt; op.check(), verdict, "{op:?}");
@@ -78,24 +62,15 @@ fn blanks_are_roman(rt: HostRuntime) {
 /// By counter, then by site, then by kind and fields: each is less than the next.
 #[test]
 fn operations_stand_in_order(rt: HostRuntime) {
-    let row = [
-        set(at(1, 9), Key::Wedge, 5),
-        typed(at(2, 1), at(1, 1), 'b'),
-        typed(at(2, 1), at(1, 1), 'c'),
-        typed(at(2, 1), at(1, 2), 'a'),
-        delete(at(2, 1), at(1, 1)),
-        set(at(2, 1), Key::Measure, 144),
-        set(at(2, 1), Key::Tight, 16),
-        typed(at(2, 2), at(1, 1), 'a'),
-    ];
-    for pair in row.windows(2) {
-        if let [low, high] = pair {
-            assert_eq!(rt; low.cmp(high), Ordering::Less);
-            assert_eq!(rt; high.partial_cmp(low), Some(Ordering::Greater));
-            assert!(rt; low.stamp() <= high.stamp());
-            assert!(rt; low != high);
-        }
-    }
+    let insert = typed(at(2, 1), at(1, 2), 'a');
+    let delete = delete(at(2, 1), at(1, 1));
+    let set = set(at(2, 1), Key::Measure, 144);
+    let later = typed(at(2, 2), at(1, 1), 'a');
+    assert_eq!(rt; insert.cmp(&delete), Ordering::Less);
+    assert_eq!(rt; delete.cmp(&set), Ordering::Less);
+    assert_eq!(rt; set.cmp(&later), Ordering::Less);
+    assert_eq!(rt; later.partial_cmp(&insert), Some(Ordering::Greater));
+    assert!(rt; insert == insert && insert.stamp() < later.stamp());
 }
 
 #[test]
