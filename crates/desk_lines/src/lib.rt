@@ -7,3 +7,6 @@ pub mod words;
 
 pub use groups::{Group, break_lines};
 pub use words::{Paragraph, Word, paragraphs};
+
+#[cfg(test)]
+mod tests;

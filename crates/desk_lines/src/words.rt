@@ -33,7 +33,7 @@ impl<A: Allocator> Paragraph<A> {
     pub fn from_words(words: Vec<Word, A>) -> Paragraph<A>
         ensures { result ≡ words.items }
     {
-        Paragraph { words }
+        Self { words }
     }
 
     pub fn words(&self) -> &[Word]
@@ -45,7 +45,8 @@ impl<A: Allocator> Paragraph<A> {
     pub fn into_words(self) -> Vec<Word, A>
         ensures { result.items ≡ self }
     {
-        self.words
+        let Paragraph { words } = self;
+        words
     }
 }
 
