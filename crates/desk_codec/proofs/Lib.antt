@@ -1,2 +1,6 @@
 pub mod Numbers
+pub mod FieldLaws
+pub mod FaultLaws
+pub mod EitherLaw
+pub mod AnswerLaws
 pub mod Grammar
