@@ -1,9 +1,13 @@
 //! Widths of type in atoms, of which a step of 0.0005 inch has 648.
 #![tactic(auto)]
 
-ghost use Rattle.std.specs.Prelude.{◌≡◌, ◌≤◌, SomeIff};
+ghost use Rattle.std.specs.Prelude.{◌≡◌, ◌≤◌, ◌^◌, SomeIff, pos};
+
+pub mod laws;
+pub mod widths;
 
 use std::marker::Model;
+pub use widths::{ATOMS_PER_STEP, floor_steps, measure, width};
 
 /// A width in atoms; a step of 0.0005 inch has 648 of them.
 #[derive(Clone, Copy, PartialEq, Eq, Debug)]

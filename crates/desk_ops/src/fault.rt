@@ -1,0 +1,19 @@
+use crate::op::Stamp;
+
+/// Why the operations of a stamp do not act.
+#[derive(Clone, Copy, Debug, PartialEq, Eq, PartialOrd, Ord, Hash)]
+pub enum FaultKind {
+    /// More than one operation bears the stamp.
+    Forked,
+    /// What it hangs on is held, and cannot act.
+    Void,
+    /// What it hangs on has not come yet.
+    Waiting,
+}
+
+/// A held stamp whose operations do not act.
+#[derive(Clone, Copy, Debug, PartialEq, Eq, PartialOrd, Ord, Hash)]
+pub struct CopyFault {
+    pub stamp: Stamp,
+    pub kind: FaultKind,
+}

@@ -1,0 +1,101 @@
+//! Widths of units and measures, and the division of what a line lacks among its spaces.
+
+ghost use Rattle.std.specs.Prelude.{◌≡◌, ◌≤◌, ◌^◌, pos};
+ghost use Rattle.desk_units.specs.Widths.{IsSteps, measure_width, steps_of, unit_atoms, units_width};
+
+use crate::{Atoms, Pica, SetQ};
+
+/// The atoms of a step of 0.0005 inch.
+pub const ATOMS_PER_STEP: i64 = 648;
+
+/// The atoms of a unit for each quarter point of the set.
+fn unit_atoms(pica: Pica) -> u32
+    ensures { result ≡ unit_atoms pica }
+{
+    match pica {
+        Pica::Sixth => 250,
+        Pica::American => 249,
+    }
+}
+
+/// The width of 1 to 24 units.
+pub fn width(units: u8, set: SetQ, pica: Pica) -> Atoms
+    requires some { 1 ≤ units }
+    requires limit { units ≤ 24 }
+    ensures { result ≡ pos (units_width units set pica) }
+{
+    let quarters = units as u32 * set.get() as u32;
+    Atoms::new((quarters * unit_atoms(pica)) as i64)
+}
+
+/// A measure of 12 to 720 points.
+pub fn measure(points: u32, pica: Pica) -> Atoms
+    requires least { 12 ≤ points }
+    requires limit { points ≤ 720 }
+    ensures { result ≡ pos (measure_width points pica) }
+{
+    Atoms::new((points * (72 * unit_atoms(pica))) as i64)
+}
+
+/// The whole number of steps for each space, below 0 too, that leaves less than a step for each space of the atoms.
+pub fn floor_steps(atoms: Atoms, spaces: u64) -> i64
+    requires some { 1 ≤ spaces }
+    requires limit { spaces ≤ 2 ^ 32 }
+    ensures steps { IsSteps atoms spaces result }
+    ensures value { result ≡ steps_of atoms spaces }
+{
+    atoms.get().div_euclid(ATOMS_PER_STEP * spaces as i64)
+}
+
+#[cfg(test)]
+mod tests {
+    use super::*;
+    use std::test::Fail;
+
+    #[test]
+    fn widths_of_units_and_measures(rt: HostRuntime) -> Result<(), Fail> {
+        let sets = (SetQ::new(48), SetQ::new(20));
+        let (Some(ordinary), Some(least)) = sets else {
+            assert!(rt; false, "a set in its range is refused");
+            return Ok(());
+        };
+        assert_eq!(rt; width(18, ordinary, Pica::Sixth).get(), 216_000);
+        assert_eq!(rt; width(18, ordinary, Pica::American).get(), 215_136);
+        assert_eq!(rt; width(1, least, Pica::American).get(), 4_980);
+        assert_eq!(rt; measure(12, Pica::Sixth).get(), 216_000);
+        assert_eq!(rt; measure(720, Pica::American).get(), 12_908_160);
+        assert_eq!(rt; ordinary.get(), 48);
+        for quarters in [0, 19, 97, 255] {
+            assert!(rt;
+                SetQ::new(quarters).is_none(),
+                "a set of {quarters} quarter points"
+            );
+        }
+        assert!(rt; SetQ::new(96).is_some());
+        Ok(())
+    }
+
+    #[test]
+    fn steps_round_down(rt: HostRuntime) -> Result<(), Fail> {
+        for (atoms, spaces, want) in [
+            (120_000, 4, 46),
+            (-24_000, 4, -10),
+            (0, 1, 0),
+            (647, 1, 0),
+            (648, 1, 1),
+            (-1, 1, -1),
+            (-648, 1, -1),
+            (i64::MIN, 1, -14_233_598_822_306_753),
+            (i64::MAX, 4_294_967_296, 3_314_017),
+            (i64::MIN, 4_294_967_296, -3_314_018),
+        ] {
+            assert!(rt; spaces >= 1 && spaces <= 4_294_967_296);
+            assert_eq!(rt;
+                floor_steps(Atoms::new(atoms), spaces),
+                want,
+                "{atoms} over {spaces}"
+            );
+        }
+        Ok(())
+    }
+}

@@ -1,0 +1,4 @@
+pub mod Wedge
+pub mod Keys
+pub mod File
+pub mod Descent
