@@ -12,8 +12,9 @@ use Rattle.desk_ops.specs.declared.op.Key.TheVariants.{Measure, Tight, Loose, Ca
 use Rattle.desk_ops.specs.declared.op.Op.{Op}
 use Rattle.desk_ops.specs.declared.op.Op.TheVariants.{Insert, Delete, Set}
 use Rattle.desk_ops.specs.declared.op.Unlawful.{Unlawful}
+use Rattle.desk_ops.specs.declared.op.Unlawful.TheVariants as unlawful
 use Rattle.desk_ops.specs.Stamp.{head, is_head, is_counter, is_stamp, IsStamp}
-use Rattle.desk_ops.specs.Op.{IsLawful, IsSymbol, IsValue, is_roman, is_symbol, is_value, first_of, causes, verdict}
+use Rattle.desk_ops.specs.Op.{symbol_verdict, IsLawful, IsSymbol, IsValue, is_roman, is_symbol, is_value, first_of, causes, verdict}
 use Rattle.desk_ops.proofs.Stamps.{by_cases}
 use Rattle.desk_ops.proofs.Lists.{Each}
 
@@ -187,3 +188,6 @@ lawful_true (Set s k v) h =
 
 pub lawful_told : (op : Op) → (verdict op ≡ Ok tt) ↔ IsLawful op
 lawful_told op = (lawful_from op, lawful_true op)
+
+pub symbol_told : (y : Symbol) → (symbol_verdict y ≡ Ok tt) ↔ IsSymbol y
+symbol_told y = (λ e. symbol_from y (all_true ((is_symbol y, unlawful.Symbol) ∷ []) e).0, λ h. true_all ((is_symbol y, unlawful.Symbol) ∷ []) (symbol_true y h, tt))

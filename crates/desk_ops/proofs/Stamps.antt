@@ -1,6 +1,6 @@
 -- The order of stamps.
-use Rattle.std.proofs.Common.{◌<◌, ◌⊎◌, inl, inr, ◌≡◌, Bool, true, false, ◌&&◌, ◌==◌, Some, refl, sym, ap, ◌∙◌, arith}
-use Rattle.std.specs.Ordering.{nat_cmp, ordering_then, partial_ordering_then, is_eq, is_lt, is_some_and, ordering_reverse}
+use Rattle.std.proofs.Common.{not, ◌<◌, ◌⊎◌, inl, inr, ◌≡◌, Bool, true, false, ◌&&◌, ◌==◌, Some, refl, sym, ap, ◌∙◌, arith}
+use Rattle.std.specs.Ordering.{nat_cmp, ordering_then, partial_ordering_then, is_eq, is_lt, is_gt, is_le, is_ge, is_some_and, ordering_reverse}
 use Rattle.std.specs.Cmp.{IsTotalOrder, unsigned_tied}
 use Rattle.std.proofs.lemmas.Cmp.{then_total, on_total, nat_cmp_total, tied_itself}
 use Rattle.std.proofs.lemmas.Bool.Decides.{nat_tests}
@@ -118,4 +118,50 @@ before-fields a b = after (nat_cmp a.counter b.counter) (nat_cmp a.site b.site)
     after Equal Greater = refl
     after Greater t = refl
 
-pub ruleset stamps = (same-fields, before-fields)
+-- the other way round
+before-back : (a b : Stamp) → before b a ≡ is_gt (stamp_cmp a b)
+unfolding before
+before-back a b = ap is_lt (stamp_total.antisymm b a) ∙ go (stamp_cmp a b)
+  where
+    go : (r : Ordering) → is_lt (ordering_reverse r) ≡ is_gt r
+    go Less = refl
+    go Equal = refl
+    go Greater = refl
+
+-- a > b
+pub after-fields : (a b : Stamp) → is_some_and is_gt (partial_ordering_then (Some (nat_cmp a.counter b.counter)) (Some (nat_cmp a.site b.site))) ≡ before b a
+unfolding stamp_cmp
+after-fields a b = after (nat_cmp a.counter b.counter) (nat_cmp a.site b.site) ∙ sym (before-back a b)
+  where
+    after : (r t : Ordering) → is_some_and is_gt (partial_ordering_then (Some r) (Some t)) ≡ is_gt (ordering_then r t)
+    after Less t = refl
+    after Equal Less = refl
+    after Equal Equal = refl
+    after Equal Greater = refl
+    after Greater t = refl
+
+-- a <= b
+pub up_to-fields : (a b : Stamp) → is_some_and is_le (partial_ordering_then (Some (nat_cmp a.counter b.counter)) (Some (nat_cmp a.site b.site))) ≡ not (before b a)
+unfolding stamp_cmp
+up_to-fields a b = upto (nat_cmp a.counter b.counter) (nat_cmp a.site b.site) ∙ ap not (sym (before-back a b))
+  where
+    upto : (r t : Ordering) → is_some_and is_le (partial_ordering_then (Some r) (Some t)) ≡ not (is_gt (ordering_then r t))
+    upto Less t = refl
+    upto Equal Less = refl
+    upto Equal Equal = refl
+    upto Equal Greater = refl
+    upto Greater t = refl
+
+-- a >= b
+pub from-fields : (a b : Stamp) → is_some_and is_ge (partial_ordering_then (Some (nat_cmp a.counter b.counter)) (Some (nat_cmp a.site b.site))) ≡ not (before a b)
+unfolding before stamp_cmp
+from-fields a b = from (nat_cmp a.counter b.counter) (nat_cmp a.site b.site)
+  where
+    from : (r t : Ordering) → is_some_and is_ge (partial_ordering_then (Some r) (Some t)) ≡ not (is_lt (ordering_then r t))
+    from Less t = refl
+    from Equal Less = refl
+    from Equal Equal = refl
+    from Equal Greater = refl
+    from Greater t = refl
+
+pub ruleset stamps = (same-fields, before-fields, after-fields, up_to-fields, from-fields)

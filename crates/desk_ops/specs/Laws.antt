@@ -11,6 +11,8 @@ use Rattle.desk_ops.specs.declared.op.Symbol.{Symbol}
 use Rattle.desk_ops.specs.declared.op.Key.{Key}
 use Rattle.desk_ops.specs.declared.op.Op.TheVariants.{Delete}
 use Rattle.desk_ops.specs.declared.fault.CopyFault.{CopyFault}
+use Rattle.desk_ops.specs.contracts.op.StampOrd.TheImpl as stamp_ord
+use Rattle.desk_ops.specs.contracts.op.StampPartialEq.TheImpl as stamp_eq
 use Rattle.desk_ops.specs.Stamp.{stamp_cmp, same, before, head, is_head, is_stamp, IsStamp}
 use Rattle.desk_ops.specs.Op.{stamp_of, IsLawful, IsSymbol, IsValue, is_symbol, is_value, verdict, Insertion, insertion}
 use Rattle.desk_ops.specs.Order.{op_cmp, rest_of}
@@ -42,7 +44,10 @@ pub record OrderGoesByStamp : Type 0 where
   pub total : IsTotalOrder op_cmp
   pub tied : (o p : Op) → op_cmp o p ≡ Equal → o ≡ p
   pub stamps : (s t : Stamp) → (before s t ≡ true) ↔ ((s.counter < t.counter) ⊎ ((s.counter ≡ t.counter) × (s.site < t.site)))
-  pub same : (s t : Stamp) → (same s t ≡ true) ↔ (s ≡ t)
+  pub one : (s t : Stamp) → (same s t ≡ true) ↔ (s ≡ t)
+  -- what Rust's comparisons of stamps answer
+  pub compared : (s t : Stamp) → (stamp_ord.ghosts).cmp s t ≡ stamp_cmp s t
+  pub equal : (s t : Stamp) → (stamp_eq.ghosts).eq s t ≡ same s t
 
 -- what a set says of a stamp
 pub record HeldIsTold : Type 0 where
