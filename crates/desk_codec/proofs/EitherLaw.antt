@@ -13,7 +13,8 @@ use Rattle.desk_ops.specs.declared.op.Op.{Op}
 use Rattle.desk_ops.specs.declared.op.Op.TheVariants as ops
 use Rattle.desk_ops.specs.declared.op.Unlawful.{Unlawful}
 use Rattle.desk_ops.specs.declared.op.Unlawful.TheVariants as unlawful
-use Rattle.desk_ops.specs.Op.{is_counter, verdict}
+use Rattle.desk_ops.specs.Op.{verdict}
+use Rattle.desk_ops.specs.Stamp.{is_counter}
 use Rattle.desk_codec.specs.declared.fields.Fields.{Fields}
 use Rattle.desk_codec.specs.declared.fields.Fields.TheVariants.{Insert, Delete, Set}
 use Rattle.desk_codec.specs.declared.fault.FeedWhy.{FeedWhy}
@@ -21,10 +22,11 @@ use Rattle.desk_codec.specs.declared.fault.FeedWhy.TheVariants as why
 use Rattle.desk_codec.specs.declared.fault.FeedFault.{FeedFault}
 use Rattle.desk_codec.specs.Feed.{magic, size_of_kind, stamp_spelling, spelling, IsStampValue, IsValue, IsHeld, Spells, IsFeed}
 use Rattle.desk_codec.specs.Fault.{fields_of, bytes_of, AreValues, style_of, key_of, is_character, no_symbol, symbol_in, setting_cause, cause, HasNoKind, IsCut, IsUnlawful, IsWrong, GoesWrong, HasNoMagic, IsFirstFault}
-use Rattle.desk_codec.specs.Laws.{FeedOrFault}
+use Rattle.desk_codec.specs.Laws.{Fronts, FeedOrFault}
 use Rattle.desk_codec.proofs.Numbers.{IsBytes, IsBytes-drop, IsBytes-take, number_there_4, stamp_there}
 use Rattle.desk_codec.proofs.FieldLaws.{bytes_of-fields, insert_back, set_back}
-use Rattle.desk_codec.proofs.FaultLaws.{not_both, one_fault}
+use Rattle.desk_codec.proofs.LawfulAsTold.{lawful_from}
+use Rattle.desk_codec.proofs.FaultLaws.{not_both, one_fault, fronts_not_both, wrong_once}
 
 -- ---- fields stand at the front of bytes enough
 
@@ -156,7 +158,7 @@ first_of_stamp false b r s t = (r, refl)
 set_judged : (stamp : Stamp) (key value : ℕ) (o : Option Key) → key_of key ≡ o → IsStampValue stamp → value < 2 ^ 32 → IsJudged (Set stamp key value)
 set_judged stamp key value (Some k) e sv v =
     elim (result_cases (verdict (ops.Set stamp k value))) [
-      | inl lawful ↦ inl (record { op = ops.Set stamp k value; held = record { lawful = lawful; value = (sv, v) }; is = set_back stamp key value k (ops.Set stamp k value) refl e })
+      | inl lawful ↦ inl (record { op = ops.Set stamp k value; held = record { lawful = lawful_from (ops.Set stamp k value) lawful; value = (sv, v) }; is = set_back stamp key value k (ops.Set stamp k value) refl e })
       | inr h ↦ inr (h.0, ap (λ (o : Option Key). setting_cause stamp o value) e ∙ h.1)
     ]
 set_judged stamp key value None e sv v =
@@ -167,12 +169,12 @@ judged : (fields : Fields) → AreValues fields → IsJudged fields
 judged (Insert stamp parent style ch) f =
     let y : Symbol = symbol_in (style_of style) ch in
     elim (result_cases (verdict (ops.Insert stamp parent y))) [
-      | inl lawful ↦ inl (record { op = ops.Insert stamp parent y; held = record { lawful = lawful; value = (f.0, f.1, scalar_in (style_of style) ch) }; is = insert_back stamp parent style ch (ops.Insert stamp parent y) refl lawful })
+      | inl lawful ↦ inl (record { op = ops.Insert stamp parent y; held = record { lawful = lawful_from (ops.Insert stamp parent y) lawful; value = (f.0, f.1, scalar_in (style_of style) ch) }; is = insert_back stamp parent style ch (ops.Insert stamp parent y) refl lawful })
       | inr h ↦ inr h
     ]
 judged (Delete stamp target) f =
     elim (result_cases (verdict (ops.Delete stamp target))) [
-      | inl lawful ↦ inl (record { op = ops.Delete stamp target; held = record { lawful = lawful; value = f }; is = refl })
+      | inl lawful ↦ inl (record { op = ops.Delete stamp target; held = record { lawful = lawful_from (ops.Delete stamp target) lawful; value = f }; is = refl })
       | inr h ↦ inr h
     ]
 judged (Set stamp key value) f = set_judged stamp key value (key_of key) refl f.0 f.2
@@ -330,3 +332,14 @@ either bytes all =
 
 pub feed_or_fault : FeedOrFault
 feed_or_fault = record { either = either; not_both = not_both; one_fault = one_fault }
+
+each_front : (bytes : List ℕ) → IsFront bytes → ((op : Op) × IsHeld op × ((rest : List ℕ) × (bytes ≡ spelling op ++ rest))) ⊎ ((w : FeedWhy) × IsWrong bytes w)
+each_front bytes (inl h) = inl (h.op, h.held, (h.rest, h.front))
+each_front bytes (inr h) = inr h
+
+pub fronts : Fronts
+fronts = record {
+  either = λ bytes all some. each_front bytes (front bytes (all_bytes bytes all) some);
+  not_both = fronts_not_both;
+  one = wrong_once;
+}

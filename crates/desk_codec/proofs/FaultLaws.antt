@@ -15,6 +15,7 @@ use Rattle.desk_codec.specs.Feed.{magic, size_of_kind, spelling, feed, IsValue, 
 use Rattle.desk_codec.specs.Fault.{fields_of, bytes_of, AreValues, cause, HasNoKind, IsCut, IsUnlawful, IsWrong, GoesWrong, HasNoMagic, IsFirstFault}
 use Rattle.desk_codec.specs.Laws.{FeedOrFault}
 use Rattle.desk_codec.proofs.FieldLaws.{fields_same, bytes_of-fields, values_of, held_cause}
+use Rattle.desk_codec.proofs.LawfulAsTold.{lawful_true}
 use Rattle.desk_codec.proofs.Grammar.{spells, prefix_free}
 
 -- ---- where a loop over a feed stops
@@ -70,7 +71,7 @@ one_cause bytes u v f g =
     let same = fields_same f.fields g.fields f.rest g.rest f.values g.values (sym f.front ∙ g.front) in
     same_cause u v (cause g.fields) (sym (ap cause same.0) ∙ f.is) g.is
 
-wrong_once : (bytes : List ℕ) (v w : FeedWhy) → IsWrong bytes v → IsWrong bytes w → v ≡ w
+pub wrong_once : (bytes : List ℕ) (v w : FeedWhy) → IsWrong bytes v → IsWrong bytes w → v ≡ w
 wrong_once bytes why.Magic w f g = absurd f
 wrong_once bytes why.Kind why.Magic f g = absurd g
 wrong_once bytes why.Kind why.Kind f g = refl
@@ -94,7 +95,7 @@ op_not_wrong bytes rest op why.Kind held e h = not_kindless bytes (fields_of op)
 op_not_wrong bytes rest op (why.Unlawful u) held e h =
     let front : bytes ≡ bytes_of (fields_of op) ++ rest = e ∙ ap (λ (l : List ℕ). l ++ rest) (sym (bytes_of-fields op)) in
     let same = fields_same (fields_of op) h.fields rest h.rest (values_of op held.value) h.values (sym front ∙ h.front) in
-    never_both u (cause h.fields) (sym (ap cause same.0) ∙ held_cause op held.value ∙ held.lawful) h.is
+    never_both u (cause h.fields) (sym (ap cause same.0) ∙ held_cause op held.value ∙ lawful_true op held.lawful) h.is
 op_not_wrong bytes rest op why.Cut held e h = not_cut bytes (fields_of op) rest (e ∙ ap (λ (l : List ℕ). l ++ rest) (sym (bytes_of-fields op))) h
 
 no_fields : (f : Fields) (rest : List ℕ) → [] ≡ bytes_of f ++ rest → ⊥
@@ -170,3 +171,6 @@ one_fault bytes a b (inr f) (inr g) =
     let same : x.front ++ x.rest ≡ y.front ++ y.rest = sym x.split ∙ after_magic bytes f.0 g.0 f.1 g.1 ∙ y.split in
     let once = wrong_at_once x.front x.rest y.front y.rest x.before y.before a.why b.why x.spells y.spells same x.wrong y.wrong in
     fault_exact a b (x.there ∙ ap (λ (n : ℕ). 4 + n) once.0 ∙ sym y.there) once.1
+
+pub fronts_not_both : (op : Op) (rest : List ℕ) (w : FeedWhy) → IsHeld op → IsWrong (spelling op ++ rest) w → ⊥
+fronts_not_both op rest w held wrong = op_not_wrong (spelling op ++ rest) rest op w held refl wrong

@@ -1,3 +1,4 @@
+pub mod LawfulAsTold
 pub mod Numbers
 pub mod FieldLaws
 pub mod FaultLaws

@@ -11,7 +11,8 @@ use Rattle.desk_ops.specs.declared.op.Op.{Op}
 use Rattle.desk_ops.specs.declared.op.Op.TheVariants as ops
 use Rattle.desk_ops.specs.declared.op.Unlawful.{Unlawful}
 use Rattle.desk_ops.specs.declared.op.Unlawful.TheVariants as unlawful
-use Rattle.desk_ops.specs.Op.{is_counter, first_of, verdict}
+use Rattle.desk_ops.specs.Op.{first_of, verdict}
+use Rattle.desk_ops.specs.Stamp.{is_counter}
 use Rattle.desk_ops.specs.Order.{style_code, key_code}
 use Rattle.desk_codec.specs.declared.fields.Fields.{Fields}
 use Rattle.desk_codec.specs.declared.fields.Fields.TheVariants.{Insert, Delete, Set}
