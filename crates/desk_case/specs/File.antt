@@ -1,5 +1,5 @@
 -- The values of a case file, or its first fault.
-use Rattle.std.specs.Prelude.{◌≡◌, ◌≢◌, ℕ, ◌+◌, nat_le, nat_lt, Bool, true, false, ◌&&◌, if◌then◌else◌, List, [], ◌∷◌, ◌++◌, length, codes, Option, Some, None, Result, Ok, Err, map, option_map, option_and_then, is_some}
+use Rattle.std.specs.Prelude.{ℕ, ◌+◌, nat_le, nat_lt, Bool, true, ◌&&◌, if◌then◌else◌, List, [], ◌∷◌, ◌++◌, length, codes, Option, Some, None, Result, Ok, Err, map, option_map, option_and_then, is_some}
 use Rattle.std.specs.Str.{chars}
 use Rattle.toml.specs.Data.{Data, Items, no_items, item, Members, get_member, as_str, as_array}
 use Rattle.desk_signals.specs.declared.Cell.{Cell}

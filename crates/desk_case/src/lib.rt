@@ -172,6 +172,7 @@ impl MatrixCase {
     pub fn read(alloc: Global, bytes: &[u8]) -> Result<MatrixCase, CaseFault>
         ensures ok { IfOk result (λ c. case_of bytes.now ≡ Ok c) }
         ensures err { IfErr result (λ e. e ≢ fault.NoMemory → case_of bytes.now ≡ Err e) }
+        ensures order { result ≢ Err fault.FillOrder }
         ensures memory { result ≡ Err fault.NoMemory → ¬ IsBlank bytes.now }
     {
         match toml::table_from_slice(alloc, bytes) {
