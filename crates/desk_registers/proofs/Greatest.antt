@@ -1,12 +1,11 @@
 -- The greatest stamp wins.
-use Rattle.std.proofs.Common.{◌≡◌, ◌==◌, ◌⊎◌, inl, inr, ℕ, Bool, true, false, cond, List, [], ◌∷◌, Option, Some, None, refl, sym, ap, subst, ◌∙◌, eq-eqb}
+use Rattle.std.proofs.Common.{◌≡◌, ◌==◌, ◌⊎◌, inl, inr, ℕ, true, false, cond, List, [], ◌∷◌, Option, Some, None, refl, sym, ap, subst, ◌∙◌, eq-eqb}
 use Rattle.std.proofs.lemmas.Bool.{eqb-true}
 use Rattle.desk_ops.specs.declared.op.Stamp.{Stamp}
 use Rattle.desk_ops.specs.declared.op.Key.{Key}
 use Rattle.desk_ops.specs.declared.op.Key.TheVariants.{Measure, Tight, Loose, Case, Wedge}
 use Rattle.desk_ops.specs.Order.{key_code}
 use Rattle.desk_ops.specs.Stamp.{before, same}
-use Rattle.desk_ops.specs.Lists.{Among}
 use Rattle.desk_ops.proofs.Stamps.{by_cases, same-true, before-trans, before-other, before-asym}
 use Rattle.desk_registers.specs.declared.Kept.{Kept}
 use Rattle.desk_registers.specs.Registers.{greater, kept_with, nothing}
