@@ -1,5 +1,5 @@
 -- What reading answers is the one list, or the first fault.
-use Rattle.std.proofs.Common.{◌≡◌, ℕ, List, [], ◌∷◌, All, Result, Ok, Err, ap, refl}
+use Rattle.std.proofs.Common.{ℕ, List, [], ◌∷◌, All, Result, Ok, Err, ap}
 use Rattle.std.specs.Prelude.{IfOk, IfErr}
 use Rattle.std.specs.List.{AllByRecursion}
 use Rattle.std.proofs.lemmas.List.Elements.{All-from_recursion}

@@ -1,5 +1,5 @@
 -- Any bytes are a feed or have a first fault.
-use Rattle.std.proofs.Common.{◌≡◌, ℕ, zero, suc, ◌+◌, ◌-◌, ◌*◌, ◌^◌, ◌<◌, ◌≤◌, ◌==◌, Bool, true, false, cond, not, List, [], ◌∷◌, ◌++◌, length, get_or, take, drop, All, Option, Some, None, Result, Ok, Err, refl, sym, ap, subst, ◌∙◌, ◌⊎◌, inl, inr, append_assoc, length-append, arith}
+use Rattle.std.proofs.Common.{◌≡◌, ℕ, zero, suc, ◌+◌, ◌^◌, ◌<◌, ◌≤◌, ◌==◌, Bool, true, false, cond, not, List, [], ◌∷◌, ◌++◌, length, get_or, take, drop, All, Option, Some, None, Result, Ok, Err, refl, sym, ap, subst, ◌∙◌, ◌⊎◌, inl, inr, append_assoc, length-append, arith}
 use Rattle.std.specs.Int.{w16, w32, w64, to_be_bytes, from_be_bytes}
 use Rattle.std.specs.Char.{InScalarRange}
 use Rattle.std.proofs.lemmas.Bool.{cases_eq, cases_lt}
@@ -20,8 +20,8 @@ use Rattle.desk_codec.specs.declared.fields.Fields.TheVariants.{Insert, Delete, 
 use Rattle.desk_codec.specs.declared.fault.FeedWhy.{FeedWhy}
 use Rattle.desk_codec.specs.declared.fault.FeedWhy.TheVariants as why
 use Rattle.desk_codec.specs.declared.fault.FeedFault.{FeedFault}
-use Rattle.desk_codec.specs.Feed.{magic, size_of_kind, stamp_spelling, spelling, IsStampValue, IsValue, IsHeld, Spells, IsFeed}
-use Rattle.desk_codec.specs.Fault.{fields_of, bytes_of, AreValues, style_of, key_of, is_character, no_symbol, symbol_in, setting_cause, cause, HasNoKind, IsCut, IsUnlawful, IsWrong, GoesWrong, HasNoMagic, IsFirstFault}
+use Rattle.desk_codec.specs.Feed.{magic, size_of_kind, stamp_spelling, spelling, IsStampValue, IsHeld, Spells, IsFeed}
+use Rattle.desk_codec.specs.Fault.{fields_of, bytes_of, AreValues, style_of, key_of, is_character, no_symbol, symbol_in, setting_cause, cause, IsWrong, IsFirstFault}
 use Rattle.desk_codec.specs.Laws.{Fronts, FeedOrFault}
 use Rattle.desk_codec.proofs.Numbers.{IsBytes, IsBytes-drop, IsBytes-take, number_there_4, stamp_there}
 use Rattle.desk_codec.proofs.FieldLaws.{bytes_of-fields, insert_back, set_back}

@@ -1,19 +1,16 @@
 -- A feed and a first fault: one of them, and one of each.
-use Rattle.std.proofs.Common.{◌≡◌, ℕ, zero, suc, ◌+◌, ◌-◌, ◌*◌, ◌^◌, ◌<◌, ◌≤◌, ◌==◌, Bool, true, false, cond, List, [], ◌∷◌, ◌++◌, length, get_or, take, drop, All, Option, Some, None, Result, Ok, Err, refl, sym, ap, subst, ◌∙◌, ◌⊎◌, inl, inr, append_assoc, length-append, arith}
+use Rattle.std.proofs.Common.{◌≡◌, ℕ, ◌+◌, ◌-◌, List, [], ◌∷◌, ◌++◌, length, drop, Option, Some, None, Result, Ok, Err, refl, sym, ap, subst, ◌∙◌, inl, inr, append_assoc, length-append, arith}
 use Rattle.std.specs.List.{flat_map, AllByRecursion}
 use Rattle.std.proofs.lemmas.List.{append-nil, nil_from_length}
 use Rattle.desk_ops.specs.declared.op.Op.{Op}
-use Rattle.desk_ops.specs.declared.op.Op.TheVariants as ops
 use Rattle.desk_ops.specs.declared.op.Unlawful.{Unlawful}
-use Rattle.desk_ops.specs.Op.{IsLawful, verdict}
 use Rattle.desk_codec.specs.declared.fields.Fields.{Fields}
 use Rattle.desk_codec.specs.declared.fields.Fields.TheVariants.{Insert, Delete, Set}
 use Rattle.desk_codec.specs.declared.fault.FeedWhy.{FeedWhy}
 use Rattle.desk_codec.specs.declared.fault.FeedWhy.TheVariants as why
 use Rattle.desk_codec.specs.declared.fault.FeedFault.{FeedFault}
-use Rattle.desk_codec.specs.Feed.{magic, size_of_kind, spelling, feed, IsValue, IsHeld, Spells, IsFeed}
-use Rattle.desk_codec.specs.Fault.{fields_of, bytes_of, AreValues, cause, HasNoKind, IsCut, IsUnlawful, IsWrong, GoesWrong, HasNoMagic, IsFirstFault}
-use Rattle.desk_codec.specs.Laws.{FeedOrFault}
+use Rattle.desk_codec.specs.Feed.{magic, size_of_kind, spelling, feed, IsHeld, Spells, IsFeed}
+use Rattle.desk_codec.specs.Fault.{fields_of, bytes_of, cause, HasNoKind, IsCut, IsUnlawful, IsWrong, IsFirstFault}
 use Rattle.desk_codec.proofs.FieldLaws.{fields_same, bytes_of-fields, values_of, held_cause}
 use Rattle.desk_codec.proofs.LawfulAsTold.{lawful_true}
 use Rattle.desk_codec.proofs.Grammar.{spells, prefix_free}

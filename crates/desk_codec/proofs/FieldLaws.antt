@@ -1,5 +1,5 @@
 -- Fields as bytes have them, and the lawful operations among them.
-use Rattle.std.proofs.Common.{◌≡◌, ℕ, ◌+◌, ◌^◌, ◌<◌, ◌==◌, Bool, true, false, cond, List, [], ◌∷◌, ◌++◌, length, take, drop, Option, Some, None, Result, Ok, Err, refl, sym, ap, subst, ◌∙◌, ◌⊎◌, inl, inr, arith}
+use Rattle.std.proofs.Common.{◌≡◌, ℕ, ◌^◌, ◌<◌, Bool, true, false, cond, List, ◌∷◌, ◌++◌, drop, Option, Some, None, Ok, refl, ap, subst, ◌∙◌, ◌⊎◌, inl, inr, arith}
 use Rattle.std.specs.Int.{w32, to_be_bytes}
 use Rattle.std.specs.Char.{InScalarRange}
 use Rattle.std.proofs.lemmas.Bool.Decides.{nat_tests}
@@ -11,12 +11,11 @@ use Rattle.desk_ops.specs.declared.op.Key.{Key}
 use Rattle.desk_ops.specs.declared.op.Key.TheVariants.{Measure, Tight, Loose, Case, Wedge}
 use Rattle.desk_ops.specs.declared.op.Op.{Op}
 use Rattle.desk_ops.specs.declared.op.Op.TheVariants as ops
-use Rattle.desk_ops.specs.declared.op.Unlawful.{Unlawful}
-use Rattle.desk_ops.specs.Op.{first_of, verdict}
+use Rattle.desk_ops.specs.Op.{verdict}
 use Rattle.desk_ops.specs.Order.{style_code, key_code}
 use Rattle.desk_codec.specs.declared.fields.Fields.{Fields}
 use Rattle.desk_codec.specs.declared.fields.Fields.TheVariants.{Insert, Delete, Set}
-use Rattle.desk_codec.specs.Feed.{spelling, stamp_spelling, IsStampValue, IsValue, IsHeld}
+use Rattle.desk_codec.specs.Feed.{spelling, stamp_spelling, IsValue}
 use Rattle.desk_codec.proofs.Numbers.{number_same_4, stamp_same, symbol_exact, style_exact, key_exact}
 use Rattle.desk_codec.specs.Fault.{fields_of, bytes_of, AreValues, style_of, key_of, is_character, no_symbol, symbol_in, setting_cause, cause}
 

@@ -1,16 +1,11 @@
 -- Laws of the feed grammar.
-use Rattle.std.proofs.Common.{◌≡◌, ℕ, ◌^◌, ◌<◌, List, [], ◌∷◌, ◌++◌, All, drop, refl, sym, ap, ◌∙◌, arith, inl, inr, ◌⊎◌}
-use Rattle.std.specs.Int.{w32, to_be_bytes}
-use Rattle.std.specs.Char.{InScalarRange}
+use Rattle.std.proofs.Common.{◌≡◌, ℕ, List, [], ◌∷◌, ◌++◌, All, drop, refl, sym, ap, ◌∙◌}
 use Rattle.std.specs.List.{flat_map, AllByRecursion}
-use Rattle.std.proofs.lemmas.List.{append-nil}
 use Rattle.std.proofs.lemmas.List.Concat.{flat_map-cons}
 use Rattle.std.proofs.lemmas.List.Elements.{recursion_from_All}
 use Rattle.desk_ops.specs.declared.op.Op.{Op}
-use Rattle.desk_ops.specs.declared.op.Op.TheVariants.{Insert, Delete, Set}
 use Rattle.desk_ops.specs.Op.{IsLawful}
-use Rattle.desk_ops.specs.Order.{style_code, key_code}
-use Rattle.desk_codec.specs.Feed.{magic, spelling, stamp_spelling, feed, IsValue, IsHeld, Spells, IsFeed}
+use Rattle.desk_codec.specs.Feed.{magic, spelling, feed, IsValue, IsHeld, Spells, IsFeed}
 use Rattle.desk_codec.specs.Laws.{Sizes, PrefixFree, OneList, OneFeed}
 use Rattle.desk_codec.specs.Fault.{fields_of, bytes_of}
 use Rattle.desk_codec.proofs.FieldLaws.{fields_same, op_exact, bytes_of-fields, values_of}

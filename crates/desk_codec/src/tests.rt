@@ -187,14 +187,8 @@ fn fronts_of_a_feed(rt: HostRuntime) -> Result<(), Fail> {
 /// Which cause is told where several hold, and of numbers that are no symbol's and no key's.
 #[test]
 fn causes_in_order(rt: HostRuntime) -> Result<(), Fail> {
-    let cases: [(&[u8], FeedWhy); 11] = [
-        // A style above 2, a surrogate, and a number above every character.
-        (
-            &[
-                1, 0, 0, 0, 0, 0, 0, 0, 1, 0, 1, 0, 0, 0, 0, 0, 0, 0, 0, 0, 0, 3, 0, 0, 0, 0x61,
-            ],
-            FeedWhy::Unlawful(Unlawful::Symbol),
-        ),
+    let cases: [(&[u8], FeedWhy); 5] = [
+        // A surrogate, and a style above 2 with a site of 0.
         (
             &[
                 1, 0, 0, 0, 0, 0, 0, 0, 1, 0, 1, 0, 0, 0, 0, 0, 0, 0, 0, 0, 0, 0, 0, 0, 0xd8, 0,
@@ -203,45 +197,18 @@ fn causes_in_order(rt: HostRuntime) -> Result<(), Fail> {
         ),
         (
             &[
-                1, 0, 0, 0, 0, 0, 0, 0, 1, 0, 1, 0, 0, 0, 0, 0, 0, 0, 0, 0, 0, 0, 0, 0x11, 0, 0,
-            ],
-            FeedWhy::Unlawful(Unlawful::Symbol),
-        ),
-        // The same style with a counter of 0, a site of 0, and a parent that is no stamp.
-        (
-            &[
-                1, 0, 0, 0, 0, 0, 0, 0, 0, 0, 0, 0, 0, 0, 0, 0, 0, 0, 0, 0, 0, 3, 0, 0, 0, 0x61,
-            ],
-            FeedWhy::Unlawful(Unlawful::Counter),
-        ),
-        (
-            &[
                 1, 0, 0, 0, 0, 0, 0, 0, 1, 0, 0, 0, 0, 0, 0, 0, 0, 0, 0, 0, 0, 3, 0, 0, 0, 0x61,
             ],
             FeedWhy::Unlawful(Unlawful::Site),
         ),
+        // Key 6, whatever the value, and with a counter of 0.
         (
-            &[
-                1, 0, 0, 0, 0, 0, 0, 0, 1, 0, 1, 0, 0, 0, 0, 0, 0, 0, 0, 0, 1, 3, 0, 0, 0, 0x61,
-            ],
-            FeedWhy::Unlawful(Unlawful::Target),
-        ),
-        // Keys 0 and 6, whatever the value; the site comes first.
-        (
-            &[3, 0, 0, 0, 0, 0, 0, 0, 5, 0, 1, 0, 0, 0, 0, 0],
+            &[3, 0, 0, 0, 0, 0, 0, 0, 5, 0, 1, 6, 0, 0, 0, 0],
             FeedWhy::Unlawful(Unlawful::Key),
         ),
         (
-            &[3, 0, 0, 0, 0, 0, 0, 0, 5, 0, 1, 6, 0, 0, 0, 0x78],
-            FeedWhy::Unlawful(Unlawful::Key),
-        ),
-        (
-            &[3, 0, 0, 0, 0, 0, 0, 0, 5, 0, 0, 6, 0, 0, 0, 0x78],
-            FeedWhy::Unlawful(Unlawful::Site),
-        ),
-        (
-            &[3, 0, 0, 0, 0, 0, 0, 0, 5, 0, 1, 1, 0, 0, 0, 11],
-            FeedWhy::Unlawful(Unlawful::Value),
+            &[3, 0, 0, 0, 0, 0, 0, 0, 0, 0, 1, 6, 0, 0, 0, 0x78],
+            FeedWhy::Unlawful(Unlawful::Counter),
         ),
         // Cut off comes before a site of 0.
         (&[3, 0, 0, 0, 0, 0, 0, 0, 5, 0, 0, 1, 0, 0, 0], FeedWhy::Cut),

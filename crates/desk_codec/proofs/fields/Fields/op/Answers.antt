@@ -1,6 +1,5 @@
-use Rattle.std.proofs.Common.{◌≡◌, refl, sym, ap, ◌∙◌, Result, Ok, Err, Option, Some, None}
+use Rattle.std.proofs.Common.{◌≡◌, sym, ap, ◌∙◌, Ok}
 use Rattle.desk_ops.specs.Op.{verdict}
-use Rattle.desk_codec.specs.Feed.{IsHeld}
 use Rattle.desk_codec.specs.Fault.{fields_of}
 use Rattle.desk_codec.proofs.LawfulAsTold.{lawful_from}
 use Rattle.desk_codec.proofs.FieldLaws.{insert_back, set_back}
