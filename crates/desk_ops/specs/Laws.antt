@@ -55,7 +55,7 @@ pub record HeldIsTold : Type 0 where
   pub clear : (h : OpSet) (s : Stamp) → (is_clear_in h s ≡ true) ↔ ((o : Op) × (has_op h o ≡ true) × (stamp_of o ≡ s) × ((p : Op) → has_op h p ≡ true → stamp_of p ≡ s → p ≡ o))
   pub forked : (h : OpSet) (s : Stamp) → (is_forked_in h s ≡ true) ↔ ((o : Op) × (p : Op) × (has_op h o ≡ true) × (has_op h p ≡ true) × (stamp_of o ≡ s) × (stamp_of p ≡ s) × (o ≡ p → ⊥))
   pub clear_op : (h : OpSet) (s : Stamp) (o : Op) → (clear_op_in h s ≡ Some o) ↔ ((stamp_of o ≡ s) × IsClearOp h o)
-  pub least : (h : OpSet) (o : Op) → has_op h o ≡ true → (stamp_of o).counter ≤ greatest_counter_of h
+  pub within : (h : OpSet) (o : Op) → has_op h o ≡ true → (stamp_of o).counter ≤ greatest_counter_of h
   pub reached : (h : OpSet) → (greatest_counter_of h ≡ 0) ⊎ ((o : Op) × (has_op h o ≡ true) × ((stamp_of o).counter ≡ greatest_counter_of h))
 
 -- an insert is live exactly if it is clear and its parent is the head or a live insert

@@ -30,5 +30,5 @@ abbrev pub InPathOrder : (Stamp → List Stamp) → List Insertion → Type 0
 InPathOrder p [] = Unit {0}
 InPathOrder p (x ∷ xs) = AllByRecursion (λ y. path_cmp (p x.stamp) (p y.stamp) ≡ Less) xs × InPathOrder p xs
 
-abbrev pub path_in_set : OpSet → Stamp → List Stamp
-path_in_set h s = path (in_order h) s
+abbrev pub path_of : OpSet → Stamp → List Stamp
+path_of h s = path (in_order h) s

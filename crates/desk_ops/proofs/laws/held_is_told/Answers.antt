@@ -7,6 +7,6 @@ returns c = record {
   clear = λ h s. (clear_sole h s, sole_clear h s);
   forked = λ h s. (forked_two h s, two_forked h s);
   clear_op = λ h s o. (sole_op h s o, op_sole h s o);
-  least = counter_within;
+  within = counter_within;
   reached = counter_reached;
 }
