@@ -11,11 +11,14 @@ use arrayvec::ArrayVec;
 use desk_signals::Position;
 use desk_units::{Atoms, floor_steps};
 
-/// The steps from the neutral positions, at a sum of 53, to the least sum, 16.
-const LEAST_STEPS: i64 = -37;
+/// The wedge sum of the neutral positions.
+const NEUTRAL_SUM: i64 = 53;
 
-/// The steps from the neutral positions to the greatest sum, 240.
-const MOST_STEPS: i64 = 187;
+/// The steps from the neutral positions to the least sum.
+const LEAST_STEPS: i64 = 16 - NEUTRAL_SUM;
+
+/// The steps from the neutral positions to the greatest sum.
+const MOST_STEPS: i64 = 240 - NEUTRAL_SUM;
 
 /// The positions of the coarse and the fine wedge at which 1 to 2^32 spaces take up the rest, but for less than a
 /// step for each; none where the wedges do not reach so far.
@@ -30,7 +33,7 @@ pub fn positions(rest: Atoms, spaces: u64) -> Option<(Position, Position)>
     if steps < LEAST_STEPS || steps > MOST_STEPS {
         return None;
     }
-    let sum = (steps + 53) as u8;
+    let sum = (NEUTRAL_SUM + steps) as u8;
     let coarse = Position::new((sum - 1) / 15)?;
     let fine = Position::new((sum - 1) % 15 + 1)?;
     Some((coarse, fine))

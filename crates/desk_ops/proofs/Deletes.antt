@@ -41,13 +41,19 @@ delete_of s (Set t k v) e = absurd (true≢false (sym e))
 pub delete_live : (h : OpSet) (x : Insertion) → Among x (walk_of h) → (s : Stamp) → IsClearOp h (Delete s x.stamp) → IsLiveOp h (Delete s x.stamp)
 delete_live h x m s c = (c, (x, walk-live (in_order h) x m, refl))
 
-pub deleted_live : (h : OpSet) (x : Insertion) → Among x (walk_of h) → is_deleted_in h x.stamp ≡ true → (s : Stamp) × IsLiveOp h (Delete s x.stamp)
+pub deleted_from : (h : OpSet) (s : Stamp) → is_deleted_in h s ≡ true → (t : Stamp) × IsClearOp h (Delete t s)
 unfolding is_deleted
-deleted_live h x m e = go (any_some (deletes x.stamp) (clear_ops (in_order h)) e)
+deleted_from h s e = go (any_some (deletes s) (clear_ops (in_order h)) e)
   where
-    go : ((o : Op) × Among o (clear_ops (in_order h)) × (deletes x.stamp o ≡ true)) → (s : Stamp) × IsLiveOp h (Delete s x.stamp)
-    go r = let d = delete_of x.stamp r.0 r.2 in (d.0, delete_live h x m d.0 (subst (IsClearOp h) d.1 (op_from_clear h r.0 r.1)))
+    go : ((o : Op) × Among o (clear_ops (in_order h)) × (deletes s o ≡ true)) → (t : Stamp) × IsClearOp h (Delete t s)
+    go r = let d = delete_of s r.0 r.2 in (d.0, subst (IsClearOp h) d.1 (op_from_clear h r.0 r.1))
+
+pub deleted_by : (h : OpSet) (s : Stamp) → (t : Stamp) × IsClearOp h (Delete t s) → is_deleted_in h s ≡ true
+unfolding is_deleted
+deleted_by h s r = some_any (deletes s) (clear_ops (in_order h)) (Delete r.0 s) (clear_from_op h (Delete r.0 s) r.1) (same-refl s)
+
+pub deleted_live : (h : OpSet) (x : Insertion) → Among x (walk_of h) → is_deleted_in h x.stamp ≡ true → (s : Stamp) × IsLiveOp h (Delete s x.stamp)
+deleted_live h x m e = let d = deleted_from h x.stamp e in (d.0, delete_live h x m d.0 d.1)
 
 pub live_deleted : (h : OpSet) (x : Insertion) → (s : Stamp) × IsLiveOp h (Delete s x.stamp) → is_deleted_in h x.stamp ≡ true
-unfolding is_deleted
-live_deleted h x l = some_any (deletes x.stamp) (clear_ops (in_order h)) (Delete l.0 x.stamp) (clear_from_op h (Delete l.0 x.stamp) l.1.0) (same-refl x.stamp)
+live_deleted h x l = deleted_by h x.stamp (l.0, l.1.0)

@@ -21,7 +21,7 @@ use Rattle.desk_ops.proofs.Arrive.{among-with_op, with_op-among}
 use Rattle.desk_ops.proofs.Ends.{among_held, held_among}
 use Rattle.desk_ops.proofs.Deletes.{any_some, some_any}
 
-same_bool : (a b : Bool) → (a ≡ true → b ≡ true) → (b ≡ true → a ≡ true) → a ≡ b
+pub same_bool : (a b : Bool) → (a ≡ true → b ≡ true) → (b ≡ true → a ≡ true) → a ≡ b
 same_bool true b f g = sym (f refl)
 same_bool false true f g = g refl
 same_bool false false f g = refl

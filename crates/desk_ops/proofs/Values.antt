@@ -89,7 +89,7 @@ set_of key (Set s k v) n e =
     let b : v ≡ n = ap (λ r. unwrap_or r n) (subst (λ c. elim c [ true ↦ Some v | false ↦ None ] ≡ Some n) t e) in λ i. Set s (a i) (b i))
     (λ t. none-some n (subst (λ c. elim c [ true ↦ Some v | false ↦ None ] ≡ Some n) t e))
 
-value_of : (key : Key) (s : Stamp) (n : ℕ) → value_for key (Set s key n) ≡ Some n
+pub value_of : (key : Key) (s : Stamp) (n : ℕ) → value_for key (Set s key n) ≡ Some n
 value_of key s n = subst (λ c. elim c [ true ↦ Some n | false ↦ None ] ≡ Some n) (sym here) refl
   where
     here : (key_code key == key_code key) ≡ true

@@ -1,6 +1,6 @@
 -- The laws of the definitions.
-use Rattle.std.specs.Prelude.{◌≡◌, ◌↔◌, ℕ, ◌<◌, ◌≤◌, ◌⊎◌, true, false, not, ◌||◌, Ok, Some, List, [], ◌∷◌, map}
-use Rattle.std.specs.List.{AllByRecursion, filter, insert}
+use Rattle.std.specs.Prelude.{◌≡◌, ◌↔◌, ℕ, ◌+◌, length, slice_index_or, ◌<◌, ◌≤◌, ◌⊎◌, true, false, not, ◌||◌, Ok, Some, List, [], ◌∷◌, map}
+use Rattle.std.specs.List.{AllByRecursion, filter, insert, remove}
 use Rattle.std.specs.Ordering.{nat_cmp, ordering_then}
 use Rattle.std.specs.Cmp.{IsTotalOrder}
 use Rattle.std.specs.Cmp.Lexicographic.{slice_cmp}
@@ -9,7 +9,7 @@ use Rattle.desk_ops.specs.declared.op.Op.{Op}
 use Rattle.desk_ops.specs.declared.op.Stamp.{Stamp}
 use Rattle.desk_ops.specs.declared.op.Symbol.{Symbol}
 use Rattle.desk_ops.specs.declared.op.Key.{Key}
-use Rattle.desk_ops.specs.declared.op.Op.TheVariants.{Delete}
+use Rattle.desk_ops.specs.declared.op.Op.TheVariants.{Insert, Delete, Set}
 use Rattle.desk_ops.specs.declared.fault.CopyFault.{CopyFault}
 use Rattle.desk_ops.specs.contracts.op.StampOrd.TheImpl as stamp_ord
 use Rattle.desk_ops.specs.contracts.op.StampPartialEq.TheImpl as stamp_eq
@@ -119,6 +119,23 @@ pub record DrainGivesWalk : Type 0 where
   pub step : (h : OpSet) → AllLawful h → (xs : List Insertion) → IsTakenIn h xs → (e : Insertion) → Among e (clear_inserts (in_order h)) → AllByRecursion (λ x. same x.stamp e.stamp ≡ false) xs → IsThere xs e.parent
       → IsTakenIn h (with_insert e xs) × (walk_from (with_insert e xs) head ≡ scan_insert e (walk_from xs head))
   pub done : (h : OpSet) → AllLawful h → (xs : List Insertion) → IsDrained h xs → walk_from xs head ≡ walk (in_order h)
+
+-- where a new element goes: at the front for the head, else right after the element shown before it
+abbrev pub IsParentAt : OpSet → ℕ → Stamp → Type 0
+IsParentAt h i p =
+    ((i ≡ 0) × (p ≡ head))
+    ⊎ ((j : ℕ) × (i ≡ j + 1) × (j < length (shown_of h)) × (slice_index_or (map (λ x. x.stamp) (shown_of h)) j head ≡ p))
+
+-- an operation with a greater counter than all that are held: an insert is shown at its place, a delete takes its target
+-- out of what is shown, and a set is the setting of its key; nothing else of what is shown or set changes
+pub record NewestActs : Type 0 where
+  pub inserted : (h : OpSet) → AllLawful h → (s p : Stamp) (y : Symbol) → greatest_counter_of h < s.counter → IsLawful (Insert s p y) → (i : ℕ) → IsParentAt h i p
+      → shown_of (with_op h (Insert s p y)) ≡ insert (shown_of h) i (record { stamp = s; parent = p; symbol = y })
+  pub taken_out : (h : OpSet) → AllLawful h → (s t : Stamp) → greatest_counter_of h < s.counter → (i : ℕ) → i < length (shown_of h) → slice_index_or (map (λ x. x.stamp) (shown_of h)) i head ≡ t
+      → shown_of (with_op h (Delete s t)) ≡ remove (shown_of h) i
+  pub shown_stays : (h : OpSet) → AllLawful h → (s : Stamp) (key : Key) (v : ℕ) → greatest_counter_of h < s.counter → shown_of (with_op h (Set s key v)) ≡ shown_of h
+  pub new_value : (h : OpSet) → AllLawful h → (s : Stamp) (key : Key) (v : ℕ) → greatest_counter_of h < s.counter → setting_of (with_op h (Set s key v)) key ≡ Some v
+  pub value_stays : (h : OpSet) → AllLawful h → (o : Op) (key : Key) → greatest_counter_of h < (stamp_of o).counter → ((s : Stamp) (v : ℕ) → o ≡ Set s key v → ⊥) → setting_of (with_op h o) key ≡ setting_of h key
 
 -- merging is a union of sets; in which order operations come, and whether again, says nothing
 pub record MergingIsUnion : Type 0 where

@@ -1,6 +1,6 @@
 //! The laws of the definitions, each on a function with an empty body.
 ghost use Rattle.desk_ops.specs.Rows.{ConcurrentDeleteAndInsert, FiveArrivals, ForkedStamp, LaterSiblingFirst, SettingsByStamps, TombstonesKept, WaitingThenLive};
-ghost use Rattle.desk_ops.specs.Laws.{DrainGivesWalk, FaultsByEnds, HeldIsTold, LawfulIsTold, LiveByParents, MergingIsUnion, OneOrder, OrderGoesByStamp, OrderIsKept, PlaceGivesWalk, ScanGivesWalk, SettingsByStamp, ShownIsWhatIsLeft, WalkGoesByKids, WalkHoldsTheLive};
+ghost use Rattle.desk_ops.specs.Laws.{DrainGivesWalk, FaultsByEnds, HeldIsTold, LawfulIsTold, LiveByParents, MergingIsUnion, NewestActs, OneOrder, OrderGoesByStamp, OrderIsKept, PlaceGivesWalk, ScanGivesWalk, SettingsByStamp, ShownIsWhatIsLeft, WalkGoesByKids, WalkHoldsTheLive};
 
 /// An operation is lawful exactly where no cause against it is found.
 pub fn lawful_is_told()
@@ -70,6 +70,11 @@ pub fn place_gives_walk()
 /// A drain takes in one insert after another, and at its end has the set's walk.
 pub fn drain_gives_walk()
     ensures { DrainGivesWalk }
+{}
+
+/// What a new operation of a site does to what is shown and set.
+pub fn newest_acts()
+    ensures { NewestActs }
 {}
 
 /// Merging is commutative, associative and idempotent.

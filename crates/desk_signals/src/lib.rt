@@ -72,7 +72,7 @@ impl RowNo {
 /// A position of a justification wedge, 1 to 15.
 #[derive(Clone, Copy, PartialEq, Eq, Debug)]
 pub struct Position {
-    number: u8,
+    position: u8,
 }
 
 impl Model for Position {
@@ -80,11 +80,11 @@ impl Model for Position {
 
     ghost Value = { ℕ };
 
-    ghost view = { λ n. n.number };
+    ghost view = { λ n. n.position };
 
-    ghost invariant = { λ n. (1 ≤ n.number) × (n.number ≤ 15) };
+    ghost invariant = { λ n. (1 ≤ n.position) × (n.position ≤ 15) };
 
-    ghost inverse = { λ n. record { number = n } };
+    ghost inverse = { λ n. record { position = n } };
 }
 
 impl Position {
@@ -92,7 +92,7 @@ impl Position {
         ensures { SomeIff result ((1 ≤ number) × (number ≤ 15)) number }
     {
         if number >= 1 && number <= 15 {
-            Some(Position { number })
+            Some(Position { position: number })
         } else {
             None
         }
@@ -103,7 +103,7 @@ impl Position {
         ensures low { 1 ≤ self }
         ensures high { self ≤ 15 }
     {
-        self.number
+        self.position
     }
 }
 

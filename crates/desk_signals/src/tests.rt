@@ -6,7 +6,7 @@ fn cell(column: Column, row: u8, s: bool) -> RibbonRow {
 }
 
 fn position(number: u8) -> Position {
-    Position::new(number).unwrap_or(Position { number: 1 })
+    Position::new(number).unwrap_or(Position { position: 1 })
 }
 
 #[test]

@@ -1,0 +1,149 @@
+-- The values of a case file, or its first fault.
+use Rattle.std.specs.Prelude.{ℕ, ◌+◌, nat_le, nat_lt, Bool, true, ◌&&◌, if◌then◌else◌, List, [], ◌∷◌, ◌++◌, length, codes, Option, Some, None, Result, Ok, Err, map, option_map, option_and_then, is_some}
+use Rattle.std.specs.Str.{chars}
+use Rattle.toml.specs.Data.{Data, Items, no_items, item, Members, get_member, as_str, as_array}
+use Rattle.desk_signals.specs.declared.Cell.{Cell}
+use Rattle.desk_ops.specs.declared.op.Symbol.{Symbol}
+use Rattle.desk_wedge.specs.Keys.{◌>>=◌, number_of, or_fault, document}
+use Rattle.desk_wedge.specs.Wedge.{WedgeValues, units_of_row}
+use Rattle.desk_case.specs.declared.TheConstants.{COLUMNS, ROWS}
+use Rattle.desk_case.specs.declared.CaseKey.{CaseKey}
+use Rattle.desk_case.specs.declared.CaseKey.TheVariants as key
+use Rattle.desk_case.specs.declared.CaseFault.{CaseFault}
+use Rattle.desk_case.specs.declared.CaseFault.TheVariants.{NotToml, Missing, Shape, BadText, Doubled, NotBlank, FillOrder, NoMemory}
+use Rattle.desk_case.specs.Texts.{matrix_of_text}
+use Rattle.desk_case.specs.Names.{cell_named, cell_of_place}
+use Rattle.desk_case.specs.Case.{CaseValues, symbol_in, place_in}
+
+-- what a key of the file is called
+abbrev pub key_name : CaseKey → List ℕ
+key_name key.Case = codes "case"
+key_name key.Rows = codes "rows"
+key_name key.Space = codes "space"
+key_name key.Fill = codes "fill"
+
+-- the number of a fault
+abbrev pub fault_number : CaseFault → Option ℕ
+fault_number NotToml = Some 1
+fault_number (Missing key) = Some 2
+fault_number (Shape key) = Some 3
+fault_number (BadText cell) = Some 4
+fault_number (Doubled symbol) = Some 5
+fault_number (NotBlank cell) = Some 6
+fault_number FillOrder = Some 7
+fault_number NoMemory = None
+
+-- what all the items are, read one by one
+abbrev pub joined : {A : Type 0} → Option A → Option (List A) → Option (List A)
+joined (Some a) (Some more) = Some (a ∷ more)
+joined (Some a) None = None
+joined None more = None
+
+abbrev pub each_of : {A : Type 0} → (Data → Option A) → Items → Option (List A)
+each_of read no_items = Some []
+each_of read (item d ds) = joined (read d) (each_of read ds)
+
+-- a list of so many
+abbrev pub so_many : {A : Type 0} → ℕ → ℕ → List A → Option (List A)
+so_many low high xs = if nat_le low (length xs) && nat_le (length xs) high then Some xs else None
+
+-- an array of so many values, each read
+abbrev pub array_of : {A : Type 0} → ℕ → ℕ → (Data → Option A) → Data → Option (List A)
+array_of low high read d = option_and_then (so_many low high) (option_and_then (each_of read) (as_array d))
+
+abbrev pub row_of : Data → Option (List (List ℕ))
+row_of d = array_of COLUMNS COLUMNS as_str d
+
+-- rows, one after another
+abbrev pub joined_rows : {A : Type 0} → List (List A) → List A
+joined_rows [] = []
+joined_rows (row ∷ rows) = row ++ joined_rows rows
+
+-- the texts of the cells, row by row and column by column
+abbrev pub texts_of : Data → Option (List (List ℕ))
+texts_of d = option_map joined_rows (array_of ROWS ROWS row_of d)
+
+abbrev pub cell_of_data : Data → Option Cell
+cell_of_data d = option_and_then cell_named (as_str d)
+
+abbrev pub fill_of : Data → Option (List Cell)
+fill_of d = array_of 1 4 cell_of_data d
+
+-- what a key holds, read; else that it is missing, or that it is no such value
+abbrev pub at_key : {A : Type 0} → CaseKey → (Data → Option A) → Members → Result A CaseFault
+at_key key read members =
+    or_fault (Missing key) (get_member (key_name key) members) >>= (λ d. or_fault (Shape key) (read d))
+
+-- a blank, a symbol, or a text that is neither
+abbrev pub matrix_of : List ℕ → Option (Option Symbol)
+matrix_of text = matrix_of_text (chars text)
+
+-- what the texts of the cells stand for
+abbrev pub matrices_of : Data → Option (List (Option (Option Symbol)))
+matrices_of d = option_map (map matrix_of) (texts_of d)
+
+-- what the cells from a place on hold; a fault at the first text that is neither blank nor a symbol
+abbrev pub grid_from : ℕ → List (Option (Option Symbol)) → Result (List (Option Symbol)) CaseFault
+grid_from n [] = Ok []
+grid_from n (m ∷ ms) =
+    or_fault (BadText (cell_of_place n)) m >>= (λ held. grid_from (n + 1) ms >>= (λ grid. Ok (held ∷ grid)))
+
+-- the symbol, where an earlier cell holds it
+abbrev pub met : List (Option Symbol) → Option Symbol → Option Symbol
+met before None = None
+met before (Some symbol) = if is_some (place_in before symbol) then Some symbol else None
+
+abbrev pub or_else : {A : Type 0} → Option A → Option A → Option A
+or_else (Some a) other = Some a
+or_else None other = other
+
+-- the first symbol that stands in an earlier cell
+abbrev pub doubled_after : List (Option Symbol) → List (Option Symbol) → Option Symbol
+doubled_after before [] = None
+doubled_after before (m ∷ ms) = or_else (met before m) (doubled_after (before ++ m ∷ []) ms)
+
+abbrev pub first_doubled : List (Option Symbol) → Option Symbol
+first_doubled grid = doubled_after [] grid
+
+-- the first of some cells that holds a symbol
+abbrev pub first_held : List (Option Symbol) → List Cell → Option Cell
+first_held grid [] = None
+first_held grid (c ∷ cs) = if is_some (symbol_in grid c) then Some c else first_held grid cs
+
+-- a fault where there is one
+abbrev pub unless : {A B : Type 0} → (A → CaseFault) → Option A → B → Result B CaseFault
+unless fault None b = Ok b
+unless fault (Some a) b = Err (fault a)
+
+-- the values of the keys, each read in its turn, and then the faults of the cells
+abbrev pub case_of_members : Members → Result CaseValues CaseFault
+case_of_members members =
+    at_key key.Case (number_of 1 65535) members >>= (λ n.
+    at_key key.Rows matrices_of members >>= (λ matrices.
+    at_key key.Space cell_of_data members >>= (λ s.
+    at_key key.Fill fill_of members >>= (λ f.
+    grid_from 0 matrices >>= (λ grid.
+    unless Doubled (first_doubled grid) grid >>= (λ grid.
+    unless NotBlank (first_held grid (s ∷ f)) (record { number = n; grid = grid; space = s; fill = f })))))))
+
+abbrev pub case_of_document : Option Members → Result CaseValues CaseFault
+case_of_document None = Err NotToml
+case_of_document (Some members) = case_of_members members
+
+-- the values of a file, or its first fault
+abbrev pub case_of : List ℕ → Result CaseValues CaseFault
+case_of bytes = case_of_document (document bytes)
+
+-- each number is above the next
+abbrev pub is_descending : List ℕ → Bool
+is_descending [] = true
+is_descending (u ∷ []) = true
+is_descending (u ∷ v ∷ us) = nat_lt v u && is_descending (v ∷ us)
+
+-- the units of some cells
+abbrev pub units_of_cells : WedgeValues → List Cell → List ℕ
+units_of_cells w cells = map (λ cell. units_of_row w cell.row) cells
+
+-- whether a case goes with a wedge
+abbrev pub checked : WedgeValues → CaseValues → Result (Unit {0}) CaseFault
+checked w case = if is_descending (units_of_cells w case.fill) then Ok tt else Err FillOrder

@@ -1,0 +1,6 @@
+pub mod Texts
+pub mod Names
+pub mod Case
+pub mod File
+pub mod Reading
+pub mod Laws

@@ -1,0 +1,227 @@
+//! The matrix case: which symbol each of its cells holds, read from the case's file.
+#![tactic(auto)]
+
+pub mod names;
+mod read;
+#[cfg(test)]
+mod tests;
+mod texts;
+
+ghost use Rattle.std.specs.Prelude.{◌≡◌, ◌≢◌, Ok, Err, Some, None, IfOk, IfErr, IfSome, All};
+ghost use Rattle.toml.specs.Errors.{IsBlank};
+ghost use Rattle.desk_case.specs.File.{key_name, fault_number, case_of, checked, is_descending, units_of_cells};
+ghost use Rattle.desk_case.specs.Case.{symbol_at, cell_of, IsCase};
+ghost use Rattle.desk_case.specs.Laws.{CellsAndSymbolsAreInverse, NamesAreOneToOne, DoubledIsFirst, DescentIsOfAllPairs};
+ghost use Rattle.desk_case.specs.declared.CaseFault.TheVariants as fault;
+
+use desk_ops::Symbol;
+use desk_signals::Cell;
+use desk_wedge::Wedge;
+use indexmap::IndexMap;
+use std::alloc::Global;
+use std::marker::Model;
+use thiserror::Error;
+
+/// The columns of a case.
+pub const COLUMNS: usize = 15;
+
+/// The rows of a case.
+pub const ROWS: usize = 15;
+
+/// A key of a case file.
+#[derive(Clone, Copy, Debug, PartialEq, Eq)]
+pub enum CaseKey {
+    Case,
+    Rows,
+    Space,
+    Fill,
+}
+
+impl CaseKey {
+    /// What the file calls it.
+    pub fn name(self) -> &'static str
+        ensures { result.now ≡ key_name self }
+    {
+        match self {
+            CaseKey::Case => "case",
+            CaseKey::Rows => "rows",
+            CaseKey::Space => "space",
+            CaseKey::Fill => "fill",
+        }
+    }
+}
+
+/// Why a file is no case, or a case does not go with a wedge: the first fault that holds, or want of memory.
+#[derive(Clone, Copy, Debug, PartialEq, Eq, Error)]
+pub enum CaseFault {
+    #[error("the file is not TOML")]
+    NotToml,
+    #[error("`{}` is missing", .0.name())]
+    Missing(CaseKey),
+    #[error("`{}` is of another type, number, length or name", .0.name())]
+    Shape(CaseKey),
+    #[error("the text of a cell is no symbol")]
+    BadText(Cell),
+    #[error("a symbol stands in two cells")]
+    Doubled(Symbol),
+    #[error("the space or a fill holds a symbol")]
+    NotBlank(Cell),
+    #[error("the units of the fills do not descend")]
+    FillOrder,
+    #[error("no memory")]
+    NoMemory,
+}
+
+impl CaseFault {
+    /// The number of the fault; want of memory has none.
+    pub fn number(self) -> Option<u8>
+        ensures { result ≡ fault_number self }
+    {
+        match self {
+            CaseFault::NotToml => Some(1),
+            CaseFault::Missing(_) => Some(2),
+            CaseFault::Shape(_) => Some(3),
+            CaseFault::BadText(_) => Some(4),
+            CaseFault::Doubled(_) => Some(5),
+            CaseFault::NotBlank(_) => Some(6),
+            CaseFault::FillOrder => Some(7),
+            CaseFault::NoMemory => None,
+        }
+    }
+}
+
+/// A matrix case.
+#[derive(Drop)]
+pub struct MatrixCase {
+    number: u16,
+    grid: Vec<Option<Symbol>>,
+    cells: IndexMap<Symbol, Cell>,
+    space: Cell,
+    fill: Vec<Cell>,
+}
+
+impl Model for MatrixCase {
+    ghost use Rattle.desk_case.specs.Case.{CaseValues, IsCase, IsIndexOf};
+
+    ghost Value = { CaseValues };
+
+    ghost view = { λ c. record { number = c.number; grid = c.grid.items; space = c.space; fill = c.fill.items } };
+
+    ghost invariant = { λ c. IsCase (record { number = c.number; grid = c.grid.items; space = c.space; fill = c.fill.items }) × IsIndexOf c.cells.entries c.grid.items };
+}
+
+impl MatrixCase {
+    /// The number of the case, 1 to 65535.
+    pub fn number(&self) -> u16
+        ensures { result ≡ self.now.number }
+    {
+        self.number
+    }
+
+    /// The cell that holds a symbol.
+    pub fn cell_of(&self, symbol: Symbol) -> Option<Cell>
+        ensures value { result ≡ cell_of self.now symbol }
+        ensures back { IfSome result (λ cell. symbol_at self.now cell ≡ Some symbol) }
+    {
+        self.cells.get(&symbol).copied()
+    }
+
+    /// The symbol that a cell holds.
+    pub fn symbol_at(&self, cell: Cell) -> Option<Symbol>
+        ensures value { result ≡ symbol_at self.now cell }
+        ensures back { IfSome result (λ symbol. cell_of self.now symbol ≡ Some cell) }
+    {
+        read::held(self.grid.as_slice(), &cell)
+    }
+
+    /// The cell of the space, which holds no symbol.
+    pub fn space(&self) -> Cell
+        ensures value { result ≡ self.now.space }
+        ensures blank { symbol_at self.now result ≡ None }
+    {
+        self.space
+    }
+
+    /// The cells of the fills, 1 to 4, the widest first. None holds a symbol.
+    pub fn fill(&self) -> &[Cell]
+        ensures value { result.now ≡ self.now.fill }
+        ensures blank { All (λ cell. symbol_at self.now cell ≡ None) result.now }
+    {
+        self.fill.as_slice()
+    }
+
+    /// Whether the units of the fills descend strictly, and else `FillOrder`.
+    pub fn check(&self, wedge: &Wedge) -> Result<(), CaseFault>
+        ensures { result ≡ checked wedge.now self.now }
+    {
+        if descend(wedge, self.fill.as_slice()) {
+            Ok(())
+        } else {
+            Err(CaseFault::FillOrder)
+        }
+    }
+
+    /// Every case has its number and its cells in their ranges, no symbol in two cells, and blank cells for its space and its 1 to 4 fills.
+    pub fn is_lawful(&self)
+        ensures { IsCase self.now }
+    {
+        let _ = &self.number;
+    }
+
+    /// Reads a case file: its values, or its first fault, which is never `FillOrder`. Want of memory may come in place of either.
+    pub fn read(alloc: Global, bytes: &[u8]) -> Result<MatrixCase, CaseFault>
+        ensures ok { IfOk result (λ c. case_of bytes.now ≡ Ok c) }
+        ensures err { IfErr result (λ e. e ≢ fault.NoMemory → case_of bytes.now ≡ Err e) }
+        ensures order { result ≢ Err fault.FillOrder }
+        ensures memory { result ≡ Err fault.NoMemory → ¬ IsBlank bytes.now }
+    {
+        match toml::table_from_slice(alloc, bytes) {
+            Ok(table) => read::case(alloc, &table),
+            Err(error) => {
+                if error.is_memory() {
+                    Err(CaseFault::NoMemory)
+                } else {
+                    Err(CaseFault::NotToml)
+                }
+            }
+        }
+    }
+}
+
+/// Whether the units of some cells descend strictly.
+fn descend(wedge: &Wedge, cells: &[Cell]) -> bool
+    ensures { result ≡ is_descending (units_of_cells wedge.now cells.now) }
+{
+    let [first, rest @ ..] = cells else {
+        return true;
+    };
+    let mut before = wedge.units(first.row);
+    for cell in rest {
+        let units = wedge.units(cell.row);
+        if units >= before {
+            return false;
+        }
+        before = units;
+    }
+    true
+}
+
+/// A symbol's cell is the cell that holds it, in every case.
+pub fn cells_and_symbols_are_inverse()
+    ensures { CellsAndSymbolsAreInverse }
+{}
+
+/// Each text names at most one cell, and each cell has one name.
+pub fn names_are_one_to_one()
+    ensures { NamesAreOneToOne }
+{}
+
+/// The symbol that a file's fault names is the first in its order that stands in an earlier cell.
+pub fn doubled_is_first()
+    ensures { DoubledIsFirst }
+{}
+
+/// Units that descend are each above all later ones.
+pub fn descent_is_of_all_pairs()
+    ensures { DescentIsOfAllPairs }
+{}
