@@ -1,6 +1,6 @@
 -- The walk of a set, made from its clear operations one after the other.
 use Rattle.std.proofs.Common.{◌≡◌, ℕ, zero, suc, ◌+◌, ◌<◌, ◌≤◌, Bool, true, false, not, cond, List, [], ◌∷◌, ◌++◌, map, length, get_or, take, refl, sym, ap, ◌∙◌, subst, inl, inr, arith}
-use Rattle.std.specs.List.{AllByRecursion, filter, filter_map, list_any}
+use Rattle.std.specs.List.{filter, filter_map, list_any}
 use Rattle.std.specs.declared.cmp.Ordering.{Ordering}
 use Rattle.std.specs.declared.cmp.Ordering.TheVariants.{Less, Equal, Greater}
 use Rattle.std.specs.Cmp.Lexicographic.{slice_cmp}
@@ -8,8 +8,6 @@ use Rattle.std.specs.Ordering.{is_lt, nat_cmp, ordering_then, ordering_reverse}
 use Rattle.std.proofs.lemmas.Bool.{true≢false}
 use Rattle.std.proofs.lemmas.Cmp.{tied_itself}
 use Rattle.std.proofs.lemmas.List.{append-nil, take_all, take_more}
-use Rattle.desk_ops.specs.declared.op.Stamp.{Stamp}
-use Rattle.desk_ops.specs.declared.op.Symbol.{Symbol}
 use Rattle.desk_ops.specs.declared.op.Op.{Op}
 use Rattle.desk_ops.specs.declared.op.Op.TheVariants.{Insert, Delete, Set}
 use Rattle.desk_ops.specs.Stamp.{stamp_cmp, same, before, head}
@@ -19,11 +17,11 @@ use Rattle.desk_ops.specs.OrderLaws.{op_total}
 use Rattle.desk_ops.specs.OpSet.{OpSet, in_order, AllLawful}
 use Rattle.desk_ops.specs.Lists.{Among}
 use Rattle.desk_ops.specs.Held.{is_clear, clear_ops, clear_inserts}
-use Rattle.desk_ops.specs.Walk.{walk_from, walk}
+use Rattle.desk_ops.specs.Walk.{walk_from}
 use Rattle.desk_ops.specs.Shown.{deletes, is_deleted, shown}
 use Rattle.desk_ops.specs.Scan.{IsAscending}
 use Rattle.desk_ops.proofs.Stamps.{by_cases, stamp_total, same-refl, same-symm, before-other}
-use Rattle.desk_ops.proofs.Lists.{Each, each-among, each-from_among, each-filter, among-filter}
+use Rattle.desk_ops.proofs.Lists.{Each, each-among, each-from_among, each-filter}
 use Rattle.desk_ops.proofs.Means.{IsOrdered, ordered, clear_one, by_stamp, counter-before}
 use Rattle.desk_ops.proofs.Tree.{walk-clear}
 use Rattle.desk_replica.specs.declared.rebuild.Entry.{Entry}
@@ -97,16 +95,16 @@ clear_later ops p o m n clear less =
     apart : o ≡ p → ⊥
     apart e = true≢false (sym (ap is_lt less) ∙ ap (λ q. is_lt (op_cmp p q)) e ∙ ap is_lt (tied_itself op_total p))
 
+pub filter-last : (f : Op → Bool) (xs : List Op) (o : Op) → filter f (xs ++ o ∷ []) ≡ filter f xs ++ cond (f o) (o ∷ []) []
+filter-last f [] o = refl
+filter-last f (x ∷ xs) o = elim (f x) as (λ b. cond b (x ∷ filter f (xs ++ o ∷ [])) (filter f (xs ++ o ∷ [])) ≡ cond b (x ∷ filter f xs) (filter f xs) ++ cond (f o) (o ∷ []) []) [
+  | true ↦ ap (λ l. x ∷ l) (filter-last f xs o)
+  | false ↦ filter-last f xs o
+]
+
 module _ (h : OpSet) (lawful : AllLawful h) (i : ℕ) (d : Op) (lt : i < length (in_order h)) where
   taken_more : take (i + 1) (in_order h) ≡ take i (in_order h) ++ get_or (in_order h) i d ∷ []
   taken_more = take_more (in_order h) i d lt
-
-  filter-last : (f : Op → Bool) (xs : List Op) (o : Op) → filter f (xs ++ o ∷ []) ≡ filter f xs ++ cond (f o) (o ∷ []) []
-  filter-last f [] o = refl
-  filter-last f (x ∷ xs) o = elim (f x) as (λ b. cond b (x ∷ filter f (xs ++ o ∷ [])) (filter f (xs ++ o ∷ [])) ≡ cond b (x ∷ filter f xs) (filter f xs) ++ cond (f o) (o ∷ []) []) [
-    | true ↦ ap (λ l. x ∷ l) (filter-last f xs o)
-    | false ↦ filter-last f xs o
-  ]
 
   pub older : is_clear (in_order h) (stamp_of (get_or (in_order h) i d)) ≡ true → IsAscending (filter_map insertion (clear_before (in_order h) i)) → IsOlder (stamp_of (get_or (in_order h) i d)) (clear_before (in_order h) i)
   older clear up = record {

@@ -1,6 +1,6 @@
 -- Searches in a tree of nodes, and ways along its links.
-use Rattle.std.proofs.Common.{◌≡◌, ℕ, zero, suc, ◌+◌, ◌-◌, ◌<◌, ◌≤◌, Bool, true, false, cond, not, List, [], ◌∷◌, ◌++◌, map, length, get_or, refl, sym, ap, ◌∙◌, subst, subst₂, ◌⊎◌, inl, inr, arith, append_assoc, append-nil}
-use Rattle.std.specs.List.{AllByRecursion, AllWithin, filter}
+use Rattle.std.proofs.Common.{◌≡◌, ℕ, suc, ◌+◌, ◌-◌, ◌<◌, ◌≤◌, true, false, cond, List, [], ◌∷◌, ◌++◌, map, length, get_or, refl, sym, ap, ◌∙◌, subst, subst₂, ◌⊎◌, inl, inr, arith, append_assoc, append-nil}
+use Rattle.std.specs.List.{AllWithin, filter}
 use Rattle.std.specs.List.Sorted.{IsPartitionedBy}
 use Rattle.std.proofs.lemmas.Bool.{true≢false}
 use Rattle.std.proofs.lemmas.Bool.Decides.{nat_tests}
@@ -8,13 +8,13 @@ use Rattle.std.specs.Prelude.{nat_lt}
 use Rattle.std.proofs.lemmas.List.{get_or_default}
 use Rattle.std.proofs.Math.Nat.{eq-or-lt_of_le}
 use Rattle.desk_ops.specs.declared.op.Stamp.{Stamp}
-use Rattle.desk_ops.specs.Stamp.{same, before, head}
+use Rattle.desk_ops.specs.Stamp.{same, before}
 use Rattle.desk_ops.proofs.Stamps.{by_cases, same-true, before-apart_left, before-trans}
 use Rattle.desk_ops.proofs.Lists.{Each}
 use Rattle.desk_replica.specs.declared.rebuild.Entry.{Entry}
 use Rattle.desk_replica.specs.declared.rebuild.Node.{Node}
 use Rattle.desk_replica.specs.Entries.{is_shown}
-use Rattle.desk_replica.specs.Nodes.{no_node, node_at, entry_at, stamp_at, next_of, links, order, walk_entries, IsRising, IsTree, IsAbsent}
+use Rattle.desk_replica.specs.Nodes.{no_node, entry_at, stamp_at, next_of, links, walk_entries, IsRising, IsTree, IsAbsent}
 
 pub partitioned : (nodes : List Node) (s : Stamp) → IsRising nodes → IsPartitionedBy (λ n. before n.entry.stamp s) nodes
 partitioned nodes s up i j d le lt e = go (eq-or-lt_of_le le)

@@ -1,18 +1,16 @@
 -- Nodes linked by indexes: what a new node does to the links.
-use Rattle.std.proofs.Common.{◌≡◌, ◌≢◌, ℕ, zero, suc, ◌+◌, ◌-◌, ◌<◌, ◌≤◌, ◌==◌, Bool, true, false, cond, List, [], ◌∷◌, ◌++◌, map, length, get_or, refl, sym, ap, ◌∙◌, subst, ◌⊎◌, inl, inr, arith, add-one}
-use Rattle.std.specs.List.{AllByRecursion}
-use Rattle.std.proofs.lemmas.Bool.{true≢false}
+use Rattle.std.proofs.Common.{◌≡◌, ◌≢◌, ℕ, zero, suc, ◌+◌, ◌<◌, ◌==◌, true, false, cond, List, [], ◌∷◌, ◌++◌, map, length, refl, sym, ap, ◌∙◌, subst, inl, inr, arith}
 use Rattle.std.proofs.lemmas.Bool.Decides.{nat_tests}
 use Rattle.std.proofs.lemmas.List.{get_or-set_same, get_or-set_other, get_or_append_left, get_or_at, length-set, length-append}
 use Rattle.desk_ops.specs.declared.op.Stamp.{Stamp}
-use Rattle.desk_ops.specs.Stamp.{same, before, head}
+use Rattle.desk_ops.specs.Stamp.{same}
 use Rattle.desk_ops.specs.Lists.{Among}
 use Rattle.desk_ops.proofs.Stamps.{by_cases}
-use Rattle.desk_ops.proofs.Lists.{Each, Each-weaker, each-among}
+use Rattle.desk_ops.proofs.Lists.{Each}
 use Rattle.desk_replica.specs.declared.rebuild.Entry.{Entry}
 use Rattle.desk_replica.specs.declared.rebuild.Node.{Node}
 use Rattle.desk_replica.specs.Entries.{after, put_from}
-use Rattle.desk_replica.specs.Nodes.{no_node, node_at, entry_at, stamp_at, next_of, links, is_same, IsApart, linked, crossed}
+use Rattle.desk_replica.specs.Nodes.{no_node, node_at, entry_at, stamp_at, next_of, links, is_same, IsApart, linked}
 
 -- ---- numbers
 

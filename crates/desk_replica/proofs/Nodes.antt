@@ -1,15 +1,13 @@
 -- A tree of nodes stays one, and its walk says what was done to it.
-use Rattle.std.proofs.Common.{◌≡◌, ◌≢◌, ℕ, zero, suc, ◌+◌, ◌-◌, ◌<◌, ◌≤◌, Bool, true, false, ◌||◌, List, [], ◌∷◌, map, length, get_or, refl, sym, ap, ◌∙◌, subst, subst₂, ◌⊎◌, inl, inr, arith}
+use Rattle.std.proofs.Common.{◌≡◌, ◌≢◌, ℕ, zero, suc, ◌-◌, ◌<◌, Bool, true, false, ◌||◌, List, [], ◌∷◌, map, length, refl, sym, ap, ◌∙◌, subst, subst₂, ◌⊎◌, inl, inr, arith}
 use Rattle.std.specs.Prelude.{Result, Ok, Err, OnOk, OnErr}
-use Rattle.std.specs.List.{AllByRecursion}
 use Rattle.desk_ops.specs.declared.op.NoMemory.{NoMemory}
-use Rattle.std.proofs.lemmas.Bool.{true≢false}
 use Rattle.std.proofs.lemmas.List.{get_or-set_same, get_or-set_other, length-set}
 use Rattle.desk_ops.specs.declared.op.Stamp.{Stamp}
 use Rattle.desk_ops.specs.Stamp.{same, before, head}
 use Rattle.desk_ops.specs.Lists.{Among}
-use Rattle.desk_ops.proofs.Stamps.{by_cases, same-from, before-apart, before-apart_left, before-irrefl, before-trans}
-use Rattle.desk_ops.proofs.Lists.{Each, Each-weaker, each-among}
+use Rattle.desk_ops.proofs.Stamps.{same-from, before-apart, before-apart_left}
+use Rattle.desk_ops.proofs.Lists.{Each, Each-weaker}
 use Rattle.desk_replica.specs.declared.rebuild.Entry.{Entry}
 use Rattle.desk_replica.specs.declared.rebuild.Node.{Node}
 use Rattle.desk_replica.specs.Entries.{put_in, put_from, mark}

@@ -1,15 +1,15 @@
 -- What operations do to a walk, from the oldest to the newest.
-use Rattle.std.proofs.Common.{◌≡◌, ◌<◌, Bool, true, false, ◌||◌, List, [], ◌∷◌, ◌++◌, map, refl, sym, ap, ◌∙◌, subst, Some, None, Option, arith}
+use Rattle.std.proofs.Common.{◌≡◌, Bool, true, false, ◌||◌, List, [], ◌∷◌, ◌++◌, map, refl, sym, ap, ◌∙◌, subst, Some}
 use Rattle.std.proofs.lemmas.List.{append-nil}
-use Rattle.std.specs.List.{AllByRecursion, filter, filter_map, list_any, cons_option}
+use Rattle.std.specs.List.{filter_map, list_any}
 use Rattle.desk_ops.specs.declared.op.Stamp.{Stamp}
 use Rattle.desk_ops.specs.declared.op.Op.{Op}
 use Rattle.desk_ops.specs.declared.op.Op.TheVariants.{Insert, Delete, Set}
-use Rattle.desk_ops.specs.Stamp.{same, before, head, IsStamp}
+use Rattle.desk_ops.specs.Stamp.{same, before, head}
 use Rattle.desk_ops.specs.Op.{Insertion, insertion, stamp_of, IsLawful}
 use Rattle.desk_ops.specs.Walk.{walk_from}
 use Rattle.desk_ops.specs.Shown.{deletes}
-use Rattle.desk_ops.specs.Scan.{skip, after_parent, place_from, with_insert, IsAscending, IsNext}
+use Rattle.desk_ops.specs.Scan.{skip, after_parent, place_from, with_insert, IsAscending}
 use Rattle.desk_ops.proofs.Stamps.{by_cases, same-symm, before-trans, before-apart_left}
 use Rattle.desk_ops.proofs.Lists.{Each, Each-append, Each-weaker, Each-both}
 use Rattle.desk_ops.proofs.Scans.{walk-each, place-walk, skip-stop, after-hit, after-miss, place-hit, place-miss, with-later}
@@ -48,7 +48,7 @@ walk-last e xs u =
     })
     head u.some
 
-skip-end : (e : Insertion) → skip e [] ≡ e ∷ []
+pub skip-end : (e : Insertion) → skip e [] ≡ e ∷ []
 unfolding skip
 skip-end e = refl
 
@@ -56,7 +56,7 @@ after-end : (e : Insertion) → after_parent e [] ≡ []
 unfolding after_parent
 after-end e = refl
 
-after-place : (e y : Insertion) (ys : List Insertion) → after_parent e (y ∷ ys) ≡ y ∷ place_from y.stamp e ys
+pub after-place : (e y : Insertion) (ys : List Insertion) → after_parent e (y ∷ ys) ≡ y ∷ place_from y.stamp e ys
 after-place e y ys =
     by_cases (same y.stamp e.parent)
     (λ h. after-hit e y ys h ∙ ap (λ l. y ∷ l) (sym (place-hit y.stamp e ys h)))
@@ -77,7 +77,7 @@ placed ops e (y ∷ ys) t below =
 
 -- ---- one operation more
 
-or_false : (b : Bool) → (b || false) ≡ b
+pub or_false : (b : Bool) → (b || false) ≡ b
 or_false true = refl
 or_false false = refl
 
@@ -85,7 +85,7 @@ or_group : (a b c : Bool) → ((a || b) || c) ≡ (a || (b || c))
 or_group true b c = refl
 or_group false b c = refl
 
-any-last : (p : Op → Bool) (ops : List Op) (o : Op) → list_any p (ops ++ o ∷ []) ≡ (list_any p ops || p o)
+pub any-last : (p : Op → Bool) (ops : List Op) (o : Op) → list_any p (ops ++ o ∷ []) ≡ (list_any p ops || p o)
 any-last p [] o = or_false (p o)
 any-last p (q ∷ ops) o = ap (λ b. p q || b) (any-last p ops o) ∙ sym (or_group (p q) (list_any p ops) (p o))
 
@@ -109,7 +109,7 @@ map-after : (f : Insertion → Entry) (g : Entry → Entry) (xs : List Insertion
 map-after f g [] = refl
 map-after f g (x ∷ xs) = ap (λ l. g (f x) ∷ l) (map-after f g xs)
 
-each-insert : (Q : Insertion → Type 0) (R : Op → Type 0) → ((p : Op) (x : Insertion) → R p → insertion p ≡ Some x → Q x) → (ops : List Op) → Each R ops → Each Q (filter_map insertion ops)
+pub each-insert : (Q : Insertion → Type 0) (R : Op → Type 0) → ((p : Op) (x : Insertion) → R p → insertion p ≡ Some x → Q x) → (ops : List Op) → Each R ops → Each Q (filter_map insertion ops)
 each-insert Q R f [] h = tt
 each-insert Q R f (Insert s p y ∷ ops) h = (f (Insert s p y) _ h.0 refl, each-insert Q R f ops h.1)
 each-insert Q R f (Delete s t ∷ ops) h = each-insert Q R f ops h.1
@@ -133,7 +133,7 @@ is_under s p e ops f parent old = record {
 }
 
 -- nothing older deletes a newer stamp
-not_deleted : (s : Stamp) (ops : List Op) → Each IsLawful ops → Each (λ p. before (stamp_of p) s ≡ true) ops → list_any (deletes s) ops ≡ false
+pub not_deleted : (s : Stamp) (ops : List Op) → Each IsLawful ops → Each (λ p. before (stamp_of p) s ≡ true) ops → list_any (deletes s) ops ≡ false
 not_deleted s [] l h = refl
 not_deleted s (Insert t p y ∷ ops) l h = not_deleted s ops l.1 h.1
 not_deleted s (Delete t u ∷ ops) l h = ap (λ b. b || list_any (deletes s) ops) (before-apart_left u s (before-trans u t s (counter-before u t l.0.2) h.0)) ∙ not_deleted s ops l.1 h.1

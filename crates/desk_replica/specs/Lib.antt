@@ -2,3 +2,4 @@ pub mod State
 pub mod Entries
 pub mod Nodes
 pub mod Built
+pub mod Edits

@@ -7,11 +7,13 @@ ghost use Rattle.desk_ops.specs.OpSet.{no_ops, has_op, with_op, with_all, in_ord
 ghost use Rattle.desk_ops.specs.Shown.{copy_of};
 ghost use Rattle.desk_codec.specs.Feed.{feed, IsFeed};
 ghost use Rattle.desk_replica.specs.Built.{shown_entries};
+ghost use Rattle.desk_replica.specs.Edits.{new_stamp, edit_refusal, insert_refusal, IsInserted};
 
 use desk_codec::write_feed;
 use desk_held::{AddRefusal, Added, Held, LIMIT};
-use desk_ops::{NoMemory, Op, Symbol};
-use rebuild::{Entry, Tree, symbols};
+use desk_ops::op::MAX_COUNTER;
+use desk_ops::{NoMemory, Op, Stamp, Symbol};
+use rebuild::{Entry, Tree, parent_at, symbols};
 use std::alloc::Allocator;
 use std::marker::Model;
 use thiserror::Error;
@@ -40,12 +42,6 @@ pub enum Refusal {
     Value,
     #[error("no memory")]
     NoMemory,
-}
-
-impl From<NoMemory> for Refusal {
-    fn from(_error: NoMemory) -> Refusal {
-        Refusal::NoMemory
-    }
 }
 
 /// How many operations of a list were new, and how many were known.
@@ -212,4 +208,60 @@ impl<A: Allocator + Copy> Replica<A> {
         let shown = self.shown()?;
         symbols(self.alloc, &shown)
     }
+    /// The stamp of the next operation that is made here, or why none can be made: as many operations are held as may be,
+    /// or the greatest counter is.
+    fn next_stamp(&self) -> Result<Stamp, Refusal>
+        ensures stamp { IfOk result (λ s. s ≡ new_stamp self.now) }
+        ensures free { OnOk result (edit_refusal self.now.ops true true ≡ None) }
+        ensures refused { IfErr result (λ e. edit_refusal self.now.ops true true ≡ Some e) }
+    {
+        if self.held.len() == LIMIT {
+            return Err(Refusal::Full);
+        }
+        let counter = self.held.greatest_counter();
+        if counter >= MAX_COUNTER {
+            return Err(Refusal::ClockFull);
+        }
+        Ok(Stamp {
+            counter: counter + 1,
+            site: self.site,
+        })
+    }
+
+    /// Inserts a symbol at a place of the copy, and answers the operation made. `Place` comes where the place is above
+    /// the copy's length, `Value` where the symbol is not lawful, `Full` and `ClockFull` where nothing more can be made,
+    /// the first of these that holds. Want of memory may come in place of each.
+    pub fn insert_at(&mut self, place: usize, symbol: Symbol) -> Result<Op, Refusal>
+        ensures site { self.new.site ≡ self.old.site }
+        ensures made { IfOk result (λ op. IsInserted self.old self.new place symbol op) }
+        ensures allowed { OnOk result (insert_refusal self.old.ops place symbol ≡ None) }
+        ensures same { OnErr result (self.new.ops ≡ self.old.ops) }
+        ensures refused { IfErr result (λ e. (e ≡ Refusal.NoMemory) ⊎ (insert_refusal self.old.ops place symbol ≡ Some e)) }
+    {
+        let Ok(shown) = self.shown() else {
+            return Err(Refusal::NoMemory);
+        };
+        if place > shown.len() {
+            return Err(Refusal::Place);
+        }
+        if symbol.check().is_err() {
+            return Err(Refusal::Value);
+        }
+        let stamp = match self.next_stamp() {
+            Ok(stamp) => stamp,
+            Err(refusal) => return Err(refusal),
+        };
+        let op = Op::Insert {
+            stamp,
+            parent: parent_at(&shown, place),
+            symbol,
+        };
+        match self.held.add(op) {
+            Ok(_) => Ok(op),
+            Err(_) => Err(Refusal::NoMemory),
+        }
+    }
 }
+
+#[cfg(test)]
+mod tests;

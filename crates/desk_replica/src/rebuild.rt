@@ -1,6 +1,6 @@
 //! The walk of a copy, kept by links between indexes, while operations act on it from the oldest to the newest.
 
-ghost use Rattle.std.specs.Prelude.{◌≡◌, ◌+◌, ◌^◌, ◌<◌, ◌≤◌, [], IfOk, OnOk, OnErr, MatchOption, length, vec_len, map, true};
+ghost use Rattle.std.specs.Prelude.{◌≡◌, ◌+◌, ◌^◌, ◌<◌, ◌≤◌, [], IfOk, OnOk, OnErr, MatchOption, length, slice_index_or, ◌∷◌, vec_len, map, true};
 ghost use Rattle.std.specs.List.{AllByRecursion, filter};
 ghost use Rattle.desk_ops.specs.Stamp.{before, head};
 ghost use Rattle.desk_ops.specs.Op.{stamp_of};
@@ -93,6 +93,17 @@ pub fn symbols<A: Allocator>(alloc: A, entries: &[Entry]) -> Result<Vec<Symbol, 
     ensures { IfOk result (λ v. v.items ≡ map (λ e. e.symbol) entries.now) }
 {
     Ok(entries.iter().map(|entry| entry.symbol).collect(alloc)?)
+}
+
+/// What an element at a place stands after: the head, or the element shown before it.
+pub fn parent_at(shown: &[Entry], place: usize) -> Stamp
+    requires { place ≤ length shown.now }
+    ensures { result ≡ slice_index_or (head ∷ map (λ e. e.stamp) shown.now) place head }
+{
+    if place == 0 {
+        return Stamp::HEAD;
+    }
+    shown[place - 1].stamp
 }
 
 /// A walk, seen as the list of its elements.

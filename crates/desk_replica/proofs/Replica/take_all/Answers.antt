@@ -1,6 +1,6 @@
-use Rattle.std.proofs.Common.{◌≡◌, ◌+◌, rules, ap, sym, ◌∙◌, subst, arith}
+use Rattle.std.proofs.Common.{◌+◌, rules, ap, sym, subst, arith}
 use Rattle.desk_ops.specs.OpSet.{OpSet, AllLawful}
-use Rattle.desk_replica.proofs.Sets.{IsGaining, with_op-lawful, gain-none, gain-more, gain-all}
+use Rattle.desk_replica.proofs.Sets.{IsGaining, with_op-lawful, gain-more, gain-all}
 use Rattle.desk_replica.proofs.Replica.take_all.Goals as goal
 
 pub loop-taken-preserved : goal.loop-taken-preserved

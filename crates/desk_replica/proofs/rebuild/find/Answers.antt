@@ -1,4 +1,4 @@
-use Rattle.std.proofs.Common.{sym, ◌∙◌, ap, subst, ◌≡◌, List, true, false, rules, of_calls, inl, inr, arith, length, ◌<◌}
+use Rattle.std.proofs.Common.{sym, ◌∙◌, ap, rules, of_calls, inl, inr, arith, length, ◌<◌}
 use Rattle.std.proofs.lemmas.Fn.{always_returns_same}
 use Rattle.desk_ops.specs.Stamp.{before, same}
 use Rattle.desk_ops.proofs.Stamps.{same-fields}

@@ -1,6 +1,6 @@
-use Rattle.std.proofs.Common.{◌≡◌, ◌+◌, ◌<◌, ◌++◌, ◌∷◌, [], true, false, not, Bool, List, length, subst, sym, ◌∙◌, ap, rules, refl}
+use Rattle.std.proofs.Common.{◌+◌, ◌<◌, List, length, subst, sym, ◌∙◌, ap, rules}
 use Rattle.desk_replica.specs.declared.rebuild.Entry.{Entry}
-use Rattle.desk_replica.specs.Nodes.{next_of, entry_at}
+use Rattle.desk_replica.specs.Nodes.{next_of}
 use Rattle.desk_replica.proofs.Finds.{IsPassing, pass-in, pass-shown, pass-deleted, pass-all}
 use Rattle.desk_replica.proofs.rebuild.shown_of.Goals as goal
 use Rattle.desk_replica.proofs.rebuild.shown_of.Goals.{then-not-entry+in_ok-push, else-not-entry}

@@ -1,5 +1,4 @@
-use Rattle.std.proofs.Common.{sym, ◌∙◌, ap, subst, ◌≡◌, List, refl, ◌++◌, ◌∷◌, []}
-use Rattle.desk_ops.specs.Stamp.{head}
+use Rattle.std.proofs.Common.{sym, ◌∙◌, ap, subst, List, refl, ◌++◌, ◌∷◌, []}
 use Rattle.desk_replica.specs.declared.rebuild.Node.{Node}
 use Rattle.desk_replica.specs.Nodes.{IsTree, walk_entries}
 use Rattle.desk_replica.proofs.Nodes.{tree-alone, walk-alone}

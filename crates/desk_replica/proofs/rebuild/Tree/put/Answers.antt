@@ -1,4 +1,4 @@
-use Rattle.std.proofs.Common.{sym, ◌∙◌, ap, subst, ◌≡◌, List, true}
+use Rattle.std.proofs.Common.{sym, subst, ◌≡◌, List, true}
 use Rattle.std.specs.Prelude.{OnOk}
 use Rattle.std.specs.List.{AllByRecursion}
 use Rattle.desk_ops.specs.Stamp.{before}

@@ -1,0 +1,44 @@
+-- Local edits: the operation that one makes of a set, and what refuses it.
+use Rattle.std.specs.Prelude.{◌≡◌, ℕ, ◌+◌, Bool, cond, not, ◌==◌, nat_le, List, ◌∷◌, map, length, slice_index_or, Option, Some, None}
+use Rattle.std.specs.List.{insert}
+use Rattle.desk_ops.specs.declared.op.Stamp.{Stamp}
+use Rattle.desk_ops.specs.declared.op.Symbol.{Symbol}
+use Rattle.desk_ops.specs.declared.op.Op.{Op}
+use Rattle.desk_ops.specs.Stamp.{head}
+use Rattle.desk_ops.specs.Op.{IsLawful, Insertion, is_symbol}
+use Rattle.desk_ops.specs.OpSet.{OpSet, with_op, size}
+use Rattle.desk_ops.specs.Live.{insert_of}
+use Rattle.desk_ops.specs.Shown.{shown_of}
+use Rattle.desk_held.specs.Holding.{greatest_counter}
+use Rattle.desk_replica.specs.declared.Refusal.{Refusal}
+use Rattle.desk_replica.specs.declared.Refusal.TheVariants as refusal
+use Rattle.desk_replica.specs.State.{State}
+
+-- later than every operation that is held
+abbrev pub new_stamp : State → Stamp
+new_stamp s = record { counter = greatest_counter s.ops + 1; site = s.site }
+
+-- what an element at a place stands after: the head, or the element shown before it
+abbrev pub parent_at : List Insertion → ℕ → Stamp
+parent_at shown place = slice_index_or (head ∷ map (λ x. x.stamp) shown) place head
+
+abbrev pub new_insert : State → ℕ → Symbol → Insertion
+new_insert s place symbol = record { stamp = new_stamp s; parent = parent_at (shown_of s.ops) place; symbol = symbol }
+
+-- the first cause that holds, want of memory aside
+abbrev pub edit_refusal : OpSet → Bool → Bool → Option Refusal
+edit_refusal ops is_there is_value =
+    cond (not is_there) (Some refusal.Place)
+    (cond (not is_value) (Some refusal.Value)
+    (cond (size ops == 1048576) (Some refusal.Full)
+    (cond (nat_le 4611686018427387904 (greatest_counter ops)) (Some refusal.ClockFull) None)))
+
+abbrev pub insert_refusal : OpSet → ℕ → Symbol → Option Refusal
+insert_refusal ops place symbol = edit_refusal ops (nat_le place (length (shown_of ops))) (is_symbol symbol)
+
+-- exactly this operation was gained, and what is shown gained its element at the place
+pub record IsInserted (old after : State) (place : ℕ) (symbol : Symbol) (op : Op) : Type 0 where
+  pub is : op ≡ insert_of (new_insert old place symbol)
+  pub lawful : IsLawful op
+  pub gained : after.ops ≡ with_op old.ops op
+  pub shows : shown_of after.ops ≡ insert (shown_of old.ops) place (new_insert old place symbol)
