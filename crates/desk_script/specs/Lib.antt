@@ -6,3 +6,9 @@ pub mod Grammar
 pub mod Text
 pub mod Reply
 pub mod Examples
+pub mod Sites
+pub mod World
+pub mod Effect
+pub mod Files
+pub mod Script
+pub mod Pending

@@ -3,8 +3,8 @@ use Rattle.std.specs.Prelude.{ℕ, List}
 use Rattle.desk_ops.specs.declared.op.Stamp.{Stamp}
 use Rattle.desk_ops.specs.declared.op.Symbol.{Symbol}
 use Rattle.desk_script.specs.declared.text.Refusal.{Refusal}
-use Rattle.desk_script.specs.declared.text.Answer.{Answer}
-use Rattle.desk_script.specs.declared.text.Answer.TheVariants as answers
+use Rattle.desk_script.specs.declared.text.Response.{Response}
+use Rattle.desk_script.specs.declared.text.Response.TheVariants as responses
 
 pub data Reply : Type 0 where
   Done : Reply
@@ -16,12 +16,12 @@ pub data Reply : Type 0 where
   Refused : Refusal → Reply
   Stopped : ℕ → Refusal → Reply
 
-abbrev pub reply : {A : Type 0} → Answer A → Reply
-reply answers.Done = Done
-reply (answers.Made stamp) = Made stamp
-reply (answers.MadeMany first last) = MadeMany first last
-reply (answers.Counted new known) = Counted new known
-reply (answers.Copy copy) = Copy copy.items
-reply (answers.Feed feed) = Feed feed.items
-reply (answers.Refused why) = Refused why
-reply (answers.Stopped taken why) = Stopped taken why
+abbrev pub reply : {A : Type 0} → Response A → Reply
+reply responses.Done = Done
+reply (responses.Made stamp) = Made stamp
+reply (responses.MadeMany first last) = MadeMany first last
+reply (responses.Counted new known) = Counted new known
+reply (responses.Copy copy) = Copy copy.items
+reply (responses.Feed feed) = Feed feed.items
+reply (responses.Refused why) = Refused why
+reply (responses.Stopped taken why) = Stopped taken why

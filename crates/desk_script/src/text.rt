@@ -55,7 +55,7 @@ impl fmt::Display for Refusal {
 
 /// What one line is answered.
 #[derive(Drop)]
-pub enum Answer<A: Allocator + Copy> {
+pub enum Response<A: Allocator + Copy> {
     Done,
     /// An operation was made, with this stamp.
     Made(Stamp),
@@ -176,23 +176,23 @@ fn put_stamp<A: Allocator + Copy>(out: &mut String<A>, stamp: Stamp) -> Result<(
 }
 
 /// Writes an answer at the end, without its end of line.
-pub fn put<A: Allocator + Copy>(out: &mut String<A>, answer: &Answer<A>) -> Result<(), AllocError>
+pub fn put<A: Allocator + Copy>(out: &mut String<A>, answer: &Response<A>) -> Result<(), AllocError>
     ensures { OnOk result (string_bytes out.new ≡ string_bytes out.old ++ text (reply answer.now)) }
 {
     match answer {
-        Answer::Done => out.push_str("ok"),
-        Answer::Made(stamp) => {
+        Response::Done => out.push_str("ok"),
+        Response::Made(stamp) => {
             out.push_str("ok ")?;
             put_stamp(out, *stamp)
         }
-        Answer::MadeMany(first, last) => {
+        Response::MadeMany(first, last) => {
             out.push_str("ok ")?;
             put_stamp(out, *first)?;
             out.push_str("..")?;
             put_stamp(out, *last)
         }
-        Answer::Counted { new, known } => write!(out, "ok new {new} known {known}"),
-        Answer::Copy(copy) => {
+        Response::Counted { new, known } => write!(out, "ok new {new} known {known}"),
+        Response::Copy(copy) => {
             out.push_str("copy")?;
             if !copy.is_empty() {
                 out.push(' ')?;
@@ -200,11 +200,11 @@ pub fn put<A: Allocator + Copy>(out: &mut String<A>, answer: &Answer<A>) -> Resu
             }
             Ok(())
         }
-        Answer::Feed(feed) => {
+        Response::Feed(feed) => {
             out.push_str("feed ")?;
             put_hex(out, feed)
         }
-        Answer::Refused(why) => write!(out, "refused {why}"),
-        Answer::Stopped(taken, why) => write!(out, "stopped {taken} {why}"),
+        Response::Refused(why) => write!(out, "refused {why}"),
+        Response::Stopped(taken, why) => write!(out, "stopped {taken} {why}"),
     }
 }
