@@ -12,39 +12,17 @@ use Rattle.desk_ops.specs.Op.{IsLawful}
 use Rattle.desk_ops.specs.Order.{style_code, key_code}
 use Rattle.desk_codec.specs.Feed.{magic, spelling, stamp_spelling, feed, IsValue, IsHeld, Spells, IsFeed}
 use Rattle.desk_codec.specs.Laws.{Sizes, PrefixFree, OneList, OneFeed}
-use Rattle.desk_codec.proofs.Numbers.{number_same_4, stamp_same, symbol_exact, style_exact, key_exact}
+use Rattle.desk_codec.specs.Fault.{fields_of, bytes_of}
+use Rattle.desk_codec.proofs.FieldLaws.{fields_same, op_exact, bytes_of-fields, values_of}
 
 pub sizes : Sizes
 sizes = record { insert = λ s p y. refl; delete = λ s t. refl; set = λ s k v. refl }
 
-pub scalar_fits : (c : ℕ) → InScalarRange c → c < 2 ^ 32
-scalar_fits c (inl h) = omega arith
-scalar_fits c (inr h) = omega arith
-
 pub prefix_free : PrefixFree
-prefix_free (Insert s p y) (Insert t q z) a b f g e =
-    let one = stamp_same s t (stamp_spelling p ++ style_code y.style ∷ to_be_bytes w32 y.ch ++ a) (stamp_spelling q ++ style_code z.style ∷ to_be_bytes w32 z.ch ++ b) f.0 g.0 (ap (λ (l : List ℕ). drop 1 l) e) in
-    let two = stamp_same p q (style_code y.style ∷ to_be_bytes w32 y.ch ++ a) (style_code z.style ∷ to_be_bytes w32 z.ch ++ b) f.1 g.1 one.1 in
-    let style : style_code y.style ≡ style_code z.style = cc in
-    let three = number_same_4 y.ch z.ch a b (scalar_fits y.ch f.2) (scalar_fits z.ch g.2) (ap (λ (l : List ℕ). drop 1 l) two.1) in
-    let symbol : y ≡ z = symbol_exact y z (style_exact y.style z.style style) three.0 in
-    (cc, three.1)
-prefix_free (Delete s p) (Delete t q) a b f g e =
-    let one = stamp_same s t (stamp_spelling p ++ a) (stamp_spelling q ++ b) f.0 g.0 (ap (λ (l : List ℕ). drop 1 l) e) in
-    let two = stamp_same p q a b f.1 g.1 one.1 in
-    (cc, two.1)
-prefix_free (Set s k v) (Set t j w) a b f g e =
-    let one = stamp_same s t (key_code k ∷ to_be_bytes w32 v ++ a) (key_code j ∷ to_be_bytes w32 w ++ b) f.0 g.0 (ap (λ (l : List ℕ). drop 1 l) e) in
-    let code : key_code k ≡ key_code j = cc in
-    let key : k ≡ j = key_exact k j code in
-    let two = number_same_4 v w a b f.1 g.1 (ap (λ (l : List ℕ). drop 1 l) one.1) in
-    (cc, two.1)
-prefix_free (Insert s p y) (Delete t q) a b f g e = absurd cc
-prefix_free (Insert s p y) (Set t k v) a b f g e = absurd cc
-prefix_free (Delete s p) (Insert t q z) a b f g e = absurd cc
-prefix_free (Delete s p) (Set t k v) a b f g e = absurd cc
-prefix_free (Set s k v) (Insert t q z) a b f g e = absurd cc
-prefix_free (Set s k v) (Delete t q) a b f g e = absurd cc
+prefix_free a b x y f g e =
+    let bytes : bytes_of (fields_of a) ++ x ≡ bytes_of (fields_of b) ++ y = rw (bytes_of-fields a, bytes_of-fields b) e in
+    let same = fields_same (fields_of a) (fields_of b) x y (values_of a f) (values_of b g) bytes in
+    (op_exact a b same.0, same.1)
 
 -- ---- lists of operations
 

@@ -1,5 +1,5 @@
 -- Feeds: a magic, and then the bytes of operations, one after the other. Numbers are big endian.
-use Rattle.std.specs.Prelude.{◌≡◌, ℕ, ◌^◌, ◌<◌, List, [], ◌∷◌, ◌++◌, codes, length}
+use Rattle.std.specs.Prelude.{◌≡◌, ℕ, ◌^◌, ◌<◌, ◌==◌, if◌then◌else◌, Option, Some, None, List, [], ◌∷◌, ◌++◌, codes}
 use Rattle.std.specs.Int.{to_be_bytes, w16, w32, w64}
 use Rattle.std.specs.List.{flat_map}
 use Rattle.std.specs.Char.{InScalarRange}
@@ -18,6 +18,10 @@ abbrev pub kind_of : Op → ℕ
 kind_of (Insert stamp parent symbol) = 1
 kind_of (Delete stamp target) = 2
 kind_of (Set stamp key value) = 3
+
+-- how many bytes an operation of the kind takes; no other byte begins one
+abbrev pub size_of_kind : ℕ → Option ℕ
+size_of_kind kind = if kind == 1 then Some 26 else if kind == 2 then Some 21 else if kind == 3 then Some 16 else None
 
 -- eight bytes of counter, and two of site
 abbrev pub stamp_spelling : Stamp → List ℕ

@@ -1,2 +1,5 @@
 pub mod Feed
+pub mod Fault
 pub mod Laws
+pub mod Kind
+pub mod Reading

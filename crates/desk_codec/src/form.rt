@@ -1,12 +1,16 @@
 //! The form of a feed: its magic, and the kinds of operations.
 
-ghost use Rattle.std.specs.Prelude.{◌≡◌, length};
-ghost use Rattle.desk_codec.specs.Feed.{spelling};
+ghost use Rattle.std.specs.Prelude.{◌≡◌, length, MatchOption, None, Some};
+ghost use Rattle.desk_codec.specs.Feed.{size_of_kind, spelling};
+ghost use Rattle.desk_codec.specs.Kind.{kind_byte, kind_size};
 
 use desk_ops::Op;
 
 /// What a feed begins with.
 pub const MAGIC: [u8; 4] = *b"MFD1";
+
+/// The fewest bytes that an operation takes.
+pub const LEAST_SIZE: usize = 16;
 
 /// The byte that an operation begins with.
 #[derive(Clone, Copy)]
@@ -16,13 +20,37 @@ pub enum Kind {
     Set = 3,
 }
 
-/// How many bytes an operation takes.
-pub fn op_size(op: &Op) -> usize
-    ensures { result ≡ length (spelling op.now) }
-{
-    match op {
-        Op::Insert { .. } => 26,
-        Op::Delete { .. } => 21,
-        Op::Set { .. } => 16,
+impl Kind {
+    pub fn of(op: &Op) -> Kind
+        ensures { kind_size result ≡ length (spelling op.now) }
+    {
+        match op {
+            Op::Insert { .. } => Kind::Insert,
+            Op::Delete { .. } => Kind::Delete,
+            Op::Set { .. } => Kind::Set,
+        }
+    }
+
+    pub fn of_byte(byte: u8) -> Option<Kind>
+        ensures { MatchOption result (size_of_kind byte ≡ None) (λ kind. kind_byte kind ≡ byte) }
+    {
+        match byte {
+            1 => Some(Kind::Insert),
+            2 => Some(Kind::Delete),
+            3 => Some(Kind::Set),
+            _ => None,
+        }
+    }
+
+    /// How many bytes an operation of the kind takes.
+    pub fn size(self) -> usize
+        ensures size { result ≡ kind_size self }
+        ensures is { size_of_kind (kind_byte self) ≡ Some result }
+    {
+        match self {
+            Kind::Insert => 26,
+            Kind::Delete => 21,
+            Kind::Set => 16,
+        }
     }
 }

@@ -1,6 +1,6 @@
 //! What holds of feeds, whoever writes or reads them.
 
-ghost use Rattle.desk_codec.specs.Laws.{Sizes, PrefixFree, OneList, OneFeed};
+ghost use Rattle.desk_codec.specs.Laws.{Sizes, PrefixFree, OneList, OneFeed, Fronts, FeedOrFault};
 
 /// An insert takes 26 bytes, a delete 21, and a setting 16.
 #[tactic(auto, using(crate::proofs::Grammar::sizes))]
@@ -23,4 +23,14 @@ pub fn law_of_one_list()
 #[tactic(auto, using(crate::proofs::Grammar::one_feed))]
 pub fn law_of_one_feed()
     ensures { OneFeed }
+{}
+
+/// At the front of bytes an operation stands or one thing is wrong, and never both.
+pub fn law_of_fronts()
+    ensures { Fronts }
+{}
+
+/// Any bytes are a feed or have a first fault, and never both; and they have one first fault.
+pub fn law_of_feed_or_fault()
+    ensures { FeedOrFault }
 {}

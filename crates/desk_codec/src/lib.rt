@@ -1,12 +1,20 @@
 //! The bytes of operations, and of feeds of them.
 #![tactic(auto)]
 
+mod fault;
+mod fields;
 mod form;
 mod laws;
+mod reading;
 mod values;
 mod writing;
 
-pub use laws::{law_of_one_feed, law_of_one_list, law_of_prefixes, law_of_sizes};
+pub use fault::{FeedFault, FeedWhy, ReadFault};
+pub use laws::{
+    law_of_feed_or_fault, law_of_fronts, law_of_one_feed, law_of_one_list, law_of_prefixes,
+    law_of_sizes,
+};
+pub use reading::{next_op, read_feed};
 pub use writing::{write_feed, write_op};
 
 #[cfg(test)]

@@ -1,5 +1,5 @@
 use super::*;
-use desk_ops::{Key, NoMemory, Op, Stamp, Style, Symbol};
+use desk_ops::{Key, NoMemory, Op, Stamp, Style, Symbol, Unlawful};
 use linked_list_allocator::LocalHeap;
 use std::test::Fail;
 
@@ -8,18 +8,6 @@ const HEAD: Stamp = Stamp {
     site: 0,
 };
 
-fn stamp(counter: u64, site: u16) -> Stamp {
-    Stamp { counter, site }
-}
-
-fn roman(ch: char) -> Symbol {
-    Symbol {
-        style: Style::Roman,
-        ch,
-    }
-}
-
-/// Insert 1.1 `a` after the head.
 const INSERT_A: Op = Op::Insert {
     stamp: Stamp {
         counter: 1,
@@ -32,11 +20,6 @@ const INSERT_A: Op = Op::Insert {
     },
 };
 
-const INSERT_A_BYTES: [u8; 26] = [
-    1, 0, 0, 0, 0, 0, 0, 0, 1, 0, 1, 0, 0, 0, 0, 0, 0, 0, 0, 0, 0, 0, 0, 0, 0, 0x61,
-];
-
-/// Insert 2.1 `b` after 1.1.
 const INSERT_B: Op = Op::Insert {
     stamp: Stamp {
         counter: 2,
@@ -52,70 +35,95 @@ const INSERT_B: Op = Op::Insert {
     },
 };
 
-/// The feed of both.
+const DELETE: Op = Op::Delete {
+    stamp: Stamp {
+        counter: 4,
+        site: 2,
+    },
+    target: Stamp {
+        counter: 3,
+        site: 1,
+    },
+};
+
+const MEASURE_144: Op = Op::Set {
+    stamp: Stamp {
+        counter: 5,
+        site: 2,
+    },
+    key: Key::Measure,
+    value: 144,
+};
+
+const MEASURE_120: Op = Op::Set {
+    stamp: Stamp {
+        counter: 5,
+        site: 1,
+    },
+    key: Key::Measure,
+    value: 120,
+};
+
+const LAST_COUNTER: Op = Op::Insert {
+    stamp: Stamp {
+        counter: 1 << 62,
+        site: 2,
+    },
+    parent: HEAD,
+    symbol: Symbol {
+        style: Style::Roman,
+        ch: 'q',
+    },
+};
+
+/// The feed of `INSERT_A` and `INSERT_B`.
 const FEED_AB: [u8; 56] = [
     0x4d, 0x46, 0x44, 0x31, 1, 0, 0, 0, 0, 0, 0, 0, 1, 0, 1, 0, 0, 0, 0, 0, 0, 0, 0, 0, 0, 0, 0, 0,
     0, 0x61, 1, 0, 0, 0, 0, 0, 0, 0, 2, 0, 1, 0, 0, 0, 0, 0, 0, 0, 1, 0, 1, 0, 0, 0, 0, 0x62,
 ];
 
+const EXAMPLES: [(Op, &[u8]); 5] = [
+    (
+        INSERT_A,
+        &[
+            1, 0, 0, 0, 0, 0, 0, 0, 1, 0, 1, 0, 0, 0, 0, 0, 0, 0, 0, 0, 0, 0, 0, 0, 0, 0x61,
+        ],
+    ),
+    (
+        DELETE,
+        &[
+            2, 0, 0, 0, 0, 0, 0, 0, 4, 0, 2, 0, 0, 0, 0, 0, 0, 0, 3, 0, 1,
+        ],
+    ),
+    (
+        MEASURE_144,
+        &[3, 0, 0, 0, 0, 0, 0, 0, 5, 0, 2, 1, 0, 0, 0, 0x90],
+    ),
+    (
+        MEASURE_120,
+        &[3, 0, 0, 0, 0, 0, 0, 0, 5, 0, 1, 1, 0, 0, 0, 0x78],
+    ),
+    (
+        LAST_COUNTER,
+        &[
+            1, 0x40, 0, 0, 0, 0, 0, 0, 0, 0, 2, 0, 0, 0, 0, 0, 0, 0, 0, 0, 0, 0, 0, 0, 0, 0x71,
+        ],
+    ),
+];
+
 #[test]
 fn examples_of_bytes(rt: HostRuntime) -> Result<(), Fail> {
-    assert_eq!(rt; write_op(&INSERT_A).as_slice(), INSERT_A_BYTES.as_slice());
-    let delete = Op::Delete {
-        stamp: stamp(4, 2),
-        target: stamp(3, 1),
-    };
-    assert!(rt; delete.check().is_ok());
-    assert_eq!(rt;
-        write_op(&delete).as_slice(),
-        [
-            2, 0, 0, 0, 0, 0, 0, 0, 4, 0, 2, 0, 0, 0, 0, 0, 0, 0, 3, 0, 1
-        ]
-        .as_slice()
-    );
-    for (site, value) in [(2u16, 144u32), (1, 120)] {
-        let set = Op::Set {
-            stamp: stamp(5, site),
-            key: Key::Measure,
-            value,
-        };
-        assert!(rt; set.check().is_ok());
-        assert_eq!(rt;
-            write_op(&set).as_slice(),
-            [
-                3,
-                0,
-                0,
-                0,
-                0,
-                0,
-                0,
-                0,
-                5,
-                0,
-                site as u8,
-                1,
-                0,
-                0,
-                0,
-                value as u8
-            ]
-            .as_slice()
-        );
+    for (op, bytes) in EXAMPLES {
+        assert!(rt; op.check().is_ok());
+        assert_eq!(rt; write_op(&op).as_slice(), bytes);
+        assert!(rt; !bytes.is_empty());
+        let (read, rest) = next_op(bytes).ok().ok_or("the bytes are an operation's")?;
+        assert_eq!(rt; read, op);
+        assert!(rt; rest.is_empty());
+        let mut feed = Vec::from_slice(rt.alloc(), b"MFD1")?;
+        feed.extend_from_slice(bytes)?;
+        assert_eq!(rt; read_feed(rt.alloc(), &feed)?.as_slice(), [op].as_slice());
     }
-    let last = Op::Insert {
-        stamp: stamp(1 << 62, 2),
-        parent: HEAD,
-        symbol: roman('q'),
-    };
-    assert!(rt; last.check().is_ok());
-    assert_eq!(rt;
-        write_op(&last).as_slice(),
-        [
-            1, 0x40, 0, 0, 0, 0, 0, 0, 0, 0, 2, 0, 0, 0, 0, 0, 0, 0, 0, 0, 0, 0, 0, 0, 0, 0x71
-        ]
-        .as_slice()
-    );
     Ok(())
 }
 
@@ -125,21 +133,146 @@ fn two_sites_show_ab(rt: HostRuntime) -> Result<(), Fail> {
         write_feed(rt.alloc(), &[INSERT_A, INSERT_B])?.as_slice(),
         FEED_AB.as_slice()
     );
+    assert_eq!(rt;
+        read_feed(rt.alloc(), &FEED_AB)?.as_slice(),
+        [INSERT_A, INSERT_B].as_slice()
+    );
+    Ok(())
+}
+
+fn fault_of(rt: &HostRuntime, bytes: &[u8]) -> Option<FeedFault> {
+    match read_feed(rt.alloc(), bytes) {
+        Err(ReadFault::Fault(fault)) => Some(fault),
+        _ => None,
+    }
+}
+
+#[test]
+fn refused_feeds(rt: HostRuntime) -> Result<(), Fail> {
+    let equal_counters = [
+        0x4d, 0x46, 0x44, 0x31, 1, 0, 0, 0, 0, 0, 0, 0, 3, 0, 1, 0, 0, 0, 0, 0, 0, 0, 3, 0, 2, 0,
+        0, 0, 0, 0x61,
+    ];
+    let cases: [(&[u8], u64, FeedWhy); 4] = [
+        (&equal_counters, 4, FeedWhy::Unlawful(Unlawful::Target)),
+        (&[0x4d, 0x46, 0x44, 0x31, 2, 0], 4, FeedWhy::Cut),
+        (&[0x4d, 0x46, 0x44, 0x31, 9], 4, FeedWhy::Kind),
+        (&[0x4d, 0x46], 0, FeedWhy::Magic),
+    ];
+    for (bytes, at, why) in cases {
+        assert_eq!(rt; fault_of(&rt, bytes), Some(FeedFault { at, why }));
+    }
+    Ok(())
+}
+
+/// Of every shorter front of a feed: the place and the cause.
+#[test]
+fn fronts_of_a_feed(rt: HostRuntime) -> Result<(), Fail> {
+    for len in 0..56usize {
+        let front = &FEED_AB[..len];
+        let fault = match len {
+            0..=3 => Some((0u64, FeedWhy::Magic)),
+            4 | 30 => None,
+            5..=29 => Some((4, FeedWhy::Cut)),
+            _ => Some((30, FeedWhy::Cut)),
+        };
+        match fault {
+            Some((at, why)) => assert_eq!(rt; fault_of(&rt, front), Some(FeedFault { at, why })),
+            None => assert_eq!(rt; read_feed(rt.alloc(), front)?.len(), len / 30),
+        }
+    }
+    Ok(())
+}
+
+/// Which cause is told where several hold, and of numbers that are no symbol's and no key's.
+#[test]
+fn causes_in_order(rt: HostRuntime) -> Result<(), Fail> {
+    let cases: [(&[u8], FeedWhy); 11] = [
+        // A style above 2, a surrogate, and a number above every character.
+        (
+            &[
+                1, 0, 0, 0, 0, 0, 0, 0, 1, 0, 1, 0, 0, 0, 0, 0, 0, 0, 0, 0, 0, 3, 0, 0, 0, 0x61,
+            ],
+            FeedWhy::Unlawful(Unlawful::Symbol),
+        ),
+        (
+            &[
+                1, 0, 0, 0, 0, 0, 0, 0, 1, 0, 1, 0, 0, 0, 0, 0, 0, 0, 0, 0, 0, 0, 0, 0, 0xd8, 0,
+            ],
+            FeedWhy::Unlawful(Unlawful::Symbol),
+        ),
+        (
+            &[
+                1, 0, 0, 0, 0, 0, 0, 0, 1, 0, 1, 0, 0, 0, 0, 0, 0, 0, 0, 0, 0, 0, 0, 0x11, 0, 0,
+            ],
+            FeedWhy::Unlawful(Unlawful::Symbol),
+        ),
+        // The same style with a counter of 0, a site of 0, and a parent that is no stamp.
+        (
+            &[
+                1, 0, 0, 0, 0, 0, 0, 0, 0, 0, 0, 0, 0, 0, 0, 0, 0, 0, 0, 0, 0, 3, 0, 0, 0, 0x61,
+            ],
+            FeedWhy::Unlawful(Unlawful::Counter),
+        ),
+        (
+            &[
+                1, 0, 0, 0, 0, 0, 0, 0, 1, 0, 0, 0, 0, 0, 0, 0, 0, 0, 0, 0, 0, 3, 0, 0, 0, 0x61,
+            ],
+            FeedWhy::Unlawful(Unlawful::Site),
+        ),
+        (
+            &[
+                1, 0, 0, 0, 0, 0, 0, 0, 1, 0, 1, 0, 0, 0, 0, 0, 0, 0, 0, 0, 1, 3, 0, 0, 0, 0x61,
+            ],
+            FeedWhy::Unlawful(Unlawful::Target),
+        ),
+        // Keys 0 and 6, whatever the value; the site comes first.
+        (
+            &[3, 0, 0, 0, 0, 0, 0, 0, 5, 0, 1, 0, 0, 0, 0, 0],
+            FeedWhy::Unlawful(Unlawful::Key),
+        ),
+        (
+            &[3, 0, 0, 0, 0, 0, 0, 0, 5, 0, 1, 6, 0, 0, 0, 0x78],
+            FeedWhy::Unlawful(Unlawful::Key),
+        ),
+        (
+            &[3, 0, 0, 0, 0, 0, 0, 0, 5, 0, 0, 6, 0, 0, 0, 0x78],
+            FeedWhy::Unlawful(Unlawful::Site),
+        ),
+        (
+            &[3, 0, 0, 0, 0, 0, 0, 0, 5, 0, 1, 1, 0, 0, 0, 11],
+            FeedWhy::Unlawful(Unlawful::Value),
+        ),
+        // Cut off comes before a site of 0.
+        (&[3, 0, 0, 0, 0, 0, 0, 0, 5, 0, 0, 1, 0, 0, 0], FeedWhy::Cut),
+    ];
+    for (bytes, why) in cases {
+        assert!(rt; !bytes.is_empty());
+        assert_eq!(rt; next_op(bytes).err(), Some(why));
+    }
     Ok(())
 }
 
 /// In a heap of each small size a refused growth is told; once there is room the same call succeeds.
 #[test]
-fn write_feed_without_memory(rt: HostRuntime) -> Result<(), Fail> {
-    let mut refused = 0u8;
-    for size in 0..8usize {
+fn growth_refused(rt: HostRuntime) -> Result<(), Fail> {
+    let mut unwritten = 0u8;
+    let mut unread = 0u8;
+    for size in 0..16usize {
         let heap = LocalHeap::new(rt.alloc(), 512)?;
         let ballast: Vec<u8, &LocalHeap> = Vec::with_capacity(&heap, 512 - size * 16)?;
         match write_feed(&heap, &[INSERT_A, INSERT_B]) {
             Ok(bytes) => assert_eq!(rt; bytes.as_slice(), FEED_AB.as_slice()),
             Err(error) => {
                 assert_eq!(rt; error, NoMemory);
-                refused = refused.saturating_add(1);
+                unwritten = unwritten.saturating_add(1);
+            }
+        }
+        match read_feed(&heap, &FEED_AB) {
+            Ok(ops) => assert_eq!(rt; ops.as_slice(), [INSERT_A, INSERT_B].as_slice()),
+            Err(error) => {
+                assert_eq!(rt; error, ReadFault::NoMemory);
+                unread = unread.saturating_add(1);
             }
         }
         drop(ballast);
@@ -147,7 +280,12 @@ fn write_feed_without_memory(rt: HostRuntime) -> Result<(), Fail> {
             write_feed(&heap, &[INSERT_A, INSERT_B])?.as_slice(),
             FEED_AB.as_slice()
         );
+        assert_eq!(rt;
+            read_feed(&heap, &FEED_AB)?.as_slice(),
+            [INSERT_A, INSERT_B].as_slice()
+        );
     }
-    assert!(rt; 3 <= refused && refused <= 5);
+    assert!(rt; 3 <= unwritten && unwritten <= 5);
+    assert!(rt; 6 <= unread && unread < 16);
     Ok(())
 }

@@ -7,7 +7,7 @@ ghost use Rattle.desk_ops.specs.Op.{IsLawful};
 ghost use Rattle.desk_ops.specs.Order.{style_code, key_code};
 ghost use Rattle.desk_codec.specs.Feed.{stamp_spelling, spelling, feed, IsFeed};
 
-use crate::form::{Kind, MAGIC, op_size};
+use crate::form::{Kind, MAGIC};
 use crate::values::op_known;
 use arrayvec::ArrayVec;
 use desk_ops::{Key, NoMemory, Op, Stamp, Style};
@@ -82,7 +82,7 @@ fn feed_size(ops: &[Op]) -> usize
 {
     let mut size = MAGIC.len();
     for op in ops {
-        size += op_size(op);
+        size += Kind::of(op).size();
     }
     size
 }

@@ -104,7 +104,7 @@ impl<A: Allocator + Copy> Held<A> {
     pub fn has(&self, op: &Op) -> bool
         ensures { result ≡ has_op self.now.ops op.now }
     {
-        row::search(&self.ops, op).is_ok()
+        row::gap(&self.ops, op).is_none()
     }
 
     /// Adds an operation. `Full` comes exactly where 1,048,576 operations are held and this one is not; want of
@@ -123,9 +123,8 @@ impl<A: Allocator + Copy> Held<A> {
         ensures spare { self.old.spare ≤ self.new.spare + 1 }
         ensures err_spare { OnErr result (self.old.spare ≤ self.new.spare) }
     {
-        let place = match row::search(&self.ops, &op) {
-            Ok(_) => return Ok(Added::Known),
-            Err(place) => place,
+        let Some(place) = row::gap(&self.ops, &op) else {
+            return Ok(Added::Known);
         };
         if self.ops.len() == LIMIT {
             return Err(AddRefusal::Full);

@@ -1,5 +1,5 @@
 //! Searches in a row of operations that strictly rise.
-ghost use Rattle.std.specs.Prelude.{◌≡◌, ◌≤◌, T, true, false, length, take, drop, is_ok, MatchOption, [], ◌∷◌, IfErr};
+ghost use Rattle.std.specs.Prelude.{◌≡◌, ◌≤◌, T, true, false, length, take, drop, is_none, MatchOption, [], ◌∷◌, IfSome};
 ghost use Rattle.std.specs.List.{insert, filter, AllByRecursion};
 ghost use Rattle.desk_ops.specs.Op.{stamp_of};
 ghost use Rattle.desk_ops.specs.Stamp.{before};
@@ -9,20 +9,20 @@ ghost use Rattle.desk_held.specs.Holding.{greatest_among, IsFirstBearer};
 
 use desk_ops::{Op, Stamp};
 
-/// Where the operation is, or where it belongs.
-pub fn search(ops: &[Op], op: &Op) -> Result<usize, usize>
+/// Where the operation belongs, unless it is there.
+pub fn gap(ops: &[Op], op: &Op) -> Option<usize>
     requires { T (is_rising ops.now) }
-    ensures found { is_ok result ≡ has_op (from_rising ops.now) op.now }
-    ensures within { IfErr result (λ i. i ≤ length ops.now) }
-    ensures rising { IfErr result (λ i. T (is_rising (insert ops.now i op.now))) }
-    ensures joined { IfErr result (λ i. from_rising (insert ops.now i op.now) ≡ with_op (from_rising ops.now) op.now) }
+    ensures found { is_none result ≡ has_op (from_rising ops.now) op.now }
+    ensures within { IfSome result (λ i. i ≤ length ops.now) }
+    ensures rising { IfSome result (λ i. T (is_rising (insert ops.now i op.now))) }
+    ensures joined { IfSome result (λ i. from_rising (insert ops.now i op.now) ≡ with_op (from_rising ops.now) op.now) }
 {
     if let Some(last) = ops.last() {
         if last < op {
-            return Err(ops.len());
+            return Some(ops.len());
         }
     }
-    ops.binary_search(op)
+    ops.binary_search(op).err()
 }
 
 /// Whether the first stamp comes before the second.

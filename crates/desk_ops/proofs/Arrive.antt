@@ -20,7 +20,7 @@ use Rattle.desk_ops.proofs.Lists.{Each, Each-weaker, each-among, each-from_among
 use Rattle.desk_ops.proofs.Stamps.{same-refl, same-symm, by_cases, before-irrefl, before-trans, before-asym, before-other}
 use Rattle.desk_ops.proofs.Scans.{place-walk, with-later, with-here}
 use Rattle.desk_ops.specs.OrderLaws.{op_total, op_antisymmetric}
-use Rattle.desk_ops.proofs.Unions.{has-with_op}
+use Rattle.desk_ops.proofs.Unions.{has_op-with_op}
 use Rattle.desk_ops.proofs.Means.{IsOrdered, ordered, among-any, any-among, IsClearInsert, clear_insert, clear_one, insert_stamp, some-same, clear_ascending, clear_grows, insert_parent, counter-before, equal}
 use Rattle.desk_ops.proofs.Tree.{walk-clear}
 
@@ -99,7 +99,7 @@ with_insert-ascending e (x ∷ xs) up fresh =
 -- ---- the operations of a set with one more
 
 pub among-with_op : (h : OpSet) (o p : Op) → Among p (in_order (with_op h o)) → (o ≡ p) ⊎ Among p (in_order h)
-among-with_op h o p m = go (sym (has-with_op h o p) ∙ fin.contains_key-keys (with_op h o) p ∙ among-any p (in_order (with_op h o)) m)
+among-with_op h o p m = go (sym (has_op-with_op h o p) ∙ fin.contains_key-keys (with_op h o) p ∙ among-any p (in_order (with_op h o)) m)
   where
     go : (eq_by_cmp op_cmp p o || has_op h p) ≡ true → (o ≡ p) ⊎ Among p (in_order h)
     go e = by_cases (eq_by_cmp op_cmp p o)
@@ -107,7 +107,7 @@ among-with_op h o p m = go (sym (has-with_op h o p) ∙ fin.contains_key-keys (w
         (λ k. inr (any-among p (in_order h) (sym (fin.contains_key-keys h p) ∙ sym (ap (λ b. b || has_op h p) k) ∙ e)))
 
 pub with_op-among : (h : OpSet) (o p : Op) → (o ≡ p) ⊎ Among p (in_order h) → Among p (in_order (with_op h o))
-with_op-among h o p m = any-among p (in_order (with_op h o)) (sym (fin.contains_key-keys (with_op h o) p) ∙ has-with_op h o p ∙ go m)
+with_op-among h o p m = any-among p (in_order (with_op h o)) (sym (fin.contains_key-keys (with_op h o) p) ∙ has_op-with_op h o p ∙ go m)
   where
     or-true : (a : Bool) → (a || true) ≡ true
     or-true true = refl
@@ -119,11 +119,11 @@ with_op-among h o p m = any-among p (in_order (with_op h o)) (sym (fin.contains_
 
 -- ---- clear
 
-ordered-filter : (f : Op → Bool) (os : List Op) → IsOrdered os → IsOrdered (filter f os)
-ordered-filter f [] up = tt
-ordered-filter f (o ∷ os) up = elim (f o) as (λ b. IsOrdered (cond b (o ∷ filter f os) (filter f os))) [
-  | true ↦ (each-filter (λ p. op_cmp o p ≡ Less) f os up.0, ordered-filter f os up.1)
-  | false ↦ ordered-filter f os up.1
+pub ordered_filter : (f : Op → Bool) (os : List Op) → IsOrdered os → IsOrdered (filter f os)
+ordered_filter f [] up = tt
+ordered_filter f (o ∷ os) up = elim (f o) as (λ b. IsOrdered (cond b (o ∷ filter f os) (filter f os))) [
+  | true ↦ (each-filter (λ p. op_cmp o p ≡ Less) f os up.0, ordered_filter f os up.1)
+  | false ↦ ordered_filter f os up.1
 ]
 
 one_from : (os : List Op) → IsOrdered os → (o : Op) → Among o os → ((p : Op) → Among p os → p ≡ o) → is_one os ≡ true
@@ -131,10 +131,10 @@ one_from [] up o m f = absurd m
 one_from (a ∷ []) up o m f = refl
 one_from (a ∷ b ∷ os) up o m f = absurd (true≢false (sym (ap is_lt up.0.0) ∙ ap is_lt (ap (op_cmp a) (f b (inr (inl refl)) ∙ sym (f a (inl refl))) ∙ tied_itself op_total a)))
 
-clear_from : (ops : List Op) → IsOrdered ops → (o : Op) → Among o ops → ((p : Op) → Among p ops → same (stamp_of p) (stamp_of o) ≡ true → p ≡ o) → is_clear ops (stamp_of o) ≡ true
+pub clear_from : (ops : List Op) → IsOrdered ops → (o : Op) → Among o ops → ((p : Op) → Among p ops → same (stamp_of p) (stamp_of o) ≡ true → p ≡ o) → is_clear ops (stamp_of o) ≡ true
 unfolding is_clear
 clear_from ops up o m f =
-    one_from (bearing ops (stamp_of o)) (ordered-filter (λ p. same (stamp_of p) (stamp_of o)) ops up) o (among-filter_from (λ p. same (stamp_of p) (stamp_of o)) ops o m (same-refl (stamp_of o)))
+    one_from (bearing ops (stamp_of o)) (ordered_filter (λ p. same (stamp_of p) (stamp_of o)) ops up) o (among-filter_from (λ p. same (stamp_of p) (stamp_of o)) ops o m (same-refl (stamp_of o)))
     (λ p n. let q = among-filter (λ p. same (stamp_of p) (stamp_of o)) ops p n in f p q.0 q.1)
 
 pub insert_clear : (ops : List Op) (x : Insertion) → IsClearInsert ops x → Among x (clear_inserts ops)

@@ -96,7 +96,7 @@ precedes-less p [] o x y m = absurd m
 precedes-less p (z ∷ zs) o x y (inl h) = subst (λ (x : Insertion). path_cmp (p x.stamp) (p y.stamp) ≡ Less) h.0 (each-among (λ y. path_cmp (p z.stamp) (p y.stamp) ≡ Less) zs y o.0 h.1)
 precedes-less p (z ∷ zs) o x y (inr m) = precedes-less p zs o.1 x y m
 
-not_less_itself : (a : List Stamp) → path_cmp a a ≡ Less → ⊥
+pub not_less_itself : (a : List Stamp) → path_cmp a a ≡ Less → ⊥
 not_less_itself a e = true≢false (sym (ap is_lt e) ∙ ap is_lt (tied_itself path_total a))
 
 -- in a list in order, what stands first by its path precedes

@@ -47,7 +47,7 @@ both-right : (a b : Bool) → (a && b) ≡ true → b ≡ true
 both-right true b e = e
 both-right false b e = absurd (true≢false (sym e))
 
-of-T : (b : Bool) → T b → b ≡ true
+pub of-T : (b : Bool) → T b → b ≡ true
 of-T true t = refl
 of-T false t = absurd t
 
@@ -55,7 +55,7 @@ ordered_below : (o : Op) (es : List (Op × Unit {0})) → below_all op_cmp o es 
 ordered_below o [] h = tt
 ordered_below o (e ∷ es) h = (less (op_cmp o e.0) (both-left (is_lt (op_cmp o e.0)) (below_all op_cmp o es) h), ordered_below o es (both-right (is_lt (op_cmp o e.0)) (below_all op_cmp o es) h))
 
-ordered_entries : (es : List (Op × Unit {0})) → is_sorted op_cmp es ≡ true → IsOrdered (map (λ (e : Op × Unit {0}). e.0) es)
+pub ordered_entries : (es : List (Op × Unit {0})) → is_sorted op_cmp es ≡ true → IsOrdered (map (λ (e : Op × Unit {0}). e.0) es)
 ordered_entries [] h = tt
 ordered_entries (e ∷ es) h = (ordered_below e.0 es (both-left (below_all op_cmp e.0 es) (is_sorted op_cmp es) h), ordered_entries es (both-right (below_all op_cmp e.0 es) (is_sorted op_cmp es) h))
 
@@ -146,7 +146,7 @@ by_stamp o p = sym (then-then (nat_cmp (stamp_of o).counter (stamp_of p).counter
     then-then Equal t u = refl
     then-then Greater t u = refl
 
-clear_apart : (all : List Op) (o p : Op) → is_clear all (stamp_of o) ≡ true → Among o all → Among p all → op_cmp o p ≡ Less → stamp_cmp (stamp_of o) (stamp_of p) ≡ Less
+pub clear_apart : (all : List Op) (o p : Op) → is_clear all (stamp_of o) ≡ true → Among o all → Among p all → op_cmp o p ≡ Less → stamp_cmp (stamp_of o) (stamp_of p) ≡ Less
 clear_apart all o p c m n l = go (stamp_cmp (stamp_of o) (stamp_of p)) refl (sym (by_stamp o p) ∙ l)
   where
     go : (r : Ordering) → stamp_cmp (stamp_of o) (stamp_of p) ≡ r → ordering_then r (slice_cmp nat_cmp (rest_of o) (rest_of p)) ≡ Less → r ≡ Less
@@ -154,7 +154,7 @@ clear_apart all o p c m n l = go (stamp_cmp (stamp_of o) (stamp_of p)) refl (sym
     go Equal e k = absurd (true≢false (sym (ap is_lt l) ∙ ap is_lt (ap (op_cmp o) (sym (clear_one all (stamp_of o) c o p m n (same-refl (stamp_of o)) (same-from (stamp_of p) (stamp_of o) (sym (stamp_tied (stamp_of o) (stamp_of p) e))))) ∙ tied_itself op_total o)))
     go Greater e l = absurd (true≢false (sym (ap is_lt l)))
 
-before-less : (a b : Stamp) → stamp_cmp a b ≡ Less → before a b ≡ true
+pub before-less : (a b : Stamp) → stamp_cmp a b ≡ Less → before a b ≡ true
 unfolding before
 before-less a b e = ap is_lt e
 
@@ -179,7 +179,7 @@ ascending_clear all (o ∷ os) sub up =
             subst₂ (λ a b. before a b ≡ true) (insert_stamp o x e) (insert_stamp r.0 y r.2)
             (before-less (stamp_of o) (stamp_of r.0) (clear_apart all o r.0 c (sub o (inl refl)) (sub r.0 (inr q.0)) (each-among (λ p. op_cmp o p ≡ Less) os r.0 up.0 q.0)))
 
-ascending_filter : (f : Insertion → Bool) (xs : List Insertion) → IsAscending xs → IsAscending (filter f xs)
+pub ascending_filter : (f : Insertion → Bool) (xs : List Insertion) → IsAscending xs → IsAscending (filter f xs)
 ascending_filter f [] up = tt
 ascending_filter f (x ∷ xs) up = elim (f x) as (λ b. IsAscending (cond b (x ∷ filter f xs) (filter f xs))) [
   | true ↦ (each-filter (λ y. before x.stamp y.stamp ≡ true) f xs up.0, ascending_filter f xs up.1)

@@ -8,7 +8,7 @@ use Rattle.desk_ops.specs.declared.op.Op.{Op}
 use Rattle.desk_ops.specs.Op.{Insertion, stamp_of, IsLawful}
 use Rattle.desk_ops.specs.OpSet.{OpSet, in_order, IsWithin, AllLawful}
 use Rattle.desk_ops.specs.Stamp.{head, same, before}
-use Rattle.desk_ops.specs.Walk.{walk_from, walk}
+use Rattle.desk_ops.specs.Walk.{walk}
 use Rattle.desk_ops.specs.Scan.{IsAscending}
 use Rattle.desk_ops.specs.Held.{bearing, is_one, is_more, is_clear, is_forked, clear_inserts, live_inserts, is_live, way_end, IsUnforked}
 use Rattle.desk_ops.specs.Shown.{is_deleted, shown}
@@ -18,10 +18,9 @@ use Rattle.desk_ops.specs.Laws.{IsOneOrder}
 use Rattle.desk_ops.proofs.Lists.{each-among, each-from_among, each-filter, among-filter_from}
 use Rattle.desk_ops.proofs.Stamps.{same-true, same-refl, same-from, by_cases, before-irrefl}
 use Rattle.desk_ops.proofs.Paths.{way-absent, Each-reverse, order-alike, path_total, path_antisymmetric, walk-in_order}
-use Rattle.desk_ops.proofs.Scans.{walk-each}
 use Rattle.desk_ops.proofs.Kept.{Descends, descends, step, started, same-path, among-reverse, among-reversed}
 use Rattle.desk_ops.proofs.Means.{clear_ascending, clear_grows, clear_insert, IsClearInsert, insert_parent, live_ascending, live_grows, live_agree, live-parts, within}
-use Rattle.desk_ops.proofs.Tree.{live-walk}
+use Rattle.desk_ops.proofs.Tree.{live-walk, walk-live}
 use Rattle.desk_ops.proofs.Arrive.{insert_clear}
 
 one-of-more : (os : List Op) (o : Op) → Among o os → is_more os ≡ false → is_one os ≡ true
@@ -103,15 +102,11 @@ module _ (h g : OpSet) (lh : AllLawful h) (lg : AllLawful g) (u : IsUnforked g) 
       among-filter_from (λ x. is_live (in_order g) x.parent) (clear_inserts (in_order g)) x (clear-within x p.0)
       (same-from (way_end (reverse (clear_inserts (in_order g))) x.parent) head (way-within (suc x.parent.counter) x.parent (omega arith) (same-true (way_end (reverse (clear_inserts (in_order h))) x.parent) head p.1)))
 
-  walk-live : (x : Insertion) → Among x (walk (in_order h)) → Among x (live_inserts (in_order h))
-  unfolding walk
-  walk-live x m = each-among (λ y. Among y (live_inserts (in_order h))) (walk_from (live_inserts (in_order h)) head) x (walk-each (λ y. Among y (live_inserts (in_order h))) (live_inserts (in_order h)) head (each-from_among (λ y. Among y (live_inserts (in_order h))) (live_inserts (in_order h)) (λ y n. n))) m
-
   in_larger : InPathOrder (path (in_order g)) (walk (in_order h))
   unfolding walk
   in_larger = order-alike (path (in_order h)) (path (in_order g)) (λ l. l) (λ a b. refl) (walk (in_order h))
       (each-from_among (λ y. path (in_order g) y.stamp ≡ path (in_order h) y.stamp) (walk (in_order h))
-      (λ y m. sym (same-path (live_inserts (in_order h)) (live_inserts (in_order g)) (live_ascending h) (live_ascending g) (live_grows (in_order h) lh) (live_grows (in_order g) lg) (live_agree h g w) y m (live-walk g lg y (live-within y (walk-live y m))))))
+      (λ y m. sym (same-path (live_inserts (in_order h)) (live_inserts (in_order g)) (live_ascending h) (live_ascending g) (live_grows (in_order h) lh) (live_grows (in_order g) lg) (live_agree h g w) y m (live-walk g lg y (live-within y (walk-live (in_order h) y m))))))
       (walk-in_order (live_inserts (in_order h)) (live_ascending h) head (live_grows (in_order h) lh).1)
 
   paths-apart : (x y : Insertion) → Among x (live_inserts (in_order g)) → Among y (live_inserts (in_order g)) → path_cmp (path (in_order g) x.stamp) (path (in_order g) y.stamp) ≡ Equal → x ≡ y

@@ -1,10 +1,11 @@
 -- The order of stamps.
-use Rattle.std.proofs.Common.{◌≡◌, Bool, true, false, ◌&&◌, ◌==◌, Some, refl, sym, ap, ◌∙◌, arith}
-use Rattle.std.specs.Ordering.{nat_cmp, ordering_then, partial_ordering_then, is_eq, is_lt, is_some_and, ordering_reverse}
+use Rattle.std.proofs.Common.{not, ◌<◌, ◌⊎◌, inl, inr, ◌≡◌, Bool, true, false, ◌&&◌, ◌==◌, Some, refl, sym, ap, ◌∙◌, arith}
+use Rattle.std.specs.Ordering.{nat_cmp, ordering_then, partial_ordering_then, is_eq, is_lt, is_gt, is_le, is_ge, is_some_and, ordering_reverse}
 use Rattle.std.specs.Cmp.{IsTotalOrder, unsigned_tied}
 use Rattle.std.proofs.lemmas.Cmp.{then_total, on_total, nat_cmp_total, tied_itself}
 use Rattle.std.proofs.lemmas.Bool.Decides.{nat_tests}
 use Rattle.std.proofs.lemmas.Bool.{true≢false}
+use Rattle.std.specs.FinMap.{nat_cmp-IsAntisymmetric}
 use Rattle.std.specs.declared.cmp.Ordering.{Ordering}
 use Rattle.std.specs.declared.cmp.Ordering.TheVariants.{Less, Equal, Greater}
 use Rattle.desk_ops.specs.declared.op.Stamp.{Stamp}
@@ -83,6 +84,21 @@ before-apart_left a b p = by_cases (same a b) (λ e. absurd (before-irrefl b (rw
 pub before-asym : (a b : Stamp) → before a b ≡ true → before b a ≡ false
 before-asym a b p = by_cases (before b a) (λ e. absurd (before-irrefl a (before-trans a b a p e))) (λ e. e)
 
+-- by counter, and then by site
+pub before_from : (a b : Stamp) → before a b ≡ true → (a.counter < b.counter) ⊎ ((a.counter ≡ b.counter) × (a.site < b.site))
+unfolding before stamp_cmp
+before_from a b e = go (nat_cmp a.counter b.counter) refl e
+  where
+    go : (r : Ordering) → nat_cmp a.counter b.counter ≡ r → is_lt (ordering_then r (nat_cmp a.site b.site)) ≡ true → (a.counter < b.counter) ⊎ ((a.counter ≡ b.counter) × (a.site < b.site))
+    go Less k e = inl (grind (arith, nat_tests))
+    go Equal k e = let m : nat_cmp a.site b.site ≡ Less = is_less (nat_cmp a.site b.site) e in inr (nat_cmp-IsAntisymmetric a.counter b.counter k, grind (arith, nat_tests))
+    go Greater k e = absurd (true≢false (sym e))
+
+pub before_true : (a b : Stamp) → (a.counter < b.counter) ⊎ ((a.counter ≡ b.counter) × (a.site < b.site)) → before a b ≡ true
+unfolding before stamp_cmp
+before_true a b (inl h) = grind (arith, nat_tests)
+before_true a b (inr h) = let e : a.counter ≡ b.counter = h.0 in let l : a.site < b.site = h.1 in grind (arith, nat_tests)
+
 -- ---- what Rust's operators on stamps say
 
 -- a == b
@@ -102,4 +118,50 @@ before-fields a b = after (nat_cmp a.counter b.counter) (nat_cmp a.site b.site)
     after Equal Greater = refl
     after Greater t = refl
 
-pub ruleset stamps = (same-fields, before-fields)
+-- the other way round
+before-back : (a b : Stamp) → before b a ≡ is_gt (stamp_cmp a b)
+unfolding before
+before-back a b = ap is_lt (stamp_total.antisymm b a) ∙ go (stamp_cmp a b)
+  where
+    go : (r : Ordering) → is_lt (ordering_reverse r) ≡ is_gt r
+    go Less = refl
+    go Equal = refl
+    go Greater = refl
+
+-- a > b
+pub after-fields : (a b : Stamp) → is_some_and is_gt (partial_ordering_then (Some (nat_cmp a.counter b.counter)) (Some (nat_cmp a.site b.site))) ≡ before b a
+unfolding stamp_cmp
+after-fields a b = after (nat_cmp a.counter b.counter) (nat_cmp a.site b.site) ∙ sym (before-back a b)
+  where
+    after : (r t : Ordering) → is_some_and is_gt (partial_ordering_then (Some r) (Some t)) ≡ is_gt (ordering_then r t)
+    after Less t = refl
+    after Equal Less = refl
+    after Equal Equal = refl
+    after Equal Greater = refl
+    after Greater t = refl
+
+-- a <= b
+pub up_to-fields : (a b : Stamp) → is_some_and is_le (partial_ordering_then (Some (nat_cmp a.counter b.counter)) (Some (nat_cmp a.site b.site))) ≡ not (before b a)
+unfolding stamp_cmp
+up_to-fields a b = upto (nat_cmp a.counter b.counter) (nat_cmp a.site b.site) ∙ ap not (sym (before-back a b))
+  where
+    upto : (r t : Ordering) → is_some_and is_le (partial_ordering_then (Some r) (Some t)) ≡ not (is_gt (ordering_then r t))
+    upto Less t = refl
+    upto Equal Less = refl
+    upto Equal Equal = refl
+    upto Equal Greater = refl
+    upto Greater t = refl
+
+-- a >= b
+pub from-fields : (a b : Stamp) → is_some_and is_ge (partial_ordering_then (Some (nat_cmp a.counter b.counter)) (Some (nat_cmp a.site b.site))) ≡ not (before a b)
+unfolding before stamp_cmp
+from-fields a b = from (nat_cmp a.counter b.counter) (nat_cmp a.site b.site)
+  where
+    from : (r t : Ordering) → is_some_and is_ge (partial_ordering_then (Some r) (Some t)) ≡ not (is_lt (ordering_then r t))
+    from Less t = refl
+    from Equal Less = refl
+    from Equal Equal = refl
+    from Equal Greater = refl
+    from Greater t = refl
+
+pub ruleset stamps = (same-fields, before-fields, after-fields, up_to-fields, from-fields)

@@ -13,12 +13,16 @@ use Rattle.desk_ops.specs.Scan.{IsAscending}
 use Rattle.desk_ops.specs.Held.{way_end, is_live, live_inserts, clear_inserts}
 use Rattle.desk_ops.specs.Lists.{Among}
 use Rattle.desk_ops.specs.Kids.{IsWalkOfKids}
-use Rattle.desk_ops.proofs.Lists.{Each, Each-weaker, each-from_among, each-filter}
+use Rattle.desk_ops.specs.Live.{IsFalling}
+use Rattle.desk_ops.specs.PathOrder.{path_in, path_cmp, InPathOrder}
+use Rattle.desk_ops.specs.Laws.{AreApart}
+use Rattle.std.specs.declared.cmp.Ordering.TheVariants.{Less}
+use Rattle.desk_ops.proofs.Lists.{Each, Each-append, Each-weaker, each-among, each-from_among, each-filter, among-filter, among-filter_from}
 use Rattle.desk_ops.proofs.Stamps.{same-true, same-refl, same-from, by_cases, before-trans, before-apart_left}
-use Rattle.desk_ops.proofs.Scans.{Absent, walk-hit, walk-miss, first-apart}
-use Rattle.desk_ops.proofs.Paths.{way-miss, way-absent, way-first, way-grown, own-way, reverse-first, Each-reverse}
-use Rattle.desk_ops.proofs.Kept.{descends, step, among-reversed}
-use Rattle.desk_ops.proofs.Means.{clear_ascending, clear_grows, live_ascending, live_grows, live-parts}
+use Rattle.desk_ops.proofs.Scans.{Absent, walk-each, walk-hit, walk-miss, first-apart}
+use Rattle.desk_ops.proofs.Paths.{walk-in_order, way-miss, way-absent, way-first, way-grown, own-way, reverse-first, Each-reverse}
+use Rattle.desk_ops.proofs.Kept.{descends, step, among-reverse, among-reversed, not_less_itself}
+use Rattle.desk_ops.proofs.Means.{clear_ascending, clear_grows, live_ascending, live_grows, live-parts, ascending_filter}
 
 among-append_left : {A : Type 0} (xs ys : List A) (x : A) → Among x xs → Among x (xs ++ ys)
 among-append_left [] ys x m = absurd m
@@ -59,10 +63,10 @@ flat_map-alike : (f g : Insertion → List Insertion) (ks : List Insertion) → 
 flat_map-alike f g [] h = refl
 flat_map-alike f g (k ∷ ks) h = λ i. h.0 i ++ flat_map-alike f g ks h.1 i
 
-filter-hit : (p : Insertion → Bool) (x : Insertion) (xs : List Insertion) → p x ≡ true → filter p (x ∷ xs) ≡ x ∷ filter p xs
+pub filter-hit : {A : Type 0} (p : A → Bool) (x : A) (xs : List A) → p x ≡ true → filter p (x ∷ xs) ≡ x ∷ filter p xs
 filter-hit p x xs h = ap (λ b. cond b (x ∷ filter p xs) (filter p xs)) h
 
-filter-miss : (p : Insertion → Bool) (x : Insertion) (xs : List Insertion) → p x ≡ false → filter p (x ∷ xs) ≡ filter p xs
+pub filter-miss : {A : Type 0} (p : A → Bool) (x : A) (xs : List A) → p x ≡ false → filter p (x ∷ xs) ≡ filter p xs
 filter-miss p x xs h = ap (λ b. cond b (x ∷ filter p xs) (filter p xs)) h
 
 -- what is older hangs on nothing younger
@@ -92,10 +96,25 @@ walk-kids (x ∷ xs) up g s =
         (Each-weaker (λ k. before x.stamp k.stamp ≡ true) (λ k. below (x ∷ xs) k ≡ below xs k) (λ k h. below-first x xs g.0 k h) (reverse F)
         (Each-reverse (λ k. before x.stamp k.stamp ≡ true) F (each-filter (λ k. before x.stamp k.stamp ≡ true) (on s) xs up.0)))
 
+-- ---- the kids
+
+falling-last : (xs : List Insertion) (x : Insertion) → IsFalling xs → Each (λ y. before x.stamp y.stamp ≡ true) xs → IsFalling (xs ++ x ∷ [])
+falling-last [] x f h = (tt, tt)
+falling-last (y ∷ ys) x f h = (Each-append (λ z. before z.stamp y.stamp ≡ true) ys (x ∷ []) f.0 (h.0, tt), falling-last ys x f.1 h.1)
+
+falling-reverse : (xs : List Insertion) → IsAscending xs → IsFalling (reverse xs)
+falling-reverse [] up = tt
+falling-reverse (x ∷ xs) up = rw (reverse-first x xs) (falling-last (reverse xs) x (falling-reverse xs up.1) (Each-reverse (λ y. before x.stamp y.stamp ≡ true) xs up.0))
+
 -- the walk in the words of children
 pub walk_of_kids : (h : OpSet) → Each IsLawful (in_order h) → IsWalkOfKids (in_order h)
 unfolding walk
 walk_of_kids h l = record {
+  kids_of = λ s x. (
+    λ m. let q = among-filter (on s) (live_inserts (in_order h)) x (among-reverse (filter (on s) (live_inserts (in_order h))) x m) in (q.0, same-true x.parent s q.1),
+    λ p. among-reversed (filter (on s) (live_inserts (in_order h))) x (among-filter_from (on s) (live_inserts (in_order h)) x p.0 (same-from x.parent s p.1)),
+  );
+  greatest_first = λ s. falling-reverse (filter (on s) (live_inserts (in_order h))) (ascending_filter (on s) (live_inserts (in_order h)) (live_ascending h));
   starts = refl;
   goes_on = λ s. walk-kids (live_inserts (in_order h)) (live_ascending h) (live_grows (in_order h) l).0 s;
 }
@@ -141,3 +160,21 @@ live-walk h l x m =
   where
     ops : List Op
     ops = in_order h
+
+-- and nothing else
+pub walk-live : (ops : List Op) (x : Insertion) → Among x (walk ops) → Among x (live_inserts ops)
+unfolding walk
+walk-live ops x m = each-among (λ y. Among y (live_inserts ops)) (walk_from (live_inserts ops) head) x (walk-each (λ y. Among y (live_inserts ops)) (live_inserts ops) head (each-from_among (λ y. Among y (live_inserts ops)) (live_inserts ops) (λ y n. n))) m
+
+-- what stands in path order is apart
+apart-ordered : (p : Stamp → List Stamp) (xs : List Insertion) → InPathOrder p xs → AreApart xs
+apart-ordered p [] o = tt
+apart-ordered p (x ∷ xs) o = (
+  Each-weaker (λ y. path_cmp (p x.stamp) (p y.stamp) ≡ Less) (λ y. same y.stamp x.stamp ≡ false)
+      (λ y l. by_cases (same y.stamp x.stamp) (λ k. absurd (not_less_itself (p x.stamp) (subst (λ s. path_cmp (p x.stamp) (p s) ≡ Less) (same-true y.stamp x.stamp k) l))) (λ k. k)) xs o.0,
+  apart-ordered p xs o.1,
+)
+
+pub walk-apart : (h : OpSet) → Each IsLawful (in_order h) → AreApart (walk (in_order h))
+unfolding walk
+walk-apart h l = apart-ordered (path_in (reverse (live_inserts (in_order h)))) (walk_from (live_inserts (in_order h)) head) (walk-in_order (live_inserts (in_order h)) (live_ascending h) head (live_grows (in_order h) l).1)

@@ -1,5 +1,5 @@
 -- Sets of operations: the laws that merging rests on.
-use Rattle.std.proofs.Common.{◌≡◌, Bool, true, false, cond, ◌||◌, List, [], ◌∷◌, ◌++◌, refl, sym, ap, ◌∙◌, Some, None, Option}
+use Rattle.std.proofs.Common.{ℕ, zero, suc, ◌+◌, ◌<◌, length, take, get_or, arith, ◌≡◌, Bool, true, false, cond, ◌||◌, List, [], ◌∷◌, ◌++◌, refl, sym, ap, ◌∙◌, Some, None, Option}
 use Rattle.std.specs.Option.{is_some}
 use Rattle.std.specs.List.{list_any}
 use Rattle.std.specs.Ordering.{eq_by_cmp}
@@ -7,13 +7,13 @@ use Rattle.std.proofs.lemmas.Bool.{true≢false}
 use Rattle.std.specs.FinMap as fin
 use Rattle.desk_ops.specs.declared.op.Op.{Op}
 use Rattle.desk_ops.specs.Order.{op_cmp}
-use Rattle.desk_ops.specs.OpSet.{OpSet, has_op, with_op, with_all, union, in_order}
+use Rattle.desk_ops.specs.OpSet.{OpSet, has_op, with_op, with_all, union, in_order, size}
 use Rattle.desk_ops.specs.OrderLaws.{op_total, op_antisymmetric}
 
 -- ---- sets
 
-pub has-with_op : (h : OpSet) (o q : Op) → has_op (with_op h o) q ≡ (eq_by_cmp op_cmp q o || has_op h q)
-has-with_op h o q = ap is_some (fin.get-insert op_total h o tt q) ∙ some-or (eq_by_cmp op_cmp q o) (fin.get h q)
+pub has_op-with_op : (h : OpSet) (o q : Op) → has_op (with_op h o) q ≡ (eq_by_cmp op_cmp q o || has_op h q)
+has_op-with_op h o q = ap is_some (fin.get-insert op_total h o tt q) ∙ some-or (eq_by_cmp op_cmp q o) (fin.get h q)
   where
     some-or : (b : Bool) (x : Option (Unit {0})) → is_some (cond b (Some tt) x) ≡ (b || is_some x)
     some-or true x = refl
@@ -48,25 +48,45 @@ or-group : (a b c : Bool) → ((a || b) || c) ≡ (a || (b || c))
 or-group true b c = refl
 or-group false b c = refl
 
-has-with_all : (h : OpSet) (os : List Op) (q : Op) → has_op (with_all h os) q ≡ (list_any (eq_by_cmp op_cmp q) os || has_op h q)
-has-with_all h [] q = refl
-has-with_all h (o ∷ os) q = has-with_all (with_op h o) os q ∙ ap (λ b. list_any (eq_by_cmp op_cmp q) os || b) (has-with_op h o q)
+pub has_op-with_all : (h : OpSet) (os : List Op) (q : Op) → has_op (with_all h os) q ≡ (list_any (eq_by_cmp op_cmp q) os || has_op h q)
+has_op-with_all h [] q = refl
+has_op-with_all h (o ∷ os) q = has_op-with_all (with_op h o) os q ∙ ap (λ b. list_any (eq_by_cmp op_cmp q) os || b) (has_op-with_op h o q)
     ∙ or-assoc (list_any (eq_by_cmp op_cmp q) os) (eq_by_cmp op_cmp q o) (has_op h q) ∙ sym (or-group (eq_by_cmp op_cmp q o) (list_any (eq_by_cmp op_cmp q) os) (has_op h q))
 
-pub has-union : (h g : OpSet) (q : Op) → has_op (union h g) q ≡ (has_op h q || has_op g q)
-has-union h g q = has-with_all h (in_order g) q ∙ ap (λ b. b || has_op h q) (sym (fin.contains_key-keys g q)) ∙ or-comm (has_op g q) (has_op h q)
+pub has_op-union : (h g : OpSet) (q : Op) → has_op (union h g) q ≡ (has_op h q || has_op g q)
+has_op-union h g q = has_op-with_all h (in_order g) q ∙ ap (λ b. b || has_op h q) (sym (fin.contains_key-keys g q)) ∙ or-comm (has_op g q) (has_op h q)
 
 pub union-comm : (h g : OpSet) → union h g ≡ union g h
-union-comm h g = same-set (union h g) (union g h) (λ q. has-union h g q ∙ or-comm (has_op h q) (has_op g q) ∙ sym (has-union g h q))
+union-comm h g = same-set (union h g) (union g h) (λ q. has_op-union h g q ∙ or-comm (has_op h q) (has_op g q) ∙ sym (has_op-union g h q))
 
 pub union-same : (h : OpSet) → union h h ≡ h
-union-same h = same-set (union h h) h (λ q. has-union h h q ∙ or-same (has_op h q))
+union-same h = same-set (union h h) h (λ q. has_op-union h h q ∙ or-same (has_op h q))
 
 pub union-assoc : (h g k : OpSet) → union (union h g) k ≡ union h (union g k)
 union-assoc h g k = same-set (union (union h g) k) (union h (union g k))
-    (λ q. has-union (union h g) k q ∙ ap (λ b. b || has_op k q) (has-union h g q) ∙ or-group (has_op h q) (has_op g q) (has_op k q) ∙ sym (has-union h (union g k) q ∙ ap (λ b. has_op h q || b) (has-union g k q)))
+    (λ q. has_op-union (union h g) k q ∙ ap (λ b. b || has_op k q) (has_op-union h g q) ∙ or-group (has_op h q) (has_op g q) (has_op k q) ∙ sym (has_op-union h (union g k) q ∙ ap (λ b. has_op h q || b) (has_op-union g k q)))
 
 -- one operation more at the end of the list
 pub with_all_push : (h : OpSet) (os : List Op) (o : Op) → with_all h (os ++ o ∷ []) ≡ with_op (with_all h os) o
 with_all_push h [] o = refl
 with_all_push h (p ∷ os) o = with_all_push (with_op h p) os o
+
+pub with_all-append : (h : OpSet) (os ps : List Op) → with_all h (os ++ ps) ≡ with_all (with_all h os) ps
+with_all-append h [] ps = refl
+with_all-append h (o ∷ os) ps = with_all-append (with_op h o) os ps
+
+-- one more of the list
+pub with_all-take : (h : OpSet) (os : List Op) (k : ℕ) (d : Op) → k < length os → with_all h (take (k + 1) os) ≡ with_op (with_all h (take k os)) (get_or os k d)
+with_all-take h [] k d lt = absurd (omega arith)
+with_all-take h (o ∷ os) zero d lt = refl
+with_all-take h (o ∷ os) (suc k) d lt = let e : suc k + 1 ≡ suc (k + 1) = omega arith in ap (λ n. with_all h (take n (o ∷ os))) e ∙ with_all-take (with_op h o) os k d (omega arith)
+
+-- the order of arrival says nothing
+pub with_op-comm : (h : OpSet) (o p : Op) → with_op (with_op h o) p ≡ with_op (with_op h p) o
+with_op-comm h o p = same-set (with_op (with_op h o) p) (with_op (with_op h p) o)
+    (λ q. has_op-with_op (with_op h o) p q ∙ ap (λ b. eq_by_cmp op_cmp q p || b) (has_op-with_op h o q)
+    ∙ or-assoc (eq_by_cmp op_cmp q p) (eq_by_cmp op_cmp q o) (has_op h q)
+    ∙ sym (has_op-with_op (with_op h p) o q ∙ ap (λ b. eq_by_cmp op_cmp q o || b) (has_op-with_op h p q)))
+
+pub size-with_op : (h : OpSet) (o : Op) → size (with_op h o) ≡ cond (has_op h o) (size h) (size h + 1)
+size-with_op h o = fin.len-insert op_total h o tt

@@ -1,5 +1,5 @@
 -- Which operations of a held set act: clear, forked, borne, live. Each list of operations is that of a set in order.
-use Rattle.std.specs.Prelude.{◌≡◌, Bool, true, false, List, [], ◌∷◌, reverse}
+use Rattle.std.specs.Prelude.{Option, Some, None, ◌≡◌, ℕ, max, Bool, true, false, List, [], ◌∷◌, reverse}
 use Rattle.std.specs.List.{AllByRecursion, filter, filter_map, list_any}
 use Rattle.desk_ops.specs.declared.op.Stamp.{Stamp}
 use Rattle.desk_ops.specs.declared.op.Op.{Op}
@@ -24,6 +24,12 @@ abbrev pub is_more : List Op → Bool
 is_more [] = false
 is_more (o ∷ []) = false
 is_more (o ∷ p ∷ os) = true
+
+-- the operation, if it is the only one
+abbrev pub sole : List Op → Option Op
+sole [] = None
+sole (o ∷ []) = Some o
+sole (o ∷ p ∷ os) = None
 
 -- exactly one operation bears it
 unfoldable pub is_clear : List Op → Stamp → Bool
@@ -61,6 +67,11 @@ is_live ops s = same (end_of ops s) head
 unfoldable pub live_inserts : List Op → List Insertion
 live_inserts ops = filter (λ x. is_live ops x.parent) (clear_inserts ops)
 
+-- the greatest counter, or 0 where there is none
+abbrev pub greatest_counter : List Op → ℕ
+greatest_counter [] = 0
+greatest_counter (o ∷ os) = max (stamp_of o).counter (greatest_counter os)
+
 -- ---- of a set
 
 -- the operations that bear a stamp, in order
@@ -76,6 +87,10 @@ is_forked_in h s = is_forked (in_order h) s
 abbrev pub is_borne_in : OpSet → Stamp → Bool
 is_borne_in h s = is_borne (in_order h) s
 
+-- the operation that is clear at the stamp
+abbrev pub clear_op_in : OpSet → Stamp → Option Op
+clear_op_in h s = sole (bearers h s)
+
 abbrev pub clear_ops_of : OpSet → List Op
 clear_ops_of h = clear_ops (in_order h)
 
@@ -84,6 +99,9 @@ clear_inserts_of h = clear_inserts (in_order h)
 
 abbrev pub live_inserts_of : OpSet → List Insertion
 live_inserts_of h = live_inserts (in_order h)
+
+abbrev pub greatest_counter_of : OpSet → ℕ
+greatest_counter_of h = greatest_counter (in_order h)
 
 -- no stamp is forked
 abbrev pub IsUnforked : OpSet → Type 0

@@ -34,3 +34,6 @@ shown_of h = shown (in_order h)
 
 abbrev pub copy_of : OpSet → List Symbol
 copy_of h = copy (in_order h)
+
+abbrev pub is_deleted_in : OpSet → Stamp → Bool
+is_deleted_in h s = is_deleted (in_order h) s

@@ -1,7 +1,7 @@
 use crate::op::Stamp;
 
 /// Why the operations of a stamp do not act.
-#[derive(Clone, Copy, Debug, PartialEq, Eq, PartialOrd, Ord, Hash)]
+#[derive(Clone, Copy, Debug, PartialEq, Eq)]
 pub enum FaultKind {
     /// More than one operation bears the stamp.
     Forked,
@@ -12,7 +12,7 @@ pub enum FaultKind {
 }
 
 /// A held stamp whose operations do not act.
-#[derive(Clone, Copy, Debug, PartialEq, Eq, PartialOrd, Ord, Hash)]
+#[derive(Clone, Copy, Debug, PartialEq, Eq)]
 pub struct CopyFault {
     pub stamp: Stamp,
     pub kind: FaultKind,

@@ -1,9 +1,50 @@
 //! The laws of the definitions, each on a function with an empty body.
-ghost use Rattle.desk_ops.specs.Laws.{DrainGivesWalk, MergingIsUnion, OneOrder, OrderIsKept, PlaceGivesWalk, ScanGivesWalk, WalkGoesByKids};
+ghost use Rattle.desk_ops.specs.Rows.{ConcurrentDeleteAndInsert, FiveArrivals, ForkedStamp, LaterSiblingFirst, SettingsByStamps, TombstonesKept, WaitingThenLive};
+ghost use Rattle.desk_ops.specs.Laws.{DrainGivesWalk, FaultsByEnds, HeldIsTold, LawfulIsTold, LiveByParents, MergingIsUnion, OneOrder, OrderGoesByStamp, OrderIsKept, PlaceGivesWalk, ScanGivesWalk, SettingsByStamp, ShownIsWhatIsLeft, WalkGoesByKids, WalkHoldsTheLive};
+
+/// An operation is lawful exactly where no cause against it is found.
+pub fn lawful_is_told()
+    ensures { LawfulIsTold }
+{}
+
+/// Operations stand by stamp, and those of one stamp by kind and fields.
+pub fn order_goes_by_stamp()
+    ensures { OrderGoesByStamp }
+{}
+
+/// Which operations of a set bear a stamp, and the greatest counter that it holds.
+pub fn held_is_told()
+    ensures { HeldIsTold }
+{}
+
+/// An insert is live exactly if it is clear and its parent is the head or a live insert.
+pub fn live_goes_by_parents()
+    ensures { LiveByParents }
+{}
+
+/// The walk holds each live insert once, and nothing else.
+pub fn walk_holds_the_live()
+    ensures { WalkHoldsTheLive }
+{}
 
 /// The walk gives each child in turn, each directly followed by its own walk.
 pub fn walk_goes_by_kids()
     ensures { WalkGoesByKids }
+{}
+
+/// What is shown is the walk without the elements that a live delete targets.
+pub fn shown_is_what_is_left()
+    ensures { ShownIsWhatIsLeft }
+{}
+
+/// A setting is the value of the live set of its key with the greatest stamp.
+pub fn settings_go_by_stamp()
+    ensures { SettingsByStamp }
+{}
+
+/// A stamp has a fault exactly where it is forked or its operation is stuck: void or waiting by where its way ends.
+pub fn faults_go_by_ends()
+    ensures { FaultsByEnds }
 {}
 
 /// Elements that two sets of lawful operations show, the one within the other, stand in one order.
@@ -34,4 +75,15 @@ pub fn drain_gives_walk()
 /// Merging is commutative, associative and idempotent.
 pub fn merging_is_union()
     ensures { MergingIsUnion }
+{}
+
+/// Worked sets: what they show, their faults and settings.
+pub fn worked_sets()
+    ensures later_sibling_first { LaterSiblingFirst }
+    ensures five_arrivals { FiveArrivals }
+    ensures forked_stamp { ForkedStamp }
+    ensures waiting_then_live { WaitingThenLive }
+    ensures tombstones_kept { TombstonesKept }
+    ensures concurrent_delete_and_insert { ConcurrentDeleteAndInsert }
+    ensures settings_by_stamp { SettingsByStamps }
 {}

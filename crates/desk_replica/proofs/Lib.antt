@@ -1,1 +1,6 @@
 pub mod Sets
+pub mod Links
+pub mod Nodes
+pub mod Finds
+pub mod Walked
+pub mod Built

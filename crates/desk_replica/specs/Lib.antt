@@ -1,1 +1,4 @@
 pub mod State
+pub mod Entries
+pub mod Nodes
+pub mod Built

@@ -4,14 +4,19 @@
 ghost use Rattle.std.specs.Prelude.{◌≡◌, ◌+◌, ◌≤◌, ◌<◌, ◌↔◌, ◌⊎◌, All, IfOk, IfErr, OnOk, OnErr, IsErrOf, length, take, slice_index_or, true, false};
 ghost use Rattle.desk_ops.specs.Op.{IsLawful};
 ghost use Rattle.desk_ops.specs.OpSet.{no_ops, has_op, with_op, with_all, in_order, size, AllLawful};
+ghost use Rattle.desk_ops.specs.Shown.{copy_of};
 ghost use Rattle.desk_codec.specs.Feed.{feed, IsFeed};
+ghost use Rattle.desk_replica.specs.Built.{shown_entries};
 
 use desk_codec::write_feed;
 use desk_held::{AddRefusal, Added, Held, LIMIT};
-use desk_ops::{NoMemory, Op};
+use desk_ops::{NoMemory, Op, Symbol};
+use rebuild::{Entry, Tree, symbols};
 use std::alloc::Allocator;
 use std::marker::Model;
 use thiserror::Error;
+
+mod rebuild;
 
 /// What taking in an operation did.
 #[derive(Clone, Copy, Debug, PartialEq, Eq)]
@@ -184,5 +189,27 @@ impl<A: Allocator + Copy> Replica<A> {
     {
         let ops = self.in_order()?;
         write_feed(self.alloc, &ops)
+    }
+    /// The elements that are shown, in their order.
+    fn shown(&self) -> Result<Vec<Entry, A>, NoMemory>
+        ensures { IfOk result (λ v. v.items ≡ shown_entries self.now.ops) }
+    {
+        let ops = self.held.in_order()?;
+        let mut tree = Tree::new(self.alloc, self.held.len())?;
+        for op in &ops {
+            if self.held.is_clear(op.stamp()) {
+                tree.act(op)?;
+            }
+        }
+        tree.shown(self.alloc)
+    }
+
+    /// The copy: the symbols that the set shows. It is made anew from the operations, oldest first, each insert directly
+    /// after its parent.
+    pub fn copy(&self) -> Result<Vec<Symbol, A>, NoMemory>
+        ensures { IfOk result (λ v. v.items ≡ copy_of self.now.ops) }
+    {
+        let shown = self.shown()?;
+        symbols(self.alloc, &shown)
     }
 }

@@ -1,1 +1,5 @@
 pub mod Numbers
+pub mod Same
+pub mod Table
+pub mod RowLaws
+pub mod Reading

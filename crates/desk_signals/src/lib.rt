@@ -1,11 +1,15 @@
 //! Rows of a controller ribbon and the signals of its 31 channels.
 #![tactic(auto)]
 
-ghost use Rattle.std.specs.Prelude.{◌≡◌, ℕ, ◌<◌, ◌≤◌, SomeIff, length};
-ghost use Rattle.desk_signals.specs.Rows.{letters_of, listed, number_of, signals_of};
+ghost use Rattle.std.specs.Prelude.{◌≡◌, ℕ, ◌<◌, ◌≤◌, ◌↔◌, IsTrue, SomeIff, IfSome, IfNone, IfOk, MatchOption, false, true, length, [], ◌∷◌};
+ghost use Rattle.std.specs.Result.{result_err};
+ghost use Rattle.desk_signals.specs.declared.RibbonRow.{RibbonRow};
+ghost use Rattle.desk_signals.specs.Rows.{IsRow, Spells, cause_number, fault_of, has, is_letter, is_number, letters, letters_of, listed, number_of, numbers, place, repeats, signals_of, wedge_fault};
 
 use arrayvec::ArrayVec;
 use std::marker::Model;
+
+pub mod laws;
 
 /// A column of the matrix case.
 #[derive(Clone, Copy, PartialEq, Eq, Debug)]
@@ -68,7 +72,7 @@ impl RowNo {
 /// A position of a justification wedge, 1 to 15.
 #[derive(Clone, Copy, PartialEq, Eq, Debug)]
 pub struct Position {
-    number: u8,
+    position: u8,
 }
 
 impl Model for Position {
@@ -76,11 +80,11 @@ impl Model for Position {
 
     ghost Value = { ℕ };
 
-    ghost view = { λ n. n.number };
+    ghost view = { λ n. n.position };
 
-    ghost invariant = { λ n. (1 ≤ n.number) × (n.number ≤ 15) };
+    ghost invariant = { λ n. (1 ≤ n.position) × (n.position ≤ 15) };
 
-    ghost inverse = { λ n. record { number = n } };
+    ghost inverse = { λ n. record { position = n } };
 }
 
 impl Position {
@@ -88,7 +92,7 @@ impl Position {
         ensures { SomeIff result ((1 ≤ number) × (number ≤ 15)) number }
     {
         if number >= 1 && number <= 15 {
-            Some(Position { number })
+            Some(Position { position: number })
         } else {
             None
         }
@@ -99,7 +103,7 @@ impl Position {
         ensures low { 1 ≤ self }
         ensures high { self ≤ 15 }
     {
-        self.number
+        self.position
     }
 }
 
@@ -179,7 +183,7 @@ pub enum BadRow {
 }
 
 /// The signals of a column, in signal order: its letter, and none for O.
-fn letters(column: Column) -> ArrayVec<Signal, 4>
+fn column_signals(column: Column) -> ArrayVec<Signal, 4>
     ensures signals { result.items ≡ letters_of column }
     ensures few { length result.items ≤ 1 }
 {
@@ -206,7 +210,7 @@ fn letters(column: Column) -> ArrayVec<Signal, 4>
 }
 
 /// The signal of a row or position, none for 15.
-fn number(n: u8) -> Option<Signal>
+fn number_signal(n: u8) -> Option<Signal>
     requires { 1 ≤ n }
     ensures { listed result ≡ number_of n }
 {
@@ -236,8 +240,8 @@ impl RibbonRow {
     {
         match self {
             RibbonRow::Cell { column, row, s } => {
-                let mut found = letters(column);
-                if let Some(signal) = number(row.get()) {
+                let mut found = column_signals(column);
+                if let Some(signal) = number_signal(row.get()) {
                     found.push(signal);
                 }
                 if s {
@@ -247,7 +251,7 @@ impl RibbonRow {
             }
             RibbonRow::Coarse(position) => {
                 let mut found = ArrayVec::new();
-                if let Some(signal) = number(position.get()) {
+                if let Some(signal) = number_signal(position.get()) {
                     found.push(signal);
                 }
                 found.push(Signal::Coarse);
@@ -255,7 +259,7 @@ impl RibbonRow {
             }
             RibbonRow::FineOut(position) => {
                 let mut found = ArrayVec::new();
-                if let Some(signal) = number(position.get()) {
+                if let Some(signal) = number_signal(position.get()) {
                     found.push(signal);
                 }
                 found.push(Signal::Fine);
@@ -265,3 +269,206 @@ impl RibbonRow {
         }
     }
 }
+
+impl Signal {
+    /// Its place in signal order, from 0.
+    fn place(self) -> u8
+        ensures { result ≡ place self }
+    {
+        self as u8
+    }
+
+    fn is_letter(self) -> bool
+        ensures { result ≡ is_letter self }
+    {
+        self.place() < 14
+    }
+
+    fn is_number(self) -> bool
+        ensures { result ≡ is_number self }
+    {
+        14 <= self.place() && self.place() < 28
+    }
+}
+
+fn has(signals: &[Signal], signal: Signal) -> bool
+    ensures { result ≡ has signals.now signal }
+{
+    signals.iter().any(|other| other.place() == signal.place())
+}
+
+fn repeats(signals: &[Signal]) -> bool
+    ensures { result ≡ repeats signals.now }
+{
+    for (index, &signal) in signals.iter().enumerate() {
+        if has(&signals[index + 1..], signal) {
+            return true;
+        }
+    }
+    false
+}
+
+/// The column of a letter.
+fn column_of(signal: Signal) -> Option<Column>
+    ensures none { IfNone result (is_letter signal ≡ false) }
+    ensures letter { IfSome result (λ column. is_letter signal ≡ true) }
+    ensures column { IfSome result (λ column. letters_of column ≡ signal ∷ []) }
+{
+    Some(match signal {
+        Signal::A => Column::A,
+        Signal::B => Column::B,
+        Signal::C => Column::C,
+        Signal::D => Column::D,
+        Signal::E => Column::E,
+        Signal::F => Column::F,
+        Signal::G => Column::G,
+        Signal::H => Column::H,
+        Signal::I => Column::I,
+        Signal::J => Column::J,
+        Signal::K => Column::K,
+        Signal::L => Column::L,
+        Signal::M => Column::M,
+        Signal::N => Column::N,
+        _ => return None,
+    })
+}
+
+/// The row or position of a number.
+fn number_at(signal: Signal) -> Option<u8>
+    ensures none { IfNone result (is_number signal ≡ false) }
+    ensures number { IfSome result (λ n. is_number signal ≡ true) }
+    ensures low { IfSome result (λ n. 1 ≤ n) }
+    ensures high { IfSome result (λ n. n ≤ 14) }
+    ensures value { IfSome result (λ n. number_of n ≡ signal ∷ []) }
+{
+    Some(match signal {
+        Signal::One => 1,
+        Signal::Two => 2,
+        Signal::Three => 3,
+        Signal::Four => 4,
+        Signal::Five => 5,
+        Signal::Six => 6,
+        Signal::Seven => 7,
+        Signal::Eight => 8,
+        Signal::Nine => 9,
+        Signal::Ten => 10,
+        Signal::Eleven => 11,
+        Signal::Twelve => 12,
+        Signal::Thirteen => 13,
+        Signal::Fourteen => 14,
+        _ => return None,
+    })
+}
+
+/// The column whose letters stand among signals with one letter at most.
+fn column_among(signals: &[Signal]) -> Column
+    requires { length (letters signals.now) ≤ 1 }
+    ensures { letters signals.now ≡ letters_of result }
+{
+    for &signal in signals {
+        if let Some(column) = column_of(signal) {
+            return column;
+        }
+    }
+    Column::O
+}
+
+/// The row or position whose number stands among signals with one number at most.
+fn number_among(signals: &[Signal]) -> u8
+    requires { length (numbers signals.now) ≤ 1 }
+    ensures low { 1 ≤ result }
+    ensures high { result ≤ 15 }
+    ensures value { numbers signals.now ≡ number_of result }
+{
+    for &signal in signals {
+        if let Some(number) = number_at(signal) {
+            return number;
+        }
+    }
+    15
+}
+
+fn count_letters(signals: &[Signal]) -> usize
+    ensures { result ≡ length (letters signals.now) }
+{
+    signals.iter().filter(|signal| signal.is_letter()).count()
+}
+
+fn count_numbers(signals: &[Signal]) -> usize
+    ensures { result ≡ length (numbers signals.now) }
+{
+    signals.iter().filter(|signal| signal.is_number()).count()
+}
+
+/// The first cause that makes signals no row.
+fn fault(signals: &[Signal]) -> Option<BadRow>
+    ensures { result ≡ fault_of signals.now }
+{
+    if repeats(signals) {
+        return Some(BadRow::Repeated);
+    }
+    let letters = count_letters(signals);
+    if letters > 1 {
+        return Some(BadRow::TwoLetters);
+    }
+    if count_numbers(signals) > 1 {
+        return Some(BadRow::TwoNumbers);
+    }
+    let fine = has(signals, Signal::Fine);
+    let coarse = has(signals, Signal::Coarse);
+    let s = has(signals, Signal::S);
+    wedge_fault(fine, coarse, letters > 0, s)
+}
+
+/// The first cause among signals with one letter and one number at most.
+fn wedge_fault(fine: bool, coarse: bool, letter: bool, s: bool) -> Option<BadRow>
+    ensures { result ≡ wedge_fault fine coarse letter s }
+{
+    if fine && !coarse {
+        Some(BadRow::FineAlone)
+    } else if coarse && letter {
+        Some(BadRow::WedgeWithLetter)
+    } else if coarse && s {
+        Some(BadRow::WedgeWithS)
+    } else {
+        None
+    }
+}
+
+/// The row that these signals spell, in any order.
+///
+/// The causes are checked in this order: `Repeated`, `TwoLetters`, `TwoNumbers`, `FineAlone`, `WedgeWithLetter`,
+/// `WedgeWithS`.
+pub fn from_signals(signals: &[Signal]) -> Result<RibbonRow, BadRow>
+    ensures fault { result_err result ≡ fault_of signals.now }
+    ensures row { IfOk result (λ row. IsRow row) }
+    ensures spells { IfOk result (λ row. Spells signals.now row) }
+    ensures every_order { (row : RibbonRow) → IsRow row → Spells signals.now row → result ≡ Ok row }
+{
+    if let Some(why) = fault(signals) {
+        return Err(why);
+    }
+    let number = number_among(signals);
+    if has(signals, Signal::Fine) {
+        return Ok(RibbonRow::FineOut(Position::new(number).unwrap()));
+    }
+    if has(signals, Signal::Coarse) {
+        return Ok(RibbonRow::Coarse(Position::new(number).unwrap()));
+    }
+    let column = column_among(signals);
+    let row = RowNo::new(number).unwrap();
+    let s = has(signals, Signal::S);
+    Ok(RibbonRow::Cell { column, row, s })
+}
+
+impl BadRow {
+    /// Its number, from 1: the causes in the order of the variants.
+    pub fn number(self) -> u8
+        ensures { result ≡ cause_number self }
+    {
+        self as u8 + 1
+    }
+}
+
+#[cfg(test)]
+mod tests;

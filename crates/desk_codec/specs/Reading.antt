@@ -1,0 +1,20 @@
+-- What reading answers.
+use Rattle.std.specs.Prelude.{◌≡◌, ℕ, List, Result, Ok, Err}
+use Rattle.desk_ops.specs.declared.op.Op.{Op}
+use Rattle.desk_codec.specs.declared.fault.FeedFault.{FeedFault}
+use Rattle.desk_codec.specs.declared.fault.ReadFault.{ReadFault}
+use Rattle.desk_codec.specs.declared.fault.ReadFault.TheVariants.{Fault, Failed, NoMemory}
+use Rattle.desk_codec.specs.Fault.{IsFirstFault}
+
+-- a fault told of bytes is their first; Failed is never told, and want of memory may be told of any
+abbrev pub Tells : List ℕ → ReadFault → Type 0
+Tells bytes (Fault fault) = IsFirstFault bytes fault
+Tells bytes Failed = ⊥
+Tells bytes NoMemory = Unit {0}
+
+-- What a call returned, its value seen as operations, is this answer, unless memory ran out.
+abbrev pub Answers : {V : Type 0} → (V → List Op) → Result V ReadFault → Result (List Op) FeedFault → Type 0
+Answers view (Ok v) answer = answer ≡ Ok (view v)
+Answers view (Err (Fault fault)) answer = answer ≡ Err fault
+Answers view (Err Failed) answer = ⊥
+Answers view (Err NoMemory) answer = Unit {0}

@@ -1,0 +1,76 @@
+//! Reading operations.
+
+ghost use Rattle.std.specs.Prelude.{◌≡◌, ◌<◌, ◌++◌, List, length, All, IfOk, IfErr, Ok, Err};
+ghost use Rattle.desk_ops.specs.declared.op.Op.{Op};
+ghost use Rattle.desk_ops.specs.Op.{IsLawful};
+ghost use Rattle.desk_codec.specs.Feed.{spelling, IsHeld, IsFeed};
+ghost use Rattle.desk_codec.specs.Fault.{IsWrong, IsFirstFault};
+ghost use Rattle.desk_codec.specs.Reading.{Tells, Answers};
+ghost use Rattle.desk_codec.specs.declared.fault.FeedFault.{FeedFault};
+
+use crate::fault::{FeedFault, FeedWhy, ReadFault};
+use crate::fields::{Fields, take_byte};
+use crate::form::{Kind, LEAST_SIZE};
+use desk_ops::Op;
+use std::alloc::Allocator;
+
+/// The operation at the front of bytes and the bytes after it, or what is wrong there.
+pub fn next_op(bytes: &[u8]) -> Result<(Op, &[u8]), FeedWhy>
+    requires { 0 < length bytes.now }
+    ensures op { IfOk result (λ next. IsHeld next.0 × (bytes.now ≡ spelling next.0 ++ next.1.now)) }
+    ensures wrong { IfErr result (λ why. IsWrong bytes.now why) }
+{
+    let (byte, rest) = take_byte(bytes);
+    let Some(kind) = Kind::of_byte(byte) else {
+        return Err(FeedWhy::Kind);
+    };
+    if bytes.len() < kind.size() {
+        return Err(FeedWhy::Cut);
+    }
+    let (fields, rest) = Fields::take(kind, rest);
+    match fields.op() {
+        Ok(op) => Ok((op, rest)),
+        Err(first) => Err(FeedWhy::Unlawful(first)),
+    }
+}
+
+fn operations_of<A: Allocator>(alloc: A, bytes: &[u8]) -> Result<Vec<Op, A>, ReadFault>
+    ensures feed { IfOk result (λ ops. IsFeed bytes.now ops.items) }
+    ensures fault { IfErr result (λ fault. Tells bytes.now fault) }
+{
+    let [b'M', b'F', b'D', b'1', body @ ..] = bytes else {
+        return Err(ReadFault::Fault(FeedFault {
+            at: 0,
+            why: FeedWhy::Magic,
+        }));
+    };
+    // No operation is shorter, so no further growth is needed.
+    let mut ops = Vec::with_capacity(alloc, body.len() / LEAST_SIZE)?;
+    let mut rest = body;
+    while !rest.is_empty() {
+        match next_op(rest) {
+            Ok((op, after)) => {
+                ops.push(op)?;
+                rest = after;
+            }
+            Err(why) => {
+                let at = (bytes.len() - rest.len()) as u64;
+                return Err(ReadFault::Fault(FeedFault { at, why }));
+            }
+        }
+    }
+    Ok(ops)
+}
+
+/// The operations of a feed, or the first fault of bytes that are none. It never answers `Failed`.
+pub fn read_feed<A: Allocator>(alloc: A, bytes: &[u8]) -> Result<Vec<Op, A>, ReadFault>
+    ensures feed { IfOk result (λ ops. IsFeed bytes.now ops.items) }
+    ensures lawful { IfOk result (λ ops. All IsLawful ops.items) }
+    // A fault is the first from the left.
+    ensures fault { IfErr result (λ fault. Tells bytes.now fault) }
+    // The feed of a list is read as that list, and bytes with a first fault are told by it, unless memory runs out.
+    ensures only { (ops : List Op) → IsFeed bytes.now ops → Answers (λ v. v.items) result (Ok ops) }
+    ensures first { (fault : FeedFault) → IsFirstFault bytes.now fault → Answers (λ v. v.items) result (Err fault) }
+{
+    operations_of(alloc, bytes)
+}

@@ -1,0 +1,159 @@
+//! Images of ribbon rows: the 31 channels of a row as the bits of a number.
+#![tactic(auto)]
+
+ghost use Rattle.std.specs.Prelude.{◌≡◌, ℕ, ◌-◌, ◌^◌, ◌<◌, if◌then◌else◌, ◌==◌, IfOk, slice_index};
+ghost use Rattle.std.specs.Result.{result_err};
+ghost use Rattle.std.specs.Int.{bit_at};
+ghost use Rattle.desk_signals.specs.declared.RibbonRow.{RibbonRow};
+ghost use Rattle.desk_signals.specs.Rows.{IsRow};
+ghost use Rattle.desk_image.specs.Images.{bit, image, image_fault, signals_in};
+
+pub mod laws;
+
+use arrayvec::ArrayVec;
+use desk_signals::{BadRow, RibbonRow, Signal, from_signals};
+use std::marker::Model;
+
+/// The image of a row: its signals as bits, the first signal at bit 30 and the last at bit 0.
+#[derive(Clone, Copy, PartialEq, Eq, Debug)]
+pub struct Image(u32);
+
+impl Model for Image {
+    ghost use Rattle.std.specs.Prelude.{ℕ};
+
+    ghost Value = { ℕ };
+
+    ghost view = { λ image. image.0 };
+
+    ghost inverse = { λ n. record { 0 = n } };
+}
+
+/// Why an image is no row.
+#[derive(Clone, Copy, PartialEq, Eq, Debug, thiserror::Error)]
+pub enum BadImage {
+    /// Bit 31 is set.
+    #[error("bit 31 is set")]
+    HighBit,
+    #[error("{0}")]
+    Row(BadRow),
+}
+
+/// The signals in signal order.
+const SIGNALS: [Signal; 31] = [
+    Signal::A,
+    Signal::B,
+    Signal::C,
+    Signal::D,
+    Signal::E,
+    Signal::F,
+    Signal::G,
+    Signal::H,
+    Signal::I,
+    Signal::J,
+    Signal::K,
+    Signal::L,
+    Signal::M,
+    Signal::N,
+    Signal::One,
+    Signal::Two,
+    Signal::Three,
+    Signal::Four,
+    Signal::Five,
+    Signal::Six,
+    Signal::Seven,
+    Signal::Eight,
+    Signal::Nine,
+    Signal::Ten,
+    Signal::Eleven,
+    Signal::Twelve,
+    Signal::Thirteen,
+    Signal::Fourteen,
+    Signal::Fine,
+    Signal::Coarse,
+    Signal::S,
+];
+
+/// The bit of a signal in an image.
+fn bit(signal: Signal) -> u32
+    ensures value { result ≡ bit signal }
+    ensures small { result < 31 }
+{
+    30 - signal as u32
+}
+
+impl Image {
+    pub fn new(bits: u32) -> Image
+        ensures { result ≡ bits }
+    {
+        Image(bits)
+    }
+
+    pub fn bits(self) -> u32
+        ensures { result ≡ self }
+    {
+        self.0
+    }
+
+    /// The image of a row.
+    pub fn of_row(row: RibbonRow) -> Image
+        ensures { result ≡ image row }
+    {
+        let signals = row.signals();
+        let mut bits: u32 = 0;
+        for &signal in signals.as_slice() {
+            bits |= 1 << bit(signal);
+        }
+        Image::new(bits)
+    }
+
+    fn has(self, signal: Signal) -> bool
+        ensures { result ≡ (bit_at self (bit signal) == 1) }
+    {
+        (self.0 >> bit(signal)) & 1 == 1
+    }
+
+    /// The signals whose bits are set, in signal order.
+    fn signals(self) -> ArrayVec<Signal, 31>
+        ensures { result.items ≡ signals_in self }
+    {
+        let mut signals: ArrayVec<Signal, 31> = ArrayVec::new();
+        for &signal in &SIGNALS {
+            if self.has(signal) {
+                signals.push(signal);
+            }
+        }
+        signals
+    }
+
+    /// The row of an image. `HighBit` comes first, then the causes of `from_signals`.
+    pub fn to_row(self) -> Result<RibbonRow, BadImage>
+        ensures fault { result_err result ≡ image_fault self }
+        ensures row { IfOk result (λ row. IsRow row) }
+        ensures image { IfOk result (λ row. image row ≡ self) }
+        ensures every_row { (row : RibbonRow) → IsRow row → image row ≡ self → result ≡ Ok row }
+    {
+        if self.0 >= 0x8000_0000 {
+            return Err(BadImage::HighBit);
+        }
+        match from_signals(&self.signals()) {
+            Ok(row) => Ok(row),
+            Err(why) => Err(BadImage::Row(why)),
+        }
+    }
+
+    /// The 31 channels, bit 30 first: `O` for a hole and `.` for none.
+    pub fn picture(self) -> [u8; 31]
+        ensures { (k : ℕ) → k < 31 → slice_index result k ≡ (if bit_at self (30 - k) == 1 then 79 else 46) }
+    {
+        let mut picture = [b'.'; 31];
+        for place in 0..31 {
+            if (self.0 >> (30 - place)) & 1 == 1 {
+                picture[place] = b'O';
+            }
+        }
+        picture
+    }
+}
+
+#[cfg(test)]
+mod tests;

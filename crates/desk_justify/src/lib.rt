@@ -1,0 +1,136 @@
+//! Wedge positions that justify a line, and fills for a line that its own spaces do not.
+#![tactic(auto)]
+
+ghost use Rattle.std.specs.Prelude.{◌≡◌, ◌≤◌, ◌^◌, ◌↔◌, pos, ◌≤ℤ◌, IfSome, IsNone, length};
+ghost use Rattle.desk_justify.specs.Positions.{IsOutside, Justifies, pair_of, sum_of};
+ghost use Rattle.desk_justify.specs.Filled.{ArePositive, Descend, fills_of, room};
+
+pub mod laws;
+
+use arrayvec::ArrayVec;
+use desk_signals::Position;
+use desk_units::{Atoms, floor_steps};
+
+/// The steps from the neutral positions, at a sum of 53, to the least sum, 16.
+const LEAST_STEPS: i64 = -37;
+
+/// The steps from the neutral positions to the greatest sum, 240.
+const MOST_STEPS: i64 = 187;
+
+/// The positions of the coarse and the fine wedge at which 1 to 2^32 spaces take up the rest, but for less than a
+/// step for each; none where the wedges do not reach so far.
+pub fn positions(rest: Atoms, spaces: u64) -> Option<(Position, Position)>
+    requires some { 1 ≤ spaces }
+    requires limit { spaces ≤ 2 ^ 32 }
+    ensures justified { IfSome result (λ p. Justifies rest spaces p.0 p.1) }
+    ensures outside { IsNone result ↔ IsOutside (sum_of rest spaces) }
+    ensures value { result ≡ pair_of (sum_of rest spaces) }
+{
+    let steps = floor_steps(rest, spaces);
+    if steps < LEAST_STEPS || steps > MOST_STEPS {
+        return None;
+    }
+    let sum = (steps + 53) as u8;
+    let coarse = Position::new((sum - 1) / 15)?;
+    let fine = Position::new((sum - 1) % 15 + 1)?;
+    Some((coarse, fine))
+}
+
+/// What may be filled: nothing where the rest is negative.
+fn room(rest: Atoms) -> u64
+    ensures { result ≡ room rest }
+{
+    u64::try_from(rest.get()).unwrap_or(0)
+}
+
+/// How often each of one to four fills is used, the widest first: as often as it fits in what those before it leave
+/// of the rest, and never where the rest is negative. The rest is at most 2^31 atoms.
+pub fn fill(rest: Atoms, widths: &[Atoms]) -> ArrayVec<u32, 4>
+    requires some { 1 ≤ length widths.now }
+    requires four { length widths.now ≤ 4 }
+    requires positive { ArePositive widths.now }
+    requires descending { Descend widths.now }
+    requires limit { rest ≤ℤ pos (2 ^ 31) }
+    ensures { result.items ≡ fills_of rest widths.now }
+{
+    let mut counts = ArrayVec::new();
+    let mut left = room(rest);
+    for width in widths {
+        let width = width.get() as u64;
+        let count = left / width;
+        left -= count * width;
+        counts.push(count as u32);
+    }
+    counts
+}
+
+#[cfg(test)]
+mod tests {
+    use super::*;
+    use std::test::Fail;
+
+    fn numbers(pair: Option<(Position, Position)>) -> Option<(u8, u8)> {
+        pair.map(|(coarse, fine)| (coarse.get(), fine.get()))
+    }
+
+    #[test]
+    fn positions_loose(rt: HostRuntime) -> Result<(), Fail> {
+        assert_eq!(rt; numbers(positions(Atoms::new(120_000), 4)), Some((6, 9)));
+        Ok(())
+    }
+
+    #[test]
+    fn positions_tight(rt: HostRuntime) -> Result<(), Fail> {
+        assert_eq!(rt; numbers(positions(Atoms::new(-24_000), 4)), Some((2, 13)));
+        Ok(())
+    }
+
+    #[test]
+    fn positions_at_the_limits(rt: HostRuntime) -> Result<(), Fail> {
+        for (rest, want) in [
+            (0, Some((3, 8))),
+            (121_176, Some((15, 15))),
+            (121_824, None),
+            (-23_976, Some((1, 1))),
+            (-23_977, None),
+            (i64::MIN, None),
+            (i64::MAX, None),
+        ] {
+            assert_eq!(rt;
+                numbers(positions(Atoms::new(rest), 1)),
+                want,
+                "a rest of {rest}"
+            );
+        }
+        Ok(())
+    }
+
+    #[test]
+    fn fills_of_a_rest(rt: HostRuntime) -> Result<(), Fail> {
+        let widths = [Atoms::new(216_000), Atoms::new(108_000)];
+        assert_eq!(rt;
+            fill(Atoms::new(2_100_000), &widths).as_slice(),
+            [9, 1].as_slice()
+        );
+        assert_eq!(rt; fill(Atoms::new(-1), &widths).as_slice(), [0, 0].as_slice());
+        assert_eq!(rt; fill(Atoms::new(0), &widths).as_slice(), [0, 0].as_slice());
+        let units = [Atoms::new(7), Atoms::new(5), Atoms::new(2), Atoms::new(1)];
+        assert_eq!(rt;
+            fill(Atoms::new(2_147_483_648), &units).as_slice(),
+            [306_783_378, 0, 1, 0].as_slice()
+        );
+        assert_eq!(rt;
+            fill(Atoms::new(20), &units).as_slice(),
+            [2, 1, 0, 1].as_slice()
+        );
+        assert_eq!(rt;
+            fill(Atoms::new(i64::MIN), &units).as_slice(),
+            [0, 0, 0, 0].as_slice()
+        );
+        assert_eq!(rt;
+            fill(Atoms::new(2_147_483_648), &[Atoms::new(1)]).as_slice(),
+            [2_147_483_648].as_slice()
+        );
+        Ok(())
+    }
+}

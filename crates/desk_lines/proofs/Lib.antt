@@ -1,0 +1,4 @@
+pub mod GroupLaws
+pub mod Breaks
+pub mod WordLaws
+pub mod Splits

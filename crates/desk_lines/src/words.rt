@@ -1,0 +1,96 @@
+//! The paragraphs of a copy and their words.
+
+ghost use Rattle.std.specs.Prelude.{◌≡◌, IfOk};
+ghost use Rattle.desk_lines.specs.Words.{is_line_feed, is_space, words_of};
+
+use desk_ops::{NoMemory, Style, Symbol};
+use std::alloc::Allocator;
+use std::marker::Model;
+
+/// A word by its places in the copy: from `from` on, and before `to`.
+#[derive(Clone, Copy, PartialEq, Eq, Debug)]
+pub struct Word {
+    pub from: usize,
+    pub to: usize,
+}
+
+/// The words of a paragraph, in their order.
+#[derive(Drop)]
+pub struct Paragraph<A: Allocator> {
+    words: Vec<Word, A>,
+}
+
+impl<A: Allocator> Model for Paragraph<A> {
+    ghost use Rattle.std.specs.Prelude.{List};
+    ghost use Rattle.desk_lines.specs.declared.words.Word.{Word};
+
+    ghost Value = { List Word };
+
+    ghost view = { λ p. p.words.items };
+}
+
+impl<A: Allocator> Paragraph<A> {
+    pub fn from_words(words: Vec<Word, A>) -> Paragraph<A>
+        ensures { result ≡ words.items }
+    {
+        Self { words }
+    }
+
+    pub fn words(&self) -> &[Word]
+        ensures { result.now ≡ self.now }
+    {
+        self.words.as_slice()
+    }
+
+    pub fn into_words(self) -> Vec<Word, A>
+        ensures { result.items ≡ self }
+    {
+        let Paragraph { words } = self;
+        words
+    }
+}
+
+fn is_line_feed(symbol: Symbol) -> bool
+    ensures { result ≡ is_line_feed symbol }
+{
+    symbol.ch == '\n' && symbol.style == Style::Roman
+}
+
+fn is_space(symbol: Symbol) -> bool
+    ensures { result ≡ is_space symbol }
+{
+    symbol.ch == ' ' && symbol.style == Style::Roman
+}
+
+/// The words of each paragraph of a copy, by their places in the copy. The copy is split at each line feed and one
+/// empty last paragraph is dropped; a paragraph is split at each Roman space, and its words may be empty.
+pub fn paragraphs<A: Allocator + Copy>(
+    alloc: A,
+    copy: &[Symbol],
+) -> Result<Vec<Paragraph<A>, A>, NoMemory>
+    ensures { IfOk result (λ found. found.items ≡ words_of copy.now) }
+{
+    let mut found = Vec::new(alloc);
+    let mut words = Vec::new(alloc);
+    let mut from = 0;
+    for (i, symbol) in copy.iter().enumerate() {
+        let symbol = *symbol;
+        if is_line_feed(symbol) {
+            words.push(Word { from, to: i })?;
+            found.push(Paragraph::from_words(words))?;
+            words = Vec::new(alloc);
+            from = i + 1;
+        } else if is_space(symbol) {
+            words.push(Word { from, to: i })?;
+            from = i + 1;
+        }
+    }
+    if from < copy.len() || !words.is_empty() {
+        words.push(Word {
+            from,
+            to: copy.len(),
+        })?;
+        found.push(Paragraph::from_words(words))?;
+    }
+    Ok(found)
+}

@@ -1,0 +1,182 @@
+-- What a test over the table of all rows says of each row.
+use Rattle.std.proofs.Common.{◌≡◌, ℕ, ◌+◌, ◌-◌, ◌*◌, ◌/◌, ◌%◌, ◌<◌, ◌≤◌, Bool, true, false, not, ◌&&◌, eqb, List, [], ◌∷◌, length, get_or, refl, sym, ap, subst, ◌∙◌, Option, Some, None, eqb-true, arith}
+use Rattle.std.specs.Prelude.{if◌then◌else◌, sum_by}
+use Rattle.std.specs.List.{list_all, range_with_len}
+use Rattle.std.proofs.lemmas.List.FromFn.{get_or-range_with_len}
+use Rattle.std.proofs.lemmas.List.Sums.{AllPass-from_list_all}
+use Rattle.desk_signals.specs.declared.BadRow.{BadRow}
+use Rattle.desk_signals.specs.declared.Column.{Column}
+use Rattle.desk_signals.specs.declared.Column.TheVariants as column
+use Rattle.desk_signals.specs.declared.Signal.{Signal}
+use Rattle.desk_signals.specs.declared.RibbonRow.{RibbonRow}
+use Rattle.desk_signals.specs.declared.RibbonRow.TheVariants.{Cell, Coarse, FineOut}
+use Rattle.desk_signals.specs.Rows.{IsRow, signals_of, place, is_letter, is_number, repeats, fault_of}
+
+abbrev pub the_columns : List Column
+the_columns = column.A ∷ column.B ∷ column.C ∷ column.D ∷ column.E ∷ column.F ∷ column.G ∷ column.H ∷ column.I ∷ column.J ∷ column.K ∷ column.L ∷ column.M ∷ column.N ∷ column.O ∷ []
+
+abbrev column_place : Column → ℕ
+column_place column.A = 0
+column_place column.B = 1
+column_place column.C = 2
+column_place column.D = 3
+column_place column.E = 4
+column_place column.F = 5
+column_place column.G = 6
+column_place column.H = 7
+column_place column.I = 8
+column_place column.J = 9
+column_place column.K = 10
+column_place column.L = 11
+column_place column.M = 12
+column_place column.N = 13
+column_place column.O = 14
+
+at_column : (c : Column) → get_or the_columns (column_place c) column.O ≡ c
+at_column column.A = refl
+at_column column.B = refl
+at_column column.C = refl
+at_column column.D = refl
+at_column column.E = refl
+at_column column.F = refl
+at_column column.G = refl
+at_column column.H = refl
+at_column column.I = refl
+at_column column.J = refl
+at_column column.K = refl
+at_column column.L = refl
+at_column column.M = refl
+at_column column.N = refl
+at_column column.O = refl
+
+below_15 : (c : Column) → column_place c < length the_columns
+below_15 column.A = omega arith
+below_15 column.B = omega arith
+below_15 column.C = omega arith
+below_15 column.D = omega arith
+below_15 column.E = omega arith
+below_15 column.F = omega arith
+below_15 column.G = omega arith
+below_15 column.H = omega arith
+below_15 column.I = omega arith
+below_15 column.J = omega arith
+below_15 column.K = omega arith
+below_15 column.L = omega arith
+below_15 column.M = omega arith
+below_15 column.N = omega arith
+below_15 column.O = omega arith
+
+-- a test over all rows
+abbrev pub all_pass : (RibbonRow → Bool) → Bool
+all_pass test =
+    list_all (λ n. list_all (λ c. test (Cell c n true) && test (Cell c n false)) the_columns && (test (Coarse n) && test (FineOut n))) (range_with_len 1 15)
+
+both : (a b : Bool) → (a && b) ≡ true → (a ≡ true) × (b ≡ true)
+both true b e = (refl, e)
+both false b e = absurd (cc)
+
+number_passes : (p : ℕ → Bool) → list_all p (range_with_len 1 15) ≡ true → (n : ℕ) → 1 ≤ n → n ≤ 15 → p n ≡ true
+number_passes p e n low high =
+    let is : get_or (range_with_len 1 15) (n - 1) 0 ≡ n = get_or-range_with_len 1 15 (n - 1) 0 (omega arith) ∙ omega arith in
+    subst (λ k. p k ≡ true) is (AllPass-from_list_all p (range_with_len 1 15) e (n - 1) 0 (omega arith))
+
+column_passes : (p : Column → Bool) → list_all p the_columns ≡ true → (c : Column) → p c ≡ true
+column_passes p e c =
+    subst (λ d. p d ≡ true) (at_column c) (AllPass-from_list_all p the_columns e (column_place c) column.O (below_15 c))
+
+at_s : (test : RibbonRow → Bool) (c : Column) (n : ℕ) (s : Bool) → (test (Cell c n true) ≡ true) × (test (Cell c n false) ≡ true) → test (Cell c n s) ≡ true
+at_s test c n true e = e.0
+at_s test c n false e = e.1
+
+pub row_passes : (test : RibbonRow → Bool) → all_pass test ≡ true → (row : RibbonRow) → IsRow row → test row ≡ true
+row_passes test e (Cell c n s) (low, high) =
+    let parts = both _ _ (number_passes (λ n. list_all (λ c. test (Cell c n true) && test (Cell c n false)) the_columns && (test (Coarse n) && test (FineOut n))) e n low high) in
+    at_s test c n s (both _ _ (column_passes (λ c. test (Cell c n true) && test (Cell c n false)) parts.0 c))
+row_passes test e (Coarse n) (low, high) =
+    let parts = both _ _ (number_passes (λ n. list_all (λ c. test (Cell c n true) && test (Cell c n false)) the_columns && (test (Coarse n) && test (FineOut n))) e n low high) in
+    (both _ _ parts.1).0
+row_passes test e (FineOut n) (low, high) =
+    let parts = both _ _ (number_passes (λ n. list_all (λ c. test (Cell c n true) && test (Cell c n false)) the_columns && (test (Coarse n) && test (FineOut n))) e n low high) in
+    (both _ _ parts.1).1
+
+was_not : (b : Bool) → not b ≡ true → b ≡ false
+was_not true e = absurd (cc)
+was_not false e = refl
+
+-- no row has a signal twice
+pub row_once : (row : RibbonRow) → IsRow row → repeats (signals_of row) ≡ false
+row_once row is = was_not (repeats (signals_of row)) (row_passes (λ row. not (repeats (signals_of row))) refl row is)
+
+abbrev no_fault : Option BadRow → Bool
+no_fault None = true
+no_fault (Some why) = false
+
+was_none : (o : Option BadRow) → no_fault o ≡ true → o ≡ None
+was_none None e = refl
+was_none (Some why) e = absurd (cc)
+
+-- the signals of a row have no fault
+pub row_faultless : (row : RibbonRow) → IsRow row → fault_of (signals_of row) ≡ None
+row_faultless row is = was_none (fault_of (signals_of row)) (row_passes (λ row. no_fault (fault_of (signals_of row))) refl row is)
+
+-- a weight of each signal, so that the sum tells the row
+abbrev pub weight : Signal → ℕ
+weight x =
+    if is_letter x then 256 * (place x + 1)
+    else if is_number x then 16 * (place x - 13)
+    else if eqb (place x) 28 then 4
+    else if eqb (place x) 29 then 2
+    else 1
+
+abbrev pub number_in : ℕ → ℕ
+number_in n = if eqb n 0 then 15 else n
+
+abbrev pub column_in : ℕ → Column
+column_in n = if eqb n 0 then column.O else get_or the_columns (n - 1) column.O
+
+abbrev pub row_in : ℕ → RibbonRow
+row_in sum =
+    if eqb (sum % 8) 2 then Coarse (number_in (sum / 16 % 16))
+    else if eqb (sum % 8) 6 then FineOut (number_in (sum / 16 % 16))
+    else Cell (column_in (sum / 256)) (number_in (sum / 16 % 16)) (eqb (sum % 8) 1)
+
+abbrev same_bool : Bool → Bool → Bool
+same_bool true b = b
+same_bool false b = not b
+
+same_bool-eq : (a b : Bool) → same_bool a b ≡ true → a ≡ b
+same_bool-eq true b e = sym e
+same_bool-eq false b e = sym (was_not b e)
+
+abbrev same_row : RibbonRow → RibbonRow → Bool
+same_row (Cell c n s) (Cell d m t) = eqb (column_place c) (column_place d) && (eqb n m && same_bool s t)
+same_row (Cell c n s) (Coarse m) = false
+same_row (Cell c n s) (FineOut m) = false
+same_row (Coarse n) (Cell d m t) = false
+same_row (Coarse n) (Coarse m) = eqb n m
+same_row (Coarse n) (FineOut m) = false
+same_row (FineOut n) (Cell d m t) = false
+same_row (FineOut n) (Coarse m) = false
+same_row (FineOut n) (FineOut m) = eqb n m
+
+same_column : (c d : Column) → eqb (column_place c) (column_place d) ≡ true → c ≡ d
+same_column c d e =
+    sym (at_column c) ∙ (ap (λ (n : ℕ). get_or the_columns n column.O) (eqb-true (column_place c) (column_place d) e) ∙ at_column d)
+
+same_row-eq : (a b : RibbonRow) → same_row a b ≡ true → a ≡ b
+same_row-eq (Cell c n s) (Cell d m t) e =
+    let first = both _ _ e in
+    let second = both _ _ first.1 in
+    ap (λ (c : Column). Cell c n s) (same_column c d first.0)
+    ∙ (ap (λ (n : ℕ). Cell d n s) (eqb-true n m second.0) ∙ ap (λ (s : Bool). Cell d m s) (same_bool-eq s t second.1))
+same_row-eq (Cell c n s) (Coarse m) e = absurd (cc)
+same_row-eq (Cell c n s) (FineOut m) e = absurd (cc)
+same_row-eq (Coarse n) (Cell d m t) e = absurd (cc)
+same_row-eq (Coarse n) (Coarse m) e = ap (λ (n : ℕ). Coarse n) (eqb-true n m e)
+same_row-eq (Coarse n) (FineOut m) e = absurd (cc)
+same_row-eq (FineOut n) (Cell d m t) e = absurd (cc)
+same_row-eq (FineOut n) (Coarse m) e = absurd (cc)
+same_row-eq (FineOut n) (FineOut m) e = ap (λ (n : ℕ). FineOut n) (eqb-true n m e)
+
+pub row_weighed : (row : RibbonRow) → IsRow row → row_in (sum_by weight (signals_of row)) ≡ row
+row_weighed row is = same_row-eq _ row (row_passes (λ row. same_row (row_in (sum_by weight (signals_of row))) row) refl row is)
