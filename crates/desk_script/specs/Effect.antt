@@ -3,6 +3,7 @@ use Rattle.std.specs.Prelude.{◌≡◌, ℕ, ◌==◌, nat_lt, List, Option, So
 use Rattle.std.specs.FinMap as fin
 use Rattle.desk_ops.specs.Op.{stamp_of}
 use Rattle.desk_ops.specs.OpSet.{OpSet, in_order}
+use Rattle.desk_ops.specs.Shown.{copy_of}
 use Rattle.desk_codec.specs.Feed.{feed}
 use Rattle.desk_held.specs.declared.AddRefusal.{AddRefusal}
 use Rattle.desk_held.specs.declared.AddRefusal.TheVariants as adds
@@ -68,7 +69,7 @@ Does old (Send from to None) reply new = MatchOption (set_of old from) (Says (Re
     (λ set. MatchBool (nat_lt 65535 to) (Says (Refused refusals.Site) old reply new) (Happens old (changes.Give to (in_order set)) reply new))
 Does old (Send from to (Some range)) reply new = Says (Refused refusals.Command) old reply new
 Does old (Feed n) reply new = MatchOption (set_of old n) (Says (Refused refusals.Site) old reply new) (λ set. Says (replies.Feed (feed (in_order set))) old reply new)
-Does old (Show n) reply new = Says (Refused refusals.Command) old reply new
+Does old (Show n) reply new = MatchOption (set_of old n) (Says (Refused refusals.Site) old reply new) (λ set. Says (Copy (copy_of set)) old reply new)
 Does old (Insert site place copy) reply new = Says (Refused refusals.Command) old reply new
 Does old (Delete site place) reply new = Says (Refused refusals.Command) old reply new
 Does old (SetTo site key value) reply new = Says (Refused refusals.Command) old reply new

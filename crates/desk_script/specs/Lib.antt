@@ -12,3 +12,4 @@ pub mod Effect
 pub mod Files
 pub mod Script
 pub mod Pending
+pub mod Laws

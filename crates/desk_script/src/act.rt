@@ -101,6 +101,15 @@ fn send<A: Allocator + Copy>(
     told(given)
 }
 
+fn show<A: Allocator + Copy>(world: &World<A>, site: u32) -> Result<Response<A>, NoMemory>
+    ensures { IfOk result (λ a. Does world.now (requests.Show site) (reply a) world.now) }
+{
+    let Some(replica) = replica_of(world, site) else {
+        return Ok(Response::Refused(Refusal::Site));
+    };
+    Ok(Response::Copy(replica.copy()?))
+}
+
 fn feed<A: Allocator + Copy>(world: &World<A>, site: u32) -> Result<Response<A>, NoMemory>
     ensures { IfOk result (λ a. Does world.now (requests.Feed site) (reply a) world.now) }
 {
@@ -124,6 +133,7 @@ fn act<A: Allocator + Copy>(
             to,
             range: None,
         } => send(world, from, to),
+        Command::Show(site) => show(world, site),
         Command::Feed(site) => feed(world, site),
         _ => Ok(Response::Refused(Refusal::Command)),
     }

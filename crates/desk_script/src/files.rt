@@ -45,3 +45,31 @@ pub trait Files {
         ensures device { IsErrOf result FileRefusal.Device → HasFailed (count self.old) (count self.new) }
         ensures small { IfErr result (λ e. e ≢ FileRefusal.Large) };
 }
+
+/// Files of which none is there.
+#[derive(Drop)]
+pub struct NoFiles;
+
+impl Files for NoFiles {
+    ghost count = { λ _. 0 };
+
+    fn failures(&self) -> u64 {
+        0
+    }
+
+    fn read<A: Allocator + Copy>(
+        &mut self,
+        _alloc: A,
+        _name: &str,
+    ) -> Result<Vec<u8, A>, FileRefusal> {
+        Err(FileRefusal::Missing)
+    }
+
+    fn write_new(&mut self, _name: &str, _bytes: &[u8]) -> Result<(), FileRefusal> {
+        Err(FileRefusal::Missing)
+    }
+
+    fn rename(&mut self, _from: &str, _to: &str) -> Result<(), FileRefusal> {
+        Err(FileRefusal::Missing)
+    }
+}
