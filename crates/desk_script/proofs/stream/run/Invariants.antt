@@ -1,0 +1,10 @@
+use Rattle.std.proofs.Common.{◌≤◌, length}
+use Rattle.desk_script.specs.Sites.{no_sites}
+use Rattle.desk_script.specs.Pending.{Carries}
+use Rattle.desk_script.proofs.stream.run.Given as goal
+
+abbrev pub invariant-reads : goal.invariant-reads
+invariant-reads g l = record {
+  kept : length l.line.items ≤ 65538;
+  carries : Carries no_sites l.world (g.R.Read.remaining l.fn.reader) (g.R.Read.remaining l.reader) (g.W.Write.contents l.fn.writer) (g.W.Write.contents l.writer) l.line.items;
+}

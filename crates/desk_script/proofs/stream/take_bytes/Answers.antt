@@ -1,0 +1,38 @@
+use Rattle.std.proofs.Common.{rules, ◌≡◌, ℕ, List, ◌+◌, ◌<◌, length, ◌++◌, ◌∷◌, [], drop, get_or, ap, ◌∙◌, sym, append_assoc, add-one, drop-cons, subst, refl}
+use Rattle.std.proofs.lemmas.List.{at_drop_all}
+use Rattle.desk_script.specs.Script.{Fronts}
+use Rattle.desk_script.specs.Pending.{lines_from}
+use Rattle.desk_script.proofs.Turns.{turn_turn, turn_front}
+use Rattle.desk_script.proofs.stream.take_bytes.Goals as goal
+
+pub returns-in-Err-clause-err : goal.returns-in-Err-clause-err
+returns-in-Err-clause-err g c more =
+    let i : ℕ = c.loop-b.b-index in
+    let lt : i < length c.args.bytes.now = c.loop-b-test.true in
+    let step : drop i c.args.bytes.now ≡ get_or c.args.bytes.now i 0 ∷ drop (i + 1) c.args.bytes.now = rw (add-one, drop-cons c.args.bytes.now i 0) refl in
+    subst (Fronts c.args.world.now (g.W.Write.contents c.args.writer.now) (g.W.Write.contents c.take_byte.new.writer))
+    (sym (c.loop-b.invariant.moves.2 more ∙ ap (λ l. c.loop-b.invariant.moves.0 ++ lines_from c.loop-b.line.items (l ++ more)) step))
+    (turn_front _ c.loop-b.world _ (g.W.Write.contents c.loop-b.writer) _ c.loop-b.invariant.moves.0 _ c.loop-b.invariant.moves.1 (c.in-Err.ensures.err (drop (i + 1) c.args.bytes.now ++ more)))
+
+pub loop-b-preserved : goal.loop-b-preserved
+loop-b-preserved g c =
+    let i : ℕ = c.loop-b.b-index in
+    let lt : i < length c.args.bytes.now = c.loop-b-test.true in
+    let step : drop i c.args.bytes.now ≡ get_or c.args.bytes.now i 0 ∷ drop (i + 1) c.args.bytes.now = rw (add-one, drop-cons c.args.bytes.now i 0) refl in
+    let turn = c.in_default.ensures.ok in record {
+      kept = c.take_byte.ensures.kept;
+      moves = (
+        c.loop-b.invariant.moves.0 ++ turn.0,
+        turn_turn _ c.loop-b.world _ _ (g.W.Write.contents c.loop-b.writer) _ c.loop-b.invariant.moves.0 turn.0 c.loop-b.invariant.moves.1 turn.1,
+        λ more. c.loop-b.invariant.moves.2 more ∙ ap (λ l. c.loop-b.invariant.moves.0 ++ lines_from c.loop-b.line.items (l ++ more)) step
+            ∙ ap (λ l. c.loop-b.invariant.moves.0 ++ l) (turn.2 (drop (i + 1) c.args.bytes.now ++ more)) ∙ sym (append_assoc c.loop-b.invariant.moves.0 turn.0 (lines_from c.take_byte.new.line.items (drop (i + 1) c.args.bytes.now ++ more))),
+      );
+    }
+
+pub returns-clause-ok : goal.returns-clause-ok
+returns-clause-ok g c =
+    let so_far = c.loop-b.invariant.moves in (
+      so_far.0,
+      so_far.1,
+      λ more. so_far.2 more ∙ at_drop_all (λ l. so_far.0 ++ lines_from c.loop-b.line.items (l ++ more)) c.args.bytes.now c.loop-b.b-index c.loop-b-test.false,
+    )

@@ -1,0 +1,18 @@
+use Rattle.std.proofs.Common.{◌≡◌, ◌∙◌}
+use Rattle.std.proofs.lemmas.Result.{on_err_weaker, on_ok_weaker}
+use Rattle.desk_script.specs.Lines.{line_of}
+use Rattle.desk_script.proofs.Turns.{no_front, one_turn, one_front}
+use Rattle.desk_script.proofs.stream.take_line.Goals as goal
+
+pub returns-in_default-clause-err : goal.returns-in_default-clause-err
+returns-in_default-clause-err g c more = no_front _ _ _
+
+pub returns-clause-ok : goal.returns-clause-ok
+returns-clause-ok g c =
+    let a = c.in-Ok.ensures in
+    on_ok_weaker c.send.result (λ written. one_turn _ _ _ _ (line_of c.args.line.now) c.as_bytes.result.now a.0 a.1 (c.as_bytes.ensures.value ∙ a.2) written) c.send.ensures.ok
+
+pub returns-clause-err : goal.returns-clause-err
+returns-clause-err g c =
+    let a = c.in-Ok.ensures in
+    on_err_weaker c.send.result (λ written more. one_front _ c.answered.new.world _ _ (line_of c.args.line.now) c.as_bytes.result.now a.0 more a.1 (c.as_bytes.ensures.value ∙ a.2) written) c.send.ensures.err

@@ -1,0 +1,15 @@
+pub mod Lines
+pub mod Reading
+pub mod Copy
+pub mod Request
+pub mod Grammar
+pub mod Text
+pub mod Reply
+pub mod Examples
+pub mod Sites
+pub mod World
+pub mod Effect
+pub mod Files
+pub mod Script
+pub mod Pending
+pub mod Laws

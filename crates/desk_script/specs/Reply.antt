@@ -1,0 +1,27 @@
+-- Answers, without where they lie in memory.
+use Rattle.std.specs.Prelude.{ℕ, List}
+use Rattle.desk_ops.specs.declared.op.Stamp.{Stamp}
+use Rattle.desk_ops.specs.declared.op.Symbol.{Symbol}
+use Rattle.desk_script.specs.declared.text.Refusal.{Refusal}
+use Rattle.desk_script.specs.declared.text.Response.{Response}
+use Rattle.desk_script.specs.declared.text.Response.TheVariants as responses
+
+pub data Reply : Type 0 where
+  Done : Reply
+  Made : Stamp → Reply
+  MadeMany : Stamp → Stamp → Reply
+  Counted : ℕ → ℕ → Reply
+  Copy : List Symbol → Reply
+  Feed : List ℕ → Reply
+  Refused : Refusal → Reply
+  Stopped : ℕ → Refusal → Reply
+
+abbrev pub reply : {A : Type 0} → Response A → Reply
+reply responses.Done = Done
+reply (responses.Made stamp) = Made stamp
+reply (responses.MadeMany first last) = MadeMany first last
+reply (responses.Counted new known) = Counted new known
+reply (responses.Copy copy) = Copy copy.items
+reply (responses.Feed feed) = Feed feed.items
+reply (responses.Refused why) = Refused why
+reply (responses.Stopped taken why) = Stopped taken why

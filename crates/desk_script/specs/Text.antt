@@ -1,0 +1,96 @@
+-- What answers say.
+use Rattle.std.specs.Prelude.{ℕ, ◌+◌, ◌/◌, ◌%◌, nat_lt, Bool, true, false, ◌==◌, List, [], ◌∷◌, ◌++◌, Option, Some, None, codes, if◌then◌else◌}
+use Rattle.std.specs.Fmt.{decimal}
+use Rattle.std.specs.Str.{encode_utf8_all}
+use Rattle.desk_ops.specs.declared.op.Stamp.{Stamp}
+use Rattle.desk_ops.specs.declared.op.Style.{Style}
+use Rattle.desk_ops.specs.declared.op.Style.TheVariants.{Roman, Italic, SmallCap}
+use Rattle.desk_ops.specs.declared.op.Symbol.{Symbol}
+use Rattle.desk_script.specs.Reply.{Reply, Done, Made, MadeMany, Counted, Copy, Feed, Refused, Stopped}
+use Rattle.desk_script.specs.declared.text.Refusal.{Refusal}
+use Rattle.desk_script.specs.declared.text.Refusal.TheVariants as refusals
+
+-- `counter.site`
+abbrev pub stamp_text : Stamp → List ℕ
+stamp_text s = decimal s.counter ++ codes "." ++ decimal s.site
+
+-- the letter of a style, and a quote
+abbrev pub opening : Style → List ℕ
+opening Roman = codes "r\""
+opening Italic = codes "i\""
+opening SmallCap = codes "s\""
+
+abbrev pub same_style : Style → Style → Bool
+same_style Roman Roman = true
+same_style Italic Italic = true
+same_style SmallCap SmallCap = true
+same_style Roman Italic = false
+same_style Roman SmallCap = false
+same_style Italic Roman = false
+same_style Italic SmallCap = false
+same_style SmallCap Roman = false
+same_style SmallCap Italic = false
+
+-- a character inside quotes: three are always escaped
+abbrev pub quoted : ℕ → List ℕ
+quoted c = if c == 10 then codes "\\n" else (if c == 92 then codes "\\\\" else (if c == 34 then codes "\\\"" else c ∷ []))
+
+-- from a run that is open, or from none, to the next symbol's
+abbrev pub turn : Option Style → Style → List ℕ
+turn None style = opening style
+turn (Some run) style = if same_style run style then [] else codes "\" " ++ opening style
+
+-- the end of what is open
+abbrev pub close : Option Style → List ℕ
+close None = []
+close (Some run) = codes "\""
+
+-- the characters of the runs, where a run may be open: a run ends only where the style changes
+abbrev pub copy_chars_from : Option Style → List Symbol → List ℕ
+copy_chars_from run [] = close run
+copy_chars_from run (s ∷ symbols) = turn run s.style ++ (quoted s.ch ++ copy_chars_from (Some s.style) symbols)
+
+abbrev pub copy_text : List Symbol → List ℕ
+copy_text symbols = encode_utf8_all (copy_chars_from None symbols)
+
+abbrev pub refusal_text : Refusal → List ℕ
+refusal_text refusals.Line = codes "line"
+refusal_text refusals.Command = codes "command"
+refusal_text refusals.Number = codes "number"
+refusal_text refusals.Known = codes "known"
+refusal_text refusals.Sites = codes "sites"
+refusal_text refusals.Site = codes "site"
+refusal_text refusals.Place = codes "place"
+refusal_text refusals.Value = codes "value"
+refusal_text refusals.Full = codes "full"
+refusal_text refusals.Clock = codes "clock"
+
+-- a copy behind a space, where there is one
+abbrev pub shown_text : List Symbol → List ℕ
+shown_text [] = []
+shown_text (s ∷ symbols) = codes " " ++ copy_text (s ∷ symbols)
+
+-- a number below 16 in lower case
+abbrev pub hex_digit : ℕ → ℕ
+hex_digit n = if nat_lt n 10 then 48 + n else 87 + n
+
+-- two digits for each byte
+abbrev pub hex_text : List ℕ → List ℕ
+hex_text [] = []
+hex_text (b ∷ bytes) = hex_digit (b / 16) ∷ hex_digit (b % 16) ∷ hex_text bytes
+
+-- an answer without its end of line
+abbrev pub text : Reply → List ℕ
+text Done = codes "ok"
+text (Made stamp) = codes "ok " ++ stamp_text stamp
+text (MadeMany first last) = codes "ok " ++ stamp_text first ++ codes ".." ++ stamp_text last
+text (Counted new known) = codes "ok new " ++ decimal new ++ codes " known " ++ decimal known
+text (Copy copy) = codes "copy" ++ shown_text copy
+text (Feed feed) = codes "feed " ++ hex_text feed
+text (Refused why) = codes "refused " ++ refusal_text why
+text (Stopped taken why) = codes "stopped " ++ decimal taken ++ codes " " ++ refusal_text why
+
+-- the lines of a list of answers
+abbrev pub output : List Reply → List ℕ
+output [] = []
+output (r ∷ replies) = text r ++ (10 ∷ output replies)

@@ -1,0 +1,59 @@
+-- What each event does to a world.
+use Rattle.std.specs.Prelude.{◌≡◌, ℕ, ◌==◌, nat_le, is_some, List, Option, Some, None, Result, Ok, Err, MatchOption, MatchResult, MatchBool, All, ⊤, if◌then◌else◌}
+use Rattle.std.specs.FinMap as fin
+use Rattle.desk_ops.specs.declared.op.Op.{Op}
+use Rattle.desk_ops.specs.Op.{IsLawful}
+use Rattle.desk_ops.specs.OpSet.{OpSet, no_ops, with_all}
+use Rattle.desk_replica.specs.declared.Count.{Count}
+use Rattle.desk_replica.specs.declared.Stopped.{Stopped}
+use Rattle.desk_replica.specs.State.{IsCounted, IsStopped}
+use Rattle.desk_script.specs.declared.world.Answer.{Answer}
+use Rattle.desk_script.specs.declared.world.Answer.TheVariants as answers
+use Rattle.desk_script.specs.declared.world.StepRefusal.{StepRefusal}
+use Rattle.desk_script.specs.declared.world.StepRefusal.TheVariants as refusals
+use Rattle.desk_script.specs.declared.world.Event.{Event}
+use Rattle.desk_script.specs.declared.world.Event.TheVariants as events
+use Rattle.desk_script.specs.Sites.{Sites, all_held}
+
+-- events, without where they lie in memory
+pub data Change : Type 0 where
+  Site : ℕ → Change
+  Give : ℕ → List Op → Change
+
+abbrev pub change : Event → Change
+change (events.Site n) = Site n
+change (events.Give to ops) = Give to ops.now
+
+-- what is given is lawful
+abbrev pub IsSound : Change → Type 0
+IsSound (Site n) = ⊤
+IsSound (Give to ops) = All IsLawful ops
+
+-- why no site with the number can be added
+abbrev pub site_refusal : Sites → ℕ → Option StepRefusal
+site_refusal sites n =
+    if n == 0 then Some refusals.Number
+    else (if fin.contains_key sites n then Some refusals.KnownSite
+    else (if nat_le 16 (fin.len sites) then Some refusals.TooManySites else None))
+
+-- nothing has changed
+abbrev pub Refuses : Sites → StepRefusal → Result Answer StepRefusal → Sites → Type 0
+Refuses old why result new = (result ≡ Err why) × (new ≡ old)
+
+-- a site with no operations is added
+abbrev pub Adds : Sites → ℕ → Result Answer StepRefusal → Sites → Type 0
+Adds old n result new = MatchResult result
+    (λ a. (a ≡ answers.Done) × (new ≡ fin.insert old n no_ops))
+    (λ e. (e ≡ refusals.NoMemory) × (new ≡ old))
+
+-- a set gains the operations, or those up to one that is refused
+abbrev pub Gains : OpSet → List Op → Result Answer StepRefusal → OpSet → Type 0
+Gains set ops result after = MatchResult result
+    (λ a. (count : Count) × (a ≡ answers.Taken count) × (after ≡ with_all set ops) × IsCounted set after ops count)
+    (λ e. (stop : Stopped) × (e ≡ refusals.Halted stop) × IsStopped set after ops stop)
+
+-- what an event answers, and the sites after it: no other than the named one changes
+abbrev pub Steps : Sites → Change → Result Answer StepRefusal → Sites → Type 0
+Steps old (Site n) result new = MatchOption (site_refusal old n) (Adds old n result new) (λ why. Refuses old why result new)
+Steps old (Give to ops) result new = MatchOption (fin.get old to) (Refuses old refusals.NoSite result new)
+    (λ set. MatchBool (all_held old ops) ((after : OpSet) × Gains set ops result after × (new ≡ fin.insert old to after)) (Refuses old refusals.Strange result new))

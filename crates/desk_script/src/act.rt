@@ -1,0 +1,158 @@
+//! What each command does.
+
+ghost use Rattle.std.specs.Prelude.{◌≡◌, IfOk, MatchResult, Some, None, option_map};
+ghost use Rattle.desk_script.specs.Lines.{line_of};
+ghost use Rattle.desk_script.specs.Reply.{reply};
+ghost use Rattle.desk_script.specs.Reply as replies;
+ghost use Rattle.desk_script.specs.Request as requests;
+ghost use Rattle.desk_script.specs.Request.{request};
+ghost use Rattle.desk_script.specs.Effect.{Allows, Does, Says, told, edit_refused, stopped_after, set_of};
+
+use crate::command::{Command, ParseError};
+use crate::reader::parse;
+use crate::text::{Refusal, Response};
+use crate::world::{Answer, Event, StepRefusal, World};
+use desk_held::AddRefusal;
+use desk_ops::NoMemory;
+use desk_replica::{Replica, Stopped};
+use std::alloc::Allocator;
+
+/// A longer line is no command.
+pub const MAX_LINE: usize = 65_536;
+
+fn edit_refused<A: Allocator + Copy>(why: desk_replica::Refusal) -> Result<Response<A>, NoMemory>
+    ensures { MatchResult result (λ a. edit_refused why ≡ Some (reply a)) (λ _. edit_refused why ≡ None) }
+{
+    match why {
+        desk_replica::Refusal::Full => Ok(Response::Refused(Refusal::Full)),
+        desk_replica::Refusal::ClockFull => Ok(Response::Refused(Refusal::Clock)),
+        desk_replica::Refusal::Place => Ok(Response::Refused(Refusal::Place)),
+        desk_replica::Refusal::Value => Ok(Response::Refused(Refusal::Value)),
+        desk_replica::Refusal::NoMemory => Err(NoMemory),
+    }
+}
+
+fn stopped<A: Allocator + Copy>(stop: Stopped) -> Result<Response<A>, NoMemory>
+    ensures { MatchResult result (λ a. stopped_after stop.taken stop.why ≡ Some (reply a)) (λ _. stopped_after stop.taken stop.why ≡ None) }
+{
+    match stop.why {
+        AddRefusal::NoMemory => Err(NoMemory),
+        AddRefusal::Full if stop.taken == 0 => Ok(Response::Refused(Refusal::Full)),
+        AddRefusal::Full => Ok(Response::Stopped(stop.taken, Refusal::Full)),
+    }
+}
+
+/// What is answered where an event has given this result.
+fn told<A: Allocator + Copy>(given: Result<Answer, StepRefusal>) -> Result<Response<A>, NoMemory>
+    ensures { MatchResult result (λ a. told given ≡ Some (reply a)) (λ _. told given ≡ None) }
+{
+    match given {
+        Ok(Answer::Made(op)) => Ok(Response::Made(op.stamp())),
+        Ok(Answer::Taken(count)) => Ok(Response::Counted {
+            new: count.new,
+            known: count.known,
+        }),
+        Ok(Answer::Done) => Ok(Response::Done),
+        Err(StepRefusal::Number) => Ok(Response::Refused(Refusal::Number)),
+        Err(StepRefusal::KnownSite) => Ok(Response::Refused(Refusal::Known)),
+        Err(StepRefusal::TooManySites) => Ok(Response::Refused(Refusal::Sites)),
+        Err(StepRefusal::NoSite | StepRefusal::Strange) => Ok(Response::Refused(Refusal::Site)),
+        Err(StepRefusal::Edit(why)) => edit_refused(why),
+        Err(StepRefusal::Halted(stop)) => stopped(stop),
+        Err(StepRefusal::NoMemory) => Err(NoMemory),
+    }
+}
+
+/// The replica of the site that a command names.
+fn replica_of<A: Allocator + Copy>(world: &World<A>, site: u32) -> Option<&Replica<A>>
+    ensures { option_map (λ r. r.now.ops) result ≡ set_of world.now site }
+{
+    let Ok(number) = u16::try_from(site) else {
+        return None;
+    };
+    world.replica(number)
+}
+
+fn add_site<A: Allocator + Copy>(world: &mut World<A>, site: u32) -> Result<Response<A>, NoMemory>
+    ensures { IfOk result (λ a. Does world.old (requests.Site site) (reply a) world.new) }
+{
+    let Ok(number) = u16::try_from(site) else {
+        return Ok(Response::Refused(Refusal::Number));
+    };
+    let given = world.step(&Event::Site(number));
+    told(given)
+}
+
+fn send<A: Allocator + Copy>(
+    world: &mut World<A>,
+    from: u32,
+    to: u32,
+) -> Result<Response<A>, NoMemory>
+    ensures { IfOk result (λ a. Does world.old (requests.Send from to None) (reply a) world.new) }
+{
+    let Some(replica) = replica_of(world, from) else {
+        return Ok(Response::Refused(Refusal::Site));
+    };
+    let ops = replica.in_order()?;
+    let Ok(to) = u16::try_from(to) else {
+        return Ok(Response::Refused(Refusal::Site));
+    };
+    let given = world.step(&Event::Give { to, ops: &ops });
+    told(given)
+}
+
+fn show<A: Allocator + Copy>(world: &World<A>, site: u32) -> Result<Response<A>, NoMemory>
+    ensures { IfOk result (λ a. Does world.now (requests.Show site) (reply a) world.now) }
+{
+    let Some(replica) = replica_of(world, site) else {
+        return Ok(Response::Refused(Refusal::Site));
+    };
+    Ok(Response::Copy(replica.copy()?))
+}
+
+fn feed<A: Allocator + Copy>(world: &World<A>, site: u32) -> Result<Response<A>, NoMemory>
+    ensures { IfOk result (λ a. Does world.now (requests.Feed site) (reply a) world.now) }
+{
+    let Some(replica) = replica_of(world, site) else {
+        return Ok(Response::Refused(Refusal::Site));
+    };
+    Ok(Response::Feed(replica.write_feed()?))
+}
+
+/// Does what a command says.
+fn act<A: Allocator + Copy>(
+    world: &mut World<A>,
+    command: Command<'_, A>,
+) -> Result<Response<A>, NoMemory>
+    ensures { IfOk result (λ a. Does world.old (request command.entry) (reply a) world.new) }
+{
+    match command {
+        Command::Site(site) => add_site(world, site),
+        Command::Send {
+            from,
+            to,
+            range: None,
+        } => send(world, from, to),
+        Command::Show(site) => show(world, site),
+        Command::Feed(site) => feed(world, site),
+        _ => Ok(Response::Refused(Refusal::Command)),
+    }
+}
+
+/// Does what a line says.
+pub fn answer<A: Allocator + Copy>(
+    alloc: A,
+    world: &mut World<A>,
+    line: &[u8],
+) -> Result<Response<A>, NoMemory>
+    ensures { IfOk result (λ a. Allows world.old (line_of line.now) (reply a) world.new) }
+{
+    if line.len() > MAX_LINE {
+        return Ok(Response::Refused(Refusal::Line));
+    }
+    match parse(alloc, line) {
+        Ok(command) => act(world, command),
+        Err(ParseError::Form) => Ok(Response::Refused(Refusal::Command)),
+        Err(ParseError::NoMemory) => Err(NoMemory),
+    }
+}

@@ -1,0 +1,75 @@
+//! Files by name.
+
+ghost use Rattle.std.specs.Prelude.{◌≢◌, ℕ, IfErr, IsErrOf, ◌≡◌};
+ghost use Rattle.desk_script.specs.Files.{HasFailed};
+
+use std::alloc::Allocator;
+use thiserror::Error;
+
+/// Why a file was not read, written or renamed.
+#[derive(Clone, Copy, Debug, PartialEq, Eq, Error)]
+pub enum FileRefusal {
+    /// The file, or the folder that it would stand in, is not there.
+    #[error("missing")]
+    Missing,
+    /// The device failed.
+    #[error("device")]
+    Device,
+    /// The file has more than 67,108,864 bytes.
+    #[error("large")]
+    Large,
+    #[error("no memory")]
+    NoMemory,
+}
+
+/// Where files are kept.
+pub trait Files {
+    /// How often the device has failed.
+    ghost count: { Self → ℕ };
+
+    /// How often the device has failed. It stays at its greatest value.
+    fn failures(&self) -> u64
+        ensures { result ≡ count self.now };
+
+    /// A file's bytes. `Device` comes only where the device failed in this call, by the count while it can rise.
+    fn read<A: Allocator + Copy>(&mut self, alloc: A, name: &str) -> Result<Vec<u8, A>, FileRefusal>
+        ensures { IsErrOf result FileRefusal.Device → HasFailed (count self.old) (count self.new) };
+
+    /// Writes a file anew. `Device` comes as from `read`, and `Large` never.
+    fn write_new(&mut self, name: &str, bytes: &[u8]) -> Result<(), FileRefusal>
+        ensures device { IsErrOf result FileRefusal.Device → HasFailed (count self.old) (count self.new) }
+        ensures small { IfErr result (λ e. e ≢ FileRefusal.Large) };
+
+    /// Gives a file another name, in place of a file that had it. `Device` comes as from `read`, and `Large` never.
+    fn rename(&mut self, from: &str, to: &str) -> Result<(), FileRefusal>
+        ensures device { IsErrOf result FileRefusal.Device → HasFailed (count self.old) (count self.new) }
+        ensures small { IfErr result (λ e. e ≢ FileRefusal.Large) };
+}
+
+/// Files of which none is there.
+#[derive(Drop)]
+pub struct NoFiles;
+
+impl Files for NoFiles {
+    ghost count = { λ _. 0 };
+
+    fn failures(&self) -> u64 {
+        0
+    }
+
+    fn read<A: Allocator + Copy>(
+        &mut self,
+        _alloc: A,
+        _name: &str,
+    ) -> Result<Vec<u8, A>, FileRefusal> {
+        Err(FileRefusal::Missing)
+    }
+
+    fn write_new(&mut self, _name: &str, _bytes: &[u8]) -> Result<(), FileRefusal> {
+        Err(FileRefusal::Missing)
+    }
+
+    fn rename(&mut self, _from: &str, _to: &str) -> Result<(), FileRefusal> {
+        Err(FileRefusal::Missing)
+    }
+}

@@ -1,0 +1,24 @@
+//! Scripts: lines of commands on a world of sites, and the answers to them.
+#![tactic(auto)]
+
+mod act;
+mod command;
+mod copy;
+mod fault;
+mod files;
+mod laws;
+mod number;
+mod reader;
+mod stream;
+mod text;
+pub mod trial;
+mod world;
+
+pub use command::{Command, ParseError};
+pub use fault::RunFault;
+pub use files::{FileRefusal, Files, NoFiles};
+pub use laws::law_of_copy;
+pub use reader::parse;
+pub use stream::{MAX_READS, run};
+pub use text::{Refusal, Response, put};
+pub use world::{Answer, Event, MAX_SITES, StepRefusal, World};

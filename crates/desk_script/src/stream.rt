@@ -1,0 +1,197 @@
+//! Scripts, read and answered line by line.
+
+ghost use Rattle.std.specs.Prelude.{◌≡◌, ◌≢◌, ℕ, ◌≤◌, ◌++◌, ◌∷◌, [], List, OnOk, OnErr, IfOk, IfSome, length, string_bytes};
+ghost use Rattle.std.specs.Io.KnownBytes.{Appends};
+ghost use Rattle.desk_script.specs.Lines.{Line, line_of, without_cr};
+ghost use Rattle.desk_script.specs.Reply.{Reply, reply};
+ghost use Rattle.desk_script.specs.Text.{text};
+ghost use Rattle.desk_script.specs.Effect.{Allows};
+ghost use Rattle.desk_script.specs.Script.{Turn, Fronts, WritesFront, Answers, AnswersFront};
+ghost use Rattle.desk_script.specs.Pending.{Moves, lines_from, last_line};
+
+use crate::act::answer;
+use crate::fault::RunFault;
+use crate::files::Files;
+use crate::text::{Response, put};
+use crate::world::World;
+use desk_ops::NoMemory;
+use std::alloc::Allocator;
+use std::io::{Read, Write};
+
+/// The most calls of `read` in a run.
+pub const MAX_READS: u32 = 268_435_456;
+
+/// No more of a line is kept: with more bytes than these it is too long, however it ends.
+const PENDING_LIMIT: usize = 65_538;
+
+/// Writes the bytes. A write of no bytes is a failure.
+fn send<W: Write>(writer: &mut W, bytes: &[u8]) -> Result<(), RunFault>
+    ensures ok { OnOk result (Appends (W.contents writer.old) (W.contents writer.new) bytes.now) }
+    ensures err { OnErr result (WritesFront (W.contents writer.old) (W.contents writer.new) bytes.now) }
+{
+    let mut sent = 0;
+    while sent < bytes.len() {
+        match writer.write(&bytes[sent..]) {
+            Ok(0) => return Err(RunFault::Write),
+            Ok(n) => sent += n,
+            Err(_) => return Err(RunFault::Write),
+        }
+    }
+    Ok(())
+}
+
+/// An answer's line.
+fn spelled<A: Allocator + Copy>(alloc: A, answer: &Response<A>) -> Result<String<A>, NoMemory>
+    ensures { IfOk result (λ s. string_bytes s ≡ text (reply answer.now) ++ 10 ∷ []) }
+{
+    let mut out = String::new(alloc);
+    put(&mut out, answer)?;
+    out.push_str("\n")?;
+    Ok(out)
+}
+
+/// The line of a line's answer.
+fn answered<A: Allocator + Copy>(
+    alloc: A,
+    world: &mut World<A>,
+    line: &[u8],
+) -> Result<String<A>, NoMemory>
+    ensures { IfOk result (λ s. (r : Reply) × Allows world.old (line_of line.now) r world.new × (string_bytes s ≡ text r ++ 10 ∷ [])) }
+{
+    let reply = answer(alloc, world, line)?;
+    spelled(alloc, &reply)
+}
+
+/// Answers a line.
+fn take_line<W: Write, A: Allocator + Copy>(
+    alloc: A,
+    world: &mut World<A>,
+    writer: &mut W,
+    line: &[u8],
+) -> Result<(), RunFault>
+    ensures ok { OnOk result (Turn world.old world.new (W.contents writer.old) (W.contents writer.new) (line_of line.now ∷ [])) }
+    ensures err { OnErr result ((more : List Line) → Fronts world.old (W.contents writer.old) (W.contents writer.new) (line_of line.now ∷ more)) }
+{
+    let Ok(text) = answered(alloc, world, line) else {
+        return Err(RunFault::NoMemory);
+    };
+    send(writer, text.as_bytes())
+}
+
+/// The line without a carriage return at its end.
+fn without_cr(line: &[u8]) -> &[u8]
+    ensures { result.now ≡ without_cr line.now }
+{
+    if let Some((last, front)) = line.split_last() {
+        if *last == b'\r' {
+            return front;
+        }
+    }
+    line
+}
+
+/// Keeps a byte of a line, where it can matter.
+fn keep<A: Allocator + Copy>(line: &mut Vec<u8, A>, byte: u8) -> Result<(), RunFault>
+    requires within { length line.old.items ≤ PENDING_LIMIT }
+    requires inside { byte ≢ 10 }
+    ensures kept { length line.new.items ≤ PENDING_LIMIT }
+    ensures ok { OnOk result ((more : List ℕ) → lines_from line.old.items (byte ∷ more) ≡ lines_from line.new.items more) }
+{
+    if line.len() == PENDING_LIMIT {
+        return Ok(());
+    }
+    if line.push(byte).is_err() {
+        return Err(RunFault::NoMemory);
+    }
+    Ok(())
+}
+
+/// Takes the next byte, and answers the line that it ends.
+fn take_byte<W: Write, A: Allocator + Copy>(
+    alloc: A,
+    world: &mut World<A>,
+    writer: &mut W,
+    line: &mut Vec<u8, A>,
+    byte: u8,
+) -> Result<(), RunFault>
+    requires { length line.old.items ≤ PENDING_LIMIT }
+    ensures kept { length line.new.items ≤ PENDING_LIMIT }
+    ensures ok { OnOk result (Moves world.old world.new (W.contents writer.old) (W.contents writer.new) line.old.items (byte ∷ []) line.new.items) }
+    ensures err { OnErr result ((more : List ℕ) → Fronts world.old (W.contents writer.old) (W.contents writer.new) (lines_from line.old.items (byte ∷ more))) }
+{
+    if byte != b'\n' {
+        return keep(line, byte);
+    }
+    if let Err(fault) = take_line(alloc, world, writer, without_cr(line)) {
+        return Err(fault);
+    }
+    line.clear();
+    Ok(())
+}
+
+/// Takes the next bytes, and answers each line that is whole now.
+fn take_bytes<W: Write, A: Allocator + Copy>(
+    alloc: A,
+    world: &mut World<A>,
+    writer: &mut W,
+    line: &mut Vec<u8, A>,
+    bytes: &[u8],
+) -> Result<(), RunFault>
+    requires { length line.old.items ≤ PENDING_LIMIT }
+    ensures kept { length line.new.items ≤ PENDING_LIMIT }
+    ensures ok { OnOk result (Moves world.old world.new (W.contents writer.old) (W.contents writer.new) line.old.items bytes.now line.new.items) }
+    ensures err { OnErr result ((more : List ℕ) → Fronts world.old (W.contents writer.old) (W.contents writer.new) (lines_from line.old.items (bytes.now ++ more))) }
+{
+    for b in bytes {
+        if let Err(fault) = take_byte(alloc, world, writer, line, *b) {
+            return Err(fault);
+        }
+    }
+    Ok(())
+}
+
+/// Answers a last line that has no end.
+fn finish<W: Write, A: Allocator + Copy>(
+    alloc: A,
+    world: &mut World<A>,
+    writer: &mut W,
+    line: &[u8],
+) -> Result<(), RunFault>
+    ensures ok { OnOk result (Turn world.old world.new (W.contents writer.old) (W.contents writer.new) (last_line line.now)) }
+    ensures err { OnErr result (Fronts world.old (W.contents writer.old) (W.contents writer.new) (last_line line.now)) }
+{
+    if line.is_empty() {
+        return Ok(());
+    }
+    take_line(alloc, world, writer, line)
+}
+
+/// Reads commands to their end, on a world that has no site yet, and writes the line of each one's answer. After an
+/// `Err` what was written is the front of such lines.
+pub fn run<R: Read, W: Write, F: Files, A: Allocator + Copy>(
+    alloc: A,
+    reader: &mut R,
+    writer: &mut W,
+    _files: &mut F,
+) -> Result<(), RunFault>
+    ensures ok { OnOk result (IfSome (R.remaining reader.old) (λ input. Answers input (W.contents writer.old) (W.contents writer.new))) }
+    ensures err { OnErr result (IfSome (R.remaining reader.old) (λ input. AnswersFront input (W.contents writer.old) (W.contents writer.new))) }
+{
+    let mut world = World::new(alloc);
+    let mut line = Vec::new(alloc);
+    let mut chunk = [0u8; 512];
+    'reads: for _ in 0..MAX_READS {
+        match reader.read(&mut chunk) {
+            Err(_) => return Err(RunFault::Read),
+            Ok(0) => {
+                return finish(alloc, &mut world, writer, &line);
+            }
+            Ok(n) => {
+                if let Err(fault) = take_bytes(alloc, &mut world, writer, &mut line, &chunk[..n]) {
+                    return Err(fault);
+                }
+            }
+        }
+    }
+    Err(RunFault::TooLong)
+}

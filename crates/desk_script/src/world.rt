@@ -1,0 +1,201 @@
+//! A world of sites, and the events that change it.
+
+ghost use Rattle.std.specs.Prelude.{◌≡◌, All, Err, IfSome, MatchOption, None, option_map, map, nat_eq};
+ghost use Rattle.std.specs.FinMap as fin;
+ghost use Rattle.std.specs.List.{list_any};
+ghost use Rattle.std.specs.Map.{lookup};
+ghost use Rattle.desk_ops.specs.Op.{IsLawful};
+ghost use Rattle.desk_ops.specs.OpSet.{has_op};
+ghost use Rattle.desk_replica.specs.State.{State};
+ghost use Rattle.desk_script.specs.Sites.{no_sites, is_held, all_held, sites_of, IsUpdated};
+ghost use Rattle.desk_script.specs.World.{Steps, change, IsSound, Gains};
+ghost use Rattle.desk_script.specs.World as world;
+
+use desk_ops::Op;
+use desk_replica::{Count, Replica, Stopped};
+use indexmap::IndexMap;
+use std::alloc::Allocator;
+use std::hash::{BuildHasherDefault, FoldHasher};
+use std::marker::Model;
+use thiserror::Error;
+
+/// A world has no more sites.
+pub const MAX_SITES: usize = 16;
+
+/// What happens in a world.
+#[derive(Clone, Copy)]
+pub enum Event<'a> {
+    /// A site is added. It holds nothing.
+    Site(u16),
+    /// A site is given operations that some site holds.
+    Give { to: u16, ops: &'a [Op] },
+}
+
+/// What an event has done.
+#[derive(Clone, Copy, Debug, PartialEq, Eq)]
+pub enum Answer {
+    /// The operation was made.
+    Made(Op),
+    /// So many of the operations were new to the site, and so many known.
+    Taken(Count),
+    Done,
+}
+
+/// Why an event was refused: the first cause that holds. Nothing has changed then, but for `Halted`.
+#[derive(Clone, Copy, Debug, PartialEq, Eq, Error)]
+pub enum StepRefusal {
+    #[error("no site has the number 0")]
+    Number,
+    #[error("the site is there already")]
+    KnownSite,
+    #[error("as many sites are there as may be")]
+    TooManySites,
+    #[error("there is no such site")]
+    NoSite,
+    #[error("no site holds an operation that was given")]
+    Strange,
+    #[error("the edit was refused: {0}")]
+    Edit(desk_replica::Refusal),
+    /// The first `taken` operations were taken.
+    #[error("{0}")]
+    Halted(Stopped),
+    #[error("no memory")]
+    NoMemory,
+}
+
+type SiteMap<A> = IndexMap<u16, Replica<A>, BuildHasherDefault<FoldHasher>, A>;
+
+/// Sites by their numbers, each with a replica.
+#[derive(Drop)]
+pub struct World<A: Allocator + Copy> {
+    alloc: A,
+    sites: SiteMap<A>,
+}
+
+impl<A: Allocator + Copy> Model for World<A> {
+    ghost use Rattle.desk_script.specs.Sites.{Sites, sites_code, sites_of, IsKept};
+
+    ghost Value = { Sites };
+
+    ghost coded = { sites_code };
+
+    ghost view = { λ w. sites_of w.sites.entries };
+
+    ghost invariant = { λ w. IsKept w.sites.entries };
+}
+
+/// Gives a replica operations.
+fn gain<A: Allocator + Copy>(replica: &mut Replica<A>, ops: &[Op]) -> Result<Answer, StepRefusal>
+    requires { All IsLawful ops.now }
+    ensures site { replica.new.site ≡ replica.old.site }
+    ensures ops { Gains replica.old.ops ops.now result replica.new.ops }
+{
+    match replica.take_all(ops) {
+        Ok(count) => Ok(Answer::Taken(count)),
+        Err(stop) => Err(StepRefusal::Halted(stop)),
+    }
+}
+
+/// Gives a site operations. The others stay.
+fn gain_at<A: Allocator + Copy>(
+    sites: &mut SiteMap<A>,
+    to: u16,
+    ops: &[Op],
+) -> Result<Answer, StepRefusal>
+    requires { All IsLawful ops.now }
+    ensures { MatchOption (lookup (nat_eq to) sites.old.entries) ((result ≡ Err StepRefusal.NoSite) × (sites.new.entries ≡ sites.old.entries))
+        (λ s. (t : State) × IsUpdated sites.old.entries sites.new.entries to s t × Gains s.ops ops.now result t.ops) }
+{
+    let Some(replica) = sites.get_mut(&to) else {
+        return Err(StepRefusal::NoSite);
+    };
+    gain(replica, ops)
+}
+
+/// Whether some site holds the operation.
+fn any_holds<A: Allocator + Copy>(sites: &SiteMap<A>, op: &Op) -> bool
+    ensures { result ≡ list_any (λ s. has_op s.ops op.now) (map (λ e. e.1) sites.now.entries) }
+{
+    sites.values().any(|replica| replica.has(op))
+}
+
+impl<A: Allocator + Copy> World<A> {
+    /// A world with no site.
+    pub fn new(alloc: A) -> World<A>
+        ensures { result ≡ no_sites }
+    {
+        World {
+            alloc,
+            sites: IndexMap::new(alloc),
+        }
+    }
+
+    /// The replica of a site, if it is there.
+    pub fn replica(&self, site: u16) -> Option<&Replica<A>>
+        ensures ops { option_map (λ r. r.now.ops) result ≡ fin.get self.now site }
+        ensures number { IfSome result (λ r. r.now.site ≡ site) }
+    {
+        self.sites.get(&site)
+    }
+
+    /// Whether some site holds the operation.
+    fn is_held(&self, op: &Op) -> bool
+        ensures { result ≡ is_held self.now op.now }
+    {
+        any_holds(&self.sites, op)
+    }
+
+    /// Whether some site holds each of the operations.
+    fn all_held(&self, ops: &[Op]) -> bool
+        ensures { result ≡ all_held self.now ops.now }
+    {
+        for op in ops {
+            if !self.is_held(op) {
+                return false;
+            }
+        }
+        true
+    }
+
+    fn add_site(&mut self, site: u16) -> Result<Answer, StepRefusal>
+        ensures { Steps self.old (world.Site site) result self.new }
+    {
+        if site == 0 {
+            return Err(StepRefusal::Number);
+        }
+        if self.sites.contains_key(&site) {
+            return Err(StepRefusal::KnownSite);
+        }
+        if self.sites.len() >= MAX_SITES {
+            return Err(StepRefusal::TooManySites);
+        }
+        match self.sites.insert(site, Replica::new(self.alloc, site)) {
+            Ok(_) => Ok(Answer::Done),
+            Err(_) => Err(StepRefusal::NoMemory),
+        }
+    }
+
+    fn give(&mut self, to: u16, ops: &[Op]) -> Result<Answer, StepRefusal>
+        requires { All IsLawful ops.now }
+        ensures { Steps self.old (world.Give to ops.now) result self.new }
+    {
+        if !self.sites.contains_key(&to) {
+            return Err(StepRefusal::NoSite);
+        }
+        if !self.all_held(ops) {
+            return Err(StepRefusal::Strange);
+        }
+        gain_at(&mut self.sites, to, ops)
+    }
+
+    /// Lets an event happen. It changes the named site alone, and `Give` asks for lawful operations.
+    pub fn step(&mut self, event: &Event<'_>) -> Result<Answer, StepRefusal>
+        requires { IsSound (change event.now) }
+        ensures { Steps self.old (change event.now) result self.new }
+    {
+        match *event {
+            Event::Site(site) => self.add_site(site),
+            Event::Give { to, ops } => self.give(to, ops),
+        }
+    }
+}
