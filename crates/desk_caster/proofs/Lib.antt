@@ -1,0 +1,4 @@
+mod CastLaw
+mod Ribbons
+mod Running
+mod Totals

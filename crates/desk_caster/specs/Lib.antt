@@ -1,0 +1,5 @@
+pub mod Caster
+pub mod Bounds
+pub mod Lines
+pub mod Reading
+pub mod ReadingLaws

@@ -1,0 +1,71 @@
+-- Bytes that are a ribbon, and the first fault of those that are none.
+use Rattle.std.specs.Prelude.{◌≡◌, ℕ, ◌+◌, ◌*◌, ◌<◌, ◌^◌, List, [], ◌∷◌, ◌++◌, length, codes, Option, Some, ◌⊎◌}
+use Rattle.std.specs.List.{AllByRecursion, flat_map}
+use Rattle.std.specs.Int.{w32, to_be_bytes}
+use Rattle.desk_signals.specs.declared.RibbonRow.{RibbonRow}
+use Rattle.desk_signals.specs.Rows.{IsRow}
+use Rattle.desk_image.specs.Images.{image_fault}
+use Rattle.desk_image.specs.declared.BadImage.{BadImage}
+use Rattle.desk_ribbon.specs.Ribbon.{image_bytes, ribbon}
+use Rattle.desk_caster.specs.declared.RibbonFault.{RibbonFault}
+use Rattle.desk_caster.specs.declared.RibbonFault.TheVariants as fault
+
+abbrev pub magic : List ℕ
+magic = codes "MRB1"
+
+-- the images of rows
+pub record AreImages (rows : List RibbonRow) (bytes : List ℕ) : Type 0 where
+  pub images : bytes ≡ flat_map image_bytes rows
+  pub lawful : AllByRecursion IsRow rows
+
+-- the ribbon of rows
+pub record IsRibbon (bytes : List ℕ) (rows : List RibbonRow) : Type 0 where
+  pub is : bytes ≡ ribbon rows
+  pub number : length rows < 2 ^ 32
+  pub lawful : AllByRecursion IsRow rows
+
+-- images of rows stand at the front, so many as the place tells, and then one that has no meaning
+pub record IsBadRow (bytes : List ℕ) (place : ℕ) (why : BadImage) : Type 0 where
+  pub before : List RibbonRow
+  pub rows : AllByRecursion IsRow before
+  pub there : length before ≡ place
+  pub image : ℕ
+  pub fits : image < 2 ^ 32
+  pub rest : List ℕ
+  pub split : bytes ≡ flat_map image_bytes before ++ (to_be_bytes w32 image ++ rest)
+  pub bad : image_fault image ≡ Some why
+
+-- a number of rows, and as many images
+pub record IsCounted (bytes : List ℕ) (number : ℕ) (images : List ℕ) : Type 0 where
+  pub fits : number < 2 ^ 32
+  pub split : bytes ≡ to_be_bytes w32 number ++ images
+  pub whole : length images ≡ 4 * number
+
+-- the magic, a number of rows and as many images stand there, and one of them has no meaning
+pub record HasBadRow (bytes : List ℕ) (place : ℕ) (why : BadImage) : Type 0 where
+  pub body : List ℕ
+  pub begins : bytes ≡ magic ++ body
+  pub number : ℕ
+  pub images : List ℕ
+  pub counted : IsCounted body number images
+  pub bad : IsBadRow images place why
+
+-- the magic stands there, and then no number of rows with as many images
+pub record HasNoCount (bytes : List ℕ) : Type 0 where
+  pub body : List ℕ
+  pub begins : bytes ≡ magic ++ body
+  pub none : (number : ℕ) (images : List ℕ) → IsCounted body number images → ⊥
+
+-- a fault told of images; want of memory may be told of any
+abbrev pub TellsRow : List ℕ → RibbonFault → Type 0
+TellsRow images fault.Magic = ⊥
+TellsRow images fault.Count = ⊥
+TellsRow images (fault.Row place why) = IsBadRow images place why
+TellsRow images fault.NoMemory = Unit {0}
+
+-- a fault told of bytes is their first; want of memory may be told of any
+abbrev pub Tells : List ℕ → RibbonFault → Type 0
+Tells bytes fault.Magic = (body : List ℕ) → bytes ≡ magic ++ body → ⊥
+Tells bytes fault.Count = HasNoCount bytes
+Tells bytes (fault.Row place why) = HasBadRow bytes place why
+Tells bytes fault.NoMemory = Unit {0}

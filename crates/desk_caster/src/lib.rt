@@ -1,0 +1,59 @@
+//! The caster: what a ribbon's bytes mean, and the lines that it casts.
+#![tactic(auto)]
+
+pub mod laws;
+mod line;
+mod machine;
+mod reading;
+#[cfg(test)]
+mod tests;
+
+use desk_image::BadImage;
+use desk_ops::Symbol;
+use desk_signals::Cell;
+use desk_units::Atoms;
+pub use line::CastLine;
+pub use machine::cast;
+pub use reading::read_ribbon;
+use thiserror::Error;
+
+/// A matrix that was cast.
+#[derive(Clone, Copy, PartialEq, Eq, Debug)]
+pub struct CastMatrix {
+    pub cell: Cell,
+    /// Whether it was cast with S, and so by the positions of the justification wedges.
+    pub s: bool,
+    /// What the case has there, if that is a symbol.
+    pub symbol: Option<Symbol>,
+    pub width: Atoms,
+}
+
+/// Why bytes are no ribbon: the first fault that holds, or want of memory.
+#[derive(Clone, Copy, PartialEq, Eq, Debug, Error)]
+pub enum RibbonFault {
+    #[error("no ribbon begins so")]
+    Magic,
+    #[error("the ribbon has not as many rows as it says")]
+    Count,
+    /// The row at this place, from 0, has no meaning.
+    #[error("a row has no meaning")]
+    Row(u32, BadImage),
+    #[error("no memory")]
+    NoMemory,
+}
+
+/// Why rows cast no lines: the first fault that the caster meets, with a row's place in punched order from 0, or want of memory.
+#[derive(Clone, Copy, PartialEq, Eq, Debug, Error)]
+pub enum CastFault {
+    /// The row met needs positions of the wedges that are not there.
+    #[error("the wedges are not set")]
+    NoWedges(u32),
+    /// The case has nothing where the row met points.
+    #[error("the case has no matrix there")]
+    NoMatrix(u32),
+    /// The line that this Coarse row started was not sent out.
+    #[error("a line was not sent out")]
+    NotSentOut(u32),
+    #[error("no memory")]
+    NoMemory,
+}

@@ -1,0 +1,71 @@
+//! Reading a ribbon's bytes.
+
+ghost use Rattle.std.specs.Prelude.{◌≡◌, ◌+◌, ◌*◌, ◌≤◌, ◌<◌, ◌^◌, ◌++◌, length, IfOk, IfErr, List};
+ghost use Rattle.std.specs.Int.{w32, to_be_bytes};
+ghost use Rattle.desk_signals.specs.declared.RibbonRow.{RibbonRow};
+ghost use Rattle.desk_caster.specs.Reading.{AreImages, IsRibbon, TellsRow, Tells};
+
+use crate::RibbonFault;
+use desk_image::Image;
+use desk_signals::RibbonRow;
+use std::alloc::Allocator;
+
+/// The number in the next four bytes, and the bytes after them.
+fn take_number(bytes: &[u8]) -> (u32, &[u8])
+    requires { 4 ≤ length bytes.now }
+    ensures bytes { bytes.now ≡ to_be_bytes w32 result.0 ++ result.1.now }
+    ensures value { result.0 < 2 ^ 32 }
+{
+    let (front, rest) = bytes.split_first_chunk::<4>().unwrap();
+    (u32::from_be_bytes(*front), rest)
+}
+
+/// The rows of so many images, of four bytes each.
+fn rows_of<A: Allocator>(
+    alloc: A,
+    number: u32,
+    images: &[u8],
+) -> Result<Vec<RibbonRow, A>, RibbonFault>
+    requires { length images.now ≡ 4 * number }
+    ensures rows { IfOk result (λ rows. AreImages rows.items images.now × (length rows.items ≡ number)) }
+    ensures fault { IfErr result (λ fault. TellsRow images.now fault) }
+{
+    let mut rows = match Vec::with_capacity(alloc, number as usize) {
+        Ok(rows) => rows,
+        Err(_) => return Err(RibbonFault::NoMemory),
+    };
+    let mut rest = images;
+    for place in 0..number {
+        let (image, after) = take_number(rest);
+        match Image::new(image).to_row() {
+            Ok(row) => {
+                if rows.push(row).is_err() {
+                    return Err(RibbonFault::NoMemory);
+                }
+            }
+            Err(why) => return Err(RibbonFault::Row(place, why)),
+        }
+        rest = after;
+    }
+    Ok(rows)
+}
+
+/// The rows of a ribbon, in punched order, or the first fault of bytes that are none: Magic where other than the first
+/// four bytes stand there, Count where the length is not that of the number of rows, and then the first row whose image
+/// has no meaning. Want of memory may come in place of any.
+pub fn read_ribbon<A: Allocator>(alloc: A, bytes: &[u8]) -> Result<Vec<RibbonRow, A>, RibbonFault>
+    ensures ribbon { IfOk result (λ rows. IsRibbon bytes.now rows.items) }
+    ensures fault { IfErr result (λ fault. Tells bytes.now fault) }
+{
+    let [b'M', b'R', b'B', b'1', body @ ..] = bytes else {
+        return Err(RibbonFault::Magic);
+    };
+    if body.len() < 4 {
+        return Err(RibbonFault::Count);
+    }
+    let (number, images) = take_number(body);
+    if images.len() as u64 != 4 * number as u64 {
+        return Err(RibbonFault::Count);
+    }
+    rows_of(alloc, number, images)
+}
