@@ -22,3 +22,6 @@ pub use reader::parse;
 pub use stream::{MAX_READS, run};
 pub use text::{Refusal, Response, put};
 pub use world::{Answer, Event, MAX_SITES, StepRefusal, World};
+
+#[cfg(test)]
+mod tests;

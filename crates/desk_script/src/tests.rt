@@ -1,0 +1,156 @@
+use crate::trial::{AtEnd, TrialReader, TrialWriter};
+use crate::{NoFiles, RunFault, run};
+use linked_list_allocator::LocalHeap;
+use std::alloc::{Allocator, Global};
+use std::test::Fail;
+
+/// What a script is answered, read in steps of so many bytes.
+fn answers<A: Allocator + Copy>(
+    alloc: A,
+    input: &[u8],
+    step: usize,
+) -> Result<Vec<u8, A>, RunFault> {
+    let mut reader = TrialReader::new(input).in_steps_of(step);
+    let mut written = Vec::new(alloc);
+    match run(alloc, &mut reader, &mut written, &mut NoFiles) {
+        Ok(()) => Ok(written),
+        Err(fault) => Err(fault),
+    }
+}
+
+const FAILURES: &[u8] = b"site 1\nsite 2\n";
+
+#[test]
+fn failing_writer(rt: HostRuntime) -> Result<(), Fail> {
+    for at_end in [AtEnd::Fails, AtEnd::TakesNone] {
+        let mut reader = TrialReader::new(FAILURES);
+        let mut writer = TrialWriter::new(rt.alloc()).with_room(5, at_end);
+        let result = run(rt.alloc(), &mut reader, &mut writer, &mut NoFiles);
+        assert_eq!(rt; result, Err(RunFault::Write));
+        assert_eq!(rt; writer.written(), b"ok\nok".as_slice());
+    }
+    let mut reader = TrialReader::new(FAILURES);
+    let mut writer = TrialWriter::new(rt.alloc()).with_calls(1, AtEnd::Fails);
+    let result = run(rt.alloc(), &mut reader, &mut writer, &mut NoFiles);
+    assert_eq!(rt; result, Err(RunFault::Write));
+    assert_eq!(rt; writer.written(), b"ok\n".as_slice());
+    Ok(())
+}
+
+#[test]
+fn failing_reader(rt: HostRuntime) -> Result<(), Fail> {
+    let mut reader = TrialReader::new(FAILURES).in_steps_of(7).failing_at_call(2);
+    let mut writer = TrialWriter::new(rt.alloc());
+    let result = run(rt.alloc(), &mut reader, &mut writer, &mut NoFiles);
+    assert_eq!(rt; result, Err(RunFault::Read));
+    assert_eq!(rt; writer.written(), b"ok\n".as_slice());
+    Ok(())
+}
+
+/// Scripts, and what they are answered.
+const SCRIPTS: &[(&[u8], &[u8])] = &[
+    // A line ends with a line feed, and one carriage return before it goes; at the end none does.
+    (b"site 1\nsite 2\r\nsite 3", b"ok\nok\nok\n"),
+    (
+        b"site 1\r\r\nsite 2\r",
+        b"refused command\nrefused command\n",
+    ),
+    (
+        b"\n\r\n\r",
+        b"refused command\nrefused command\nrefused command\n",
+    ),
+    (
+        b"\xef\xbb\xbfsite 1\n\xffsite 1\n",
+        b"refused command\nrefused command\n",
+    ),
+    // Words are separated by exactly one space.
+    (
+        b"site  1\n site 1\nsite 1 \nsite\t1\nsite\n",
+        b"refused command\nrefused command\nrefused command\nrefused command\nrefused command\n",
+    ),
+    // A number has 1 to 10 digits.
+    (
+        b"site 0000000001\nsite 00000000001\nsite +1\nsite 4294967296\n",
+        b"ok\nrefused command\nrefused command\nrefused command\n",
+    ),
+    (
+        b"site 0\nsite 65535\nsite 65536\nsite 4294967295\n",
+        b"refused number\nok\nrefused number\nrefused number\n",
+    ),
+    (
+        b"site 1\nsend 1 65537\nsend 65537 1\nsend 0 1\nfeed 65537\nfeed 2\n",
+        b"ok\nrefused site\nrefused site\nrefused site\nrefused site\nrefused site\n",
+    ),
+    // The whole line's form comes before anything else.
+    (
+        b"insert 9 9 i\"\"\ntake 9 4d4\nsend 9 1 0..x\nset 9 Measure 1\n",
+        b"refused command\nrefused command\nrefused command\nrefused command\n",
+    ),
+    (
+        b"site 1\nsend 1 1\nfeed 1\nshow 1\n",
+        b"ok\nok new 0 known 0\nfeed 4d464431\ncopy\n",
+    ),
+];
+
+#[test]
+fn lines_words_and_numbers(rt: HostRuntime) -> Result<(), Fail> {
+    for (input, want) in SCRIPTS {
+        for step in [1usize, 7, 1000] {
+            let got = answers(rt.alloc(), input, step)?;
+            assert_eq!(rt; got.as_slice(), *want, "in steps of {step}");
+        }
+    }
+    Ok(())
+}
+
+#[test]
+fn long_lines(rt: HostRuntime) -> Result<(), Fail> {
+    let ends: [(usize, &[u8], &[u8]); 6] = [
+        (65_536, b"\n", b"refused command\n"),
+        (65_536, b"\r\n", b"refused command\n"),
+        (65_536, b"", b"refused command\n"),
+        (65_537, b"\n", b"refused line\n"),
+        (65_536, b"\r", b"refused line\n"),
+        (200_000, b"\r\nsite 1\n", b"refused line\nok\n"),
+    ];
+    for (length, end, want) in ends {
+        let mut input = Vec::with_capacity(rt.alloc(), length)?;
+        input.resize(length, 0xffu8)?;
+        input.extend_from_slice(end)?;
+        let got = answers(rt.alloc(), &input, 1000)?;
+        assert_eq!(rt; got.as_slice(), want, "{length}");
+    }
+    Ok(())
+}
+
+#[test]
+fn refused_commands(rt: HostRuntime) -> Result<(), Fail> {
+    let got = answers(rt.alloc(), b"site 1\nsite 1\nsite 0\nsend 1 3\njump\n", 100)?;
+    assert_eq!(rt;
+        got.as_slice(),
+        b"ok\nrefused known\nrefused number\nrefused site\nrefused command\n".as_slice()
+    );
+
+    let mut input = String::new(rt.alloc());
+    let mut want = String::new(rt.alloc());
+    for n in 1..17 {
+        write!(input, "site {n}\n")?;
+        want.push_str("ok\n")?;
+    }
+    input.push_str("site 17\nsite 16\nsite 0\n")?;
+    want.push_str("refused sites\nrefused known\nrefused number\n")?;
+    let got = answers(rt.alloc(), input.as_bytes(), 100)?;
+    assert_eq!(rt; got.as_slice(), want.as_bytes());
+    Ok(())
+}
+
+#[test]
+fn always_want_of_memory(rt: HostRuntime) -> Result<(), Fail> {
+    let heap = LocalHeap::new(rt.alloc(), 1 << 20)?;
+    let got = answers(&heap, b"site 1\nsite 2\nsend 1 2\nfeed 2\n", 100)?;
+    assert_eq!(rt;
+        got.as_slice(),
+        b"ok\nok\nok new 0 known 0\nfeed 4d464431\n".as_slice()
+    );
+    Ok(())
+}
