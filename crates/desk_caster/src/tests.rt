@@ -81,6 +81,9 @@ fn empty_paragraph<A: Allocator>(alloc: A) -> Result<Vec<RibbonRow, A>, Fail> {
 
 /// What the caster makes of rows: no lines, or a fault.
 fn fault_of(alloc: Global, rows: &[RibbonRow]) -> Result<Option<CastFault>, Fail> {
+    if rows.len() > 100 {
+        return Err(Fail::new("more rows than a test has"));
+    }
     let wedge = Wedge::read(alloc, WEDGE.as_bytes())?;
     let case = case_one(alloc)?;
     match cast(alloc, rows, &case, &wedge) {
@@ -119,6 +122,9 @@ fn empty_paragraph_ribbon(rt: HostRuntime) -> Result<(), Fail> {
     let wedge = Wedge::read(alloc, WEDGE.as_bytes())?;
     let case = case_one(alloc)?;
     let rows = empty_paragraph(alloc)?;
+    if rows.len() != 14 {
+        return Err(Fail::new("14 rows"));
+    }
     let lines = cast(alloc, &rows, &case, &wedge)?;
     assert_eq!(rt; lines.len(), 1);
     for line in &lines {
