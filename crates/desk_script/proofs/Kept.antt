@@ -7,6 +7,7 @@ use Rattle.std.specs.FinMap as fin
 use Rattle.std.specs.Cmp.{nat_cmp_total, nat_eq_equiv}
 use Rattle.std.specs.Map.{lookup}
 use Rattle.desk_ops.specs.declared.op.Op.{Op}
+use Rattle.desk_ops.specs.declared.op.Symbol.{Symbol}
 use Rattle.desk_ops.specs.OpSet.{OpSet, no_ops, with_all}
 use Rattle.desk_replica.specs.declared.Count.{Count}
 use Rattle.desk_replica.specs.declared.Stopped.{Stopped}
@@ -15,7 +16,7 @@ use Rattle.desk_script.specs.declared.world.Answer.{Answer}
 use Rattle.desk_script.specs.declared.world.StepRefusal.{StepRefusal}
 use Rattle.desk_script.specs.declared.world.StepRefusal.TheVariants as refusals
 use Rattle.desk_script.specs.Sites.{Sites, sites_of, all_held, IsKept, IsUpdated}
-use Rattle.desk_script.specs.World.{site_refusal, Refuses, Adds, Gains, Steps}
+use Rattle.desk_script.specs.World.{site_refusal, Refuses, Adds, Edits, Gains, Steps, site_with}
 use Rattle.desk_script.specs.World as changes
 use Rattle.desk_script.proofs.Sites.{get-sites_of, sites_of-updated}
 
@@ -143,3 +144,38 @@ given es fs to ops r old view held h = at (lookup (nat_eq to) es) refl h
 pub none_from : {X : Type 0} (o : Option X) → is_some o ≡ false → o ≡ None
 none_from None e = refl
 none_from (Some x) e = absurd (let f : true ≡ false = e in cc)
+
+-- ---- an edit of one entry
+
+abbrev pub EditsAt : List (ℕ × State) → List (ℕ × State) → ℕ → ℕ → Symbol → Result Answer StepRefusal → Option State → Type 0
+EditsAt es fs n place symbol r o = MatchOption o ((r ≡ Err refusals.NoSite) × (fs ≡ es)) (λ s. (t : State) × IsUpdated es fs n s t × Edits s place symbol r t)
+
+pub kept_edited : (es fs : List (ℕ × State)) (n place : ℕ) (symbol : Symbol) (r : Result Answer StepRefusal) → IsKept es → EditsAt es fs n place symbol r (lookup (nat_eq n) es) → IsKept fs
+kept_edited es fs n place symbol r kept h = at (lookup (nat_eq n) es) h
+  where
+    at : (o : Option State) → EditsAt es fs n place symbol r o → IsKept fs
+    at None g = subst IsKept (sym g.1) kept
+    at (Some s) g = kept_updated es fs n s g.0 kept g.1
+
+named : (s : State) (n : ℕ) → s.site ≡ n → s ≡ site_with n s.ops
+named s n e i = record { site = e i; ops = s.ops }
+
+abbrev EditsTo : Sites → ℕ → ℕ → Symbol → Result Answer StepRefusal → Sites → Option OpSet → Type 0
+EditsTo old n place symbol r new o = MatchOption o (Refuses old refusals.NoSite r new) (λ set. (after : OpSet) × Edits (site_with n set) place symbol r (site_with n after) × (new ≡ fin.insert old n after))
+
+pub edited : (es fs : List (ℕ × State)) (n place : ℕ) (symbol : Symbol) (r : Result Answer StepRefusal) (old : Sites) → IsKept es → sites_of es ≡ old
+    → EditsAt es fs n place symbol r (lookup (nat_eq n) es) → Steps old (changes.Insert n place symbol) r (sites_of fs)
+edited es fs n place symbol r old kept view h = at (lookup (nat_eq n) es) refl h
+  where
+    at : (o : Option State) → lookup (nat_eq n) es ≡ o → EditsAt es fs n place symbol r o → Steps old (changes.Insert n place symbol) r (sites_of fs)
+    at None e g =
+        let none : fin.get old n ≡ None = ap (λ m. fin.get m n) (sym view) ∙ get-sites_of es n ∙ ap (option_map (λ x. x.ops)) e in
+        subst (EditsTo old n place symbol r (sites_of fs)) (sym none) (g.0, ap sites_of g.1 ∙ view)
+    at (Some s) e g =
+        let t : State = g.0 in
+        let set : fin.get old n ≡ Some s.ops = ap (λ m. fin.get m n) (sym view) ∙ get-sites_of es n ∙ ap (option_map (λ x. x.ops)) e in
+        let new : sites_of fs ≡ fin.insert old n t.ops = sites_of-updated es fs n t g.1.entries ∙ ap (λ m. fin.insert m n t.ops) view in
+        let own : s.site ≡ n = site_kept es n s kept e in
+        let edit : Edits (site_with n s.ops) place symbol r (site_with n t.ops) =
+        subst (λ (x : State). Edits x place symbol r (site_with n t.ops)) (named s n own) (subst (λ (x : State). Edits s place symbol r x) (named t n (g.1.named ∙ own)) g.2) in
+        subst (EditsTo old n place symbol r (sites_of fs)) (sym set) (t.ops, edit, new)

@@ -1,7 +1,10 @@
 -- What each command answers and does.
-use Rattle.std.specs.Prelude.{◌≡◌, ℕ, ◌==◌, nat_lt, List, Option, Some, None, Result, Ok, Err, MatchOption, MatchBool, if◌then◌else◌}
+use Rattle.std.specs.Prelude.{◌≡◌, ◌+◌, ◌⊎◌, ◌&&◌, Bool, true, [], ◌∷◌, length, nat_le, option_map, ℕ, ◌==◌, nat_lt, List, Option, Some, None, Result, Ok, Err, MatchOption, MatchBool, if◌then◌else◌}
 use Rattle.std.specs.FinMap as fin
-use Rattle.desk_ops.specs.Op.{stamp_of}
+use Rattle.desk_ops.specs.Op.{stamp_of, is_symbol}
+use Rattle.desk_ops.specs.declared.op.Op.{Op}
+use Rattle.desk_ops.specs.declared.op.Stamp.{Stamp}
+use Rattle.desk_ops.specs.declared.op.Symbol.{Symbol}
 use Rattle.desk_ops.specs.OpSet.{OpSet, in_order}
 use Rattle.desk_ops.specs.Shown.{copy_of}
 use Rattle.desk_codec.specs.Feed.{feed}
@@ -62,6 +65,44 @@ Says what old reply new = (reply ≡ what) × (new ≡ old)
 abbrev pub set_of : Sites → ℕ → Option OpSet
 set_of sites n = if nat_lt 65535 n then None else fin.get sites n
 
+abbrev pub all_symbols : List Symbol → Bool
+all_symbols [] = true
+all_symbols (y ∷ ys) = is_symbol y && all_symbols ys
+
+-- a refusal after k edits says that these stand
+abbrev pub after : ℕ → Reply → Reply
+after k (Refused why) = if k == 0 then Refused why else Stopped k why
+after k Done = Done
+after k (Made stamp) = Made stamp
+after k (MadeMany first last) = MadeMany first last
+after k (Counted news known) = Counted news known
+after k (Copy copy) = Copy copy
+after k (replies.Feed bytes) = replies.Feed bytes
+after k (Stopped taken why) = Stopped taken why
+
+abbrev pub made_of : Result Answer StepRefusal → Option Op
+made_of (Ok (answers.Made op)) = Some op
+made_of (Ok (answers.Taken count)) = None
+made_of (Ok answers.Done) = None
+made_of (Err why) = None
+
+-- the reply to k edits, by the first stamp and the last
+abbrev pub all_made : ℕ → Option (Stamp × Stamp) → Reply
+all_made k None = Done
+all_made k (Some span) = if k == 1 then Made span.0 else MadeMany span.0 span.1
+
+abbrev pub first_of : Option (Stamp × Stamp) → Stamp → Stamp
+first_of None s = s
+first_of (Some span) s = span.0
+
+-- symbols are inserted one after another, where k were made before
+abbrev pub Inserts : Sites → ℕ → ℕ → List Symbol → ℕ → Option (Stamp × Stamp) → Reply → Sites → Type 0
+Inserts old n place [] k made reply new = Says (all_made k made) old reply new
+Inserts old n place (y ∷ ys) k made reply new =
+    (mid : Sites) × (result : Result Answer StepRefusal) × Steps old (changes.Insert n (place + k) y) result mid
+    × MatchOption (made_of result) ((option_map (after k) (told result) ≡ Some reply) × (new ≡ mid))
+    (λ op. Inserts mid n place ys (k + 1) (Some (first_of made (stamp_of op), stamp_of op)) reply new)
+
 -- what a command answers and does. Those that are not there yet are no commands.
 abbrev pub Does : Sites → Request → Reply → Sites → Type 0
 Does old (Site n) reply new = MatchBool (nat_lt 65535 n) (Says (Refused refusals.Number) old reply new) (Happens old (changes.Site n) reply new)
@@ -70,7 +111,10 @@ Does old (Send from to None) reply new = MatchOption (set_of old from) (Says (Re
 Does old (Send from to (Some range)) reply new = Says (Refused refusals.Command) old reply new
 Does old (Feed n) reply new = MatchOption (set_of old n) (Says (Refused refusals.Site) old reply new) (λ set. Says (replies.Feed (feed (in_order set))) old reply new)
 Does old (Show n) reply new = MatchOption (set_of old n) (Says (Refused refusals.Site) old reply new) (λ set. Says (Copy (copy_of set)) old reply new)
-Does old (Insert site place copy) reply new = Says (Refused refusals.Command) old reply new
+Does old (Insert n place copy) reply new = MatchOption (set_of old n) (Says (Refused refusals.Site) old reply new)
+    (λ set. MatchBool (nat_le place (length (copy_of set)))
+    (MatchBool (all_symbols copy) (Inserts old n place copy 0 None reply new) (Says (Refused refusals.Value) old reply new))
+    (Says (Refused refusals.Place) old reply new))
 Does old (Delete site place) reply new = Says (Refused refusals.Command) old reply new
 Does old (SetTo site key value) reply new = Says (Refused refusals.Command) old reply new
 Does old (Take site bytes) reply new = Says (Refused refusals.Command) old reply new

@@ -1,12 +1,16 @@
 -- What each event does to a world.
-use Rattle.std.specs.Prelude.{◌≡◌, ℕ, ◌==◌, nat_le, is_some, List, Option, Some, None, Result, Ok, Err, MatchOption, MatchResult, MatchBool, All, ⊤, if◌then◌else◌}
+use Rattle.std.specs.Prelude.{◌≡◌, ℕ, ◌==◌, nat_le, is_some, List, Option, Some, None, Result, Ok, Err, MatchOption, MatchResult, ◌⊎◌, MatchBool, All, ⊤, if◌then◌else◌}
 use Rattle.std.specs.FinMap as fin
 use Rattle.desk_ops.specs.declared.op.Op.{Op}
 use Rattle.desk_ops.specs.Op.{IsLawful}
 use Rattle.desk_ops.specs.OpSet.{OpSet, no_ops, with_all}
 use Rattle.desk_replica.specs.declared.Count.{Count}
 use Rattle.desk_replica.specs.declared.Stopped.{Stopped}
-use Rattle.desk_replica.specs.State.{IsCounted, IsStopped}
+use Rattle.desk_ops.specs.declared.op.Symbol.{Symbol}
+use Rattle.desk_replica.specs.declared.Refusal.{Refusal as EditRefusal}
+use Rattle.desk_replica.specs.declared.Refusal.TheVariants as edits
+use Rattle.desk_replica.specs.Edits.{insert_refusal, IsInserted}
+use Rattle.desk_replica.specs.State.{State, IsCounted, IsStopped}
 use Rattle.desk_script.specs.declared.world.Answer.{Answer}
 use Rattle.desk_script.specs.declared.world.Answer.TheVariants as answers
 use Rattle.desk_script.specs.declared.world.StepRefusal.{StepRefusal}
@@ -18,15 +22,18 @@ use Rattle.desk_script.specs.Sites.{Sites, all_held}
 -- events, without where they lie in memory
 pub data Change : Type 0 where
   Site : ℕ → Change
+  Insert : ℕ → ℕ → Symbol → Change
   Give : ℕ → List Op → Change
 
 abbrev pub change : Event → Change
 change (events.Site n) = Site n
+change (events.Insert site place symbol) = Insert site place symbol
 change (events.Give to ops) = Give to ops.now
 
 -- what is given is lawful
 abbrev pub IsSound : Change → Type 0
 IsSound (Site n) = ⊤
+IsSound (Insert site place symbol) = ⊤
 IsSound (Give to ops) = All IsLawful ops
 
 -- why no site with the number can be added
@@ -52,8 +59,20 @@ Gains set ops result after = MatchResult result
     (λ a. (count : Count) × (a ≡ answers.Taken count) × (after ≡ with_all set ops) × IsCounted set after ops count)
     (λ e. (stop : Stopped) × (e ≡ refusals.Halted stop) × IsStopped set after ops stop)
 
+-- a site's number, and what it holds
+abbrev pub site_with : ℕ → OpSet → State
+site_with n set = record { site = n; ops = set }
+
+-- an operation is made and gained, or nothing changes, for the first cause or for want of memory
+abbrev pub Edits : State → ℕ → Symbol → Result Answer StepRefusal → State → Type 0
+Edits s place symbol result t = MatchResult result
+    (λ a. (op : Op) × (a ≡ answers.Made op) × (insert_refusal s.ops place symbol ≡ None) × IsInserted s t place symbol op)
+    (λ e. (why : EditRefusal) × (e ≡ refusals.Edit why) × ((why ≡ edits.NoMemory) ⊎ (insert_refusal s.ops place symbol ≡ Some why)) × (t.ops ≡ s.ops))
+
 -- what an event answers, and the sites after it: no other than the named one changes
 abbrev pub Steps : Sites → Change → Result Answer StepRefusal → Sites → Type 0
 Steps old (Site n) result new = MatchOption (site_refusal old n) (Adds old n result new) (λ why. Refuses old why result new)
+Steps old (Insert n place symbol) result new = MatchOption (fin.get old n) (Refuses old refusals.NoSite result new)
+    (λ set. (after : OpSet) × Edits (site_with n set) place symbol result (site_with n after) × (new ≡ fin.insert old n after))
 Steps old (Give to ops) result new = MatchOption (fin.get old to) (Refuses old refusals.NoSite result new)
     (λ set. MatchBool (all_held old ops) ((after : OpSet) × Gains set ops result after × (new ≡ fin.insert old to after)) (Refuses old refusals.Strange result new))

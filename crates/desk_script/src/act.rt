@@ -1,19 +1,20 @@
 //! What each command does.
 
-ghost use Rattle.std.specs.Prelude.{◌≡◌, IfOk, MatchResult, Some, None, option_map};
+ghost use Rattle.std.specs.Prelude.{◌≡◌, ◌+◌, ◌<◌, ◌^◌, length, IfOk, MatchResult, Some, None, option_map};
 ghost use Rattle.desk_script.specs.Lines.{line_of};
 ghost use Rattle.desk_script.specs.Reply.{reply};
 ghost use Rattle.desk_script.specs.Reply as replies;
 ghost use Rattle.desk_script.specs.Request as requests;
 ghost use Rattle.desk_script.specs.Request.{request};
-ghost use Rattle.desk_script.specs.Effect.{Allows, Does, Says, told, edit_refused, stopped_after, set_of};
+ghost use Rattle.desk_ops.specs.Op.{stamp_of};
+ghost use Rattle.desk_script.specs.Effect.{Allows, Does, Says, told, after, first_of, made_of, all_made, all_symbols, Inserts, edit_refused, stopped_after, set_of};
 
 use crate::command::{Command, ParseError};
 use crate::reader::parse;
 use crate::text::{Refusal, Response};
 use crate::world::{Answer, Event, StepRefusal, World};
 use desk_held::AddRefusal;
-use desk_ops::NoMemory;
+use desk_ops::{NoMemory, Op, Stamp, Symbol};
 use desk_replica::{Replica, Stopped};
 use std::alloc::Allocator;
 
@@ -101,6 +102,114 @@ fn send<A: Allocator + Copy>(
     told(given)
 }
 
+/// A refusal after that many edits says that these stand.
+fn after<A: Allocator + Copy>(count: usize, response: Response<A>) -> Response<A>
+    ensures { reply result ≡ after count (reply response) }
+{
+    match response {
+        Response::Refused(why) if count > 0 => Response::Stopped(count, why),
+        other => other,
+    }
+}
+
+/// The operation that an event made.
+fn made(given: &Result<Answer, StepRefusal>) -> Option<Op>
+    ensures { result ≡ made_of given.now }
+{
+    match given {
+        Ok(Answer::Made(op)) => Some(*op),
+        _ => None,
+    }
+}
+
+/// The first stamp and the last of those made, where this is the next.
+fn span(made: Option<(Stamp, Stamp)>, op: &Op) -> (Stamp, Stamp)
+    ensures { result ≡ (first_of made (stamp_of op.now), stamp_of op.now) }
+{
+    match made {
+        None => (op.stamp(), op.stamp()),
+        Some((first, _)) => (first, op.stamp()),
+    }
+}
+
+fn all_made<A: Allocator + Copy>(count: usize, made: Option<(Stamp, Stamp)>) -> Response<A>
+    ensures { reply result ≡ all_made count made }
+{
+    match made {
+        None => Response::Done,
+        Some((first, _)) if count == 1 => Response::Made(first),
+        Some((first, last)) => Response::MadeMany(first, last),
+    }
+}
+
+/// Inserts symbols one after another, up to one that is refused.
+fn insert_all<A: Allocator + Copy>(
+    world: &mut World<A>,
+    site: u16,
+    place: usize,
+    copy: &[Symbol],
+) -> Result<Response<A>, NoMemory>
+    requires { place + length copy.now < 2 ^ 64 }
+    ensures { IfOk result (λ a. Inserts world.old site place copy.now 0 None (reply a) world.new) }
+{
+    let mut stamps = None;
+    let mut count = 0;
+    for symbol in copy {
+        let given = world.step(&Event::Insert {
+            site,
+            place: place + count,
+            symbol: *symbol,
+        });
+        match made(&given) {
+            None => {
+                let response = told(given)?;
+                return Ok(after(count, response));
+            }
+            Some(op) => {
+                stamps = Some(span(stamps, &op));
+                count += 1;
+            }
+        }
+    }
+    Ok(all_made(count, stamps))
+}
+
+/// Whether each symbol is lawful.
+fn all_symbols(copy: &[Symbol]) -> bool
+    ensures { result ≡ all_symbols copy.now }
+{
+    for symbol in copy {
+        if symbol.check().is_err() {
+            return false;
+        }
+    }
+    true
+}
+
+fn insert<A: Allocator + Copy>(
+    world: &mut World<A>,
+    site: u32,
+    place: u32,
+    copy: &[Symbol],
+) -> Result<Response<A>, NoMemory>
+    ensures { IfOk result (λ a. Does world.old (requests.Insert site place copy.now) (reply a) world.new) }
+{
+    let Ok(number) = u16::try_from(site) else {
+        return Ok(Response::Refused(Refusal::Site));
+    };
+    let Some(replica) = world.replica(number) else {
+        return Ok(Response::Refused(Refusal::Site));
+    };
+    let shown = replica.copy()?;
+    if place as usize > shown.len() {
+        return Ok(Response::Refused(Refusal::Place));
+    }
+    if !all_symbols(copy) {
+        return Ok(Response::Refused(Refusal::Value));
+    }
+    insert_all(world, number, place as usize, copy)
+}
+
 fn show<A: Allocator + Copy>(world: &World<A>, site: u32) -> Result<Response<A>, NoMemory>
     ensures { IfOk result (λ a. Does world.now (requests.Show site) (reply a) world.now) }
 {
@@ -128,6 +237,7 @@ fn act<A: Allocator + Copy>(
 {
     match command {
         Command::Site(site) => add_site(world, site),
+        Command::Insert { site, place, copy } => insert(world, site, place, &copy),
         Command::Send {
             from,
             to,

@@ -47,6 +47,35 @@ fn failing_reader(rt: HostRuntime) -> Result<(), Fail> {
     Ok(())
 }
 
+const TWO_SITES: &[u8] = b"site 1\nsite 2\ninsert 1 0 r\"ab\"\nsend 1 2\nshow 1\nshow 2\nfeed 2\n";
+
+const TWO_SITES_ANSWERS: &[u8] =
+    b"ok\nok\nok 1.1..2.1\nok new 2 known 0\ncopy r\"ab\"\ncopy r\"ab\"\nfeed 4d46443101000000000000000100010000000000000000000000000000610100000000000000020001000000000000000100010000000062\n";
+
+#[test]
+fn two_sites_show_ab(rt: HostRuntime) -> Result<(), Fail> {
+    for step in [1, 7, 1000] {
+        let written = answers(rt.alloc(), TWO_SITES, step)?;
+        assert_eq!(rt; written.as_slice(), TWO_SITES_ANSWERS);
+    }
+    Ok(())
+}
+
+/// Places and values are refused in this order, and nothing changes.
+#[test]
+fn refused_inserts(rt: HostRuntime) -> Result<(), Fail> {
+    let written = answers(
+        rt.alloc(),
+        b"insert 1 0 r\"a\"\nsite 1\ninsert 1 5 r\"a\"\ninsert 1 1 r\"\t\"\ninsert 1 0 i\" \"\nshow 1\ninsert 1 0 r\"b\\n\" i\"c\"\nshow 1\n",
+        1000,
+    )?;
+    assert_eq!(rt;
+        written.as_slice(),
+        b"refused site\nok\nrefused place\nrefused place\nrefused value\ncopy\nok 1.1..3.1\ncopy r\"b\\n\" i\"c\"\n".as_slice()
+    );
+    Ok(())
+}
+
 /// Scripts, and what they are answered.
 const SCRIPTS: &[(&[u8], &[u8])] = &[
     // A line ends with a line feed, and one carriage return before it goes; at the end none does.
@@ -125,10 +154,14 @@ fn long_lines(rt: HostRuntime) -> Result<(), Fail> {
 
 #[test]
 fn refused_commands(rt: HostRuntime) -> Result<(), Fail> {
-    let got = answers(rt.alloc(), b"site 1\nsite 1\nsite 0\nsend 1 3\njump\n", 100)?;
+    let got = answers(
+        rt.alloc(),
+        b"site 1\nsite 1\nsite 0\nsend 1 3\ninsert 1 5 r\"a\"\ninsert 1 0 i\" \"\njump\n",
+        100,
+    )?;
     assert_eq!(rt;
         got.as_slice(),
-        b"ok\nrefused known\nrefused number\nrefused site\nrefused command\n".as_slice()
+        b"ok\nrefused known\nrefused number\nrefused site\nrefused place\nrefused value\nrefused command\n".as_slice()
     );
 
     let mut input = String::new(rt.alloc());
@@ -147,10 +180,7 @@ fn refused_commands(rt: HostRuntime) -> Result<(), Fail> {
 #[test]
 fn always_want_of_memory(rt: HostRuntime) -> Result<(), Fail> {
     let heap = LocalHeap::new(rt.alloc(), 1 << 20)?;
-    let got = answers(&heap, b"site 1\nsite 2\nsend 1 2\nfeed 2\n", 100)?;
-    assert_eq!(rt;
-        got.as_slice(),
-        b"ok\nok\nok new 0 known 0\nfeed 4d464431\n".as_slice()
-    );
+    let got = answers(&heap, TWO_SITES, 100)?;
+    assert_eq!(rt; got.as_slice(), TWO_SITES_ANSWERS);
     Ok(())
 }

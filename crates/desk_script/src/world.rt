@@ -8,10 +8,10 @@ ghost use Rattle.desk_ops.specs.Op.{IsLawful};
 ghost use Rattle.desk_ops.specs.OpSet.{has_op};
 ghost use Rattle.desk_replica.specs.State.{State};
 ghost use Rattle.desk_script.specs.Sites.{no_sites, is_held, all_held, sites_of, IsUpdated};
-ghost use Rattle.desk_script.specs.World.{Steps, change, IsSound, Gains};
+ghost use Rattle.desk_script.specs.World.{Steps, change, IsSound, Edits, Gains};
 ghost use Rattle.desk_script.specs.World as world;
 
-use desk_ops::Op;
+use desk_ops::{Op, Symbol};
 use desk_replica::{Count, Replica, Stopped};
 use indexmap::IndexMap;
 use std::alloc::Allocator;
@@ -27,8 +27,17 @@ pub const MAX_SITES: usize = 16;
 pub enum Event<'a> {
     /// A site is added. It holds nothing.
     Site(u16),
+    /// A symbol is inserted at a place of a site's copy.
+    Insert {
+        site: u16,
+        place: usize,
+        symbol: Symbol,
+    },
     /// A site is given operations that some site holds.
-    Give { to: u16, ops: &'a [Op] },
+    Give {
+        to: u16,
+        ops: &'a [Op],
+    },
 }
 
 /// What an event has done.
@@ -112,6 +121,37 @@ fn gain_at<A: Allocator + Copy>(
     gain(replica, ops)
 }
 
+/// Inserts a symbol into a replica's copy.
+fn edit<A: Allocator + Copy>(
+    replica: &mut Replica<A>,
+    place: usize,
+    symbol: Symbol,
+) -> Result<Answer, StepRefusal>
+    ensures site { replica.new.site ≡ replica.old.site }
+    ensures ops { Edits replica.old place symbol result replica.new }
+{
+    match replica.insert_at(place, symbol) {
+        Ok(op) => Ok(Answer::Made(op)),
+        Err(why) => Err(StepRefusal::Edit(why)),
+    }
+}
+
+/// Inserts a symbol into a site's copy. The others stay.
+fn edit_at<A: Allocator + Copy>(
+    sites: &mut SiteMap<A>,
+    site: u16,
+    place: usize,
+    symbol: Symbol,
+) -> Result<Answer, StepRefusal>
+    ensures { MatchOption (lookup (nat_eq site) sites.old.entries) ((result ≡ Err StepRefusal.NoSite) × (sites.new.entries ≡ sites.old.entries))
+        (λ s. (t : State) × IsUpdated sites.old.entries sites.new.entries site s t × Edits s place symbol result t) }
+{
+    let Some(replica) = sites.get_mut(&site) else {
+        return Err(StepRefusal::NoSite);
+    };
+    edit(replica, place, symbol)
+}
+
 /// Whether some site holds the operation.
 fn any_holds<A: Allocator + Copy>(sites: &SiteMap<A>, op: &Op) -> bool
     ensures { result ≡ list_any (λ s. has_op s.ops op.now) (map (λ e. e.1) sites.now.entries) }
@@ -188,6 +228,12 @@ impl<A: Allocator + Copy> World<A> {
         gain_at(&mut self.sites, to, ops)
     }
 
+    fn insert(&mut self, site: u16, place: usize, symbol: Symbol) -> Result<Answer, StepRefusal>
+        ensures { Steps self.old (world.Insert site place symbol) result self.new }
+    {
+        edit_at(&mut self.sites, site, place, symbol)
+    }
+
     /// Lets an event happen. It changes the named site alone, and `Give` asks for lawful operations.
     pub fn step(&mut self, event: &Event<'_>) -> Result<Answer, StepRefusal>
         requires { IsSound (change event.now) }
@@ -195,6 +241,11 @@ impl<A: Allocator + Copy> World<A> {
     {
         match *event {
             Event::Site(site) => self.add_site(site),
+            Event::Insert {
+                site,
+                place,
+                symbol,
+            } => self.insert(site, place, symbol),
             Event::Give { to, ops } => self.give(to, ops),
         }
     }

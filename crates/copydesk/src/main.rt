@@ -1,0 +1,35 @@
+//! The copy desk's command line.
+#![tactic(auto)]
+
+mod program;
+
+use desk_script::NoFiles;
+use program::program;
+use std::process::ExitCode;
+use std::{env, io};
+
+fn main(rt: HostRuntime) -> ExitCode {
+    match words_of(&rt) {
+        Ok(words) => ExitCode::from(program(
+            rt.alloc(),
+            &words,
+            &mut rt.reader(),
+            &mut io::writer(&rt),
+            &mut rt.stderr(),
+            &mut NoFiles,
+        )),
+        Err(_) => ExitCode::from(2),
+    }
+}
+
+/// The words after the program's name.
+fn words_of<R: std::rt::Env + AllocGlobal>(rt: &R) -> io::Result<Vec<String>> {
+    let mut words = Vec::new(rt.alloc());
+    for word in env::args(rt)?.skip(1) {
+        words.push(word)?;
+    }
+    Ok(words)
+}
+
+#[cfg(test)]
+mod tests;
