@@ -99,6 +99,35 @@ impl<A: Allocator + Copy> Replica<A> {
         }
     }
 
+    /// Makes room for some operations more, if there is memory for it.
+    fn make_room(&mut self, more: usize)
+        ensures site { self.new.site ≡ self.old.site }
+        ensures ops { self.new.ops ≡ self.old.ops }
+    {
+        let _ = self.held.reserve(more.min(LIMIT));
+    }
+
+    /// A replica that holds the operations of a list. `Full` comes only where the list has more than 1,048,576 different
+    /// operations, and of such a list none is made, since no replica holds more. Nothing is taken in of a refused list.
+    pub fn open(alloc: A, site: u16, ops: &[Op]) -> Result<Self, Stopped>
+        requires numbered { 1 ≤ site }
+        requires lawful { All IsLawful ops.now }
+        ensures site { IfOk result (λ r. r.site ≡ site) }
+        ensures ops { IfOk result (λ r. r.ops ≡ with_all no_ops ops.now) }
+        ensures none { IfErr result (λ s. s.taken ≡ 0) }
+        ensures full { IfErr result (λ s. s.why ≡ AddRefusal.Full → LIMIT < size (with_all no_ops ops.now)) }
+    {
+        let mut replica = Replica::new(alloc, site);
+        replica.make_room(ops.len());
+        if let Err(stopped) = replica.take_in(ops) {
+            return Err(Stopped {
+                taken: 0,
+                why: stopped.why,
+            });
+        }
+        Ok(replica)
+    }
+
     /// The site's number.
     pub fn site(&self) -> u16
         ensures value { result ≡ self.now.site }

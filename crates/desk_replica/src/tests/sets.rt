@@ -31,3 +31,17 @@ fn merge_counts(rt: HostRuntime) -> Result<(), Fail> {
     assert_eq!(rt; one.site(), 1);
     Ok(())
 }
+
+/// A list opens a replica of its operations.
+#[test]
+fn opens_with_a_list(rt: HostRuntime) -> Result<(), Fail> {
+    let mut one = Replica::new(rt.alloc(), 1);
+    assert!(rt; one.insert_at(0, roman('a')).is_ok());
+    assert!(rt; one.insert_at(1, roman('b')).is_ok());
+    let ops = one.in_order()?;
+    let two = Replica::open(rt.alloc(), 2, &ops)?;
+    assert_eq!(rt; two.site(), 2);
+    assert_eq!(rt; two.len(), 2);
+    assert_eq!(rt; two.copy()?.as_slice(), [roman('a'), roman('b')].as_slice());
+    Ok(())
+}
