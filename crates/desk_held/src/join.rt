@@ -9,7 +9,7 @@ use desk_ops::Op;
 use std::alloc::Allocator;
 
 /// From this number on a list is joined to what is held, and not added one by one.
-const MANY: usize = 32;
+pub const MANY: usize = 32;
 
 /// A list was added up to an operation that was refused.
 #[derive(Clone, Copy, Debug, PartialEq, Eq)]

@@ -3,7 +3,7 @@
 
 ghost use Rattle.std.specs.Prelude.{◌≡◌, ◌+◌, ◌≤◌, ◌<◌, ◌↔◌, ◌∷◌, [], IfOk, OnOk, OnErr, IsErrOf, IsOk, IsTrue, MatchOption, All, true, false};
 ghost use Rattle.desk_ops.specs.Op.{IsLawful};
-ghost use Rattle.desk_ops.specs.OpSet.{no_ops, has_op, with_op, in_order, size};
+ghost use Rattle.desk_ops.specs.OpSet.{no_ops, has_op, with_op, in_order, size, AllLawful};
 ghost use Rattle.desk_ops.specs.Held.{bearers, is_borne_in, is_clear_in, greatest_counter_of};
 
 use desk_ops::{NoMemory, Op, Stamp};
@@ -14,7 +14,7 @@ use thiserror::Error;
 mod join;
 mod row;
 
-pub use join::Halt;
+pub use join::{Halt, MANY};
 
 /// The greatest number of operations that are held.
 pub const LIMIT: usize = 1_048_576;
@@ -184,6 +184,7 @@ impl<A: Allocator + Copy> Held<A> {
     pub fn as_slice(&self) -> &[Op]
         ensures items { result.now ≡ in_order self.now.ops }
         ensures lawful { All IsLawful result.now }
+        ensures set { AllLawful self.now.ops }
     {
         self.ops.as_slice()
     }

@@ -1,5 +1,5 @@
 -- Sets of operations that grow: lawful, and how many.
-use Rattle.std.proofs.Common.{◌≡◌, ◌+◌, ◌<◌, ◌≤◌, ◌++◌, take, get_or, ℕ, cond, List, [], ◌∷◌, length, drop, false, refl, sym, ap, ◌∙◌, subst, ◌⊎◌, inl, inr, arith}
+use Rattle.std.proofs.Common.{◌≡◌, ◌+◌, ◌-◌, ◌<◌, ◌≤◌, ◌++◌, take, get_or, ℕ, cond, List, [], ◌∷◌, length, drop, false, refl, sym, ap, ◌∙◌, subst, ◌⊎◌, inl, inr, arith}
 use Rattle.std.specs.List.{AllByRecursion}
 use Rattle.std.specs.FinMap as fin
 use Rattle.desk_ops.specs.declared.op.Op.{Op}
@@ -7,6 +7,7 @@ use Rattle.desk_ops.specs.Op.{IsLawful}
 use Rattle.desk_ops.specs.OrderLaws.{op_total}
 use Rattle.desk_ops.specs.OpSet.{OpSet, no_ops, has_op, with_op, with_all, in_order, size, AllLawful}
 use Rattle.desk_ops.specs.Lists.{Among}
+use Rattle.desk_replica.specs.State.{IsCounted}
 use Rattle.desk_ops.proofs.Lists.{each-among, each-from_among}
 use Rattle.std.proofs.lemmas.List.{take_all, take_more, take-append-drop}
 use Rattle.std.proofs.Math.Seq.{drop-cons}
@@ -83,3 +84,31 @@ too_many old after ops stop s why = go (drop stop.taken ops) refl
 -- the whole list
 pub gain-all : (old now : OpSet) (ops : List Op) (i : ℕ) → length ops ≤ i → IsGaining old now ops i → now ≡ with_all old ops
 gain-all old now ops i le g = g.gained ∙ ap (with_all old) (take_all i ops le)
+
+-- how many a list makes of them
+pub size-grown : (h : OpSet) (os : List Op) → size h ≤ size (with_all h os)
+size-grown h [] = omega arith
+size-grown h (o ∷ os) =
+    let more : size (with_op h o) ≤ size (with_all (with_op h o) os) = size-grown (with_op h o) os in
+    by_cases (has_op h o)
+    (λ k. let e : size (with_op h o) ≡ size h = size-with_op h o ∙ ap (λ b. cond b (size h) (size h + 1)) k in omega (arith, e, more))
+    (λ k. let e : size (with_op h o) ≡ size h + 1 = size-with_op h o ∙ ap (λ b. cond b (size h) (size h + 1)) k in omega (arith, e, more))
+
+pub size-few : (h : OpSet) (os : List Op) → size (with_all h os) ≤ size h + length os
+size-few h [] = omega arith
+size-few h (o ∷ os) =
+    let few : size (with_all (with_op h o) os) ≤ size (with_op h o) + length os = size-few (with_op h o) os in
+    by_cases (has_op h o)
+    (λ k. let e : size (with_op h o) ≡ size h = size-with_op h o ∙ ap (λ b. cond b (size h) (size h + 1)) k in omega (arith, e, few))
+    (λ k. let e : size (with_op h o) ≡ size h + 1 = size-with_op h o ∙ ap (λ b. cond b (size h) (size h + 1)) k in omega (arith, e, few))
+
+-- the counts of a list that was taken in, by how many were held before and after
+module _ (old after : OpSet) (ops : List Op) (before now : ℕ) (gained : after ≡ with_all old ops) (was : before ≡ size old) (is : now ≡ size after) where
+  pub count-new : before ≤ now
+  count-new = let e : size after ≡ size (with_all old ops) = ap size gained in let l : size old ≤ size (with_all old ops) = size-grown old ops in omega (arith, e, l, was, is)
+
+  pub count-known : now - before ≤ length ops
+  count-known = let e : size after ≡ size (with_all old ops) = ap size gained in let l : size (with_all old ops) ≤ size old + length ops = size-few old ops in omega (arith, e, l, was, is)
+
+  pub counted : IsCounted old after ops (record { new = now - before; known = length ops - (now - before) })
+  counted = record { news = let k : before ≤ now = count-new in omega (arith, k, was, is); all = let k : now - before ≤ length ops = count-known in omega (arith, k) }

@@ -13,7 +13,7 @@ ghost use Rattle.desk_replica.specs.JobSettings.{settings_of};
 ghost use Rattle.desk_replica.specs.Edits.{new_stamp, edit_refusal, insert_refusal, delete_refusal, set_refusal, IsInserted, IsDeleted, IsSetTo};
 
 use desk_codec::write_feed;
-use desk_held::{AddRefusal, Added, Held, LIMIT};
+use desk_held::{AddRefusal, Added, Held, LIMIT, MANY};
 use desk_ops::op::MAX_COUNTER;
 use desk_ops::{Key, NoMemory, Op, Stamp, Symbol};
 use desk_registers::Registers;
@@ -214,12 +214,10 @@ impl<A: Allocator + Copy> Replica<A> {
     }
 
     /// Takes in operations one after the other, up to the first that is refused.
-    fn take_in(&mut self, ops: &[Op]) -> Result<(), Stopped>
+    fn take_each(&mut self, ops: &[Op]) -> Result<(), Stopped>
         requires { All IsLawful ops.now }
         ensures site { self.new.site ≡ self.old.site }
         ensures ok { OnOk result (self.new.ops ≡ with_all self.old.ops ops.now) }
-        ensures grown { size self.old.ops ≤ size self.new.ops }
-        ensures few { size self.new.ops ≤ size self.old.ops + length ops.now }
         ensures stopped { IfErr result (λ s. IsStopped self.old.ops self.new.ops ops.now s) }
     {
         for (taken, op) in ops.iter().enumerate() {
@@ -228,6 +226,38 @@ impl<A: Allocator + Copy> Replica<A> {
             }
         }
         Ok(())
+    }
+
+    /// The same of a long list: it is joined to what is held, and the settings are made anew once.
+    fn take_many(&mut self, ops: &[Op]) -> Result<(), Stopped>
+        requires { All IsLawful ops.now }
+        ensures site { self.new.site ≡ self.old.site }
+        ensures ok { OnOk result (self.new.ops ≡ with_all self.old.ops ops.now) }
+        ensures stopped { IfErr result (λ s. IsStopped self.old.ops self.new.ops ops.now s) }
+    {
+        let result = self.held.add_all(ops);
+        self.registers = kept_in(&self.held);
+        match result {
+            Ok(()) => Ok(()),
+            Err(halt) => Err(Stopped {
+                taken: halt.added,
+                why: halt.why,
+            }),
+        }
+    }
+
+    /// Takes in operations one after the other, up to the first that is refused.
+    fn take_in(&mut self, ops: &[Op]) -> Result<(), Stopped>
+        requires { All IsLawful ops.now }
+        ensures site { self.new.site ≡ self.old.site }
+        ensures ok { OnOk result (self.new.ops ≡ with_all self.old.ops ops.now) }
+        ensures stopped { IfErr result (λ s. IsStopped self.old.ops self.new.ops ops.now s) }
+    {
+        if ops.len() < MANY {
+            self.take_each(ops)
+        } else {
+            self.take_many(ops)
+        }
     }
 
     /// Takes in the operations of a list, one after the other, up to the first that is refused: `Full` comes exactly

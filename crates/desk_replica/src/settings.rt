@@ -1,6 +1,7 @@
 //! The settings of the job, kept beside the operations that set them.
 ghost use Rattle.std.specs.Prelude.{◌≡◌};
 ghost use Rattle.desk_ops.specs.declared.op.Key.{Key};
+ghost use Rattle.desk_ops.specs.OpSet.{AllLawful};
 ghost use Rattle.desk_registers.specs.Registers.{kept};
 ghost use Rattle.desk_replica.specs.JobSettings.{kept_op, IsOtherSet, AreKept};
 
@@ -32,7 +33,8 @@ pub fn keep(registers: &mut Registers, op: &Op)
 
 /// The settings of the clear operations that are held, made anew in one pass over them.
 pub fn kept_in<A: Allocator + Copy>(held: &Held<A>) -> Registers
-    ensures { AreKept held.now.ops (kept result) }
+    ensures kept { AreKept held.now.ops (kept result) }
+    ensures lawful { AllLawful held.now.ops }
 {
     let mut registers = Registers::new();
     for op in held.as_slice() {

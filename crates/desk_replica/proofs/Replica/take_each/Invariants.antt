@@ -1,6 +1,6 @@
 use Rattle.std.proofs.Common.{◌≡◌}
 use Rattle.desk_replica.proofs.Sets.{IsGaining}
-use Rattle.desk_replica.proofs.Replica.take_in.Given as goal
+use Rattle.desk_replica.proofs.Replica.take_each.Given as goal
 
 -- what was gained, and what stays
 abbrev pub invariant-loop-taken : goal.invariant-loop-taken

@@ -1,7 +1,7 @@
 use Rattle.std.proofs.Common.{◌+◌, rules, ◌∙◌, sym, subst}
 use Rattle.desk_ops.specs.OpSet.{OpSet}
 use Rattle.desk_replica.proofs.Sets.{IsGaining, gain-more, gain-all}
-use Rattle.desk_replica.proofs.Replica.take_in.Goals as goal
+use Rattle.desk_replica.proofs.Replica.take_each.Goals as goal
 
 pub loop-taken-preserved : goal.loop-taken-preserved
 loop-taken-preserved g c = record {
