@@ -15,6 +15,8 @@ use Rattle.desk_script.specs.declared.world.Answer.{Answer}
 use Rattle.desk_script.specs.declared.world.Answer.TheVariants as answers
 use Rattle.desk_script.specs.declared.world.StepRefusal.{StepRefusal}
 use Rattle.desk_script.specs.declared.world.StepRefusal.TheVariants as refusals
+use Rattle.desk_script.specs.declared.world.LocalEdit.{LocalEdit}
+use Rattle.desk_script.specs.declared.world.LocalEdit.TheVariants as kinds
 use Rattle.desk_script.specs.declared.world.Event.{Event}
 use Rattle.desk_script.specs.declared.world.Event.TheVariants as events
 use Rattle.desk_script.specs.Sites.{Sites, all_held}
@@ -54,25 +56,47 @@ Adds old n result new = MatchResult result
     (λ e. (e ≡ refusals.NoMemory) × (new ≡ old))
 
 -- a set gains the operations, or those up to one that is refused
-abbrev pub Gains : OpSet → List Op → Result Answer StepRefusal → OpSet → Type 0
+abbrev pub Gains : OpSet → List Op → Result Count StepRefusal → OpSet → Type 0
 Gains set ops result after = MatchResult result
-    (λ a. (count : Count) × (a ≡ answers.Taken count) × (after ≡ with_all set ops) × IsCounted set after ops count)
+    (λ count. (after ≡ with_all set ops) × IsCounted set after ops count)
     (λ e. (stop : Stopped) × (e ≡ refusals.Halted stop) × IsStopped set after ops stop)
+
+-- a site gains operations, wherever they come from; no other changes
+abbrev pub Brings : Sites → ℕ → List Op → Result Count StepRefusal → Sites → Type 0
+Brings old n ops result new = MatchOption (fin.get old n) ((result ≡ Err refusals.NoSite) × (new ≡ old))
+    (λ set. (after : OpSet) × Gains set ops result after × (new ≡ fin.insert old n after))
+
+-- the counts are an event's answer
+abbrev pub taken : Result Count StepRefusal → Result Answer StepRefusal
+taken (Ok count) = Ok (answers.Taken count)
+taken (Err why) = Err why
 
 -- a site's number, and what it holds
 abbrev pub site_with : ℕ → OpSet → State
 site_with n set = record { site = n; ops = set }
 
+-- the first cause that refuses an edit, want of memory aside
+abbrev pub refusal_of : OpSet → LocalEdit → Option EditRefusal
+refusal_of ops (kinds.Insert place symbol) = insert_refusal ops place symbol
+
+-- exactly this operation was made and gained
+abbrev pub IsEdited : State → State → LocalEdit → Op → Type 0
+IsEdited s t (kinds.Insert place symbol) op = IsInserted s t place symbol op
+
 -- an operation is made and gained, or nothing changes, for the first cause or for want of memory
-abbrev pub Edits : State → ℕ → Symbol → Result Answer StepRefusal → State → Type 0
-Edits s place symbol result t = MatchResult result
-    (λ a. (op : Op) × (a ≡ answers.Made op) × (insert_refusal s.ops place symbol ≡ None) × IsInserted s t place symbol op)
-    (λ e. (why : EditRefusal) × (e ≡ refusals.Edit why) × ((why ≡ edits.NoMemory) ⊎ (insert_refusal s.ops place symbol ≡ Some why)) × (t.ops ≡ s.ops))
+abbrev pub Edits : State → LocalEdit → Result Answer StepRefusal → State → Type 0
+Edits s edit result t = MatchResult result
+    (λ a. (op : Op) × (a ≡ answers.Made op) × (refusal_of s.ops edit ≡ None) × IsEdited s t edit op)
+    (λ e. (why : EditRefusal) × (e ≡ refusals.Edit why) × ((why ≡ edits.NoMemory) ⊎ (refusal_of s.ops edit ≡ Some why)) × (t.ops ≡ s.ops))
+
+-- a site is edited; no other changes
+abbrev pub EditsSite : Sites → ℕ → LocalEdit → Result Answer StepRefusal → Sites → Type 0
+EditsSite old n edit result new = MatchOption (fin.get old n) (Refuses old refusals.NoSite result new)
+    (λ set. (after : OpSet) × Edits (site_with n set) edit result (site_with n after) × (new ≡ fin.insert old n after))
 
 -- what an event answers, and the sites after it: no other than the named one changes
 abbrev pub Steps : Sites → Change → Result Answer StepRefusal → Sites → Type 0
 Steps old (Site n) result new = MatchOption (site_refusal old n) (Adds old n result new) (λ why. Refuses old why result new)
-Steps old (Insert n place symbol) result new = MatchOption (fin.get old n) (Refuses old refusals.NoSite result new)
-    (λ set. (after : OpSet) × Edits (site_with n set) place symbol result (site_with n after) × (new ≡ fin.insert old n after))
+Steps old (Insert n place symbol) result new = EditsSite old n (kinds.Insert place symbol) result new
 Steps old (Give to ops) result new = MatchOption (fin.get old to) (Refuses old refusals.NoSite result new)
-    (λ set. MatchBool (all_held old ops) ((after : OpSet) × Gains set ops result after × (new ≡ fin.insert old to after)) (Refuses old refusals.Strange result new))
+    (λ set. MatchBool (all_held old ops) ((given : Result Count StepRefusal) × (result ≡ taken given) × Brings old to ops given new) (Refuses old refusals.Strange result new))

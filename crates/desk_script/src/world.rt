@@ -8,7 +8,7 @@ ghost use Rattle.desk_ops.specs.Op.{IsLawful};
 ghost use Rattle.desk_ops.specs.OpSet.{has_op};
 ghost use Rattle.desk_replica.specs.State.{State};
 ghost use Rattle.desk_script.specs.Sites.{no_sites, is_held, all_held, sites_of, IsUpdated};
-ghost use Rattle.desk_script.specs.World.{Steps, change, IsSound, Edits, Gains};
+ghost use Rattle.desk_script.specs.World.{Steps, change, IsSound, Edits, EditsSite, Gains, Brings, taken};
 ghost use Rattle.desk_script.specs.World as world;
 
 use desk_ops::{Op, Symbol};
@@ -38,6 +38,12 @@ pub enum Event<'a> {
         to: u16,
         ops: &'a [Op],
     },
+}
+
+/// A local edit.
+#[derive(Clone, Copy)]
+pub enum LocalEdit {
+    Insert { place: usize, symbol: Symbol },
 }
 
 /// What an event has done.
@@ -94,13 +100,13 @@ impl<A: Allocator + Copy> Model for World<A> {
 }
 
 /// Gives a replica operations.
-fn gain<A: Allocator + Copy>(replica: &mut Replica<A>, ops: &[Op]) -> Result<Answer, StepRefusal>
+fn gain<A: Allocator + Copy>(replica: &mut Replica<A>, ops: &[Op]) -> Result<Count, StepRefusal>
     requires { All IsLawful ops.now }
     ensures site { replica.new.site ≡ replica.old.site }
     ensures ops { Gains replica.old.ops ops.now result replica.new.ops }
 {
     match replica.take_all(ops) {
-        Ok(count) => Ok(Answer::Taken(count)),
+        Ok(count) => Ok(count),
         Err(stop) => Err(StepRefusal::Halted(stop)),
     }
 }
@@ -110,7 +116,7 @@ fn gain_at<A: Allocator + Copy>(
     sites: &mut SiteMap<A>,
     to: u16,
     ops: &[Op],
-) -> Result<Answer, StepRefusal>
+) -> Result<Count, StepRefusal>
     requires { All IsLawful ops.now }
     ensures { MatchOption (lookup (nat_eq to) sites.old.entries) ((result ≡ Err StepRefusal.NoSite) × (sites.new.entries ≡ sites.old.entries))
         (λ s. (t : State) × IsUpdated sites.old.entries sites.new.entries to s t × Gains s.ops ops.now result t.ops) }
@@ -121,35 +127,44 @@ fn gain_at<A: Allocator + Copy>(
     gain(replica, ops)
 }
 
-/// Inserts a symbol into a replica's copy.
-fn edit<A: Allocator + Copy>(
-    replica: &mut Replica<A>,
-    place: usize,
-    symbol: Symbol,
-) -> Result<Answer, StepRefusal>
-    ensures site { replica.new.site ≡ replica.old.site }
-    ensures ops { Edits replica.old place symbol result replica.new }
+fn taken(given: Result<Count, StepRefusal>) -> Result<Answer, StepRefusal>
+    ensures { result ≡ taken given }
 {
-    match replica.insert_at(place, symbol) {
-        Ok(op) => Ok(Answer::Made(op)),
-        Err(why) => Err(StepRefusal::Edit(why)),
+    match given {
+        Ok(count) => Ok(Answer::Taken(count)),
+        Err(why) => Err(why),
     }
 }
 
-/// Inserts a symbol into a site's copy. The others stay.
+/// Edits a replica.
+fn edit<A: Allocator + Copy>(
+    replica: &mut Replica<A>,
+    edit: LocalEdit,
+) -> Result<Answer, StepRefusal>
+    ensures site { replica.new.site ≡ replica.old.site }
+    ensures ops { Edits replica.old edit result replica.new }
+{
+    match edit {
+        LocalEdit::Insert { place, symbol } => match replica.insert_at(place, symbol) {
+            Ok(op) => Ok(Answer::Made(op)),
+            Err(why) => Err(StepRefusal::Edit(why)),
+        },
+    }
+}
+
+/// Edits a site. The others stay.
 fn edit_at<A: Allocator + Copy>(
     sites: &mut SiteMap<A>,
     site: u16,
-    place: usize,
-    symbol: Symbol,
+    change: LocalEdit,
 ) -> Result<Answer, StepRefusal>
     ensures { MatchOption (lookup (nat_eq site) sites.old.entries) ((result ≡ Err StepRefusal.NoSite) × (sites.new.entries ≡ sites.old.entries))
-        (λ s. (t : State) × IsUpdated sites.old.entries sites.new.entries site s t × Edits s place symbol result t) }
+        (λ s. (t : State) × IsUpdated sites.old.entries sites.new.entries site s t × Edits s change result t) }
 {
     let Some(replica) = sites.get_mut(&site) else {
         return Err(StepRefusal::NoSite);
     };
-    edit(replica, place, symbol)
+    edit(replica, change)
 }
 
 /// Whether some site holds the operation.
@@ -215,6 +230,15 @@ impl<A: Allocator + Copy> World<A> {
         }
     }
 
+    /// Gives a site operations that may come from outside the world: `NoSite`, or `Halted` after the first `taken`. No
+    /// other site changes.
+    pub fn bring(&mut self, site: u16, ops: &[Op]) -> Result<Count, StepRefusal>
+        requires { All IsLawful ops.now }
+        ensures { Brings self.old site ops.now result self.new }
+    {
+        gain_at(&mut self.sites, site, ops)
+    }
+
     fn give(&mut self, to: u16, ops: &[Op]) -> Result<Answer, StepRefusal>
         requires { All IsLawful ops.now }
         ensures { Steps self.old (world.Give to ops.now) result self.new }
@@ -225,13 +249,14 @@ impl<A: Allocator + Copy> World<A> {
         if !self.all_held(ops) {
             return Err(StepRefusal::Strange);
         }
-        gain_at(&mut self.sites, to, ops)
+        let given = self.bring(to, ops);
+        taken(given)
     }
 
-    fn insert(&mut self, site: u16, place: usize, symbol: Symbol) -> Result<Answer, StepRefusal>
-        ensures { Steps self.old (world.Insert site place symbol) result self.new }
+    fn edit(&mut self, site: u16, change: LocalEdit) -> Result<Answer, StepRefusal>
+        ensures { EditsSite self.old site change result self.new }
     {
-        edit_at(&mut self.sites, site, place, symbol)
+        edit_at(&mut self.sites, site, change)
     }
 
     /// Lets an event happen. It changes the named site alone, and `Give` asks for lawful operations.
@@ -245,7 +270,7 @@ impl<A: Allocator + Copy> World<A> {
                 site,
                 place,
                 symbol,
-            } => self.insert(site, place, symbol),
+            } => self.edit(site, LocalEdit::Insert { place, symbol }),
             Event::Give { to, ops } => self.give(to, ops),
         }
     }
