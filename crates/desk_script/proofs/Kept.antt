@@ -1,16 +1,15 @@
 -- Worlds that stay as they are kept, and what their events answer.
-use Rattle.std.proofs.Common.{◌≡◌, ℕ, ◌+◌, ◌==◌, Bool, true, false, cond, not, List, [], ◌∷◌, map, length, refl, sym, ap, ◌∙◌, subst, nat_eq, arith, ◌≤◌, ◌<◌}
+use Rattle.std.proofs.Common.{◌≡◌, ℕ, ◌+◌, ◌==◌, Bool, true, false, cond, List, [], map, length, refl, sym, ap, ◌∙◌, subst, nat_eq, arith, ◌≤◌, ◌<◌}
 use Rattle.std.proofs.lemmas.Bool.Decides.{nat_tests}
 use Rattle.std.specs.List.{IsDistinct}
-use Rattle.std.specs.Prelude.{Option, Some, None, Result, Ok, Err, option_map, is_some, IfSome, IfOk, OnOk, IfErr, MatchOption, MatchResult, MatchBool, nat_le}
+use Rattle.std.specs.Prelude.{Option, Some, None, Result, Err, option_map, is_some, IfSome, MatchOption, MatchBool, nat_le}
 use Rattle.std.specs.FinMap as fin
-use Rattle.std.specs.Cmp.{nat_cmp_total, nat_eq_equiv}
+use Rattle.std.specs.Cmp.{nat_cmp_total}
 use Rattle.std.specs.Map.{lookup}
 use Rattle.desk_ops.specs.declared.op.Op.{Op}
-use Rattle.desk_ops.specs.OpSet.{OpSet, no_ops, with_all}
+use Rattle.desk_ops.specs.OpSet.{OpSet}
 use Rattle.desk_replica.specs.declared.Count.{Count}
-use Rattle.desk_replica.specs.declared.Stopped.{Stopped}
-use Rattle.desk_replica.specs.State.{State, IsCounted, IsStopped}
+use Rattle.desk_replica.specs.State.{State}
 use Rattle.desk_script.specs.declared.world.Answer.{Answer}
 use Rattle.desk_script.specs.declared.world.StepRefusal.{StepRefusal}
 use Rattle.desk_script.specs.declared.world.StepRefusal.TheVariants as refusals
