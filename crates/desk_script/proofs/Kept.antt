@@ -1,13 +1,18 @@
 -- Worlds that stay as they are kept, and what their events answer.
-use Rattle.std.proofs.Common.{◌≡◌, ℕ, ◌+◌, ◌==◌, Bool, true, false, cond, List, [], map, length, refl, sym, ap, ◌∙◌, subst, nat_eq, arith, ◌≤◌, ◌<◌}
+use Rattle.std.proofs.Common.{◌||◌, ◌≡◌, ℕ, ◌+◌, ◌==◌, Bool, true, false, cond, List, [], map, length, refl, sym, ap, ◌∙◌, subst, nat_eq, arith, ◌≤◌, ◌<◌}
 use Rattle.std.proofs.lemmas.Bool.Decides.{nat_tests}
 use Rattle.std.specs.List.{IsDistinct}
 use Rattle.std.specs.Prelude.{Option, Some, None, Result, Err, option_map, is_some, IfSome, MatchOption, MatchBool, nat_le}
 use Rattle.std.specs.FinMap as fin
+use Rattle.std.specs.FinSet.{nat_cmp-IsAntisymmetric}
 use Rattle.std.specs.Cmp.{nat_cmp_total}
 use Rattle.std.specs.Map.{lookup}
 use Rattle.desk_ops.specs.declared.op.Op.{Op}
-use Rattle.desk_ops.specs.OpSet.{OpSet}
+use Rattle.desk_ops.specs.OpSet.{OpSet, no_ops, with_all, in_order, has_op, size}
+use Rattle.desk_ops.specs.Order.{op_cmp}
+use Rattle.desk_ops.proofs.Unions.{same-set, has_op-union}
+use Rattle.desk_held.specs.declared.AddRefusal.TheVariants as adds
+use Rattle.desk_replica.specs.declared.Stopped.{Stopped}
 use Rattle.desk_replica.specs.declared.Count.{Count}
 use Rattle.desk_replica.specs.State.{State}
 use Rattle.desk_script.specs.declared.world.Answer.{Answer}
@@ -15,7 +20,7 @@ use Rattle.desk_script.specs.declared.world.StepRefusal.{StepRefusal}
 use Rattle.desk_script.specs.declared.world.StepRefusal.TheVariants as refusals
 use Rattle.desk_script.specs.Sites.{Sites, sites_of, all_held, IsKept, IsUpdated}
 use Rattle.desk_script.specs.declared.world.LocalEdit.{LocalEdit}
-use Rattle.desk_script.specs.World.{site_refusal, Refuses, Adds, Edits, EditsSite, Gains, Brings, Steps, site_with, taken}
+use Rattle.desk_script.specs.World.{site_refusal, Refuses, Adds, Edits, EditsSite, Gains, Brings, Steps, site_with, taken, IsReopened}
 use Rattle.desk_script.specs.World as changes
 use Rattle.desk_script.proofs.Sites.{get-sites_of, sites_of-updated}
 
@@ -188,3 +193,46 @@ edited es fs n edit r old kept view h = at (lookup (nat_eq n) es) refl h
         let done : Edits (site_with n s.ops) edit r (site_with n t.ops) =
         subst (λ (x : State). Edits x edit r (site_with n t.ops)) (named s n own) (subst (λ (x : State). Edits s edit r x) (named t n (g.1.named ∙ own)) g.2) in
         subst (EditsTo old n edit r (sites_of fs)) (sym set) (t.ops, done, new)
+
+-- ---- a site that is opened again
+
+abbrev pub ReopensAt : List (ℕ × State) → List (ℕ × State) → ℕ → Result Answer StepRefusal → Option State → Type 0
+ReopensAt es fs n r o = MatchOption o ((r ≡ Err refusals.NoSite) × (fs ≡ es)) (λ s. (t : State) × IsUpdated es fs n s t × (t.ops ≡ s.ops) × IsReopened s.ops r)
+
+pub kept_reopened : (es fs : List (ℕ × State)) (n : ℕ) (r : Result Answer StepRefusal) → IsKept es → ReopensAt es fs n r (lookup (nat_eq n) es) → IsKept fs
+kept_reopened es fs n r kept h = at (lookup (nat_eq n) es) h
+  where
+    at : (o : Option State) → ReopensAt es fs n r o → IsKept fs
+    at None g = subst IsKept (sym g.1) kept
+    at (Some s) g = kept_updated es fs n s g.0 kept g.1
+
+-- an entry with the same operations says the same
+same_sites : (es fs : List (ℕ × State)) (n : ℕ) (s t : State) → IsUpdated es fs n s t → t.ops ≡ s.ops → sites_of fs ≡ sites_of es
+same_sites es fs n s t up same =
+    fin.same_map nat_cmp_total nat_cmp-IsAntisymmetric _ _ (λ q. get-sites_of fs q ∙ ap (option_map (λ h. h.ops)) (up.entries q) ∙ here (nat_eq n q) q refl ∙ sym (get-sites_of es q))
+  where
+    here : (b : Bool) (q : ℕ) → nat_eq n q ≡ b → option_map (λ h. h.ops) (cond b (Some t) (lookup (nat_eq q) es)) ≡ option_map (λ h. h.ops) (lookup (nat_eq q) es)
+    here true q e = ap Some same ∙ sym (ap (option_map (λ h. h.ops)) (ap (λ k. lookup (nat_eq k) es) (sym (same_number n q e)) ∙ up.there))
+    here false q e = refl
+
+abbrev ReopensTo : Sites → Result Answer StepRefusal → Sites → Option OpSet → Type 0
+ReopensTo old r new o = MatchOption o (Refuses old refusals.NoSite r new) (λ set. IsReopened set r × (new ≡ old))
+
+pub reopened : (es fs : List (ℕ × State)) (n : ℕ) (r : Result Answer StepRefusal) (old : Sites) → sites_of es ≡ old
+    → ReopensAt es fs n r (lookup (nat_eq n) es) → Steps old (changes.Restart n) r (sites_of fs)
+reopened es fs n r old view h = at (lookup (nat_eq n) es) refl h
+  where
+    at : (o : Option State) → lookup (nat_eq n) es ≡ o → ReopensAt es fs n r o → Steps old (changes.Restart n) r (sites_of fs)
+    at None e g =
+        let none : fin.get old n ≡ None = ap (λ m. fin.get m n) (sym view) ∙ get-sites_of es n ∙ ap (option_map (λ x. x.ops)) e in
+        subst (ReopensTo old r (sites_of fs)) (sym none) (g.0, ap sites_of g.1 ∙ view)
+    at (Some s) e g =
+        let set : fin.get old n ≡ Some s.ops = ap (λ m. fin.get m n) (sym view) ∙ get-sites_of es n ∙ ap (option_map (λ x. x.ops)) e in
+        subst (ReopensTo old r (sites_of fs)) (sym set) (g.3, same_sites es fs n s g.0 g.1 g.2 ∙ view)
+
+-- what a set holds, taken in anew
+pub anew : (set : OpSet) → with_all no_ops (in_order set) ≡ set
+anew set = same-set (with_all no_ops (in_order set)) set (λ q. has_op-union no_ops set q ∙ ap (λ b. b || has_op set q) (ap is_some (fin.get-empty op_cmp q)))
+
+pub only_full : (set : OpSet) (stop : Stopped) → (stop.why ≡ adds.Full → 1048576 < size (with_all no_ops (in_order set))) → stop.why ≡ adds.Full → 1048576 < size set
+only_full set stop full is = subst (λ g. 1048576 < size g) (anew set) (full is)

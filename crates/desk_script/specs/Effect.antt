@@ -123,6 +123,8 @@ Does old (Insert n place copy) reply new = MatchOption (set_of old n) (Says (Ref
     (λ set. MatchBool (nat_le place (length (copy_of set)))
     (MatchBool (all_symbols copy) (Inserts old n place copy 0 None reply new) (Says (Refused refusals.Value) old reply new))
     (Says (Refused refusals.Place) old reply new))
+Does old (Delete n place) reply new = MatchOption (set_of old n) (Says (Refused refusals.Site) old reply new) (λ set. Happens old (changes.Delete n place) reply new)
+Does old (SetTo n key value) reply new = MatchOption (set_of old n) (Says (Refused refusals.Site) old reply new) (λ set. Happens old (changes.Set n key value) reply new)
 Does old (Take n bytes) reply new = MatchOption (set_of old n) (Says (Refused refusals.Site) old reply new) (λ set. Takes old n bytes reply new)
 Does old (Send from to range) reply new = MatchOption (set_of old from) (Says (Refused refusals.Site) old reply new)
     (λ set. MatchOption (set_of old to) (Says (Refused refusals.Site) old reply new)
@@ -133,13 +135,11 @@ Does old (Merge to from) reply new = MatchOption (set_of old to) (Says (Refused 
     (λ set. Happens old (changes.Give to (in_order set)) reply new))
 Does old (Show n) reply new = MatchOption (set_of old n) (Says (Refused refusals.Site) old reply new) (λ set. Says (Copy (copy_of set)) old reply new)
 Does old (Feed n) reply new = MatchOption (set_of old n) (Says (Refused refusals.Site) old reply new) (λ set. Says (replies.Feed (feed (in_order set))) old reply new)
-Does old (Delete site place) reply new = Says (Refused refusals.Command) old reply new
-Does old (SetTo site key value) reply new = Says (Refused refusals.Command) old reply new
+Does old (Restart n) reply new = MatchOption (set_of old n) (Says (Refused refusals.Site) old reply new) (λ set. Happens old (changes.Restart n) reply new)
 Does old (Faults site) reply new = Says (Refused refusals.Command) old reply new
 Does old (Settings site) reply new = Says (Refused refusals.Command) old reply new
 Does old (Ribbon site case wedge) reply new = Says (Refused refusals.Command) old reply new
 Does old (Cast site case wedge) reply new = Says (Refused refusals.Command) old reply new
-Does old (Restart site) reply new = Says (Refused refusals.Command) old reply new
 
 -- the answer that a line may get, and the sites after it
 abbrev pub Allows : Sites → Line → Reply → Sites → Type 0

@@ -1,15 +1,17 @@
 -- What each event does to a world.
-use Rattle.std.specs.Prelude.{◌≡◌, ℕ, ◌==◌, nat_le, List, Option, Some, None, Result, Ok, Err, MatchOption, MatchResult, ◌⊎◌, MatchBool, All, ⊤, if◌then◌else◌}
+use Rattle.std.specs.Prelude.{◌≡◌, ℕ, ◌<◌, ◌==◌, nat_le, List, Option, Some, None, Result, Ok, Err, MatchOption, MatchResult, ◌⊎◌, MatchBool, All, ⊤, if◌then◌else◌}
 use Rattle.std.specs.FinMap as fin
 use Rattle.desk_ops.specs.declared.op.Op.{Op}
 use Rattle.desk_ops.specs.Op.{IsLawful}
-use Rattle.desk_ops.specs.OpSet.{OpSet, no_ops, with_all}
+use Rattle.desk_ops.specs.OpSet.{OpSet, no_ops, with_all, size}
 use Rattle.desk_replica.specs.declared.Count.{Count}
 use Rattle.desk_replica.specs.declared.Stopped.{Stopped}
 use Rattle.desk_ops.specs.declared.op.Symbol.{Symbol}
+use Rattle.desk_ops.specs.declared.op.Key.{Key}
+use Rattle.desk_held.specs.declared.AddRefusal.TheVariants as adds
 use Rattle.desk_replica.specs.declared.Refusal.{Refusal as EditRefusal}
 use Rattle.desk_replica.specs.declared.Refusal.TheVariants as edits
-use Rattle.desk_replica.specs.Edits.{insert_refusal, IsInserted}
+use Rattle.desk_replica.specs.Edits.{insert_refusal, delete_refusal, set_refusal, IsInserted, IsDeleted, IsSetTo}
 use Rattle.desk_replica.specs.State.{State, IsCounted, IsStopped}
 use Rattle.desk_script.specs.declared.world.Answer.{Answer}
 use Rattle.desk_script.specs.declared.world.Answer.TheVariants as answers
@@ -25,18 +27,27 @@ use Rattle.desk_script.specs.Sites.{Sites, all_held}
 pub data Change : Type 0 where
   Site : ℕ → Change
   Insert : ℕ → ℕ → Symbol → Change
+  Delete : ℕ → ℕ → Change
+  Set : ℕ → Key → ℕ → Change
   Give : ℕ → List Op → Change
+  Restart : ℕ → Change
 
 abbrev pub change : Event → Change
 change (events.Site n) = Site n
 change (events.Insert site place symbol) = Insert site place symbol
+change (events.Delete site place) = Delete site place
+change (events.Set site key value) = Set site key value
 change (events.Give to ops) = Give to ops.now
+change (events.Restart site) = Restart site
 
 -- what is given is lawful
 abbrev pub IsSound : Change → Type 0
 IsSound (Site n) = ⊤
 IsSound (Insert site place symbol) = ⊤
+IsSound (Delete site place) = ⊤
+IsSound (Set site key value) = ⊤
 IsSound (Give to ops) = All IsLawful ops
+IsSound (Restart site) = ⊤
 
 -- why no site with the number can be added
 abbrev pub site_refusal : Sites → ℕ → Option StepRefusal
@@ -78,10 +89,14 @@ site_with n set = record { site = n; ops = set }
 -- the first cause that refuses an edit, want of memory aside
 abbrev pub refusal_of : OpSet → LocalEdit → Option EditRefusal
 refusal_of ops (kinds.Insert place symbol) = insert_refusal ops place symbol
+refusal_of ops (kinds.Delete place) = delete_refusal ops place
+refusal_of ops (kinds.Set key value) = set_refusal ops key value
 
 -- exactly this operation was made and gained
 abbrev pub IsEdited : State → State → LocalEdit → Op → Type 0
 IsEdited s t (kinds.Insert place symbol) op = IsInserted s t place symbol op
+IsEdited s t (kinds.Delete place) op = IsDeleted s t place op
+IsEdited s t (kinds.Set key value) op = IsSetTo s t key value op
 
 -- an operation is made and gained, or nothing changes, for the first cause or for want of memory
 abbrev pub Edits : State → LocalEdit → Result Answer StepRefusal → State → Type 0
@@ -94,9 +109,17 @@ abbrev pub EditsSite : Sites → ℕ → LocalEdit → Result Answer StepRefusal
 EditsSite old n edit result new = MatchOption (fin.get old n) (Refuses old refusals.NoSite result new)
     (λ set. (after : OpSet) × Edits (site_with n set) edit result (site_with n after) × (new ≡ fin.insert old n after))
 
+-- opening a set again succeeds, or stops before anything was taken; full only where the set is more than may be held
+abbrev pub IsReopened : OpSet → Result Answer StepRefusal → Type 0
+IsReopened set result = MatchResult result (λ a. a ≡ answers.Done)
+    (λ e. (stop : Stopped) × (e ≡ refusals.Halted stop) × (stop.taken ≡ 0) × (stop.why ≡ adds.Full → 1048576 < size set))
+
 -- what an event answers, and the sites after it: no other than the named one changes
 abbrev pub Steps : Sites → Change → Result Answer StepRefusal → Sites → Type 0
 Steps old (Site n) result new = MatchOption (site_refusal old n) (Adds old n result new) (λ why. Refuses old why result new)
 Steps old (Insert n place symbol) result new = EditsSite old n (kinds.Insert place symbol) result new
+Steps old (Delete n place) result new = EditsSite old n (kinds.Delete place) result new
+Steps old (Set n key value) result new = EditsSite old n (kinds.Set key value) result new
 Steps old (Give to ops) result new = MatchOption (fin.get old to) (Refuses old refusals.NoSite result new)
     (λ set. MatchBool (all_held old ops) ((given : Result Count StepRefusal) × (result ≡ taken given) × Brings old to ops given new) (Refuses old refusals.Strange result new))
+Steps old (Restart n) result new = MatchOption (fin.get old n) (Refuses old refusals.NoSite result new) (λ set. IsReopened set result × (new ≡ old))

@@ -17,7 +17,7 @@ use crate::text::{Refusal, Response};
 use crate::world::{Answer, Event, StepRefusal, World};
 use desk_codec::{ReadFault, read_feed};
 use desk_held::AddRefusal;
-use desk_ops::{NoMemory, Op, Stamp, Symbol};
+use desk_ops::{Key, NoMemory, Op, Stamp, Symbol};
 use desk_replica::{Replica, Stopped};
 use std::alloc::Allocator;
 
@@ -309,6 +309,46 @@ fn insert<A: Allocator + Copy>(
     insert_all(world, number, place as usize, copy)
 }
 
+fn delete<A: Allocator + Copy>(
+    world: &mut World<A>,
+    site: u32,
+    place: u32,
+) -> Result<Response<A>, NoMemory>
+    ensures { IfOk result (λ a. Does world.old (requests.Delete site place) (reply a) world.new) }
+{
+    let Some(site) = number_of(world, site) else {
+        return Ok(Response::Refused(Refusal::Site));
+    };
+    let place = place as usize;
+    let given = world.step(&Event::Delete { site, place });
+    told(given)
+}
+
+fn set<A: Allocator + Copy>(
+    world: &mut World<A>,
+    site: u32,
+    key: Key,
+    value: u32,
+) -> Result<Response<A>, NoMemory>
+    ensures { IfOk result (λ a. Does world.old (requests.SetTo site key value) (reply a) world.new) }
+{
+    let Some(site) = number_of(world, site) else {
+        return Ok(Response::Refused(Refusal::Site));
+    };
+    let given = world.step(&Event::Set { site, key, value });
+    told(given)
+}
+
+fn restart<A: Allocator + Copy>(world: &mut World<A>, site: u32) -> Result<Response<A>, NoMemory>
+    ensures { IfOk result (λ a. Does world.old (requests.Restart site) (reply a) world.new) }
+{
+    let Some(site) = number_of(world, site) else {
+        return Ok(Response::Refused(Refusal::Site));
+    };
+    let given = world.step(&Event::Restart(site));
+    told(given)
+}
+
 fn show<A: Allocator + Copy>(world: &World<A>, site: u32) -> Result<Response<A>, NoMemory>
     ensures { IfOk result (λ a. Does world.now (requests.Show site) (reply a) world.now) }
 {
@@ -338,11 +378,14 @@ fn act<A: Allocator + Copy>(
     match command {
         Command::Site(site) => add_site(world, site),
         Command::Insert { site, place, copy } => insert(world, site, place, &copy),
+        Command::Delete { site, place } => delete(world, site, place),
+        Command::Set { site, key, value } => set(world, site, key, value),
         Command::Take { site, feed } => take(alloc, world, site, &feed),
         Command::Send { from, to, range } => send(world, from, to, range),
         Command::Merge { to, from } => merge(world, to, from),
         Command::Show(site) => show(world, site),
         Command::Feed(site) => feed(world, site),
+        Command::Restart(site) => restart(world, site),
         _ => Ok(Response::Refused(Refusal::Command)),
     }
 }

@@ -8,10 +8,11 @@ ghost use Rattle.desk_ops.specs.Op.{IsLawful};
 ghost use Rattle.desk_ops.specs.OpSet.{has_op};
 ghost use Rattle.desk_replica.specs.State.{State};
 ghost use Rattle.desk_script.specs.Sites.{no_sites, is_held, all_held, sites_of, IsUpdated};
-ghost use Rattle.desk_script.specs.World.{Steps, change, IsSound, Edits, EditsSite, Gains, Brings, taken};
+ghost use Rattle.desk_script.specs.World.{Steps, change, IsSound, Edits, EditsSite, Gains, Brings, taken, IsReopened};
 ghost use Rattle.desk_script.specs.World as world;
 
-use desk_ops::{Op, Symbol};
+use desk_held::AddRefusal;
+use desk_ops::{Key, Op, Symbol};
 use desk_replica::{Count, Replica, Stopped};
 use indexmap::IndexMap;
 use std::alloc::Allocator;
@@ -33,17 +34,32 @@ pub enum Event<'a> {
         place: usize,
         symbol: Symbol,
     },
+    /// The symbol at a place of a site's copy is deleted.
+    Delete {
+        site: u16,
+        place: usize,
+    },
+    /// A setting of the job is set at a site.
+    Set {
+        site: u16,
+        key: Key,
+        value: u32,
+    },
     /// A site is given operations that some site holds.
     Give {
         to: u16,
         ops: &'a [Op],
     },
+    /// A site is opened again from the operations that it holds.
+    Restart(u16),
 }
 
 /// A local edit.
 #[derive(Clone, Copy)]
 pub enum LocalEdit {
     Insert { place: usize, symbol: Symbol },
+    Delete { place: usize },
+    Set { key: Key, value: u32 },
 }
 
 /// What an event has done.
@@ -139,16 +155,19 @@ fn taken(given: Result<Count, StepRefusal>) -> Result<Answer, StepRefusal>
 /// Edits a replica.
 fn edit<A: Allocator + Copy>(
     replica: &mut Replica<A>,
-    edit: LocalEdit,
+    change: LocalEdit,
 ) -> Result<Answer, StepRefusal>
     ensures site { replica.new.site ≡ replica.old.site }
-    ensures ops { Edits replica.old edit result replica.new }
+    ensures ops { Edits replica.old change result replica.new }
 {
-    match edit {
-        LocalEdit::Insert { place, symbol } => match replica.insert_at(place, symbol) {
-            Ok(op) => Ok(Answer::Made(op)),
-            Err(why) => Err(StepRefusal::Edit(why)),
-        },
+    let made = match change {
+        LocalEdit::Insert { place, symbol } => replica.insert_at(place, symbol),
+        LocalEdit::Delete { place } => replica.delete_at(place),
+        LocalEdit::Set { key, value } => replica.set(key, value),
+    };
+    match made {
+        Ok(op) => Ok(Answer::Made(op)),
+        Err(why) => Err(StepRefusal::Edit(why)),
     }
 }
 
@@ -165,6 +184,42 @@ fn edit_at<A: Allocator + Copy>(
         return Err(StepRefusal::NoSite);
     };
     edit(replica, change)
+}
+
+/// Opens a replica again from the operations that it holds.
+fn reopen<A: Allocator + Copy>(alloc: A, replica: &mut Replica<A>) -> Result<Answer, StepRefusal>
+    ensures site { replica.new.site ≡ replica.old.site }
+    ensures ops { replica.new.ops ≡ replica.old.ops }
+    ensures answer { IsReopened replica.old.ops result }
+{
+    let Ok(ops) = replica.in_order() else {
+        return Err(StepRefusal::Halted(Stopped {
+            taken: 0,
+            why: AddRefusal::NoMemory,
+        }));
+    };
+    match Replica::open(alloc, replica.site(), &ops) {
+        Ok(anew) => {
+            *replica = anew;
+            Ok(Answer::Done)
+        }
+        Err(stop) => Err(StepRefusal::Halted(stop)),
+    }
+}
+
+/// Opens a site again. The others stay.
+fn reopen_at<A: Allocator + Copy>(
+    alloc: A,
+    sites: &mut SiteMap<A>,
+    site: u16,
+) -> Result<Answer, StepRefusal>
+    ensures { MatchOption (lookup (nat_eq site) sites.old.entries) ((result ≡ Err StepRefusal.NoSite) × (sites.new.entries ≡ sites.old.entries))
+        (λ s. (t : State) × IsUpdated sites.old.entries sites.new.entries site s t × (t.ops ≡ s.ops) × IsReopened s.ops result) }
+{
+    let Some(replica) = sites.get_mut(&site) else {
+        return Err(StepRefusal::NoSite);
+    };
+    reopen(alloc, replica)
 }
 
 /// Whether some site holds the operation.
@@ -259,6 +314,12 @@ impl<A: Allocator + Copy> World<A> {
         edit_at(&mut self.sites, site, change)
     }
 
+    fn restart(&mut self, site: u16) -> Result<Answer, StepRefusal>
+        ensures { Steps self.old (world.Restart site) result self.new }
+    {
+        reopen_at(self.alloc, &mut self.sites, site)
+    }
+
     /// Lets an event happen. It changes the named site alone, and `Give` asks for lawful operations.
     pub fn step(&mut self, event: &Event<'_>) -> Result<Answer, StepRefusal>
         requires { IsSound (change event.now) }
@@ -271,7 +332,10 @@ impl<A: Allocator + Copy> World<A> {
                 place,
                 symbol,
             } => self.edit(site, LocalEdit::Insert { place, symbol }),
+            Event::Delete { site, place } => self.edit(site, LocalEdit::Delete { place }),
+            Event::Set { site, key, value } => self.edit(site, LocalEdit::Set { key, value }),
             Event::Give { to, ops } => self.give(to, ops),
+            Event::Restart(site) => self.restart(site),
         }
     }
 }
