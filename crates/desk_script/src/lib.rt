@@ -27,3 +27,5 @@ pub use world::{Answer, Event, MAX_SITES, StepRefusal, World};
 mod tests;
 #[cfg(test)]
 mod worked;
+#[cfg(test)]
+mod worlds;
