@@ -5,3 +5,4 @@ pub mod Finds
 pub mod Walked
 pub mod Built
 pub mod Made
+pub mod KeptSets

@@ -2,6 +2,7 @@ mod copies;
 mod edits;
 mod growths;
 mod sets;
+mod settings;
 
 use super::*;
 use desk_ops::Style;
