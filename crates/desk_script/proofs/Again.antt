@@ -1,14 +1,13 @@
 -- What is written for a copy is read again as that copy.
-use Rattle.std.proofs.Common.{◌≡◌, ℕ, cond, ◌==◌, Bool, true, false, List, [], ◌∷◌, ◌++◌, Option, Some, None, refl, sym, ap, ◌∙◌, append_assoc, arith}
+use Rattle.std.proofs.Common.{◌≡◌, ℕ, ◌==◌, Bool, true, false, List, [], ◌∷◌, ◌++◌, Option, Some, None, refl, ap, ◌∙◌, arith}
 use Rattle.std.proofs.lemmas.Bool.Decides.{nat_tests}
 use Rattle.desk_ops.specs.declared.op.Style.{Style}
 use Rattle.desk_ops.specs.declared.op.Style.TheVariants.{Roman, Italic, SmallCap}
 use Rattle.desk_ops.specs.declared.op.Symbol.{Symbol}
-use Rattle.desk_script.specs.declared.copy.Place.{Place}
-use Rattle.desk_script.specs.declared.copy.Place.TheVariants.{Run, Quote, Opened, Inside, Escape, Closed}
+use Rattle.desk_script.specs.declared.copy.Place.TheVariants.{Run, Opened, Inside}
 use Rattle.desk_script.specs.Reading.{◌>>=◌}
 use Rattle.desk_script.specs.Copy.{symbol, step, copy_from}
-use Rattle.desk_script.specs.Text.{opening, same_style, quoted, turn, close, copy_chars_from}
+use Rattle.desk_script.specs.Text.{opening, quoted, turn, copy_chars_from}
 
 by_cases : {G : Type 0} (b : Bool) → (b ≡ true → G) → (b ≡ false → G) → G
 by_cases {G} b hit miss = (elim b as (λ v. (v ≡ true → G) → (v ≡ false → G) → G) [ true ↦ λ h m. h refl | false ↦ λ h m. m refl ]) hit miss

@@ -1,5 +1,5 @@
 -- What each command answers and does.
-use Rattle.std.specs.Prelude.{◌≡◌, ◌+◌, ◌⊎◌, ◌&&◌, Bool, true, [], ◌∷◌, length, nat_le, option_map, ℕ, ◌==◌, nat_lt, List, Option, Some, None, Result, Ok, Err, MatchOption, MatchBool, if◌then◌else◌}
+use Rattle.std.specs.Prelude.{◌≡◌, ◌+◌, ◌-◌, ◌⊎◌, take, drop, ◌&&◌, Bool, true, [], ◌∷◌, length, nat_le, option_map, ℕ, ◌==◌, nat_lt, List, Option, Some, None, Result, Ok, Err, MatchOption, MatchBool, if◌then◌else◌}
 use Rattle.std.specs.FinMap as fin
 use Rattle.desk_ops.specs.Op.{stamp_of, is_symbol}
 use Rattle.desk_ops.specs.declared.op.Op.{Op}
@@ -7,12 +7,14 @@ use Rattle.desk_ops.specs.declared.op.Stamp.{Stamp}
 use Rattle.desk_ops.specs.declared.op.Symbol.{Symbol}
 use Rattle.desk_ops.specs.OpSet.{OpSet, in_order}
 use Rattle.desk_ops.specs.Shown.{copy_of}
-use Rattle.desk_codec.specs.Feed.{feed}
+use Rattle.desk_codec.specs.Feed.{feed, IsFeed}
+use Rattle.desk_codec.specs.Fault.{IsFirstFault}
+use Rattle.desk_codec.specs.declared.fault.FeedFault.{FeedFault}
+use Rattle.desk_replica.specs.declared.Count.{Count}
 use Rattle.desk_held.specs.declared.AddRefusal.{AddRefusal}
 use Rattle.desk_held.specs.declared.AddRefusal.TheVariants as adds
 use Rattle.desk_replica.specs.declared.Refusal.{Refusal as EditRefusal}
 use Rattle.desk_replica.specs.declared.Refusal.TheVariants as edits
-use Rattle.desk_script.specs.declared.text.Refusal.{Refusal}
 use Rattle.desk_script.specs.declared.text.Refusal.TheVariants as refusals
 use Rattle.desk_script.specs.declared.world.Answer.{Answer}
 use Rattle.desk_script.specs.declared.world.Answer.TheVariants as answers
@@ -24,7 +26,7 @@ use Rattle.desk_script.specs.Reply.{Reply, Done, Made, MadeMany, Counted, Copy, 
 use Rattle.desk_script.specs.Reply as replies
 use Rattle.desk_script.specs.Grammar.{command_of}
 use Rattle.desk_script.specs.Sites.{Sites}
-use Rattle.desk_script.specs.World.{Steps}
+use Rattle.desk_script.specs.World.{Steps, Brings, taken}
 use Rattle.desk_script.specs.World as changes
 
 -- the reply to an event that stopped after so many operations: want of memory has none, as it ends the run
@@ -103,27 +105,41 @@ Inserts old n place (y ∷ ys) k made reply new =
     × MatchOption (made_of result) ((option_map (after k) (told result) ≡ Some reply) × (new ≡ mid))
     (λ op. Inserts mid n place ys (k + 1) (Some (first_of made (stamp_of op), stamp_of op)) reply new)
 
+-- a feed's operations are brought to a site, or its first fault is told
+abbrev pub Takes : Sites → ℕ → List ℕ → Reply → Sites → Type 0
+Takes old n bytes reply new =
+    ((ops : List Op) × IsFeed bytes ops × ((result : Result Count StepRefusal) × Brings old n ops result new × (told (taken result) ≡ Some reply)))
+    ⊎ ((fault : FeedFault) × IsFirstFault bytes fault × Says (Refused (refusals.Feed fault)) old reply new)
+
+-- the operations at the places of a range, or all
+abbrev pub sent : List Op → Option (ℕ × ℕ) → Option (List Op)
+sent ops None = Some ops
+sent ops (Some range) = if nat_le range.0 range.1 && nat_le range.1 (length ops) then Some (take (range.1 - range.0) (drop range.0 ops)) else None
+
 -- what a command answers and does. Those that are not there yet are no commands.
 abbrev pub Does : Sites → Request → Reply → Sites → Type 0
 Does old (Site n) reply new = MatchBool (nat_lt 65535 n) (Says (Refused refusals.Number) old reply new) (Happens old (changes.Site n) reply new)
-Does old (Send from to None) reply new = MatchOption (set_of old from) (Says (Refused refusals.Site) old reply new)
-    (λ set. MatchBool (nat_lt 65535 to) (Says (Refused refusals.Site) old reply new) (Happens old (changes.Give to (in_order set)) reply new))
-Does old (Send from to (Some range)) reply new = Says (Refused refusals.Command) old reply new
-Does old (Feed n) reply new = MatchOption (set_of old n) (Says (Refused refusals.Site) old reply new) (λ set. Says (replies.Feed (feed (in_order set))) old reply new)
-Does old (Show n) reply new = MatchOption (set_of old n) (Says (Refused refusals.Site) old reply new) (λ set. Says (Copy (copy_of set)) old reply new)
 Does old (Insert n place copy) reply new = MatchOption (set_of old n) (Says (Refused refusals.Site) old reply new)
     (λ set. MatchBool (nat_le place (length (copy_of set)))
     (MatchBool (all_symbols copy) (Inserts old n place copy 0 None reply new) (Says (Refused refusals.Value) old reply new))
     (Says (Refused refusals.Place) old reply new))
-Does old (Delete site place) reply new = Says (Refused refusals.Command) old reply new
-Does old (SetTo site key value) reply new = Says (Refused refusals.Command) old reply new
-Does old (Take site bytes) reply new = Says (Refused refusals.Command) old reply new
-Does old (Merge to from) reply new = Says (Refused refusals.Command) old reply new
+Does old (Delete n place) reply new = MatchOption (set_of old n) (Says (Refused refusals.Site) old reply new) (λ set. Happens old (changes.Delete n place) reply new)
+Does old (SetTo n key value) reply new = MatchOption (set_of old n) (Says (Refused refusals.Site) old reply new) (λ set. Happens old (changes.Set n key value) reply new)
+Does old (Take n bytes) reply new = MatchOption (set_of old n) (Says (Refused refusals.Site) old reply new) (λ set. Takes old n bytes reply new)
+Does old (Send from to range) reply new = MatchOption (set_of old from) (Says (Refused refusals.Site) old reply new)
+    (λ set. MatchOption (set_of old to) (Says (Refused refusals.Site) old reply new)
+    (λ other. MatchOption (sent (in_order set) range) (Says (Refused refusals.Place) old reply new)
+    (λ ops. Happens old (changes.Give to ops) reply new)))
+Does old (Merge to from) reply new = MatchOption (set_of old to) (Says (Refused refusals.Site) old reply new)
+    (λ other. MatchOption (set_of old from) (Says (Refused refusals.Site) old reply new)
+    (λ set. Happens old (changes.Give to (in_order set)) reply new))
+Does old (Show n) reply new = MatchOption (set_of old n) (Says (Refused refusals.Site) old reply new) (λ set. Says (Copy (copy_of set)) old reply new)
+Does old (Feed n) reply new = MatchOption (set_of old n) (Says (Refused refusals.Site) old reply new) (λ set. Says (replies.Feed (feed (in_order set))) old reply new)
+Does old (Restart n) reply new = MatchOption (set_of old n) (Says (Refused refusals.Site) old reply new) (λ set. Happens old (changes.Restart n) reply new)
 Does old (Faults site) reply new = Says (Refused refusals.Command) old reply new
 Does old (Settings site) reply new = Says (Refused refusals.Command) old reply new
 Does old (Ribbon site case wedge) reply new = Says (Refused refusals.Command) old reply new
 Does old (Cast site case wedge) reply new = Says (Refused refusals.Command) old reply new
-Does old (Restart site) reply new = Says (Refused refusals.Command) old reply new
 
 -- the answer that a line may get, and the sites after it
 abbrev pub Allows : Sites → Line → Reply → Sites → Type 0

@@ -1,5 +1,5 @@
 -- Which answers a script may get.
-use Rattle.std.specs.Prelude.{◌≡◌, ℕ, List, [], ◌∷◌, ◌++◌, Option, Some, None}
+use Rattle.std.specs.Prelude.{◌≡◌, ℕ, List, [], ◌∷◌, ◌++◌, Option}
 use Rattle.std.specs.Io.KnownBytes.{Appends}
 use Rattle.desk_script.specs.Lines.{Line, lines}
 use Rattle.desk_script.specs.Reply.{Reply}

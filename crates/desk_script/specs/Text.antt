@@ -6,6 +6,10 @@ use Rattle.desk_ops.specs.declared.op.Stamp.{Stamp}
 use Rattle.desk_ops.specs.declared.op.Style.{Style}
 use Rattle.desk_ops.specs.declared.op.Style.TheVariants.{Roman, Italic, SmallCap}
 use Rattle.desk_ops.specs.declared.op.Symbol.{Symbol}
+use Rattle.desk_ops.specs.declared.op.Unlawful.{Unlawful}
+use Rattle.desk_ops.specs.declared.op.Unlawful.TheVariants as causes
+use Rattle.desk_codec.specs.declared.fault.FeedWhy.{FeedWhy}
+use Rattle.desk_codec.specs.declared.fault.FeedWhy.TheVariants as faults
 use Rattle.desk_script.specs.Reply.{Reply, Done, Made, MadeMany, Counted, Copy, Feed, Refused, Stopped}
 use Rattle.desk_script.specs.declared.text.Refusal.{Refusal}
 use Rattle.desk_script.specs.declared.text.Refusal.TheVariants as refusals
@@ -53,6 +57,21 @@ copy_chars_from run (s ∷ symbols) = turn run s.style ++ (quoted s.ch ++ copy_c
 abbrev pub copy_text : List Symbol → List ℕ
 copy_text symbols = encode_utf8_all (copy_chars_from None symbols)
 
+-- the number of the cause why an operation is not lawful
+abbrev pub cause_number : Unlawful → ℕ
+cause_number causes.Counter = 1
+cause_number causes.Site = 2
+cause_number causes.Target = 3
+cause_number causes.Symbol = 4
+cause_number causes.Key = 5
+cause_number causes.Value = 6
+
+abbrev pub fault_text : FeedWhy → List ℕ
+fault_text faults.Magic = codes "magic"
+fault_text faults.Kind = codes "kind"
+fault_text (faults.Unlawful cause) = codes "unlawful " ++ decimal (cause_number cause)
+fault_text faults.Cut = codes "cut"
+
 abbrev pub refusal_text : Refusal → List ℕ
 refusal_text refusals.Line = codes "line"
 refusal_text refusals.Command = codes "command"
@@ -62,6 +81,7 @@ refusal_text refusals.Sites = codes "sites"
 refusal_text refusals.Site = codes "site"
 refusal_text refusals.Place = codes "place"
 refusal_text refusals.Value = codes "value"
+refusal_text (refusals.Feed fault) = codes "feed " ++ decimal fault.at ++ codes " " ++ fault_text fault.why
 refusal_text refusals.Full = codes "full"
 refusal_text refusals.Clock = codes "clock"
 

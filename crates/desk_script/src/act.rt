@@ -1,20 +1,23 @@
 //! What each command does.
 
-ghost use Rattle.std.specs.Prelude.{◌≡◌, ◌+◌, ◌<◌, ◌^◌, length, IfOk, MatchResult, Some, None, option_map};
+ghost use Rattle.std.specs.Prelude.{◌≡◌, ◌+◌, ◌<◌, ◌^◌, length, All, IfOk, IfSome, MatchResult, Result, Some, None, option_map};
 ghost use Rattle.desk_script.specs.Lines.{line_of};
 ghost use Rattle.desk_script.specs.Reply.{reply};
 ghost use Rattle.desk_script.specs.Reply as replies;
 ghost use Rattle.desk_script.specs.Request as requests;
 ghost use Rattle.desk_script.specs.Request.{request};
-ghost use Rattle.desk_ops.specs.Op.{stamp_of};
-ghost use Rattle.desk_script.specs.Effect.{Allows, Does, Says, told, after, first_of, made_of, all_made, all_symbols, Inserts, edit_refused, stopped_after, set_of};
+ghost use Rattle.desk_ops.specs.Op.{stamp_of, IsLawful};
+ghost use Rattle.desk_replica.specs.declared.Count.{Count};
+ghost use Rattle.desk_script.specs.World.{Brings, taken};
+ghost use Rattle.desk_script.specs.Effect.{Allows, Does, Says, told, after, first_of, made_of, all_made, all_symbols, Inserts, edit_refused, stopped_after, set_of, sent, Takes};
 
 use crate::command::{Command, ParseError};
 use crate::reader::parse;
 use crate::text::{Refusal, Response};
 use crate::world::{Answer, Event, StepRefusal, World};
+use desk_codec::{ReadFault, read_feed};
 use desk_held::AddRefusal;
-use desk_ops::{NoMemory, Op, Stamp, Symbol};
+use desk_ops::{Key, NoMemory, Op, Stamp, Symbol};
 use desk_replica::{Replica, Stopped};
 use std::alloc::Allocator;
 
@@ -84,22 +87,118 @@ fn add_site<A: Allocator + Copy>(world: &mut World<A>, site: u32) -> Result<Resp
     told(given)
 }
 
+/// The number of a site that is there.
+fn number_of<A: Allocator + Copy>(world: &World<A>, site: u32) -> Option<u16>
+    ensures { result ≡ option_map (λ _. site) (set_of world.now site) }
+{
+    let Ok(number) = u16::try_from(site) else {
+        return None;
+    };
+    match world.replica(number) {
+        None => None,
+        Some(_) => Some(number),
+    }
+}
+
+/// The operations at the places of a range, or all.
+fn sent(ops: &[Op], range: Option<(u32, u32)>) -> Option<&[Op]>
+    requires { All IsLawful ops.now }
+    ensures value { option_map (λ s. s.now) result ≡ sent ops.now range }
+    ensures lawful { IfSome result (λ s. All IsLawful s.now) }
+{
+    let Some((from, to)) = range else {
+        return Some(ops);
+    };
+    if from <= to && to as usize <= ops.len() {
+        Some(&ops[from as usize..to as usize])
+    } else {
+        None
+    }
+}
+
 fn send<A: Allocator + Copy>(
     world: &mut World<A>,
     from: u32,
     to: u32,
+    range: Option<(u32, u32)>,
 ) -> Result<Response<A>, NoMemory>
-    ensures { IfOk result (λ a. Does world.old (requests.Send from to None) (reply a) world.new) }
+    ensures { IfOk result (λ a. Does world.old (requests.Send from to range) (reply a) world.new) }
 {
     let Some(replica) = replica_of(world, from) else {
         return Ok(Response::Refused(Refusal::Site));
     };
     let ops = replica.in_order()?;
-    let Ok(to) = u16::try_from(to) else {
+    let Some(to) = number_of(world, to) else {
         return Ok(Response::Refused(Refusal::Site));
     };
+    let Some(ops) = sent(&ops, range) else {
+        return Ok(Response::Refused(Refusal::Place));
+    };
+    let given = world.step(&Event::Give { to, ops });
+    told(given)
+}
+
+fn merge<A: Allocator + Copy>(
+    world: &mut World<A>,
+    to: u32,
+    from: u32,
+) -> Result<Response<A>, NoMemory>
+    ensures { IfOk result (λ a. Does world.old (requests.Merge to from) (reply a) world.new) }
+{
+    let Some(to) = number_of(world, to) else {
+        return Ok(Response::Refused(Refusal::Site));
+    };
+    let Some(replica) = replica_of(world, from) else {
+        return Ok(Response::Refused(Refusal::Site));
+    };
+    let ops = replica.in_order()?;
     let given = world.step(&Event::Give { to, ops: &ops });
     told(given)
+}
+
+/// Brings operations to a site that is there.
+fn bring<A: Allocator + Copy>(
+    world: &mut World<A>,
+    site: u16,
+    ops: &[Op],
+) -> Result<Response<A>, NoMemory>
+    requires { All IsLawful ops.now }
+    ensures { IfOk result (λ a. (given : Result Count StepRefusal) × Brings world.old site ops.now given world.new × (told (taken given) ≡ Some (reply a))) }
+{
+    match world.bring(site, ops) {
+        Ok(count) => told(Ok(Answer::Taken(count))),
+        Err(why) => told(Err(why)),
+    }
+}
+
+/// Takes a feed at a site that is there.
+fn take_feed<A: Allocator + Copy>(
+    alloc: A,
+    world: &mut World<A>,
+    site: u16,
+    feed: &[u8],
+) -> Result<Response<A>, NoMemory>
+    ensures { IfOk result (λ a. Takes world.old site feed.now (reply a) world.new) }
+{
+    match read_feed(alloc, feed) {
+        Ok(ops) => bring(world, site, &ops),
+        Err(ReadFault::Fault(fault)) => Ok(Response::Refused(Refusal::Feed(fault))),
+        Err(ReadFault::Failed | ReadFault::NoMemory) => Err(NoMemory),
+    }
+}
+
+fn take<A: Allocator + Copy>(
+    alloc: A,
+    world: &mut World<A>,
+    site: u32,
+    feed: &[u8],
+) -> Result<Response<A>, NoMemory>
+    ensures { IfOk result (λ a. Does world.old (requests.Take site feed.now) (reply a) world.new) }
+{
+    let Some(site) = number_of(world, site) else {
+        return Ok(Response::Refused(Refusal::Site));
+    };
+    take_feed(alloc, world, site, feed)
 }
 
 /// A refusal after that many edits says that these stand.
@@ -210,6 +309,46 @@ fn insert<A: Allocator + Copy>(
     insert_all(world, number, place as usize, copy)
 }
 
+fn delete<A: Allocator + Copy>(
+    world: &mut World<A>,
+    site: u32,
+    place: u32,
+) -> Result<Response<A>, NoMemory>
+    ensures { IfOk result (λ a. Does world.old (requests.Delete site place) (reply a) world.new) }
+{
+    let Some(site) = number_of(world, site) else {
+        return Ok(Response::Refused(Refusal::Site));
+    };
+    let place = place as usize;
+    let given = world.step(&Event::Delete { site, place });
+    told(given)
+}
+
+fn set<A: Allocator + Copy>(
+    world: &mut World<A>,
+    site: u32,
+    key: Key,
+    value: u32,
+) -> Result<Response<A>, NoMemory>
+    ensures { IfOk result (λ a. Does world.old (requests.SetTo site key value) (reply a) world.new) }
+{
+    let Some(site) = number_of(world, site) else {
+        return Ok(Response::Refused(Refusal::Site));
+    };
+    let given = world.step(&Event::Set { site, key, value });
+    told(given)
+}
+
+fn restart<A: Allocator + Copy>(world: &mut World<A>, site: u32) -> Result<Response<A>, NoMemory>
+    ensures { IfOk result (λ a. Does world.old (requests.Restart site) (reply a) world.new) }
+{
+    let Some(site) = number_of(world, site) else {
+        return Ok(Response::Refused(Refusal::Site));
+    };
+    let given = world.step(&Event::Restart(site));
+    told(given)
+}
+
 fn show<A: Allocator + Copy>(world: &World<A>, site: u32) -> Result<Response<A>, NoMemory>
     ensures { IfOk result (λ a. Does world.now (requests.Show site) (reply a) world.now) }
 {
@@ -230,6 +369,7 @@ fn feed<A: Allocator + Copy>(world: &World<A>, site: u32) -> Result<Response<A>,
 
 /// Does what a command says.
 fn act<A: Allocator + Copy>(
+    alloc: A,
     world: &mut World<A>,
     command: Command<'_, A>,
 ) -> Result<Response<A>, NoMemory>
@@ -238,13 +378,14 @@ fn act<A: Allocator + Copy>(
     match command {
         Command::Site(site) => add_site(world, site),
         Command::Insert { site, place, copy } => insert(world, site, place, &copy),
-        Command::Send {
-            from,
-            to,
-            range: None,
-        } => send(world, from, to),
+        Command::Delete { site, place } => delete(world, site, place),
+        Command::Set { site, key, value } => set(world, site, key, value),
+        Command::Take { site, feed } => take(alloc, world, site, &feed),
+        Command::Send { from, to, range } => send(world, from, to, range),
+        Command::Merge { to, from } => merge(world, to, from),
         Command::Show(site) => show(world, site),
         Command::Feed(site) => feed(world, site),
+        Command::Restart(site) => restart(world, site),
         _ => Ok(Response::Refused(Refusal::Command)),
     }
 }
@@ -261,7 +402,7 @@ pub fn answer<A: Allocator + Copy>(
         return Ok(Response::Refused(Refusal::Line));
     }
     match parse(alloc, line) {
-        Ok(command) => act(world, command),
+        Ok(command) => act(alloc, world, command),
         Err(ParseError::Form) => Ok(Response::Refused(Refusal::Command)),
         Err(ParseError::NoMemory) => Err(NoMemory),
     }

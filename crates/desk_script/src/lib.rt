@@ -25,3 +25,7 @@ pub use world::{Answer, Event, MAX_SITES, StepRefusal, World};
 
 #[cfg(test)]
 mod tests;
+#[cfg(test)]
+mod worked;
+#[cfg(test)]
+mod worlds;

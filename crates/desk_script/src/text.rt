@@ -1,13 +1,13 @@
 //! Answers, and what they say.
 
-ghost use Rattle.std.specs.Prelude.{◌≡◌, ◌<◌, ◌++◌, ◌∷◌, [], List, OnOk, Some, codes, string_bytes};
+ghost use Rattle.std.specs.Prelude.{◌≡◌, ◌<◌, ◌++◌, ◌∷◌, [], List, OnOk, codes, string_bytes};
 ghost use Rattle.std.specs.Str.{encode_utf8_all};
 ghost use Rattle.desk_script.specs.Reply.{reply};
-ghost use Rattle.desk_script.specs.Text.{stamp_text, opening, quoted, turn, close, copy_text, hex_digit, hex_text, refusal_text, text};
+ghost use Rattle.desk_script.specs.Text.{stamp_text, opening, quoted, turn, close, copy_text, hex_digit, hex_text, refusal_text, cause_number, fault_text, text};
 
-use desk_ops::{Stamp, Style, Symbol};
+use desk_codec::{FeedFault, FeedWhy};
+use desk_ops::{Stamp, Style, Symbol, Unlawful};
 use std::alloc::{AllocError, Allocator};
-use std::fmt;
 
 /// Why a line changed nothing, or why it stopped.
 #[derive(Clone, Copy, Debug, PartialEq, Eq)]
@@ -28,28 +28,58 @@ pub enum Refusal {
     Place,
     /// A symbol or a value is not lawful.
     Value,
+    /// Bytes are no feed.
+    Feed(FeedFault),
     /// As many operations are held as may be.
     Full,
     /// The greatest counter is held.
     Clock,
 }
 
-impl fmt::Display for Refusal {
-    ghost output = { λ why. Some (refusal_text why) };
+/// The number of a cause.
+fn cause_number(cause: Unlawful) -> u8
+    ensures { result ≡ cause_number cause }
+{
+    match cause {
+        Unlawful::Counter => 1,
+        Unlawful::Site => 2,
+        Unlawful::Target => 3,
+        Unlawful::Symbol => 4,
+        Unlawful::Key => 5,
+        Unlawful::Value => 6,
+    }
+}
 
-    fn fmt<W: fmt::Write>(&self, f: &mut fmt::Formatter<W>) -> fmt::Result {
-        f.write_str(match self {
-            Refusal::Line => "line",
-            Refusal::Command => "command",
-            Refusal::Number => "number",
-            Refusal::Known => "known",
-            Refusal::Sites => "sites",
-            Refusal::Site => "site",
-            Refusal::Place => "place",
-            Refusal::Value => "value",
-            Refusal::Full => "full",
-            Refusal::Clock => "clock",
-        })
+fn put_fault<A: Allocator + Copy>(out: &mut String<A>, why: FeedWhy) -> Result<(), AllocError>
+    ensures { OnOk result (string_bytes out.new ≡ string_bytes out.old ++ fault_text why) }
+{
+    match why {
+        FeedWhy::Magic => out.push_str("magic"),
+        FeedWhy::Kind => out.push_str("kind"),
+        FeedWhy::Unlawful(cause) => write!(out, "unlawful {}", cause_number(cause)),
+        FeedWhy::Cut => out.push_str("cut"),
+    }
+}
+
+/// Writes a refusal at the end.
+fn put_refusal<A: Allocator + Copy>(out: &mut String<A>, why: Refusal) -> Result<(), AllocError>
+    ensures { OnOk result (string_bytes out.new ≡ string_bytes out.old ++ refusal_text why) }
+{
+    match why {
+        Refusal::Line => out.push_str("line"),
+        Refusal::Command => out.push_str("command"),
+        Refusal::Number => out.push_str("number"),
+        Refusal::Known => out.push_str("known"),
+        Refusal::Sites => out.push_str("sites"),
+        Refusal::Site => out.push_str("site"),
+        Refusal::Place => out.push_str("place"),
+        Refusal::Value => out.push_str("value"),
+        Refusal::Feed(fault) => {
+            write!(out, "feed {} ", fault.at)?;
+            put_fault(out, fault.why)
+        }
+        Refusal::Full => out.push_str("full"),
+        Refusal::Clock => out.push_str("clock"),
     }
 }
 
@@ -204,7 +234,13 @@ pub fn put<A: Allocator + Copy>(out: &mut String<A>, answer: &Response<A>) -> Re
             out.push_str("feed ")?;
             put_hex(out, feed)
         }
-        Response::Refused(why) => write!(out, "refused {why}"),
-        Response::Stopped(taken, why) => write!(out, "stopped {taken} {why}"),
+        Response::Refused(why) => {
+            out.push_str("refused ")?;
+            put_refusal(out, *why)
+        }
+        Response::Stopped(taken, why) => {
+            write!(out, "stopped {taken} ")?;
+            put_refusal(out, *why)
+        }
     }
 }

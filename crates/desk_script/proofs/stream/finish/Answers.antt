@@ -1,7 +1,6 @@
-use Rattle.std.proofs.Common.{rules, ◌≡◌, ◌∷◌, [], List, sym, subst, false}
-use Rattle.std.proofs.lemmas.Result.{on_err_weaker, on_ok_weaker}
-use Rattle.desk_script.specs.Script.{Turn, Fronts}
-use Rattle.desk_script.specs.Pending.{last_line}
+use Rattle.std.proofs.Common.{rules, [], sym, subst}
+use Rattle.std.proofs.lemmas.Result.{on_err_weaker}
+use Rattle.desk_script.specs.Script.{Fronts}
 use Rattle.desk_script.proofs.Cutting.{last_some}
 use Rattle.desk_script.proofs.stream.finish.Goals as goal
 

@@ -1,4 +1,4 @@
-use Rattle.std.proofs.Common.{◌≡◌, ◌∙◌}
+use Rattle.std.proofs.Common.{◌∙◌}
 use Rattle.std.proofs.lemmas.Result.{on_err_weaker, on_ok_weaker}
 use Rattle.desk_script.specs.Lines.{line_of}
 use Rattle.desk_script.proofs.Turns.{no_front, one_turn, one_front}
