@@ -4,5 +4,4 @@ pub mod Nodes
 pub mod Finds
 pub mod Walked
 pub mod Built
-pub mod Newest
 pub mod Made
