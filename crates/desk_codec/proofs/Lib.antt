@@ -5,3 +5,4 @@ pub mod FaultLaws
 pub mod EitherLaw
 pub mod AnswerLaws
 pub mod Grammar
+pub mod OrderLaw

@@ -3,3 +3,4 @@ pub mod Fault
 pub mod Laws
 pub mod Kind
 pub mod Reading
+pub mod Order

@@ -1,6 +1,7 @@
 //! What holds of feeds, whoever writes or reads them.
 
 ghost use Rattle.desk_codec.specs.Laws.{Sizes, PrefixFree, OneList, OneFeed, Fronts, FeedOrFault};
+ghost use Rattle.desk_codec.specs.Order.{OrderOfBytes};
 
 /// An insert takes 26 bytes, a delete 21, and a setting 16.
 #[tactic(auto, using(crate::proofs::Grammar::sizes))]
@@ -33,4 +34,9 @@ pub fn law_of_fronts()
 /// Any bytes are a feed or have a first fault, and never both; and they have one first fault.
 pub fn law_of_feed_or_fault()
     ensures { FeedOrFault }
+{}
+
+/// Operations stand by stamp, and those of one stamp by their bytes.
+pub fn law_of_order()
+    ensures { OrderOfBytes }
 {}

@@ -11,8 +11,8 @@ mod writing;
 
 pub use fault::{FeedFault, FeedWhy, ReadFault};
 pub use laws::{
-    law_of_feed_or_fault, law_of_fronts, law_of_one_feed, law_of_one_list, law_of_prefixes,
-    law_of_sizes,
+    law_of_feed_or_fault, law_of_fronts, law_of_one_feed, law_of_one_list, law_of_order,
+    law_of_prefixes, law_of_sizes,
 };
 pub use reading::{next_op, read_feed};
 pub use writing::{write_feed, write_op};
