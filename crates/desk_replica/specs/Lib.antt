@@ -4,3 +4,4 @@ pub mod Nodes
 pub mod Built
 pub mod Edits
 pub mod JobSettings
+pub mod Ways
