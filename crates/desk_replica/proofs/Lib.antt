@@ -7,3 +7,4 @@ pub mod Built
 pub mod Made
 pub mod KeptSets
 pub mod Ends
+pub mod Convergence

@@ -5,3 +5,4 @@ pub mod Built
 pub mod Edits
 pub mod JobSettings
 pub mod Ways
+pub mod Laws

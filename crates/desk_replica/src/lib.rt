@@ -26,6 +26,7 @@ use std::marker::Model;
 use thiserror::Error;
 
 mod faults;
+pub mod laws;
 mod rebuild;
 mod settings;
 
