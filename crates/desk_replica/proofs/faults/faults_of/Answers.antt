@@ -7,4 +7,4 @@ use Rattle.desk_replica.proofs.faults.faults_of.Goals as goal
 pub returns : goal.returns
 returns g c =
     told-all (in_order c.args.held.now.ops) c.loop-place.place c.loop-place.ways.items c.loop-place.faults.items
-    (subst (λ (os : List Op). length os ≤ c.loop-place.place) c.as_slice-place-end.ensures c.loop-place-test.false) c.loop-place.invariant
+    (subst (λ (os : List Op). length os ≤ c.loop-place.place) c.as_slice-place-end.ensures.items c.loop-place-test.false) c.loop-place.invariant
