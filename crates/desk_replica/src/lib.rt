@@ -113,14 +113,6 @@ impl<A: Allocator + Copy> Replica<A> {
         }
     }
 
-    /// Makes room for some operations more, if there is memory for it.
-    fn make_room(&mut self, more: usize)
-        ensures site { self.new.site ≡ self.old.site }
-        ensures ops { self.new.ops ≡ self.old.ops }
-    {
-        let _ = self.held.reserve(more.min(LIMIT));
-    }
-
     /// A replica that holds the operations of a list. `Full` comes only where the list has more than 1,048,576 different
     /// operations, and of such a list none is made, since no replica holds more. Nothing is taken in of a refused list.
     pub fn open(alloc: A, site: u16, ops: &[Op]) -> Result<Self, Stopped>
@@ -132,7 +124,6 @@ impl<A: Allocator + Copy> Replica<A> {
         ensures full { IfErr result (λ s. s.why ≡ AddRefusal.Full → LIMIT < size (with_all no_ops ops.now)) }
     {
         let mut replica = Replica::new(alloc, site);
-        replica.make_room(ops.len());
         if let Err(stopped) = replica.take_in(ops) {
             return Err(Stopped {
                 taken: 0,
@@ -309,17 +300,15 @@ impl<A: Allocator + Copy> Replica<A> {
         ensures bytes { IfOk result (λ v. v.items ≡ feed (in_order self.now.ops)) }
         ensures grammar { IfOk result (λ v. IsFeed v.items (in_order self.now.ops)) }
     {
-        let ops = self.in_order()?;
-        write_feed(self.alloc, &ops)
+        write_feed(self.alloc, self.held.as_slice())
     }
 
     /// The elements that are shown, in their order.
     fn shown(&self) -> Result<Vec<Entry, A>, NoMemory>
         ensures { IfOk result (λ v. v.items ≡ shown_entries self.now.ops) }
     {
-        let ops = self.held.in_order()?;
         let mut tree = Tree::new(self.alloc, self.held.len())?;
-        for op in &ops {
+        for op in self.held.as_slice() {
             if self.held.is_clear(op.stamp()) {
                 tree.act(op)?;
             }
