@@ -7,6 +7,7 @@ ghost use Rattle.desk_ops.specs.OpSet.{no_ops, has_op, with_op, with_all, union,
 ghost use Rattle.desk_ops.specs.Held.{greatest_counter_of};
 ghost use Rattle.desk_ops.specs.Shown.{copy_of};
 ghost use Rattle.desk_ops.specs.Settings.{setting_of};
+ghost use Rattle.desk_ops.specs.Faults.{faults_of};
 ghost use Rattle.desk_codec.specs.Feed.{feed, IsFeed};
 ghost use Rattle.desk_replica.specs.Built.{shown_entries};
 ghost use Rattle.desk_replica.specs.JobSettings.{settings_of};
@@ -15,14 +16,17 @@ ghost use Rattle.desk_replica.specs.Edits.{new_stamp, edit_refusal, insert_refus
 use desk_codec::write_feed;
 use desk_held::{AddRefusal, Added, Held, LIMIT, MANY};
 use desk_ops::op::MAX_COUNTER;
-use desk_ops::{Key, NoMemory, Op, Stamp, Symbol};
+use desk_ops::{CopyFault, Key, NoMemory, Op, Stamp, Symbol};
 use desk_registers::Registers;
+use faults::faults_of;
 use rebuild::{Entry, Tree, parent_at, stamp_at, symbols};
 use settings::{keep, kept_in};
 use std::alloc::Allocator;
 use std::marker::Model;
 use thiserror::Error;
 
+mod faults;
+pub mod laws;
 mod rebuild;
 mod settings;
 
@@ -109,14 +113,6 @@ impl<A: Allocator + Copy> Replica<A> {
         }
     }
 
-    /// Makes room for some operations more, if there is memory for it.
-    fn make_room(&mut self, more: usize)
-        ensures site { self.new.site ≡ self.old.site }
-        ensures ops { self.new.ops ≡ self.old.ops }
-    {
-        let _ = self.held.reserve(more.min(LIMIT));
-    }
-
     /// A replica that holds the operations of a list. `Full` comes only where the list has more than 1,048,576 different
     /// operations, and of such a list none is made, since no replica holds more. Nothing is taken in of a refused list.
     pub fn open(alloc: A, site: u16, ops: &[Op]) -> Result<Self, Stopped>
@@ -128,7 +124,6 @@ impl<A: Allocator + Copy> Replica<A> {
         ensures full { IfErr result (λ s. s.why ≡ AddRefusal.Full → LIMIT < size (with_all no_ops ops.now)) }
     {
         let mut replica = Replica::new(alloc, site);
-        replica.make_room(ops.len());
         if let Err(stopped) = replica.take_in(ops) {
             return Err(Stopped {
                 taken: 0,
@@ -305,22 +300,28 @@ impl<A: Allocator + Copy> Replica<A> {
         ensures bytes { IfOk result (λ v. v.items ≡ feed (in_order self.now.ops)) }
         ensures grammar { IfOk result (λ v. IsFeed v.items (in_order self.now.ops)) }
     {
-        let ops = self.in_order()?;
-        write_feed(self.alloc, &ops)
+        write_feed(self.alloc, self.held.as_slice())
     }
 
     /// The elements that are shown, in their order.
     fn shown(&self) -> Result<Vec<Entry, A>, NoMemory>
         ensures { IfOk result (λ v. v.items ≡ shown_entries self.now.ops) }
     {
-        let ops = self.held.in_order()?;
         let mut tree = Tree::new(self.alloc, self.held.len())?;
-        for op in &ops {
+        for op in self.held.as_slice() {
             if self.held.is_clear(op.stamp()) {
                 tree.act(op)?;
             }
         }
         tree.shown(self.alloc)
+    }
+
+    /// The copy faults: of each stamp whose operations do not act why they do not, by stamp. It is one pass over the
+    /// operations, oldest first; the memory taken grows with the number of operations held, and with nothing else.
+    pub fn copy_faults(&self) -> Result<Vec<CopyFault, A>, NoMemory>
+        ensures { IfOk result (λ v. v.items ≡ faults_of self.now.ops) }
+    {
+        faults_of(self.alloc, &self.held)
     }
 
     /// The copy: the symbols that the set shows. It is made anew from the operations, oldest first, each insert directly
