@@ -1,1 +1,6 @@
 mod Examples
+mod ComesBackCast
+mod ComesBackReads
+mod ComesBackShort
+mod ComesBackTight
+mod ComesBackSplits
