@@ -13,7 +13,7 @@ use Rattle.desk_job.specs.declared.JobFault.TheVariants.{NoMatrix}
 use Rattle.desk_job.proofs.ComesBackReads.{Has, WordsHave}
 
 -- P, and no separator
-abbrev Inside : {A : Type 0} → (A → Bool) → (A → Type 0) → A → Type 0
+abbrev pub Inside : {A : Type 0} → (A → Bool) → (A → Type 0) → A → Type 0
 Inside p P x = P x × (p x ≡ false)
 
 onto_each : {A : Type 0} (Q : A → Type 0) (x : A) (parts : List (List A)) → Q x → Each (Each Q) parts → Each (Each Q) (onto_first x parts)
@@ -56,7 +56,7 @@ flat_each P Q f one [] each = tt
 flat_each P Q f one (x ∷ xs) each = Each-append Q (f x) (flat_map f xs) (one x each.0) (flat_each P Q f one xs each.1)
 
 -- the case has it, or it is a space or a line feed
-abbrev Known : CaseValues → Symbol → Type 0
+abbrev pub Known : CaseValues → Symbol → Type 0
 Known case y = ((is_space y || is_line_feed y) || is_some (cell_of case y)) ≡ true
 
 lacking_step : (case : CaseValues) (here : ℕ) (y : Symbol) (copy : List Symbol) (b : Bool) →

@@ -4,3 +4,6 @@ mod ComesBackReads
 mod ComesBackShort
 mod ComesBackTight
 mod ComesBackSplits
+mod ComesBackGroups
+mod ComesBackFaults
+mod ComesBackLaw
