@@ -1,11 +1,10 @@
 -- What the lines of a copy are: words of the case, and, where a line is not to be filled, two words or more that fit.
-use Rattle.std.proofs.Common.{◌≡◌, ℕ, zero, suc, ◌+◌, ◌≤◌, ◌⊎◌, inl, inr, Bool, true, false, List, [], ◌∷◌, map, length, take, drop, refl, sym, ap, subst, ◌∙◌, arith, min}
+use Rattle.std.proofs.Common.{◌≡◌, ℕ, zero, suc, ◌≤◌, ◌⊎◌, inl, inr, true, false, List, [], ◌∷◌, map, length, take, drop, sym, subst, ◌∙◌, arith}
 use Rattle.std.specs.Prelude.{ℤ, pos, ◌==◌}
 use Rattle.std.proofs.lemmas.Bool.Decides.{nat_tests}
 use Rattle.std.proofs.lemmas.List.{length-take-le, length-map, take-map, drop-map}
 use Rattle.desk_ops.specs.declared.op.Symbol.{Symbol}
 use Rattle.desk_ops.proofs.Lists.{Each, Each-both}
-use Rattle.desk_ops.proofs.Stamps.{by_cases}
 use Rattle.desk_lines.specs.Words.{is_line_feed, paragraphs, words}
 use Rattle.desk_lines.specs.Groups.{FitsIn, groups, groups_upto, first_group, IsFirstGroup}
 use Rattle.desk_lines.proofs.GroupLaws.{first_group_is_first}
@@ -34,9 +33,10 @@ group_is f space measure xs size first =
 group_step : {A : Type 0} (f : A → ℤ) (space measure : ℤ) (turns : ℕ) (xs : List A) (size : ℕ) → IsFirstGroup space measure (map f xs) size →
     Each (IsGroup f space measure) (cut (groups_upto turns space measure (map f (drop size xs))) (drop size xs)) →
     Each (IsGroup f space measure) (take size xs ∷ cut (groups_upto turns space measure (drop size (map f xs))) (drop size xs))
-group_step f space measure turns xs size first more =
-    (group_is f space measure xs size first,
-      subst (λ ws. Each (IsGroup f space measure) (cut (groups_upto turns space measure ws) (drop size xs))) (sym (drop-map f size xs)) more)
+group_step f space measure turns xs size first more = (
+  group_is f space measure xs size first,
+  subst (λ ws. Each (IsGroup f space measure) (cut (groups_upto turns space measure ws) (drop size xs))) (sym (drop-map f size xs)) more,
+)
 
 groups_are : {A : Type 0} (f : A → ℤ) (space measure : ℤ) (turns : ℕ) (xs : List A) →
     Each (IsGroup f space measure) (cut (groups_upto turns space measure (map f xs)) xs)
@@ -85,9 +85,9 @@ words_are terms ws has =
     let sizes = groups (tight_space terms) (pos (measure terms)) (widths terms ws) in
     marked_are terms (cut sizes ws)
     (Each-both (IsGroup (λ word. pos (word_width terms word)) (tight_space terms) (pos (measure terms))) (WordsHave terms.case) (IsWords terms)
-      (λ group are have. (are, have)) (cut sizes ws)
-      (groups_are (λ word. pos (word_width terms word)) (tight_space terms) (pos (measure terms)) (length (widths terms ws)) ws)
-      (cut_each (Each (Has terms.case)) sizes ws has))
+    (λ group are have. (are, have)) (cut sizes ws)
+    (groups_are (λ word. pos (word_width terms word)) (tight_space terms) (pos (measure terms)) (length (widths terms ws)) ws)
+    (cut_each (Each (Has terms.case)) sizes ws has))
 
 -- the lines of a copy of which the case lacks nothing
 pub lines_are_cut : (terms : Terms) (copy : List Symbol) → lacking terms.case 0 copy ≡ [] → Each (IsCut terms) (lines terms copy)

@@ -1,6 +1,6 @@
 -- A copy without a fault comes back from the caster line by line.
-use Rattle.std.proofs.Common.{◌≡◌, ℕ, zero, suc, ◌+◌, ◌*◌, ◌<◌, ◌≤◌, ◌⊎◌, inl, inr, Bool, true, false, cond, List, [], ◌∷◌, ◌++◌, map, length, replicate, get_or, refl, sym, ap, subst, ◌∙◌, Some, None, Ok, Option, append_assoc, arith}
-use Rattle.std.specs.Prelude.{ℤ, pos, ◌≤ℤ◌, ◌||◌, ◌==◌, is_some, All}
+use Rattle.std.proofs.Common.{◌≡◌, ℕ, zero, suc, inl, inr, Bool, true, false, cond, List, [], ◌∷◌, ◌++◌, map, replicate, refl, sym, ap, subst, ◌∙◌, Some, None, Ok, Option, arith}
+use Rattle.std.specs.Prelude.{◌||◌, is_some, All}
 use Rattle.std.specs.List.{flat_map, zip, list_any}
 use Rattle.std.proofs.Common.{eq-eqb}
 use Rattle.desk_ops.specs.declared.op.Symbol.{Symbol}
@@ -17,8 +17,8 @@ use Rattle.desk_ribbon.specs.declared.Punch.{Punch}
 use Rattle.desk_ribbon.specs.declared.PunchLine.{PunchLine}
 use Rattle.desk_caster.specs.Caster.{Line, cast, has_matrix, same_cell}
 use Rattle.desk_caster.specs.Lines.{HasAll, LinesHaveAll, line_cast}
-use Rattle.desk_job.specs.Job.{Terms, SetLine, plain, word_punches, words_punches, space_punch, fill_punches, fills, punches, has_added, spaces, wedge_sum, lines, line_rows, rows_at, rows_of}
-use Rattle.desk_job.specs.Reading.{IsLine, AreLines, CopyComesBack}
+use Rattle.desk_job.specs.Job.{Terms, SetLine, plain, word_punches, words_punches, space_punch, fill_punches, fills, punches, has_added, wedge_sum, lines, line_rows, rows_at, rows_of}
+use Rattle.desk_job.specs.Reading.{AreLines, CopyComesBack}
 use Rattle.desk_job.proofs.ComesBackCast.{lines_come_back}
 use Rattle.desk_job.proofs.ComesBackReads.{IsSound, line_reads}
 use Rattle.desk_job.proofs.ComesBackShort.{line_short}
@@ -106,7 +106,7 @@ has_line terms line sound =
     has_append terms.case (words_punches terms.case line.words) (cond (has_added terms line) (space_punch terms.case ∷ []) [] ++ fill_punches (zip (fills terms line) terms.case.fill))
     (has_words terms.case line.words sound)
     (has_end terms.case (has_added terms line) (fill_punches (zip (fills terms line) terms.case.fill))
-      (has_fills terms.case (fills terms line) terms.case.fill (has_own_fills terms.case)))
+    (has_fills terms.case (fills terms line) terms.case.fill (has_own_fills terms.case)))
 
 -- ---- lines as they are to be cast
 
@@ -147,10 +147,11 @@ lines_are terms (line ∷ ls) sound each =
 set_comes_back : (terms : Terms) (ls : List SetLine) → IsCase terms.case → Each (CanBeSet terms) ls →
     (got : List Line) × (cast terms.case terms.wedge (rows_of terms ls) ≡ Ok got) × AreLines terms ls got
 set_comes_back terms ls is each =
-    let are = lines_are terms ls (is_sound terms.case is) each in
-    (map (line_cast terms.case terms.wedge) (punch_lines terms ls),
+    let are = lines_are terms ls (is_sound terms.case is) each in (
+      map (line_cast terms.case terms.wedge) (punch_lines terms ls),
       ap (λ rows. cast terms.case terms.wedge (ribbon.head_row ∷ rows)) (rows_are terms ls) ∙ lines_come_back terms.case terms.wedge (punch_lines terms ls) are.0,
-      are.1)
+      are.1,
+    )
 
 pub copy_comes_back : CopyComesBack
 copy_comes_back terms values copy is tight loose none =

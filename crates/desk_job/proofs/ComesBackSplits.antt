@@ -1,5 +1,5 @@
 -- What holds of each symbol of a copy holds in its paragraphs, words and groups.
-use Rattle.std.proofs.Common.{◌≡◌, ℕ, zero, suc, Bool, true, false, cond, List, [], ◌∷◌, ◌++◌, take, drop, refl}
+use Rattle.std.proofs.Common.{◌≡◌, ℕ, zero, suc, Bool, true, false, List, [], ◌∷◌, take, drop, refl}
 use Rattle.std.specs.Prelude.{◌||◌, is_some}
 use Rattle.std.specs.List.{flat_map, slice_split, onto_first}
 use Rattle.std.proofs.lemmas.List.Splits.{slice_split-cons_yes, slice_split-cons_no}
@@ -7,9 +7,7 @@ use Rattle.desk_ops.specs.declared.op.Symbol.{Symbol}
 use Rattle.desk_ops.proofs.Lists.{Each, Each-append, Each-weaker}
 use Rattle.desk_case.specs.Case.{CaseValues, cell_of}
 use Rattle.desk_lines.specs.Words.{is_space, is_line_feed, drop_empty_last, paragraphs, words}
-use Rattle.desk_job.specs.Job.{cut, lacking, is_lacking, fault_if}
-use Rattle.desk_job.specs.declared.JobFault.{JobFault}
-use Rattle.desk_job.specs.declared.JobFault.TheVariants.{NoMatrix}
+use Rattle.desk_job.specs.Job.{cut, lacking}
 use Rattle.desk_job.proofs.ComesBackReads.{Has, WordsHave}
 
 -- P, and no separator
@@ -88,5 +86,5 @@ pub words_known : (case : CaseValues) (paragraph : List Symbol) → Each (Inside
 words_known case paragraph each =
     Each-weaker (Each (Inside is_space (Inside is_line_feed (Known case)))) (Each (Has case))
     (λ word. Each-weaker (Inside is_space (Inside is_line_feed (Known case))) (Has case)
-        (λ y h. has_of (is_space y) (is_line_feed y) (is_some (cell_of case y)) h.0.0 h.0.1 h.1) word)
+    (λ y h. has_of (is_space y) (is_line_feed y) (is_some (cell_of case y)) h.0.0 h.0.1 h.1) word)
     (words paragraph) (split_each is_space (Inside is_line_feed (Known case)) paragraph each)
