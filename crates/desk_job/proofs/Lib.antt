@@ -1,1 +1,9 @@
 mod Examples
+mod ComesBackCast
+mod ComesBackReads
+mod ComesBackShort
+mod ComesBackTight
+mod ComesBackSplits
+mod ComesBackGroups
+mod ComesBackFaults
+mod ComesBackLaw

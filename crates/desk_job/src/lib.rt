@@ -1,6 +1,8 @@
 //! The job: the ribbon of a copy, or why there is none.
 #![tactic(auto)]
 
+pub mod laws;
+
 use desk_ops::Key;
 
 /// Why a copy can't be set. Places count from 0 in the copy, lines from 1.
