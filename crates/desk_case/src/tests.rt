@@ -223,6 +223,13 @@ fn texts_of_cells(rt: HostRuntime) -> Result<(), Fail> {
         "r:a",
         "a\\u0301",
         "i:a\\u0301",
+        "e\u{301}",
+        "\u{301}\u{301}",
+        "s:",
+        ":a",
+        "::",
+        "i::i",
+        "\u{130}:a",
     ];
     for text in unlawful {
         let told = fault_of(
@@ -251,6 +258,9 @@ fn texts_of_cells(rt: HostRuntime) -> Result<(), Fail> {
         ("\\\\", Style::Roman, '\\'),
         ("\\\"", Style::Roman, '"'),
         ("i:😀", Style::Italic, '😀'),
+        ("\u{301}", Style::Roman, '\u{301}'),
+        ("i:\u{301}", Style::Italic, '\u{301}'),
+        ("s:\u{fb01}", Style::SmallCap, '\u{fb01}'),
     ];
     for (text, style, ch) in lawful {
         let file = file(rt, HEAD, 15, &[(2, 3, text)])?;
@@ -307,6 +317,23 @@ fn hostile_files(rt: HostRuntime) -> Result<(), Fail> {
             "case = 1\nrows = [1,2,3,4,5,6,7,8,9,10,11,12,13,14,15]",
             CaseFault::Shape(CaseKey::Rows),
         ),
+        ("case = inf", CaseFault::Shape(CaseKey::Case)),
+        ("case = 07:32:00", CaseFault::Shape(CaseKey::Case)),
+        ("case = true", CaseFault::Shape(CaseKey::Case)),
+        ("case = \"1\"", CaseFault::Shape(CaseKey::Case)),
+        ("case = [1]", CaseFault::Shape(CaseKey::Case)),
+        ("case = {}", CaseFault::Shape(CaseKey::Case)),
+        ("case = 0x1_0000", CaseFault::Shape(CaseKey::Case)),
+        ("case = 01", CaseFault::NotToml),
+        ("case = -9223372036854775809", CaseFault::NotToml),
+        ("case = 1\n'case' = 1", CaseFault::NotToml),
+        ("case = 1\ncase.a = 1", CaseFault::NotToml),
+        ("case = 0\nrows = []\nrows = []", CaseFault::NotToml),
+        ("case = 1\n[rows]", CaseFault::Shape(CaseKey::Rows)),
+        (
+            "case = 1\nrows = 1979-05-27",
+            CaseFault::Shape(CaseKey::Rows),
+        ),
     ];
     for (text, fault) in heads {
         assert!(rt; fault_of(rt, text) == Some(fault), "{text}");
@@ -316,6 +343,90 @@ fn hostile_files(rt: HostRuntime) -> Result<(), Fail> {
         deep.push_str("[")?;
     }
     assert!(rt; fault_of(rt, deep.as_str()) == Some(CaseFault::NotToml));
+    let mut spoiled = Vec::new(rt.alloc());
+    spoiled.extend_from_slice(file(rt, HEAD, 15, &CASE_1)?.as_bytes())?;
+    spoiled.extend_from_slice(b"# \xed\xa0\x80\n")?;
+    assert!(rt; MatrixCase::read(rt.alloc(), spoiled.as_slice()).err() == Some(CaseFault::NotToml));
+    Ok(())
+}
+
+#[test]
+fn hostile_rows(rt: HostRuntime) -> Result<(), Fail> {
+    let items = [
+        "",
+        ",'',''",
+        ",1",
+        ",1.0",
+        ",nan",
+        ",true",
+        ",1979-05-27",
+        ",{}",
+        ",[]",
+        ",['a']",
+    ];
+    for item in items {
+        let head = format!(in rt.alloc();
+            "{HEAD} ['','','','','','','','','','','','','',''{item}],\n"
+        )?;
+        assert!(rt;
+            fault_of(rt, file(rt, head.as_str(), 14, &[(0, 0, "bad")])?.as_str())
+                == Some(CaseFault::Shape(CaseKey::Rows)),
+            "{item}"
+        );
+    }
+    for row in ["1", "'abcdefghijklmno'", "{}", "1979-05-27"] {
+        let head = format!(in rt.alloc(); "{HEAD} {row},\n")?;
+        assert!(rt;
+            fault_of(rt, file(rt, head.as_str(), 14, &[])?.as_str())
+                == Some(CaseFault::Shape(CaseKey::Rows)),
+            "{row}"
+        );
+    }
+    Ok(())
+}
+
+/// 64 MiB of text: its front, then one byte over and over, and its end.
+fn long(rt: HostRuntime, front: &str, filler: u8, end: &str) -> Result<Vec<u8>, Fail> {
+    let mut bytes = Vec::with_capacity(rt.alloc(), 67_108_864)?;
+    bytes.extend_from_slice(front.as_bytes())?;
+    bytes.resize(67_108_864usize.saturating_sub(end.len()), filler)?;
+    bytes.extend_from_slice(end.as_bytes())?;
+    Ok(bytes)
+}
+
+#[test]
+fn comment_of_64_mib(rt: HostRuntime) -> Result<(), Fail> {
+    let head = format!(in rt.alloc(); "\n{HEAD}")?;
+    let text = long(
+        rt,
+        "#",
+        b'x',
+        file(rt, head.as_str(), 15, &CASE_1)?.as_str(),
+    )?;
+    assert_eq!(rt; text.len(), 67_108_864);
+    let case = MatrixCase::read(rt.alloc(), text.as_slice())?;
+    assert!(rt; case.symbol_at(at(Column::B, 15)?) == Some(symbol(Style::SmallCap, 'M')));
+    Ok(())
+}
+
+#[test]
+fn garbage_of_64_mib(rt: HostRuntime) -> Result<(), Fail> {
+    let text = long(rt, "case = 1\nrows = ", b'7', "")?;
+    assert_eq!(rt; text.len(), 67_108_864);
+    assert!(rt; MatrixCase::read(rt.alloc(), text.as_slice()).err() == Some(CaseFault::NotToml));
+    Ok(())
+}
+
+#[test]
+fn cell_of_64_mib(rt: HostRuntime) -> Result<(), Fail> {
+    let front = format!(in rt.alloc(); "{HEAD} ['','','")?;
+    let end = file(rt, "','','','','','','','','','','','',''],\n", 14, &CASE_1)?;
+    let text = long(rt, front.as_str(), b'n', end.as_str())?;
+    assert_eq!(rt; text.len(), 67_108_864);
+    assert!(rt;
+        MatrixCase::read(rt.alloc(), text.as_slice()).err()
+            == Some(CaseFault::BadText(at(Column::C, 1)?))
+    );
     Ok(())
 }
 

@@ -71,7 +71,7 @@ fn hostile_files(rt: HostRuntime) -> Result<(), Fail> {
     assert!(rt; Wedge::read(rt.alloc(), b"\xff") == Err(WedgeFault::NotToml));
     assert!(rt; Wedge::read(rt.alloc(), b"wedge = 5\n# \xc3\x28\n") == Err(WedgeFault::NotToml));
     assert!(rt; Wedge::read(rt.alloc(), b"wedge = 0\n\xed\xa0\x80") == Err(WedgeFault::NotToml));
-    let cases: [(&str, WedgeFault); 27] = [
+    let cases = [
         ("", WedgeFault::Missing(WedgeKey::Wedge)),
         ("wedge", WedgeFault::NotToml),
         ("wedge = 0", WedgeFault::Range(WedgeKey::Wedge)),
@@ -123,6 +123,42 @@ fn hostile_files(rt: HostRuntime) -> Result<(), Fail> {
             WedgeFault::Range(WedgeKey::Pica),
         ),
         ("[a]\nwedge = 5", WedgeFault::Missing(WedgeKey::Wedge)),
+        ("wedge = 5e0", WedgeFault::Range(WedgeKey::Wedge)),
+        ("wedge = inf", WedgeFault::Range(WedgeKey::Wedge)),
+        ("wedge = 07:32:00", WedgeFault::Range(WedgeKey::Wedge)),
+        (
+            "wedge = 1979-05-27T07:32:00Z",
+            WedgeFault::Range(WedgeKey::Wedge),
+        ),
+        ("wedge = 0x1_0000", WedgeFault::Range(WedgeKey::Wedge)),
+        (
+            "wedge = -9223372036854775808",
+            WedgeFault::Range(WedgeKey::Wedge),
+        ),
+        ("wedge = -9223372036854775809", WedgeFault::NotToml),
+        ("wedge = 5\n\"wedge\" = 5", WedgeFault::NotToml),
+        ("wedge = 5\nwedge.a = 5", WedgeFault::NotToml),
+        ("[wedge]\n[wedge]", WedgeFault::NotToml),
+        ("wedge = 0\nother = {a = 1, a = 1}", WedgeFault::NotToml),
+        ("wedge = 1\nset_q = 48.0", WedgeFault::Range(WedgeKey::SetQ)),
+        (
+            "wedge = 1\nset_q = 1979-05-27",
+            WedgeFault::Range(WedgeKey::SetQ),
+        ),
+        ("wedge = 1\nset_q = {}", WedgeFault::Range(WedgeKey::SetQ)),
+        ("wedge = 1\nset_q = 48\nset_q = 48", WedgeFault::NotToml),
+        (
+            "wedge = 1\nset_q = 20\npica = [\"sixth\"]",
+            WedgeFault::Range(WedgeKey::Pica),
+        ),
+        (
+            "wedge = 1\nset_q = 20\npica = \"sixth\u{301}\"",
+            WedgeFault::Range(WedgeKey::Pica),
+        ),
+        (
+            "wedge = 1\nset_q = 20\npica = ''",
+            WedgeFault::Range(WedgeKey::Pica),
+        ),
     ];
     for (text, fault) in cases {
         assert!(rt; faulty(rt, text, fault), "{text}");
@@ -143,6 +179,13 @@ fn hostile_units(rt: HostRuntime) -> Result<(), Fail> {
         "[9,2,3,4,5,6,7,8,9,10,11,12,13,14,-1]",
         "[1,2,3,4,5,6,7,8,9,10,11,12,13,14,15.0]",
         "[1,2,3,4,5,6,7,8,9,10,11,12,13,14,[15]]",
+        "[1,2,3,4,5,6,7,8,9,10,11,12,13,14,{}]",
+        "[1,2,3,4,5,6,7,8,9,10,11,12,13,14,inf]",
+        "[1,2,3,4,5,6,7,8,9,10,11,12,13,14,true]",
+        "[1,2,3,4,5,6,7,8,9,10,11,12,13,14,\"15\"]",
+        "[1,2,3,4,5,6,7,8,9,10,11,12,13,14,1979-05-27]",
+        "[9,2,3,4,5,6,7,8,9,10,11,12,13,14,9223372036854775807]",
+        "\"123456789012345\"",
     ];
     for list in lists {
         let text = with_units(rt, list)?;
@@ -190,5 +233,76 @@ fn names_its_faults(rt: HostRuntime) -> Result<(), Fail> {
         let told = format!(in rt.alloc(); "{fault}")?;
         assert_eq!(rt; told.as_str(), text);
     }
+    Ok(())
+}
+
+/// A value that nests so deep, under a key that is passed over, and then a number out of its range.
+fn nested(rt: HostRuntime, depth: u32) -> Result<String, Fail> {
+    let mut text = String::from_str(rt.alloc(), "other = ")?;
+    for _ in 0..depth {
+        text.push_str("[")?;
+    }
+    for _ in 0..depth {
+        text.push_str("]")?;
+    }
+    text.push_str("\nwedge = 0\n")?;
+    Ok(text)
+}
+
+#[test]
+fn nested_values(rt: HostRuntime) -> Result<(), Fail> {
+    for depth in [1, 80] {
+        let text = nested(rt, depth)?;
+        assert!(rt;
+            faulty(rt, text.as_str(), WedgeFault::Range(WedgeKey::Wedge)),
+            "{depth} deep"
+        );
+    }
+    for depth in [100, 5000] {
+        assert!(rt;
+            faulty(rt, nested(rt, depth)?.as_str(), WedgeFault::NotToml),
+            "{depth} deep"
+        );
+    }
+    let mut tables = String::from_str(rt.alloc(), "wedge = ")?;
+    for _ in 0..5000u32 {
+        tables.push_str("{a=")?;
+    }
+    assert!(rt; faulty(rt, tables.as_str(), WedgeFault::NotToml));
+    Ok(())
+}
+
+/// 64 MiB of text: its front, then one byte over and over, and its end.
+fn long(rt: HostRuntime, front: &str, filler: u8, end: &str) -> Result<Vec<u8>, Fail> {
+    let mut bytes = Vec::with_capacity(rt.alloc(), 67_108_864)?;
+    bytes.extend_from_slice(front.as_bytes())?;
+    bytes.resize(67_108_864usize.saturating_sub(end.len()), filler)?;
+    bytes.extend_from_slice(end.as_bytes())?;
+    Ok(bytes)
+}
+
+#[test]
+fn blanks_of_64_mib(rt: HostRuntime) -> Result<(), Fail> {
+    let text = long(rt, "", b' ', W)?;
+    assert_eq!(rt; text.len(), 67_108_864);
+    assert!(rt; Wedge::read(rt.alloc(), text.as_slice()).is_ok());
+    Ok(())
+}
+
+#[test]
+fn comment_of_64_mib(rt: HostRuntime) -> Result<(), Fail> {
+    let text = long(rt, "#", b'x', "\nwedge = 0")?;
+    assert_eq!(rt; text.len(), 67_108_864);
+    assert!(rt;
+        Wedge::read(rt.alloc(), text.as_slice()) == Err(WedgeFault::Range(WedgeKey::Wedge))
+    );
+    Ok(())
+}
+
+#[test]
+fn garbage_of_64_mib(rt: HostRuntime) -> Result<(), Fail> {
+    let text = long(rt, "", b'x', "")?;
+    assert_eq!(rt; text.len(), 67_108_864);
+    assert!(rt; Wedge::read(rt.alloc(), text.as_slice()) == Err(WedgeFault::NotToml));
     Ok(())
 }
