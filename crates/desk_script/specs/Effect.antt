@@ -15,6 +15,7 @@ use Rattle.desk_held.specs.declared.AddRefusal.{AddRefusal}
 use Rattle.desk_held.specs.declared.AddRefusal.TheVariants as adds
 use Rattle.desk_replica.specs.declared.Refusal.{Refusal as EditRefusal}
 use Rattle.desk_replica.specs.declared.Refusal.TheVariants as edits
+use Rattle.desk_replica.specs.JobSettings.{settings_of}
 use Rattle.desk_script.specs.declared.text.Refusal.TheVariants as refusals
 use Rattle.desk_script.specs.declared.world.Answer.{Answer}
 use Rattle.desk_script.specs.declared.world.Answer.TheVariants as answers
@@ -80,6 +81,8 @@ after k (MadeMany first last) = MadeMany first last
 after k (Counted news known) = Counted news known
 after k (Copy copy) = Copy copy
 after k (replies.Feed bytes) = replies.Feed bytes
+after k (replies.Faults faults) = replies.Faults faults
+after k (replies.Settings settings) = replies.Settings settings
 after k (Stopped taken why) = Stopped taken why
 
 abbrev pub made_of : Result Answer StepRefusal → Option Op
@@ -137,7 +140,7 @@ Does old (Show n) reply new = MatchOption (set_of old n) (Says (Refused refusals
 Does old (Feed n) reply new = MatchOption (set_of old n) (Says (Refused refusals.Site) old reply new) (λ set. Says (replies.Feed (feed (in_order set))) old reply new)
 Does old (Restart n) reply new = MatchOption (set_of old n) (Says (Refused refusals.Site) old reply new) (λ set. Happens old (changes.Restart n) reply new)
 Does old (Faults site) reply new = Says (Refused refusals.Command) old reply new
-Does old (Settings site) reply new = Says (Refused refusals.Command) old reply new
+Does old (Settings n) reply new = MatchOption (set_of old n) (Says (Refused refusals.Site) old reply new) (λ set. Says (replies.Settings (settings_of set)) old reply new)
 Does old (Ribbon site case wedge) reply new = Says (Refused refusals.Command) old reply new
 Does old (Cast site case wedge) reply new = Says (Refused refusals.Command) old reply new
 

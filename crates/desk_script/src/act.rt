@@ -358,6 +358,15 @@ fn show<A: Allocator + Copy>(world: &World<A>, site: u32) -> Result<Response<A>,
     Ok(Response::Copy(replica.copy()?))
 }
 
+fn settings<A: Allocator + Copy>(world: &World<A>, site: u32) -> Result<Response<A>, NoMemory>
+    ensures { IfOk result (λ a. Does world.now (requests.Settings site) (reply a) world.now) }
+{
+    let Some(replica) = replica_of(world, site) else {
+        return Ok(Response::Refused(Refusal::Site));
+    };
+    Ok(Response::Settings(replica.settings()))
+}
+
 fn feed<A: Allocator + Copy>(world: &World<A>, site: u32) -> Result<Response<A>, NoMemory>
     ensures { IfOk result (λ a. Does world.now (requests.Feed site) (reply a) world.now) }
 {
@@ -384,6 +393,7 @@ fn act<A: Allocator + Copy>(
         Command::Send { from, to, range } => send(world, from, to, range),
         Command::Merge { to, from } => merge(world, to, from),
         Command::Show(site) => show(world, site),
+        Command::Settings(site) => settings(world, site),
         Command::Feed(site) => feed(world, site),
         Command::Restart(site) => restart(world, site),
         _ => Ok(Response::Refused(Refusal::Command)),
