@@ -257,10 +257,7 @@ fn put_entries<A: Allocator + Copy>(
 }
 
 /// Writes a setting's value at the end, or that it has none.
-fn put_value<A: Allocator + Copy>(
-    out: &mut String<A>,
-    value: Option<u32>,
-) -> Result<(), AllocError>
+fn put_value<A: Allocator + Copy>(out: &mut String<A>, value: Option<u32>) -> Result<(), AllocError>
     ensures { OnOk result (string_bytes out.new ≡ string_bytes out.old ++ value_text value) }
 {
     match value {

@@ -427,3 +427,55 @@ fn corners_of_words(rt: HostRuntime) -> Result<(), Fail> {
     assert_eq!(rt; got.as_slice(), want.as_bytes());
     Ok(())
 }
+
+const SETTINGS_BY_STAMP: &[(&str, &str)] = &[
+    ("site 1", "ok"),
+    (
+        "settings 1",
+        "settings measure=- tight=- loose=- case=- wedge=-",
+    ),
+    (
+        "take 1 4d46443103000000000000000500020100000090",
+        "ok new 1 known 0",
+    ),
+    (
+        "take 1 4d46443103000000000000000500010100000078",
+        "ok new 1 known 0",
+    ),
+    (
+        "settings 1",
+        "settings measure=144 tight=- loose=- case=- wedge=-",
+    ),
+    ("set 1 tight 38", "ok 6.1"),
+    ("set 1 loose 150", "ok 7.1"),
+    ("set 1 case 1", "ok 8.1"),
+    ("set 1 wedge 5", "ok 9.1"),
+    (
+        "settings 1",
+        "settings measure=144 tight=38 loose=150 case=1 wedge=5",
+    ),
+    ("set 1 tight 100", "ok 10.1"),
+    (
+        "settings 1",
+        "settings measure=144 tight=100 loose=150 case=1 wedge=5",
+    ),
+    (
+        "take 1 4d46443103000000000000000b0003020000001003000000000000000b00030200000011",
+        "ok new 2 known 0",
+    ),
+    (
+        "settings 1",
+        "settings measure=144 tight=100 loose=150 case=1 wedge=5",
+    ),
+    ("settings 2", "refused site"),
+    ("settings 65537", "refused site"),
+];
+
+/// The set with the greatest stamp tells, whatever order they came in.
+#[test]
+fn settings_by_stamp(rt: HostRuntime) -> Result<(), Fail> {
+    let (input, want) = script(rt.alloc(), SETTINGS_BY_STAMP)?;
+    let got = answers(rt.alloc(), input.as_bytes(), 1000)?;
+    assert_eq!(rt; got.as_slice(), want.as_bytes());
+    Ok(())
+}
