@@ -16,6 +16,7 @@ use Rattle.desk_held.specs.declared.AddRefusal.TheVariants as adds
 use Rattle.desk_replica.specs.declared.Refusal.{Refusal as EditRefusal}
 use Rattle.desk_replica.specs.declared.Refusal.TheVariants as edits
 use Rattle.desk_replica.specs.JobSettings.{settings_of}
+use Rattle.desk_script.specs.declared.text.Refusal.{Refusal}
 use Rattle.desk_script.specs.declared.text.Refusal.TheVariants as refusals
 use Rattle.desk_script.specs.declared.world.Answer.{Answer}
 use Rattle.desk_script.specs.declared.world.Answer.TheVariants as answers
@@ -26,7 +27,7 @@ use Rattle.desk_script.specs.Request.{Request, Site, Insert, Delete, SetTo, Take
 use Rattle.desk_script.specs.Reply.{Reply, Done, Made, MadeMany, Counted, Copy, Refused, Stopped}
 use Rattle.desk_script.specs.Reply as replies
 use Rattle.desk_script.specs.Grammar.{command_of}
-use Rattle.desk_script.specs.Sites.{Sites}
+use Rattle.desk_script.specs.Sites.{Sites, Desk}
 use Rattle.desk_script.specs.World.{Steps, Brings, taken}
 use Rattle.desk_script.specs.World as changes
 
@@ -144,7 +145,15 @@ Does old (Settings n) reply new = MatchOption (set_of old n) (Says (Refused refu
 Does old (Ribbon site case wedge) reply new = Says (Refused refusals.Command) old reply new
 Does old (Cast site case wedge) reply new = Says (Refused refusals.Command) old reply new
 
--- the answer that a line may get, and the sites after it
-abbrev pub Allows : Sites → Line → Reply → Sites → Type 0
-Allows old Long reply new = Says (Refused refusals.Line) old reply new
-Allows old (Bytes bytes) reply new = MatchOption (command_of bytes) (Says (Refused refusals.Command) old reply new) (λ request. Does old request reply new)
+-- a command that asks for no file leaves the device's failures as they are
+abbrev pub Performs : Desk → Request → Reply → Desk → Type 0
+Performs old request reply new = Does old.sites request reply new.sites × (new.failures ≡ old.failures)
+
+-- a line that is no command is refused
+abbrev pub Refuses : Desk → Refusal → Reply → Desk → Type 0
+Refuses old why reply new = (reply ≡ Refused why) × (new ≡ old)
+
+-- the answer that a line may get, and what it leaves
+abbrev pub Allows : Desk → Line → Reply → Desk → Type 0
+Allows old Long reply new = Refuses old refusals.Line reply new
+Allows old (Bytes bytes) reply new = MatchOption (command_of bytes) (Refuses old refusals.Command reply new) (λ request. Performs old request reply new)
