@@ -6,3 +6,5 @@ pub mod Walked
 pub mod Built
 pub mod Made
 pub mod KeptSets
+pub mod Ends
+pub mod Convergence

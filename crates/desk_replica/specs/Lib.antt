@@ -4,3 +4,5 @@ pub mod Nodes
 pub mod Built
 pub mod Edits
 pub mod JobSettings
+pub mod Ways
+pub mod Laws

@@ -7,6 +7,7 @@ ghost use Rattle.desk_ops.specs.OpSet.{no_ops, has_op, with_op, with_all, union,
 ghost use Rattle.desk_ops.specs.Held.{greatest_counter_of};
 ghost use Rattle.desk_ops.specs.Shown.{copy_of};
 ghost use Rattle.desk_ops.specs.Settings.{setting_of};
+ghost use Rattle.desk_ops.specs.Faults.{faults_of};
 ghost use Rattle.desk_codec.specs.Feed.{feed, IsFeed};
 ghost use Rattle.desk_replica.specs.Built.{shown_entries};
 ghost use Rattle.desk_replica.specs.JobSettings.{settings_of};
@@ -15,14 +16,17 @@ ghost use Rattle.desk_replica.specs.Edits.{new_stamp, edit_refusal, insert_refus
 use desk_codec::write_feed;
 use desk_held::{AddRefusal, Added, Held, LIMIT};
 use desk_ops::op::MAX_COUNTER;
-use desk_ops::{Key, NoMemory, Op, Stamp, Symbol};
+use desk_ops::{CopyFault, Key, NoMemory, Op, Stamp, Symbol};
 use desk_registers::Registers;
+use faults::faults_of;
 use rebuild::{Entry, Tree, parent_at, stamp_at, symbols};
 use settings::{keep, kept_in};
 use std::alloc::Allocator;
 use std::marker::Model;
 use thiserror::Error;
 
+mod faults;
+pub mod laws;
 mod rebuild;
 mod settings;
 
@@ -291,6 +295,14 @@ impl<A: Allocator + Copy> Replica<A> {
             }
         }
         tree.shown(self.alloc)
+    }
+
+    /// The copy faults: of each stamp whose operations do not act why they do not, by stamp. It is one pass over the
+    /// operations, oldest first; the memory taken grows with the number of operations held, and with nothing else.
+    pub fn copy_faults(&self) -> Result<Vec<CopyFault, A>, NoMemory>
+        ensures { IfOk result (λ v. v.items ≡ faults_of self.now.ops) }
+    {
+        faults_of(self.alloc, &self.held)
     }
 
     /// The copy: the symbols that the set shows. It is made anew from the operations, oldest first, each insert directly

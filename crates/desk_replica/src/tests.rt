@@ -1,5 +1,6 @@
 mod copies;
 mod edits;
+mod faults;
 mod growths;
 mod sets;
 mod settings;
@@ -26,6 +27,10 @@ fn typed(stamp: Stamp, parent: Stamp, ch: char) -> Op {
         parent,
         symbol: roman(ch),
     }
+}
+
+fn deleted(stamp: Stamp, target: Stamp) -> Op {
+    Op::Delete { stamp, target }
 }
 
 /// Takes in an operation, where it is lawful.
