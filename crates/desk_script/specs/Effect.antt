@@ -7,6 +7,7 @@ use Rattle.desk_ops.specs.declared.op.Stamp.{Stamp}
 use Rattle.desk_ops.specs.declared.op.Symbol.{Symbol}
 use Rattle.desk_ops.specs.OpSet.{OpSet, in_order}
 use Rattle.desk_ops.specs.Shown.{copy_of}
+use Rattle.desk_ops.specs.Faults.{faults_of}
 use Rattle.desk_codec.specs.Feed.{feed, IsFeed}
 use Rattle.desk_codec.specs.Fault.{IsFirstFault}
 use Rattle.desk_codec.specs.declared.fault.FeedFault.{FeedFault}
@@ -140,7 +141,7 @@ Does old (Merge to from) reply new = MatchOption (set_of old to) (Says (Refused 
 Does old (Show n) reply new = MatchOption (set_of old n) (Says (Refused refusals.Site) old reply new) (λ set. Says (Copy (copy_of set)) old reply new)
 Does old (Feed n) reply new = MatchOption (set_of old n) (Says (Refused refusals.Site) old reply new) (λ set. Says (replies.Feed (feed (in_order set))) old reply new)
 Does old (Restart n) reply new = MatchOption (set_of old n) (Says (Refused refusals.Site) old reply new) (λ set. Happens old (changes.Restart n) reply new)
-Does old (Faults site) reply new = Says (Refused refusals.Command) old reply new
+Does old (Faults n) reply new = MatchOption (set_of old n) (Says (Refused refusals.Site) old reply new) (λ set. Says (replies.Faults (faults_of set)) old reply new)
 Does old (Settings n) reply new = MatchOption (set_of old n) (Says (Refused refusals.Site) old reply new) (λ set. Says (replies.Settings (settings_of set)) old reply new)
 Does old (Ribbon site case wedge) reply new = Says (Refused refusals.Command) old reply new
 Does old (Cast site case wedge) reply new = Says (Refused refusals.Command) old reply new

@@ -360,6 +360,15 @@ fn show<A: Allocator + Copy>(world: &World<A>, site: u32) -> Result<Response<A>,
     Ok(Response::Copy(replica.copy()?))
 }
 
+fn faults<A: Allocator + Copy>(world: &World<A>, site: u32) -> Result<Response<A>, NoMemory>
+    ensures { IfOk result (λ a. Does world.now (requests.Faults site) (reply a) world.now) }
+{
+    let Some(replica) = replica_of(world, site) else {
+        return Ok(Response::Refused(Refusal::Site));
+    };
+    Ok(Response::Faults(replica.copy_faults()?))
+}
+
 fn settings<A: Allocator + Copy>(world: &World<A>, site: u32) -> Result<Response<A>, NoMemory>
     ensures { IfOk result (λ a. Does world.now (requests.Settings site) (reply a) world.now) }
 {
@@ -396,6 +405,7 @@ fn act<F: Files, A: Allocator + Copy>(
         Command::Send { from, to, range } => send(world, from, to, range),
         Command::Merge { to, from } => merge(world, to, from),
         Command::Show(site) => show(world, site),
+        Command::Faults(site) => faults(world, site),
         Command::Settings(site) => settings(world, site),
         Command::Feed(site) => feed(world, site),
         Command::Restart(site) => restart(world, site),
