@@ -7,6 +7,7 @@ use Rattle.desk_ops.specs.declared.op.Stamp.{Stamp}
 use Rattle.desk_ops.specs.declared.op.Symbol.{Symbol}
 use Rattle.desk_ops.specs.OpSet.{OpSet, in_order}
 use Rattle.desk_ops.specs.Shown.{copy_of}
+use Rattle.desk_ops.specs.Faults.{faults_of}
 use Rattle.desk_codec.specs.Feed.{feed, IsFeed}
 use Rattle.desk_codec.specs.Fault.{IsFirstFault}
 use Rattle.desk_codec.specs.declared.fault.FeedFault.{FeedFault}
@@ -15,6 +16,8 @@ use Rattle.desk_held.specs.declared.AddRefusal.{AddRefusal}
 use Rattle.desk_held.specs.declared.AddRefusal.TheVariants as adds
 use Rattle.desk_replica.specs.declared.Refusal.{Refusal as EditRefusal}
 use Rattle.desk_replica.specs.declared.Refusal.TheVariants as edits
+use Rattle.desk_replica.specs.JobSettings.{settings_of}
+use Rattle.desk_script.specs.declared.text.Refusal.{Refusal}
 use Rattle.desk_script.specs.declared.text.Refusal.TheVariants as refusals
 use Rattle.desk_script.specs.declared.world.Answer.{Answer}
 use Rattle.desk_script.specs.declared.world.Answer.TheVariants as answers
@@ -25,7 +28,7 @@ use Rattle.desk_script.specs.Request.{Request, Site, Insert, Delete, SetTo, Take
 use Rattle.desk_script.specs.Reply.{Reply, Done, Made, MadeMany, Counted, Copy, Refused, Stopped}
 use Rattle.desk_script.specs.Reply as replies
 use Rattle.desk_script.specs.Grammar.{command_of}
-use Rattle.desk_script.specs.Sites.{Sites}
+use Rattle.desk_script.specs.Sites.{Sites, Desk}
 use Rattle.desk_script.specs.World.{Steps, Brings, taken}
 use Rattle.desk_script.specs.World as changes
 
@@ -80,6 +83,8 @@ after k (MadeMany first last) = MadeMany first last
 after k (Counted news known) = Counted news known
 after k (Copy copy) = Copy copy
 after k (replies.Feed bytes) = replies.Feed bytes
+after k (replies.Faults faults) = replies.Faults faults
+after k (replies.Settings settings) = replies.Settings settings
 after k (Stopped taken why) = Stopped taken why
 
 abbrev pub made_of : Result Answer StepRefusal → Option Op
@@ -136,12 +141,20 @@ Does old (Merge to from) reply new = MatchOption (set_of old to) (Says (Refused 
 Does old (Show n) reply new = MatchOption (set_of old n) (Says (Refused refusals.Site) old reply new) (λ set. Says (Copy (copy_of set)) old reply new)
 Does old (Feed n) reply new = MatchOption (set_of old n) (Says (Refused refusals.Site) old reply new) (λ set. Says (replies.Feed (feed (in_order set))) old reply new)
 Does old (Restart n) reply new = MatchOption (set_of old n) (Says (Refused refusals.Site) old reply new) (λ set. Happens old (changes.Restart n) reply new)
-Does old (Faults site) reply new = Says (Refused refusals.Command) old reply new
-Does old (Settings site) reply new = Says (Refused refusals.Command) old reply new
+Does old (Faults n) reply new = MatchOption (set_of old n) (Says (Refused refusals.Site) old reply new) (λ set. Says (replies.Faults (faults_of set)) old reply new)
+Does old (Settings n) reply new = MatchOption (set_of old n) (Says (Refused refusals.Site) old reply new) (λ set. Says (replies.Settings (settings_of set)) old reply new)
 Does old (Ribbon site case wedge) reply new = Says (Refused refusals.Command) old reply new
 Does old (Cast site case wedge) reply new = Says (Refused refusals.Command) old reply new
 
--- the answer that a line may get, and the sites after it
-abbrev pub Allows : Sites → Line → Reply → Sites → Type 0
-Allows old Long reply new = Says (Refused refusals.Line) old reply new
-Allows old (Bytes bytes) reply new = MatchOption (command_of bytes) (Says (Refused refusals.Command) old reply new) (λ request. Does old request reply new)
+-- a command that asks for no file leaves the device's failures as they are
+abbrev pub Performs : Desk → Request → Reply → Desk → Type 0
+Performs old request reply new = Does old.sites request reply new.sites × (new.failures ≡ old.failures)
+
+-- a line that is no command is refused
+abbrev pub Refuses : Desk → Refusal → Reply → Desk → Type 0
+Refuses old why reply new = (reply ≡ Refused why) × (new ≡ old)
+
+-- the answer that a line may get, and what it leaves
+abbrev pub Allows : Desk → Line → Reply → Desk → Type 0
+Allows old Long reply new = Refuses old refusals.Line reply new
+Allows old (Bytes bytes) reply new = MatchOption (command_of bytes) (Refuses old refusals.Command reply new) (λ request. Performs old request reply new)

@@ -2,6 +2,8 @@
 use Rattle.std.specs.Prelude.{ℕ, List}
 use Rattle.desk_ops.specs.declared.op.Stamp.{Stamp}
 use Rattle.desk_ops.specs.declared.op.Symbol.{Symbol}
+use Rattle.desk_ops.specs.declared.fault.CopyFault.{CopyFault}
+use Rattle.desk_replica.specs.declared.settings.Settings.{Settings as JobSettings}
 use Rattle.desk_script.specs.declared.text.Refusal.{Refusal}
 use Rattle.desk_script.specs.declared.text.Response.{Response}
 use Rattle.desk_script.specs.declared.text.Response.TheVariants as responses
@@ -13,6 +15,8 @@ pub data Reply : Type 0 where
   Counted : ℕ → ℕ → Reply
   Copy : List Symbol → Reply
   Feed : List ℕ → Reply
+  Faults : List CopyFault → Reply
+  Settings : JobSettings → Reply
   Refused : Refusal → Reply
   Stopped : ℕ → Refusal → Reply
 
@@ -23,5 +27,7 @@ reply (responses.MadeMany first last) = MadeMany first last
 reply (responses.Counted new known) = Counted new known
 reply (responses.Copy copy) = Copy copy.items
 reply (responses.Feed feed) = Feed feed.items
+reply (responses.Faults faults) = Faults faults.items
+reply (responses.Settings settings) = Settings settings
 reply (responses.Refused why) = Refused why
 reply (responses.Stopped taken why) = Stopped taken why

@@ -10,7 +10,11 @@ use Rattle.desk_ops.specs.declared.op.Unlawful.{Unlawful}
 use Rattle.desk_ops.specs.declared.op.Unlawful.TheVariants as causes
 use Rattle.desk_codec.specs.declared.fault.FeedWhy.{FeedWhy}
 use Rattle.desk_codec.specs.declared.fault.FeedWhy.TheVariants as faults
-use Rattle.desk_script.specs.Reply.{Reply, Done, Made, MadeMany, Counted, Copy, Feed, Refused, Stopped}
+use Rattle.desk_ops.specs.declared.fault.FaultKind.{FaultKind}
+use Rattle.desk_ops.specs.declared.fault.FaultKind.TheVariants as kinds
+use Rattle.desk_ops.specs.declared.fault.CopyFault.{CopyFault}
+use Rattle.desk_replica.specs.declared.settings.Settings.{Settings as JobSettings}
+use Rattle.desk_script.specs.Reply.{Reply, Done, Made, MadeMany, Counted, Copy, Feed, Faults, Settings, Refused, Stopped}
 use Rattle.desk_script.specs.declared.text.Refusal.{Refusal}
 use Rattle.desk_script.specs.declared.text.Refusal.TheVariants as refusals
 
@@ -99,6 +103,34 @@ abbrev pub hex_text : List ℕ → List ℕ
 hex_text [] = []
 hex_text (b ∷ bytes) = hex_digit (b / 16) ∷ hex_digit (b % 16) ∷ hex_text bytes
 
+abbrev pub kind_text : FaultKind → List ℕ
+kind_text kinds.Forked = codes "forked"
+kind_text kinds.Void = codes "void"
+kind_text kinds.Waiting = codes "waiting"
+
+-- before the first of a list, and before each other
+abbrev pub separator : Bool → List ℕ
+separator true = codes " "
+separator false = codes ", "
+
+-- `KIND STAMP` of each, where the next is the first or not
+abbrev pub entries_text : Bool → List CopyFault → List ℕ
+entries_text is_first [] = []
+entries_text is_first (f ∷ faults) = separator is_first ++ kind_text f.kind ++ codes " " ++ stamp_text f.stamp ++ entries_text false faults
+
+abbrev pub faults_text : List CopyFault → List ℕ
+faults_text [] = codes " none"
+faults_text (f ∷ faults) = entries_text true (f ∷ faults)
+
+abbrev pub value_text : Option ℕ → List ℕ
+value_text None = codes "-"
+value_text (Some value) = decimal value
+
+abbrev pub settings_text : JobSettings → List ℕ
+settings_text s =
+    codes "measure=" ++ value_text s.measure ++ codes " tight=" ++ value_text s.tight ++ codes " loose=" ++ value_text s.loose
+    ++ codes " case=" ++ value_text s.case ++ codes " wedge=" ++ value_text s.wedge
+
 -- an answer without its end of line
 abbrev pub text : Reply → List ℕ
 text Done = codes "ok"
@@ -107,6 +139,8 @@ text (MadeMany first last) = codes "ok " ++ stamp_text first ++ codes ".." ++ st
 text (Counted new known) = codes "ok new " ++ decimal new ++ codes " known " ++ decimal known
 text (Copy copy) = codes "copy" ++ shown_text copy
 text (Feed feed) = codes "feed " ++ hex_text feed
+text (Faults faults) = codes "faults" ++ faults_text faults
+text (Settings settings) = codes "settings " ++ settings_text settings
 text (Refused why) = codes "refused " ++ refusal_text why
 text (Stopped taken why) = codes "stopped " ++ decimal taken ++ codes " " ++ refusal_text why
 

@@ -9,9 +9,11 @@ ghost use Rattle.desk_script.specs.Request.{request};
 ghost use Rattle.desk_ops.specs.Op.{stamp_of, IsLawful};
 ghost use Rattle.desk_replica.specs.declared.Count.{Count};
 ghost use Rattle.desk_script.specs.World.{Brings, taken};
-ghost use Rattle.desk_script.specs.Effect.{Allows, Does, Says, told, after, first_of, made_of, all_made, all_symbols, Inserts, edit_refused, stopped_after, set_of, sent, Takes};
+ghost use Rattle.desk_script.specs.Sites.{desk};
+ghost use Rattle.desk_script.specs.Effect.{Allows, Performs, Does, Says, told, after, first_of, made_of, all_made, all_symbols, Inserts, edit_refused, stopped_after, set_of, sent, Takes};
 
 use crate::command::{Command, ParseError};
+use crate::files::Files;
 use crate::reader::parse;
 use crate::text::{Refusal, Response};
 use crate::world::{Answer, Event, StepRefusal, World};
@@ -358,6 +360,24 @@ fn show<A: Allocator + Copy>(world: &World<A>, site: u32) -> Result<Response<A>,
     Ok(Response::Copy(replica.copy()?))
 }
 
+fn faults<A: Allocator + Copy>(world: &World<A>, site: u32) -> Result<Response<A>, NoMemory>
+    ensures { IfOk result (λ a. Does world.now (requests.Faults site) (reply a) world.now) }
+{
+    let Some(replica) = replica_of(world, site) else {
+        return Ok(Response::Refused(Refusal::Site));
+    };
+    Ok(Response::Faults(replica.copy_faults()?))
+}
+
+fn settings<A: Allocator + Copy>(world: &World<A>, site: u32) -> Result<Response<A>, NoMemory>
+    ensures { IfOk result (λ a. Does world.now (requests.Settings site) (reply a) world.now) }
+{
+    let Some(replica) = replica_of(world, site) else {
+        return Ok(Response::Refused(Refusal::Site));
+    };
+    Ok(Response::Settings(replica.settings()))
+}
+
 fn feed<A: Allocator + Copy>(world: &World<A>, site: u32) -> Result<Response<A>, NoMemory>
     ensures { IfOk result (λ a. Does world.now (requests.Feed site) (reply a) world.now) }
 {
@@ -368,12 +388,13 @@ fn feed<A: Allocator + Copy>(world: &World<A>, site: u32) -> Result<Response<A>,
 }
 
 /// Does what a command says.
-fn act<A: Allocator + Copy>(
+fn act<F: Files, A: Allocator + Copy>(
     alloc: A,
     world: &mut World<A>,
+    _files: &mut F,
     command: Command<'_, A>,
 ) -> Result<Response<A>, NoMemory>
-    ensures { IfOk result (λ a. Does world.old (request command.entry) (reply a) world.new) }
+    ensures { IfOk result (λ a. Performs (desk world.old (F.count _files.old)) (request command.entry) (reply a) (desk world.new (F.count _files.new))) }
 {
     match command {
         Command::Site(site) => add_site(world, site),
@@ -384,6 +405,8 @@ fn act<A: Allocator + Copy>(
         Command::Send { from, to, range } => send(world, from, to, range),
         Command::Merge { to, from } => merge(world, to, from),
         Command::Show(site) => show(world, site),
+        Command::Faults(site) => faults(world, site),
+        Command::Settings(site) => settings(world, site),
         Command::Feed(site) => feed(world, site),
         Command::Restart(site) => restart(world, site),
         _ => Ok(Response::Refused(Refusal::Command)),
@@ -391,18 +414,19 @@ fn act<A: Allocator + Copy>(
 }
 
 /// Does what a line says.
-pub fn answer<A: Allocator + Copy>(
+pub fn answer<F: Files, A: Allocator + Copy>(
     alloc: A,
     world: &mut World<A>,
+    files: &mut F,
     line: &[u8],
 ) -> Result<Response<A>, NoMemory>
-    ensures { IfOk result (λ a. Allows world.old (line_of line.now) (reply a) world.new) }
+    ensures { IfOk result (λ a. Allows (desk world.old (F.count files.old)) (line_of line.now) (reply a) (desk world.new (F.count files.new))) }
 {
     if line.len() > MAX_LINE {
         return Ok(Response::Refused(Refusal::Line));
     }
     match parse(alloc, line) {
-        Ok(command) => act(alloc, world, command),
+        Ok(command) => act(alloc, world, files, command),
         Err(ParseError::Form) => Ok(Response::Refused(Refusal::Command)),
         Err(ParseError::NoMemory) => Err(NoMemory),
     }

@@ -1,12 +1,13 @@
 //! Answers, and what they say.
 
-ghost use Rattle.std.specs.Prelude.{◌≡◌, ◌<◌, ◌++◌, ◌∷◌, [], List, OnOk, codes, string_bytes};
+ghost use Rattle.std.specs.Prelude.{◌≡◌, ◌<◌, ◌++◌, ◌∷◌, [], true, List, OnOk, codes, string_bytes};
 ghost use Rattle.std.specs.Str.{encode_utf8_all};
 ghost use Rattle.desk_script.specs.Reply.{reply};
-ghost use Rattle.desk_script.specs.Text.{stamp_text, opening, quoted, turn, close, copy_text, hex_digit, hex_text, refusal_text, cause_number, fault_text, text};
+ghost use Rattle.desk_script.specs.Text.{stamp_text, opening, quoted, turn, close, copy_text, hex_digit, hex_text, refusal_text, cause_number, fault_text, kind_text, separator, entries_text, faults_text, value_text, settings_text, text};
 
 use desk_codec::{FeedFault, FeedWhy};
-use desk_ops::{Stamp, Style, Symbol, Unlawful};
+use desk_ops::{CopyFault, FaultKind, Stamp, Style, Symbol, Unlawful};
+use desk_replica::Settings;
 use std::alloc::{AllocError, Allocator};
 
 /// Why a line changed nothing, or why it stopped.
@@ -95,6 +96,8 @@ pub enum Response<A: Allocator + Copy> {
     Counted { new: usize, known: usize },
     Copy(Vec<Symbol, A>),
     Feed(Vec<u8, A>),
+    Faults(Vec<CopyFault, A>),
+    Settings(Settings),
     Refused(Refusal),
     /// So many operations were taken before the refusal.
     Stopped(usize, Refusal),
@@ -205,6 +208,83 @@ fn put_stamp<A: Allocator + Copy>(out: &mut String<A>, stamp: Stamp) -> Result<(
     write!(out, "{}.{}", stamp.counter, stamp.site)
 }
 
+fn kind_of(kind: FaultKind) -> &'static str
+    ensures { result.now ≡ kind_text kind }
+{
+    match kind {
+        FaultKind::Forked => "forked",
+        FaultKind::Void => "void",
+        FaultKind::Waiting => "waiting",
+    }
+}
+
+/// Writes the faults of a copy at the end, or that there are none.
+fn put_faults<A: Allocator + Copy>(
+    out: &mut String<A>,
+    faults: &[CopyFault],
+) -> Result<(), AllocError>
+    ensures { OnOk result (string_bytes out.new ≡ string_bytes out.old ++ faults_text faults.now) }
+{
+    if faults.is_empty() {
+        return out.push_str(" none");
+    }
+    put_entries(out, faults)
+}
+
+/// What stands before the first of a list, and before each other.
+fn separator(is_first: bool) -> &'static str
+    ensures { result.now ≡ separator is_first }
+{
+    if is_first { " " } else { ", " }
+}
+
+/// Writes each fault behind a space, or a comma and a space.
+fn put_entries<A: Allocator + Copy>(
+    out: &mut String<A>,
+    faults: &[CopyFault],
+) -> Result<(), AllocError>
+    ensures { OnOk result (string_bytes out.new ≡ string_bytes out.old ++ entries_text true faults.now) }
+{
+    let mut is_first = true;
+    for fault in faults {
+        out.push_str(separator(is_first))?;
+        out.push_str(kind_of(fault.kind))?;
+        out.push_str(" ")?;
+        put_stamp(out, fault.stamp)?;
+        is_first = false;
+    }
+    Ok(())
+}
+
+/// Writes a setting's value at the end, or that it has none.
+fn put_value<A: Allocator + Copy>(out: &mut String<A>, value: Option<u32>) -> Result<(), AllocError>
+    ensures { OnOk result (string_bytes out.new ≡ string_bytes out.old ++ value_text value) }
+{
+    match value {
+        None => out.push_str("-"),
+        Some(value) => write!(out, "{value}"),
+    }
+}
+
+/// Writes the settings of the job at the end.
+fn put_settings<A: Allocator + Copy>(
+    out: &mut String<A>,
+    settings: &Settings,
+) -> Result<(), AllocError>
+    ensures { OnOk result (string_bytes out.new ≡ string_bytes out.old ++ settings_text settings.now) }
+{
+    out.push_str("measure=")?;
+    put_value(out, settings.measure)?;
+    out.push_str(" tight=")?;
+    put_value(out, settings.tight)?;
+    out.push_str(" loose=")?;
+    put_value(out, settings.loose)?;
+    out.push_str(" case=")?;
+    put_value(out, settings.case)?;
+    out.push_str(" wedge=")?;
+    put_value(out, settings.wedge)
+}
+
 /// Writes an answer at the end, without its end of line.
 pub fn put<A: Allocator + Copy>(out: &mut String<A>, answer: &Response<A>) -> Result<(), AllocError>
     ensures { OnOk result (string_bytes out.new ≡ string_bytes out.old ++ text (reply answer.now)) }
@@ -233,6 +313,14 @@ pub fn put<A: Allocator + Copy>(out: &mut String<A>, answer: &Response<A>) -> Re
         Response::Feed(feed) => {
             out.push_str("feed ")?;
             put_hex(out, feed)
+        }
+        Response::Faults(faults) => {
+            out.push_str("faults")?;
+            put_faults(out, faults)
+        }
+        Response::Settings(settings) => {
+            out.push_str("settings ")?;
+            put_settings(out, settings)
         }
         Response::Refused(why) => {
             out.push_str("refused ")?;

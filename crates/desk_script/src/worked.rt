@@ -333,6 +333,16 @@ const NO_SUCH_SITES: &[(&str, &str)] = &[
     ("restart 65536", "refused site"),
     ("restart 65537", "refused site"),
     ("restart 4294967295", "refused site"),
+    ("faults 0", "refused site"),
+    ("faults 2", "refused site"),
+    ("faults 65536", "refused site"),
+    ("faults 65537", "refused site"),
+    ("faults 4294967295", "refused site"),
+    ("settings 0", "refused site"),
+    ("settings 2", "refused site"),
+    ("settings 65536", "refused site"),
+    ("settings 65537", "refused site"),
+    ("settings 4294967295", "refused site"),
 ];
 
 /// A number that no site may have, or none has, is no site in any command but that which adds one.
@@ -423,6 +433,144 @@ const CORNERS_OF_WORDS: &[(&str, &str)] = &[
 #[test]
 fn corners_of_words(rt: HostRuntime) -> Result<(), Fail> {
     let (input, want) = script(rt.alloc(), CORNERS_OF_WORDS)?;
+    let got = answers(rt.alloc(), input.as_bytes(), 1000)?;
+    assert_eq!(rt; got.as_slice(), want.as_bytes());
+    Ok(())
+}
+
+const SETTINGS_BY_STAMP: &[(&str, &str)] = &[
+    ("site 1", "ok"),
+    (
+        "settings 1",
+        "settings measure=- tight=- loose=- case=- wedge=-",
+    ),
+    (
+        "take 1 4d46443103000000000000000500020100000090",
+        "ok new 1 known 0",
+    ),
+    (
+        "take 1 4d46443103000000000000000500010100000078",
+        "ok new 1 known 0",
+    ),
+    (
+        "settings 1",
+        "settings measure=144 tight=- loose=- case=- wedge=-",
+    ),
+    ("set 1 tight 38", "ok 6.1"),
+    ("set 1 loose 150", "ok 7.1"),
+    ("set 1 case 1", "ok 8.1"),
+    ("set 1 wedge 5", "ok 9.1"),
+    (
+        "settings 1",
+        "settings measure=144 tight=38 loose=150 case=1 wedge=5",
+    ),
+    ("set 1 tight 100", "ok 10.1"),
+    (
+        "settings 1",
+        "settings measure=144 tight=100 loose=150 case=1 wedge=5",
+    ),
+    (
+        "take 1 4d46443103000000000000000b0003020000001003000000000000000b00030200000011",
+        "ok new 2 known 0",
+    ),
+    (
+        "settings 1",
+        "settings measure=144 tight=100 loose=150 case=1 wedge=5",
+    ),
+    ("settings 2", "refused site"),
+    ("settings 65537", "refused site"),
+];
+
+/// The set with the greatest stamp tells, whatever order they came in.
+#[test]
+fn settings_by_stamp(rt: HostRuntime) -> Result<(), Fail> {
+    let (input, want) = script(rt.alloc(), SETTINGS_BY_STAMP)?;
+    let got = answers(rt.alloc(), input.as_bytes(), 1000)?;
+    assert_eq!(rt; got.as_slice(), want.as_bytes());
+    Ok(())
+}
+
+const WAITING_THEN_LIVE: &[(&str, &str)] = &[
+    ("site 1", "ok"),
+    ("faults 1", "faults none"),
+    (
+        "take 1 4d464431020000000000000004000200000000000000030001",
+        "ok new 1 known 0",
+    ),
+    (
+        "take 1 4d4644310100000000000000030001000000000000000200010000000063",
+        "ok new 1 known 0",
+    ),
+    (
+        "take 1 4d4644310100000000000000020001000000000000000100010000000062",
+        "ok new 1 known 0",
+    ),
+    ("show 1", "copy"),
+    ("faults 1", "faults waiting 2.1, waiting 3.1, waiting 4.2"),
+    (
+        "take 1 4d4644310100000000000000010001000000000000000000000000000061",
+        "ok new 1 known 0",
+    ),
+    ("show 1", "copy r\"ab\""),
+    ("faults 1", "faults none"),
+    ("faults 2", "refused site"),
+];
+
+/// What comes before its target waits, and is live once the target has come.
+#[test]
+fn waiting_then_live(rt: HostRuntime) -> Result<(), Fail> {
+    let (input, want) = script(rt.alloc(), WAITING_THEN_LIVE)?;
+    let got = answers(rt.alloc(), input.as_bytes(), 1000)?;
+    assert_eq!(rt; got.as_slice(), want.as_bytes());
+    Ok(())
+}
+
+const FORKED_STAMP: &[(&str, &str)] = &[
+    ("site 1", "ok"),
+    ("site 2", "ok"),
+    (
+        "take 1 4d4644310100000000000000010001000000000000000000000000000061",
+        "ok new 1 known 0",
+    ),
+    (
+        "take 1 4d4644310100000000000000020001000000000000000100010000000062",
+        "ok new 1 known 0",
+    ),
+    (
+        "take 1 4d4644310100000000000000020001000000000000000100010000000078",
+        "ok new 1 known 0",
+    ),
+    (
+        "take 1 4d4644310100000000000000030002000000000000000200010000000063",
+        "ok new 1 known 0",
+    ),
+    ("show 1", "copy r\"a\""),
+    ("faults 1", "faults forked 2.1, void 3.2"),
+    (
+        "take 2 4d4644310100000000000000030002000000000000000200010000000063",
+        "ok new 1 known 0",
+    ),
+    (
+        "take 2 4d4644310100000000000000020001000000000000000100010000000078",
+        "ok new 1 known 0",
+    ),
+    (
+        "take 2 4d4644310100000000000000010001000000000000000000000000000061",
+        "ok new 1 known 0",
+    ),
+    (
+        "take 2 4d4644310100000000000000020001000000000000000100010000000062",
+        "ok new 1 known 0",
+    ),
+    ("show 2", "copy r\"a\""),
+    ("faults 2", "faults forked 2.1, void 3.2"),
+    ("merge 1 2", "ok new 0 known 4"),
+];
+
+/// Of a forked stamp no operation acts, whatever order they came in.
+#[test]
+fn forked_stamp(rt: HostRuntime) -> Result<(), Fail> {
+    let (input, want) = script(rt.alloc(), FORKED_STAMP)?;
     let got = answers(rt.alloc(), input.as_bytes(), 1000)?;
     assert_eq!(rt; got.as_slice(), want.as_bytes());
     Ok(())
