@@ -1,5 +1,5 @@
 -- The rows of lines whose cells the case has, cast from the last to the first, give these lines again.
-use Rattle.std.proofs.Common.{◌≡◌, ℕ, suc, ◌+◌, ◌*◌, true, false, List, [], ◌∷◌, ◌++◌, map, length, refl, ap, Some, None, Ok, Option, append_assoc, arith}
+use Rattle.std.proofs.Common.{◌≡◌, ℕ, suc, ◌+◌, ◌*◌, List, [], ◌∷◌, ◌++◌, map, length, refl, ap, Some, Ok, Option, append_assoc, arith}
 use Rattle.std.specs.List.{flat_map}
 use Rattle.desk_wedge.specs.Wedge.{WedgeValues}
 use Rattle.desk_case.specs.Case.{CaseValues}

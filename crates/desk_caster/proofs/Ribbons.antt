@@ -1,11 +1,11 @@
 -- Rows and the bytes of their images.
-use Rattle.std.proofs.Common.{◌≡◌, ℕ, zero, suc, ◌+◌, ◌-◌, ◌*◌, ◌<◌, ◌≤◌, ◌^◌, List, [], ◌∷◌, ◌++◌, length, take, drop, get_or, refl, sym, ap, subst, ◌∙◌, arith, append_assoc, length-append, inl, inr}
-use Rattle.std.specs.Prelude.{Option, Some, None, ◌≢◌}
+use Rattle.std.proofs.Common.{◌≡◌, ℕ, ◌+◌, ◌*◌, ◌<◌, ◌≤◌, ◌^◌, List, [], ◌∷◌, ◌++◌, length, take, drop, get_or, refl, sym, ap, ◌∙◌, arith, append_assoc, length-append, inl, inr}
+use Rattle.std.specs.Prelude.{Option, Some, None}
 use Rattle.std.specs.List.{AllByRecursion, flat_map}
 use Rattle.std.specs.Int.{w32, to_be_bytes, from_be_bytes}
 use Rattle.std.proofs.lemmas.Nat.{be_bytes_4, from_be_bytes-to_be_bytes_4}
 use Rattle.std.proofs.lemmas.Bool.{cases_lt}
-use Rattle.std.proofs.lemmas.List.{length-take, length-drop, get_or-drop, get_or-take, get_or_past, take-append-drop}
+use Rattle.std.proofs.lemmas.List.{length-take, get_or-take, get_or_past, take-append-drop}
 use Rattle.std.proofs.lemmas.Grind.{flat_map-append}
 use Rattle.desk_ops.proofs.Lists.{Each-append}
 use Rattle.desk_signals.specs.Rows.{signals_of}
@@ -16,9 +16,8 @@ use Rattle.desk_signals.specs.declared.RibbonRow.{RibbonRow}
 use Rattle.desk_signals.specs.Rows.{IsRow}
 use Rattle.desk_image.specs.Images.{image, image_fault}
 use Rattle.desk_image.specs.declared.BadImage.{BadImage}
-use Rattle.desk_ribbon.specs.Ribbon.{image_bytes, ribbon}
-use Rattle.desk_caster.specs.Reading.{AreImages, IsRibbon, IsBadRow, IsCounted, HasBadRow, HasNoCount, Tells, TellsRow, magic}
-use Rattle.desk_caster.specs.declared.RibbonFault.{RibbonFault}
+use Rattle.desk_ribbon.specs.Ribbon.{image_bytes}
+use Rattle.desk_caster.specs.Reading.{magic}
 use Rattle.desk_caster.specs.declared.RibbonFault.TheVariants as fault
 
 -- ---- a number at the front of bytes

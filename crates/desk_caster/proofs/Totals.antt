@@ -1,10 +1,9 @@
 -- Totals of lines.
-use Rattle.std.proofs.Common.{◌≡◌, ℕ, suc, ◌+◌, ◌*◌, ◌<◌, ◌^◌, List, [], ◌∷◌, ◌++◌, length, reverse, refl, sym, ap, subst, ◌∙◌, arith}
-use Rattle.std.specs.Prelude.{ℤ, pos, ◌+ℤ◌, ◌-ℤ◌, ◌≤ℤ◌}
+use Rattle.std.proofs.Common.{◌≡◌, ℕ, suc, ◌+◌, ◌<◌, ◌^◌, List, [], ◌∷◌, ◌++◌, length, reverse, sym, ap, subst, ◌∙◌, arith}
+use Rattle.std.specs.Prelude.{ℤ, ◌+ℤ◌}
 use Rattle.std.proofs.lemmas.Int.{ints}
 use Rattle.std.proofs.lemmas.List.{reverse-append}
 use Rattle.desk_caster.specs.declared.CastMatrix.{CastMatrix}
-use Rattle.desk_caster.specs.Caster.{total_width}
 use Rattle.desk_caster.specs.Bounds.{IsTotal, IsWithin}
 
 wider_within : (width total wider : ℤ) (n : ℕ) → IsWithin width 1 → IsWithin total n → wider ≡ width +ℤ total → IsWithin wider (suc n)

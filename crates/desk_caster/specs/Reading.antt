@@ -1,5 +1,5 @@
 -- Bytes that are a ribbon, and the first fault of those that are none.
-use Rattle.std.specs.Prelude.{◌≡◌, ℕ, ◌+◌, ◌*◌, ◌<◌, ◌^◌, List, [], ◌∷◌, ◌++◌, length, codes, Option, Some, ◌⊎◌}
+use Rattle.std.specs.Prelude.{◌≡◌, ℕ, ◌*◌, ◌<◌, ◌^◌, List, ◌++◌, length, codes, Some}
 use Rattle.std.specs.List.{AllByRecursion, flat_map}
 use Rattle.std.specs.Int.{w32, to_be_bytes}
 use Rattle.desk_signals.specs.declared.RibbonRow.{RibbonRow}
@@ -69,3 +69,12 @@ Tells bytes fault.Magic = (body : List ℕ) → bytes ≡ magic ++ body → ⊥
 Tells bytes fault.Count = HasNoCount bytes
 Tells bytes (fault.Row place why) = HasBadRow bytes place why
 Tells bytes fault.NoMemory = Unit {0}
+
+-- the magic, a number of rows that is not 0 and as many images stand there: such bytes alone take memory
+pub record MayHoldOne (bytes : List ℕ) : Type 0 where
+  pub body : List ℕ
+  pub begins : bytes ≡ magic ++ body
+  pub number : ℕ
+  pub some : 0 < number
+  pub images : List ℕ
+  pub counted : IsCounted body number images

@@ -269,6 +269,8 @@ pub fn cast<A: Allocator + Copy>(
     requires { length rows.now < 2 ^ 32 }
     ensures ok { IfOk result (λ v. cast case.now wedge.now rows.now ≡ Ok v.items) }
     ensures err { IfErr result (λ e. e ≢ fault.NoMemory → cast case.now wedge.now rows.now ≡ Err e) }
+    // No rows take no memory.
+    ensures memory { result ≡ Err fault.NoMemory → 1 ≤ length rows.now }
 {
     let mut caster = Caster::new(alloc);
     let mut place = rows.len();

@@ -1,9 +1,10 @@
 //! Reading a ribbon's bytes.
 
-ghost use Rattle.std.specs.Prelude.{◌≡◌, ◌+◌, ◌*◌, ◌≤◌, ◌<◌, ◌^◌, ◌++◌, length, IfOk, IfErr, List};
+ghost use Rattle.std.specs.Prelude.{◌≡◌, ◌+◌, ◌*◌, ◌≤◌, ◌<◌, ◌^◌, ◌++◌, length, IfOk, IfErr, Err, List};
 ghost use Rattle.std.specs.Int.{w32, to_be_bytes};
 ghost use Rattle.desk_signals.specs.declared.RibbonRow.{RibbonRow};
-ghost use Rattle.desk_caster.specs.Reading.{AreImages, IsRibbon, TellsRow, Tells};
+ghost use Rattle.desk_caster.specs.Reading.{AreImages, IsRibbon, TellsRow, Tells, MayHoldOne};
+ghost use Rattle.desk_caster.specs.declared.RibbonFault.TheVariants as fault;
 
 use crate::RibbonFault;
 use desk_image::Image;
@@ -29,6 +30,7 @@ fn rows_of<A: Allocator>(
     requires { length images.now ≡ 4 * number }
     ensures rows { IfOk result (λ rows. AreImages rows.items images.now × (length rows.items ≡ number)) }
     ensures fault { IfErr result (λ fault. TellsRow images.now fault) }
+    ensures memory { result ≡ Err fault.NoMemory → 0 < number }
 {
     let mut rows = match Vec::with_capacity(alloc, number as usize) {
         Ok(rows) => rows,
@@ -56,6 +58,8 @@ fn rows_of<A: Allocator>(
 pub fn read_ribbon<A: Allocator>(alloc: A, bytes: &[u8]) -> Result<Vec<RibbonRow, A>, RibbonFault>
     ensures ribbon { IfOk result (λ rows. IsRibbon bytes.now rows.items) }
     ensures fault { IfErr result (λ fault. Tells bytes.now fault) }
+    // Other magic, another count and a ribbon of no rows are never told as want of memory.
+    ensures memory { result ≡ Err fault.NoMemory → MayHoldOne bytes.now }
 {
     let [b'M', b'R', b'B', b'1', body @ ..] = bytes else {
         return Err(RibbonFault::Magic);

@@ -5,8 +5,9 @@ ghost use Rattle.desk_ops.specs.declared.op.Op.{Op};
 ghost use Rattle.desk_ops.specs.Op.{IsLawful};
 ghost use Rattle.desk_codec.specs.Feed.{spelling, IsHeld, IsFeed};
 ghost use Rattle.desk_codec.specs.Fault.{IsWrong, IsFirstFault};
-ghost use Rattle.desk_codec.specs.Reading.{Tells, Answers};
+ghost use Rattle.desk_codec.specs.Reading.{Tells, Answers, MayHoldOne};
 ghost use Rattle.desk_codec.specs.declared.fault.FeedFault.{FeedFault};
+ghost use Rattle.desk_codec.specs.declared.fault.ReadFault.TheVariants as fault;
 
 use crate::fault::{FeedFault, FeedWhy, ReadFault};
 use crate::fields::{Fields, take_byte};
@@ -37,6 +38,7 @@ pub fn next_op(bytes: &[u8]) -> Result<(Op, &[u8]), FeedWhy>
 fn operations_of<A: Allocator>(alloc: A, bytes: &[u8]) -> Result<Vec<Op, A>, ReadFault>
     ensures feed { IfOk result (λ ops. IsFeed bytes.now ops.items) }
     ensures fault { IfErr result (λ fault. Tells bytes.now fault) }
+    ensures memory { result ≡ Err fault.NoMemory → MayHoldOne bytes.now }
 {
     let [b'M', b'F', b'D', b'1', body @ ..] = bytes else {
         return Err(ReadFault::Fault(FeedFault {
@@ -71,6 +73,8 @@ pub fn read_feed<A: Allocator>(alloc: A, bytes: &[u8]) -> Result<Vec<Op, A>, Rea
     // The feed of a list is read as that list, and bytes with a first fault are told by it, unless memory runs out.
     ensures only { (ops : List Op) → IsFeed bytes.now ops → Answers (λ v. v.items) result (Ok ops) }
     ensures first { (fault : FeedFault) → IsFirstFault bytes.now fault → Answers (λ v. v.items) result (Err fault) }
+    // Other than the magic, or too few bytes for an operation, is never told as want of memory.
+    ensures memory { result ≡ Err fault.NoMemory → MayHoldOne bytes.now }
 {
     operations_of(alloc, bytes)
 }

@@ -1,4 +1,4 @@
-use Rattle.std.proofs.Common.{◌≡◌, ◌-◌, suc, arith}
+use Rattle.std.proofs.Common.{◌-◌, arith}
 use Rattle.desk_caster.proofs.Running.{kept, stopped}
 use Rattle.desk_caster.proofs.machine.cast.Goals as goal
 

@@ -1,4 +1,4 @@
-use Rattle.std.proofs.Common.{◌≡◌, ◌++◌, List, ℕ, ap, sym, ◌∙◌}
+use Rattle.std.proofs.Common.{◌++◌, List, ℕ, ap, sym, ◌∙◌}
 use Rattle.std.specs.List.{flat_map}
 use Rattle.desk_image.specs.Images.{image_fault}
 use Rattle.desk_ribbon.specs.Ribbon.{image_bytes}

@@ -1,4 +1,4 @@
-use Rattle.std.proofs.Common.{◌≡◌, reverse, sym, subst, ap, length, arith, ◌+◌, ◌<◌, ◌^◌}
+use Rattle.std.proofs.Common.{reverse, sym, subst, ap, length, arith, ◌+◌, ◌<◌, ◌^◌}
 use Rattle.desk_caster.specs.Bounds.{IsTotal}
 use Rattle.desk_caster.specs.Caster.{Begun}
 use Rattle.desk_caster.proofs.Totals.{total_grows, sum_fits}
