@@ -1,1 +1,4 @@
 mod Examples
+pub mod Sums
+pub mod LineSizes
+pub mod Widths

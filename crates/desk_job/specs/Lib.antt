@@ -1,1 +1,3 @@
 pub mod Job
+pub mod Usable
+pub mod Setting

@@ -1,6 +1,10 @@
 //! The job: the ribbon of a copy, or why there is none.
 #![tactic(auto)]
 
+pub mod line;
+pub mod punch;
+pub mod terms;
+
 use desk_ops::Key;
 
 /// Why a copy can't be set. Places count from 0 in the copy, lines from 1.
