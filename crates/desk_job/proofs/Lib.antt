@@ -2,3 +2,5 @@ mod Examples
 pub mod Sums
 pub mod LineSizes
 pub mod Widths
+pub mod Adding
+pub mod Parts

@@ -2,6 +2,8 @@
 use Rattle.std.proofs.Common.{◌≡◌, ℕ, zero, suc, ◌+◌, ◌-◌, ◌*◌, ◌/◌, ◌<◌, ◌≤◌, Bool, true, false, List, [], ◌∷◌, map, length, refl, sym, ap, subst, ◌∙◌, arith}
 use Rattle.std.specs.Prelude.{ℤ, pos, negsuc, ◌+ℤ◌, ◌-ℤ◌, ◌*ℤ◌, ◌≤ℤ◌, ◌<ℤ◌, int_le, unsigned_abs, sum_by, ◌&&◌, if◌then◌else◌}
 use Rattle.std.proofs.lemmas.Int.{ints, by_lt_z}
+use Rattle.std.proofs.lemmas.List.{length-map}
+use Rattle.desk_caster.specs.Caster.{row_width}
 use Rattle.std.proofs.lemmas.List.Sums.{sum_by-cons}
 use Rattle.desk_ops.specs.declared.op.Symbol.{Symbol}
 use Rattle.desk_lines.specs.Groups.{group_width}
@@ -134,3 +136,6 @@ measured_at terms copy places filled width added found some are sum is =
 pub spaces_at : (copy : List Symbol) (places : List Word) (added : Bool) (count : ℕ) → count ≡ (length places - 1) + (if added then 1 else 0) →
     count ≡ (length (words_at copy places) - 1) + (if added then 1 else 0)
 spaces_at copy places added count so = let long = length_at copy places in rw long so
+
+pub fill_number : (terms : Terms) → length (fill_widths terms) ≡ length terms.case.fill
+fill_number terms = length-map terms.case.fill (λ cell. pos (row_width terms.wedge cell.row))

@@ -1,3 +1,4 @@
 pub mod Job
 pub mod Usable
 pub mod Setting
+pub mod Making

@@ -26,6 +26,7 @@ pub record IsWord (copy : List Symbol) (word : Word) : Type 0 where
 pub record IsSetting (terms : Terms) (line : SetLine) (setting : Setting) : Type 0 where
   pub added : setting.added ≡ has_added terms line
   pub fills : setting.fills.items ≡ fills terms line
+  pub number : length setting.fills.items ≤ length terms.case.fill
   pub pair : setting.pair ≡ pair_of (wedge_sum terms line)
 
 -- what the line is set by, or its fault

@@ -1,6 +1,7 @@
 //! The job: the ribbon of a copy, or why there is none.
 #![tactic(auto)]
 
+pub mod copy;
 pub mod line;
 pub mod punch;
 pub mod terms;

@@ -1,6 +1,6 @@
 use Rattle.std.proofs.Common.{arith, ◌∙◌, sym, ap}
 use Rattle.desk_job.specs.Setting.{told, line_at, words_at}
-use Rattle.desk_job.proofs.LineSizes.{measured_at, spaces_at, spaces_are, numbers_are, faulted, too_wide}
+use Rattle.desk_job.proofs.LineSizes.{measured_at, spaces_at, spaces_are, numbers_are, faulted, too_wide, fill_number}
 use Rattle.std.proofs.Common.{◌≡◌, ℕ, List}
 use Rattle.std.specs.Prelude.{ℤ, pos, ◌-ℤ◌}
 use Rattle.desk_justify.specs.Filled.{taken}
@@ -38,6 +38,7 @@ returns-in-None c =
       record {
         added = h.added_found;
         fills = h.fills_found;
+        number = omega (arith, c.fills-fills.ensures.number, fill_number terms);
         pair = c.positions.ensures.value ∙ (ap pair_of (sym c.wedge_sum-sum.ensures) ∙ ap pair_of h.sum_found);
       },
       faulted terms c.args.n line _ _ _ _ _ h (ap told (sym c.in-None.is) ∙ c.sum_fault.ensures),

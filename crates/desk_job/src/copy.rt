@@ -1,0 +1,123 @@
+//! The lines of a copy: their faults, or their rows.
+
+ghost use Rattle.std.specs.Prelude.{◌≡◌, ◌+◌, ◌≤◌, ◌<◌, ◌^◌, ◌∷◌, [], length, All, OnOk, IfOk};
+ghost use Rattle.desk_lines.specs.Groups.{AreWidths};
+ghost use Rattle.desk_job.specs.Job as job;
+ghost use Rattle.desk_job.specs.Setting.{IsWord, line_at, words_at};
+ghost use Rattle.desk_job.specs.Making.{Adds, HasRoom, IsRange, all_lines, lines_at, paragraph_lines};
+
+use crate::JobFault;
+use crate::line::set_line;
+use crate::punch::punch;
+use crate::terms::Terms;
+use desk_lines::{Group, Paragraph, Word, break_lines};
+use desk_ops::{NoMemory, Symbol};
+use desk_ribbon::RibbonWriter;
+use desk_units::Atoms;
+use std::alloc::Allocator;
+use std::marker::Model;
+
+/// What is found of a copy, line by line: the faults, and the ribbon as long as there is none.
+#[derive(Drop)]
+pub struct Making<A: Allocator + Copy> {
+    next: usize,
+    faults: Vec<JobFault, A>,
+    ribbon: RibbonWriter<A>,
+}
+
+impl<A: Allocator + Copy> Model for Making<A> {
+    ghost use Rattle.desk_job.specs.Making.{Found};
+
+    ghost Value = { Found };
+
+    ghost view = { λ m. record { next = m.next; faults = m.faults.items; rows = m.ribbon } };
+}
+
+/// The widths of words.
+fn word_widths<A: Allocator>(
+    alloc: A,
+    terms: &Terms,
+    copy: &[Symbol],
+    words: &[Word],
+) -> Result<Vec<Atoms, A>, NoMemory>
+    requires copy { length copy.now ≤ 2 ^ 20 }
+    requires words { All (IsWord copy.now) words.now }
+    ensures value { IfOk result (λ widths. widths.items ≡ job.widths terms.now (words_at copy.now words.now)) }
+    ensures within { IfOk result (λ widths. AreWidths widths.items) }
+{
+    let mut widths = Vec::with_capacity(alloc, words.len())?;
+    for word in words {
+        widths.push(terms.symbols_width(&copy[word.from..word.to]))?;
+    }
+    Ok(widths)
+}
+
+impl<A: Allocator + Copy> Making<A> {
+    /// Nothing yet.
+    fn new(alloc: A) -> Making<A>
+        ensures { result ≡ record { next = 1; faults = []; rows = [] } }
+    {
+        Making {
+            next: 1,
+            faults: Vec::new(alloc),
+            ribbon: RibbonWriter::new(alloc),
+        }
+    }
+
+    /// Adds a line of these words.
+    fn add_line(
+        &mut self,
+        alloc: A,
+        terms: &Terms,
+        copy: &[Symbol],
+        words: &[Word],
+        widths: &[Atoms],
+        filled: bool,
+    ) -> Result<(), NoMemory>
+        requires some { 1 ≤ length words.now }
+        requires number { length words.now ≤ 2 ^ 20 + 1 }
+        requires words { All (IsWord copy.now) words.now }
+        requires widths { widths.now ≡ job.widths terms.now (words_at copy.now words.now) }
+        requires within { AreWidths widths.now }
+        requires room { HasRoom terms.now (line_at copy.now words.now filled ∷ []) self.old }
+        ensures { OnOk result (Adds terms.now (line_at copy.now words.now filled ∷ []) self.old self.new) }
+    {
+        match set_line(terms, self.next, copy, words, widths, filled) {
+            Err(fault) => self.faults.push(fault)?,
+            Ok(setting) => {
+                if self.faults.is_empty() {
+                    punch(&mut self.ribbon, alloc, terms, copy, words, &setting)?;
+                }
+            }
+        }
+        self.next += 1;
+        Ok(())
+    }
+
+    /// Adds the lines of these groups of words, the last of which is the last of its paragraph.
+    fn add_groups(
+        &mut self,
+        alloc: A,
+        terms: &Terms,
+        copy: &[Symbol],
+        words: &[Word],
+        widths: &[Atoms],
+        groups: &[Group],
+    ) -> Result<(), NoMemory>
+        requires number { length words.now ≤ 2 ^ 20 + 1 }
+        requires words { All (IsWord copy.now) words.now }
+        requires widths { widths.now ≡ job.widths terms.now (words_at copy.now words.now) }
+        requires within { AreWidths widths.now }
+        requires ranges { All (IsRange (length words.now)) groups.now }
+        requires room { HasRoom terms.now (lines_at copy.now words.now groups.now) self.old }
+        ensures { OnOk result (Adds terms.now (lines_at copy.now words.now groups.now) self.old self.new) }
+    {
+        for (i, group) in groups.iter().enumerate() {
+            let filled = i + 1 == groups.len() || group.to - group.from == 1;
+            let these = &words[group.from..group.to];
+            let wide = &widths[group.from..group.to];
+            self.add_line(alloc, terms, copy, these, wide, filled)?;
+        }
+        Ok(())
+    }
+}
