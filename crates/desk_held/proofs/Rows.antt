@@ -1,9 +1,9 @@
 -- Rows of operations that strictly rise, and the stamps that they bear.
-use Rattle.std.proofs.Common.{◌≡◌, ℕ, zero, suc, ◌||◌, ◌+◌, ◌-◌, ◌<◌, ◌≤◌, ◌⊎◌, inl, inr, Bool, true, false, cond, List, [], ◌∷◌, ◌++◌, length, take, drop, get_or, refl, sym, ap, subst, ◌∙◌, arith, rules, length-drop}
-use Rattle.std.specs.Prelude.{T, Option, Some, None, max, ◌&&◌, slice_get}
-use Rattle.std.specs.List.{list_any, filter, AllByRecursion, AllWithin, insert}
+use Rattle.std.proofs.Common.{◌≡◌, ℕ, zero, suc, ◌||◌, ◌-◌, ◌<◌, ◌≤◌, ◌⊎◌, inl, inr, Bool, true, false, cond, List, [], ◌∷◌, length, take, drop, get_or, refl, sym, ap, subst, ◌∙◌, arith, length-drop}
+use Rattle.std.specs.Prelude.{T, Some, max, ◌&&◌, slice_get}
+use Rattle.std.specs.List.{list_any, filter, AllByRecursion, AllWithin}
 use Rattle.std.specs.List.Sorted.{IsPartitionedBy}
-use Rattle.std.specs.Ordering.{nat_cmp, ordering_then, ordering_reverse, is_eq, is_lt}
+use Rattle.std.specs.Ordering.{nat_cmp, ordering_then, ordering_reverse, is_lt}
 use Rattle.std.specs.Cmp.Lexicographic.{slice_cmp}
 use Rattle.std.specs.FinMap.Entries.{below_all}
 use Rattle.std.specs.declared.cmp.Ordering.{Ordering}
@@ -19,12 +19,12 @@ use Rattle.desk_ops.specs.declared.op.Op.{Op}
 use Rattle.desk_ops.specs.Op.{stamp_of}
 use Rattle.desk_ops.specs.Order.{op_cmp, rest_of}
 use Rattle.desk_ops.specs.OpSet.{is_rising, entries_of}
-use Rattle.desk_ops.specs.Held.{bears, bearing, is_one, is_clear, is_borne}
+use Rattle.desk_ops.specs.Held.{bears, is_one, is_clear, is_borne, greatest_counter}
 use Rattle.desk_ops.specs.Stamp.{stamp_cmp, same, before}
 use Rattle.desk_ops.proofs.Stamps.{by_cases, stamp_total, same-true, before-trans, before-other, before-apart_left, is_less}
 use Rattle.desk_ops.proofs.OpSets.{IsGap, rising_less}
 use Rattle.desk_ops.proofs.Means.{by_stamp}
-use Rattle.desk_held.specs.Holding.{greatest_among, IsFirstBearer}
+use Rattle.desk_held.specs.Holding.{IsFirstBearer}
 
 T-true : (b : Bool) → T b → b ≡ true
 T-true true h = refl
@@ -175,14 +175,14 @@ gap_at_end ops x last rising e above = record {
 }
 
 -- the last of a rising row has the greatest counter
-pub greatest-last : (ops : List Op) (last : Op) → T (is_rising ops) → Some last ≡ slice_get ops (length ops - 1) → (stamp_of last).counter ≡ greatest_among ops
+pub greatest-last : (ops : List Op) (last : Op) → T (is_rising ops) → Some last ≡ slice_get ops (length ops - 1) → (stamp_of last).counter ≡ greatest_counter ops
 greatest-last [] last rising e = cc
 greatest-last (x ∷ []) last rising e =
     let f : last ≡ x = cc (one-left x) in ap (λ o. (stamp_of o).counter) f ∙ sym (max_zero (stamp_of x).counter)
 greatest-last (x ∷ y ∷ ops) last rising e =
-    let h : (stamp_of last).counter ≡ greatest_among (y ∷ ops) = greatest-last (y ∷ ops) last (T_second (below_all op_cmp x (entries_of (y ∷ ops))) _ rising) (e ∙ last-cons x y ops) in
+    let h : (stamp_of last).counter ≡ greatest_counter (y ∷ ops) = greatest-last (y ∷ ops) last (T_second (below_all op_cmp x (entries_of (y ∷ ops))) _ rising) (e ∙ last-cons x y ops) in
     let k : (stamp_of x).counter ≤ (stamp_of y).counter = counter_kept (stamp_of x) (stamp_of y) (above_first x (y ∷ ops) (T_first _ _ rising)).0 in
-    h ∙ larger (stamp_of x).counter (greatest_among (y ∷ ops)) (first_larger (stamp_of x).counter (stamp_of y).counter (greatest_among ops) k)
+    h ∙ larger (stamp_of x).counter (greatest_counter (y ∷ ops)) (first_larger (stamp_of x).counter (stamp_of y).counter (greatest_counter ops) k)
 
 -- ---- what the bearers say
 

@@ -1,11 +1,11 @@
 -- What is held, and how many more operations can be held with no new memory.
-use Rattle.std.specs.Prelude.{◌≡◌, ℕ, ◌<◌, ◌≤◌, Bool, true, cond, List, [], ◌∷◌, length, drop, T, Option, Some, None, refl, max}
+use Rattle.std.specs.Prelude.{◌≡◌, ℕ, ◌≤◌, cond, List, ◌∷◌, length, drop, T, refl}
 use Rattle.std.specs.Coded.{Coded, code_by, coded×, coded_ℕ}
-use Rattle.std.specs.List.{list_any, filter}
+use Rattle.std.specs.List.{filter}
 use Rattle.desk_ops.specs.declared.op.Stamp.{Stamp}
 use Rattle.desk_ops.specs.declared.op.Op.{Op}
 use Rattle.desk_ops.specs.Op.{stamp_of}
-use Rattle.desk_ops.specs.OpSet.{OpSet, op_set_code, has_op, is_rising, in_order}
+use Rattle.desk_ops.specs.OpSet.{OpSet, op_set_code, has_op, is_rising}
 use Rattle.desk_ops.specs.Held.{bears, is_borne_in}
 use Rattle.desk_held.specs.declared.Added.{Added}
 use Rattle.desk_held.specs.declared.Added.TheVariants.{New, Known, Forks}
@@ -30,11 +30,3 @@ added_to ops op = cond (has_op ops op) Known (cond (is_borne_in ops (stamp_of op
 pub record IsFirstBearer (stamp : Stamp) (op : Op) (ops : List Op) : Type 0 where
   pub some : 1 ≤ length ops
   pub bearers : filter (bears stamp) ops ≡ op ∷ filter (bears stamp) (drop 1 ops)
-
--- the greatest counter among operations, or 0
-abbrev pub greatest_among : List Op → ℕ
-greatest_among [] = 0
-greatest_among (op ∷ ops) = max (stamp_of op).counter (greatest_among ops)
-
-abbrev pub greatest_counter : OpSet → ℕ
-greatest_counter h = greatest_among (in_order h)

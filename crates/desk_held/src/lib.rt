@@ -4,7 +4,7 @@
 ghost use Rattle.std.specs.Prelude.{◌≡◌, ◌+◌, ◌≤◌, ◌<◌, ◌↔◌, ◌∷◌, [], IfOk, OnOk, OnErr, IsErrOf, IsOk, IsTrue, MatchOption, true, false};
 ghost use Rattle.desk_ops.specs.Op.{IsLawful};
 ghost use Rattle.desk_ops.specs.OpSet.{no_ops, has_op, with_op, in_order, size};
-ghost use Rattle.desk_ops.specs.Held.{bearers, is_borne_in, is_clear_in};
+ghost use Rattle.desk_ops.specs.Held.{bearers, is_borne_in, is_clear_in, greatest_counter_of};
 
 use desk_ops::{NoMemory, Op, Stamp};
 use std::alloc::Allocator;
@@ -57,7 +57,7 @@ impl<A: Allocator + Copy> Model for Held<A> {
 }
 
 impl<A: Allocator + Copy> Held<A> {
-    ghost use Rattle.desk_held.specs.Holding.{added_to, greatest_counter};
+    ghost use Rattle.desk_held.specs.Holding.{added_to};
 
     #[tactic(auto, using(desk_ops::proofs::OpSets::op_sets))]
     pub fn new(alloc: A) -> Self
@@ -163,7 +163,7 @@ impl<A: Allocator + Copy> Held<A> {
     /// The greatest counter that is held, or 0 where nothing is.
     #[tactic(auto, using(desk_ops::proofs::OpSets::op_sets))]
     pub fn greatest_counter(&self) -> u64
-        ensures { result ≡ greatest_counter self.now.ops }
+        ensures { result ≡ greatest_counter_of self.now.ops }
     {
         row::greatest_counter(&self.ops)
     }
@@ -174,6 +174,14 @@ impl<A: Allocator + Copy> Held<A> {
         ensures { IfOk result (λ v. v.items ≡ in_order self.now.ops) }
     {
         Ok(self.ops.to_vec(*self.ops.allocator())?)
+    }
+
+    /// The operations, by stamp and then by bytes, where they are kept.
+    #[tactic(auto, using(desk_ops::proofs::OpSets::op_sets))]
+    pub fn as_slice(&self) -> &[Op]
+        ensures { result.now ≡ in_order self.now.ops }
+    {
+        self.ops.as_slice()
     }
 }
 

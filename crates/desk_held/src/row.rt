@@ -4,8 +4,8 @@ ghost use Rattle.std.specs.List.{insert, filter, AllByRecursion};
 ghost use Rattle.desk_ops.specs.Op.{stamp_of};
 ghost use Rattle.desk_ops.specs.Stamp.{before};
 ghost use Rattle.desk_ops.specs.OpSet.{is_rising, from_rising, has_op, with_op};
-ghost use Rattle.desk_ops.specs.Held.{bears, is_borne, is_clear, bearing};
-ghost use Rattle.desk_held.specs.Holding.{greatest_among, IsFirstBearer};
+ghost use Rattle.desk_ops.specs.Held.{bears, is_borne, is_clear, bearing, greatest_counter};
+ghost use Rattle.desk_held.specs.Holding.{IsFirstBearer};
 
 use desk_ops::{Op, Stamp};
 
@@ -94,7 +94,7 @@ pub fn sole_bearer(ops: &[Op], stamp: Stamp) -> Option<Op>
 /// The counter of the last operation, or 0.
 pub fn greatest_counter(ops: &[Op]) -> u64
     requires { T (is_rising ops.now) }
-    ensures { result ≡ greatest_among ops.now }
+    ensures { result ≡ greatest_counter ops.now }
 {
     match ops.last() {
         Some(last) => last.stamp().counter,

@@ -102,17 +102,30 @@ filter-last f (x ∷ xs) o = elim (f x) as (λ b. cond b (x ∷ filter f (xs ++ 
   | false ↦ filter-last f xs o
 ]
 
-module _ (h : OpSet) (lawful : AllLawful h) (i : ℕ) (d : Op) (lt : i < length (in_order h)) where
+module _ (h : OpSet) (i : ℕ) (d : Op) (lt : i < length (in_order h)) where
   taken_more : take (i + 1) (in_order h) ≡ take i (in_order h) ++ get_or (in_order h) i d ∷ []
   taken_more = take_more (in_order h) i d lt
 
+  -- the clear ones before a clear operation have smaller stamps
+  pub earlier : is_clear (in_order h) (stamp_of (get_or (in_order h) i d)) ≡ true → Each (λ p. before (stamp_of p) (stamp_of (get_or (in_order h) i d)) ≡ true) (clear_before (in_order h) i)
+  earlier clear = each-filter (λ p. before (stamp_of p) (stamp_of (get_or (in_order h) i d)) ≡ true) (λ op. is_clear (in_order h) (stamp_of op)) (take i (in_order h))
+      (each-from_among (λ p. before (stamp_of p) (stamp_of (get_or (in_order h) i d)) ≡ true) (take i (in_order h))
+      (λ p m. clear_later (in_order h) p (get_or (in_order h) i d) (among-taken (in_order h) i p m) (among-at (in_order h) i d lt) clear
+      (each-among (λ p. op_cmp p (get_or (in_order h) i d) ≡ Less) (take i (in_order h)) p (below_it (in_order h) i d (ordered h) lt) m)))
+
+  pub clear_before-clear : is_clear (in_order h) (stamp_of (get_or (in_order h) i d)) ≡ true → clear_before (in_order h) (i + 1) ≡ clear_before (in_order h) i ++ get_or (in_order h) i d ∷ []
+  clear_before-clear clear = ap (filter (λ op. is_clear (in_order h) (stamp_of op))) taken_more ∙ filter-last (λ op. is_clear (in_order h) (stamp_of op)) (take i (in_order h)) (get_or (in_order h) i d)
+      ∙ ap (λ b. clear_before (in_order h) i ++ cond b (get_or (in_order h) i d ∷ []) []) clear
+
+  pub clear_before-other : is_clear (in_order h) (stamp_of (get_or (in_order h) i d)) ≡ false → clear_before (in_order h) (i + 1) ≡ clear_before (in_order h) i
+  clear_before-other forked = ap (filter (λ op. is_clear (in_order h) (stamp_of op))) taken_more ∙ filter-last (λ op. is_clear (in_order h) (stamp_of op)) (take i (in_order h)) (get_or (in_order h) i d)
+      ∙ ap (λ b. clear_before (in_order h) i ++ cond b (get_or (in_order h) i d ∷ []) []) forked ∙ append-nil (clear_before (in_order h) i)
+
+module _ (h : OpSet) (lawful : AllLawful h) (i : ℕ) (d : Op) (lt : i < length (in_order h)) where
   pub older : is_clear (in_order h) (stamp_of (get_or (in_order h) i d)) ≡ true → IsAscending (filter_map insertion (clear_before (in_order h) i)) → IsOlder (stamp_of (get_or (in_order h) i d)) (clear_before (in_order h) i)
   older clear up = record {
     lawful = each-filter IsLawful (λ op. is_clear (in_order h) (stamp_of op)) (take i (in_order h)) (each-taken IsLawful (in_order h) i lawful);
-    older = each-filter (λ p. before (stamp_of p) (stamp_of (get_or (in_order h) i d)) ≡ true) (λ op. is_clear (in_order h) (stamp_of op)) (take i (in_order h))
-        (each-from_among (λ p. before (stamp_of p) (stamp_of (get_or (in_order h) i d)) ≡ true) (take i (in_order h))
-        (λ p m. clear_later (in_order h) p (get_or (in_order h) i d) (among-taken (in_order h) i p m) (among-at (in_order h) i d lt) clear
-        (each-among (λ p. op_cmp p (get_or (in_order h) i d) ≡ Less) (take i (in_order h)) p (below_it (in_order h) i d (ordered h) lt) m)));
+    older = earlier h i d lt clear;
     up = up;
   }
 
@@ -125,23 +138,15 @@ module _ (h : OpSet) (lawful : AllLawful h) (i : ℕ) (d : Op) (lt : i < length 
   build-clear tree clear b = record {
     walk = ap (acted (get_or (in_order h) i d)) b.walk
         ∙ sym (acts (clear_before (in_order h) i) (get_or (in_order h) i d) (each-at IsLawful (in_order h) i d lawful lt) (older clear b.up))
-        ∙ ap walked (sym grown);
-    up = subst (λ l. IsAscending (filter_map insertion l)) (sym grown) (up-last (clear_before (in_order h) i) (get_or (in_order h) i d) (older clear b.up));
+        ∙ ap walked (sym (clear_before-clear h i d lt clear));
+    up = subst (λ l. IsAscending (filter_map insertion l)) (sym (clear_before-clear h i d lt clear)) (up-last (clear_before (in_order h) i) (get_or (in_order h) i d) (older clear b.up));
   }
-    where
-      grown : clear_before (in_order h) (i + 1) ≡ clear_before (in_order h) i ++ get_or (in_order h) i d ∷ []
-      grown = ap (filter (λ op. is_clear (in_order h) (stamp_of op))) taken_more ∙ filter-last (λ op. is_clear (in_order h) (stamp_of op)) (take i (in_order h)) (get_or (in_order h) i d)
-          ∙ ap (λ b. clear_before (in_order h) i ++ cond b (get_or (in_order h) i d ∷ []) []) clear
 
   pub build-other : (tree : List Entry) → is_clear (in_order h) (stamp_of (get_or (in_order h) i d)) ≡ false → IsBuilt (in_order h) i tree → IsBuilt (in_order h) (i + 1) tree
   build-other tree forked b = record {
-    walk = b.walk ∙ ap walked (sym kept);
-    up = subst (λ l. IsAscending (filter_map insertion l)) (sym kept) b.up;
+    walk = b.walk ∙ ap walked (sym (clear_before-other h i d lt forked));
+    up = subst (λ l. IsAscending (filter_map insertion l)) (sym (clear_before-other h i d lt forked)) b.up;
   }
-    where
-      kept : clear_before (in_order h) (i + 1) ≡ clear_before (in_order h) i
-      kept = ap (filter (λ op. is_clear (in_order h) (stamp_of op))) taken_more ∙ filter-last (λ op. is_clear (in_order h) (stamp_of op)) (take i (in_order h)) (get_or (in_order h) i d)
-          ∙ ap (λ b. clear_before (in_order h) i ++ cond b (get_or (in_order h) i d ∷ []) []) forked ∙ append-nil (clear_before (in_order h) i)
 
 -- ---- the whole set
 

@@ -4,5 +4,5 @@ pub mod Nodes
 pub mod Finds
 pub mod Walked
 pub mod Built
-pub mod Newest
 pub mod Made
+pub mod KeptSets

@@ -1,6 +1,6 @@
 -- A new operation is lawful, and newer than all that is held.
 use Rattle.std.proofs.Common.{◌≡◌, ℕ, zero, suc, ◌+◌, ◌-◌, ◌<◌, ◌≤◌, Bool, true, false, not, cond, List, [], ◌∷◌, map, length, get_or, refl, sym, ap, ◌∙◌, subst, ◌⊎◌, inl, inr, arith}
-use Rattle.std.specs.Prelude.{◌≢◌, ◌==◌, nat_le, Option, Some, None, Result, Ok, Err, OnOk, OnErr, is_err}
+use Rattle.std.specs.Prelude.{◌≢◌, ◌==◌, nat_le, nat_lt, Option, Some, None, Result, Ok, Err, IfOk, OnOk, OnErr, is_err}
 use Rattle.std.proofs.lemmas.Bool.Decides.{nat_tests}
 use Rattle.desk_ops.proofs.Stamps.{by_cases}
 use Rattle.desk_ops.specs.declared.op.Unlawful.TheVariants as unlawful
@@ -10,30 +10,34 @@ use Rattle.desk_replica.proofs.Links.{eq-from, ne-from}
 use Rattle.std.specs.List.{filter}
 use Rattle.desk_ops.specs.declared.op.Stamp.{Stamp}
 use Rattle.desk_ops.specs.declared.op.Symbol.{Symbol}
+use Rattle.desk_ops.specs.declared.op.Key.{Key}
 use Rattle.desk_ops.specs.declared.op.Op.{Op}
 use Rattle.desk_ops.specs.declared.op.Op.TheVariants.{Insert, Delete, Set}
-use Rattle.desk_ops.specs.Stamp.{before, head, IsStamp}
-use Rattle.desk_ops.specs.Op.{Insertion, stamp_of, is_symbol, symbol_verdict, IsLawful}
+use Rattle.desk_ops.specs.Stamp.{head, IsStamp}
+use Rattle.desk_ops.specs.Op.{Insertion, stamp_of, is_symbol, is_value, symbol_verdict, IsLawful}
 use Rattle.desk_ops.specs.OpSet.{OpSet, with_op, in_order, size, AllLawful}
 use Rattle.desk_ops.specs.Live.{insert_of}
 use Rattle.desk_ops.specs.Held.{is_clear, clear_ops, clear_inserts}
 use Rattle.desk_ops.specs.Walk.{walk_from}
 use Rattle.desk_ops.specs.Shown.{is_deleted, shown, shown_of}
-use Rattle.desk_ops.proofs.Lists.{Each, Each-weaker, Each-both, each-filter}
+use Rattle.desk_ops.proofs.Lists.{Each, Each-both, each-filter}
 use Rattle.desk_ops.proofs.Scans.{walk-each}
-use Rattle.desk_ops.proofs.Means.{insert_stamp, counter-before}
+use Rattle.desk_ops.proofs.Means.{insert_stamp}
 use Rattle.desk_ops.proofs.Tree.{walk-clear}
-use Rattle.desk_ops.proofs.Lawful.{symbol_from}
-use Rattle.desk_held.specs.Holding.{greatest_among, greatest_counter}
+use Rattle.desk_ops.proofs.Lawful.{symbol_from, value_from}
+use Rattle.desk_ops.specs.Held.{greatest_counter, greatest_counter_of}
 use Rattle.desk_replica.specs.declared.rebuild.Entry.{Entry}
 use Rattle.desk_replica.specs.Built.{entry_of, shown_entries}
-use Rattle.desk_replica.specs.State.{State}
-use Rattle.desk_replica.specs.Edits.{new_stamp, parent_at, new_insert, edit_refusal, insert_refusal, IsInserted}
+use Rattle.desk_replica.specs.State.{State, IsKept}
+use Rattle.desk_ops.specs.Settings.{setting_of}
+use Rattle.desk_ops.specs.Laws.{IsParentAt}
+use Rattle.desk_replica.specs.Edits.{new_stamp, parent_at, stamp_at, new_insert, edit_refusal, insert_refusal, delete_refusal, set_refusal, IsInserted, IsDeleted, IsSetTo}
 use Rattle.desk_held.specs.declared.Added.{Added}
 use Rattle.desk_held.specs.declared.AddRefusal.{AddRefusal}
 use Rattle.desk_replica.proofs.Sets.{with_op-lawful}
 use Rattle.desk_replica.proofs.Walked.{each-insert}
-use Rattle.desk_replica.proofs.Newest.{shown-newest}
+use Rattle.desk_ops.proofs.Newest.{insert_shows, delete_shows, set_shows}
+use Rattle.desk_ops.proofs.NewValues.{setting_new, setting_stays}
 
 -- ---- numbers
 
@@ -48,14 +52,9 @@ le-none a b h = grind (arith, nat_tests)
 
 -- ---- counters
 
-pub counters : (ops : List Op) (g : ℕ) → greatest_among ops ≤ g → Each (λ p. (stamp_of p).counter ≤ g) ops
+pub counters : (ops : List Op) (g : ℕ) → greatest_counter ops ≤ g → Each (λ p. (stamp_of p).counter ≤ g) ops
 counters [] g le = tt
 counters (o ∷ ops) g le = (omega arith, counters ops g (omega arith))
-
-newer : (h : OpSet) (s : Stamp) → s.counter ≡ greatest_counter h + 1 → Each (λ p. before (stamp_of p) s ≡ true) (in_order h)
-newer h s e =
-    Each-weaker (λ p. (stamp_of p).counter ≤ greatest_counter h) (λ p. before (stamp_of p) s ≡ true) (λ p k. counter-before (stamp_of p) s (omega arith)) (in_order h)
-    (counters (in_order h) (greatest_counter h) (omega arith))
 
 -- ---- the stamps of what is shown
 
@@ -67,15 +66,15 @@ lawful-stamp (Insert s p y) l = l.0
 lawful-stamp (Delete s t) l = l.0
 lawful-stamp (Set s k v) l = l.0
 
-shown-old : (h : OpSet) → AllLawful h → Each (λ x. IsOldStamp (greatest_counter h) x.stamp) (shown_of h)
+shown-old : (h : OpSet) → AllLawful h → Each (λ x. IsOldStamp (greatest_counter_of h) x.stamp) (shown_of h)
 unfolding shown clear_inserts clear_ops
 shown-old h lawful =
-    subst (λ w. Each (λ x. IsOldStamp (greatest_counter h) x.stamp) (filter (λ x. not (is_deleted (in_order h) x.stamp)) w)) (sym (walk-clear h lawful))
-    (each-filter (λ x. IsOldStamp (greatest_counter h) x.stamp) (λ x. not (is_deleted (in_order h) x.stamp)) (walk_from (clear_inserts (in_order h)) head)
-    (walk-each (λ x. IsOldStamp (greatest_counter h) x.stamp) (clear_inserts (in_order h)) head
-    (each-insert (λ x. IsOldStamp (greatest_counter h) x.stamp) (λ p. IsOldStamp (greatest_counter h) (stamp_of p)) (λ p x k e. subst (IsOldStamp (greatest_counter h)) (insert_stamp p x e) k) (clear_ops (in_order h))
-    (each-filter (λ p. IsOldStamp (greatest_counter h) (stamp_of p)) (λ op. is_clear (in_order h) (stamp_of op)) (in_order h)
-    (Each-both IsLawful (λ p. (stamp_of p).counter ≤ greatest_counter h) (λ p. IsOldStamp (greatest_counter h) (stamp_of p)) (λ p l k. (lawful-stamp p l, k)) (in_order h) lawful (counters (in_order h) (greatest_counter h) (omega arith)))))))
+    subst (λ w. Each (λ x. IsOldStamp (greatest_counter_of h) x.stamp) (filter (λ x. not (is_deleted (in_order h) x.stamp)) w)) (sym (walk-clear h lawful))
+    (each-filter (λ x. IsOldStamp (greatest_counter_of h) x.stamp) (λ x. not (is_deleted (in_order h) x.stamp)) (walk_from (clear_inserts (in_order h)) head)
+    (walk-each (λ x. IsOldStamp (greatest_counter_of h) x.stamp) (clear_inserts (in_order h)) head
+    (each-insert (λ x. IsOldStamp (greatest_counter_of h) x.stamp) (λ p. IsOldStamp (greatest_counter_of h) (stamp_of p)) (λ p x k e. subst (IsOldStamp (greatest_counter_of h)) (insert_stamp p x e) k) (clear_ops (in_order h))
+    (each-filter (λ p. IsOldStamp (greatest_counter_of h) (stamp_of p)) (λ op. is_clear (in_order h) (stamp_of op)) (in_order h)
+    (Each-both IsLawful (λ p. (stamp_of p).counter ≤ greatest_counter_of h) (λ p. IsOldStamp (greatest_counter_of h) (stamp_of p)) (λ p l k. (lawful-stamp p l, k)) (in_order h) lawful (counters (in_order h) (greatest_counter_of h) (omega arith)))))))
 
 parent-ok : (g : ℕ) (xs : List Insertion) (i : ℕ) → Each (λ x. IsOldStamp g x.stamp) xs → ((parent_at xs i ≡ head) ⊎ IsStamp (parent_at xs i)) × ((parent_at xs i).counter < g + 1)
 parent-ok g xs zero all = (inl refl, omega arith)
@@ -83,25 +82,75 @@ parent-ok g [] (suc i) all = (inl refl, omega arith)
 parent-ok g (x ∷ xs) (suc zero) all = let k : x.stamp.counter ≤ g = all.0.1 in (inr all.0.0, omega arith)
 parent-ok g (x ∷ xs) (suc (suc i)) all = parent-ok g xs (suc i) all.1
 
+newest : (s : State) → greatest_counter_of s.ops < (new_stamp s).counter
+newest s = omega arith
+
+parent_is : (h : OpSet) (place : ℕ) → place ≤ length (shown_of h) → IsParentAt h place (parent_at (shown_of h) place)
+parent_is h zero le = inl (refl, refl)
+parent_is h (suc j) le = let e : suc j ≡ j + 1 = omega arith in inr (j, e, omega arith, refl)
+
 -- ---- the insert
 
-pub new-lawful : (s : State) (place : ℕ) (symbol : Symbol) → 1 ≤ s.site → AllLawful s.ops → greatest_counter s.ops < 4611686018427387904 → is_symbol symbol ≡ true → IsLawful (insert_of (new_insert s place symbol))
-new-lawful s place symbol site lawful clock is =
-    let p = parent-ok (greatest_counter s.ops) (shown_of s.ops) place (shown-old s.ops lawful) in
-    ((omega arith, omega arith, site), p.0, p.1, symbol_from symbol is)
+pub new-lawful : (s : State) (place : ℕ) (symbol : Symbol) → IsKept s.site s.ops → greatest_counter_of s.ops < 4611686018427387904 → is_symbol symbol ≡ true → IsLawful (insert_of (new_insert s place symbol))
+new-lawful s place symbol kept clock is =
+    let p = parent-ok (greatest_counter_of s.ops) (shown_of s.ops) place (shown-old s.ops kept.lawful) in
+    ((omega arith, omega arith, kept.numbered), p.0, p.1, symbol_from symbol is)
 
-pub inserted : (old after : State) (place : ℕ) (symbol : Symbol) (op : Op) → 1 ≤ old.site → AllLawful old.ops → greatest_counter old.ops < 4611686018427387904 → is_symbol symbol ≡ true → place ≤ length (shown_of old.ops)
+pub inserted : (old after : State) (place : ℕ) (symbol : Symbol) (op : Op) → IsKept old.site old.ops → greatest_counter_of old.ops < 4611686018427387904 → is_symbol symbol ≡ true → place ≤ length (shown_of old.ops)
     → op ≡ insert_of (new_insert old place symbol) → after.ops ≡ with_op old.ops op → IsInserted old after place symbol op
-inserted old after place symbol op site lawful clock is_value within is gained = record {
+inserted old after place symbol op kept clock is_value within is gained = record {
   is = is;
   lawful = subst IsLawful (sym is) own;
   gained = gained;
   shows = ap shown_of (gained ∙ ap (with_op old.ops) is)
-      ∙ shown-newest old.ops lawful (new_insert old place symbol) place own (newer old.ops (new_stamp old) refl) within refl;
+      ∙ insert_shows old.ops kept.lawful (new_stamp old) (newest old) (parent_at (shown_of old.ops) place) symbol own place (parent_is old.ops place within);
+  settings = λ key. ap (λ h. setting_of h key) (gained ∙ ap (with_op old.ops) is) ∙ setting_stays old.ops kept.lawful (insert_of (new_insert old place symbol)) (newest old) key (λ t n e. cc);
 }
   where
     own : IsLawful (insert_of (new_insert old place symbol))
-    own = new-lawful old place symbol site lawful clock is_value
+    own = new-lawful old place symbol kept clock is_value
+
+-- ---- the delete
+
+at_stamp : (P : Stamp → Type 0) (xs : List Insertion) (i : ℕ) → Each (λ x. P x.stamp) xs → i < length xs → P (stamp_at xs i)
+at_stamp P [] i all lt = absurd (omega arith)
+at_stamp P (x ∷ xs) zero all lt = all.0
+at_stamp P (x ∷ xs) (suc i) all lt = at_stamp P xs i all.1 (omega arith)
+
+pub delete-lawful : (s : State) (place : ℕ) → IsKept s.site s.ops → greatest_counter_of s.ops < 4611686018427387904 → place < length (shown_of s.ops) → IsLawful (Delete (new_stamp s) (stamp_at (shown_of s.ops) place))
+delete-lawful s place kept clock lt =
+    let t : IsOldStamp (greatest_counter_of s.ops) (stamp_at (shown_of s.ops) place) = at_stamp (IsOldStamp (greatest_counter_of s.ops)) (shown_of s.ops) place (shown-old s.ops kept.lawful) lt in
+    let k : (stamp_at (shown_of s.ops) place).counter ≤ greatest_counter_of s.ops = t.1 in
+    ((omega arith, omega arith, kept.numbered), t.0, omega arith)
+
+pub deleted : (old after : State) (place : ℕ) (op : Op) → IsKept old.site old.ops → greatest_counter_of old.ops < 4611686018427387904 → place < length (shown_of old.ops)
+    → op ≡ Delete (new_stamp old) (stamp_at (shown_of old.ops) place) → after.ops ≡ with_op old.ops op → IsDeleted old after place op
+deleted old after place op kept clock lt is gained = record {
+  is = is;
+  lawful = subst IsLawful (sym is) (delete-lawful old place kept clock lt);
+  gained = gained;
+  shows = ap shown_of (gained ∙ ap (with_op old.ops) is) ∙ delete_shows old.ops kept.lawful (new_stamp old) (newest old) (stamp_at (shown_of old.ops) place) place lt refl;
+  settings = λ key. ap (λ h. setting_of h key) (gained ∙ ap (with_op old.ops) is) ∙ setting_stays old.ops kept.lawful (Delete (new_stamp old) (stamp_at (shown_of old.ops) place)) (newest old) key (λ t n e. cc);
+}
+
+-- ---- the set
+
+pub set-lawful : (s : State) (key : Key) (value : ℕ) → IsKept s.site s.ops → greatest_counter_of s.ops < 4611686018427387904 → is_value key value ≡ true → IsLawful (Set (new_stamp s) key value)
+set-lawful s key value kept clock is = ((omega arith, omega arith, kept.numbered), value_from key value is)
+
+pub set_to : (old after : State) (key : Key) (value : ℕ) (op : Op) → IsKept old.site old.ops → greatest_counter_of old.ops < 4611686018427387904 → is_value key value ≡ true
+    → op ≡ Set (new_stamp old) key value → after.ops ≡ with_op old.ops op → IsSetTo old after key value op
+set_to old after key value op kept clock is_one is gained = record {
+  is = is;
+  lawful = subst IsLawful (sym is) (set-lawful old key value kept clock is_one);
+  gained = gained;
+  shows = ap shown_of (gained ∙ ap (with_op old.ops) is) ∙ set_shows old.ops kept.lawful (new_stamp old) (newest old) key value;
+  sets = ap (λ h. setting_of h key) (gained ∙ ap (with_op old.ops) is) ∙ setting_new old.ops kept.lawful (new_stamp old) (newest old) key value;
+  others = λ k other. ap (λ h. setting_of h k) (gained ∙ ap (with_op old.ops) is) ∙ setting_stays old.ops kept.lawful (Set (new_stamp old) key value) (newest old) k (λ t n e. other (sym (set_key e)));
+}
+  where
+    set_key : {k : Key} {t : Stamp} {n : ℕ} → Set (new_stamp old) key value ≡ Set t k n → key ≡ k
+    set_key e = cc
 
 -- ---- what the code reads
 
@@ -122,6 +171,19 @@ pub length-entries : (xs : List Insertion) → length (map entry_of xs) ≡ leng
 length-entries [] = refl
 length-entries (x ∷ xs) = ap suc (length-entries xs)
 
+pub stamp-shown : (es : List Entry) (h : OpSet) (place : ℕ) → es ≡ shown_entries h → get_or (map (λ (e : Entry). e.stamp) es) place head ≡ stamp_at (shown_of h) place
+stamp-shown es h place shows = ap (λ (l : List Entry). get_or (map (λ (e : Entry). e.stamp) l) place head) shows ∙ ap (λ ss. get_or ss place head) (entry-stamps (shown_of h))
+
+pub delete-made : (old : State) (place : ℕ) (stamp target : Stamp) (es : List Entry) → es ≡ shown_entries old.ops → stamp ≡ new_stamp old → target ≡ get_or (map (λ (e : Entry). e.stamp) es) place head
+    → Delete stamp target ≡ Delete (new_stamp old) (stamp_at (shown_of old.ops) place)
+delete-made old place stamp target es shows stamped is = ap (λ s. Delete s target) stamped ∙ ap (Delete (new_stamp old)) (is ∙ stamp-shown es old.ops place shows)
+
+pub below-shown : (es : List Entry) (h : OpSet) (place : ℕ) → es ≡ shown_entries h → place < length es → place < length (shown_of h)
+below-shown es h place e lt = subst (λ n. place < n) (ap length e ∙ length-entries (shown_of h)) lt
+
+pub beyond-shown : (es : List Entry) (h : OpSet) (place : ℕ) → es ≡ shown_entries h → length es ≤ place → length (shown_of h) ≤ place
+beyond-shown es h place e le = subst (λ n. n ≤ place) (ap length e ∙ length-entries (shown_of h)) le
+
 pub within-shown : (es : List Entry) (h : OpSet) (place : ℕ) → es ≡ shown_entries h → place ≤ length es → place ≤ length (shown_of h)
 within-shown es h place e le = subst (λ n. place ≤ n) (ap length e ∙ length-entries (shown_of h)) le
 
@@ -131,6 +193,11 @@ made old place y stamp parent es shows stamped hangs =
     ap (λ s. Insert s parent y) stamped
     ∙ ap (λ p. Insert (new_stamp old) p y) (hangs ∙ ap (λ (l : List Entry). get_or (head ∷ map (λ (e : Entry). e.stamp) l) place head) shows ∙ ap (λ ss. get_or (head ∷ ss) place head) (entry-stamps (shown_of old.ops)))
 
+-- what holds of the operation that was to be added holds of the one answered
+pub on_made : (P : Op → Type 0) (r : Result Op Refusal) (h after : OpSet) (o : Op) → IfOk r (λ p. p ≡ o) → OnOk r (after ≡ with_op h o) → (after ≡ with_op h o → P o) → IfOk r P
+on_made P (Ok p) h after o is ok f = subst P (sym is) (f ok)
+on_made P (Err e) h after o is ok f = tt
+
 pub added-lawful : (r : Result Added AddRefusal) (h after : OpSet) (o : Op) → AllLawful h → IsLawful o → OnOk r (after ≡ with_op h o) → OnErr r (after ≡ h) → AllLawful after
 added-lawful (Ok a) h after o lawful own ok err = subst AllLawful (sym ok) (with_op-lawful h o lawful own)
 added-lawful (Err e) h after o lawful own ok err = subst AllLawful (sym err) lawful
@@ -138,7 +205,7 @@ added-lawful (Err e) h after o lawful own ok err = subst AllLawful (sym err) law
 -- ---- refusals, in their order
 
 abbrev by_size : Bool → OpSet → Option Refusal
-by_size full ops = cond full (Some refusal.Full) (cond (nat_le 4611686018427387904 (greatest_counter ops)) (Some refusal.ClockFull) None)
+by_size full ops = cond full (Some refusal.Full) (cond (nat_le 4611686018427387904 (greatest_counter_of ops)) (Some refusal.ClockFull) None)
 
 pub refused_full : (ops : OpSet) → size ops ≡ 1048576 → edit_refusal ops true true ≡ Some refusal.Full
 refused_full ops e = let k : (size ops == 1048576) ≡ true = eq-from (size ops) 1048576 e in ap (λ b. by_size b ops) k
@@ -146,16 +213,16 @@ refused_full ops e = let k : (size ops == 1048576) ≡ true = eq-from (size ops)
 clock_free : (ops : OpSet) → size ops ≢ 1048576 → edit_refusal ops true true ≡ by_size false ops
 clock_free ops e = let k : (size ops == 1048576) ≡ false = ne-from (size ops) 1048576 e in ap (λ b. by_size b ops) k
 
-pub refused_clock : (ops : OpSet) → size ops ≢ 1048576 → 4611686018427387904 ≤ greatest_counter ops → edit_refusal ops true true ≡ Some refusal.ClockFull
-refused_clock ops e le = clock_free ops e ∙ ap (λ b. cond b (Some refusal.ClockFull) None) (le-true 4611686018427387904 (greatest_counter ops) le)
+pub refused_clock : (ops : OpSet) → size ops ≢ 1048576 → 4611686018427387904 ≤ greatest_counter_of ops → edit_refusal ops true true ≡ Some refusal.ClockFull
+refused_clock ops e le = clock_free ops e ∙ ap (λ b. cond b (Some refusal.ClockFull) None) (le-true 4611686018427387904 (greatest_counter_of ops) le)
 
-pub refused_none : (ops : OpSet) → size ops ≢ 1048576 → greatest_counter ops < 4611686018427387904 → edit_refusal ops true true ≡ None
-refused_none ops e lt = clock_free ops e ∙ ap (λ b. cond b (Some refusal.ClockFull) None) (le-false 4611686018427387904 (greatest_counter ops) lt)
+pub refused_none : (ops : OpSet) → size ops ≢ 1048576 → greatest_counter_of ops < 4611686018427387904 → edit_refusal ops true true ≡ None
+refused_none ops e lt = clock_free ops e ∙ ap (λ b. cond b (Some refusal.ClockFull) None) (le-false 4611686018427387904 (greatest_counter_of ops) lt)
 
-pub clock_known : (ops : OpSet) → edit_refusal ops true true ≡ None → greatest_counter ops < 4611686018427387904
-clock_known ops e = by_cases (nat_le 4611686018427387904 (greatest_counter ops)) (λ k. absurd (some_full (size ops == 1048576) k e)) (λ k. le-none 4611686018427387904 (greatest_counter ops) k)
+pub clock_known : (ops : OpSet) → edit_refusal ops true true ≡ None → greatest_counter_of ops < 4611686018427387904
+clock_known ops e = by_cases (nat_le 4611686018427387904 (greatest_counter_of ops)) (λ k. absurd (some_full (size ops == 1048576) k e)) (λ k. le-none 4611686018427387904 (greatest_counter_of ops) k)
   where
-    some_full : (b : Bool) → nat_le 4611686018427387904 (greatest_counter ops) ≡ true → by_size b ops ≡ None → ⊥
+    some_full : (b : Bool) → nat_le 4611686018427387904 (greatest_counter_of ops) ≡ true → by_size b ops ≡ None → ⊥
     some_full true k e = cc
     some_full false k e = let f : Some refusal.ClockFull ≡ None = sym (ap (λ b. cond b (Some refusal.ClockFull) None) k) ∙ e in cc
 
@@ -164,6 +231,24 @@ refused_place ops place y lt = ap (λ b. edit_refusal ops b (is_symbol y)) (le-f
 
 pub refused_value : (ops : OpSet) (place : ℕ) (y : Symbol) → place ≤ length (shown_of ops) → is_symbol y ≡ false → insert_refusal ops place y ≡ Some refusal.Value
 refused_value ops place y le e = ap (λ b. edit_refusal ops b (is_symbol y)) (le-true place (length (shown_of ops)) le) ∙ ap (edit_refusal ops true) e
+
+lt-true : (a b : ℕ) → a < b → nat_lt a b ≡ true
+lt-true a b h = grind (arith, nat_tests)
+
+lt-false : (a b : ℕ) → b ≤ a → nat_lt a b ≡ false
+lt-false a b h = grind (arith, nat_tests)
+
+pub delete_refused : (ops : OpSet) (place : ℕ) → length (shown_of ops) ≤ place → delete_refusal ops place ≡ Some refusal.Place
+delete_refused ops place le = ap (λ b. edit_refusal ops b true) (lt-false place (length (shown_of ops)) le)
+
+pub delete_allowed : (ops : OpSet) (place : ℕ) → place < length (shown_of ops) → delete_refusal ops place ≡ edit_refusal ops true true
+delete_allowed ops place lt = ap (λ b. edit_refusal ops b true) (lt-true place (length (shown_of ops)) lt)
+
+pub set_refused : (ops : OpSet) (key : Key) (value : ℕ) → is_value key value ≡ false → set_refusal ops key value ≡ Some refusal.Value
+set_refused ops key value e = ap (edit_refusal ops true) e
+
+pub set_allowed : (ops : OpSet) (key : Key) (value : ℕ) → is_value key value ≡ true → set_refusal ops key value ≡ edit_refusal ops true true
+set_allowed ops key value e = ap (edit_refusal ops true) e
 
 pub allowed : (ops : OpSet) (place : ℕ) (y : Symbol) → place ≤ length (shown_of ops) → is_symbol y ≡ true → insert_refusal ops place y ≡ edit_refusal ops true true
 allowed ops place y le e = ap (λ b. edit_refusal ops b (is_symbol y)) (le-true place (length (shown_of ops)) le) ∙ ap (edit_refusal ops true) e

@@ -1,5 +1,5 @@
 -- Sets of operations that grow: lawful, and how many.
-use Rattle.std.proofs.Common.{◌≡◌, ◌+◌, ◌<◌, ◌≤◌, ◌++◌, take, get_or, ℕ, cond, List, [], ◌∷◌, length, refl, sym, ap, ◌∙◌, subst, ◌⊎◌, inl, inr, arith}
+use Rattle.std.proofs.Common.{◌≡◌, ◌+◌, ◌<◌, ◌≤◌, ◌++◌, take, get_or, ℕ, cond, List, [], ◌∷◌, length, drop, false, refl, sym, ap, ◌∙◌, subst, ◌⊎◌, inl, inr, arith}
 use Rattle.std.specs.List.{AllByRecursion}
 use Rattle.std.specs.FinMap as fin
 use Rattle.desk_ops.specs.declared.op.Op.{Op}
@@ -8,8 +8,13 @@ use Rattle.desk_ops.specs.OrderLaws.{op_total}
 use Rattle.desk_ops.specs.OpSet.{OpSet, no_ops, has_op, with_op, with_all, in_order, size, AllLawful}
 use Rattle.desk_ops.specs.Lists.{Among}
 use Rattle.desk_ops.proofs.Lists.{each-among, each-from_among}
-use Rattle.std.proofs.lemmas.List.{take_all, take_more}
-use Rattle.desk_ops.proofs.Unions.{with_all_push}
+use Rattle.std.proofs.lemmas.List.{take_all, take_more, take-append-drop}
+use Rattle.std.proofs.Math.Seq.{drop-cons}
+use Rattle.std.proofs.Common.{length-drop}
+use Rattle.desk_held.specs.declared.AddRefusal.TheVariants.{Full}
+use Rattle.desk_replica.specs.declared.Stopped.{Stopped}
+use Rattle.desk_replica.specs.State.{IsStopped}
+use Rattle.desk_ops.proofs.Unions.{with_all_push, with_all-append}
 use Rattle.desk_ops.proofs.Stamps.{by_cases}
 use Rattle.desk_ops.proofs.Arrive.{among-with_op}
 use Rattle.desk_ops.proofs.OpSets.{no_ops-from_rising, in_order-from_rising}
@@ -49,6 +54,31 @@ gain-more old now ops i op lt at g = record {
   where
     pushed : (ops : List Op) (i : ℕ) (op : Op) → i < length ops → op ≡ get_or ops i op → take i ops ++ op ∷ [] ≡ take (i + 1) ops
     pushed ops i op lt at = ap (λ x. take i ops ++ x ∷ []) at ∙ sym (take_more ops i op lt)
+
+grows : (h : OpSet) (o : Op) → size h ≤ size (with_op h o)
+grows h o = by_cases (has_op h o) (λ k. let e : size (with_op h o) ≡ size h = size-with_op h o ∙ ap (λ b. cond b (size h) (size h + 1)) k in omega arith) (λ k. let e : size (with_op h o) ≡ size h + 1 = size-with_op h o ∙ ap (λ b. cond b (size h) (size h + 1)) k in omega arith)
+
+grows_all : (h : OpSet) (ops : List Op) → size h ≤ size (with_all h ops)
+grows_all h [] = omega arith
+grows_all h (o ∷ ops) = let a = grows h o in let b = grows_all (with_op h o) ops in omega (arith, a, b)
+
+-- a stop with as many as may be: the whole list has more
+pub too_many : (old after : OpSet) (ops : List Op) (stop : Stopped) → IsStopped old after ops stop → stop.why ≡ Full → 1048576 < size (with_all old ops)
+too_many old after ops stop s why = go (drop stop.taken ops) refl
+  where
+    rest : with_all old ops ≡ with_all after (drop stop.taken ops)
+    rest = ap (with_all old) (sym (take-append-drop stop.taken ops)) ∙ with_all-append old (take stop.taken ops) (drop stop.taken ops) ∙ ap (λ h. with_all h (drop stop.taken ops)) (sym s.gained)
+
+    go : (l : List Op) → drop stop.taken ops ≡ l → 1048576 < size (with_all old ops)
+    go [] e = let n : length (drop stop.taken ops) ≡ 0 = ap length e in let w = s.within in absurd (omega (arith, n, w, length-drop stop.taken ops))
+    go (o ∷ l) e =
+        let at : get_or ops stop.taken o ≡ o = ap (λ (x : List Op). get_or x 0 o) (sym (drop-cons ops stop.taken o s.within) ∙ e) in
+        let new : has_op after o ≡ false = subst (λ p. has_op after p ≡ false) at (s.next o) in
+        let one : size (with_op after o) ≡ size after + 1 = size-with_op after o ∙ ap (λ b. cond b (size after) (size after + 1)) new in
+        let all : size (with_op after o) ≤ size (with_all (with_op after o) l) = grows_all (with_op after o) l in
+        let is : size (with_all old ops) ≡ size (with_all (with_op after o) l) = ap size (rest ∙ ap (with_all after) e) in
+        let full : size after ≡ 1048576 = s.full.0 why in
+        omega (arith, one, all, is, full)
 
 -- the whole list
 pub gain-all : (old now : OpSet) (ops : List Op) (i : ℕ) → length ops ≤ i → IsGaining old now ops i → now ≡ with_all old ops

@@ -3,3 +3,4 @@ pub mod Entries
 pub mod Nodes
 pub mod Built
 pub mod Edits
+pub mod JobSettings

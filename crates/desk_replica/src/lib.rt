@@ -3,22 +3,30 @@
 
 ghost use Rattle.std.specs.Prelude.{◌≡◌, ◌+◌, ◌≤◌, ◌<◌, ◌↔◌, ◌⊎◌, All, IfOk, IfErr, OnOk, OnErr, IsErrOf, length, take, slice_index_or, true, false};
 ghost use Rattle.desk_ops.specs.Op.{IsLawful};
-ghost use Rattle.desk_ops.specs.OpSet.{no_ops, has_op, with_op, with_all, in_order, size, AllLawful};
+ghost use Rattle.desk_ops.specs.OpSet.{no_ops, has_op, with_op, with_all, union, in_order, size, AllLawful};
+ghost use Rattle.desk_ops.specs.Held.{greatest_counter_of};
 ghost use Rattle.desk_ops.specs.Shown.{copy_of};
+ghost use Rattle.desk_ops.specs.Settings.{setting_of};
 ghost use Rattle.desk_codec.specs.Feed.{feed, IsFeed};
 ghost use Rattle.desk_replica.specs.Built.{shown_entries};
-ghost use Rattle.desk_replica.specs.Edits.{new_stamp, edit_refusal, insert_refusal, IsInserted};
+ghost use Rattle.desk_replica.specs.JobSettings.{settings_of};
+ghost use Rattle.desk_replica.specs.Edits.{new_stamp, edit_refusal, insert_refusal, delete_refusal, set_refusal, IsInserted, IsDeleted, IsSetTo};
 
 use desk_codec::write_feed;
 use desk_held::{AddRefusal, Added, Held, LIMIT};
 use desk_ops::op::MAX_COUNTER;
-use desk_ops::{NoMemory, Op, Stamp, Symbol};
-use rebuild::{Entry, Tree, parent_at, symbols};
+use desk_ops::{Key, NoMemory, Op, Stamp, Symbol};
+use desk_registers::Registers;
+use rebuild::{Entry, Tree, parent_at, stamp_at, symbols};
+use settings::{keep, kept_in};
 use std::alloc::Allocator;
 use std::marker::Model;
 use thiserror::Error;
 
 mod rebuild;
+mod settings;
+
+pub use settings::Settings;
 
 /// What taking in an operation did.
 #[derive(Clone, Copy, Debug, PartialEq, Eq)]
@@ -65,11 +73,13 @@ pub struct Stopped {
 pub struct Replica<A: Allocator + Copy> {
     site: u16,
     held: Held<A>,
+    registers: Registers,
     alloc: A,
 }
 
 impl<A: Allocator + Copy> Model for Replica<A> {
-    ghost use Rattle.desk_replica.specs.State.{State, state_code, IsKept};
+    ghost use Rattle.desk_replica.specs.JobSettings.{IsSound};
+    ghost use Rattle.desk_replica.specs.State.{State, state_code};
 
     ghost Value = { State };
 
@@ -77,11 +87,12 @@ impl<A: Allocator + Copy> Model for Replica<A> {
 
     ghost view = { λ a. record { site = a.site; ops = a.held.ops } };
 
-    ghost invariant = { λ a. IsKept a.site a.held.ops };
+    ghost invariant = { λ a. IsSound a.site a.held.ops a.registers };
 }
 
 impl<A: Allocator + Copy> Replica<A> {
-    ghost use Rattle.desk_replica.specs.State.{took_by, IsCounted, IsStopped};
+    ghost use Rattle.desk_held.specs.Holding.{added_to};
+    ghost use Rattle.desk_replica.specs.State.{took_by, IsCounted, IsKept, IsStopped};
 
     /// A replica that holds nothing.
     #[tactic(auto, using(crate::proofs::Sets::sets))]
@@ -93,8 +104,38 @@ impl<A: Allocator + Copy> Replica<A> {
         Replica {
             site,
             held: Held::new(alloc),
+            registers: Registers::new(),
             alloc,
         }
+    }
+
+    /// Makes room for some operations more, if there is memory for it.
+    fn make_room(&mut self, more: usize)
+        ensures site { self.new.site ≡ self.old.site }
+        ensures ops { self.new.ops ≡ self.old.ops }
+    {
+        let _ = self.held.reserve(more.min(LIMIT));
+    }
+
+    /// A replica that holds the operations of a list. `Full` comes only where the list has more than 1,048,576 different
+    /// operations, and of such a list none is made, since no replica holds more. Nothing is taken in of a refused list.
+    pub fn open(alloc: A, site: u16, ops: &[Op]) -> Result<Self, Stopped>
+        requires numbered { 1 ≤ site }
+        requires lawful { All IsLawful ops.now }
+        ensures site { IfOk result (λ r. r.site ≡ site) }
+        ensures ops { IfOk result (λ r. r.ops ≡ with_all no_ops ops.now) }
+        ensures none { IfErr result (λ s. s.taken ≡ 0) }
+        ensures full { IfErr result (λ s. s.why ≡ AddRefusal.Full → LIMIT < size (with_all no_ops ops.now)) }
+    {
+        let mut replica = Replica::new(alloc, site);
+        replica.make_room(ops.len());
+        if let Err(stopped) = replica.take_in(ops) {
+            return Err(Stopped {
+                taken: 0,
+                why: stopped.why,
+            });
+        }
+        Ok(replica)
     }
 
     /// The site's number.
@@ -128,6 +169,29 @@ impl<A: Allocator + Copy> Replica<A> {
         self.held.has(op)
     }
 
+    /// Adds an operation to what is held.
+    #[tactic(auto, using(crate::proofs::Sets::sets))]
+    fn put(&mut self, op: Op) -> Result<Added, AddRefusal>
+        requires { IsLawful op }
+        ensures site { self.new.site ≡ self.old.site }
+        ensures added { IfOk result (λ a. a ≡ added_to self.old.ops op) }
+        ensures ok { OnOk result (self.new.ops ≡ with_op self.old.ops op) }
+        ensures err { OnErr result (self.new.ops ≡ self.old.ops) }
+        ensures full { IsErrOf result AddRefusal.Full ↔ ((has_op self.old.ops op ≡ false) × (size self.old.ops ≡ LIMIT)) }
+        ensures memory { IsErrOf result AddRefusal.NoMemory → has_op self.old.ops op ≡ false }
+    {
+        let added = match self.held.add(op) {
+            Ok(added) => added,
+            Err(refusal) => return Err(refusal),
+        };
+        match added {
+            Added::Known => {}
+            Added::New => keep(&mut self.registers, &op),
+            Added::Forks => self.registers = kept_in(&self.held),
+        }
+        Ok(added)
+    }
+
     /// Takes in an operation. `Full` comes exactly where 1,048,576 operations are held and this one is not; no memory is
     /// wanted for one that is held. No other refusal comes.
     #[tactic(auto, using(crate::proofs::Sets::sets))]
@@ -141,13 +205,31 @@ impl<A: Allocator + Copy> Replica<A> {
         ensures memory { IsErrOf result Refusal.NoMemory → has_op self.old.ops op ≡ false }
         ensures causes { IfErr result (λ e. (e ≡ Refusal.Full) ⊎ (e ≡ Refusal.NoMemory)) }
     {
-        match self.held.add(op) {
+        match self.put(op) {
             Ok(Added::Known) => Ok(Took::Known),
             Ok(Added::New | Added::Forks) => Ok(Took::New),
             Err(AddRefusal::Full) => Err(Refusal::Full),
             Err(AddRefusal::NoMemory) => Err(Refusal::NoMemory),
         }
     }
+
+    /// Takes in operations one after the other, up to the first that is refused.
+    fn take_in(&mut self, ops: &[Op]) -> Result<(), Stopped>
+        requires { All IsLawful ops.now }
+        ensures site { self.new.site ≡ self.old.site }
+        ensures ok { OnOk result (self.new.ops ≡ with_all self.old.ops ops.now) }
+        ensures grown { size self.old.ops ≤ size self.new.ops }
+        ensures few { size self.new.ops ≤ size self.old.ops + length ops.now }
+        ensures stopped { IfErr result (λ s. IsStopped self.old.ops self.new.ops ops.now s) }
+    {
+        for (taken, op) in ops.iter().enumerate() {
+            if let Err(why) = self.put(*op) {
+                return Err(Stopped { taken, why });
+            }
+        }
+        Ok(())
+    }
+
     /// Takes in the operations of a list, one after the other, up to the first that is refused: `Full` comes exactly
     /// where 1,048,576 operations are held and the next is not among them.
     pub fn take_all(&mut self, ops: &[Op]) -> Result<Count, Stopped>
@@ -157,17 +239,27 @@ impl<A: Allocator + Copy> Replica<A> {
         ensures counts { IfOk result (λ c. IsCounted self.old.ops self.new.ops ops.now c) }
         ensures stopped { IfErr result (λ s. IsStopped self.old.ops self.new.ops ops.now s) }
     {
-        let before = self.held.len();
-        for (taken, op) in ops.iter().enumerate() {
-            if let Err(why) = self.held.add(*op) {
-                return Err(Stopped { taken, why });
-            }
+        let before = self.len();
+        if let Err(stopped) = self.take_in(ops) {
+            return Err(stopped);
         }
-        let new = self.held.len() - before;
+        let new = self.len() - before;
         Ok(Count {
             new,
             known: ops.len() - new,
         })
+    }
+
+    /// Takes in the operations of another replica, by stamp and then by bytes, up to the first that is refused: `Full`
+    /// comes exactly where 1,048,576 operations are held and the next is not among them. The other is only read, and no
+    /// memory is taken but for the operations that are new here.
+    pub fn merge<B: Allocator + Copy>(&mut self, other: &Replica<B>) -> Result<Count, Stopped>
+        ensures site { self.new.site ≡ self.old.site }
+        ensures ok { OnOk result (self.new.ops ≡ union self.old.ops other.now.ops) }
+        ensures counts { IfOk result (λ c. IsCounted self.old.ops self.new.ops (in_order other.now.ops) c) }
+        ensures stopped { IfErr result (λ s. IsStopped self.old.ops self.new.ops (in_order other.now.ops) s) }
+    {
+        self.take_all(other.held.as_slice())
     }
 
     /// The operations held, by stamp and then by bytes.
@@ -186,6 +278,7 @@ impl<A: Allocator + Copy> Replica<A> {
         let ops = self.in_order()?;
         write_feed(self.alloc, &ops)
     }
+
     /// The elements that are shown, in their order.
     fn shown(&self) -> Result<Vec<Entry, A>, NoMemory>
         ensures { IfOk result (λ v. v.items ≡ shown_entries self.now.ops) }
@@ -208,10 +301,33 @@ impl<A: Allocator + Copy> Replica<A> {
         let shown = self.shown()?;
         symbols(self.alloc, &shown)
     }
+
+    /// The value of a setting.
+    fn setting(&self, key: Key) -> Option<u32>
+        ensures { result ≡ setting_of self.now.ops key }
+    {
+        self.registers.value(key)
+    }
+
+    /// The settings of the job: of each key the value of the live set with the greatest stamp. No memory is taken.
+    pub fn settings(&self) -> Settings
+        ensures { result ≡ settings_of self.now.ops }
+    {
+        Settings {
+            measure: self.setting(Key::Measure),
+            tight: self.setting(Key::Tight),
+            loose: self.setting(Key::Loose),
+            case: self.setting(Key::Case),
+            wedge: self.setting(Key::Wedge),
+        }
+    }
+
     /// The stamp of the next operation that is made here, or why none can be made: as many operations are held as may be,
     /// or the greatest counter is.
     fn next_stamp(&self) -> Result<Stamp, Refusal>
         ensures stamp { IfOk result (λ s. s ≡ new_stamp self.now) }
+        ensures kept { IsKept self.now.site self.now.ops }
+        ensures clock { OnOk result (greatest_counter_of self.now.ops < MAX_COUNTER) }
         ensures free { OnOk result (edit_refusal self.now.ops true true ≡ None) }
         ensures refused { IfErr result (λ e. edit_refusal self.now.ops true true ≡ Some e) }
     {
@@ -226,6 +342,21 @@ impl<A: Allocator + Copy> Replica<A> {
             counter: counter + 1,
             site: self.site,
         })
+    }
+
+    /// Adds an operation that was made here.
+    fn make(&mut self, op: Op) -> Result<Op, Refusal>
+        requires { IsLawful op }
+        ensures site { self.new.site ≡ self.old.site }
+        ensures op { IfOk result (λ o. o ≡ op) }
+        ensures ok { OnOk result (self.new.ops ≡ with_op self.old.ops op) }
+        ensures err { OnErr result (self.new.ops ≡ self.old.ops) }
+        ensures memory { IfErr result (λ e. e ≡ Refusal.NoMemory) }
+    {
+        match self.put(op) {
+            Ok(_) => Ok(op),
+            Err(_) => Err(Refusal::NoMemory),
+        }
     }
 
     /// Inserts a symbol at a place of the copy, and answers the operation made. `Place` comes where the place is above
@@ -256,10 +387,55 @@ impl<A: Allocator + Copy> Replica<A> {
             parent: parent_at(&shown, place),
             symbol,
         };
-        match self.held.add(op) {
-            Ok(_) => Ok(op),
-            Err(_) => Err(Refusal::NoMemory),
+        self.make(op)
+    }
+
+    /// Deletes the element at a place of the copy, and answers the operation made. `Place` comes where the place is not
+    /// below the copy's length, `Full` and `ClockFull` where nothing more can be made, the first of these that holds. Want
+    /// of memory may come in place of each.
+    pub fn delete_at(&mut self, place: usize) -> Result<Op, Refusal>
+        ensures site { self.new.site ≡ self.old.site }
+        ensures made { IfOk result (λ op. IsDeleted self.old self.new place op) }
+        ensures allowed { OnOk result (delete_refusal self.old.ops place ≡ None) }
+        ensures same { OnErr result (self.new.ops ≡ self.old.ops) }
+        ensures refused { IfErr result (λ e. (e ≡ Refusal.NoMemory) ⊎ (delete_refusal self.old.ops place ≡ Some e)) }
+    {
+        let Ok(shown) = self.shown() else {
+            return Err(Refusal::NoMemory);
+        };
+        if place >= shown.len() {
+            return Err(Refusal::Place);
         }
+        let stamp = match self.next_stamp() {
+            Ok(stamp) => stamp,
+            Err(refusal) => return Err(refusal),
+        };
+        let op = Op::Delete {
+            stamp,
+            target: stamp_at(&shown, place),
+        };
+        self.make(op)
+    }
+
+    /// Gives a setting of the job a value, and answers the operation made. `Value` comes where the key does not take the
+    /// value, `Full` and `ClockFull` where nothing more can be made, the first of these that holds. Want of memory comes
+    /// only where none of them holds.
+    pub fn set(&mut self, key: Key, value: u32) -> Result<Op, Refusal>
+        ensures site { self.new.site ≡ self.old.site }
+        ensures made { IfOk result (λ op. IsSetTo self.old self.new key value op) }
+        ensures allowed { OnOk result (set_refusal self.old.ops key value ≡ None) }
+        ensures same { OnErr result (self.new.ops ≡ self.old.ops) }
+        ensures refused { IfErr result (λ e. (e ≡ Refusal.NoMemory) ⊎ (set_refusal self.old.ops key value ≡ Some e)) }
+        ensures memory { IsErrOf result Refusal.NoMemory → set_refusal self.old.ops key value ≡ None }
+    {
+        if !key.takes(value) {
+            return Err(Refusal::Value);
+        }
+        let stamp = match self.next_stamp() {
+            Ok(stamp) => stamp,
+            Err(refusal) => return Err(refusal),
+        };
+        self.make(Op::Set { stamp, key, value })
     }
 }
 

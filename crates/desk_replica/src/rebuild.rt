@@ -106,6 +106,14 @@ pub fn parent_at(shown: &[Entry], place: usize) -> Stamp
     shown[place - 1].stamp
 }
 
+/// The stamp of the element at a place.
+pub fn stamp_at(shown: &[Entry], place: usize) -> Stamp
+    requires { place < length shown.now }
+    ensures { result ≡ slice_index_or (map (λ e. e.stamp) shown.now) place head }
+{
+    shown[place].stamp
+}
+
 /// A walk, seen as the list of its elements.
 #[derive(Drop)]
 pub struct Tree<A: Allocator + Copy> {

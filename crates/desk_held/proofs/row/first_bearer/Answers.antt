@@ -1,4 +1,4 @@
-use Rattle.std.proofs.Common.{◌≡◌, sym, ◌∙◌, ap}
+use Rattle.std.proofs.Common.{sym, ◌∙◌, ap}
 use Rattle.desk_ops.specs.Stamp.{same}
 use Rattle.desk_ops.proofs.Stamps.{same-fields}
 use Rattle.desk_held.proofs.Rows.{no_bearer, one_bearer}

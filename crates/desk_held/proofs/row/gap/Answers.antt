@@ -1,4 +1,4 @@
-use Rattle.std.proofs.Common.{◌≡◌, ℕ, subst, List, sym, ◌∙◌, ap, refl, rules, true, false, length}
+use Rattle.std.proofs.Common.{◌≡◌, ℕ, subst, List, sym, ◌∙◌, ap, true, length}
 use Rattle.std.proofs.Common.{Bool}
 use Rattle.std.specs.Ordering.{is_some_and, is_lt, as_partial_cmp}
 use Rattle.std.specs.declared.cmp.Ordering.TheVariants.{Less}

@@ -1,4 +1,4 @@
-use Rattle.std.proofs.Common.{◌≡◌, ◌∙◌, ap}
+use Rattle.std.proofs.Common.{◌∙◌, ap}
 use Rattle.desk_held.proofs.Rows.{greatest-last}
 use Rattle.desk_held.proofs.row.greatest_counter.Goals as goal
 

@@ -1,4 +1,4 @@
-use Rattle.std.proofs.Common.{◌≡◌, ◌∙◌, sym, subst}
+use Rattle.std.proofs.Common.{◌∙◌, sym, subst}
 use Rattle.desk_held.specs.Holding.{IsFirstBearer}
 use Rattle.desk_held.proofs.Rows.{no-clear, first_of_two, all-dropped}
 use Rattle.desk_held.proofs.row.sole_bearer.Goals as goal

@@ -1,6 +1,5 @@
-use Rattle.std.proofs.Common.{◌≡◌, ◌≤◌, true, false, rules, of_calls}
+use Rattle.std.proofs.Common.{◌≡◌, true, false, rules, of_calls}
 use Rattle.std.proofs.lemmas.Fn.{always_returns_same}
-use Rattle.std.specs.List.Sorted.{IsPartitionPoint}
 use Rattle.desk_ops.specs.Op.{stamp_of}
 use Rattle.desk_ops.specs.Stamp.{before}
 use Rattle.desk_held.proofs.Rows.{earlier_first, taken, dropped}
