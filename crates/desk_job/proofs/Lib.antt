@@ -4,3 +4,5 @@ pub mod LineSizes
 pub mod Widths
 pub mod Adding
 pub mod Parts
+pub mod Paragraphs
+pub mod Bounds

@@ -1,12 +1,12 @@
 -- What is found of a copy, line by line.
 use Rattle.std.specs.Prelude.{◌≡◌, ℕ, ◌+◌, ◌-◌, ◌^◌, ◌<◌, ◌≤◌, ◌||◌, ◌==◌, true, List, [], ◌∷◌, ◌++◌, length, map, take, drop}
-use Rattle.std.specs.List.{flat_map}
+use Rattle.std.specs.List.{All, flat_map}
 use Rattle.desk_ops.specs.declared.op.Symbol.{Symbol}
 use Rattle.desk_signals.specs.declared.RibbonRow.{RibbonRow}
 use Rattle.desk_lines.specs.declared.words.Word.{Word}
 use Rattle.desk_lines.specs.declared.groups.Group.{Group}
 use Rattle.desk_job.specs.Job.{Terms, SetLine, line_rows, line_faults, lines_of_words}
-use Rattle.desk_job.specs.Setting.{words_at, line_at}
+use Rattle.desk_job.specs.Setting.{IsWord, words_at, line_at}
 use Rattle.desk_job.specs.declared.JobFault.{JobFault}
 
 -- the number of the next line, the faults found, and the rows punched as long as there is no fault
@@ -48,3 +48,8 @@ lines_at copy words (group ∷ groups) =
 pub record IsRange (words : ℕ) (group : Group) : Type 0 where
   pub order : group.from < group.to
   pub within : group.to ≤ words
+
+-- words of a copy of a paragraph's
+pub record AreWordsOf (copy : List Symbol) (words : List Word) : Type 0 where
+  pub number : length words ≤ 2 ^ 20 + 1
+  pub each : All (IsWord copy) words

@@ -1,10 +1,10 @@
 //! The lines of a copy: their faults, or their rows.
 
-ghost use Rattle.std.specs.Prelude.{◌≡◌, ◌+◌, ◌≤◌, ◌<◌, ◌^◌, ◌∷◌, [], length, All, OnOk, IfOk};
+ghost use Rattle.std.specs.Prelude.{◌≡◌, ◌+◌, ◌≤◌, ◌<◌, ◌^◌, ◌∷◌, [], ◌-◌, ◌||◌, ◌==◌, length, drop, All, OnOk, IfOk};
 ghost use Rattle.desk_lines.specs.Groups.{AreWidths};
 ghost use Rattle.desk_job.specs.Job as job;
 ghost use Rattle.desk_job.specs.Setting.{IsWord, line_at, words_at};
-ghost use Rattle.desk_job.specs.Making.{Adds, HasRoom, IsRange, all_lines, lines_at, paragraph_lines};
+ghost use Rattle.desk_job.specs.Making.{Adds, AreWordsOf, HasRoom, IsRange, all_lines, lines_at, paragraph_lines};
 
 use crate::JobFault;
 use crate::line::set_line;
@@ -50,6 +50,15 @@ fn word_widths<A: Allocator>(
         widths.push(terms.symbols_width(&copy[word.from..word.to]))?;
     }
     Ok(widths)
+}
+
+/// Whether the line of this group, at this place, is to be filled: the last one, and each of one word.
+fn is_filled(groups: &[Group], i: usize, group: &Group) -> bool
+    requires place { i < length groups.now }
+    requires order { (group.now).from < (group.now).to }
+    ensures { result ≡ (length (drop (i + 1) groups.now) == 0) || ((group.now).to - (group.now).from == 1) }
+{
+    i + 1 == groups.len() || group.to - group.from == 1
 }
 
 impl<A: Allocator + Copy> Making<A> {
@@ -113,10 +122,48 @@ impl<A: Allocator + Copy> Making<A> {
         ensures { OnOk result (Adds terms.now (lines_at copy.now words.now groups.now) self.old self.new) }
     {
         for (i, group) in groups.iter().enumerate() {
-            let filled = i + 1 == groups.len() || group.to - group.from == 1;
+            let filled = is_filled(groups, i, group);
             let these = &words[group.from..group.to];
             let wide = &widths[group.from..group.to];
             self.add_line(alloc, terms, copy, these, wide, filled)?;
+        }
+        Ok(())
+    }
+
+    /// Adds the lines of a paragraph of these words.
+    fn add_paragraph(
+        &mut self,
+        alloc: A,
+        terms: &Terms,
+        copy: &[Symbol],
+        words: &[Word],
+    ) -> Result<(), NoMemory>
+        requires copy { length copy.now ≤ 2 ^ 20 }
+        requires number { length words.now ≤ 2 ^ 20 + 1 }
+        requires words { All (IsWord copy.now) words.now }
+        requires room { HasRoom terms.now (paragraph_lines terms.now copy.now words.now) self.old }
+        ensures { OnOk result (Adds terms.now (paragraph_lines terms.now copy.now words.now) self.old self.new) }
+    {
+        let widths = word_widths(alloc, terms, copy, words)?;
+        let groups = break_lines(alloc, &widths, terms.tight_space(), terms.measure())?;
+        self.add_groups(alloc, terms, copy, words, &widths, &groups)
+    }
+
+    /// Adds the lines of paragraphs.
+    fn add_paragraphs(
+        &mut self,
+        alloc: A,
+        terms: &Terms,
+        copy: &[Symbol],
+        found: &[Paragraph<A>],
+    ) -> Result<(), NoMemory>
+        requires copy { length copy.now ≤ 2 ^ 20 }
+        requires words { All (AreWordsOf copy.now) found.now }
+        requires room { HasRoom terms.now (all_lines terms.now copy.now found.now) self.old }
+        ensures { OnOk result (Adds terms.now (all_lines terms.now copy.now found.now) self.old self.new) }
+    {
+        for paragraph in found {
+            self.add_paragraph(alloc, terms, copy, paragraph.words())?;
         }
         Ok(())
     }
