@@ -6,3 +6,4 @@ pub mod Adding
 pub mod Parts
 pub mod Paragraphs
 pub mod Bounds
+pub mod Replicas

@@ -18,6 +18,7 @@ use Rattle.desk_justify.specs.Positions.{sum_of, pair_of}
 use Rattle.desk_ribbon.specs.Ribbon.{head_row, punch_row}
 use Rattle.desk_ribbon.specs.declared.Punch.{Punch}
 use Rattle.desk_caster.specs.Caster.{row_width}
+use Rattle.desk_job.specs.declared.terms.Values.{Values}
 use Rattle.desk_job.specs.declared.JobFault.{JobFault}
 use Rattle.desk_job.specs.declared.JobFault.TheVariants.{MissingSetting, OtherCase, OtherWedge, Crossed, FillOrder, SpaceVanishes, NoMatrix, TooWide, TooLoose, CannotFill}
 
@@ -193,14 +194,6 @@ is_lacking case symbol = not ((is_space symbol || is_line_feed symbol) || is_som
 abbrev pub lacking : CaseValues → ℕ → List Symbol → List JobFault
 lacking case here [] = []
 lacking case here (symbol ∷ copy) = fault_if (is_lacking case symbol) (NoMatrix here) ++ lacking case (suc here) copy
-
--- the values of the settings
-pub record Values : Type 0 where
-  pub measure : ℕ
-  pub tight : ℕ
-  pub loose : ℕ
-  pub case : ℕ
-  pub wedge : ℕ
 
 -- the values, or the least key that has none
 abbrev pub all_given : (measure tight loose case wedge : Option ℕ) → Result Values Key

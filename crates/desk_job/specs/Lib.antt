@@ -2,3 +2,4 @@ pub mod Job
 pub mod Usable
 pub mod Setting
 pub mod Making
+pub mod Answer

@@ -3,6 +3,9 @@ use Rattle.std.specs.Prelude.{◌≡◌, ◌≤◌, ◌^◌, true, ℤ, pos, ◌
 use Rattle.desk_wedge.specs.Wedge.{IsWedge}
 use Rattle.desk_case.specs.Case.{IsCase}
 use Rattle.desk_case.specs.File.{is_descending, units_of_cells}
+use Rattle.desk_ops.specs.Op.{IsValue}
+use Rattle.desk_ops.specs.declared.op.Key.TheVariants.{Measure, Tight, Loose}
+use Rattle.desk_job.specs.declared.terms.Values.{Values}
 use Rattle.desk_job.specs.Job.{Terms, tight_space}
 
 -- the case and the wedge are lawful, the values are in their ranges, the fills descend, and a space at tight is wider than 0
@@ -19,3 +22,9 @@ pub record IsUsable (terms : Terms) : Type 0 where
 pub record IsSmall (width : ℤ) : Type 0 where
   pub some : pos 1 ≤ℤ width
   pub limit : width ≤ℤ pos 576000
+
+-- The values are in their ranges.
+pub record AreLawful (values : Values) : Type 0 where
+  pub measure : IsValue Measure values.measure
+  pub tight : IsValue Tight values.tight
+  pub loose : IsValue Loose values.loose

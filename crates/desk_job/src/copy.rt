@@ -1,17 +1,21 @@
 //! The lines of a copy: their faults, or their rows.
 
-ghost use Rattle.std.specs.Prelude.{◌≡◌, ◌+◌, ◌≤◌, ◌<◌, ◌^◌, ◌∷◌, [], ◌-◌, ◌||◌, ◌==◌, length, drop, All, OnOk, IfOk};
+ghost use Rattle.std.specs.Prelude.{◌≡◌, ◌+◌, ◌≤◌, ◌<◌, ◌^◌, ◌∷◌, [], ◌-◌, ◌||◌, ◌==◌, length, drop, All, OnOk, IfOk, IfErr};
+ghost use Rattle.desk_lines.specs.Words.{is_line_feed, is_space};
+ghost use Rattle.desk_ribbon.specs.Ribbon.{head_row, ribbon};
+ghost use Rattle.desk_job.specs.Answer.{IsMade, IsRefused, TellsThese, set_copy};
 ghost use Rattle.desk_lines.specs.Groups.{AreWidths};
 ghost use Rattle.desk_job.specs.Job as job;
 ghost use Rattle.desk_job.specs.Setting.{IsWord, line_at, words_at};
 ghost use Rattle.desk_job.specs.Making.{Adds, AreWordsOf, HasRoom, IsRange, all_lines, lines_at, paragraph_lines};
 
-use crate::JobFault;
+use crate::{JobFault, JobFaults, JobRefusal};
 use crate::line::set_line;
 use crate::punch::punch;
 use crate::terms::Terms;
-use desk_lines::{Group, Paragraph, Word, break_lines};
-use desk_ops::{NoMemory, Symbol};
+use desk_case::MatrixCase;
+use desk_lines::{Group, Paragraph, Word, break_lines, paragraphs};
+use desk_ops::{NoMemory, Style, Symbol};
 use desk_ribbon::RibbonWriter;
 use desk_units::Atoms;
 use std::alloc::Allocator;
@@ -166,5 +170,96 @@ impl<A: Allocator + Copy> Making<A> {
             self.add_paragraph(alloc, terms, copy, paragraph.words())?;
         }
         Ok(())
+    }
+
+    /// The ribbon, or the faults found.
+    fn finish(self) -> Result<Vec<u8, A>, JobRefusal<A>>
+        ensures ok { IfOk result (λ bytes. (self.faults ≡ []) × (bytes.items ≡ ribbon (head_row ∷ self.rows))) }
+        ensures err { IfErr result (λ refusal. TellsThese refusal self.faults) }
+    {
+        let Making { faults, ribbon, .. } = self;
+        if faults.is_empty() {
+            match ribbon.finish() {
+                Ok(bytes) => Ok(bytes),
+                Err(NoMemory) => Err(JobRefusal::NoMemory),
+            }
+        } else {
+            Err(JobRefusal::Faults(JobFaults::from_vec(faults)))
+        }
+    }
+}
+
+fn is_space(symbol: Symbol) -> bool
+    ensures { result ≡ is_space symbol }
+{
+    symbol.ch == ' ' && symbol.style == Style::Roman
+}
+
+fn is_line_feed(symbol: Symbol) -> bool
+    ensures { result ≡ is_line_feed symbol }
+{
+    symbol.ch == '\n' && symbol.style == Style::Roman
+}
+
+/// Whether the case lacks the symbol, which is no separator.
+fn is_lacking(case: &MatrixCase, symbol: Symbol) -> bool
+    ensures { result ≡ job.is_lacking case.now symbol }
+{
+    !(is_space(symbol) || is_line_feed(symbol) || case.cell_of(symbol).is_some())
+}
+
+/// The place of each symbol that the case lacks.
+fn lacking<A: Allocator>(
+    alloc: A,
+    case: &MatrixCase,
+    copy: &[Symbol],
+) -> Result<Vec<JobFault, A>, NoMemory>
+    ensures { IfOk result (λ faults. faults.items ≡ job.lacking case.now 0 copy.now) }
+{
+    let mut faults = Vec::new(alloc);
+    for (i, symbol) in copy.iter().enumerate() {
+        if is_lacking(case, *symbol) {
+            faults.push(JobFault::NoMatrix(i))?;
+        }
+    }
+    Ok(faults)
+}
+
+/// What is found of all lines of a copy.
+fn make_lines<A: Allocator + Copy>(
+    alloc: A,
+    terms: &Terms,
+    copy: &[Symbol],
+) -> Result<Making<A>, NoMemory>
+    requires { length copy.now ≤ 2 ^ 20 }
+    ensures { IfOk result (λ making. Adds terms.now (job.lines terms.now copy.now) (record { next = 1; faults = []; rows = [] }) making) }
+{
+    terms.are_usable();
+    let found = paragraphs(alloc, copy)?;
+    let mut making = Making::new(alloc);
+    making.add_paragraphs(alloc, terms, copy, &found)?;
+    Ok(making)
+}
+
+/// The ribbon of a copy, or the symbols that the case lacks, or else the faults of its lines.
+pub fn set_copy<A: Allocator + Copy>(
+    alloc: A,
+    terms: &Terms,
+    copy: &[Symbol],
+) -> Result<Vec<u8, A>, JobRefusal<A>>
+    requires { length copy.now ≤ 2 ^ 20 }
+    ensures ok { IfOk result (λ bytes. IsMade bytes.items (set_copy terms.now copy.now)) }
+    ensures err { IfErr result (λ refusal. IsRefused refusal (set_copy terms.now copy.now)) }
+{
+    let lacking = match lacking(alloc, terms.case(), copy) {
+        Ok(faults) => faults,
+        Err(NoMemory) => return Err(JobRefusal::NoMemory),
+    };
+    if !lacking.is_empty() {
+        return Err(JobRefusal::Faults(JobFaults::from_vec(lacking)));
+    }
+    match make_lines(alloc, terms, copy) {
+        Ok(making) => making.finish(),
+        Err(NoMemory) => Err(JobRefusal::NoMemory),
     }
 }

@@ -1,13 +1,15 @@
 //! What a line is set by, and the widths that follow.
 
-ghost use Rattle.std.specs.Prelude.{◌≡◌, ◌≤◌, ◌^◌, ◌*◌, ◌+ℤ◌, ◌≤ℤ◌, ℤ, pos, length, take, All};
+ghost use Rattle.std.specs.Prelude.{◌≡◌, ◌≤◌, ◌^◌, ◌*◌, ◌+ℤ◌, ◌≤ℤ◌, ℤ, pos, length, take, All, [], ◌∷◌, IfOk, IfErr, OnOk};
 ghost use Rattle.desk_units.specs.Widths.{widening};
 ghost use Rattle.desk_caster.specs.Caster.{row_width};
 ghost use Rattle.desk_job.specs.Job as job;
-ghost use Rattle.desk_job.specs.Usable.{IsSmall};
+ghost use Rattle.desk_job.specs.Usable.{AreLawful, IsSmall, IsUsable};
+ghost use Rattle.desk_job.specs.Setting.{told};
 ghost use Rattle.desk_lines.specs.Groups.{IsWidth};
 ghost use Rattle.desk_justify.specs.Filled.{ArePositive, Descend};
 
+use crate::JobFault;
 use desk_case::MatrixCase;
 use desk_ops::Symbol;
 use desk_signals::Cell;
@@ -81,7 +83,87 @@ pub fn whole(width: Atoms) -> u64
     width.get() as u64
 }
 
+/// The values of the settings of a job.
+#[derive(Clone, Copy, PartialEq, Eq, Debug)]
+pub struct Values {
+    pub measure: u32,
+    pub tight: u32,
+    pub loose: u32,
+    pub case: u32,
+    pub wedge: u32,
+}
+
+/// The width of a space that is so much wider.
+fn widened(space: Atoms, driven: Atoms) -> Atoms
+    requires space { IsSmall space }
+    requires least { pos 0 ≤ℤ (driven +ℤ pos 23976) }
+    requires most { driven ≤ℤ pos 121176 }
+    ensures value { result ≡ space +ℤ driven }
+    ensures limit { result ≤ℤ pos (2 ^ 20) }
+{
+    Atoms::new(space.get() + driven.get())
+}
+
+/// A space at a wedge sum.
+fn space_at(wedge: &Wedge, case: &MatrixCase, sum: u32) -> Atoms
+    requires low { 16 ≤ sum }
+    requires high { sum ≤ 240 }
+    ensures value { result ≡ pos (row_width wedge.now case.now.space.row) +ℤ widening sum }
+    ensures limit { result ≤ℤ pos (2 ^ 20) }
+{
+    widened(cell_width(wedge, &case.space()), driven(sum))
+}
+
+/// Why values, case and wedge don't go together, if so.
+fn terms_fault(case: &MatrixCase, wedge: &Wedge, values: Values) -> Option<JobFault>
+    requires { AreLawful values }
+    ensures { told result ≡ job.terms_fault (job.terms_of case.now wedge.now values) values }
+{
+    if values.case != case.number() as u32 {
+        Some(JobFault::OtherCase)
+    } else if values.wedge != wedge.number() as u32 {
+        Some(JobFault::OtherWedge)
+    } else if values.tight > values.loose {
+        Some(JobFault::Crossed)
+    } else if case.check(wedge).is_err() {
+        Some(JobFault::FillOrder)
+    } else if space_at(wedge, case, values.tight).get() <= 0 {
+        Some(JobFault::SpaceVanishes)
+    } else {
+        None
+    }
+}
+
 impl<'a> Terms<'a> {
+    /// The terms of these values, or why they don't go together.
+    pub fn new(case: &'a MatrixCase, wedge: &'a Wedge, values: Values) -> Result<Terms<'a>, JobFault>
+        requires { AreLawful values }
+        ensures ok { IfOk result (λ t. t ≡ job.terms_of case.now wedge.now values) }
+        ensures none { OnOk result (job.terms_fault (job.terms_of case.now wedge.now values) values ≡ []) }
+        ensures err { IfErr result (λ fault. job.terms_fault (job.terms_of case.now wedge.now values) values ≡ fault ∷ []) }
+    {
+        case.is_lawful();
+        wedge.is_lawful();
+        match terms_fault(case, wedge, values) {
+            Some(fault) => Err(fault),
+            None => Ok(Terms {
+                case,
+                wedge,
+                points: values.measure,
+                tight: values.tight,
+                loose: values.loose,
+                fills: widths_of_fills(wedge, case.fill()),
+            }),
+        }
+    }
+
+    /// Every terms are usable.
+    pub fn are_usable(&self)
+        ensures { IsUsable self.now }
+    {
+        let _ = &self.points;
+    }
+
     /// The measure.
     pub fn measure(&self) -> Atoms
         ensures value { result ≡ pos (job.measure self.now) }
@@ -104,7 +186,7 @@ impl<'a> Terms<'a> {
         ensures some { pos 1 ≤ℤ result }
         ensures limit { result ≤ℤ pos (2 ^ 20) }
     {
-        Atoms::new(self.space() as i64 + driven(self.tight).get())
+        space_at(self.wedge, self.case, self.tight)
     }
 
     /// The least wedge sum.
