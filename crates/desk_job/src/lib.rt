@@ -1,12 +1,14 @@
 //! The job: the ribbon of a copy, or why there is none.
 #![tactic(auto)]
 
-pub mod copy;
-pub mod line;
-pub mod punch;
-pub mod terms;
+mod copy;
+mod line;
+mod ribbon;
+mod punch;
+mod terms;
 
 use desk_ops::Key;
+pub use ribbon::{make, make_from};
 use std::alloc::Allocator;
 use std::marker::Model;
 
