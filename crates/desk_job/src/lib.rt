@@ -74,3 +74,6 @@ pub enum JobRefusal<A: Allocator> {
     Faults(JobFaults<A>),
     NoMemory,
 }
+
+#[cfg(test)]
+mod tests;
