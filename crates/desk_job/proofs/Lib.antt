@@ -7,3 +7,5 @@ pub mod Parts
 pub mod Paragraphs
 pub mod Bounds
 pub mod Replicas
+pub mod ReadLaws
+pub mod ShortLaws

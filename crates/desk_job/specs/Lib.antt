@@ -3,3 +3,4 @@ pub mod Usable
 pub mod Setting
 pub mod Making
 pub mod Answer
+pub mod Reading
