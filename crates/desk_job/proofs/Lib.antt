@@ -9,3 +9,6 @@ pub mod Bounds
 pub mod Replicas
 pub mod ReadLaws
 pub mod ShortLaws
+pub mod SetLaws
+pub mod NoFaults
+pub mod Comes
