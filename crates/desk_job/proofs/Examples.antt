@@ -15,7 +15,7 @@ use Rattle.desk_wedge.specs.Wedge.{WedgeValues}
 use Rattle.desk_case.specs.Case.{CaseValues}
 use Rattle.desk_caster.specs.Caster.{Line, cast}
 use Rattle.desk_caster.specs.declared.CastFault.{CastFault}
-use Rattle.desk_job.specs.Job.{job, Values}
+use Rattle.desk_job.specs.Job.{job}
 use Rattle.desk_job.specs.declared.JobFault.{JobFault}
 use Rattle.desk_job.specs.declared.JobFault.TheVariants as fault
 

@@ -1,9 +1,14 @@
 mod Examples
-mod ComesBackCast
-mod ComesBackReads
-mod ComesBackShort
-mod ComesBackTight
-mod ComesBackSplits
-mod ComesBackGroups
-mod ComesBackFaults
-mod ComesBackLaw
+pub mod Sums
+pub mod LineSizes
+pub mod Widths
+pub mod Adding
+pub mod Parts
+pub mod Paragraphs
+pub mod Bounds
+pub mod Replicas
+pub mod ReadLaws
+pub mod ShortLaws
+pub mod SetLaws
+pub mod NoFaults
+pub mod Comes

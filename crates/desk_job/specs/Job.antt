@@ -18,6 +18,7 @@ use Rattle.desk_justify.specs.Positions.{sum_of, pair_of}
 use Rattle.desk_ribbon.specs.Ribbon.{head_row, punch_row}
 use Rattle.desk_ribbon.specs.declared.Punch.{Punch}
 use Rattle.desk_caster.specs.Caster.{row_width}
+use Rattle.desk_job.specs.declared.terms.Values.{Values}
 use Rattle.desk_job.specs.declared.JobFault.{JobFault}
 use Rattle.desk_job.specs.declared.JobFault.TheVariants.{MissingSetting, OtherCase, OtherWedge, Crossed, FillOrder, SpaceVanishes, NoMatrix, TooWide, TooLoose, CannotFill}
 
@@ -61,8 +62,11 @@ space_width terms = row_width terms.wedge terms.case.space.row
 abbrev pub tight_space : Terms → ℤ
 tight_space terms = pos (space_width terms) +ℤ widening terms.tight
 
+abbrev pub widths_of : WedgeValues → List Cell → List ℤ
+widths_of wedge cells = map (λ cell. pos (row_width wedge cell.row)) cells
+
 abbrev pub fill_widths : Terms → List ℤ
-fill_widths terms = map (λ cell. pos (row_width terms.wedge cell.row)) terms.case.fill
+fill_widths terms = widths_of terms.wedge terms.case.fill
 
 -- ---- the lines of a copy
 
@@ -100,10 +104,10 @@ abbrev pub rest : Terms → SetLine → ℤ
 rest terms line =
     pos (measure terms) -ℤ pos (sum_by (word_width terms) line.words + spaces terms line * space_width terms)
 
--- how often each fill is used
+-- how often each fill is used: none in a line that is not to be filled
 abbrev pub fills : Terms → SetLine → List ℕ
 fills terms line =
-    if line.filled then fills_of (rest terms line) (fill_widths terms) else replicate (length terms.case.fill) 0
+    if line.filled then fills_of (rest terms line) (fill_widths terms) else []
 
 -- what the spaces are to take up: the rest, less the fills
 abbrev pub left : Terms → SetLine → ℤ
@@ -147,11 +151,14 @@ word_punches case word = flat_map (λ symbol. plain (cell_of case symbol)) word
 abbrev pub space_punch : CaseValues → Punch
 space_punch case = record { cell = case.space; s = true }
 
--- the words with a space between each two
+-- words with a space before each
+abbrev pub spaced_punches : CaseValues → List (List Symbol) → List Punch
+spaced_punches case words = flat_map (λ word. space_punch case ∷ word_punches case word) words
+
+-- words with a space between each two
 abbrev pub words_punches : CaseValues → List (List Symbol) → List Punch
 words_punches case [] = []
-words_punches case (word ∷ []) = word_punches case word
-words_punches case (word ∷ next ∷ more) = word_punches case word ++ (space_punch case ∷ words_punches case (next ∷ more))
+words_punches case (word ∷ more) = word_punches case word ++ spaced_punches case more
 
 -- each fill as often as it is used
 abbrev pub fill_punches : List (ℕ × Cell) → List Punch
@@ -187,14 +194,6 @@ is_lacking case symbol = not ((is_space symbol || is_line_feed symbol) || is_som
 abbrev pub lacking : CaseValues → ℕ → List Symbol → List JobFault
 lacking case here [] = []
 lacking case here (symbol ∷ copy) = fault_if (is_lacking case symbol) (NoMatrix here) ++ lacking case (suc here) copy
-
--- the values of the settings
-pub record Values : Type 0 where
-  pub measure : ℕ
-  pub tight : ℕ
-  pub loose : ℕ
-  pub case : ℕ
-  pub wedge : ℕ
 
 -- the values, or the least key that has none
 abbrev pub all_given : (measure tight loose case wedge : Option ℕ) → Result Values Key

@@ -1,9 +1,16 @@
 //! The job: the ribbon of a copy, or why there is none.
 #![tactic(auto)]
 
-pub mod laws;
+mod copy;
+mod line;
+mod ribbon;
+mod punch;
+mod terms;
 
 use desk_ops::Key;
+pub use ribbon::{make, make_from};
+use std::alloc::Allocator;
+use std::marker::Model;
 
 /// Why a copy can't be set. Places count from 0 in the copy, lines from 1.
 #[derive(Clone, Copy, PartialEq, Eq, Debug)]
@@ -29,3 +36,44 @@ pub enum JobFault {
     /// Spaces and fills do not take up the rest of this line.
     CannotFill(usize),
 }
+
+/// Faults, in their order.
+#[derive(Drop)]
+pub struct JobFaults<A: Allocator> {
+    faults: Vec<JobFault, A>,
+}
+
+impl<A: Allocator> Model for JobFaults<A> {
+    ghost use Rattle.std.specs.Prelude.{List};
+    ghost use Rattle.desk_job.specs.declared.JobFault.{JobFault};
+
+    ghost Value = { List JobFault };
+
+    ghost view = { λ f. f.faults.items };
+}
+
+impl<A: Allocator> JobFaults<A> {
+    ghost use Rattle.std.specs.Prelude.{◌≡◌};
+
+    fn from_vec(faults: Vec<JobFault, A>) -> JobFaults<A>
+        ensures { result ≡ faults.items }
+    {
+        JobFaults { faults }
+    }
+
+    pub fn as_slice(&self) -> &[JobFault]
+        ensures { result.now ≡ self.now }
+    {
+        self.faults.as_slice()
+    }
+}
+
+/// Why no ribbon was made: the faults of the job, or want of memory.
+#[derive(Drop)]
+pub enum JobRefusal<A: Allocator> {
+    Faults(JobFaults<A>),
+    NoMemory,
+}
+
+#[cfg(test)]
+mod tests;

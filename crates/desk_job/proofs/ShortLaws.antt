@@ -8,14 +8,15 @@ use Rattle.std.proofs.Math.IntN.{pos-*ℤ-negsuc}
 use Rattle.desk_ops.specs.declared.op.Symbol.{Symbol}
 use Rattle.desk_units.specs.Widths.{step, widening, IsSteps, steps_of}
 use Rattle.desk_units.proofs.StepLaws.{one_number_of_steps}
+use Rattle.desk_signals.specs.declared.Cell.{Cell}
 use Rattle.desk_wedge.specs.Wedge.{WedgeValues}
 use Rattle.desk_case.specs.Case.{CaseValues, cell_of}
-use Rattle.desk_signals.specs.declared.Cell.{Cell}
 use Rattle.desk_justify.specs.Filled.{taken}
 use Rattle.desk_ribbon.specs.declared.Punch.{Punch}
 use Rattle.desk_caster.specs.Caster.{row_width, total_width}
-use Rattle.desk_job.proofs.ComesBackCast.{casts}
-use Rattle.desk_job.specs.Job.{Terms, SetLine, measure, plain, word_punches, words_punches, space_punch, fill_punches, fills, punches, has_added, spaces, left, wedge_sum, cell_width, symbol_width, word_width, space_width}
+use Rattle.desk_caster.proofs.CastLaw.{casts}
+use Rattle.desk_job.specs.Job.{Terms, SetLine, plain, word_punches, spaced_punches, words_punches, space_punch, fill_punches, fills, widths_of, fill_widths, punches, has_added, spaces, rest, left, wedge_sum, cell_width, symbol_width, word_width, space_width, measure}
+use Rattle.desk_job.proofs.LineSizes.{one_more}
 
 -- the width of matrices at neutral, and how many are justified
 abbrev pub neutral : WedgeValues → List Punch → ℕ
@@ -25,10 +26,6 @@ neutral wedge (punch ∷ more) = row_width wedge punch.cell.row + neutral wedge 
 abbrev pub justified : List Punch → ℕ
 justified [] = 0
 justified (punch ∷ more) = cond punch.s 1 0 + justified more
-
-pub one_more : (w : ℤ) (n : ℕ) → pos (suc n) *ℤ w ≡ w +ℤ pos n *ℤ w
-one_more (pos k) n = omega (arith, ints)
-one_more (negsuc k) n = omega (arith, ints)
 
 add_one : (w a : ℤ) (n b : ℕ) (t : ℤ) → t ≡ pos b +ℤ pos n *ℤ w → a +ℤ t ≡ (a +ℤ pos b) +ℤ pos n *ℤ w
 add_one w a n b t e = omega (arith, ints, e)
@@ -100,36 +97,45 @@ justified_word case [] = refl
 justified_word case (y ∷ word) =
     omega (arith, justified_append (plain (cell_of case y)) (word_punches case word), justified_plain (cell_of case y), justified_word case word)
 
-one_space_more : (n w : ℕ) → (suc (suc n) - 1) * w ≡ w + (suc n - 1) * w
-one_space_more n w =
-    let e : suc (suc n) - 1 ≡ suc n = omega arith in
-    let f : suc n - 1 ≡ n = omega arith in
-    rw (e, f) (omega arith)
+neutral_spaced : (terms : Terms) (words : List (List Symbol)) →
+    neutral terms.wedge (spaced_punches terms.case words) ≡ sum_by (word_width terms) words + length words * space_width terms
+neutral_spaced terms [] = omega arith
+neutral_spaced terms (word ∷ words) =
+    let a = neutral_append terms.wedge (word_punches terms.case word) (spaced_punches terms.case words) in
+    let b = neutral_word terms word in
+    let c = neutral_spaced terms words in
+    let d = sum_by-cons (word_width terms) word words in
+    omega (arith, a, b, c, d)
+
+less_one : (n w : ℕ) → (suc n - 1) * w ≡ n * w
+less_one n w = let e : suc n - 1 ≡ n = omega arith in rw e refl
 
 neutral_words : (terms : Terms) (words : List (List Symbol)) →
     neutral terms.wedge (words_punches terms.case words) ≡ sum_by (word_width terms) words + (length words - 1) * space_width terms
 neutral_words terms [] = omega arith
-neutral_words terms (word ∷ []) = omega (arith, neutral_word terms word, sum_by-cons (word_width terms) word [])
-neutral_words terms (word ∷ next ∷ words) =
-    omega (
-      arith,
-      neutral_append terms.wedge (word_punches terms.case word) (space_punch terms.case ∷ words_punches terms.case (next ∷ words)),
-      neutral_word terms word,
-      neutral_words terms (next ∷ words),
-      sum_by-cons (word_width terms) word (next ∷ words),
-      one_space_more (length words) (space_width terms),
-    )
+neutral_words terms (word ∷ words) =
+    let a = neutral_append terms.wedge (word_punches terms.case word) (spaced_punches terms.case words) in
+    let b = neutral_word terms word in
+    let c = neutral_spaced terms words in
+    let d = sum_by-cons (word_width terms) word words in
+    let e = less_one (length words) (space_width terms) in
+    omega (arith, a, b, c, d, e)
+
+justified_spaced : (case : CaseValues) (words : List (List Symbol)) → justified (spaced_punches case words) ≡ length words
+justified_spaced case [] = refl
+justified_spaced case (word ∷ words) =
+    let a = justified_append (word_punches case word) (spaced_punches case words) in
+    let b = justified_word case word in
+    let c = justified_spaced case words in
+    omega (arith, a, b, c)
 
 justified_words : (case : CaseValues) (words : List (List Symbol)) → justified (words_punches case words) ≡ length words - 1
-justified_words case [] = refl
-justified_words case (word ∷ []) = justified_word case word
-justified_words case (word ∷ next ∷ words) =
-    omega (
-      arith,
-      justified_append (word_punches case word) (space_punch case ∷ words_punches case (next ∷ words)),
-      justified_word case word,
-      justified_words case (next ∷ words),
-    )
+justified_words case [] = omega arith
+justified_words case (word ∷ words) =
+    let a = justified_append (word_punches case word) (spaced_punches case words) in
+    let b = justified_word case word in
+    let c = justified_spaced case words in
+    omega (arith, a, b, c)
 
 neutral_fill : (wedge : WedgeValues) (n : ℕ) (cell : Cell) → neutral wedge (replicate n (record { cell = cell; s = false })) ≡ n * row_width wedge cell.row
 neutral_fill wedge zero cell = omega arith
@@ -140,16 +146,14 @@ justified_fill zero cell = refl
 justified_fill (suc n) cell = omega (arith, justified_fill n cell)
 
 neutral_fills : (wedge : WedgeValues) (counts : List ℕ) (cells : List Cell) →
-    neutral wedge (fill_punches (zip counts cells)) ≡ taken counts (map (λ cell. pos (row_width wedge cell.row)) cells)
+    neutral wedge (fill_punches (zip counts cells)) ≡ taken counts (widths_of wedge cells)
 neutral_fills wedge [] cells = refl
 neutral_fills wedge (n ∷ counts) [] = refl
 neutral_fills wedge (n ∷ counts) (cell ∷ cells) =
-    omega (
-      arith,
-      neutral_append wedge (replicate n (record { cell = cell; s = false })) (fill_punches (zip counts cells)),
-      neutral_fill wedge n cell,
-      neutral_fills wedge counts cells,
-    )
+    let a = neutral_append wedge (replicate n (record { cell = cell; s = false })) (fill_punches (zip counts cells)) in
+    let b = neutral_fill wedge n cell in
+    let c = neutral_fills wedge counts cells in
+    omega (arith, a, b, c)
 
 justified_fills : (counts : List ℕ) (cells : List Cell) → justified (fill_punches (zip counts cells)) ≡ 0
 justified_fills [] cells = refl

@@ -1,0 +1,264 @@
+-- Where a job has no fault, each of its lines can be set.
+use Rattle.std.proofs.Common.{◌≡◌, ◌⊎◌, inl, inr, ℕ, zero, suc, ◌+◌, ◌-◌, ◌*◌, ◌/◌, ◌<◌, ◌≤◌, Bool, true, false, cond, List, [], ◌∷◌, ◌++◌, map, length, take, drop, refl, sym, ap, ◌∙◌, subst, arith, length-drop, length-take}
+use Rattle.std.specs.Prelude.{ℤ, pos, negsuc, ◌+ℤ◌, ◌-ℤ◌, ◌*ℤ◌, ◌≤ℤ◌, ◌<ℤ◌, int_lt, not, ◌||◌, ◌==◌, is_some, sum_by}
+use Rattle.std.specs.List.{slice_split, onto_first, flat_map, AllByRecursion}
+use Rattle.std.proofs.lemmas.Int.{ints, by_lt_z}
+use Rattle.std.proofs.lemmas.Bool.{false≢true}
+use Rattle.std.proofs.lemmas.Bool.Decides.{nat_tests}
+use Rattle.std.proofs.lemmas.List.{length-map}
+use Rattle.std.proofs.lemmas.List.Splits.{slice_split-cons_yes, slice_split-cons_no}
+use Rattle.std.proofs.Math.Nat.{mul-le-mul_left}
+use Rattle.desk_ops.specs.declared.op.Symbol.{Symbol}
+use Rattle.desk_ops.proofs.Stamps.{by_cases}
+use Rattle.desk_units.specs.Widths.{step, widening, floor_div, steps_of}
+use Rattle.desk_case.specs.Case.{CaseValues, cell_of}
+use Rattle.desk_lines.specs.Words.{is_space, is_line_feed, drop_empty_last, paragraphs, words}
+use Rattle.desk_lines.specs.Groups.{AreGroups, FitsIn, groups, ranges}
+use Rattle.desk_lines.specs.declared.groups.Group.{Group}
+use Rattle.desk_lines.proofs.GroupLaws.{groups_are_groups}
+use Rattle.desk_justify.specs.Positions.{sum_of}
+use Rattle.desk_job.specs.Job.{Terms, SetLine, measure, widths, word_width, tight_space, space_width, has_added, spaces, wedge_sum, sum_fault, line_fault, line_faults, fault_if, is_lacking, lacking, cut, marked, lines_of_words, lines}
+use Rattle.desk_job.specs.Usable.{IsUsable}
+use Rattle.desk_job.specs.declared.JobFault.{JobFault}
+use Rattle.desk_job.specs.declared.JobFault.TheVariants.{NoMatrix}
+use Rattle.desk_job.proofs.Adding.{none_before}
+use Rattle.desk_job.proofs.LineSizes.{one_more, none_of, width_is}
+use Rattle.desk_job.proofs.Parts.{take_map, drop_map}
+use Rattle.desk_job.proofs.ReadLaws.{Has, WordsHave}
+use Rattle.desk_job.proofs.ShortLaws.{scaled}
+use Rattle.desk_job.proofs.SetLaws.{CanBeSet, each_append}
+
+-- ---- symbols
+
+abbrev pub Each : {A : Type 0} → (A → Type 0) → List A → Type 0
+Each P xs = AllByRecursion P xs
+
+-- P, and no separator
+abbrev pub Inside : {A : Type 0} → (A → Bool) → (A → Type 0) → A → Type 0
+Inside p P x = P x × (p x ≡ false)
+
+onto_each : {A : Type 0} (Q : A → Type 0) (x : A) (parts : List (List A)) → Q x → Each (Each Q) parts → Each (Each Q) (onto_first x parts)
+onto_each Q x [] q each = ((q, tt), tt)
+onto_each Q x (part ∷ parts) q each = ((q, each.0), each.1)
+
+split_step : {A : Type 0} (p : A → Bool) (P : A → Type 0) (x : A) (xs : List A) (b : Bool) → p x ≡ b → P x →
+    Each (Each (Inside p P)) (slice_split p xs) → Each (Each (Inside p P)) (slice_split p (x ∷ xs))
+split_step p P x xs true is here each = rw (slice_split-cons_yes p x xs is) (tt, each)
+split_step p P x xs false is here each = rw (slice_split-cons_no p x xs is) (onto_each (Inside p P) x (slice_split p xs) (here, is) each)
+
+split_each : {A : Type 0} (p : A → Bool) (P : A → Type 0) (xs : List A) → Each P xs → Each (Each (Inside p P)) (slice_split p xs)
+split_each p P [] each = (tt, tt)
+split_each p P (x ∷ xs) each = split_step p P x xs (p x) refl each.0 (split_each p P xs each.1)
+
+drop_last_each : {A : Type 0} (Q : List A → Type 0) (parts : List (List A)) → Each Q parts → Each Q (drop_empty_last parts)
+drop_last_each Q [] each = tt
+drop_last_each Q ([] ∷ []) each = tt
+drop_last_each Q ((x ∷ xs) ∷ []) each = each
+drop_last_each Q (part ∷ next ∷ parts) each = (each.0, drop_last_each Q (next ∷ parts) each.1)
+
+each_of : {A : Type 0} (P Q : A → Type 0) (xs : List A) → ((x : A) → P x → Q x) → Each P xs → Each Q xs
+each_of P Q [] f each = tt
+each_of P Q (x ∷ xs) f each = (f x each.0, each_of P Q xs f each.1)
+
+take_each : {A : Type 0} (Q : A → Type 0) (n : ℕ) (xs : List A) → Each Q xs → Each Q (take n xs)
+take_each Q zero xs each = tt
+take_each Q (suc n) [] each = tt
+take_each Q (suc n) (x ∷ xs) each = (each.0, take_each Q n xs each.1)
+
+drop_each : {A : Type 0} (Q : A → Type 0) (n : ℕ) (xs : List A) → Each Q xs → Each Q (drop n xs)
+drop_each Q zero xs each = each
+drop_each Q (suc n) [] each = tt
+drop_each Q (suc n) (x ∷ xs) each = drop_each Q n xs each.1
+
+none_if : (b : Bool) (fault : JobFault) → fault_if b fault ≡ [] → b ≡ false
+none_if true fault none = absurd (let e : 1 ≡ 0 = ap length none in omega (arith, e))
+none_if false fault none = refl
+
+none_after : {A : Type 0} (xs ys : List A) → xs ++ ys ≡ [] → ys ≡ []
+none_after [] ys none = none
+none_after (x ∷ xs) ys none = absurd (let e : length (x ∷ (xs ++ ys)) ≡ 0 = ap length none in omega (arith, e))
+
+abbrev pub Known : CaseValues → Symbol → Type 0
+Known case y = is_lacking case y ≡ false
+
+none_lacking : (case : CaseValues) (here : ℕ) (copy : List Symbol) → lacking case here copy ≡ [] → Each (Known case) copy
+none_lacking case here [] none = tt
+none_lacking case here (y ∷ copy) none =
+    (none_if (is_lacking case y) (NoMatrix here) (none_before (fault_if (is_lacking case y) (NoMatrix here)) (lacking case (suc here) copy) none),
+      none_lacking case (suc here) copy (none_after (fault_if (is_lacking case y) (NoMatrix here)) (lacking case (suc here) copy) none))
+
+has_known : (a b c : Bool) → not ((a || b) || c) ≡ false → b ≡ false → a ≡ false → c ≡ true
+has_known a b true known no_feed no_space = refl
+has_known true b false known no_feed no_space = absurd (false≢true (sym no_space))
+has_known false true false known no_feed no_space = absurd (false≢true (sym no_feed))
+has_known false false false known no_feed no_space = absurd (false≢true (sym known))
+
+-- the case has the words of a copy that lacks nothing
+words_have : (case : CaseValues) (copy : List Symbol) → lacking case 0 copy ≡ [] → Each (λ p. WordsHave case (words p)) (paragraphs copy)
+words_have case copy none =
+    let known = none_lacking case 0 copy none in
+    let parts = drop_last_each (Each (Inside is_line_feed (Known case))) (slice_split is_line_feed copy) (split_each is_line_feed (Known case) copy known) in
+    each_of (Each (Inside is_line_feed (Known case))) (λ p. WordsHave case (words p)) (paragraphs copy)
+    (λ p each. (each_of (Each (Inside is_space (Inside is_line_feed (Known case)))) (Each (Has case)) (words p)
+      (λ w inside. (each_of (Inside is_space (Inside is_line_feed (Known case))) (Has case) w
+        (λ y h. (has_known (is_space y) (is_line_feed y) (is_some (cell_of case y)) h.0.0 h.0.1 h.1)) inside))
+      (split_each is_space (Inside is_line_feed (Known case)) p each)))
+    parts
+
+-- ---- lines
+
+-- what each line of a copy has, where the case lacks nothing
+pub record IsGood (terms : Terms) (line : SetLine) : Type 0 where
+  pub has : WordsHave terms.case line.words
+  pub fits : line.filled ≡ false → (2 ≤ length line.words) × FitsIn (tight_space terms) (pos (measure terms)) (widths terms line.words)
+
+-- The sizes are those of groups.
+abbrev pub Fitting : Terms → List ℕ → List (List Symbol) → Type 0
+Fitting terms [] ws = Unit {0}
+Fitting terms (size ∷ sizes) ws =
+    (1 ≤ size) × (size ≤ length ws) × ((FitsIn (tight_space terms) (pos (measure terms)) (widths terms (take size ws))) ⊎ (size ≡ 1))
+    × Fitting terms sizes (drop size ws)
+
+fitting : (terms : Terms) (here : ℕ) (ws : List (List Symbol)) (sizes : List ℕ) →
+    AreGroups (tight_space terms) (pos (measure terms)) here (widths terms ws) (ranges here sizes) → Fitting terms sizes ws
+fitting terms here ws [] is = tt
+fitting terms here ws (size ∷ sizes) is =
+    let same : here + size ≡ here + is.0 = ap (λ (g : Group). g.to) is.1 in
+    let k : is.0 ≡ size = omega (arith, same) in
+    let f = λ (w : List Symbol). pos (word_width terms w) in
+    let long = length-map ws f in
+    let some = is.2.some in
+    let within = is.2.within in
+    let front : take size (widths terms ws) ≡ widths terms (take size ws) = take_map f size ws in
+    let back : drop size (widths terms ws) ≡ widths terms (drop size ws) = drop_map f size ws in
+    (omega (arith, some, k), omega (arith, within, k, long), rw front at (rw k at is.2.fits),
+      fitting terms (here + size) (drop size ws) sizes (rw back at (rw k at is.3)))
+
+good_marked : (terms : Terms) (sizes : List ℕ) (ws : List (List Symbol)) → Fitting terms sizes ws → WordsHave terms.case ws →
+    Each (IsGood terms) (marked (cut sizes ws))
+good_marked terms [] ws fits has = tt
+good_marked terms (size ∷ []) ws fits has =
+    (record { has = take_each (Each (Has terms.case)) size ws has; fits = λ e. absurd (false≢true (sym e)) }, tt)
+good_marked terms (size ∷ next ∷ sizes) ws fits has =
+    (record { has = take_each (Each (Has terms.case)) size ws has; fits = two terms size ws fits.0 fits.1 fits.2 },
+      good_marked terms (next ∷ sizes) (drop size ws) fits.3 (drop_each (Each (Has terms.case)) size ws has))
+  where
+    two : (terms : Terms) (size : ℕ) (ws : List (List Symbol)) → 1 ≤ size → size ≤ length ws →
+        (FitsIn (tight_space terms) (pos (measure terms)) (widths terms (take size ws))) ⊎ (size ≡ 1) → (length (take size ws) == 1) ≡ false →
+        (2 ≤ length (take size ws)) × FitsIn (tight_space terms) (pos (measure terms)) (widths terms (take size ws))
+    two terms size ws some within (inl f) e =
+        let long = length-take size ws in
+        let more : length (take size ws) < 1 ⊎ 1 < length (take size ws) = grind (arith, nat_tests, e) in
+        (elim more [ inl h ↦ absurd (omega (arith, h, long, some, within)) | inr h ↦ omega (arith, h) ], f)
+    two terms size ws some within (inr one) e =
+        let long = length-take size ws in
+        let is : length (take size ws) ≡ 1 = omega (arith, long, one, within) in
+        absurd (false≢true (sym e ∙ (let t : (length (take size ws) == 1) ≡ true = rw is refl in t)))
+
+good_words : (terms : Terms) (ws : List (List Symbol)) → WordsHave terms.case ws → Each (IsGood terms) (lines_of_words terms ws)
+good_words terms ws has =
+    let sizes = groups (tight_space terms) (pos (measure terms)) (widths terms ws) in
+    good_marked terms sizes ws (fitting terms 0 ws sizes (groups_are_groups (tight_space terms) (pos (measure terms)) (widths terms ws)).0) has
+
+good_paragraphs : (terms : Terms) (ps : List (List Symbol)) → Each (λ p. WordsHave terms.case (words p)) ps →
+    Each (IsGood terms) (flat_map (λ p. lines_of_words terms (words p)) ps)
+good_paragraphs terms [] each = tt
+good_paragraphs terms (p ∷ ps) each =
+    each_append (IsGood terms) (lines_of_words terms (words p)) (flat_map (λ p. lines_of_words terms (words p)) ps)
+    (good_words terms (words p) each.0) (good_paragraphs terms ps each.1)
+
+-- ---- the wedge sum of an ordinary line
+
+shared : (s : ℕ) (a b : ℤ) → pos s *ℤ (a +ℤ b) ≡ pos s *ℤ a +ℤ pos s *ℤ b
+shared zero a b = let x = none_of (a +ℤ b) in let y = none_of a in let z = none_of b in omega (arith, ints, x, y, z)
+shared (suc s) a b =
+    let x = one_more (a +ℤ b) s in let y = one_more a s in let z = one_more b s in let more = shared s a b in omega (arith, ints, x, y, z, more)
+
+-- k steps of n that don't pass the rest are no more than the quotient
+floor_low : (n : ℕ) (rest k : ℤ) → 0 < n → (pos n *ℤ k) ≤ℤ rest → floor_div rest n <ℤ k → ⊥
+floor_low n (pos a) (pos k) some fits over =
+    let more = mul-le-mul_left {m = suc (a / n)} {n = k} n (omega (arith, ints, over)) in omega (arith, ints, fits, more)
+floor_low n (pos a) (negsuc k) some fits over = omega (arith, ints, over)
+floor_low n (negsuc a) (pos k) some fits over = omega (arith, ints, fits)
+floor_low n (negsuc a) (negsuc k) some fits over =
+    let more = mul-le-mul_left {m = suc k} {n = a / n} n (omega (arith, ints, over)) in omega (arith, ints, fits, more)
+
+low_of : (sum space limit s tight : ℕ) → 1 ≤ s →
+    (pos sum +ℤ pos s *ℤ (pos space +ℤ widening tight)) ≤ℤ pos limit →
+    pos tight ≤ℤ sum_of (pos limit -ℤ pos (sum + s * space)) s
+low_of sum space limit s tight some fits =
+    let k = pos tight -ℤ pos 53 in
+    let d = shared s (pos space) (widening tight) in
+    let e = scaled s k in
+    let f : pos s *ℤ pos space ≡ pos (s * space) = refl in
+    let within : (pos (step * s) *ℤ k) ≤ℤ (pos limit -ℤ pos (sum + s * space)) = omega (arith, ints, fits, d, e, f) in
+    by_lt_z (steps_of (pos limit -ℤ pos (sum + s * space)) s) k
+    (λ below. absurd (floor_low (step * s) (pos limit -ℤ pos (sum + s * space)) k (omega arith) within below))
+    (λ above. omega (arith, ints, above))
+
+less_none : (z : ℤ) → z -ℤ pos 0 ≡ z
+less_none z = omega (arith, ints)
+
+ordinary_low : (terms : Terms) (words : List (List Symbol)) → 2 ≤ length words →
+    FitsIn (tight_space terms) (pos (measure terms)) (widths terms words) →
+    pos terms.tight ≤ℤ wedge_sum terms (record { words = words; filled = false })
+ordinary_low terms [] some fits = absurd (omega arith)
+ordinary_low terms (word ∷ []) some fits = absurd (omega arith)
+ordinary_low terms (word ∷ next ∷ words) some fits =
+    let n : (length (word ∷ next ∷ words) - 1) + 0 ≡ suc (length words) = omega arith in
+    rw (n, less_none (pos (measure terms) -ℤ pos (sum_by (word_width terms) (word ∷ next ∷ words) + suc (length words) * space_width terms)))
+    (low_of (sum_by (word_width terms) (word ∷ next ∷ words)) (space_width terms) (measure terms) (suc (length words)) terms.tight (omega arith)
+      (rw (width_is terms word (next ∷ words)) at fits))
+
+-- ---- faults of lines
+
+not_less : (a b : ℤ) → int_lt a b ≡ false → b ≤ℤ a
+not_less a b e =
+    by_lt_z a b (λ h. absurd (false≢true (sym e ∙ (let t : int_lt a b ≡ true = grind (arith, ints) in t)))) (λ h. h)
+
+neither : (a b : Bool) → (a || b) ≡ false → (a ≡ false) × (b ≡ false)
+neither true b e = absurd (false≢true (sym e))
+neither false b e = (refl, e)
+
+set_filled : (terms : Terms) (n : ℕ) (words : List (List Symbol)) (b : Bool) → b ≡ (spaces terms (record { words = words; filled = true }) == 0) → IsUsable terms →
+    IsGood terms (record { words = words; filled = true }) → line_fault terms n (record { words = words; filled = true }) ≡ [] →
+    CanBeSet terms (record { words = words; filled = true })
+set_filled terms n words true is usable good none = absurd (let e = rw (← is) at none in let f : 1 ≡ 0 = ap length e in omega (arith, f))
+set_filled terms n words false is usable good none =
+    let line : SetLine = record { words = words; filled = true } in
+    let e = rw (← is) at none in
+    let both = neither (int_lt (wedge_sum terms line) (pos terms.tight)) (int_lt (pos 240) (wedge_sum terms line)) (none_if _ _ e) in
+    let low = not_less (wedge_sum terms line) (pos terms.tight) both.0 in
+    let high = not_less (pos 240) (wedge_sum terms line) both.1 in
+    let tight = usable.tight.0 in
+    record { has = good.has; some = grind (arith, nat_tests, is); low = omega (arith, ints, low, tight); high = high }
+
+set_ordinary : (terms : Terms) (n : ℕ) (words : List (List Symbol)) (b : Bool) → b ≡ (spaces terms (record { words = words; filled = false }) == 0) → IsUsable terms →
+    IsGood terms (record { words = words; filled = false }) → line_fault terms n (record { words = words; filled = false }) ≡ [] →
+    CanBeSet terms (record { words = words; filled = false })
+set_ordinary terms n words true is usable good none = absurd (let e = rw (← is) at none in let f : 1 ≡ 0 = ap length e in omega (arith, f))
+set_ordinary terms n words false is usable good none =
+    let line : SetLine = record { words = words; filled = false } in
+    let e = rw (← is) at none in
+    let high = not_less (pos terms.loose) (wedge_sum terms line) (none_if _ _ e) in
+    let fits = good.fits refl in
+    let low = ordinary_low terms words fits.0 fits.1 in
+    let tight = usable.tight.0 in
+    let loose = usable.loose.1 in
+    record { has = good.has; some = grind (arith, nat_tests, is); low = omega (arith, ints, low, tight); high = omega (arith, ints, high, loose) }
+
+can_be_set : (terms : Terms) (n : ℕ) (words : List (List Symbol)) (filled : Bool) → IsUsable terms → IsGood terms (record { words = words; filled = filled }) →
+    line_fault terms n (record { words = words; filled = filled }) ≡ [] → CanBeSet terms (record { words = words; filled = filled })
+can_be_set terms n words true usable good none = set_filled terms n words _ refl usable good none
+can_be_set terms n words false usable good none = set_ordinary terms n words _ refl usable good none
+
+all_can_be_set : (terms : Terms) (n : ℕ) (ls : List SetLine) → IsUsable terms → Each (IsGood terms) ls → line_faults terms n ls ≡ [] → Each (CanBeSet terms) ls
+all_can_be_set terms n [] usable each none = tt
+all_can_be_set terms n (line ∷ ls) usable each none =
+    (can_be_set terms n line.words line.filled usable each.0 (none_before (line_fault terms n line) (line_faults terms (suc n) ls) none),
+      all_can_be_set terms (suc n) ls usable each.1 (none_after (line_fault terms n line) (line_faults terms (suc n) ls) none))
+
+pub copy_can_be_set : (terms : Terms) (copy : List Symbol) → IsUsable terms → lacking terms.case 0 copy ≡ [] → line_faults terms 1 (lines terms copy) ≡ [] →
+    Each (CanBeSet terms) (lines terms copy)
+copy_can_be_set terms copy usable known none =
+    all_can_be_set terms 1 (lines terms copy) usable (good_paragraphs terms (paragraphs copy) (words_have terms.case copy known)) none
