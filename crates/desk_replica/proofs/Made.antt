@@ -1,12 +1,12 @@
 -- A new operation is lawful, and newer than all that is held.
 use Rattle.std.proofs.Common.{◌≡◌, ℕ, zero, suc, ◌+◌, ◌-◌, ◌<◌, ◌≤◌, Bool, true, false, not, cond, List, [], ◌∷◌, map, length, get_or, refl, sym, ap, ◌∙◌, subst, ◌⊎◌, inl, inr, arith}
-use Rattle.std.specs.Prelude.{◌≢◌, ◌==◌, nat_le, nat_lt, Option, Some, None, Result, Ok, Err, IfOk, OnOk, OnErr, is_err}
+use Rattle.std.specs.Prelude.{◌≢◌, ◌==◌, nat_le, nat_lt, Option, Some, None, Result, Ok, Err, IfOk, OnOk, is_err}
 use Rattle.std.proofs.lemmas.Bool.Decides.{nat_tests}
 use Rattle.desk_ops.proofs.Stamps.{by_cases}
 use Rattle.desk_ops.specs.declared.op.Unlawful.TheVariants as unlawful
 use Rattle.desk_replica.specs.declared.Refusal.{Refusal}
 use Rattle.desk_replica.specs.declared.Refusal.TheVariants as refusal
-use Rattle.desk_replica.proofs.Links.{eq-from, ne-from}
+use Rattle.desk_replica.proofs.Links.{ne-from}
 use Rattle.std.specs.List.{filter}
 use Rattle.desk_ops.specs.declared.op.Stamp.{Stamp}
 use Rattle.desk_ops.specs.declared.op.Symbol.{Symbol}
@@ -31,10 +31,7 @@ use Rattle.desk_replica.specs.Built.{entry_of, shown_entries}
 use Rattle.desk_replica.specs.State.{State, IsKept}
 use Rattle.desk_ops.specs.Settings.{setting_of}
 use Rattle.desk_ops.specs.Laws.{IsParentAt}
-use Rattle.desk_replica.specs.Edits.{new_stamp, parent_at, stamp_at, new_insert, edit_refusal, insert_refusal, delete_refusal, set_refusal, IsInserted, IsDeleted, IsSetTo}
-use Rattle.desk_held.specs.declared.Added.{Added}
-use Rattle.desk_held.specs.declared.AddRefusal.{AddRefusal}
-use Rattle.desk_replica.proofs.Sets.{with_op-lawful}
+use Rattle.desk_replica.specs.Edits.{new_stamp, parent_at, stamp_at, new_insert, edit_refusal, insert_refusal, IsInserted, IsDeleted, IsSetTo}
 use Rattle.desk_replica.proofs.Walked.{each-insert}
 use Rattle.desk_ops.proofs.Newest.{insert_shows, delete_shows, set_shows}
 use Rattle.desk_ops.proofs.NewValues.{setting_new, setting_stays}
@@ -181,9 +178,6 @@ delete-made old place stamp target es shows stamped is = ap (λ s. Delete s targ
 pub below-shown : (es : List Entry) (h : OpSet) (place : ℕ) → es ≡ shown_entries h → place < length es → place < length (shown_of h)
 below-shown es h place e lt = subst (λ n. place < n) (ap length e ∙ length-entries (shown_of h)) lt
 
-pub beyond-shown : (es : List Entry) (h : OpSet) (place : ℕ) → es ≡ shown_entries h → length es ≤ place → length (shown_of h) ≤ place
-beyond-shown es h place e le = subst (λ n. n ≤ place) (ap length e ∙ length-entries (shown_of h)) le
-
 pub within-shown : (es : List Entry) (h : OpSet) (place : ℕ) → es ≡ shown_entries h → place ≤ length es → place ≤ length (shown_of h)
 within-shown es h place e le = subst (λ n. place ≤ n) (ap length e ∙ length-entries (shown_of h)) le
 
@@ -198,39 +192,16 @@ pub on_made : (P : Op → Type 0) (r : Result Op Refusal) (h after : OpSet) (o :
 on_made P (Ok p) h after o is ok f = subst P (sym is) (f ok)
 on_made P (Err e) h after o is ok f = tt
 
-pub added-lawful : (r : Result Added AddRefusal) (h after : OpSet) (o : Op) → AllLawful h → IsLawful o → OnOk r (after ≡ with_op h o) → OnErr r (after ≡ h) → AllLawful after
-added-lawful (Ok a) h after o lawful own ok err = subst AllLawful (sym ok) (with_op-lawful h o lawful own)
-added-lawful (Err e) h after o lawful own ok err = subst AllLawful (sym err) lawful
-
 -- ---- refusals, in their order
 
 abbrev by_size : Bool → OpSet → Option Refusal
 by_size full ops = cond full (Some refusal.Full) (cond (nat_le 4611686018427387904 (greatest_counter_of ops)) (Some refusal.ClockFull) None)
 
-pub refused_full : (ops : OpSet) → size ops ≡ 1048576 → edit_refusal ops true true ≡ Some refusal.Full
-refused_full ops e = let k : (size ops == 1048576) ≡ true = eq-from (size ops) 1048576 e in ap (λ b. by_size b ops) k
-
 clock_free : (ops : OpSet) → size ops ≢ 1048576 → edit_refusal ops true true ≡ by_size false ops
 clock_free ops e = let k : (size ops == 1048576) ≡ false = ne-from (size ops) 1048576 e in ap (λ b. by_size b ops) k
 
-pub refused_clock : (ops : OpSet) → size ops ≢ 1048576 → 4611686018427387904 ≤ greatest_counter_of ops → edit_refusal ops true true ≡ Some refusal.ClockFull
-refused_clock ops e le = clock_free ops e ∙ ap (λ b. cond b (Some refusal.ClockFull) None) (le-true 4611686018427387904 (greatest_counter_of ops) le)
-
 pub refused_none : (ops : OpSet) → size ops ≢ 1048576 → greatest_counter_of ops < 4611686018427387904 → edit_refusal ops true true ≡ None
 refused_none ops e lt = clock_free ops e ∙ ap (λ b. cond b (Some refusal.ClockFull) None) (le-false 4611686018427387904 (greatest_counter_of ops) lt)
-
-pub clock_known : (ops : OpSet) → edit_refusal ops true true ≡ None → greatest_counter_of ops < 4611686018427387904
-clock_known ops e = by_cases (nat_le 4611686018427387904 (greatest_counter_of ops)) (λ k. absurd (some_full (size ops == 1048576) k e)) (λ k. le-none 4611686018427387904 (greatest_counter_of ops) k)
-  where
-    some_full : (b : Bool) → nat_le 4611686018427387904 (greatest_counter_of ops) ≡ true → by_size b ops ≡ None → ⊥
-    some_full true k e = cc
-    some_full false k e = let f : Some refusal.ClockFull ≡ None = sym (ap (λ b. cond b (Some refusal.ClockFull) None) k) ∙ e in cc
-
-pub refused_place : (ops : OpSet) (place : ℕ) (y : Symbol) → length (shown_of ops) < place → insert_refusal ops place y ≡ Some refusal.Place
-refused_place ops place y lt = ap (λ b. edit_refusal ops b (is_symbol y)) (le-false place (length (shown_of ops)) lt)
-
-pub refused_value : (ops : OpSet) (place : ℕ) (y : Symbol) → place ≤ length (shown_of ops) → is_symbol y ≡ false → insert_refusal ops place y ≡ Some refusal.Value
-refused_value ops place y le e = ap (λ b. edit_refusal ops b (is_symbol y)) (le-true place (length (shown_of ops)) le) ∙ ap (edit_refusal ops true) e
 
 lt-true : (a b : ℕ) → a < b → nat_lt a b ≡ true
 lt-true a b h = grind (arith, nat_tests)
@@ -238,23 +209,8 @@ lt-true a b h = grind (arith, nat_tests)
 lt-false : (a b : ℕ) → b ≤ a → nat_lt a b ≡ false
 lt-false a b h = grind (arith, nat_tests)
 
-pub delete_refused : (ops : OpSet) (place : ℕ) → length (shown_of ops) ≤ place → delete_refusal ops place ≡ Some refusal.Place
-delete_refused ops place le = ap (λ b. edit_refusal ops b true) (lt-false place (length (shown_of ops)) le)
-
-pub delete_allowed : (ops : OpSet) (place : ℕ) → place < length (shown_of ops) → delete_refusal ops place ≡ edit_refusal ops true true
-delete_allowed ops place lt = ap (λ b. edit_refusal ops b true) (lt-true place (length (shown_of ops)) lt)
-
-pub set_refused : (ops : OpSet) (key : Key) (value : ℕ) → is_value key value ≡ false → set_refusal ops key value ≡ Some refusal.Value
-set_refused ops key value e = ap (edit_refusal ops true) e
-
-pub set_allowed : (ops : OpSet) (key : Key) (value : ℕ) → is_value key value ≡ true → set_refusal ops key value ≡ edit_refusal ops true true
-set_allowed ops key value e = ap (edit_refusal ops true) e
-
 pub allowed : (ops : OpSet) (place : ℕ) (y : Symbol) → place ≤ length (shown_of ops) → is_symbol y ≡ true → insert_refusal ops place y ≡ edit_refusal ops true true
 allowed ops place y le e = ap (λ b. edit_refusal ops b (is_symbol y)) (le-true place (length (shown_of ops)) le) ∙ ap (edit_refusal ops true) e
 
 pub symbol_is : (y : Symbol) (b : Bool) → b ≡ is_err (symbol_verdict y) → b ≡ false → is_symbol y ≡ true
 symbol_is y b e f = by_cases (is_symbol y) (λ k. k) (λ k. let g : true ≡ false = sym (ap (λ t. is_err (cond t (Ok tt) (Err unlawful.Symbol))) k) ∙ sym e ∙ f in cc)
-
-pub symbol_is_not : (y : Symbol) (b : Bool) → b ≡ is_err (symbol_verdict y) → b ≡ true → is_symbol y ≡ false
-symbol_is_not y b e f = by_cases (is_symbol y) (λ k. let g : false ≡ true = sym (ap (λ t. is_err (cond t (Ok tt) (Err unlawful.Symbol))) k) ∙ sym e ∙ f in cc) (λ k. k)
