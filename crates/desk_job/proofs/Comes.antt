@@ -1,7 +1,6 @@
 -- The ribbon of a job, cast, is the copy line by line.
-use Rattle.std.proofs.Common.{◌≡◌, ℕ, ◌+◌, ◌*◌, ◌<◌, ◌≤◌, ◌^◌, Bool, true, false, cond, List, [], ◌∷◌, ◌++◌, map, length, refl, sym, ap, ◌∙◌, subst, arith, Option, Some, None, Result, Ok, Err}
-use Rattle.std.specs.Prelude.{ℤ, pos, ◌≤ℤ◌, ◌<ℤ◌, int_le, not, if◌then◌else◌, ◌==◌, nat_lt, IfSome, IfOk}
-use Rattle.std.specs.List.{flat_map}
+use Rattle.std.proofs.Common.{◌≡◌, ℕ, ◌≤◌, ◌^◌, Bool, true, false, List, [], ◌∷◌, map, length, refl, sym, ap, ◌∙◌, arith, Option, Some, None, Result, Ok, Err}
+use Rattle.std.specs.Prelude.{ℤ, pos, ◌<ℤ◌, int_le, not, if◌then◌else◌, ◌==◌, nat_lt, IfSome, IfOk}
 use Rattle.std.proofs.lemmas.Int.{ints, by_lt_z}
 use Rattle.std.proofs.lemmas.Bool.{false≢true}
 use Rattle.desk_ops.specs.declared.op.Symbol.{Symbol}
@@ -17,7 +16,7 @@ use Rattle.desk_caster.specs.Caster.{Line, cast}
 use Rattle.desk_caster.specs.Lines.{line_cast}
 use Rattle.desk_caster.specs.Reading.{IsRibbon}
 use Rattle.desk_caster.proofs.CastLaw.{lines_come_back}
-use Rattle.desk_job.specs.Job.{Terms, tight_space, lines, line_rows, line_faults, lacking, rows_of, rows_or, or_faults, fault_if, terms_of, terms_fault, faults_of, all_given, values_of, job, job_of}
+use Rattle.desk_job.specs.Job.{Terms, tight_space, lines, line_faults, lacking, rows_of, rows_or, or_faults, fault_if, terms_of, terms_fault, faults_of, all_given, job, job_of}
 use Rattle.desk_job.specs.Usable.{IsUsable}
 use Rattle.desk_job.specs.Answer.{IsMade}
 use Rattle.desk_job.specs.Reading.{AreLines, CastsCopy}
@@ -136,9 +135,3 @@ cast_is_copy copy settings case wedge bytes is_case is_wedge small a b d made =
 pub each_ok : {A E : Type 0} (P Q : A → Type 0) (r : Result A E) → ((a : A) → P a → Q a) → IfOk r P → IfOk r Q
 each_ok P Q (Ok a) f p = f a p
 each_ok P Q (Err e) f p = tt
-
--- the same of settings that give each key the same value
-pub same_settings : (copy : List Symbol) (settings others : Key → Option ℕ) (case : CaseValues) (wedge : WedgeValues) (bytes : List ℕ) →
-    values_of settings ≡ values_of others → CastsCopy copy settings case wedge bytes → CastsCopy copy others case wedge bytes
-same_settings copy settings others case wedge bytes same h =
-    record { values = h.values; given = sym same ∙ h.given; rows = h.rows; is = h.is; got = h.got; casts = h.casts; are = h.are }

@@ -1,6 +1,6 @@
 -- Worked examples, computed.
-use Rattle.std.proofs.Common.{◌≡◌, ℕ, ◌+◌, ◌*◌, ◌-◌, true, false, List, [], ◌∷◌, ◌++◌, map, replicate, length, refl, Some, None, Ok, Err, Option, Result}
-use Rattle.std.specs.Prelude.{ℤ, pos, cond, ◌==◌}
+use Rattle.std.proofs.Common.{◌≡◌, ℕ, true, false, List, [], ◌∷◌, ◌++◌, map, replicate, length, refl, Some, None, Ok, Err, Option, Result}
+use Rattle.std.specs.Prelude.{ℤ, pos}
 use Rattle.std.specs.List.{flat_map}
 use Rattle.desk_ops.specs.declared.op.Symbol.{Symbol}
 use Rattle.desk_ops.specs.declared.op.Style.TheVariants.{Roman, Italic, SmallCap}

@@ -1,5 +1,5 @@
 -- Where a job has no fault, each of its lines can be set.
-use Rattle.std.proofs.Common.{◌≡◌, ◌⊎◌, inl, inr, ℕ, zero, suc, ◌+◌, ◌-◌, ◌*◌, ◌/◌, ◌<◌, ◌≤◌, Bool, true, false, cond, List, [], ◌∷◌, ◌++◌, map, length, take, drop, refl, sym, ap, ◌∙◌, subst, arith, length-drop, length-take}
+use Rattle.std.proofs.Common.{◌≡◌, ◌⊎◌, inl, inr, ℕ, zero, suc, ◌+◌, ◌-◌, ◌*◌, ◌/◌, ◌<◌, ◌≤◌, Bool, true, false, List, [], ◌∷◌, ◌++◌, length, take, drop, refl, sym, ap, ◌∙◌, arith, length-take}
 use Rattle.std.specs.Prelude.{ℤ, pos, negsuc, ◌+ℤ◌, ◌-ℤ◌, ◌*ℤ◌, ◌≤ℤ◌, ◌<ℤ◌, int_lt, not, ◌||◌, ◌==◌, is_some, sum_by}
 use Rattle.std.specs.List.{slice_split, onto_first, flat_map, AllByRecursion}
 use Rattle.std.proofs.lemmas.Int.{ints, by_lt_z}
@@ -9,7 +9,6 @@ use Rattle.std.proofs.lemmas.List.{length-map}
 use Rattle.std.proofs.lemmas.List.Splits.{slice_split-cons_yes, slice_split-cons_no}
 use Rattle.std.proofs.Math.Nat.{mul-le-mul_left}
 use Rattle.desk_ops.specs.declared.op.Symbol.{Symbol}
-use Rattle.desk_ops.proofs.Stamps.{by_cases}
 use Rattle.desk_units.specs.Widths.{step, widening, floor_div, steps_of}
 use Rattle.desk_case.specs.Case.{CaseValues, cell_of}
 use Rattle.desk_lines.specs.Words.{is_space, is_line_feed, drop_empty_last, paragraphs, words}
@@ -17,7 +16,7 @@ use Rattle.desk_lines.specs.Groups.{AreGroups, FitsIn, groups, ranges}
 use Rattle.desk_lines.specs.declared.groups.Group.{Group}
 use Rattle.desk_lines.proofs.GroupLaws.{groups_are_groups}
 use Rattle.desk_justify.specs.Positions.{sum_of}
-use Rattle.desk_job.specs.Job.{Terms, SetLine, measure, widths, word_width, tight_space, space_width, has_added, spaces, wedge_sum, sum_fault, line_fault, line_faults, fault_if, is_lacking, lacking, cut, marked, lines_of_words, lines}
+use Rattle.desk_job.specs.Job.{Terms, SetLine, measure, widths, word_width, tight_space, space_width, spaces, wedge_sum, line_fault, line_faults, fault_if, is_lacking, lacking, cut, marked, lines_of_words, lines}
 use Rattle.desk_job.specs.Usable.{IsUsable}
 use Rattle.desk_job.specs.declared.JobFault.{JobFault}
 use Rattle.desk_job.specs.declared.JobFault.TheVariants.{NoMatrix}
@@ -83,9 +82,10 @@ Known case y = is_lacking case y ≡ false
 
 none_lacking : (case : CaseValues) (here : ℕ) (copy : List Symbol) → lacking case here copy ≡ [] → Each (Known case) copy
 none_lacking case here [] none = tt
-none_lacking case here (y ∷ copy) none =
-    (none_if (is_lacking case y) (NoMatrix here) (none_before (fault_if (is_lacking case y) (NoMatrix here)) (lacking case (suc here) copy) none),
-      none_lacking case (suc here) copy (none_after (fault_if (is_lacking case y) (NoMatrix here)) (lacking case (suc here) copy) none))
+none_lacking case here (y ∷ copy) none = (
+  none_if (is_lacking case y) (NoMatrix here) (none_before (fault_if (is_lacking case y) (NoMatrix here)) (lacking case (suc here) copy) none),
+  none_lacking case (suc here) copy (none_after (fault_if (is_lacking case y) (NoMatrix here)) (lacking case (suc here) copy) none),
+)
 
 has_known : (a b c : Bool) → not ((a || b) || c) ≡ false → b ≡ false → a ≡ false → c ≡ true
 has_known a b true known no_feed no_space = refl
@@ -100,9 +100,9 @@ words_have case copy none =
     let parts = drop_last_each (Each (Inside is_line_feed (Known case))) (slice_split is_line_feed copy) (split_each is_line_feed (Known case) copy known) in
     each_of (Each (Inside is_line_feed (Known case))) (λ p. WordsHave case (words p)) (paragraphs copy)
     (λ p each. (each_of (Each (Inside is_space (Inside is_line_feed (Known case)))) (Each (Has case)) (words p)
-      (λ w inside. (each_of (Inside is_space (Inside is_line_feed (Known case))) (Has case) w
-        (λ y h. (has_known (is_space y) (is_line_feed y) (is_some (cell_of case y)) h.0.0 h.0.1 h.1)) inside))
-      (split_each is_space (Inside is_line_feed (Known case)) p each)))
+    (λ w inside. (each_of (Inside is_space (Inside is_line_feed (Known case))) (Has case) w
+    (λ y h. (has_known (is_space y) (is_line_feed y) (is_some (cell_of case y)) h.0.0 h.0.1 h.1)) inside))
+    (split_each is_space (Inside is_line_feed (Known case)) p each)))
     parts
 
 -- ---- lines
@@ -130,18 +130,22 @@ fitting terms here ws (size ∷ sizes) is =
     let some = is.2.some in
     let within = is.2.within in
     let front : take size (widths terms ws) ≡ widths terms (take size ws) = take_map f size ws in
-    let back : drop size (widths terms ws) ≡ widths terms (drop size ws) = drop_map f size ws in
-    (omega (arith, some, k), omega (arith, within, k, long), rw front at (rw k at is.2.fits),
-      fitting terms (here + size) (drop size ws) sizes (rw back at (rw k at is.3)))
+    let back : drop size (widths terms ws) ≡ widths terms (drop size ws) = drop_map f size ws in (
+      omega (arith, some, k),
+      omega (arith, within, k, long),
+      rw front at (rw k at is.2.fits),
+      fitting terms (here + size) (drop size ws) sizes (rw back at (rw k at is.3)),
+    )
 
 good_marked : (terms : Terms) (sizes : List ℕ) (ws : List (List Symbol)) → Fitting terms sizes ws → WordsHave terms.case ws →
     Each (IsGood terms) (marked (cut sizes ws))
 good_marked terms [] ws fits has = tt
 good_marked terms (size ∷ []) ws fits has =
     (record { has = take_each (Each (Has terms.case)) size ws has; fits = λ e. absurd (false≢true (sym e)) }, tt)
-good_marked terms (size ∷ next ∷ sizes) ws fits has =
-    (record { has = take_each (Each (Has terms.case)) size ws has; fits = two terms size ws fits.0 fits.1 fits.2 },
-      good_marked terms (next ∷ sizes) (drop size ws) fits.3 (drop_each (Each (Has terms.case)) size ws has))
+good_marked terms (size ∷ next ∷ sizes) ws fits has = (
+  record { has = take_each (Each (Has terms.case)) size ws has; fits = two terms size ws fits.0 fits.1 fits.2 },
+  good_marked terms (next ∷ sizes) (drop size ws) fits.3 (drop_each (Each (Has terms.case)) size ws has),
+)
   where
     two : (terms : Terms) (size : ℕ) (ws : List (List Symbol)) → 1 ≤ size → size ≤ length ws →
         (FitsIn (tight_space terms) (pos (measure terms)) (widths terms (take size ws))) ⊎ (size ≡ 1) → (length (take size ws) == 1) ≡ false →
@@ -208,7 +212,7 @@ ordinary_low terms (word ∷ next ∷ words) some fits =
     let n : (length (word ∷ next ∷ words) - 1) + 0 ≡ suc (length words) = omega arith in
     rw (n, less_none (pos (measure terms) -ℤ pos (sum_by (word_width terms) (word ∷ next ∷ words) + suc (length words) * space_width terms)))
     (low_of (sum_by (word_width terms) (word ∷ next ∷ words)) (space_width terms) (measure terms) (suc (length words)) terms.tight (omega arith)
-      (rw (width_is terms word (next ∷ words)) at fits))
+    (rw (width_is terms word (next ∷ words)) at fits))
 
 -- ---- faults of lines
 
@@ -254,9 +258,10 @@ can_be_set terms n words false usable good none = set_ordinary terms n words _ r
 
 all_can_be_set : (terms : Terms) (n : ℕ) (ls : List SetLine) → IsUsable terms → Each (IsGood terms) ls → line_faults terms n ls ≡ [] → Each (CanBeSet terms) ls
 all_can_be_set terms n [] usable each none = tt
-all_can_be_set terms n (line ∷ ls) usable each none =
-    (can_be_set terms n line.words line.filled usable each.0 (none_before (line_fault terms n line) (line_faults terms (suc n) ls) none),
-      all_can_be_set terms (suc n) ls usable each.1 (none_after (line_fault terms n line) (line_faults terms (suc n) ls) none))
+all_can_be_set terms n (line ∷ ls) usable each none = (
+  can_be_set terms n line.words line.filled usable each.0 (none_before (line_fault terms n line) (line_faults terms (suc n) ls) none),
+  all_can_be_set terms (suc n) ls usable each.1 (none_after (line_fault terms n line) (line_faults terms (suc n) ls) none),
+)
 
 pub copy_can_be_set : (terms : Terms) (copy : List Symbol) → IsUsable terms → lacking terms.case 0 copy ≡ [] → line_faults terms 1 (lines terms copy) ≡ [] →
     Each (CanBeSet terms) (lines terms copy)

@@ -1,5 +1,5 @@
 -- The lines of a copy, by the places of its words.
-use Rattle.std.proofs.Common.{◌≡◌, ℕ, zero, suc, ◌+◌, ◌-◌, ◌<◌, ◌≤◌, ◌^◌, Bool, true, false, List, [], ◌∷◌, ◌++◌, map, length, take, drop, refl, sym, ap, ◌∙◌, arith, length-drop, length-take, length-append, get_or, drop-cons, add-one, subst}
+use Rattle.std.proofs.Common.{◌≡◌, ℕ, ◌+◌, ◌-◌, ◌<◌, ◌≤◌, ◌^◌, Bool, false, List, [], ◌∷◌, ◌++◌, length, take, drop, refl, sym, ap, ◌∙◌, arith, length-drop, length-take, length-append, get_or, drop-cons, add-one, subst}
 use Rattle.std.specs.Prelude.{◌||◌, ◌==◌, ℤ, pos}
 use Rattle.std.specs.List.{All, AllByRecursion, flat_map}
 use Rattle.std.proofs.lemmas.List.{length-map, drop-drop}
@@ -8,12 +8,12 @@ use Rattle.std.proofs.lemmas.Bool.Decides.{nat_tests}
 use Rattle.desk_ops.specs.declared.op.Symbol.{Symbol}
 use Rattle.desk_lines.specs.declared.words.Word.{Word}
 use Rattle.desk_lines.specs.declared.groups.Group.{Group}
-use Rattle.desk_lines.specs.Words.{is_space, is_line_feed, spelled, words, paragraphs, words_of, AreSplit, StandInTurn, joined, drop_empty_last}
+use Rattle.desk_lines.specs.Words.{is_space, is_line_feed, spelled, words, words_of, AreSplit, StandInTurn, joined, drop_empty_last}
 use Rattle.desk_lines.specs.Groups.{AreGroups, groups, groups_of, ranges}
 use Rattle.desk_lines.proofs.GroupLaws.{groups_are_groups}
 use Rattle.desk_lines.proofs.WordLaws.{words_are_words, split_only}
 use Rattle.desk_job.specs.Job.{Terms, SetLine, widths, word_width, tight_space, measure, cut, marked, lines, lines_of_words}
-use Rattle.desk_job.specs.Setting.{IsWord, line_at, words_at}
+use Rattle.desk_job.specs.Setting.{IsWord, words_at}
 use Rattle.desk_job.specs.Making.{Found, AreWordsOf, IsRange, all_lines, group_words, lines_at, paragraph_lines}
 use Rattle.desk_job.proofs.Adding.{IsAdding}
 use Rattle.desk_job.proofs.Parts.{take_map, drop_map}
@@ -49,9 +49,11 @@ fit space limit here ws (size ∷ sizes) n e is =
     let k : is.0 ≡ size = omega (arith, same) in
     let some = is.2.some in
     let within = is.2.within in
-    let long = length-drop size ws in
-    (omega (arith, some, k), omega (arith, within, k, e),
-      fit space limit (here + size) (drop size ws) sizes (n - size) (omega (arith, e, long)) (rw k at is.3))
+    let long = length-drop size ws in (
+      omega (arith, some, k),
+      omega (arith, within, k, e),
+      fit space limit (here + size) (drop size ws) sizes (n - size) (omega (arith, e, long)) (rw k at is.3),
+    )
 
 pub groups_fit : (space limit : ℤ) (ws : List ℤ) → Fit (groups space limit ws) (length ws)
 groups_fit space limit ws = fit space limit 0 ws (groups space limit ws) (length ws) refl (groups_are_groups space limit ws).0

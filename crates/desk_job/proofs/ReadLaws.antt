@@ -1,13 +1,12 @@
 -- The cast lines read as the lines that were set.
-use Rattle.std.proofs.Common.{◌≡◌, ℕ, zero, suc, ◌+◌, ◌*◌, Bool, true, false, cond, List, [], ◌∷◌, ◌++◌, map, length, replicate, refl, sym, ap, ◌∙◌, Some, None, Option, append_assoc}
-use Rattle.std.specs.Prelude.{is_some, if◌then◌else◌}
+use Rattle.std.proofs.Common.{◌≡◌, ℕ, zero, suc, Bool, true, false, cond, List, [], ◌∷◌, ◌++◌, replicate, refl, sym, ap, ◌∙◌, Some, None, Option, append_assoc}
+use Rattle.std.specs.Prelude.{is_some}
 use Rattle.std.specs.List.{zip, AllByRecursion}
 use Rattle.desk_ops.specs.declared.op.Symbol.{Symbol}
 use Rattle.desk_signals.specs.declared.Cell.{Cell}
 use Rattle.desk_wedge.specs.Wedge.{WedgeValues}
 use Rattle.desk_case.specs.Case.{CaseValues, symbol_at, cell_of}
 use Rattle.desk_ribbon.specs.declared.Punch.{Punch}
-use Rattle.desk_caster.specs.declared.CastMatrix.{CastMatrix}
 use Rattle.desk_caster.specs.Lines.{reading, meaning}
 use Rattle.desk_caster.proofs.CastLaw.{casts}
 use Rattle.desk_job.specs.Job.{Terms, SetLine, plain, word_punches, spaced_punches, words_punches, space_punch, fill_punches, fills, punches, has_added}
@@ -57,7 +56,7 @@ read_spaced case [] sound has = refl
 read_spaced case (word ∷ words) sound has =
     ap (λ (t : List Symbol). space ∷ t)
     (read_append case (word_punches case word) (spaced_punches case words)
-      ∙ rw (read_word case word sound has.0, read_spaced case words sound has.1) refl)
+    ∙ rw (read_word case word sound has.0, read_spaced case words sound has.1) refl)
 
 read_words : (case : CaseValues) (words : List (List Symbol)) → IsSound case → WordsHave case words →
     read case (words_punches case words) ≡ joined words

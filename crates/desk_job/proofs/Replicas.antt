@@ -1,5 +1,5 @@
 -- What a replica shows is no longer than what it holds, and its settings are in their ranges.
-use Rattle.std.proofs.Common.{◌≡◌, ◌⊎◌, inl, inr, ℕ, zero, suc, ◌+◌, ◌<◌, ◌≤◌, Bool, true, false, cond, List, [], ◌∷◌, map, length, refl, sym, ap, ◌∙◌, Option, Some, None, subst, arith}
+use Rattle.std.proofs.Common.{◌≡◌, ◌⊎◌, inl, inr, ℕ, suc, ◌≤◌, Bool, true, false, cond, List, [], ◌∷◌, length, refl, sym, ap, ◌∙◌, Option, Some, None, subst, arith}
 use Rattle.std.specs.Prelude.{not, IfSome}
 use Rattle.std.specs.FinMap as fin
 use Rattle.desk_ops.specs.declared.op.Key.TheVariants.{Measure, Tight, Loose}
@@ -10,7 +10,7 @@ use Rattle.std.specs.List.{AllByRecursion, filter, filter_map, cons_option}
 use Rattle.std.proofs.lemmas.Bool.{false≢true}
 use Rattle.std.proofs.lemmas.List.{length-map}
 use Rattle.desk_ops.specs.declared.op.Op.{Op}
-use Rattle.desk_ops.specs.declared.op.Op.TheVariants.{Insert, Delete, Set}
+use Rattle.desk_ops.specs.declared.op.Op.TheVariants.{Set}
 use Rattle.desk_ops.specs.declared.op.Key.{Key}
 use Rattle.desk_ops.specs.Op.{stamp_of, IsLawful, IsValue, Insertion, insertion}
 use Rattle.desk_ops.specs.Stamp.{same}
@@ -19,11 +19,10 @@ use Rattle.desk_ops.specs.Lists.{Among}
 use Rattle.desk_ops.specs.Laws.{AreApart}
 use Rattle.desk_ops.specs.Held.{is_clear, is_live, clear_ops, clear_inserts, live_inserts}
 use Rattle.desk_ops.specs.Walk.{walk}
-use Rattle.desk_ops.specs.Shown.{is_deleted, shown, copy, copy_of}
+use Rattle.desk_ops.specs.Shown.{is_deleted, shown, copy_of}
 use Rattle.desk_ops.specs.Settings.{setting_of, IsSetting}
 use Rattle.desk_ops.proofs.Lists.{each-among}
 use Rattle.desk_ops.proofs.Stamps.{same-refl}
-use Rattle.desk_ops.proofs.Means.{any-among}
 use Rattle.desk_ops.proofs.Tree.{walk-apart, walk-live}
 use Rattle.desk_ops.proofs.Values.{is_setting}
 
@@ -55,6 +54,7 @@ without y (x ∷ xs) (inr a) =
     still : {A : Type 0} (y x z : A) (rest : List A) → (z ≡ y) ⊎ Among z rest → (z ≡ y) ⊎ Among z (x ∷ rest)
     still y x z rest (inl e) = inl e
     still y x z rest (inr b) = inr (inr b)
+
     others : {A : Type 0} (y x : A) (xs : List A) (w : Without y xs) (z : A) → Among z (x ∷ xs) → (z ≡ y) ⊎ Among z (x ∷ w.rest)
     others y x xs w z (inl f) = inr (inl f)
     others y x xs w z (inr b) = still y x z w.rest (w.others z b)
@@ -73,7 +73,7 @@ apart_few (y ∷ ys) xs apart each =
     other y ys xs w apart z b (inr d) = d
     other y ys xs w apart z b (inl e) =
         absurd (false≢true (sym (each-among (λ (z : Insertion). same z.stamp y.stamp ≡ false) ys z apart b)
-          ∙ (ap (λ (x : Insertion). same x.stamp y.stamp) e ∙ same-refl y.stamp)))
+        ∙ (ap (λ (x : Insertion). same x.stamp y.stamp) e ∙ same-refl y.stamp)))
 
 filter_map_length : {A B : Type 0} (f : A → Option B) (xs : List A) → length (filter_map f xs) ≤ length xs
 filter_map_length f [] = omega arith

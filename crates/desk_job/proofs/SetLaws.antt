@@ -1,6 +1,6 @@
 -- Lines that can be set are cast line by line.
-use Rattle.std.proofs.Common.{◌≡◌, ℕ, zero, suc, ◌+◌, ◌-◌, ◌*◌, ◌/◌, ◌%◌, ◌<◌, ◌≤◌, Bool, true, false, cond, List, [], ◌∷◌, ◌++◌, map, length, replicate, refl, sym, ap, ◌∙◌, subst, Some, None, Ok, Option, arith, eq-eqb, append_assoc}
-use Rattle.std.specs.Prelude.{ℤ, pos, negsuc, ◌-ℤ◌, ◌≤ℤ◌, ◌<ℤ◌, nat_le, ◌||◌, ◌==◌, is_some}
+use Rattle.std.proofs.Common.{◌≡◌, ℕ, zero, suc, ◌+◌, ◌-◌, ◌*◌, ◌/◌, ◌%◌, ◌≤◌, Bool, true, false, cond, List, [], ◌∷◌, ◌++◌, map, replicate, refl, ap, Some, None, Option, arith, eq-eqb}
+use Rattle.std.specs.Prelude.{ℤ, pos, negsuc, ◌≤ℤ◌, nat_le, ◌||◌, is_some}
 use Rattle.std.specs.List.{flat_map, zip, list_any, AllByRecursion}
 use Rattle.std.proofs.lemmas.Int.{ints}
 use Rattle.std.proofs.lemmas.Bool.Decides.{nat_tests}
@@ -19,7 +19,7 @@ use Rattle.desk_ribbon.specs.Ribbon as ribbon
 use Rattle.desk_caster.specs.Caster.{has_matrix, same_cell}
 use Rattle.desk_caster.specs.Lines.{HasAll, LinesHaveAll, line_cast}
 use Rattle.desk_job.specs.Job.{Terms, SetLine, plain, word_punches, spaced_punches, words_punches, space_punch, fill_punches, fills, punches, has_added, spaces, wedge_sum, line_rows}
-use Rattle.desk_job.specs.Reading.{IsLine, AreLines}
+use Rattle.desk_job.specs.Reading.{AreLines}
 use Rattle.desk_job.proofs.ReadLaws.{IsSound, WordsHave, line_reads}
 use Rattle.desk_job.proofs.ShortLaws.{line_short}
 
@@ -78,10 +78,11 @@ each_map P Q (x ∷ xs) f each = (f x each.0, each_map P Q xs f each.1)
 
 self_any : (cells : List Cell) → AllByRecursion (λ c. list_any (same_cell c) cells ≡ true) cells
 self_any [] = tt
-self_any (c ∷ cells) =
-    (or_first (same_cell c c) (list_any (same_cell c) cells) (same_cell-refl c),
-      each_map (λ d. list_any (same_cell d) cells ≡ true) (λ d. list_any (same_cell d) (c ∷ cells) ≡ true) cells
-      (λ d e. or_second (same_cell d c) (list_any (same_cell d) cells) e) (self_any cells))
+self_any (c ∷ cells) = (
+  or_first (same_cell c c) (list_any (same_cell c) cells) (same_cell-refl c),
+  each_map (λ d. list_any (same_cell d) cells ≡ true) (λ d. list_any (same_cell d) (c ∷ cells) ≡ true) cells
+      (λ d e. or_second (same_cell d c) (list_any (same_cell d) cells) e) (self_any cells),
+)
 
 both_each : {A : Type 0} (P Q : A → Type 0) (xs : List A) → AllByRecursion P xs → AllByRecursion Q xs → AllByRecursion (λ x. P x × Q x) xs
 both_each P Q [] a b = tt
@@ -91,8 +92,8 @@ fills_in : (case : CaseValues) → IsCase case → AllByRecursion (IsIn case) ca
 fills_in case is =
     both_each (λ c. has_matrix case c ≡ true) IsCell case.fill
     (each_map (λ c. list_any (same_cell c) case.fill ≡ true) (λ c. has_matrix case c ≡ true) case.fill
-      (λ c e. or_second (is_some (symbol_at case c)) (same_cell case.space c || list_any (same_cell c) case.fill)
-        (or_second (same_cell case.space c) (list_any (same_cell c) case.fill) e)) (self_any case.fill))
+    (λ c e. or_second (is_some (symbol_at case c)) (same_cell case.space c || list_any (same_cell c) case.fill)
+    (or_second (same_cell case.space c) (list_any (same_cell c) case.fill) e)) (self_any case.fill))
     (recursion_from_All IsCell case.fill is.fill)
 
 pub case_sound : (case : CaseValues) → IsCase case → IsSound case
@@ -146,7 +147,7 @@ line_in terms line is =
     in_append terms.case (words_punches terms.case line.words) (cond (has_added terms line) (space_punch terms.case ∷ []) [] ++ fill_punches (zip (fills terms line) terms.case.fill))
     (words_in terms.case line.words is)
     (end_in terms.case (has_added terms line) (fill_punches (zip (fills terms line) terms.case.fill)) is
-      (fill_punches_in terms.case (fills terms line) terms.case.fill (fills_in terms.case is)))
+    (fill_punches_in terms.case (fills terms line) terms.case.fill (fills_in terms.case is)))
 
 has_all : (case : CaseValues) (ps : List Punch) → AreIn case ps → HasAll case ps
 has_all case [] h = tt

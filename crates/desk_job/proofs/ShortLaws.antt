@@ -15,7 +15,7 @@ use Rattle.desk_justify.specs.Filled.{taken}
 use Rattle.desk_ribbon.specs.declared.Punch.{Punch}
 use Rattle.desk_caster.specs.Caster.{row_width, total_width}
 use Rattle.desk_caster.proofs.CastLaw.{casts}
-use Rattle.desk_job.specs.Job.{Terms, SetLine, plain, word_punches, spaced_punches, words_punches, space_punch, fill_punches, fills, widths_of, fill_widths, punches, has_added, spaces, rest, left, wedge_sum, cell_width, symbol_width, word_width, space_width, measure}
+use Rattle.desk_job.specs.Job.{Terms, SetLine, plain, word_punches, spaced_punches, words_punches, space_punch, fill_punches, fills, widths_of, punches, has_added, spaces, left, wedge_sum, cell_width, symbol_width, word_width, space_width, measure}
 use Rattle.desk_job.proofs.LineSizes.{one_more}
 
 -- the width of matrices at neutral, and how many are justified

@@ -1,5 +1,5 @@
 -- What is found of a copy, line by line.
-use Rattle.std.specs.Prelude.{◌≡◌, ℕ, ◌+◌, ◌-◌, ◌^◌, ◌<◌, ◌≤◌, ◌||◌, ◌==◌, true, List, [], ◌∷◌, ◌++◌, length, map, take, drop}
+use Rattle.std.specs.Prelude.{◌≡◌, ℕ, ◌+◌, ◌-◌, ◌^◌, ◌<◌, ◌≤◌, ◌||◌, ◌==◌, List, [], ◌∷◌, ◌++◌, length, take, drop}
 use Rattle.std.specs.List.{All, flat_map}
 use Rattle.desk_ops.specs.declared.op.Symbol.{Symbol}
 use Rattle.desk_signals.specs.declared.RibbonRow.{RibbonRow}

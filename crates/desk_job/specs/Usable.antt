@@ -1,5 +1,5 @@
 -- What holds of the terms of every job that has no fault before its symbols.
-use Rattle.std.specs.Prelude.{◌≡◌, ◌≤◌, ◌^◌, true, ℤ, pos, ◌≤ℤ◌, ◌<ℤ◌}
+use Rattle.std.specs.Prelude.{◌≡◌, ◌≤◌, true, ℤ, pos, ◌≤ℤ◌, ◌<ℤ◌}
 use Rattle.desk_wedge.specs.Wedge.{IsWedge}
 use Rattle.desk_case.specs.Case.{IsCase}
 use Rattle.desk_case.specs.File.{is_descending, units_of_cells}

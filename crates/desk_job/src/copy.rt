@@ -9,10 +9,10 @@ ghost use Rattle.desk_job.specs.Job as job;
 ghost use Rattle.desk_job.specs.Setting.{IsWord, line_at, words_at};
 ghost use Rattle.desk_job.specs.Making.{Adds, AreWordsOf, HasRoom, IsRange, all_lines, lines_at, paragraph_lines};
 
-use crate::{JobFault, JobFaults, JobRefusal};
 use crate::line::set_line;
 use crate::punch::punch;
 use crate::terms::Terms;
+use crate::{JobFault, JobFaults, JobRefusal};
 use desk_case::MatrixCase;
 use desk_lines::{Group, Paragraph, Word, break_lines, paragraphs};
 use desk_ops::{NoMemory, Style, Symbol};

@@ -3,37 +3,45 @@
 
 mod copy;
 mod line;
-mod ribbon;
 mod punch;
+mod ribbon;
 mod terms;
 
 use desk_ops::Key;
 pub use ribbon::{make, make_from};
 use std::alloc::Allocator;
 use std::marker::Model;
+use thiserror::Error;
 
 /// Why a copy can't be set. Places count from 0 in the copy, lines from 1.
-#[derive(Clone, Copy, PartialEq, Eq, Debug)]
+#[derive(Clone, Copy, PartialEq, Eq, Debug, Error)]
 pub enum JobFault {
     /// The least key without a value.
+    #[error("a setting has no value")]
     MissingSetting(Key),
     /// The case set is not the file's.
+    #[error("the setting names another case")]
     OtherCase,
     /// The wedge set is not the file's.
+    #[error("the setting names another wedge")]
     OtherWedge,
-    /// Tight is above loose.
+    #[error("tight is above loose")]
     Crossed,
-    /// The units of the fills do not descend.
+    #[error("the units of the fills do not descend")]
     FillOrder,
-    /// A space at tight is not wider than 0.
+    #[error("a space at tight is not wider than 0")]
     SpaceVanishes,
     /// The case lacks the symbol at this place.
+    #[error("the case has no matrix for the symbol at place {0}")]
     NoMatrix(usize),
     /// This line has no space.
+    #[error("line {0} is too wide")]
     TooWide(usize),
-    /// The spaces of this line would be wider than at loose.
+    /// The wedge sum of this line, which is not to be filled, is above loose.
+    #[error("line {0} is too loose")]
     TooLoose(usize),
-    /// Spaces and fills do not take up the rest of this line.
+    /// The wedge sum of this line, which is to be filled, is below tight or above 240.
+    #[error("line {0} cannot be filled")]
     CannotFill(usize),
 }
 

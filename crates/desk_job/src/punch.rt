@@ -31,10 +31,7 @@ fn add_word<A: Allocator>(
 }
 
 /// Appends a space that is justified.
-fn add_space<A: Allocator>(
-    punches: &mut Vec<Punch, A>,
-    case: &MatrixCase,
-) -> Result<(), NoMemory>
+fn add_space<A: Allocator>(punches: &mut Vec<Punch, A>, case: &MatrixCase) -> Result<(), NoMemory>
     ensures { OnOk result (punches.new.items ≡ punches.old.items ++ job.space_punch case.now ∷ []) }
 {
     punches.push(Punch {

@@ -136,7 +136,11 @@ fn terms_fault(case: &MatrixCase, wedge: &Wedge, values: Values) -> Option<JobFa
 
 impl<'a> Terms<'a> {
     /// The terms of these values, or why they don't go together.
-    pub fn new(case: &'a MatrixCase, wedge: &'a Wedge, values: Values) -> Result<Terms<'a>, JobFault>
+    pub fn new(
+        case: &'a MatrixCase,
+        wedge: &'a Wedge,
+        values: Values,
+    ) -> Result<Terms<'a>, JobFault>
         requires { AreLawful values }
         ensures ok { IfOk result (λ t. t ≡ job.terms_of case.now wedge.now values) }
         ensures none { OnOk result (job.terms_fault (job.terms_of case.now wedge.now values) values ≡ []) }

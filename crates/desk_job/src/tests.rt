@@ -158,7 +158,10 @@ fn empty_copy_ribbon(rt: HostRuntime) -> Result<(), Fail> {
 fn empty_paragraph_ribbon(rt: HostRuntime) -> Result<(), Fail> {
     let made = bytes(answer(rt.alloc(), "\n", 38, 150, FILLS)?)?;
     assert_eq!(rt; made.as_slice(), EMPTY_PARAGRAPH.as_slice());
-    assert_eq!(rt; in_short(rt.alloc(), &made)?.as_slice(), [(11, 2_159_952)].as_slice());
+    assert_eq!(rt;
+        in_short(rt.alloc(), &made)?.as_slice(),
+        [(11, 2_159_952)].as_slice()
+    );
     Ok(())
 }
 
@@ -168,9 +171,15 @@ fn widest_lines(rt: HostRuntime) -> Result<(), Fail> {
     let told = faults(answer(alloc, "nnnnnnnnnnnnnnnnnn", 38, 150, FILLS)?)?;
     assert_eq!(rt; told.as_slice(), [JobFault::TooWide(1)].as_slice());
     let whole = bytes(answer(alloc, "nnnnnnnnnnnnnnnnm", 53, 150, FILLS)?)?;
-    assert_eq!(rt; in_short(alloc, &whole)?.as_slice(), [(18, 2_160_000)].as_slice());
+    assert_eq!(rt;
+        in_short(alloc, &whole)?.as_slice(),
+        [(18, 2_160_000)].as_slice()
+    );
     let over = bytes(answer(alloc, "nnnnnnnnnnnnnnnntt", 16, 150, FILLS)?)?;
-    assert_eq!(rt; in_short(alloc, &over)?.as_slice(), [(19, 2_159_688)].as_slice());
+    assert_eq!(rt;
+        in_short(alloc, &over)?.as_slice(),
+        [(19, 2_159_688)].as_slice()
+    );
     Ok(())
 }
 

@@ -1,4 +1,4 @@
-use Rattle.std.proofs.Common.{◌≡◌, ◌++◌, take}
+use Rattle.std.proofs.Common.{◌≡◌, take}
 use Rattle.desk_lines.specs.Groups.{AreWidths}
 use Rattle.desk_job.specs.Job.{widths}
 use Rattle.desk_job.specs.Setting.{words_at}

@@ -1,4 +1,4 @@
-use Rattle.std.proofs.Common.{◌≡◌, ◌-◌, ◌++◌, replicate}
+use Rattle.std.proofs.Common.{◌≡◌, ◌++◌, replicate}
 use Rattle.desk_job.proofs.punch.add_times.Given as goal
 
 abbrev pub invariant-loop : goal.invariant-loop

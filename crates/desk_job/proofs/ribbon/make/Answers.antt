@@ -1,4 +1,4 @@
-use Rattle.std.proofs.Common.{◌≡◌, ◌≤◌, ◌^◌, ℕ, List, length, ap, ◌∙◌, subst, sym, arith}
+use Rattle.std.proofs.Common.{length, ap, ◌∙◌, subst, sym, arith}
 use Rattle.desk_replica.specs.declared.settings.Settings.{Settings}
 use Rattle.desk_job.specs.Answer.{AreValues}
 use Rattle.desk_job.proofs.Replicas.{copy_short, settings_in}

@@ -9,5 +9,5 @@ returns-clause-cast g c =
     each_ok (λ bytes. IsMade bytes.items (job c.args.copy.now (by_key c.args.settings.now) c.args.case.now c.args.wedge.now))
     (λ bytes. CastsCopy c.args.copy.now (by_key c.args.settings.now) c.args.case.now c.args.wedge.now bytes.items) c.answer.result
     (λ bytes made. cast_is_copy c.args.copy.now (by_key c.args.settings.now) c.args.case.now c.args.wedge.now bytes.items
-      c.is_lawful.ensures c.is_lawful-2.ensures c.requires.copy c.requires.settings.measure c.requires.settings.tight c.requires.settings.loose made)
+    c.is_lawful.ensures c.is_lawful-2.ensures c.requires.copy c.requires.settings.measure c.requires.settings.tight c.requires.settings.loose made)
     c.answer.ensures.ok

@@ -1,4 +1,4 @@
-use Rattle.std.proofs.Common.{◌≡◌, ◌++◌, length, take}
+use Rattle.std.proofs.Common.{◌≡◌, length, take}
 use Rattle.desk_job.specs.Job.{widths_of}
 use Rattle.desk_job.proofs.terms.widths_of_fills.Given as goal
 
