@@ -40,12 +40,12 @@ carries_front w0 w1 (Some input) (Some left) (Some rest) a b c pending chunk h r
     (turn_front w0 w1 a b c h.0 (lines_from pending (chunk ++ rest)) h.1 (turn rest))
 
 -- the reader is at its end
-pub carries_end : (w0 w1 w2 : Sites) (i l m a b c : Option (List ℕ)) (pending : List ℕ) → Carries w0 w1 i l a b pending → Consumes l m [] → IsAtEnd m → Turn w1 w2 b c (last_line pending) → IfSome i (λ input. (new : Sites) × Turn w0 new a c (lines input))
+pub carries_end : (w0 w1 w2 : Sites) (i l m a b c : Option (List ℕ)) (pending : List ℕ) → Carries w0 w1 i l a b pending → Consumes l m [] → IsAtEnd m → Turn w1 w2 b c (last_line pending) → IfSome i (λ input. Turn w0 w2 a c (lines input))
 carries_end w0 w1 w2 None l m a b c pending h read end turn = tt
 carries_end w0 w1 w2 (Some input) None m a b c pending h read end turn = absurd h
 carries_end w0 w1 w2 (Some input) (Some left) None a b c pending h read end turn = absurd read
 carries_end w0 w1 w2 (Some input) (Some left) (Some rest) a b c pending h read end turn =
-    (w2, subst (Turn w0 w2 a c) (sym (h.2 ∙ ap (λ l. h.0 ++ lines_from pending l) (read ∙ end)) ∙ lines-from input) (turn_turn w0 w1 w2 a b c h.0 (last_line pending) h.1 turn))
+    subst (Turn w0 w2 a c) (sym (h.2 ∙ ap (λ l. h.0 ++ lines_from pending l) (read ∙ end)) ∙ lines-from input) (turn_turn w0 w1 w2 a b c h.0 (last_line pending) h.1 turn)
 
 pub carries_end_front : (w0 w1 : Sites) (i l m a b c : Option (List ℕ)) (pending : List ℕ) → Carries w0 w1 i l a b pending → Consumes l m [] → IsAtEnd m → Fronts w1 b c (last_line pending) → IfSome i (λ input. Fronts w0 a c (lines input))
 carries_end_front w0 w1 None l m a b c pending h read end turn = tt

@@ -11,5 +11,7 @@ pub mod World
 pub mod Effect
 pub mod Files
 pub mod Script
+pub mod Stored
+pub mod Faults
 pub mod Pending
 pub mod Laws

@@ -5,10 +5,12 @@ mod act;
 mod command;
 mod copy;
 mod fault;
+mod feed_run;
 mod files;
 mod laws;
 mod number;
 mod reader;
+mod storing;
 mod stream;
 mod text;
 pub mod trial;
@@ -16,12 +18,16 @@ mod world;
 
 pub use command::{Command, ParseError};
 pub use fault::RunFault;
-pub use files::{FileRefusal, Files, NoFiles};
+pub use feed_run::run_on_feed;
+pub use files::{FileRefusal, Files, MAX_FILE, NoFiles};
 pub use laws::law_of_copy;
 pub use reader::parse;
+pub use storing::store;
 pub use stream::{MAX_READS, run};
 pub use text::{Refusal, Response, put};
 pub use world::{Answer, Event, MAX_SITES, StepRefusal, World};
 
+#[cfg(test)]
+mod file_tests;
 #[cfg(test)]
 mod tests;

@@ -1,12 +1,13 @@
 //! Scripts, read and answered line by line.
 
-ghost use Rattle.std.specs.Prelude.{◌≡◌, ◌≢◌, ℕ, ◌≤◌, ◌++◌, ◌∷◌, [], List, OnOk, OnErr, IfOk, IfSome, length, string_bytes};
+ghost use Rattle.std.specs.Prelude.{◌≡◌, ◌≢◌, ℕ, ◌≤◌, ◌++◌, ◌∷◌, [], List, OnOk, OnErr, IfErr, IfOk, IfSome, length, string_bytes};
 ghost use Rattle.std.specs.Io.KnownBytes.{Appends};
-ghost use Rattle.desk_script.specs.Lines.{Line, line_of, without_cr};
+ghost use Rattle.desk_script.specs.Lines.{Line, line_of, lines, without_cr};
 ghost use Rattle.desk_script.specs.Reply.{Reply, reply};
 ghost use Rattle.desk_script.specs.Text.{text};
 ghost use Rattle.desk_script.specs.Effect.{Allows};
 ghost use Rattle.desk_script.specs.Script.{Turn, Fronts, WritesFront, Answers, AnswersFront};
+ghost use Rattle.desk_script.specs.Faults.{IsOfRun};
 ghost use Rattle.desk_script.specs.Pending.{Moves, lines_from, last_line};
 
 use crate::act::answer;
@@ -28,6 +29,7 @@ const PENDING_LIMIT: usize = 65_538;
 fn send<W: Write>(writer: &mut W, bytes: &[u8]) -> Result<(), RunFault>
     ensures ok { OnOk result (Appends (W.contents writer.old) (W.contents writer.new) bytes.now) }
     ensures err { OnErr result (WritesFront (W.contents writer.old) (W.contents writer.new) bytes.now) }
+    ensures own { IfErr result IsOfRun }
 {
     let mut sent = 0;
     while sent < bytes.len() {
@@ -71,6 +73,7 @@ fn take_line<W: Write, A: Allocator + Copy>(
 ) -> Result<(), RunFault>
     ensures ok { OnOk result (Turn world.old world.new (W.contents writer.old) (W.contents writer.new) (line_of line.now ∷ [])) }
     ensures err { OnErr result ((more : List Line) → Fronts world.old (W.contents writer.old) (W.contents writer.new) (line_of line.now ∷ more)) }
+    ensures own { IfErr result IsOfRun }
 {
     let Ok(text) = answered(alloc, world, line) else {
         return Err(RunFault::NoMemory);
@@ -96,6 +99,7 @@ fn keep<A: Allocator + Copy>(line: &mut Vec<u8, A>, byte: u8) -> Result<(), RunF
     requires inside { byte ≢ 10 }
     ensures kept { length line.new.items ≤ PENDING_LIMIT }
     ensures ok { OnOk result ((more : List ℕ) → lines_from line.old.items (byte ∷ more) ≡ lines_from line.new.items more) }
+    ensures own { IfErr result IsOfRun }
 {
     if line.len() == PENDING_LIMIT {
         return Ok(());
@@ -118,6 +122,7 @@ fn take_byte<W: Write, A: Allocator + Copy>(
     ensures kept { length line.new.items ≤ PENDING_LIMIT }
     ensures ok { OnOk result (Moves world.old world.new (W.contents writer.old) (W.contents writer.new) line.old.items (byte ∷ []) line.new.items) }
     ensures err { OnErr result ((more : List ℕ) → Fronts world.old (W.contents writer.old) (W.contents writer.new) (lines_from line.old.items (byte ∷ more))) }
+    ensures own { IfErr result IsOfRun }
 {
     if byte != b'\n' {
         return keep(line, byte);
@@ -141,6 +146,7 @@ fn take_bytes<W: Write, A: Allocator + Copy>(
     ensures kept { length line.new.items ≤ PENDING_LIMIT }
     ensures ok { OnOk result (Moves world.old world.new (W.contents writer.old) (W.contents writer.new) line.old.items bytes.now line.new.items) }
     ensures err { OnErr result ((more : List ℕ) → Fronts world.old (W.contents writer.old) (W.contents writer.new) (lines_from line.old.items (bytes.now ++ more))) }
+    ensures own { IfErr result IsOfRun }
 {
     for b in bytes {
         if let Err(fault) = take_byte(alloc, world, writer, line, *b) {
@@ -159,11 +165,44 @@ fn finish<W: Write, A: Allocator + Copy>(
 ) -> Result<(), RunFault>
     ensures ok { OnOk result (Turn world.old world.new (W.contents writer.old) (W.contents writer.new) (last_line line.now)) }
     ensures err { OnErr result (Fronts world.old (W.contents writer.old) (W.contents writer.new) (last_line line.now)) }
+    ensures own { IfErr result IsOfRun }
 {
     if line.is_empty() {
         return Ok(());
     }
     take_line(alloc, world, writer, line)
+}
+
+/// Reads commands to their end, on a world, and writes the line of each one's answer. After an `Err` what was written is
+/// the front of such lines.
+pub(crate) fn commands<R: Read, W: Write, F: Files, A: Allocator + Copy>(
+    alloc: A,
+    world: &mut World<A>,
+    reader: &mut R,
+    writer: &mut W,
+    _files: &mut F,
+) -> Result<(), RunFault>
+    ensures ok { OnOk result (IfSome (R.remaining reader.old) (λ input. Turn world.old world.new (W.contents writer.old) (W.contents writer.new) (lines input))) }
+    ensures err { OnErr result (IfSome (R.remaining reader.old) (λ input. Fronts world.old (W.contents writer.old) (W.contents writer.new) (lines input))) }
+    ensures counted { F.count _files.old ≤ F.count _files.new }
+    ensures own { IfErr result IsOfRun }
+{
+    let mut line = Vec::new(alloc);
+    let mut chunk = [0u8; 512];
+    'reads: for _ in 0..MAX_READS {
+        match reader.read(&mut chunk) {
+            Err(_) => return Err(RunFault::Read),
+            Ok(0) => {
+                return finish(alloc, world, writer, &line);
+            }
+            Ok(n) => {
+                if let Err(fault) = take_bytes(alloc, world, writer, &mut line, &chunk[..n]) {
+                    return Err(fault);
+                }
+            }
+        }
+    }
+    Err(RunFault::TooLong)
 }
 
 /// Reads commands to their end, on a world that has no site yet, and writes the line of each one's answer. After an
@@ -172,26 +211,12 @@ pub fn run<R: Read, W: Write, F: Files, A: Allocator + Copy>(
     alloc: A,
     reader: &mut R,
     writer: &mut W,
-    _files: &mut F,
+    files: &mut F,
 ) -> Result<(), RunFault>
     ensures ok { OnOk result (IfSome (R.remaining reader.old) (λ input. Answers input (W.contents writer.old) (W.contents writer.new))) }
     ensures err { OnErr result (IfSome (R.remaining reader.old) (λ input. AnswersFront input (W.contents writer.old) (W.contents writer.new))) }
+    ensures own { IfErr result IsOfRun }
 {
     let mut world = World::new(alloc);
-    let mut line = Vec::new(alloc);
-    let mut chunk = [0u8; 512];
-    'reads: for _ in 0..MAX_READS {
-        match reader.read(&mut chunk) {
-            Err(_) => return Err(RunFault::Read),
-            Ok(0) => {
-                return finish(alloc, &mut world, writer, &line);
-            }
-            Ok(n) => {
-                if let Err(fault) = take_bytes(alloc, &mut world, writer, &mut line, &chunk[..n]) {
-                    return Err(fault);
-                }
-            }
-        }
-    }
-    Err(RunFault::TooLong)
+    commands(alloc, &mut world, reader, writer, files)
 }

@@ -1,6 +1,6 @@
 //! A world of sites, and the events that change it.
 
-ghost use Rattle.std.specs.Prelude.{◌≡◌, All, Err, IfSome, MatchOption, None, option_map, map, nat_eq};
+ghost use Rattle.std.specs.Prelude.{◌≡◌, All, Err, IfOk, IfSome, MatchOption, None, option_map, map, nat_eq};
 ghost use Rattle.std.specs.FinMap as fin;
 ghost use Rattle.std.specs.List.{list_any};
 ghost use Rattle.std.specs.Map.{lookup};
@@ -11,7 +11,7 @@ ghost use Rattle.desk_script.specs.Sites.{no_sites, is_held, all_held, sites_of,
 ghost use Rattle.desk_script.specs.World.{Steps, change, IsSound, Edits, Gains};
 ghost use Rattle.desk_script.specs.World as world;
 
-use desk_ops::{Op, Symbol};
+use desk_ops::{NoMemory, Op, Symbol};
 use desk_replica::{Count, Replica, Stopped};
 use indexmap::IndexMap;
 use std::alloc::Allocator;
@@ -167,6 +167,17 @@ impl<A: Allocator + Copy> World<A> {
         World {
             alloc,
             sites: IndexMap::new(alloc),
+        }
+    }
+
+    /// A world of one site, with its replica.
+    pub(crate) fn with_site(alloc: A, replica: Replica<A>) -> Result<World<A>, NoMemory>
+        ensures { IfOk result (λ w. w ≡ fin.insert no_sites replica.site replica.ops) }
+    {
+        let mut sites = IndexMap::new(alloc);
+        match sites.insert(replica.site(), replica) {
+            Ok(_) => Ok(World { alloc, sites }),
+            Err(_) => Err(NoMemory),
         }
     }
 
