@@ -1,9 +1,7 @@
-use crate::host::HostFiles;
 use crate::program::program;
 use desk_script::trial::{AtEnd, TrialFiles, TrialReader, TrialWriter};
-use desk_script::{FileRefusal, Files, NoFiles, store};
+use desk_script::{Files, NoFiles};
 use std::alloc::{AllocError, Global};
-use std::rt::Env;
 use std::test::Fail;
 use std::{fs, io};
 
