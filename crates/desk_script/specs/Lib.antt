@@ -12,4 +12,5 @@ pub mod Effect
 pub mod Files
 pub mod Script
 pub mod Pending
+pub mod Spelling
 pub mod Laws
