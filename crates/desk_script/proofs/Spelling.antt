@@ -12,7 +12,7 @@ use Rattle.desk_script.specs.Copy.{symbol, style_of, escaped, step, copy_from}
 use Rattle.desk_script.specs.Spelling.{StandsFor, SpellsInside, IsRun, RunOf, joined, AreRuns, IsCopy}
 use Rattle.desk_script.proofs.Again.{by_cases, is_same, onto, nothing, itself, itself_first}
 
-is_not : (c d : ℕ) → (c == d) ≡ false → c ≢ d
+pub is_not : (c d : ℕ) → (c == d) ≡ false → c ≢ d
 is_not c d e = grind (arith, nat_tests)
 
 not_is : (c d : ℕ) → c ≢ d → (c == d) ≡ false

@@ -1,6 +1,6 @@
 //! What holds of the script's texts, whoever writes or reads them.
 
-ghost use Rattle.desk_script.specs.Laws.{CopyIsReadAgain, CopyIsItsSpelling};
+ghost use Rattle.desk_script.specs.Laws.{CopyIsReadAgain, CopyIsItsSpelling, RunsAreLongest};
 
 /// What is written for a copy is read again as that copy.
 pub fn law_of_copy()
@@ -11,4 +11,9 @@ pub fn law_of_copy()
 /// one or more characters in quotes, with three escapes.
 pub fn law_of_spelling()
     ensures { CopyIsItsSpelling }
+{}
+
+/// What is written for a copy are its runs, each the longest of its style.
+pub fn law_of_longest_runs()
+    ensures { RunsAreLongest }
 {}

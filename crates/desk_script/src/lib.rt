@@ -17,7 +17,7 @@ mod world;
 pub use command::{Command, ParseError};
 pub use fault::RunFault;
 pub use files::{FileRefusal, Files, NoFiles};
-pub use laws::{law_of_copy, law_of_spelling};
+pub use laws::{law_of_copy, law_of_longest_runs, law_of_spelling};
 pub use reader::parse;
 pub use stream::{MAX_READS, run};
 pub use text::{Refusal, Response, put};
