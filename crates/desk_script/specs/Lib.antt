@@ -8,8 +8,9 @@ pub mod Reply
 pub mod Examples
 pub mod Sites
 pub mod World
-pub mod Effect
 pub mod Files
+pub mod Inputs
+pub mod Effect
 pub mod Script
 pub mod Pending
 pub mod Spelling

@@ -86,6 +86,11 @@ refusal_text refusals.Site = codes "site"
 refusal_text refusals.Place = codes "place"
 refusal_text refusals.Value = codes "value"
 refusal_text (refusals.Feed fault) = codes "feed " ++ decimal fault.at ++ codes " " ++ fault_text fault.why
+refusal_text refusals.FileMissing = codes "file missing"
+refusal_text refusals.FileDevice = codes "file device"
+refusal_text refusals.FileLarge = codes "file large"
+refusal_text (refusals.Case n) = codes "case " ++ decimal n
+refusal_text (refusals.Wedge n) = codes "wedge " ++ decimal n
 refusal_text refusals.Full = codes "full"
 refusal_text refusals.Clock = codes "clock"
 

@@ -1,6 +1,6 @@
 //! What each command does.
 
-ghost use Rattle.std.specs.Prelude.{◌≡◌, ◌+◌, ◌<◌, ◌^◌, length, All, IfOk, IfSome, MatchResult, Result, Some, None, option_map};
+ghost use Rattle.std.specs.Prelude.{◌≡◌, ◌+◌, ◌<◌, ◌^◌, length, All, IfOk, IfSome, MatchOption, MatchResult, Result, Some, None, option_map};
 ghost use Rattle.desk_script.specs.Lines.{line_of};
 ghost use Rattle.desk_script.specs.Reply.{reply};
 ghost use Rattle.desk_script.specs.Reply as replies;
@@ -9,8 +9,9 @@ ghost use Rattle.desk_script.specs.Request.{request};
 ghost use Rattle.desk_ops.specs.Op.{stamp_of, IsLawful};
 ghost use Rattle.desk_replica.specs.declared.Count.{Count};
 ghost use Rattle.desk_script.specs.World.{Brings, taken};
+ghost use Rattle.desk_script.specs.World as changes;
 ghost use Rattle.desk_script.specs.Sites.{desk};
-ghost use Rattle.desk_script.specs.Effect.{Allows, Performs, Does, Says, told, after, first_of, made_of, all_made, all_symbols, Inserts, edit_refused, stopped_after, set_of, sent, Takes};
+ghost use Rattle.desk_script.specs.Effect.{Allows, Performs, Does, Happens, Says, told, after, first_of, made_of, all_made, all_symbols, Inserts, edit_refused, stopped_after, set_of, sent, Takes};
 
 use crate::command::{Command, ParseError};
 use crate::files::Files;
@@ -118,6 +119,23 @@ fn sent(ops: &[Op], range: Option<(u32, u32)>) -> Option<&[Op]>
     }
 }
 
+/// Gives a site the operations at the places of a range, or all.
+fn give_part<A: Allocator + Copy>(
+    world: &mut World<A>,
+    to: u16,
+    ops: &[Op],
+    range: Option<(u32, u32)>,
+) -> Result<Response<A>, NoMemory>
+    requires { All IsLawful ops.now }
+    ensures { IfOk result (λ a. MatchOption (sent ops.now range) (Says (replies.Refused Refusal.Place) world.old (reply a) world.new) (λ part. Happens world.old (changes.Give to part) (reply a) world.new)) }
+{
+    let Some(ops) = sent(ops, range) else {
+        return Ok(Response::Refused(Refusal::Place));
+    };
+    let given = world.step(&Event::Give { to, ops });
+    told(given)
+}
+
 fn send<A: Allocator + Copy>(
     world: &mut World<A>,
     from: u32,
@@ -133,11 +151,7 @@ fn send<A: Allocator + Copy>(
     let Some(to) = number_of(world, to) else {
         return Ok(Response::Refused(Refusal::Site));
     };
-    let Some(ops) = sent(&ops, range) else {
-        return Ok(Response::Refused(Refusal::Place));
-    };
-    let given = world.step(&Event::Give { to, ops });
-    told(given)
+    give_part(world, to, &ops, range)
 }
 
 fn merge<A: Allocator + Copy>(

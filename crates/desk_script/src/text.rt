@@ -31,6 +31,16 @@ pub enum Refusal {
     Value,
     /// Bytes are no feed.
     Feed(FeedFault),
+    /// A file is not there.
+    FileMissing,
+    /// The files' device failed.
+    FileDevice,
+    /// A file has more bytes than may be.
+    FileLarge,
+    /// A case file's bytes are no case, by the number of the fault.
+    Case(u8),
+    /// A wedge file's bytes are no wedge, by the number of the fault.
+    Wedge(u8),
     /// As many operations are held as may be.
     Full,
     /// The greatest counter is held.
@@ -79,6 +89,11 @@ fn put_refusal<A: Allocator + Copy>(out: &mut String<A>, why: Refusal) -> Result
             write!(out, "feed {} ", fault.at)?;
             put_fault(out, fault.why)
         }
+        Refusal::FileMissing => out.push_str("file missing"),
+        Refusal::FileDevice => out.push_str("file device"),
+        Refusal::FileLarge => out.push_str("file large"),
+        Refusal::Case(fault) => write!(out, "case {fault}"),
+        Refusal::Wedge(fault) => write!(out, "wedge {fault}"),
         Refusal::Full => out.push_str("full"),
         Refusal::Clock => out.push_str("clock"),
     }
