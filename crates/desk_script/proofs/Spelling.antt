@@ -150,14 +150,17 @@ copy_more c style cs ys named (opened, quote, o) =
     at inside left own others ch split run symbols (inl (empty, none)) =
         ((symbol style ch, own) ∷ [], symbols ∙ ap (λ l. symbol style ch ∷ (own ++ l)) none, run (c ∷ cs) (split ∙ ap (λ l. c ∷ 34 ∷ (inside ++ 34 ∷ l)) empty))
     at inside left own others ch split run symbols (inr (rest, space, ([], is, runs))) = absurd runs
-    at inside left own others ch split run symbols (inr (rest, space, (next ∷ more, is, runs))) =
-        ((symbol style ch, own) ∷ next ∷ more, symbols ∙ ap (λ l. symbol style ch ∷ (own ++ l)) is, (
-          c ∷ 34 ∷ (inside ++ 34 ∷ []),
-          rest,
-          split ∙ ap (λ l. c ∷ 34 ∷ (inside ++ 34 ∷ l)) space ∙ ap (λ l. c ∷ 34 ∷ l) (sym (append_assoc inside (34 ∷ []) (32 ∷ rest))),
-          run (c ∷ 34 ∷ (inside ++ 34 ∷ [])) refl,
-          runs,
-        ))
+    at inside left own others ch split run symbols (inr (rest, space, (next ∷ more, is, runs))) = (
+      (symbol style ch, own) ∷ next ∷ more,
+      symbols ∙ ap (λ l. symbol style ch ∷ (own ++ l)) is,
+      (
+        c ∷ 34 ∷ (inside ++ 34 ∷ []),
+        rest,
+        split ∙ ap (λ l. c ∷ 34 ∷ (inside ++ 34 ∷ l)) space ∙ ap (λ l. c ∷ 34 ∷ l) (sym (append_assoc inside (34 ∷ []) (32 ∷ rest))),
+        run (c ∷ 34 ∷ (inside ++ 34 ∷ [])) refl,
+        runs,
+      ),
+    )
 
 pub spelled : (place : Place) (cs : List ℕ) (ys : List Symbol) → copy_from place cs ≡ Some ys → RestOf place cs ys
 spelled Run [] ys h = absurd (let f : None ≡ Some ys = h in cc)

@@ -15,6 +15,8 @@ ghost use Rattle.desk_script.specs.Effect.{Allows, Performs, Does, Happens, Says
 
 use crate::command::{Command, ParseError};
 use crate::files::Files;
+use crate::job::{cast_lines, ribbon};
+use crate::memory::Memory;
 use crate::reader::parse;
 use crate::text::{Refusal, Response};
 use crate::world::{Answer, Event, StepRefusal, World};
@@ -71,7 +73,7 @@ fn told<A: Allocator + Copy>(given: Result<Answer, StepRefusal>) -> Result<Respo
 }
 
 /// The replica of the site that a command names.
-fn replica_of<A: Allocator + Copy>(world: &World<A>, site: u32) -> Option<&Replica<A>>
+pub fn replica_of<A: Allocator + Copy>(world: &World<A>, site: u32) -> Option<&Replica<A>>
     ensures { option_map (λ r. r.now.ops) result ≡ set_of world.now site }
 {
     let Ok(number) = u16::try_from(site) else {
@@ -403,33 +405,34 @@ fn feed<A: Allocator + Copy>(world: &World<A>, site: u32) -> Result<Response<A>,
 
 /// Does what a command says.
 fn act<F: Files, A: Allocator + Copy>(
-    alloc: A,
+    memory: Memory<A>,
     world: &mut World<A>,
-    _files: &mut F,
+    files: &mut F,
     command: Command<'_, A>,
 ) -> Result<Response<A>, NoMemory>
-    ensures { IfOk result (λ a. Performs (desk world.old (F.count _files.old)) (request command.entry) (reply a) (desk world.new (F.count _files.new))) }
+    ensures { IfOk result (λ a. Performs (desk world.old (F.count files.old)) (request command.entry) (reply a) (desk world.new (F.count files.new))) }
 {
     match command {
         Command::Site(site) => add_site(world, site),
         Command::Insert { site, place, copy } => insert(world, site, place, &copy),
         Command::Delete { site, place } => delete(world, site, place),
         Command::Set { site, key, value } => set(world, site, key, value),
-        Command::Take { site, feed } => take(alloc, world, site, &feed),
+        Command::Take { site, feed } => take(memory.own, world, site, &feed),
         Command::Send { from, to, range } => send(world, from, to, range),
         Command::Merge { to, from } => merge(world, to, from),
         Command::Show(site) => show(world, site),
         Command::Faults(site) => faults(world, site),
         Command::Settings(site) => settings(world, site),
         Command::Feed(site) => feed(world, site),
+        Command::Ribbon { site, case, wedge } => ribbon(memory, world, files, site, case, wedge),
+        Command::Cast { site, case, wedge } => cast_lines(memory, world, files, site, case, wedge),
         Command::Restart(site) => restart(world, site),
-        _ => Ok(Response::Refused(Refusal::Command)),
     }
 }
 
 /// Does what a line says.
 pub fn answer<F: Files, A: Allocator + Copy>(
-    alloc: A,
+    memory: Memory<A>,
     world: &mut World<A>,
     files: &mut F,
     line: &[u8],
@@ -439,8 +442,8 @@ pub fn answer<F: Files, A: Allocator + Copy>(
     if line.len() > MAX_LINE {
         return Ok(Response::Refused(Refusal::Line));
     }
-    match parse(alloc, line) {
-        Ok(command) => act(alloc, world, files, command),
+    match parse(memory.own, line) {
+        Ok(command) => act(memory, world, files, command),
         Err(ParseError::Form) => Ok(Response::Refused(Refusal::Command)),
         Err(ParseError::NoMemory) => Err(NoMemory),
     }

@@ -7,6 +7,7 @@ mod copy;
 mod fault;
 mod files;
 mod inputs;
+mod job;
 mod laws;
 mod memory;
 mod number;
