@@ -1,4 +1,4 @@
-mod CastLaw
+pub mod CastLaw
 mod Ribbons
 mod Running
 mod Totals

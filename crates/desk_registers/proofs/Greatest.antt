@@ -8,8 +8,8 @@ use Rattle.desk_ops.specs.Order.{key_code}
 use Rattle.desk_ops.specs.Stamp.{before, same}
 use Rattle.desk_ops.proofs.Stamps.{by_cases, same-true, before-trans, before-other, before-asym}
 use Rattle.desk_registers.specs.declared.Kept.{Kept}
-use Rattle.desk_registers.specs.Registers.{greater, kept_with, nothing}
-use Rattle.desk_registers.specs.Laws.{Setting, kept_after, IsSet, IsGreatest, GreatestIsKept, HasOneValue, OneGreatest}
+use Rattle.desk_registers.specs.Registers.{greater, kept_with, nothing, IsGreatestOf}
+use Rattle.desk_registers.specs.Laws.{Setting, kept_after, IsSet, GreatestIsKept, HasOneValue, OneGreatest}
 
 -- ---- keys by their numbers
 
@@ -29,21 +29,17 @@ key_exact x y e = sym (key_back x) ∙ ap key_at e ∙ key_back y
 
 -- ---- the greatest of the settings that a predicate holds of
 
-abbrev Greatest : (Stamp → ℕ → Type 0) → Option Kept → Type 0
-Greatest P None = (stamp : Stamp) (value : ℕ) → P stamp value → ⊥
-Greatest P (Some k) = P k.stamp k.value × ((stamp : Stamp) (value : ℕ) → P stamp value → (stamp ≡ k.stamp) ⊎ (before stamp k.stamp ≡ true))
-
-same_greatest : (P Q : Stamp → ℕ → Type 0) (o : Option Kept) → ((s : Stamp) (n : ℕ) → P s n → Q s n) → ((s : Stamp) (n : ℕ) → Q s n → P s n) → Greatest P o → Greatest Q o
+pub same_greatest : (P Q : Stamp → ℕ → Type 0) (o : Option Kept) → ((s : Stamp) (n : ℕ) → P s n → Q s n) → ((s : Stamp) (n : ℕ) → Q s n → P s n) → IsGreatestOf P o → IsGreatestOf Q o
 same_greatest P Q None f g h = λ s n q. h s n (g s n q)
 same_greatest P Q (Some k) f g h = (f k.stamp k.value h.0, λ s n q. h.1 s n (g s n q))
 
 -- the setting is of the key, and has this stamp and value
-record Is (s : Setting) (key : Key) (stamp : Stamp) (value : ℕ) : Type 0 where
-  key_is : s.key ≡ key
-  stamp_is : s.stamp ≡ stamp
-  value_is : s.value ≡ value
+pub record Is (s : Setting) (key : Key) (stamp : Stamp) (value : ℕ) : Type 0 where
+  pub key_is : s.key ≡ key
+  pub stamp_is : s.stamp ≡ stamp
+  pub value_is : s.value ≡ value
 
-abbrev Or : (Stamp → ℕ → Type 0) → (Stamp → ℕ → Type 0) → Stamp → ℕ → Type 0
+abbrev pub Or : (Stamp → ℕ → Type 0) → (Stamp → ℕ → Type 0) → Stamp → ℕ → Type 0
 Or P Q stamp value = P stamp value ⊎ Q stamp value
 
 abbrev kept_of : Setting → Kept
@@ -56,14 +52,14 @@ below : (st old new : Stamp) → (st ≡ old) ⊎ (before st old ≡ true) → b
 below st old new (inl e) h = rw e h
 below st old new (inr g) h = before-trans st old new g h
 
-taken : (P : Stamp → ℕ → Type 0) (s : Setting) (key : Key) (o : Option Kept) → s.key ≡ key → Greatest P o → Greatest (Or P (Is s key)) (Some (greater o (kept_of s)))
+taken : (P : Stamp → ℕ → Type 0) (s : Setting) (key : Key) (o : Option Kept) → s.key ≡ key → IsGreatestOf P o → IsGreatestOf (Or P (Is s key)) (Some (greater o (kept_of s)))
 taken P s key None e h = (inr (record { key_is = e; stamp_is = refl; value_is = refl }), λ st n q. elim q [ inl p ↦ absurd (h st n p) | inr i ↦ inl (sym i.stamp_is) ])
 taken P s key (Some old) e h =
     by_cases (before old.stamp s.stamp)
     (λ t. rw t (inr (record { key_is = e; stamp_is = refl; value_is = refl }), λ st n q. elim q [ inl p ↦ inr (below st old.stamp s.stamp (h.1 st n p) t) | inr i ↦ inl (sym i.stamp_is) ]))
     (λ f. rw f (inl h.0, λ st n q. elim q [ inl p ↦ h.1 st n p | inr i ↦ subst (λ (x : Stamp). (x ≡ old.stamp) ⊎ (before x old.stamp ≡ true)) i.stamp_is (up_to old.stamp s.stamp f) ]))
 
-passed : (P : Stamp → ℕ → Type 0) (s : Setting) (key : Key) (o : Option Kept) → (s.key ≡ key → ⊥) → Greatest P o → Greatest (Or P (Is s key)) o
+passed : (P : Stamp → ℕ → Type 0) (s : Setting) (key : Key) (o : Option Kept) → (s.key ≡ key → ⊥) → IsGreatestOf P o → IsGreatestOf (Or P (Is s key)) o
 passed P s key o n h = same_greatest P (Or P (Is s key)) o (λ st v p. inl p) (λ st v q. elim q [ inl p ↦ p | inr i ↦ absurd (n i.key_is) ]) h
 
 same_codes : (a b : Key) → a ≡ b → (key_code a == key_code b) ≡ true
@@ -72,7 +68,7 @@ same_codes a b e = eq-eqb (key_code a) (key_code b) (ap key_code e)
 other_key : (a b : Key) → (key_code a == key_code b) ≡ false → b ≡ a → ⊥
 other_key a b f e = let t = same_codes a b (sym e) in let c : true ≡ false = sym t ∙ f in absurd cc
 
-step : (P : Stamp → ℕ → Type 0) (first : Key → Option Kept) (s : Setting) (key : Key) → Greatest P (first key) → Greatest (Or P (Is s key)) (kept_with first s.stamp s.key s.value key)
+pub step : (P : Stamp → ℕ → Type 0) (first : Key → Option Kept) (s : Setting) (key : Key) → IsGreatestOf P (first key) → IsGreatestOf (Or P (Is s key)) (kept_with first s.stamp s.key s.value key)
 step P first s key h =
     by_cases (key_code key == key_code s.key)
     (λ t. rw t (taken P s key (first key) (key_exact s.key key (sym (eqb-true (key_code key) (key_code s.key) t))) h))
@@ -96,7 +92,7 @@ set_here s ss key st v h = record { setting = s; among = inl refl; key_is = h.ke
 set_there : (s : Setting) (ss : List Setting) (key : Key) (st : Stamp) (v : ℕ) → IsSet ss key st v → IsSet (s ∷ ss) key st v
 set_there s ss key st v h = record { setting = h.setting; among = inr h.among; key_is = h.key_is; stamp_is = h.stamp_is; value_is = h.value_is }
 
-kept_all : (ss : List Setting) (P : Stamp → ℕ → Type 0) (first : Key → Option Kept) (key : Key) → Greatest P (first key) → Greatest (Or P (IsSet ss key)) (kept_after first ss key)
+kept_all : (ss : List Setting) (P : Stamp → ℕ → Type 0) (first : Key → Option Kept) (key : Key) → IsGreatestOf P (first key) → IsGreatestOf (Or P (IsSet ss key)) (kept_after first ss key)
 kept_all [] P first key h =
     same_greatest P (Or P (IsSet [] key)) (first key) (λ st v p. inl p) (λ st v q. elim q [ inl p ↦ p | inr i ↦ absurd (set_nil key st v i) ]) h
 kept_all (s ∷ ss) P first key h =
@@ -109,15 +105,10 @@ kept_all (s ∷ ss) P first key h =
 abbrev Never : Stamp → ℕ → Type 0
 Never stamp value = ⊥
 
-in_words : (ss : List Setting) (key : Key) (o : Option Kept) → Greatest (IsSet ss key) o → IsGreatest ss key o
-in_words ss key None h = h
-in_words ss key (Some k) h = h
-
 pub greatest_is_kept : GreatestIsKept
 greatest_is_kept ss key =
-    in_words ss key (kept_after nothing ss key)
-    (same_greatest (Or Never (IsSet ss key)) (IsSet ss key) (kept_after nothing ss key) (λ st v q. elim q [ inl x ↦ absurd x | inr i ↦ i ]) (λ st v i. inr i)
-    (kept_all ss Never nothing key (λ st v x. x)))
+    same_greatest (Or Never (IsSet ss key)) (IsSet ss key) (kept_after nothing ss key) (λ st v q. elim q [ inl x ↦ absurd x | inr i ↦ i ]) (λ st v i. inr i)
+    (kept_all ss Never nothing key (λ st v x. x))
 
 -- ---- the greatest is one
 
@@ -129,7 +120,7 @@ one_stamp a b (inl e) g = e
 one_stamp a b (inr f) (inl e) = sym e
 one_stamp a b (inr f) (inr g) = let c : true ≡ false = sym g ∙ before-asym a b f in absurd cc
 
-one_of : (a b : List Setting) (key : Key) (x y : Option Kept) → HasOneValue a key → ((s : Stamp) (n : ℕ) → IsSet a key s n → IsSet b key s n) → ((s : Stamp) (n : ℕ) → IsSet b key s n → IsSet a key s n) → IsGreatest a key x → IsGreatest b key y → x ≡ y
+one_of : (a b : List Setting) (key : Key) (x y : Option Kept) → HasOneValue a key → ((s : Stamp) (n : ℕ) → IsSet a key s n → IsSet b key s n) → ((s : Stamp) (n : ℕ) → IsSet b key s n → IsSet a key s n) → IsGreatestOf (IsSet a key) x → IsGreatestOf (IsSet b key) y → x ≡ y
 one_of a b key None None one f g h i = refl
 one_of a b key None (Some k) one f g h i = absurd (h k.stamp k.value (g k.stamp k.value i.0))
 one_of a b key (Some j) None one f g h i = absurd (i j.stamp j.value (f j.stamp j.value h.0))

@@ -1,11 +1,10 @@
 -- What is kept after any settings: of each key the value of the greatest stamp.
-use Rattle.std.specs.Prelude.{◌≡◌, ◌⊎◌, ℕ, true, List, [], ◌∷◌, Option, Some, None}
+use Rattle.std.specs.Prelude.{◌≡◌, ℕ, List, [], ◌∷◌, Option}
 use Rattle.desk_ops.specs.declared.op.Stamp.{Stamp}
 use Rattle.desk_ops.specs.declared.op.Key.{Key}
-use Rattle.desk_ops.specs.Stamp.{before}
 use Rattle.desk_ops.specs.Lists.{Among}
 use Rattle.desk_registers.specs.declared.Kept.{Kept}
-use Rattle.desk_registers.specs.Registers.{kept_with, nothing}
+use Rattle.desk_registers.specs.Registers.{kept_with, nothing, IsGreatestOf}
 
 -- a value of a key, with the stamp that says which is the newest
 pub record Setting : Type 0 where
@@ -26,15 +25,9 @@ pub record IsSet (settings : List Setting) (key : Key) (stamp : Stamp) (value : 
   pub stamp_is : setting.stamp ≡ stamp
   pub value_is : setting.value ≡ value
 
--- none where no setting is of the key; else one of them, whose stamp none of them exceeds
-abbrev pub IsGreatest : List Setting → Key → Option Kept → Type 0
-IsGreatest settings key None = (stamp : Stamp) (value : ℕ) → IsSet settings key stamp value → ⊥
-IsGreatest settings key (Some k) =
-    IsSet settings key k.stamp k.value × ((stamp : Stamp) (value : ℕ) → IsSet settings key stamp value → (stamp ≡ k.stamp) ⊎ (before stamp k.stamp ≡ true))
-
 -- after settings in any order, of each key the one of the greatest stamp is kept
 abbrev pub GreatestIsKept : Type 0
-GreatestIsKept = (settings : List Setting) (key : Key) → IsGreatest settings key (kept_after nothing settings key)
+GreatestIsKept = (settings : List Setting) (key : Key) → IsGreatestOf (IsSet settings key) (kept_after nothing settings key)
 
 -- a stamp sets a key to one value
 abbrev pub HasOneValue : List Setting → Key → Type 0

@@ -1,5 +1,5 @@
 -- What registers keep: of each key one setting, the one with the greatest stamp.
-use Rattle.std.specs.Prelude.{◌≡◌, ℕ, ◌==◌, if◌then◌else◌, Option, Some, None}
+use Rattle.std.specs.Prelude.{◌≡◌, ◌⊎◌, ℕ, true, ◌==◌, if◌then◌else◌, Option, Some, None}
 use Rattle.desk_ops.specs.declared.op.Stamp.{Stamp}
 use Rattle.desk_ops.specs.declared.op.Key.{Key}
 use Rattle.desk_ops.specs.declared.op.Key.TheVariants.{Measure, Tight, Loose, Case, Wedge}
@@ -34,3 +34,8 @@ nothing key = None
 abbrev pub IsOther : Option Kept → Stamp → Type 0
 IsOther None stamp = Unit {0}
 IsOther (Some old) stamp = old.stamp ≡ stamp → ⊥
+
+-- of the stamps and values that P holds of: none where there are none, else the one whose stamp none of them exceeds
+abbrev pub IsGreatestOf : (Stamp → ℕ → Type 0) → Option Kept → Type 0
+IsGreatestOf P None = (stamp : Stamp) (value : ℕ) → P stamp value → ⊥
+IsGreatestOf P (Some k) = P k.stamp k.value × ((stamp : Stamp) (value : ℕ) → P stamp value → (stamp ≡ k.stamp) ⊎ (before stamp k.stamp ≡ true))

@@ -1,18 +1,16 @@
 -- The walk of a set, made from its clear operations one after the other.
 use Rattle.std.proofs.Common.{◌≡◌, ℕ, zero, suc, ◌+◌, ◌<◌, ◌≤◌, Bool, true, false, not, cond, List, [], ◌∷◌, ◌++◌, map, length, get_or, take, refl, sym, ap, ◌∙◌, subst, inl, inr, arith}
 use Rattle.std.specs.List.{filter, filter_map, list_any}
-use Rattle.std.specs.declared.cmp.Ordering.{Ordering}
-use Rattle.std.specs.declared.cmp.Ordering.TheVariants.{Less, Equal, Greater}
-use Rattle.std.specs.Cmp.Lexicographic.{slice_cmp}
-use Rattle.std.specs.Ordering.{is_lt, nat_cmp, ordering_then, ordering_reverse}
+use Rattle.std.specs.declared.cmp.Ordering.TheVariants.{Less}
+use Rattle.std.specs.Ordering.{is_lt}
 use Rattle.std.proofs.lemmas.Bool.{true≢false}
 use Rattle.std.proofs.lemmas.Cmp.{tied_itself}
 use Rattle.std.proofs.lemmas.List.{append-nil, take_all, take_more}
 use Rattle.desk_ops.specs.declared.op.Op.{Op}
 use Rattle.desk_ops.specs.declared.op.Op.TheVariants.{Insert, Delete, Set}
-use Rattle.desk_ops.specs.Stamp.{stamp_cmp, same, before, head}
+use Rattle.desk_ops.specs.Stamp.{same, before, head}
 use Rattle.desk_ops.specs.Op.{Insertion, insertion, stamp_of, IsLawful}
-use Rattle.desk_ops.specs.Order.{op_cmp, rest_of}
+use Rattle.desk_ops.specs.Order.{op_cmp}
 use Rattle.desk_ops.specs.OrderLaws.{op_total}
 use Rattle.desk_ops.specs.OpSet.{OpSet, in_order, AllLawful}
 use Rattle.desk_ops.specs.Lists.{Among}
@@ -20,24 +18,15 @@ use Rattle.desk_ops.specs.Held.{is_clear, clear_ops, clear_inserts}
 use Rattle.desk_ops.specs.Walk.{walk_from}
 use Rattle.desk_ops.specs.Shown.{deletes, is_deleted, shown}
 use Rattle.desk_ops.specs.Scan.{IsAscending}
-use Rattle.desk_ops.proofs.Stamps.{by_cases, stamp_total, same-refl, same-symm, before-other}
+use Rattle.desk_ops.proofs.Stamps.{by_cases, same-refl, same-symm, before-other}
 use Rattle.desk_ops.proofs.Lists.{Each, each-among, each-from_among, each-filter}
-use Rattle.desk_ops.proofs.Means.{IsOrdered, ordered, clear_one, by_stamp, counter-before}
+use Rattle.desk_ops.proofs.Means.{IsOrdered, ordered, clear_one, counter-before}
 use Rattle.desk_ops.proofs.Tree.{walk-clear}
+use Rattle.desk_ops.proofs.Bearers.{stamp_not_before}
 use Rattle.desk_replica.specs.declared.rebuild.Entry.{Entry}
 use Rattle.desk_replica.specs.Entries.{acted, entry_in, walked, is_shown}
 use Rattle.desk_replica.specs.Built.{entry_of, shown_entries}
 use Rattle.desk_replica.proofs.Walked.{IsOlder, acts, up-last, walked-below}
-
--- an operation above another has no earlier stamp
-less-stamps : (a b : Op) → op_cmp a b ≡ Less → before (stamp_of b) (stamp_of a) ≡ false
-unfolding before
-less-stamps a b e = rw (stamp_total.antisymm (stamp_of b) (stamp_of a)) (go (stamp_cmp (stamp_of a) (stamp_of b)) (sym (by_stamp a b) ∙ e))
-  where
-    go : (r : Ordering) → ordering_then r (slice_cmp nat_cmp (rest_of a) (rest_of b)) ≡ Less → is_lt (ordering_reverse r) ≡ false
-    go Less e = refl
-    go Equal e = refl
-    go Greater e = cc
 
 -- the clear ones among the first operations
 abbrev pub clear_before : List Op → ℕ → List Op
@@ -53,28 +42,28 @@ build-none ops = record { walk = refl; up = tt }
 
 -- ---- what comes before an operation
 
-each-at : (P : Op → Type 0) (ops : List Op) (i : ℕ) (d : Op) → Each P ops → i < length ops → P (get_or ops i d)
+pub each-at : (P : Op → Type 0) (ops : List Op) (i : ℕ) (d : Op) → Each P ops → i < length ops → P (get_or ops i d)
 each-at P [] i d h lt = absurd (omega arith)
 each-at P (o ∷ ops) zero d h lt = h.0
 each-at P (o ∷ ops) (suc i) d h lt = each-at P ops i d h.1 (omega arith)
 
-among-at : (ops : List Op) (i : ℕ) (d : Op) → i < length ops → Among (get_or ops i d) ops
+pub among-at : (ops : List Op) (i : ℕ) (d : Op) → i < length ops → Among (get_or ops i d) ops
 among-at [] i d lt = absurd (omega arith)
 among-at (o ∷ ops) zero d lt = inl refl
 among-at (o ∷ ops) (suc i) d lt = inr (among-at ops i d (omega arith))
 
-each-taken : (P : Op → Type 0) (ops : List Op) (i : ℕ) → Each P ops → Each P (take i ops)
+pub each-taken : (P : Op → Type 0) (ops : List Op) (i : ℕ) → Each P ops → Each P (take i ops)
 each-taken P [] zero h = tt
 each-taken P [] (suc i) h = tt
 each-taken P (o ∷ ops) zero h = tt
 each-taken P (o ∷ ops) (suc i) h = (h.0, each-taken P ops i h.1)
 
-below_it : (ops : List Op) (i : ℕ) (d : Op) → IsOrdered ops → i < length ops → Each (λ p. op_cmp p (get_or ops i d) ≡ Less) (take i ops)
+pub below_it : (ops : List Op) (i : ℕ) (d : Op) → IsOrdered ops → i < length ops → Each (λ p. op_cmp p (get_or ops i d) ≡ Less) (take i ops)
 below_it [] i d up lt = absurd (omega arith)
 below_it (o ∷ ops) zero d up lt = tt
 below_it (o ∷ ops) (suc i) d up lt = (each-at (λ p. op_cmp o p ≡ Less) ops i d up.0 (omega arith), below_it ops i d up.1 (omega arith))
 
-among-taken : (ops : List Op) (i : ℕ) (p : Op) → Among p (take i ops) → Among p ops
+pub among-taken : (ops : List Op) (i : ℕ) (p : Op) → Among p (take i ops) → Among p ops
 among-taken [] zero p m = absurd m
 among-taken [] (suc i) p m = absurd m
 among-taken (o ∷ ops) zero p m = absurd m
@@ -84,7 +73,7 @@ among-taken (o ∷ ops) (suc i) p (inr m) = inr (among-taken ops i p m)
 -- a clear operation's stamp is later than all before it
 clear_later : (ops : List Op) (p o : Op) → Among p ops → Among o ops → is_clear ops (stamp_of o) ≡ true → op_cmp p o ≡ Less → before (stamp_of p) (stamp_of o) ≡ true
 clear_later ops p o m n clear less =
-    before-other (stamp_of o) (stamp_of p) (less-stamps p o less)
+    before-other (stamp_of o) (stamp_of p) (stamp_not_before p o less)
     (by_cases (same (stamp_of o) (stamp_of p))
     (λ e. absurd (apart (clear_one ops (stamp_of o) clear o p n m (same-refl (stamp_of o)) (same-back e))))
     (λ e. e))
@@ -95,24 +84,39 @@ clear_later ops p o m n clear less =
     apart : o ≡ p → ⊥
     apart e = true≢false (sym (ap is_lt less) ∙ ap (λ q. is_lt (op_cmp p q)) e ∙ ap is_lt (tied_itself op_total p))
 
-pub filter-last : (f : Op → Bool) (xs : List Op) (o : Op) → filter f (xs ++ o ∷ []) ≡ filter f xs ++ cond (f o) (o ∷ []) []
+pub filter-last : {A : Type 0} (f : A → Bool) (xs : List A) (o : A) → filter f (xs ++ o ∷ []) ≡ filter f xs ++ cond (f o) (o ∷ []) []
 filter-last f [] o = refl
 filter-last f (x ∷ xs) o = elim (f x) as (λ b. cond b (x ∷ filter f (xs ++ o ∷ [])) (filter f (xs ++ o ∷ [])) ≡ cond b (x ∷ filter f xs) (filter f xs) ++ cond (f o) (o ∷ []) []) [
   | true ↦ ap (λ l. x ∷ l) (filter-last f xs o)
   | false ↦ filter-last f xs o
 ]
 
-module _ (h : OpSet) (lawful : AllLawful h) (i : ℕ) (d : Op) (lt : i < length (in_order h)) where
+module _ (h : OpSet) (i : ℕ) (d : Op) (lt : i < length (in_order h)) where
   taken_more : take (i + 1) (in_order h) ≡ take i (in_order h) ++ get_or (in_order h) i d ∷ []
   taken_more = take_more (in_order h) i d lt
 
+  -- those before a clear operation have smaller stamps
+  pub earlier_all : is_clear (in_order h) (stamp_of (get_or (in_order h) i d)) ≡ true → Each (λ p. before (stamp_of p) (stamp_of (get_or (in_order h) i d)) ≡ true) (take i (in_order h))
+  earlier_all clear = each-from_among (λ p. before (stamp_of p) (stamp_of (get_or (in_order h) i d)) ≡ true) (take i (in_order h))
+      (λ p m. clear_later (in_order h) p (get_or (in_order h) i d) (among-taken (in_order h) i p m) (among-at (in_order h) i d lt) clear
+      (each-among (λ p. op_cmp p (get_or (in_order h) i d) ≡ Less) (take i (in_order h)) p (below_it (in_order h) i d (ordered h) lt) m))
+
+  pub earlier : is_clear (in_order h) (stamp_of (get_or (in_order h) i d)) ≡ true → Each (λ p. before (stamp_of p) (stamp_of (get_or (in_order h) i d)) ≡ true) (clear_before (in_order h) i)
+  earlier clear = each-filter (λ p. before (stamp_of p) (stamp_of (get_or (in_order h) i d)) ≡ true) (λ op. is_clear (in_order h) (stamp_of op)) (take i (in_order h)) (earlier_all clear)
+
+  pub clear_before-clear : is_clear (in_order h) (stamp_of (get_or (in_order h) i d)) ≡ true → clear_before (in_order h) (i + 1) ≡ clear_before (in_order h) i ++ get_or (in_order h) i d ∷ []
+  clear_before-clear clear = ap (filter (λ op. is_clear (in_order h) (stamp_of op))) taken_more ∙ filter-last (λ op. is_clear (in_order h) (stamp_of op)) (take i (in_order h)) (get_or (in_order h) i d)
+      ∙ ap (λ b. clear_before (in_order h) i ++ cond b (get_or (in_order h) i d ∷ []) []) clear
+
+  pub clear_before-other : is_clear (in_order h) (stamp_of (get_or (in_order h) i d)) ≡ false → clear_before (in_order h) (i + 1) ≡ clear_before (in_order h) i
+  clear_before-other forked = ap (filter (λ op. is_clear (in_order h) (stamp_of op))) taken_more ∙ filter-last (λ op. is_clear (in_order h) (stamp_of op)) (take i (in_order h)) (get_or (in_order h) i d)
+      ∙ ap (λ b. clear_before (in_order h) i ++ cond b (get_or (in_order h) i d ∷ []) []) forked ∙ append-nil (clear_before (in_order h) i)
+
+module _ (h : OpSet) (lawful : AllLawful h) (i : ℕ) (d : Op) (lt : i < length (in_order h)) where
   pub older : is_clear (in_order h) (stamp_of (get_or (in_order h) i d)) ≡ true → IsAscending (filter_map insertion (clear_before (in_order h) i)) → IsOlder (stamp_of (get_or (in_order h) i d)) (clear_before (in_order h) i)
   older clear up = record {
     lawful = each-filter IsLawful (λ op. is_clear (in_order h) (stamp_of op)) (take i (in_order h)) (each-taken IsLawful (in_order h) i lawful);
-    older = each-filter (λ p. before (stamp_of p) (stamp_of (get_or (in_order h) i d)) ≡ true) (λ op. is_clear (in_order h) (stamp_of op)) (take i (in_order h))
-        (each-from_among (λ p. before (stamp_of p) (stamp_of (get_or (in_order h) i d)) ≡ true) (take i (in_order h))
-        (λ p m. clear_later (in_order h) p (get_or (in_order h) i d) (among-taken (in_order h) i p m) (among-at (in_order h) i d lt) clear
-        (each-among (λ p. op_cmp p (get_or (in_order h) i d) ≡ Less) (take i (in_order h)) p (below_it (in_order h) i d (ordered h) lt) m)));
+    older = earlier h i d lt clear;
     up = up;
   }
 
@@ -125,23 +129,15 @@ module _ (h : OpSet) (lawful : AllLawful h) (i : ℕ) (d : Op) (lt : i < length 
   build-clear tree clear b = record {
     walk = ap (acted (get_or (in_order h) i d)) b.walk
         ∙ sym (acts (clear_before (in_order h) i) (get_or (in_order h) i d) (each-at IsLawful (in_order h) i d lawful lt) (older clear b.up))
-        ∙ ap walked (sym grown);
-    up = subst (λ l. IsAscending (filter_map insertion l)) (sym grown) (up-last (clear_before (in_order h) i) (get_or (in_order h) i d) (older clear b.up));
+        ∙ ap walked (sym (clear_before-clear h i d lt clear));
+    up = subst (λ l. IsAscending (filter_map insertion l)) (sym (clear_before-clear h i d lt clear)) (up-last (clear_before (in_order h) i) (get_or (in_order h) i d) (older clear b.up));
   }
-    where
-      grown : clear_before (in_order h) (i + 1) ≡ clear_before (in_order h) i ++ get_or (in_order h) i d ∷ []
-      grown = ap (filter (λ op. is_clear (in_order h) (stamp_of op))) taken_more ∙ filter-last (λ op. is_clear (in_order h) (stamp_of op)) (take i (in_order h)) (get_or (in_order h) i d)
-          ∙ ap (λ b. clear_before (in_order h) i ++ cond b (get_or (in_order h) i d ∷ []) []) clear
 
   pub build-other : (tree : List Entry) → is_clear (in_order h) (stamp_of (get_or (in_order h) i d)) ≡ false → IsBuilt (in_order h) i tree → IsBuilt (in_order h) (i + 1) tree
   build-other tree forked b = record {
-    walk = b.walk ∙ ap walked (sym kept);
-    up = subst (λ l. IsAscending (filter_map insertion l)) (sym kept) b.up;
+    walk = b.walk ∙ ap walked (sym (clear_before-other h i d lt forked));
+    up = subst (λ l. IsAscending (filter_map insertion l)) (sym (clear_before-other h i d lt forked)) b.up;
   }
-    where
-      kept : clear_before (in_order h) (i + 1) ≡ clear_before (in_order h) i
-      kept = ap (filter (λ op. is_clear (in_order h) (stamp_of op))) taken_more ∙ filter-last (λ op. is_clear (in_order h) (stamp_of op)) (take i (in_order h)) (get_or (in_order h) i d)
-          ∙ ap (λ b. clear_before (in_order h) i ++ cond b (get_or (in_order h) i d ∷ []) []) forked ∙ append-nil (clear_before (in_order h) i)
 
 -- ---- the whole set
 

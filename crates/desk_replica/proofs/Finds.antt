@@ -1,4 +1,4 @@
--- Searches in a tree of nodes, and ways along its links.
+-- Searches by stamp, and the way along the links of a tree.
 use Rattle.std.proofs.Common.{◌≡◌, ℕ, suc, ◌+◌, ◌-◌, ◌<◌, ◌≤◌, true, false, cond, List, [], ◌∷◌, ◌++◌, map, length, get_or, refl, sym, ap, ◌∙◌, subst, subst₂, ◌⊎◌, inl, inr, arith, append_assoc, append-nil}
 use Rattle.std.specs.List.{AllWithin, filter}
 use Rattle.std.specs.List.Sorted.{IsPartitionedBy}
@@ -14,36 +14,41 @@ use Rattle.desk_ops.proofs.Lists.{Each}
 use Rattle.desk_replica.specs.declared.rebuild.Entry.{Entry}
 use Rattle.desk_replica.specs.declared.rebuild.Node.{Node}
 use Rattle.desk_replica.specs.Entries.{is_shown}
-use Rattle.desk_replica.specs.Nodes.{no_node, entry_at, stamp_at, next_of, links, walk_entries, IsRising, IsTree, IsAbsent}
+use Rattle.desk_replica.specs.Nodes.{entry_at, next_of, links, walk_entries, IsTree}
 
-pub partitioned : (nodes : List Node) (s : Stamp) → IsRising nodes → IsPartitionedBy (λ n. before n.entry.stamp s) nodes
-partitioned nodes s up i j d le lt e = go (eq-or-lt_of_le le)
+-- each stamp is greater than those before it
+abbrev pub RisesBy : {X : Type 0} → (X → Stamp) → X → List X → Type 0
+RisesBy f none xs = (i j : ℕ) → i < j → j < length xs → before (f (get_or xs i none)) (f (get_or xs j none)) ≡ true
+
+pub partitioned : {X : Type 0} (f : X → Stamp) (none : X) (xs : List X) (s : Stamp) → RisesBy f none xs → IsPartitionedBy (λ x. before (f x) s) xs
+partitioned f none xs s up i j d le lt e = go (eq-or-lt_of_le le)
   where
-    go : (i ≡ j) ⊎ (i < j) → before (get_or nodes i d).entry.stamp s ≡ true
-    go (inl f) = ap (λ k. before (get_or nodes k d).entry.stamp s) f ∙ e
+    go : (i ≡ j) ⊎ (i < j) → before (f (get_or xs i d)) s ≡ true
+    go (inl g) = ap (λ k. before (f (get_or xs k d)) s) g ∙ e
     go (inr less) =
-        let k : i < length nodes = omega arith in
-        before-trans (get_or nodes i d).entry.stamp (get_or nodes j d).entry.stamp s
-        (subst₂ (λ (m n : Node). before m.entry.stamp n.entry.stamp ≡ true) (get_or_default nodes i no_node d k) (get_or_default nodes j no_node d lt) (up i j less lt)) e
+        let k : i < length xs = omega arith in
+        before-trans (f (get_or xs i d)) (f (get_or xs j d)) s
+        (subst₂ (λ m n. before (f m) (f n) ≡ true) (get_or_default xs i none d k) (get_or_default xs j none d lt) (up i j less lt)) e
 
-pub find-absent : (nodes : List Node) (s : Stamp) (place : ℕ) → IsRising nodes → AllWithin (λ n. before n.entry.stamp s ≡ true) nodes 0 place → AllWithin (λ n. before n.entry.stamp s ≡ false) nodes place (length nodes)
-    → (length nodes ≤ place) ⊎ (same (stamp_at nodes place) s ≡ false) → IsAbsent s nodes
-find-absent nodes s place up early late other k lt =
-    by_cases (before (stamp_at nodes k) s)
-    (λ e. before-apart_left (stamp_at nodes k) s e)
-    (λ e. by_cases (same (stamp_at nodes k) s) (λ f. absurd (go e f other)) (λ f. f))
+-- from the place where a search ends: none has the stamp, if the one there has not
+pub find-absent : {X : Type 0} (f : X → Stamp) (none : X) (xs : List X) (s : Stamp) (place : ℕ) → RisesBy f none xs → AllWithin (λ x. before (f x) s ≡ true) xs 0 place → AllWithin (λ x. before (f x) s ≡ false) xs place (length xs)
+    → (length xs ≤ place) ⊎ (same (f (get_or xs place none)) s ≡ false) → (k : ℕ) → k < length xs → same (f (get_or xs k none)) s ≡ false
+find-absent f none xs s place up early late other k lt =
+    by_cases (before (f (get_or xs k none)) s)
+    (λ e. before-apart_left (f (get_or xs k none)) s e)
+    (λ e. by_cases (same (f (get_or xs k none)) s) (λ g. absurd (go e g other)) (λ g. g))
   where
-    go : before (stamp_at nodes k) s ≡ false → same (stamp_at nodes k) s ≡ true → (length nodes ≤ place) ⊎ (same (stamp_at nodes place) s ≡ false) → ⊥
-    go e f (inl past) = true≢false (sym (early k no_node (omega arith) (omega arith)) ∙ e)
-    go e f (inr not_here) =
+    go : before (f (get_or xs k none)) s ≡ false → same (f (get_or xs k none)) s ≡ true → (length xs ≤ place) ⊎ (same (f (get_or xs place none)) s ≡ false) → ⊥
+    go e g (inl past) = true≢false (sym (early k none (omega arith) (omega arith)) ∙ e)
+    go e g (inr not_here) =
         by_cases (nat_lt k place)
-        (λ l. true≢false (sym (early k no_node (omega arith) (grind (arith, nat_tests))) ∙ e))
+        (λ l. true≢false (sym (early k none (omega arith) (grind (arith, nat_tests))) ∙ e))
         (λ l. let le : place ≤ k = grind (arith, nat_tests) in at_or_past (eq-or-lt_of_le le))
       where
         at_or_past : (place ≡ k) ⊎ (place < k) → ⊥
-        at_or_past (inl g) = true≢false (sym f ∙ ap (λ j. same (stamp_at nodes j) s) (sym g) ∙ not_here)
+        at_or_past (inl h) = true≢false (sym g ∙ ap (λ j. same (f (get_or xs j none)) s) (sym h) ∙ not_here)
         at_or_past (inr less) =
-            true≢false (sym (subst (λ t. before (stamp_at nodes place) t ≡ true) (same-true (stamp_at nodes k) s f) (up place k less lt)) ∙ late place no_node (omega arith) (omega arith))
+            true≢false (sym (subst (λ t. before (f (get_or xs place none)) t ≡ true) (same-true (f (get_or xs k none)) s g) (up place k less lt)) ∙ late place none (omega arith) (omega arith))
 
 -- ---- the way along the links
 

@@ -5,3 +5,6 @@ pub mod Finds
 pub mod Walked
 pub mod Built
 pub mod Made
+pub mod KeptSets
+pub mod Ends
+pub mod Convergence

@@ -3,3 +3,6 @@ pub mod Entries
 pub mod Nodes
 pub mod Built
 pub mod Edits
+pub mod JobSettings
+pub mod Ways
+pub mod Laws

@@ -6,20 +6,31 @@ ghost use Rattle.desk_ops.specs.Op.{IsLawful};
 ghost use Rattle.desk_ops.specs.OpSet.{no_ops, has_op, with_op, with_all, union, in_order, size, AllLawful};
 ghost use Rattle.desk_ops.specs.Held.{greatest_counter_of};
 ghost use Rattle.desk_ops.specs.Shown.{copy_of};
+ghost use Rattle.desk_ops.specs.Settings.{setting_of};
+ghost use Rattle.desk_ops.specs.Faults.{faults_of};
 ghost use Rattle.desk_codec.specs.Feed.{feed, IsFeed};
 ghost use Rattle.desk_replica.specs.Built.{shown_entries};
+ghost use Rattle.desk_replica.specs.JobSettings.{settings_of};
 ghost use Rattle.desk_replica.specs.Edits.{new_stamp, edit_refusal, insert_refusal, delete_refusal, set_refusal, IsInserted, IsDeleted, IsSetTo};
 
 use desk_codec::write_feed;
 use desk_held::{AddRefusal, Added, Held, LIMIT};
 use desk_ops::op::MAX_COUNTER;
-use desk_ops::{Key, NoMemory, Op, Stamp, Symbol};
+use desk_ops::{CopyFault, Key, NoMemory, Op, Stamp, Symbol};
+use desk_registers::Registers;
+use faults::faults_of;
 use rebuild::{Entry, Tree, parent_at, stamp_at, symbols};
+use settings::{keep, kept_in};
 use std::alloc::Allocator;
 use std::marker::Model;
 use thiserror::Error;
 
+mod faults;
+pub mod laws;
 mod rebuild;
+mod settings;
+
+pub use settings::Settings;
 
 /// What taking in an operation did.
 #[derive(Clone, Copy, Debug, PartialEq, Eq)]
@@ -66,11 +77,13 @@ pub struct Stopped {
 pub struct Replica<A: Allocator + Copy> {
     site: u16,
     held: Held<A>,
+    registers: Registers,
     alloc: A,
 }
 
 impl<A: Allocator + Copy> Model for Replica<A> {
-    ghost use Rattle.desk_replica.specs.State.{State, state_code, IsKept};
+    ghost use Rattle.desk_replica.specs.JobSettings.{IsSound};
+    ghost use Rattle.desk_replica.specs.State.{State, state_code};
 
     ghost Value = { State };
 
@@ -78,7 +91,7 @@ impl<A: Allocator + Copy> Model for Replica<A> {
 
     ghost view = { λ a. record { site = a.site; ops = a.held.ops } };
 
-    ghost invariant = { λ a. IsKept a.site a.held.ops };
+    ghost invariant = { λ a. IsSound a.site a.held.ops a.registers };
 }
 
 impl<A: Allocator + Copy> Replica<A> {
@@ -95,6 +108,7 @@ impl<A: Allocator + Copy> Replica<A> {
         Replica {
             site,
             held: Held::new(alloc),
+            registers: Registers::new(),
             alloc,
         }
     }
@@ -170,7 +184,16 @@ impl<A: Allocator + Copy> Replica<A> {
         ensures full { IsErrOf result AddRefusal.Full ↔ ((has_op self.old.ops op ≡ false) × (size self.old.ops ≡ LIMIT)) }
         ensures memory { IsErrOf result AddRefusal.NoMemory → has_op self.old.ops op ≡ false }
     {
-        self.held.add(op)
+        let added = match self.held.add(op) {
+            Ok(added) => added,
+            Err(refusal) => return Err(refusal),
+        };
+        match added {
+            Added::Known => {}
+            Added::New => keep(&mut self.registers, &op),
+            Added::Forks => self.registers = kept_in(&self.held),
+        }
+        Ok(added)
     }
 
     /// Takes in an operation. `Full` comes exactly where 1,048,576 operations are held and this one is not; no memory is
@@ -274,6 +297,14 @@ impl<A: Allocator + Copy> Replica<A> {
         tree.shown(self.alloc)
     }
 
+    /// The copy faults: of each stamp whose operations do not act why they do not, by stamp. It is one pass over the
+    /// operations, oldest first; the memory taken grows with the number of operations held, and with nothing else.
+    pub fn copy_faults(&self) -> Result<Vec<CopyFault, A>, NoMemory>
+        ensures { IfOk result (λ v. v.items ≡ faults_of self.now.ops) }
+    {
+        faults_of(self.alloc, &self.held)
+    }
+
     /// The copy: the symbols that the set shows. It is made anew from the operations, oldest first, each insert directly
     /// after its parent.
     pub fn copy(&self) -> Result<Vec<Symbol, A>, NoMemory>
@@ -281,6 +312,26 @@ impl<A: Allocator + Copy> Replica<A> {
     {
         let shown = self.shown()?;
         symbols(self.alloc, &shown)
+    }
+
+    /// The value of a setting.
+    fn setting(&self, key: Key) -> Option<u32>
+        ensures { result ≡ setting_of self.now.ops key }
+    {
+        self.registers.value(key)
+    }
+
+    /// The settings of the job: of each key the value of the live set with the greatest stamp. No memory is taken.
+    pub fn settings(&self) -> Settings
+        ensures { result ≡ settings_of self.now.ops }
+    {
+        Settings {
+            measure: self.setting(Key::Measure),
+            tight: self.setting(Key::Tight),
+            loose: self.setting(Key::Loose),
+            case: self.setting(Key::Case),
+            wedge: self.setting(Key::Wedge),
+        }
     }
 
     /// The stamp of the next operation that is made here, or why none can be made: as many operations are held as may be,

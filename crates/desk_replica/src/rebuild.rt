@@ -28,7 +28,7 @@ pub struct Node {
 
 /// Whether the first stamp comes before the second.
 #[tactic(auto, using(desk_ops::proofs::Stamps::stamps))]
-fn is_before(a: Stamp, b: Stamp) -> bool
+pub fn is_before(a: Stamp, b: Stamp) -> bool
     ensures { result ≡ before a b }
 {
     a < b

@@ -1,7 +1,9 @@
 mod copies;
 mod edits;
+mod faults;
 mod growths;
 mod sets;
+mod settings;
 
 use super::*;
 use desk_ops::Style;
@@ -25,6 +27,10 @@ fn typed(stamp: Stamp, parent: Stamp, ch: char) -> Op {
         parent,
         symbol: roman(ch),
     }
+}
+
+fn deleted(stamp: Stamp, target: Stamp) -> Op {
+    Op::Delete { stamp, target }
 }
 
 /// Takes in an operation, where it is lawful.

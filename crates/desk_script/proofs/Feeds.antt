@@ -14,9 +14,9 @@ use Rattle.desk_script.specs.declared.fault.RunFault.TheVariants as faults
 use Rattle.desk_script.specs.Faults.{IsCrowded, IsOfStoring, IsUnopened}
 use Rattle.desk_script.specs.Files.{HasFailed}
 use Rattle.desk_script.specs.Lines.{Line, lines}
-use Rattle.desk_script.specs.Sites.{Sites, no_sites}
+use Rattle.desk_script.specs.Sites.{Desk}
 use Rattle.desk_script.specs.Text.{output}
-use Rattle.desk_script.specs.Script.{Turn, Fronts, Answers, AnswersFront}
+use Rattle.desk_script.specs.Script.{Turn, Fronts}
 use Rattle.desk_script.specs.Stored.{AnswersStored, AnswersStoredFront, IsStart, Stores}
 
 none_crowds : (ops : List Op) → ops ≡ [] → 1048576 < size (with_all no_ops ops) → ⊥
@@ -48,31 +48,23 @@ on_ok (Ok x) p = p
 on_ok (Err e) p = tt
 
 -- all answers are a front of them
-turn_is_front : (old new : Sites) (a b : Option (List ℕ)) (ls : List Line) → Turn old new a b ls → Fronts old a b ls
+turn_is_front : (old new : Desk) (a b : Option (List ℕ)) (ls : List Line) → Turn old new a b ls → Fronts old a b ls
 turn_is_front old new a b ls (replies, script, written) = (ls, [], sym (append-nil ls), new, replies, script, (output replies, [], written, sym (append-nil (output replies))))
 
-pub stored_all : (Gives : Result (List ℕ) FileRefusal → Type 0) (n : ℕ) (start new : Sites) (i a b : Option (List ℕ)) → IsStart Gives n start
-    → IfSome i (λ input. Turn start new a b (lines input)) → IfSome i (λ input. AnswersStored Gives n input a b)
-stored_all Gives n start new None a b from turn = tt
-stored_all Gives n start new (Some input) a b from turn = (start, from, new, turn)
+pub stored_all : (Gives : Result (List ℕ) FileRefusal → Type 0) (k n : ℕ) (start new : Desk) (i a b : Option (List ℕ)) → IsStart Gives k n start
+    → IfSome i (λ input. Turn start new a b (lines input)) → IfSome i (λ input. AnswersStored Gives k n input a b)
+stored_all Gives k n start new None a b from turn = tt
+stored_all Gives k n start new (Some input) a b from turn = (start, from, new, turn)
 
-pub stored_front : (Gives : Result (List ℕ) FileRefusal → Type 0) (n : ℕ) (start : Sites) (i a b : Option (List ℕ)) → IsStart Gives n start
-    → IfSome i (λ input. Fronts start a b (lines input)) → IfSome i (λ input. AnswersStoredFront Gives n input a b)
-stored_front Gives n start None a b from fronts = tt
-stored_front Gives n start (Some input) a b from fronts = inr (start, from, fronts)
+pub stored_front : (Gives : Result (List ℕ) FileRefusal → Type 0) (k n : ℕ) (start : Desk) (i a b : Option (List ℕ)) → IsStart Gives k n start
+    → IfSome i (λ input. Fronts start a b (lines input)) → IfSome i (λ input. AnswersStoredFront Gives k n input a b)
+stored_front Gives k n start None a b from fronts = tt
+stored_front Gives k n start (Some input) a b from fronts = inr (start, from, fronts)
 
-pub stored_whole_front : (Gives : Result (List ℕ) FileRefusal → Type 0) (n : ℕ) (start new : Sites) (i a b : Option (List ℕ)) → IsStart Gives n start
-    → IfSome i (λ input. Turn start new a b (lines input)) → IfSome i (λ input. AnswersStoredFront Gives n input a b)
-stored_whole_front Gives n start new None a b from turn = tt
-stored_whole_front Gives n start new (Some input) a b from turn = inr (start, from, turn_is_front start new a b (lines input) turn)
-
-pub from_nothing : (old new : Sites) (i a b : Option (List ℕ)) → old ≡ no_sites → IfSome i (λ input. Turn old new a b (lines input)) → IfSome i (λ input. Answers input a b)
-from_nothing old new None a b none turn = tt
-from_nothing old new (Some input) a b none turn = (new, subst (λ (w : Sites). Turn w new a b (lines input)) none turn)
-
-pub front_from_nothing : (old : Sites) (i a b : Option (List ℕ)) → old ≡ no_sites → IfSome i (λ input. Fronts old a b (lines input)) → IfSome i (λ input. AnswersFront input a b)
-front_from_nothing old None a b none fronts = tt
-front_from_nothing old (Some input) a b none fronts = subst (λ (w : Sites). Fronts w a b (lines input)) none fronts
+pub stored_whole_front : (Gives : Result (List ℕ) FileRefusal → Type 0) (k n : ℕ) (start new : Desk) (i a b : Option (List ℕ)) → IsStart Gives k n start
+    → IfSome i (λ input. Turn start new a b (lines input)) → IfSome i (λ input. AnswersStoredFront Gives k n input a b)
+stored_whole_front Gives k n start new None a b from turn = tt
+stored_whole_front Gives k n start new (Some input) a b from turn = inr (start, from, turn_is_front start new a b (lines input) turn)
 
 by_cases : {G : Type 0} (b : Bool) → (b ≡ true → G) → (b ≡ false → G) → G
 by_cases {G} b hit miss = (elim b as (λ v. (v ≡ true → G) → (v ≡ false → G) → G) [ true ↦ λ h m. h refl | false ↦ λ h m. m refl ]) hit miss

@@ -1,6 +1,6 @@
 -- What some site holds, told by the entries.
-use Rattle.std.proofs.Common.{◌≡◌, ℕ, Bool, true, false, cond, ◌||◌, List, [], ◌∷◌, map, length, refl, sym, ap, ◌∙◌, subst, nat_eq, arith}
-use Rattle.std.specs.Prelude.{Option, Some, None, option_map, is_some}
+use Rattle.std.proofs.Common.{◌≡◌, ℕ, Bool, true, false, cond, ◌||◌, List, [], ◌∷◌, map, length, refl, sym, ap, ◌∙◌, nat_eq, arith}
+use Rattle.std.specs.Prelude.{Some, None, option_map}
 use Rattle.std.specs.List.{IsDistinct, AllByRecursion, list_any}
 use Rattle.std.specs.Ordering.{nat_cmp, is_eq}
 use Rattle.std.specs.declared.cmp.Ordering.{Ordering}
@@ -11,7 +11,7 @@ use Rattle.std.specs.Map.{lookup}
 use Rattle.desk_ops.specs.declared.op.Op.{Op}
 use Rattle.desk_ops.specs.OpSet.{OpSet, has_op}
 use Rattle.desk_replica.specs.State.{State}
-use Rattle.desk_script.specs.Sites.{Sites, sites_of, is_held, all_held}
+use Rattle.desk_script.specs.Sites.{Sites, sites_of, is_held}
 use Rattle.desk_script.proofs.Sites.{get-sites_of}
 
 abbrev by_order : {A : Type 0} → Ordering → A → A → A → A

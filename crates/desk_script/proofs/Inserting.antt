@@ -1,5 +1,5 @@
 -- Symbols inserted one after another.
-use Rattle.std.proofs.Common.{◌≡◌, ℕ, suc, ◌+◌, ◌<◌, List, ◌∷◌, length, drop, get_or, sym, ap, subst, ◌∙◌, arith, drop-cons, refl}
+use Rattle.std.proofs.Common.{◌≡◌, ℕ, suc, ◌+◌, ◌<◌, List, length, drop, get_or, sym, subst, arith, drop-cons, refl}
 use Rattle.std.specs.Prelude.{Option, Some, None, Result, MatchOption, option_map}
 use Rattle.desk_ops.specs.declared.op.Op.{Op}
 use Rattle.desk_ops.specs.declared.op.Stamp.{Stamp}

@@ -5,7 +5,7 @@ use Rattle.std.proofs.KnownBytes.{Appends-trans}
 use Rattle.std.proofs.lemmas.List.{append-nil}
 use Rattle.desk_script.specs.Reply.{Reply}
 use Rattle.desk_script.specs.Text.{text, output}
-use Rattle.desk_script.specs.Sites.{Sites}
+use Rattle.desk_script.specs.Sites.{Desk}
 use Rattle.desk_script.specs.Lines.{Line}
 use Rattle.desk_script.specs.Effect.{Allows}
 use Rattle.desk_script.specs.Script.{Script, Turn, WritesFront, Fronts}
@@ -14,16 +14,16 @@ pub appends_none : (a : Option (List ℕ)) → Appends a a []
 appends_none None = tt
 appends_none (Some xs) = sym (append-nil xs)
 
-pub no_turn : (old : Sites) (a : Option (List ℕ)) → Turn old old a a []
+pub no_turn : (old : Desk) (a : Option (List ℕ)) → Turn old old a a []
 no_turn old a = ([], refl, appends_none a)
 
-pub no_front : (old : Sites) (a : Option (List ℕ)) (lines : List Line) → Fronts old a a lines
+pub no_front : (old : Desk) (a : Option (List ℕ)) (lines : List Line) → Fronts old a a lines
 no_front old a lines = ([], lines, refl, old, [], refl, ([], [], appends_none a, refl))
 
-pub one_turn : (old new : Sites) (a b : Option (List ℕ)) (line : Line) (bytes : List ℕ) (reply : Reply) → Allows old line reply new → bytes ≡ text reply ++ 10 ∷ [] → Appends a b bytes → Turn old new a b (line ∷ [])
+pub one_turn : (old new : Desk) (a b : Option (List ℕ)) (line : Line) (bytes : List ℕ) (reply : Reply) → Allows old line reply new → bytes ≡ text reply ++ 10 ∷ [] → Appends a b bytes → Turn old new a b (line ∷ [])
 one_turn old new a b line bytes reply allowed is written = (reply ∷ [], (new, allowed, refl), subst (Appends a b) is written)
 
-pub one_front : (old new : Sites) (a b : Option (List ℕ)) (line : Line) (bytes : List ℕ) (reply : Reply) (more : List Line) → Allows old line reply new → bytes ≡ text reply ++ 10 ∷ [] → WritesFront a b bytes → Fronts old a b (line ∷ more)
+pub one_front : (old new : Desk) (a b : Option (List ℕ)) (line : Line) (bytes : List ℕ) (reply : Reply) (more : List Line) → Allows old line reply new → bytes ≡ text reply ++ 10 ∷ [] → WritesFront a b bytes → Fronts old a b (line ∷ more)
 one_front old new a b line bytes reply more allowed is (done, rest, written, split) =
     (line ∷ [], more, refl, new, reply ∷ [], (new, allowed, refl), (done, rest, written, sym is ∙ split))
 
@@ -31,17 +31,17 @@ output-append : (rs ss : List Reply) → output (rs ++ ss) ≡ output rs ++ outp
 output-append [] ss = refl
 output-append (r ∷ rs) ss = ap (λ l. text r ++ (10 ∷ l)) (output-append rs ss) ∙ sym (append_assoc (text r) (10 ∷ output rs) (output ss))
 
-script-append : (old mid new : Sites) (ls ms : List Line) (rs ss : List Reply) → Script old ls rs mid → Script mid ms ss new → Script old (ls ++ ms) (rs ++ ss) new
-script-append old mid new [] ms [] ss first second = subst (λ (w : Sites). Script w ms ss new) first second
+script-append : (old mid new : Desk) (ls ms : List Line) (rs ss : List Reply) → Script old ls rs mid → Script mid ms ss new → Script old (ls ++ ms) (rs ++ ss) new
+script-append old mid new [] ms [] ss first second = subst (λ (w : Desk). Script w ms ss new) first second
 script-append old mid new [] ms (r ∷ rs) ss first second = absurd first
 script-append old mid new (l ∷ ls) ms [] ss first second = absurd first
 script-append old mid new (l ∷ ls) ms (r ∷ rs) ss (next, allowed, rest) second = (next, allowed, script-append next mid new ls ms rs ss rest second)
 
-pub turn_turn : (old mid new : Sites) (a b c : Option (List ℕ)) (ls ms : List Line) → Turn old mid a b ls → Turn mid new b c ms → Turn old new a c (ls ++ ms)
+pub turn_turn : (old mid new : Desk) (a b c : Option (List ℕ)) (ls ms : List Line) → Turn old mid a b ls → Turn mid new b c ms → Turn old new a c (ls ++ ms)
 turn_turn old mid new a b c ls ms (rs, first, written) (ss, second, more) =
     (rs ++ ss, script-append old mid new ls ms rs ss first second, subst (Appends a c) (sym (output-append rs ss)) (Appends-trans a b c _ _ written more))
 
-pub turn_front : (old mid : Sites) (a b c : Option (List ℕ)) (ls ms : List Line) → Turn old mid a b ls → Fronts mid b c ms → Fronts old a c (ls ++ ms)
+pub turn_front : (old mid : Desk) (a b c : Option (List ℕ)) (ls ms : List Line) → Turn old mid a b ls → Fronts mid b c ms → Fronts old a c (ls ++ ms)
 turn_front old mid a b c ls ms (rs, first, written) (front, tail, split, new, ss, second, (done, rest, more, cut)) = (
   ls ++ front,
   tail,

@@ -46,3 +46,13 @@ pub record IsUpdated (old new : List (ℕ × State)) (n : ℕ) (s t : State) : T
   pub distinct : IsDistinct nat_eq (map (λ e. e.0) new)
   pub as_many : length new ≡ length old
   pub named : t.site ≡ s.site
+
+-- ---- the sites, and the files beside them
+
+-- what a script's lines act on: the sites of a world, and how often the files' device has failed
+pub record Desk : Type 0 where
+  pub sites : Sites
+  pub failures : ℕ
+
+abbrev pub desk : Sites → ℕ → Desk
+desk sites failures = record { sites = sites; failures = failures }

@@ -1,20 +1,28 @@
 //! What each command does.
 
-ghost use Rattle.std.specs.Prelude.{◌≡◌, ◌+◌, ◌<◌, ◌^◌, length, IfOk, MatchResult, Some, None, option_map};
+ghost use Rattle.std.specs.Prelude.{◌≤◌, ◌≡◌, ◌+◌, ◌<◌, ◌^◌, length, All, IfOk, IfSome, MatchOption, MatchResult, Result, Some, None, option_map};
 ghost use Rattle.desk_script.specs.Lines.{line_of};
 ghost use Rattle.desk_script.specs.Reply.{reply};
 ghost use Rattle.desk_script.specs.Reply as replies;
 ghost use Rattle.desk_script.specs.Request as requests;
 ghost use Rattle.desk_script.specs.Request.{request};
-ghost use Rattle.desk_ops.specs.Op.{stamp_of};
-ghost use Rattle.desk_script.specs.Effect.{Allows, Does, Says, told, after, first_of, made_of, all_made, all_symbols, Inserts, edit_refused, stopped_after, set_of};
+ghost use Rattle.desk_ops.specs.Op.{stamp_of, IsLawful};
+ghost use Rattle.desk_replica.specs.declared.Count.{Count};
+ghost use Rattle.desk_script.specs.World.{Brings, taken};
+ghost use Rattle.desk_script.specs.World as changes;
+ghost use Rattle.desk_script.specs.Sites.{desk};
+ghost use Rattle.desk_script.specs.Effect.{Allows, Performs, Does, Happens, Says, told, after, first_of, made_of, all_made, all_symbols, Inserts, edit_refused, stopped_after, set_of, sent, Takes};
 
 use crate::command::{Command, ParseError};
+use crate::files::Files;
+use crate::job::{cast_lines, ribbon};
+use crate::memory::Memory;
 use crate::reader::parse;
 use crate::text::{Refusal, Response};
 use crate::world::{Answer, Event, StepRefusal, World};
+use desk_codec::{ReadFault, read_feed};
 use desk_held::AddRefusal;
-use desk_ops::{NoMemory, Op, Stamp, Symbol};
+use desk_ops::{Key, NoMemory, Op, Stamp, Symbol};
 use desk_replica::{Replica, Stopped};
 use std::alloc::Allocator;
 
@@ -65,7 +73,7 @@ fn told<A: Allocator + Copy>(given: Result<Answer, StepRefusal>) -> Result<Respo
 }
 
 /// The replica of the site that a command names.
-fn replica_of<A: Allocator + Copy>(world: &World<A>, site: u32) -> Option<&Replica<A>>
+pub fn replica_of<A: Allocator + Copy>(world: &World<A>, site: u32) -> Option<&Replica<A>>
     ensures { option_map (λ r. r.now.ops) result ≡ set_of world.now site }
 {
     let Ok(number) = u16::try_from(site) else {
@@ -84,22 +92,131 @@ fn add_site<A: Allocator + Copy>(world: &mut World<A>, site: u32) -> Result<Resp
     told(given)
 }
 
+/// The number of a site that is there.
+fn number_of<A: Allocator + Copy>(world: &World<A>, site: u32) -> Option<u16>
+    ensures { result ≡ option_map (λ _. site) (set_of world.now site) }
+{
+    let Ok(number) = u16::try_from(site) else {
+        return None;
+    };
+    match world.replica(number) {
+        None => None,
+        Some(_) => Some(number),
+    }
+}
+
+/// The operations at the places of a range, or all.
+fn sent(ops: &[Op], range: Option<(u32, u32)>) -> Option<&[Op]>
+    requires { All IsLawful ops.now }
+    ensures value { option_map (λ s. s.now) result ≡ sent ops.now range }
+    ensures lawful { IfSome result (λ s. All IsLawful s.now) }
+{
+    let Some((from, to)) = range else {
+        return Some(ops);
+    };
+    if from <= to && to as usize <= ops.len() {
+        Some(&ops[from as usize..to as usize])
+    } else {
+        None
+    }
+}
+
+/// Gives a site the operations at the places of a range, or all.
+fn give_part<A: Allocator + Copy>(
+    world: &mut World<A>,
+    to: u16,
+    ops: &[Op],
+    range: Option<(u32, u32)>,
+) -> Result<Response<A>, NoMemory>
+    requires { All IsLawful ops.now }
+    ensures { IfOk result (λ a. MatchOption (sent ops.now range) (Says (replies.Refused Refusal.Place) world.old (reply a) world.new) (λ part. Happens world.old (changes.Give to part) (reply a) world.new)) }
+{
+    let Some(ops) = sent(ops, range) else {
+        return Ok(Response::Refused(Refusal::Place));
+    };
+    let given = world.step(&Event::Give { to, ops });
+    told(given)
+}
+
 fn send<A: Allocator + Copy>(
     world: &mut World<A>,
     from: u32,
     to: u32,
+    range: Option<(u32, u32)>,
 ) -> Result<Response<A>, NoMemory>
-    ensures { IfOk result (λ a. Does world.old (requests.Send from to None) (reply a) world.new) }
+    ensures { IfOk result (λ a. Does world.old (requests.Send from to range) (reply a) world.new) }
 {
     let Some(replica) = replica_of(world, from) else {
         return Ok(Response::Refused(Refusal::Site));
     };
     let ops = replica.in_order()?;
-    let Ok(to) = u16::try_from(to) else {
+    let Some(to) = number_of(world, to) else {
         return Ok(Response::Refused(Refusal::Site));
     };
+    give_part(world, to, &ops, range)
+}
+
+fn merge<A: Allocator + Copy>(
+    world: &mut World<A>,
+    to: u32,
+    from: u32,
+) -> Result<Response<A>, NoMemory>
+    ensures { IfOk result (λ a. Does world.old (requests.Merge to from) (reply a) world.new) }
+{
+    let Some(to) = number_of(world, to) else {
+        return Ok(Response::Refused(Refusal::Site));
+    };
+    let Some(replica) = replica_of(world, from) else {
+        return Ok(Response::Refused(Refusal::Site));
+    };
+    let ops = replica.in_order()?;
     let given = world.step(&Event::Give { to, ops: &ops });
     told(given)
+}
+
+/// Brings operations to a site that is there.
+fn bring<A: Allocator + Copy>(
+    world: &mut World<A>,
+    site: u16,
+    ops: &[Op],
+) -> Result<Response<A>, NoMemory>
+    requires { All IsLawful ops.now }
+    ensures { IfOk result (λ a. (given : Result Count StepRefusal) × Brings world.old site ops.now given world.new × (told (taken given) ≡ Some (reply a))) }
+{
+    match world.bring(site, ops) {
+        Ok(count) => told(Ok(Answer::Taken(count))),
+        Err(why) => told(Err(why)),
+    }
+}
+
+/// Takes a feed at a site that is there.
+fn take_feed<A: Allocator + Copy>(
+    alloc: A,
+    world: &mut World<A>,
+    site: u16,
+    feed: &[u8],
+) -> Result<Response<A>, NoMemory>
+    ensures { IfOk result (λ a. Takes world.old site feed.now (reply a) world.new) }
+{
+    match read_feed(alloc, feed) {
+        Ok(ops) => bring(world, site, &ops),
+        Err(ReadFault::Fault(fault)) => Ok(Response::Refused(Refusal::Feed(fault))),
+        Err(ReadFault::Failed | ReadFault::NoMemory) => Err(NoMemory),
+    }
+}
+
+fn take<A: Allocator + Copy>(
+    alloc: A,
+    world: &mut World<A>,
+    site: u32,
+    feed: &[u8],
+) -> Result<Response<A>, NoMemory>
+    ensures { IfOk result (λ a. Does world.old (requests.Take site feed.now) (reply a) world.new) }
+{
+    let Some(site) = number_of(world, site) else {
+        return Ok(Response::Refused(Refusal::Site));
+    };
+    take_feed(alloc, world, site, feed)
 }
 
 /// A refusal after that many edits says that these stand.
@@ -210,6 +327,46 @@ fn insert<A: Allocator + Copy>(
     insert_all(world, number, place as usize, copy)
 }
 
+fn delete<A: Allocator + Copy>(
+    world: &mut World<A>,
+    site: u32,
+    place: u32,
+) -> Result<Response<A>, NoMemory>
+    ensures { IfOk result (λ a. Does world.old (requests.Delete site place) (reply a) world.new) }
+{
+    let Some(site) = number_of(world, site) else {
+        return Ok(Response::Refused(Refusal::Site));
+    };
+    let place = place as usize;
+    let given = world.step(&Event::Delete { site, place });
+    told(given)
+}
+
+fn set<A: Allocator + Copy>(
+    world: &mut World<A>,
+    site: u32,
+    key: Key,
+    value: u32,
+) -> Result<Response<A>, NoMemory>
+    ensures { IfOk result (λ a. Does world.old (requests.SetTo site key value) (reply a) world.new) }
+{
+    let Some(site) = number_of(world, site) else {
+        return Ok(Response::Refused(Refusal::Site));
+    };
+    let given = world.step(&Event::Set { site, key, value });
+    told(given)
+}
+
+fn restart<A: Allocator + Copy>(world: &mut World<A>, site: u32) -> Result<Response<A>, NoMemory>
+    ensures { IfOk result (λ a. Does world.old (requests.Restart site) (reply a) world.new) }
+{
+    let Some(site) = number_of(world, site) else {
+        return Ok(Response::Refused(Refusal::Site));
+    };
+    let given = world.step(&Event::Restart(site));
+    told(given)
+}
+
 fn show<A: Allocator + Copy>(world: &World<A>, site: u32) -> Result<Response<A>, NoMemory>
     ensures { IfOk result (λ a. Does world.now (requests.Show site) (reply a) world.now) }
 {
@@ -217,6 +374,24 @@ fn show<A: Allocator + Copy>(world: &World<A>, site: u32) -> Result<Response<A>,
         return Ok(Response::Refused(Refusal::Site));
     };
     Ok(Response::Copy(replica.copy()?))
+}
+
+fn faults<A: Allocator + Copy>(world: &World<A>, site: u32) -> Result<Response<A>, NoMemory>
+    ensures { IfOk result (λ a. Does world.now (requests.Faults site) (reply a) world.now) }
+{
+    let Some(replica) = replica_of(world, site) else {
+        return Ok(Response::Refused(Refusal::Site));
+    };
+    Ok(Response::Faults(replica.copy_faults()?))
+}
+
+fn settings<A: Allocator + Copy>(world: &World<A>, site: u32) -> Result<Response<A>, NoMemory>
+    ensures { IfOk result (λ a. Does world.now (requests.Settings site) (reply a) world.now) }
+{
+    let Some(replica) = replica_of(world, site) else {
+        return Ok(Response::Refused(Refusal::Site));
+    };
+    Ok(Response::Settings(replica.settings()))
 }
 
 fn feed<A: Allocator + Copy>(world: &World<A>, site: u32) -> Result<Response<A>, NoMemory>
@@ -229,39 +404,48 @@ fn feed<A: Allocator + Copy>(world: &World<A>, site: u32) -> Result<Response<A>,
 }
 
 /// Does what a command says.
-fn act<A: Allocator + Copy>(
+fn act<F: Files, A: Allocator + Copy>(
+    memory: Memory<A>,
     world: &mut World<A>,
+    files: &mut F,
     command: Command<'_, A>,
 ) -> Result<Response<A>, NoMemory>
-    ensures { IfOk result (λ a. Does world.old (request command.entry) (reply a) world.new) }
+    ensures told { IfOk result (λ a. Performs (desk world.old (F.count files.old)) (request command.entry) (reply a) (desk world.new (F.count files.new))) }
+    ensures counted { F.count files.old ≤ F.count files.new }
 {
     match command {
         Command::Site(site) => add_site(world, site),
         Command::Insert { site, place, copy } => insert(world, site, place, &copy),
-        Command::Send {
-            from,
-            to,
-            range: None,
-        } => send(world, from, to),
+        Command::Delete { site, place } => delete(world, site, place),
+        Command::Set { site, key, value } => set(world, site, key, value),
+        Command::Take { site, feed } => take(memory.own, world, site, &feed),
+        Command::Send { from, to, range } => send(world, from, to, range),
+        Command::Merge { to, from } => merge(world, to, from),
         Command::Show(site) => show(world, site),
+        Command::Faults(site) => faults(world, site),
+        Command::Settings(site) => settings(world, site),
         Command::Feed(site) => feed(world, site),
-        _ => Ok(Response::Refused(Refusal::Command)),
+        Command::Ribbon { site, case, wedge } => ribbon(memory, world, files, site, case, wedge),
+        Command::Cast { site, case, wedge } => cast_lines(memory, world, files, site, case, wedge),
+        Command::Restart(site) => restart(world, site),
     }
 }
 
 /// Does what a line says.
-pub fn answer<A: Allocator + Copy>(
-    alloc: A,
+pub fn answer<F: Files, A: Allocator + Copy>(
+    memory: Memory<A>,
     world: &mut World<A>,
+    files: &mut F,
     line: &[u8],
 ) -> Result<Response<A>, NoMemory>
-    ensures { IfOk result (λ a. Allows world.old (line_of line.now) (reply a) world.new) }
+    ensures told { IfOk result (λ a. Allows (desk world.old (F.count files.old)) (line_of line.now) (reply a) (desk world.new (F.count files.new))) }
+    ensures counted { F.count files.old ≤ F.count files.new }
 {
     if line.len() > MAX_LINE {
         return Ok(Response::Refused(Refusal::Line));
     }
-    match parse(alloc, line) {
-        Ok(command) => act(world, command),
+    match parse(memory.own, line) {
+        Ok(command) => act(memory, world, files, command),
         Err(ParseError::Form) => Ok(Response::Refused(Refusal::Command)),
         Err(ParseError::NoMemory) => Err(NoMemory),
     }

@@ -5,18 +5,20 @@ ghost use Rattle.desk_ops.specs.Op.{IsLawful};
 ghost use Rattle.desk_codec.specs.Feed.{IsFeed};
 ghost use Rattle.desk_script.specs.Faults.{IsCrowded, IsOfFeed, IsOfStoring, IsUnopened};
 ghost use Rattle.desk_script.specs.Files.{HasFailed};
+ghost use Rattle.desk_script.specs.Sites.{desk};
 ghost use Rattle.desk_script.specs.Stored.{AnswersStored, AnswersStoredFront, IsStart, Stores, one_site};
 
 use crate::fault::RunFault;
 use crate::files::{FileRefusal, Files};
+use crate::memory::Memory;
 use crate::storing::store;
-use crate::stream::commands;
+use crate::stream::answer_all;
 use crate::world::World;
 use desk_codec::{ReadFault, read_feed};
 use desk_held::AddRefusal;
 use desk_ops::Op;
 use desk_replica::Replica;
-use std::alloc::Allocator;
+use std::alloc::{Allocator, Global};
 use std::io::{Read, Write};
 
 /// The operations of a feed's bytes. `Failed` is never told of them.
@@ -80,7 +82,7 @@ fn opened<F: Files, A: Allocator + Copy>(
     site: u16,
 ) -> Result<World<A>, RunFault>
     requires { 1 ≤ site }
-    ensures ok { IfOk result (IsStart (F.gives files.old name.now) site) }
+    ensures ok { IfOk result (λ w. IsStart (F.gives files.old name.now) (F.count files.old) site (desk w (F.count files.new))) }
     ensures err { IfErr result (IsUnopened (F.gives files.old name.now) (F.count files.old) (F.count files.new)) }
     ensures counted { F.count files.old ≤ F.count files.new }
 {
@@ -121,6 +123,7 @@ fn keep_feed<F: Files, A: Allocator + Copy>(
 /// no file is changed. After an `Err` what was written is the front of answer lines, or nothing.
 pub fn run_on_feed<R: Read, W: Write, F: Files, A: Allocator + Copy>(
     alloc: A,
+    global: Global,
     reader: &mut R,
     writer: &mut W,
     files: &mut F,
@@ -128,8 +131,8 @@ pub fn run_on_feed<R: Read, W: Write, F: Files, A: Allocator + Copy>(
     site: u16,
 ) -> Result<(), RunFault>
     requires { 1 ≤ site }
-    ensures ok { OnOk result (IfSome (R.remaining reader.old) (λ input. AnswersStored (F.gives files.old name.now) site input (W.contents writer.old) (W.contents writer.new))) }
-    ensures err { OnErr result (IfSome (R.remaining reader.old) (λ input. AnswersStoredFront (F.gives files.old name.now) site input (W.contents writer.old) (W.contents writer.new))) }
+    ensures ok { OnOk result (IfSome (R.remaining reader.old) (λ input. AnswersStored (F.gives files.old name.now) (F.count files.old) site input (W.contents writer.old) (W.contents writer.new))) }
+    ensures err { OnErr result (IfSome (R.remaining reader.old) (λ input. AnswersStoredFront (F.gives files.old name.now) (F.count files.old) site input (W.contents writer.old) (W.contents writer.new))) }
     ensures feed { IfErr result (IsOfFeed (F.gives files.old name.now)) }
     ensures device { IsErrOf result (RunFault.File FileRefusal.Device) → HasFailed (F.count files.old) (F.count files.new) }
 {
@@ -137,7 +140,7 @@ pub fn run_on_feed<R: Read, W: Write, F: Files, A: Allocator + Copy>(
         Ok(world) => world,
         Err(fault) => return Err(fault),
     };
-    if let Err(fault) = commands(alloc, &mut world, reader, writer, files) {
+    if let Err(fault) = answer_all(Memory { own: alloc, global }, &mut world, reader, writer, files) {
         return Err(fault);
     }
     keep_feed(alloc, &world, files, name, site)

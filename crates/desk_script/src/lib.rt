@@ -7,7 +7,10 @@ mod copy;
 mod fault;
 mod feed_run;
 mod files;
+mod inputs;
+mod job;
 mod laws;
+mod memory;
 mod number;
 mod reader;
 mod storing;
@@ -20,7 +23,7 @@ pub use command::{Command, ParseError};
 pub use fault::RunFault;
 pub use feed_run::run_on_feed;
 pub use files::{FileRefusal, Files, MAX_FILE, NoFiles};
-pub use laws::law_of_copy;
+pub use laws::{law_of_copy, law_of_longest_runs, law_of_spelling};
 pub use reader::parse;
 pub use storing::store;
 pub use stream::{MAX_READS, run};
@@ -31,3 +34,7 @@ pub use world::{Answer, Event, MAX_SITES, StepRefusal, World};
 mod file_tests;
 #[cfg(test)]
 mod tests;
+#[cfg(test)]
+mod worked;
+#[cfg(test)]
+mod worlds;

@@ -5,7 +5,7 @@ use std::alloc::{Allocator, Global};
 use std::test::Fail;
 
 /// What a script is answered, read in steps of so many bytes.
-fn answers<A: Allocator + Copy>(
+pub fn answers<A: Allocator + Copy>(
     alloc: A,
     input: &[u8],
     step: usize,

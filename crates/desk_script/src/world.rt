@@ -8,10 +8,11 @@ ghost use Rattle.desk_ops.specs.Op.{IsLawful};
 ghost use Rattle.desk_ops.specs.OpSet.{has_op};
 ghost use Rattle.desk_replica.specs.State.{State};
 ghost use Rattle.desk_script.specs.Sites.{no_sites, is_held, all_held, sites_of, IsUpdated};
-ghost use Rattle.desk_script.specs.World.{Steps, change, IsSound, Edits, Gains};
+ghost use Rattle.desk_script.specs.World.{Steps, change, IsSound, Edits, EditsSite, Gains, Brings, taken, IsReopened};
 ghost use Rattle.desk_script.specs.World as world;
 
-use desk_ops::{NoMemory, Op, Symbol};
+use desk_held::AddRefusal;
+use desk_ops::{Key, NoMemory, Op, Symbol};
 use desk_replica::{Count, Replica, Stopped};
 use indexmap::IndexMap;
 use std::alloc::Allocator;
@@ -33,11 +34,32 @@ pub enum Event<'a> {
         place: usize,
         symbol: Symbol,
     },
+    /// The symbol at a place of a site's copy is deleted.
+    Delete {
+        site: u16,
+        place: usize,
+    },
+    /// A setting of the job is set at a site.
+    Set {
+        site: u16,
+        key: Key,
+        value: u32,
+    },
     /// A site is given operations that some site holds.
     Give {
         to: u16,
         ops: &'a [Op],
     },
+    /// A site is opened again from the operations that it holds.
+    Restart(u16),
+}
+
+/// A local edit.
+#[derive(Clone, Copy)]
+pub enum LocalEdit {
+    Insert { place: usize, symbol: Symbol },
+    Delete { place: usize },
+    Set { key: Key, value: u32 },
 }
 
 /// What an event has done.
@@ -94,13 +116,13 @@ impl<A: Allocator + Copy> Model for World<A> {
 }
 
 /// Gives a replica operations.
-fn gain<A: Allocator + Copy>(replica: &mut Replica<A>, ops: &[Op]) -> Result<Answer, StepRefusal>
+fn gain<A: Allocator + Copy>(replica: &mut Replica<A>, ops: &[Op]) -> Result<Count, StepRefusal>
     requires { All IsLawful ops.now }
     ensures site { replica.new.site ≡ replica.old.site }
     ensures ops { Gains replica.old.ops ops.now result replica.new.ops }
 {
     match replica.take_all(ops) {
-        Ok(count) => Ok(Answer::Taken(count)),
+        Ok(count) => Ok(count),
         Err(stop) => Err(StepRefusal::Halted(stop)),
     }
 }
@@ -110,7 +132,7 @@ fn gain_at<A: Allocator + Copy>(
     sites: &mut SiteMap<A>,
     to: u16,
     ops: &[Op],
-) -> Result<Answer, StepRefusal>
+) -> Result<Count, StepRefusal>
     requires { All IsLawful ops.now }
     ensures { MatchOption (lookup (nat_eq to) sites.old.entries) ((result ≡ Err StepRefusal.NoSite) × (sites.new.entries ≡ sites.old.entries))
         (λ s. (t : State) × IsUpdated sites.old.entries sites.new.entries to s t × Gains s.ops ops.now result t.ops) }
@@ -121,35 +143,83 @@ fn gain_at<A: Allocator + Copy>(
     gain(replica, ops)
 }
 
-/// Inserts a symbol into a replica's copy.
+fn taken(given: Result<Count, StepRefusal>) -> Result<Answer, StepRefusal>
+    ensures { result ≡ taken given }
+{
+    match given {
+        Ok(count) => Ok(Answer::Taken(count)),
+        Err(why) => Err(why),
+    }
+}
+
+/// Edits a replica.
 fn edit<A: Allocator + Copy>(
     replica: &mut Replica<A>,
-    place: usize,
-    symbol: Symbol,
+    change: LocalEdit,
 ) -> Result<Answer, StepRefusal>
     ensures site { replica.new.site ≡ replica.old.site }
-    ensures ops { Edits replica.old place symbol result replica.new }
+    ensures ops { Edits replica.old change result replica.new }
 {
-    match replica.insert_at(place, symbol) {
+    let made = match change {
+        LocalEdit::Insert { place, symbol } => replica.insert_at(place, symbol),
+        LocalEdit::Delete { place } => replica.delete_at(place),
+        LocalEdit::Set { key, value } => replica.set(key, value),
+    };
+    match made {
         Ok(op) => Ok(Answer::Made(op)),
         Err(why) => Err(StepRefusal::Edit(why)),
     }
 }
 
-/// Inserts a symbol into a site's copy. The others stay.
+/// Edits a site. The others stay.
 fn edit_at<A: Allocator + Copy>(
     sites: &mut SiteMap<A>,
     site: u16,
-    place: usize,
-    symbol: Symbol,
+    change: LocalEdit,
 ) -> Result<Answer, StepRefusal>
     ensures { MatchOption (lookup (nat_eq site) sites.old.entries) ((result ≡ Err StepRefusal.NoSite) × (sites.new.entries ≡ sites.old.entries))
-        (λ s. (t : State) × IsUpdated sites.old.entries sites.new.entries site s t × Edits s place symbol result t) }
+        (λ s. (t : State) × IsUpdated sites.old.entries sites.new.entries site s t × Edits s change result t) }
 {
     let Some(replica) = sites.get_mut(&site) else {
         return Err(StepRefusal::NoSite);
     };
-    edit(replica, place, symbol)
+    edit(replica, change)
+}
+
+/// Opens a replica again from the operations that it holds.
+fn reopen<A: Allocator + Copy>(alloc: A, replica: &mut Replica<A>) -> Result<Answer, StepRefusal>
+    ensures site { replica.new.site ≡ replica.old.site }
+    ensures ops { replica.new.ops ≡ replica.old.ops }
+    ensures answer { IsReopened replica.old.ops result }
+{
+    let Ok(ops) = replica.in_order() else {
+        return Err(StepRefusal::Halted(Stopped {
+            taken: 0,
+            why: AddRefusal::NoMemory,
+        }));
+    };
+    match Replica::open(alloc, replica.site(), &ops) {
+        Ok(anew) => {
+            *replica = anew;
+            Ok(Answer::Done)
+        }
+        Err(stop) => Err(StepRefusal::Halted(stop)),
+    }
+}
+
+/// Opens a site again. The others stay.
+fn reopen_at<A: Allocator + Copy>(
+    alloc: A,
+    sites: &mut SiteMap<A>,
+    site: u16,
+) -> Result<Answer, StepRefusal>
+    ensures { MatchOption (lookup (nat_eq site) sites.old.entries) ((result ≡ Err StepRefusal.NoSite) × (sites.new.entries ≡ sites.old.entries))
+        (λ s. (t : State) × IsUpdated sites.old.entries sites.new.entries site s t × (t.ops ≡ s.ops) × IsReopened s.ops result) }
+{
+    let Some(replica) = sites.get_mut(&site) else {
+        return Err(StepRefusal::NoSite);
+    };
+    reopen(alloc, replica)
 }
 
 /// Whether some site holds the operation.
@@ -226,6 +296,15 @@ impl<A: Allocator + Copy> World<A> {
         }
     }
 
+    /// Gives a site operations that may come from outside the world: `NoSite`, or `Halted` after the first `taken`. No
+    /// other site changes.
+    pub fn bring(&mut self, site: u16, ops: &[Op]) -> Result<Count, StepRefusal>
+        requires { All IsLawful ops.now }
+        ensures { Brings self.old site ops.now result self.new }
+    {
+        gain_at(&mut self.sites, site, ops)
+    }
+
     fn give(&mut self, to: u16, ops: &[Op]) -> Result<Answer, StepRefusal>
         requires { All IsLawful ops.now }
         ensures { Steps self.old (world.Give to ops.now) result self.new }
@@ -236,13 +315,20 @@ impl<A: Allocator + Copy> World<A> {
         if !self.all_held(ops) {
             return Err(StepRefusal::Strange);
         }
-        gain_at(&mut self.sites, to, ops)
+        let given = self.bring(to, ops);
+        taken(given)
     }
 
-    fn insert(&mut self, site: u16, place: usize, symbol: Symbol) -> Result<Answer, StepRefusal>
-        ensures { Steps self.old (world.Insert site place symbol) result self.new }
+    fn edit(&mut self, site: u16, change: LocalEdit) -> Result<Answer, StepRefusal>
+        ensures { EditsSite self.old site change result self.new }
     {
-        edit_at(&mut self.sites, site, place, symbol)
+        edit_at(&mut self.sites, site, change)
+    }
+
+    fn restart(&mut self, site: u16) -> Result<Answer, StepRefusal>
+        ensures { Steps self.old (world.Restart site) result self.new }
+    {
+        reopen_at(self.alloc, &mut self.sites, site)
     }
 
     /// Lets an event happen. It changes the named site alone, and `Give` asks for lawful operations.
@@ -256,8 +342,11 @@ impl<A: Allocator + Copy> World<A> {
                 site,
                 place,
                 symbol,
-            } => self.insert(site, place, symbol),
+            } => self.edit(site, LocalEdit::Insert { place, symbol }),
+            Event::Delete { site, place } => self.edit(site, LocalEdit::Delete { place }),
+            Event::Set { site, key, value } => self.edit(site, LocalEdit::Set { key, value }),
             Event::Give { to, ops } => self.give(to, ops),
+            Event::Restart(site) => self.restart(site),
         }
     }
 }

@@ -1,10 +1,10 @@
-use Rattle.std.proofs.Common.{rules, ◌≡◌, ◌∷◌, [], List, sym, subst, false}
-use Rattle.std.proofs.lemmas.Result.{on_err_weaker, on_ok_weaker}
-use Rattle.desk_script.specs.Script.{Turn, Fronts}
-use Rattle.desk_script.specs.Pending.{last_line}
+use Rattle.std.proofs.Common.{rules, [], sym, subst}
+use Rattle.std.proofs.lemmas.Result.{on_err_weaker}
+use Rattle.desk_script.specs.Sites.{desk}
+use Rattle.desk_script.specs.Script.{Fronts}
 use Rattle.desk_script.proofs.Cutting.{last_some}
 use Rattle.desk_script.proofs.stream.finish.Goals as goal
 
 pub returns-clause-err : goal.returns-clause-err
 returns-clause-err g c =
-    on_err_weaker c.take_line.result (λ h. subst (Fronts c.args.world.now (g.W.Write.contents c.args.writer.now) (g.W.Write.contents c.take_line.new.writer)) (sym (last_some c.args.line.now (search rules))) (h [])) c.take_line.ensures.err
+    on_err_weaker c.take_line.result (λ h. subst (Fronts (desk c.args.world.now (g.F.Files.count c.args.files.now)) (g.W.Write.contents c.args.writer.now) (g.W.Write.contents c.take_line.new.writer)) (sym (last_some c.args.line.now (search rules))) (h [])) c.take_line.ensures.err

@@ -1,4 +1,4 @@
-use Rattle.std.proofs.Common.{◌≡◌, ◌≤◌, length, rules, arith}
+use Rattle.std.proofs.Common.{◌≤◌, length, rules}
 use Rattle.std.proofs.lemmas.Bool.{ne_eqb}
 use Rattle.desk_script.proofs.Cutting.{skips}
 use Rattle.desk_script.proofs.stream.keep.Goals as goal

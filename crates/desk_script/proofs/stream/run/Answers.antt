@@ -1,10 +1,12 @@
-use Rattle.std.proofs.Common.{rules, ◌≡◌}
 use Rattle.std.proofs.lemmas.Result.{on_err_weaker, on_ok_weaker}
-use Rattle.desk_script.proofs.Feeds.{from_nothing, front_from_nothing}
+use Rattle.desk_script.specs.Sites.{no_sites}
+use Rattle.desk_script.proofs.Carry.{run_whole, run_front}
 use Rattle.desk_script.proofs.stream.run.Goals as goal
 
 pub returns-clause-ok : goal.returns-clause-ok
-returns-clause-ok g c = on_ok_weaker c.commands.result (from_nothing c.new-world.result c.commands.new.world _ _ _ c.new-world.ensures) c.commands.ensures.ok
+returns-clause-ok g c =
+    on_ok_weaker c.answer_all.result (run_whole c.new-world.result no_sites c.answer_all.new.world (g.F.Files.count c.args.files.now) (g.F.Files.count c.answer_all.new.files) (g.R.Read.remaining c.args.reader.now) _ _ c.new-world.ensures) c.answer_all.ensures.ok
 
 pub returns-clause-err : goal.returns-clause-err
-returns-clause-err g c = on_err_weaker c.commands.result (front_from_nothing c.new-world.result _ _ _ c.new-world.ensures) c.commands.ensures.err
+returns-clause-err g c =
+    on_err_weaker c.answer_all.result (run_front c.new-world.result no_sites (g.F.Files.count c.args.files.now) (g.R.Read.remaining c.args.reader.now) _ _ c.new-world.ensures) c.answer_all.ensures.err

@@ -1,6 +1,5 @@
-use Rattle.std.proofs.Common.{◌≡◌, ℕ, ◌+◌, ◌≤◌, List, ◌++◌, length, take, drop, refl, sym, ap, subst, ◌∙◌, arith, rules, take-append-drop}
-use Rattle.std.specs.Io.KnownBytes.{Appends, Keeps}
-use Rattle.std.proofs.KnownBytes.{Appends-trans, Appends-kept}
+use Rattle.std.proofs.Common.{◌+◌, take, drop, sym, take-append-drop}
+use Rattle.std.proofs.KnownBytes.{Appends-kept}
 use Rattle.desk_script.proofs.Bytes.{sends_more}
 use Rattle.desk_script.proofs.stream.send.Goals as goal
 

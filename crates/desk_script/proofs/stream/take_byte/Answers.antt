@@ -1,5 +1,5 @@
-use Rattle.std.proofs.Common.{rules, ◌≡◌, ◌++◌, ◌∷◌, [], ap, ◌∙◌, eq-eqb}
-use Rattle.std.proofs.lemmas.Result.{on_err_weaker, on_ok_weaker}
+use Rattle.std.proofs.Common.{◌∷◌, [], ap, ◌∙◌, eq-eqb}
+use Rattle.std.proofs.lemmas.Result.{on_ok_weaker}
 use Rattle.desk_script.specs.Lines.{without_cr, line_of}
 use Rattle.desk_script.proofs.Turns.{no_front, no_turn}
 use Rattle.desk_script.proofs.Bytes.{on_err}

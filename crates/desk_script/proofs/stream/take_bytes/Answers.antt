@@ -1,5 +1,6 @@
-use Rattle.std.proofs.Common.{rules, ◌≡◌, ℕ, List, ◌+◌, ◌<◌, length, ◌++◌, ◌∷◌, [], drop, get_or, ap, ◌∙◌, sym, append_assoc, add-one, drop-cons, subst, refl}
+use Rattle.std.proofs.Common.{◌≡◌, ℕ, ◌+◌, ◌<◌, length, ◌++◌, ◌∷◌, drop, get_or, ap, ◌∙◌, sym, append_assoc, add-one, drop-cons, subst, refl}
 use Rattle.std.proofs.lemmas.List.{at_drop_all}
+use Rattle.desk_script.specs.Sites.{desk}
 use Rattle.desk_script.specs.Script.{Fronts}
 use Rattle.desk_script.specs.Pending.{lines_from}
 use Rattle.desk_script.proofs.Turns.{turn_turn, turn_front}
@@ -10,9 +11,9 @@ returns-in-Err-clause-err g c more =
     let i : ℕ = c.loop-b.b-index in
     let lt : i < length c.args.bytes.now = c.loop-b-test.true in
     let step : drop i c.args.bytes.now ≡ get_or c.args.bytes.now i 0 ∷ drop (i + 1) c.args.bytes.now = rw (add-one, drop-cons c.args.bytes.now i 0) refl in
-    subst (Fronts c.args.world.now (g.W.Write.contents c.args.writer.now) (g.W.Write.contents c.take_byte.new.writer))
+    subst (Fronts (desk c.args.world.now (g.F.Files.count c.args.files.now)) (g.W.Write.contents c.args.writer.now) (g.W.Write.contents c.take_byte.new.writer))
     (sym (c.loop-b.invariant.moves.2 more ∙ ap (λ l. c.loop-b.invariant.moves.0 ++ lines_from c.loop-b.line.items (l ++ more)) step))
-    (turn_front _ c.loop-b.world _ (g.W.Write.contents c.loop-b.writer) _ c.loop-b.invariant.moves.0 _ c.loop-b.invariant.moves.1 (c.in-Err.ensures.err (drop (i + 1) c.args.bytes.now ++ more)))
+    (turn_front _ (desk c.loop-b.world (g.F.Files.count c.loop-b.files)) _ (g.W.Write.contents c.loop-b.writer) _ c.loop-b.invariant.moves.0 _ c.loop-b.invariant.moves.1 (c.in-Err.ensures.err (drop (i + 1) c.args.bytes.now ++ more)))
 
 pub loop-b-preserved : goal.loop-b-preserved
 loop-b-preserved g c =
@@ -23,7 +24,7 @@ loop-b-preserved g c =
       kept = c.take_byte.ensures.kept;
       moves = (
         c.loop-b.invariant.moves.0 ++ turn.0,
-        turn_turn _ c.loop-b.world _ _ (g.W.Write.contents c.loop-b.writer) _ c.loop-b.invariant.moves.0 turn.0 c.loop-b.invariant.moves.1 turn.1,
+        turn_turn _ (desk c.loop-b.world (g.F.Files.count c.loop-b.files)) _ _ (g.W.Write.contents c.loop-b.writer) _ c.loop-b.invariant.moves.0 turn.0 c.loop-b.invariant.moves.1 turn.1,
         λ more. c.loop-b.invariant.moves.2 more ∙ ap (λ l. c.loop-b.invariant.moves.0 ++ lines_from c.loop-b.line.items (l ++ more)) step
             ∙ ap (λ l. c.loop-b.invariant.moves.0 ++ l) (turn.2 (drop (i + 1) c.args.bytes.now ++ more)) ∙ sym (append_assoc c.loop-b.invariant.moves.0 turn.0 (lines_from c.take_byte.new.line.items (drop (i + 1) c.args.bytes.now ++ more))),
       );

@@ -1,5 +1,6 @@
-use Rattle.std.proofs.Common.{◌≡◌, ◌∙◌}
+use Rattle.std.proofs.Common.{◌∙◌}
 use Rattle.std.proofs.lemmas.Result.{on_err_weaker, on_ok_weaker}
+use Rattle.desk_script.specs.Sites.{desk}
 use Rattle.desk_script.specs.Lines.{line_of}
 use Rattle.desk_script.proofs.Turns.{no_front, one_turn, one_front}
 use Rattle.desk_script.proofs.stream.take_line.Goals as goal
@@ -15,4 +16,4 @@ returns-clause-ok g c =
 pub returns-clause-err : goal.returns-clause-err
 returns-clause-err g c =
     let a = c.in-Ok.ensures in
-    on_err_weaker c.send.result (λ written more. one_front _ c.answered.new.world _ _ (line_of c.args.line.now) c.as_bytes.result.now a.0 more a.1 (c.as_bytes.ensures.value ∙ a.2) written) c.send.ensures.err
+    on_err_weaker c.send.result (λ written more. one_front _ (desk c.answered.new.world (g.F.Files.count c.answered.new.files)) _ _ (line_of c.args.line.now) c.as_bytes.result.now a.0 more a.1 (c.as_bytes.ensures.value ∙ a.2) written) c.send.ensures.err

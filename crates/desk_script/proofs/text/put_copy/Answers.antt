@@ -1,4 +1,4 @@
-use Rattle.std.proofs.Common.{◌≡◌, ◌++◌, string_bytes, refl}
+use Rattle.std.proofs.Common.{◌++◌, string_bytes, refl}
 use Rattle.desk_script.specs.Text.{copy_text}
 use Rattle.desk_script.proofs.Texts.{copy_put}
 use Rattle.desk_script.proofs.text.put_copy.Goals as goal

@@ -1,4 +1,4 @@
-use Rattle.std.proofs.Common.{◌≡◌, sym, refl, nat_eq, ◌∙◌, rules, subst}
+use Rattle.std.proofs.Common.{◌≡◌, sym, nat_eq, rules, subst}
 use Rattle.std.specs.Prelude.{Some, IsSome}
 use Rattle.std.specs.Map.{lookup}
 use Rattle.desk_script.proofs.Kept.{GainsAt}

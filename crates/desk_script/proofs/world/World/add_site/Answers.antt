@@ -1,4 +1,4 @@
-use Rattle.std.proofs.Common.{◌≡◌, ◌==◌, false, true, sym, ap, ◌∙◌, refl, rules, arith, length, ◌≤◌, ◌<◌, ◌+◌, cond, nat_eq}
+use Rattle.std.proofs.Common.{◌≡◌, false, true, ap, ◌∙◌, refl, rules, length, ◌+◌, cond, nat_eq}
 use Rattle.std.specs.Prelude.{is_some, None, Ok, Err, nat_le}
 use Rattle.std.specs.FinMap as fin
 use Rattle.std.specs.Map.{lookup}

@@ -1,0 +1,11 @@
+mod Examples
+pub mod Sums
+pub mod LineSizes
+pub mod Widths
+pub mod Adding
+pub mod Parts
+pub mod Paragraphs
+pub mod Bounds
+pub mod Replicas
+pub mod ReadLaws
+pub mod ShortLaws

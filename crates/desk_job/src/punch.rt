@@ -1,0 +1,144 @@
+//! The matrices of a line, and the line as it is punched.
+
+ghost use Rattle.std.specs.Prelude.{◌≡◌, ◌+◌, ◌-◌, ◌*◌, ◌≤◌, ◌<◌, ◌^◌, ◌++◌, ◌∷◌, [], length, replicate, All, OnOk, IfOk, if◌then◌else◌, true, false};
+ghost use Rattle.std.specs.List.{zip};
+ghost use Rattle.desk_job.specs.Job as job;
+ghost use Rattle.desk_job.specs.Setting.{IsWord, set_rows, words_at};
+
+use crate::line::Setting;
+use crate::terms::Terms;
+use desk_case::MatrixCase;
+use desk_lines::Word;
+use desk_ops::{NoMemory, Symbol};
+use desk_ribbon::{Punch, PunchLine, Punches, RibbonWriter};
+use desk_signals::Cell;
+use std::alloc::Allocator;
+
+/// Appends the matrices of a word.
+fn add_word<A: Allocator>(
+    punches: &mut Vec<Punch, A>,
+    case: &MatrixCase,
+    word: &[Symbol],
+) -> Result<(), NoMemory>
+    ensures { OnOk result (punches.new.items ≡ punches.old.items ++ job.word_punches case.now word.now) }
+{
+    for symbol in word {
+        if let Some(cell) = case.cell_of(*symbol) {
+            punches.push(Punch { cell, s: false })?;
+        }
+    }
+    Ok(())
+}
+
+/// Appends a space that is justified.
+fn add_space<A: Allocator>(
+    punches: &mut Vec<Punch, A>,
+    case: &MatrixCase,
+) -> Result<(), NoMemory>
+    ensures { OnOk result (punches.new.items ≡ punches.old.items ++ job.space_punch case.now ∷ []) }
+{
+    punches.push(Punch {
+        cell: case.space(),
+        s: true,
+    })?;
+    Ok(())
+}
+
+/// Appends the matrices of words, with a space before each.
+fn add_more_words<A: Allocator>(
+    punches: &mut Vec<Punch, A>,
+    case: &MatrixCase,
+    copy: &[Symbol],
+    words: &[Word],
+) -> Result<(), NoMemory>
+    requires { All (IsWord copy.now) words.now }
+    ensures { OnOk result (punches.new.items ≡ punches.old.items ++ job.spaced_punches case.now (words_at copy.now words.now)) }
+{
+    for word in words {
+        add_space(punches, case)?;
+        add_word(punches, case, &copy[word.from..word.to])?;
+    }
+    Ok(())
+}
+
+/// Appends the matrices of words, with a space between each two.
+fn add_words<A: Allocator>(
+    punches: &mut Vec<Punch, A>,
+    case: &MatrixCase,
+    copy: &[Symbol],
+    words: &[Word],
+) -> Result<(), NoMemory>
+    requires { All (IsWord copy.now) words.now }
+    ensures { OnOk result (punches.new.items ≡ punches.old.items ++ job.words_punches case.now (words_at copy.now words.now)) }
+{
+    let [first, more @ ..] = words else {
+        return Ok(());
+    };
+    add_word(punches, case, &copy[first.from..first.to])?;
+    add_more_words(punches, case, copy, more)
+}
+
+/// Appends a matrix so many times.
+fn add_times<A: Allocator>(
+    punches: &mut Vec<Punch, A>,
+    punch: &Punch,
+    count: u32,
+) -> Result<(), NoMemory>
+    ensures { OnOk result (punches.new.items ≡ punches.old.items ++ replicate count punch.now) }
+{
+    for _ in 0..count {
+        punches.push(*punch)?;
+    }
+    Ok(())
+}
+
+/// Appends each fill as often as it is used.
+fn add_fills<A: Allocator>(
+    punches: &mut Vec<Punch, A>,
+    counts: &[u32],
+    cells: &[Cell],
+) -> Result<(), NoMemory>
+    requires { length counts.now ≤ length cells.now }
+    ensures { OnOk result (punches.new.items ≡ punches.old.items ++ job.fill_punches (zip counts.now cells.now)) }
+{
+    for (i, count) in counts.iter().enumerate() {
+        let punch = Punch {
+            cell: cells[i],
+            s: false,
+        };
+        add_times(punches, &punch, *count)?;
+    }
+    Ok(())
+}
+
+/// Punches a line of these words, as it is set.
+pub fn punch<A: Allocator + Copy>(
+    ribbon: &mut RibbonWriter<A>,
+    alloc: A,
+    terms: &Terms,
+    copy: &[Symbol],
+    words: &[Word],
+    setting: &Setting,
+) -> Result<(), NoMemory>
+    requires words { All (IsWord copy.now) words.now }
+    requires fills { length setting.now.fills.items ≤ length terms.now.case.fill }
+    requires room { length ribbon.old + length (set_rows terms.now (words_at copy.now words.now) setting.now) + 1 < 2 ^ 32 }
+    ensures { OnOk result (ribbon.new ≡ ribbon.old ++ set_rows terms.now (words_at copy.now words.now) setting.now) }
+{
+    let Some((coarse, fine)) = setting.pair else {
+        return Ok(());
+    };
+    let case = terms.case();
+    let mut punches = Vec::new(alloc);
+    add_words(&mut punches, case, copy, words)?;
+    if setting.added {
+        add_space(&mut punches, case)?;
+    }
+    add_fills(&mut punches, setting.fills.as_slice(), case.fill())?;
+    ribbon.push(&PunchLine {
+        matrices: Punches::from_vec(punches),
+        coarse,
+        fine,
+    })?;
+    Ok(())
+}
