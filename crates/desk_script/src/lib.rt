@@ -27,6 +27,8 @@ pub use text::{Refusal, Response, put};
 pub use world::{Answer, Event, MAX_SITES, StepRefusal, World};
 
 #[cfg(test)]
+mod jobs;
+#[cfg(test)]
 mod tests;
 #[cfg(test)]
 mod worked;
