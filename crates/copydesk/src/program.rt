@@ -164,18 +164,18 @@ pub fn program<R: Read, W: Write, E: Write, F: Files>(
     files: &mut F,
 ) -> u8
     ensures status { result ≤ 2 }
-    ensures done { result ≡ 0 → IsRun (F.gives files.old) (map string_bytes words.now) (R.remaining reader.old) (W.contents writer.old) (W.contents writer.new)
+    ensures done { result ≡ 0 → IsRun (F.gives files.old) (F.count files.old) (F.count files.new) (map string_bytes words.now) (R.remaining reader.old) (W.contents writer.old) (W.contents writer.new)
         ⊎ (AsksHelp (map string_bytes words.now) × (reader.new ≡ reader.old) × (files.new ≡ files.old)) }
-    ensures stopped { result ≡ 1 → IsStopped (F.gives files.old) (map string_bytes words.now) (R.remaining reader.old) (W.contents writer.old) (W.contents writer.new) }
+    ensures stopped { result ≡ 1 → IsStopped (F.gives files.old) (F.count files.old) (map string_bytes words.now) (R.remaining reader.old) (W.contents writer.old) (W.contents writer.new) }
     ensures refused { result ≡ 2 → AsksNothing (map string_bytes words.now) × (reader.new ≡ reader.old) × (writer.new ≡ writer.old) × (files.new ≡ files.old) }
 {
     match understood(alloc, words) {
         Ok(Wish::Script) => {
-            let outcome = run(alloc, reader, writer, files);
+            let outcome = run(alloc, alloc, reader, writer, files);
             status_of(faults, outcome)
         }
         Ok(Wish::Desk { feed, site }) => {
-            let outcome = run_on_feed(alloc, reader, writer, files, feed, site);
+            let outcome = run_on_feed(alloc, alloc, reader, writer, files, feed, site);
             status_of(faults, outcome)
         }
         Ok(Wish::Nothing) => 2,

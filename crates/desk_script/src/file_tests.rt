@@ -80,6 +80,7 @@ fn answered_on(
     let mut reader = TrialReader::new(input);
     match run_on_feed(
         alloc,
+        alloc,
         &mut reader,
         &mut written,
         files,
@@ -122,7 +123,7 @@ fn refused_on(
     files.put("a.feed", bytes)?;
     let mut writer = TrialWriter::new(alloc);
     let mut reader = TrialReader::new(b"show 3\n");
-    let result = run_on_feed(alloc, &mut reader, &mut writer, &mut files, "a.feed", 3);
+    let result = run_on_feed(alloc, alloc, &mut reader, &mut writer, &mut files, "a.feed", 3);
     if !writer.written().is_empty() || !holds(&files, "a.feed", bytes) {
         return Ok(None);
     }
@@ -174,6 +175,7 @@ fn feed_stored_after_stopped_run(rt: HostRuntime) -> Result<(), Fail> {
     let mut reader = TrialReader::new(b"insert 3 0 r\"y\"\nshow 3\n");
     let result = run_on_feed(
         rt.alloc(),
+        rt.alloc(),
         &mut reader,
         &mut writer,
         &mut files,
@@ -195,6 +197,7 @@ fn not_stored_after_all_answers(rt: HostRuntime) -> Result<(), Fail> {
     let mut writer = TrialWriter::new(rt.alloc());
     let mut reader = TrialReader::new(b"insert 3 0 r\"y\"\n");
     let result = run_on_feed(
+        rt.alloc(),
         rt.alloc(),
         &mut reader,
         &mut writer,

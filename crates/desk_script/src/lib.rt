@@ -33,6 +33,8 @@ pub use world::{Answer, Event, MAX_SITES, StepRefusal, World};
 #[cfg(test)]
 mod file_tests;
 #[cfg(test)]
+mod jobs;
+#[cfg(test)]
 mod tests;
 #[cfg(test)]
 mod worked;
