@@ -1,9 +1,10 @@
 //! The copy desk's command line.
 #![tactic(auto)]
 
+mod host;
 mod program;
 
-use desk_script::NoFiles;
+use host::HostFiles;
 use program::program;
 use std::process::ExitCode;
 use std::{env, io};
@@ -16,7 +17,7 @@ fn main(rt: HostRuntime) -> ExitCode {
             &mut rt.reader(),
             &mut io::writer(&rt),
             &mut rt.stderr(),
-            &mut NoFiles,
+            &mut HostFiles::new(&rt),
         )),
         Err(_) => ExitCode::from(2),
     }
@@ -31,5 +32,7 @@ fn words_of<R: std::rt::Env + AllocGlobal>(rt: &R) -> io::Result<Vec<String>> {
     Ok(words)
 }
 
+#[cfg(test)]
+mod host_tests;
 #[cfg(test)]
 mod tests;

@@ -1,15 +1,45 @@
 //! What the words of the command line ask for, done.
 
-ghost use Rattle.std.specs.Prelude.{◌≡◌, ◌≢◌, ◌≤◌, ◌⊎◌, IfOk, IfSome, map, string_bytes};
-ghost use Rattle.clap.specs.Words.{FailsBy, app_of, fault_of, kind_of};
-ghost use Rattle.desk_script.specs.Script.{Answers, AnswersFront};
-ghost use Rattle.copydesk.specs.Words.{AsksHelp, AsksScript, HasFault, copydesk};
+ghost use Rattle.std.specs.Prelude.{◌≡◌, ◌≢◌, ◌≤◌, ◌⊎◌, ℕ, IfOk, IfSome, IsNone, MatchResult, false, map, string_bytes};
+ghost use Rattle.clap.specs.Words.{FailsBy, Text, app_of, fault_of, found_of, kind_of, rows_of, subcommand_rows_of};
+ghost use Rattle.clap.specs.declared.builder.command.Command.TheViews.{out-Command};
+ghost use Rattle.copydesk.specs.Runs.{IsRun, IsStopped};
+ghost use Rattle.copydesk.specs.Words.{AsksFor, AsksHelp, AsksNothing, HasSite, NamesDesk, Wishes, copydesk, desk_app};
 
 use clap::error::ErrorKind;
-use clap::{Command, Error};
-use desk_script::{Files, RunFault, run};
+use clap::{Arg, ArgMatches, Command, Error, value_parser};
+use desk_script::{Files, RunFault, run, run_on_feed};
 use std::alloc::{AllocError, Global};
 use std::io::{Read, Write};
+
+/// What the words ask for.
+#[derive(Clone, Copy)]
+enum Wish<'a> {
+    /// A script.
+    Script,
+    /// A script on a stored feed, for a site.
+    Desk { feed: &'a str, site: u16 },
+    /// Nothing that can be done.
+    Nothing,
+}
+
+fn desk_command<'a>(alloc: Global) -> Result<Command<'a>, AllocError>
+    ensures app { IfOk result (λ c. app_of c ≡ desk_app) }
+    ensures local { IfOk result (λ c. (out-Command c).has_globals ≡ false) }
+{
+    let feed = Arg::new(alloc, "feed")
+        .required(true)
+        .help("The name of the file that the feed is stored in.");
+    let site = Arg::new(alloc, "site")
+        .long("site")
+        .required(true)
+        .value_parser(value_parser!(u16).range(1..))
+        .help("The number of the site whose feed it is, from 1 to 65535.");
+    Command::new(alloc, "desk")
+        .about("Runs commands from standard input to standard output on a stored feed.")
+        .arg(feed)?
+        .arg(site)
+}
 
 fn command<'a>(alloc: Global) -> Result<Command<'a>, AllocError>
     ensures { IfOk result (λ c. app_of c ≡ copydesk) }
@@ -17,20 +47,72 @@ fn command<'a>(alloc: Global) -> Result<Command<'a>, AllocError>
     let script = Command::new(alloc, "script").about(
         "Runs commands from standard input to standard output.",
     );
+    let desk = desk_command(alloc)?;
     Command::new(alloc, "copydesk")
         .about("A copy desk for Monotype composition.")
         .no_binary_name(true)
         .subcommand_required(true)
-        .subcommand(script)
+        .subcommand(script)?
+        .subcommand(desk)
+}
+
+/// The site's number that a subcommand's matches hold.
+fn site_of(matches: &ArgMatches<'_>) -> Option<u16>
+    ensures some { IfSome result (HasSite (rows_of (found_of matches.now))) }
+    ensures none { IsNone result → (site : ℕ) → HasSite (rows_of (found_of matches.now)) site → ⊥ }
+{
+    match matches.get_one::<u16>("site") {
+        Some(site) => {
+            if site == 0 {
+                return None;
+            }
+            Some(site)
+        }
+        None => None,
+    }
+}
+
+/// The feed's name and the site's number that a subcommand's matches hold.
+fn desk_of<'a>(matches: &ArgMatches<'a>) -> Option<(&'a str, u16)>
+    ensures some { IfSome result (λ p. NamesDesk (rows_of (found_of matches.now)) p.0.now p.1) }
+    ensures none { IsNone result → (feed : Text) (site : ℕ) → NamesDesk (rows_of (found_of matches.now)) feed site → ⊥ }
+{
+    match matches.get_str("feed") {
+        Some(feed) => match site_of(matches) {
+            Some(site) => Some((feed, site)),
+            None => None,
+        },
+        None => None,
+    }
+}
+
+/// What the matches ask for.
+fn wish_of<'a>(matches: &ArgMatches<'a>) -> Wish<'a>
+    ensures { Wishes (subcommand_rows_of matches.now) result }
+{
+    let Some((name, inner)) = matches.subcommand() else {
+        return Wish::Nothing;
+    };
+    if name == "script" {
+        return Wish::Script;
+    }
+    if name != "desk" {
+        return Wish::Nothing;
+    }
+    match desk_of(inner) {
+        Some((feed, site)) => Wish::Desk { feed, site },
+        None => Wish::Nothing,
+    }
 }
 
 /// Reads the words.
-fn understood(alloc: Global, words: &[String]) -> Result<(), Error>
-    ensures { FailsBy (fault_of copydesk (map string_bytes words.now)) result }
+fn understood<'a>(alloc: Global, words: &'a [String]) -> Result<Wish<'a>, Error>
+    ensures kinds { FailsBy (fault_of copydesk (map string_bytes words.entry.now)) result }
+    ensures wish { IfOk result (AsksFor (map string_bytes words.entry.now)) }
 {
     let command = command(alloc)?;
-    let _matches = command.try_get_matches_from(words)?;
-    Ok(())
+    let matches = command.try_get_matches_from(words)?;
+    Ok(wish_of(&matches))
 }
 
 /// Writes what stopped a run, and gives the status of it.
@@ -39,6 +121,16 @@ fn stopped<E: Write>(faults: &mut E, fault: RunFault) -> u8
 {
     let _ = writeln!(faults, "copydesk: {fault}");
     1
+}
+
+/// The status of a run.
+fn status_of<E: Write>(faults: &mut E, outcome: Result<(), RunFault>) -> u8
+    ensures { MatchResult outcome (λ _. result ≡ 0) (λ _. result ≡ 1) }
+{
+    match outcome {
+        Ok(()) => 0,
+        Err(fault) => stopped(faults, fault),
+    }
 }
 
 /// What `clap` says of the words: its help goes to the writer, and a refusal to the faults.
@@ -72,16 +164,21 @@ pub fn program<R: Read, W: Write, E: Write, F: Files>(
     files: &mut F,
 ) -> u8
     ensures status { result ≤ 2 }
-    ensures done { result ≡ 0 → (AsksScript (map string_bytes words.now) × IfSome (R.remaining reader.old) (λ input. Answers input (W.contents writer.old) (W.contents writer.new)))
-        ⊎ (AsksHelp (map string_bytes words.now) × (reader.new ≡ reader.old)) }
-    ensures stopped { result ≡ 1 → IfSome (R.remaining reader.old) (λ input. AnswersFront input (W.contents writer.old) (W.contents writer.new)) }
-    ensures refused { result ≡ 2 → HasFault (map string_bytes words.now) × (reader.new ≡ reader.old) × (writer.new ≡ writer.old) }
+    ensures done { result ≡ 0 → IsRun (F.gives files.old) (F.count files.old) (F.count files.new) (map string_bytes words.now) (R.remaining reader.old) (W.contents writer.old) (W.contents writer.new)
+        ⊎ (AsksHelp (map string_bytes words.now) × (reader.new ≡ reader.old) × (files.new ≡ files.old)) }
+    ensures stopped { result ≡ 1 → IsStopped (F.gives files.old) (F.count files.old) (map string_bytes words.now) (R.remaining reader.old) (W.contents writer.old) (W.contents writer.new) }
+    ensures refused { result ≡ 2 → AsksNothing (map string_bytes words.now) × (reader.new ≡ reader.old) × (writer.new ≡ writer.old) × (files.new ≡ files.old) }
 {
     match understood(alloc, words) {
-        Ok(()) => match run(alloc, reader, writer, files) {
-            Ok(()) => 0,
-            Err(fault) => stopped(faults, fault),
-        },
+        Ok(Wish::Script) => {
+            let outcome = run(alloc, alloc, reader, writer, files);
+            status_of(faults, outcome)
+        }
+        Ok(Wish::Desk { feed, site }) => {
+            let outcome = run_on_feed(alloc, alloc, reader, writer, files, feed, site);
+            status_of(faults, outcome)
+        }
+        Ok(Wish::Nothing) => 2,
         Err(error) => refused(writer, faults, &error),
     }
 }

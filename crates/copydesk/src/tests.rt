@@ -1,8 +1,9 @@
 use crate::program::program;
-use desk_script::NoFiles;
-use desk_script::trial::{AtEnd, TrialReader, TrialWriter};
+use desk_script::trial::{AtEnd, TrialFiles, TrialReader, TrialWriter};
+use desk_script::{Files, NoFiles};
 use std::alloc::{AllocError, Global};
 use std::test::Fail;
+use std::{fs, io};
 
 /// A status, what was written, and what was told of faults.
 #[derive(Drop)]
@@ -21,24 +22,18 @@ fn words(alloc: Global, line: &str) -> Result<Vec<String>, AllocError> {
     Ok(words)
 }
 
-/// Runs the program on the words, with no files.
-fn attempt(
+/// Runs the program on the words.
+fn attempt<F: Files>(
     alloc: Global,
     words: &[String],
     reader: TrialReader<'_>,
     writer: TrialWriter<Global>,
+    files: &mut F,
 ) -> Outcome {
     let mut reader = reader;
     let mut written = writer;
     let mut faults = TrialWriter::new(alloc);
-    let status = program(
-        alloc,
-        words,
-        &mut reader,
-        &mut written,
-        &mut faults,
-        &mut NoFiles,
-    );
+    let status = program(alloc, words, &mut reader, &mut written, &mut faults, files);
     Outcome {
         status,
         written,
@@ -47,14 +42,25 @@ fn attempt(
 }
 
 /// Runs the program on the words of a line, with a reader and a writer that do not fail.
-fn tried(alloc: Global, line: &str, input: &[u8]) -> Result<Outcome, AllocError> {
+fn tried_on<F: Files>(
+    alloc: Global,
+    line: &str,
+    input: &[u8],
+    files: &mut F,
+) -> Result<Outcome, AllocError> {
     let words = words(alloc, line)?;
     Ok(attempt(
         alloc,
         &words,
         TrialReader::new(input),
         TrialWriter::new(alloc),
+        files,
     ))
+}
+
+/// The same, with no files.
+fn tried(alloc: Global, line: &str, input: &[u8]) -> Result<Outcome, AllocError> {
+    tried_on(alloc, line, input, &mut NoFiles)
 }
 
 const TWO_SITES: &[u8] = b"site 1\nsite 2\ninsert 1 0 r\"ab\"\nsend 1 2\nshow 1\nshow 2\nfeed 2\n";
@@ -81,10 +87,16 @@ fn refused_words(rt: HostRuntime) -> Result<(), Fail> {
     let none = Vec::new(rt.alloc());
     let reader = TrialReader::new(TWO_SITES);
     let writer = TrialWriter::new(rt.alloc());
-    assert!(rt; is_refused(&attempt(rt.alloc(), &none, reader, writer)));
+    assert!(rt; is_refused(&attempt(rt.alloc(), &none, reader, writer, &mut NoFiles)));
     assert!(rt; is_refused(&tried(rt.alloc(), "jump", TWO_SITES)?));
     assert!(rt; is_refused(&tried(rt.alloc(), "script script", TWO_SITES)?));
     assert!(rt; is_refused(&tried(rt.alloc(), "Script", TWO_SITES)?));
+    assert!(rt; is_refused(&tried(rt.alloc(), "desk", TWO_SITES)?));
+    assert!(rt; is_refused(&tried(rt.alloc(), "desk a.feed", TWO_SITES)?));
+    assert!(rt; is_refused(&tried(rt.alloc(), "desk --site 3", TWO_SITES)?));
+    assert!(rt; is_refused(&tried(rt.alloc(), "desk a.feed --site 65536", TWO_SITES)?));
+    assert!(rt; is_refused(&tried(rt.alloc(), "desk a.feed --site x", TWO_SITES)?));
+    assert!(rt; is_refused(&tried(rt.alloc(), "desk a.feed --site 3 --site 3", TWO_SITES)?));
     Ok(())
 }
 
@@ -98,6 +110,7 @@ fn help_is_written(rt: HostRuntime) -> Result<(), Fail> {
     assert!(rt; is_help(&tried(rt.alloc(), "help", b"")?));
     assert!(rt; is_help(&tried(rt.alloc(), "--help", b"")?));
     assert!(rt; is_help(&tried(rt.alloc(), "script --help", b"")?));
+    assert!(rt; is_help(&tried(rt.alloc(), "help desk", b"")?));
     Ok(())
 }
 
@@ -106,7 +119,7 @@ fn failing_writer(rt: HostRuntime) -> Result<(), Fail> {
     let words = words(rt.alloc(), "script")?;
     let reader = TrialReader::new(b"site 1\nsite 2\n");
     let writer = TrialWriter::new(rt.alloc()).with_room(5, AtEnd::Fails);
-    let got = attempt(rt.alloc(), &words, reader, writer);
+    let got = attempt(rt.alloc(), &words, reader, writer, &mut NoFiles);
     assert_eq!(rt; got.status, 1);
     assert_eq!(rt; got.written.written(), b"ok\nok".as_slice());
     assert_eq!(rt; got.faults.written(), b"copydesk: write fault\n".as_slice());
@@ -120,9 +133,111 @@ fn failing_reader(rt: HostRuntime) -> Result<(), Fail> {
         .in_steps_of(7)
         .failing_at_call(2);
     let writer = TrialWriter::new(rt.alloc());
-    let got = attempt(rt.alloc(), &words, reader, writer);
+    let got = attempt(rt.alloc(), &words, reader, writer, &mut NoFiles);
     assert_eq!(rt; got.status, 1);
     assert_eq!(rt; got.written.written(), b"ok\n".as_slice());
     assert_eq!(rt; got.faults.written(), b"copydesk: read fault\n".as_slice());
+    Ok(())
+}
+
+/// One insert, 1.3.
+const ONE_INSERT: &[u8] = b"MFD1\x01\0\0\0\0\0\0\0\x01\0\x03\0\0\0\0\0\0\0\0\0\0\0\0\0\0x";
+
+/// Whether a file of that name has these bytes.
+fn holds(files: &TrialFiles<Global>, name: &str, bytes: &[u8]) -> bool {
+    match files.bytes_of(name) {
+        Some(kept) => kept == bytes,
+        None => false,
+    }
+}
+
+#[test]
+fn full_set_and_stored_feed(rt: HostRuntime) -> Result<(), Fail> {
+    assert!(rt; is_refused(&tried(rt.alloc(), "desk a.feed --site 0", b"site 1\n")?));
+    let none = Vec::new(rt.alloc());
+    let reader = TrialReader::new(b"site 1\n");
+    let writer = TrialWriter::new(rt.alloc());
+    assert!(rt; is_refused(&attempt(rt.alloc(), &none, reader, writer, &mut NoFiles)));
+
+    let mut files = TrialFiles::new(rt.alloc());
+    let got = tried_on(
+        rt.alloc(),
+        "desk a.feed --site 3",
+        b"insert 3 0 r\"x\"\n",
+        &mut files,
+    )?;
+    assert_eq!(rt; got.status, 0);
+    assert_eq!(rt; got.written.written(), b"ok 1.3\n".as_slice());
+    assert!(rt; holds(&files, "a.feed", ONE_INSERT));
+    let got = tried_on(rt.alloc(), "desk a.feed --site=3", b"show 3\n", &mut files)?;
+    assert_eq!(rt; got.status, 0);
+    assert_eq!(rt; got.written.written(), b"copy r\"x\"\n".as_slice());
+    assert_eq!(rt; got.faults.written(), b"".as_slice());
+    Ok(())
+}
+
+#[test]
+fn refused_stored_feed(rt: HostRuntime) -> Result<(), Fail> {
+    let mut files = TrialFiles::new(rt.alloc());
+    files.put("a.feed", b"MF")?;
+    let got = tried_on(rt.alloc(), "desk a.feed --site 3", b"show 3\n", &mut files)?;
+    assert_eq!(rt; got.status, 1);
+    assert_eq!(rt; got.written.written(), b"".as_slice());
+    assert_eq!(rt;
+        got.faults.written(),
+        b"copydesk: feed refused\n".as_slice()
+    );
+    assert!(rt; holds(&files, "a.feed", b"MF"));
+    Ok(())
+}
+
+/// The feed of so many settings, each of the measure.
+fn settings_feed(alloc: Global, count: u64) -> Result<Vec<u8>, AllocError> {
+    let mut bytes = Vec::new(alloc);
+    bytes.extend_from_slice(b"MFD1")?;
+    for counter in 0..count {
+        bytes.push(3)?;
+        bytes.extend_from_slice(&counter.wrapping_add(1).to_be_bytes())?;
+        bytes.extend_from_slice(b"\0\x01\x01\0\0\0\x0c")?;
+    }
+    Ok(bytes)
+}
+
+#[test]
+fn too_many_stored(rt: HostRuntime) -> Result<(), Fail> {
+    let feed = settings_feed(rt.alloc(), 1_048_577)?;
+    let mut files = TrialFiles::new(rt.alloc());
+    files.put("a.feed", &feed)?;
+    let got = tried_on(rt.alloc(), "desk a.feed --site 3", b"show 3\n", &mut files)?;
+    assert_eq!(rt; got.status, 1);
+    assert_eq!(rt; got.written.written(), b"".as_slice());
+    assert_eq!(rt; got.faults.written(), b"copydesk: not opened\n".as_slice());
+    assert!(rt; holds(&files, "a.feed", &feed));
+    Ok(())
+}
+
+#[test]
+fn failing_files(rt: HostRuntime) -> Result<(), Fail> {
+    let mut files = TrialFiles::new(rt.alloc()).failing_at_call(3);
+    let got = tried_on(rt.alloc(), "desk a.feed --site 3", b"show 3\n", &mut files)?;
+    assert_eq!(rt; got.status, 1);
+    assert_eq!(rt; got.written.written(), b"copy\n".as_slice());
+    assert_eq!(rt; got.faults.written(), b"copydesk: file fault\n".as_slice());
+    assert!(rt; files.bytes_of("a.feed").is_none());
+    Ok(())
+}
+
+#[test]
+fn feed_stored_after_stopped_run(rt: HostRuntime) -> Result<(), Fail> {
+    let mut files = TrialFiles::new(rt.alloc());
+    files.put("a.feed", ONE_INSERT)?;
+    let words = words(rt.alloc(), "desk a.feed --site 3")?;
+    let reader = TrialReader::new(b"insert 3 0 r\"y\"\nshow 3\n");
+    let writer = TrialWriter::new(rt.alloc()).with_room(5, AtEnd::Fails);
+    let got = attempt(rt.alloc(), &words, reader, writer, &mut files);
+    assert_eq!(rt; got.status, 1);
+    assert_eq!(rt; got.written.written(), b"ok 2.".as_slice());
+    assert_eq!(rt; got.faults.written(), b"copydesk: write fault\n".as_slice());
+    assert!(rt; holds(&files, "a.feed", ONE_INSERT));
     Ok(())
 }

@@ -9,29 +9,29 @@ use Rattle.desk_script.specs.Reading.{◌>>=◌}
 use Rattle.desk_script.specs.Copy.{symbol, step, copy_from}
 use Rattle.desk_script.specs.Text.{opening, quoted, turn, copy_chars_from}
 
-by_cases : {G : Type 0} (b : Bool) → (b ≡ true → G) → (b ≡ false → G) → G
+pub by_cases : {G : Type 0} (b : Bool) → (b ≡ true → G) → (b ≡ false → G) → G
 by_cases {G} b hit miss = (elim b as (λ v. (v ≡ true → G) → (v ≡ false → G) → G) [ true ↦ λ h m. h refl | false ↦ λ h m. m refl ]) hit miss
 
-is_same : (c d : ℕ) → (c == d) ≡ true → c ≡ d
+pub is_same : (c d : ℕ) → (c == d) ≡ true → c ≡ d
 is_same c d e = grind (arith, nat_tests)
 
-abbrev onto : Style → ℕ → Option (List Symbol) → Option (List Symbol)
+abbrev pub onto : Style → ℕ → Option (List Symbol) → Option (List Symbol)
 onto style c read = read >>= λ more. Some (symbol style c ∷ more)
 
 onto_is : (style : Style) (c : ℕ) (read : Option (List Symbol)) → (read >>= λ more. Some ((symbol style c ∷ []) ++ more)) ≡ onto style c read
 onto_is style c None = refl
 onto_is style c (Some more) = refl
 
-nothing : (read : Option (List Symbol)) → (read >>= λ more. Some ([] ++ more)) ≡ read
+pub nothing : (read : Option (List Symbol)) → (read >>= λ more. Some ([] ++ more)) ≡ read
 nothing None = refl
 nothing (Some more) = refl
 
 -- a character that stands for itself
-itself : (style : Style) (c : ℕ) (rest : List ℕ) → (c == 92) ≡ false → (c == 34) ≡ false → copy_from (Inside style) (c ∷ rest) ≡ onto style c (copy_from (Inside style) rest)
+pub itself : (style : Style) (c : ℕ) (rest : List ℕ) → (c == 92) ≡ false → (c == 34) ≡ false → copy_from (Inside style) (c ∷ rest) ≡ onto style c (copy_from (Inside style) rest)
 unfolding step
 itself style c rest p q = rw (q, p) refl
 
-itself_first : (style : Style) (c : ℕ) (rest : List ℕ) → (c == 92) ≡ false → (c == 34) ≡ false → copy_from (Opened style) (c ∷ rest) ≡ onto style c (copy_from (Inside style) rest)
+pub itself_first : (style : Style) (c : ℕ) (rest : List ℕ) → (c == 92) ≡ false → (c == 34) ≡ false → copy_from (Opened style) (c ∷ rest) ≡ onto style c (copy_from (Inside style) rest)
 unfolding step
 itself_first style c rest p q = rw (q, p) refl
 

@@ -1,5 +1,5 @@
 -- What each command answers and does.
-use Rattle.std.specs.Prelude.{◌≡◌, ◌+◌, ◌-◌, ◌⊎◌, take, drop, ◌&&◌, Bool, true, [], ◌∷◌, length, nat_le, option_map, ℕ, ◌==◌, nat_lt, List, Option, Some, None, Result, Ok, Err, MatchOption, MatchBool, if◌then◌else◌}
+use Rattle.std.specs.Prelude.{◌≡◌, ◌+◌, ◌-◌, ◌⊎◌, take, drop, ◌&&◌, Bool, true, [], ◌∷◌, length, nat_le, option_map, ℕ, ◌==◌, nat_lt, List, Option, Some, None, Result, Ok, Err, MatchOption, MatchResult, MatchBool, if◌then◌else◌}
 use Rattle.std.specs.FinMap as fin
 use Rattle.desk_ops.specs.Op.{stamp_of, is_symbol}
 use Rattle.desk_ops.specs.declared.op.Op.{Op}
@@ -17,6 +17,17 @@ use Rattle.desk_held.specs.declared.AddRefusal.TheVariants as adds
 use Rattle.desk_replica.specs.declared.Refusal.{Refusal as EditRefusal}
 use Rattle.desk_replica.specs.declared.Refusal.TheVariants as edits
 use Rattle.desk_replica.specs.JobSettings.{settings_of}
+use Rattle.desk_ops.specs.Settings.{setting_of}
+use Rattle.desk_signals.specs.declared.RibbonRow.{RibbonRow}
+use Rattle.desk_case.specs.Case.{CaseValues}
+use Rattle.desk_wedge.specs.Wedge.{WedgeValues}
+use Rattle.desk_ribbon.specs.Ribbon.{ribbon}
+use Rattle.desk_caster.specs.Caster.{Line as CastLine, cast}
+use Rattle.desk_caster.specs.Reading.{IsRibbon}
+use Rattle.desk_job.specs.Job.{job}
+use Rattle.desk_job.specs.declared.JobFault.{JobFault}
+use Rattle.desk_script.specs.Inputs.{BothGive}
+use Rattle.desk_script.specs.Reply.{lines_told}
 use Rattle.desk_script.specs.declared.text.Refusal.{Refusal}
 use Rattle.desk_script.specs.declared.text.Refusal.TheVariants as refusals
 use Rattle.desk_script.specs.declared.world.Answer.{Answer}
@@ -85,6 +96,9 @@ after k (Copy copy) = Copy copy
 after k (replies.Feed bytes) = replies.Feed bytes
 after k (replies.Faults faults) = replies.Faults faults
 after k (replies.Settings settings) = replies.Settings settings
+after k (replies.Ribbon ribbon) = replies.Ribbon ribbon
+after k (replies.NoRibbon faults) = replies.NoRibbon faults
+after k (replies.Lines lines) = replies.Lines lines
 after k (Stopped taken why) = Stopped taken why
 
 abbrev pub made_of : Result Answer StepRefusal → Option Op
@@ -121,7 +135,7 @@ abbrev pub sent : List Op → Option (ℕ × ℕ) → Option (List Op)
 sent ops None = Some ops
 sent ops (Some range) = if nat_le range.0 range.1 && nat_le range.1 (length ops) then Some (take (range.1 - range.0) (drop range.0 ops)) else None
 
--- what a command answers and does. Those that are not there yet are no commands.
+-- what a command that asks for no file answers and does
 abbrev pub Does : Sites → Request → Reply → Sites → Type 0
 Does old (Site n) reply new = MatchBool (nat_lt 65535 n) (Says (Refused refusals.Number) old reply new) (Happens old (changes.Site n) reply new)
 Does old (Insert n place copy) reply new = MatchOption (set_of old n) (Says (Refused refusals.Site) old reply new)
@@ -143,16 +157,55 @@ Does old (Feed n) reply new = MatchOption (set_of old n) (Says (Refused refusals
 Does old (Restart n) reply new = MatchOption (set_of old n) (Says (Refused refusals.Site) old reply new) (λ set. Happens old (changes.Restart n) reply new)
 Does old (Faults n) reply new = MatchOption (set_of old n) (Says (Refused refusals.Site) old reply new) (λ set. Says (replies.Faults (faults_of set)) old reply new)
 Does old (Settings n) reply new = MatchOption (set_of old n) (Says (Refused refusals.Site) old reply new) (λ set. Says (replies.Settings (settings_of set)) old reply new)
-Does old (Ribbon site case wedge) reply new = Says (Refused refusals.Command) old reply new
-Does old (Cast site case wedge) reply new = Says (Refused refusals.Command) old reply new
+Does old (Ribbon n case wedge) reply new = ⊥
+Does old (Cast n case wedge) reply new = ⊥
 
--- a command that asks for no file leaves the device's failures as they are
-abbrev pub Performs : Desk → Request → Reply → Desk → Type 0
-Performs old request reply new = Does old.sites request reply new.sites × (new.failures ≡ old.failures)
-
--- a line that is no command is refused
+-- a line or a command is refused, and nothing changes
 abbrev pub Refuses : Desk → Refusal → Reply → Desk → Type 0
 Refuses old why reply new = (reply ≡ Refused why) × (new ≡ old)
+
+-- the job of a set: the rows of its ribbon, or its faults
+abbrev pub job_of : OpSet → CaseValues → WedgeValues → Result (List RibbonRow) (List JobFault)
+job_of set case wedge = job (copy_of set) (setting_of set) case wedge
+
+abbrev pub TellsRibbon : Result (List RibbonRow) (List JobFault) → Reply → Type 0
+TellsRibbon (Ok rows) reply = reply ≡ replies.Ribbon (ribbon rows)
+TellsRibbon (Err faults) reply = reply ≡ replies.NoRibbon faults
+
+-- bytes are read as a ribbon, and its rows are cast
+abbrev pub TellsCast : CaseValues → WedgeValues → List ℕ → Reply → Type 0
+TellsCast case wedge bytes reply =
+    (rows : List RibbonRow) × IsRibbon bytes rows × ((lines : List CastLine) × (cast case wedge rows ≡ Ok lines) × (reply ≡ replies.Lines (lines_told lines)))
+
+abbrev pub TellsLines : CaseValues → WedgeValues → Result (List RibbonRow) (List JobFault) → Reply → Type 0
+TellsLines case wedge (Ok rows) reply = TellsCast case wedge (ribbon rows) reply
+TellsLines case wedge (Err faults) reply = reply ≡ replies.NoRibbon faults
+
+-- A job at a site: the site is looked up, both files are read, whatever they give, and no set changes.
+abbrev pub Jobs : (OpSet → CaseValues → WedgeValues → Reply → Type 0) → Desk → ℕ → Reply → Desk → Type 0
+Jobs Told old n reply new = MatchOption (set_of old.sites n) (Refuses old refusals.Site reply new)
+    (λ set. (new.sites ≡ old.sites) × ((given : Result (CaseValues × WedgeValues) Refusal) × BothGive old.failures given new.failures
+    × MatchResult given (λ both. Told set both.0 both.1 reply) (λ why. reply ≡ Refused why)))
+
+-- a command that asks for no file leaves the device's failures as they are
+abbrev pub Keeps : Desk → Request → Reply → Desk → Type 0
+Keeps old request reply new = Does old.sites request reply new.sites × (new.failures ≡ old.failures)
+
+abbrev pub Performs : Desk → Request → Reply → Desk → Type 0
+Performs old (Ribbon n case wedge) reply new = Jobs (λ set c w r. TellsRibbon (job_of set c w) r) old n reply new
+Performs old (Cast n case wedge) reply new = Jobs (λ set c w r. TellsLines c w (job_of set c w) r) old n reply new
+Performs old (Site n) reply new = Keeps old (Site n) reply new
+Performs old (Insert n place copy) reply new = Keeps old (Insert n place copy) reply new
+Performs old (Delete n place) reply new = Keeps old (Delete n place) reply new
+Performs old (SetTo n key value) reply new = Keeps old (SetTo n key value) reply new
+Performs old (Take n bytes) reply new = Keeps old (Take n bytes) reply new
+Performs old (Send from to range) reply new = Keeps old (Send from to range) reply new
+Performs old (Merge to from) reply new = Keeps old (Merge to from) reply new
+Performs old (Show n) reply new = Keeps old (Show n) reply new
+Performs old (Faults n) reply new = Keeps old (Faults n) reply new
+Performs old (Settings n) reply new = Keeps old (Settings n) reply new
+Performs old (Feed n) reply new = Keeps old (Feed n) reply new
+Performs old (Restart n) reply new = Keeps old (Restart n) reply new
 
 -- the answer that a line may get, and what it leaves
 abbrev pub Allows : Desk → Line → Reply → Desk → Type 0

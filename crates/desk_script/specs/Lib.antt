@@ -8,8 +8,12 @@ pub mod Reply
 pub mod Examples
 pub mod Sites
 pub mod World
-pub mod Effect
 pub mod Files
+pub mod Inputs
+pub mod Effect
 pub mod Script
+pub mod Stored
+pub mod Faults
 pub mod Pending
+pub mod Spelling
 pub mod Laws

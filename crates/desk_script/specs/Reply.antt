@@ -1,5 +1,7 @@
 -- Answers, without where they lie in memory.
-use Rattle.std.specs.Prelude.{ℕ, List}
+use Rattle.std.specs.Prelude.{ℕ, ℤ, List, map, length}
+use Rattle.desk_caster.specs.Caster.{Line}
+use Rattle.desk_job.specs.declared.JobFault.{JobFault}
 use Rattle.desk_ops.specs.declared.op.Stamp.{Stamp}
 use Rattle.desk_ops.specs.declared.op.Symbol.{Symbol}
 use Rattle.desk_ops.specs.declared.fault.CopyFault.{CopyFault}
@@ -7,6 +9,10 @@ use Rattle.desk_replica.specs.declared.settings.Settings.{Settings as JobSetting
 use Rattle.desk_script.specs.declared.text.Refusal.{Refusal}
 use Rattle.desk_script.specs.declared.text.Response.{Response}
 use Rattle.desk_script.specs.declared.text.Response.TheVariants as responses
+
+-- of each line how many matrices it has, and their width
+abbrev pub lines_told : List Line → List (ℕ × ℤ)
+lines_told lines = map (λ l. (length l.matrices, l.total)) lines
 
 pub data Reply : Type 0 where
   Done : Reply
@@ -17,6 +23,9 @@ pub data Reply : Type 0 where
   Feed : List ℕ → Reply
   Faults : List CopyFault → Reply
   Settings : JobSettings → Reply
+  Ribbon : List ℕ → Reply
+  NoRibbon : List JobFault → Reply
+  Lines : List (ℕ × ℤ) → Reply
   Refused : Refusal → Reply
   Stopped : ℕ → Refusal → Reply
 
@@ -29,5 +38,8 @@ reply (responses.Copy copy) = Copy copy.items
 reply (responses.Feed feed) = Feed feed.items
 reply (responses.Faults faults) = Faults faults.items
 reply (responses.Settings settings) = Settings settings
+reply (responses.Ribbon ribbon) = Ribbon ribbon.items
+reply (responses.NoRibbon faults) = NoRibbon faults
+reply (responses.Lines lines) = Lines (lines_told lines.items)
 reply (responses.Refused why) = Refused why
 reply (responses.Stopped taken why) = Stopped taken why

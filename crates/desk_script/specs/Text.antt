@@ -1,6 +1,6 @@
 -- What answers say.
-use Rattle.std.specs.Prelude.{ℕ, ◌+◌, ◌/◌, ◌%◌, nat_lt, Bool, true, false, ◌==◌, List, [], ◌∷◌, ◌++◌, Option, Some, None, codes, if◌then◌else◌}
-use Rattle.std.specs.Fmt.{decimal}
+use Rattle.std.specs.Prelude.{ℕ, ℤ, length, ◌+◌, ◌/◌, ◌%◌, nat_lt, Bool, true, false, ◌==◌, List, [], ◌∷◌, ◌++◌, Option, Some, None, codes, if◌then◌else◌}
+use Rattle.std.specs.Fmt.{decimal, signed_decimal}
 use Rattle.std.specs.Str.{encode_utf8_all}
 use Rattle.desk_ops.specs.declared.op.Stamp.{Stamp}
 use Rattle.desk_ops.specs.declared.op.Style.{Style}
@@ -14,7 +14,11 @@ use Rattle.desk_ops.specs.declared.fault.FaultKind.{FaultKind}
 use Rattle.desk_ops.specs.declared.fault.FaultKind.TheVariants as kinds
 use Rattle.desk_ops.specs.declared.fault.CopyFault.{CopyFault}
 use Rattle.desk_replica.specs.declared.settings.Settings.{Settings as JobSettings}
-use Rattle.desk_script.specs.Reply.{Reply, Done, Made, MadeMany, Counted, Copy, Feed, Faults, Settings, Refused, Stopped}
+use Rattle.desk_ops.specs.declared.op.Key.{Key}
+use Rattle.desk_ops.specs.declared.op.Key.TheVariants as keys
+use Rattle.desk_job.specs.declared.JobFault.{JobFault}
+use Rattle.desk_job.specs.declared.JobFault.TheVariants as jobs
+use Rattle.desk_script.specs.Reply.{Reply, Done, Made, MadeMany, Counted, Copy, Feed, Faults, Settings, Ribbon, NoRibbon, Lines, Refused, Stopped}
 use Rattle.desk_script.specs.declared.text.Refusal.{Refusal}
 use Rattle.desk_script.specs.declared.text.Refusal.TheVariants as refusals
 
@@ -86,6 +90,11 @@ refusal_text refusals.Site = codes "site"
 refusal_text refusals.Place = codes "place"
 refusal_text refusals.Value = codes "value"
 refusal_text (refusals.Feed fault) = codes "feed " ++ decimal fault.at ++ codes " " ++ fault_text fault.why
+refusal_text refusals.FileMissing = codes "file missing"
+refusal_text refusals.FileDevice = codes "file device"
+refusal_text refusals.FileLarge = codes "file large"
+refusal_text (refusals.Case n) = codes "case " ++ decimal n
+refusal_text (refusals.Wedge n) = codes "wedge " ++ decimal n
 refusal_text refusals.Full = codes "full"
 refusal_text refusals.Clock = codes "clock"
 
@@ -131,6 +140,34 @@ settings_text s =
     codes "measure=" ++ value_text s.measure ++ codes " tight=" ++ value_text s.tight ++ codes " loose=" ++ value_text s.loose
     ++ codes " case=" ++ value_text s.case ++ codes " wedge=" ++ value_text s.wedge
 
+abbrev pub key_text : Key → List ℕ
+key_text keys.Measure = codes "measure"
+key_text keys.Tight = codes "tight"
+key_text keys.Loose = codes "loose"
+key_text keys.Case = codes "case"
+key_text keys.Wedge = codes "wedge"
+
+abbrev pub job_fault_text : JobFault → List ℕ
+job_fault_text (jobs.MissingSetting key) = codes "missing " ++ key_text key
+job_fault_text jobs.OtherCase = codes "other case"
+job_fault_text jobs.OtherWedge = codes "other wedge"
+job_fault_text jobs.Crossed = codes "crossed"
+job_fault_text jobs.FillOrder = codes "fill order"
+job_fault_text jobs.SpaceVanishes = codes "space vanishes"
+job_fault_text (jobs.NoMatrix place) = codes "no matrix " ++ decimal place
+job_fault_text (jobs.TooWide line) = codes "too wide " ++ decimal line
+job_fault_text (jobs.TooLoose line) = codes "too loose " ++ decimal line
+job_fault_text (jobs.CannotFill line) = codes "cannot fill " ++ decimal line
+
+abbrev pub job_faults_text : Bool → List JobFault → List ℕ
+job_faults_text is_first [] = []
+job_faults_text is_first (f ∷ faults) = separator is_first ++ job_fault_text f ++ job_faults_text false faults
+
+-- `MATRICES/TOTAL` of each line, behind a space
+abbrev pub lines_text : List (ℕ × ℤ) → List ℕ
+lines_text [] = []
+lines_text (l ∷ lines) = codes " " ++ decimal l.0 ++ codes "/" ++ signed_decimal l.1 ++ lines_text lines
+
 -- an answer without its end of line
 abbrev pub text : Reply → List ℕ
 text Done = codes "ok"
@@ -141,6 +178,9 @@ text (Copy copy) = codes "copy" ++ shown_text copy
 text (Feed feed) = codes "feed " ++ hex_text feed
 text (Faults faults) = codes "faults" ++ faults_text faults
 text (Settings settings) = codes "settings " ++ settings_text settings
+text (Ribbon ribbon) = codes "ribbon " ++ hex_text ribbon
+text (NoRibbon faults) = codes "no ribbon:" ++ job_faults_text true faults
+text (Lines lines) = codes "lines " ++ decimal (length lines) ++ lines_text lines
 text (Refused why) = codes "refused " ++ refusal_text why
 text (Stopped taken why) = codes "stopped " ++ decimal taken ++ codes " " ++ refusal_text why
 

@@ -1,6 +1,6 @@
 //! What each command does.
 
-ghost use Rattle.std.specs.Prelude.{◌≡◌, ◌+◌, ◌<◌, ◌^◌, length, All, IfOk, IfSome, MatchResult, Result, Some, None, option_map};
+ghost use Rattle.std.specs.Prelude.{◌≤◌, ◌≡◌, ◌+◌, ◌<◌, ◌^◌, length, All, IfOk, IfSome, MatchOption, MatchResult, Result, Some, None, option_map};
 ghost use Rattle.desk_script.specs.Lines.{line_of};
 ghost use Rattle.desk_script.specs.Reply.{reply};
 ghost use Rattle.desk_script.specs.Reply as replies;
@@ -9,11 +9,14 @@ ghost use Rattle.desk_script.specs.Request.{request};
 ghost use Rattle.desk_ops.specs.Op.{stamp_of, IsLawful};
 ghost use Rattle.desk_replica.specs.declared.Count.{Count};
 ghost use Rattle.desk_script.specs.World.{Brings, taken};
+ghost use Rattle.desk_script.specs.World as changes;
 ghost use Rattle.desk_script.specs.Sites.{desk};
-ghost use Rattle.desk_script.specs.Effect.{Allows, Performs, Does, Says, told, after, first_of, made_of, all_made, all_symbols, Inserts, edit_refused, stopped_after, set_of, sent, Takes};
+ghost use Rattle.desk_script.specs.Effect.{Allows, Performs, Does, Happens, Says, told, after, first_of, made_of, all_made, all_symbols, Inserts, edit_refused, stopped_after, set_of, sent, Takes};
 
 use crate::command::{Command, ParseError};
 use crate::files::Files;
+use crate::job::{cast_lines, ribbon};
+use crate::memory::Memory;
 use crate::reader::parse;
 use crate::text::{Refusal, Response};
 use crate::world::{Answer, Event, StepRefusal, World};
@@ -70,7 +73,7 @@ fn told<A: Allocator + Copy>(given: Result<Answer, StepRefusal>) -> Result<Respo
 }
 
 /// The replica of the site that a command names.
-fn replica_of<A: Allocator + Copy>(world: &World<A>, site: u32) -> Option<&Replica<A>>
+pub fn replica_of<A: Allocator + Copy>(world: &World<A>, site: u32) -> Option<&Replica<A>>
     ensures { option_map (λ r. r.now.ops) result ≡ set_of world.now site }
 {
     let Ok(number) = u16::try_from(site) else {
@@ -118,6 +121,23 @@ fn sent(ops: &[Op], range: Option<(u32, u32)>) -> Option<&[Op]>
     }
 }
 
+/// Gives a site the operations at the places of a range, or all.
+fn give_part<A: Allocator + Copy>(
+    world: &mut World<A>,
+    to: u16,
+    ops: &[Op],
+    range: Option<(u32, u32)>,
+) -> Result<Response<A>, NoMemory>
+    requires { All IsLawful ops.now }
+    ensures { IfOk result (λ a. MatchOption (sent ops.now range) (Says (replies.Refused Refusal.Place) world.old (reply a) world.new) (λ part. Happens world.old (changes.Give to part) (reply a) world.new)) }
+{
+    let Some(ops) = sent(ops, range) else {
+        return Ok(Response::Refused(Refusal::Place));
+    };
+    let given = world.step(&Event::Give { to, ops });
+    told(given)
+}
+
 fn send<A: Allocator + Copy>(
     world: &mut World<A>,
     from: u32,
@@ -133,11 +153,7 @@ fn send<A: Allocator + Copy>(
     let Some(to) = number_of(world, to) else {
         return Ok(Response::Refused(Refusal::Site));
     };
-    let Some(ops) = sent(&ops, range) else {
-        return Ok(Response::Refused(Refusal::Place));
-    };
-    let given = world.step(&Event::Give { to, ops });
-    told(given)
+    give_part(world, to, &ops, range)
 }
 
 fn merge<A: Allocator + Copy>(
@@ -389,44 +405,47 @@ fn feed<A: Allocator + Copy>(world: &World<A>, site: u32) -> Result<Response<A>,
 
 /// Does what a command says.
 fn act<F: Files, A: Allocator + Copy>(
-    alloc: A,
+    memory: Memory<A>,
     world: &mut World<A>,
-    _files: &mut F,
+    files: &mut F,
     command: Command<'_, A>,
 ) -> Result<Response<A>, NoMemory>
-    ensures { IfOk result (λ a. Performs (desk world.old (F.count _files.old)) (request command.entry) (reply a) (desk world.new (F.count _files.new))) }
+    ensures told { IfOk result (λ a. Performs (desk world.old (F.count files.old)) (request command.entry) (reply a) (desk world.new (F.count files.new))) }
+    ensures counted { F.count files.old ≤ F.count files.new }
 {
     match command {
         Command::Site(site) => add_site(world, site),
         Command::Insert { site, place, copy } => insert(world, site, place, &copy),
         Command::Delete { site, place } => delete(world, site, place),
         Command::Set { site, key, value } => set(world, site, key, value),
-        Command::Take { site, feed } => take(alloc, world, site, &feed),
+        Command::Take { site, feed } => take(memory.own, world, site, &feed),
         Command::Send { from, to, range } => send(world, from, to, range),
         Command::Merge { to, from } => merge(world, to, from),
         Command::Show(site) => show(world, site),
         Command::Faults(site) => faults(world, site),
         Command::Settings(site) => settings(world, site),
         Command::Feed(site) => feed(world, site),
+        Command::Ribbon { site, case, wedge } => ribbon(memory, world, files, site, case, wedge),
+        Command::Cast { site, case, wedge } => cast_lines(memory, world, files, site, case, wedge),
         Command::Restart(site) => restart(world, site),
-        _ => Ok(Response::Refused(Refusal::Command)),
     }
 }
 
 /// Does what a line says.
 pub fn answer<F: Files, A: Allocator + Copy>(
-    alloc: A,
+    memory: Memory<A>,
     world: &mut World<A>,
     files: &mut F,
     line: &[u8],
 ) -> Result<Response<A>, NoMemory>
-    ensures { IfOk result (λ a. Allows (desk world.old (F.count files.old)) (line_of line.now) (reply a) (desk world.new (F.count files.new))) }
+    ensures told { IfOk result (λ a. Allows (desk world.old (F.count files.old)) (line_of line.now) (reply a) (desk world.new (F.count files.new))) }
+    ensures counted { F.count files.old ≤ F.count files.new }
 {
     if line.len() > MAX_LINE {
         return Ok(Response::Refused(Refusal::Line));
     }
-    match parse(alloc, line) {
-        Ok(command) => act(alloc, world, files, command),
+    match parse(memory.own, line) {
+        Ok(command) => act(memory, world, files, command),
         Err(ParseError::Form) => Ok(Response::Refused(Refusal::Command)),
         Err(ParseError::NoMemory) => Err(NoMemory),
     }

@@ -1,5 +1,8 @@
 //! Why a run of a script stopped.
 
+use crate::files::FileRefusal;
+use desk_codec::FeedFault;
+use desk_replica::Stopped;
 use thiserror::Error;
 
 /// Why a run stopped before its end.
@@ -16,4 +19,13 @@ pub enum RunFault {
     TooLong,
     #[error("no memory")]
     NoMemory,
+    /// The stored bytes are no feed.
+    #[error("feed refused")]
+    Feed(FeedFault),
+    /// The stored feed was not read, or was not stored anew. Want of memory is told as `NoMemory`.
+    #[error("file fault")]
+    File(FileRefusal),
+    /// The stored feed has more operations than a replica holds: the cause is always `Full`.
+    #[error("not opened")]
+    Opening(Stopped),
 }

@@ -1,10 +1,13 @@
 //! Files by name.
 
-ghost use Rattle.std.specs.Prelude.{◌≢◌, ℕ, IfErr, IsErrOf, ◌≡◌};
-ghost use Rattle.desk_script.specs.Files.{HasFailed};
+ghost use Rattle.std.specs.Prelude.{◌≢◌, ◌≤◌, ℕ, List, Err, IfErr, IsErrOf, Result, ◌≡◌};
+ghost use Rattle.desk_script.specs.Files.{HasFailed, bytes_read};
 
 use std::alloc::Allocator;
 use thiserror::Error;
+
+/// The most bytes of a file that is read.
+pub const MAX_FILE: usize = 67_108_864;
 
 /// Why a file was not read, written or renamed.
 #[derive(Clone, Copy, Debug, PartialEq, Eq, Error)]
@@ -24,8 +27,13 @@ pub enum FileRefusal {
 
 /// Where files are kept.
 pub trait Files {
-    /// How often the device has failed.
+    ghost use Rattle.desk_script.specs.declared.files.FileRefusal.{FileRefusal};
+
+    /// How often the device has failed. No call lowers it.
     ghost count: { Self → ℕ };
+
+    /// What may be read of a name: a file's bytes, or a refusal. Files that cannot tell leave it open.
+    ghost gives: { Self → List ℕ → Result (List ℕ) FileRefusal → Type 0 } = { λ _ _ _. Unit {0} };
 
     /// How often the device has failed. It stays at its greatest value.
     fn failures(&self) -> u64
@@ -33,17 +41,21 @@ pub trait Files {
 
     /// A file's bytes. `Device` comes only where the device failed in this call, by the count while it can rise.
     fn read<A: Allocator + Copy>(&mut self, alloc: A, name: &str) -> Result<Vec<u8, A>, FileRefusal>
-        ensures { IsErrOf result FileRefusal.Device → HasFailed (count self.old) (count self.new) };
+        ensures device { IsErrOf result FileRefusal.Device → HasFailed (count self.old) (count self.new) }
+        ensures counted { count self.old ≤ count self.new }
+        ensures given { gives self.old name.now (bytes_read (λ v. v.items) result) };
 
     /// Writes a file anew. `Device` comes as from `read`, and `Large` never.
     fn write_new(&mut self, name: &str, bytes: &[u8]) -> Result<(), FileRefusal>
         ensures device { IsErrOf result FileRefusal.Device → HasFailed (count self.old) (count self.new) }
-        ensures small { IfErr result (λ e. e ≢ FileRefusal.Large) };
+        ensures small { IfErr result (λ e. e ≢ FileRefusal.Large) }
+        ensures counted { count self.old ≤ count self.new };
 
     /// Gives a file another name, in place of a file that had it. `Device` comes as from `read`, and `Large` never.
     fn rename(&mut self, from: &str, to: &str) -> Result<(), FileRefusal>
         ensures device { IsErrOf result FileRefusal.Device → HasFailed (count self.old) (count self.new) }
-        ensures small { IfErr result (λ e. e ≢ FileRefusal.Large) };
+        ensures small { IfErr result (λ e. e ≢ FileRefusal.Large) }
+        ensures counted { count self.old ≤ count self.new };
 }
 
 /// Files of which none is there.
@@ -51,7 +63,11 @@ pub trait Files {
 pub struct NoFiles;
 
 impl Files for NoFiles {
+    ghost use Rattle.desk_script.specs.declared.files.FileRefusal.TheVariants.{Missing};
+
     ghost count = { λ _. 0 };
+
+    ghost gives = { λ _ _ r. r ≡ Err Missing };
 
     fn failures(&self) -> u64 {
         0

@@ -5,10 +5,15 @@ mod act;
 mod command;
 mod copy;
 mod fault;
+mod feed_run;
 mod files;
+mod inputs;
+mod job;
 mod laws;
+mod memory;
 mod number;
 mod reader;
+mod storing;
 mod stream;
 mod text;
 pub mod trial;
@@ -16,13 +21,19 @@ mod world;
 
 pub use command::{Command, ParseError};
 pub use fault::RunFault;
-pub use files::{FileRefusal, Files, NoFiles};
-pub use laws::law_of_copy;
+pub use feed_run::run_on_feed;
+pub use files::{FileRefusal, Files, MAX_FILE, NoFiles};
+pub use laws::{law_of_copy, law_of_longest_runs, law_of_spelling};
 pub use reader::parse;
+pub use storing::store;
 pub use stream::{MAX_READS, run};
 pub use text::{Refusal, Response, put};
 pub use world::{Answer, Event, MAX_SITES, StepRefusal, World};
 
+#[cfg(test)]
+mod file_tests;
+#[cfg(test)]
+mod jobs;
 #[cfg(test)]
 mod tests;
 #[cfg(test)]

@@ -1,6 +1,6 @@
 //! Scripts, read and answered line by line.
 
-ghost use Rattle.std.specs.Prelude.{◌≡◌, ◌≢◌, ℕ, ◌≤◌, ◌++◌, ◌∷◌, [], List, OnOk, OnErr, IfOk, IfSome, length, string_bytes};
+ghost use Rattle.std.specs.Prelude.{◌≡◌, ◌≢◌, ℕ, ◌≤◌, ◌++◌, ◌∷◌, [], List, OnOk, OnErr, IfErr, IfOk, IfSome, length, string_bytes};
 ghost use Rattle.std.specs.Io.KnownBytes.{Appends};
 ghost use Rattle.desk_script.specs.Lines.{Line, line_of, without_cr};
 ghost use Rattle.desk_script.specs.Reply.{Reply, reply};
@@ -8,15 +8,17 @@ ghost use Rattle.desk_script.specs.Text.{text};
 ghost use Rattle.desk_script.specs.Sites.{Sites, desk, no_sites};
 ghost use Rattle.desk_script.specs.Effect.{Allows};
 ghost use Rattle.desk_script.specs.Script.{Turn, Fronts, WritesFront, Answers, AnswersFront};
+ghost use Rattle.desk_script.specs.Faults.{IsOfRun};
 ghost use Rattle.desk_script.specs.Pending.{Moves, lines_from, last_line};
 
 use crate::act::answer;
 use crate::fault::RunFault;
 use crate::files::Files;
+use crate::memory::Memory;
 use crate::text::{Response, put};
 use crate::world::World;
 use desk_ops::NoMemory;
-use std::alloc::Allocator;
+use std::alloc::{Allocator, Global};
 use std::io::{Read, Write};
 
 /// The most calls of `read` in a run.
@@ -29,6 +31,7 @@ const PENDING_LIMIT: usize = 65_538;
 fn send<W: Write>(writer: &mut W, bytes: &[u8]) -> Result<(), RunFault>
     ensures ok { OnOk result (Appends (W.contents writer.old) (W.contents writer.new) bytes.now) }
     ensures err { OnErr result (WritesFront (W.contents writer.old) (W.contents writer.new) bytes.now) }
+    ensures own { IfErr result IsOfRun }
 {
     let mut sent = 0;
     while sent < bytes.len() {
@@ -53,20 +56,21 @@ fn spelled<A: Allocator + Copy>(alloc: A, answer: &Response<A>) -> Result<String
 
 /// The line of a line's answer.
 fn answered<F: Files, A: Allocator + Copy>(
-    alloc: A,
+    memory: Memory<A>,
     world: &mut World<A>,
     files: &mut F,
     line: &[u8],
 ) -> Result<String<A>, NoMemory>
-    ensures { IfOk result (λ s. (r : Reply) × Allows (desk world.old (F.count files.old)) (line_of line.now) r (desk world.new (F.count files.new)) × (string_bytes s ≡ text r ++ 10 ∷ [])) }
+    ensures told { IfOk result (λ s. (r : Reply) × Allows (desk world.old (F.count files.old)) (line_of line.now) r (desk world.new (F.count files.new)) × (string_bytes s ≡ text r ++ 10 ∷ [])) }
+    ensures counted { F.count files.old ≤ F.count files.new }
 {
-    let reply = answer(alloc, world, files, line)?;
-    spelled(alloc, &reply)
+    let reply = answer(memory, world, files, line)?;
+    spelled(memory.own, &reply)
 }
 
 /// Answers a line.
 fn take_line<W: Write, F: Files, A: Allocator + Copy>(
-    alloc: A,
+    memory: Memory<A>,
     world: &mut World<A>,
     writer: &mut W,
     files: &mut F,
@@ -74,8 +78,10 @@ fn take_line<W: Write, F: Files, A: Allocator + Copy>(
 ) -> Result<(), RunFault>
     ensures ok { OnOk result (Turn (desk world.old (F.count files.old)) (desk world.new (F.count files.new)) (W.contents writer.old) (W.contents writer.new) (line_of line.now ∷ [])) }
     ensures err { OnErr result ((more : List Line) → Fronts (desk world.old (F.count files.old)) (W.contents writer.old) (W.contents writer.new) (line_of line.now ∷ more)) }
+    ensures counted { F.count files.old ≤ F.count files.new }
+    ensures own { IfErr result IsOfRun }
 {
-    let Ok(text) = answered(alloc, world, files, line) else {
+    let Ok(text) = answered(memory, world, files, line) else {
         return Err(RunFault::NoMemory);
     };
     send(writer, text.as_bytes())
@@ -99,6 +105,7 @@ fn keep<A: Allocator + Copy>(line: &mut Vec<u8, A>, byte: u8) -> Result<(), RunF
     requires inside { byte ≢ 10 }
     ensures kept { length line.new.items ≤ PENDING_LIMIT }
     ensures ok { OnOk result ((more : List ℕ) → lines_from line.old.items (byte ∷ more) ≡ lines_from line.new.items more) }
+    ensures own { IfErr result IsOfRun }
 {
     if line.len() == PENDING_LIMIT {
         return Ok(());
@@ -111,7 +118,7 @@ fn keep<A: Allocator + Copy>(line: &mut Vec<u8, A>, byte: u8) -> Result<(), RunF
 
 /// Takes the next byte, and answers the line that it ends.
 fn take_byte<W: Write, F: Files, A: Allocator + Copy>(
-    alloc: A,
+    memory: Memory<A>,
     world: &mut World<A>,
     writer: &mut W,
     files: &mut F,
@@ -122,11 +129,13 @@ fn take_byte<W: Write, F: Files, A: Allocator + Copy>(
     ensures kept { length line.new.items ≤ PENDING_LIMIT }
     ensures ok { OnOk result (Moves (desk world.old (F.count files.old)) (desk world.new (F.count files.new)) (W.contents writer.old) (W.contents writer.new) line.old.items (byte ∷ []) line.new.items) }
     ensures err { OnErr result ((more : List ℕ) → Fronts (desk world.old (F.count files.old)) (W.contents writer.old) (W.contents writer.new) (lines_from line.old.items (byte ∷ more))) }
+    ensures counted { F.count files.old ≤ F.count files.new }
+    ensures own { IfErr result IsOfRun }
 {
     if byte != b'\n' {
         return keep(line, byte);
     }
-    if let Err(fault) = take_line(alloc, world, writer, files, without_cr(line)) {
+    if let Err(fault) = take_line(memory, world, writer, files, without_cr(line)) {
         return Err(fault);
     }
     line.clear();
@@ -135,7 +144,7 @@ fn take_byte<W: Write, F: Files, A: Allocator + Copy>(
 
 /// Takes the next bytes, and answers each line that is whole now.
 fn take_bytes<W: Write, F: Files, A: Allocator + Copy>(
-    alloc: A,
+    memory: Memory<A>,
     world: &mut World<A>,
     writer: &mut W,
     files: &mut F,
@@ -146,9 +155,11 @@ fn take_bytes<W: Write, F: Files, A: Allocator + Copy>(
     ensures kept { length line.new.items ≤ PENDING_LIMIT }
     ensures ok { OnOk result (Moves (desk world.old (F.count files.old)) (desk world.new (F.count files.new)) (W.contents writer.old) (W.contents writer.new) line.old.items bytes.now line.new.items) }
     ensures err { OnErr result ((more : List ℕ) → Fronts (desk world.old (F.count files.old)) (W.contents writer.old) (W.contents writer.new) (lines_from line.old.items (bytes.now ++ more))) }
+    ensures counted { F.count files.old ≤ F.count files.new }
+    ensures own { IfErr result IsOfRun }
 {
     for b in bytes {
-        if let Err(fault) = take_byte(alloc, world, writer, files, line, *b) {
+        if let Err(fault) = take_byte(memory, world, writer, files, line, *b) {
             return Err(fault);
         }
     }
@@ -157,7 +168,7 @@ fn take_bytes<W: Write, F: Files, A: Allocator + Copy>(
 
 /// Answers a last line that has no end.
 fn finish<W: Write, F: Files, A: Allocator + Copy>(
-    alloc: A,
+    memory: Memory<A>,
     world: &mut World<A>,
     writer: &mut W,
     files: &mut F,
@@ -165,17 +176,19 @@ fn finish<W: Write, F: Files, A: Allocator + Copy>(
 ) -> Result<(), RunFault>
     ensures ok { OnOk result (Turn (desk world.old (F.count files.old)) (desk world.new (F.count files.new)) (W.contents writer.old) (W.contents writer.new) (last_line line.now)) }
     ensures err { OnErr result (Fronts (desk world.old (F.count files.old)) (W.contents writer.old) (W.contents writer.new) (last_line line.now)) }
+    ensures counted { F.count files.old ≤ F.count files.new }
+    ensures own { IfErr result IsOfRun }
 {
     if line.is_empty() {
         return Ok(());
     }
-    take_line(alloc, world, writer, files, line)
+    take_line(memory, world, writer, files, line)
 }
 
 /// Reads commands to their end, and writes the line of each one's answer. After an `Err` what was written is the front of
 /// such lines.
 pub fn answer_all<R: Read, W: Write, F: Files, A: Allocator + Copy>(
-    alloc: A,
+    memory: Memory<A>,
     world: &mut World<A>,
     reader: &mut R,
     writer: &mut W,
@@ -183,18 +196,20 @@ pub fn answer_all<R: Read, W: Write, F: Files, A: Allocator + Copy>(
 ) -> Result<(), RunFault>
     ensures ok { OnOk result (IfSome (R.remaining reader.old) (λ input. Answers (desk world.old (F.count files.old)) (desk world.new (F.count files.new)) input (W.contents writer.old) (W.contents writer.new))) }
     ensures err { OnErr result (IfSome (R.remaining reader.old) (λ input. AnswersFront (desk world.old (F.count files.old)) input (W.contents writer.old) (W.contents writer.new))) }
+    ensures counted { F.count files.old ≤ F.count files.new }
+    ensures own { IfErr result IsOfRun }
 {
-    let mut line = Vec::new(alloc);
+    let mut line = Vec::new(memory.own);
     let mut chunk = [0u8; 512];
     'reads: for _ in 0..MAX_READS {
         match reader.read(&mut chunk) {
             Err(_) => return Err(RunFault::Read),
             Ok(0) => {
-                return finish(alloc, world, writer, files, &line);
+                return finish(memory, world, writer, files, &line);
             }
             Ok(n) => {
                 let bytes = &chunk[..n];
-                if let Err(fault) = take_bytes(alloc, world, writer, files, &mut line, bytes) {
+                if let Err(fault) = take_bytes(memory, world, writer, files, &mut line, bytes) {
                     return Err(fault);
                 }
             }
@@ -204,16 +219,20 @@ pub fn answer_all<R: Read, W: Write, F: Files, A: Allocator + Copy>(
 }
 
 /// Reads commands to their end, on a world that has no site yet, and writes the line of each one's answer. After an
-/// `Err` what was written is the front of such lines.
+/// `Err` what was written is the front of such lines. The reading of a case or a wedge takes the global allocator alone.
 pub fn run<R: Read, W: Write, F: Files, A: Allocator + Copy>(
     alloc: A,
+    global: Global,
     reader: &mut R,
     writer: &mut W,
     files: &mut F,
 ) -> Result<(), RunFault>
     ensures ok { OnOk result (IfSome (R.remaining reader.old) (λ input. (new : Sites) × Answers (desk no_sites (F.count files.old)) (desk new (F.count files.new)) input (W.contents writer.old) (W.contents writer.new))) }
     ensures err { OnErr result (IfSome (R.remaining reader.old) (λ input. AnswersFront (desk no_sites (F.count files.old)) input (W.contents writer.old) (W.contents writer.new))) }
+    ensures counted { F.count files.old ≤ F.count files.new }
+    ensures own { IfErr result IsOfRun }
 {
     let mut world = World::new(alloc);
-    answer_all(alloc, &mut world, reader, writer, files)
+    let memory = Memory { own: alloc, global };
+    answer_all(memory, &mut world, reader, writer, files)
 }

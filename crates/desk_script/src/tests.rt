@@ -7,12 +7,13 @@ use std::test::Fail;
 /// What a script is answered, read in steps of so many bytes.
 pub fn answers<A: Allocator + Copy>(
     alloc: A,
+    global: Global,
     input: &[u8],
     step: usize,
 ) -> Result<Vec<u8, A>, RunFault> {
     let mut reader = TrialReader::new(input).in_steps_of(step);
     let mut written = Vec::new(alloc);
-    match run(alloc, &mut reader, &mut written, &mut NoFiles) {
+    match run(alloc, global, &mut reader, &mut written, &mut NoFiles) {
         Ok(()) => Ok(written),
         Err(fault) => Err(fault),
     }
@@ -25,13 +26,25 @@ fn failing_writer(rt: HostRuntime) -> Result<(), Fail> {
     for at_end in [AtEnd::Fails, AtEnd::TakesNone] {
         let mut reader = TrialReader::new(FAILURES);
         let mut writer = TrialWriter::new(rt.alloc()).with_room(5, at_end);
-        let result = run(rt.alloc(), &mut reader, &mut writer, &mut NoFiles);
+        let result = run(
+            rt.alloc(),
+            rt.alloc(),
+            &mut reader,
+            &mut writer,
+            &mut NoFiles,
+        );
         assert_eq!(rt; result, Err(RunFault::Write));
         assert_eq!(rt; writer.written(), b"ok\nok".as_slice());
     }
     let mut reader = TrialReader::new(FAILURES);
     let mut writer = TrialWriter::new(rt.alloc()).with_calls(1, AtEnd::Fails);
-    let result = run(rt.alloc(), &mut reader, &mut writer, &mut NoFiles);
+    let result = run(
+        rt.alloc(),
+        rt.alloc(),
+        &mut reader,
+        &mut writer,
+        &mut NoFiles,
+    );
     assert_eq!(rt; result, Err(RunFault::Write));
     assert_eq!(rt; writer.written(), b"ok\n".as_slice());
     Ok(())
@@ -41,7 +54,13 @@ fn failing_writer(rt: HostRuntime) -> Result<(), Fail> {
 fn failing_reader(rt: HostRuntime) -> Result<(), Fail> {
     let mut reader = TrialReader::new(FAILURES).in_steps_of(7).failing_at_call(2);
     let mut writer = TrialWriter::new(rt.alloc());
-    let result = run(rt.alloc(), &mut reader, &mut writer, &mut NoFiles);
+    let result = run(
+        rt.alloc(),
+        rt.alloc(),
+        &mut reader,
+        &mut writer,
+        &mut NoFiles,
+    );
     assert_eq!(rt; result, Err(RunFault::Read));
     assert_eq!(rt; writer.written(), b"ok\n".as_slice());
     Ok(())
@@ -55,7 +74,7 @@ const TWO_SITES_ANSWERS: &[u8] =
 #[test]
 fn two_sites_show_ab(rt: HostRuntime) -> Result<(), Fail> {
     for step in [1, 7, 1000] {
-        let written = answers(rt.alloc(), TWO_SITES, step)?;
+        let written = answers(rt.alloc(), rt.alloc(), TWO_SITES, step)?;
         assert_eq!(rt; written.as_slice(), TWO_SITES_ANSWERS);
     }
     Ok(())
@@ -65,6 +84,7 @@ fn two_sites_show_ab(rt: HostRuntime) -> Result<(), Fail> {
 #[test]
 fn refused_inserts(rt: HostRuntime) -> Result<(), Fail> {
     let written = answers(
+        rt.alloc(),
         rt.alloc(),
         b"insert 1 0 r\"a\"\nsite 1\ninsert 1 5 r\"a\"\ninsert 1 1 r\"\t\"\ninsert 1 0 i\" \"\nshow 1\ninsert 1 0 r\"b\\n\" i\"c\"\nshow 1\n",
         1000,
@@ -125,7 +145,7 @@ const SCRIPTS: &[(&[u8], &[u8])] = &[
 fn lines_words_and_numbers(rt: HostRuntime) -> Result<(), Fail> {
     for (input, want) in SCRIPTS {
         for step in [1usize, 7, 1000] {
-            let got = answers(rt.alloc(), input, step)?;
+            let got = answers(rt.alloc(), rt.alloc(), input, step)?;
             assert_eq!(rt; got.as_slice(), *want, "in steps of {step}");
         }
     }
@@ -146,7 +166,7 @@ fn long_lines(rt: HostRuntime) -> Result<(), Fail> {
         let mut input = Vec::with_capacity(rt.alloc(), length)?;
         input.resize(length, 0xffu8)?;
         input.extend_from_slice(end)?;
-        let got = answers(rt.alloc(), &input, 1000)?;
+        let got = answers(rt.alloc(), rt.alloc(), &input, 1000)?;
         assert_eq!(rt; got.as_slice(), want, "{length}");
     }
     Ok(())
@@ -155,6 +175,7 @@ fn long_lines(rt: HostRuntime) -> Result<(), Fail> {
 #[test]
 fn refused_commands(rt: HostRuntime) -> Result<(), Fail> {
     let got = answers(
+        rt.alloc(),
         rt.alloc(),
         b"site 1\nsite 1\nsite 0\nsend 1 3\ninsert 1 5 r\"a\"\ninsert 1 0 i\" \"\njump\n",
         100,
@@ -172,7 +193,7 @@ fn refused_commands(rt: HostRuntime) -> Result<(), Fail> {
     }
     input.push_str("site 17\nsite 16\nsite 0\n")?;
     want.push_str("refused sites\nrefused known\nrefused number\n")?;
-    let got = answers(rt.alloc(), input.as_bytes(), 100)?;
+    let got = answers(rt.alloc(), rt.alloc(), input.as_bytes(), 100)?;
     assert_eq!(rt; got.as_slice(), want.as_bytes());
     Ok(())
 }
@@ -180,7 +201,7 @@ fn refused_commands(rt: HostRuntime) -> Result<(), Fail> {
 #[test]
 fn always_want_of_memory(rt: HostRuntime) -> Result<(), Fail> {
     let heap = LocalHeap::new(rt.alloc(), 1 << 20)?;
-    let got = answers(&heap, TWO_SITES, 100)?;
+    let got = answers(&heap, rt.alloc(), TWO_SITES, 100)?;
     assert_eq!(rt; got.as_slice(), TWO_SITES_ANSWERS);
     Ok(())
 }

@@ -1,12 +1,15 @@
 //! Answers, and what they say.
 
-ghost use Rattle.std.specs.Prelude.{◌≡◌, ◌<◌, ◌++◌, ◌∷◌, [], true, List, OnOk, codes, string_bytes};
+ghost use Rattle.std.specs.Prelude.{◌≡◌, ◌<◌, ◌++◌, ◌∷◌, [], true, length, List, OnOk, codes, string_bytes};
 ghost use Rattle.std.specs.Str.{encode_utf8_all};
-ghost use Rattle.desk_script.specs.Reply.{reply};
-ghost use Rattle.desk_script.specs.Text.{stamp_text, opening, quoted, turn, close, copy_text, hex_digit, hex_text, refusal_text, cause_number, fault_text, kind_text, separator, entries_text, faults_text, value_text, settings_text, text};
+ghost use Rattle.std.specs.Fmt.{decimal, signed_decimal};
+ghost use Rattle.desk_script.specs.Reply.{reply, lines_told};
+ghost use Rattle.desk_script.specs.Text.{stamp_text, opening, quoted, turn, close, copy_text, hex_digit, hex_text, refusal_text, cause_number, fault_text, kind_text, separator, entries_text, faults_text, value_text, settings_text, key_text, job_fault_text, job_faults_text, lines_text, text};
 
+use desk_caster::CastLine;
 use desk_codec::{FeedFault, FeedWhy};
-use desk_ops::{CopyFault, FaultKind, Stamp, Style, Symbol, Unlawful};
+use desk_job::{JobFault, JobFaults};
+use desk_ops::{CopyFault, FaultKind, Key, Stamp, Style, Symbol, Unlawful};
 use desk_replica::Settings;
 use std::alloc::{AllocError, Allocator};
 
@@ -31,6 +34,16 @@ pub enum Refusal {
     Value,
     /// Bytes are no feed.
     Feed(FeedFault),
+    /// A file is not there.
+    FileMissing,
+    /// The files' device failed.
+    FileDevice,
+    /// A file has more bytes than may be.
+    FileLarge,
+    /// A case file's bytes are no case, by the number of the fault.
+    Case(u8),
+    /// A wedge file's bytes are no wedge, by the number of the fault.
+    Wedge(u8),
     /// As many operations are held as may be.
     Full,
     /// The greatest counter is held.
@@ -79,6 +92,11 @@ fn put_refusal<A: Allocator + Copy>(out: &mut String<A>, why: Refusal) -> Result
             write!(out, "feed {} ", fault.at)?;
             put_fault(out, fault.why)
         }
+        Refusal::FileMissing => out.push_str("file missing"),
+        Refusal::FileDevice => out.push_str("file device"),
+        Refusal::FileLarge => out.push_str("file large"),
+        Refusal::Case(fault) => write!(out, "case {fault}"),
+        Refusal::Wedge(fault) => write!(out, "wedge {fault}"),
         Refusal::Full => out.push_str("full"),
         Refusal::Clock => out.push_str("clock"),
     }
@@ -98,6 +116,9 @@ pub enum Response<A: Allocator + Copy> {
     Feed(Vec<u8, A>),
     Faults(Vec<CopyFault, A>),
     Settings(Settings),
+    Ribbon(Vec<u8, A>),
+    NoRibbon(JobFaults<A>),
+    Lines(Vec<CastLine<A>, A>),
     Refused(Refusal),
     /// So many operations were taken before the refusal.
     Stopped(usize, Refusal),
@@ -285,6 +306,76 @@ fn put_settings<A: Allocator + Copy>(
     put_value(out, settings.wedge)
 }
 
+fn word_of(key: Key) -> &'static str
+    ensures { result.now ≡ key_text key }
+{
+    match key {
+        Key::Measure => "measure",
+        Key::Tight => "tight",
+        Key::Loose => "loose",
+        Key::Case => "case",
+        Key::Wedge => "wedge",
+    }
+}
+
+fn put_job_fault<A: Allocator + Copy>(
+    out: &mut String<A>,
+    fault: JobFault,
+) -> Result<(), AllocError>
+    ensures { OnOk result (string_bytes out.new ≡ string_bytes out.old ++ job_fault_text fault) }
+{
+    match fault {
+        JobFault::MissingSetting(key) => {
+            out.push_str("missing ")?;
+            out.push_str(word_of(key))
+        }
+        JobFault::OtherCase => out.push_str("other case"),
+        JobFault::OtherWedge => out.push_str("other wedge"),
+        JobFault::Crossed => out.push_str("crossed"),
+        JobFault::FillOrder => out.push_str("fill order"),
+        JobFault::SpaceVanishes => out.push_str("space vanishes"),
+        JobFault::NoMatrix(place) => write!(out, "no matrix {place}"),
+        JobFault::TooWide(line) => write!(out, "too wide {line}"),
+        JobFault::TooLoose(line) => write!(out, "too loose {line}"),
+        JobFault::CannotFill(line) => write!(out, "cannot fill {line}"),
+    }
+}
+
+/// Writes each fault of a job behind a space, or a comma and a space.
+fn put_job_faults<A: Allocator + Copy>(
+    out: &mut String<A>,
+    faults: &[JobFault],
+) -> Result<(), AllocError>
+    ensures { OnOk result (string_bytes out.new ≡ string_bytes out.old ++ job_faults_text true faults.now) }
+{
+    let mut is_first = true;
+    for fault in faults {
+        out.push_str(separator(is_first))?;
+        put_job_fault(out, *fault)?;
+        is_first = false;
+    }
+    Ok(())
+}
+
+fn put_line<A: Allocator + Copy>(out: &mut String<A>, line: &CastLine<A>) -> Result<(), AllocError>
+    ensures { OnOk result (string_bytes out.new ≡ string_bytes out.old ++ codes " " ++ decimal (length line.now.matrices) ++ codes "/" ++ signed_decimal line.now.total) }
+{
+    write!(out, " {}/{}", line.matrices().len(), line.total().get())
+}
+
+/// Writes each line that was cast behind a space.
+fn put_lines<A: Allocator + Copy>(
+    out: &mut String<A>,
+    lines: &[CastLine<A>],
+) -> Result<(), AllocError>
+    ensures { OnOk result (string_bytes out.new ≡ string_bytes out.old ++ lines_text (lines_told lines.now)) }
+{
+    for line in lines {
+        put_line(out, line)?;
+    }
+    Ok(())
+}
+
 /// Writes an answer at the end, without its end of line.
 pub fn put<A: Allocator + Copy>(out: &mut String<A>, answer: &Response<A>) -> Result<(), AllocError>
     ensures { OnOk result (string_bytes out.new ≡ string_bytes out.old ++ text (reply answer.now)) }
@@ -321,6 +412,18 @@ pub fn put<A: Allocator + Copy>(out: &mut String<A>, answer: &Response<A>) -> Re
         Response::Settings(settings) => {
             out.push_str("settings ")?;
             put_settings(out, settings)
+        }
+        Response::Ribbon(ribbon) => {
+            out.push_str("ribbon ")?;
+            put_hex(out, ribbon)
+        }
+        Response::NoRibbon(faults) => {
+            out.push_str("no ribbon:")?;
+            put_job_faults(out, faults.as_slice())
+        }
+        Response::Lines(lines) => {
+            write!(out, "lines {}", lines.len())?;
+            put_lines(out, lines)
         }
         Response::Refused(why) => {
             out.push_str("refused ")?;

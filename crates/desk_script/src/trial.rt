@@ -1,8 +1,10 @@
-//! A reader and a writer in memory, which fail where they are told to. For tests.
+//! A reader, a writer and files in memory, which fail where they are told to. For tests.
 
-ghost use Rattle.std.specs.Prelude.{◌≡◌, Some};
+ghost use Rattle.std.specs.Prelude.{◌≡◌, ◌≤◌, ◌<◌, ◌≢◌, IfErr, IfSome, IsTrue, Some, length};
+ghost use Rattle.desk_script.specs.Files.{HasFailed};
 
-use std::alloc::Allocator;
+use crate::files::{FileRefusal, Files, MAX_FILE};
+use std::alloc::{AllocError, Allocator};
 use std::io::{self, ErrorKind, Read, Write};
 
 /// Gives its bytes, some in each call, and may fail at one call.
@@ -127,5 +129,165 @@ impl<A: Allocator + Copy> Write for TrialWriter<A> {
 
     fn flush(&mut self) -> io::Result<()> {
         Ok(())
+    }
+}
+
+/// A file in memory.
+#[derive(Drop)]
+struct TrialFile<A: Allocator + Copy> {
+    name: String<A>,
+    bytes: Vec<u8, A>,
+}
+
+/// Files in memory, of which one call may fail. There are no folders.
+#[derive(Drop)]
+pub struct TrialFiles<A: Allocator + Copy> {
+    alloc: A,
+    files: Vec<TrialFile<A>, A>,
+    calls: u64,
+    failing_call: u64,
+    failures: u64,
+}
+
+impl<A: Allocator + Copy> TrialFiles<A> {
+    /// No file is there, and no call fails.
+    pub fn new(alloc: A) -> Self {
+        TrialFiles {
+            alloc,
+            files: Vec::new(alloc),
+            calls: 0,
+            failing_call: 0,
+            failures: 0,
+        }
+    }
+
+    /// Fails at the k-th call, counted from 1. That call changes no file.
+    pub fn failing_at_call(self, k: u64) -> Self {
+        TrialFiles {
+            failing_call: k,
+            ..self
+        }
+    }
+
+    /// The bytes of a file.
+    pub fn bytes_of(&self, name: &str) -> Option<&[u8]> {
+        let place = self.place_of(name)?;
+        Some(&self.files[place].bytes)
+    }
+
+    /// Puts a file there, in place of one of its name. It is no call.
+    pub fn put(&mut self, name: &str, bytes: &[u8]) -> Result<(), AllocError>
+        ensures { self.new.failures ≡ self.old.failures }
+    {
+        let mut kept = Vec::with_capacity(self.alloc, bytes.len())?;
+        kept.extend_from_slice(bytes)?;
+        match self.place_of(name) {
+            Some(place) => self.files[place].bytes = kept,
+            None => {
+                let name = String::from_str(self.alloc, name)?;
+                self.files.push(TrialFile { name, bytes: kept })?;
+            }
+        }
+        Ok(())
+    }
+
+    fn place_of(&self, name: &str) -> Option<usize>
+        ensures { IfSome result (λ place. place < length self.now.files.items) }
+    {
+        self.files
+            .iter()
+            .position(|file| file.name.as_str() == name)
+    }
+
+    /// Counts a call, and answers whether it fails.
+    fn fails(&mut self) -> bool
+        ensures failed { IsTrue result → HasFailed self.old.failures self.new.failures }
+        ensures counted { self.old.failures ≤ self.new.failures }
+    {
+        self.calls = self.calls.saturating_add(1);
+        if self.calls != self.failing_call {
+            return false;
+        }
+        self.failures = self.failures.saturating_add(1);
+        true
+    }
+
+    /// Gives a file another name, in place of a file that had it.
+    fn move_file(&mut self, from: &str, to: &str) -> Result<(), FileRefusal>
+        ensures device { IfErr result (λ e. (e ≢ FileRefusal.Device) × (e ≢ FileRefusal.Large)) }
+        ensures counted { self.new.failures ≡ self.old.failures }
+    {
+        let Some(place) = self.place_of(from) else {
+            return Err(FileRefusal::Missing);
+        };
+        let Ok(name) = String::from_str(self.alloc, to) else {
+            return Err(FileRefusal::NoMemory);
+        };
+        let moved = self.files.swap_remove(place);
+        match self.place_of(to) {
+            Some(place) => self.files[place].bytes = moved.bytes,
+            None => {
+                let file = TrialFile {
+                    name,
+                    bytes: moved.bytes,
+                };
+                if self.files.push(file).is_err() {
+                    return Err(FileRefusal::NoMemory);
+                }
+            }
+        }
+        Ok(())
+    }
+}
+
+impl<A: Allocator + Copy> Files for TrialFiles<A> {
+    ghost count = { λ f. f.failures };
+
+    fn failures(&self) -> u64 {
+        self.failures
+    }
+
+    fn read<B: Allocator + Copy>(
+        &mut self,
+        alloc: B,
+        name: &str,
+    ) -> Result<Vec<u8, B>, FileRefusal> {
+        if self.fails() {
+            return Err(FileRefusal::Device);
+        }
+        let Some(bytes) = self.bytes_of(name) else {
+            return Err(FileRefusal::Missing);
+        };
+        if bytes.len() > MAX_FILE {
+            return Err(FileRefusal::Large);
+        }
+        copied(alloc, bytes)
+    }
+
+    fn write_new(&mut self, name: &str, bytes: &[u8]) -> Result<(), FileRefusal> {
+        if self.fails() {
+            return Err(FileRefusal::Device);
+        }
+        if self.put(name, bytes).is_err() {
+            return Err(FileRefusal::NoMemory);
+        }
+        Ok(())
+    }
+
+    fn rename(&mut self, from: &str, to: &str) -> Result<(), FileRefusal> {
+        if self.fails() {
+            return Err(FileRefusal::Device);
+        }
+        self.move_file(from, to)
+    }
+}
+
+fn copied<A: Allocator + Copy>(alloc: A, bytes: &[u8]) -> Result<Vec<u8, A>, FileRefusal>
+    ensures { IfErr result (λ e. e ≡ FileRefusal.NoMemory) }
+{
+    let mut kept = Vec::new(alloc);
+    match kept.extend_from_slice(bytes) {
+        Ok(()) => Ok(kept),
+        Err(_) => Err(FileRefusal::NoMemory),
     }
 }

@@ -5,7 +5,7 @@ use std::alloc::{AllocError, Allocator};
 use std::test::Fail;
 
 /// The commands of a script, each with its answer, as lines.
-fn script<A: Allocator + Copy>(
+pub fn script<A: Allocator + Copy>(
     alloc: A,
     lines: &[(&str, &str)],
 ) -> Result<(String<A>, String<A>), AllocError> {
@@ -68,7 +68,7 @@ const REFUSED_FEEDS: &[(&str, &str)] = &[
 #[test]
 fn refused_feeds(rt: HostRuntime) -> Result<(), Fail> {
     let (input, want) = script(rt.alloc(), REFUSED_FEEDS)?;
-    let got = answers(rt.alloc(), input.as_bytes(), 1000)?;
+    let got = answers(rt.alloc(), rt.alloc(), input.as_bytes(), 1000)?;
     assert_eq!(rt; got.as_slice(), want.as_bytes());
     Ok(())
 }
@@ -90,7 +90,7 @@ const FULL_CLOCK: &[(&str, &str)] = &[
 #[test]
 fn full_clock(rt: HostRuntime) -> Result<(), Fail> {
     let (input, want) = script(rt.alloc(), FULL_CLOCK)?;
-    let got = answers(rt.alloc(), input.as_bytes(), 1000)?;
+    let got = answers(rt.alloc(), rt.alloc(), input.as_bytes(), 1000)?;
     assert_eq!(rt; got.as_slice(), want.as_bytes());
     Ok(())
 }
@@ -118,7 +118,7 @@ const RANGES_ARE_SENT: &[(&str, &str)] = &[
 #[test]
 fn ranges_are_sent(rt: HostRuntime) -> Result<(), Fail> {
     let (input, want) = script(rt.alloc(), RANGES_ARE_SENT)?;
-    let got = answers(rt.alloc(), input.as_bytes(), 1000)?;
+    let got = answers(rt.alloc(), rt.alloc(), input.as_bytes(), 1000)?;
     assert_eq!(rt; got.as_slice(), want.as_bytes());
     Ok(())
 }
@@ -140,7 +140,7 @@ const MERGES_OF_SITES: &[(&str, &str)] = &[
 #[test]
 fn merges_of_sites(rt: HostRuntime) -> Result<(), Fail> {
     let (input, want) = script(rt.alloc(), MERGES_OF_SITES)?;
-    let got = answers(rt.alloc(), input.as_bytes(), 1000)?;
+    let got = answers(rt.alloc(), rt.alloc(), input.as_bytes(), 1000)?;
     assert_eq!(rt; got.as_slice(), want.as_bytes());
     Ok(())
 }
@@ -168,7 +168,7 @@ const CONCURRENT_DELETE_AND_INSERT: &[(&str, &str)] = &[
 #[test]
 fn concurrent_delete_and_insert(rt: HostRuntime) -> Result<(), Fail> {
     let (input, want) = script(rt.alloc(), CONCURRENT_DELETE_AND_INSERT)?;
-    let got = answers(rt.alloc(), input.as_bytes(), 1000)?;
+    let got = answers(rt.alloc(), rt.alloc(), input.as_bytes(), 1000)?;
     assert_eq!(rt; got.as_slice(), want.as_bytes());
     Ok(())
 }
@@ -203,7 +203,7 @@ const MERGE_COUNTS: &[(&str, &str)] = &[
 #[test]
 fn merge_counts(rt: HostRuntime) -> Result<(), Fail> {
     let (input, want) = script(rt.alloc(), MERGE_COUNTS)?;
-    let got = answers(rt.alloc(), input.as_bytes(), 1000)?;
+    let got = answers(rt.alloc(), rt.alloc(), input.as_bytes(), 1000)?;
     assert_eq!(rt; got.as_slice(), want.as_bytes());
     Ok(())
 }
@@ -234,7 +234,7 @@ const RESTARTS_AND_EDITS: &[(&str, &str)] = &[
 #[test]
 fn restarts_and_edits(rt: HostRuntime) -> Result<(), Fail> {
     let (input, want) = script(rt.alloc(), RESTARTS_AND_EDITS)?;
-    let got = answers(rt.alloc(), input.as_bytes(), 1000)?;
+    let got = answers(rt.alloc(), rt.alloc(), input.as_bytes(), 1000)?;
     assert_eq!(rt; got.as_slice(), want.as_bytes());
     Ok(())
 }
@@ -266,7 +266,7 @@ const REFUSED_SETTINGS: &[(&str, &str)] = &[
 #[test]
 fn refused_settings(rt: HostRuntime) -> Result<(), Fail> {
     let (input, want) = script(rt.alloc(), REFUSED_SETTINGS)?;
-    let got = answers(rt.alloc(), input.as_bytes(), 1000)?;
+    let got = answers(rt.alloc(), rt.alloc(), input.as_bytes(), 1000)?;
     assert_eq!(rt; got.as_slice(), want.as_bytes());
     Ok(())
 }
@@ -349,7 +349,7 @@ const NO_SUCH_SITES: &[(&str, &str)] = &[
 #[test]
 fn no_such_sites(rt: HostRuntime) -> Result<(), Fail> {
     let (input, want) = script(rt.alloc(), NO_SUCH_SITES)?;
-    let got = answers(rt.alloc(), input.as_bytes(), 1000)?;
+    let got = answers(rt.alloc(), rt.alloc(), input.as_bytes(), 1000)?;
     assert_eq!(rt; got.as_slice(), want.as_bytes());
     Ok(())
 }
@@ -400,7 +400,7 @@ const CORNERS_OF_COPIES: &[(&str, &str)] = &[
 #[test]
 fn corners_of_copies(rt: HostRuntime) -> Result<(), Fail> {
     let (input, want) = script(rt.alloc(), CORNERS_OF_COPIES)?;
-    let got = answers(rt.alloc(), input.as_bytes(), 1000)?;
+    let got = answers(rt.alloc(), rt.alloc(), input.as_bytes(), 1000)?;
     assert_eq!(rt; got.as_slice(), want.as_bytes());
     Ok(())
 }
@@ -433,7 +433,7 @@ const CORNERS_OF_WORDS: &[(&str, &str)] = &[
 #[test]
 fn corners_of_words(rt: HostRuntime) -> Result<(), Fail> {
     let (input, want) = script(rt.alloc(), CORNERS_OF_WORDS)?;
-    let got = answers(rt.alloc(), input.as_bytes(), 1000)?;
+    let got = answers(rt.alloc(), rt.alloc(), input.as_bytes(), 1000)?;
     assert_eq!(rt; got.as_slice(), want.as_bytes());
     Ok(())
 }
@@ -485,7 +485,7 @@ const SETTINGS_BY_STAMP: &[(&str, &str)] = &[
 #[test]
 fn settings_by_stamp(rt: HostRuntime) -> Result<(), Fail> {
     let (input, want) = script(rt.alloc(), SETTINGS_BY_STAMP)?;
-    let got = answers(rt.alloc(), input.as_bytes(), 1000)?;
+    let got = answers(rt.alloc(), rt.alloc(), input.as_bytes(), 1000)?;
     assert_eq!(rt; got.as_slice(), want.as_bytes());
     Ok(())
 }
@@ -520,7 +520,7 @@ const WAITING_THEN_LIVE: &[(&str, &str)] = &[
 #[test]
 fn waiting_then_live(rt: HostRuntime) -> Result<(), Fail> {
     let (input, want) = script(rt.alloc(), WAITING_THEN_LIVE)?;
-    let got = answers(rt.alloc(), input.as_bytes(), 1000)?;
+    let got = answers(rt.alloc(), rt.alloc(), input.as_bytes(), 1000)?;
     assert_eq!(rt; got.as_slice(), want.as_bytes());
     Ok(())
 }
@@ -571,7 +571,7 @@ const FORKED_STAMP: &[(&str, &str)] = &[
 #[test]
 fn forked_stamp(rt: HostRuntime) -> Result<(), Fail> {
     let (input, want) = script(rt.alloc(), FORKED_STAMP)?;
-    let got = answers(rt.alloc(), input.as_bytes(), 1000)?;
+    let got = answers(rt.alloc(), rt.alloc(), input.as_bytes(), 1000)?;
     assert_eq!(rt; got.as_slice(), want.as_bytes());
     Ok(())
 }

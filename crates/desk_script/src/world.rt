@@ -1,6 +1,6 @@
 //! A world of sites, and the events that change it.
 
-ghost use Rattle.std.specs.Prelude.{◌≡◌, All, Err, IfSome, MatchOption, None, option_map, map, nat_eq};
+ghost use Rattle.std.specs.Prelude.{◌≡◌, All, Err, IfOk, IfSome, MatchOption, None, option_map, map, nat_eq};
 ghost use Rattle.std.specs.FinMap as fin;
 ghost use Rattle.std.specs.List.{list_any};
 ghost use Rattle.std.specs.Map.{lookup};
@@ -12,7 +12,7 @@ ghost use Rattle.desk_script.specs.World.{Steps, change, IsSound, Edits, EditsSi
 ghost use Rattle.desk_script.specs.World as world;
 
 use desk_held::AddRefusal;
-use desk_ops::{Key, Op, Symbol};
+use desk_ops::{Key, NoMemory, Op, Symbol};
 use desk_replica::{Count, Replica, Stopped};
 use indexmap::IndexMap;
 use std::alloc::Allocator;
@@ -237,6 +237,17 @@ impl<A: Allocator + Copy> World<A> {
         World {
             alloc,
             sites: IndexMap::new(alloc),
+        }
+    }
+
+    /// A world of one site, with its replica.
+    pub(crate) fn with_site(alloc: A, replica: Replica<A>) -> Result<World<A>, NoMemory>
+        ensures { IfOk result (λ w. w ≡ fin.insert no_sites replica.site replica.ops) }
+    {
+        let mut sites = IndexMap::new(alloc);
+        match sites.insert(replica.site(), replica) {
+            Ok(_) => Ok(World { alloc, sites }),
+            Err(_) => Err(NoMemory),
         }
     }
 

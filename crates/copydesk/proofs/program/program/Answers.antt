@@ -1,13 +1,24 @@
-use Rattle.std.proofs.Common.{◌≡◌, map, string_bytes, refl, sym, ◌∙◌}
-use Rattle.copydesk.proofs.Reading.{nothing_written, has_fault}
+use Rattle.std.proofs.Common.{◌≡◌, inl, inr, refl, map, string_bytes, subst}
+use Rattle.copydesk.specs.Words.{AsksFor}
+use Rattle.copydesk.specs.declared.program.Wish.TheVariants as wishes
+use Rattle.copydesk.proofs.Statuses.{done_of, stop_of}
 use Rattle.copydesk.proofs.program.program.Goals as goal
 
-pub returns-in-Err-clause-stopped : goal.returns-in-Err-clause-stopped
-returns-in-Err-clause-stopped g c one = rw (c.refused.ensures.memory one) (nothing_written (g.R.Read.remaining c.args.reader.now) (g.W.Write.contents c.args.writer.now))
+pub returns-in-Ok-Desk-clause-done : goal.returns-in-Ok-Desk-clause-done
+returns-in-Ok-Desk-clause-done g c zero =
+    let asks : AsksFor (map string_bytes c.args.words.now) (wishes.Desk c.in-Ok-Desk.feed c.in-Ok-Desk.site) = subst (AsksFor (map string_bytes c.args.words.now)) c.in-Ok-Desk.field-0-is c.in-Ok-Desk.ensures.wish in
+    inl (inr (c.in-Ok-Desk.feed.now, c.in-Ok-Desk.site, (asks.0, asks.1.0, asks.1.1, asks.1.2), done_of c.run_on_feed-outcome.result c.status_of-in-Ok-Desk.result c.status_of-in-Ok-Desk.ensures c.run_on_feed-outcome.ensures.ok zero))
 
-pub returns-in-Err-clause-refused : goal.returns-in-Err-clause-refused
-returns-in-Err-clause-refused g c two = (
-  has_fault (map string_bytes c.args.words.now) c.in-Err.error c.in-Err.ensures (c.refused.ensures.told (λ e. let bad : 2 ≡ 1 = sym two ∙ e in cc)) (c.refused.ensures.fault two).0,
-  refl,
-  (c.refused.ensures.fault two).1,
-)
+pub returns-in-Ok-Desk-clause-stopped : goal.returns-in-Ok-Desk-clause-stopped
+returns-in-Ok-Desk-clause-stopped g c one =
+    let asks : AsksFor (map string_bytes c.args.words.now) (wishes.Desk c.in-Ok-Desk.feed c.in-Ok-Desk.site) = subst (AsksFor (map string_bytes c.args.words.now)) c.in-Ok-Desk.field-0-is c.in-Ok-Desk.ensures.wish in
+    inr (inr (c.in-Ok-Desk.feed.now, c.in-Ok-Desk.site, (asks.0, asks.1.0, asks.1.1, asks.1.2), stop_of c.run_on_feed-outcome.result c.status_of-in-Ok-Desk.result c.status_of-in-Ok-Desk.ensures c.run_on_feed-outcome.ensures.err one))
+
+pub returns-in-Ok-Nothing-clause-refused : goal.returns-in-Ok-Nothing-clause-refused
+returns-in-Ok-Nothing-clause-refused g c two =
+    let asks : AsksFor (map string_bytes c.args.words.now) wishes.Nothing = subst (AsksFor (map string_bytes c.args.words.now)) c.in-Ok-Nothing.field-0-is c.in-Ok-Nothing.ensures.wish in (
+      inr (λ script. asks.1.0 script.1 script.2, λ feed site desk. asks.1.1 desk.1 feed site desk.2 desk.3),
+      refl,
+      refl,
+      refl,
+    )

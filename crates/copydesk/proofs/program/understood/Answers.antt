@@ -1,0 +1,22 @@
+use Rattle.std.proofs.Common.{◌≡◌, map, string_bytes, refl, ap, subst, ◌∙◌, true, []}
+use Rattle.clap.specs.Words.{App, app_of, fault_of, is_simple, is_simple_and_free, subcommand_of, subcommand_rows_of}
+use Rattle.copydesk.specs.Words.{Wishes, copydesk}
+use Rattle.copydesk.proofs.program.understood.Goals as goal
+
+simple : is_simple copydesk ≡ true
+simple = refl
+
+free : is_simple_and_free copydesk ≡ true
+free = refl
+
+pub returns-clause-kinds : goal.returns-clause-kinds
+returns-clause-kinds c =
+    let is : app_of c.in_ok-command.command ≡ copydesk = c.in_ok-command.ensures in
+    subst (λ (a : App). fault_of a (map string_bytes c.args.words.now) ≡ []) is (c.in_ok-matches.ensures.kinds (ap is_simple_and_free is ∙ free))
+
+pub returns-clause-wish : goal.returns-clause-wish
+returns-clause-wish c =
+    let is : app_of c.in_ok-command.command ≡ copydesk = c.in_ok-command.ensures in
+    let met : subcommand_rows_of c.in_ok-matches.matches ≡ subcommand_of copydesk (map string_bytes c.args.words.now) =
+    (c.in_ok-matches.ensures.matches (ap is_simple is ∙ simple)).1 ∙ ap (λ (a : App). subcommand_of a (map string_bytes c.args.words.now)) is in
+    (returns-clause-kinds c, subst (λ o. Wishes o c.wish_of.result) met c.wish_of.ensures)

@@ -1,0 +1,12 @@
+use Rattle.std.proofs.Common.{refl}
+use Rattle.std.specs.Prelude.{Err}
+use Rattle.desk_wedge.specs.File.{wedge_of}
+use Rattle.desk_script.specs.Inputs.{wedge_refused}
+use Rattle.desk_script.proofs.Gives.{gives_bytes, device}
+use Rattle.desk_script.proofs.inputs.wedge_at.Goals as goal
+
+pub returns-in-Ok : goal.returns-in-Ok
+returns-in-Ok g c = gives_bytes wedge_of wedge_refused (g.F.Files.count c.args.files.now) (g.F.Files.count c.read.new.self) c.deref.result.now c.wedge_in.result c.wedge_in.ensures
+
+pub returns-in_ok-file_refused-in-Err : goal.returns-in_ok-file_refused-in-Err
+returns-in_ok-file_refused-in-Err g c = (Err c.in-Err.why, device c.in-Err.why c.in-Err.ensures, (c.in_ok-file_refused-in-Err.field-0, c.in_ok-file_refused-in-Err.ensures, refl))

@@ -1,0 +1,57 @@
+-- What the files of a command give.
+use Rattle.std.specs.Prelude.{◌≡◌, ℕ, List, Option, Some, None, option_map, Result, Ok, Err, IsErrOf}
+use Rattle.desk_case.specs.Case.{CaseValues}
+use Rattle.desk_case.specs.File.{case_of}
+use Rattle.desk_case.specs.File as cases
+use Rattle.desk_case.specs.declared.CaseFault.{CaseFault}
+use Rattle.desk_wedge.specs.Wedge.{WedgeValues}
+use Rattle.desk_wedge.specs.File.{wedge_of}
+use Rattle.desk_wedge.specs.File as wedges
+use Rattle.desk_wedge.specs.declared.WedgeFault.{WedgeFault}
+use Rattle.desk_script.specs.declared.text.Refusal.{Refusal}
+use Rattle.desk_script.specs.declared.text.Refusal.TheVariants as refusals
+use Rattle.desk_script.specs.declared.files.FileRefusal.{FileRefusal}
+use Rattle.desk_script.specs.declared.files.FileRefusal.TheVariants as files
+use Rattle.desk_script.specs.Files.{HasFailed}
+
+-- the refusal that tells why a file was not read: want of memory has none, as it ends the run
+abbrev pub file_refused : FileRefusal → Option Refusal
+file_refused files.Missing = Some refusals.FileMissing
+file_refused files.Device = Some refusals.FileDevice
+file_refused files.Large = Some refusals.FileLarge
+file_refused files.NoMemory = None
+
+-- the refusals that tell the number of a fault
+abbrev pub case_refused : CaseFault → Option Refusal
+case_refused fault = option_map refusals.Case (cases.fault_number fault)
+
+abbrev pub wedge_refused : WedgeFault → Option Refusal
+wedge_refused fault = option_map refusals.Wedge (wedges.fault_number fault)
+
+-- what was read, or the refusal that tells why it was not
+abbrev pub Tells : {V E : Type 0} → (E → Option Refusal) → Result V E → Result V Refusal → Type 0
+Tells refused (Ok value) given = given ≡ Ok value
+Tells refused (Err why) given = (told : Refusal) × (refused why ≡ Some told) × (given ≡ Err told)
+
+-- what bytes mean, or a refusal
+abbrev pub TellsBytes : {V E : Type 0} → (List ℕ → Result V E) → (E → Option Refusal) → Result (List ℕ) FileRefusal → Result V Refusal → Type 0
+TellsBytes meaning refused (Ok bytes) given = Tells refused (meaning bytes) given
+TellsBytes meaning refused (Err why) given = (told : Refusal) × (file_refused why ≡ Some told) × (given ≡ Err told)
+
+-- A file is read, whatever bytes or refusal it gives: that of a device only where the device failed, by the counts before and after.
+abbrev pub FileGives : {V E : Type 0} → (List ℕ → Result V E) → (E → Option Refusal) → ℕ → Result V Refusal → ℕ → Type 0
+FileGives meaning refused before given after =
+    (read : Result (List ℕ) FileRefusal) × (IsErrOf read files.Device → HasFailed before after) × TellsBytes meaning refused read given
+
+abbrev pub with_case : CaseValues → Result WedgeValues Refusal → Result (CaseValues × WedgeValues) Refusal
+with_case case (Ok wedge) = Ok (case, wedge)
+with_case case (Err why) = Err why
+
+-- the wedge file is read after the case
+abbrev pub ThenWedge : Result CaseValues Refusal → ℕ → Result (CaseValues × WedgeValues) Refusal → ℕ → Type 0
+ThenWedge (Err why) mid given after = (given ≡ Err why) × (after ≡ mid)
+ThenWedge (Ok case) mid given after = (wedge : Result WedgeValues Refusal) × FileGives wedge_of wedge_refused mid wedge after × (given ≡ with_case case wedge)
+
+-- the case file, its reading, the wedge file, its reading: the first refusal is told
+abbrev pub BothGive : ℕ → Result (CaseValues × WedgeValues) Refusal → ℕ → Type 0
+BothGive before given after = (case : Result CaseValues Refusal) × ((mid : ℕ) × FileGives case_of case_refused before case mid × ThenWedge case mid given after)

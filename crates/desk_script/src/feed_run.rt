@@ -1,0 +1,147 @@
+//! A script on the feed of a file.
+
+ghost use Rattle.std.specs.Prelude.{◌≡◌, ◌≤◌, ℕ, All, IfErr, IfOk, IfSome, IsErrOf, List, Ok, OnErr, OnOk, Result};
+ghost use Rattle.desk_ops.specs.Op.{IsLawful};
+ghost use Rattle.desk_codec.specs.Feed.{IsFeed};
+ghost use Rattle.desk_script.specs.Faults.{IsCrowded, IsOfFeed, IsOfStoring, IsUnopened};
+ghost use Rattle.desk_script.specs.Files.{HasFailed};
+ghost use Rattle.desk_script.specs.Sites.{desk};
+ghost use Rattle.desk_script.specs.Stored.{AnswersStored, AnswersStoredFront, IsStart, Stores, one_site};
+
+use crate::fault::RunFault;
+use crate::files::{FileRefusal, Files};
+use crate::memory::Memory;
+use crate::storing::store;
+use crate::stream::answer_all;
+use crate::world::World;
+use desk_codec::{ReadFault, read_feed};
+use desk_held::AddRefusal;
+use desk_ops::Op;
+use desk_replica::Replica;
+use std::alloc::{Allocator, Global};
+use std::io::{Read, Write};
+
+/// The operations of a feed's bytes. `Failed` is never told of them.
+fn operations_of<A: Allocator + Copy>(alloc: A, bytes: &[u8]) -> Result<Vec<Op, A>, RunFault>
+    ensures feed { IfOk result (λ ops. IsFeed bytes.now ops.items) }
+    ensures lawful { IfOk result (λ ops. All IsLawful ops.items) }
+    ensures fault { IfErr result (IsUnopened (λ read. read ≡ Ok bytes.now) 0 0) }
+{
+    match read_feed(alloc, bytes) {
+        Ok(ops) => Ok(ops),
+        Err(ReadFault::Fault(fault)) => Err(RunFault::Feed(fault)),
+        Err(ReadFault::Failed) => Err(RunFault::NoMemory),
+        Err(ReadFault::NoMemory) => Err(RunFault::NoMemory),
+    }
+}
+
+/// The operations of a stored feed: none where no file is there.
+fn stored<F: Files, A: Allocator + Copy>(
+    alloc: A,
+    files: &mut F,
+    name: &str,
+) -> Result<Vec<Op, A>, RunFault>
+    ensures ok { IfOk result (λ ops. (read : Result (List ℕ) FileRefusal) × F.gives files.old name.now read × Stores read ops.items) }
+    ensures lawful { IfOk result (λ ops. All IsLawful ops.items) }
+    ensures err { IfErr result (IsUnopened (F.gives files.old name.now) (F.count files.old) (F.count files.new)) }
+    ensures counted { F.count files.old ≤ F.count files.new }
+{
+    match files.read(alloc, name) {
+        Ok(bytes) => operations_of(alloc, &bytes),
+        Err(FileRefusal::Missing) => Ok(Vec::new(alloc)),
+        Err(FileRefusal::Device) => Err(RunFault::File(FileRefusal::Device)),
+        Err(FileRefusal::Large) => Err(RunFault::File(FileRefusal::Large)),
+        Err(FileRefusal::NoMemory) => Err(RunFault::NoMemory),
+    }
+}
+
+/// A world of one site, which holds the operations.
+fn world_of<A: Allocator + Copy>(alloc: A, site: u16, ops: &[Op]) -> Result<World<A>, RunFault>
+    requires numbered { 1 ≤ site }
+    requires lawful { All IsLawful ops.now }
+    ensures ok { IfOk result (λ w. w ≡ one_site site ops.now) }
+    ensures err { IfErr result (IsCrowded ops.now) }
+{
+    match Replica::open(alloc, site, ops) {
+        Ok(replica) => match World::with_site(alloc, replica) {
+            Ok(world) => Ok(world),
+            Err(_) => Err(RunFault::NoMemory),
+        },
+        Err(stop) => match stop.why {
+            AddRefusal::Full => Err(RunFault::Opening(stop)),
+            AddRefusal::NoMemory => Err(RunFault::NoMemory),
+        },
+    }
+}
+
+/// A world of one site, which holds the operations of a stored feed.
+fn opened<F: Files, A: Allocator + Copy>(
+    alloc: A,
+    files: &mut F,
+    name: &str,
+    site: u16,
+) -> Result<World<A>, RunFault>
+    requires { 1 ≤ site }
+    ensures ok { IfOk result (λ w. IsStart (F.gives files.old name.now) (F.count files.old) site (desk w (F.count files.new))) }
+    ensures err { IfErr result (IsUnopened (F.gives files.old name.now) (F.count files.old) (F.count files.new)) }
+    ensures counted { F.count files.old ≤ F.count files.new }
+{
+    match stored(alloc, files, name) {
+        Ok(ops) => world_of(alloc, site, &ops),
+        Err(fault) => Err(fault),
+    }
+}
+
+/// Stores a site's feed, if the site is there.
+fn keep_feed<F: Files, A: Allocator + Copy>(
+    alloc: A,
+    world: &World<A>,
+    files: &mut F,
+    name: &str,
+    site: u16,
+) -> Result<(), RunFault>
+    ensures own { IfErr result (IsOfStoring (F.count files.old) (F.count files.new)) }
+    ensures counted { F.count files.old ≤ F.count files.new }
+{
+    let Some(replica) = world.replica(site) else {
+        return Ok(());
+    };
+    let Ok(feed) = replica.write_feed() else {
+        return Err(RunFault::NoMemory);
+    };
+    match store(alloc, files, name, &feed) {
+        Ok(()) => Ok(()),
+        Err(FileRefusal::NoMemory) => Err(RunFault::NoMemory),
+        Err(FileRefusal::Missing) => Err(RunFault::File(FileRefusal::Missing)),
+        Err(FileRefusal::Device) => Err(RunFault::File(FileRefusal::Device)),
+        Err(FileRefusal::Large) => Err(RunFault::File(FileRefusal::Large)),
+    }
+}
+
+/// Runs a script on a stored feed: the site holds the operations of the named file, or none where that is not there. Once
+/// all commands were answered the feed of that site alone is stored under the name, in place of the old one; before that
+/// no file is changed. After an `Err` what was written is the front of answer lines, or nothing.
+pub fn run_on_feed<R: Read, W: Write, F: Files, A: Allocator + Copy>(
+    alloc: A,
+    global: Global,
+    reader: &mut R,
+    writer: &mut W,
+    files: &mut F,
+    name: &str,
+    site: u16,
+) -> Result<(), RunFault>
+    requires { 1 ≤ site }
+    ensures ok { OnOk result (IfSome (R.remaining reader.old) (λ input. AnswersStored (F.gives files.old name.now) (F.count files.old) site input (W.contents writer.old) (W.contents writer.new))) }
+    ensures err { OnErr result (IfSome (R.remaining reader.old) (λ input. AnswersStoredFront (F.gives files.old name.now) (F.count files.old) site input (W.contents writer.old) (W.contents writer.new))) }
+    ensures feed { IfErr result (IsOfFeed (F.gives files.old name.now)) }
+    ensures device { IsErrOf result (RunFault.File FileRefusal.Device) → HasFailed (F.count files.old) (F.count files.new) }
+{
+    let mut world = match opened(alloc, files, name, site) {
+        Ok(world) => world,
+        Err(fault) => return Err(fault),
+    };
+    if let Err(fault) = answer_all(Memory { own: alloc, global }, &mut world, reader, writer, files) {
+        return Err(fault);
+    }
+    keep_feed(alloc, &world, files, name, site)
+}

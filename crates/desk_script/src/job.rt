@@ -1,0 +1,138 @@
+//! The job of a site's copy: its ribbon, and the ribbon cast.
+
+ghost use Rattle.std.specs.Prelude.{◌≤◌, ◌≡◌, IfOk, MatchResult};
+ghost use Rattle.desk_script.specs.Effect.{job_of, TellsRibbon, TellsCast, TellsLines, Performs};
+ghost use Rattle.desk_script.specs.Reply.{reply, Refused};
+ghost use Rattle.desk_script.specs.Request as requests;
+ghost use Rattle.desk_script.specs.Sites.{desk};
+
+use crate::act::replica_of;
+use crate::files::Files;
+use crate::inputs::both;
+use crate::memory::Memory;
+use crate::text::{Refusal, Response};
+use crate::world::World;
+use desk_case::MatrixCase;
+use desk_caster::{cast, read_ribbon};
+use desk_job::{JobRefusal, make};
+use desk_ops::NoMemory;
+use desk_replica::Replica;
+use desk_wedge::Wedge;
+use std::alloc::Allocator;
+
+/// The ribbon of a replica's copy, or the faults of its job.
+fn ribbon_of<A: Allocator + Copy>(
+    memory: Memory<A>,
+    replica: &Replica<A>,
+    case: &MatrixCase,
+    wedge: &Wedge,
+) -> Result<Response<A>, NoMemory>
+    ensures { IfOk result (λ a. TellsRibbon (job_of replica.now.ops case.now wedge.now) (reply a)) }
+{
+    match make(memory.own, replica, case, wedge) {
+        Ok(bytes) => Ok(Response::Ribbon(bytes)),
+        Err(JobRefusal::Faults(faults)) => Ok(Response::NoRibbon(faults)),
+        Err(JobRefusal::NoMemory) => Err(NoMemory),
+    }
+}
+
+/// The lines that a ribbon's bytes cast. A ribbon that was made is read and cast without a fault, so that every other
+/// answer of the two is want of memory.
+fn cast_bytes<A: Allocator + Copy>(
+    memory: Memory<A>,
+    bytes: &[u8],
+    case: &MatrixCase,
+    wedge: &Wedge,
+) -> Result<Response<A>, NoMemory>
+    ensures { IfOk result (λ a. TellsCast case.now wedge.now bytes.now (reply a)) }
+{
+    let Ok(rows) = read_ribbon(memory.own, bytes) else {
+        return Err(NoMemory);
+    };
+    match cast(memory.own, &rows, case, wedge) {
+        Ok(lines) => Ok(Response::Lines(lines)),
+        Err(_) => Err(NoMemory),
+    }
+}
+
+/// The lines that the ribbon of a replica's copy casts, or the faults of its job.
+fn lines_of<A: Allocator + Copy>(
+    memory: Memory<A>,
+    replica: &Replica<A>,
+    case: &MatrixCase,
+    wedge: &Wedge,
+) -> Result<Response<A>, NoMemory>
+    ensures { IfOk result (λ a. TellsLines case.now wedge.now (job_of replica.now.ops case.now wedge.now) (reply a)) }
+{
+    match make(memory.own, replica, case, wedge) {
+        Ok(bytes) => cast_bytes(memory, &bytes, case, wedge),
+        Err(JobRefusal::Faults(faults)) => Ok(Response::NoRibbon(faults)),
+        Err(JobRefusal::NoMemory) => Err(NoMemory),
+    }
+}
+
+/// The ribbon, where a case and a wedge were given.
+fn ribbon_by<A: Allocator + Copy>(
+    memory: Memory<A>,
+    replica: &Replica<A>,
+    given: Result<(MatrixCase, Wedge), Refusal>,
+) -> Result<Response<A>, NoMemory>
+    ensures { IfOk result (λ a. MatchResult given (λ both. TellsRibbon (job_of replica.now.ops both.0 both.1) (reply a)) (λ why. reply a ≡ Refused why)) }
+{
+    match given {
+        Ok((case, wedge)) => ribbon_of(memory, replica, &case, &wedge),
+        Err(why) => Ok(Response::Refused(why)),
+    }
+}
+
+/// The lines cast, where a case and a wedge were given.
+fn lines_by<A: Allocator + Copy>(
+    memory: Memory<A>,
+    replica: &Replica<A>,
+    given: Result<(MatrixCase, Wedge), Refusal>,
+) -> Result<Response<A>, NoMemory>
+    ensures { IfOk result (λ a. MatchResult given (λ both. TellsLines both.0 both.1 (job_of replica.now.ops both.0 both.1) (reply a)) (λ why. reply a ≡ Refused why)) }
+{
+    match given {
+        Ok((case, wedge)) => lines_of(memory, replica, &case, &wedge),
+        Err(why) => Ok(Response::Refused(why)),
+    }
+}
+
+/// The ribbon of a site's copy by two files.
+pub fn ribbon<F: Files, A: Allocator + Copy>(
+    memory: Memory<A>,
+    world: &World<A>,
+    files: &mut F,
+    site: u32,
+    case: &str,
+    wedge: &str,
+) -> Result<Response<A>, NoMemory>
+    ensures told { IfOk result (λ a. Performs (desk world.now (F.count files.old)) (requests.Ribbon site case.now wedge.now) (reply a) (desk world.now (F.count files.new))) }
+    ensures counted { F.count files.old ≤ F.count files.new }
+{
+    let Some(replica) = replica_of(world, site) else {
+        return Ok(Response::Refused(Refusal::Site));
+    };
+    let given = both(memory, files, case, wedge)?;
+    ribbon_by(memory, replica, given)
+}
+
+/// The ribbon of a site's copy by two files, cast.
+pub fn cast_lines<F: Files, A: Allocator + Copy>(
+    memory: Memory<A>,
+    world: &World<A>,
+    files: &mut F,
+    site: u32,
+    case: &str,
+    wedge: &str,
+) -> Result<Response<A>, NoMemory>
+    ensures told { IfOk result (λ a. Performs (desk world.now (F.count files.old)) (requests.Cast site case.now wedge.now) (reply a) (desk world.now (F.count files.new))) }
+    ensures counted { F.count files.old ≤ F.count files.new }
+{
+    let Some(replica) = replica_of(world, site) else {
+        return Ok(Response::Refused(Refusal::Site));
+    };
+    let given = both(memory, files, case, wedge)?;
+    lines_by(memory, replica, given)
+}

@@ -1,0 +1,36 @@
+//! A file that is replaced as a whole.
+
+ghost use Rattle.std.specs.Prelude.{◌≢◌, ◌≤◌, IfErr, IsErrOf};
+ghost use Rattle.desk_script.specs.Files.{HasFailed};
+
+use crate::files::{FileRefusal, Files};
+use std::alloc::{AllocError, Allocator};
+
+/// The name under which a file is written before it takes its place.
+fn new_name<A: Allocator + Copy>(alloc: A, name: &str) -> Result<String<A>, AllocError> {
+    let mut new = String::from_str(alloc, name)?;
+    new.push_str(".new")?;
+    Ok(new)
+}
+
+/// Stores bytes under a name: they are written as `name.new`, which then takes the name. So whatever fails, the file has
+/// its old bytes or the new ones. `Device` comes only where the device failed in this call, by the count while it can
+/// rise, and `Large` never.
+pub fn store<F: Files, A: Allocator + Copy>(
+    alloc: A,
+    files: &mut F,
+    name: &str,
+    bytes: &[u8],
+) -> Result<(), FileRefusal>
+    ensures device { IsErrOf result FileRefusal.Device → HasFailed (F.count files.old) (F.count files.new) }
+    ensures small { IfErr result (λ e. e ≢ FileRefusal.Large) }
+    ensures counted { F.count files.old ≤ F.count files.new }
+{
+    let Ok(new) = new_name(alloc, name) else {
+        return Err(FileRefusal::NoMemory);
+    };
+    match files.write_new(new.as_str(), bytes) {
+        Ok(()) => files.rename(new.as_str(), name),
+        Err(why) => Err(why),
+    }
+}

@@ -1,0 +1,61 @@
+#!/usr/bin/env bash
+# Kills a run on a stored feed at many moments: afterwards the old feed stands, or the new one, and never a part.
+set -euo pipefail
+cd "$(dirname "$0")/../crates/copydesk"
+rt run -- script < stdin > /dev/null
+program=$PWD/out/copydesk
+folder=$(mktemp -d)
+trap 'rm -rf "$folder"' EXIT
+cd "$folder"
+
+# The old feed: 20,000 settings by site 3.
+printf 'MFD1' > old
+printf '%b' "$(awk 'BEGIN {
+  for (i = 1; i <= 20000; i++)
+    printf "\\x03\\x00\\x00\\x00\\x00\\x00\\x00\\x%02x\\x%02x\\x00\\x03\\x01\\x00\\x00\\x00\\x0c", int(i / 256), i % 256
+}')" >> old
+printf 'insert 3 0 r"x"\nshow 3\n' > input
+printf 'ok 20001.3\ncopy r"x"\n' > answers
+
+# The new feed, by a run that is left alone.
+cp old a.feed
+start=${EPOCHREALTIME/./}
+"$program" desk a.feed --site 3 < input > written
+end=${EPOCHREALTIME/./}
+cmp written answers
+cp a.feed new
+if cmp -s old new; then
+  echo "the feed was not stored" >&2
+  exit 1
+fi
+
+rounds=150
+olds=0
+news=0
+for ((i = 0; i < rounds; i++)); do
+  cp old a.feed
+  "$program" desk a.feed --site 3 < input > written 2> /dev/null &
+  run=$!
+  sleep "$(printf '0.%06d' $(((end - start) * i * 3 / (rounds * 2))))"
+  kill -9 "$run" 2> /dev/null || true
+  wait "$run" 2> /dev/null || true
+  if cmp -s a.feed old; then
+    olds=$((olds + 1))
+  elif cmp -s a.feed new; then
+    news=$((news + 1))
+  else
+    echo "neither the old feed nor the new one stands after a kill (round $i)" >&2
+    exit 1
+  fi
+done
+
+# What a killed run left behind does no harm.
+cp old a.feed
+printf 'left over' > a.feed.new
+"$program" desk a.feed --site 3 < input > written
+cmp a.feed new
+echo "killed $rounds runs: the old feed stands after $olds, the new one after $news"
+if ((olds == 0 || news == 0)); then
+  echo "the kills came too early or too late" >&2
+  exit 1
+fi
