@@ -1,0 +1,187 @@
+#!/usr/bin/env python3
+"""Random scripts through the program and through the independent one beside this file; the answers must be the same.
+
+usage: differential.py PROGRAM [SCRIPTS [SEED]]      all commands; ends with status 1 at the first difference
+       differential.py PROGRAM --only WORD,WORD ..   some commands alone
+"""
+import os
+import random
+import subprocess
+import sys
+import tempfile
+
+HERE = os.path.dirname(os.path.abspath(__file__))
+sys.path.insert(0, HERE)
+import oracle
+
+ROWS = [["" for _ in range(15)] for _ in range(15)]
+for row, column, text in [(0, 0, "."), (3, 0, "t"), (4, 1, "a"), (4, 2, "i:a"), (7, 0, "n"), (13, 0, "m"), (14, 0, "M"), (14, 1, "s:M")]:
+    ROWS[row][column] = text
+W = 'wedge = 5\nset_q = 48\npica = "sixth"\nunits = [5, 6, 7, 8, 9, 9, 9, 10, 10, 11, 12, 13, 14, 15, 18]\n'
+
+
+def case_text(fill='["O15", "A5"]', number=1, space='"G1"'):
+    rows = ",\n".join("[" + ",".join('"%s"' % t for t in row) + "]" for row in ROWS)
+    return "case = %d\nspace = %s\nfill = %s\nrows = [\n%s]\n" % (number, space, fill, rows)
+
+
+FILES = {
+    "c": case_text(), "c2": case_text(number=2), "c_order": case_text(fill='["A5", "O15"]'), "c_one": case_text(fill='["O15"]'),
+    "c_four": case_text(fill='["O15", "O8", "O5", "O1"]'), "c_nofill": case_text().replace("fill", "fills"),
+    "c_held": case_text(space='"A8"'), "c_bad": case_text().replace('"n"', '"nn"'),
+    "w": W, "w6": W.replace("wedge = 5", "wedge = 6"), "w19": W.replace("48", "19"), "w_american": W.replace("sixth", "american"),
+    "w_small": W.replace("48", "20").replace("[5,", "[4,"), "w_falls": W.replace("[5, 6", "[6, 5"), "w_bad": "wedge =",
+}
+LETTERS = "nnnnmmtta.M q\n\n      "
+
+
+class Scripts:
+    def __init__(self, pick, only):
+        self.pick, self.only = pick, only
+        self.sites, self.counter = [], 0
+        self.feeds = []
+
+    def site(self):
+        if self.sites and self.pick.random() < 0.97:
+            return self.pick.choice(self.sites)
+        return self.pick.choice([0, 1, 2, 3, 7, 65535, 65536, 4294967295, 12])
+
+    def copy(self):
+        runs = []
+        for _ in range(self.pick.choice([1, 1, 1, 2, 3])):
+            style = self.pick.choice("rrrrris")
+            size = self.pick.choice([1, 1, 2, 3, 8, 20, 60])
+            text = "".join(self.pick.choice(LETTERS if style == "r" else "aM") for _ in range(size))
+            if self.pick.random() < 0.03:
+                text += self.pick.choice(["\t", "é", "\\", '"', "“", "\u0085", "\u00a0", "𝔐", " "])
+            runs.append('%s"%s"' % (style, text.replace("\\", "\\\\").replace('"', '\\"').replace("\n", "\\n")))
+        return " ".join(runs)
+
+    def place(self):
+        return self.pick.choice([0, 0, 1, 2, 3, 5, 8, 20, self.pick.randrange(0, 90)])
+
+    def op(self):
+        """The bytes of an operation, mostly lawful."""
+        stamp = lambda: (self.pick.randrange(0, 12) if self.pick.random() < 0.95 else self.pick.choice([1 << 62, (1 << 62) + 1, 0]), self.pick.randrange(0, 4))
+        kind = self.pick.choice(["insert", "insert", "insert", "delete", "delete", "set"])
+        s, t = stamp(), stamp()
+        if self.pick.random() < 0.9 and not t < s:
+            s, t = t, s
+        if self.pick.random() < 0.3:
+            t = (0, 0)
+        if kind == "insert":
+            return oracle.spelling((kind, s, t, (self.pick.choice([0, 0, 0, 1, 2]), ord(self.pick.choice("ntam")))))
+        if kind == "delete":
+            return oracle.spelling((kind, s, t))
+        key = self.pick.choice(oracle.KEYS)
+        return oracle.spelling((kind, s, key, self.pick.choice([1, 5, 12, 16, 53, 120, 240, 300])))
+
+    def hex(self):
+        data = b"MFD1" + b"".join(self.op() for _ in range(self.pick.choice([0, 1, 1, 2, 4, 9])))
+        if self.pick.random() < 0.06:
+            data = data[:self.pick.randrange(0, len(data))]
+        if self.pick.random() < 0.04 and data:
+            k = self.pick.randrange(0, len(data))
+            data = data[:k] + bytes([self.pick.randrange(256)]) + data[k + 1:]
+        text = data.hex()
+        return text.upper() if self.pick.random() < 0.1 else text
+
+    def setting(self):
+        key = self.pick.choice(oracle.KEYS)
+        low, high = oracle.RANGES[key]
+        usual = {"measure": 120, "tight": 38, "loose": 150, "case": 1, "wedge": 5}[key]
+        value = self.pick.choice([usual] * 6 + [low, high, low - 1, high + 1, self.pick.randrange(low, high + 1)])
+        return "%s %d" % (key, value)
+
+    def line(self):
+        kinds = ["site", "insert", "insert", "insert", "send", "show", "feed", "delete", "delete", "set", "set", "take", "range",
+                 "merge", "faults", "settings", "ribbon", "cast", "cast", "restart", "junk", "standard"]
+        kind = self.pick.choice(kinds)
+        if self.only and kind not in self.only:
+            return None
+        if kind == "site":
+            n = self.pick.choice([1, 2, 3, 1, 2, 3, 4, 5, 0, 65535, 65536])
+            if n not in self.sites and 1 <= n <= 65535:
+                self.sites.append(n)
+            return "site %d" % n
+        s = self.site()
+        if kind == "insert":
+            return "insert %d %d %s" % (s, self.place(), self.copy())
+        if kind == "delete":
+            return "delete %d %d" % (s, self.place())
+        if kind == "set":
+            return "set %d %s" % (s, self.setting())
+        if kind == "standard":
+            return "\n".join("set %d %s" % (s, t) for t in ["measure 120", "tight 38", "loose 150", "case 1", "wedge 5"])
+        if kind == "take":
+            return "take %d %s" % (s, self.hex() or "4d")
+        if kind == "send":
+            return "send %d %d" % (s, self.site())
+        if kind == "range":
+            a = self.pick.randrange(0, 12)
+            return "send %d %d %d..%d" % (s, self.site(), a, a + self.pick.randrange(-1, 8) if a else 3)
+        if kind == "merge":
+            return "merge %d %d" % (s, self.site())
+        if kind in ("ribbon", "cast"):
+            case = self.pick.choice(["c"] * 8 + ["c2", "c_order", "c_one", "c_one", "c_four", "c_nofill", "c_held", "c_bad", "none"])
+            wedge = self.pick.choice(["w"] * 8 + ["w6", "w19", "w_american", "w_small", "w_falls", "w_bad", "none"])
+            return "%s %d %s %s" % (kind, s, case, wedge)
+        if kind == "junk":
+            return self.pick.choice(["", "jump", "site", "site 01", "site +1", "show 1 ", " show 1", "insert 1 0", 'insert 1 0 r""', 'insert 1 0 r"a"  r"b"',
+                                     'insert 1 0 x"a"', 'insert 1 0 r"\\t"', "take 1 4d4", "take 1 ", "send 1 2 1..", "send 1 2 ..1", "show 4294967296",
+                                     "set 1 Measure 120", "set 1 measure 99999999999", "merge 1", "show 1\r", "delete 1 0 0", "cast 1 c", "ribbon 1  c w",
+                                     "site\t1", 'insert 1 0 r"a', "send 1 2 0..0", "send 1 2 3..2", "insert 1 0 r\"a\x00b\"", "show " + "0" * 9 + "1", "x" * 70000])
+        return "%s %d" % (kind, s)
+
+    def script(self):
+        out = ["site 1", "site 2"]
+        self.sites = [1, 2]
+        for _ in range(self.pick.choice([6, 12, 25, 60])):
+            line = self.line()
+            if line is not None and not (self.only and ".." in line and "range" not in self.only):
+                out.append(line)
+        text = "\n".join(out)
+        return (text if self.pick.random() < 0.1 else text + "\n").encode("utf-8")
+
+
+def run(program, script, folder):
+    return subprocess.run([program, "script"], input=script, stdout=subprocess.PIPE, stderr=subprocess.PIPE, cwd=folder, timeout=60)
+
+
+def first_difference(script, wanted, got):
+    for k, (a, b) in enumerate(zip(wanted, got)):
+        if a != b:
+            return "answer %d\n wanted %r\n    got %r" % (k + 1, a[:300], b[:300])
+    return "%d answers wanted, %d got" % (len(wanted), len(got))
+
+
+def main():
+    program, rest = os.path.abspath(sys.argv[1]), sys.argv[2:]
+    only = None
+    if rest and rest[0] == "--only":
+        only, rest = rest[1].split(","), rest[2:]
+    count, seed = int(rest[0]) if rest else 200, int(rest[1]) if len(rest) > 1 else 1
+    with tempfile.TemporaryDirectory() as folder:
+        for name, text in FILES.items():
+            with open(os.path.join(folder, name), "w", encoding="utf-8") as file:
+                file.write(text)
+        os.chdir(folder)
+        answers = 0
+        for k in range(count):
+            script = Scripts(random.Random(seed * 1000003 + k), only).script()
+            world = oracle.World()
+            wanted = [world.answer(line).encode("utf-8") for line in oracle.lines(script)]
+            done = run(program, script, folder)
+            got = done.stdout.split(b"\n")[:-1]
+            if done.returncode != 0 or got != wanted:
+                sys.stdout.write("script %d of seed %d differs (status %d)\n%s\n" % (k, seed, done.returncode, first_difference(script, wanted, got)))
+                with open(os.path.join(tempfile.gettempdir(), "differs.script"), "wb") as file:
+                    file.write(script)
+                return 1
+            answers += len(wanted)
+    print("%d scripts, %d answers, no difference" % (count, answers))
+    return 0
+
+
+if __name__ == "__main__":
+    sys.exit(main())
