@@ -128,8 +128,8 @@ entries_text is_first [] = []
 entries_text is_first (f ∷ faults) = separator is_first ++ kind_text f.kind ++ codes " " ++ stamp_text f.stamp ++ entries_text false faults
 
 abbrev pub faults_text : List CopyFault → List ℕ
-faults_text [] = codes " none"
-faults_text (f ∷ faults) = entries_text true (f ∷ faults)
+faults_text [] = codes "faults none"
+faults_text (f ∷ faults) = codes "faults" ++ entries_text true (f ∷ faults)
 
 abbrev pub value_text : Option ℕ → List ℕ
 value_text None = codes "-"
@@ -176,7 +176,7 @@ text (MadeMany first last) = codes "ok " ++ stamp_text first ++ codes ".." ++ st
 text (Counted new known) = codes "ok new " ++ decimal new ++ codes " known " ++ decimal known
 text (Copy copy) = codes "copy" ++ shown_text copy
 text (Feed feed) = codes "feed " ++ hex_text feed
-text (Faults faults) = codes "faults" ++ faults_text faults
+text (Faults faults) = faults_text faults
 text (Settings settings) = codes "settings " ++ settings_text settings
 text (Ribbon ribbon) = codes "ribbon " ++ hex_text ribbon
 text (NoRibbon faults) = codes "no ribbon:" ++ job_faults_text true faults

@@ -4,6 +4,7 @@ ghost use Rattle.std.specs.Prelude.{◌≡◌, ◌<◌, ◌++◌, ◌∷◌, [],
 ghost use Rattle.std.specs.Str.{encode_utf8_all};
 ghost use Rattle.std.specs.Fmt.{decimal, signed_decimal};
 ghost use Rattle.desk_script.specs.Reply.{reply, lines_told};
+ghost use Rattle.desk_script.specs.Reply as replies;
 ghost use Rattle.desk_script.specs.Text.{stamp_text, opening, quoted, turn, close, copy_text, hex_digit, hex_text, refusal_text, cause_number, fault_text, kind_text, separator, entries_text, faults_text, value_text, settings_text, key_text, job_fault_text, job_faults_text, lines_text, text};
 
 use desk_caster::CastLine;
@@ -247,8 +248,9 @@ fn put_faults<A: Allocator + Copy>(
     ensures { OnOk result (string_bytes out.new ≡ string_bytes out.old ++ faults_text faults.now) }
 {
     if faults.is_empty() {
-        return out.push_str(" none");
+        return out.push_str("faults none");
     }
+    out.push_str("faults")?;
     put_entries(out, faults)
 }
 
@@ -376,47 +378,69 @@ fn put_lines<A: Allocator + Copy>(
     Ok(())
 }
 
+/// Writes the stamp of an operation that was made.
+fn put_made<A: Allocator + Copy>(out: &mut String<A>, stamp: Stamp) -> Result<(), AllocError>
+    ensures { OnOk result (string_bytes out.new ≡ string_bytes out.old ++ text (replies.Made stamp)) }
+{
+    out.push_str("ok ")?;
+    put_stamp(out, stamp)
+}
+
+/// Writes the first stamp and the last of operations that were made.
+fn put_made_many<A: Allocator + Copy>(
+    out: &mut String<A>,
+    first: Stamp,
+    last: Stamp,
+) -> Result<(), AllocError>
+    ensures { OnOk result (string_bytes out.new ≡ string_bytes out.old ++ text (replies.MadeMany first last)) }
+{
+    out.push_str("ok ")?;
+    put_stamp(out, first)?;
+    out.push_str("..")?;
+    put_stamp(out, last)
+}
+
+/// Writes a copy, behind a space where there is one.
+fn put_shown<A: Allocator + Copy>(out: &mut String<A>, copy: &[Symbol]) -> Result<(), AllocError>
+    ensures { OnOk result (string_bytes out.new ≡ string_bytes out.old ++ text (replies.Copy copy.now)) }
+{
+    out.push_str("copy")?;
+    if !copy.is_empty() {
+        out.push(' ')?;
+        put_copy(out, copy)?;
+    }
+    Ok(())
+}
+
+/// Writes bytes behind a word.
+fn put_bytes<A: Allocator + Copy>(
+    out: &mut String<A>,
+    word: &str,
+    bytes: &[u8],
+) -> Result<(), AllocError>
+    ensures { OnOk result (string_bytes out.new ≡ string_bytes out.old ++ word.now ++ hex_text bytes.now) }
+{
+    out.push_str(word)?;
+    put_hex(out, bytes)
+}
+
 /// Writes an answer at the end, without its end of line.
 pub fn put<A: Allocator + Copy>(out: &mut String<A>, answer: &Response<A>) -> Result<(), AllocError>
     ensures { OnOk result (string_bytes out.new ≡ string_bytes out.old ++ text (reply answer.now)) }
 {
     match answer {
         Response::Done => out.push_str("ok"),
-        Response::Made(stamp) => {
-            out.push_str("ok ")?;
-            put_stamp(out, *stamp)
-        }
-        Response::MadeMany(first, last) => {
-            out.push_str("ok ")?;
-            put_stamp(out, *first)?;
-            out.push_str("..")?;
-            put_stamp(out, *last)
-        }
+        Response::Made(stamp) => put_made(out, *stamp),
+        Response::MadeMany(first, last) => put_made_many(out, *first, *last),
         Response::Counted { new, known } => write!(out, "ok new {new} known {known}"),
-        Response::Copy(copy) => {
-            out.push_str("copy")?;
-            if !copy.is_empty() {
-                out.push(' ')?;
-                put_copy(out, copy)?;
-            }
-            Ok(())
-        }
-        Response::Feed(feed) => {
-            out.push_str("feed ")?;
-            put_hex(out, feed)
-        }
-        Response::Faults(faults) => {
-            out.push_str("faults")?;
-            put_faults(out, faults)
-        }
+        Response::Copy(copy) => put_shown(out, copy),
+        Response::Feed(feed) => put_bytes(out, "feed ", feed),
+        Response::Faults(faults) => put_faults(out, faults),
         Response::Settings(settings) => {
             out.push_str("settings ")?;
             put_settings(out, settings)
         }
-        Response::Ribbon(ribbon) => {
-            out.push_str("ribbon ")?;
-            put_hex(out, ribbon)
-        }
+        Response::Ribbon(ribbon) => put_bytes(out, "ribbon ", ribbon),
         Response::NoRibbon(faults) => {
             out.push_str("no ribbon:")?;
             put_job_faults(out, faults.as_slice())
