@@ -1,4 +1,3 @@
-use Rattle.std.proofs.Common.{rules, ◌≡◌}
 use Rattle.std.proofs.lemmas.Result.{on_err_weaker, on_ok_weaker}
 use Rattle.desk_script.proofs.Feeds.{from_nothing, front_from_nothing}
 use Rattle.desk_script.proofs.stream.run.Goals as goal
