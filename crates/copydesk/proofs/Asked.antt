@@ -1,10 +1,10 @@
 -- What matches hold, by what their getters answered.
-use Rattle.std.proofs.Common.{◌≡◌, ◌<◌, ℕ, List, [], Option, Some, None, sym, subst, ap, ◌∙◌, codes, refl, arith}
-use Rattle.std.specs.Prelude.{◌≤◌, Ok, Err, Result, unwrap_or, option_map, ◌≢◌}
-use Rattle.std.specs.Str.Parse.{ParsesUnsigned, ExplainsUnsignedError, HasUnsignedDigitsIfOk}
+use Rattle.std.proofs.Common.{◌≡◌, ◌<◌, ℕ, List, Option, Some, None, sym, subst, ap, ◌∙◌, codes, refl, arith}
+use Rattle.std.specs.Prelude.{◌≤◌, Ok, Err, Result, unwrap_or, option_map}
+use Rattle.std.specs.Str.Parse.{ParsesUnsigned}
 use Rattle.clap.specs.Matches.{ReadsOne}
 use Rattle.clap.specs.Words.{Row, Text, one_of}
-use Rattle.copydesk.specs.Words.{HasSite, IsNumber, NamesDesk}
+use Rattle.copydesk.specs.Words.{HasSite, NamesDesk}
 
 abbrev pub Reads : {E : Type 0} → (Text → Result ℕ E → Type 0) → Type 0
 Reads G = (t : _) (r : _) → G t r → ParsesUnsigned 16 10 t r

@@ -1,8 +1,7 @@
 -- Runs on a stored feed.
-use Rattle.std.proofs.Common.{◌≡◌, ℕ, ◌<◌, ◌≤◌, ◌⊎◌, inl, inr, List, [], ◌++◌, Option, Some, None, refl, sym, ap, subst, arith, Bool, true, false, nat_eq, rules}
+use Rattle.std.proofs.Common.{◌≡◌, ℕ, ◌<◌, ◌≤◌, inl, inr, List, [], Option, Some, None, refl, sym, subst, arith, Bool, true, false, nat_eq}
 use Rattle.std.specs.Prelude.{Result, Ok, Err, IfErr, IfSome, OnOk, IsErrOf}
 use Rattle.std.specs.FinMap as fin
-use Rattle.std.specs.Io.KnownBytes.{Appends}
 use Rattle.std.proofs.lemmas.Bool.Decides.{nat_tests}
 use Rattle.std.proofs.lemmas.List.{append-nil}
 use Rattle.desk_ops.specs.declared.op.Op.{Op}

@@ -140,7 +140,8 @@ pub fn run_on_feed<R: Read, W: Write, F: Files, A: Allocator + Copy>(
         Ok(world) => world,
         Err(fault) => return Err(fault),
     };
-    if let Err(fault) = answer_all(Memory { own: alloc, global }, &mut world, reader, writer, files) {
+    let memory = Memory { own: alloc, global };
+    if let Err(fault) = answer_all(memory, &mut world, reader, writer, files) {
         return Err(fault);
     }
     keep_feed(alloc, &world, files, name, site)

@@ -1,10 +1,10 @@
-use Rattle.std.proofs.Common.{rules, ◌≡◌, ◌||◌, Bool, true, false, ap, ap₂, ◌∙◌, codes, refl}
+use Rattle.std.proofs.Common.{rules, ◌≡◌, ◌||◌, true, false, ap, ap₂, ◌∙◌, codes}
 use Rattle.std.specs.Prelude.{Some, pos}
 use Rattle.std.proofs.lemmas.Result.{IfOk-weaker}
-use Rattle.clap.specs.Words.{App, Rule, app_of, new_app, new_rule, rule_of, with_rule}
+use Rattle.clap.specs.Words.{Rule, app_of, new_app, new_rule, rule_of, with_rule}
 use Rattle.clap.specs.declared.builder.command.Command.TheViews.{out-Command}
 use Rattle.clap.specs.declared.builder.value_parser.ValueParser.TheVariants as parsers
-use Rattle.copydesk.specs.Words.{feed_rule, site_rule, desk_app}
+use Rattle.copydesk.specs.Words.{feed_rule, site_rule}
 use Rattle.copydesk.proofs.program.desk_command.Goals as goal
 
 abbrev required_site : Rule

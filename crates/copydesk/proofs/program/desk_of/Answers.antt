@@ -1,6 +1,6 @@
 use Rattle.std.proofs.Common.{◌≡◌, sym, ap, ◌∙◌, codes, refl}
 use Rattle.std.specs.Prelude.{None, Some, option_map}
-use Rattle.clap.specs.Words.{first_of, found_of, rows_of}
+use Rattle.clap.specs.Words.{found_of}
 use Rattle.clap.proofs.WalkLemmas.{first_value-rows}
 use Rattle.copydesk.proofs.program.desk_of.Goals as goal
 

@@ -1,4 +1,4 @@
-use Rattle.std.proofs.Common.{◌≡◌, inl, inr, refl, map, string_bytes, subst}
+use Rattle.std.proofs.Common.{inl, inr, refl, map, string_bytes, subst}
 use Rattle.copydesk.specs.Words.{AsksFor}
 use Rattle.copydesk.specs.declared.program.Wish.TheVariants as wishes
 use Rattle.copydesk.proofs.Statuses.{done_of, stop_of}

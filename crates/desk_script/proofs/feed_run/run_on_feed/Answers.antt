@@ -1,4 +1,4 @@
-use Rattle.std.proofs.Common.{rules, ◌≡◌, ◌≤◌, arith}
+use Rattle.std.proofs.Common.{rules}
 use Rattle.desk_script.proofs.Bytes.{on_err}
 use Rattle.desk_script.proofs.Feeds.{on_ok, stored_all, stored_front, stored_whole_front, device_later}
 use Rattle.desk_script.proofs.feed_run.run_on_feed.Goals as goal

@@ -1,4 +1,4 @@
-use Rattle.std.proofs.Common.{◌≡◌, ◌+◌, ap, ◌∙◌, sym, subst, length, cond, nat_eq, rules}
+use Rattle.std.proofs.Common.{◌≡◌, ◌+◌, ap, ◌∙◌, sym, subst, length, cond, nat_eq}
 use Rattle.std.specs.Prelude.{None, is_some}
 use Rattle.std.specs.FinMap as fin
 use Rattle.std.specs.Map.{lookup}
