@@ -251,6 +251,17 @@ fn job_faults(rt: HostRuntime) -> Result<(), Fail> {
     Ok(())
 }
 
+/// The ribbon made, or none for want of memory.
+fn unless_memory<A: Allocator>(
+    answer: Result<Vec<u8, A>, JobRefusal<A>>,
+) -> Result<Option<Vec<u8, A>>, Fail> {
+    match answer {
+        Ok(bytes) => Ok(Some(bytes)),
+        Err(JobRefusal::NoMemory) => Ok(None),
+        Err(JobRefusal::Faults(_faults)) => Err(Fail::new("a fault where none is")),
+    }
+}
+
 /// Each growth of `make` refused in turn is told as want of memory, and with memory the ribbon is the same.
 #[test]
 fn growths_refused(rt: HostRuntime) -> Result<(), Fail> {
@@ -266,19 +277,18 @@ fn growths_refused(rt: HostRuntime) -> Result<(), Fail> {
         let Ok(ballast) = Vec::<u8, &LocalHeap>::with_capacity(&heap, 8192 - room * 64) else {
             continue;
         };
-        match make(&heap, &replica, &case, &wedge) {
-            Ok(bytes) => {
+        match unless_memory(make(&heap, &replica, &case, &wedge))? {
+            Some(bytes) => {
                 made = made.saturating_add(1);
                 assert_eq!(rt; bytes.as_slice(), EMPTY_PARAGRAPH.as_slice());
             }
-            Err(JobRefusal::NoMemory) => refused = refused.saturating_add(1),
-            Err(JobRefusal::Faults(_)) => return Err(Fail::new("a fault where none is")),
+            None => refused = refused.saturating_add(1),
         }
         drop(ballast);
-        match make(&heap, &replica, &case, &wedge) {
-            Ok(bytes) => assert_eq!(rt; bytes.as_slice(), EMPTY_PARAGRAPH.as_slice()),
-            Err(_) => return Err(Fail::new("no ribbon where one is")),
-        }
+        let Some(bytes) = unless_memory(make(&heap, &replica, &case, &wedge))? else {
+            return Err(Fail::new("no ribbon where one is"));
+        };
+        assert_eq!(rt; bytes.as_slice(), EMPTY_PARAGRAPH.as_slice());
     }
     assert!(rt; refused > 1);
     assert!(rt; made > 1);
