@@ -5,8 +5,8 @@ use Rattle.desk_script.specs.Inputs.{case_refused}
 use Rattle.desk_script.proofs.Gives.{gives_bytes, device}
 use Rattle.desk_script.proofs.inputs.case_at.Goals as goal
 
-pub returns-in-Ok : goal.returns-in-Ok
-returns-in-Ok g c = gives_bytes case_of case_refused (g.F.Files.count c.args.files.now) (g.F.Files.count c.read.new.self) c.deref.result.now c.case_in.result c.case_in.ensures
+pub returns-in-Ok-clause-told : goal.returns-in-Ok-clause-told
+returns-in-Ok-clause-told g c = gives_bytes case_of case_refused (g.F.Files.count c.args.files.now) (g.F.Files.count c.read.new.self) c.deref.result.now c.case_in.result c.case_in.ensures
 
-pub returns-in_ok-file_refused-in-Err : goal.returns-in_ok-file_refused-in-Err
-returns-in_ok-file_refused-in-Err g c = (Err c.in-Err.why, device c.in-Err.why c.in-Err.ensures, (c.in_ok-file_refused-in-Err.field-0, c.in_ok-file_refused-in-Err.ensures, refl))
+pub returns-in_ok-file_refused-in-Err-clause-told : goal.returns-in_ok-file_refused-in-Err-clause-told
+returns-in_ok-file_refused-in-Err-clause-told g c = (Err c.in-Err.why, device c.in-Err.why c.in-Err.ensures.device, (c.in_ok-file_refused-in-Err.field-0, c.in_ok-file_refused-in-Err.ensures, refl))

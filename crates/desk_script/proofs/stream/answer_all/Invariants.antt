@@ -6,5 +6,6 @@ use Rattle.desk_script.proofs.stream.answer_all.Given as goal
 abbrev pub invariant-reads : goal.invariant-reads
 invariant-reads g l = record {
   kept : length l.line.items ≤ 65538;
+  counted : g.F.Files.count l.fn.files ≤ g.F.Files.count l.files;
   carries : Carries (desk l.fn.world (g.F.Files.count l.fn.files)) (desk l.world (g.F.Files.count l.files)) (g.R.Read.remaining l.fn.reader) (g.R.Read.remaining l.reader) (g.W.Write.contents l.fn.writer) (g.W.Write.contents l.writer) l.line.items;
 }

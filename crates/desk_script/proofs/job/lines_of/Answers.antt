@@ -1,0 +1,8 @@
+use Rattle.desk_script.specs.Effect.{job_of}
+use Rattle.desk_script.specs.Reply.{reply}
+use Rattle.desk_script.proofs.Casts.{of_job}
+use Rattle.desk_script.proofs.job.lines_of.Goals as goal
+
+pub returns-in-Ok : goal.returns-in-Ok
+returns-in-Ok g c =
+    of_job c.args.case.now c.args.wedge.now c.in-Ok.bytes.items c.deref.result.now (job_of c.args.replica.now.ops c.args.case.now c.args.wedge.now) c.cast_bytes.result reply c.deref.ensures.value c.in-Ok.ensures.ok c.cast_bytes.ensures
