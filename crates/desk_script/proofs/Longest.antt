@@ -1,11 +1,11 @@
 -- What is written for a copy is runs, each the longest of its style.
-use Rattle.std.proofs.Common.{◌≡◌, ℕ, ◌==◌, Bool, true, false, List, [], ◌∷◌, ◌++◌, Option, Some, None, refl, sym, ap, subst, ◌∙◌, append_assoc, inl, inr}
+use Rattle.std.proofs.Common.{◌≡◌, ℕ, ◌==◌, true, false, List, [], ◌∷◌, ◌++◌, Some, None, refl, sym, ap, subst, ◌∙◌, append_assoc, inl, inr}
 use Rattle.std.specs.Prelude.{◌≢◌, ◌⊎◌}
 use Rattle.desk_ops.specs.declared.op.Style.{Style}
 use Rattle.desk_ops.specs.declared.op.Style.TheVariants.{Roman, Italic, SmallCap}
 use Rattle.desk_ops.specs.declared.op.Symbol.{Symbol}
 use Rattle.desk_script.specs.Copy.{symbol, style_of}
-use Rattle.desk_script.specs.Text.{opening, same_style, quoted, turn, close, copy_chars_from}
+use Rattle.desk_script.specs.Text.{opening, same_style, quoted, copy_chars_from}
 use Rattle.desk_script.specs.Spelling.{StandsFor, SpellsInside, IsRun, RunOf, joined, AreRuns}
 use Rattle.desk_script.specs.Laws.{AreLongest}
 use Rattle.desk_script.proofs.Again.{by_cases, is_same}

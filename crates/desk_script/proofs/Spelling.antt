@@ -1,5 +1,5 @@
 -- The machine that reads COPY reads its spelling.
-use Rattle.std.proofs.Common.{◌≡◌, ℕ, ◌==◌, Bool, true, false, List, [], ◌∷◌, ◌++◌, Option, Some, None, refl, sym, ap, subst, ◌∙◌, append_assoc, arith, inl, inr}
+use Rattle.std.proofs.Common.{◌≡◌, ℕ, ◌==◌, true, false, List, [], ◌∷◌, ◌++◌, Option, Some, None, refl, sym, ap, subst, ◌∙◌, append_assoc, arith, inl, inr}
 use Rattle.std.proofs.lemmas.Bool.Decides.{nat_tests}
 use Rattle.std.proofs.lemmas.List.{append-nil}
 use Rattle.std.specs.Prelude.{◌≢◌, ◌⊎◌}
@@ -7,7 +7,6 @@ use Rattle.desk_ops.specs.declared.op.Style.{Style}
 use Rattle.desk_ops.specs.declared.op.Symbol.{Symbol}
 use Rattle.desk_script.specs.declared.copy.Place.{Place}
 use Rattle.desk_script.specs.declared.copy.Place.TheVariants.{Run, Quote, Opened, Inside, Escape, Closed}
-use Rattle.desk_script.specs.Reading.{◌>>=◌}
 use Rattle.desk_script.specs.Copy.{symbol, style_of, escaped, step, copy_from}
 use Rattle.desk_script.specs.Spelling.{StandsFor, SpellsInside, IsRun, RunOf, joined, AreRuns, IsCopy}
 use Rattle.desk_script.proofs.Again.{by_cases, is_same, onto, nothing, itself, itself_first}

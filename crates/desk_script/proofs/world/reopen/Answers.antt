@@ -1,5 +1,5 @@
-use Rattle.std.proofs.Common.{◌≡◌, ◌<◌, refl, ap, subst, ◌∙◌}
-use Rattle.desk_ops.specs.OpSet.{no_ops, with_all, in_order, size}
+use Rattle.std.proofs.Common.{◌<◌, refl, ap, subst, ◌∙◌}
+use Rattle.desk_ops.specs.OpSet.{no_ops, with_all, size}
 use Rattle.desk_script.proofs.Kept.{anew, only_full}
 use Rattle.desk_script.proofs.world.reopen.Goals as goal
 
