@@ -1,3 +1,4 @@
+use Rattle.std.proofs.Math.Nat.{le_trans}
 use Rattle.std.proofs.Common.{rules, ◌<◌, length, take, subst}
 use Rattle.std.specs.Io.KnownBytes.{Consumes}
 use Rattle.std.proofs.lemmas.Result.{on_err_weaker, on_ok_weaker}
@@ -33,7 +34,7 @@ returns-in-Err-take_bytes-clause-err g c =
 pub reads-preserved : goal.reads-preserved
 reads-preserved g c = record {
   kept = c.take_bytes.ensures.kept;
-  counted = nat_le_trans c.reads.invariant.counted c.take_bytes.ensures.counted;
+  counted = le_trans c.reads.invariant.counted c.take_bytes.ensures.counted;
   carries = carries_more (desk c.args.world.now (g.F.Files.count c.args.files.now)) (desk c.reads.world (g.F.Files.count c.reads.files)) (desk c.take_bytes.new.world (g.F.Files.count c.take_bytes.new.files)) _ _ _ _ (g.W.Write.contents c.reads.writer) _ c.reads.line.items (take c.in-Ok.n c.read.new.buf) c.take_bytes.new.line.items c.reads.invariant.carries c.in-Ok.ensures.bytes.0 c.in_default.ensures.ok;
 }
 

@@ -1,3 +1,4 @@
+use Rattle.std.proofs.Math.Nat.{le_trans}
 use Rattle.std.proofs.Common.{◌≡◌, ℕ, ◌+◌, ◌<◌, length, ◌++◌, ◌∷◌, drop, get_or, ap, ◌∙◌, sym, append_assoc, add-one, drop-cons, subst, refl}
 use Rattle.std.proofs.lemmas.List.{at_drop_all}
 use Rattle.desk_script.specs.Sites.{desk}
@@ -22,7 +23,7 @@ loop-b-preserved g c =
     let step : drop i c.args.bytes.now ≡ get_or c.args.bytes.now i 0 ∷ drop (i + 1) c.args.bytes.now = rw (add-one, drop-cons c.args.bytes.now i 0) refl in
     let turn = c.in_default.ensures.ok in record {
       kept = c.take_byte.ensures.kept;
-      counted = nat_le_trans c.loop-b.invariant.counted c.take_byte.ensures.counted;
+      counted = le_trans c.loop-b.invariant.counted c.take_byte.ensures.counted;
       moves = (
         c.loop-b.invariant.moves.0 ++ turn.0,
         turn_turn _ (desk c.loop-b.world (g.F.Files.count c.loop-b.files)) _ _ (g.W.Write.contents c.loop-b.writer) _ c.loop-b.invariant.moves.0 turn.0 c.loop-b.invariant.moves.1 turn.1,

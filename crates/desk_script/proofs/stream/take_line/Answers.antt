@@ -10,10 +10,10 @@ returns-in_default-clause-err g c more = no_front _ _ _
 
 pub returns-clause-ok : goal.returns-clause-ok
 returns-clause-ok g c =
-    let a = c.in-Ok.ensures in
+    let a = c.in-Ok.ensures.told in
     on_ok_weaker c.send.result (λ written. one_turn _ _ _ _ (line_of c.args.line.now) c.as_bytes.result.now a.0 a.1 (c.as_bytes.ensures.value ∙ a.2) written) c.send.ensures.ok
 
 pub returns-clause-err : goal.returns-clause-err
 returns-clause-err g c =
-    let a = c.in-Ok.ensures in
+    let a = c.in-Ok.ensures.told in
     on_err_weaker c.send.result (λ written more. one_front _ (desk c.answered.new.world (g.F.Files.count c.answered.new.files)) _ _ (line_of c.args.line.now) c.as_bytes.result.now a.0 more a.1 (c.as_bytes.ensures.value ∙ a.2) written) c.send.ensures.err
