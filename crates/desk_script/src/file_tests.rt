@@ -123,7 +123,15 @@ fn refused_on(
     files.put("a.feed", bytes)?;
     let mut writer = TrialWriter::new(alloc);
     let mut reader = TrialReader::new(b"show 3\n");
-    let result = run_on_feed(alloc, alloc, &mut reader, &mut writer, &mut files, "a.feed", 3);
+    let result = run_on_feed(
+        alloc,
+        alloc,
+        &mut reader,
+        &mut writer,
+        &mut files,
+        "a.feed",
+        3,
+    );
     if !writer.written().is_empty() || !holds(&files, "a.feed", bytes) {
         return Ok(None);
     }
