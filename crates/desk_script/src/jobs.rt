@@ -316,3 +316,25 @@ fn refused_files(rt: HostRuntime) -> Result<(), Fail> {
     assert_eq!(rt; got.as_slice(), want.as_bytes());
     Ok(())
 }
+
+const TWO_CASES: &[(&str, &str)] = &[
+    ("site 1", "ok"),
+    ("insert 1 0 r\"\\n\"", "ok 1.1"),
+    ("set 1 measure 120", "ok 2.1"),
+    ("set 1 tight 38", "ok 3.1"),
+    ("set 1 loose 150", "ok 4.1"),
+    ("set 1 case 1", "ok 5.1"),
+    ("set 1 wedge 5", "ok 6.1"),
+    ("cast 1 c w", "lines 1 11/2159952"),
+    ("cast 1 one-fill w", "no ribbon: cannot fill 1"),
+    ("cast 1 other-order w", "no ribbon: fill order"),
+];
+
+/// The case of the named file is used, and no other.
+#[test]
+fn case_of_its_own(rt: HostRuntime) -> Result<(), Fail> {
+    let (input, want) = script(rt.alloc(), TWO_CASES)?;
+    let got = answers(rt.alloc(), rt.alloc(), input.as_bytes())?;
+    assert_eq!(rt; got.as_slice(), want.as_bytes());
+    Ok(())
+}
