@@ -241,6 +241,17 @@ def first_fault_case(data):
     return 0, {"number": doc["case"], "symbols": symbols, "cells": cells, "space": space, "fill": fill}
 
 
+def split(symbols, separator):
+    """The parts between separators, of which there is one more than of these."""
+    parts = [[]]
+    for symbol in symbols:
+        if symbol == separator:
+            parts.append([])
+        else:
+            parts[-1].append(symbol)
+    return parts
+
+
 def lines_of(copy, case, wedge, measure, tight):
     """The words of each line, and whether it is filled."""
     pica = 250 if wedge["pica"] == "sixth" else 249
@@ -248,25 +259,12 @@ def lines_of(copy, case, wedge, measure, tight):
     width = lambda cell: wedge["units"][cell[1] - 1] * unit
     space = width(case["space"])
     tight_space = space + STEP * (tight - 53)
-    paragraphs, part = [], []
-    for symbol in copy:
-        if symbol == (0, 10):
-            paragraphs.append(part)
-            part = []
-        else:
-            part.append(symbol)
-    if part:
-        paragraphs.append(part)
+    paragraphs = split(copy, (0, 10))
+    if not paragraphs[-1]:
+        paragraphs.pop()
     lines = []
     for paragraph in paragraphs:
-        words, word = [], []
-        for symbol in paragraph:
-            if symbol == (0, 32):
-                words.append(word)
-                word = []
-            else:
-                word.append(symbol)
-        words.append(word)
+        words = split(paragraph, (0, 32))
         widths = [sum(width(case["symbols"][y]) for y in w) for w in words]
         groups, at = [], 0
         while at < len(words):
