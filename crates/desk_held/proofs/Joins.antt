@@ -41,13 +41,6 @@ joins-next first second none now left right o l r (inr n) j = record {
   right_lawful = all_rest o r (subst (All IsLawful) n.1 j.right_lawful);
 }
 
-pub next-less : (left right : List Op) (o : Op) (l r : List Op) → IsNextOf left right o l r → length l + length r < length left + length right
-next-less left right o l r (inl n) = let a : length left ≡ suc (length l) = ap length n.0 in let b : length right ≡ length r = ap length n.1 in omega (arith, a, b)
-next-less left right o l r (inr n) = let a : length left ≡ length l = ap length n.0 in let b : length right ≡ suc (length r) = ap length n.1 in omega (arith, a, b)
-
-pub joined-whole : (first second : List Op) (none now : OpSet) (left right : List Op) → left ≡ [] → right ≡ [] → IsJoining first second none now left right → now ≡ with_all (with_all none first) second
-joined-whole first second none now left right e f j = ap (λ x. with_all (with_all now x) []) (sym e) ∙ ap (with_all (with_all now left)) (sym f) ∙ j.whole
-
 no_ops-in_order : in_order no_ops ≡ []
 no_ops-in_order = ap in_order (sym no_ops-from_rising) ∙ in_order-from_rising [] tt
 

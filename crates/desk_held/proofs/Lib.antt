@@ -1,2 +1,2 @@
-mod Joins
+pub mod Joins
 mod Rows

@@ -1,10 +1,9 @@
 -- What a replica is: a site, and the operations that it holds.
-use Rattle.std.specs.Prelude.{◌≡◌, ℕ, ◌+◌, ◌<◌, ◌≤◌, ◌↔◌, false, cond, refl, List, length, take}
-use Rattle.std.specs.List.{HoldsAt}
+use Rattle.std.specs.Prelude.{◌≡◌, ℕ, ◌+◌, ◌≤◌, cond, refl, List, length}
 use Rattle.std.specs.Coded.{Coded, code_by, coded×, coded_ℕ}
 use Rattle.desk_ops.specs.declared.op.Op.{Op}
-use Rattle.desk_ops.specs.OpSet.{OpSet, op_set_code, has_op, with_all, size, AllLawful}
-use Rattle.desk_held.specs.declared.AddRefusal.TheVariants.{Full}
+use Rattle.desk_ops.specs.OpSet.{OpSet, op_set_code, has_op, size, AllLawful}
+use Rattle.desk_held.specs.Joining.{IsHalted}
 use Rattle.desk_replica.specs.declared.Count.{Count}
 use Rattle.desk_replica.specs.declared.Stopped.{Stopped}
 use Rattle.desk_replica.specs.declared.Took.{Took}
@@ -32,8 +31,5 @@ pub record IsCounted (old after : OpSet) (ops : List Op) (count : Count) : Type 
   pub all : count.new + count.known ≡ length ops
 
 -- exactly the first operations of the list were gained, and the next is not held; it would be too many where that is the cause, and only there
-pub record IsStopped (old after : OpSet) (ops : List Op) (stop : Stopped) : Type 0 where
-  pub gained : after ≡ with_all old (take stop.taken ops)
-  pub within : stop.taken < length ops
-  pub next : HoldsAt (λ op. has_op after op ≡ false) ops stop.taken
-  pub full : (stop.why ≡ Full) ↔ (size after ≡ 1048576)
+abbrev pub IsStopped : OpSet → OpSet → List Op → Stopped → Type 0
+IsStopped old after ops stop = IsHalted old after ops (record { added = stop.taken; why = stop.why })

@@ -8,9 +8,7 @@ use Rattle.desk_script.specs.declared.copy.Place.TheVariants.{Run, Opened, Insid
 use Rattle.desk_script.specs.Reading.{◌>>=◌}
 use Rattle.desk_script.specs.Copy.{symbol, step, copy_from}
 use Rattle.desk_script.specs.Text.{opening, quoted, turn, copy_chars_from}
-
-pub by_cases : {G : Type 0} (b : Bool) → (b ≡ true → G) → (b ≡ false → G) → G
-by_cases {G} b hit miss = (elim b as (λ v. (v ≡ true → G) → (v ≡ false → G) → G) [ true ↦ λ h m. h refl | false ↦ λ h m. m refl ]) hit miss
+use Rattle.desk_ops.proofs.Stamps.{by_cases}
 
 pub is_same : (c d : ℕ) → (c == d) ≡ true → c ≡ d
 is_same c d e = grind (arith, nat_tests)

@@ -7,9 +7,7 @@ use Rattle.std.specs.List.{onto_first}
 use Rattle.std.proofs.lemmas.List.{append-nil}
 use Rattle.desk_script.specs.Lines.{Line, Bytes, Long, line_of, is_empty, pieces, without_cr, ended, lines_of_pieces, lines}
 use Rattle.desk_script.specs.Pending.{last_line, lines_from}
-
-pub by_cases : {G : Type 0} (b : Bool) → (b ≡ true → G) → (b ≡ false → G) → G
-by_cases {G} b hit miss = (elim b as (λ v. (v ≡ true → G) → (v ≡ false → G) → G) [ true ↦ λ h m. h refl | false ↦ λ h m. m refl ]) hit miss
+use Rattle.desk_ops.proofs.Stamps.{by_cases}
 
 -- a line feed ends what is pending
 pub from_end : (pending bytes : List ℕ) (b : ℕ) → (b == 10) ≡ true → lines_from pending (b ∷ bytes) ≡ line_of (without_cr pending) ∷ lines_from [] bytes

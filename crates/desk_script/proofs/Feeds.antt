@@ -17,6 +17,7 @@ use Rattle.desk_script.specs.Sites.{Desk}
 use Rattle.desk_script.specs.Text.{output}
 use Rattle.desk_script.specs.Script.{Turn, Fronts}
 use Rattle.desk_script.specs.Stored.{AnswersStored, AnswersStoredFront, IsStart, Stores}
+use Rattle.desk_ops.proofs.Stamps.{by_cases}
 
 none_crowds : (ops : List Op) → ops ≡ [] → 1048576 < size (with_all no_ops ops) → ⊥
 none_crowds ops none many =
@@ -64,9 +65,6 @@ pub stored_whole_front : (Gives : Result (List ℕ) FileRefusal → Type 0) (k n
     → IfSome i (λ input. Turn start new a b (lines input)) → IfSome i (λ input. AnswersStoredFront Gives k n input a b)
 stored_whole_front Gives k n start new None a b from turn = tt
 stored_whole_front Gives k n start new (Some input) a b from turn = inr (start, from, turn_is_front start new a b (lines input) turn)
-
-by_cases : {G : Type 0} (b : Bool) → (b ≡ true → G) → (b ≡ false → G) → G
-by_cases {G} b hit miss = (elim b as (λ v. (v ≡ true → G) → (v ≡ false → G) → G) [ true ↦ λ h m. h refl | false ↦ λ h m. m refl ]) hit miss
 
 full_or_rose : (o n : ℕ) → o ≤ 18446744073709551615 → 18446744073709551615 ≤ n → HasFailed o n
 full_or_rose o n low high = by_cases (nat_eq o 18446744073709551615) (λ e. inr (same o e)) (λ e. inl (less o n low high e))

@@ -23,9 +23,7 @@ use Rattle.desk_script.specs.declared.world.LocalEdit.{LocalEdit}
 use Rattle.desk_script.specs.World.{site_refusal, Refuses, Adds, Edits, EditsSite, Gains, Brings, Steps, site_with, taken, IsReopened}
 use Rattle.desk_script.specs.World as changes
 use Rattle.desk_script.proofs.Sites.{get-sites_of, sites_of-updated}
-
-by_cases : {G : Type 0} (b : Bool) → (b ≡ true → G) → (b ≡ false → G) → G
-by_cases {G} b hit miss = (elim b as (λ v. (v ≡ true → G) → (v ≡ false → G) → G) [ true ↦ λ h m. h refl | false ↦ λ h m. m refl ]) hit miss
+use Rattle.desk_ops.proofs.Stamps.{by_cases}
 
 same_number : (n q : ℕ) → nat_eq n q ≡ true → n ≡ q
 same_number n q e = grind (arith, nat_tests)

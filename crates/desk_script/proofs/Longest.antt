@@ -8,7 +8,8 @@ use Rattle.desk_script.specs.Copy.{symbol, style_of}
 use Rattle.desk_script.specs.Text.{opening, same_style, quoted, copy_chars_from}
 use Rattle.desk_script.specs.Spelling.{StandsFor, SpellsInside, IsRun, RunOf, joined, AreRuns}
 use Rattle.desk_script.specs.Laws.{AreLongest}
-use Rattle.desk_script.proofs.Again.{by_cases, is_same}
+use Rattle.desk_ops.proofs.Stamps.{by_cases}
+use Rattle.desk_script.proofs.Again.{is_same}
 use Rattle.desk_script.proofs.Spelling.{is_not}
 
 same_is : (a b : Style) → same_style a b ≡ true → a ≡ b

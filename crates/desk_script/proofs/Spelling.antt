@@ -9,7 +9,8 @@ use Rattle.desk_script.specs.declared.copy.Place.{Place}
 use Rattle.desk_script.specs.declared.copy.Place.TheVariants.{Run, Quote, Opened, Inside, Escape, Closed}
 use Rattle.desk_script.specs.Copy.{symbol, style_of, escaped, step, copy_from}
 use Rattle.desk_script.specs.Spelling.{StandsFor, SpellsInside, IsRun, RunOf, joined, AreRuns, IsCopy}
-use Rattle.desk_script.proofs.Again.{by_cases, is_same, onto, nothing, itself, itself_first}
+use Rattle.desk_ops.proofs.Stamps.{by_cases}
+use Rattle.desk_script.proofs.Again.{is_same, onto, nothing, itself, itself_first}
 
 pub is_not : (c d : ℕ) → (c == d) ≡ false → c ≢ d
 is_not c d e = grind (arith, nat_tests)

@@ -2,7 +2,7 @@ use Rattle.std.proofs.Common.{sym, subst}
 use Rattle.desk_ops.specs.OpSet.{OpSet, AllLawful}
 use Rattle.desk_registers.specs.Registers.{kept}
 use Rattle.desk_replica.specs.JobSettings.{AreKept, kept_op}
-use Rattle.desk_replica.proofs.Sets.{with_op-lawful}
+use Rattle.desk_ops.proofs.Joined.{lawful-with_op}
 use Rattle.desk_replica.proofs.KeptSets.{kept-new, kept-known, kept-alike, other-new, known_is, new_is}
 use Rattle.desk_replica.proofs.Replica.put.Goals as goal
 
@@ -10,7 +10,7 @@ pub invariant_of-self-in-Known : goal.invariant_of-self-in-Known
 invariant_of-self-in-Known g c = record {
   held = record {
     numbered = c.self.invariant.held.numbered;
-    lawful = subst AllLawful (sym c.in-Ok.ensures.ok) (with_op-lawful c.self.inside.held.ops c.args.op c.self.invariant.held.lawful c.requires);
+    lawful = subst AllLawful (sym c.in-Ok.ensures.ok) (lawful-with_op c.self.inside.held.ops c.args.op c.self.invariant.held.lawful c.requires);
   };
   settings =
       subst (λ (h : OpSet). AreKept h (kept c.self.inside.registers)) (sym c.in-Ok.ensures.ok)
@@ -25,7 +25,7 @@ pub invariant_of-self-in-New : goal.invariant_of-self-in-New
 invariant_of-self-in-New g c = record {
   held = record {
     numbered = c.self.invariant.held.numbered;
-    lawful = subst AllLawful (sym c.in-Ok.ensures.ok) (with_op-lawful c.self.inside.held.ops c.args.op c.self.invariant.held.lawful c.requires);
+    lawful = subst AllLawful (sym c.in-Ok.ensures.ok) (lawful-with_op c.self.inside.held.ops c.args.op c.self.invariant.held.lawful c.requires);
   };
   settings =
       subst (λ (h : OpSet). AreKept h (kept c.keep.new.registers)) (sym c.in-Ok.ensures.ok)

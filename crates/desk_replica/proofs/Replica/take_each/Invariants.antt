@@ -1,10 +1,10 @@
-use Rattle.std.proofs.Common.{◌≡◌}
-use Rattle.desk_replica.proofs.Sets.{IsGaining}
+use Rattle.std.proofs.Common.{◌≡◌, take}
+use Rattle.desk_ops.specs.OpSet.{with_all}
 use Rattle.desk_replica.proofs.Replica.take_each.Given as goal
 
 -- what was gained, and what stays
 abbrev pub invariant-loop-taken : goal.invariant-loop-taken
 invariant-loop-taken g l = record {
-  gaining : IsGaining l.initial.self.ops l.self.ops l.ops l.taken;
+  gained : l.self.ops ≡ with_all l.initial.self.ops (take l.taken l.ops);
   site : l.self.site ≡ l.initial.self.site;
 }
