@@ -1,12 +1,19 @@
 -- Two lists joined: whichever comes first, the set is that of both.
-use Rattle.std.proofs.Common.{◌≡◌, ℕ, suc, ◌<◌, List, [], ◌∷◌, length, take, get_or, refl, sym, ap, ◌∙◌, subst, inl, inr, arith}
+use Rattle.std.proofs.Common.{◌≡◌, ℕ, suc, ◌<◌, ◌≤◌, ◌||◌, false, List, [], ◌∷◌, length, take, drop, get_or, length-drop, refl, sym, ap, ◌∙◌, subst, inl, inr, arith}
+use Rattle.std.specs.List.Sorted.{IsPermutation}
+use Rattle.std.specs.Ordering.{eq_by_cmp}
+use Rattle.std.proofs.lemmas.List.{take-append-drop, get_or-drop}
+use Rattle.std.proofs.lemmas.List.Sorted.{list_any-IsPermutation}
+use Rattle.std.proofs.Math.Seq.{take-add}
 use Rattle.std.specs.Prelude.{All, ◌+◌}
 use Rattle.desk_ops.specs.declared.op.Op.{Op}
 use Rattle.desk_ops.specs.Op.{IsLawful}
-use Rattle.desk_ops.specs.OpSet.{OpSet, no_ops, with_op, with_all, in_order}
+use Rattle.desk_ops.specs.Order.{op_cmp}
+use Rattle.desk_ops.specs.OpSet.{OpSet, no_ops, has_op, with_op, with_all, in_order}
 use Rattle.desk_ops.proofs.OpSets.{no_ops-from_rising, in_order-from_rising}
-use Rattle.desk_ops.proofs.Unions.{with_op-comm, with_all-take, union-comm}
-use Rattle.desk_held.specs.Joining.{IsNextOf}
+use Rattle.desk_ops.proofs.Unions.{with_op-comm, with_all-take, with_all-append, same-set, has_op-with_all, union-comm}
+use Rattle.desk_held.specs.declared.join.Halt.{Halt}
+use Rattle.desk_held.specs.Joining.{IsNextOf, IsFirstJoined, IsHalted}
 
 -- one operation more may come before or after a list
 pub with_all-later : (h : OpSet) (os : List Op) (o : Op) → with_op (with_all h os) o ≡ with_all (with_op h o) os
@@ -52,3 +59,37 @@ of_none h = union-comm no_ops h ∙ ap (with_all h) no_ops-in_order
 pub gained-more : (old now after : OpSet) (ops : List Op) (i : ℕ) (op : Op) → i < length ops → op ≡ get_or ops i op → now ≡ with_all old (take i ops) → after ≡ with_op now op → after ≡ with_all old (take (i + 1) ops)
 gained-more old now after ops i op lt at e f =
     f ∙ ap (λ h. with_op h op) e ∙ ap (with_op (with_all old (take i ops))) at ∙ sym (with_all-take old ops i op lt)
+
+-- the order of a list is of no account
+pub with_all-permutation : (h : OpSet) (os ps : List Op) → IsPermutation os ps → with_all h os ≡ with_all h ps
+with_all-permutation h os ps m = same-set (with_all h os) (with_all h ps)
+    (λ q. has_op-with_all h os q ∙ ap (λ b. b || has_op h q) (list_any-IsPermutation (eq_by_cmp op_cmp q) os ps m) ∙ sym (has_op-with_all h ps q))
+
+-- more of a list, behind what was gained of it
+pub record IsGained (old now : OpSet) (ops : List Op) (i : ℕ) : Type 0 where
+  pub gained : now ≡ with_all old (take i ops)
+  pub inside : i ≤ length ops
+
+pub gained-none : (old : OpSet) (ops : List Op) → IsGained old old ops 0
+gained-none old ops = record { gained = refl; inside = omega arith }
+
+with_all-add : (old : OpSet) (ops : List Op) (i n : ℕ) → with_all (with_all old (take i ops)) (take n (drop i ops)) ≡ with_all old (take (i + n) ops)
+with_all-add old ops i n = sym (with_all-append old (take i ops) (take n (drop i ops))) ∙ ap (with_all old) (sym (take-add i n ops))
+
+pub gained-first : (old now after : OpSet) (ops : List Op) (i n : ℕ) → IsGained old now ops i → IsFirstJoined now after (drop i ops) n → IsGained old after ops (i + n)
+gained-first old now after ops i n g j = record {
+  gained = j.gained ∙ ap (λ h. with_all h (take n (drop i ops))) g.gained ∙ with_all-add old ops i n;
+  inside = let w = j.within in let l = g.inside in omega (arith, w, l, length-drop i ops);
+}
+
+pub gained-all : (old now after : OpSet) (ops : List Op) (i : ℕ) → IsGained old now ops i → after ≡ with_all now (drop i ops) → after ≡ with_all old ops
+gained-all old now after ops i g e =
+    e ∙ ap (λ h. with_all h (drop i ops)) g.gained ∙ sym (with_all-append old (take i ops) (drop i ops)) ∙ ap (with_all old) (take-append-drop i ops)
+
+pub halted-later : (old now after : OpSet) (ops : List Op) (i : ℕ) (halt : Halt) → IsGained old now ops i → IsHalted now after (drop i ops) halt → IsHalted old after ops (record { added = i + halt.added; why = halt.why })
+halted-later old now after ops i halt g h = record {
+  gained = h.gained ∙ ap (λ x. with_all x (take halt.added (drop i ops))) g.gained ∙ with_all-add old ops i halt.added;
+  within = let w = h.within in let l = g.inside in omega (arith, w, l, length-drop i ops);
+  next = λ d. subst (λ p. has_op after p ≡ false) (get_or-drop i ops halt.added d) (h.next d);
+  full = h.full;
+}

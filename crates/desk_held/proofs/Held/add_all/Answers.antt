@@ -1,10 +1,24 @@
-use Rattle.std.proofs.Common.{ap, ◌∙◌}
-use Rattle.desk_ops.specs.OpSet.{no_ops, with_all}
-use Rattle.desk_held.proofs.Joins.{of_none}
+use Rattle.std.proofs.Common.{◌≡◌, List, sym, subst}
+use Rattle.std.proofs.lemmas.List.{take_rest}
+use Rattle.desk_ops.specs.declared.op.Op.{Op}
+use Rattle.desk_ops.specs.OpSet.{OpSet, with_all}
+use Rattle.desk_held.specs.Joining.{IsFirstJoined, IsHalted}
+use Rattle.desk_held.proofs.Joins.{IsGained, gained-first, gained-all, halted-later}
 use Rattle.desk_held.proofs.Held.add_all.Goals as goal
 
-pub returns-in-Some-clause-ok : goal.returns-in-Some-clause-ok
-returns-in-Some-clause-ok g c =
-    ap (λ h. h.ops) c.drop.view_is ∙ c.in-Some.ensures
-    ∙ ap (λ os. with_all (with_all no_ops os) c.args.ops.now) c.as_slice.ensures.items
-    ∙ ap (λ h. with_all h c.args.ops.now) (of_none c.args.self.now.ops)
+pub loop-many-preserved : goal.loop-many-preserved
+loop-many-preserved g c =
+    gained-first c.args.self.now.ops c.loop-many.self.ops c.add_many.new.self.ops c.args.ops.now c.loop-many.added c.in-Some.many c.loop-many.invariant
+    (subst (λ (os : List Op). IsFirstJoined c.loop-many.self.ops c.add_many.new.self.ops os c.in-Some.many) (take_rest c.args.ops.now c.loop-many.added) c.in-Some.ensures)
+
+pub returns-in_default-add_each-clause-ok : goal.returns-in_default-add_each-clause-ok
+returns-in_default-add_each-clause-ok g c =
+    gained-all c.args.self.now.ops c.add_many.new.self.ops c.add_each.new.self.ops c.args.ops.now c.loop-many.added
+    (subst (λ (h : OpSet). IsGained c.args.self.now.ops h c.args.ops.now c.loop-many.added) (sym c.in_default.ensures) c.loop-many.invariant)
+    (subst (λ (os : List Op). c.add_each.new.self.ops ≡ with_all c.add_many.new.self.ops os) (take_rest c.args.ops.now c.loop-many.added) c.in_default-add_each.ensures.ok)
+
+pub returns-clause-err : goal.returns-clause-err
+returns-clause-err g c =
+    halted-later c.args.self.now.ops c.add_many.new.self.ops c.add_each.new.self.ops c.args.ops.now c.loop-many.added c.in-Err.halt
+    (subst (λ (h : OpSet). IsGained c.args.self.now.ops h c.args.ops.now c.loop-many.added) (sym c.in_default.ensures) c.loop-many.invariant)
+    (subst (λ (os : List Op). IsHalted c.add_many.new.self.ops c.add_each.new.self.ops os c.in-Err.halt) (take_rest c.args.ops.now c.loop-many.added) c.in-Err.ensures.err)
