@@ -1,7 +1,8 @@
 #!/usr/bin/env python3
 """Reads docs/CLAIMS.md and fails where a function, a clause, an edit or a test that it names is not in the sources.
 
-In a table, a column `carried by` names `crate::function` or `crate::function/clause`, a column `edits` names
+In a table, a column `carried by` names `crate::function` or `crate::function/clause`, with `crate::Type::function`
+of a type that shares the name with another or with a function of no type (and some clause, where none is named), a column `edits` names
 `crate/edit`, a column `tests` names `crate::test` or a file of this repository, and a column `state` is `proved`,
 `tested only` or `open`. Names stand in backquotes, apart from one another by spaces or commas.
 """
@@ -23,13 +24,27 @@ def sources(crate):
     return out
 
 
+def blocks(text):
+    """The type or trait of each `impl` and `trait` block, with the places of its braces."""
+    out = []
+    for found in re.finditer(r"^(?:pub )?(?:impl|trait)\b([^{;]*)\{", text, re.M):
+        said = re.sub(r"\bwhere\b.*", "", found.group(1), flags=re.S)
+        said = re.sub(r"^\s*<[^>]*(?:<[^>]*>[^>]*)*>", "", said).split(" for ")[-1]
+        name = re.match(r"\s*(?:\w+::)*(\w+)", said)
+        end = re.compile(r"^\}", re.M).search(text, found.end())
+        out.append((name.group(1) if name else "", found.end(), end.start() if end else len(text)))
+    return out
+
+
 def headers(crate, function):
-    """The text from each `fn function` to its body: its signature and its clauses."""
+    """For each `fn function` the type or trait that it stands in, or none, and its signature with its clauses."""
     out = []
     for text in sources(crate).values():
+        owners = blocks(text)
         for found in re.finditer(r"\bfn %s\b" % re.escape(function), text):
             end = re.compile(r"^\s*(?:\{\}?|\{.*\})\s*$|;\s*$", re.M).search(text, found.end())
-            out.append(text[found.start():end.end() if end else len(text)])
+            owner = [name for name, start, stop in owners if start <= found.start() < stop]
+            out.append((owner[-1] if owner else None, text[found.start():end.end() if end else len(text)]))
     return out
 
 
@@ -37,9 +52,16 @@ def carried(name):
     path, _, clause = name.partition("/")
     parts = path.split("::")
     found = headers(parts[0], parts[-1])
+    if len(parts) == 3:
+        found = [(owner, text) for owner, text in found if owner == parts[1]]
+    elif any(owner is None for owner, _ in found):
+        found = [(owner, text) for owner, text in found if owner is None]
     if not found:
         return "no function %s" % name
-    if clause and not any(re.search(r"\bensures %s\b" % re.escape(clause), text) for text in found):
+    if len({owner for owner, _ in found}) > 1:
+        return "%s is a function of %s" % (path, " and of ".join(sorted(owner or "none" for owner, _ in found)))
+    word = r"\bensures %s\b" % re.escape(clause) if clause else r"\bensures\b"
+    if not any(re.search(word, text) for _, text in found):
         return "no clause %s" % name
     return None
 

@@ -36,7 +36,8 @@ for ((i = 0; i < rounds; i++)); do
   cp old a.feed
   "$program" desk a.feed --site 3 < input > written 2> /dev/null &
   run=$!
-  sleep "$(printf '0.%06d' $(((end - start) * i * 3 / rounds)))"
+  moment=$(((end - start) * i * 3 / rounds))
+  sleep "$((moment / 1000000)).$(printf '%06d' $((moment % 1000000)))"
   kill -9 "$run" 2> /dev/null || true
   wait "$run" 2> /dev/null || true
   if cmp -s a.feed old; then

@@ -1,15 +1,11 @@
 #!/usr/bin/env python3
-"""An independent copydesk, written from the documents alone: slow, plain, and not proved.
+"""An independent copydesk, written from docs/FORMATS.md and docs/DEFINITIONS.md: slow, plain, and not proved.
 
 It reads a script from standard input and writes its answers, as `copydesk script` does; the tests compare the two.
 Files of the commands `ribbon` and `cast` are read from the current folder.
 """
 import sys
-
-try:
-    import tomllib
-except ImportError:  # before Python 3.11
-    tomllib = None
+import tomllib
 
 LIMIT = 1048576
 MAX_COUNTER = 1 << 62
@@ -149,8 +145,6 @@ class Meaning:
                 target = clear[target][2]
             if target != HEAD:
                 self.faults.append(("void" if target in bearing else "waiting", stamp))
-            elif op[0] == "delete":
-                pass  # through clear inserts to the head: the target is live
         self.copy = [op[3] for op in self.shown]
 
 

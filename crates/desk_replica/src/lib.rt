@@ -276,8 +276,8 @@ impl<A: Allocator + Copy> Replica<A> {
     }
 
     /// Takes in the operations of another replica, by stamp and then by bytes, up to the first that is refused: `Full`
-    /// comes exactly where 1,048,576 operations are held and the next is not among them. The other is only read, and no
-    /// memory is taken but for the operations that are new here.
+    /// comes exactly where 1,048,576 operations are held and the next is not among them. The other is only read. A
+    /// long list takes memory for both sets, where that is to be had.
     pub fn merge<B: Allocator + Copy>(&mut self, other: &Replica<B>) -> Result<Count, Stopped>
         ensures site { self.new.site ≡ self.old.site }
         ensures ok { OnOk result (self.new.ops ≡ union self.old.ops other.now.ops) }

@@ -92,7 +92,7 @@ fn answered_on(
     }
 }
 
-/// One insert, 3.1 by site 3.
+/// One insert, 1.3 by site 3.
 const ONE_INSERT: &[u8] = b"MFD1\x01\0\0\0\0\0\0\0\x01\0\x03\0\0\0\0\0\0\0\0\0\0\0\0\0\0x";
 
 #[test]
