@@ -1,14 +1,14 @@
 -- Rows of operations that strictly rise, and the stamps that they bear.
-use Rattle.std.proofs.Common.{◌≡◌, ℕ, zero, suc, ◌||◌, ◌-◌, ◌<◌, ◌≤◌, ◌⊎◌, inl, inr, Bool, true, false, List, [], ◌∷◌, length, take, drop, get_or, refl, sym, ap, subst, ◌∙◌, arith, length-drop}
-use Rattle.std.specs.Prelude.{T, Some, ◌&&◌, slice_get}
+use Rattle.std.proofs.Common.{◌≡◌, ℕ, zero, suc, ◌-◌, ◌<◌, ◌≤◌, ◌⊎◌, inl, inr, Bool, true, false, List, [], ◌∷◌, length, take, drop, get_or, refl, sym, ap, subst, ◌∙◌, arith, length-drop}
+use Rattle.std.specs.Prelude.{T, Some, slice_get}
+use Rattle.std.specs.Cmp.{second_so}
 use Rattle.std.specs.List.{list_any, filter, AllByRecursion, AllWithin}
 use Rattle.std.specs.List.Sorted.{IsPartitionedBy}
-use Rattle.std.specs.Ordering.{is_lt}
 use Rattle.std.specs.FinMap.Entries.{below_all}
 use Rattle.std.specs.declared.cmp.Ordering.TheVariants.{Less, Greater}
 use Rattle.std.proofs.Math.Nat.{eq-or-lt_of_le}
 use Rattle.std.proofs.Math.Seq.{take-length}
-use Rattle.std.proofs.lemmas.List.{drop_all, take_all}
+use Rattle.std.proofs.lemmas.List.{drop_all, take_all, take-append-drop}
 use Rattle.desk_ops.specs.OrderLaws.{op_total}
 use Rattle.std.proofs.lemmas.Bool.{true≢false}
 use Rattle.desk_ops.specs.declared.op.Stamp.{Stamp}
@@ -18,76 +18,43 @@ use Rattle.desk_ops.specs.Order.{op_cmp}
 use Rattle.desk_ops.specs.OpSet.{is_rising, entries_of}
 use Rattle.desk_ops.specs.Held.{bears, is_one, is_clear, is_borne, greatest_counter}
 use Rattle.desk_ops.specs.Stamp.{same, before}
-use Rattle.desk_ops.proofs.Stamps.{by_cases, same-true, before-trans, before-other, before-apart_left, is_less}
+use Rattle.desk_ops.specs.Lists.{Among}
+use Rattle.desk_ops.proofs.Stamps.{by_cases, same-true, before-trans, before-other}
 use Rattle.desk_ops.proofs.OpSets.{IsGap, rising_less}
 use Rattle.desk_ops.proofs.Means.{of-T}
-use Rattle.desk_ops.proofs.Tree.{filter-hit, filter-miss}
-use Rattle.desk_ops.proofs.Bearers.{stamp_not_before, ordered_rising, greatest-last}
+use Rattle.desk_ops.proofs.Lists.{among-filter, among-filter_from}
+use Rattle.desk_ops.proofs.Deletes.{any_some, some_any}
+use Rattle.desk_ops.proofs.Tree.{filter-hit}
+use Rattle.desk_ops.proofs.Bearers.{stamp_not_before, ordered_rising, bearing-older, bearing-first, greatest-last}
 use Rattle.std.proofs.lemmas.Option.{slice_get_within, get_or_from_slice_get}
 use Rattle.desk_held.specs.Holding.{IsFirstBearer}
-
-T_first : (a b : Bool) → T (a && b) → T a
-T_first true b h = tt
-T_first false b h = absurd h
-
-T_second : (a b : Bool) → T (a && b) → T b
-T_second true b h = h
-T_second false b h = absurd h
-
--- each later operation of a rising row is above its first
-pub above_first : (x : Op) (ops : List Op) → T (below_all op_cmp x (entries_of ops)) → AllByRecursion (λ y. before (stamp_of y) (stamp_of x) ≡ false) ops
-above_first x [] h = tt
-above_first x (y ∷ ops) h =
-    (stamp_not_before x y (is_less (op_cmp x y) (of-T _ (T_first (is_lt (op_cmp x y)) _ h))), above_first x ops (T_second (is_lt (op_cmp x y)) _ h))
-
--- a stamp that is earlier than one which x does not precede is not x's
-earlier-apart : (stamp s x : Stamp) → before stamp s ≡ true → before x s ≡ false → same x stamp ≡ false
-earlier-apart stamp s x late not =
-    by_cases (same x stamp) (λ e. absurd (true≢false (sym late ∙ ap (λ t. before t s) (sym (same-true x stamp e)) ∙ not))) (λ e. e)
-
--- none of those above an operation with a later stamp bears the stamp
-none_above : (stamp : Stamp) (x : Op) (ops : List Op) → before stamp (stamp_of x) ≡ true → AllByRecursion (λ y. before (stamp_of y) (stamp_of x) ≡ false) ops → filter (bears stamp) ops ≡ []
-none_above stamp x [] late all = refl
-none_above stamp x (y ∷ ops) late all =
-    filter-miss (bears stamp) y ops (earlier-apart stamp (stamp_of x) (stamp_of y) late all.0) ∙ none_above stamp x ops late all.1
 
 -- where the first of a rising row is neither earlier nor a bearer, there is no bearer
 pub no_bearer : (stamp : Stamp) (d : Op) (ops : List Op) → T (is_rising ops) → AllByRecursion (λ op. before (stamp_of op) stamp ≡ false) ops → same (stamp_of (get_or ops 0 d)) stamp ≡ false → filter (bears stamp) ops ≡ []
 no_bearer stamp d [] rising late other = refl
-no_bearer stamp d (x ∷ ops) rising late other =
-    filter-miss (bears stamp) x ops other
-    ∙ none_above stamp x ops (before-other (stamp_of x) stamp late.0 other) (above_first x ops (T_first _ _ rising))
+no_bearer stamp d (x ∷ ops) rising late other = bearing-first stamp x ops (ordered_rising (x ∷ ops) rising) late.0 other
 
 pub one_bearer : (stamp : Stamp) (d : Op) (ops : List Op) → 1 ≤ length ops → same (stamp_of (get_or ops 0 d)) stamp ≡ true → IsFirstBearer stamp (get_or ops 0 d) ops
 one_bearer stamp d [] some e = absurd (omega arith)
 one_bearer stamp d (x ∷ ops) some e = record { some = some; bearers = filter-hit (bears stamp) x ops e }
 
 pub no_bearers : (p : Op → Bool) (ops : List Op) → filter p ops ≡ [] → list_any p ops ≡ false
-no_bearers p [] e = refl
-no_bearers p (x ∷ ops) e =
-    by_cases (p x)
-    (λ h. let f : x ∷ filter p ops ≡ [] = sym (filter-hit p x ops h) ∙ e in cc)
-    (λ h. ap (λ b. b || list_any p ops) h ∙ no_bearers p ops (sym (filter-miss p x ops h) ∙ e))
+no_bearers p ops e =
+    by_cases (list_any p ops) (λ h. let r = any_some p ops h in absurd (subst (Among r.0) e (among-filter_from p ops r.0 r.1 r.2))) (λ h. h)
 
 pub some_bearers : (p : Op → Bool) (ops : List Op) (first : Op) (rest : List Op) → filter p ops ≡ first ∷ rest → list_any p ops ≡ true
-some_bearers p [] first rest e = cc
-some_bearers p (x ∷ ops) first rest e =
-    by_cases (p x)
-    (λ h. ap (λ b. b || list_any p ops) h)
-    (λ h. ap (λ b. b || list_any p ops) h ∙ some_bearers p ops first rest (sym (filter-miss p x ops h) ∙ e))
+some_bearers p ops first rest e =
+    let r = among-filter p ops first (subst (Among first) (sym e) (inl refl)) in some_any p ops first r.0 r.1
 
 pub later-drop : (stamp : Stamp) (ops : List Op) (i : ℕ) → AllByRecursion (λ op. before (stamp_of op) stamp ≡ true) (take i ops) → filter (bears stamp) (drop i ops) ≡ filter (bears stamp) ops
-later-drop stamp [] zero early = refl
-later-drop stamp [] (suc i) early = refl
-later-drop stamp (y ∷ ops) zero early = refl
-later-drop stamp (y ∷ ops) (suc i) early =
-    later-drop stamp ops i early.1 ∙ sym (filter-miss (bears stamp) y ops (before-apart_left (stamp_of y) stamp early.0))
+later-drop stamp ops i early =
+    sym (bearing-older stamp (take i ops) (drop i ops) early) ∙ ap (filter (bears stamp)) (take-append-drop i ops)
 
 pub rising-drop : (ops : List Op) (i : ℕ) → T (is_rising ops) → T (is_rising (drop i ops))
 rising-drop [] zero h = tt
 rising-drop [] (suc i) h = tt
 rising-drop (y ∷ ops) zero h = h
-rising-drop (y ∷ ops) (suc i) h = rising-drop ops i (T_second (below_all op_cmp y (entries_of ops)) _ h)
+rising-drop (y ∷ ops) (suc i) h = rising-drop ops i (subst T (sym (second_so (below_all op_cmp y (entries_of ops)) (is_rising ops) (of-T _ h))) tt)
 
 squeeze : (a b c : Stamp) → before a c ≡ true → before b c ≡ false → before a b ≡ true
 squeeze a b c early late =
@@ -119,20 +86,16 @@ dropped P [] (suc i) all = tt
 dropped P (y ∷ ops) zero all = (all 0 y (omega arith) (omega arith), dropped P ops zero (λ k d low high. all (suc k) d (omega arith) (omega arith)))
 dropped P (y ∷ ops) (suc i) all = dropped P ops i (λ k d low high. all (suc k) d (omega arith) (omega arith))
 
-last-cons : {X : Type 0} (x y : X) (xs : List X) → slice_get (x ∷ y ∷ xs) (length (x ∷ y ∷ xs) - 1) ≡ slice_get (y ∷ xs) (length (y ∷ xs) - 1)
-last-cons x y xs = let e : suc (suc (length xs)) - 1 ≡ suc (suc (length xs) - 1) = omega arith in ap (slice_get (x ∷ y ∷ xs)) e
-
-one-left : {X : Type 0} (x : X) → slice_get (x ∷ []) (length (x ∷ []) - 1) ≡ Some x
-one-left x = refl
-
+-- what is above the last of a rising row is above each of it
 below_last : (ops : List Op) (x last : Op) → T (is_rising ops) → Some last ≡ slice_get ops (length ops - 1) → op_cmp last x ≡ Less → AllByRecursion (λ y. op_cmp y x ≡ Less) ops
-below_last [] x last rising e above = tt
-below_last (y ∷ []) x last rising e above =
-    let f : last ≡ y = cc (one-left y) in (subst (λ z. op_cmp z x ≡ Less) f above, tt)
-below_last (y ∷ z ∷ ops) x last rising e above =
-    let rest : AllByRecursion (λ y. op_cmp y x ≡ Less) (z ∷ ops) = below_last (z ∷ ops) x last (T_second (below_all op_cmp y (entries_of (z ∷ ops))) _ rising) (e ∙ last-cons y z ops) above in
-    let less : op_cmp y z ≡ Less = is_less (op_cmp y z) (of-T _ (T_first (is_lt (op_cmp y z)) _ (T_first (below_all op_cmp y (entries_of (z ∷ ops))) _ rising))) in
-    (op_total.trans y z x less rest.0, rest)
+below_last ops x last rising e above = dropped (λ y. op_cmp y x ≡ Less) ops 0 (λ k d low high. go k d high (eq-or-lt_of_le (omega (arith, high))))
+  where
+    at_last : (d : Op) → get_or ops (length ops - 1) d ≡ last
+    at_last d = get_or_from_slice_get ops (length ops - 1) last d (sym e)
+
+    go : (k : ℕ) (d : Op) → k < length ops → (k ≡ length ops - 1) ⊎ (k < length ops - 1) → op_cmp (get_or ops k d) x ≡ Less
+    go k d high (inl same) = ap (λ n. op_cmp (get_or ops n d) x) same ∙ ap (λ y. op_cmp y x) (at_last d) ∙ above
+    go k d high (inr less) = op_total.trans (get_or ops k d) (get_or ops (length ops - 1) d) x (rising_less ops k (length ops - 1) d rising less (omega (arith, high))) (ap (λ y. op_cmp y x) (at_last d) ∙ above)
 
 -- an operation above the last of a rising row goes to its end
 pub gap_at_end : (ops : List Op) (x last : Op) → T (is_rising ops) → Some last ≡ slice_get ops (length ops - 1) → op_cmp last x ≡ Less → IsGap ops x (length ops)
@@ -169,12 +132,6 @@ borne-none ops row s e none = sym (no_bearers (bears s) ops (sym e ∙ none))
 pub borne-some : (ops row : List Op) (s : Stamp) (o : Op) → filter (bears s) row ≡ filter (bears s) ops → IsFirstBearer s o row → true ≡ is_borne ops s
 unfolding is_borne
 borne-some ops row s o e first = sym (some_bearers (bears s) ops o (filter (bears s) (drop 1 row)) (sym e ∙ first.bearers))
-
-pub late-drop : (stamp : Stamp) (ops : List Op) (i : ℕ) → AllByRecursion (λ op. before (stamp_of op) stamp ≡ false) ops → AllByRecursion (λ op. before (stamp_of op) stamp ≡ false) (drop i ops)
-late-drop stamp [] zero h = tt
-late-drop stamp [] (suc i) h = tt
-late-drop stamp (y ∷ ops) zero h = h
-late-drop stamp (y ∷ ops) (suc i) h = late-drop stamp ops i h.1
 
 pub all-dropped : {X : Type 0} (i : ℕ) (xs : List X) → take (length xs - i) (drop i xs) ≡ drop i xs
 all-dropped i xs = take_all (length xs - i) (drop i xs) (omega (arith, length-drop i xs))

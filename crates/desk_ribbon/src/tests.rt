@@ -1,4 +1,5 @@
-ghost use Rattle.std.specs.Prelude.{◌≡◌, ◌≤◌, IfOk, length};
+ghost use Rattle.std.specs.Prelude.{◌≡◌, ◌≤◌, ◌<◌, ◌^◌, IfOk, length};
+ghost use Rattle.desk_ribbon.specs.Ribbon.{ribbon_rows};
 
 use super::*;
 use desk_signals::{Column, RowNo};
@@ -110,5 +111,93 @@ fn growths_refused(rt: HostRuntime) -> Result<(), Fail> {
         }
     }
     assert!(rt; pushes_refused > 0 && finishes_refused > 0);
+    Ok(())
+}
+
+/// What `write_ribbon` did in a small heap: whether a growth was refused, and whether the wanted bytes came, then or once
+/// it was called again with memory.
+#[derive(Clone, Copy)]
+struct Seen {
+    refused: bool,
+    right: bool,
+}
+
+fn refused_write(
+    alloc: Global,
+    room: usize,
+    lines: &[PunchLine<Global>],
+    wanted: &[u8],
+) -> Result<Seen, Fail>
+    requires { length (ribbon_rows lines.now) < 2 ^ 32 }
+{
+    let heap = LocalHeap::new(alloc, 1024)?;
+    let taken = 1024usize.saturating_sub(room.saturating_mul(16));
+    let ballast: Vec<u8, &LocalHeap> = Vec::with_capacity(&heap, taken)?;
+    if let Ok(bytes) = write_ribbon(&heap, lines) {
+        let right = bytes.as_slice() == wanted;
+        return Ok(Seen {
+            refused: false,
+            right,
+        });
+    }
+    drop(ballast);
+    let right = write_ribbon(&heap, lines)?.as_slice() == wanted;
+    Ok(Seen {
+        refused: true,
+        right,
+    })
+}
+
+/// Each growth of `write_ribbon` refused in turn: with memory the same call writes the ribbon.
+#[test]
+fn growths_of_write_ribbon(rt: HostRuntime) -> Result<(), Fail> {
+    let empty: [PunchLine<Global>; 0] = [];
+    let one = [empty_paragraph(rt.alloc())?];
+    let mut refused = 0u8;
+    let mut written = 0u8;
+    for room in 0..16usize {
+        let copy = refused_write(rt.alloc(), room, &empty, EMPTY_COPY.as_slice())?;
+        let paragraph = refused_write(rt.alloc(), room, &one, EMPTY_PARAGRAPH.as_slice())?;
+        assert!(rt; copy.right && paragraph.right);
+        if copy.refused && paragraph.refused {
+            refused = refused.saturating_add(1);
+        }
+        if !copy.refused && !paragraph.refused {
+            written = written.saturating_add(1);
+        }
+    }
+    assert!(rt; refused > 0 && written > 0);
+    Ok(())
+}
+
+/// A push that is refused in mid-ribbon leaves the lines before it, and with memory it follows them.
+#[test]
+fn refused_push_leaves_the_lines_before(rt: HostRuntime) -> Result<(), Fail> {
+    let line = empty_paragraph(rt.alloc())?;
+    let mut both = RibbonWriter::new(rt.alloc());
+    both.push(&line)?;
+    both.push(&line)?;
+    let mut refused = 0u8;
+    for room in 0..48usize {
+        let heap = LocalHeap::new(rt.alloc(), 1024)?;
+        let mut writer = RibbonWriter::new(&heap);
+        writer.push(&line)?;
+        let ballast: Vec<u8, &LocalHeap> = if let Ok(ballast) = Vec::with_capacity(
+            &heap,
+            1000 - room * 16,
+        ) {
+            ballast
+        } else {
+            continue;
+        };
+        if writer.push(&line).is_err() {
+            refused = refused.saturating_add(1);
+            drop(ballast);
+            assert_eq!(rt; writer.finish()?.as_slice(), EMPTY_PARAGRAPH.as_slice());
+            writer.push(&line)?;
+            assert_eq!(rt; writer.finish()?.as_slice(), both.finish()?.as_slice());
+        }
+    }
+    assert!(rt; refused > 0);
     Ok(())
 }
