@@ -1,0 +1,45 @@
+// Loaded before the C library, it refuses one growth of a program: the call of malloc or realloc whose number
+// REFUSE gives, counting from 1. At the end it writes how many calls there were to the file descriptor 3, if
+// COUNT is set. The calls underneath are those of the GNU C library.
+#include <errno.h>
+#include <stddef.h>
+#include <stdio.h>
+#include <stdlib.h>
+#include <unistd.h>
+
+extern void *__libc_malloc(size_t size);
+extern void *__libc_realloc(void *block, size_t size);
+
+static long calls;
+
+static int refused(void) {
+    const char *number = getenv("REFUSE");
+    calls += 1;
+    return number && atol(number) == calls;
+}
+
+void *malloc(size_t size) {
+    if (refused()) {
+        errno = ENOMEM;
+        return NULL;
+    }
+    return __libc_malloc(size);
+}
+
+void *realloc(void *block, size_t size) {
+    if (refused()) {
+        errno = ENOMEM;
+        return NULL;
+    }
+    return __libc_realloc(block, size);
+}
+
+__attribute__((destructor)) static void tell(void) {
+    if (getenv("COUNT")) {
+        char text[32];
+        int length = snprintf(text, sizeof text, "%ld\n", calls);
+        if (write(3, text, (size_t)length) < 0) {
+            _exit(99);
+        }
+    }
+}
