@@ -1,11 +1,16 @@
 //! The copy desk's command line.
 #![tactic(auto)]
 
+ghost use Rattle.std.specs.Prelude.{◌≡◌, ◌↔◌, ◌⊎◌};
+ghost use Rattle.std.specs.IoError.{error_kind};
+
 mod host;
 mod program;
 
+use desk_script::RunFault;
 use host::HostFiles;
 use program::program;
+use std::io::{ErrorKind, Write};
 use std::process::ExitCode;
 use std::{env, io};
 
@@ -19,7 +24,7 @@ fn main(rt: HostRuntime) -> ExitCode {
             &mut rt.stderr(),
             &mut HostFiles::new(&rt),
         )),
-        Err(_) => ExitCode::from(2),
+        Err(error) => ExitCode::from(unread(&mut rt.stderr(), &error)),
     }
 }
 
@@ -30,6 +35,20 @@ fn words_of<R: std::rt::Env + AllocGlobal>(rt: &R) -> io::Result<Vec<String>> {
         words.push(word)?;
     }
     Ok(words)
+}
+
+/// Tells why the words could not be read, and gives the status of it: 1 for want of memory, as of a run, and else 2, as of
+/// words that `clap` refuses. A failure to write the line changes no status.
+fn unread<E: Write>(faults: &mut E, error: &io::Error) -> u8
+    ensures within { (result ≡ 1) ⊎ (result ≡ 2) }
+    ensures memory { (result ≡ 1) ↔ (error_kind error.now ≡ ErrorKind.OutOfMemory) }
+{
+    if error.kind() == ErrorKind::OutOfMemory {
+        let _ = writeln!(faults, "copydesk: {}", RunFault::NoMemory);
+        return 1;
+    }
+    let _ = writeln!(faults, "error: a word of the command line is not UTF-8");
+    2
 }
 
 #[cfg(test)]

@@ -150,6 +150,7 @@ impl Fields {
     }
 }
 
+/// The first byte and what follows it; of no bytes 0 and none.
 pub fn take_byte(bytes: &[u8]) -> (u8, &[u8])
     requires { 1 ≤ length bytes.now }
     ensures bytes { bytes.now ≡ result.0 ∷ result.1.now }

@@ -21,6 +21,7 @@ pub enum Kind {
 }
 
 impl Kind {
+    /// The kind of an operation.
     pub fn of(op: &Op) -> Kind
         ensures { kind_size result ≡ length (spelling op.now) }
     {
@@ -31,6 +32,7 @@ impl Kind {
         }
     }
 
+    /// The kind of this byte, 1 to 3, or none.
     pub fn of_byte(byte: u8) -> Option<Kind>
         ensures { MatchOption result (size_of_kind byte ≡ None) (λ kind. kind_byte kind ≡ byte) }
     {

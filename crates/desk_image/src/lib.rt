@@ -82,12 +82,14 @@ fn bit(signal: Signal) -> u32
 }
 
 impl Image {
+    /// The image of these 32 bits, lawful or not.
     pub fn new(bits: u32) -> Image
         ensures { result ≡ bits }
     {
         Image(bits)
     }
 
+    /// Its 32 bits.
     pub fn bits(self) -> u32
         ensures { result ≡ self }
     {

@@ -47,7 +47,8 @@ fn room(rest: Atoms) -> u64
 }
 
 /// How often each of one to four fills is used, the widest first: as often as it fits in what those before it leave
-/// of the rest, and never where the rest is negative. The rest is at most 2^31 atoms.
+/// of the rest, and never where the rest is negative. The rest is at most 2^31 atoms, the widths are above 0, and each is
+/// less than the one before.
 pub fn fill(rest: Atoms, widths: &[Atoms]) -> ArrayVec<u32, 4>
     requires some { 1 ≤ length widths.now }
     requires four { length widths.now ≤ 4 }

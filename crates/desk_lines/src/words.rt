@@ -30,18 +30,21 @@ impl<A: Allocator> Model for Paragraph<A> {
 }
 
 impl<A: Allocator> Paragraph<A> {
+    /// The paragraph of these words, in their order.
     pub fn from_words(words: Vec<Word, A>) -> Paragraph<A>
         ensures { result ≡ words.items }
     {
         Self { words }
     }
 
+    /// The words, from first to last; words may be empty.
     pub fn words(&self) -> &[Word]
         ensures { result.now ≡ self.now }
     {
         self.words.as_slice()
     }
 
+    /// The words, taken out.
     pub fn into_words(self) -> Vec<Word, A>
         ensures { result.items ≡ self }
     {

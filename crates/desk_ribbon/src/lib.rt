@@ -36,6 +36,7 @@ impl<A: Allocator> Model for Punches<A> {
 impl<A: Allocator> Punches<A> {
     ghost use Rattle.std.specs.Prelude.{◌≡◌, ◌++◌, ◌∷◌, [], length, OnOk, OnErr};
 
+    /// No matrices.
     pub fn new(alloc: A) -> Punches<A>
         ensures { result ≡ [] }
     {
@@ -44,6 +45,7 @@ impl<A: Allocator> Punches<A> {
         }
     }
 
+    /// These matrices, in reading order.
     pub fn from_vec(punches: Vec<Punch, A>) -> Punches<A>
         ensures { result ≡ punches.items }
     {
@@ -59,6 +61,7 @@ impl<A: Allocator> Punches<A> {
         Ok(())
     }
 
+    /// The matrices, in reading order.
     pub fn as_slice(&self) -> &[Punch]
         ensures { result.now ≡ self.now }
     {

@@ -30,6 +30,7 @@ impl<A: Allocator + Copy> RibbonWriter<A> {
     ghost use Rattle.std.specs.Prelude.{◌≡◌, ◌+◌, ◌^◌, ◌<◌, ◌++◌, ◌∷◌, [], length, IfOk, OnOk, OnErr};
     ghost use Rattle.desk_ribbon.specs.Ribbon.{head_row, line_rows, ribbon};
 
+    /// A writer of the head row alone.
     pub fn new(alloc: A) -> RibbonWriter<A>
         ensures { result ≡ [] }
     {

@@ -50,6 +50,7 @@ impl Model for RowNo {
 }
 
 impl RowNo {
+    /// The row of this number, 1 to 15, or none.
     pub fn new(number: u8) -> Option<RowNo>
         ensures { SomeIff result ((1 ≤ number) × (number ≤ 15)) number }
     {
@@ -60,6 +61,7 @@ impl RowNo {
         }
     }
 
+    /// Its number, 1 to 15.
     pub fn get(self) -> u8
         ensures value { result ≡ self }
         ensures low { 1 ≤ self }
@@ -88,6 +90,7 @@ impl Model for Position {
 }
 
 impl Position {
+    /// The position of this number, 1 to 15, or none.
     pub fn new(number: u8) -> Option<Position>
         ensures { SomeIff result ((1 ≤ number) × (number ≤ 15)) number }
     {
@@ -98,6 +101,7 @@ impl Position {
         }
     }
 
+    /// Its number, 1 to 15.
     pub fn get(self) -> u8
         ensures value { result ≡ self }
         ensures low { 1 ≤ self }

@@ -10,6 +10,20 @@ fn position(number: u8) -> Position {
 }
 
 #[test]
+fn numbers_in_range(rt: HostRuntime) {
+    for number in [0u8, 16, 255] {
+        assert!(rt; RowNo::new(number).is_none() && Position::new(number).is_none());
+    }
+    for number in [1u8, 9, 15] {
+        assert_eq!(rt; RowNo::new(number).map(|row| row.get()), Some(number));
+        assert_eq!(rt;
+            Position::new(number).map(|position| position.get()),
+            Some(number)
+        );
+    }
+}
+
+#[test]
 fn images_of_rows(rt: HostRuntime) {
     let signals = cell(Column::G, 1, true).signals();
     assert!(rt; signals.as_slice() == [Signal::G, Signal::One, Signal::S].as_slice());

@@ -24,12 +24,14 @@ impl Model for Atoms {
 }
 
 impl Atoms {
+    /// So many atoms.
     pub fn new(atoms: i64) -> Atoms
         ensures { result ≡ atoms }
     {
         Atoms(atoms)
     }
 
+    /// The number of atoms.
     pub fn get(self) -> i64
         ensures { result ≡ self }
     {
@@ -63,6 +65,7 @@ impl Model for SetQ {
 }
 
 impl SetQ {
+    /// The set of so many quarter points, 20 to 96, or none.
     pub fn new(quarters: u8) -> Option<SetQ>
         ensures { SomeIff result ((20 ≤ quarters) × (quarters ≤ 96)) quarters }
     {
@@ -73,6 +76,7 @@ impl SetQ {
         }
     }
 
+    /// Its quarter points.
     pub fn get(self) -> u8
         ensures value { result ≡ self }
         ensures low { 20 ≤ self }

@@ -37,7 +37,8 @@ pub fn measure(points: u32, pica: Pica) -> Atoms
     Atoms::new((points * (72 * unit_atoms(pica))) as i64)
 }
 
-/// The whole number of steps for each space, below 0 too, that leaves less than a step for each space of the atoms.
+/// The whole number of steps for each of 1 to 2^32 spaces, below 0 too, that leaves at least 0 and less than a step for
+/// each space of the atoms.
 pub fn floor_steps(atoms: Atoms, spaces: u64) -> i64
     requires some { 1 ≤ spaces }
     requires limit { spaces ≤ 2 ^ 32 }
