@@ -3,7 +3,10 @@ use Rattle.std.proofs.Common.{◌≡◌, ℕ, ◌+◌, ◌≤◌, Bool, true, fa
 use Rattle.std.specs.Prelude.{IfSome, option_map}
 use Rattle.std.proofs.lemmas.Bool.Decides.{nat_tests}
 use Rattle.std.proofs.lemmas.List.{length-take-le, take_all}
-use Rattle.desk_ops.proofs.Stamps.{by_cases}
+
+by_cases : {G : Type 0} (b : Bool) → (b ≡ true → G) → (b ≡ false → G) → G
+by_cases true hit miss = hit refl
+by_cases false hit miss = miss refl
 
 short : (n : ℕ) (input : List ℕ) → length (take (n + 1) input) ≤ n → length input ≤ n
 short n input few = by_cases (nat_le (n + 1) (length input)) long (λ e. at_most n (length input) e)
