@@ -48,23 +48,23 @@ on_ok (Ok x) p = p
 on_ok (Err e) p = tt
 
 -- all answers are a front of them
-turn_is_front : (old new : Desk) (a b : Option (List ℕ)) (ls : List Line) → Turn old new a b ls → Fronts old a b ls
-turn_is_front old new a b ls (replies, script, written) = (ls, [], sym (append-nil ls), new, replies, script, (output replies, [], written, sym (append-nil (output replies))))
+turn_is_front : (old new : Desk) (last : ℕ) (a b : Option (List ℕ)) (ls : List Line) → new.failures ≤ last → Turn old new a b ls → Fronts old last a b ls
+turn_is_front old new last a b ls few (replies, script, written) = (ls, [], sym (append-nil ls), new, few, replies, script, (output replies, [], written, sym (append-nil (output replies))))
 
-pub stored_all : (Gives : Result (List ℕ) FileRefusal → Type 0) (k n : ℕ) (start new : Desk) (i a b : Option (List ℕ)) → IsStart Gives k n start
-    → IfSome i (λ input. Turn start new a b (lines input)) → IfSome i (λ input. AnswersStored Gives k n input a b)
-stored_all Gives k n start new None a b from turn = tt
-stored_all Gives k n start new (Some input) a b from turn = (start, from, new, turn)
+pub stored_all : (Gives : Result (List ℕ) FileRefusal → Type 0) (k last n : ℕ) (start new : Desk) (i a b : Option (List ℕ)) → new.failures ≤ last → IsStart Gives k n start
+    → IfSome i (λ input. Turn start new a b (lines input)) → IfSome i (λ input. AnswersStored Gives k last n input a b)
+stored_all Gives k last n start new None a b few from turn = tt
+stored_all Gives k last n start new (Some input) a b few from turn = (start, from, new, few, turn)
 
-pub stored_front : (Gives : Result (List ℕ) FileRefusal → Type 0) (k n : ℕ) (start : Desk) (i a b : Option (List ℕ)) → IsStart Gives k n start
-    → IfSome i (λ input. Fronts start a b (lines input)) → IfSome i (λ input. AnswersStoredFront Gives k n input a b)
-stored_front Gives k n start None a b from fronts = tt
-stored_front Gives k n start (Some input) a b from fronts = inr (start, from, fronts)
+pub stored_front : (Gives : Result (List ℕ) FileRefusal → Type 0) (k last n : ℕ) (start : Desk) (i a b : Option (List ℕ)) → IsStart Gives k n start
+    → IfSome i (λ input. Fronts start last a b (lines input)) → IfSome i (λ input. AnswersStoredFront Gives k last n input a b)
+stored_front Gives k last n start None a b from fronts = tt
+stored_front Gives k last n start (Some input) a b from fronts = inr (start, from, fronts)
 
-pub stored_whole_front : (Gives : Result (List ℕ) FileRefusal → Type 0) (k n : ℕ) (start new : Desk) (i a b : Option (List ℕ)) → IsStart Gives k n start
-    → IfSome i (λ input. Turn start new a b (lines input)) → IfSome i (λ input. AnswersStoredFront Gives k n input a b)
-stored_whole_front Gives k n start new None a b from turn = tt
-stored_whole_front Gives k n start new (Some input) a b from turn = inr (start, from, turn_is_front start new a b (lines input) turn)
+pub stored_whole_front : (Gives : Result (List ℕ) FileRefusal → Type 0) (k last n : ℕ) (start new : Desk) (i a b : Option (List ℕ)) → new.failures ≤ last → IsStart Gives k n start
+    → IfSome i (λ input. Turn start new a b (lines input)) → IfSome i (λ input. AnswersStoredFront Gives k last n input a b)
+stored_whole_front Gives k last n start new None a b few from turn = tt
+stored_whole_front Gives k last n start new (Some input) a b few from turn = inr (start, from, turn_is_front start new last a b (lines input) few turn)
 
 full_or_rose : (o n : ℕ) → o ≤ 18446744073709551615 → 18446744073709551615 ≤ n → HasFailed o n
 full_or_rose o n low high = by_cases (nat_eq o 18446744073709551615) (λ e. inr (same o e)) (λ e. inl (less o n low high e))

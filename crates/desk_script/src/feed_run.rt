@@ -131,8 +131,8 @@ pub fn run_on_feed<R: Read, W: Write, F: Files, A: Allocator + Copy>(
     site: u16,
 ) -> Result<(), RunFault>
     requires { 1 ≤ site }
-    ensures ok { OnOk result (IfSome (R.remaining reader.old) (λ input. AnswersStored (F.gives files.old name.now) (F.count files.old) site input (W.contents writer.old) (W.contents writer.new))) }
-    ensures err { OnErr result (IfSome (R.remaining reader.old) (λ input. AnswersStoredFront (F.gives files.old name.now) (F.count files.old) site input (W.contents writer.old) (W.contents writer.new))) }
+    ensures ok { OnOk result (IfSome (R.remaining reader.old) (λ input. AnswersStored (F.gives files.old name.now) (F.count files.old) (F.count files.new) site input (W.contents writer.old) (W.contents writer.new))) }
+    ensures err { OnErr result (IfSome (R.remaining reader.old) (λ input. AnswersStoredFront (F.gives files.old name.now) (F.count files.old) (F.count files.new) site input (W.contents writer.old) (W.contents writer.new))) }
     ensures feed { IfErr result (IsOfFeed (F.gives files.old name.now)) }
     ensures device { IsErrOf result (RunFault.File FileRefusal.Device) → HasFailed (F.count files.old) (F.count files.new) }
 {

@@ -5,13 +5,13 @@ use Rattle.desk_script.proofs.Feeds.{on_ok, stored_all, stored_front, stored_who
 use Rattle.desk_script.proofs.feed_run.run_on_feed.Goals as goal
 
 pub returns-in-Err-answer_all-clause-err : goal.returns-in-Err-answer_all-clause-err
-returns-in-Err-answer_all-clause-err g c = stored_front _ _ _ (desk c.in-Ok.world (g.F.Files.count c.opened.new.files)) _ _ _ c.in-Ok.ensures.ok c.in-Err-answer_all.ensures.err
+returns-in-Err-answer_all-clause-err g c = stored_front _ _ _ _ (desk c.in-Ok.world (g.F.Files.count c.opened.new.files)) _ _ _ c.in-Ok.ensures.ok c.in-Err-answer_all.ensures.err
 
 pub returns-clause-ok : goal.returns-clause-ok
-returns-clause-ok g c = on_ok c.keep_feed.result (stored_all _ _ _ (desk c.in-Ok.world (g.F.Files.count c.opened.new.files)) (desk c.answer_all.new.world (g.F.Files.count c.answer_all.new.files)) _ _ _ c.in-Ok.ensures.ok c.in_default.ensures.ok)
+returns-clause-ok g c = on_ok c.keep_feed.result (stored_all _ _ _ _ (desk c.in-Ok.world (g.F.Files.count c.opened.new.files)) (desk c.answer_all.new.world (g.F.Files.count c.answer_all.new.files)) _ _ _ c.keep_feed.ensures.counted c.in-Ok.ensures.ok c.in_default.ensures.ok)
 
 pub returns-clause-err : goal.returns-clause-err
-returns-clause-err g c = on_err c.keep_feed.result (stored_whole_front _ _ _ (desk c.in-Ok.world (g.F.Files.count c.opened.new.files)) (desk c.answer_all.new.world (g.F.Files.count c.answer_all.new.files)) _ _ _ c.in-Ok.ensures.ok c.in_default.ensures.ok)
+returns-clause-err g c = on_err c.keep_feed.result (stored_whole_front _ _ _ _ (desk c.in-Ok.world (g.F.Files.count c.opened.new.files)) (desk c.answer_all.new.world (g.F.Files.count c.answer_all.new.files)) _ _ _ c.keep_feed.ensures.counted c.in-Ok.ensures.ok c.in_default.ensures.ok)
 
 pub returns-clause-device : goal.returns-clause-device
 returns-clause-device g c =
