@@ -10,7 +10,7 @@ use Rattle.desk_script.specs.declared.files.FileRefusal.{FileRefusal}
 use Rattle.desk_script.specs.declared.files.FileRefusal.TheVariants as refusals
 use Rattle.desk_script.specs.declared.fault.RunFault.{RunFault}
 use Rattle.desk_script.specs.declared.fault.RunFault.TheVariants as faults
-use Rattle.desk_script.specs.Faults.{IsCrowded, IsOfStoring, IsUnopened}
+use Rattle.desk_script.specs.Faults.{IsCrowded, IsOfFeed, IsOfStoring, IsUnopened}
 use Rattle.desk_script.specs.Files.{HasFailed}
 use Rattle.desk_script.specs.Lines.{Line, lines}
 use Rattle.desk_script.specs.Sites.{Desk}
@@ -82,3 +82,16 @@ earlier o m n low high (inr full) = full_or_rose o n (omega arith) (omega arith)
 -- a failure at the end is one of the whole
 pub device_later : (r : Result (Unit {0}) RunFault) (o m n : ℕ) → o ≤ m → m ≤ n → IfErr r (IsOfStoring m n) → IsErrOf r (faults.File refusals.Device) → HasFailed o n
 device_later r o m n low high told is = earlier o m n low high (subst (λ (x : Result (Unit {0}) RunFault). IfErr x (IsOfStoring m n)) is told)
+
+-- a feed that was not stored, after all answers
+pub of_storing : (Gives : (Result (List ℕ) FileRefusal → Type 0)) (Answered : Type 0) (o m n : ℕ) (e : RunFault) → o ≤ m → m ≤ n → Answered → IsOfStoring m n e → IsOfFeed Gives Answered o n e
+of_storing Gives Answered o m n faults.Read low high all h = tt
+of_storing Gives Answered o m n faults.Write low high all h = tt
+of_storing Gives Answered o m n faults.TooLong low high all h = tt
+of_storing Gives Answered o m n faults.NoMemory low high all h = tt
+of_storing Gives Answered o m n (faults.Feed fault) low high all h = absurd h
+of_storing Gives Answered o m n (faults.File refusals.Missing) low high all h = inr (all, tt)
+of_storing Gives Answered o m n (faults.File refusals.Device) low high all h = inr (all, earlier o m n low high h)
+of_storing Gives Answered o m n (faults.File refusals.Large) low high all h = absurd h
+of_storing Gives Answered o m n (faults.File refusals.NoMemory) low high all h = absurd h
+of_storing Gives Answered o m n (faults.Opening stop) low high all h = absurd h
