@@ -93,7 +93,7 @@ fn opened<F: Files, A: Allocator + Copy>(
     }
 }
 
-/// Stores a site's feed. No event takes a site away, and one that were not there is no success.
+/// Stores a site's feed. No event takes a site away: where it is not there nothing is stored, and that is no success.
 fn keep_feed<F: Files, A: Allocator + Copy>(
     alloc: A,
     world: &World<A>,
