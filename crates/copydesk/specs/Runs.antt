@@ -11,10 +11,10 @@ use Rattle.copydesk.specs.Words.{AsksDesk, AsksScript}
 abbrev pub IsRun : (Text → Result (List ℕ) FileRefusal → Type 0) → ℕ → ℕ → List Text → Option (List ℕ) → Option (List ℕ) → Option (List ℕ) → Type 0
 IsRun Gives failed fails words input before after =
     (AsksScript words × IfSome input (λ bytes. (new : Sites) × Answers (desk no_sites failed) (desk new fails) bytes before after))
-    ⊎ ((feed : Text) × (site : ℕ) × AsksDesk words feed site × IfSome input (λ bytes. AnswersStored (Gives feed) failed site bytes before after))
+    ⊎ ((feed : Text) × (site : ℕ) × AsksDesk words feed site × IfSome input (λ bytes. AnswersStored (Gives feed) failed fails site bytes before after))
 
 -- it stopped, or was not begun
-abbrev pub IsStopped : (Text → Result (List ℕ) FileRefusal → Type 0) → ℕ → List Text → Option (List ℕ) → Option (List ℕ) → Option (List ℕ) → Type 0
-IsStopped Gives failed words input before after =
-    (after ≡ before) ⊎ ((AsksScript words × IfSome input (λ bytes. AnswersFront (desk no_sites failed) bytes before after))
-    ⊎ ((feed : Text) × (site : ℕ) × AsksDesk words feed site × IfSome input (λ bytes. AnswersStoredFront (Gives feed) failed site bytes before after)))
+abbrev pub IsStopped : (Text → Result (List ℕ) FileRefusal → Type 0) → ℕ → ℕ → List Text → Option (List ℕ) → Option (List ℕ) → Option (List ℕ) → Type 0
+IsStopped Gives failed fails words input before after =
+    (after ≡ before) ⊎ ((AsksScript words × IfSome input (λ bytes. AnswersFront (desk no_sites failed) fails bytes before after))
+    ⊎ ((feed : Text) × (site : ℕ) × AsksDesk words feed site × IfSome input (λ bytes. AnswersStoredFront (Gives feed) failed fails site bytes before after)))

@@ -1,7 +1,9 @@
 //! Files of the machine.
 
 ghost use Rattle.std.specs.Prelude.{◌≡◌, ◌≢◌, ◌<◌, ◌≤◌, IfErr, IfOk, IfSome, IsErrOf, length};
-ghost use Rattle.desk_script.specs.Files.{HasFailed};
+ghost use Rattle.std.specs.IoError.{error_kind};
+ghost use Rattle.desk_script.specs.Files.{HasFailed, max_file};
+ghost use Rattle.copydesk.specs.Host.{IsToldOf};
 
 use desk_script::{FileRefusal, Files, MAX_FILE};
 use std::alloc::Allocator;
@@ -38,7 +40,7 @@ impl<'a, H: std::rt::Files> HostFiles<'a, H> {
 
 /// What a failed call tells: that something is not there, that memory ran out, or else that the device failed.
 fn refusal_of(error: &io::Error) -> FileRefusal
-    ensures { result ≢ FileRefusal.Large }
+    ensures { IsToldOf (error_kind error.now) result }
 {
     match error.kind() {
         ErrorKind::NotFound => FileRefusal::Missing,
@@ -53,9 +55,9 @@ fn whole<R: Read + Drop, A: Allocator + Copy>(
     alloc: A,
     reader: R,
 ) -> Result<Vec<u8, A>, FileRefusal>
-    ensures within { IfOk result (λ v. length v.items ≤ MAX_FILE) }
+    ensures within { IfOk result (λ v. length v.items ≤ max_file) }
     ensures bytes { IfOk result (λ v. IfSome (R.remaining reader) (λ input. v.items ≡ input)) }
-    ensures large { IsErrOf result FileRefusal.Large → IfSome (R.remaining reader) (λ input. MAX_FILE < length input) }
+    ensures large { IsErrOf result FileRefusal.Large → IfSome (R.remaining reader) (λ input. max_file < length input) }
 {
     let mut bytes = Vec::new(alloc);
     let mut front = reader.take(MAX_FILE as u64 + 1);
@@ -74,7 +76,9 @@ fn read_file<H: std::rt::Files, A: Allocator + Copy>(
     host: &H,
     alloc: A,
     name: &str,
-) -> Result<Vec<u8, A>, FileRefusal> {
+) -> Result<Vec<u8, A>, FileRefusal>
+    ensures { IfOk result (λ v. length v.items ≤ max_file) }
+{
     match File::open(host, name) {
         Ok(file) => whole(alloc, file),
         Err(error) => Err(refusal_of(&error)),

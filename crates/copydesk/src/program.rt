@@ -166,7 +166,7 @@ pub fn program<R: Read, W: Write, E: Write, F: Files>(
     ensures status { result ≤ 2 }
     ensures done { result ≡ 0 → IsRun (F.gives files.old) (F.count files.old) (F.count files.new) (map string_bytes words.now) (R.remaining reader.old) (W.contents writer.old) (W.contents writer.new)
         ⊎ (AsksHelp (map string_bytes words.now) × (reader.new ≡ reader.old) × (files.new ≡ files.old)) }
-    ensures stopped { result ≡ 1 → IsStopped (F.gives files.old) (F.count files.old) (map string_bytes words.now) (R.remaining reader.old) (W.contents writer.old) (W.contents writer.new) }
+    ensures stopped { result ≡ 1 → IsStopped (F.gives files.old) (F.count files.old) (F.count files.new) (map string_bytes words.now) (R.remaining reader.old) (W.contents writer.old) (W.contents writer.new) }
     ensures refused { result ≡ 2 → AsksNothing (map string_bytes words.now) × (reader.new ≡ reader.old) × (writer.new ≡ writer.old) × (files.new ≡ files.old) }
 {
     match understood(alloc, words) {

@@ -1,5 +1,5 @@
 -- Lines that were answered, one part after another.
-use Rattle.std.proofs.Common.{◌≡◌, ℕ, List, [], ◌∷◌, ◌++◌, Option, Some, None, refl, sym, ap, ◌∙◌, subst, append_assoc}
+use Rattle.std.proofs.Common.{◌≡◌, ◌≤◌, ℕ, List, [], ◌∷◌, ◌++◌, Option, Some, None, refl, sym, ap, ◌∙◌, subst, append_assoc}
 use Rattle.std.specs.Io.KnownBytes.{Appends}
 use Rattle.std.proofs.KnownBytes.{Appends-trans}
 use Rattle.std.proofs.lemmas.List.{append-nil}
@@ -17,15 +17,15 @@ appends_none (Some xs) = sym (append-nil xs)
 pub no_turn : (old : Desk) (a : Option (List ℕ)) → Turn old old a a []
 no_turn old a = ([], refl, appends_none a)
 
-pub no_front : (old : Desk) (a : Option (List ℕ)) (lines : List Line) → Fronts old a a lines
-no_front old a lines = ([], lines, refl, old, [], refl, ([], [], appends_none a, refl))
+pub no_front : (old : Desk) (last : ℕ) (a : Option (List ℕ)) (lines : List Line) → old.failures ≤ last → Fronts old last a a lines
+no_front old last a lines few = ([], lines, refl, old, few, [], refl, ([], [], appends_none a, refl))
 
 pub one_turn : (old new : Desk) (a b : Option (List ℕ)) (line : Line) (bytes : List ℕ) (reply : Reply) → Allows old line reply new → bytes ≡ text reply ++ 10 ∷ [] → Appends a b bytes → Turn old new a b (line ∷ [])
 one_turn old new a b line bytes reply allowed is written = (reply ∷ [], (new, allowed, refl), subst (Appends a b) is written)
 
-pub one_front : (old new : Desk) (a b : Option (List ℕ)) (line : Line) (bytes : List ℕ) (reply : Reply) (more : List Line) → Allows old line reply new → bytes ≡ text reply ++ 10 ∷ [] → WritesFront a b bytes → Fronts old a b (line ∷ more)
-one_front old new a b line bytes reply more allowed is (done, rest, written, split) =
-    (line ∷ [], more, refl, new, reply ∷ [], (new, allowed, refl), (done, rest, written, sym is ∙ split))
+pub one_front : (old new : Desk) (last : ℕ) (a b : Option (List ℕ)) (line : Line) (bytes : List ℕ) (reply : Reply) (more : List Line) → new.failures ≤ last → Allows old line reply new → bytes ≡ text reply ++ 10 ∷ [] → WritesFront a b bytes → Fronts old last a b (line ∷ more)
+one_front old new last a b line bytes reply more few allowed is (done, rest, written, split) =
+    (line ∷ [], more, refl, new, few, reply ∷ [], (new, allowed, refl), (done, rest, written, sym is ∙ split))
 
 output-append : (rs ss : List Reply) → output (rs ++ ss) ≡ output rs ++ output ss
 output-append [] ss = refl
@@ -41,12 +41,13 @@ pub turn_turn : (old mid new : Desk) (a b c : Option (List ℕ)) (ls ms : List L
 turn_turn old mid new a b c ls ms (rs, first, written) (ss, second, more) =
     (rs ++ ss, script-append old mid new ls ms rs ss first second, subst (Appends a c) (sym (output-append rs ss)) (Appends-trans a b c _ _ written more))
 
-pub turn_front : (old mid : Desk) (a b c : Option (List ℕ)) (ls ms : List Line) → Turn old mid a b ls → Fronts mid b c ms → Fronts old a c (ls ++ ms)
-turn_front old mid a b c ls ms (rs, first, written) (front, tail, split, new, ss, second, (done, rest, more, cut)) = (
+pub turn_front : (old mid : Desk) (last : ℕ) (a b c : Option (List ℕ)) (ls ms : List Line) → Turn old mid a b ls → Fronts mid last b c ms → Fronts old last a c (ls ++ ms)
+turn_front old mid last a b c ls ms (rs, first, written) (front, tail, split, new, few, ss, second, (done, rest, more, cut)) = (
   ls ++ front,
   tail,
   ap (λ l. ls ++ l) split ∙ sym (append_assoc ls front tail),
   new,
+  few,
   rs ++ ss,
   script-append old mid new ls front rs ss first second,
   (output rs ++ done, rest, Appends-trans a b c _ _ written more, output-append rs ss ∙ ap (λ l. output rs ++ l) cut ∙ sym (append_assoc (output rs) done rest)),

@@ -1,5 +1,5 @@
 -- Why a run stopped.
-use Rattle.std.specs.Prelude.{◌≡◌, ◌<◌, ℕ, List, Result, Ok, Err}
+use Rattle.std.specs.Prelude.{◌≡◌, ◌<◌, ◌⊎◌, ℕ, List, Result, Ok, Err}
 use Rattle.desk_ops.specs.declared.op.Op.{Op}
 use Rattle.desk_ops.specs.OpSet.{no_ops, size, with_all}
 use Rattle.desk_codec.specs.Fault.{IsFirstFault}
@@ -62,12 +62,12 @@ IsOfStoring before after (faults.File refusals.Large) = ⊥
 IsOfStoring before after (faults.File refusals.NoMemory) = ⊥
 IsOfStoring before after (faults.Opening stop) = ⊥
 
--- a feed is refused or not opened for its cause alone
-abbrev pub IsOfFeed : (Result (List ℕ) FileRefusal → Type 0) → RunFault → Type 0
-IsOfFeed Gives faults.Read = Unit {0}
-IsOfFeed Gives faults.Write = Unit {0}
-IsOfFeed Gives faults.TooLong = Unit {0}
-IsOfFeed Gives faults.NoMemory = Unit {0}
-IsOfFeed Gives (faults.Feed fault) = IsUnopened Gives 0 0 (faults.Feed fault)
-IsOfFeed Gives (faults.File why) = Unit {0}
-IsOfFeed Gives (faults.Opening stop) = IsUnopened Gives 0 0 (faults.Opening stop)
+-- why a run on a stored feed stopped, by the device's counts before and after: the feed was refused or not opened for its cause alone, or it was not stored once all lines were Answered
+abbrev pub IsOfFeed : (Result (List ℕ) FileRefusal → Type 0) → Type 0 → ℕ → ℕ → RunFault → Type 0
+IsOfFeed Gives Answered before after faults.Read = Unit {0}
+IsOfFeed Gives Answered before after faults.Write = Unit {0}
+IsOfFeed Gives Answered before after faults.TooLong = Unit {0}
+IsOfFeed Gives Answered before after faults.NoMemory = Unit {0}
+IsOfFeed Gives Answered before after (faults.Feed fault) = IsUnopened Gives before after (faults.Feed fault)
+IsOfFeed Gives Answered before after (faults.File why) = IsUnread Gives before after why ⊎ (Answered × IsOfStoring before after (faults.File why))
+IsOfFeed Gives Answered before after (faults.Opening stop) = IsUnopened Gives before after (faults.Opening stop)

@@ -1,5 +1,5 @@
 -- What the files of a command give.
-use Rattle.std.specs.Prelude.{◌≡◌, ℕ, List, Option, Some, None, option_map, Result, Ok, Err, IsErrOf}
+use Rattle.std.specs.Prelude.{◌≡◌, ◌≤◌, ℕ, List, Option, Some, None, option_map, Result, Ok, Err, IsErrOf}
 use Rattle.desk_case.specs.Case.{CaseValues}
 use Rattle.desk_case.specs.File.{case_of}
 use Rattle.desk_case.specs.File as cases
@@ -38,10 +38,10 @@ abbrev pub TellsBytes : {V E : Type 0} → (List ℕ → Result V E) → (E → 
 TellsBytes meaning refused (Ok bytes) given = Tells refused (meaning bytes) given
 TellsBytes meaning refused (Err why) given = (told : Refusal) × (file_refused why ≡ Some told) × (given ≡ Err told)
 
--- A file is read, whatever bytes or refusal it gives: that of a device only where the device failed, by the counts before and after.
+-- A file is read, whatever bytes or refusal it gives: that of a device only where the device failed, by its counts before and after, which never fall.
 abbrev pub FileGives : {V E : Type 0} → (List ℕ → Result V E) → (E → Option Refusal) → ℕ → Result V Refusal → ℕ → Type 0
 FileGives meaning refused before given after =
-    (read : Result (List ℕ) FileRefusal) × (IsErrOf read files.Device → HasFailed before after) × TellsBytes meaning refused read given
+    (before ≤ after) × (read : Result (List ℕ) FileRefusal) × (IsErrOf read files.Device → HasFailed before after) × TellsBytes meaning refused read given
 
 abbrev pub with_case : CaseValues → Result WedgeValues Refusal → Result (CaseValues × WedgeValues) Refusal
 with_case case (Ok wedge) = Ok (case, wedge)

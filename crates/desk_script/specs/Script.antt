@@ -1,5 +1,5 @@
 -- Which answers a script may get.
-use Rattle.std.specs.Prelude.{◌≡◌, ℕ, List, [], ◌∷◌, ◌++◌, Option}
+use Rattle.std.specs.Prelude.{◌≡◌, ◌≤◌, ℕ, List, [], ◌∷◌, ◌++◌, Option}
 use Rattle.std.specs.Io.KnownBytes.{Appends}
 use Rattle.desk_script.specs.Lines.{Line, lines}
 use Rattle.desk_script.specs.Reply.{Reply}
@@ -22,16 +22,16 @@ Turn old new before after lines = (replies : List Reply) × Script old lines rep
 abbrev pub WritesFront : Option (List ℕ) → Option (List ℕ) → List ℕ → Type 0
 WritesFront before after text = (done : List ℕ) × (rest : List ℕ) × Appends before after done × (text ≡ done ++ rest)
 
--- lines from the front were answered, and a front of their answers was written
-abbrev pub Fronts : Desk → Option (List ℕ) → Option (List ℕ) → List Line → Type 0
-Fronts old before after lines =
-    (front tail : List Line) × (lines ≡ front ++ tail) × (new : Desk) × (replies : List Reply) × Script old front replies new
+-- lines from the front were answered, with no more failures than at last, and a front of their answers was written
+abbrev pub Fronts : Desk → ℕ → Option (List ℕ) → Option (List ℕ) → List Line → Type 0
+Fronts old last before after lines =
+    (front tail : List Line) × (lines ≡ front ++ tail) × (new : Desk) × (new.failures ≤ last) × (replies : List Reply) × Script old front replies new
     × WritesFront before after (output replies)
 
 -- a whole run over these bytes
 abbrev pub Answers : Desk → Desk → List ℕ → Option (List ℕ) → Option (List ℕ) → Type 0
 Answers old new input before after = Turn old new before after (lines input)
 
--- a run over these bytes that stopped
-abbrev pub AnswersFront : Desk → List ℕ → Option (List ℕ) → Option (List ℕ) → Type 0
-AnswersFront old input before after = Fronts old before after (lines input)
+-- a run over these bytes that stopped, where the device had failed so often at last
+abbrev pub AnswersFront : Desk → ℕ → List ℕ → Option (List ℕ) → Option (List ℕ) → Type 0
+AnswersFront old last input before after = Fronts old last before after (lines input)

@@ -27,10 +27,11 @@ abbrev pub IsStart : (Result (List ℕ) FileRefusal → Type 0) → ℕ → ℕ 
 IsStart Gives failures n start =
     (read : Result (List ℕ) FileRefusal) × Gives read × (ops : List Op) × Stores read ops × (start.sites ≡ one_site n ops) × (failures ≤ start.failures)
 
--- a whole run over these bytes, from the stored operations
-abbrev pub AnswersStored : (Result (List ℕ) FileRefusal → Type 0) → ℕ → ℕ → List ℕ → Option (List ℕ) → Option (List ℕ) → Type 0
-AnswersStored Gives failures n input before after = (start : Desk) × IsStart Gives failures n start × (new : Desk) × Turn start new before after (lines input)
+-- a whole run over these bytes, from the stored operations, by the device's counts before it and at last
+abbrev pub AnswersStored : (Result (List ℕ) FileRefusal → Type 0) → ℕ → ℕ → ℕ → List ℕ → Option (List ℕ) → Option (List ℕ) → Type 0
+AnswersStored Gives first last n input before after =
+    (start : Desk) × IsStart Gives first n start × (new : Desk) × (new.failures ≤ last) × Turn start new before after (lines input)
 
 -- a run that stopped: nothing was written, or a front of the answers
-abbrev pub AnswersStoredFront : (Result (List ℕ) FileRefusal → Type 0) → ℕ → ℕ → List ℕ → Option (List ℕ) → Option (List ℕ) → Type 0
-AnswersStoredFront Gives failures n input before after = (after ≡ before) ⊎ ((start : Desk) × IsStart Gives failures n start × Fronts start before after (lines input))
+abbrev pub AnswersStoredFront : (Result (List ℕ) FileRefusal → Type 0) → ℕ → ℕ → ℕ → List ℕ → Option (List ℕ) → Option (List ℕ) → Type 0
+AnswersStoredFront Gives first last n input before after = (after ≡ before) ⊎ ((start : Desk) × IsStart Gives first n start × Fronts start last before after (lines input))

@@ -1,6 +1,7 @@
 //! A script on the feed of a file.
 
-ghost use Rattle.std.specs.Prelude.{◌≡◌, ◌≤◌, ℕ, All, IfErr, IfOk, IfSome, IsErrOf, List, Ok, OnErr, OnOk, Result};
+ghost use Rattle.std.specs.Prelude.{◌≡◌, ◌≤◌, ℕ, All, IfErr, IfOk, IfSome, IsErrOf, List, Ok, OnErr, OnOk, Result, is_some, true};
+ghost use Rattle.std.specs.FinMap as fin;
 ghost use Rattle.desk_ops.specs.Op.{IsLawful};
 ghost use Rattle.desk_codec.specs.Feed.{IsFeed};
 ghost use Rattle.desk_script.specs.Faults.{IsCrowded, IsOfFeed, IsOfStoring, IsUnopened};
@@ -92,7 +93,7 @@ fn opened<F: Files, A: Allocator + Copy>(
     }
 }
 
-/// Stores a site's feed, if the site is there.
+/// Stores a site's feed. No event takes a site away: where it is not there nothing is stored, and that is no success.
 fn keep_feed<F: Files, A: Allocator + Copy>(
     alloc: A,
     world: &World<A>,
@@ -100,11 +101,12 @@ fn keep_feed<F: Files, A: Allocator + Copy>(
     name: &str,
     site: u16,
 ) -> Result<(), RunFault>
+    ensures there { IfOk result (λ _. is_some (fin.get world.now site) ≡ true) }
     ensures own { IfErr result (IsOfStoring (F.count files.old) (F.count files.new)) }
     ensures counted { F.count files.old ≤ F.count files.new }
 {
     let Some(replica) = world.replica(site) else {
-        return Ok(());
+        return Err(RunFault::NoMemory);
     };
     let Ok(feed) = replica.write_feed() else {
         return Err(RunFault::NoMemory);
@@ -131,9 +133,9 @@ pub fn run_on_feed<R: Read, W: Write, F: Files, A: Allocator + Copy>(
     site: u16,
 ) -> Result<(), RunFault>
     requires { 1 ≤ site }
-    ensures ok { OnOk result (IfSome (R.remaining reader.old) (λ input. AnswersStored (F.gives files.old name.now) (F.count files.old) site input (W.contents writer.old) (W.contents writer.new))) }
-    ensures err { OnErr result (IfSome (R.remaining reader.old) (λ input. AnswersStoredFront (F.gives files.old name.now) (F.count files.old) site input (W.contents writer.old) (W.contents writer.new))) }
-    ensures feed { IfErr result (IsOfFeed (F.gives files.old name.now)) }
+    ensures ok { OnOk result (IfSome (R.remaining reader.old) (λ input. AnswersStored (F.gives files.old name.now) (F.count files.old) (F.count files.new) site input (W.contents writer.old) (W.contents writer.new))) }
+    ensures err { OnErr result (IfSome (R.remaining reader.old) (λ input. AnswersStoredFront (F.gives files.old name.now) (F.count files.old) (F.count files.new) site input (W.contents writer.old) (W.contents writer.new))) }
+    ensures feed { IfErr result (IsOfFeed (F.gives files.old name.now) (IfSome (R.remaining reader.old) (λ input. AnswersStored (F.gives files.old name.now) (F.count files.old) (F.count files.new) site input (W.contents writer.old) (W.contents writer.new))) (F.count files.old) (F.count files.new)) }
     ensures device { IsErrOf result (RunFault.File FileRefusal.Device) → HasFailed (F.count files.old) (F.count files.new) }
 {
     let mut world = match opened(alloc, files, name, site) {

@@ -1,7 +1,7 @@
 //! Files by name.
 
-ghost use Rattle.std.specs.Prelude.{◌≢◌, ◌≤◌, ℕ, List, Err, IfErr, IsErrOf, Result, ◌≡◌};
-ghost use Rattle.desk_script.specs.Files.{HasFailed, bytes_read};
+ghost use Rattle.std.specs.Prelude.{◌≢◌, ◌≤◌, ℕ, List, Err, IfErr, IfOk, IsErrOf, Result, ◌≡◌, length};
+ghost use Rattle.desk_script.specs.Files.{HasFailed, bytes_read, max_file};
 
 use std::alloc::Allocator;
 use thiserror::Error;
@@ -39,10 +39,12 @@ pub trait Files {
     fn failures(&self) -> u64
         ensures { result ≡ count self.now };
 
-    /// A file's bytes. `Device` comes only where the device failed in this call, by the count while it can rise.
+    /// A file's bytes, `MAX_FILE` at most. `Device` comes only where the device failed in this call, by the count while it
+    /// can rise.
     fn read<A: Allocator + Copy>(&mut self, alloc: A, name: &str) -> Result<Vec<u8, A>, FileRefusal>
         ensures device { IsErrOf result FileRefusal.Device → HasFailed (count self.old) (count self.new) }
         ensures counted { count self.old ≤ count self.new }
+        ensures within { IfOk result (λ v. length v.items ≤ max_file) }
         ensures given { gives self.old name.now (bytes_read (λ v. v.items) result) };
 
     /// Writes a file anew. `Device` comes as from `read`, and `Large` never.

@@ -2,7 +2,7 @@
 
 use crate::trial::TrialReader;
 use crate::worked::script;
-use crate::{FileRefusal, Files, RunFault, run};
+use crate::{FileRefusal, Files, MAX_FILE, RunFault, run};
 use std::alloc::{Allocator, Global};
 use std::test::Fail;
 
@@ -66,6 +66,9 @@ impl Files for Shelf {
         let mut bytes = Vec::new(alloc);
         if bytes.extend_from_slice(front).is_err() || bytes.extend_from_slice(back).is_err() {
             return Err(FileRefusal::NoMemory);
+        }
+        if bytes.len() > MAX_FILE {
+            return Err(FileRefusal::Large);
         }
         Ok(bytes)
     }

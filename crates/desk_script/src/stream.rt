@@ -77,7 +77,7 @@ fn take_line<W: Write, F: Files, A: Allocator + Copy>(
     line: &[u8],
 ) -> Result<(), RunFault>
     ensures ok { OnOk result (Turn (desk world.old (F.count files.old)) (desk world.new (F.count files.new)) (W.contents writer.old) (W.contents writer.new) (line_of line.now ∷ [])) }
-    ensures err { OnErr result ((more : List Line) → Fronts (desk world.old (F.count files.old)) (W.contents writer.old) (W.contents writer.new) (line_of line.now ∷ more)) }
+    ensures err { OnErr result ((more : List Line) → Fronts (desk world.old (F.count files.old)) (F.count files.new) (W.contents writer.old) (W.contents writer.new) (line_of line.now ∷ more)) }
     ensures counted { F.count files.old ≤ F.count files.new }
     ensures own { IfErr result IsOfRun }
 {
@@ -128,7 +128,7 @@ fn take_byte<W: Write, F: Files, A: Allocator + Copy>(
     requires { length line.old.items ≤ PENDING_LIMIT }
     ensures kept { length line.new.items ≤ PENDING_LIMIT }
     ensures ok { OnOk result (Moves (desk world.old (F.count files.old)) (desk world.new (F.count files.new)) (W.contents writer.old) (W.contents writer.new) line.old.items (byte ∷ []) line.new.items) }
-    ensures err { OnErr result ((more : List ℕ) → Fronts (desk world.old (F.count files.old)) (W.contents writer.old) (W.contents writer.new) (lines_from line.old.items (byte ∷ more))) }
+    ensures err { OnErr result ((more : List ℕ) → Fronts (desk world.old (F.count files.old)) (F.count files.new) (W.contents writer.old) (W.contents writer.new) (lines_from line.old.items (byte ∷ more))) }
     ensures counted { F.count files.old ≤ F.count files.new }
     ensures own { IfErr result IsOfRun }
 {
@@ -154,7 +154,7 @@ fn take_bytes<W: Write, F: Files, A: Allocator + Copy>(
     requires { length line.old.items ≤ PENDING_LIMIT }
     ensures kept { length line.new.items ≤ PENDING_LIMIT }
     ensures ok { OnOk result (Moves (desk world.old (F.count files.old)) (desk world.new (F.count files.new)) (W.contents writer.old) (W.contents writer.new) line.old.items bytes.now line.new.items) }
-    ensures err { OnErr result ((more : List ℕ) → Fronts (desk world.old (F.count files.old)) (W.contents writer.old) (W.contents writer.new) (lines_from line.old.items (bytes.now ++ more))) }
+    ensures err { OnErr result ((more : List ℕ) → Fronts (desk world.old (F.count files.old)) (F.count files.new) (W.contents writer.old) (W.contents writer.new) (lines_from line.old.items (bytes.now ++ more))) }
     ensures counted { F.count files.old ≤ F.count files.new }
     ensures own { IfErr result IsOfRun }
 {
@@ -175,7 +175,7 @@ fn finish<W: Write, F: Files, A: Allocator + Copy>(
     line: &[u8],
 ) -> Result<(), RunFault>
     ensures ok { OnOk result (Turn (desk world.old (F.count files.old)) (desk world.new (F.count files.new)) (W.contents writer.old) (W.contents writer.new) (last_line line.now)) }
-    ensures err { OnErr result (Fronts (desk world.old (F.count files.old)) (W.contents writer.old) (W.contents writer.new) (last_line line.now)) }
+    ensures err { OnErr result (Fronts (desk world.old (F.count files.old)) (F.count files.new) (W.contents writer.old) (W.contents writer.new) (last_line line.now)) }
     ensures counted { F.count files.old ≤ F.count files.new }
     ensures own { IfErr result IsOfRun }
 {
@@ -195,7 +195,7 @@ pub fn answer_all<R: Read, W: Write, F: Files, A: Allocator + Copy>(
     files: &mut F,
 ) -> Result<(), RunFault>
     ensures ok { OnOk result (IfSome (R.remaining reader.old) (λ input. Answers (desk world.old (F.count files.old)) (desk world.new (F.count files.new)) input (W.contents writer.old) (W.contents writer.new))) }
-    ensures err { OnErr result (IfSome (R.remaining reader.old) (λ input. AnswersFront (desk world.old (F.count files.old)) input (W.contents writer.old) (W.contents writer.new))) }
+    ensures err { OnErr result (IfSome (R.remaining reader.old) (λ input. AnswersFront (desk world.old (F.count files.old)) (F.count files.new) input (W.contents writer.old) (W.contents writer.new))) }
     ensures counted { F.count files.old ≤ F.count files.new }
     ensures own { IfErr result IsOfRun }
 {
@@ -228,7 +228,7 @@ pub fn run<R: Read, W: Write, F: Files, A: Allocator + Copy>(
     files: &mut F,
 ) -> Result<(), RunFault>
     ensures ok { OnOk result (IfSome (R.remaining reader.old) (λ input. (new : Sites) × Answers (desk no_sites (F.count files.old)) (desk new (F.count files.new)) input (W.contents writer.old) (W.contents writer.new))) }
-    ensures err { OnErr result (IfSome (R.remaining reader.old) (λ input. AnswersFront (desk no_sites (F.count files.old)) input (W.contents writer.old) (W.contents writer.new))) }
+    ensures err { OnErr result (IfSome (R.remaining reader.old) (λ input. AnswersFront (desk no_sites (F.count files.old)) (F.count files.new) input (W.contents writer.old) (W.contents writer.new))) }
     ensures counted { F.count files.old ≤ F.count files.new }
     ensures own { IfErr result IsOfRun }
 {

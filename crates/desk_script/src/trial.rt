@@ -1,7 +1,7 @@
 //! A reader, a writer and files in memory, which fail where they are told to. For tests.
 
-ghost use Rattle.std.specs.Prelude.{◌≡◌, ◌≤◌, ◌<◌, ◌≢◌, IfErr, IfSome, IsTrue, Some, length};
-ghost use Rattle.desk_script.specs.Files.{HasFailed};
+ghost use Rattle.std.specs.Prelude.{◌≡◌, ◌≤◌, ◌<◌, ◌≢◌, IfErr, IfOk, IfSome, IsTrue, Some, length};
+ghost use Rattle.desk_script.specs.Files.{HasFailed, max_file};
 
 use crate::files::{FileRefusal, Files, MAX_FILE};
 use std::alloc::{AllocError, Allocator};
@@ -258,9 +258,6 @@ impl<A: Allocator + Copy> Files for TrialFiles<A> {
         let Some(bytes) = self.bytes_of(name) else {
             return Err(FileRefusal::Missing);
         };
-        if bytes.len() > MAX_FILE {
-            return Err(FileRefusal::Large);
-        }
         copied(alloc, bytes)
     }
 
@@ -282,9 +279,14 @@ impl<A: Allocator + Copy> Files for TrialFiles<A> {
     }
 }
 
+/// A file's bytes, or `Large`.
 fn copied<A: Allocator + Copy>(alloc: A, bytes: &[u8]) -> Result<Vec<u8, A>, FileRefusal>
-    ensures { IfErr result (λ e. e ≡ FileRefusal.NoMemory) }
+    ensures within { IfOk result (λ v. length v.items ≤ max_file) }
+    ensures device { IfErr result (λ e. e ≢ FileRefusal.Device) }
 {
+    if bytes.len() > MAX_FILE {
+        return Err(FileRefusal::Large);
+    }
     let mut kept = Vec::new(alloc);
     match kept.extend_from_slice(bytes) {
         Ok(()) => Ok(kept),

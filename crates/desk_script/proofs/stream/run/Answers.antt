@@ -9,4 +9,4 @@ returns-clause-ok g c =
 
 pub returns-clause-err : goal.returns-clause-err
 returns-clause-err g c =
-    on_err_weaker c.answer_all.result (run_front c.new-world.result no_sites (g.F.Files.count c.args.files.now) (g.R.Read.remaining c.args.reader.now) _ _ c.new-world.ensures) c.answer_all.ensures.err
+    on_err_weaker c.answer_all.result (run_front c.new-world.result no_sites (g.F.Files.count c.args.files.now) (g.F.Files.count c.answer_all.new.files) (g.R.Read.remaining c.args.reader.now) _ _ c.new-world.ensures) c.answer_all.ensures.err

@@ -1,4 +1,4 @@
-use Rattle.std.proofs.Common.{◌∷◌, [], ap, ◌∙◌, eq-eqb}
+use Rattle.std.proofs.Common.{le_refl, ◌∷◌, [], ap, ◌∙◌, eq-eqb}
 use Rattle.std.proofs.lemmas.Result.{on_ok_weaker}
 use Rattle.desk_script.specs.Lines.{without_cr, line_of}
 use Rattle.desk_script.proofs.Turns.{no_front, no_turn}
@@ -10,11 +10,11 @@ pub returns-then-byte-ne10-clause-ok : goal.returns-then-byte-ne10-clause-ok
 returns-then-byte-ne10-clause-ok g c = on_ok_weaker c.keep.result (λ same. ([], no_turn _ _, same)) c.keep.ensures.ok
 
 pub returns-then-byte-ne10-clause-err : goal.returns-then-byte-ne10-clause-err
-returns-then-byte-ne10-clause-err g c = on_err c.keep.result (λ more. no_front _ _ _)
+returns-then-byte-ne10-clause-err g c = on_err c.keep.result (λ more. no_front _ _ _ _ (le_refl _))
 
 pub returns-in-Err-clause-err : goal.returns-in-Err-clause-err
 returns-in-Err-clause-err g c more =
-    line_fronts _ _ _ c.without_cr.result.now c.args.line.now.items more c.args.byte (eq-eqb c.args.byte 10 c.if-byte-ne10.false) (c.without_cr.ensures ∙ ap without_cr c.deref.ensures.value) c.in-Err.ensures.err
+    line_fronts _ _ _ _ c.without_cr.result.now c.args.line.now.items more c.args.byte (eq-eqb c.args.byte 10 c.if-byte-ne10.false) (c.without_cr.ensures ∙ ap without_cr c.deref.ensures.value) c.in-Err.ensures.err
 
 pub returns-clause-ok : goal.returns-clause-ok
 returns-clause-ok g c = (

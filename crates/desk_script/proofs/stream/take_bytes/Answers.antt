@@ -12,9 +12,9 @@ returns-in-Err-clause-err g c more =
     let i : ℕ = c.loop-b.b-index in
     let lt : i < length c.args.bytes.now = c.loop-b-test.true in
     let step : drop i c.args.bytes.now ≡ get_or c.args.bytes.now i 0 ∷ drop (i + 1) c.args.bytes.now = rw (add-one, drop-cons c.args.bytes.now i 0) refl in
-    subst (Fronts (desk c.args.world.now (g.F.Files.count c.args.files.now)) (g.W.Write.contents c.args.writer.now) (g.W.Write.contents c.take_byte.new.writer))
+    subst (Fronts (desk c.args.world.now (g.F.Files.count c.args.files.now)) (g.F.Files.count c.take_byte.new.files) (g.W.Write.contents c.args.writer.now) (g.W.Write.contents c.take_byte.new.writer))
     (sym (c.loop-b.invariant.moves.2 more ∙ ap (λ l. c.loop-b.invariant.moves.0 ++ lines_from c.loop-b.line.items (l ++ more)) step))
-    (turn_front _ (desk c.loop-b.world (g.F.Files.count c.loop-b.files)) _ (g.W.Write.contents c.loop-b.writer) _ c.loop-b.invariant.moves.0 _ c.loop-b.invariant.moves.1 (c.in-Err.ensures.err (drop (i + 1) c.args.bytes.now ++ more)))
+    (turn_front _ (desk c.loop-b.world (g.F.Files.count c.loop-b.files)) _ _ (g.W.Write.contents c.loop-b.writer) _ c.loop-b.invariant.moves.0 _ c.loop-b.invariant.moves.1 (c.in-Err.ensures.err (drop (i + 1) c.args.bytes.now ++ more)))
 
 pub loop-b-preserved : goal.loop-b-preserved
 loop-b-preserved g c =
