@@ -1,6 +1,10 @@
+ghost use Rattle.std.specs.Prelude.{IfOk, All};
+ghost use Rattle.desk_ops.specs.Op.{IsLawful};
+
 mod copies;
 mod edits;
 mod faults;
+mod full;
 mod growths;
 mod orders;
 mod sets;
@@ -8,6 +12,7 @@ mod settings;
 
 use super::*;
 use desk_ops::Style;
+use std::alloc::Global;
 use std::test::Fail;
 
 fn at(counter: u64, site: u16) -> Stamp {
@@ -62,6 +67,19 @@ fn arrivals() -> [Op; 5] {
         typed(at(2, 1), at(1, 1), 'b'),
         typed(at(4, 3), Stamp::HEAD, 'z'),
     ]
+}
+
+/// The lawful ones of the operations.
+fn lawful(alloc: Global, ops: &[Op]) -> Result<Vec<Op, Global>, NoMemory>
+    ensures { IfOk result (λ v. All IsLawful v.items) }
+{
+    let mut list = Vec::new(alloc);
+    for op in ops {
+        if op.check().is_ok() {
+            list.push(*op)?;
+        }
+    }
+    Ok(list)
 }
 
 /// Takes in an operation, where it is lawful.

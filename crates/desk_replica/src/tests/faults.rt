@@ -15,7 +15,7 @@ pub fn void(stamp: Stamp) -> CopyFault {
     }
 }
 
-fn waiting(stamp: Stamp) -> CopyFault {
+pub fn waiting(stamp: Stamp) -> CopyFault {
     CopyFault {
         stamp,
         kind: FaultKind::Waiting,

@@ -1,19 +1,29 @@
 use super::edits::ab;
 use super::*;
 
+/// The operations of `ab`.
+pub fn both() -> [Op; 2] {
+    [
+        typed(at(1, 1), Stamp::HEAD, 'a'),
+        typed(at(2, 1), at(1, 1), 'b'),
+    ]
+}
+
+/// Their feed.
+pub const FEED_AB: [u8; 56] = [
+    0x4d, 0x46, 0x44, 0x31, 1, 0, 0, 0, 0, 0, 0, 0, 1, 0, 1, 0, 0, 0, 0, 0, 0, 0, 0, 0, 0, 0, 0, 0,
+    0, 0x61, 1, 0, 0, 0, 0, 0, 0, 0, 2, 0, 1, 0, 0, 0, 0, 0, 0, 0, 1, 0, 1, 0, 0, 0, 0, 0x62,
+];
+
 #[test]
 fn two_sites_show_ab(rt: HostRuntime) -> Result<(), Fail> {
     let one = ab(rt.alloc())?;
     let ops = one.in_order()?;
-    let both = [
-        typed(at(1, 1), Stamp::HEAD, 'a'),
-        typed(at(2, 1), at(1, 1), 'b'),
-    ];
-    assert_eq!(rt; ops.as_slice(), both.as_slice());
+    assert_eq!(rt; ops.as_slice(), both().as_slice());
     let mut two = Replica::new(rt.alloc(), 2);
     assert_eq!(rt; two.take_all(&ops)?, Count { new: 2, known: 0 });
     assert!(rt; shows(&two, &['a', 'b'])?);
-    assert_eq!(rt; two.write_feed()?.len(), 56);
+    assert_eq!(rt; two.write_feed()?.as_slice(), FEED_AB.as_slice());
     assert_eq!(rt; two.take_all(&ops)?, Count { new: 0, known: 2 });
     Ok(())
 }
