@@ -1,11 +1,12 @@
 //! The lines of a copy: their faults, or their rows.
 
-ghost use Rattle.std.specs.Prelude.{◌≡◌, ◌+◌, ◌≤◌, ◌<◌, ◌^◌, ◌∷◌, [], ◌-◌, ◌||◌, ◌==◌, length, drop, All, OnOk, IfOk, IfErr};
+ghost use Rattle.std.specs.Prelude.{◌≡◌, ◌+◌, ◌≤◌, ◌<◌, ◌^◌, ◌∷◌, [], ◌-◌, ◌||◌, ◌==◌, length, drop, All, Err, OnOk, IfOk, IfErr};
 ghost use Rattle.desk_lines.specs.Words.{is_line_feed, is_space};
 ghost use Rattle.desk_ribbon.specs.Ribbon.{head_row, ribbon};
 ghost use Rattle.desk_job.specs.Answer.{IsMade, IsRefused, TellsThese, set_copy};
 ghost use Rattle.desk_lines.specs.Groups.{AreWidths};
 ghost use Rattle.desk_job.specs.Job as job;
+ghost use Rattle.desk_job.specs.declared.JobRefusal.TheVariants as refusal;
 ghost use Rattle.desk_job.specs.Setting.{IsWord, line_at, words_at};
 ghost use Rattle.desk_job.specs.Making.{Adds, AreWordsOf, HasRoom, IsRange, all_lines, lines_at, paragraph_lines};
 
@@ -172,10 +173,11 @@ impl<A: Allocator + Copy> Making<A> {
         Ok(())
     }
 
-    /// The ribbon, or the faults found.
+    /// The ribbon, or the faults found. Want of memory is told of a ribbon alone.
     fn finish(self) -> Result<Vec<u8, A>, JobRefusal<A>>
         ensures ok { IfOk result (λ bytes. (self.faults ≡ []) × (bytes.items ≡ ribbon (head_row ∷ self.rows))) }
-        ensures err { IfErr result (λ refusal. TellsThese refusal self.faults) }
+        ensures err { IfErr result (λ told. TellsThese told self.faults) }
+        ensures memory { result ≡ Err refusal.NoMemory → self.faults ≡ [] }
     {
         let Making { faults, ribbon, .. } = self;
         if faults.is_empty() {

@@ -47,6 +47,7 @@ pub enum JobFault {
 
 /// Faults, in their order.
 #[derive(Drop)]
+#[derive_where(Debug)]
 pub struct JobFaults<A: Allocator> {
     faults: Vec<JobFault, A>,
 }
@@ -58,6 +59,27 @@ impl<A: Allocator> Model for JobFaults<A> {
     ghost Value = { List JobFault };
 
     ghost view = { λ f. f.faults.items };
+}
+
+impl<A: Allocator> PartialEq for JobFaults<A> {
+    ghost use Rattle.std.specs.Cmp.Lexicographic.{lists_per, pointwise};
+    ghost use Rattle.desk_job.specs.contracts.JobFaultPartialEq.TheImpl as fault;
+    ghost use Rattle.desk_job.specs.contracts.JobFaultPartialEq.TheImpl.Laws.{laws-law};
+
+    ghost eq = { pointwise (fault.ghosts).eq };
+
+    ghost laws = { lists_per laws-law };
+
+    fn eq(&self, other: &Self) -> bool {
+        self.faults == other.faults
+    }
+}
+
+impl<A: Allocator> Eq for JobFaults<A> {
+    ghost use Rattle.std.specs.Cmp.Lexicographic.{lists_equiv};
+    ghost use Rattle.desk_job.specs.contracts.JobFaultEq.TheImpl.Laws.{laws-law};
+
+    ghost laws = { lists_equiv laws-law };
 }
 
 impl<A: Allocator> JobFaults<A> {
@@ -78,6 +100,7 @@ impl<A: Allocator> JobFaults<A> {
 
 /// Why no ribbon was made: the faults of the job, or want of memory.
 #[derive(Drop)]
+#[derive_where(PartialEq, Eq, Debug)]
 pub enum JobRefusal<A: Allocator> {
     Faults(JobFaults<A>),
     NoMemory,
