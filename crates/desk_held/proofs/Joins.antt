@@ -1,6 +1,6 @@
 -- Two lists joined: whichever comes first, the set is that of both.
 use Rattle.std.proofs.Common.{◌≡◌, ℕ, suc, ◌<◌, List, [], ◌∷◌, length, take, get_or, refl, sym, ap, ◌∙◌, subst, inl, inr, arith}
-use Rattle.std.specs.Prelude.{All, ◌+◌}
+use Rattle.std.specs.Prelude.{All, ◌+◌, ◌≤◌}
 use Rattle.desk_ops.specs.declared.op.Op.{Op}
 use Rattle.desk_ops.specs.Op.{IsLawful}
 use Rattle.desk_ops.specs.OpSet.{OpSet, no_ops, with_op, with_all, in_order}
@@ -52,3 +52,8 @@ of_none h = union-comm no_ops h ∙ ap (with_all h) no_ops-in_order
 pub gained-more : (old now after : OpSet) (ops : List Op) (i : ℕ) (op : Op) → i < length ops → op ≡ get_or ops i op → now ≡ with_all old (take i ops) → after ≡ with_op now op → after ≡ with_all old (take (i + 1) ops)
 gained-more old now after ops i op lt at e f =
     f ∙ ap (λ h. with_op h op) e ∙ ap (with_op (with_all old (take i ops))) at ∙ sym (with_all-take old ops i op lt)
+
+-- what was gained of a list, and that each addition took at most one place
+pub record IsGained (old now : OpSet) (old_spare now_spare : ℕ) (ops : List Op) (i : ℕ) : Type 0 where
+  pub whole : now ≡ with_all old (take i ops)
+  pub room : old_spare ≤ now_spare + i

@@ -1,5 +1,5 @@
 //! Lists of operations added at once: two rows joined in one pass.
-ghost use Rattle.std.specs.Prelude.{◌≡◌, [], All, IfSome, IfErr, OnOk, MatchOption};
+ghost use Rattle.std.specs.Prelude.{◌≡◌, ◌≤◌, [], All, IfSome, IfErr, OnOk, MatchOption};
 ghost use Rattle.desk_ops.specs.Op.{IsLawful};
 ghost use Rattle.desk_ops.specs.OpSet.{no_ops, with_all};
 ghost use Rattle.desk_held.specs.Joining.{IsNextOf, IsHalted};
@@ -66,12 +66,14 @@ fn joined<A: Allocator + Copy>(alloc: A, first: &[Op], second: &[Op]) -> Option<
 
 impl<A: Allocator + Copy> Held<A> {
     /// Adds the operations of a list, one after the other, up to the first that is refused: `Full` comes exactly where
-    /// 1,048,576 operations are held and the next is not among them. A long list that rises, as a feed or a replica
-    /// gives it, is joined to what is held in one pass, where memory for both allows it.
+    /// 1,048,576 operations are held and the next is not among them; want of memory only after as many additions as
+    /// there was room for. A long list that rises, as a feed or a replica gives it, is joined to what is held in one
+    /// pass, where memory for both allows it.
     pub fn add_all(&mut self, ops: &[Op]) -> Result<(), Halt>
         requires { All IsLawful ops.now }
         ensures ok { OnOk result (self.new.ops ≡ with_all self.old.ops ops.now) }
         ensures err { IfErr result (λ halt. IsHalted self.old.ops self.new.ops ops.now halt) }
+        ensures memory { IfErr result (λ halt. halt.why ≡ AddRefusal.NoMemory → self.old.spare ≤ halt.added) }
     {
         if ops.len() >= MANY {
             if let Some(joined) = joined(*self.ops.allocator(), self.as_slice(), ops) {
@@ -87,6 +89,7 @@ impl<A: Allocator + Copy> Held<A> {
         requires { All IsLawful ops.now }
         ensures ok { OnOk result (self.new.ops ≡ with_all self.old.ops ops.now) }
         ensures err { IfErr result (λ halt. IsHalted self.old.ops self.new.ops ops.now halt) }
+        ensures memory { IfErr result (λ halt. halt.why ≡ AddRefusal.NoMemory → self.old.spare ≤ halt.added) }
     {
         for (added, op) in ops.iter().enumerate() {
             if let Err(why) = self.add(*op) {
