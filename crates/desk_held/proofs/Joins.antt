@@ -65,31 +65,31 @@ pub with_all-permutation : (h : OpSet) (os ps : List Op) → IsPermutation os ps
 with_all-permutation h os ps m = same-set (with_all h os) (with_all h ps)
     (λ q. has_op-with_all h os q ∙ ap (λ b. b || has_op h q) (list_any-IsPermutation (eq_by_cmp op_cmp q) os ps m) ∙ sym (has_op-with_all h ps q))
 
--- more of a list, behind what was gained of it
-pub record IsGained (old now : OpSet) (ops : List Op) (i : ℕ) : Type 0 where
-  pub gained : now ≡ with_all old (take i ops)
-  pub inside : i ≤ length ops
-
-pub gained-none : (old : OpSet) (ops : List Op) → IsGained old old ops 0
-gained-none old ops = record { gained = refl; inside = omega arith }
+-- what was gained of a list, and that each addition took at most one place
+pub record IsGained (old now : OpSet) (old_spare now_spare : ℕ) (ops : List Op) (i : ℕ) : Type 0 where
+  pub whole : now ≡ with_all old (take i ops)
+  pub room : old_spare ≤ now_spare + i
 
 with_all-add : (old : OpSet) (ops : List Op) (i n : ℕ) → with_all (with_all old (take i ops)) (take n (drop i ops)) ≡ with_all old (take (i + n) ops)
 with_all-add old ops i n = sym (with_all-append old (take i ops) (take n (drop i ops))) ∙ ap (with_all old) (sym (take-add i n ops))
 
-pub gained-first : (old now after : OpSet) (ops : List Op) (i n : ℕ) → IsGained old now ops i → IsFirstJoined now after (drop i ops) n → IsGained old after ops (i + n)
-gained-first old now after ops i n g j = record {
-  gained = j.gained ∙ ap (λ h. with_all h (take n (drop i ops))) g.gained ∙ with_all-add old ops i n;
-  inside = let w = j.within in let l = g.inside in omega (arith, w, l, length-drop i ops);
+pub gained-first : (old now after : OpSet) (s t u : ℕ) (ops : List Op) (i n : ℕ) → IsGained old now s t ops i → IsFirstJoined now after (drop i ops) n → t ≤ u + n → IsGained old after s u ops (i + n)
+gained-first old now after s t u ops i n g j room = record {
+  whole = j.gained ∙ ap (λ h. with_all h (take n (drop i ops))) g.whole ∙ with_all-add old ops i n;
+  room = let r = g.room in omega (arith, r, room);
 }
 
-pub gained-all : (old now after : OpSet) (ops : List Op) (i : ℕ) → IsGained old now ops i → after ≡ with_all now (drop i ops) → after ≡ with_all old ops
-gained-all old now after ops i g e =
-    e ∙ ap (λ h. with_all h (drop i ops)) g.gained ∙ sym (with_all-append old (take i ops) (drop i ops)) ∙ ap (with_all old) (take-append-drop i ops)
+pub gained-inside : (now after : OpSet) (ops : List Op) (i n : ℕ) → i ≤ length ops → IsFirstJoined now after (drop i ops) n → i + n ≤ length ops
+gained-inside now after ops i n inside j = let w = j.within in omega (arith, w, inside, length-drop i ops)
 
-pub halted-later : (old now after : OpSet) (ops : List Op) (i : ℕ) (halt : Halt) → IsGained old now ops i → IsHalted now after (drop i ops) halt → IsHalted old after ops (record { added = i + halt.added; why = halt.why })
-halted-later old now after ops i halt g h = record {
-  gained = h.gained ∙ ap (λ x. with_all x (take halt.added (drop i ops))) g.gained ∙ with_all-add old ops i halt.added;
-  within = let w = h.within in let l = g.inside in omega (arith, w, l, length-drop i ops);
+pub gained-all : (old now after : OpSet) (s t : ℕ) (ops : List Op) (i : ℕ) → IsGained old now s t ops i → after ≡ with_all now (drop i ops) → after ≡ with_all old ops
+gained-all old now after s t ops i g e =
+    e ∙ ap (λ h. with_all h (drop i ops)) g.whole ∙ sym (with_all-append old (take i ops) (drop i ops)) ∙ ap (with_all old) (take-append-drop i ops)
+
+pub halted-later : (old now after : OpSet) (s t : ℕ) (ops : List Op) (i : ℕ) (halt : Halt) → i ≤ length ops → IsGained old now s t ops i → IsHalted now after (drop i ops) halt → IsHalted old after ops (record { added = i + halt.added; why = halt.why })
+halted-later old now after s t ops i halt inside g h = record {
+  gained = h.gained ∙ ap (λ x. with_all x (take halt.added (drop i ops))) g.whole ∙ with_all-add old ops i halt.added;
+  within = let w = h.within in omega (arith, w, inside, length-drop i ops);
   next = λ d. subst (λ p. has_op after p ≡ false) (get_or-drop i ops halt.added d) (h.next d);
   full = h.full;
 }

@@ -1,6 +1,6 @@
 -- Rows of operations that strictly rise, and the stamps that they bear.
 use Rattle.std.proofs.Common.{◌≡◌, ℕ, zero, suc, ◌-◌, ◌<◌, ◌≤◌, ◌⊎◌, inl, inr, Bool, true, false, List, [], ◌∷◌, length, take, drop, get_or, refl, sym, ap, subst, ◌∙◌, arith, length-drop}
-use Rattle.std.specs.Prelude.{T, Some, slice_get}
+use Rattle.std.specs.Prelude.{T, Some, None, slice_get}
 use Rattle.std.specs.Cmp.{second_so}
 use Rattle.std.specs.List.{list_any, filter, AllByRecursion, AllWithin}
 use Rattle.std.specs.List.Sorted.{IsPartitionedBy}
@@ -16,7 +16,7 @@ use Rattle.desk_ops.specs.declared.op.Op.{Op}
 use Rattle.desk_ops.specs.Op.{stamp_of}
 use Rattle.desk_ops.specs.Order.{op_cmp}
 use Rattle.desk_ops.specs.OpSet.{is_rising, entries_of}
-use Rattle.desk_ops.specs.Held.{bears, is_one, is_clear, is_borne, greatest_counter}
+use Rattle.desk_ops.specs.Held.{bears, bearing, sole, is_borne, greatest_counter}
 use Rattle.desk_ops.specs.Stamp.{same, before}
 use Rattle.desk_ops.specs.Lists.{Among}
 use Rattle.desk_ops.proofs.Stamps.{by_cases, same-true, before-trans, before-other}
@@ -113,17 +113,11 @@ last_greatest ops last rising e =
 
 -- ---- what the bearers say
 
-pub no-clear : (ops : List Op) (s : Stamp) → filter (bears s) ops ≡ [] → is_clear ops s ≡ false
-unfolding is_clear
-no-clear ops s e = ap is_one e
+pub none_sole : (ops : List Op) (s : Stamp) → filter (bears s) ops ≡ [] → None ≡ sole (bearing ops s)
+none_sole ops s e = ap sole (sym e)
 
-pub two-clear : (ops : List Op) (s : Stamp) (o p : Op) (rest : List Op) → filter (bears s) ops ≡ o ∷ p ∷ rest → is_clear ops s ≡ false
-unfolding is_clear
-two-clear ops s o p rest e = ap is_one e
-
-pub first_of_two : (ops row : List Op) (s : Stamp) (o p : Op) → filter (bears s) row ≡ filter (bears s) ops → IsFirstBearer s o row → IsFirstBearer s p (drop 1 row) → is_clear ops s ≡ false
-first_of_two ops row s o p e first second =
-    two-clear ops s o p (filter (bears s) (drop 1 (drop 1 row))) (sym e ∙ first.bearers ∙ ap (λ xs. o ∷ xs) second.bearers)
+pub two_sole : (ops row : List Op) (s : Stamp) (o p : Op) → filter (bears s) row ≡ filter (bears s) ops → IsFirstBearer s o row → IsFirstBearer s p (drop 1 row) → None ≡ sole (bearing ops s)
+two_sole ops row s o p e first second = ap sole (sym (sym e ∙ first.bearers ∙ ap (λ xs. o ∷ xs) second.bearers))
 
 pub borne-none : (ops row : List Op) (s : Stamp) → filter (bears s) row ≡ filter (bears s) ops → filter (bears s) row ≡ [] → false ≡ is_borne ops s
 unfolding is_borne

@@ -1,5 +1,5 @@
 //! Lists of operations added at once: sorted where they do not rise, and joined to what is held in one pass.
-ghost use Rattle.std.specs.Prelude.{◌≡◌, ◌≤◌, [], All, IfSome, IfErr, OnOk, MatchOption, length};
+ghost use Rattle.std.specs.Prelude.{◌≡◌, ◌+◌, ◌≤◌, [], All, IfSome, IfErr, OnOk, MatchOption, length};
 ghost use Rattle.desk_ops.specs.Op.{IsLawful};
 ghost use Rattle.desk_ops.specs.OpSet.{no_ops, with_all};
 ghost use Rattle.desk_held.specs.Joining.{IsNextOf, IsFirstJoined, IsHalted};
@@ -93,12 +93,14 @@ fn joined_in_order<A: Allocator + Copy>(alloc: A, first: &[Op], second: &[Op]) -
 
 impl<A: Allocator + Copy> Held<A> {
     /// Adds the operations of a list, one after the other, up to the first that is refused: `Full` comes exactly where
-    /// 1,048,576 operations are held and the next is not among them. Of a long list as many as there is room for are
-    /// joined to what is held at once, in order n log n, or n where they rise, where memory for both allows it.
+    /// 1,048,576 operations are held and the next is not among them; want of memory only after as many additions as
+    /// there was room for. Of a long list as many as there is surely room for below the limit are joined to what is held
+    /// at once, in order n log n, or n where they rise, where memory for both allows it.
     pub fn add_all(&mut self, ops: &[Op]) -> Result<(), Halt>
         requires { All IsLawful ops.now }
         ensures ok { OnOk result (self.new.ops ≡ with_all self.old.ops ops.now) }
         ensures err { IfErr result (λ halt. IsHalted self.old.ops self.new.ops ops.now halt) }
+        ensures memory { IfErr result (λ halt. halt.why ≡ AddRefusal.NoMemory → self.old.spare ≤ halt.added) }
     {
         let mut added = 0;
         while let Some(many) = self.add_many(&ops[added..]) {
@@ -129,16 +131,20 @@ impl<A: Allocator + Copy> Held<A> {
     /// memory does not allow it.
     fn add_many(&mut self, ops: &[Op]) -> Option<usize>
         requires { All IsLawful ops.now }
-        ensures { MatchOption result (self.new.ops ≡ self.old.ops) (λ n. IsFirstJoined self.old.ops self.new.ops ops.now n) }
+        ensures joined { MatchOption result (self.new.ops ≡ self.old.ops) (λ n. IsFirstJoined self.old.ops self.new.ops ops.now n) }
+        ensures room { MatchOption result (self.new.spare ≡ self.old.spare) (λ n. self.old.spare ≤ self.new.spare + n) }
     {
         let many = self.many(ops);
         if many == 0 {
             return None;
         }
-        let Some(joined) = joined_in_order(*self.ops.allocator(), self.as_slice(), &ops[..many])
+        let Some(mut joined) = joined_in_order(*self.ops.allocator(), self.as_slice(), &ops[..many])
         else {
             return None;
         };
+        if joined.reserve(self.spare()).is_err() {
+            return None;
+        }
         *self = joined;
         Some(many)
     }
@@ -148,6 +154,7 @@ impl<A: Allocator + Copy> Held<A> {
         requires { All IsLawful ops.now }
         ensures ok { OnOk result (self.new.ops ≡ with_all self.old.ops ops.now) }
         ensures err { IfErr result (λ halt. IsHalted self.old.ops self.new.ops ops.now halt) }
+        ensures memory { IfErr result (λ halt. halt.why ≡ AddRefusal.NoMemory → self.old.spare ≤ halt.added) }
     {
         for (added, op) in ops.iter().enumerate() {
             if let Err(why) = self.add(*op) {

@@ -1,10 +1,10 @@
 //! The operations that a replica holds: a finite set, kept in order.
 #![tactic(auto)]
 
-ghost use Rattle.std.specs.Prelude.{◌≡◌, ◌+◌, ◌≤◌, ◌<◌, ◌↔◌, ◌∷◌, [], IfOk, OnOk, OnErr, IsErrOf, IsOk, IsTrue, MatchOption, All, true, false};
+ghost use Rattle.std.specs.Prelude.{◌≡◌, ◌+◌, ◌≤◌, ◌<◌, ◌↔◌, IfOk, OnOk, OnErr, IsErrOf, IsOk, IsTrue, All, true, false};
 ghost use Rattle.desk_ops.specs.Op.{IsLawful};
 ghost use Rattle.desk_ops.specs.OpSet.{no_ops, has_op, with_op, in_order, size, AllLawful};
-ghost use Rattle.desk_ops.specs.Held.{bearers, is_borne_in, is_clear_in, greatest_counter_of};
+ghost use Rattle.desk_ops.specs.Held.{is_borne_in, is_clear_in, clear_op_in, greatest_counter_of};
 
 use desk_ops::{NoMemory, Op, Stamp};
 use std::alloc::Allocator;
@@ -150,13 +150,12 @@ impl<A: Allocator + Copy> Held<A> {
     /// The operation that bears the stamp, where exactly one does.
     #[tactic(auto, using(desk_ops::proofs::OpSets::op_sets))]
     pub fn clear_op(&self, stamp: Stamp) -> Option<Op>
-        ensures { MatchOption result (is_clear_in self.now.ops stamp ≡ false) (λ op. bearers self.now.ops stamp ≡ op ∷ []) }
+        ensures { result ≡ clear_op_in self.now.ops stamp }
     {
         row::sole_bearer(&self.ops, stamp)
     }
 
     /// Whether exactly one operation bears the stamp.
-    #[tactic(auto, unfolding(desk_ops::specs::Held::is_clear))]
     pub fn is_clear(&self, stamp: Stamp) -> bool
         ensures { result ≡ is_clear_in self.now.ops stamp }
     {

@@ -1,10 +1,10 @@
 //! Searches in a row of operations that strictly rise.
-ghost use Rattle.std.specs.Prelude.{◌≡◌, ◌≤◌, T, true, false, length, take, drop, is_none, MatchOption, [], ◌∷◌, IfSome};
+ghost use Rattle.std.specs.Prelude.{◌≡◌, ◌≤◌, T, true, false, length, take, drop, is_none, MatchOption, [], IfSome};
 ghost use Rattle.std.specs.List.{insert, filter, AllByRecursion};
 ghost use Rattle.desk_ops.specs.Op.{stamp_of};
 ghost use Rattle.desk_ops.specs.Stamp.{before};
 ghost use Rattle.desk_ops.specs.OpSet.{is_rising, from_rising, has_op, with_op};
-ghost use Rattle.desk_ops.specs.Held.{bears, is_borne, is_clear, bearing, greatest_counter};
+ghost use Rattle.desk_ops.specs.Held.{bears, is_borne, bearing, sole, greatest_counter};
 ghost use Rattle.desk_held.specs.Holding.{IsFirstBearer};
 
 use desk_ops::{Op, Stamp};
@@ -79,7 +79,7 @@ pub fn is_borne(ops: &[Op], stamp: Stamp) -> bool
 /// The operation that bears the stamp, where exactly one does.
 pub fn sole_bearer(ops: &[Op], stamp: Stamp) -> Option<Op>
     requires { T (is_rising ops.now) }
-    ensures { MatchOption result (is_clear ops.now stamp ≡ false) (λ op. bearing ops.now stamp ≡ op ∷ []) }
+    ensures { result ≡ sole (bearing ops.now stamp) }
 {
     let row = from(ops, stamp);
     match first_bearer(row, stamp) {

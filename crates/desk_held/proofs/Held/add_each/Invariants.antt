@@ -1,7 +1,6 @@
-use Rattle.std.proofs.Common.{◌≡◌, take}
-use Rattle.desk_ops.specs.OpSet.{with_all}
+use Rattle.desk_held.proofs.Joins.{IsGained}
 use Rattle.desk_held.proofs.Held.add_each.Given as goal
 
--- what was gained
+-- what was gained, and the room that is left
 abbrev pub invariant-loop-added : goal.invariant-loop-added
-invariant-loop-added g l = l.self.ops ≡ with_all l.initial.self.ops (take l.added l.ops)
+invariant-loop-added g l = IsGained l.initial.self.ops l.self.ops l.initial.self.spare l.self.spare l.ops l.added
