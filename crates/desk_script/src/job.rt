@@ -1,6 +1,9 @@
 //! The job of a site's copy: its ribbon, and the ribbon cast.
 
-ghost use Rattle.std.specs.Prelude.{◌≤◌, ◌≡◌, IfOk, MatchResult};
+ghost use Rattle.std.specs.Prelude.{◌≤◌, ◌≡◌, ◌<◌, ◌^◌, length, List, Ok, IfOk, MatchResult};
+ghost use Rattle.desk_signals.specs.declared.RibbonRow.{RibbonRow};
+ghost use Rattle.desk_caster.specs.Caster.{Line, cast};
+ghost use Rattle.desk_caster.specs.Reading.{IsRibbon};
 ghost use Rattle.desk_script.specs.Effect.{job_of, TellsRibbon, TellsCast, TellsLines, Performs};
 ghost use Rattle.desk_script.specs.Reply.{reply, Refused};
 ghost use Rattle.desk_script.specs.Request as requests;
@@ -13,10 +16,12 @@ use crate::memory::Memory;
 use crate::text::{Refusal, Response};
 use crate::world::World;
 use desk_case::MatrixCase;
-use desk_caster::{cast, read_ribbon};
+use desk_caster::laws::{ribbons_have_no_fault, ribbons_have_one_reading};
+use desk_caster::{CastFault, CastLine, RibbonFault, cast, read_ribbon};
 use desk_job::{JobRefusal, make};
 use desk_ops::NoMemory;
 use desk_replica::Replica;
+use desk_signals::RibbonRow;
 use desk_wedge::Wedge;
 use std::alloc::Allocator;
 
@@ -36,23 +41,55 @@ fn ribbon_of<A: Allocator + Copy>(
     }
 }
 
-/// The lines that a ribbon's bytes cast. A ribbon that was made is read and cast without a fault, so that every other
-/// answer of the two is want of memory.
+/// The rows of bytes that are a ribbon.
+fn rows_in<A: Allocator + Copy>(alloc: A, bytes: &[u8]) -> Result<Vec<RibbonRow, A>, NoMemory>
+    requires { (rows : List RibbonRow) × IsRibbon bytes.now rows }
+    ensures { IfOk result (λ rows. IsRibbon bytes.now rows.items) }
+{
+    ribbons_have_no_fault();
+    match read_ribbon(alloc, bytes) {
+        Ok(rows) => Ok(rows),
+        Err(RibbonFault::NoMemory) => Err(NoMemory),
+        Err(RibbonFault::Magic) => unreachable!(),
+        Err(RibbonFault::Count) => unreachable!(),
+        Err(RibbonFault::Row(_, _)) => unreachable!(),
+    }
+}
+
+/// The lines of rows that are cast without a fault.
+fn lines_in<A: Allocator + Copy>(
+    alloc: A,
+    rows: &[RibbonRow],
+    case: &MatrixCase,
+    wedge: &Wedge,
+) -> Result<Vec<CastLine<A>, A>, NoMemory>
+    requires number { length rows.now < 2 ^ 32 }
+    requires whole { (lines : List Line) × (cast case.now wedge.now rows.now ≡ Ok lines) }
+    ensures { IfOk result (λ lines. cast case.now wedge.now rows.now ≡ Ok lines.items) }
+{
+    match cast(alloc, rows, case, wedge) {
+        Ok(lines) => Ok(lines),
+        Err(CastFault::NoMemory) => Err(NoMemory),
+        Err(CastFault::NoWedges(_)) => unreachable!(),
+        Err(CastFault::NoMatrix(_)) => unreachable!(),
+        Err(CastFault::NotSentOut(_)) => unreachable!(),
+    }
+}
+
+/// The lines that a ribbon's bytes cast, where these are of a ribbon that is cast without a fault.
 fn cast_bytes<A: Allocator + Copy>(
     memory: Memory<A>,
     bytes: &[u8],
     case: &MatrixCase,
     wedge: &Wedge,
 ) -> Result<Response<A>, NoMemory>
+    requires { (rows : List RibbonRow) × IsRibbon bytes.now rows × ((lines : List Line) × (cast case.now wedge.now rows ≡ Ok lines)) }
     ensures { IfOk result (λ a. TellsCast case.now wedge.now bytes.now (reply a)) }
 {
-    let Ok(rows) = read_ribbon(memory.own, bytes) else {
-        return Err(NoMemory);
-    };
-    match cast(memory.own, &rows, case, wedge) {
-        Ok(lines) => Ok(Response::Lines(lines)),
-        Err(_) => Err(NoMemory),
-    }
+    ribbons_have_one_reading();
+    let rows = rows_in(memory.own, bytes)?;
+    let lines = lines_in(memory.own, &rows, case, wedge)?;
+    Ok(Response::Lines(lines))
 }
 
 /// The lines that the ribbon of a replica's copy casts, or the faults of its job.

@@ -1,9 +1,9 @@
 //! Scripts of jobs: ribbons, and what they cast.
 
-use crate::trial::TrialReader;
+use crate::trial::{TrialFiles, TrialReader};
 use crate::worked::script;
 use crate::{FileRefusal, Files, MAX_FILE, RunFault, run};
-use std::alloc::{Allocator, Global};
+use std::alloc::{AllocError, Allocator, Global};
 use std::test::Fail;
 
 const WEDGE: &[u8] =
@@ -317,6 +317,84 @@ fn refused_files(rt: HostRuntime) -> Result<(), Fail> {
     let (input, want) = script(rt.alloc(), REFUSED_FILES)?;
     let got = answers(rt.alloc(), rt.alloc(), input.as_bytes())?;
     assert_eq!(rt; got.as_slice(), want.as_bytes());
+    Ok(())
+}
+
+const NO_FILL: &[u8] = b"case = 1\nspace = \"G1\"\n";
+
+const SET_OF_19: &[u8] =
+    b"wedge = 5\nset_q = 19\npica = \"sixth\"\nunits = [5, 6, 7, 8, 9, 9, 9, 10, 10, 11, 12, 13, 14, 15, 18]\n";
+
+/// The case `c` and the wedge `w`; the case without its fills, and the wedge with a set of 19.
+pub fn trial_files(alloc: Global) -> Result<TrialFiles<Global>, AllocError> {
+    let mut files = TrialFiles::new(alloc);
+    let mut case = Vec::new(alloc);
+    case.extend_from_slice(CASE)?;
+    case.extend_from_slice(ROWS)?;
+    files.put("c", &case)?;
+    case.clear();
+    case.extend_from_slice(NO_FILL)?;
+    case.extend_from_slice(ROWS)?;
+    files.put("no-fill", &case)?;
+    files.put("w", WEDGE)?;
+    files.put("set-of-19", SET_OF_19)?;
+    Ok(files)
+}
+
+/// What a script is answered beside files in memory.
+fn answers_beside(
+    alloc: Global,
+    files: &mut TrialFiles<Global>,
+    input: &[u8],
+) -> Result<Vec<u8>, RunFault> {
+    let mut reader = TrialReader::new(input);
+    let mut written = Vec::new(alloc);
+    match run(alloc, alloc, &mut reader, &mut written, files) {
+        Ok(()) => Ok(written),
+        Err(fault) => Err(fault),
+    }
+}
+
+const REFUSED_INPUTS: &[(&str, &str)] = &[
+    ("site 1", "ok"),
+    ("ribbon 1 no-fill w", "refused case 2"),
+    ("cast 1 no-fill w", "refused case 2"),
+    ("ribbon 1 c set-of-19", "refused wedge 3"),
+    ("cast 1 c set-of-19", "refused wedge 3"),
+    ("ribbon 1 no-fill set-of-19", "refused case 2"),
+    ("cast 1 no-fill set-of-19", "refused case 2"),
+    ("ribbon 1 none.toml w", "refused file missing"),
+    ("ribbon 1 c w", "no ribbon: missing measure"),
+];
+
+/// A case without fills, a wedge with too small a set, and both.
+#[test]
+fn refused_inputs(rt: HostRuntime) -> Result<(), Fail> {
+    let (input, want) = script(rt.alloc(), REFUSED_INPUTS)?;
+    let mut files = trial_files(rt.alloc())?;
+    let got = answers_beside(rt.alloc(), &mut files, input.as_bytes())?;
+    assert_eq!(rt; got.as_slice(), want.as_bytes());
+    assert_eq!(rt; files.failures(), 0);
+    Ok(())
+}
+
+const FAILED_READ: &[(&str, &str)] = &[
+    ("site 1", "ok"),
+    ("ribbon 1 c w", "refused file device"),
+    ("ribbon 1 c w", "no ribbon: missing measure"),
+    ("cast 1 c w", "no ribbon: missing measure"),
+];
+
+/// The first read fails, or the second: that command alone is refused, and nothing else.
+#[test]
+fn failed_reads(rt: HostRuntime) -> Result<(), Fail> {
+    let (input, want) = script(rt.alloc(), FAILED_READ)?;
+    for call in [1u64, 2] {
+        let mut files = trial_files(rt.alloc())?.failing_at_call(call);
+        let got = answers_beside(rt.alloc(), &mut files, input.as_bytes())?;
+        assert_eq!(rt; got.as_slice(), want.as_bytes(), "call {call}");
+        assert_eq!(rt; files.failures(), 1);
+    }
     Ok(())
 }
 

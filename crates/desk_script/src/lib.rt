@@ -33,6 +33,10 @@ pub use world::{Answer, Event, MAX_SITES, StepRefusal, World};
 #[cfg(test)]
 mod file_tests;
 #[cfg(test)]
+mod growth_runs;
+#[cfg(test)]
+mod growth_tests;
+#[cfg(test)]
 mod jobs;
 #[cfg(test)]
 mod tests;

@@ -177,12 +177,12 @@ fn refused_commands(rt: HostRuntime) -> Result<(), Fail> {
     let got = answers(
         rt.alloc(),
         rt.alloc(),
-        b"site 1\nsite 1\nsite 0\nsend 1 3\ninsert 1 5 r\"a\"\ninsert 1 0 i\" \"\njump\n",
+        b"site 1\nsite 1\nsite 0\nsend 1 3\ninsert 1 5 r\"a\"\ninsert 1 0 i\" \"\nset 1 measure 11\njump\nribbon 1 none.toml w\n",
         100,
     )?;
     assert_eq!(rt;
         got.as_slice(),
-        b"ok\nrefused known\nrefused number\nrefused site\nrefused place\nrefused value\nrefused command\n".as_slice()
+        b"ok\nrefused known\nrefused number\nrefused site\nrefused place\nrefused value\nrefused value\nrefused command\nrefused file missing\n".as_slice()
     );
 
     let mut input = String::new(rt.alloc());

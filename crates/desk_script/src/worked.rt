@@ -95,6 +95,27 @@ fn full_clock(rt: HostRuntime) -> Result<(), Fail> {
     Ok(())
 }
 
+const LAST_COUNTER: &[(&str, &str)] = &[
+    ("site 1", "ok"),
+    (
+        "take 1 4d464431013fffffffffffffff0002000000000000000000000000000071",
+        "ok new 1 known 0",
+    ),
+    ("insert 1 0 r\"ab\"", "stopped 1 clock"),
+    ("show 1", "copy r\"aq\""),
+    ("insert 1 0 r\"ab\"", "refused clock"),
+    ("show 1", "copy r\"aq\""),
+];
+
+/// One symbol takes the greatest counter and stands; the next is refused.
+#[test]
+fn stopped_at_the_last_counter(rt: HostRuntime) -> Result<(), Fail> {
+    let (input, want) = script(rt.alloc(), LAST_COUNTER)?;
+    let got = answers(rt.alloc(), rt.alloc(), input.as_bytes(), 1000)?;
+    assert_eq!(rt; got.as_slice(), want.as_bytes());
+    Ok(())
+}
+
 const RANGES_ARE_SENT: &[(&str, &str)] = &[
     ("site 1", "ok"),
     ("site 2", "ok"),

@@ -2,8 +2,8 @@
 
 use crate::{Answer, Event, StepRefusal, World};
 use desk_held::AddRefusal;
-use desk_ops::{Op, Stamp, Style, Symbol};
-use desk_replica::{Count, Stopped};
+use desk_ops::{NoMemory, Op, Stamp, Style, Symbol};
+use desk_replica::{Count, Settings, Stopped};
 use linked_list_allocator::LocalHeap;
 use std::alloc::Allocator;
 use std::test::Fail;
@@ -59,6 +59,32 @@ fn held<A: Allocator + Copy>(world: &World<A>, site: u16) -> Option<usize> {
     }
 }
 
+/// The feed of 9.9 `k` after the head.
+const STRANGERS_FEED: &[u8] = b"MFD1\x01\0\0\0\0\0\0\0\x09\0\x09\0\0\0\0\0\0\0\0\0\0\0\0\0\0k";
+
+/// Whether a site's copy, copy faults, settings and feed are those of 9.9 `k` alone.
+fn answers_of_k<A: Allocator + Copy>(world: &World<A>, site: u16) -> Result<bool, NoMemory> {
+    let Some(replica) = world.replica(site) else {
+        return Ok(false);
+    };
+    let none = Settings {
+        measure: None,
+        tight: None,
+        loose: None,
+        case: None,
+        wedge: None,
+    };
+    let copy = replica.copy()?;
+    let faults = replica.copy_faults()?;
+    let feed = replica.write_feed()?;
+    Ok(
+        copy.as_slice() == [roman('k')].as_slice()
+            && faults.is_empty()
+            && replica.settings() == none
+            && feed.as_slice() == STRANGERS_FEED,
+    )
+}
+
 #[test]
 fn strange_and_bring(rt: HostRuntime) -> Result<(), Fail> {
     let mut world = World::new(rt.alloc());
@@ -86,9 +112,12 @@ fn strange_and_bring(rt: HostRuntime) -> Result<(), Fail> {
         Some(Ok(Count { new: 0, known: 1 }))
     );
     assert_eq!(rt; held(&world, 2), Some(0));
+    assert!(rt; answers_of_k(&world, 1)?);
     assert_eq!(rt; world.step(&Event::Restart(1)), Ok(Answer::Done));
+    assert!(rt; answers_of_k(&world, 1)?);
     assert_eq!(rt; world.step(&Event::Restart(3)), Err(StepRefusal::NoSite));
     assert_eq!(rt; held(&world, 1), Some(1));
+    assert_eq!(rt; held(&world, 2), Some(0));
     assert_eq!(rt;
         give(&mut world, 2, stranger()),
         Some(Ok(Answer::Taken(Count { new: 1, known: 0 })))
