@@ -1,5 +1,5 @@
 -- What the program has done, by its status. Gives tells what the files give of a name, and how often their device has failed before and after.
-use Rattle.std.specs.Prelude.{◌≡◌, ◌⊎◌, ℕ, List, Option, IfSome, Result}
+use Rattle.std.specs.Prelude.{◌⊎◌, ℕ, List, Option, IfSome, Result}
 use Rattle.clap.specs.Words.{Text}
 use Rattle.desk_script.specs.declared.files.FileRefusal.{FileRefusal}
 use Rattle.desk_script.specs.Sites.{Sites, desk, no_sites}
@@ -13,8 +13,8 @@ IsRun Gives failed fails words input before after =
     (AsksScript words × IfSome input (λ bytes. (new : Sites) × Answers (desk no_sites failed) (desk new fails) bytes before after))
     ⊎ ((feed : Text) × (site : ℕ) × AsksDesk words feed site × IfSome input (λ bytes. AnswersStored (Gives feed) failed fails site bytes before after))
 
--- it stopped, or was not begun
+-- it was begun and stopped
 abbrev pub IsStopped : (Text → Result (List ℕ) FileRefusal → Type 0) → ℕ → ℕ → List Text → Option (List ℕ) → Option (List ℕ) → Option (List ℕ) → Type 0
 IsStopped Gives failed fails words input before after =
-    (after ≡ before) ⊎ ((AsksScript words × IfSome input (λ bytes. AnswersFront (desk no_sites failed) fails bytes before after))
-    ⊎ ((feed : Text) × (site : ℕ) × AsksDesk words feed site × IfSome input (λ bytes. AnswersStoredFront (Gives feed) failed fails site bytes before after)))
+    (AsksScript words × IfSome input (λ bytes. AnswersFront (desk no_sites failed) fails bytes before after))
+    ⊎ ((feed : Text) × (site : ℕ) × AsksDesk words feed site × IfSome input (λ bytes. AnswersStoredFront (Gives feed) failed fails site bytes before after))

@@ -137,7 +137,7 @@ fn status_of<E: Write>(faults: &mut E, outcome: Result<(), RunFault>) -> u8
 fn refused<W: Write, E: Write>(writer: &mut W, faults: &mut E, error: &Error) -> u8
     ensures within { result ≤ 2 }
     ensures help { result ≡ 0 → kind_of error.now ≡ ErrorKind.DisplayHelp }
-    ensures memory { result ≡ 1 → writer.new ≡ writer.old }
+    ensures memory { result ≡ 1 → (kind_of error.now ≡ ErrorKind.OutOfMemory) × (writer.new ≡ writer.old) }
     ensures told { result ≢ 1 → kind_of error.now ≢ ErrorKind.OutOfMemory }
     ensures fault { result ≡ 2 → (kind_of error.now ≢ ErrorKind.DisplayHelp) × (writer.new ≡ writer.old) }
 {
@@ -166,7 +166,8 @@ pub fn program<R: Read, W: Write, E: Write, F: Files>(
     ensures status { result ≤ 2 }
     ensures done { result ≡ 0 → IsRun (F.gives files.old) (F.count files.old) (F.count files.new) (map string_bytes words.now) (R.remaining reader.old) (W.contents writer.old) (W.contents writer.new)
         ⊎ (AsksHelp (map string_bytes words.now) × (reader.new ≡ reader.old) × (files.new ≡ files.old)) }
-    ensures stopped { result ≡ 1 → IsStopped (F.gives files.old) (F.count files.old) (F.count files.new) (map string_bytes words.now) (R.remaining reader.old) (W.contents writer.old) (W.contents writer.new) }
+    ensures stopped { result ≡ 1 → IsStopped (F.gives files.old) (F.count files.old) (F.count files.new) (map string_bytes words.now) (R.remaining reader.old) (W.contents writer.old) (W.contents writer.new)
+        ⊎ ((reader.new ≡ reader.old) × (writer.new ≡ writer.old) × (files.new ≡ files.old)) }
     ensures refused { result ≡ 2 → AsksNothing (map string_bytes words.now) × (reader.new ≡ reader.old) × (writer.new ≡ writer.old) × (files.new ≡ files.old) }
 {
     match understood(alloc, words) {
