@@ -40,6 +40,12 @@ ribbon 1 doubled.toml wedge5.toml
 ribbon 1 nofill.toml wedge5.toml
 cast 1 broken.toml wedge5.toml
 cast 1 none.toml wedge5.toml
+insert 1 0 r"aa bb aa bb aa bb aa bb aa bb aa bb aa bb aa bb aa bb aa bb aa bb aa bb aa bb aa bb"
+cast 1 case12.toml wedge5.toml
+set 1 loose 41
+ribbon 1 case12.toml wedge5.toml
+insert 1 0 r"€"
+cast 1 case12.toml wedge5.toml
 show 2
 """
 STORED = """insert 3 0 r"ab"
