@@ -2,7 +2,7 @@
 
 ghost use Rattle.std.specs.Prelude.{◌≡◌, ◌≢◌, ◌<◌, ◌≤◌, IfErr, IfOk, IfSome, IsErrOf, length};
 ghost use Rattle.std.specs.IoError.{error_kind};
-ghost use Rattle.desk_script.specs.Files.{HasFailed, max_file};
+ghost use Rattle.desk_script.specs.Files.{HasRisen, max_file};
 ghost use Rattle.copydesk.specs.Host.{IsToldOf};
 
 use desk_script::{FileRefusal, Files, MAX_FILE};
@@ -28,7 +28,7 @@ impl<'a, H: std::rt::Files> HostFiles<'a, H> {
     /// Counts a refusal, if the device failed.
     fn counted(&mut self, why: FileRefusal) -> FileRefusal
         ensures same { result ≡ why }
-        ensures failed { why ≡ FileRefusal.Device → HasFailed self.old.failures self.new.failures }
+        ensures failed { why ≡ FileRefusal.Device → HasRisen self.old.failures self.new.failures }
         ensures counted { self.old.failures ≤ self.new.failures }
     {
         if why == FileRefusal::Device {
@@ -93,7 +93,10 @@ fn write_file<H: std::rt::Files>(host: &H, name: &str, bytes: &[u8]) -> io::Resu
 }
 
 impl<'a, H: std::rt::Files> Files for HostFiles<'a, H> {
-    ghost count = { λ f. f.failures };
+    ghost use Rattle.desk_script.specs.Files.{Unknown, shelf};
+
+    // what a file of the machine holds is not told by std
+    ghost shelf = { λ f. shelf (λ _. Unknown) f.failures };
 
     fn failures(&self) -> u64 {
         self.failures

@@ -1,17 +1,18 @@
 -- A loop of reads over lines.
-use Rattle.std.proofs.Common.{◌≡◌, ◌≤◌, ℕ, ◌==◌, true, List, [], ◌∷◌, ◌++◌, refl, sym, ap, ◌∙◌, subst, append_assoc}
+use Rattle.std.proofs.Common.{◌≡◌, ℕ, ◌==◌, true, List, [], ◌∷◌, ◌++◌, refl, sym, ap, ◌∙◌, subst, append_assoc}
 use Rattle.std.specs.Prelude.{Option, Some, None, IfSome}
 use Rattle.std.specs.Io.KnownBytes.{Consumes, IsAtEnd}
 use Rattle.std.proofs.lemmas.List.{append-nil}
 use Rattle.desk_script.specs.Lines.{Line, line_of, without_cr, lines}
 use Rattle.desk_script.specs.Text.{output}
+use Rattle.desk_script.specs.Files.{Shelf, Stays}
 use Rattle.desk_script.specs.Sites.{Sites, Desk, desk}
 use Rattle.desk_script.specs.Script.{Turn, Fronts, Answers, AnswersFront}
 use Rattle.desk_script.specs.Pending.{last_line, lines_from, Moves, Carries}
 use Rattle.desk_script.proofs.Turns.{no_turn, turn_turn, turn_front}
 use Rattle.desk_script.proofs.Cutting.{from_end, lines-from}
 
-pub line_fronts : (old : Desk) (last : ℕ) (a b : Option (List ℕ)) (line pending more : List ℕ) (byte : ℕ) → (byte == 10) ≡ true → line ≡ without_cr pending
+pub line_fronts : (old : Desk) (last : Shelf) (a b : Option (List ℕ)) (line pending more : List ℕ) (byte : ℕ) → (byte == 10) ≡ true → line ≡ without_cr pending
     → ((rest : List Line) → Fronts old last a b (line_of line ∷ rest)) → Fronts old last a b (lines_from pending (byte ∷ more))
 line_fronts old last a b line pending more byte e cut h =
     subst (Fronts old last a b) (ap (λ l. line_of l ∷ lines_from [] more) cut ∙ sym (from_end pending more byte e)) (h (lines_from [] more))
@@ -31,7 +32,7 @@ carries_more w0 w1 w2 (Some input) (Some left) None a b c pending chunk after h 
 carries_more w0 w1 w2 (Some input) (Some left) (Some rest) a b c pending chunk after h read turn =
     (h.0 ++ turn.0, turn_turn w0 w1 w2 a b c h.0 turn.0 h.1 turn.1, h.2 ∙ ap (λ l. h.0 ++ lines_from pending l) read ∙ ap (λ l. h.0 ++ l) (turn.2 rest) ∙ sym (append_assoc h.0 turn.0 (lines_from after rest)))
 
-pub carries_front : (w0 w1 : Desk) (last : ℕ) (i l m a b c : Option (List ℕ)) (pending chunk : List ℕ) → Carries w0 w1 i l a b pending → Consumes l m chunk → ((more : List ℕ) → Fronts w1 last b c (lines_from pending (chunk ++ more))) → IfSome i (λ input. Fronts w0 last a c (lines input))
+pub carries_front : (w0 w1 : Desk) (last : Shelf) (i l m a b c : Option (List ℕ)) (pending chunk : List ℕ) → Carries w0 w1 i l a b pending → Consumes l m chunk → ((more : List ℕ) → Fronts w1 last b c (lines_from pending (chunk ++ more))) → IfSome i (λ input. Fronts w0 last a c (lines input))
 carries_front w0 w1 last None l m a b c pending chunk h read turn = tt
 carries_front w0 w1 last (Some input) None m a b c pending chunk h read turn = absurd h
 carries_front w0 w1 last (Some input) (Some left) None a b c pending chunk h read turn = absurd read
@@ -47,7 +48,7 @@ carries_end w0 w1 w2 (Some input) (Some left) None a b c pending h read end turn
 carries_end w0 w1 w2 (Some input) (Some left) (Some rest) a b c pending h read end turn =
     subst (Turn w0 w2 a c) (sym (h.2 ∙ ap (λ l. h.0 ++ lines_from pending l) (read ∙ end)) ∙ lines-from input) (turn_turn w0 w1 w2 a b c h.0 (last_line pending) h.1 turn)
 
-pub carries_end_front : (w0 w1 : Desk) (last : ℕ) (i l m a b c : Option (List ℕ)) (pending : List ℕ) → Carries w0 w1 i l a b pending → Consumes l m [] → IsAtEnd m → Fronts w1 last b c (last_line pending) → IfSome i (λ input. Fronts w0 last a c (lines input))
+pub carries_end_front : (w0 w1 : Desk) (last : Shelf) (i l m a b c : Option (List ℕ)) (pending : List ℕ) → Carries w0 w1 i l a b pending → Consumes l m [] → IsAtEnd m → Fronts w1 last b c (last_line pending) → IfSome i (λ input. Fronts w0 last a c (lines input))
 carries_end_front w0 w1 last None l m a b c pending h read end turn = tt
 carries_end_front w0 w1 last (Some input) None m a b c pending h read end turn = absurd h
 carries_end_front w0 w1 last (Some input) (Some left) None a b c pending h read end turn = absurd read
@@ -55,19 +56,19 @@ carries_end_front w0 w1 last (Some input) (Some left) (Some rest) a b c pending 
     subst (Fronts w0 last a c) (sym (h.2 ∙ ap (λ l. h.0 ++ lines_from pending l) (read ∙ end)) ∙ lines-from input) (turn_front w0 w1 last a b c h.0 (last_line pending) h.1 turn)
 
 -- what was written so far
-pub carries_stop : (w0 w1 : Desk) (last : ℕ) (i l a b : Option (List ℕ)) (pending : List ℕ) → w1.failures ≤ last → Carries w0 w1 i l a b pending → IfSome i (λ input. Fronts w0 last a b (lines input))
-carries_stop w0 w1 last None l a b pending few h = tt
-carries_stop w0 w1 last (Some input) None a b pending few h = absurd h
-carries_stop w0 w1 last (Some input) (Some left) a b pending few (done, (replies, script, written), is) =
-    (done, lines_from pending left, sym (lines-from input) ∙ is, w1, few, replies, script, (output replies, [], written, sym (append-nil (output replies))))
+pub carries_stop : (w0 w1 : Desk) (last : Shelf) (i l a b : Option (List ℕ)) (pending : List ℕ) → Stays w1.shelf last → Carries w0 w1 i l a b pending → IfSome i (λ input. Fronts w0 last a b (lines input))
+carries_stop w0 w1 last None l a b pending still h = tt
+carries_stop w0 w1 last (Some input) None a b pending still h = absurd h
+carries_stop w0 w1 last (Some input) (Some left) a b pending still (done, (replies, script, written), is) =
+    (done, lines_from pending left, sym (lines-from input) ∙ is, w1, still, replies, script, (output replies, [], written, sym (append-nil (output replies))))
 
 -- ---- a run, from a world that has no site
 
-pub run_whole : (w none new : Sites) (m n : ℕ) (i a b : Option (List ℕ)) → w ≡ none → IfSome i (λ input. Answers (desk w m) (desk new n) input a b)
+pub run_whole : (w none new : Sites) (m n : Shelf) (i a b : Option (List ℕ)) → w ≡ none → IfSome i (λ input. Answers (desk w m) (desk new n) input a b)
     → IfSome i (λ input. (x : Sites) × Answers (desk none m) (desk x n) input a b)
 run_whole w none new m n None a b e h = tt
 run_whole w none new m n (Some input) a b e h = (new, subst (λ s. Answers (desk s m) (desk new n) input a b) e h)
 
-pub run_front : (w none : Sites) (m n : ℕ) (i a b : Option (List ℕ)) → w ≡ none → IfSome i (λ input. AnswersFront (desk w m) n input a b) → IfSome i (λ input. AnswersFront (desk none m) n input a b)
+pub run_front : (w none : Sites) (m n : Shelf) (i a b : Option (List ℕ)) → w ≡ none → IfSome i (λ input. AnswersFront (desk w m) n input a b) → IfSome i (λ input. AnswersFront (desk none m) n input a b)
 run_front w none m n None a b e h = tt
 run_front w none m n (Some input) a b e h = subst (λ s. AnswersFront (desk s m) n input a b) e h

@@ -23,7 +23,6 @@ use Rattle.desk_script.specs.declared.world.LocalEdit.{LocalEdit}
 use Rattle.desk_script.specs.World.{site_refusal, Refuses, Adds, Edits, EditsSite, Gains, Brings, Steps, site_with, taken, IsReopened}
 use Rattle.desk_script.specs.World as changes
 use Rattle.desk_script.proofs.Sites.{get-sites_of, sites_of-updated}
-use Rattle.desk_ops.proofs.Stamps.{by_cases}
 
 same_number : (n q : ℕ) → nat_eq n q ≡ true → n ≡ q
 same_number n q e = grind (arith, nat_tests)

@@ -1,10 +1,11 @@
 -- Lines that were answered, one part after another.
-use Rattle.std.proofs.Common.{◌≡◌, ◌≤◌, ℕ, List, [], ◌∷◌, ◌++◌, Option, Some, None, refl, sym, ap, ◌∙◌, subst, append_assoc}
+use Rattle.std.proofs.Common.{◌≡◌, ℕ, List, [], ◌∷◌, ◌++◌, Option, Some, None, refl, sym, ap, ◌∙◌, subst, append_assoc}
 use Rattle.std.specs.Io.KnownBytes.{Appends}
 use Rattle.std.proofs.KnownBytes.{Appends-trans}
 use Rattle.std.proofs.lemmas.List.{append-nil}
 use Rattle.desk_script.specs.Reply.{Reply}
 use Rattle.desk_script.specs.Text.{text, output}
+use Rattle.desk_script.specs.Files.{Shelf, Stays}
 use Rattle.desk_script.specs.Sites.{Desk}
 use Rattle.desk_script.specs.Lines.{Line}
 use Rattle.desk_script.specs.Effect.{Allows}
@@ -17,15 +18,15 @@ appends_none (Some xs) = sym (append-nil xs)
 pub no_turn : (old : Desk) (a : Option (List ℕ)) → Turn old old a a []
 no_turn old a = ([], refl, appends_none a)
 
-pub no_front : (old : Desk) (last : ℕ) (a : Option (List ℕ)) (lines : List Line) → old.failures ≤ last → Fronts old last a a lines
-no_front old last a lines few = ([], lines, refl, old, few, [], refl, ([], [], appends_none a, refl))
+pub no_front : (old : Desk) (last : Shelf) (a : Option (List ℕ)) (lines : List Line) → Stays old.shelf last → Fronts old last a a lines
+no_front old last a lines still = ([], lines, refl, old, still, [], refl, ([], [], appends_none a, refl))
 
 pub one_turn : (old new : Desk) (a b : Option (List ℕ)) (line : Line) (bytes : List ℕ) (reply : Reply) → Allows old line reply new → bytes ≡ text reply ++ 10 ∷ [] → Appends a b bytes → Turn old new a b (line ∷ [])
 one_turn old new a b line bytes reply allowed is written = (reply ∷ [], (new, allowed, refl), subst (Appends a b) is written)
 
-pub one_front : (old new : Desk) (last : ℕ) (a b : Option (List ℕ)) (line : Line) (bytes : List ℕ) (reply : Reply) (more : List Line) → new.failures ≤ last → Allows old line reply new → bytes ≡ text reply ++ 10 ∷ [] → WritesFront a b bytes → Fronts old last a b (line ∷ more)
-one_front old new last a b line bytes reply more few allowed is (done, rest, written, split) =
-    (line ∷ [], more, refl, new, few, reply ∷ [], (new, allowed, refl), (done, rest, written, sym is ∙ split))
+pub one_front : (old new : Desk) (last : Shelf) (a b : Option (List ℕ)) (line : Line) (bytes : List ℕ) (reply : Reply) (more : List Line) → Stays new.shelf last → Allows old line reply new → bytes ≡ text reply ++ 10 ∷ [] → WritesFront a b bytes → Fronts old last a b (line ∷ more)
+one_front old new last a b line bytes reply more still allowed is (done, rest, written, split) =
+    (line ∷ [], more, refl, new, still, reply ∷ [], (new, allowed, refl), (done, rest, written, sym is ∙ split))
 
 output-append : (rs ss : List Reply) → output (rs ++ ss) ≡ output rs ++ output ss
 output-append [] ss = refl
@@ -41,13 +42,13 @@ pub turn_turn : (old mid new : Desk) (a b c : Option (List ℕ)) (ls ms : List L
 turn_turn old mid new a b c ls ms (rs, first, written) (ss, second, more) =
     (rs ++ ss, script-append old mid new ls ms rs ss first second, subst (Appends a c) (sym (output-append rs ss)) (Appends-trans a b c _ _ written more))
 
-pub turn_front : (old mid : Desk) (last : ℕ) (a b c : Option (List ℕ)) (ls ms : List Line) → Turn old mid a b ls → Fronts mid last b c ms → Fronts old last a c (ls ++ ms)
-turn_front old mid last a b c ls ms (rs, first, written) (front, tail, split, new, few, ss, second, (done, rest, more, cut)) = (
+pub turn_front : (old mid : Desk) (last : Shelf) (a b c : Option (List ℕ)) (ls ms : List Line) → Turn old mid a b ls → Fronts mid last b c ms → Fronts old last a c (ls ++ ms)
+turn_front old mid last a b c ls ms (rs, first, written) (front, tail, split, new, still, ss, second, (done, rest, more, cut)) = (
   ls ++ front,
   tail,
   ap (λ l. ls ++ l) split ∙ sym (append_assoc ls front tail),
   new,
-  few,
+  still,
   rs ++ ss,
   script-append old mid new ls front rs ss first second,
   (output rs ++ done, rest, Appends-trans a b c _ _ written more, output-append rs ss ∙ ap (λ l. output rs ++ l) cut ∙ sym (append_assoc (output rs) done rest)),

@@ -181,19 +181,19 @@ abbrev pub TellsLines : CaseValues → WedgeValues → Result (List RibbonRow) (
 TellsLines case wedge (Ok rows) reply = TellsCast case wedge (ribbon rows) reply
 TellsLines case wedge (Err faults) reply = reply ≡ replies.NoRibbon faults
 
--- A job at a site: the site is looked up, both files are read, whatever they give, and no set changes.
-abbrev pub Jobs : (OpSet → CaseValues → WedgeValues → Reply → Type 0) → Desk → ℕ → Reply → Desk → Type 0
-Jobs Told old n reply new = MatchOption (set_of old.sites n) (Refuses old refusals.Site reply new)
-    (λ set. (new.sites ≡ old.sites) × ((given : Result (CaseValues × WedgeValues) Refusal) × BothGive old.failures given new.failures
+-- A job at a site: the site is looked up, both files are read by their names, whatever they give, and no set changes.
+abbrev pub Jobs : (OpSet → CaseValues → WedgeValues → Reply → Type 0) → Desk → ℕ → List ℕ → List ℕ → Reply → Desk → Type 0
+Jobs Told old n of_case of_wedge reply new = MatchOption (set_of old.sites n) (Refuses old refusals.Site reply new)
+    (λ set. (new.sites ≡ old.sites) × ((given : Result (CaseValues × WedgeValues) Refusal) × BothGive of_case of_wedge old.shelf given new.shelf
     × MatchResult given (λ both. Told set both.0 both.1 reply) (λ why. reply ≡ Refused why)))
 
--- a command that asks for no file leaves the device's failures as they are
+-- a command that asks for no file leaves the files as they are
 abbrev pub Keeps : Desk → Request → Reply → Desk → Type 0
-Keeps old request reply new = Does old.sites request reply new.sites × (new.failures ≡ old.failures)
+Keeps old request reply new = Does old.sites request reply new.sites × (new.shelf ≡ old.shelf)
 
 abbrev pub Performs : Desk → Request → Reply → Desk → Type 0
-Performs old (Ribbon n case wedge) reply new = Jobs (λ set c w r. TellsRibbon (job_of set c w) r) old n reply new
-Performs old (Cast n case wedge) reply new = Jobs (λ set c w r. TellsLines c w (job_of set c w) r) old n reply new
+Performs old (Ribbon n case wedge) reply new = Jobs (λ set c w r. TellsRibbon (job_of set c w) r) old n case wedge reply new
+Performs old (Cast n case wedge) reply new = Jobs (λ set c w r. TellsLines c w (job_of set c w) r) old n case wedge reply new
 Performs old (Site n) reply new = Keeps old (Site n) reply new
 Performs old (Insert n place copy) reply new = Keeps old (Insert n place copy) reply new
 Performs old (Delete n place) reply new = Keeps old (Delete n place) reply new

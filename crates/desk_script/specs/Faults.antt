@@ -5,7 +5,7 @@ use Rattle.desk_ops.specs.OpSet.{no_ops, size, with_all}
 use Rattle.desk_codec.specs.Fault.{IsFirstFault}
 use Rattle.desk_codec.specs.Feed.{IsFeed}
 use Rattle.desk_held.specs.declared.AddRefusal.TheVariants.{Full}
-use Rattle.desk_script.specs.Files.{HasFailed}
+use Rattle.desk_script.specs.Files.{HasFailed, Shelf}
 use Rattle.desk_script.specs.declared.fault.RunFault.{RunFault}
 use Rattle.desk_script.specs.declared.fault.RunFault.TheVariants as faults
 use Rattle.desk_script.specs.declared.files.FileRefusal.{FileRefusal}
@@ -21,8 +21,8 @@ IsOfRun (faults.Feed fault) = ⊥
 IsOfRun (faults.File why) = ⊥
 IsOfRun (faults.Opening stop) = ⊥
 
--- the read of a stored feed was refused, by the device's counts before and after
-abbrev pub IsUnread : (Result (List ℕ) FileRefusal → Type 0) → ℕ → ℕ → FileRefusal → Type 0
+-- the read of a stored feed was refused, by the files before and after
+abbrev pub IsUnread : (Result (List ℕ) FileRefusal → Type 0) → Shelf → Shelf → FileRefusal → Type 0
 IsUnread Gives before after refusals.Missing = ⊥
 IsUnread Gives before after refusals.Device = Gives (Err refusals.Device) × HasFailed before after
 IsUnread Gives before after refusals.Large = Gives (Err refusals.Large)
@@ -39,7 +39,7 @@ IsCrowded ops (faults.File why) = ⊥
 IsCrowded ops (faults.Opening stop) = (1048576 < size (with_all no_ops ops)) × (stop.why ≡ Full) × (stop.taken ≡ 0)
 
 -- why a stored feed was not opened, by what was read of it
-abbrev pub IsUnopened : (Result (List ℕ) FileRefusal → Type 0) → ℕ → ℕ → RunFault → Type 0
+abbrev pub IsUnopened : (Result (List ℕ) FileRefusal → Type 0) → Shelf → Shelf → RunFault → Type 0
 IsUnopened Gives before after faults.Read = ⊥
 IsUnopened Gives before after faults.Write = ⊥
 IsUnopened Gives before after faults.TooLong = ⊥
@@ -49,8 +49,8 @@ IsUnopened Gives before after (faults.File why) = IsUnread Gives before after wh
 IsUnopened Gives before after (faults.Opening stop) =
     (bytes : List ℕ) × Gives (Ok bytes) × (ops : List Op) × IsFeed bytes ops × IsCrowded ops (faults.Opening stop)
 
--- a feed was not stored, by the device's counts before and after
-abbrev pub IsOfStoring : ℕ → ℕ → RunFault → Type 0
+-- a feed was not stored, by the files before and after
+abbrev pub IsOfStoring : Shelf → Shelf → RunFault → Type 0
 IsOfStoring before after faults.Read = ⊥
 IsOfStoring before after faults.Write = ⊥
 IsOfStoring before after faults.TooLong = ⊥
@@ -62,8 +62,8 @@ IsOfStoring before after (faults.File refusals.Large) = ⊥
 IsOfStoring before after (faults.File refusals.NoMemory) = ⊥
 IsOfStoring before after (faults.Opening stop) = ⊥
 
--- why a run on a stored feed stopped, by the device's counts before and after: the feed was refused or not opened for its cause alone, or it was not stored once all lines were Answered
-abbrev pub IsOfFeed : (Result (List ℕ) FileRefusal → Type 0) → Type 0 → ℕ → ℕ → RunFault → Type 0
+-- why a run on a stored feed stopped, by the files before and after: the feed was refused or not opened for its cause alone, or it was not stored once all lines were Answered
+abbrev pub IsOfFeed : (Result (List ℕ) FileRefusal → Type 0) → Type 0 → Shelf → Shelf → RunFault → Type 0
 IsOfFeed Gives Answered before after faults.Read = Unit {0}
 IsOfFeed Gives Answered before after faults.Write = Unit {0}
 IsOfFeed Gives Answered before after faults.TooLong = Unit {0}

@@ -1,10 +1,37 @@
--- When files may tell of a device, and how many bytes they give.
-use Rattle.std.specs.Prelude.{◌≡◌, ℕ, ◌<◌, ◌⊎◌, List, Result, Ok, Err}
+-- What files hold by name, when they may tell of a device, and what their calls leave.
+use Rattle.std.specs.Prelude.{◌≡◌, ◌≢◌, ◌≤◌, ℕ, ◌<◌, ◌⊎◌, ◌++◌, List, Result, Ok, Err, codes, length}
 use Rattle.desk_script.specs.declared.files.FileRefusal.{FileRefusal}
+use Rattle.desk_script.specs.declared.files.FileRefusal.TheVariants as refusals
 
--- the count of failures rose, or can rise no more
-abbrev pub HasFailed : ℕ → ℕ → Type 0
-HasFailed before after = (before < after) ⊎ (before ≡ 18446744073709551615)
+-- what a name stands for: Unknown where the files cannot tell
+pub data Kept : Type 0 where
+  Unknown : Kept
+  Absent : Kept
+  Holds : List ℕ → Kept
+
+-- what each name stands for
+abbrev pub Names : Type 0
+Names = List ℕ → Kept
+
+-- what each name stands for, and how often the device has failed
+pub record Shelf : Type 0 where
+  pub kept : Names
+  pub failures : ℕ
+
+abbrev pub shelf : Names → ℕ → Shelf
+shelf kept failures = record { kept = kept; failures = failures }
+
+-- a count rose, or can rise no more
+abbrev pub HasRisen : ℕ → ℕ → Type 0
+HasRisen before after = (before < after) ⊎ (before ≡ 18446744073709551615)
+
+-- the device failed, by the count of its failures
+abbrev pub HasFailed : Shelf → Shelf → Type 0
+HasFailed before after = HasRisen before.failures after.failures
+
+-- no file has changed, and the count has not fallen
+abbrev pub Stays : Shelf → Shelf → Type 0
+Stays before after = (after.kept ≡ before.kept) × (before.failures ≤ after.failures)
 
 -- the most bytes of a file that is read
 abbrev pub max_file : ℕ
@@ -14,3 +41,50 @@ max_file = 67108864
 abbrev pub bytes_read : {V : Type 0} → (V → List ℕ) → Result V FileRefusal → Result (List ℕ) FileRefusal
 bytes_read view (Ok v) = Ok (view v)
 bytes_read view (Err why) = Err why
+
+-- what may be read of a name: its bytes, that it is not there, that it is too large, or that the device or memory failed
+abbrev pub Reads : Kept → Result (List ℕ) FileRefusal → Type 0
+Reads Unknown read = Unit {0}
+Reads Absent (Ok bytes) = ⊥
+Reads Absent (Err refusals.Missing) = Unit {0}
+Reads Absent (Err refusals.Device) = Unit {0}
+Reads Absent (Err refusals.Large) = ⊥
+Reads Absent (Err refusals.NoMemory) = Unit {0}
+Reads (Holds kept) (Ok bytes) = bytes ≡ kept
+Reads (Holds kept) (Err refusals.Missing) = ⊥
+Reads (Holds kept) (Err refusals.Device) = Unit {0}
+Reads (Holds kept) (Err refusals.Large) = max_file < length kept
+Reads (Holds kept) (Err refusals.NoMemory) = Unit {0}
+
+-- the name stands for these bytes, as far as the files can tell
+abbrev pub Has : Kept → List ℕ → Type 0
+Has Unknown bytes = Unit {0}
+Has Absent bytes = ⊥
+Has (Holds kept) bytes = kept ≡ bytes
+
+-- the name stands for no file, as far as the files can tell
+abbrev pub IsGone : Kept → Type 0
+IsGone Unknown = Unit {0}
+IsGone Absent = Unit {0}
+IsGone (Holds kept) = ⊥
+
+-- no other name stands for something else than before
+abbrev pub Spares : List ℕ → Names → Names → Type 0
+Spares name before after = (other : List ℕ) → other ≢ name → after other ≡ before other
+
+-- a file has another name, in place of what had it
+pub record IsRenamed (from to : List ℕ) (before after : Names) : Type 0 where
+  pub there : before from ≢ Absent
+  pub taken : after to ≡ before from
+  pub gone : from ≢ to → IsGone (after from)
+  pub others : (other : List ℕ) → other ≢ from → other ≢ to → after other ≡ before other
+
+-- the name under which a file is written before it takes its place
+abbrev pub new_name : List ℕ → List ℕ
+new_name name = name ++ codes ".new"
+
+-- a name stands for these bytes, no file is left under the name of the writing, and no other has changed
+pub record IsReplaced (name bytes : List ℕ) (before after : Names) : Type 0 where
+  pub has : Has (after name) bytes
+  pub gone : IsGone (after (new_name name))
+  pub others : (other : List ℕ) → other ≢ name → other ≢ new_name name → after other ≡ before other

@@ -1,5 +1,5 @@
 -- What the files of a command give.
-use Rattle.std.specs.Prelude.{◌≡◌, ◌≤◌, ℕ, List, Option, Some, None, option_map, Result, Ok, Err, IsErrOf}
+use Rattle.std.specs.Prelude.{◌≡◌, ℕ, List, Option, Some, None, option_map, Result, Ok, Err, IsErrOf}
 use Rattle.desk_case.specs.Case.{CaseValues}
 use Rattle.desk_case.specs.File.{case_of}
 use Rattle.desk_case.specs.File as cases
@@ -12,7 +12,7 @@ use Rattle.desk_script.specs.declared.text.Refusal.{Refusal}
 use Rattle.desk_script.specs.declared.text.Refusal.TheVariants as refusals
 use Rattle.desk_script.specs.declared.files.FileRefusal.{FileRefusal}
 use Rattle.desk_script.specs.declared.files.FileRefusal.TheVariants as files
-use Rattle.desk_script.specs.Files.{HasFailed}
+use Rattle.desk_script.specs.Files.{HasFailed, Reads, Shelf, Stays}
 
 -- the refusal that tells why a file was not read: want of memory has none, as it ends the run
 abbrev pub file_refused : FileRefusal → Option Refusal
@@ -38,20 +38,22 @@ abbrev pub TellsBytes : {V E : Type 0} → (List ℕ → Result V E) → (E → 
 TellsBytes meaning refused (Ok bytes) given = Tells refused (meaning bytes) given
 TellsBytes meaning refused (Err why) given = (told : Refusal) × (file_refused why ≡ Some told) × (given ≡ Err told)
 
--- A file is read, whatever bytes or refusal it gives: that of a device only where the device failed, by its counts before and after, which never fall.
-abbrev pub FileGives : {V E : Type 0} → (List ℕ → Result V E) → (E → Option Refusal) → ℕ → Result V Refusal → ℕ → Type 0
-FileGives meaning refused before given after =
-    (before ≤ after) × (read : Result (List ℕ) FileRefusal) × (IsErrOf read files.Device → HasFailed before after) × TellsBytes meaning refused read given
+-- A file is read by its name, and none changes. It gives its bytes or a refusal: that of a device only where the device failed.
+abbrev pub FileGives : {V E : Type 0} → (List ℕ → Result V E) → (E → Option Refusal) → List ℕ → Shelf → Result V Refusal → Shelf → Type 0
+FileGives meaning refused name before given after =
+    Stays before after × (read : Result (List ℕ) FileRefusal) × Reads (before.kept name) read × (IsErrOf read files.Device → HasFailed before after)
+    × TellsBytes meaning refused read given
 
 abbrev pub with_case : CaseValues → Result WedgeValues Refusal → Result (CaseValues × WedgeValues) Refusal
 with_case case (Ok wedge) = Ok (case, wedge)
 with_case case (Err why) = Err why
 
 -- the wedge file is read after the case
-abbrev pub ThenWedge : Result CaseValues Refusal → ℕ → Result (CaseValues × WedgeValues) Refusal → ℕ → Type 0
-ThenWedge (Err why) mid given after = (given ≡ Err why) × (after ≡ mid)
-ThenWedge (Ok case) mid given after = (wedge : Result WedgeValues Refusal) × FileGives wedge_of wedge_refused mid wedge after × (given ≡ with_case case wedge)
+abbrev pub ThenWedge : List ℕ → Result CaseValues Refusal → Shelf → Result (CaseValues × WedgeValues) Refusal → Shelf → Type 0
+ThenWedge name (Err why) mid given after = (given ≡ Err why) × (after ≡ mid)
+ThenWedge name (Ok case) mid given after = (wedge : Result WedgeValues Refusal) × FileGives wedge_of wedge_refused name mid wedge after × (given ≡ with_case case wedge)
 
--- the case file, its reading, the wedge file, its reading: the first refusal is told
-abbrev pub BothGive : ℕ → Result (CaseValues × WedgeValues) Refusal → ℕ → Type 0
-BothGive before given after = (case : Result CaseValues Refusal) × ((mid : ℕ) × FileGives case_of case_refused before case mid × ThenWedge case mid given after)
+-- the case file, its reading, the wedge file, its reading, each by its name: the first refusal is told
+abbrev pub BothGive : List ℕ → List ℕ → Shelf → Result (CaseValues × WedgeValues) Refusal → Shelf → Type 0
+BothGive of_case of_wedge before given after =
+    (case : Result CaseValues Refusal) × ((mid : Shelf) × FileGives case_of case_refused of_case before case mid × ThenWedge of_wedge case mid given after)

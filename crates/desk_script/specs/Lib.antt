@@ -9,6 +9,7 @@ pub mod Examples
 pub mod Sites
 pub mod World
 pub mod Files
+pub mod Trial
 pub mod Inputs
 pub mod Effect
 pub mod Script

@@ -1,9 +1,10 @@
 -- Which answers a script may get.
-use Rattle.std.specs.Prelude.{◌≡◌, ◌≤◌, ℕ, List, [], ◌∷◌, ◌++◌, Option}
+use Rattle.std.specs.Prelude.{◌≡◌, ℕ, List, [], ◌∷◌, ◌++◌, Option}
 use Rattle.std.specs.Io.KnownBytes.{Appends}
 use Rattle.desk_script.specs.Lines.{Line, lines}
 use Rattle.desk_script.specs.Reply.{Reply}
 use Rattle.desk_script.specs.Text.{output}
+use Rattle.desk_script.specs.Files.{Shelf, Stays}
 use Rattle.desk_script.specs.Sites.{Desk}
 use Rattle.desk_script.specs.Effect.{Allows}
 
@@ -22,16 +23,16 @@ Turn old new before after lines = (replies : List Reply) × Script old lines rep
 abbrev pub WritesFront : Option (List ℕ) → Option (List ℕ) → List ℕ → Type 0
 WritesFront before after text = (done : List ℕ) × (rest : List ℕ) × Appends before after done × (text ≡ done ++ rest)
 
--- lines from the front were answered, with no more failures than at last, and a front of their answers was written
-abbrev pub Fronts : Desk → ℕ → Option (List ℕ) → Option (List ℕ) → List Line → Type 0
+-- lines from the front were answered, no file has changed since, and a front of their answers was written
+abbrev pub Fronts : Desk → Shelf → Option (List ℕ) → Option (List ℕ) → List Line → Type 0
 Fronts old last before after lines =
-    (front tail : List Line) × (lines ≡ front ++ tail) × (new : Desk) × (new.failures ≤ last) × (replies : List Reply) × Script old front replies new
+    (front tail : List Line) × (lines ≡ front ++ tail) × (new : Desk) × Stays new.shelf last × (replies : List Reply) × Script old front replies new
     × WritesFront before after (output replies)
 
 -- a whole run over these bytes
 abbrev pub Answers : Desk → Desk → List ℕ → Option (List ℕ) → Option (List ℕ) → Type 0
 Answers old new input before after = Turn old new before after (lines input)
 
--- a run over these bytes that stopped, where the device had failed so often at last
-abbrev pub AnswersFront : Desk → ℕ → List ℕ → Option (List ℕ) → Option (List ℕ) → Type 0
+-- a run over these bytes that stopped, and left the files so
+abbrev pub AnswersFront : Desk → Shelf → List ℕ → Option (List ℕ) → Option (List ℕ) → Type 0
 AnswersFront old last input before after = Fronts old last before after (lines input)

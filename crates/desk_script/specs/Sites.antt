@@ -8,6 +8,7 @@ use Rattle.std.specs.Coded.{Coded, coded_ℕ}
 use Rattle.desk_ops.specs.declared.op.Op.{Op}
 use Rattle.desk_ops.specs.OpSet.{OpSet, op_set_code, has_op}
 use Rattle.desk_replica.specs.State.{State}
+use Rattle.desk_script.specs.Files.{Shelf}
 
 abbrev pub Sites : Type 0
 Sites = fin.FinMap nat_cmp OpSet
@@ -49,10 +50,10 @@ pub record IsUpdated (old new : List (ℕ × State)) (n : ℕ) (s t : State) : T
 
 -- ---- the sites, and the files beside them
 
--- what a script's lines act on: the sites of a world, and how often the files' device has failed
+-- what a script's lines act on: the sites of a world, and the files
 pub record Desk : Type 0 where
   pub sites : Sites
-  pub failures : ℕ
+  pub shelf : Shelf
 
-abbrev pub desk : Sites → ℕ → Desk
-desk sites failures = record { sites = sites; failures = failures }
+abbrev pub desk : Sites → Shelf → Desk
+desk sites shelf = record { sites = sites; shelf = shelf }

@@ -1,6 +1,6 @@
 //! What each command does.
 
-ghost use Rattle.std.specs.Prelude.{◌≤◌, ◌≡◌, ◌+◌, ◌<◌, ◌^◌, length, All, IfOk, IfSome, MatchOption, MatchResult, Result, Some, None, option_map};
+ghost use Rattle.std.specs.Prelude.{◌≡◌, ◌+◌, ◌<◌, ◌^◌, length, All, IfOk, IfSome, MatchOption, MatchResult, Result, Some, None, option_map};
 ghost use Rattle.desk_script.specs.Lines.{line_of};
 ghost use Rattle.desk_script.specs.Reply.{reply};
 ghost use Rattle.desk_script.specs.Reply as replies;
@@ -11,6 +11,7 @@ ghost use Rattle.desk_replica.specs.declared.Count.{Count};
 ghost use Rattle.desk_script.specs.World.{Brings, taken};
 ghost use Rattle.desk_script.specs.World as changes;
 ghost use Rattle.desk_script.specs.Sites.{desk};
+ghost use Rattle.desk_script.specs.Files.{Stays};
 ghost use Rattle.desk_script.specs.Effect.{Allows, Performs, Does, Happens, Says, told, after, first_of, made_of, all_made, all_symbols, Inserts, edit_refused, stopped_after, set_of, sent, Takes};
 
 use crate::command::{Command, ParseError};
@@ -410,8 +411,8 @@ fn act<F: Files, A: Allocator + Copy>(
     files: &mut F,
     command: Command<'_, A>,
 ) -> Result<Response<A>, NoMemory>
-    ensures told { IfOk result (λ a. Performs (desk world.old (F.count files.old)) (request command.entry) (reply a) (desk world.new (F.count files.new))) }
-    ensures counted { F.count files.old ≤ F.count files.new }
+    ensures told { IfOk result (λ a. Performs (desk world.old (F.shelf files.old)) (request command.entry) (reply a) (desk world.new (F.shelf files.new))) }
+    ensures stays { Stays (F.shelf files.old) (F.shelf files.new) }
 {
     match command {
         Command::Site(site) => add_site(world, site),
@@ -438,8 +439,8 @@ pub fn answer<F: Files, A: Allocator + Copy>(
     files: &mut F,
     line: &[u8],
 ) -> Result<Response<A>, NoMemory>
-    ensures told { IfOk result (λ a. Allows (desk world.old (F.count files.old)) (line_of line.now) (reply a) (desk world.new (F.count files.new))) }
-    ensures counted { F.count files.old ≤ F.count files.new }
+    ensures told { IfOk result (λ a. Allows (desk world.old (F.shelf files.old)) (line_of line.now) (reply a) (desk world.new (F.shelf files.new))) }
+    ensures stays { Stays (F.shelf files.old) (F.shelf files.new) }
 {
     if line.len() > MAX_LINE {
         return Ok(Response::Refused(Refusal::Line));

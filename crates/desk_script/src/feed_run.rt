@@ -5,9 +5,9 @@ ghost use Rattle.std.specs.FinMap as fin;
 ghost use Rattle.desk_ops.specs.Op.{IsLawful};
 ghost use Rattle.desk_codec.specs.Feed.{IsFeed};
 ghost use Rattle.desk_script.specs.Faults.{IsCrowded, IsOfFeed, IsOfStoring, IsUnopened};
-ghost use Rattle.desk_script.specs.Files.{HasFailed};
+ghost use Rattle.desk_script.specs.Files.{HasFailed, Reads, Stays, Unknown, shelf};
 ghost use Rattle.desk_script.specs.Sites.{desk};
-ghost use Rattle.desk_script.specs.Stored.{AnswersStored, AnswersStoredFront, IsStart, Stores, one_site};
+ghost use Rattle.desk_script.specs.Stored.{AnswersStored, AnswersStoredFront, AnswersUnstored, IsNotStored, IsStart, IsStored, Stores, one_site};
 
 use crate::fault::RunFault;
 use crate::files::{FileRefusal, Files};
@@ -26,7 +26,7 @@ use std::io::{Read, Write};
 fn operations_of<A: Allocator + Copy>(alloc: A, bytes: &[u8]) -> Result<Vec<Op, A>, RunFault>
     ensures feed { IfOk result (λ ops. IsFeed bytes.now ops.items) }
     ensures lawful { IfOk result (λ ops. All IsLawful ops.items) }
-    ensures fault { IfErr result (IsUnopened (λ read. read ≡ Ok bytes.now) 0 0) }
+    ensures fault { IfErr result (IsUnopened (λ read. read ≡ Ok bytes.now) (shelf (λ _. Unknown) 0) (shelf (λ _. Unknown) 0)) }
 {
     match read_feed(alloc, bytes) {
         Ok(ops) => Ok(ops),
@@ -42,10 +42,10 @@ fn stored<F: Files, A: Allocator + Copy>(
     files: &mut F,
     name: &str,
 ) -> Result<Vec<Op, A>, RunFault>
-    ensures ok { IfOk result (λ ops. (read : Result (List ℕ) FileRefusal) × F.gives files.old name.now read × Stores read ops.items) }
+    ensures ok { IfOk result (λ ops. (read : Result (List ℕ) FileRefusal) × Reads ((F.shelf files.old).kept name.now) read × Stores read ops.items) }
     ensures lawful { IfOk result (λ ops. All IsLawful ops.items) }
-    ensures err { IfErr result (IsUnopened (F.gives files.old name.now) (F.count files.old) (F.count files.new)) }
-    ensures counted { F.count files.old ≤ F.count files.new }
+    ensures err { IfErr result (IsUnopened (Reads ((F.shelf files.old).kept name.now)) (F.shelf files.old) (F.shelf files.new)) }
+    ensures stays { Stays (F.shelf files.old) (F.shelf files.new) }
 {
     match files.read(alloc, name) {
         Ok(bytes) => operations_of(alloc, &bytes),
@@ -83,9 +83,9 @@ fn opened<F: Files, A: Allocator + Copy>(
     site: u16,
 ) -> Result<World<A>, RunFault>
     requires { 1 ≤ site }
-    ensures ok { IfOk result (λ w. IsStart (F.gives files.old name.now) (F.count files.old) site (desk w (F.count files.new))) }
-    ensures err { IfErr result (IsUnopened (F.gives files.old name.now) (F.count files.old) (F.count files.new)) }
-    ensures counted { F.count files.old ≤ F.count files.new }
+    ensures ok { IfOk result (λ w. IsStart name.now site (F.shelf files.old) (desk w (F.shelf files.new))) }
+    ensures err { IfErr result (IsUnopened (Reads ((F.shelf files.old).kept name.now)) (F.shelf files.old) (F.shelf files.new)) }
+    ensures stays { Stays (F.shelf files.old) (F.shelf files.new) }
 {
     match stored(alloc, files, name) {
         Ok(ops) => world_of(alloc, site, &ops),
@@ -101,9 +101,10 @@ fn keep_feed<F: Files, A: Allocator + Copy>(
     name: &str,
     site: u16,
 ) -> Result<(), RunFault>
-    ensures there { IfOk result (λ _. is_some (fin.get world.now site) ≡ true) }
-    ensures own { IfErr result (IsOfStoring (F.count files.old) (F.count files.new)) }
-    ensures counted { F.count files.old ≤ F.count files.new }
+    ensures ok { OnOk result (IsStored name.now site (desk world.now (F.shelf files.old)) (F.shelf files.new)) }
+    ensures err { OnErr result (IsNotStored name.now (F.shelf files.old) (F.shelf files.new)) }
+    ensures own { IfErr result (IsOfStoring (F.shelf files.old) (F.shelf files.new)) }
+    ensures counted { (F.shelf files.old).failures ≤ (F.shelf files.new).failures }
 {
     let Some(replica) = world.replica(site) else {
         return Err(RunFault::NoMemory);
@@ -122,7 +123,8 @@ fn keep_feed<F: Files, A: Allocator + Copy>(
 
 /// Runs a script on a stored feed: the site holds the operations of the named file, or none where that is not there. Once
 /// all commands were answered the feed of that site alone is stored under the name, in place of the old one; before that
-/// no file is changed. After an `Err` what was written is the front of answer lines, or nothing.
+/// no file is changed, and after an `Err` none but `name.new`. What was written is the front of answer lines then, or
+/// nothing.
 pub fn run_on_feed<R: Read, W: Write, F: Files, A: Allocator + Copy>(
     alloc: A,
     global: Global,
@@ -133,10 +135,10 @@ pub fn run_on_feed<R: Read, W: Write, F: Files, A: Allocator + Copy>(
     site: u16,
 ) -> Result<(), RunFault>
     requires { 1 ≤ site }
-    ensures ok { OnOk result (IfSome (R.remaining reader.old) (λ input. AnswersStored (F.gives files.old name.now) (F.count files.old) (F.count files.new) site input (W.contents writer.old) (W.contents writer.new))) }
-    ensures err { OnErr result (IfSome (R.remaining reader.old) (λ input. AnswersStoredFront (F.gives files.old name.now) (F.count files.old) (F.count files.new) site input (W.contents writer.old) (W.contents writer.new))) }
-    ensures feed { IfErr result (IsOfFeed (F.gives files.old name.now) (IfSome (R.remaining reader.old) (λ input. AnswersStored (F.gives files.old name.now) (F.count files.old) (F.count files.new) site input (W.contents writer.old) (W.contents writer.new))) (F.count files.old) (F.count files.new)) }
-    ensures device { IsErrOf result (RunFault.File FileRefusal.Device) → HasFailed (F.count files.old) (F.count files.new) }
+    ensures ok { OnOk result (IfSome (R.remaining reader.old) (λ input. AnswersStored name.now site (F.shelf files.old) (F.shelf files.new) input (W.contents writer.old) (W.contents writer.new))) }
+    ensures err { OnErr result (IfSome (R.remaining reader.old) (λ input. AnswersStoredFront name.now site (F.shelf files.old) (F.shelf files.new) input (W.contents writer.old) (W.contents writer.new))) }
+    ensures feed { IfErr result (IsOfFeed (Reads ((F.shelf files.old).kept name.now)) (IfSome (R.remaining reader.old) (λ input. AnswersUnstored name.now site (F.shelf files.old) (F.shelf files.new) input (W.contents writer.old) (W.contents writer.new))) (F.shelf files.old) (F.shelf files.new)) }
+    ensures device { IsErrOf result (RunFault.File FileRefusal.Device) → HasFailed (F.shelf files.old) (F.shelf files.new) }
 {
     let mut world = match opened(alloc, files, name, site) {
         Ok(world) => world,

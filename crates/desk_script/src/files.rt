@@ -1,7 +1,7 @@
 //! Files by name.
 
-ghost use Rattle.std.specs.Prelude.{◌≢◌, ◌≤◌, ℕ, List, Err, IfErr, IfOk, IsErrOf, Result, ◌≡◌, length};
-ghost use Rattle.desk_script.specs.Files.{HasFailed, bytes_read, max_file};
+ghost use Rattle.std.specs.Prelude.{◌≢◌, ◌≤◌, IfErr, IfOk, IsErrOf, ◌≡◌, length};
+ghost use Rattle.desk_script.specs.Files.{Has, HasFailed, IsRenamed, Reads, Shelf, Spares, Stays, bytes_read, max_file, shelf};
 
 use std::alloc::Allocator;
 use thiserror::Error;
@@ -29,35 +29,38 @@ pub enum FileRefusal {
 pub trait Files {
     ghost use Rattle.desk_script.specs.declared.files.FileRefusal.{FileRefusal};
 
-    /// How often the device has failed. No call lowers it.
-    ghost count: { Self → ℕ };
-
-    /// What may be read of a name: a file's bytes, or a refusal. Files that cannot tell leave it open.
-    ghost gives: { Self → List ℕ → Result (List ℕ) FileRefusal → Type 0 } = { λ _ _ _. Unit {0} };
+    /// What each name stands for, as far as the files can tell, and how often the device has failed.
+    ghost shelf: { Self → Shelf };
 
     /// How often the device has failed. It stays at its greatest value.
     fn failures(&self) -> u64
-        ensures { result ≡ count self.now };
+        ensures { result ≡ (shelf self.now).failures };
 
-    /// A file's bytes, `MAX_FILE` at most. `Device` comes only where the device failed in this call, by the count while it
-    /// can rise.
+    /// A file's bytes, `MAX_FILE` at most. No file changes. `Device` comes only where the device failed in this call, by
+    /// the count while it can rise.
     fn read<A: Allocator + Copy>(&mut self, alloc: A, name: &str) -> Result<Vec<u8, A>, FileRefusal>
-        ensures device { IsErrOf result FileRefusal.Device → HasFailed (count self.old) (count self.new) }
-        ensures counted { count self.old ≤ count self.new }
+        ensures device { IsErrOf result FileRefusal.Device → HasFailed (shelf self.old) (shelf self.new) }
+        ensures stays { Stays (shelf self.old) (shelf self.new) }
         ensures within { IfOk result (λ v. length v.items ≤ max_file) }
-        ensures given { gives self.old name.now (bytes_read (λ v. v.items) result) };
+        ensures given { Reads ((shelf self.old).kept name.now) (bytes_read (λ v. v.items) result) };
 
-    /// Writes a file anew. `Device` comes as from `read`, and `Large` never.
+    /// Writes a file anew, in place of one that had the name. A refused write may leave anything under the name.
+    /// `Device` comes as from `read`, and `Large` never.
     fn write_new(&mut self, name: &str, bytes: &[u8]) -> Result<(), FileRefusal>
-        ensures device { IsErrOf result FileRefusal.Device → HasFailed (count self.old) (count self.new) }
+        ensures device { IsErrOf result FileRefusal.Device → HasFailed (shelf self.old) (shelf self.new) }
         ensures small { IfErr result (λ e. e ≢ FileRefusal.Large) }
-        ensures counted { count self.old ≤ count self.new };
+        ensures counted { (shelf self.old).failures ≤ (shelf self.new).failures }
+        ensures written { IfOk result (λ _. Has ((shelf self.new).kept name.now) bytes.now) }
+        ensures others { Spares name.now (shelf self.old).kept (shelf self.new).kept };
 
-    /// Gives a file another name, in place of a file that had it. `Device` comes as from `read`, and `Large` never.
+    /// Gives a file another name, in place of a file that had it. A refused call changes no file. `Device` comes as from
+    /// `read`, and `Large` never.
     fn rename(&mut self, from: &str, to: &str) -> Result<(), FileRefusal>
-        ensures device { IsErrOf result FileRefusal.Device → HasFailed (count self.old) (count self.new) }
+        ensures device { IsErrOf result FileRefusal.Device → HasFailed (shelf self.old) (shelf self.new) }
         ensures small { IfErr result (λ e. e ≢ FileRefusal.Large) }
-        ensures counted { count self.old ≤ count self.new };
+        ensures counted { (shelf self.old).failures ≤ (shelf self.new).failures }
+        ensures renamed { IfOk result (λ _. IsRenamed from.now to.now (shelf self.old).kept (shelf self.new).kept) }
+        ensures refused { IfErr result (λ _. (shelf self.new).kept ≡ (shelf self.old).kept) };
 }
 
 /// Files of which none is there.
@@ -65,11 +68,9 @@ pub trait Files {
 pub struct NoFiles;
 
 impl Files for NoFiles {
-    ghost use Rattle.desk_script.specs.declared.files.FileRefusal.TheVariants.{Missing};
+    ghost use Rattle.desk_script.specs.Files.{Absent};
 
-    ghost count = { λ _. 0 };
-
-    ghost gives = { λ _ _ r. r ≡ Err Missing };
+    ghost shelf = { λ _. shelf (λ _. Absent) 0 };
 
     fn failures(&self) -> u64 {
         0

@@ -1,8 +1,9 @@
 //! The case and the wedge of a command, read from its files.
 
-ghost use Rattle.std.specs.Prelude.{◌≤◌, ◌≡◌, Ok, IfOk, MatchResult, Some, None};
+ghost use Rattle.std.specs.Prelude.{◌≡◌, Ok, IfOk, MatchResult, Some, None};
 ghost use Rattle.desk_case.specs.File.{case_of};
 ghost use Rattle.desk_wedge.specs.File.{wedge_of};
+ghost use Rattle.desk_script.specs.Files.{Stays};
 ghost use Rattle.desk_script.specs.Inputs.{file_refused, case_refused, wedge_refused, Tells, FileGives, with_case, ThenWedge, BothGive};
 
 use crate::files::{FileRefusal, Files};
@@ -67,8 +68,8 @@ fn case_at<F: Files, A: Allocator + Copy>(
     files: &mut F,
     name: &str,
 ) -> Result<Result<MatrixCase, Refusal>, NoMemory>
-    ensures told { IfOk result (λ given. FileGives case_of case_refused (F.count files.old) given (F.count files.new)) }
-    ensures counted { F.count files.old ≤ F.count files.new }
+    ensures told { IfOk result (λ given. FileGives case_of case_refused name.now (F.shelf files.old) given (F.shelf files.new)) }
+    ensures stays { Stays (F.shelf files.old) (F.shelf files.new) }
 {
     match files.read(memory.own, name) {
         Ok(bytes) => case_in(memory.global, &bytes),
@@ -81,8 +82,8 @@ fn wedge_at<F: Files, A: Allocator + Copy>(
     files: &mut F,
     name: &str,
 ) -> Result<Result<Wedge, Refusal>, NoMemory>
-    ensures told { IfOk result (λ given. FileGives wedge_of wedge_refused (F.count files.old) given (F.count files.new)) }
-    ensures counted { F.count files.old ≤ F.count files.new }
+    ensures told { IfOk result (λ given. FileGives wedge_of wedge_refused name.now (F.shelf files.old) given (F.shelf files.new)) }
+    ensures stays { Stays (F.shelf files.old) (F.shelf files.new) }
 {
     match files.read(memory.own, name) {
         Ok(bytes) => wedge_in(memory.global, &bytes),
@@ -109,8 +110,8 @@ fn beside<F: Files, A: Allocator + Copy>(
     case: MatrixCase,
     name: &str,
 ) -> Result<Result<(MatrixCase, Wedge), Refusal>, NoMemory>
-    ensures told { IfOk result (λ given. ThenWedge (Ok case) (F.count files.old) given (F.count files.new)) }
-    ensures counted { F.count files.old ≤ F.count files.new }
+    ensures told { IfOk result (λ given. ThenWedge name.now (Ok case) (F.shelf files.old) given (F.shelf files.new)) }
+    ensures stays { Stays (F.shelf files.old) (F.shelf files.new) }
 {
     let wedge = wedge_at(memory, files, name)?;
     Ok(with_case(case, wedge))
@@ -123,8 +124,8 @@ fn then_wedge<F: Files, A: Allocator + Copy>(
     case: Result<MatrixCase, Refusal>,
     name: &str,
 ) -> Result<Result<(MatrixCase, Wedge), Refusal>, NoMemory>
-    ensures told { IfOk result (λ given. ThenWedge case (F.count files.old) given (F.count files.new)) }
-    ensures counted { F.count files.old ≤ F.count files.new }
+    ensures told { IfOk result (λ given. ThenWedge name.now case (F.shelf files.old) given (F.shelf files.new)) }
+    ensures stays { Stays (F.shelf files.old) (F.shelf files.new) }
 {
     match case {
         Ok(case) => beside(memory, files, case, name),
@@ -139,8 +140,8 @@ pub fn both<F: Files, A: Allocator + Copy>(
     case: &str,
     wedge: &str,
 ) -> Result<Result<(MatrixCase, Wedge), Refusal>, NoMemory>
-    ensures told { IfOk result (λ given. BothGive (F.count files.old) given (F.count files.new)) }
-    ensures counted { F.count files.old ≤ F.count files.new }
+    ensures told { IfOk result (λ given. BothGive case.now wedge.now (F.shelf files.old) given (F.shelf files.new)) }
+    ensures stays { Stays (F.shelf files.old) (F.shelf files.new) }
 {
     let case = case_at(memory, files, case)?;
     then_wedge(memory, files, case, wedge)

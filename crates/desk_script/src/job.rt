@@ -1,9 +1,10 @@
 //! The job of a site's copy: its ribbon, and the ribbon cast.
 
-ghost use Rattle.std.specs.Prelude.{◌≤◌, ◌≡◌, ◌<◌, ◌^◌, length, List, Ok, IfOk, MatchResult};
+ghost use Rattle.std.specs.Prelude.{◌≡◌, ◌<◌, ◌^◌, length, List, Ok, IfOk, MatchResult};
 ghost use Rattle.desk_signals.specs.declared.RibbonRow.{RibbonRow};
 ghost use Rattle.desk_caster.specs.Caster.{Line, cast};
 ghost use Rattle.desk_caster.specs.Reading.{IsRibbon};
+ghost use Rattle.desk_script.specs.Files.{Stays};
 ghost use Rattle.desk_script.specs.Effect.{job_of, TellsRibbon, TellsCast, TellsLines, Performs};
 ghost use Rattle.desk_script.specs.Reply.{reply, Refused};
 ghost use Rattle.desk_script.specs.Request as requests;
@@ -145,8 +146,8 @@ pub fn ribbon<F: Files, A: Allocator + Copy>(
     case: &str,
     wedge: &str,
 ) -> Result<Response<A>, NoMemory>
-    ensures told { IfOk result (λ a. Performs (desk world.now (F.count files.old)) (requests.Ribbon site case.now wedge.now) (reply a) (desk world.now (F.count files.new))) }
-    ensures counted { F.count files.old ≤ F.count files.new }
+    ensures told { IfOk result (λ a. Performs (desk world.now (F.shelf files.old)) (requests.Ribbon site case.now wedge.now) (reply a) (desk world.now (F.shelf files.new))) }
+    ensures stays { Stays (F.shelf files.old) (F.shelf files.new) }
 {
     let Some(replica) = replica_of(world, site) else {
         return Ok(Response::Refused(Refusal::Site));
@@ -164,8 +165,8 @@ pub fn cast_lines<F: Files, A: Allocator + Copy>(
     case: &str,
     wedge: &str,
 ) -> Result<Response<A>, NoMemory>
-    ensures told { IfOk result (λ a. Performs (desk world.now (F.count files.old)) (requests.Cast site case.now wedge.now) (reply a) (desk world.now (F.count files.new))) }
-    ensures counted { F.count files.old ≤ F.count files.new }
+    ensures told { IfOk result (λ a. Performs (desk world.now (F.shelf files.old)) (requests.Cast site case.now wedge.now) (reply a) (desk world.now (F.shelf files.new))) }
+    ensures stays { Stays (F.shelf files.old) (F.shelf files.new) }
 {
     let Some(replica) = replica_of(world, site) else {
         return Ok(Response::Refused(Refusal::Site));

@@ -43,7 +43,9 @@ fn parts(name: &str) -> Result<(&'static [u8], &'static [u8]), FileRefusal> {
 }
 
 impl Files for Shelf {
-    ghost count = { λ s. s.failures };
+    ghost use Rattle.desk_script.specs.Files.{Unknown, shelf};
+
+    ghost shelf = { λ s. shelf (λ _. Unknown) s.failures };
 
     fn failures(&self) -> u64 {
         self.failures

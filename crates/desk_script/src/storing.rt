@@ -1,30 +1,34 @@
 //! A file that is replaced as a whole.
 
-ghost use Rattle.std.specs.Prelude.{◌≢◌, ◌≤◌, IfErr, IsErrOf};
-ghost use Rattle.desk_script.specs.Files.{HasFailed};
+ghost use Rattle.std.specs.Prelude.{◌≡◌, ◌≢◌, ◌≤◌, IfErr, IfOk, IsErrOf, OnErr, OnOk, string_bytes};
+ghost use Rattle.desk_script.specs.Files.{HasFailed, IsReplaced, Spares, new_name};
 
 use crate::files::{FileRefusal, Files};
 use std::alloc::{AllocError, Allocator};
 
 /// The name under which a file is written before it takes its place.
-fn new_name<A: Allocator + Copy>(alloc: A, name: &str) -> Result<String<A>, AllocError> {
+fn new_name<A: Allocator + Copy>(alloc: A, name: &str) -> Result<String<A>, AllocError>
+    ensures { IfOk result (λ s. string_bytes s ≡ new_name name.now) }
+{
     let mut new = String::from_str(alloc, name)?;
     new.push_str(".new")?;
     Ok(new)
 }
 
 /// Stores bytes under a name: they are written as `name.new`, which then takes the name. So whatever fails, the file has
-/// its old bytes or the new ones. `Device` comes only where the device failed in this call, by the count while it can
-/// rise, and `Large` never.
+/// its old bytes or the new ones: after an `Err` the old ones, and what stands under `name.new` is open. No other file
+/// changes. `Device` comes only where the device failed in this call, by the count while it can rise, and `Large` never.
 pub fn store<F: Files, A: Allocator + Copy>(
     alloc: A,
     files: &mut F,
     name: &str,
     bytes: &[u8],
 ) -> Result<(), FileRefusal>
-    ensures device { IsErrOf result FileRefusal.Device → HasFailed (F.count files.old) (F.count files.new) }
+    ensures device { IsErrOf result FileRefusal.Device → HasFailed (F.shelf files.old) (F.shelf files.new) }
     ensures small { IfErr result (λ e. e ≢ FileRefusal.Large) }
-    ensures counted { F.count files.old ≤ F.count files.new }
+    ensures counted { (F.shelf files.old).failures ≤ (F.shelf files.new).failures }
+    ensures ok { OnOk result (IsReplaced name.now bytes.now (F.shelf files.old).kept (F.shelf files.new).kept) }
+    ensures err { OnErr result (Spares (new_name name.now) (F.shelf files.old).kept (F.shelf files.new).kept) }
 {
     let Ok(new) = new_name(alloc, name) else {
         return Err(FileRefusal::NoMemory);

@@ -6,6 +6,7 @@ ghost use Rattle.desk_script.specs.Lines.{Line, line_of, without_cr};
 ghost use Rattle.desk_script.specs.Reply.{Reply, reply};
 ghost use Rattle.desk_script.specs.Text.{text};
 ghost use Rattle.desk_script.specs.Sites.{Sites, desk, no_sites};
+ghost use Rattle.desk_script.specs.Files.{Stays};
 ghost use Rattle.desk_script.specs.Effect.{Allows};
 ghost use Rattle.desk_script.specs.Script.{Turn, Fronts, WritesFront, Answers, AnswersFront};
 ghost use Rattle.desk_script.specs.Faults.{IsOfRun};
@@ -61,8 +62,8 @@ fn answered<F: Files, A: Allocator + Copy>(
     files: &mut F,
     line: &[u8],
 ) -> Result<String<A>, NoMemory>
-    ensures told { IfOk result (λ s. (r : Reply) × Allows (desk world.old (F.count files.old)) (line_of line.now) r (desk world.new (F.count files.new)) × (string_bytes s ≡ text r ++ 10 ∷ [])) }
-    ensures counted { F.count files.old ≤ F.count files.new }
+    ensures told { IfOk result (λ s. (r : Reply) × Allows (desk world.old (F.shelf files.old)) (line_of line.now) r (desk world.new (F.shelf files.new)) × (string_bytes s ≡ text r ++ 10 ∷ [])) }
+    ensures stays { Stays (F.shelf files.old) (F.shelf files.new) }
 {
     let reply = answer(memory, world, files, line)?;
     spelled(memory.own, &reply)
@@ -76,9 +77,9 @@ fn take_line<W: Write, F: Files, A: Allocator + Copy>(
     files: &mut F,
     line: &[u8],
 ) -> Result<(), RunFault>
-    ensures ok { OnOk result (Turn (desk world.old (F.count files.old)) (desk world.new (F.count files.new)) (W.contents writer.old) (W.contents writer.new) (line_of line.now ∷ [])) }
-    ensures err { OnErr result ((more : List Line) → Fronts (desk world.old (F.count files.old)) (F.count files.new) (W.contents writer.old) (W.contents writer.new) (line_of line.now ∷ more)) }
-    ensures counted { F.count files.old ≤ F.count files.new }
+    ensures ok { OnOk result (Turn (desk world.old (F.shelf files.old)) (desk world.new (F.shelf files.new)) (W.contents writer.old) (W.contents writer.new) (line_of line.now ∷ [])) }
+    ensures err { OnErr result ((more : List Line) → Fronts (desk world.old (F.shelf files.old)) (F.shelf files.new) (W.contents writer.old) (W.contents writer.new) (line_of line.now ∷ more)) }
+    ensures stays { Stays (F.shelf files.old) (F.shelf files.new) }
     ensures own { IfErr result IsOfRun }
 {
     let Ok(text) = answered(memory, world, files, line) else {
@@ -127,9 +128,9 @@ fn take_byte<W: Write, F: Files, A: Allocator + Copy>(
 ) -> Result<(), RunFault>
     requires { length line.old.items ≤ PENDING_LIMIT }
     ensures kept { length line.new.items ≤ PENDING_LIMIT }
-    ensures ok { OnOk result (Moves (desk world.old (F.count files.old)) (desk world.new (F.count files.new)) (W.contents writer.old) (W.contents writer.new) line.old.items (byte ∷ []) line.new.items) }
-    ensures err { OnErr result ((more : List ℕ) → Fronts (desk world.old (F.count files.old)) (F.count files.new) (W.contents writer.old) (W.contents writer.new) (lines_from line.old.items (byte ∷ more))) }
-    ensures counted { F.count files.old ≤ F.count files.new }
+    ensures ok { OnOk result (Moves (desk world.old (F.shelf files.old)) (desk world.new (F.shelf files.new)) (W.contents writer.old) (W.contents writer.new) line.old.items (byte ∷ []) line.new.items) }
+    ensures err { OnErr result ((more : List ℕ) → Fronts (desk world.old (F.shelf files.old)) (F.shelf files.new) (W.contents writer.old) (W.contents writer.new) (lines_from line.old.items (byte ∷ more))) }
+    ensures stays { Stays (F.shelf files.old) (F.shelf files.new) }
     ensures own { IfErr result IsOfRun }
 {
     if byte != b'\n' {
@@ -153,9 +154,9 @@ fn take_bytes<W: Write, F: Files, A: Allocator + Copy>(
 ) -> Result<(), RunFault>
     requires { length line.old.items ≤ PENDING_LIMIT }
     ensures kept { length line.new.items ≤ PENDING_LIMIT }
-    ensures ok { OnOk result (Moves (desk world.old (F.count files.old)) (desk world.new (F.count files.new)) (W.contents writer.old) (W.contents writer.new) line.old.items bytes.now line.new.items) }
-    ensures err { OnErr result ((more : List ℕ) → Fronts (desk world.old (F.count files.old)) (F.count files.new) (W.contents writer.old) (W.contents writer.new) (lines_from line.old.items (bytes.now ++ more))) }
-    ensures counted { F.count files.old ≤ F.count files.new }
+    ensures ok { OnOk result (Moves (desk world.old (F.shelf files.old)) (desk world.new (F.shelf files.new)) (W.contents writer.old) (W.contents writer.new) line.old.items bytes.now line.new.items) }
+    ensures err { OnErr result ((more : List ℕ) → Fronts (desk world.old (F.shelf files.old)) (F.shelf files.new) (W.contents writer.old) (W.contents writer.new) (lines_from line.old.items (bytes.now ++ more))) }
+    ensures stays { Stays (F.shelf files.old) (F.shelf files.new) }
     ensures own { IfErr result IsOfRun }
 {
     for b in bytes {
@@ -174,9 +175,9 @@ fn finish<W: Write, F: Files, A: Allocator + Copy>(
     files: &mut F,
     line: &[u8],
 ) -> Result<(), RunFault>
-    ensures ok { OnOk result (Turn (desk world.old (F.count files.old)) (desk world.new (F.count files.new)) (W.contents writer.old) (W.contents writer.new) (last_line line.now)) }
-    ensures err { OnErr result (Fronts (desk world.old (F.count files.old)) (F.count files.new) (W.contents writer.old) (W.contents writer.new) (last_line line.now)) }
-    ensures counted { F.count files.old ≤ F.count files.new }
+    ensures ok { OnOk result (Turn (desk world.old (F.shelf files.old)) (desk world.new (F.shelf files.new)) (W.contents writer.old) (W.contents writer.new) (last_line line.now)) }
+    ensures err { OnErr result (Fronts (desk world.old (F.shelf files.old)) (F.shelf files.new) (W.contents writer.old) (W.contents writer.new) (last_line line.now)) }
+    ensures stays { Stays (F.shelf files.old) (F.shelf files.new) }
     ensures own { IfErr result IsOfRun }
 {
     if line.is_empty() {
@@ -194,9 +195,9 @@ pub fn answer_all<R: Read, W: Write, F: Files, A: Allocator + Copy>(
     writer: &mut W,
     files: &mut F,
 ) -> Result<(), RunFault>
-    ensures ok { OnOk result (IfSome (R.remaining reader.old) (λ input. Answers (desk world.old (F.count files.old)) (desk world.new (F.count files.new)) input (W.contents writer.old) (W.contents writer.new))) }
-    ensures err { OnErr result (IfSome (R.remaining reader.old) (λ input. AnswersFront (desk world.old (F.count files.old)) (F.count files.new) input (W.contents writer.old) (W.contents writer.new))) }
-    ensures counted { F.count files.old ≤ F.count files.new }
+    ensures ok { OnOk result (IfSome (R.remaining reader.old) (λ input. Answers (desk world.old (F.shelf files.old)) (desk world.new (F.shelf files.new)) input (W.contents writer.old) (W.contents writer.new))) }
+    ensures err { OnErr result (IfSome (R.remaining reader.old) (λ input. AnswersFront (desk world.old (F.shelf files.old)) (F.shelf files.new) input (W.contents writer.old) (W.contents writer.new))) }
+    ensures stays { Stays (F.shelf files.old) (F.shelf files.new) }
     ensures own { IfErr result IsOfRun }
 {
     let mut line = Vec::new(memory.own);
@@ -227,9 +228,9 @@ pub fn run<R: Read, W: Write, F: Files, A: Allocator + Copy>(
     writer: &mut W,
     files: &mut F,
 ) -> Result<(), RunFault>
-    ensures ok { OnOk result (IfSome (R.remaining reader.old) (λ input. (new : Sites) × Answers (desk no_sites (F.count files.old)) (desk new (F.count files.new)) input (W.contents writer.old) (W.contents writer.new))) }
-    ensures err { OnErr result (IfSome (R.remaining reader.old) (λ input. AnswersFront (desk no_sites (F.count files.old)) (F.count files.new) input (W.contents writer.old) (W.contents writer.new))) }
-    ensures counted { F.count files.old ≤ F.count files.new }
+    ensures ok { OnOk result (IfSome (R.remaining reader.old) (λ input. (new : Sites) × Answers (desk no_sites (F.shelf files.old)) (desk new (F.shelf files.new)) input (W.contents writer.old) (W.contents writer.new))) }
+    ensures err { OnErr result (IfSome (R.remaining reader.old) (λ input. AnswersFront (desk no_sites (F.shelf files.old)) (F.shelf files.new) input (W.contents writer.old) (W.contents writer.new))) }
+    ensures stays { Stays (F.shelf files.old) (F.shelf files.new) }
     ensures own { IfErr result IsOfRun }
 {
     let mut world = World::new(alloc);

@@ -1,7 +1,8 @@
 //! A reader, a writer and files in memory, which fail where they are told to. For tests.
 
-ghost use Rattle.std.specs.Prelude.{◌≡◌, ◌≤◌, ◌<◌, ◌≢◌, IfErr, IfOk, IfSome, IsTrue, Some, length};
-ghost use Rattle.desk_script.specs.Files.{HasFailed, max_file};
+ghost use Rattle.std.specs.Prelude.{◌≡◌, ◌≤◌, ◌<◌, ◌≢◌, IfErr, IfOk, IsErrOf, IsTrue, Some, length, option_map};
+ghost use Rattle.desk_script.specs.Files.{HasRisen, IsRenamed, max_file, shelf};
+ghost use Rattle.desk_script.specs.Trial.{IsPut, bytes_in, kept_in};
 
 use crate::files::{FileRefusal, Files, MAX_FILE};
 use std::alloc::{AllocError, Allocator};
@@ -132,18 +133,45 @@ impl<A: Allocator + Copy> Write for TrialWriter<A> {
     }
 }
 
-/// A file in memory.
+/// A change of files in memory.
 #[derive(Drop)]
-struct TrialFile<A: Allocator + Copy> {
-    name: String<A>,
-    bytes: Vec<u8, A>,
+enum FileChange<A: Allocator + Copy> {
+    Put { name: String<A>, bytes: Vec<u8, A> },
+    Move { from: String<A>, to: String<A> },
+}
+
+/// The bytes of a file, by the changes, newest first.
+fn bytes_in<'a, A: Allocator + Copy>(changes: &'a [FileChange<A>], name: &str) -> Option<&'a [u8]>
+    ensures { option_map (λ b. b.now) result ≡ bytes_in changes.now name.now }
+{
+    let Some((change, older)) = changes.split_first() else {
+        return None;
+    };
+    match change {
+        FileChange::Put { name: put, bytes } => {
+            if put.as_str() == name {
+                Some(bytes.as_slice())
+            } else {
+                bytes_in(older, name)
+            }
+        }
+        FileChange::Move { from, to } => {
+            if to.as_str() == name {
+                bytes_in(older, from.as_str())
+            } else if from.as_str() == name {
+                None
+            } else {
+                bytes_in(older, name)
+            }
+        }
+    }
 }
 
 /// Files in memory, of which one call may fail. There are no folders.
 #[derive(Drop)]
 pub struct TrialFiles<A: Allocator + Copy> {
     alloc: A,
-    files: Vec<TrialFile<A>, A>,
+    changes: Vec<FileChange<A>, A>,
     calls: u64,
     failing_call: u64,
     failures: u64,
@@ -154,7 +182,7 @@ impl<A: Allocator + Copy> TrialFiles<A> {
     pub fn new(alloc: A) -> Self {
         TrialFiles {
             alloc,
-            files: Vec::new(alloc),
+            changes: Vec::new(alloc),
             calls: 0,
             failing_call: 0,
             failures: 0,
@@ -170,39 +198,31 @@ impl<A: Allocator + Copy> TrialFiles<A> {
     }
 
     /// The bytes of a file.
-    pub fn bytes_of(&self, name: &str) -> Option<&[u8]> {
-        let place = self.place_of(name)?;
-        Some(&self.files[place].bytes)
+    pub fn bytes_of(&self, name: &str) -> Option<&[u8]>
+        ensures { option_map (λ b. b.now) result ≡ bytes_in self.now.changes.items name.now }
+    {
+        bytes_in(&self.changes, name)
     }
 
     /// Puts a file there, in place of one of its name. It is no call.
     pub fn put(&mut self, name: &str, bytes: &[u8]) -> Result<(), AllocError>
-        ensures { self.new.failures ≡ self.old.failures }
+        ensures failures { self.new.failures ≡ self.old.failures }
+        ensures ok { IfOk result (λ _. IsPut name.now bytes.now self.old.changes.items self.new.changes.items) }
+        ensures err { IfErr result (λ _. self.new.changes.items ≡ self.old.changes.items) }
     {
         let mut kept = Vec::with_capacity(self.alloc, bytes.len())?;
         kept.extend_from_slice(bytes)?;
-        match self.place_of(name) {
-            Some(place) => self.files[place].bytes = kept,
-            None => {
-                let name = String::from_str(self.alloc, name)?;
-                self.files.push(TrialFile { name, bytes: kept })?;
-            }
-        }
+        let name = String::from_str(self.alloc, name)?;
+        self.changes
+            .insert(0, FileChange::Put { name, bytes: kept })?;
         Ok(())
-    }
-
-    fn place_of(&self, name: &str) -> Option<usize>
-        ensures { IfSome result (λ place. place < length self.now.files.items) }
-    {
-        self.files
-            .iter()
-            .position(|file| file.name.as_str() == name)
     }
 
     /// Counts a call, and answers whether it fails.
     fn fails(&mut self) -> bool
-        ensures failed { IsTrue result → HasFailed self.old.failures self.new.failures }
+        ensures failed { IsTrue result → HasRisen self.old.failures self.new.failures }
         ensures counted { self.old.failures ≤ self.new.failures }
+        ensures kept { self.new.changes ≡ self.old.changes }
     {
         self.calls = self.calls.saturating_add(1);
         if self.calls != self.failing_call {
@@ -215,33 +235,28 @@ impl<A: Allocator + Copy> TrialFiles<A> {
     /// Gives a file another name, in place of a file that had it.
     fn move_file(&mut self, from: &str, to: &str) -> Result<(), FileRefusal>
         ensures device { IfErr result (λ e. (e ≢ FileRefusal.Device) × (e ≢ FileRefusal.Large)) }
-        ensures counted { self.new.failures ≡ self.old.failures }
+        ensures failures { self.new.failures ≡ self.old.failures }
+        ensures ok { IfOk result (λ _. IsRenamed from.now to.now (kept_in self.old.changes.items) (kept_in self.new.changes.items)) }
+        ensures err { IfErr result (λ _. self.new.changes.items ≡ self.old.changes.items) }
     {
-        let Some(place) = self.place_of(from) else {
+        if self.bytes_of(from).is_none() {
             return Err(FileRefusal::Missing);
-        };
-        let Ok(name) = String::from_str(self.alloc, to) else {
+        }
+        let Ok(from) = String::from_str(self.alloc, from) else {
             return Err(FileRefusal::NoMemory);
         };
-        let moved = self.files.swap_remove(place);
-        match self.place_of(to) {
-            Some(place) => self.files[place].bytes = moved.bytes,
-            None => {
-                let file = TrialFile {
-                    name,
-                    bytes: moved.bytes,
-                };
-                if self.files.push(file).is_err() {
-                    return Err(FileRefusal::NoMemory);
-                }
-            }
+        let Ok(to) = String::from_str(self.alloc, to) else {
+            return Err(FileRefusal::NoMemory);
+        };
+        match self.changes.insert(0, FileChange::Move { from, to }) {
+            Ok(()) => Ok(()),
+            Err(_) => Err(FileRefusal::NoMemory),
         }
-        Ok(())
     }
 }
 
 impl<A: Allocator + Copy> Files for TrialFiles<A> {
-    ghost count = { λ f. f.failures };
+    ghost shelf = { λ f. shelf (kept_in f.changes.items) f.failures };
 
     fn failures(&self) -> u64 {
         self.failures
@@ -255,20 +270,20 @@ impl<A: Allocator + Copy> Files for TrialFiles<A> {
         if self.fails() {
             return Err(FileRefusal::Device);
         }
-        let Some(bytes) = self.bytes_of(name) else {
-            return Err(FileRefusal::Missing);
-        };
-        copied(alloc, bytes)
+        match self.bytes_of(name) {
+            Some(bytes) => copied(alloc, bytes),
+            None => Err(FileRefusal::Missing),
+        }
     }
 
     fn write_new(&mut self, name: &str, bytes: &[u8]) -> Result<(), FileRefusal> {
         if self.fails() {
             return Err(FileRefusal::Device);
         }
-        if self.put(name, bytes).is_err() {
-            return Err(FileRefusal::NoMemory);
+        match self.put(name, bytes) {
+            Ok(()) => Ok(()),
+            Err(_) => Err(FileRefusal::NoMemory),
         }
-        Ok(())
     }
 
     fn rename(&mut self, from: &str, to: &str) -> Result<(), FileRefusal> {
@@ -281,8 +296,10 @@ impl<A: Allocator + Copy> Files for TrialFiles<A> {
 
 /// A file's bytes, or `Large`.
 fn copied<A: Allocator + Copy>(alloc: A, bytes: &[u8]) -> Result<Vec<u8, A>, FileRefusal>
+    ensures bytes { IfOk result (λ v. v.items ≡ bytes.now) }
     ensures within { IfOk result (λ v. length v.items ≤ max_file) }
-    ensures device { IfErr result (λ e. e ≢ FileRefusal.Device) }
+    ensures large { IsErrOf result FileRefusal.Large → max_file < length bytes.now }
+    ensures other { IfErr result (λ e. (e ≢ FileRefusal.Device) × (e ≢ FileRefusal.Missing)) }
 {
     if bytes.len() > MAX_FILE {
         return Err(FileRefusal::Large);

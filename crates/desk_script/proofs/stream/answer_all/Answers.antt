@@ -1,5 +1,5 @@
-use Rattle.std.proofs.Math.Nat.{le_trans}
-use Rattle.std.proofs.Common.{le_refl, rules, ◌<◌, length, take, subst}
+use Rattle.desk_script.proofs.Shelves.{stays_same, stays_trans}
+use Rattle.std.proofs.Common.{rules, ◌<◌, length, take, subst}
 use Rattle.std.specs.Io.KnownBytes.{Consumes}
 use Rattle.std.proofs.lemmas.Result.{on_err_weaker, on_ok_weaker}
 use Rattle.desk_script.specs.Sites.{desk}
@@ -9,34 +9,34 @@ use Rattle.desk_script.proofs.Carry.{carries_more, carries_front, carries_end, c
 use Rattle.desk_script.proofs.stream.answer_all.Goals as goal
 
 pub returns-in-Err-clause-err : goal.returns-in-Err-clause-err
-returns-in-Err-clause-err g c = carries_stop (desk c.args.world.now (g.F.Files.count c.args.files.now)) (desk c.reads.world (g.F.Files.count c.reads.files)) _ _ _ _ _ c.reads.line.items (le_refl _) c.reads.invariant.carries
+returns-in-Err-clause-err g c = carries_stop (desk c.args.world.now (g.F.Files.shelf c.args.files.now)) (desk c.reads.world (g.F.Files.shelf c.reads.files)) _ _ _ _ _ c.reads.line.items (stays_same _) c.reads.invariant.carries
 
 pub returns-in-Ok-eq0-clause-ok : goal.returns-in-Ok-eq0-clause-ok
 returns-in-Ok-eq0-clause-ok g c =
     let read = subst (λ n. Consumes (g.R.Read.remaining c.reads.reader) (g.R.Read.remaining c.read.new.self) (take n c.read.new.buf)) c.in-Ok-eq0.field-0-test c.in-Ok-eq0.ensures.bytes.0 in
     let room : 0 < length c.read.new.buf = search rules in
     let end = c.in-Ok-eq0.ensures.bytes.1 c.in-Ok-eq0.field-0-test room in
-    on_ok_weaker c.finish.result (λ turn. carries_end (desk c.args.world.now (g.F.Files.count c.args.files.now)) (desk c.reads.world (g.F.Files.count c.reads.files)) (desk c.finish.new.world (g.F.Files.count c.finish.new.files)) _ _ _ _ (g.W.Write.contents c.reads.writer) _ c.reads.line.items c.reads.invariant.carries read end
-    (subst (λ l. Turn (desk c.reads.world (g.F.Files.count c.reads.files)) (desk c.finish.new.world (g.F.Files.count c.finish.new.files)) (g.W.Write.contents c.reads.writer) (g.W.Write.contents c.finish.new.writer) (last_line l)) c.deref.ensures.value turn)) c.finish.ensures.ok
+    on_ok_weaker c.finish.result (λ turn. carries_end (desk c.args.world.now (g.F.Files.shelf c.args.files.now)) (desk c.reads.world (g.F.Files.shelf c.reads.files)) (desk c.finish.new.world (g.F.Files.shelf c.finish.new.files)) _ _ _ _ (g.W.Write.contents c.reads.writer) _ c.reads.line.items c.reads.invariant.carries read end
+    (subst (λ l. Turn (desk c.reads.world (g.F.Files.shelf c.reads.files)) (desk c.finish.new.world (g.F.Files.shelf c.finish.new.files)) (g.W.Write.contents c.reads.writer) (g.W.Write.contents c.finish.new.writer) (last_line l)) c.deref.ensures.value turn)) c.finish.ensures.ok
 
 pub returns-in-Ok-eq0-clause-err : goal.returns-in-Ok-eq0-clause-err
 returns-in-Ok-eq0-clause-err g c =
     let read = subst (λ n. Consumes (g.R.Read.remaining c.reads.reader) (g.R.Read.remaining c.read.new.self) (take n c.read.new.buf)) c.in-Ok-eq0.field-0-test c.in-Ok-eq0.ensures.bytes.0 in
     let room : 0 < length c.read.new.buf = search rules in
     let end = c.in-Ok-eq0.ensures.bytes.1 c.in-Ok-eq0.field-0-test room in
-    on_err_weaker c.finish.result (λ turn. carries_end_front (desk c.args.world.now (g.F.Files.count c.args.files.now)) (desk c.reads.world (g.F.Files.count c.reads.files)) (g.F.Files.count c.finish.new.files) _ _ _ _ (g.W.Write.contents c.reads.writer) _ c.reads.line.items c.reads.invariant.carries read end
-    (subst (λ l. Fronts (desk c.reads.world (g.F.Files.count c.reads.files)) (g.F.Files.count c.finish.new.files) (g.W.Write.contents c.reads.writer) (g.W.Write.contents c.finish.new.writer) (last_line l)) c.deref.ensures.value turn)) c.finish.ensures.err
+    on_err_weaker c.finish.result (λ turn. carries_end_front (desk c.args.world.now (g.F.Files.shelf c.args.files.now)) (desk c.reads.world (g.F.Files.shelf c.reads.files)) (g.F.Files.shelf c.finish.new.files) _ _ _ _ (g.W.Write.contents c.reads.writer) _ c.reads.line.items c.reads.invariant.carries read end
+    (subst (λ l. Fronts (desk c.reads.world (g.F.Files.shelf c.reads.files)) (g.F.Files.shelf c.finish.new.files) (g.W.Write.contents c.reads.writer) (g.W.Write.contents c.finish.new.writer) (last_line l)) c.deref.ensures.value turn)) c.finish.ensures.err
 
 pub returns-in-Err-take_bytes-clause-err : goal.returns-in-Err-take_bytes-clause-err
 returns-in-Err-take_bytes-clause-err g c =
-    carries_front (desk c.args.world.now (g.F.Files.count c.args.files.now)) (desk c.reads.world (g.F.Files.count c.reads.files)) (g.F.Files.count c.take_bytes.new.files) _ _ _ _ (g.W.Write.contents c.reads.writer) _ c.reads.line.items (take c.in-Ok.n c.read.new.buf) c.reads.invariant.carries c.in-Ok.ensures.bytes.0 c.in-Err-take_bytes.ensures.err
+    carries_front (desk c.args.world.now (g.F.Files.shelf c.args.files.now)) (desk c.reads.world (g.F.Files.shelf c.reads.files)) (g.F.Files.shelf c.take_bytes.new.files) _ _ _ _ (g.W.Write.contents c.reads.writer) _ c.reads.line.items (take c.in-Ok.n c.read.new.buf) c.reads.invariant.carries c.in-Ok.ensures.bytes.0 c.in-Err-take_bytes.ensures.err
 
 pub reads-preserved : goal.reads-preserved
 reads-preserved g c = record {
   kept = c.take_bytes.ensures.kept;
-  counted = le_trans c.reads.invariant.counted c.take_bytes.ensures.counted;
-  carries = carries_more (desk c.args.world.now (g.F.Files.count c.args.files.now)) (desk c.reads.world (g.F.Files.count c.reads.files)) (desk c.take_bytes.new.world (g.F.Files.count c.take_bytes.new.files)) _ _ _ _ (g.W.Write.contents c.reads.writer) _ c.reads.line.items (take c.in-Ok.n c.read.new.buf) c.take_bytes.new.line.items c.reads.invariant.carries c.in-Ok.ensures.bytes.0 c.in_default.ensures.ok;
+  stays = stays_trans c.reads.invariant.stays c.take_bytes.ensures.stays;
+  carries = carries_more (desk c.args.world.now (g.F.Files.shelf c.args.files.now)) (desk c.reads.world (g.F.Files.shelf c.reads.files)) (desk c.take_bytes.new.world (g.F.Files.shelf c.take_bytes.new.files)) _ _ _ _ (g.W.Write.contents c.reads.writer) _ c.reads.line.items (take c.in-Ok.n c.read.new.buf) c.take_bytes.new.line.items c.reads.invariant.carries c.in-Ok.ensures.bytes.0 c.in_default.ensures.ok;
 }
 
 pub returns-clause-err : goal.returns-clause-err
-returns-clause-err g c = carries_stop (desk c.args.world.now (g.F.Files.count c.args.files.now)) (desk c.reads.world (g.F.Files.count c.reads.files)) _ _ _ _ _ c.reads.line.items (le_refl _) c.reads.invariant.carries
+returns-clause-err g c = carries_stop (desk c.args.world.now (g.F.Files.shelf c.args.files.now)) (desk c.reads.world (g.F.Files.shelf c.reads.files)) _ _ _ _ _ c.reads.line.items (stays_same _) c.reads.invariant.carries

@@ -1,4 +1,5 @@
 use Rattle.std.proofs.Common.{◌≤◌, length}
+use Rattle.desk_script.specs.Files.{Stays}
 use Rattle.desk_script.specs.Sites.{desk}
 use Rattle.desk_script.specs.Pending.{Carries}
 use Rattle.desk_script.proofs.stream.answer_all.Given as goal
@@ -6,6 +7,6 @@ use Rattle.desk_script.proofs.stream.answer_all.Given as goal
 abbrev pub invariant-reads : goal.invariant-reads
 invariant-reads g l = record {
   kept : length l.line.items ≤ 65538;
-  counted : g.F.Files.count l.fn.files ≤ g.F.Files.count l.files;
-  carries : Carries (desk l.fn.world (g.F.Files.count l.fn.files)) (desk l.world (g.F.Files.count l.files)) (g.R.Read.remaining l.fn.reader) (g.R.Read.remaining l.reader) (g.W.Write.contents l.fn.writer) (g.W.Write.contents l.writer) l.line.items;
+  stays : Stays (g.F.Files.shelf l.fn.files) (g.F.Files.shelf l.files);
+  carries : Carries (desk l.fn.world (g.F.Files.shelf l.fn.files)) (desk l.world (g.F.Files.shelf l.files)) (g.R.Read.remaining l.fn.reader) (g.R.Read.remaining l.reader) (g.W.Write.contents l.fn.writer) (g.W.Write.contents l.writer) l.line.items;
 }

@@ -5,8 +5,8 @@ use Rattle.desk_script.proofs.stream.run.Goals as goal
 
 pub returns-clause-ok : goal.returns-clause-ok
 returns-clause-ok g c =
-    on_ok_weaker c.answer_all.result (run_whole c.new-world.result no_sites c.answer_all.new.world (g.F.Files.count c.args.files.now) (g.F.Files.count c.answer_all.new.files) (g.R.Read.remaining c.args.reader.now) _ _ c.new-world.ensures) c.answer_all.ensures.ok
+    on_ok_weaker c.answer_all.result (run_whole c.new-world.result no_sites c.answer_all.new.world (g.F.Files.shelf c.args.files.now) (g.F.Files.shelf c.answer_all.new.files) (g.R.Read.remaining c.args.reader.now) _ _ c.new-world.ensures) c.answer_all.ensures.ok
 
 pub returns-clause-err : goal.returns-clause-err
 returns-clause-err g c =
-    on_err_weaker c.answer_all.result (run_front c.new-world.result no_sites (g.F.Files.count c.args.files.now) (g.F.Files.count c.answer_all.new.files) (g.R.Read.remaining c.args.reader.now) _ _ c.new-world.ensures) c.answer_all.ensures.err
+    on_err_weaker c.answer_all.result (run_front c.new-world.result no_sites (g.F.Files.shelf c.args.files.now) (g.F.Files.shelf c.answer_all.new.files) (g.R.Read.remaining c.args.reader.now) _ _ c.new-world.ensures) c.answer_all.ensures.err

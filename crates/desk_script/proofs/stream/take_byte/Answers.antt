@@ -1,4 +1,5 @@
-use Rattle.std.proofs.Common.{le_refl, ◌∷◌, [], ap, ◌∙◌, eq-eqb}
+use Rattle.desk_script.proofs.Shelves.{stays_same}
+use Rattle.std.proofs.Common.{◌∷◌, [], ap, ◌∙◌, eq-eqb}
 use Rattle.std.proofs.lemmas.Result.{on_ok_weaker}
 use Rattle.desk_script.specs.Lines.{without_cr, line_of}
 use Rattle.desk_script.proofs.Turns.{no_front, no_turn}
@@ -10,7 +11,7 @@ pub returns-then-byte-ne10-clause-ok : goal.returns-then-byte-ne10-clause-ok
 returns-then-byte-ne10-clause-ok g c = on_ok_weaker c.keep.result (λ same. ([], no_turn _ _, same)) c.keep.ensures.ok
 
 pub returns-then-byte-ne10-clause-err : goal.returns-then-byte-ne10-clause-err
-returns-then-byte-ne10-clause-err g c = on_err c.keep.result (λ more. no_front _ _ _ _ (le_refl _))
+returns-then-byte-ne10-clause-err g c = on_err c.keep.result (λ more. no_front _ _ _ _ (stays_same _))
 
 pub returns-in-Err-clause-err : goal.returns-in-Err-clause-err
 returns-in-Err-clause-err g c more =

@@ -1,4 +1,4 @@
-use Rattle.std.proofs.Math.Nat.{le_trans}
+use Rattle.desk_script.proofs.Shelves.{stays_trans}
 use Rattle.std.proofs.Common.{◌≡◌, ℕ, ◌+◌, ◌<◌, length, ◌++◌, ◌∷◌, drop, get_or, ap, ◌∙◌, sym, append_assoc, add-one, drop-cons, subst, refl}
 use Rattle.std.proofs.lemmas.List.{at_drop_all}
 use Rattle.desk_script.specs.Sites.{desk}
@@ -12,9 +12,9 @@ returns-in-Err-clause-err g c more =
     let i : ℕ = c.loop-b.b-index in
     let lt : i < length c.args.bytes.now = c.loop-b-test.true in
     let step : drop i c.args.bytes.now ≡ get_or c.args.bytes.now i 0 ∷ drop (i + 1) c.args.bytes.now = rw (add-one, drop-cons c.args.bytes.now i 0) refl in
-    subst (Fronts (desk c.args.world.now (g.F.Files.count c.args.files.now)) (g.F.Files.count c.take_byte.new.files) (g.W.Write.contents c.args.writer.now) (g.W.Write.contents c.take_byte.new.writer))
+    subst (Fronts (desk c.args.world.now (g.F.Files.shelf c.args.files.now)) (g.F.Files.shelf c.take_byte.new.files) (g.W.Write.contents c.args.writer.now) (g.W.Write.contents c.take_byte.new.writer))
     (sym (c.loop-b.invariant.moves.2 more ∙ ap (λ l. c.loop-b.invariant.moves.0 ++ lines_from c.loop-b.line.items (l ++ more)) step))
-    (turn_front _ (desk c.loop-b.world (g.F.Files.count c.loop-b.files)) _ _ (g.W.Write.contents c.loop-b.writer) _ c.loop-b.invariant.moves.0 _ c.loop-b.invariant.moves.1 (c.in-Err.ensures.err (drop (i + 1) c.args.bytes.now ++ more)))
+    (turn_front _ (desk c.loop-b.world (g.F.Files.shelf c.loop-b.files)) _ _ (g.W.Write.contents c.loop-b.writer) _ c.loop-b.invariant.moves.0 _ c.loop-b.invariant.moves.1 (c.in-Err.ensures.err (drop (i + 1) c.args.bytes.now ++ more)))
 
 pub loop-b-preserved : goal.loop-b-preserved
 loop-b-preserved g c =
@@ -23,10 +23,10 @@ loop-b-preserved g c =
     let step : drop i c.args.bytes.now ≡ get_or c.args.bytes.now i 0 ∷ drop (i + 1) c.args.bytes.now = rw (add-one, drop-cons c.args.bytes.now i 0) refl in
     let turn = c.in_default.ensures.ok in record {
       kept = c.take_byte.ensures.kept;
-      counted = le_trans c.loop-b.invariant.counted c.take_byte.ensures.counted;
+      stays = stays_trans c.loop-b.invariant.stays c.take_byte.ensures.stays;
       moves = (
         c.loop-b.invariant.moves.0 ++ turn.0,
-        turn_turn _ (desk c.loop-b.world (g.F.Files.count c.loop-b.files)) _ _ (g.W.Write.contents c.loop-b.writer) _ c.loop-b.invariant.moves.0 turn.0 c.loop-b.invariant.moves.1 turn.1,
+        turn_turn _ (desk c.loop-b.world (g.F.Files.shelf c.loop-b.files)) _ _ (g.W.Write.contents c.loop-b.writer) _ c.loop-b.invariant.moves.0 turn.0 c.loop-b.invariant.moves.1 turn.1,
         λ more. c.loop-b.invariant.moves.2 more ∙ ap (λ l. c.loop-b.invariant.moves.0 ++ lines_from c.loop-b.line.items (l ++ more)) step
             ∙ ap (λ l. c.loop-b.invariant.moves.0 ++ l) (turn.2 (drop (i + 1) c.args.bytes.now ++ more)) ∙ sym (append_assoc c.loop-b.invariant.moves.0 turn.0 (lines_from c.take_byte.new.line.items (drop (i + 1) c.args.bytes.now ++ more))),
       );

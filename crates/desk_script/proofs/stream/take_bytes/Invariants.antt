@@ -1,4 +1,5 @@
 use Rattle.std.proofs.Common.{◌≡◌, ℕ, ◌≤◌, List, ◌++◌, drop, length}
+use Rattle.desk_script.specs.Files.{Stays}
 use Rattle.desk_script.specs.Sites.{desk}
 use Rattle.desk_script.specs.Lines.{Line}
 use Rattle.desk_script.specs.Script.{Turn}
@@ -8,7 +9,7 @@ use Rattle.desk_script.proofs.stream.take_bytes.Given as goal
 abbrev pub invariant-loop-b : goal.invariant-loop-b
 invariant-loop-b g l = record {
   kept : length l.line.items ≤ 65538;
-  counted : g.F.Files.count l.fn.files ≤ g.F.Files.count l.files;
-  moves : (done : List Line) × Turn (desk l.fn.world (g.F.Files.count l.fn.files)) (desk l.world (g.F.Files.count l.files)) (g.W.Write.contents l.fn.writer) (g.W.Write.contents l.writer) done
+  stays : Stays (g.F.Files.shelf l.fn.files) (g.F.Files.shelf l.files);
+  moves : (done : List Line) × Turn (desk l.fn.world (g.F.Files.shelf l.fn.files)) (desk l.world (g.F.Files.shelf l.files)) (g.W.Write.contents l.fn.writer) (g.W.Write.contents l.writer) done
       × ((more : List ℕ) → lines_from l.fn.line.items (l.bytes ++ more) ≡ done ++ lines_from l.line.items (drop l.b-index l.bytes ++ more));
 }

@@ -1,4 +1,5 @@
-use Rattle.std.proofs.Common.{le_refl, ◌∙◌}
+use Rattle.desk_script.proofs.Shelves.{stays_same}
+use Rattle.std.proofs.Common.{◌∙◌}
 use Rattle.std.proofs.lemmas.Result.{on_err_weaker, on_ok_weaker}
 use Rattle.desk_script.specs.Sites.{desk}
 use Rattle.desk_script.specs.Lines.{line_of}
@@ -6,7 +7,7 @@ use Rattle.desk_script.proofs.Turns.{no_front, one_turn, one_front}
 use Rattle.desk_script.proofs.stream.take_line.Goals as goal
 
 pub returns-in_default-clause-err : goal.returns-in_default-clause-err
-returns-in_default-clause-err g c more = no_front _ _ _ _ c.answered.ensures.counted
+returns-in_default-clause-err g c more = no_front _ _ _ _ c.answered.ensures.stays
 
 pub returns-clause-ok : goal.returns-clause-ok
 returns-clause-ok g c =
@@ -16,4 +17,4 @@ returns-clause-ok g c =
 pub returns-clause-err : goal.returns-clause-err
 returns-clause-err g c =
     let a = c.in-Ok.ensures.told in
-    on_err_weaker c.send.result (λ written more. one_front _ (desk c.answered.new.world (g.F.Files.count c.answered.new.files)) (g.F.Files.count c.answered.new.files) _ _ (line_of c.args.line.now) c.as_bytes.result.now a.0 more (le_refl _) a.1 (c.as_bytes.ensures.value ∙ a.2) written) c.send.ensures.err
+    on_err_weaker c.send.result (λ written more. one_front _ (desk c.answered.new.world (g.F.Files.shelf c.answered.new.files)) (g.F.Files.shelf c.answered.new.files) _ _ (line_of c.args.line.now) c.as_bytes.result.now a.0 more (stays_same _) a.1 (c.as_bytes.ensures.value ∙ a.2) written) c.send.ensures.err
