@@ -211,16 +211,20 @@ fn damaged_ribbon(rt: HostRuntime) -> Result<(), Fail> {
 fn refused_growths_of_reading(rt: HostRuntime) -> Result<(), Fail> {
     let alloc = rt.alloc();
     let bytes = ribbon_of(alloc, 14)?;
+    let want = empty_paragraph(alloc)?;
     let mut refused = 0u32;
     for size in 1..16usize {
         let heap = LocalHeap::new(alloc, 4096)?;
         let ballast: Vec<u8, &LocalHeap> = Vec::with_capacity(&heap, 4096 - size * 16)?;
-        if let Err(told) = read_ribbon(&heap, &bytes) {
-            assert_eq!(rt; told, RibbonFault::NoMemory);
-            refused = refused.saturating_add(1);
+        match read_ribbon(&heap, &bytes) {
+            Ok(rows) => assert_eq!(rt; rows.as_slice(), want.as_slice()),
+            Err(told) => {
+                assert_eq!(rt; told, RibbonFault::NoMemory);
+                refused = refused.saturating_add(1);
+            }
         }
         drop(ballast);
-        assert_eq!(rt; read_ribbon(&heap, &bytes)?.len(), 14);
+        assert_eq!(rt; read_ribbon(&heap, &bytes)?.as_slice(), want.as_slice());
     }
     assert!(rt; refused > 0);
     Ok(())
@@ -267,5 +271,130 @@ fn refused_growths_are_want_of_memory(rt: HostRuntime) -> Result<(), Fail> {
     }
     assert!(rt; refused > 1);
     assert!(rt; cast_whole > 1);
+    Ok(())
+}
+
+/// Whether two lists of lines are one.
+fn are_same<A: Allocator, B: Allocator>(lines: &[CastLine<A>], others: &[CastLine<B>]) -> bool {
+    if lines.len() != others.len() {
+        return false;
+    }
+    for (line, other) in lines.iter().zip(others) {
+        if line.coarse() != other.coarse()
+            || line.fine() != other.fine()
+            || line.total() != other.total()
+            || line.matrices() != other.matrices()
+        {
+            return false;
+        }
+    }
+    true
+}
+
+/// Six lines, the first of eight matrices and the others of one each.
+fn six_lines<A: Allocator>(alloc: A) -> Result<Vec<RibbonRow, A>, Fail> {
+    let mut rows = Vec::new(alloc);
+    rows.push(fine(8)?)?;
+    for _ in 0..7 {
+        rows.push(cell(Column::A, 8, false)?)?;
+    }
+    for place in 1..7u8 {
+        rows.push(cell(Column::G, 1, true)?)?;
+        rows.push(coarse(place)?)?;
+        rows.push(fine(9)?)?;
+    }
+    Ok(rows)
+}
+
+/// Each growth of `cast` refused in turn is told as want of memory, over several lines too, and with memory the lines are
+/// the same.
+#[test]
+fn growths_of_cast(rt: HostRuntime) -> Result<(), Fail> {
+    let alloc = rt.alloc();
+    let wedge = Wedge::read(alloc, WEDGE.as_bytes())?;
+    let case = case_one(alloc)?;
+    let rows = six_lines(alloc)?;
+    if rows.len() != 26 {
+        return Err(Fail::new("26 rows"));
+    }
+    let want = cast(alloc, &rows, &case, &wedge)?;
+    assert_eq!(rt; want.len(), 6);
+    let mut refused = 0u32;
+    let mut whole = 0u32;
+    for size in 1..128usize {
+        let heap = LocalHeap::new(alloc, 8192)?;
+        let ballast: Vec<u8, &LocalHeap> = Vec::with_capacity(&heap, 8192 - size * 32)?;
+        match cast(&heap, &rows, &case, &wedge) {
+            Ok(lines) => {
+                assert!(rt; are_same(&lines, &want));
+                whole = whole.saturating_add(1);
+            }
+            Err(fault) => {
+                assert_eq!(rt; fault, CastFault::NoMemory);
+                refused = refused.saturating_add(1);
+            }
+        }
+        drop(ballast);
+        assert!(rt; are_same(&cast(&heap, &rows, &case, &wedge)?, &want));
+    }
+    assert!(rt; refused > 9 && whole > 9);
+    Ok(())
+}
+
+/// Where memory is wanting rows that cast nothing have their fault told, or want of memory; with memory the fault.
+#[test]
+fn refused_growths_of_bad_rows(rt: HostRuntime) -> Result<(), Fail> {
+    let alloc = rt.alloc();
+    let wedge = Wedge::read(alloc, WEDGE.as_bytes())?;
+    let case = case_one(alloc)?;
+    let rows = [
+        cell(Column::B, 1, false)?,
+        cell(Column::A, 8, false)?,
+        coarse(3)?,
+        fine(8)?,
+    ];
+    let mut refused = 0u32;
+    let mut told = 0u32;
+    for size in 1..32usize {
+        let heap = LocalHeap::new(alloc, 4096)?;
+        let ballast: Vec<u8, &LocalHeap> = Vec::with_capacity(&heap, 4096 - size * 32)?;
+        match cast(&heap, &rows, &case, &wedge).err() {
+            Some(CastFault::NoMemory) => refused = refused.saturating_add(1),
+            other => {
+                assert_eq!(rt; other, Some(CastFault::NoMatrix(0)));
+                told = told.saturating_add(1);
+            }
+        }
+        drop(ballast);
+        let again = cast(&heap, &rows, &case, &wedge).err();
+        assert_eq!(rt; again, Some(CastFault::NoMatrix(0)));
+    }
+    assert!(rt; refused > 0 && told > 0);
+    Ok(())
+}
+
+/// The same of bytes that are no ribbon.
+#[test]
+fn refused_growths_of_a_bad_ribbon(rt: HostRuntime) -> Result<(), Fail> {
+    let alloc = rt.alloc();
+    let mut bytes = ribbon_of(alloc, 15)?;
+    bytes.extend_from_slice(&[0x80, 0, 0, 0])?;
+    let fault = RibbonFault::Row(14, BadImage::HighBit);
+    let mut refused = 0u32;
+    let mut told = 0u32;
+    for size in 1..16usize {
+        let heap = LocalHeap::new(alloc, 4096)?;
+        let ballast: Vec<u8, &LocalHeap> = Vec::with_capacity(&heap, 4096 - size * 16)?;
+        match read_ribbon(&heap, &bytes).err() {
+            Some(RibbonFault::NoMemory) => refused = refused.saturating_add(1),
+            other => {
+                assert_eq!(rt; other, Some(fault));
+                told = told.saturating_add(1);
+            }
+        }
+        drop(ballast);
+        assert_eq!(rt; read_ribbon(&heap, &bytes).err(), Some(fault));
+    }
+    assert!(rt; refused > 0 && told > 0);
     Ok(())
 }

@@ -256,3 +256,43 @@ fn growth_refused(rt: HostRuntime) -> Result<(), Fail> {
     assert!(rt; 6 <= unread && unread < 16);
     Ok(())
 }
+
+/// Where memory is wanting bytes that are no feed have their fault told, or want of memory; with memory the fault. Of other
+/// magic, and of too few bytes for an operation, the fault is told in any case.
+#[test]
+fn growth_refused_of_bad_bytes(rt: HostRuntime) -> Result<(), Fail> {
+    let cut = FeedFault {
+        at: 30,
+        why: FeedWhy::Cut,
+    };
+    let magic = FeedFault {
+        at: 0,
+        why: FeedWhy::Magic,
+    };
+    let kind = FeedFault {
+        at: 4,
+        why: FeedWhy::Kind,
+    };
+    let mut wanting = 0u8;
+    let mut told = 0u8;
+    for size in 0..16usize {
+        let heap = LocalHeap::new(rt.alloc(), 512)?;
+        let ballast: Vec<u8, &LocalHeap> = Vec::with_capacity(&heap, 512 - size * 16)?;
+        match read_feed(&heap, &FEED_AB[..55]).err() {
+            Some(ReadFault::NoMemory) => wanting = wanting.saturating_add(1),
+            other => {
+                assert_eq!(rt; other, Some(ReadFault::Fault(cut)));
+                told = told.saturating_add(1);
+            }
+        }
+        let few = [0x4d, 0x46, 0x44, 0x31, 9];
+        assert_eq!(rt; read_feed(&heap, &few).err(), Some(ReadFault::Fault(kind)));
+        let other = read_feed(&heap, &FEED_AB[1..]).err();
+        assert_eq!(rt; other, Some(ReadFault::Fault(magic)));
+        drop(ballast);
+        let whole = read_feed(&heap, &FEED_AB[..55]).err();
+        assert_eq!(rt; whole, Some(ReadFault::Fault(cut)));
+    }
+    assert!(rt; wanting > 0 && told > 0);
+    Ok(())
+}

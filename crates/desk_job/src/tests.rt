@@ -1,3 +1,5 @@
+mod growths;
+
 use super::*;
 use desk_case::MatrixCase;
 use desk_caster::{cast, read_ribbon};

@@ -133,6 +133,7 @@ pub record IsReading (copy : List Symbol) (found : List (List Word)) (ws : List 
   pub no_feed : (k : ℕ) → from ≤ k → k < to → is_line_feed (get_or copy k nothing) ≡ false
   pub no_space : (k : ℕ) → from ≤ k → k < to → is_space (get_or copy k nothing) ≡ false
   pub so_far : all_places 0 copy ≡ found ++ with_words ws (all_places from (drop from copy))
+  pub begun : 0 < length ws → 0 < to
 
 pub reading_begins : (copy : List Symbol) → IsReading copy [] [] 0 0
 reading_begins copy = record {
@@ -140,6 +141,7 @@ reading_begins copy = record {
   no_feed = λ k low high. absurd (omega (arith, high));
   no_space = λ k low high. absurd (omega (arith, high));
   so_far = sym (with_no_words (all_places 0 copy));
+  begun = λ h. absurd (omega (arith, h));
 }
 
 -- the word that is read
@@ -165,13 +167,14 @@ part_and_rest copy from to order below =
     sym (take-append-drop (to - from) (drop from copy)) ∙ ap (λ (l : List Symbol). part_of copy from to ++ l) tail
 
 -- where no word is read yet
-begun : (copy : List Symbol) (found : List (List Word)) (ws : List Word) (at : ℕ) →
+begun : (copy : List Symbol) (found : List (List Word)) (ws : List Word) (at : ℕ) → 0 < at →
     all_places 0 copy ≡ found ++ with_words ws (all_places at (drop at copy)) → IsReading copy found ws at at
-begun copy found ws at so_far = record {
+begun copy found ws at some so_far = record {
   order = omega arith;
   no_feed = λ k low high. absurd (omega (arith, low, high));
   no_space = λ k low high. absurd (omega (arith, low, high));
   so_far = so_far;
+  begun = λ _. some;
 }
 
 -- a space
@@ -188,7 +191,7 @@ read_space copy found ws from to below miss hit reading =
     let here : all_places from (drop from copy)
     ≡ with_words (record { from = from; to = to } ∷ []) (all_places (to + 1) (drop (to + 1) copy)) =
     ap (all_places from) (part_and_rest copy from to order below) ∙ (rw (long, back) at step) in
-    begun copy found (ws ++ record { from = from; to = to } ∷ []) (to + 1)
+    begun copy found (ws ++ record { from = from; to = to } ∷ []) (to + 1) (omega arith)
     (reading.so_far ∙ ap (λ (l : List (List Word)). found ++ with_words ws l) here
     ∙ ap (λ (l : List (List Word)). found ++ l) (with_words_twice ws (record { from = from; to = to } ∷ []) (all_places (to + 1) (drop (to + 1) copy))))
 
@@ -206,7 +209,7 @@ read_feed copy found ws from to below hit reading =
     let rest = all_places (to + 1) (drop (to + 1) copy) in
     let here : all_places from (drop from copy) ≡ (record { from = from; to = to } ∷ []) ∷ rest =
     ap (all_places from) (part_and_rest copy from to order below) ∙ (rw (long, back) at step) in
-    begun copy (found ++ (ws ++ record { from = from; to = to } ∷ []) ∷ []) [] (to + 1)
+    begun copy (found ++ (ws ++ record { from = from; to = to } ∷ []) ∷ []) [] (to + 1) (omega arith)
     (reading.so_far ∙ ap (λ (l : List (List Word)). found ++ with_words ws l) here
     ∙ sym (append_assoc found ((ws ++ record { from = from; to = to } ∷ []) ∷ []) rest)
     ∙ ap (λ (l : List (List Word)). (found ++ (ws ++ record { from = from; to = to } ∷ []) ∷ []) ++ l) (sym (with_no_words rest)))
@@ -226,6 +229,7 @@ read_other copy found ws from to miss none reading = record {
     | inr at ↦ (let e : k ≡ to = omega arith in rw e none)
   ];
   so_far = reading.so_far;
+  begun = λ _. omega arith;
 }
 
 -- the whole copy is read

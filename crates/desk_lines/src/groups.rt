@@ -1,6 +1,6 @@
 //! The words of a paragraph in groups, each of which is set in one line.
 
-ghost use Rattle.std.specs.Prelude.{◌≡◌, ◌≤◌, ◌^◌, pos, ◌+ℤ◌, ◌≤ℤ◌, ◌<ℤ◌, IfOk, MatchBool, length};
+ghost use Rattle.std.specs.Prelude.{◌≡◌, ◌≤◌, ◌^◌, pos, ◌+ℤ◌, ◌≤ℤ◌, ◌<ℤ◌, IfErr, IfOk, MatchBool, length};
 ghost use Rattle.desk_lines.specs.Groups.{AreWidths, IsWidth, groups_of};
 
 use desk_ops::NoMemory;
@@ -47,7 +47,9 @@ pub fn break_lines<A: Allocator>(
     requires space_high { space ≤ℤ pos (2 ^ 20) }
     requires measure_low { pos 0 ≤ℤ measure }
     requires measure_high { measure ≤ℤ pos (2 ^ 40) }
-    ensures { IfOk result (λ groups. groups.items ≡ groups_of space measure words.now) }
+    ensures ok { IfOk result (λ groups. groups.items ≡ groups_of space measure words.now) }
+    // No words take no memory.
+    ensures memory { IfErr result (λ _. 1 ≤ length words.now) }
 {
     let mut groups = Vec::new(alloc);
     let mut from = 0;

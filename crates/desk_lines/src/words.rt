@@ -1,6 +1,6 @@
 //! The paragraphs of a copy and their words.
 
-ghost use Rattle.std.specs.Prelude.{◌≡◌, IfOk};
+ghost use Rattle.std.specs.Prelude.{◌≡◌, ◌≤◌, IfErr, IfOk, length};
 ghost use Rattle.desk_lines.specs.Words.{is_line_feed, is_space, words_of};
 
 use desk_ops::{NoMemory, Style, Symbol};
@@ -71,7 +71,9 @@ pub fn paragraphs<A: Allocator + Copy>(
     alloc: A,
     copy: &[Symbol],
 ) -> Result<Vec<Paragraph<A>, A>, NoMemory>
-    ensures { IfOk result (λ found. found.items ≡ words_of copy.now) }
+    ensures ok { IfOk result (λ found. found.items ≡ words_of copy.now) }
+    // No symbols take no memory.
+    ensures memory { IfErr result (λ _. 1 ≤ length copy.now) }
 {
     let mut found = Vec::new(alloc);
     let mut words = Vec::new(alloc);

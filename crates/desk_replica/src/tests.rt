@@ -6,6 +6,7 @@ mod edits;
 mod faults;
 mod full;
 mod growths;
+mod long_lists;
 mod orders;
 mod sets;
 mod settings;

@@ -201,3 +201,37 @@ fn refused_push_leaves_the_lines_before(rt: HostRuntime) -> Result<(), Fail> {
     assert!(rt; refused > 0);
     Ok(())
 }
+
+/// A refused push of a matrix leaves the matrices, and with memory it follows them.
+#[test]
+fn growths_of_matrices(rt: HostRuntime) -> Result<(), Fail> {
+    let line = empty_paragraph(rt.alloc())?;
+    let all = line.matrices.as_slice();
+    let mut refused = 0u8;
+    let mut whole = 0u8;
+    for room in 0..48usize {
+        let heap = LocalHeap::new(rt.alloc(), 1024)?;
+        let ballast: Vec<u8, &LocalHeap> = Vec::with_capacity(&heap, 1024 - room * 8)?;
+        let mut matrices = Punches::new(&heap);
+        let mut pushed = 0usize;
+        for matrix in all {
+            if matrices.push(*matrix).is_err() {
+                break;
+            }
+            pushed = pushed.saturating_add(1);
+        }
+        assert_eq!(rt; Some(matrices.as_slice()), all.get(..pushed));
+        if pushed < 11 {
+            refused = refused.saturating_add(1);
+        } else {
+            whole = whole.saturating_add(1);
+        }
+        drop(ballast);
+        for matrix in all.iter().skip(pushed) {
+            matrices.push(*matrix)?;
+        }
+        assert_eq!(rt; matrices.as_slice(), all);
+    }
+    assert!(rt; refused > 0 && whole > 0);
+    Ok(())
+}

@@ -10,7 +10,7 @@ use Rattle.desk_script.specs.declared.files.FileRefusal.TheVariants as refusals
 use Rattle.desk_script.specs.declared.fault.RunFault.{RunFault}
 use Rattle.desk_script.specs.declared.fault.RunFault.TheVariants as faults
 use Rattle.desk_script.specs.Faults.{IsCrowded, IsOfFeed, IsOfStoring, IsUnopened}
-use Rattle.desk_script.specs.Files.{HasFailed, HasRisen, Shelf}
+use Rattle.desk_script.specs.Files.{HasFailed, HasNoPlace, HasRisen, Shelf, Stays}
 use Rattle.desk_script.specs.Lines.{lines}
 use Rattle.desk_script.specs.Sites.{Desk}
 use Rattle.desk_script.specs.Script.{Turn, Fronts}
@@ -79,18 +79,18 @@ earlier o m n low high (inl rose) = inl (omega arith)
 earlier o m n low high (inr full) = full_or_rose o n (omega arith) (omega arith)
 
 -- a failure at the end is one of the whole
-pub device_later : (r : Result (Unit {0}) RunFault) (o m n : Shelf) → o.failures ≤ m.failures → m.failures ≤ n.failures → IfErr r (IsOfStoring m n) → IsErrOf r (faults.File refusals.Device) → HasFailed o n
-device_later r o m n low high told is = earlier o.failures m.failures n.failures low high (subst (λ (x : Result (Unit {0}) RunFault). IfErr x (IsOfStoring m n)) is told)
+pub device_later : (name : List ℕ) (r : Result (Unit {0}) RunFault) (o m n : Shelf) → o.failures ≤ m.failures → m.failures ≤ n.failures → IfErr r (IsOfStoring name m n) → IsErrOf r (faults.File refusals.Device) → HasFailed o n
+device_later name r o m n low high told is = earlier o.failures m.failures n.failures low high (subst (λ (x : Result (Unit {0}) RunFault). IfErr x (IsOfStoring name m n)) is told)
 
 -- a feed that was not stored, after all answers
-pub of_storing : (Gives : (Result (List ℕ) FileRefusal → Type 0)) (Answered : Type 0) (o m n : Shelf) (e : RunFault) → o.failures ≤ m.failures → m.failures ≤ n.failures → Answered → IsOfStoring m n e → IsOfFeed Gives Answered o n e
-of_storing Gives Answered o m n faults.Read low high all h = tt
-of_storing Gives Answered o m n faults.Write low high all h = tt
-of_storing Gives Answered o m n faults.TooLong low high all h = tt
-of_storing Gives Answered o m n faults.NoMemory low high all h = tt
-of_storing Gives Answered o m n (faults.Feed fault) low high all h = absurd h
-of_storing Gives Answered o m n (faults.File refusals.Missing) low high all h = inr (all, tt)
-of_storing Gives Answered o m n (faults.File refusals.Device) low high all h = inr (all, earlier o.failures m.failures n.failures low high h)
-of_storing Gives Answered o m n (faults.File refusals.Large) low high all h = absurd h
-of_storing Gives Answered o m n (faults.File refusals.NoMemory) low high all h = absurd h
-of_storing Gives Answered o m n (faults.Opening stop) low high all h = absurd h
+pub of_storing : (name : List ℕ) (Answered : Type 0) (o m n : Shelf) (e : RunFault) → Stays o m → m.failures ≤ n.failures → Answered → IsOfStoring name m n e → IsOfFeed name Answered o n e
+of_storing name Answered o m n faults.Read same high all h = tt
+of_storing name Answered o m n faults.Write same high all h = tt
+of_storing name Answered o m n faults.TooLong same high all h = tt
+of_storing name Answered o m n faults.NoMemory same high all h = tt
+of_storing name Answered o m n (faults.Feed fault) same high all h = absurd h
+of_storing name Answered o m n (faults.File refusals.Missing) same high all h = inr (all, subst (HasNoPlace name) same.0 h)
+of_storing name Answered o m n (faults.File refusals.Device) same high all h = inr (all, earlier o.failures m.failures n.failures same.1 high h)
+of_storing name Answered o m n (faults.File refusals.Large) same high all h = absurd h
+of_storing name Answered o m n (faults.File refusals.NoMemory) same high all h = absurd h
+of_storing name Answered o m n (faults.Opening stop) same high all h = absurd h

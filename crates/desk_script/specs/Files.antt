@@ -3,9 +3,10 @@ use Rattle.std.specs.Prelude.{◌≡◌, ◌≢◌, ◌≤◌, ℕ, ◌<◌, ◌
 use Rattle.desk_script.specs.declared.files.FileRefusal.{FileRefusal}
 use Rattle.desk_script.specs.declared.files.FileRefusal.TheVariants as refusals
 
--- what a name stands for: Unknown where the files cannot tell
+-- what a name stands for: Unknown where the files cannot tell, Nowhere where no file can have it, as in a folder that is not there
 pub data Kept : Type 0 where
   Unknown : Kept
+  Nowhere : Kept
   Absent : Kept
   Holds : List ℕ → Kept
 
@@ -45,6 +46,11 @@ bytes_read view (Err why) = Err why
 -- what may be read of a name: its bytes, that it is not there, that it is too large, or that the device or memory failed
 abbrev pub Reads : Kept → Result (List ℕ) FileRefusal → Type 0
 Reads Unknown read = Unit {0}
+Reads Nowhere (Ok bytes) = ⊥
+Reads Nowhere (Err refusals.Missing) = Unit {0}
+Reads Nowhere (Err refusals.Device) = Unit {0}
+Reads Nowhere (Err refusals.Large) = ⊥
+Reads Nowhere (Err refusals.NoMemory) = Unit {0}
 Reads Absent (Ok bytes) = ⊥
 Reads Absent (Err refusals.Missing) = Unit {0}
 Reads Absent (Err refusals.Device) = Unit {0}
@@ -59,14 +65,34 @@ Reads (Holds kept) (Err refusals.NoMemory) = Unit {0}
 -- the name stands for these bytes, as far as the files can tell
 abbrev pub Has : Kept → List ℕ → Type 0
 Has Unknown bytes = Unit {0}
+Has Nowhere bytes = ⊥
 Has Absent bytes = ⊥
 Has (Holds kept) bytes = kept ≡ bytes
 
 -- the name stands for no file, as far as the files can tell
 abbrev pub IsGone : Kept → Type 0
 IsGone Unknown = Unit {0}
+IsGone Nowhere = Unit {0}
 IsGone Absent = Unit {0}
 IsGone (Holds kept) = ⊥
+
+-- no file can have the name, as far as the files can tell
+abbrev pub IsNowhere : Kept → Type 0
+IsNowhere Unknown = Unit {0}
+IsNowhere Nowhere = Unit {0}
+IsNowhere Absent = ⊥
+IsNowhere (Holds kept) = ⊥
+
+-- the name may stand for a file, as far as the files can tell
+abbrev pub IsThere : Kept → Type 0
+IsThere Unknown = Unit {0}
+IsThere Nowhere = ⊥
+IsThere Absent = ⊥
+IsThere (Holds kept) = Unit {0}
+
+-- a name that stands for these bytes now; what was known of it still is
+abbrev pub IsWritten : List ℕ → Kept → Kept → Type 0
+IsWritten bytes before after = Has after bytes × (after ≡ Unknown → before ≡ Unknown)
 
 -- no other name stands for something else than before
 abbrev pub Spares : List ℕ → Names → Names → Type 0
@@ -74,7 +100,7 @@ Spares name before after = (other : List ℕ) → other ≢ name → after other
 
 -- a file has another name, in place of what had it
 pub record IsRenamed (from to : List ℕ) (before after : Names) : Type 0 where
-  pub there : before from ≢ Absent
+  pub there : IsThere (before from)
   pub taken : after to ≡ before from
   pub gone : from ≢ to → IsGone (after from)
   pub others : (other : List ℕ) → other ≢ from → other ≢ to → after other ≡ before other
@@ -82,6 +108,10 @@ pub record IsRenamed (from to : List ℕ) (before after : Names) : Type 0 where
 -- the name under which a file is written before it takes its place
 abbrev pub new_name : List ℕ → List ℕ
 new_name name = name ++ codes ".new"
+
+-- a file is not stored for want of a place: the name, or that of the writing, can stand for no file
+abbrev pub HasNoPlace : List ℕ → Names → Type 0
+HasNoPlace name before = IsNowhere (before (new_name name)) ⊎ IsNowhere (before name)
 
 -- a name stands for these bytes, no file is left under the name of the writing, and no other has changed
 pub record IsReplaced (name bytes : List ℕ) (before after : Names) : Type 0 where

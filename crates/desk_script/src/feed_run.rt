@@ -103,7 +103,7 @@ fn keep_feed<F: Files, A: Allocator + Copy>(
 ) -> Result<(), RunFault>
     ensures ok { OnOk result (IsStored name.now site (desk world.now (F.shelf files.old)) (F.shelf files.new)) }
     ensures err { OnErr result (IsNotStored name.now (F.shelf files.old) (F.shelf files.new)) }
-    ensures own { IfErr result (IsOfStoring (F.shelf files.old) (F.shelf files.new)) }
+    ensures own { IfErr result (IsOfStoring name.now (F.shelf files.old) (F.shelf files.new)) }
     ensures counted { (F.shelf files.old).failures ≤ (F.shelf files.new).failures }
 {
     let Some(replica) = world.replica(site) else {
@@ -137,7 +137,7 @@ pub fn run_on_feed<R: Read, W: Write, F: Files, A: Allocator + Copy>(
     requires { 1 ≤ site }
     ensures ok { OnOk result (IfSome (R.remaining reader.old) (λ input. AnswersStored name.now site (F.shelf files.old) (F.shelf files.new) input (W.contents writer.old) (W.contents writer.new))) }
     ensures err { OnErr result (IfSome (R.remaining reader.old) (λ input. AnswersStoredFront name.now site (F.shelf files.old) (F.shelf files.new) input (W.contents writer.old) (W.contents writer.new))) }
-    ensures feed { IfErr result (IsOfFeed (Reads ((F.shelf files.old).kept name.now)) (IfSome (R.remaining reader.old) (λ input. AnswersUnstored name.now site (F.shelf files.old) (F.shelf files.new) input (W.contents writer.old) (W.contents writer.new))) (F.shelf files.old) (F.shelf files.new)) }
+    ensures feed { IfErr result (IsOfFeed name.now (IfSome (R.remaining reader.old) (λ input. AnswersUnstored name.now site (F.shelf files.old) (F.shelf files.new) input (W.contents writer.old) (W.contents writer.new))) (F.shelf files.old) (F.shelf files.new)) }
     ensures device { IsErrOf result (RunFault.File FileRefusal.Device) → HasFailed (F.shelf files.old) (F.shelf files.new) }
 {
     let mut world = match opened(alloc, files, name, site) {

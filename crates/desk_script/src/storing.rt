@@ -1,7 +1,7 @@
 //! A file that is replaced as a whole.
 
 ghost use Rattle.std.specs.Prelude.{◌≡◌, ◌≢◌, ◌≤◌, IfErr, IfOk, IsErrOf, OnErr, OnOk, string_bytes};
-ghost use Rattle.desk_script.specs.Files.{HasFailed, IsReplaced, Spares, new_name};
+ghost use Rattle.desk_script.specs.Files.{HasFailed, HasNoPlace, IsReplaced, Spares, new_name};
 
 use crate::files::{FileRefusal, Files};
 use std::alloc::{AllocError, Allocator};
@@ -17,7 +17,7 @@ fn new_name<A: Allocator + Copy>(alloc: A, name: &str) -> Result<String<A>, Allo
 
 /// Stores bytes under a name: they are written as `name.new`, which then takes the name. So whatever fails, the file has
 /// its old bytes or the new ones: after an `Err` the old ones, and what stands under `name.new` is open. No other file
-/// changes. `Device` comes only where the device failed in this call, by the count while it can rise, and `Large` never.
+/// changes. `Missing` comes only where no file can have the name or `name.new`, `Device` only where the device failed in this call, by the count while it can rise, and `Large` never.
 pub fn store<F: Files, A: Allocator + Copy>(
     alloc: A,
     files: &mut F,
@@ -26,6 +26,7 @@ pub fn store<F: Files, A: Allocator + Copy>(
 ) -> Result<(), FileRefusal>
     ensures device { IsErrOf result FileRefusal.Device → HasFailed (F.shelf files.old) (F.shelf files.new) }
     ensures small { IfErr result (λ e. e ≢ FileRefusal.Large) }
+    ensures missing { IsErrOf result FileRefusal.Missing → HasNoPlace name.now (F.shelf files.old).kept }
     ensures counted { (F.shelf files.old).failures ≤ (F.shelf files.new).failures }
     ensures ok { OnOk result (IsReplaced name.now bytes.now (F.shelf files.old).kept (F.shelf files.new).kept) }
     ensures err { OnErr result (Spares (new_name name.now) (F.shelf files.old).kept (F.shelf files.new).kept) }

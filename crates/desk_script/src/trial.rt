@@ -1,7 +1,7 @@
 //! A reader, a writer and files in memory, which fail where they are told to. For tests.
 
 ghost use Rattle.std.specs.Prelude.{◌≡◌, ◌≤◌, ◌<◌, ◌≢◌, IfErr, IfOk, IsErrOf, IsTrue, Some, length, option_map};
-ghost use Rattle.desk_script.specs.Files.{HasRisen, IsRenamed, max_file, shelf};
+ghost use Rattle.desk_script.specs.Files.{HasRisen, IsGone, IsRenamed, max_file, shelf};
 ghost use Rattle.desk_script.specs.Trial.{IsPut, bytes_in, kept_in};
 
 use crate::files::{FileRefusal, Files, MAX_FILE};
@@ -235,6 +235,7 @@ impl<A: Allocator + Copy> TrialFiles<A> {
     /// Gives a file another name, in place of a file that had it.
     fn move_file(&mut self, from: &str, to: &str) -> Result<(), FileRefusal>
         ensures device { IfErr result (λ e. (e ≢ FileRefusal.Device) × (e ≢ FileRefusal.Large)) }
+        ensures missing { IsErrOf result FileRefusal.Missing → IsGone (kept_in self.old.changes.items from.now) }
         ensures failures { self.new.failures ≡ self.old.failures }
         ensures ok { IfOk result (λ _. IsRenamed from.now to.now (kept_in self.old.changes.items) (kept_in self.new.changes.items)) }
         ensures err { IfErr result (λ _. self.new.changes.items ≡ self.old.changes.items) }

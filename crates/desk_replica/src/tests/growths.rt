@@ -217,10 +217,18 @@ fn refused_opening(alloc: Global, ops: &[Op], cut: usize) -> Result<Seen, Fail>
 {
     let heap = LocalHeap::new(alloc, 8192)?;
     let ballast = ballast(&heap, cut);
-    let refused = Replica::open(&heap, 1, ops).is_err();
+    let stop = Replica::open(&heap, 1, ops).err();
     drop(ballast);
-    let right = shows(&Replica::open(&heap, 1, ops)?, &['z', 'a', 'c', 'e', 'b'])?;
-    Ok(Seen { refused, right })
+    let none = Stopped {
+        taken: 0,
+        why: AddRefusal::NoMemory,
+    };
+    let right = stop.unwrap_or(none) == none
+        && shows(&Replica::open(&heap, 1, ops)?, &['z', 'a', 'c', 'e', 'b'])?;
+    Ok(Seen {
+        refused: stop.is_some(),
+        right,
+    })
 }
 
 /// A refused insert changes nothing, and succeeds with memory.

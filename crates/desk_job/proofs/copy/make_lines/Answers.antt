@@ -10,13 +10,13 @@ use Rattle.desk_job.proofs.copy.make_lines.Goals as goal
 
 pub add_paragraphs-requires-clause-words : goal.add_paragraphs-requires-clause-words
 add_paragraphs-requires-clause-words g c =
-    subst (λ (found : List (List Word)). All (AreWordsOf c.args.copy.now) found) (sym (c.deref.ensures.value ∙ c.in_ok-found.ensures))
+    subst (λ (found : List (List Word)). All (AreWordsOf c.args.copy.now) found) (sym (c.deref.ensures.value ∙ c.in_ok-found.ensures.ok))
     (words_stand c.args.copy.now c.requires)
 
 pub add_paragraphs-requires-clause-room : goal.add_paragraphs-requires-clause-room
 add_paragraphs-requires-clause-room g c =
     subst (λ (found : List (List Word)). HasRoom c.args.terms.now (all_lines c.args.terms.now c.args.copy.now found) c.new-making.result)
-    (sym (c.deref.ensures.value ∙ c.in_ok-found.ensures))
+    (sym (c.deref.ensures.value ∙ c.in_ok-found.ensures.ok))
     (subst (λ (before : Found). HasRoom c.args.terms.now (all_lines c.args.terms.now c.args.copy.now (words_of c.args.copy.now)) before) (sym c.new-making.ensures)
     (copy_room c.args.terms.now c.args.copy.now c.are_usable.ensures c.requires))
 
@@ -26,4 +26,4 @@ returns g c =
     (subst (λ (ls : List SetLine). Adds c.args.terms.now ls c.new-making.result c.add_paragraphs.new.self)
     (copy_is c.args.terms.now c.args.copy.now)
     (subst (λ (found : List (List Word)). Adds c.args.terms.now (all_lines c.args.terms.now c.args.copy.now found) c.new-making.result c.add_paragraphs.new.self)
-    (c.deref.ensures.value ∙ c.in_ok-found.ensures) c.in_ok-add_paragraphs.ensures))
+    (c.deref.ensures.value ∙ c.in_ok-found.ensures.ok) c.in_ok-add_paragraphs.ensures))

@@ -24,8 +24,8 @@ loop-i-preserved g c =
       }
     ]
 
-pub returns : goal.returns
-returns g c =
+pub returns-clause-ok : goal.returns-clause-ok
+returns-clause-ok g c =
     elim c.if-from-words.branch [
       | then-from-words+in_ok-push-2 w ↦ rw (w.groups-is, w.in_ok-push-2.ensures.items)
           (step_last _ _ _ _ _ _ _ c.requires.widths c.requires.space_low c.loop-i.invariant.found c.loop-i.invariant.is_open (omega arith) w.if-from-words.true)

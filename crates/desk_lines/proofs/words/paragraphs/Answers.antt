@@ -18,8 +18,8 @@ loop-i-preserved g c =
           (read_other _ _ _ _ _ (sym c.is_line_feed.ensures ∙ w.if-is_line_feed.false) (sym w.is_space.ensures ∙ w.if-is_space.false) c.loop-i.invariant)
     ]
 
-pub returns : goal.returns
-returns g c =
+pub returns-clause-ok : goal.returns-clause-ok
+returns-clause-ok g c =
     elim c.if-from-copy.branch [
       | then-from-copy+in_ok-push-4+in_ok-push-5 w ↦
           rw (w.found-is, w.in_ok-push-5.ensures.items, w.from_words-then-from-copy.ensures, w.in_ok-push-4.ensures.items)

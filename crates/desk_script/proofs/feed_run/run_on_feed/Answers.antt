@@ -1,6 +1,7 @@
-use Rattle.std.proofs.Common.{rules, ◌≤◌}
+use Rattle.std.proofs.Common.{rules}
 use Rattle.std.proofs.lemmas.Result.{on_err_weaker, on_ok_weaker}
-use Rattle.desk_script.specs.Files.{Reads}
+use Rattle.desk_script.specs.Files.{Stays}
+use Rattle.desk_script.proofs.Shelves.{stays_trans}
 use Rattle.desk_script.specs.Sites.{desk}
 use Rattle.desk_script.proofs.Feeds.{refused_with, stored_all, stored_front, unstored, unstored_front, device_later, of_storing}
 use Rattle.desk_script.proofs.feed_run.run_on_feed.Goals as goal
@@ -18,10 +19,10 @@ returns-clause-err g c =
 
 pub returns-clause-device : goal.returns-clause-device
 returns-clause-device g c =
-    device_later c.keep_feed.result (g.F.Files.shelf c.args.files.now) (g.F.Files.shelf c.answer_all.new.files) (g.F.Files.shelf c.keep_feed.new.files) (search rules) c.keep_feed.ensures.counted c.keep_feed.ensures.own
+    device_later c.args.name.now c.keep_feed.result (g.F.Files.shelf c.args.files.now) (g.F.Files.shelf c.answer_all.new.files) (g.F.Files.shelf c.keep_feed.new.files) (search rules) c.keep_feed.ensures.counted c.keep_feed.ensures.own
 
 pub returns-clause-feed : goal.returns-clause-feed
 returns-clause-feed g c =
-    let low : (g.F.Files.shelf c.args.files.now).failures ≤ (g.F.Files.shelf c.answer_all.new.files).failures = search rules in
-    refused_with c.keep_feed.result _ _ (λ e kept h. of_storing (Reads ((g.F.Files.shelf c.args.files.now).kept c.args.name.now)) _ (g.F.Files.shelf c.args.files.now) (g.F.Files.shelf c.answer_all.new.files) (g.F.Files.shelf c.keep_feed.new.files) e low c.keep_feed.ensures.counted
+    let same : Stays (g.F.Files.shelf c.args.files.now) (g.F.Files.shelf c.answer_all.new.files) = stays_trans c.opened.ensures.stays c.answer_all.ensures.stays in
+    refused_with c.keep_feed.result _ _ (λ e kept h. of_storing c.args.name.now _ (g.F.Files.shelf c.args.files.now) (g.F.Files.shelf c.answer_all.new.files) (g.F.Files.shelf c.keep_feed.new.files) e same c.keep_feed.ensures.counted
     (unstored _ _ _ _ (desk c.in-Ok.world (g.F.Files.shelf c.opened.new.files)) (desk c.answer_all.new.world (g.F.Files.shelf c.answer_all.new.files)) _ _ _ c.in-Ok.ensures.ok kept c.in_default.ensures.ok) h) c.keep_feed.ensures.err c.keep_feed.ensures.own

@@ -8,18 +8,18 @@ use Rattle.desk_job.proofs.copy.Making.add_paragraph.Goals as goal
 pub add_groups-requires-clause-ranges : goal.add_groups-requires-clause-ranges
 add_groups-requires-clause-ranges g c =
     (paragraph_from c.args.terms.now c.args.copy.now c.args.words.now _ _ _ _ _ _ c.deref.ensures.value c.in_ok-widths.ensures.value
-    c.tight_space.ensures.value c.measure.ensures.value c.deref-3.ensures.value c.in_ok-groups.ensures).1
+    c.tight_space.ensures.value c.measure.ensures.value c.deref-3.ensures.value c.in_ok-groups.ensures.ok).1
 
 pub add_groups-requires-clause-room : goal.add_groups-requires-clause-room
 add_groups-requires-clause-room g c =
     subst (λ (ls : List SetLine). HasRoom c.args.terms.now ls c.args.self.now)
     (sym (paragraph_from c.args.terms.now c.args.copy.now c.args.words.now _ _ _ _ _ _ c.deref.ensures.value c.in_ok-widths.ensures.value
-    c.tight_space.ensures.value c.measure.ensures.value c.deref-3.ensures.value c.in_ok-groups.ensures).0)
+    c.tight_space.ensures.value c.measure.ensures.value c.deref-3.ensures.value c.in_ok-groups.ensures.ok).0)
     c.requires.room
 
 pub returns : goal.returns
 returns g c =
     subst (λ (ls : List SetLine). OnOk c.add_groups.result (Adds c.args.terms.now ls c.args.self.now c.add_groups.new.self))
     (paragraph_from c.args.terms.now c.args.copy.now c.args.words.now _ _ _ _ _ _ c.deref.ensures.value c.in_ok-widths.ensures.value
-    c.tight_space.ensures.value c.measure.ensures.value c.deref-3.ensures.value c.in_ok-groups.ensures).0
+    c.tight_space.ensures.value c.measure.ensures.value c.deref-3.ensures.value c.in_ok-groups.ensures.ok).0
     c.add_groups.ensures
