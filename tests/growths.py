@@ -3,8 +3,9 @@
 
 A run in which one growth was refused either answers all as the undisturbed run does, or ends with status 1 and
 `copydesk: no memory`, and then what it wrote is a front of the undisturbed answers: no want of memory is told as another
-refusal, of the wedge or the case file too, whose text `toml` reads with the global allocator. On a stored feed the file
-holds the old feed after an end with status 1, and the new one after one with 0.
+refusal, of the wedge or the case file too, whose text `toml` reads with the global allocator. Words that are refused or
+ask for help keep their status, or end in that way too. On a stored feed the file holds the old feed after an end with
+status 1, and the new one after one with 0.
 """
 import os
 import subprocess
@@ -48,6 +49,22 @@ insert 1 0 r"€"
 cast 1 case12.toml wedge5.toml
 show 2
 """
+BAD_FILES = """site 1
+set 1 measure 288
+set 1 tight 40
+set 1 loose 200
+set 1 case 12
+set 1 wedge 5
+ribbon 1 short.toml wedge5.toml
+ribbon 1 text.toml wedge5.toml
+ribbon 1 space.toml wedge5.toml
+ribbon 1 filled.toml wedge5.toml
+ribbon 1 order.toml wedge5.toml
+ribbon 1 case12.toml unread.toml
+ribbon 1 case12.toml unnamed.toml
+ribbon 1 case12.toml pica.toml
+ribbon 1 case12.toml few.toml
+"""
 STORED = """insert 3 0 r"ab"
 set 3 measure 120
 show 3
@@ -69,6 +86,15 @@ def files(folder):
         "nofill.toml": "\n".join(blank),
         "doubled.toml": "case = 12\nspace = \"O1\"\nfill = [\"O2\"]\nrows = [%s]\n" % ", ".join(["[%s]" % ", ".join(['"n"'] + ['""'] * 14)] * 15),
         "broken.toml": "case = [",
+        "short.toml": case.replace('["H", "K", "N", "&", ', '["H", "K", "N", '),
+        "text.toml": case.replace('"ﬃ"', '"ffi"'),
+        "space.toml": case.replace('space = "G1"', 'space = "A1"'),
+        "filled.toml": case.replace('fill = ["O15", "O7", "O2"]', 'fill = ["O15", "A7"]'),
+        "order.toml": case.replace('fill = ["O15", "O7", "O2"]', 'fill = ["O2", "O7"]'),
+        "unread.toml": "wedge =",
+        "unnamed.toml": wedge.replace("wedge =", "number ="),
+        "pica.toml": wedge.replace("pica =", "pica = 6 #"),
+        "few.toml": "wedge = 5\nset_q = 48\npica = \"sixth\"\nunits = [5,6,7]\n",
     }
     for name, text in texts.items():
         with open(os.path.join(folder, name), "w", encoding="utf-8") as file:
@@ -83,8 +109,9 @@ def shim(folder):
 
 
 class Runs:
-    def __init__(self, program, words, text, folder, library):
+    def __init__(self, program, words, text, folder, library, texts=False):
         self.command, self.text, self.folder, self.library = [program] + words, text, folder, library
+        self.texts = texts
 
     def run(self, number):
         environment = dict(os.environ, LD_PRELOAD=self.library, REFUSE=str(number))
@@ -102,22 +129,39 @@ class Runs:
             return int(told.read().split()[-1])
 
 
-def compare(runs, answers, number):
+def compare(runs, whole, number):
     """What is wrong with the run in which this growth is refused, and whether it ended early."""
     status, written, told = runs.run(number)
-    if status == 0:
-        return None if (written, told) == (answers, b"") else "ended with 0 and other answers", False
+    if status == whole[0] != 1:
+        fronts = whole[1].startswith(written) and whole[2].startswith(told)
+        same = (written, told) == whole[1:] or (runs.texts and fronts)
+        return None if same else "ended with %d and other answers" % status, False
     if status != 1 or told != b"copydesk: no memory\n":
         return "ended with %d and %r" % (status, told), True
-    return None if answers.startswith(written) else "wrote what is no front of the answers", True
+    return None if whole[1].startswith(written) else "wrote what is no front of the answers", True
 
 
-def script(program, folder, library):
-    runs = Runs(program, ["script"], SCRIPT, folder, library)
-    status, answers, told = runs.run(0)
-    if status or told or answers.count(b"\n") != SCRIPT.count("\n"):
-        return ["the undisturbed run ended with %d: %r" % (status, told)], 0, 0
-    return sweep(runs, answers, lambda early: None)
+def script(program, folder, library, text=SCRIPT):
+    runs = Runs(program, ["script"], text, folder, library)
+    whole = runs.run(0)
+    if whole[0] or whole[2] or whole[1].count(b"\n") != text.count("\n"):
+        return ["the undisturbed run ended with %d: %r" % (whole[0], whole[2])], 0, 0
+    return sweep(runs, whole, lambda early: None)
+
+
+def bad_files(program, folder, library):
+    return script(program, folder, library, BAD_FILES)
+
+
+def words(program, folder, library):
+    """Words that ask for help, and words that are refused: their texts may be cut short, their status may not change."""
+    faults, number, early = [], 0, 0
+    for line in ("--help", "desk --help", "jump", "desk a.feed", "desk a.feed --site 0", "script now"):
+        runs = Runs(program, line.split(), "site 1\n", folder, library, True)
+        some, growths, ended = sweep(runs, runs.run(0), lambda early: None)
+        faults += ["%s: %s" % (line, fault) for fault in some]
+        number, early = number + growths, early + ended
+    return faults, number, early
 
 
 def stored(program, folder, library):
@@ -126,7 +170,7 @@ def stored(program, folder, library):
     runs.run(0)
     with open(feed, "rb") as file:
         old = file.read()
-    _, answers, _ = runs.run(0)
+    whole = runs.run(0)
     with open(feed, "rb") as file:
         new = file.read()
 
@@ -141,14 +185,14 @@ def stored(program, folder, library):
         return None if now == (old if early else new) else "the stored feed is not the %s one" % ("old" if early else "new")
 
     back()
-    return sweep(runs, answers, held)
+    return sweep(runs, whole, held)
 
 
-def sweep(runs, answers, held):
+def sweep(runs, whole, held):
     number, faults, early = runs.count(), [], 0
     held(False)
     for k in range(1, number + 1):
-        fault, ended = compare(runs, answers, k)
+        fault, ended = compare(runs, whole, k)
         early += ended
         fault = fault or held(ended)
         if fault:
@@ -161,7 +205,7 @@ def main():
     with tempfile.TemporaryDirectory() as folder:
         library, failed = shim(folder), False
         files(folder)
-        for name, part in (("script", script), ("stored feed", stored)):
+        for name, part in (("script", script), ("bad files", bad_files), ("words", words), ("stored feed", stored)):
             faults, number, early = part(program, folder, library)
             for fault in faults[:20]:
                 print(fault)

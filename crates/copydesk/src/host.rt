@@ -2,7 +2,7 @@
 
 ghost use Rattle.std.specs.Prelude.{◌≡◌, ◌≢◌, ◌<◌, ◌≤◌, IfErr, IfOk, IfSome, IsErrOf, length};
 ghost use Rattle.std.specs.IoError.{error_kind};
-ghost use Rattle.desk_script.specs.Files.{HasRisen, max_file};
+ghost use Rattle.desk_script.specs.Files.{IsCounted, Unknown, max_file, shelf};
 ghost use Rattle.copydesk.specs.Host.{IsToldOf};
 
 use desk_script::{FileRefusal, Files, MAX_FILE};
@@ -28,8 +28,7 @@ impl<'a, H: std::rt::Files> HostFiles<'a, H> {
     /// Counts a refusal, if the device failed.
     fn counted(&mut self, why: FileRefusal) -> FileRefusal
         ensures same { result ≡ why }
-        ensures failed { why ≡ FileRefusal.Device → HasRisen self.old.failures self.new.failures }
-        ensures counted { self.old.failures ≤ self.new.failures }
+        ensures counted { IsCounted result (shelf (λ _. Unknown) self.old.failures) (shelf (λ _. Unknown) self.new.failures) }
     {
         if why == FileRefusal::Device {
             self.failures = self.failures.saturating_add(1);
@@ -93,8 +92,6 @@ fn write_file<H: std::rt::Files>(host: &H, name: &str, bytes: &[u8]) -> io::Resu
 }
 
 impl<'a, H: std::rt::Files> Files for HostFiles<'a, H> {
-    ghost use Rattle.desk_script.specs.Files.{Unknown, shelf};
-
     // what a file of the machine holds is not told by std
     ghost shelf = { λ f. shelf (λ _. Unknown) f.failures };
 

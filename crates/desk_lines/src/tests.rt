@@ -139,12 +139,14 @@ fn refused_growths(rt: HostRuntime) -> Result<(), Fail> {
     )?;
     let whole = paragraphs(rt.alloc(), &copy)?;
     let want = shown(rt.alloc(), &whole)?;
+    let groups = break_lines(rt.alloc(), &words, Atoms::new(1), Atoms::new(0))?;
+    assert_eq!(rt; groups.len(), 40);
     let mut refused = (0u32, 0u32);
     for room in 1..64usize {
         let heap = LocalHeap::new(rt.alloc(), 4096)?;
         let ballast: Vec<u8, &LocalHeap> = Vec::with_capacity(&heap, 4096 - room * 64)?;
         match break_lines(&heap, &words, Atoms::new(1), Atoms::new(0)) {
-            Ok(found) => assert_eq!(rt; found.len(), 40),
+            Ok(found) => assert_eq!(rt; found.as_slice(), groups.as_slice()),
             Err(NoMemory) => refused.0 = refused.0.saturating_add(1),
         }
         match paragraphs(&heap, &copy) {
@@ -152,10 +154,8 @@ fn refused_growths(rt: HostRuntime) -> Result<(), Fail> {
             Err(NoMemory) => refused.1 = refused.1.saturating_add(1),
         }
         drop(ballast);
-        assert_eq!(rt;
-            break_lines(&heap, &words, Atoms::new(1), Atoms::new(0))?.len(),
-            40
-        );
+        let found = break_lines(&heap, &words, Atoms::new(1), Atoms::new(0))?;
+        assert_eq!(rt; found.as_slice(), groups.as_slice());
         let found = paragraphs(&heap, &copy)?;
         assert_eq!(rt; shown(rt.alloc(), &found)?.as_str(), want.as_str());
     }

@@ -1,7 +1,8 @@
 -- Runs on a stored feed.
-use Rattle.std.proofs.Common.{◌≡◌, ℕ, ◌<◌, ◌≤◌, inl, inr, List, [], Option, Some, None, subst, arith, true, false, nat_eq}
-use Rattle.std.specs.Prelude.{Result, Ok, Err, IfErr, IfSome, OnErr, IsErrOf}
+use Rattle.std.proofs.Common.{◌≡◌, ℕ, ◌<◌, ◌≤◌, inl, inr, List, [], Option, subst, arith, true, false, nat_eq}
+use Rattle.std.specs.Prelude.{Result, Ok, Err, IfErr, IsErrOf}
 use Rattle.std.specs.FinMap as fin
+use Rattle.std.proofs.Math.Nat.{le_trans}
 use Rattle.std.proofs.lemmas.Bool.Decides.{nat_tests}
 use Rattle.desk_ops.specs.declared.op.Op.{Op}
 use Rattle.desk_ops.specs.OpSet.{no_ops, size, with_all}
@@ -9,12 +10,9 @@ use Rattle.desk_script.specs.declared.files.FileRefusal.{FileRefusal}
 use Rattle.desk_script.specs.declared.files.FileRefusal.TheVariants as refusals
 use Rattle.desk_script.specs.declared.fault.RunFault.{RunFault}
 use Rattle.desk_script.specs.declared.fault.RunFault.TheVariants as faults
-use Rattle.desk_script.specs.Faults.{IsCrowded, IsOfFeed, IsOfStoring, IsUnopened}
-use Rattle.desk_script.specs.Files.{HasFailed, HasNoPlace, HasRisen, Shelf, Stays}
-use Rattle.desk_script.specs.Lines.{lines}
-use Rattle.desk_script.specs.Sites.{Desk}
-use Rattle.desk_script.specs.Script.{Turn, Fronts}
-use Rattle.desk_script.specs.Stored.{AnswersStored, AnswersStoredFront, AnswersUnstored, IsNotStored, IsStart, IsStored, Stores}
+use Rattle.desk_script.specs.Faults.{IsCrowded, IsOfRun, IsOfStoring, IsUnopened}
+use Rattle.desk_script.specs.Files.{HasFailed, HasRisen, Reads, Shelf, Stays}
+use Rattle.desk_script.specs.Stored.{IsBroken, IsHalted, IsUnstored, Stores}
 use Rattle.desk_ops.proofs.Stamps.{by_cases}
 
 none_crowds : (ops : List Op) → ops ≡ [] → 1048576 < size (with_all no_ops ops) → ⊥
@@ -41,29 +39,36 @@ unopened Gives before after read ops (faults.Feed fault) given stores crowded = 
 unopened Gives before after read ops (faults.File why) given stores crowded = absurd crowded
 unopened Gives before after read ops (faults.Opening stop) given stores crowded = crowded_by Gives before after read ops stop given stores crowded
 
--- a refusal, and what it leaves
-pub refused_with : {A E P : Type 0} (r : Result A E) (Q R : E → Type 0) → ((e : E) → P → Q e → R e) → OnErr r P → IfErr r Q → IfErr r R
-refused_with (Ok x) Q R f p q = tt
-refused_with (Err e) Q R f p q = f e p q
+-- a feed that was not opened
+pub unopened_halts : (name : List ℕ) (n : ℕ) (first last : Shelf) (i a b : Option (List ℕ)) (e : RunFault) → b ≡ a → Stays first last → IsUnopened (Reads (first.kept name)) first last e
+    → IsHalted name n first last i a b e
+unopened_halts name n first last i a b faults.Read same stays h = absurd h
+unopened_halts name n first last i a b faults.Write same stays h = absurd h
+unopened_halts name n first last i a b faults.TooLong same stays h = absurd h
+unopened_halts name n first last i a b faults.NoMemory same stays h = inl (same, stays)
+unopened_halts name n first last i a b (faults.Feed fault) same stays h = ((same, stays), h)
+unopened_halts name n first last i a b (faults.File why) same stays h = inl ((same, stays), h)
+unopened_halts name n first last i a b (faults.Opening stop) same stays h = ((same, stays), h)
 
-pub stored_all : (name : List ℕ) (n : ℕ) (first last : Shelf) (start new : Desk) (i a b : Option (List ℕ)) → IsStart name n first start → IsStored name n new last
-    → IfSome i (λ input. Turn start new a b (lines input)) → IfSome i (λ input. AnswersStored name n first last input a b)
-stored_all name n first last start new None a b from stored turn = tt
-stored_all name n first last start new (Some input) a b from stored turn = (start, from, new, turn, stored)
+-- a run that stopped among the lines
+pub broken_halts : (name : List ℕ) (n : ℕ) (first last : Shelf) (i a b : Option (List ℕ)) (e : RunFault) → IsOfRun e → IsBroken name n first last i a b → IsHalted name n first last i a b e
+broken_halts name n first last i a b faults.Read own h = h
+broken_halts name n first last i a b faults.Write own h = h
+broken_halts name n first last i a b faults.TooLong own h = h
+broken_halts name n first last i a b faults.NoMemory own h = inr (inl h)
+broken_halts name n first last i a b (faults.Feed fault) own h = absurd own
+broken_halts name n first last i a b (faults.File why) own h = absurd own
+broken_halts name n first last i a b (faults.Opening stop) own h = absurd own
 
-pub stored_front : (name : List ℕ) (n : ℕ) (first last : Shelf) (start : Desk) (i a b : Option (List ℕ)) → IsStart name n first start
-    → IfSome i (λ input. Fronts start last a b (lines input)) → IfSome i (λ input. AnswersStoredFront name n first last input a b)
-stored_front name n first last start None a b from fronts = tt
-stored_front name n first last start (Some input) a b from fronts = inr (inl (start, from, fronts))
-
-pub unstored : (name : List ℕ) (n : ℕ) (first last : Shelf) (start new : Desk) (i a b : Option (List ℕ)) → IsStart name n first start → IsNotStored name new.shelf last
-    → IfSome i (λ input. Turn start new a b (lines input)) → IfSome i (λ input. AnswersUnstored name n first last input a b)
-unstored name n first last start new None a b from kept turn = tt
-unstored name n first last start new (Some input) a b from kept turn = (start, from, new, turn, kept)
-
-pub unstored_front : (name : List ℕ) (n : ℕ) (first last : Shelf) (i a b : Option (List ℕ)) → IfSome i (λ input. AnswersUnstored name n first last input a b) → IfSome i (λ input. AnswersStoredFront name n first last input a b)
-unstored_front name n first last None a b all = tt
-unstored_front name n first last (Some input) a b all = inr (inr all)
+-- a feed that was not stored
+pub unstored_halts : (name : List ℕ) (n : ℕ) (first mid last : Shelf) (i a b : Option (List ℕ)) (e : RunFault) → IsOfStoring name mid last e → IsUnstored name n first last i a b e → IsHalted name n first last i a b e
+unstored_halts name n first mid last i a b faults.Read own h = absurd own
+unstored_halts name n first mid last i a b faults.Write own h = absurd own
+unstored_halts name n first mid last i a b faults.TooLong own h = absurd own
+unstored_halts name n first mid last i a b faults.NoMemory own h = inr (inr h)
+unstored_halts name n first mid last i a b (faults.Feed fault) own h = absurd own
+unstored_halts name n first mid last i a b (faults.File why) own h = inr h
+unstored_halts name n first mid last i a b (faults.Opening stop) own h = absurd own
 
 full_or_rose : (o n : ℕ) → o ≤ 18446744073709551615 → 18446744073709551615 ≤ n → HasRisen o n
 full_or_rose o n low high = by_cases (nat_eq o 18446744073709551615) (λ e. inr (same o e)) (λ e. inl (less o n low high e))
@@ -78,19 +83,12 @@ earlier : (o m n : ℕ) → o ≤ m → m ≤ n → HasRisen m n → HasRisen o 
 earlier o m n low high (inl rose) = inl (omega arith)
 earlier o m n low high (inr full) = full_or_rose o n (omega arith) (omega arith)
 
--- a failure at the end is one of the whole
-pub device_later : (name : List ℕ) (r : Result (Unit {0}) RunFault) (o m n : Shelf) → o.failures ≤ m.failures → m.failures ≤ n.failures → IfErr r (IsOfStoring name m n) → IsErrOf r (faults.File refusals.Device) → HasFailed o n
-device_later name r o m n low high told is = earlier o.failures m.failures n.failures low high (subst (λ (x : Result (Unit {0}) RunFault). IfErr x (IsOfStoring name m n)) is told)
+-- the device's fault is told of a failure in the run
+failed_halt : (name : List ℕ) (n : ℕ) (first last : Shelf) (i a b : Option (List ℕ)) → IsHalted name n first last i a b (faults.File refusals.Device) → HasFailed first last
+failed_halt name n first last i a b (inl (unbegun, (given, failed))) = failed
+failed_halt name n first last i a b (inr (start, (read, given, counts, ops, stores, sites, (kept, low)), new, ((same, high), turn), (spares, (failed, rises)))) =
+    earlier first.failures new.shelf.failures last.failures (le_trans low high) rises failed
 
--- a feed that was not stored, after all answers
-pub of_storing : (name : List ℕ) (Answered : Type 0) (o m n : Shelf) (e : RunFault) → Stays o m → m.failures ≤ n.failures → Answered → IsOfStoring name m n e → IsOfFeed name Answered o n e
-of_storing name Answered o m n faults.Read same high all h = tt
-of_storing name Answered o m n faults.Write same high all h = tt
-of_storing name Answered o m n faults.TooLong same high all h = tt
-of_storing name Answered o m n faults.NoMemory same high all h = tt
-of_storing name Answered o m n (faults.Feed fault) same high all h = absurd h
-of_storing name Answered o m n (faults.File refusals.Missing) same high all h = inr (all, subst (HasNoPlace name) same.0 h)
-of_storing name Answered o m n (faults.File refusals.Device) same high all h = inr (all, earlier o.failures m.failures n.failures same.1 high h)
-of_storing name Answered o m n (faults.File refusals.Large) same high all h = absurd h
-of_storing name Answered o m n (faults.File refusals.NoMemory) same high all h = absurd h
-of_storing name Answered o m n (faults.Opening stop) same high all h = absurd h
+pub device_halt : (name : List ℕ) (n : ℕ) (first last : Shelf) (i a b : Option (List ℕ)) (r : Result (Unit {0}) RunFault) → IfErr r (IsHalted name n first last i a b) → IsErrOf r (faults.File refusals.Device)
+    → HasFailed first last
+device_halt name n first last i a b r told is = failed_halt name n first last i a b (subst (λ (x : Result (Unit {0}) RunFault). IfErr x (IsHalted name n first last i a b)) is told)

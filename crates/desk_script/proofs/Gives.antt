@@ -1,19 +1,42 @@
 -- Files that were read.
-use Rattle.std.proofs.Common.{◌≡◌, ℕ, List, ap}
-use Rattle.std.specs.Result.{IsErrOf}
+use Rattle.std.proofs.Common.{◌≡◌, ◌≤◌, ℕ, List, le_refl, refl, subst, sym, ◌∙◌}
 use Rattle.desk_script.specs.declared.files.FileRefusal.{FileRefusal}
-use Rattle.std.specs.Prelude.{Option, Result, Ok, Err, IfOk}
+use Rattle.std.specs.Prelude.{◌≢◌, Option, Result, Ok, Err, IfErr, IfOk}
 use Rattle.desk_script.specs.declared.text.Refusal.{Refusal}
 use Rattle.desk_script.specs.declared.files.FileRefusal.TheVariants as files
-use Rattle.desk_script.specs.Files.{Reads, Shelf, Stays}
+use Rattle.desk_script.specs.Files.{Counts, HasRisen, Reads, Shelf, Stays}
 use Rattle.desk_script.specs.Inputs.{Tells, FileGives}
 
 -- the bytes that a file gave
 pub gives_bytes : {V E X : Type 0} (meaning : List ℕ → Result V E) (refused : E → Option Refusal) (name : List ℕ) (before after : Shelf) (bytes : List ℕ) (r : Result (Result V Refusal) X)
-    → Stays before after → Reads (before.kept name) (Ok bytes) → IfOk r (λ given. Tells refused (meaning bytes) given) → IfOk r (λ given. FileGives meaning refused name before given after)
-gives_bytes meaning refused name before after bytes (Ok given) stays read h = (stays, Ok bytes, read, λ e. absurd (let f : Ok bytes ≡ Err files.Device = e in cc), h)
-gives_bytes meaning refused name before after bytes (Err e) stays read h = tt
+    → Stays before after → Reads (before.kept name) (Ok bytes) → after.failures ≡ before.failures → IfOk r (λ given. Tells refused (meaning bytes) given) → IfOk r (λ given. FileGives meaning refused name before given after)
+gives_bytes meaning refused name before after bytes (Ok given) stays read counts h = (stays, Ok bytes, read, counts, h)
+gives_bytes meaning refused name before after bytes (Err e) stays read counts h = tt
 
--- the device's refusal, of whatever is read
-pub device : {T U P : Type 0} (why : FileRefusal) → (IsErrOf {T = T} (Err why) files.Device → P) → IsErrOf {T = U} (Err why) files.Device → P
-device why h e = h (ap Err (let w : why ≡ files.Device = cc in w))
+-- a refusal counts so, of whatever is read
+pub counts_read : {T : Type 0} (r : Result T FileRefusal) (why : FileRefusal) (before after : Shelf) → r ≡ Err why → Counts r before after → Counts {V = List ℕ} (Err why) before after
+counts_read {T} r why before after is h = subst (λ (x : Result T FileRefusal). Counts x before after) is h
+
+-- a count that tells of the device or stays does not fall
+pub counts_up : {T : Type 0} (r : Result T FileRefusal) (before after : Shelf) → Counts r before after → before.failures ≤ after.failures
+counts_up (Ok v) before after h = subst (λ (k : ℕ). before.failures ≤ k) (sym h) (le_refl _)
+counts_up (Err files.Missing) before after h = subst (λ (k : ℕ). before.failures ≤ k) (sym h) (le_refl _)
+counts_up (Err files.Device) before after h = h.1
+counts_up (Err files.Large) before after h = subst (λ (k : ℕ). before.failures ≤ k) (sym h) (le_refl _)
+counts_up (Err files.NoMemory) before after h = subst (λ (k : ℕ). before.failures ≤ k) (sym h) (le_refl _)
+
+-- a count that was the same before
+pub counts_from : {T : Type 0} (r : Result T FileRefusal) (before mid after : Shelf) → mid.failures ≡ before.failures → Counts r mid after → Counts r before after
+counts_from (Ok v) before mid after same h = h ∙ same
+counts_from (Err files.Missing) before mid after same h = h ∙ same
+counts_from (Err files.Device) before mid after same h = subst (λ (k : ℕ). HasRisen k after.failures × (k ≤ after.failures)) same h
+counts_from (Err files.Large) before mid after same h = h ∙ same
+counts_from (Err files.NoMemory) before mid after same h = h ∙ same
+
+-- a call that does not tell of the device, and counts nothing
+pub counts_none : {T : Type 0} (P : FileRefusal → Type 0) (r : Result T FileRefusal) (before after : Shelf) → IfErr r (λ e. (e ≢ files.Device) × P e) → after.failures ≡ before.failures → Counts r before after
+counts_none P (Ok v) before after other same = same
+counts_none P (Err files.Missing) before after other same = same
+counts_none P (Err files.Device) before after other same = absurd (other.0 refl)
+counts_none P (Err files.Large) before after other same = same
+counts_none P (Err files.NoMemory) before after other same = same

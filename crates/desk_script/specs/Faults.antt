@@ -1,11 +1,11 @@
 -- Why a run stopped.
-use Rattle.std.specs.Prelude.{◌≡◌, ◌<◌, ◌⊎◌, ℕ, List, Result, Ok, Err}
+use Rattle.std.specs.Prelude.{◌≡◌, ◌≤◌, ◌<◌, ℕ, List, Result, Ok, Err}
 use Rattle.desk_ops.specs.declared.op.Op.{Op}
 use Rattle.desk_ops.specs.OpSet.{no_ops, size, with_all}
 use Rattle.desk_codec.specs.Fault.{IsFirstFault}
 use Rattle.desk_codec.specs.Feed.{IsFeed}
 use Rattle.desk_held.specs.declared.AddRefusal.TheVariants.{Full}
-use Rattle.desk_script.specs.Files.{HasFailed, HasNoPlace, Reads, Shelf}
+use Rattle.desk_script.specs.Files.{HasFailed, HasNoPlace, Shelf}
 use Rattle.desk_script.specs.declared.fault.RunFault.{RunFault}
 use Rattle.desk_script.specs.declared.fault.RunFault.TheVariants as faults
 use Rattle.desk_script.specs.declared.files.FileRefusal.{FileRefusal}
@@ -54,20 +54,10 @@ abbrev pub IsOfStoring : List ℕ → Shelf → Shelf → RunFault → Type 0
 IsOfStoring name before after faults.Read = ⊥
 IsOfStoring name before after faults.Write = ⊥
 IsOfStoring name before after faults.TooLong = ⊥
-IsOfStoring name before after faults.NoMemory = Unit {0}
+IsOfStoring name before after faults.NoMemory = after.failures ≡ before.failures
 IsOfStoring name before after (faults.Feed fault) = ⊥
-IsOfStoring name before after (faults.File refusals.Missing) = HasNoPlace name before.kept
-IsOfStoring name before after (faults.File refusals.Device) = HasFailed before after
+IsOfStoring name before after (faults.File refusals.Missing) = HasNoPlace name before.kept × (after.failures ≡ before.failures)
+IsOfStoring name before after (faults.File refusals.Device) = HasFailed before after × (before.failures ≤ after.failures)
 IsOfStoring name before after (faults.File refusals.Large) = ⊥
 IsOfStoring name before after (faults.File refusals.NoMemory) = ⊥
 IsOfStoring name before after (faults.Opening stop) = ⊥
-
--- why a run on a stored feed stopped, by the files before and after: the feed was refused or not opened for its cause alone, or it was not stored once all lines were Answered
-abbrev pub IsOfFeed : List ℕ → Type 0 → Shelf → Shelf → RunFault → Type 0
-IsOfFeed name Answered before after faults.Read = Unit {0}
-IsOfFeed name Answered before after faults.Write = Unit {0}
-IsOfFeed name Answered before after faults.TooLong = Unit {0}
-IsOfFeed name Answered before after faults.NoMemory = Unit {0}
-IsOfFeed name Answered before after (faults.Feed fault) = IsUnopened (Reads (before.kept name)) before after (faults.Feed fault)
-IsOfFeed name Answered before after (faults.File why) = IsUnread (Reads (before.kept name)) before after why ⊎ (Answered × IsOfStoring name before after (faults.File why))
-IsOfFeed name Answered before after (faults.Opening stop) = IsUnopened (Reads (before.kept name)) before after (faults.Opening stop)

@@ -3,7 +3,7 @@ use Rattle.std.specs.Prelude.{◌≡◌, ◌≢◌, ◌≤◌, ℕ, ◌<◌, ◌
 use Rattle.desk_script.specs.declared.files.FileRefusal.{FileRefusal}
 use Rattle.desk_script.specs.declared.files.FileRefusal.TheVariants as refusals
 
--- what a name stands for: Unknown where the files cannot tell, Nowhere where no file can have it, as in a folder that is not there
+-- what a name stands for: Unknown where the files cannot tell, Nowhere where no file can have it, as in a folder that is not there. A name that is known is the only one of its file, and of no folder.
 pub data Kept : Type 0 where
   Unknown : Kept
   Nowhere : Kept
@@ -34,6 +34,18 @@ HasFailed before after = HasRisen before.failures after.failures
 abbrev pub Stays : Shelf → Shelf → Type 0
 Stays before after = (after.kept ≡ before.kept) × (before.failures ≤ after.failures)
 
+-- a refusal tells of the device exactly where the count says that it failed, while it can
+abbrev pub IsCounted : FileRefusal → Shelf → Shelf → Type 0
+IsCounted refusals.Missing before after = after.failures ≡ before.failures
+IsCounted refusals.Device before after = HasFailed before after × (before.failures ≤ after.failures)
+IsCounted refusals.Large before after = after.failures ≡ before.failures
+IsCounted refusals.NoMemory before after = after.failures ≡ before.failures
+
+-- so does a call, and where it succeeds the device did not fail
+abbrev pub Counts : {V : Type 0} → Result V FileRefusal → Shelf → Shelf → Type 0
+Counts (Ok v) before after = after.failures ≡ before.failures
+Counts (Err why) before after = IsCounted why before after
+
 -- the most bytes of a file that is read
 abbrev pub max_file : ℕ
 max_file = 67108864
@@ -56,7 +68,7 @@ Reads Absent (Err refusals.Missing) = Unit {0}
 Reads Absent (Err refusals.Device) = Unit {0}
 Reads Absent (Err refusals.Large) = ⊥
 Reads Absent (Err refusals.NoMemory) = Unit {0}
-Reads (Holds kept) (Ok bytes) = bytes ≡ kept
+Reads (Holds kept) (Ok bytes) = (bytes ≡ kept) × (length kept ≤ max_file)
 Reads (Holds kept) (Err refusals.Missing) = ⊥
 Reads (Holds kept) (Err refusals.Device) = Unit {0}
 Reads (Holds kept) (Err refusals.Large) = max_file < length kept

@@ -1,5 +1,5 @@
 -- What the files of a command give.
-use Rattle.std.specs.Prelude.{◌≡◌, ℕ, List, Option, Some, None, option_map, Result, Ok, Err, IsErrOf}
+use Rattle.std.specs.Prelude.{◌≡◌, ℕ, List, Option, Some, None, option_map, Result, Ok, Err}
 use Rattle.desk_case.specs.Case.{CaseValues}
 use Rattle.desk_case.specs.File.{case_of}
 use Rattle.desk_case.specs.File as cases
@@ -12,7 +12,7 @@ use Rattle.desk_script.specs.declared.text.Refusal.{Refusal}
 use Rattle.desk_script.specs.declared.text.Refusal.TheVariants as refusals
 use Rattle.desk_script.specs.declared.files.FileRefusal.{FileRefusal}
 use Rattle.desk_script.specs.declared.files.FileRefusal.TheVariants as files
-use Rattle.desk_script.specs.Files.{HasFailed, Reads, Shelf, Stays}
+use Rattle.desk_script.specs.Files.{Counts, Reads, Shelf, Stays}
 
 -- the refusal that tells why a file was not read: want of memory has none, as it ends the run
 abbrev pub file_refused : FileRefusal → Option Refusal
@@ -38,10 +38,10 @@ abbrev pub TellsBytes : {V E : Type 0} → (List ℕ → Result V E) → (E → 
 TellsBytes meaning refused (Ok bytes) given = Tells refused (meaning bytes) given
 TellsBytes meaning refused (Err why) given = (told : Refusal) × (file_refused why ≡ Some told) × (given ≡ Err told)
 
--- A file is read by its name, and none changes. It gives its bytes or a refusal: that of a device only where the device failed.
+-- A file is read by its name, and none changes. It gives its bytes or a refusal: that of a device exactly where the device failed.
 abbrev pub FileGives : {V E : Type 0} → (List ℕ → Result V E) → (E → Option Refusal) → List ℕ → Shelf → Result V Refusal → Shelf → Type 0
 FileGives meaning refused name before given after =
-    Stays before after × (read : Result (List ℕ) FileRefusal) × Reads (before.kept name) read × (IsErrOf read files.Device → HasFailed before after)
+    Stays before after × (read : Result (List ℕ) FileRefusal) × Reads (before.kept name) read × Counts read before after
     × TellsBytes meaning refused read given
 
 abbrev pub with_case : CaseValues → Result WedgeValues Refusal → Result (CaseValues × WedgeValues) Refusal

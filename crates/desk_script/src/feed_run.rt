@@ -4,10 +4,10 @@ ghost use Rattle.std.specs.Prelude.{◌≡◌, ◌≤◌, ℕ, All, IfErr, IfOk,
 ghost use Rattle.std.specs.FinMap as fin;
 ghost use Rattle.desk_ops.specs.Op.{IsLawful};
 ghost use Rattle.desk_codec.specs.Feed.{IsFeed};
-ghost use Rattle.desk_script.specs.Faults.{IsCrowded, IsOfFeed, IsOfStoring, IsUnopened};
-ghost use Rattle.desk_script.specs.Files.{HasFailed, Reads, Stays, Unknown, shelf};
+ghost use Rattle.desk_script.specs.Faults.{IsCrowded, IsUnopened};
+ghost use Rattle.desk_script.specs.Files.{Counts, HasFailed, Reads, Stays, Unknown, shelf};
 ghost use Rattle.desk_script.specs.Sites.{desk};
-ghost use Rattle.desk_script.specs.Stored.{AnswersStored, AnswersStoredFront, AnswersUnstored, IsNotStored, IsStart, IsStored, Stores, one_site};
+ghost use Rattle.desk_script.specs.Stored.{AnswersStored, IsHalted, IsNotStored, IsStart, IsStored, Stores, one_site};
 
 use crate::fault::RunFault;
 use crate::files::{FileRefusal, Files};
@@ -42,7 +42,7 @@ fn stored<F: Files, A: Allocator + Copy>(
     files: &mut F,
     name: &str,
 ) -> Result<Vec<Op, A>, RunFault>
-    ensures ok { IfOk result (λ ops. (read : Result (List ℕ) FileRefusal) × Reads ((F.shelf files.old).kept name.now) read × Stores read ops.items) }
+    ensures ok { IfOk result (λ ops. (read : Result (List ℕ) FileRefusal) × Reads ((F.shelf files.old).kept name.now) read × Counts read (F.shelf files.old) (F.shelf files.new) × Stores read ops.items) }
     ensures lawful { IfOk result (λ ops. All IsLawful ops.items) }
     ensures err { IfErr result (IsUnopened (Reads ((F.shelf files.old).kept name.now)) (F.shelf files.old) (F.shelf files.new)) }
     ensures stays { Stays (F.shelf files.old) (F.shelf files.new) }
@@ -102,9 +102,7 @@ fn keep_feed<F: Files, A: Allocator + Copy>(
     site: u16,
 ) -> Result<(), RunFault>
     ensures ok { OnOk result (IsStored name.now site (desk world.now (F.shelf files.old)) (F.shelf files.new)) }
-    ensures err { OnErr result (IsNotStored name.now (F.shelf files.old) (F.shelf files.new)) }
-    ensures own { IfErr result (IsOfStoring name.now (F.shelf files.old) (F.shelf files.new)) }
-    ensures counted { (F.shelf files.old).failures ≤ (F.shelf files.new).failures }
+    ensures err { IfErr result (IsNotStored name.now (F.shelf files.old) (F.shelf files.new)) }
 {
     let Some(replica) = world.replica(site) else {
         return Err(RunFault::NoMemory);
@@ -135,9 +133,8 @@ pub fn run_on_feed<R: Read, W: Write, F: Files, A: Allocator + Copy>(
     site: u16,
 ) -> Result<(), RunFault>
     requires { 1 ≤ site }
-    ensures ok { OnOk result (IfSome (R.remaining reader.old) (λ input. AnswersStored name.now site (F.shelf files.old) (F.shelf files.new) input (W.contents writer.old) (W.contents writer.new))) }
-    ensures err { OnErr result (IfSome (R.remaining reader.old) (λ input. AnswersStoredFront name.now site (F.shelf files.old) (F.shelf files.new) input (W.contents writer.old) (W.contents writer.new))) }
-    ensures feed { IfErr result (IsOfFeed name.now (IfSome (R.remaining reader.old) (λ input. AnswersUnstored name.now site (F.shelf files.old) (F.shelf files.new) input (W.contents writer.old) (W.contents writer.new))) (F.shelf files.old) (F.shelf files.new)) }
+    ensures ok { OnOk result (AnswersStored name.now site (F.shelf files.old) (F.shelf files.new) (R.remaining reader.old) (W.contents writer.old) (W.contents writer.new)) }
+    ensures err { IfErr result (IsHalted name.now site (F.shelf files.old) (F.shelf files.new) (R.remaining reader.old) (W.contents writer.old) (W.contents writer.new)) }
     ensures device { IsErrOf result (RunFault.File FileRefusal.Device) → HasFailed (F.shelf files.old) (F.shelf files.new) }
 {
     let mut world = match opened(alloc, files, name, site) {

@@ -1,5 +1,5 @@
 use crate::trial::{AtEnd, TrialFiles, TrialReader, TrialWriter};
-use crate::{FileRefusal, Files, RunFault, run_on_feed, store};
+use crate::{FileRefusal, Files, NoFiles, RunFault, run_on_feed, store};
 use desk_codec::{FeedFault, FeedWhy};
 use desk_held::AddRefusal;
 use desk_replica::Stopped;
@@ -217,5 +217,55 @@ fn not_stored_after_all_answers(rt: HostRuntime) -> Result<(), Fail> {
     assert_eq!(rt; writer.written(), b"ok 2.3\n".as_slice());
     assert!(rt; holds(&files, "a.feed", ONE_INSERT));
     assert_eq!(rt; files.failures(), 1);
+    Ok(())
+}
+
+/// All is answered, and then there is no place for the feed.
+#[test]
+fn not_stored_where_no_file_can_be(rt: HostRuntime) -> Result<(), Fail> {
+    let mut writer = TrialWriter::new(rt.alloc());
+    let mut reader = TrialReader::new(b"insert 3 0 r\"x\"\n");
+    let result = run_on_feed(
+        rt.alloc(),
+        rt.alloc(),
+        &mut reader,
+        &mut writer,
+        &mut NoFiles,
+        "a.feed",
+        3,
+    );
+    assert_eq!(rt; result, Err(RunFault::File(FileRefusal::Missing)));
+    assert_eq!(rt; writer.written(), b"ok 1.3\n".as_slice());
+    Ok(())
+}
+
+/// A failed read of a case is told in its line, and is no fault of the feed: it is stored, or the writer's fault is told.
+#[test]
+fn stored_after_a_failed_read(rt: HostRuntime) -> Result<(), Fail> {
+    const INPUT: &[u8] = b"insert 3 0 r\"x\"\nribbon 3 c w\n";
+    let mut files = TrialFiles::new(rt.alloc()).failing_at_call(2);
+    let first = answered_on(rt.alloc(), &mut files, 3, INPUT)?;
+    assert_eq!(rt;
+        first.as_slice(),
+        b"ok 1.3\nrefused file device\n".as_slice()
+    );
+    assert_eq!(rt; files.failures(), 1);
+    assert!(rt; holds(&files, "a.feed", ONE_INSERT));
+
+    let mut files = TrialFiles::new(rt.alloc()).failing_at_call(2);
+    let mut writer = TrialWriter::new(rt.alloc()).with_room(20, AtEnd::Fails);
+    let mut reader = TrialReader::new(INPUT);
+    let result = run_on_feed(
+        rt.alloc(),
+        rt.alloc(),
+        &mut reader,
+        &mut writer,
+        &mut files,
+        "a.feed",
+        3,
+    );
+    assert_eq!(rt; result, Err(RunFault::Write));
+    assert_eq!(rt; files.failures(), 1);
+    assert!(rt; files.bytes_of("a.feed").is_none());
     Ok(())
 }

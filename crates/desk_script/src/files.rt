@@ -1,7 +1,7 @@
 //! Files by name.
 
 ghost use Rattle.std.specs.Prelude.{◌≢◌, ◌≤◌, ◌⊎◌, IfErr, IfOk, IsErrOf, ◌≡◌, length};
-ghost use Rattle.desk_script.specs.Files.{HasFailed, IsGone, IsNowhere, IsRenamed, IsWritten, Reads, Shelf, Spares, Stays, bytes_read, max_file, shelf};
+ghost use Rattle.desk_script.specs.Files.{Counts, IsGone, IsNowhere, IsRenamed, IsWritten, Reads, Shelf, Spares, Stays, bytes_read, max_file, shelf};
 
 use std::alloc::Allocator;
 use thiserror::Error;
@@ -36,20 +36,19 @@ pub trait Files {
     fn failures(&self) -> u64
         ensures { result ≡ (shelf self.now).failures };
 
-    /// A file's bytes, `MAX_FILE` at most. No file changes. `Device` comes only where the device failed in this call, by
+    /// A file's bytes, `MAX_FILE` at most. No file changes. `Device` comes exactly where the device failed in this call, by
     /// the count while it can rise.
     fn read<A: Allocator + Copy>(&mut self, alloc: A, name: &str) -> Result<Vec<u8, A>, FileRefusal>
-        ensures device { IsErrOf result FileRefusal.Device → HasFailed (shelf self.old) (shelf self.new) }
-        ensures stays { Stays (shelf self.old) (shelf self.new) }
+        ensures counted { Counts result (shelf self.old) (shelf self.new) }
+        ensures kept { (shelf self.new).kept ≡ (shelf self.old).kept }
         ensures within { IfOk result (λ v. length v.items ≤ max_file) }
         ensures given { Reads ((shelf self.old).kept name.now) (bytes_read (λ v. v.items) result) };
 
     /// Writes a file anew, in place of one that had the name. A refused write may leave anything under the name. `Missing`
     /// comes only where no file can have the name, `Device` as from `read`, and `Large` never.
     fn write_new(&mut self, name: &str, bytes: &[u8]) -> Result<(), FileRefusal>
-        ensures device { IsErrOf result FileRefusal.Device → HasFailed (shelf self.old) (shelf self.new) }
+        ensures counted { Counts result (shelf self.old) (shelf self.new) }
         ensures small { IfErr result (λ e. e ≢ FileRefusal.Large) }
-        ensures counted { (shelf self.old).failures ≤ (shelf self.new).failures }
         ensures missing { IsErrOf result FileRefusal.Missing → IsNowhere ((shelf self.old).kept name.now) }
         ensures written { IfOk result (λ _. IsWritten bytes.now ((shelf self.old).kept name.now) ((shelf self.new).kept name.now)) }
         ensures others { Spares name.now (shelf self.old).kept (shelf self.new).kept };
@@ -57,15 +56,14 @@ pub trait Files {
     /// Gives a file another name, in place of a file that had it. A refused call changes no file. `Missing` comes only
     /// where no file has the one name or none can have the other, `Device` as from `read`, and `Large` never.
     fn rename(&mut self, from: &str, to: &str) -> Result<(), FileRefusal>
-        ensures device { IsErrOf result FileRefusal.Device → HasFailed (shelf self.old) (shelf self.new) }
+        ensures counted { Counts result (shelf self.old) (shelf self.new) }
         ensures small { IfErr result (λ e. e ≢ FileRefusal.Large) }
-        ensures counted { (shelf self.old).failures ≤ (shelf self.new).failures }
         ensures missing { IsErrOf result FileRefusal.Missing → IsGone ((shelf self.old).kept from.now) ⊎ IsNowhere ((shelf self.old).kept to.now) }
         ensures renamed { IfOk result (λ _. IsRenamed from.now to.now (shelf self.old).kept (shelf self.new).kept) }
         ensures refused { IfErr result (λ _. (shelf self.new).kept ≡ (shelf self.old).kept) };
 }
 
-/// Files of which none is there.
+/// Files of which none is there, nor can be.
 #[derive(Drop)]
 pub struct NoFiles;
 

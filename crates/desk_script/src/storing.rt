@@ -1,7 +1,7 @@
 //! A file that is replaced as a whole.
 
 ghost use Rattle.std.specs.Prelude.{◌≡◌, ◌≢◌, ◌≤◌, IfErr, IfOk, IsErrOf, OnErr, OnOk, string_bytes};
-ghost use Rattle.desk_script.specs.Files.{HasFailed, HasNoPlace, IsReplaced, Spares, new_name};
+ghost use Rattle.desk_script.specs.Files.{Counts, HasNoPlace, IsReplaced, Spares, new_name};
 
 use crate::files::{FileRefusal, Files};
 use std::alloc::{AllocError, Allocator};
@@ -24,10 +24,9 @@ pub fn store<F: Files, A: Allocator + Copy>(
     name: &str,
     bytes: &[u8],
 ) -> Result<(), FileRefusal>
-    ensures device { IsErrOf result FileRefusal.Device → HasFailed (F.shelf files.old) (F.shelf files.new) }
     ensures small { IfErr result (λ e. e ≢ FileRefusal.Large) }
     ensures missing { IsErrOf result FileRefusal.Missing → HasNoPlace name.now (F.shelf files.old).kept }
-    ensures counted { (F.shelf files.old).failures ≤ (F.shelf files.new).failures }
+    ensures counted { Counts result (F.shelf files.old) (F.shelf files.new) }
     ensures ok { OnOk result (IsReplaced name.now bytes.now (F.shelf files.old).kept (F.shelf files.new).kept) }
     ensures err { OnErr result (Spares (new_name name.now) (F.shelf files.old).kept (F.shelf files.new).kept) }
 {

@@ -1,6 +1,6 @@
 //! A reader, a writer and files in memory, which fail where they are told to. For tests.
 
-ghost use Rattle.std.specs.Prelude.{◌≡◌, ◌≤◌, ◌<◌, ◌≢◌, IfErr, IfOk, IsErrOf, IsTrue, Some, length, option_map};
+ghost use Rattle.std.specs.Prelude.{◌≡◌, ◌≤◌, ◌<◌, ◌≢◌, IfErr, IfOk, IsErrOf, IsFalse, IsTrue, ◌+◌, min, nat_eq, Some, length, option_map};
 ghost use Rattle.desk_script.specs.Files.{HasRisen, IsGone, IsRenamed, max_file, shelf};
 ghost use Rattle.desk_script.specs.Trial.{IsPut, bytes_in, kept_in};
 
@@ -207,6 +207,7 @@ impl<A: Allocator + Copy> TrialFiles<A> {
     /// Puts a file there, in place of one of its name. It is no call.
     pub fn put(&mut self, name: &str, bytes: &[u8]) -> Result<(), AllocError>
         ensures failures { self.new.failures ≡ self.old.failures }
+        ensures calls { (self.new.calls ≡ self.old.calls) × (self.new.failing_call ≡ self.old.failing_call) }
         ensures ok { IfOk result (λ _. IsPut name.now bytes.now self.old.changes.items self.new.changes.items) }
         ensures err { IfErr result (λ _. self.new.changes.items ≡ self.old.changes.items) }
     {
@@ -220,7 +221,11 @@ impl<A: Allocator + Copy> TrialFiles<A> {
 
     /// Counts a call, and answers whether it fails.
     fn fails(&mut self) -> bool
+        ensures told { result ≡ nat_eq self.new.calls self.old.failing_call }
+        ensures calls { self.new.calls ≡ min (self.old.calls + 1) 18446744073709551615 }
+        ensures same { self.new.failing_call ≡ self.old.failing_call }
         ensures failed { IsTrue result → HasRisen self.old.failures self.new.failures }
+        ensures fine { IsFalse result → self.new.failures ≡ self.old.failures }
         ensures counted { self.old.failures ≤ self.new.failures }
         ensures kept { self.new.changes ≡ self.old.changes }
     {
@@ -237,6 +242,7 @@ impl<A: Allocator + Copy> TrialFiles<A> {
         ensures device { IfErr result (λ e. (e ≢ FileRefusal.Device) × (e ≢ FileRefusal.Large)) }
         ensures missing { IsErrOf result FileRefusal.Missing → IsGone (kept_in self.old.changes.items from.now) }
         ensures failures { self.new.failures ≡ self.old.failures }
+        ensures calls { (self.new.calls ≡ self.old.calls) × (self.new.failing_call ≡ self.old.failing_call) }
         ensures ok { IfOk result (λ _. IsRenamed from.now to.now (kept_in self.old.changes.items) (kept_in self.new.changes.items)) }
         ensures err { IfErr result (λ _. self.new.changes.items ≡ self.old.changes.items) }
     {

@@ -7,5 +7,5 @@ returns-in-Ok-store-clause-ok g c = (
   c.in-Some.replica.now.ops,
   sym c.in-Some.ensures.ops,
   subst (λ bytes. IsReplaced c.args.name.now bytes (g.F.Files.shelf c.args.files.now).kept (g.F.Files.shelf c.store.new.files).kept) (c.deref.ensures.value ∙ c.in-Ok.ensures.bytes) c.in-Ok-store.ensures.ok,
-  c.store.ensures.counted,
+  c.in-Ok-store.ensures.counted,
 )
