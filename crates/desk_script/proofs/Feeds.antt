@@ -1,9 +1,7 @@
 -- Runs on a stored feed.
-use Rattle.std.proofs.Common.{◌≡◌, ℕ, ◌<◌, ◌≤◌, inl, inr, List, [], Option, subst, arith, true, false, nat_eq}
-use Rattle.std.specs.Prelude.{Result, Ok, Err, IfErr, IsErrOf}
+use Rattle.std.proofs.Common.{◌≡◌, ℕ, ◌<◌, inl, inr, List, [], Option, subst, arith}
+use Rattle.std.specs.Prelude.{Result, Ok, Err}
 use Rattle.std.specs.FinMap as fin
-use Rattle.std.proofs.Math.Nat.{le_trans}
-use Rattle.std.proofs.lemmas.Bool.Decides.{nat_tests}
 use Rattle.desk_ops.specs.declared.op.Op.{Op}
 use Rattle.desk_ops.specs.OpSet.{no_ops, size, with_all}
 use Rattle.desk_script.specs.declared.files.FileRefusal.{FileRefusal}
@@ -11,9 +9,8 @@ use Rattle.desk_script.specs.declared.files.FileRefusal.TheVariants as refusals
 use Rattle.desk_script.specs.declared.fault.RunFault.{RunFault}
 use Rattle.desk_script.specs.declared.fault.RunFault.TheVariants as faults
 use Rattle.desk_script.specs.Faults.{IsCrowded, IsOfRun, IsOfStoring, IsUnopened}
-use Rattle.desk_script.specs.Files.{HasFailed, HasRisen, Reads, Shelf, Stays}
+use Rattle.desk_script.specs.Files.{Reads, Shelf, Stays}
 use Rattle.desk_script.specs.Stored.{IsBroken, IsHalted, IsUnstored, Stores}
-use Rattle.desk_ops.proofs.Stamps.{by_cases}
 
 none_crowds : (ops : List Op) → ops ≡ [] → 1048576 < size (with_all no_ops ops) → ⊥
 none_crowds ops none many =
@@ -69,26 +66,3 @@ unstored_halts name n first mid last i a b faults.NoMemory own h = inr (inr h)
 unstored_halts name n first mid last i a b (faults.Feed fault) own h = absurd own
 unstored_halts name n first mid last i a b (faults.File why) own h = inr h
 unstored_halts name n first mid last i a b (faults.Opening stop) own h = absurd own
-
-full_or_rose : (o n : ℕ) → o ≤ 18446744073709551615 → 18446744073709551615 ≤ n → HasRisen o n
-full_or_rose o n low high = by_cases (nat_eq o 18446744073709551615) (λ e. inr (same o e)) (λ e. inl (less o n low high e))
-  where
-    same : (x : ℕ) → nat_eq x 18446744073709551615 ≡ true → x ≡ 18446744073709551615
-    same x e = grind (arith, nat_tests)
-
-    less : (x y : ℕ) → x ≤ 18446744073709551615 → 18446744073709551615 ≤ y → nat_eq x 18446744073709551615 ≡ false → x < y
-    less x y l h e = grind (arith, nat_tests)
-
-earlier : (o m n : ℕ) → o ≤ m → m ≤ n → HasRisen m n → HasRisen o n
-earlier o m n low high (inl rose) = inl (omega arith)
-earlier o m n low high (inr full) = full_or_rose o n (omega arith) (omega arith)
-
--- the device's fault is told of a failure in the run
-failed_halt : (name : List ℕ) (n : ℕ) (first last : Shelf) (i a b : Option (List ℕ)) → IsHalted name n first last i a b (faults.File refusals.Device) → HasFailed first last
-failed_halt name n first last i a b (inl (unbegun, (given, failed))) = failed
-failed_halt name n first last i a b (inr (start, (read, given, counts, ops, stores, sites, (kept, low)), new, ((same, high), turn), (spares, (failed, rises)))) =
-    earlier first.failures new.shelf.failures last.failures (le_trans low high) rises failed
-
-pub device_halt : (name : List ℕ) (n : ℕ) (first last : Shelf) (i a b : Option (List ℕ)) (r : Result (Unit {0}) RunFault) → IfErr r (IsHalted name n first last i a b) → IsErrOf r (faults.File refusals.Device)
-    → HasFailed first last
-device_halt name n first last i a b r told is = failed_halt name n first last i a b (subst (λ (x : Result (Unit {0}) RunFault). IfErr x (IsHalted name n first last i a b)) is told)

@@ -1,10 +1,10 @@
 -- Files that were read.
-use Rattle.std.proofs.Common.{◌≡◌, ◌≤◌, ℕ, List, le_refl, refl, subst, sym, ◌∙◌}
+use Rattle.std.proofs.Common.{◌≡◌, ◌≤◌, ℕ, List, le_refl, refl, subst, sym}
 use Rattle.desk_script.specs.declared.files.FileRefusal.{FileRefusal}
 use Rattle.std.specs.Prelude.{◌≢◌, Option, Result, Ok, Err, IfErr, IfOk}
 use Rattle.desk_script.specs.declared.text.Refusal.{Refusal}
 use Rattle.desk_script.specs.declared.files.FileRefusal.TheVariants as files
-use Rattle.desk_script.specs.Files.{Counts, HasRisen, Reads, Shelf, Stays}
+use Rattle.desk_script.specs.Files.{Counts, Reads, Shelf, Stays}
 use Rattle.desk_script.specs.Inputs.{Tells, FileGives}
 
 -- the bytes that a file gave
@@ -24,14 +24,6 @@ counts_up (Err files.Missing) before after h = subst (λ (k : ℕ). before.failu
 counts_up (Err files.Device) before after h = h.1
 counts_up (Err files.Large) before after h = subst (λ (k : ℕ). before.failures ≤ k) (sym h) (le_refl _)
 counts_up (Err files.NoMemory) before after h = subst (λ (k : ℕ). before.failures ≤ k) (sym h) (le_refl _)
-
--- a count that was the same before
-pub counts_from : {T : Type 0} (r : Result T FileRefusal) (before mid after : Shelf) → mid.failures ≡ before.failures → Counts r mid after → Counts r before after
-counts_from (Ok v) before mid after same h = h ∙ same
-counts_from (Err files.Missing) before mid after same h = h ∙ same
-counts_from (Err files.Device) before mid after same h = subst (λ (k : ℕ). HasRisen k after.failures × (k ≤ after.failures)) same h
-counts_from (Err files.Large) before mid after same h = h ∙ same
-counts_from (Err files.NoMemory) before mid after same h = h ∙ same
 
 -- a call that does not tell of the device, and counts nothing
 pub counts_none : {T : Type 0} (P : FileRefusal → Type 0) (r : Result T FileRefusal) (before after : Shelf) → IfErr r (λ e. (e ≢ files.Device) × P e) → after.failures ≡ before.failures → Counts r before after
