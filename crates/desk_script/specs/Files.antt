@@ -55,14 +55,14 @@ abbrev pub bytes_read : {V : Type 0} → (V → List ℕ) → Result V FileRefus
 bytes_read view (Ok v) = Ok (view v)
 bytes_read view (Err why) = Err why
 
--- what may be read of a name: its bytes, that it is not there, that it is too large, or that the device or memory failed
+-- what may be read of a name: its bytes, that it is not there, that it is too large, or that the device or memory failed. Where no file can be nothing is wanted of memory.
 abbrev pub Reads : Kept → Result (List ℕ) FileRefusal → Type 0
 Reads Unknown read = Unit {0}
 Reads Nowhere (Ok bytes) = ⊥
 Reads Nowhere (Err refusals.Missing) = Unit {0}
 Reads Nowhere (Err refusals.Device) = Unit {0}
 Reads Nowhere (Err refusals.Large) = ⊥
-Reads Nowhere (Err refusals.NoMemory) = Unit {0}
+Reads Nowhere (Err refusals.NoMemory) = ⊥
 Reads Absent (Ok bytes) = ⊥
 Reads Absent (Err refusals.Missing) = Unit {0}
 Reads Absent (Err refusals.Device) = Unit {0}
