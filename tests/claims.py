@@ -1,30 +1,47 @@
 #!/usr/bin/env python3
-"""Reads docs/CLAIMS.md and fails where a function, a clause, an edit or a test that it names is not in the sources.
+"""Reads docs/claims/*.txt and fails where a function, a clause, an edit or a test that they name is not in the sources.
 
-In a table, a column `carried by` names `crate::function` or `crate::function/clause`, with `crate::Type::function`
-of a type that shares the name with another or with a function of no type (and some clause, where none is named), a column `edits` names
-`crate/edit`, a column `tests` names `crate::test` or a file of this repository, and a column `state` is `proved`,
-`tested only` or `open`. Names stand in backquotes, apart from one another by spaces or commas.
+A file is a list of promises, blocks of labelled lines apart from one another by empty lines. A line that begins with a
+space continues the one before, and a label may stand more than once. The labels:
+
+  promise  what is promised, in words
+  calls    on which calls
+  clauses  `function/clause`, or `function` where its contract has one clause or all are meant; `Type::function/clause`
+           where several types have a function of that name, or a type and no type
+  edits    wrong bodies that these clauses refuse: files must-fail/NAME.edit of the crate
+  tests    test functions of the crate, or files of this repository (a name with a dot)
+  note     what else a reader must know
+  state    `proved`, `tested only` or `open`
+
+Names stand apart by spaces. A name of another crate begins with it, as `desk_held::add/full`, `desk_held/edit` and
+`desk_held::test`; other names are of the crate whose name the file has. Each edit of each crate stands in a promise.
+`--page` prints the promises as a page in place of the counts.
 """
 import os
 import re
 import sys
 
 ROOT = os.path.dirname(os.path.dirname(os.path.abspath(__file__)))
-STATES = {"proved", "tested only", "open"}
+CRATES, FOLDER = os.path.join(ROOT, "crates"), os.path.join(ROOT, "docs", "claims")
+STATES = {"proved": "clauses", "tested only": "tests", "open": None}
+LABELS = ("promise", "calls", "clauses", "edits", "tests", "note", "state")
+WIDEST, LONGEST = 120, 40
+SEEN = {}
 
 
 def sources(crate):
-    folder, out = os.path.join(ROOT, "crates", crate, "src"), {}
-    for base, _, names in os.walk(folder):
-        for name in names:
-            if name.endswith(".rt"):
-                with open(os.path.join(base, name), encoding="utf-8") as file:
-                    out[os.path.join(base, name)] = file.read()
-    return out
+    """The texts of the crate's source files."""
+    if crate not in SEEN:
+        SEEN[crate] = []
+        for base, _, names in os.walk(os.path.join(CRATES, crate, "src")):
+            for name in sorted(names):
+                if name.endswith(".rt"):
+                    with open(os.path.join(base, name), encoding="utf-8") as file:
+                        SEEN[crate].append(file.read())
+    return SEEN[crate]
 
 
-def blocks(text):
+def owners(text):
     """The type or trait of each `impl` and `trait` block, with the places of its braces."""
     out = []
     for found in re.finditer(r"^(?:pub )?(?:impl|trait)\b([^{;]*)\{", text, re.M):
@@ -36,93 +53,152 @@ def blocks(text):
     return out
 
 
-def headers(crate, function):
+def contracts(crate, function):
     """For each `fn function` the type or trait that it stands in, or none, and its signature with its clauses."""
     out = []
-    for text in sources(crate).values():
-        owners = blocks(text)
+    for text in sources(crate):
         for found in re.finditer(r"\bfn %s\b" % re.escape(function), text):
             end = re.compile(r"^\s*(?:\{\}?|\{.*\})\s*$|;\s*$", re.M).search(text, found.end())
-            owner = [name for name, start, stop in owners if start <= found.start() < stop]
+            owner = [name for name, start, stop in owners(text) if start <= found.start() < stop]
             out.append((owner[-1] if owner else None, text[found.start():end.end() if end else len(text)]))
     return out
 
 
-def carried(name):
-    path, _, clause = name.partition("/")
+def clause(crate, name):
+    path, slash, word = name.partition("/")
     parts = path.split("::")
-    found = headers(parts[0], parts[-1])
-    if len(parts) == 3:
-        found = [(owner, text) for owner, text in found if owner == parts[1]]
+    found = contracts(crate, parts[-1])
+    if len(parts) > 2 or not all(parts) or (slash and not word):
+        return "%s is no name of a clause" % name
+    if len(parts) == 2:
+        found = [(owner, text) for owner, text in found if owner == parts[0]]
     elif any(owner is None for owner, _ in found):
         found = [(owner, text) for owner, text in found if owner is None]
     if not found:
-        return "no function %s" % name
+        return "no function %s in %s" % (path, crate)
     if len({owner for owner, _ in found}) > 1:
         return "%s is a function of %s" % (path, " and of ".join(sorted(owner or "none" for owner, _ in found)))
-    word = r"\bensures %s\b" % re.escape(clause) if clause else r"\bensures\b"
-    if not any(re.search(word, text) for _, text in found):
-        return "no clause %s" % name
+    wanted = r"\bensures %s\b" % re.escape(word) if word else r"\bensures\b"
+    if not any(re.search(wanted, text) for _, text in found):
+        return "no clause %s in %s" % (name, crate)
     return None
 
 
-def edit(name):
-    crate, _, one = name.partition("/")
-    return None if os.path.isfile(os.path.join(ROOT, "crates", crate, "must-fail", one + ".edit")) else "no edit %s" % name
+def edit(crate, name):
+    there = os.path.isfile(os.path.join(CRATES, crate, "must-fail", name + ".edit"))
+    return None if there else "no edit %s in %s" % (name, crate)
 
 
-def test(name):
-    crate, colons, one = name.partition("::")
-    if not colons:
+def test(crate, name):
+    if "." in name:
         return None if os.path.exists(os.path.join(ROOT, name)) else "no file %s" % name
-    for text in sources(crate).values():
-        if re.search(r"#\[test\]\s*(?:#\[[^\n]*\]\s*)*fn %s\b" % re.escape(one), text):
-            return None
-    return "no test %s" % name
+    word = r"#\[test\]\s*(?:#\[[^\n]*\]\s*)*fn %s\b" % re.escape(name)
+    return None if any(re.search(word, text) for text in sources(crate)) else "no test %s in %s" % (name, crate)
 
 
-CHECKS = {"carried by": carried, "edits": edit, "tests": test}
+CHECKS = {"clauses": (clause, "::"), "edits": (edit, "/"), "tests": (test, "::")}
 
 
-def main():
-    faults, counts, columns = [], {"carried by": 0, "edits": 0, "tests": 0, "state": 0}, None
-    named = set()
-    with open(os.path.join(ROOT, "docs", "CLAIMS.md"), encoding="utf-8") as file:
-        for number, line in enumerate(file, 1):
-            if not line.startswith("|"):
-                columns = None
+def is_crate(name):
+    return re.fullmatch(r"\w+", name) and os.path.isdir(os.path.join(CRATES, name))
+
+
+def crate_of(home, name, mark):
+    """The crate of a name, and the name in it: the crate that it begins with, or the one whose file it stands in."""
+    first, found, rest = name.partition(mark)
+    return (first, rest) if found and is_crate(first) else (home, name)
+
+
+def promises(path, faults):
+    """The blocks of a file: each the number of its first line and, of each label, the words that it has."""
+    out, block, label = [], None, None
+    with open(path, encoding="utf-8") as file:
+        lines = file.read().split("\n")
+    for number, line in enumerate(lines, 1):
+        where = "%s:%d" % (os.path.relpath(path, ROOT), number)
+        if len(line) > WIDEST:
+            faults.append("%s: a line of more than %d characters" % (where, WIDEST))
+        if not line.strip():
+            block = None
+            continue
+        if block is None:
+            block, label = {"where": where, "lines": 0}, None
+            out.append(block)
+        block["lines"] += 1
+        begun = re.match(r"(\w+):(?: (.*))?$", line)
+        if begun and begun.group(1) in LABELS:
+            label, line = begun.group(1), begun.group(2) or ""
+        elif label is None or not line.startswith(" "):
+            faults.append("%s: no label of a promise" % where)
+            continue
+        block[label] = (block.get(label, "") + " " + line.strip()).strip()
+    return out
+
+
+def judged(block, home, counts, named):
+    """The faults of a promise; counts what it names, and notes its edits."""
+    faults, state = [], block.get("state")
+    if not block.get("promise") or state not in STATES:
+        faults.append("a promise without words, or without a state that there is")
+    elif STATES[state] and not block.get(STATES[state]):
+        faults.append("%s, and no %s" % (state, STATES[state]))
+    if block["lines"] > LONGEST:
+        faults.append("a promise of more than %d lines" % LONGEST)
+    for label, (check, mark) in CHECKS.items():
+        for name in block.get(label, "").split():
+            counts[label] += 1
+            crate, rest = crate_of(home, name, mark)
+            if crate is None and "." not in name:
+                faults.append("%s is of no crate" % name)
                 continue
-            cells = [cell.strip() for cell in line.strip().strip("|").split("|")]
-            if columns is None:
-                columns = cells
-                continue
-            if set("".join(cells)) <= set("-: "):
-                continue
-            if len(cells) != len(columns):
-                faults.append("line %d: %d cells under %d columns" % (number, len(cells), len(columns)))
-                continue
-            for column, cell in zip(columns, cells):
-                if column == "state":
-                    counts["state"] += 1
-                    if cell not in STATES:
-                        faults.append("line %d: the state %s" % (number, cell))
-                if column in CHECKS:
-                    for name in re.findall(r"`([^`]+)`", cell):
-                        counts[column] += 1
-                        named.add((column, name))
-                        fault = CHECKS[column](name)
-                        if fault:
-                            faults.append("line %d: %s" % (number, fault))
-    for crate in sorted(os.listdir(os.path.join(ROOT, "crates"))):
-        folder = os.path.join(ROOT, "crates", crate, "must-fail")
+            fault = check(crate, rest)
+            faults += [fault] if fault else []
+            if label == "edits":
+                named.add((crate, rest))
+    return ["%s: %s" % (block["where"], fault) for fault in faults]
+
+
+def page(files):
+    print("# What is promised, and what carries it\n")
+    print("Made from `docs/claims` by `python3 tests/claims.py --page`.")
+    for home, blocks in files:
+        print("\n## %s" % home)
+        for block in blocks:
+            print("\n**%s** (%s)\n" % (block.get("promise"), block.get("state")))
+            for label in LABELS[1:-1]:
+                if block.get(label):
+                    words = block[label]
+                    said = " ".join("`%s`" % word for word in words.split()) if label in CHECKS else words
+                    print("- %s: %s" % (label, said))
+
+
+def main(words):
+    faults, counts, named, files, said = [], dict.fromkeys(CHECKS, 0), set(), [], set()
+    for name in sorted(os.listdir(FOLDER)):
+        home, ending = os.path.splitext(name)
+        if ending != ".txt":
+            faults.append("docs/claims/%s is no list of promises" % name)
+            continue
+        blocks = promises(os.path.join(FOLDER, name), faults)
+        files.append((home, blocks))
+        for block in blocks:
+            faults += judged(block, home if is_crate(home) else None, counts, named)
+            if block.get("promise") in said:
+                faults.append("%s: this promise stands twice" % block["where"])
+            said.add(block.get("promise"))
+    for crate in sorted(os.listdir(CRATES)):
+        folder = os.path.join(CRATES, crate, "must-fail")
         for name in sorted(os.listdir(folder)) if os.path.isdir(folder) else []:
-            if name.endswith(".edit") and ("edits", "%s/%s" % (crate, name[:-5])) not in named:
-                faults.append("the edit %s/%s is in no row" % (crate, name[:-5]))
+            if name.endswith(".edit") and (crate, name[:-5]) not in named:
+                faults.append("the edit %s/%s stands in no promise" % (crate, name[:-5]))
     for fault in faults:
-        print(fault)
-    print("%d rows: %d clauses, %d edits, %d tests named" % (counts["state"], counts["carried by"], counts["edits"], counts["tests"]))
+        print(fault, file=sys.stderr)
+    if words == ["--page"]:
+        page(files)
+    else:
+        print("%d promises: %d clauses, %d edits, %d tests named" % (len(said), counts["clauses"], counts["edits"], counts["tests"]))
     return 1 if faults else 0
 
 
 if __name__ == "__main__":
-    sys.exit(main())
+    sys.exit(main(sys.argv[1:]))
