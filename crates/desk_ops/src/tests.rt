@@ -82,6 +82,8 @@ fn stamps_and_targets(rt: HostRuntime) {
     assert_eq!(rt; set(at(3, 1), Key::Case, 1).target(), None);
     assert!(rt; Stamp::HEAD.is_head() && !Stamp::HEAD.is_lawful());
     assert!(rt; at(1, 1).is_lawful() && !at(0, 1).is_head());
+    assert!(rt; at(1, 2).is_before(at(2, 1)) && at(1, 1).is_before(at(1, 2)));
+    assert!(rt; at(1, 1).is_same(at(1, 1)) && !at(1, 1).is_same(at(1, 2)));
     assert!(rt; Key::Loose.takes(16) && !Key::Loose.takes(241));
     let fault = CopyFault {
         stamp: at(2, 1),
