@@ -1,0 +1,34 @@
+#!/usr/bin/env python3
+"""Prints a feed as `take` commands, in pieces that fit a line: take.py SITE FEED | copydesk desk MINE --site SITE"""
+import sys
+
+SIZES = {1: 26, 2: 21, 3: 16}
+ROOM = (65536 - len("take 65535 ")) // 2
+
+
+def pieces(feed):
+    """Feeds of whole operations, each short enough for a line."""
+    piece, at = feed[:4], 4
+    while at < len(feed):
+        size = SIZES.get(feed[at])
+        if size is None:
+            sys.exit("byte %d begins no operation" % at)
+        if len(piece) + size > ROOM:
+            yield piece
+            piece = feed[:4]
+        piece += feed[at:at + size]
+        at += size
+    yield piece
+
+
+def main():
+    with open(sys.argv[2], "rb") as file:
+        feed = file.read()
+    if feed[:4] != b"MFD1":
+        sys.exit("%s is no feed" % sys.argv[2])
+    for piece in pieces(feed):
+        print("take %s %s" % (sys.argv[1], piece.hex()))
+
+
+if __name__ == "__main__":
+    main()
