@@ -1,0 +1,97 @@
+-- A list in pages.
+use Rattle.std.specs.Prelude.{◌≡◌, true, false, ℕ, zero, suc, ◌<◌, ◌≤◌, ◌+◌, ◌-◌, ◌*◌, ◌^◌, Bool, List, [], ◌∷◌, ◌++◌, length, slice_index_or, take, drop}
+use Rattle.std.specs.List.{count_by}
+
+-- the pages, one after another
+abbrev pub joined : {X : Type 0} → List (List X) → List X
+joined [] = []
+joined (r ∷ pages) = r ++ joined pages
+
+-- how many entries stand before page p
+abbrev pub start_of : {X : Type 0} → List (List X) → ℕ → ℕ
+start_of pages p = length (joined (take p pages))
+
+-- the j-th place of page p is place i of the whole
+pub record IsSpot {X : Type 0} (pages : List (List X)) (i p j : ℕ) : Type 0 where
+  pub within : p < length pages
+  pub inside : j < length (slice_index_or pages p [])
+  pub is : i ≡ start_of pages p + j
+
+-- the j-th place of page p, or the one behind all pages
+pub record IsSpotOrEnd {X : Type 0} (pages : List (List X)) (p j : ℕ) : Type 0 where
+  pub within : p ≤ length pages
+  pub inside : p < length pages → j < length (slice_index_or pages p [])
+  pub end : length pages ≤ p → j ≡ 0
+
+-- the same place, or right behind the page, which is not full
+pub record IsGap {X : Type 0} (pages : List (List X)) (i p j : ℕ) : Type 0 where
+  pub within : p < length pages
+  pub inside : j ≤ length (slice_index_or pages p [])
+  pub has_room : length (slice_index_or pages p []) < 512
+  pub is : i ≡ start_of pages p + j
+
+-- no page is empty, and each but the last has 256 at least
+abbrev pub IsHalfFull : {X : Type 0} → List (List X) → Type 0
+IsHalfFull [] = Unit {0}
+IsHalfFull (r ∷ []) = 1 ≤ length r
+IsHalfFull (r ∷ s ∷ pages) = (256 ≤ length r) × IsHalfFull (s ∷ pages)
+
+-- the same, but that page p may have one less than it must
+abbrev pub IsShortAt : {X : Type 0} → List (List X) → ℕ → Type 0
+IsShortAt [] p = Unit {0}
+IsShortAt (r ∷ []) zero = Unit {0}
+IsShortAt (r ∷ []) (suc p) = 1 ≤ length r
+IsShortAt (r ∷ s ∷ pages) zero = (255 ≤ length r) × IsHalfFull (s ∷ pages)
+IsShortAt (r ∷ s ∷ pages) (suc p) = (256 ≤ length r) × IsShortAt (s ∷ pages) p
+
+-- no page, or the last is full
+abbrev pub IsClosed : {X : Type 0} → List (List X) → Type 0
+IsClosed [] = Unit {0}
+IsClosed (r ∷ []) = length r ≡ 512
+IsClosed (r ∷ s ∷ pages) = IsClosed (s ∷ pages)
+
+-- page p cut in two
+abbrev pub cut_at : {X : Type 0} → List (List X) → ℕ → List (List X)
+cut_at [] p = []
+cut_at (r ∷ pages) zero = take 256 r ∷ drop 256 r ∷ pages
+cut_at (r ∷ pages) (suc p) = r ∷ cut_at pages p
+
+-- how many more fit with no new memory, whichever pages they come to
+abbrev pub spare_of : ℕ → ℕ → ℕ
+spare_of pages len = 256 * (pages - 1) - len
+
+-- what the pages in use keep: all is the number of pages, the free ones with them
+pub record IsKept {X : Type 0} (pages : List (List X)) (len all used_room free_room : ℕ) : Type 0 where
+  pub is_len : len ≡ length (joined pages)
+  pub half : IsHalfFull pages
+  pub room : all ≤ used_room
+  pub back : all ≤ free_room
+  pub few : all ≤ 2 ^ 40
+
+-- a list, and how many more it takes with no new memory
+pub record Kept (X : Type 0) : Type 0 where
+  pub entries : List X
+  pub spare : ℕ
+
+-- the place of the n-th, from a place on, that is picked
+pub record IsNth {X : Type 0} (picks : X → Bool) (xs : List X) (from n place : ℕ) : Type 0 where
+  pub after : from ≤ place
+  pub within : place < length xs
+  pub picked : (d : X) → picks (slice_index_or xs place d) ≡ true
+  pub count : count_by picks (take place xs) ≡ count_by picks (take from xs) + n
+
+-- fewer are picked from there on, by left
+abbrev pub IsShort : {X : Type 0} → (X → Bool) → List X → ℕ → ℕ → ℕ → Type 0
+IsShort picks xs from n left = (left ≤ n) × (count_by picks xs + left ≡ count_by picks (take from xs) + n)
+
+-- those before it are picked as far as the last of them tells, and it is not
+pub record IsEdge {X : Type 0} (picks : X → Bool) (xs : List X) (i : ℕ) : Type 0 where
+  pub within : i ≤ length xs
+  pub below : (d : X) → 0 < i → picks (slice_index_or xs (i - 1) d) ≡ true
+  pub stops : (d : X) → i < length xs → picks (slice_index_or xs i d) ≡ false
+
+-- whether the last of a page is picked
+abbrev pub ends_in : {X : Type 0} → (X → Bool) → List X → Bool
+ends_in picks [] = false
+ends_in picks (x ∷ []) = picks x
+ends_in picks (x ∷ y ∷ xs) = ends_in picks (y ∷ xs)

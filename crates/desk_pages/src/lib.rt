@@ -1,0 +1,11 @@
+//! A long list, kept in pages of at most 512 so that it grows anywhere in little time.
+#![tactic(auto)]
+
+mod list;
+mod page;
+mod pages;
+mod search;
+
+pub use list::Pages;
+pub use page::Summary;
+pub use search::Pick;

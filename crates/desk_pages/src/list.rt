@@ -1,0 +1,219 @@
+//! A list in pages.
+ghost use Rattle.std.specs.Prelude.{◌≡◌, ◌+◌, ◌≤◌, ◌<◌, ℕ, [], length, take, drop, slice_index_or, slice_set, vec_len, vec_capacity, IfSome, IsNone, OnOk, IfOk, IsOk};
+ghost use Rattle.std.specs.List.{insert, remove};
+ghost use Rattle.desk_pages.specs.Pages.{Kept, joined, spare_of, IsKept, IsNth, IsShort, IsEdge};
+
+use crate::page::{HALF, Page, Summary};
+use crate::pages;
+use crate::search::{self, Pick};
+use std::alloc::{AllocError, Allocator};
+use std::marker::Model;
+
+/// More entries than any machine can keep.
+const MOST: usize = 1 << 47;
+
+/// A list in pages of at most 512, seen as its entries and how many more it takes with no new memory.
+#[derive(Drop)]
+pub struct Pages<T: Copy, S: Summary<T>, A: Allocator> {
+    pages: Vec<Page<T, S, A>, A>,
+    free: Vec<Page<T, S, A>, A>,
+    len: usize,
+}
+
+impl<T: Copy, S: Summary<T>, A: Allocator> Model for Pages<T, S, A> {
+    ghost Value = { Kept T };
+
+    ghost view = { λ a. record { entries = joined a.pages.items; spare = spare_of (vec_len a.pages + vec_len a.free) a.len } };
+
+    ghost invariant = { λ a. IsKept a.pages.items a.len (vec_len a.pages + vec_len a.free) (vec_capacity a.pages) (vec_capacity a.free) };
+}
+
+impl<T: Copy, S: Summary<T>, A: Allocator + Copy> Pages<T, S, A> {
+    pub fn new(alloc: A) -> Self
+        ensures { result.entries ≡ [] }
+    {
+        Pages {
+            pages: Vec::new(alloc),
+            free: Vec::new(alloc),
+            len: 0,
+        }
+    }
+
+    /// A list that holds these, in full pages.
+    pub fn from_slice(alloc: A, items: &[T]) -> Result<Self, AllocError>
+        ensures { IfOk result (λ list. list.entries ≡ items.now) }
+    {
+        if items.len() > MOST {
+            return Err(AllocError);
+        }
+        let pages = pages::fill(alloc, items)?;
+        let free = Vec::with_capacity(alloc, pages.len())?;
+        Ok(Pages {
+            pages,
+            free,
+            len: items.len(),
+        })
+    }
+
+    pub fn len(&self) -> usize
+        ensures { result ≡ length self.now.entries }
+    {
+        self.len
+    }
+
+    /// The i-th entry.
+    pub fn entry(&self, i: usize) -> T
+        requires { i < length self.now.entries }
+        ensures { result ≡ slice_index_or self.now.entries i result }
+    {
+        let (p, j) = pages::locate(&self.pages, i);
+        pages::read(&self.pages, p, j)
+    }
+
+    /// The entries from place i on that stand side by side: one at least.
+    pub fn stretch(&self, i: usize) -> &[T]
+        requires { i < length self.now.entries }
+        ensures is { result.now ≡ take (length result.now) (drop i self.now.entries) }
+        ensures some { 0 < length result.now }
+    {
+        pages::stretch(&self.pages, i)
+    }
+
+    /// The number of the page in which the i-th entry stands. It stays with the page, and is no part of the list.
+    pub fn name_at(&self, i: usize) -> usize
+        requires { i < length self.now.entries }
+    {
+        let (p, _) = pages::locate(&self.pages, i);
+        self.pages[p].name()
+    }
+
+    /// The page of that number, and the place of its first entry.
+    pub fn named(&self, name: usize) -> Option<(usize, &[T])>
+        ensures { IfSome result (λ r. r.1.now ≡ take (length r.1.now) (drop r.0 self.now.entries)) }
+    {
+        pages::named(&self.pages, self.len, name)
+    }
+
+    /// How many more it takes with no new memory.
+    pub fn spare(&self) -> usize
+        ensures { result ≡ self.now.spare }
+    {
+        ((self.pages.len() + self.free.len()).saturating_sub(1) * HALF).saturating_sub(self.len)
+    }
+
+    pub fn reserve(&mut self, n: usize) -> Result<(), AllocError>
+        ensures same { self.new.entries ≡ self.old.entries }
+        ensures grows { self.old.spare ≤ self.new.spare }
+        ensures enough { OnOk result (n ≤ self.new.spare) }
+        ensures succeeds { n ≤ self.old.spare → IsOk result }
+    {
+        if n <= self.spare() {
+            return Ok(());
+        }
+        if self.len > MOST || n > MOST - self.len {
+            return Err(AllocError);
+        }
+        pages::stock(&mut self.pages, &mut self.free, (self.len + n) / HALF + 2)
+    }
+
+    /// Writes another over the i-th entry.
+    pub fn set(&mut self, i: usize, x: T)
+        requires { i < length self.old.entries }
+        ensures set { self.new.entries ≡ slice_set self.old.entries i x }
+        ensures spare { self.new.spare ≡ self.old.spare }
+    {
+        let (p, j) = pages::locate(&self.pages, i);
+        pages::set(&mut self.pages, p, j, x);
+    }
+
+    /// Puts one at place i. Where a page was cut to make room, tells the place from which on the new page stands.
+    pub fn insert(&mut self, i: usize, x: T) -> Option<usize>
+        requires within { i ≤ length self.old.entries }
+        requires spare { 1 ≤ self.old.spare }
+        ensures put { self.new.entries ≡ insert self.old.entries i x }
+        ensures spare { self.new.spare + 1 ≡ self.old.spare }
+    {
+        let count = self.pages.len();
+        let (p, j) = pages::locate_to_end(&self.pages, i);
+        pages::put(&mut self.pages, &mut self.free, p, j, self.len, x);
+        self.len += 1;
+        if p < count && count < self.pages.len() {
+            return Some((i - j).saturating_add(self.pages[p].len()));
+        }
+        None
+    }
+
+    /// Takes out the i-th entry.
+    pub fn remove(&mut self, i: usize) -> T
+        requires { i < length self.old.entries }
+        ensures rest { self.new.entries ≡ remove self.old.entries i }
+        ensures out { result ≡ slice_index_or self.old.entries i result }
+        ensures spare { self.old.spare ≤ self.new.spare }
+    {
+        let (p, j) = pages::locate(&self.pages, i);
+        let out = pages::take(&mut self.pages, &mut self.free, p, j, self.len);
+        self.len -= 1;
+        out
+    }
+
+    /// The place of the n-th, from a place on, that is picked.
+    pub fn nth<P: Pick<T, S>>(&self, from: usize, pick: &P, n: usize) -> Option<usize>
+        requires { from ≤ length self.now.entries }
+        ensures found { IfSome result (λ place. IsNth (P.picked pick.now) self.now.entries from n place) }
+        ensures none { IsNone result → (left : ℕ) × IsShort (P.picked pick.now) self.now.entries from n left }
+    {
+        if from == self.len {
+            return None;
+        }
+        search::nth(&self.pages, from, pick, n)
+    }
+
+    /// The first that is not picked, where those that are picked stand first.
+    pub fn seek<P: Pick<T, S>>(&self, pick: &P) -> Option<T>
+        ensures found { IfSome result (λ x. (i : ℕ) × IsEdge (P.picked pick.now) self.now.entries i × (i < length self.now.entries) × (x ≡ slice_index_or self.now.entries i x)) }
+        ensures none { IsNone result → IsEdge (P.picked pick.now) self.now.entries (length self.now.entries) }
+    {
+        let (p, j) = search::edge(&self.pages, pick);
+        if p == self.pages.len() {
+            return None;
+        }
+        Some(pages::read(&self.pages, p, j))
+    }
+
+    /// Writes another over the first that is not picked.
+    pub fn overwrite<P: Pick<T, S>>(&mut self, pick: &P, x: T)
+        ensures set { (i : ℕ) × IsEdge (P.picked pick.now) self.old.entries i × (self.new.entries ≡ slice_set self.old.entries i x) }
+        ensures spare { self.new.spare ≡ self.old.spare }
+    {
+        let (p, j) = search::edge(&self.pages, pick);
+        if p < self.pages.len() {
+            pages::set(&mut self.pages, p, j, x);
+        }
+    }
+
+    /// Puts one before the first that is not picked.
+    pub fn insert_in_order<P: Pick<T, S>>(&mut self, pick: &P, x: T)
+        requires spare { 1 ≤ self.old.spare }
+        ensures put { (i : ℕ) × IsEdge (P.picked pick.now) self.old.entries i × (self.new.entries ≡ insert self.old.entries i x) }
+        ensures spare { self.new.spare + 1 ≡ self.old.spare }
+    {
+        let (p, j) = search::edge(&self.pages, pick);
+        pages::put(&mut self.pages, &mut self.free, p, j, self.len, x);
+        self.len += 1;
+    }
+
+    /// Takes out the first that is not picked, where there is one.
+    pub fn remove_in_order<P: Pick<T, S>>(&mut self, pick: &P) -> Option<T>
+        ensures some { IfSome result (λ x. (i : ℕ) × IsEdge (P.picked pick.now) self.old.entries i × (i < length self.old.entries) × (x ≡ slice_index_or self.old.entries i x) × (self.new.entries ≡ remove self.old.entries i)) }
+        ensures none { IsNone result → IsEdge (P.picked pick.now) self.old.entries (length self.old.entries) × (self.new.entries ≡ self.old.entries) }
+        ensures spare { self.old.spare ≤ self.new.spare }
+    {
+        let (p, j) = search::edge(&self.pages, pick);
+        if p == self.pages.len() {
+            return None;
+        }
+        let out = pages::take(&mut self.pages, &mut self.free, p, j, self.len);
+        self.len -= 1;
+        Some(out)
+    }
+}

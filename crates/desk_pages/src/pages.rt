@@ -1,0 +1,310 @@
+//! Pages in use, and free ones.
+ghost use Rattle.std.specs.Prelude.{◌≡◌, ◌+◌, ◌≤◌, ◌<◌, List, [], ◌∷◌, ◌++◌, take, drop, length, vec_capacity, vec_len, slice_index_or, slice_set, OnOk, IfOk, ◌-◌, ◌^◌, IfSome, IsNone};
+ghost use Rattle.std.specs.List.{insert, remove};
+ghost use Rattle.desk_pages.specs.Pages.{joined, start_of, IsShortAt, IsSpot, IsSpotOrEnd, IsGap, IsHalfFull, IsClosed, IsKept, cut_at, spare_of};
+
+use crate::page::{FULL, HALF, Page, Summary, insert_reserved};
+use std::alloc::{AllocError, Allocator};
+
+/// The page of the i-th entry, and its place there; the number of pages at the end.
+pub fn locate_to_end<T: Copy, S: Summary<T>, A: Allocator>(
+    pages: &[Page<T, S, A>],
+    i: usize,
+) -> (usize, usize)
+    requires { i ≤ length (joined pages.now) }
+    ensures spot { IsSpotOrEnd pages.now result.0 result.1 }
+    ensures is { i ≡ start_of pages.now result.0 + result.1 }
+{
+    let mut left = i;
+    let mut p = 0;
+    while p < pages.len() && left >= pages[p].len() {
+        left -= pages[p].len();
+        p += 1;
+    }
+    (p, left)
+}
+
+/// The page of the i-th entry, and its place there.
+pub fn locate<T: Copy, S: Summary<T>, A: Allocator>(
+    pages: &[Page<T, S, A>],
+    i: usize,
+) -> (usize, usize)
+    requires { i < length (joined pages.now) }
+    ensures { IsSpot pages.now i result.0 result.1 }
+{
+    locate_to_end(pages, i)
+}
+
+/// The j-th entry of page p.
+pub fn read<T: Copy, S: Summary<T>, A: Allocator>(pages: &[Page<T, S, A>], p: usize, j: usize) -> T
+    requires within { p < length pages.now }
+    requires inside { j < length (slice_index_or pages.now p []) }
+    ensures { result ≡ slice_index_or (joined pages.now) (start_of pages.now p + j) result }
+{
+    pages[p].items()[j]
+}
+
+/// Cuts a full page in two.
+fn split<T: Copy, S: Summary<T>, A: Allocator>(
+    pages: &mut Vec<Page<T, S, A>, A>,
+    free: &mut Vec<Page<T, S, A>, A>,
+    p: usize,
+)
+    requires within { p < vec_len pages.old }
+    requires full { length (slice_index_or pages.old.items p []) ≡ 512 }
+    requires some { 0 < vec_len free.old }
+    requires room { vec_len pages.old < vec_capacity pages.old }
+    ensures split { pages.new.items ≡ cut_at pages.old.items p }
+    ensures more { vec_len pages.new ≡ vec_len pages.old + 1 }
+    ensures fewer { vec_len free.new + 1 ≡ vec_len free.old }
+    ensures capacity { vec_capacity pages.old ≤ vec_capacity pages.new }
+    ensures free_capacity { vec_capacity free.new ≡ vec_capacity free.old }
+{
+    let mut upper = free.take_last();
+    pages[p].split(&mut upper);
+    insert_reserved(pages, p + 1, upper);
+}
+
+/// The j-th place of page p, in a page with room for one more.
+fn gap<T: Copy, S: Summary<T>, A: Allocator>(
+    pages: &mut Vec<Page<T, S, A>, A>,
+    free: &mut Vec<Page<T, S, A>, A>,
+    p: usize,
+    j: usize,
+) -> (usize, usize)
+    requires within { p < vec_len pages.old }
+    requires inside { j < length (slice_index_or pages.old.items p []) }
+    requires half { IsHalfFull pages.old.items }
+    requires some { 0 < vec_len free.old }
+    requires room { vec_len pages.old < vec_capacity pages.old }
+    ensures gap { IsGap pages.new.items (start_of pages.old.items p + j) result.0 result.1 }
+    ensures same { joined pages.new.items ≡ joined pages.old.items }
+    ensures half { IsHalfFull pages.new.items }
+    ensures count { vec_len pages.new + vec_len free.new ≡ vec_len pages.old + vec_len free.old }
+    ensures capacity { vec_capacity pages.old ≤ vec_capacity pages.new }
+    ensures free_capacity { vec_capacity free.new ≡ vec_capacity free.old }
+{
+    if pages[p].len() < FULL {
+        return (p, j);
+    }
+    split(pages, free, p);
+    if j <= HALF { (p, j) } else { (p + 1, j - HALF) }
+}
+
+/// The place behind the last entry, where its page is not full.
+fn end<T: Copy, S: Summary<T>, A: Allocator>(pages: &[Page<T, S, A>]) -> Option<(usize, usize)>
+    ensures gap { IfSome result (λ s. IsGap pages.now (length (joined pages.now)) s.0 s.1) }
+    ensures closed { IsNone result → IsClosed pages.now }
+{
+    let count = pages.len();
+    if count == 0 {
+        return None;
+    }
+    let len = pages[count - 1].len();
+    if len == FULL {
+        None
+    } else {
+        Some((count - 1, len))
+    }
+}
+
+/// One more page, with one entry, behind full ones.
+fn open<T: Copy, S: Summary<T>, A: Allocator>(
+    pages: &mut Vec<Page<T, S, A>, A>,
+    free: &mut Vec<Page<T, S, A>, A>,
+    x: T,
+)
+    requires half { IsHalfFull pages.old.items }
+    requires closed { IsClosed pages.old.items }
+    requires some { 0 < vec_len free.old }
+    requires room { vec_len pages.old < vec_capacity pages.old }
+    ensures put { joined pages.new.items ≡ joined pages.old.items ++ x ∷ [] }
+    ensures half { IsHalfFull pages.new.items }
+    ensures count { vec_len pages.new + vec_len free.new ≡ vec_len pages.old + vec_len free.old }
+    ensures capacity { vec_capacity pages.new ≡ vec_capacity pages.old }
+    ensures free_capacity { vec_capacity free.new ≡ vec_capacity free.old }
+{
+    let mut page = free.take_last();
+    page.fill(&[x]);
+    pages.push_reserved(page);
+}
+
+/// Puts an entry at the j-th place of page p, or behind all pages.
+pub fn put<T: Copy, S: Summary<T>, A: Allocator>(
+    pages: &mut Vec<Page<T, S, A>, A>,
+    free: &mut Vec<Page<T, S, A>, A>,
+    p: usize,
+    j: usize,
+    len: usize,
+    x: T,
+)
+    requires kept { IsKept pages.old.items len (vec_len pages.old + vec_len free.old) (vec_capacity pages.old) (vec_capacity free.old) }
+    requires spot { IsSpotOrEnd pages.old.items p j }
+    requires spare { 1 ≤ spare_of (vec_len pages.old + vec_len free.old) len }
+    ensures kept { IsKept pages.new.items (len + 1) (vec_len pages.new + vec_len free.new) (vec_capacity pages.new) (vec_capacity free.new) }
+    ensures put { joined pages.new.items ≡ insert (joined pages.old.items) (start_of pages.old.items p + j) x }
+    ensures count { vec_len pages.new + vec_len free.new ≡ vec_len pages.old + vec_len free.old }
+{
+    if p < pages.len() {
+        let (q, k) = gap(pages, free, p, j);
+        pages[q].insert(k, x);
+        return;
+    }
+    match end(pages) {
+        Some((q, k)) => pages[q].insert(k, x),
+        None => open(pages, free, x),
+    }
+}
+
+/// The entries from place i to the end of its page.
+pub fn stretch<T: Copy, S: Summary<T>, A: Allocator>(pages: &[Page<T, S, A>], i: usize) -> &[T]
+    requires { i < length (joined pages.now) }
+    ensures is { result.now ≡ take (length result.now) (drop i (joined pages.now)) }
+    ensures some { 0 < length result.now }
+{
+    let (p, j) = locate(pages, i);
+    let (_, tail) = pages[p].items().split_at(j);
+    tail
+}
+
+/// Writes another entry over the j-th of page p.
+pub fn set<T: Copy, S: Summary<T>, A: Allocator>(
+    pages: &mut Vec<Page<T, S, A>, A>,
+    p: usize,
+    j: usize,
+    x: T,
+)
+    requires within { p < vec_len pages.old }
+    requires inside { j < length (slice_index_or pages.old.items p []) }
+    requires half { IsHalfFull pages.old.items }
+    ensures set { joined pages.new.items ≡ slice_set (joined pages.old.items) (start_of pages.old.items p + j) x }
+    ensures half { IsHalfFull pages.new.items }
+    ensures len { vec_len pages.new ≡ vec_len pages.old }
+    ensures capacity { vec_capacity pages.new ≡ vec_capacity pages.old }
+{
+    pages[p].set(j, x);
+}
+
+/// Free pages, until there are as many pages as said.
+pub fn stock<T: Copy, S: Summary<T>, A: Allocator + Copy>(
+    pages: &mut Vec<Page<T, S, A>, A>,
+    free: &mut Vec<Page<T, S, A>, A>,
+    target: usize,
+) -> Result<(), AllocError>
+    requires few { vec_len pages.old + vec_len free.old ≤ 2 ^ 40 }
+    requires target { target ≤ 2 ^ 40 }
+    requires room { vec_len pages.old + vec_len free.old ≤ vec_capacity pages.old }
+    requires free_room { vec_len pages.old + vec_len free.old ≤ vec_capacity free.old }
+    ensures same { pages.new.items ≡ pages.old.items }
+    ensures len { vec_len pages.new ≡ vec_len pages.old }
+    ensures grows { vec_len free.old ≤ vec_len free.new }
+    ensures few { vec_len pages.new + vec_len free.new ≤ 2 ^ 40 }
+    ensures capacity { vec_capacity pages.old ≤ vec_capacity pages.new }
+    ensures free_capacity { vec_capacity free.old ≤ vec_capacity free.new }
+    ensures room { vec_len pages.new + vec_len free.new ≤ vec_capacity pages.new }
+    ensures free_room { vec_len pages.new + vec_len free.new ≤ vec_capacity free.new }
+    ensures enough { OnOk result (target ≤ vec_len pages.new + vec_len free.new) }
+{
+    pages.reserve(target.saturating_sub(pages.len()))?;
+    free.reserve(target)?;
+    while pages.len() + free.len() < target {
+        let name = pages.len() + free.len();
+        free.push_reserved(Page::new(*pages.allocator(), name)?);
+    }
+    Ok(())
+}
+
+/// The entries in pages, all but the last of them full.
+pub fn fill<T: Copy, S: Summary<T>, A: Allocator + Copy>(
+    alloc: A,
+    items: &[T],
+) -> Result<Vec<Page<T, S, A>, A>, AllocError>
+    ensures filled { IfOk result (λ pages. (joined pages.items ≡ items.now) × IsHalfFull pages.items) }
+{
+    let mut pages = Vec::new(alloc);
+    let mut rest = items;
+    while rest.len() > 0 {
+        let (part, tail) = rest.split_at(rest.len().min(FULL));
+        let mut page = Page::new(alloc, pages.len())?;
+        page.fill(part);
+        pages.push(page)?;
+        rest = tail;
+    }
+    Ok(pages)
+}
+
+/// Fills a page that has become short from the next, or joins the two; frees the last where it is empty.
+fn level<T: Copy, S: Summary<T>, A: Allocator>(
+    pages: &mut Vec<Page<T, S, A>, A>,
+    free: &mut Vec<Page<T, S, A>, A>,
+    p: usize,
+)
+    requires within { p < vec_len pages.old }
+    requires short { IsShortAt pages.old.items p }
+    requires room { vec_len free.old < vec_capacity free.old }
+    ensures same { joined pages.new.items ≡ joined pages.old.items }
+    ensures half { IsHalfFull pages.new.items }
+    ensures count { vec_len pages.new + vec_len free.new ≡ vec_len pages.old + vec_len free.old }
+    ensures capacity { vec_capacity pages.new ≡ vec_capacity pages.old }
+    ensures free_capacity { vec_capacity free.new ≡ vec_capacity free.old }
+{
+    let len = pages[p].len();
+    if p + 1 == pages.len() {
+        if len == 0 {
+            free.push_reserved(pages.take_last());
+        }
+        return;
+    }
+    if len >= HALF {
+        return;
+    }
+    if len + pages[p + 1].len() <= FULL {
+        let next = pages.remove(p + 1);
+        pages[p].append(next.items());
+        free.push_reserved(next);
+    } else {
+        let first = pages[p + 1].remove(0);
+        pages[p].insert(len, first);
+    }
+}
+
+/// Takes out the j-th entry of page p.
+pub fn take<T: Copy, S: Summary<T>, A: Allocator>(
+    pages: &mut Vec<Page<T, S, A>, A>,
+    free: &mut Vec<Page<T, S, A>, A>,
+    p: usize,
+    j: usize,
+    len: usize,
+) -> T
+    requires kept { IsKept pages.old.items len (vec_len pages.old + vec_len free.old) (vec_capacity pages.old) (vec_capacity free.old) }
+    requires within { p < length pages.old.items }
+    requires inside { j < length (slice_index_or pages.old.items p []) }
+    ensures kept { IsKept pages.new.items (len - 1) (vec_len pages.new + vec_len free.new) (vec_capacity pages.new) (vec_capacity free.new) }
+    ensures rest { joined pages.new.items ≡ remove (joined pages.old.items) (start_of pages.old.items p + j) }
+    ensures out { result ≡ slice_index_or (joined pages.old.items) (start_of pages.old.items p + j) result }
+    ensures count { vec_len pages.new + vec_len free.new ≡ vec_len pages.old + vec_len free.old }
+{
+    let out = pages[p].remove(j);
+    level(pages, free, p);
+    out
+}
+
+/// The page of that name, and where it starts.
+pub fn named<T: Copy, S: Summary<T>, A: Allocator>(
+    pages: &[Page<T, S, A>],
+    len: usize,
+    name: usize,
+) -> Option<(usize, &[T])>
+    requires half { IsHalfFull pages.now }
+    requires len { len ≡ length (joined pages.now) }
+    ensures { IfSome result (λ r. r.1.now ≡ take (length r.1.now) (drop r.0 (joined pages.now))) }
+{
+    let mut start = 0;
+    for p in 0..pages.len() {
+        if pages[p].name() == name {
+            return Some((start, pages[p].items()));
+        }
+        start += pages[p].len();
+    }
+    None
+}
