@@ -2,8 +2,8 @@
 use Rattle.std.specs.Prelude.{◌≡◌, ◌≢◌, ◌⊎◌}
 use Rattle.std.specs.declared.io.ErrorKind.{ErrorKind}
 use Rattle.std.specs.declared.io.ErrorKind.TheVariants as kinds
-use Rattle.desk_script.specs.declared.files.FileRefusal.{FileRefusal}
-use Rattle.desk_script.specs.declared.files.FileRefusal.TheVariants as refusals
+use Rattle.desk_files.specs.declared.files.FileRefusal.{FileRefusal}
+use Rattle.desk_files.specs.declared.files.FileRefusal.TheVariants as refusals
 
 -- by the kind of the error: that the file or its folder is not there, that memory ran out, or of all other kinds that the device failed
 abbrev pub IsToldOf : ErrorKind → FileRefusal → Type 0

@@ -2,7 +2,7 @@
 
 ghost use Rattle.std.specs.Prelude.{◌≡◌, ◌≢◌, ◌<◌, ◌≤◌, IfErr, IfOk, IfSome, IsErrOf, length};
 ghost use Rattle.std.specs.IoError.{error_kind};
-ghost use Rattle.desk_script.specs.Files.{IsCounted, Unknown, max_file, shelf};
+ghost use Rattle.desk_files.specs.Files.{IsCounted, Unknown, max_file, shelf};
 ghost use Rattle.copydesk.specs.Host.{IsToldOf};
 
 use desk_script::{FileRefusal, Files, MAX_FILE};

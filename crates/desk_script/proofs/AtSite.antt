@@ -5,7 +5,7 @@ use Rattle.desk_ops.specs.OpSet.{OpSet}
 use Rattle.desk_case.specs.Case.{CaseValues}
 use Rattle.desk_wedge.specs.Wedge.{WedgeValues}
 use Rattle.desk_script.specs.Effect.{Jobs, Refuses, set_of}
-use Rattle.desk_script.specs.Files.{Shelf}
+use Rattle.desk_files.specs.Files.{Shelf}
 use Rattle.desk_script.specs.Inputs.{BothGive}
 use Rattle.desk_script.specs.Reply.{Refused, Reply}
 use Rattle.desk_script.specs.Sites.{Sites, desk}

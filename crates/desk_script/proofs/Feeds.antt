@@ -4,12 +4,12 @@ use Rattle.std.specs.Prelude.{Result, Ok, Err}
 use Rattle.std.specs.FinMap as fin
 use Rattle.desk_ops.specs.declared.op.Op.{Op}
 use Rattle.desk_ops.specs.OpSet.{no_ops, size, with_all}
-use Rattle.desk_script.specs.declared.files.FileRefusal.{FileRefusal}
-use Rattle.desk_script.specs.declared.files.FileRefusal.TheVariants as refusals
+use Rattle.desk_files.specs.declared.files.FileRefusal.{FileRefusal}
+use Rattle.desk_files.specs.declared.files.FileRefusal.TheVariants as refusals
 use Rattle.desk_script.specs.declared.fault.RunFault.{RunFault}
 use Rattle.desk_script.specs.declared.fault.RunFault.TheVariants as faults
 use Rattle.desk_script.specs.Faults.{IsCrowded, IsOfRun, IsOfStoring, IsUnopened}
-use Rattle.desk_script.specs.Files.{Reads, Shelf, Stays}
+use Rattle.desk_files.specs.Files.{Reads, Shelf, Stays}
 use Rattle.desk_script.specs.Stored.{IsBroken, IsHalted, IsUnstored, Stores}
 
 none_crowds : (ops : List Op) → ops ≡ [] → 1048576 < size (with_all no_ops ops) → ⊥

@@ -5,11 +5,11 @@ use Rattle.desk_ops.specs.OpSet.{no_ops, size, with_all}
 use Rattle.desk_codec.specs.Fault.{IsFirstFault}
 use Rattle.desk_codec.specs.Feed.{IsFeed}
 use Rattle.desk_held.specs.declared.AddRefusal.TheVariants.{Full}
-use Rattle.desk_script.specs.Files.{HasFailed, HasNoPlace, Shelf}
+use Rattle.desk_files.specs.Files.{HasFailed, HasNoPlace, Shelf}
 use Rattle.desk_script.specs.declared.fault.RunFault.{RunFault}
 use Rattle.desk_script.specs.declared.fault.RunFault.TheVariants as faults
-use Rattle.desk_script.specs.declared.files.FileRefusal.{FileRefusal}
-use Rattle.desk_script.specs.declared.files.FileRefusal.TheVariants as refusals
+use Rattle.desk_files.specs.declared.files.FileRefusal.{FileRefusal}
+use Rattle.desk_files.specs.declared.files.FileRefusal.TheVariants as refusals
 
 -- the fault is of the run of commands itself, and not of a stored feed
 abbrev pub IsOfRun : RunFault → Type 0

@@ -10,9 +10,9 @@ use Rattle.desk_wedge.specs.File as wedges
 use Rattle.desk_wedge.specs.declared.WedgeFault.{WedgeFault}
 use Rattle.desk_script.specs.declared.text.Refusal.{Refusal}
 use Rattle.desk_script.specs.declared.text.Refusal.TheVariants as refusals
-use Rattle.desk_script.specs.declared.files.FileRefusal.{FileRefusal}
-use Rattle.desk_script.specs.declared.files.FileRefusal.TheVariants as files
-use Rattle.desk_script.specs.Files.{Counts, Reads, Shelf, Stays}
+use Rattle.desk_files.specs.declared.files.FileRefusal.{FileRefusal}
+use Rattle.desk_files.specs.declared.files.FileRefusal.TheVariants as files
+use Rattle.desk_files.specs.Files.{Counts, Reads, Shelf, Stays}
 
 -- the refusal that tells why a file was not read: want of memory has none, as it ends the run
 abbrev pub file_refused : FileRefusal → Option Refusal

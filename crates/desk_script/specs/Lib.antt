@@ -8,8 +8,7 @@ pub mod Reply
 pub mod Examples
 pub mod Sites
 pub mod World
-pub mod Files
-pub mod Trial
+pub use Rattle.desk_files.specs.Files
 pub mod Inputs
 pub mod Effect
 pub mod Script

@@ -4,7 +4,7 @@ use Rattle.std.specs.Io.KnownBytes.{Appends}
 use Rattle.desk_script.specs.Lines.{Line, lines}
 use Rattle.desk_script.specs.Reply.{Reply}
 use Rattle.desk_script.specs.Text.{output}
-use Rattle.desk_script.specs.Files.{Shelf, Stays}
+use Rattle.desk_files.specs.Files.{Shelf, Stays}
 use Rattle.desk_script.specs.Sites.{Desk}
 use Rattle.desk_script.specs.Effect.{Allows}
 

@@ -8,7 +8,7 @@ use Rattle.std.specs.Coded.{Coded, coded_ℕ}
 use Rattle.desk_ops.specs.declared.op.Op.{Op}
 use Rattle.desk_ops.specs.OpSet.{OpSet, op_set_code, has_op}
 use Rattle.desk_replica.specs.State.{State}
-use Rattle.desk_script.specs.Files.{Shelf}
+use Rattle.desk_files.specs.Files.{Shelf}
 
 abbrev pub Sites : Type 0
 Sites = fin.FinMap nat_cmp OpSet

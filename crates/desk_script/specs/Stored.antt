@@ -4,12 +4,12 @@ use Rattle.std.specs.FinMap as fin
 use Rattle.desk_ops.specs.declared.op.Op.{Op}
 use Rattle.desk_ops.specs.OpSet.{OpSet, in_order, no_ops, with_all}
 use Rattle.desk_codec.specs.Feed.{IsFeed, feed}
-use Rattle.desk_script.specs.Files.{Counts, IsReplaced, Reads, Shelf, Spares, Stays, new_name}
+use Rattle.desk_files.specs.Files.{Counts, IsReplaced, Reads, Shelf, Spares, Stays, new_name}
 use Rattle.desk_script.specs.Faults.{IsOfStoring, IsUnopened, IsUnread}
 use Rattle.desk_script.specs.declared.fault.RunFault.{RunFault}
 use Rattle.desk_script.specs.declared.fault.RunFault.TheVariants as faults
-use Rattle.desk_script.specs.declared.files.FileRefusal.{FileRefusal}
-use Rattle.desk_script.specs.declared.files.FileRefusal.TheVariants as refusals
+use Rattle.desk_files.specs.declared.files.FileRefusal.{FileRefusal}
+use Rattle.desk_files.specs.declared.files.FileRefusal.TheVariants as refusals
 use Rattle.desk_script.specs.Lines.{lines}
 use Rattle.desk_script.specs.Sites.{Sites, Desk, no_sites}
 use Rattle.desk_script.specs.Script.{Turn, Fronts}

@@ -11,11 +11,11 @@ ghost use Rattle.desk_replica.specs.declared.Count.{Count};
 ghost use Rattle.desk_script.specs.World.{Brings, taken};
 ghost use Rattle.desk_script.specs.World as changes;
 ghost use Rattle.desk_script.specs.Sites.{desk};
-ghost use Rattle.desk_script.specs.Files.{Stays};
+ghost use Rattle.desk_files.specs.Files.{Stays};
 ghost use Rattle.desk_script.specs.Effect.{Allows, Performs, Does, Happens, Says, told, after, first_of, made_of, all_made, all_symbols, Inserts, edit_refused, stopped_after, set_of, sent, Takes};
 
 use crate::command::{Command, ParseError};
-use crate::files::Files;
+use desk_files::Files;
 use crate::job::{cast_lines, ribbon};
 use crate::memory::Memory;
 use crate::reader::parse;

@@ -1,6 +1,6 @@
 //! Why a run of a script stopped.
 
-use crate::files::FileRefusal;
+use desk_files::FileRefusal;
 use desk_codec::FeedFault;
 use desk_replica::Stopped;
 use thiserror::Error;

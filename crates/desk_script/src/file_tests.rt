@@ -1,17 +1,11 @@
-use crate::trial::{AtEnd, TrialFiles, TrialReader, TrialWriter};
-use crate::{FileRefusal, Files, NoFiles, RunFault, run_on_feed, store};
+use desk_files::trial::{AtEnd, TrialFiles, TrialReader, TrialWriter};
+use crate::{RunFault, run_on_feed};
 use desk_codec::{FeedFault, FeedWhy};
+use desk_files::{FileRefusal, Files, NoFiles};
 use desk_held::AddRefusal;
 use desk_replica::Stopped;
 use std::alloc::{AllocError, Global};
 use std::test::Fail;
-
-/// Files with `a` of some bytes, of which the k-th call fails.
-fn files_with_a(alloc: Global, k: u64) -> Result<TrialFiles<Global>, Fail> {
-    let mut files = TrialFiles::new(alloc).failing_at_call(k);
-    files.put("a", b"old")?;
-    Ok(files)
-}
 
 /// Whether a file of that name has these bytes.
 fn holds(files: &TrialFiles<Global>, name: &str, bytes: &[u8]) -> bool {
@@ -19,54 +13,6 @@ fn holds(files: &TrialFiles<Global>, name: &str, bytes: &[u8]) -> bool {
         Some(kept) => kept == bytes,
         None => false,
     }
-}
-
-#[test]
-fn stored_in_place(rt: HostRuntime) -> Result<(), Fail> {
-    let mut files = files_with_a(rt.alloc(), 0)?;
-    files.put("a.new", b"left over")?;
-    assert_eq!(rt; store(rt.alloc(), &mut files, "a", b"new"), Ok(()));
-    assert!(rt; holds(&files, "a", b"new"));
-    assert!(rt; files.bytes_of("a.new").is_none());
-    assert_eq!(rt; store(rt.alloc(), &mut files, "b", b""), Ok(()));
-    assert!(rt; holds(&files, "b", b""));
-    assert_eq!(rt; files.failures(), 0);
-    Ok(())
-}
-
-#[test]
-fn not_stored_where_a_call_fails(rt: HostRuntime) -> Result<(), Fail> {
-    let mut files = files_with_a(rt.alloc(), 1)?;
-    assert_eq!(rt;
-        store(rt.alloc(), &mut files, "a", b"new"),
-        Err(FileRefusal::Device)
-    );
-    assert!(rt; holds(&files, "a", b"old"));
-    assert!(rt; files.bytes_of("a.new").is_none());
-    assert_eq!(rt; files.failures(), 1);
-
-    let mut files = files_with_a(rt.alloc(), 2)?;
-    assert_eq!(rt;
-        store(rt.alloc(), &mut files, "a", b"new"),
-        Err(FileRefusal::Device)
-    );
-    assert!(rt; holds(&files, "a", b"old"));
-    assert!(rt; holds(&files, "a.new", b"new"));
-    assert_eq!(rt; store(rt.alloc(), &mut files, "a", b"new"), Ok(()));
-    assert!(rt; holds(&files, "a", b"new"));
-    Ok(())
-}
-
-#[test]
-fn read_from_memory(rt: HostRuntime) -> Result<(), Fail> {
-    let mut files = files_with_a(rt.alloc(), 3)?;
-    let bytes = files.read(rt.alloc(), "a")?;
-    assert_eq!(rt; bytes.as_slice(), b"old".as_slice());
-    assert!(rt; matches!(files.read(rt.alloc(), "b"), Err(FileRefusal::Missing)));
-    assert!(rt; matches!(files.read(rt.alloc(), "a"), Err(FileRefusal::Device)));
-    assert!(rt; matches!(files.rename("b", "a"), Err(FileRefusal::Missing)));
-    assert_eq!(rt; files.failures(), 1);
-    Ok(())
 }
 
 /// What a run on the feed `a.feed` is answered.

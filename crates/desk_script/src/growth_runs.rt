@@ -1,10 +1,10 @@
-//! Runs and stores where memory is wanting: each growth refused in turn. The reading of a case or a wedge takes the
+//! Runs where memory is wanting: each growth refused in turn. The reading of a case or a wedge takes the
 //! global allocator alone, which no test can refuse, so that its growths are not among these.
 
 use crate::jobs::trial_files;
-use crate::trial::{TrialFiles, TrialReader};
+use desk_files::trial::{TrialFiles, TrialReader};
 use crate::worked::script;
-use crate::{FileRefusal, RunFault, run, run_on_feed, store};
+use crate::{RunFault, run, run_on_feed};
 use linked_list_allocator::LocalHeap;
 use std::alloc::{Allocator, Global};
 use std::test::Fail;
@@ -133,32 +133,6 @@ fn has<A: Allocator + Copy>(files: &TrialFiles<A>, name: &str, bytes: &[u8]) -> 
     }
 }
 
-/// Stores over `a`, where the files too have no more than the heap.
-fn refused_store(alloc: Global, cut: usize) -> Result<Seen, Fail> {
-    let heap = LocalHeap::new(alloc, 2048)?;
-    let mut files = TrialFiles::new(&heap);
-    files.put("a", b"old")?;
-    let ballast = ballast(&heap, 2048usize.saturating_sub(cut));
-    let first = store(&heap, &mut files, "a", b"new");
-    drop(ballast);
-    let refused = first == Err(FileRefusal::NoMemory);
-    let kept = !refused || has(&files, "a", b"old");
-    let end = if refused {
-        store(&heap, &mut files, "a", b"new")
-    } else {
-        first
-    };
-    let right = kept
-        && end == Ok(())
-        && has(&files, "a", b"new")
-        && files.bytes_of("a.new").is_none();
-    Ok(Seen {
-        refused,
-        written: 0,
-        right,
-    })
-}
-
 /// One insert, 1.3 `x` after the head.
 const ONE_INSERT: &[u8] = b"MFD1\x01\0\0\0\0\0\0\0\x01\0\x03\0\0\0\0\0\0\0\0\0\0\0\0\0\0x";
 
@@ -225,18 +199,6 @@ fn growths_of_run(rt: HostRuntime) -> Result<(), Fail> {
     assert!(rt; tally.done > 0);
     assert!(rt; tally.refused > 9);
     assert!(rt; tally.fronts > 5);
-    Ok(())
-}
-
-/// After a refused growth the file is as it was, and with memory it has the new bytes.
-#[test]
-fn growths_of_store(rt: HostRuntime) -> Result<(), Fail> {
-    let mut tally = NONE_YET;
-    for step in 0..128usize {
-        tally = counted(tally, refused_store(rt.alloc(), step.saturating_mul(16))?)?;
-    }
-    assert!(rt; tally.done > 0);
-    assert!(rt; tally.refused > 3);
     Ok(())
 }
 

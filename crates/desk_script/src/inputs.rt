@@ -3,10 +3,10 @@
 ghost use Rattle.std.specs.Prelude.{◌≡◌, Ok, IfOk, MatchResult, Some, None};
 ghost use Rattle.desk_case.specs.File.{case_of};
 ghost use Rattle.desk_wedge.specs.File.{wedge_of};
-ghost use Rattle.desk_script.specs.Files.{Stays};
+ghost use Rattle.desk_files.specs.Files.{Stays};
 ghost use Rattle.desk_script.specs.Inputs.{file_refused, case_refused, wedge_refused, Tells, FileGives, with_case, ThenWedge, BothGive};
 
-use crate::files::{FileRefusal, Files};
+use desk_files::{FileRefusal, Files};
 use crate::memory::Memory;
 use crate::text::Refusal;
 use desk_case::{CaseFault, MatrixCase};

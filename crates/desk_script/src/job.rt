@@ -4,14 +4,14 @@ ghost use Rattle.std.specs.Prelude.{◌≡◌, ◌<◌, ◌^◌, length, List, O
 ghost use Rattle.desk_signals.specs.declared.RibbonRow.{RibbonRow};
 ghost use Rattle.desk_caster.specs.Caster.{Line, cast};
 ghost use Rattle.desk_caster.specs.Reading.{IsRibbon};
-ghost use Rattle.desk_script.specs.Files.{Stays};
+ghost use Rattle.desk_files.specs.Files.{Stays};
 ghost use Rattle.desk_script.specs.Effect.{job_of, TellsRibbon, TellsCast, TellsLines, Performs};
 ghost use Rattle.desk_script.specs.Reply.{reply, Refused};
 ghost use Rattle.desk_script.specs.Request as requests;
 ghost use Rattle.desk_script.specs.Sites.{desk};
 
 use crate::act::replica_of;
-use crate::files::Files;
+use desk_files::Files;
 use crate::inputs::both;
 use crate::memory::Memory;
 use crate::text::{Refusal, Response};

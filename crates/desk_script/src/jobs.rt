@@ -1,8 +1,9 @@
 //! Scripts of jobs: ribbons, and what they cast.
 
-use crate::trial::{TrialFiles, TrialReader};
+use desk_files::trial::{TrialFiles, TrialReader};
 use crate::worked::script;
-use crate::{FileRefusal, Files, MAX_FILE, RunFault, run};
+use crate::{RunFault, run};
+use desk_files::{FileRefusal, Files, MAX_FILE};
 use std::alloc::{AllocError, Allocator, Global};
 use std::test::Fail;
 
@@ -43,7 +44,7 @@ fn parts(name: &str) -> Result<(&'static [u8], &'static [u8]), FileRefusal> {
 }
 
 impl Files for Shelf {
-    ghost use Rattle.desk_script.specs.Files.{Unknown, shelf};
+    ghost use Rattle.desk_files.specs.Files.{Unknown, shelf};
 
     ghost shelf = { λ s. shelf (λ _. Unknown) s.failures };
 

@@ -6,7 +6,7 @@ ghost use Rattle.desk_script.specs.Lines.{Line, line_of, without_cr};
 ghost use Rattle.desk_script.specs.Reply.{Reply, reply};
 ghost use Rattle.desk_script.specs.Text.{text};
 ghost use Rattle.desk_script.specs.Sites.{Sites, desk, no_sites};
-ghost use Rattle.desk_script.specs.Files.{Stays};
+ghost use Rattle.desk_files.specs.Files.{Stays};
 ghost use Rattle.desk_script.specs.Effect.{Allows};
 ghost use Rattle.desk_script.specs.Script.{Turn, Fronts, WritesFront, Answers, AnswersFront};
 ghost use Rattle.desk_script.specs.Faults.{IsOfRun};
@@ -14,7 +14,7 @@ ghost use Rattle.desk_script.specs.Pending.{Moves, lines_from, last_line};
 
 use crate::act::answer;
 use crate::fault::RunFault;
-use crate::files::Files;
+use desk_files::Files;
 use crate::memory::Memory;
 use crate::text::{Response, put};
 use crate::world::World;

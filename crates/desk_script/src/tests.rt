@@ -1,5 +1,6 @@
-use crate::trial::{AtEnd, TrialReader, TrialWriter};
-use crate::{NoFiles, RunFault, run};
+use desk_files::trial::{AtEnd, TrialReader, TrialWriter};
+use crate::{RunFault, run};
+use desk_files::NoFiles;
 use linked_list_allocator::LocalHeap;
 use std::alloc::{Allocator, Global};
 use std::test::Fail;

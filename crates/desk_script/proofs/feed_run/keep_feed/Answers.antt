@@ -1,5 +1,5 @@
 use Rattle.std.proofs.Common.{◌∙◌, sym, subst}
-use Rattle.desk_script.specs.Files.{IsReplaced}
+use Rattle.desk_files.specs.Files.{IsReplaced}
 use Rattle.desk_script.proofs.feed_run.keep_feed.Goals as goal
 
 pub returns-in-Ok-store-clause-ok : goal.returns-in-Ok-store-clause-ok

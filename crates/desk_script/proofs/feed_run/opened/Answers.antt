@@ -2,7 +2,7 @@ use Rattle.std.proofs.Common.{subst}
 use Rattle.std.specs.Prelude.{IfErr}
 use Rattle.std.proofs.lemmas.Result.{IfErr-weaker}
 use Rattle.desk_script.specs.Faults.{IsCrowded}
-use Rattle.desk_script.specs.Files.{Reads}
+use Rattle.desk_files.specs.Files.{Reads}
 use Rattle.desk_script.proofs.Feeds.{unopened}
 use Rattle.desk_script.proofs.feed_run.opened.Goals as goal
 

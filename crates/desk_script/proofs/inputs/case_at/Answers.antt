@@ -1,9 +1,10 @@
 use Rattle.std.proofs.Common.{List, ℕ, refl, subst, sym}
 use Rattle.std.specs.Prelude.{Err, Ok}
-use Rattle.desk_script.specs.Files.{Reads}
+use Rattle.desk_files.specs.Files.{Reads}
 use Rattle.desk_case.specs.File.{case_of}
 use Rattle.desk_script.specs.Inputs.{case_refused}
-use Rattle.desk_script.proofs.Gives.{gives_bytes, counts_read, counts_up}
+use Rattle.desk_script.proofs.Gives.{gives_bytes}
+use Rattle.desk_files.proofs.Counts.{counts_read, counts_up}
 use Rattle.desk_script.proofs.inputs.case_at.Goals as goal
 
 pub returns-in-Ok-clause-told : goal.returns-in-Ok-clause-told

@@ -1,4 +1,4 @@
-use Rattle.desk_script.proofs.Shelves.{stays_same, stays_trans}
+use Rattle.desk_files.proofs.Shelves.{stays_same, stays_trans}
 use Rattle.std.proofs.Common.{rules, ◌<◌, length, take, subst}
 use Rattle.std.specs.Io.KnownBytes.{Consumes}
 use Rattle.std.proofs.lemmas.Result.{on_err_weaker, on_ok_weaker}

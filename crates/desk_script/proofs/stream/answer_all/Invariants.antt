@@ -1,5 +1,5 @@
 use Rattle.std.proofs.Common.{◌≤◌, length}
-use Rattle.desk_script.specs.Files.{Stays}
+use Rattle.desk_files.specs.Files.{Stays}
 use Rattle.desk_script.specs.Sites.{desk}
 use Rattle.desk_script.specs.Pending.{Carries}
 use Rattle.desk_script.proofs.stream.answer_all.Given as goal

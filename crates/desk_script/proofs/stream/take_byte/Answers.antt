@@ -1,4 +1,4 @@
-use Rattle.desk_script.proofs.Shelves.{stays_same}
+use Rattle.desk_files.proofs.Shelves.{stays_same}
 use Rattle.std.proofs.Common.{◌∷◌, [], ap, ◌∙◌, eq-eqb}
 use Rattle.std.proofs.lemmas.Result.{on_ok_weaker}
 use Rattle.desk_script.specs.Lines.{without_cr, line_of}

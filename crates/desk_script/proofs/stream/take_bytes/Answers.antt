@@ -1,4 +1,4 @@
-use Rattle.desk_script.proofs.Shelves.{stays_trans}
+use Rattle.desk_files.proofs.Shelves.{stays_trans}
 use Rattle.std.proofs.Common.{◌≡◌, ℕ, ◌+◌, ◌<◌, length, ◌++◌, ◌∷◌, drop, get_or, ap, ◌∙◌, sym, append_assoc, add-one, drop-cons, subst, refl}
 use Rattle.std.proofs.lemmas.List.{at_drop_all}
 use Rattle.desk_script.specs.Sites.{desk}

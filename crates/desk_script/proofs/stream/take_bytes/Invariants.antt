@@ -1,5 +1,5 @@
 use Rattle.std.proofs.Common.{◌≡◌, ℕ, ◌≤◌, List, ◌++◌, drop, length}
-use Rattle.desk_script.specs.Files.{Stays}
+use Rattle.desk_files.specs.Files.{Stays}
 use Rattle.desk_script.specs.Sites.{desk}
 use Rattle.desk_script.specs.Lines.{Line}
 use Rattle.desk_script.specs.Script.{Turn}

@@ -1,4 +1,4 @@
-use Rattle.desk_script.proofs.Shelves.{stays_same}
+use Rattle.desk_files.proofs.Shelves.{stays_same}
 use Rattle.std.proofs.Common.{◌∙◌}
 use Rattle.std.proofs.lemmas.Result.{on_err_weaker, on_ok_weaker}
 use Rattle.desk_script.specs.Sites.{desk}

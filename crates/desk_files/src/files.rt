@@ -1,7 +1,7 @@
 //! Files by name.
 
 ghost use Rattle.std.specs.Prelude.{◌≢◌, ◌≤◌, ◌⊎◌, IfErr, IfOk, IsErrOf, ◌≡◌, length};
-ghost use Rattle.desk_script.specs.Files.{Counts, IsGone, IsNowhere, IsRenamed, IsWritten, Reads, Shelf, Spares, Stays, bytes_read, max_file, shelf};
+ghost use Rattle.desk_files.specs.Files.{Counts, IsGone, IsNowhere, IsRenamed, IsWritten, Reads, Shelf, Spares, Stays, bytes_read, max_file, shelf};
 
 use std::alloc::Allocator;
 use thiserror::Error;
@@ -27,7 +27,7 @@ pub enum FileRefusal {
 
 /// Where files are kept.
 pub trait Files {
-    ghost use Rattle.desk_script.specs.declared.files.FileRefusal.{FileRefusal};
+    ghost use Rattle.desk_files.specs.declared.files.FileRefusal.{FileRefusal};
 
     /// What each name stands for, as far as the files can tell, and how often the device has failed.
     ghost shelf: { Self → Shelf };
@@ -68,7 +68,7 @@ pub trait Files {
 pub struct NoFiles;
 
 impl Files for NoFiles {
-    ghost use Rattle.desk_script.specs.Files.{Nowhere};
+    ghost use Rattle.desk_files.specs.Files.{Nowhere};
 
     ghost shelf = { λ _. shelf (λ _. Nowhere) 0 };
 

@@ -1,7 +1,7 @@
 //! A file that is replaced as a whole.
 
 ghost use Rattle.std.specs.Prelude.{◌≡◌, ◌≢◌, ◌≤◌, IfErr, IfOk, IsErrOf, OnErr, OnOk, string_bytes};
-ghost use Rattle.desk_script.specs.Files.{Counts, HasNoPlace, IsReplaced, Spares, new_name};
+ghost use Rattle.desk_files.specs.Files.{Counts, HasNoPlace, IsReplaced, Spares, new_name};
 
 use crate::files::{FileRefusal, Files};
 use std::alloc::{AllocError, Allocator};

@@ -1,5 +1,5 @@
 use Rattle.std.proofs.Common.{length}
-use Rattle.desk_script.proofs.trial.+bytes_in.Given as goal
+use Rattle.desk_files.proofs.trial.+bytes_in.Given as goal
 
 -- the changes that are left
 abbrev pub decreases-bytes_in : goal.decreases-bytes_in

@@ -1,9 +1,9 @@
 -- Files in memory, by their changes, newest first.
 use Rattle.std.specs.Prelude.{◌≡◌, ℕ, List, [], ◌∷◌, Option, Some, None, String, Vec, if◌then◌else◌, string_bytes}
 use Rattle.std.specs.Str.{bytes_eq}
-use Rattle.desk_script.specs.declared.trial.FileChange.{FileChange}
-use Rattle.desk_script.specs.declared.trial.FileChange.TheVariants.{Put, Move}
-use Rattle.desk_script.specs.Files.{Kept, Absent, Holds, Names}
+use Rattle.desk_files.specs.declared.trial.FileChange.{FileChange}
+use Rattle.desk_files.specs.declared.trial.FileChange.TheVariants.{Put, Move}
+use Rattle.desk_files.specs.Files.{Kept, Absent, Holds, Names}
 
 -- the bytes of a file: it was put there, or took the name of one that was
 abbrev pub bytes_in : {A : Type 0} → List (FileChange A) → List ℕ → Option (List ℕ)

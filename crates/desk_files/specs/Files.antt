@@ -1,7 +1,7 @@
 -- What files hold by name, when they may tell of a device, and what their calls leave.
 use Rattle.std.specs.Prelude.{◌≡◌, ◌≢◌, ◌≤◌, ℕ, ◌<◌, ◌⊎◌, ◌++◌, List, Result, Ok, Err, codes, length}
-use Rattle.desk_script.specs.declared.files.FileRefusal.{FileRefusal}
-use Rattle.desk_script.specs.declared.files.FileRefusal.TheVariants as refusals
+use Rattle.desk_files.specs.declared.files.FileRefusal.{FileRefusal}
+use Rattle.desk_files.specs.declared.files.FileRefusal.TheVariants as refusals
 
 -- what a name stands for: Unknown where the files cannot tell, Nowhere where no file can have it, as in a folder that is not there. A name that is known is the only one of its file, and of no folder.
 pub data Kept : Type 0 where

@@ -1,7 +1,7 @@
 -- Files that stay.
 use Rattle.std.proofs.Common.{le_refl, refl, ◌∙◌}
 use Rattle.std.proofs.Math.Nat.{le_trans}
-use Rattle.desk_script.specs.Files.{Shelf, Stays}
+use Rattle.desk_files.specs.Files.{Shelf, Stays}
 
 pub stays_same : (s : Shelf) → Stays s s
 stays_same s = (refl, le_refl _)

@@ -1,8 +1,8 @@
 //! A reader, a writer and files in memory, which fail where they are told to. For tests.
 
 ghost use Rattle.std.specs.Prelude.{◌≡◌, ◌≤◌, ◌<◌, ◌≢◌, IfErr, IfOk, IsErrOf, IsFalse, IsTrue, ◌+◌, min, nat_eq, Some, length, option_map};
-ghost use Rattle.desk_script.specs.Files.{HasRisen, IsGone, IsRenamed, max_file, shelf};
-ghost use Rattle.desk_script.specs.Trial.{IsPut, bytes_in, kept_in};
+ghost use Rattle.desk_files.specs.Files.{HasRisen, IsGone, IsRenamed, max_file, shelf};
+ghost use Rattle.desk_files.specs.Trial.{IsPut, bytes_in, kept_in};
 
 use crate::files::{FileRefusal, Files, MAX_FILE};
 use std::alloc::{AllocError, Allocator};

@@ -1,6 +1,6 @@
 use Rattle.std.proofs.Common.{rules}
-use Rattle.desk_script.proofs.Gives.{counts_none}
-use Rattle.desk_script.proofs.trial.TrialFilesFiles.read.Goals as goal
+use Rattle.desk_files.proofs.Counts.{counts_none}
+use Rattle.desk_files.proofs.trial.TrialFilesFiles.read.Goals as goal
 
 pub returns-in-Some-clause-counted : goal.returns-in-Some-clause-counted
 returns-in-Some-clause-counted g c = counts_none _ c.copied.result _ _ c.copied.ensures.other (search rules)
