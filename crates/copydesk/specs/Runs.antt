@@ -3,7 +3,8 @@ use Rattle.std.specs.Prelude.{◌⊎◌, ℕ, List, Option, IfSome}
 use Rattle.clap.specs.Words.{Text}
 use Rattle.desk_script.specs.declared.fault.RunFault.{RunFault}
 use Rattle.desk_files.specs.Files.{Shelf, Stays}
-use Rattle.desk_script.specs.Sites.{Sites, desk, no_sites}
+use Rattle.desk_world.specs.Sites.{Sites, no_sites}
+use Rattle.desk_script.specs.Desk.{desk}
 use Rattle.desk_script.specs.Script.{Answers, AnswersFront}
 use Rattle.desk_script.specs.Stored.{AnswersStored, IsHalted}
 use Rattle.copydesk.specs.Words.{AsksDesk, AsksScript}

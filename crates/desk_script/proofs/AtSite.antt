@@ -8,7 +8,8 @@ use Rattle.desk_script.specs.Effect.{Jobs, Refuses, set_of}
 use Rattle.desk_files.specs.Files.{Shelf}
 use Rattle.desk_script.specs.Inputs.{BothGive}
 use Rattle.desk_script.specs.Reply.{Refused, Reply}
-use Rattle.desk_script.specs.Sites.{Sites, desk}
+use Rattle.desk_world.specs.Sites.{Sites}
+use Rattle.desk_script.specs.Desk.{desk}
 use Rattle.desk_script.specs.declared.text.Refusal.{Refusal}
 use Rattle.desk_script.specs.declared.text.Refusal.TheVariants as refusals
 

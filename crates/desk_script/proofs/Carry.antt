@@ -6,7 +6,8 @@ use Rattle.std.proofs.lemmas.List.{append-nil}
 use Rattle.desk_script.specs.Lines.{Line, line_of, without_cr, lines}
 use Rattle.desk_script.specs.Text.{output}
 use Rattle.desk_files.specs.Files.{Shelf, Stays}
-use Rattle.desk_script.specs.Sites.{Sites, Desk, desk}
+use Rattle.desk_world.specs.Sites.{Sites}
+use Rattle.desk_script.specs.Desk.{Desk, desk}
 use Rattle.desk_script.specs.Script.{Turn, Fronts, Answers, AnswersFront}
 use Rattle.desk_script.specs.Pending.{last_line, lines_from, Moves, Carries}
 use Rattle.desk_script.proofs.Turns.{no_turn, turn_turn, turn_front}

@@ -5,12 +5,12 @@ use Rattle.desk_ops.specs.declared.op.Op.{Op}
 use Rattle.desk_ops.specs.declared.op.Stamp.{Stamp}
 use Rattle.desk_ops.specs.declared.op.Symbol.{Symbol}
 use Rattle.desk_ops.specs.Op.{stamp_of}
-use Rattle.desk_script.specs.declared.world.Answer.{Answer}
-use Rattle.desk_script.specs.declared.world.StepRefusal.{StepRefusal}
+use Rattle.desk_world.specs.declared.world.Answer.{Answer}
+use Rattle.desk_world.specs.declared.world.StepRefusal.{StepRefusal}
 use Rattle.desk_script.specs.Reply.{Reply}
-use Rattle.desk_script.specs.Sites.{Sites}
-use Rattle.desk_script.specs.World.{Steps}
-use Rattle.desk_script.specs.World as changes
+use Rattle.desk_world.specs.Sites.{Sites}
+use Rattle.desk_world.specs.World.{Steps}
+use Rattle.desk_world.specs.World as changes
 use Rattle.desk_script.specs.Effect.{Inserts, made_of, first_of, after, told}
 
 -- the next symbol is refused

@@ -6,8 +6,8 @@ use Rattle.desk_ops.specs.OpSet.{OpSet, in_order}
 use Rattle.desk_script.specs.declared.text.Refusal.TheVariants as refusals
 use Rattle.desk_script.specs.Request.{Send}
 use Rattle.desk_script.specs.Reply.{Reply, Refused}
-use Rattle.desk_script.specs.Sites.{Sites}
-use Rattle.desk_script.specs.World as changes
+use Rattle.desk_world.specs.Sites.{Sites}
+use Rattle.desk_world.specs.World as changes
 use Rattle.desk_script.specs.Effect.{Does, Happens, Says, set_of, sent}
 
 -- a site is given the operations at the places, or the places are refused

@@ -6,7 +6,7 @@ use Rattle.std.proofs.lemmas.List.{append-nil}
 use Rattle.desk_script.specs.Reply.{Reply}
 use Rattle.desk_script.specs.Text.{text, output}
 use Rattle.desk_files.specs.Files.{Shelf, Stays}
-use Rattle.desk_script.specs.Sites.{Desk}
+use Rattle.desk_script.specs.Desk.{Desk}
 use Rattle.desk_script.specs.Lines.{Line}
 use Rattle.desk_script.specs.Effect.{Allows}
 use Rattle.desk_script.specs.Script.{Script, Turn, WritesFront, Fronts}

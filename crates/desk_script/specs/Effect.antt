@@ -30,18 +30,19 @@ use Rattle.desk_script.specs.Inputs.{BothGive}
 use Rattle.desk_script.specs.Reply.{lines_told}
 use Rattle.desk_script.specs.declared.text.Refusal.{Refusal}
 use Rattle.desk_script.specs.declared.text.Refusal.TheVariants as refusals
-use Rattle.desk_script.specs.declared.world.Answer.{Answer}
-use Rattle.desk_script.specs.declared.world.Answer.TheVariants as answers
-use Rattle.desk_script.specs.declared.world.StepRefusal.{StepRefusal}
-use Rattle.desk_script.specs.declared.world.StepRefusal.TheVariants as steps
+use Rattle.desk_world.specs.declared.world.Answer.{Answer}
+use Rattle.desk_world.specs.declared.world.Answer.TheVariants as answers
+use Rattle.desk_world.specs.declared.world.StepRefusal.{StepRefusal}
+use Rattle.desk_world.specs.declared.world.StepRefusal.TheVariants as steps
 use Rattle.desk_script.specs.Lines.{Line, Bytes, Long}
 use Rattle.desk_script.specs.Request.{Request, Site, Insert, Delete, SetTo, Take, Send, Merge, Show, Faults, Settings, Feed, Ribbon, Cast, Restart}
 use Rattle.desk_script.specs.Reply.{Reply, Done, Made, MadeMany, Counted, Copy, Refused, Stopped}
 use Rattle.desk_script.specs.Reply as replies
 use Rattle.desk_script.specs.Grammar.{command_of}
-use Rattle.desk_script.specs.Sites.{Sites, Desk}
-use Rattle.desk_script.specs.World.{Steps, Brings, taken}
-use Rattle.desk_script.specs.World as changes
+use Rattle.desk_world.specs.Sites.{Sites}
+use Rattle.desk_script.specs.Desk.{Desk}
+use Rattle.desk_world.specs.World.{Steps, Brings, taken}
+use Rattle.desk_world.specs.World as changes
 
 -- the reply to an event that stopped after so many operations: want of memory has none, as it ends the run
 abbrev pub stopped_after : ℕ → AddRefusal → Option Reply

@@ -6,8 +6,9 @@ pub mod Grammar
 pub mod Text
 pub mod Reply
 pub mod Examples
-pub mod Sites
-pub mod World
+pub use Rattle.desk_world.specs.Sites
+pub use Rattle.desk_world.specs.World
+pub mod Desk
 pub use Rattle.desk_files.specs.Files
 pub mod Inputs
 pub mod Effect

@@ -5,7 +5,7 @@ use Rattle.desk_script.specs.Lines.{Line, lines}
 use Rattle.desk_script.specs.Reply.{Reply}
 use Rattle.desk_script.specs.Text.{output}
 use Rattle.desk_files.specs.Files.{Shelf, Stays}
-use Rattle.desk_script.specs.Sites.{Desk}
+use Rattle.desk_script.specs.Desk.{Desk}
 use Rattle.desk_script.specs.Effect.{Allows}
 
 -- the answers that lines may get, one for each

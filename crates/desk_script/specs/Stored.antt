@@ -11,7 +11,8 @@ use Rattle.desk_script.specs.declared.fault.RunFault.TheVariants as faults
 use Rattle.desk_files.specs.declared.files.FileRefusal.{FileRefusal}
 use Rattle.desk_files.specs.declared.files.FileRefusal.TheVariants as refusals
 use Rattle.desk_script.specs.Lines.{lines}
-use Rattle.desk_script.specs.Sites.{Sites, Desk, no_sites}
+use Rattle.desk_world.specs.Sites.{Sites, no_sites}
+use Rattle.desk_script.specs.Desk.{Desk}
 use Rattle.desk_script.specs.Script.{Turn, Fronts}
 
 -- what files gave is a feed of these operations, or there is no file, and so no operation

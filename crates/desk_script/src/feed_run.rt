@@ -6,7 +6,7 @@ ghost use Rattle.desk_ops.specs.Op.{IsLawful};
 ghost use Rattle.desk_codec.specs.Feed.{IsFeed};
 ghost use Rattle.desk_script.specs.Faults.{IsCrowded, IsUnopened};
 ghost use Rattle.desk_files.specs.Files.{Counts, HasFailed, Reads, Stays, Unknown, shelf};
-ghost use Rattle.desk_script.specs.Sites.{desk};
+ghost use Rattle.desk_script.specs.Desk.{desk};
 ghost use Rattle.desk_script.specs.Stored.{AnswersStored, IsHalted, IsNotStored, IsStart, IsStored, Stores, one_site};
 
 use crate::fault::RunFault;
@@ -14,7 +14,7 @@ use desk_files::{FileRefusal, Files};
 use crate::memory::Memory;
 use desk_files::store;
 use crate::stream::answer_all;
-use crate::world::World;
+use desk_world::World;
 use desk_codec::{ReadFault, read_feed};
 use desk_held::AddRefusal;
 use desk_ops::Op;

@@ -8,14 +8,14 @@ ghost use Rattle.desk_files.specs.Files.{Stays};
 ghost use Rattle.desk_script.specs.Effect.{job_of, TellsRibbon, TellsCast, TellsLines, Performs};
 ghost use Rattle.desk_script.specs.Reply.{reply, Refused};
 ghost use Rattle.desk_script.specs.Request as requests;
-ghost use Rattle.desk_script.specs.Sites.{desk};
+ghost use Rattle.desk_script.specs.Desk.{desk};
 
 use crate::act::replica_of;
 use desk_files::Files;
 use crate::inputs::both;
 use crate::memory::Memory;
 use crate::text::{Refusal, Response};
-use crate::world::World;
+use desk_world::World;
 use desk_case::MatrixCase;
 use desk_caster::laws::{ribbons_have_no_fault, ribbons_have_one_reading};
 use desk_caster::{CastFault, CastLine, RibbonFault, cast, read_ribbon};

@@ -14,29 +14,25 @@ mod number;
 mod reader;
 mod stream;
 mod text;
-mod world;
 
 pub use command::{Command, ParseError};
 pub use desk_files::{FileRefusal, Files, MAX_FILE, NoFiles, store, trial};
+pub use desk_world::{Answer, Event, MAX_SITES, StepRefusal, World};
 pub use fault::RunFault;
 pub use feed_run::run_on_feed;
 pub use laws::{law_of_copy, law_of_longest_runs, law_of_spelling};
 pub use reader::parse;
 pub use stream::{MAX_READS, run};
 pub use text::{Refusal, Response, put};
-pub use world::{Answer, Event, MAX_SITES, StepRefusal, World};
+
 
 #[cfg(test)]
 mod file_tests;
 #[cfg(test)]
 mod growth_runs;
 #[cfg(test)]
-mod growth_tests;
-#[cfg(test)]
 mod jobs;
 #[cfg(test)]
 mod tests;
 #[cfg(test)]
 mod worked;
-#[cfg(test)]
-mod worlds;

@@ -1,6 +1,6 @@
 use Rattle.std.proofs.Common.{refl}
 use Rattle.std.proofs.lemmas.Result.{IfErr-weaker, on_ok_weaker}
-use Rattle.desk_script.specs.Sites.{desk}
+use Rattle.desk_script.specs.Desk.{desk}
 use Rattle.desk_script.proofs.Feeds.{broken_halts, unopened_halts, unstored_halts}
 use Rattle.desk_script.proofs.feed_run.run_on_feed.Goals as goal
 

@@ -2,7 +2,7 @@ use Rattle.desk_files.proofs.Shelves.{stays_same, stays_trans}
 use Rattle.std.proofs.Common.{rules, ◌<◌, length, take, subst}
 use Rattle.std.specs.Io.KnownBytes.{Consumes}
 use Rattle.std.proofs.lemmas.Result.{on_err_weaker, on_ok_weaker}
-use Rattle.desk_script.specs.Sites.{desk}
+use Rattle.desk_script.specs.Desk.{desk}
 use Rattle.desk_script.specs.Script.{Turn, Fronts}
 use Rattle.desk_script.specs.Pending.{last_line}
 use Rattle.desk_script.proofs.Carry.{carries_more, carries_front, carries_end, carries_end_front, carries_stop}

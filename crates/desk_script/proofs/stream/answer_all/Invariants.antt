@@ -1,6 +1,6 @@
 use Rattle.std.proofs.Common.{◌≤◌, length}
 use Rattle.desk_files.specs.Files.{Stays}
-use Rattle.desk_script.specs.Sites.{desk}
+use Rattle.desk_script.specs.Desk.{desk}
 use Rattle.desk_script.specs.Pending.{Carries}
 use Rattle.desk_script.proofs.stream.answer_all.Given as goal
 

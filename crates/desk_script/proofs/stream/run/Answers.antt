@@ -1,5 +1,5 @@
 use Rattle.std.proofs.lemmas.Result.{on_err_weaker, on_ok_weaker}
-use Rattle.desk_script.specs.Sites.{no_sites}
+use Rattle.desk_world.specs.Sites.{no_sites}
 use Rattle.desk_script.proofs.Carry.{run_whole, run_front}
 use Rattle.desk_script.proofs.stream.run.Goals as goal
 

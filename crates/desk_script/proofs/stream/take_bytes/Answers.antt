@@ -1,7 +1,7 @@
 use Rattle.desk_files.proofs.Shelves.{stays_trans}
 use Rattle.std.proofs.Common.{◌≡◌, ℕ, ◌+◌, ◌<◌, length, ◌++◌, ◌∷◌, drop, get_or, ap, ◌∙◌, sym, append_assoc, add-one, drop-cons, subst, refl}
 use Rattle.std.proofs.lemmas.List.{at_drop_all}
-use Rattle.desk_script.specs.Sites.{desk}
+use Rattle.desk_script.specs.Desk.{desk}
 use Rattle.desk_script.specs.Script.{Fronts}
 use Rattle.desk_script.specs.Pending.{lines_from}
 use Rattle.desk_script.proofs.Turns.{turn_turn, turn_front}

@@ -1,6 +1,6 @@
 use Rattle.std.proofs.Common.{◌≡◌, ℕ, ◌≤◌, List, ◌++◌, drop, length}
 use Rattle.desk_files.specs.Files.{Stays}
-use Rattle.desk_script.specs.Sites.{desk}
+use Rattle.desk_script.specs.Desk.{desk}
 use Rattle.desk_script.specs.Lines.{Line}
 use Rattle.desk_script.specs.Script.{Turn}
 use Rattle.desk_script.specs.Pending.{lines_from}

@@ -1,7 +1,7 @@
 use Rattle.desk_files.proofs.Shelves.{stays_same}
 use Rattle.std.proofs.Common.{◌∙◌}
 use Rattle.std.proofs.lemmas.Result.{on_err_weaker, on_ok_weaker}
-use Rattle.desk_script.specs.Sites.{desk}
+use Rattle.desk_script.specs.Desk.{desk}
 use Rattle.desk_script.specs.Lines.{line_of}
 use Rattle.desk_script.proofs.Turns.{no_front, one_turn, one_front}
 use Rattle.desk_script.proofs.stream.take_line.Goals as goal

@@ -1,0 +1,8 @@
+use Rattle.desk_world.proofs.Kept.{kept_brought, brought}
+use Rattle.desk_world.proofs.world.World.bring.Goals as goal
+
+pub invariant_of-self : goal.invariant_of-self
+invariant_of-self g c = kept_brought c.self.inside.sites.entries c.gain_at.new.sites.entries c.args.site c.args.ops.now c.gain_at.result c.self.invariant c.gain_at.ensures
+
+pub returns : goal.returns
+returns g c = brought c.self.inside.sites.entries c.gain_at.new.sites.entries c.args.site c.args.ops.now c.gain_at.result c.args.self.now c.self.view_is c.gain_at.ensures

@@ -1,0 +1,352 @@
+//! A world of sites, and the events that change it.
+
+ghost use Rattle.std.specs.Prelude.{◌≡◌, All, Err, IfOk, IfSome, MatchOption, None, option_map, map, nat_eq};
+ghost use Rattle.std.specs.FinMap as fin;
+ghost use Rattle.std.specs.List.{list_any};
+ghost use Rattle.std.specs.Map.{lookup};
+ghost use Rattle.desk_ops.specs.Op.{IsLawful};
+ghost use Rattle.desk_ops.specs.OpSet.{has_op};
+ghost use Rattle.desk_replica.specs.State.{State};
+ghost use Rattle.desk_world.specs.Sites.{no_sites, is_held, all_held, sites_of, IsUpdated};
+ghost use Rattle.desk_world.specs.World.{Steps, change, IsSound, Edits, EditsSite, Gains, Brings, taken, IsReopened};
+ghost use Rattle.desk_world.specs.World as world;
+
+use desk_held::AddRefusal;
+use desk_ops::{Key, NoMemory, Op, Symbol};
+use desk_replica::{Count, Replica, Stopped};
+use indexmap::IndexMap;
+use std::alloc::Allocator;
+use std::hash::{BuildHasherDefault, FoldHasher};
+use std::marker::Model;
+use thiserror::Error;
+
+/// A world has no more sites.
+pub const MAX_SITES: usize = 16;
+
+/// What happens in a world.
+#[derive(Clone, Copy)]
+pub enum Event<'a> {
+    /// A site is added. It holds nothing.
+    Site(u16),
+    /// A symbol is inserted at a place of a site's copy.
+    Insert {
+        site: u16,
+        place: usize,
+        symbol: Symbol,
+    },
+    /// The symbol at a place of a site's copy is deleted.
+    Delete {
+        site: u16,
+        place: usize,
+    },
+    /// A setting of the job is set at a site.
+    Set {
+        site: u16,
+        key: Key,
+        value: u32,
+    },
+    /// A site is given operations that some site holds.
+    Give {
+        to: u16,
+        ops: &'a [Op],
+    },
+    /// A site is opened again from the operations that it holds.
+    Restart(u16),
+}
+
+/// A local edit.
+#[derive(Clone, Copy)]
+pub enum LocalEdit {
+    Insert { place: usize, symbol: Symbol },
+    Delete { place: usize },
+    Set { key: Key, value: u32 },
+}
+
+/// What an event has done.
+#[derive(Clone, Copy, Debug, PartialEq, Eq)]
+pub enum Answer {
+    /// The operation was made.
+    Made(Op),
+    /// So many of the operations were new to the site, and so many known.
+    Taken(Count),
+    Done,
+}
+
+/// Why an event was refused: the first cause that holds. Nothing has changed then, but for `Halted`.
+#[derive(Clone, Copy, Debug, PartialEq, Eq, Error)]
+pub enum StepRefusal {
+    #[error("no site has the number 0")]
+    Number,
+    #[error("the site is there already")]
+    KnownSite,
+    #[error("as many sites are there as may be")]
+    TooManySites,
+    #[error("there is no such site")]
+    NoSite,
+    #[error("no site holds an operation that was given")]
+    Strange,
+    #[error("the edit was refused: {0}")]
+    Edit(desk_replica::Refusal),
+    /// The first `taken` operations were taken.
+    #[error("{0}")]
+    Halted(Stopped),
+    #[error("no memory")]
+    NoMemory,
+}
+
+type SiteMap<A> = IndexMap<u16, Replica<A>, BuildHasherDefault<FoldHasher>, A>;
+
+/// Sites by their numbers, each with a replica.
+#[derive(Drop)]
+pub struct World<A: Allocator + Copy> {
+    alloc: A,
+    sites: SiteMap<A>,
+}
+
+impl<A: Allocator + Copy> Model for World<A> {
+    ghost use Rattle.desk_world.specs.Sites.{Sites, sites_code, sites_of, IsKept};
+
+    ghost Value = { Sites };
+
+    ghost coded = { sites_code };
+
+    ghost view = { λ w. sites_of w.sites.entries };
+
+    ghost invariant = { λ w. IsKept w.sites.entries };
+}
+
+/// Gives a replica operations.
+fn gain<A: Allocator + Copy>(replica: &mut Replica<A>, ops: &[Op]) -> Result<Count, StepRefusal>
+    requires { All IsLawful ops.now }
+    ensures site { replica.new.site ≡ replica.old.site }
+    ensures ops { Gains replica.old.ops ops.now result replica.new.ops }
+{
+    match replica.take_all(ops) {
+        Ok(count) => Ok(count),
+        Err(stop) => Err(StepRefusal::Halted(stop)),
+    }
+}
+
+/// Gives a site operations. The others stay.
+fn gain_at<A: Allocator + Copy>(
+    sites: &mut SiteMap<A>,
+    to: u16,
+    ops: &[Op],
+) -> Result<Count, StepRefusal>
+    requires { All IsLawful ops.now }
+    ensures { MatchOption (lookup (nat_eq to) sites.old.entries) ((result ≡ Err StepRefusal.NoSite) × (sites.new.entries ≡ sites.old.entries))
+        (λ s. (t : State) × IsUpdated sites.old.entries sites.new.entries to s t × Gains s.ops ops.now result t.ops) }
+{
+    let Some(replica) = sites.get_mut(&to) else {
+        return Err(StepRefusal::NoSite);
+    };
+    gain(replica, ops)
+}
+
+fn taken(given: Result<Count, StepRefusal>) -> Result<Answer, StepRefusal>
+    ensures { result ≡ taken given }
+{
+    match given {
+        Ok(count) => Ok(Answer::Taken(count)),
+        Err(why) => Err(why),
+    }
+}
+
+/// Edits a replica.
+fn edit<A: Allocator + Copy>(
+    replica: &mut Replica<A>,
+    change: LocalEdit,
+) -> Result<Answer, StepRefusal>
+    ensures site { replica.new.site ≡ replica.old.site }
+    ensures ops { Edits replica.old change result replica.new }
+{
+    let made = match change {
+        LocalEdit::Insert { place, symbol } => replica.insert_at(place, symbol),
+        LocalEdit::Delete { place } => replica.delete_at(place),
+        LocalEdit::Set { key, value } => replica.set(key, value),
+    };
+    match made {
+        Ok(op) => Ok(Answer::Made(op)),
+        Err(why) => Err(StepRefusal::Edit(why)),
+    }
+}
+
+/// Edits a site. The others stay.
+fn edit_at<A: Allocator + Copy>(
+    sites: &mut SiteMap<A>,
+    site: u16,
+    change: LocalEdit,
+) -> Result<Answer, StepRefusal>
+    ensures { MatchOption (lookup (nat_eq site) sites.old.entries) ((result ≡ Err StepRefusal.NoSite) × (sites.new.entries ≡ sites.old.entries))
+        (λ s. (t : State) × IsUpdated sites.old.entries sites.new.entries site s t × Edits s change result t) }
+{
+    let Some(replica) = sites.get_mut(&site) else {
+        return Err(StepRefusal::NoSite);
+    };
+    edit(replica, change)
+}
+
+/// Opens a replica again from the operations that it holds.
+fn reopen<A: Allocator + Copy>(alloc: A, replica: &mut Replica<A>) -> Result<Answer, StepRefusal>
+    ensures site { replica.new.site ≡ replica.old.site }
+    ensures ops { replica.new.ops ≡ replica.old.ops }
+    ensures answer { IsReopened replica.old.ops result }
+{
+    let Ok(ops) = replica.in_order() else {
+        return Err(StepRefusal::Halted(Stopped {
+            taken: 0,
+            why: AddRefusal::NoMemory,
+        }));
+    };
+    match Replica::open(alloc, replica.site(), &ops) {
+        Ok(anew) => {
+            *replica = anew;
+            Ok(Answer::Done)
+        }
+        Err(stop) => Err(StepRefusal::Halted(stop)),
+    }
+}
+
+/// Opens a site again. The others stay.
+fn reopen_at<A: Allocator + Copy>(
+    alloc: A,
+    sites: &mut SiteMap<A>,
+    site: u16,
+) -> Result<Answer, StepRefusal>
+    ensures { MatchOption (lookup (nat_eq site) sites.old.entries) ((result ≡ Err StepRefusal.NoSite) × (sites.new.entries ≡ sites.old.entries))
+        (λ s. (t : State) × IsUpdated sites.old.entries sites.new.entries site s t × (t.ops ≡ s.ops) × IsReopened s.ops result) }
+{
+    let Some(replica) = sites.get_mut(&site) else {
+        return Err(StepRefusal::NoSite);
+    };
+    reopen(alloc, replica)
+}
+
+/// Whether some site holds the operation.
+fn any_holds<A: Allocator + Copy>(sites: &SiteMap<A>, op: &Op) -> bool
+    ensures { result ≡ list_any (λ s. has_op s.ops op.now) (map (λ e. e.1) sites.now.entries) }
+{
+    sites.values().any(|replica| replica.has(op))
+}
+
+impl<A: Allocator + Copy> World<A> {
+    /// A world with no site.
+    pub fn new(alloc: A) -> World<A>
+        ensures { result ≡ no_sites }
+    {
+        World {
+            alloc,
+            sites: IndexMap::new(alloc),
+        }
+    }
+
+    /// A world of one site, with its replica.
+    pub fn with_site(alloc: A, replica: Replica<A>) -> Result<World<A>, NoMemory>
+        ensures { IfOk result (λ w. w ≡ fin.insert no_sites replica.site replica.ops) }
+    {
+        let mut sites = IndexMap::new(alloc);
+        match sites.insert(replica.site(), replica) {
+            Ok(_) => Ok(World { alloc, sites }),
+            Err(_) => Err(NoMemory),
+        }
+    }
+
+    /// The replica of a site, if it is there.
+    pub fn replica(&self, site: u16) -> Option<&Replica<A>>
+        ensures ops { option_map (λ r. r.now.ops) result ≡ fin.get self.now site }
+        ensures number { IfSome result (λ r. r.now.site ≡ site) }
+    {
+        self.sites.get(&site)
+    }
+
+    /// Whether some site holds the operation.
+    fn is_held(&self, op: &Op) -> bool
+        ensures { result ≡ is_held self.now op.now }
+    {
+        any_holds(&self.sites, op)
+    }
+
+    /// Whether some site holds each of the operations.
+    fn all_held(&self, ops: &[Op]) -> bool
+        ensures { result ≡ all_held self.now ops.now }
+    {
+        for op in ops {
+            if !self.is_held(op) {
+                return false;
+            }
+        }
+        true
+    }
+
+    fn add_site(&mut self, site: u16) -> Result<Answer, StepRefusal>
+        ensures { Steps self.old (world.Site site) result self.new }
+    {
+        if site == 0 {
+            return Err(StepRefusal::Number);
+        }
+        if self.sites.contains_key(&site) {
+            return Err(StepRefusal::KnownSite);
+        }
+        if self.sites.len() >= MAX_SITES {
+            return Err(StepRefusal::TooManySites);
+        }
+        match self.sites.insert(site, Replica::new(self.alloc, site)) {
+            Ok(_) => Ok(Answer::Done),
+            Err(_) => Err(StepRefusal::NoMemory),
+        }
+    }
+
+    /// Gives a site operations that may come from outside the world: `NoSite`, or `Halted` after the first `taken`. No
+    /// other site changes.
+    pub fn bring(&mut self, site: u16, ops: &[Op]) -> Result<Count, StepRefusal>
+        requires { All IsLawful ops.now }
+        ensures { Brings self.old site ops.now result self.new }
+    {
+        gain_at(&mut self.sites, site, ops)
+    }
+
+    fn give(&mut self, to: u16, ops: &[Op]) -> Result<Answer, StepRefusal>
+        requires { All IsLawful ops.now }
+        ensures { Steps self.old (world.Give to ops.now) result self.new }
+    {
+        if !self.sites.contains_key(&to) {
+            return Err(StepRefusal::NoSite);
+        }
+        if !self.all_held(ops) {
+            return Err(StepRefusal::Strange);
+        }
+        let given = self.bring(to, ops);
+        taken(given)
+    }
+
+    fn edit(&mut self, site: u16, change: LocalEdit) -> Result<Answer, StepRefusal>
+        ensures { EditsSite self.old site change result self.new }
+    {
+        edit_at(&mut self.sites, site, change)
+    }
+
+    fn restart(&mut self, site: u16) -> Result<Answer, StepRefusal>
+        ensures { Steps self.old (world.Restart site) result self.new }
+    {
+        reopen_at(self.alloc, &mut self.sites, site)
+    }
+
+    /// Lets an event happen. It changes the named site alone, and `Give` asks for lawful operations.
+    pub fn step(&mut self, event: &Event<'_>) -> Result<Answer, StepRefusal>
+        requires { IsSound (change event.now) }
+        ensures { Steps self.old (change event.now) result self.new }
+    {
+        match *event {
+            Event::Site(site) => self.add_site(site),
+            Event::Insert {
+                site,
+                place,
+                symbol,
+            } => self.edit(site, LocalEdit::Insert { place, symbol }),
+            Event::Delete { site, place } => self.edit(site, LocalEdit::Delete { place }),
+            Event::Set { site, key, value } => self.edit(site, LocalEdit::Set { key, value }),
+            Event::Give { to, ops } => self.give(to, ops),
+            Event::Restart(site) => self.restart(site),
+        }
+    }
+}
