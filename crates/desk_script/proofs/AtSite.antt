@@ -7,11 +7,11 @@ use Rattle.desk_wedge.specs.Wedge.{WedgeValues}
 use Rattle.desk_script.specs.Effect.{Jobs, Refuses, set_of}
 use Rattle.desk_files.specs.Files.{Shelf}
 use Rattle.desk_script.specs.Inputs.{BothGive}
-use Rattle.desk_script.specs.Reply.{Refused, Reply}
+use Rattle.desk_answers.specs.Reply.{Refused, Reply}
 use Rattle.desk_world.specs.Sites.{Sites}
 use Rattle.desk_script.specs.Desk.{desk}
-use Rattle.desk_script.specs.declared.text.Refusal.{Refusal}
-use Rattle.desk_script.specs.declared.text.Refusal.TheVariants as refusals
+use Rattle.desk_answers.specs.declared.text.Refusal.{Refusal}
+use Rattle.desk_answers.specs.declared.text.Refusal.TheVariants as refusals
 
 -- the job of a site that is there, by what both files gave
 pub job_told : (Told : OpSet → CaseValues → WedgeValues → Reply → Type 0) (sites : Sites) (first last : Shelf) (n : ℕ) (of_case of_wedge : List ℕ) (set : OpSet)

@@ -4,7 +4,7 @@ use Rattle.std.specs.Prelude.{Option, Some, None, IfSome}
 use Rattle.std.specs.Io.KnownBytes.{Consumes, IsAtEnd}
 use Rattle.std.proofs.lemmas.List.{append-nil}
 use Rattle.desk_script.specs.Lines.{Line, line_of, without_cr, lines}
-use Rattle.desk_script.specs.Text.{output}
+use Rattle.desk_answers.specs.Text.{output}
 use Rattle.desk_files.specs.Files.{Shelf, Stays}
 use Rattle.desk_world.specs.Sites.{Sites}
 use Rattle.desk_script.specs.Desk.{Desk, desk}

@@ -16,7 +16,7 @@ use Rattle.desk_caster.specs.declared.RibbonFault.{RibbonFault}
 use Rattle.desk_caster.specs.declared.RibbonFault.TheVariants as ribbons
 use Rattle.desk_caster.specs.declared.CastFault.{CastFault}
 use Rattle.desk_caster.specs.declared.CastFault.TheVariants as casts
-use Rattle.desk_script.specs.Reply.{Reply}
+use Rattle.desk_answers.specs.Reply.{Reply}
 use Rattle.desk_script.specs.Effect.{TellsCast, TellsLines}
 
 tells : (case : CaseValues) (wedge : WedgeValues) (bytes : List ℕ) (made : Result (List RibbonRow) (List JobFault)) (reply : Reply) → IsMade bytes made → TellsCast case wedge bytes reply → TellsLines case wedge made reply

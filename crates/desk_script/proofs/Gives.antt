@@ -1,7 +1,7 @@
 -- Files that were read.
 use Rattle.std.proofs.Common.{◌≡◌, ℕ, List}
 use Rattle.std.specs.Prelude.{Option, Result, Ok, Err, IfOk}
-use Rattle.desk_script.specs.declared.text.Refusal.{Refusal}
+use Rattle.desk_answers.specs.declared.text.Refusal.{Refusal}
 use Rattle.desk_files.specs.Files.{Reads, Shelf, Stays}
 use Rattle.desk_script.specs.Inputs.{Tells, FileGives}
 

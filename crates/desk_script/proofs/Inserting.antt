@@ -7,7 +7,7 @@ use Rattle.desk_ops.specs.declared.op.Symbol.{Symbol}
 use Rattle.desk_ops.specs.Op.{stamp_of}
 use Rattle.desk_world.specs.declared.world.Answer.{Answer}
 use Rattle.desk_world.specs.declared.world.StepRefusal.{StepRefusal}
-use Rattle.desk_script.specs.Reply.{Reply}
+use Rattle.desk_answers.specs.Reply.{Reply}
 use Rattle.desk_world.specs.Sites.{Sites}
 use Rattle.desk_world.specs.World.{Steps}
 use Rattle.desk_world.specs.World as changes

@@ -3,9 +3,9 @@ use Rattle.std.proofs.Common.{◌≡◌, ℕ, List, subst}
 use Rattle.std.specs.Prelude.{Option, Some, None, option_map, MatchOption}
 use Rattle.desk_ops.specs.declared.op.Op.{Op}
 use Rattle.desk_ops.specs.OpSet.{OpSet, in_order}
-use Rattle.desk_script.specs.declared.text.Refusal.TheVariants as refusals
-use Rattle.desk_script.specs.Request.{Send}
-use Rattle.desk_script.specs.Reply.{Reply, Refused}
+use Rattle.desk_answers.specs.declared.text.Refusal.TheVariants as refusals
+use Rattle.desk_commands.specs.Request.{Send}
+use Rattle.desk_answers.specs.Reply.{Reply, Refused}
 use Rattle.desk_world.specs.Sites.{Sites}
 use Rattle.desk_world.specs.World as changes
 use Rattle.desk_script.specs.Effect.{Does, Happens, Says, set_of, sent}

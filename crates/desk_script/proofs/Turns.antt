@@ -3,8 +3,8 @@ use Rattle.std.proofs.Common.{◌≡◌, ℕ, List, [], ◌∷◌, ◌++◌, Opt
 use Rattle.std.specs.Io.KnownBytes.{Appends}
 use Rattle.std.proofs.KnownBytes.{Appends-trans}
 use Rattle.std.proofs.lemmas.List.{append-nil}
-use Rattle.desk_script.specs.Reply.{Reply}
-use Rattle.desk_script.specs.Text.{text, output}
+use Rattle.desk_answers.specs.Reply.{Reply}
+use Rattle.desk_answers.specs.Text.{text, output}
 use Rattle.desk_files.specs.Files.{Shelf, Stays}
 use Rattle.desk_script.specs.Desk.{Desk}
 use Rattle.desk_script.specs.Lines.{Line}

@@ -27,18 +27,18 @@ use Rattle.desk_caster.specs.Reading.{IsRibbon}
 use Rattle.desk_job.specs.Job.{job}
 use Rattle.desk_job.specs.declared.JobFault.{JobFault}
 use Rattle.desk_script.specs.Inputs.{BothGive}
-use Rattle.desk_script.specs.Reply.{lines_told}
-use Rattle.desk_script.specs.declared.text.Refusal.{Refusal}
-use Rattle.desk_script.specs.declared.text.Refusal.TheVariants as refusals
+use Rattle.desk_answers.specs.Reply.{lines_told}
+use Rattle.desk_answers.specs.declared.text.Refusal.{Refusal}
+use Rattle.desk_answers.specs.declared.text.Refusal.TheVariants as refusals
 use Rattle.desk_world.specs.declared.world.Answer.{Answer}
 use Rattle.desk_world.specs.declared.world.Answer.TheVariants as answers
 use Rattle.desk_world.specs.declared.world.StepRefusal.{StepRefusal}
 use Rattle.desk_world.specs.declared.world.StepRefusal.TheVariants as steps
 use Rattle.desk_script.specs.Lines.{Line, Bytes, Long}
-use Rattle.desk_script.specs.Request.{Request, Site, Insert, Delete, SetTo, Take, Send, Merge, Show, Faults, Settings, Feed, Ribbon, Cast, Restart}
-use Rattle.desk_script.specs.Reply.{Reply, Done, Made, MadeMany, Counted, Copy, Refused, Stopped}
-use Rattle.desk_script.specs.Reply as replies
-use Rattle.desk_script.specs.Grammar.{command_of}
+use Rattle.desk_commands.specs.Request.{Request, Site, Insert, Delete, SetTo, Take, Send, Merge, Show, Faults, Settings, Feed, Ribbon, Cast, Restart}
+use Rattle.desk_answers.specs.Reply.{Reply, Done, Made, MadeMany, Counted, Copy, Refused, Stopped}
+use Rattle.desk_answers.specs.Reply as replies
+use Rattle.desk_commands.specs.Grammar.{command_of}
 use Rattle.desk_world.specs.Sites.{Sites}
 use Rattle.desk_script.specs.Desk.{Desk}
 use Rattle.desk_world.specs.World.{Steps, Brings, taken}

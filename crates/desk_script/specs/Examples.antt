@@ -5,10 +5,10 @@ use Rattle.std.proofs.Math.Utf8.{encode}
 use Rattle.desk_ops.specs.declared.op.Key.TheVariants as keys
 use Rattle.desk_ops.specs.declared.op.Style.TheVariants.{Roman, Italic}
 use Rattle.desk_script.specs.Lines.{Line, Bytes, Long, lines}
-use Rattle.desk_script.specs.Reading.{word_at, number_of, number_at, range_of, range_at, file_at, nibble, hex_at}
-use Rattle.desk_script.specs.Copy.{symbol, step, copy_at}
-use Rattle.desk_script.specs.Request.{Request, Site, Insert, SetTo, Show, Feed, Send, Take, Ribbon}
-use Rattle.desk_script.specs.Grammar.{verb_of, key_of, one_site, insert_form, set_form, take_form, send_form, two_files, words_of, command_of}
+use Rattle.desk_commands.specs.Reading.{word_at, number_of, number_at, range_of, range_at, file_at, nibble, hex_at}
+use Rattle.desk_commands.specs.Copy.{symbol, step, copy_at}
+use Rattle.desk_commands.specs.Request.{Request, Site, Insert, SetTo, Show, Feed, Send, Take, Ribbon}
+use Rattle.desk_commands.specs.Grammar.{verb_of, key_of, one_site, insert_form, set_form, take_form, send_form, two_files, words_of, command_of}
 
 request_of : Line → Option Request
 request_of (Bytes bytes) = command_of bytes

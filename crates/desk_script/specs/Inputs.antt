@@ -8,8 +8,8 @@ use Rattle.desk_wedge.specs.Wedge.{WedgeValues}
 use Rattle.desk_wedge.specs.File.{wedge_of}
 use Rattle.desk_wedge.specs.File as wedges
 use Rattle.desk_wedge.specs.declared.WedgeFault.{WedgeFault}
-use Rattle.desk_script.specs.declared.text.Refusal.{Refusal}
-use Rattle.desk_script.specs.declared.text.Refusal.TheVariants as refusals
+use Rattle.desk_answers.specs.declared.text.Refusal.{Refusal}
+use Rattle.desk_answers.specs.declared.text.Refusal.TheVariants as refusals
 use Rattle.desk_files.specs.declared.files.FileRefusal.{FileRefusal}
 use Rattle.desk_files.specs.declared.files.FileRefusal.TheVariants as files
 use Rattle.desk_files.specs.Files.{Counts, Reads, Shelf, Stays}

@@ -2,8 +2,8 @@
 use Rattle.std.specs.Prelude.{◌≡◌, ℕ, List, [], ◌∷◌, ◌++◌, Option}
 use Rattle.std.specs.Io.KnownBytes.{Appends}
 use Rattle.desk_script.specs.Lines.{Line, lines}
-use Rattle.desk_script.specs.Reply.{Reply}
-use Rattle.desk_script.specs.Text.{output}
+use Rattle.desk_answers.specs.Reply.{Reply}
+use Rattle.desk_answers.specs.Text.{output}
 use Rattle.desk_files.specs.Files.{Shelf, Stays}
 use Rattle.desk_script.specs.Desk.{Desk}
 use Rattle.desk_script.specs.Effect.{Allows}

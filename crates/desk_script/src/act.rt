@@ -2,10 +2,10 @@
 
 ghost use Rattle.std.specs.Prelude.{◌≡◌, ◌+◌, ◌<◌, ◌^◌, length, All, IfOk, IfSome, MatchOption, MatchResult, Result, Some, None, option_map};
 ghost use Rattle.desk_script.specs.Lines.{line_of};
-ghost use Rattle.desk_script.specs.Reply.{reply};
-ghost use Rattle.desk_script.specs.Reply as replies;
-ghost use Rattle.desk_script.specs.Request as requests;
-ghost use Rattle.desk_script.specs.Request.{request};
+ghost use Rattle.desk_answers.specs.Reply.{reply};
+ghost use Rattle.desk_answers.specs.Reply as replies;
+ghost use Rattle.desk_commands.specs.Request as requests;
+ghost use Rattle.desk_commands.specs.Request.{request};
 ghost use Rattle.desk_ops.specs.Op.{stamp_of, IsLawful};
 ghost use Rattle.desk_replica.specs.declared.Count.{Count};
 ghost use Rattle.desk_world.specs.World.{Brings, taken};
@@ -14,12 +14,11 @@ ghost use Rattle.desk_script.specs.Desk.{desk};
 ghost use Rattle.desk_files.specs.Files.{Stays};
 ghost use Rattle.desk_script.specs.Effect.{Allows, Performs, Does, Happens, Says, told, after, first_of, made_of, all_made, all_symbols, Inserts, edit_refused, stopped_after, set_of, sent, Takes};
 
-use crate::command::{Command, ParseError};
+use desk_commands::{Command, ParseError, parse};
 use desk_files::Files;
 use crate::job::{cast_lines, ribbon};
 use crate::memory::Memory;
-use crate::reader::parse;
-use crate::text::{Refusal, Response};
+use desk_answers::{Refusal, Response};
 use desk_world::{Answer, Event, StepRefusal, World};
 use desk_codec::{ReadFault, read_feed};
 use desk_held::AddRefusal;

@@ -8,7 +8,7 @@ ghost use Rattle.desk_script.specs.Inputs.{file_refused, case_refused, wedge_ref
 
 use desk_files::{FileRefusal, Files};
 use crate::memory::Memory;
-use crate::text::Refusal;
+use desk_answers::Refusal;
 use desk_case::{CaseFault, MatrixCase};
 use desk_ops::NoMemory;
 use desk_wedge::{Wedge, WedgeFault};

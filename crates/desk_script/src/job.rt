@@ -6,15 +6,15 @@ ghost use Rattle.desk_caster.specs.Caster.{Line, cast};
 ghost use Rattle.desk_caster.specs.Reading.{IsRibbon};
 ghost use Rattle.desk_files.specs.Files.{Stays};
 ghost use Rattle.desk_script.specs.Effect.{job_of, TellsRibbon, TellsCast, TellsLines, Performs};
-ghost use Rattle.desk_script.specs.Reply.{reply, Refused};
-ghost use Rattle.desk_script.specs.Request as requests;
+ghost use Rattle.desk_answers.specs.Reply.{reply, Refused};
+ghost use Rattle.desk_commands.specs.Request as requests;
 ghost use Rattle.desk_script.specs.Desk.{desk};
 
 use crate::act::replica_of;
 use desk_files::Files;
 use crate::inputs::both;
 use crate::memory::Memory;
-use crate::text::{Refusal, Response};
+use desk_answers::{Refusal, Response};
 use desk_world::World;
 use desk_case::MatrixCase;
 use desk_caster::laws::{ribbons_have_no_fault, ribbons_have_one_reading};

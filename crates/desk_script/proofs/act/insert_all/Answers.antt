@@ -3,7 +3,7 @@ use Rattle.std.specs.Prelude.{Some, option_map}
 use Rattle.desk_ops.specs.declared.op.Stamp.{Stamp}
 use Rattle.desk_ops.specs.declared.op.Style.TheVariants.{Roman}
 use Rattle.desk_script.specs.Effect.{Inserts, after}
-use Rattle.desk_script.specs.Reply.{reply}
+use Rattle.desk_answers.specs.Reply.{reply}
 use Rattle.desk_script.proofs.Inserting.{stops_at, goes_on}
 use Rattle.desk_script.proofs.act.insert_all.Goals as goal
 

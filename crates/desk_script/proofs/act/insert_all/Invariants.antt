@@ -1,6 +1,6 @@
 use Rattle.std.proofs.Common.{◌≡◌, drop}
 use Rattle.std.specs.Prelude.{None}
-use Rattle.desk_script.specs.Reply.{Reply}
+use Rattle.desk_answers.specs.Reply.{Reply}
 use Rattle.desk_world.specs.Sites.{Sites}
 use Rattle.desk_script.specs.Effect.{Inserts}
 use Rattle.desk_script.proofs.act.insert_all.Given as goal

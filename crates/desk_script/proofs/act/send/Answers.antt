@@ -1,6 +1,6 @@
 use Rattle.std.proofs.Common.{◌∙◌}
 use Rattle.std.proofs.lemmas.Result.{IfOk-weaker}
-use Rattle.desk_script.specs.Reply.{reply}
+use Rattle.desk_answers.specs.Reply.{reply}
 use Rattle.desk_script.proofs.Sending.{sends}
 use Rattle.desk_script.proofs.act.send.Goals as goal
 

@@ -1,6 +1,6 @@
 use Rattle.std.proofs.lemmas.Result.{IfOk-weaker}
 use Rattle.desk_script.specs.Effect.{TellsLines, job_of}
-use Rattle.desk_script.specs.Reply.{reply}
+use Rattle.desk_answers.specs.Reply.{reply}
 use Rattle.desk_script.proofs.AtSite.{job_told}
 use Rattle.desk_script.proofs.job.cast_lines.Goals as goal
 

@@ -1,7 +1,7 @@
 use Rattle.desk_ops.specs.Settings.{setting_of}
 use Rattle.desk_ops.specs.Shown.{copy_of}
 use Rattle.desk_script.specs.Effect.{job_of}
-use Rattle.desk_script.specs.Reply.{reply}
+use Rattle.desk_answers.specs.Reply.{reply}
 use Rattle.desk_script.proofs.Casts.{castable, of_job}
 use Rattle.desk_script.proofs.job.lines_of.Goals as goal
 

@@ -1,0 +1,7 @@
+use Rattle.std.proofs.Common.{◌≡◌, ◌++◌, string_bytes, drop}
+use Rattle.desk_answers.specs.Reply.{lines_told}
+use Rattle.desk_answers.specs.Text.{lines_text}
+use Rattle.desk_answers.proofs.text.put_lines.Given as goal
+
+abbrev pub invariant-loop-line : goal.invariant-loop-line
+invariant-loop-line g l = string_bytes l.out ++ lines_text (lines_told (drop l.line-index l.lines)) ≡ string_bytes l.fn.out ++ lines_text (lines_told l.lines)

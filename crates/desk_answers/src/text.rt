@@ -1,0 +1,402 @@
+//! Answers, and what they say.
+
+ghost use Rattle.std.specs.Prelude.{◌≡◌, ◌<◌, ◌++◌, ◌∷◌, [], true, length, List, OnOk, codes, string_bytes};
+ghost use Rattle.std.specs.Fmt.{decimal, signed_decimal};
+ghost use Rattle.desk_answers.specs.Reply.{reply, lines_told};
+ghost use Rattle.desk_answers.specs.Reply as replies;
+ghost use Rattle.desk_answers.specs.Text.{stamp_text, hex_digit, hex_text, refusal_text, cause_number, fault_text, kind_text, separator, entries_text, faults_text, value_text, settings_text, key_text, job_fault_text, job_faults_text, lines_text, text};
+
+use desk_caster::CastLine;
+use desk_codec::{FeedFault, FeedWhy};
+use desk_commands::put_copy;
+use desk_job::{JobFault, JobFaults};
+use desk_ops::{CopyFault, FaultKind, Key, Stamp, Symbol, Unlawful};
+use desk_replica::Settings;
+use std::alloc::{AllocError, Allocator};
+
+/// Why a line changed nothing, or why it stopped.
+#[derive(Clone, Copy, Debug, PartialEq, Eq)]
+pub enum Refusal {
+    /// The line is longer than 65,536 bytes.
+    Line,
+    /// The line is of no command's form.
+    Command,
+    /// No site may have the number.
+    Number,
+    /// The site is there already.
+    Known,
+    /// 16 sites are there.
+    Sites,
+    /// A named site is not there.
+    Site,
+    /// A place is out of range.
+    Place,
+    /// A symbol or a value is not lawful.
+    Value,
+    /// Bytes are no feed.
+    Feed(FeedFault),
+    /// A file is not there.
+    FileMissing,
+    /// The files' device failed.
+    FileDevice,
+    /// A file has more bytes than may be.
+    FileLarge,
+    /// A case file's bytes are no case, by the number of the fault.
+    Case(u8),
+    /// A wedge file's bytes are no wedge, by the number of the fault.
+    Wedge(u8),
+    /// As many operations are held as may be.
+    Full,
+    /// The greatest counter is held.
+    Clock,
+}
+
+/// The number of a cause.
+fn cause_number(cause: Unlawful) -> u8
+    ensures { result ≡ cause_number cause }
+{
+    match cause {
+        Unlawful::Counter => 1,
+        Unlawful::Site => 2,
+        Unlawful::Target => 3,
+        Unlawful::Symbol => 4,
+        Unlawful::Key => 5,
+        Unlawful::Value => 6,
+    }
+}
+
+fn put_fault<A: Allocator + Copy>(out: &mut String<A>, why: FeedWhy) -> Result<(), AllocError>
+    ensures { OnOk result (string_bytes out.new ≡ string_bytes out.old ++ fault_text why) }
+{
+    match why {
+        FeedWhy::Magic => out.push_str("magic"),
+        FeedWhy::Kind => out.push_str("kind"),
+        FeedWhy::Unlawful(cause) => write!(out, "unlawful {}", cause_number(cause)),
+        FeedWhy::Cut => out.push_str("cut"),
+    }
+}
+
+/// Writes a refusal at the end.
+fn put_refusal<A: Allocator + Copy>(out: &mut String<A>, why: Refusal) -> Result<(), AllocError>
+    ensures { OnOk result (string_bytes out.new ≡ string_bytes out.old ++ refusal_text why) }
+{
+    match why {
+        Refusal::Line => out.push_str("line"),
+        Refusal::Command => out.push_str("command"),
+        Refusal::Number => out.push_str("number"),
+        Refusal::Known => out.push_str("known"),
+        Refusal::Sites => out.push_str("sites"),
+        Refusal::Site => out.push_str("site"),
+        Refusal::Place => out.push_str("place"),
+        Refusal::Value => out.push_str("value"),
+        Refusal::Feed(fault) => {
+            write!(out, "feed {} ", fault.at)?;
+            put_fault(out, fault.why)
+        }
+        Refusal::FileMissing => out.push_str("file missing"),
+        Refusal::FileDevice => out.push_str("file device"),
+        Refusal::FileLarge => out.push_str("file large"),
+        Refusal::Case(fault) => write!(out, "case {fault}"),
+        Refusal::Wedge(fault) => write!(out, "wedge {fault}"),
+        Refusal::Full => out.push_str("full"),
+        Refusal::Clock => out.push_str("clock"),
+    }
+}
+
+/// What one line is answered.
+#[derive(Drop)]
+pub enum Response<A: Allocator + Copy> {
+    Done,
+    /// An operation was made, with this stamp.
+    Made(Stamp),
+    /// Operations were made, with stamps from the first to the last.
+    MadeMany(Stamp, Stamp),
+    /// Operations were taken.
+    Counted { new: usize, known: usize },
+    Copy(Vec<Symbol, A>),
+    Feed(Vec<u8, A>),
+    Faults(Vec<CopyFault, A>),
+    Settings(Settings),
+    Ribbon(Vec<u8, A>),
+    NoRibbon(JobFaults<A>),
+    Lines(Vec<CastLine<A>, A>),
+    Refused(Refusal),
+    /// So many operations were taken before the refusal.
+    Stopped(usize, Refusal),
+}
+
+/// A number below 16 as a hexadecimal digit in lower case.
+fn hex_digit(n: u8) -> &'static str
+    requires { n < 16 }
+    ensures { result.now ≡ hex_digit n ∷ [] }
+{
+    match n {
+        0 => "0",
+        1 => "1",
+        2 => "2",
+        3 => "3",
+        4 => "4",
+        5 => "5",
+        6 => "6",
+        7 => "7",
+        8 => "8",
+        9 => "9",
+        10 => "a",
+        11 => "b",
+        12 => "c",
+        13 => "d",
+        14 => "e",
+        15 => "f",
+        _ => {
+            prove!(false);
+            ""
+        }
+    }
+}
+
+/// Writes bytes in hexadecimal at the end.
+fn put_hex<A: Allocator + Copy>(out: &mut String<A>, bytes: &[u8]) -> Result<(), AllocError>
+    ensures { OnOk result (string_bytes out.new ≡ string_bytes out.old ++ hex_text bytes.now) }
+{
+    for b in bytes {
+        out.push_str(hex_digit(*b / 16))?;
+        out.push_str(hex_digit(*b % 16))?;
+    }
+    Ok(())
+}
+
+fn put_stamp<A: Allocator + Copy>(out: &mut String<A>, stamp: Stamp) -> Result<(), AllocError>
+    ensures { OnOk result (string_bytes out.new ≡ string_bytes out.old ++ stamp_text stamp) }
+{
+    write!(out, "{}.{}", stamp.counter, stamp.site)
+}
+
+fn kind_of(kind: FaultKind) -> &'static str
+    ensures { result.now ≡ kind_text kind }
+{
+    match kind {
+        FaultKind::Forked => "forked",
+        FaultKind::Void => "void",
+        FaultKind::Waiting => "waiting",
+    }
+}
+
+/// Writes the faults of a copy at the end, or that there are none.
+fn put_faults<A: Allocator + Copy>(
+    out: &mut String<A>,
+    faults: &[CopyFault],
+) -> Result<(), AllocError>
+    ensures { OnOk result (string_bytes out.new ≡ string_bytes out.old ++ faults_text faults.now) }
+{
+    if faults.is_empty() {
+        return out.push_str("faults none");
+    }
+    out.push_str("faults")?;
+    put_entries(out, faults)
+}
+
+/// What stands before the first of a list, and before each other.
+fn separator(is_first: bool) -> &'static str
+    ensures { result.now ≡ separator is_first }
+{
+    if is_first { " " } else { ", " }
+}
+
+/// Writes each fault behind a space, or a comma and a space.
+fn put_entries<A: Allocator + Copy>(
+    out: &mut String<A>,
+    faults: &[CopyFault],
+) -> Result<(), AllocError>
+    ensures { OnOk result (string_bytes out.new ≡ string_bytes out.old ++ entries_text true faults.now) }
+{
+    let mut is_first = true;
+    for fault in faults {
+        out.push_str(separator(is_first))?;
+        out.push_str(kind_of(fault.kind))?;
+        out.push_str(" ")?;
+        put_stamp(out, fault.stamp)?;
+        is_first = false;
+    }
+    Ok(())
+}
+
+/// Writes a setting's value at the end, or that it has none.
+fn put_value<A: Allocator + Copy>(out: &mut String<A>, value: Option<u32>) -> Result<(), AllocError>
+    ensures { OnOk result (string_bytes out.new ≡ string_bytes out.old ++ value_text value) }
+{
+    match value {
+        None => out.push_str("-"),
+        Some(value) => write!(out, "{value}"),
+    }
+}
+
+/// Writes the settings of the job at the end.
+fn put_settings<A: Allocator + Copy>(
+    out: &mut String<A>,
+    settings: &Settings,
+) -> Result<(), AllocError>
+    ensures { OnOk result (string_bytes out.new ≡ string_bytes out.old ++ settings_text settings.now) }
+{
+    out.push_str("measure=")?;
+    put_value(out, settings.measure)?;
+    out.push_str(" tight=")?;
+    put_value(out, settings.tight)?;
+    out.push_str(" loose=")?;
+    put_value(out, settings.loose)?;
+    out.push_str(" case=")?;
+    put_value(out, settings.case)?;
+    out.push_str(" wedge=")?;
+    put_value(out, settings.wedge)
+}
+
+fn word_of(key: Key) -> &'static str
+    ensures { result.now ≡ key_text key }
+{
+    match key {
+        Key::Measure => "measure",
+        Key::Tight => "tight",
+        Key::Loose => "loose",
+        Key::Case => "case",
+        Key::Wedge => "wedge",
+    }
+}
+
+fn put_job_fault<A: Allocator + Copy>(
+    out: &mut String<A>,
+    fault: JobFault,
+) -> Result<(), AllocError>
+    ensures { OnOk result (string_bytes out.new ≡ string_bytes out.old ++ job_fault_text fault) }
+{
+    match fault {
+        JobFault::MissingSetting(key) => {
+            out.push_str("missing ")?;
+            out.push_str(word_of(key))
+        }
+        JobFault::OtherCase => out.push_str("other case"),
+        JobFault::OtherWedge => out.push_str("other wedge"),
+        JobFault::Crossed => out.push_str("crossed"),
+        JobFault::FillOrder => out.push_str("fill order"),
+        JobFault::SpaceVanishes => out.push_str("space vanishes"),
+        JobFault::NoMatrix(place) => write!(out, "no matrix {place}"),
+        JobFault::TooWide(line) => write!(out, "too wide {line}"),
+        JobFault::TooLoose(line) => write!(out, "too loose {line}"),
+        JobFault::CannotFill(line) => write!(out, "cannot fill {line}"),
+    }
+}
+
+/// Writes each fault of a job behind a space, or a comma and a space.
+fn put_job_faults<A: Allocator + Copy>(
+    out: &mut String<A>,
+    faults: &[JobFault],
+) -> Result<(), AllocError>
+    ensures { OnOk result (string_bytes out.new ≡ string_bytes out.old ++ job_faults_text true faults.now) }
+{
+    let mut is_first = true;
+    for fault in faults {
+        out.push_str(separator(is_first))?;
+        put_job_fault(out, *fault)?;
+        is_first = false;
+    }
+    Ok(())
+}
+
+fn put_line<A: Allocator + Copy>(out: &mut String<A>, line: &CastLine<A>) -> Result<(), AllocError>
+    ensures { OnOk result (string_bytes out.new ≡ string_bytes out.old ++ codes " " ++ decimal (length line.now.matrices) ++ codes "/" ++ signed_decimal line.now.total) }
+{
+    write!(out, " {}/{}", line.matrices().len(), line.total().get())
+}
+
+/// Writes each line that was cast behind a space.
+fn put_lines<A: Allocator + Copy>(
+    out: &mut String<A>,
+    lines: &[CastLine<A>],
+) -> Result<(), AllocError>
+    ensures { OnOk result (string_bytes out.new ≡ string_bytes out.old ++ lines_text (lines_told lines.now)) }
+{
+    for line in lines {
+        put_line(out, line)?;
+    }
+    Ok(())
+}
+
+/// Writes the stamp of an operation that was made.
+fn put_made<A: Allocator + Copy>(out: &mut String<A>, stamp: Stamp) -> Result<(), AllocError>
+    ensures { OnOk result (string_bytes out.new ≡ string_bytes out.old ++ text (replies.Made stamp)) }
+{
+    out.push_str("ok ")?;
+    put_stamp(out, stamp)
+}
+
+/// Writes the first stamp and the last of operations that were made.
+fn put_made_many<A: Allocator + Copy>(
+    out: &mut String<A>,
+    first: Stamp,
+    last: Stamp,
+) -> Result<(), AllocError>
+    ensures { OnOk result (string_bytes out.new ≡ string_bytes out.old ++ text (replies.MadeMany first last)) }
+{
+    out.push_str("ok ")?;
+    put_stamp(out, first)?;
+    out.push_str("..")?;
+    put_stamp(out, last)
+}
+
+/// Writes a copy, behind a space where there is one.
+fn put_shown<A: Allocator + Copy>(out: &mut String<A>, copy: &[Symbol]) -> Result<(), AllocError>
+    ensures { OnOk result (string_bytes out.new ≡ string_bytes out.old ++ text (replies.Copy copy.now)) }
+{
+    out.push_str("copy")?;
+    if !copy.is_empty() {
+        out.push(' ')?;
+        put_copy(out, copy)?;
+    }
+    Ok(())
+}
+
+/// Writes bytes behind a word.
+fn put_bytes<A: Allocator + Copy>(
+    out: &mut String<A>,
+    word: &str,
+    bytes: &[u8],
+) -> Result<(), AllocError>
+    ensures { OnOk result (string_bytes out.new ≡ string_bytes out.old ++ word.now ++ hex_text bytes.now) }
+{
+    out.push_str(word)?;
+    put_hex(out, bytes)
+}
+
+/// Writes an answer at the end, without its end of line.
+pub fn put<A: Allocator + Copy>(out: &mut String<A>, answer: &Response<A>) -> Result<(), AllocError>
+    ensures { OnOk result (string_bytes out.new ≡ string_bytes out.old ++ text (reply answer.now)) }
+{
+    match answer {
+        Response::Done => out.push_str("ok"),
+        Response::Made(stamp) => put_made(out, *stamp),
+        Response::MadeMany(first, last) => put_made_many(out, *first, *last),
+        Response::Counted { new, known } => write!(out, "ok new {new} known {known}"),
+        Response::Copy(copy) => put_shown(out, copy),
+        Response::Feed(feed) => put_bytes(out, "feed ", feed),
+        Response::Faults(faults) => put_faults(out, faults),
+        Response::Settings(settings) => {
+            out.push_str("settings ")?;
+            put_settings(out, settings)
+        }
+        Response::Ribbon(ribbon) => put_bytes(out, "ribbon ", ribbon),
+        Response::NoRibbon(faults) => {
+            out.push_str("no ribbon:")?;
+            put_job_faults(out, faults.as_slice())
+        }
+        Response::Lines(lines) => {
+            write!(out, "lines {}", lines.len())?;
+            put_lines(out, lines)
+        }
+        Response::Refused(why) => {
+            out.push_str("refused ")?;
+            put_refusal(out, *why)
+        }
+        Response::Stopped(taken, why) => {
+            write!(out, "stopped {taken} ")?;
+            put_refusal(out, *why)
+        }
+    }
+}

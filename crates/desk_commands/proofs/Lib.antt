@@ -1,0 +1,5 @@
+pub mod Loops
+pub mod Texts
+pub mod Again
+pub mod Spelling
+pub mod Longest

@@ -1,0 +1,7 @@
+pub mod Reading
+pub mod Copy
+pub mod Request
+pub mod Grammar
+pub mod Writing
+pub mod Spelling
+pub mod Laws

@@ -1,9 +1,0 @@
-use Rattle.std.proofs.Common.{◌≡◌, length, drop}
-use Rattle.std.specs.Str.{chars}
-use Rattle.desk_script.specs.declared.copy.Place.TheVariants.{Run}
-use Rattle.desk_script.specs.Copy.{copy_from}
-use Rattle.desk_script.proofs.Loops.{with_front}
-use Rattle.desk_script.proofs.copy.copy_of.Given as goal
-
-abbrev pub invariant-loop-c : goal.invariant-loop-c
-invariant-loop-c g l = with_front l.symbols.items (copy_from l.place (drop (length l.yielded) (chars l.text))) ≡ copy_from Run (chars l.text)

@@ -1,9 +1,0 @@
-use Rattle.std.proofs.Common.{◌++◌, string_bytes, refl}
-use Rattle.desk_script.specs.Text.{copy_text}
-use Rattle.desk_script.proofs.Texts.{copy_put}
-use Rattle.desk_script.proofs.text.put_copy.Goals as goal
-
-pub loop-symbol-preserved : goal.loop-symbol-preserved
-loop-symbol-preserved g c =
-    copy_put (string_bytes c.loop-symbol.out) (string_bytes c.put_turn.new.out) (string_bytes c.put_quoted.new.out) (string_bytes c.args.out.now ++ copy_text c.args.copy.now)
-    c.loop-symbol.run c.args.copy.now c.loop-symbol.symbol-index _ _ c.loop-symbol-test.true refl c.in_ok-put_turn.ensures c.in_ok-put_quoted.ensures c.loop-symbol.invariant

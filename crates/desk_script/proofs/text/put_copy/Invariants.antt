@@ -1,7 +1,0 @@
-use Rattle.std.proofs.Common.{◌≡◌, ◌++◌, string_bytes, drop}
-use Rattle.std.specs.Str.{encode_utf8_all}
-use Rattle.desk_script.specs.Text.{copy_chars_from, copy_text}
-use Rattle.desk_script.proofs.text.put_copy.Given as goal
-
-abbrev pub invariant-loop-symbol : goal.invariant-loop-symbol
-invariant-loop-symbol g l = string_bytes l.out ++ encode_utf8_all (copy_chars_from l.run (drop l.symbol-index l.copy)) ≡ string_bytes l.fn.out ++ copy_text l.copy

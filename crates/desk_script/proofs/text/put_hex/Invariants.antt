@@ -1,6 +1,0 @@
-use Rattle.std.proofs.Common.{◌≡◌, ◌++◌, string_bytes, drop}
-use Rattle.desk_script.specs.Text.{hex_text}
-use Rattle.desk_script.proofs.text.put_hex.Given as goal
-
-abbrev pub invariant-loop-b : goal.invariant-loop-b
-invariant-loop-b g l = string_bytes l.out ++ hex_text (drop l.b-index l.bytes) ≡ string_bytes l.fn.out ++ hex_text l.bytes

@@ -1,6 +1,0 @@
-use Rattle.std.proofs.Common.{◌≡◌, ◌++◌, string_bytes, drop, true}
-use Rattle.desk_script.specs.Text.{job_faults_text}
-use Rattle.desk_script.proofs.text.put_job_faults.Given as goal
-
-abbrev pub invariant-loop-fault : goal.invariant-loop-fault
-invariant-loop-fault g l = string_bytes l.out ++ job_faults_text l.is_first (drop l.fault-index l.faults) ≡ string_bytes l.fn.out ++ job_faults_text true l.faults

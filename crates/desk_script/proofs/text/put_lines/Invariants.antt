@@ -1,7 +1,0 @@
-use Rattle.std.proofs.Common.{◌≡◌, ◌++◌, string_bytes, drop}
-use Rattle.desk_script.specs.Reply.{lines_told}
-use Rattle.desk_script.specs.Text.{lines_text}
-use Rattle.desk_script.proofs.text.put_lines.Given as goal
-
-abbrev pub invariant-loop-line : goal.invariant-loop-line
-invariant-loop-line g l = string_bytes l.out ++ lines_text (lines_told (drop l.line-index l.lines)) ≡ string_bytes l.fn.out ++ lines_text (lines_told l.lines)
