@@ -14,16 +14,16 @@ ghost use Rattle.desk_script.specs.Desk.{desk};
 ghost use Rattle.desk_files.specs.Files.{Stays};
 ghost use Rattle.desk_script.specs.Effect.{Allows, Performs, Does, Happens, Says, told, after, first_of, made_of, all_made, all_symbols, Inserts, edit_refused, stopped_after, set_of, sent, Takes};
 
-use desk_commands::{Command, ParseError, parse};
-use desk_files::Files;
 use crate::job::{cast_lines, ribbon};
 use crate::memory::Memory;
 use desk_answers::{Refusal, Response};
-use desk_world::{Answer, Event, StepRefusal, World};
 use desk_codec::{ReadFault, read_feed};
+use desk_commands::{Command, ParseError, parse};
+use desk_files::Files;
 use desk_held::AddRefusal;
 use desk_ops::{Key, NoMemory, Op, Stamp, Symbol};
 use desk_replica::{Replica, Stopped};
+use desk_world::{Answer, Event, StepRefusal, World};
 use std::alloc::Allocator;
 
 /// A longer line is no command.

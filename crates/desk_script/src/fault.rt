@@ -1,7 +1,7 @@
 //! Why a run of a script stopped.
 
-use desk_files::FileRefusal;
 use desk_codec::FeedFault;
+use desk_files::FileRefusal;
 use desk_replica::Stopped;
 use thiserror::Error;
 

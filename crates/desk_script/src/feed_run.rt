@@ -10,15 +10,14 @@ ghost use Rattle.desk_script.specs.Desk.{desk};
 ghost use Rattle.desk_script.specs.Stored.{AnswersStored, IsHalted, IsNotStored, IsStart, IsStored, Stores, one_site};
 
 use crate::fault::RunFault;
-use desk_files::{FileRefusal, Files};
 use crate::memory::Memory;
-use desk_files::store;
 use crate::stream::answer_all;
-use desk_world::World;
 use desk_codec::{ReadFault, read_feed};
+use desk_files::{FileRefusal, Files, store};
 use desk_held::AddRefusal;
 use desk_ops::Op;
 use desk_replica::Replica;
+use desk_world::World;
 use std::alloc::{Allocator, Global};
 use std::io::{Read, Write};
 

@@ -1,6 +1,6 @@
-use desk_files::trial::{AtEnd, TrialFiles, TrialReader, TrialWriter};
 use crate::{RunFault, run_on_feed};
 use desk_codec::{FeedFault, FeedWhy};
+use desk_files::trial::{AtEnd, TrialFiles, TrialReader, TrialWriter};
 use desk_files::{FileRefusal, Files, NoFiles};
 use desk_held::AddRefusal;
 use desk_replica::Stopped;

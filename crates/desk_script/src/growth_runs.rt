@@ -2,9 +2,9 @@
 //! global allocator alone, which no test can refuse, so that its growths are not among these.
 
 use crate::jobs::trial_files;
-use desk_files::trial::{TrialFiles, TrialReader};
 use crate::worked::script;
 use crate::{RunFault, run, run_on_feed};
+use desk_files::trial::{TrialFiles, TrialReader};
 use linked_list_allocator::LocalHeap;
 use std::alloc::{Allocator, Global};
 use std::test::Fail;

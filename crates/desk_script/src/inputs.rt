@@ -6,10 +6,10 @@ ghost use Rattle.desk_wedge.specs.File.{wedge_of};
 ghost use Rattle.desk_files.specs.Files.{Stays};
 ghost use Rattle.desk_script.specs.Inputs.{file_refused, case_refused, wedge_refused, Tells, FileGives, with_case, ThenWedge, BothGive};
 
-use desk_files::{FileRefusal, Files};
 use crate::memory::Memory;
 use desk_answers::Refusal;
 use desk_case::{CaseFault, MatrixCase};
+use desk_files::{FileRefusal, Files};
 use desk_ops::NoMemory;
 use desk_wedge::{Wedge, WedgeFault};
 use std::alloc::{Allocator, Global};

@@ -11,19 +11,19 @@ ghost use Rattle.desk_commands.specs.Request as requests;
 ghost use Rattle.desk_script.specs.Desk.{desk};
 
 use crate::act::replica_of;
-use desk_files::Files;
 use crate::inputs::both;
 use crate::memory::Memory;
 use desk_answers::{Refusal, Response};
-use desk_world::World;
 use desk_case::MatrixCase;
 use desk_caster::laws::{ribbons_have_no_fault, ribbons_have_one_reading};
 use desk_caster::{CastFault, CastLine, RibbonFault, cast, read_ribbon};
+use desk_files::Files;
 use desk_job::{JobRefusal, make};
 use desk_ops::NoMemory;
 use desk_replica::Replica;
 use desk_signals::RibbonRow;
 use desk_wedge::Wedge;
+use desk_world::World;
 use std::alloc::Allocator;
 
 /// The ribbon of a replica's copy, or the faults of its job.

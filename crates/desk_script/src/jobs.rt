@@ -1,8 +1,8 @@
 //! Scripts of jobs: ribbons, and what they cast.
 
-use desk_files::trial::{TrialFiles, TrialReader};
 use crate::worked::script;
 use crate::{RunFault, run};
+use desk_files::trial::{TrialFiles, TrialReader};
 use desk_files::{FileRefusal, Files, MAX_FILE};
 use std::alloc::{AllocError, Allocator, Global};
 use std::test::Fail;

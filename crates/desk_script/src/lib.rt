@@ -10,7 +10,9 @@ mod memory;
 mod stream;
 
 pub use desk_answers::{Refusal, Response, put};
-pub use desk_commands::{Command, ParseError, law_of_copy, law_of_longest_runs, law_of_spelling, parse};
+pub use desk_commands::{
+    Command, ParseError, law_of_copy, law_of_longest_runs, law_of_spelling, parse,
+};
 pub use desk_files::{FileRefusal, Files, MAX_FILE, NoFiles, store, trial};
 pub use desk_world::{Answer, Event, MAX_SITES, StepRefusal, World};
 pub use fault::RunFault;

@@ -15,11 +15,11 @@ ghost use Rattle.desk_script.specs.Pending.{Moves, lines_from, last_line};
 
 use crate::act::answer;
 use crate::fault::RunFault;
-use desk_files::Files;
 use crate::memory::Memory;
 use desk_answers::{Response, put};
-use desk_world::World;
+use desk_files::Files;
 use desk_ops::NoMemory;
+use desk_world::World;
 use std::alloc::{Allocator, Global};
 use std::io::{Read, Write};
 

@@ -1,6 +1,6 @@
-use desk_files::trial::{AtEnd, TrialReader, TrialWriter};
 use crate::{RunFault, run};
 use desk_files::NoFiles;
+use desk_files::trial::{AtEnd, TrialReader, TrialWriter};
 use linked_list_allocator::LocalHeap;
 use std::alloc::{Allocator, Global};
 use std::test::Fail;
