@@ -1,0 +1,143 @@
+//! The elements of a copy in their order, those that were deleted among them, and the scan that puts a new one in.
+#![tactic(auto)]
+
+ghost use Rattle.std.specs.Prelude.{◌≡◌, ℕ, ◌+◌, ◌≤◌, ◌<◌, List, [], length, take, drop, IfSome, IfOk, IsNone, OnOk, IsOk, slice_index_or};
+ghost use Rattle.std.specs.List.{insert};
+ghost use Rattle.desk_seq.specs.Entries.{stamps_of, IsAbsent, AreDistinct, IsFoundAt, IsFirstBelow, with_mark, shown_in, IsShownAt};
+ghost use Rattle.desk_seq.specs.declared.Entry.{Entry};
+
+use desk_ops::{Stamp, Symbol};
+use std::alloc::{AllocError, Allocator};
+
+mod flat;
+mod scan;
+
+pub use flat::Flat;
+pub use scan::integrate;
+
+/// An element of the copy. One that is deleted keeps its place, since others hang on it.
+#[derive(Clone, Copy, Debug, PartialEq, Eq)]
+pub struct Entry {
+    pub stamp: Stamp,
+    pub symbol: Symbol,
+    pub deleted: bool,
+}
+
+/// A list of entries with distinct stamps, and how many more it takes with no new memory. No call but `reserve` and
+/// `from_entries` takes memory, and these answer `AllocError` only where a growth was refused.
+pub trait Sequence: Drop {
+    type Memory: Allocator + Copy;
+
+    /// The entries in their order.
+    ghost entries: { Self → List Entry };
+
+    /// How many more can be put with no new memory.
+    ghost free: { Self → ℕ };
+
+    fn empty(alloc: Self::Memory) -> Self
+        ensures { entries result ≡ [] };
+
+    fn len(&self) -> usize
+        ensures length { result ≡ length (entries self.now) }
+        ensures distinct { AreDistinct (entries self.now) };
+
+    /// The i-th entry.
+    fn entry(&self, i: usize) -> Entry
+        requires { i < length (entries self.now) }
+        ensures { result ≡ slice_index_or (entries self.now) i result };
+
+    /// The entries from place i on that stand side by side in memory: one at least.
+    fn stretch(&self, i: usize) -> &[Entry]
+        requires { i < length (entries self.now) }
+        ensures is { result.now ≡ take (length result.now) (drop i (entries self.now)) }
+        ensures some { 0 < length result.now };
+
+    /// Where the entry with the stamp stands.
+    fn find(&self, stamp: Stamp) -> Option<usize>
+        ensures found { IfSome result (λ i. IsFoundAt (stamps_of (entries self.now)) stamp i) }
+        ensures none { IsNone result → IsAbsent stamp (entries self.now) };
+
+    /// How many more can be put with no new memory.
+    fn spare(&self) -> usize
+        ensures { result ≡ free self.now };
+
+    /// Makes room for at least `n` more. Where a growth was refused the entries stay, and spare may have grown.
+    fn reserve(&mut self, n: usize) -> Result<(), AllocError>
+        ensures same { entries self.new ≡ entries self.old }
+        ensures grows { free self.old ≤ free self.new }
+        ensures enough { OnOk result (n ≤ free self.new) }
+        ensures succeeds { n ≤ free self.old → IsOk result };
+
+    /// Puts an entry at place i, before the one that stood there.
+    fn put(&mut self, i: usize, entry: Entry)
+        requires within { i ≤ length (entries self.old) }
+        requires spare { 1 ≤ free self.old }
+        requires absent { IsAbsent entry.stamp (entries self.old) }
+        ensures put { entries self.new ≡ insert (entries self.old) i entry }
+        ensures spare { free self.old ≤ free self.new + 1 };
+
+    /// Marks the i-th entry as deleted.
+    fn mark(&mut self, i: usize)
+        requires { i < length (entries self.old) }
+        ensures marked { entries self.new ≡ with_mark (entries self.old) i }
+        ensures spare { free self.new ≡ free self.old };
+
+    /// The first place from there on whose stamp is smaller, or the end.
+    fn first_below(&self, from: usize, stamp: Stamp) -> usize
+        requires { from ≤ length (entries self.now) }
+        ensures { IsFirstBelow (stamps_of (entries self.now)) from stamp result }
+    {
+        let mut at = from;
+        while at < self.len() && !self.entry(at).stamp.is_before(stamp) {
+            at += 1;
+        }
+        at
+    }
+
+    /// The place of the i-th entry that is shown.
+    fn shown_place(&self, i: usize) -> Option<usize>
+        ensures found { IfSome result (λ place. IsShownAt (entries self.now) i place) }
+        ensures none { IsNone result → shown_in (entries self.now) ≤ i }
+    {
+        let mut shown = 0;
+        for at in 0..self.len() {
+            if !self.entry(at).deleted {
+                if shown == i {
+                    return Some(at);
+                }
+                shown += 1;
+            }
+        }
+        None
+    }
+
+    /// How many entries are shown.
+    fn shown_len(&self) -> usize
+        ensures { result ≡ shown_in (entries self.now) }
+    {
+        let mut count = 0;
+        for at in 0..self.len() {
+            if self.entry(at).deleted {
+                continue;
+            }
+            count += 1;
+        }
+        count
+    }
+
+    /// A sequence of these entries.
+    fn from_entries(alloc: Self::Memory, list: &[Entry]) -> Result<Self, AllocError>
+        requires { AreDistinct list.now }
+        ensures { IfOk result (λ made. entries made ≡ list.now) }
+    {
+        let mut made = Self::empty(alloc);
+        made.reserve(list.len())?;
+        for i in 0..list.len() {
+            made.put(i, list[i]);
+        }
+        Ok(made)
+    }
+}
+
+#[cfg(test)]
+mod tests;
