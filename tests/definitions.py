@@ -1,0 +1,94 @@
+#!/usr/bin/env python3
+"""Reads docs/DEFINITIONS.md and docs/DESIGN.md and fails where a name or a file that they give is not in the sources.
+
+In a table of DEFINITIONS the column `name` has words of the crates that the heading above it names (of desk_ops, where it
+names none), the column `file` the files of their specs/ without the ending, and `law` functions of their sources, or of
+another crate whose name stands before them. In DESIGN each file is a path below crates/, or a name of a file in the
+folder that stands before it, and each crate of crates.txt but those of tests has a row.
+"""
+import os
+import re
+import sys
+
+ROOT = os.path.dirname(os.path.dirname(os.path.abspath(__file__)))
+CRATES = os.path.join(ROOT, "crates")
+SEEN = {}
+
+
+def text_of(*names):
+    with open(os.path.join(ROOT, *names), encoding="utf-8") as file:
+        return file.read()
+
+
+def sources(crate, folder, ending):
+    """The texts of a crate's files in one of its folders, by their names without the ending."""
+    key = (crate, folder)
+    if key not in SEEN:
+        SEEN[key] = {}
+        for base, _, names in os.walk(os.path.join(CRATES, crate, folder)):
+            for name in names:
+                if name.endswith(ending):
+                    SEEN[key][name[:-len(ending)]] = text_of(base, name)
+    return SEEN[key]
+
+
+def has(texts, name):
+    return any(re.search(r"(?<![\w.])%s\b" % re.escape(name), text) for text in texts)
+
+
+def row_faults(crates, row):
+    """What a row names and is not there."""
+    specs = {name: text for crate in crates for name, text in sources(crate, "specs", ".antt").items()}
+    code = [text for crate in crates for text in sources(crate, "src", ".rt").values()]
+    for name in re.findall(r"`([^`]+)`", row["name"]):
+        if not has(list(specs.values()) + code, name):
+            yield "no word %s in %s" % (name, " and ".join(crates))
+    for name in re.findall(r"[A-Z]\w+", row["file"]):
+        if name not in specs:
+            yield "no file specs/%s.antt in %s" % (name, " or ".join(crates))
+    for other, name in re.findall(r"(?:(desk_\w+) )?`(\w+)`", row["law"].partition(", clause")[0]):
+        texts = sources(other, "src", ".rt").values() if other else code
+        if not has(texts, "fn " + name):
+            yield "no law %s in %s" % (name, other or " and ".join(crates))
+
+
+def definitions(text):
+    crates, columns = ["desk_ops"], None
+    for number, line in enumerate(text.split("\n"), 1):
+        if line.startswith("#"):
+            crates = re.findall(r"\b(?:desk_\w+|copydesk)\b", line) or ["desk_ops"]
+        if not line.startswith("|"):
+            columns = None
+            continue
+        cells = [cell.strip() for cell in line.strip().strip("|").split("|")]
+        if columns is None:
+            columns = cells
+        elif not set("".join(cells)) <= set("-: "):
+            row = dict(zip(columns, cells))
+            for fault in row_faults(crates, dict({"name": "", "file": "", "law": ""}, **row)):
+                yield "docs/DEFINITIONS.md:%d: %s" % (number, fault)
+
+
+def design(text):
+    folder = ""
+    for path in re.findall(r"`([\w/]+(?:/specs|\.antt|\.rt))`", text):
+        if "/" in path:
+            folder = path if path.endswith("specs") else os.path.dirname(path)
+        place = path if "/" in path else os.path.join(folder, path)
+        if not os.path.exists(os.path.join(CRATES, place)):
+            yield "docs/DESIGN.md: no file crates/%s" % place
+    for crate in re.findall(r"^(\w+)(?: staticlib)?:", text_of("crates.txt"), re.M):
+        if not crate.endswith("_tests") and not re.search(r"^\| %s \|" % crate, text, re.M):
+            yield "docs/DESIGN.md: no row of %s" % crate
+
+
+def main():
+    faults = list(definitions(text_of("docs", "DEFINITIONS.md"))) + list(design(text_of("docs", "DESIGN.md")))
+    for fault in faults:
+        print(fault, file=sys.stderr)
+    print("docs/DEFINITIONS.md, docs/DESIGN.md: %d faults" % len(faults))
+    return 1 if faults else 0
+
+
+if __name__ == "__main__":
+    sys.exit(main())
