@@ -1,12 +1,12 @@
-//! Events of a world where memory is wanting: each growth refused in turn.
+//! Calls of a world where memory runs out: each growth refused in turn.
 
 ghost use Rattle.std.specs.Prelude.{All, IfOk};
 ghost use Rattle.desk_ops.specs.Op.{IsLawful};
 
-use crate::world::LocalEdit;
+use crate::tests::{at, roman, typed};
 use crate::{Answer, Event, StepRefusal, World};
 use desk_held::AddRefusal;
-use desk_ops::{Key, NoMemory, Op, Stamp, Style, Symbol};
+use desk_ops::{Key, NoMemory, Op, Stamp};
 use desk_replica::{Count, Refusal, Stopped};
 use linked_list_allocator::LocalHeap;
 use std::alloc::{Allocator, Global};
@@ -15,64 +15,15 @@ use std::test::Fail;
 /// The bytes of a heap.
 const HEAP: usize = 16384;
 
-/// What an event did in a small heap: whether a growth was refused, how many operations were taken then, and whether all
-/// was as it should be, then and once the event came again with memory.
-#[derive(Clone, Copy)]
-struct Seen {
-    refused: bool,
-    taken: usize,
-    right: bool,
-}
-
-/// How often no growth was refused and how often one was, and how often some operations were taken then.
-#[derive(Clone, Copy)]
-struct Tally {
-    done: u32,
-    refused: u32,
-    stopped: u32,
-}
-
-const NONE_YET: Tally = Tally {
-    done: 0,
-    refused: 0,
-    stopped: 0,
-};
-
-/// Takes most of what the heap has left; the greater the cut the less.
-fn ballast(heap: &LocalHeap, cut: usize) -> Option<Vec<u8, &LocalHeap>> {
-    Vec::with_capacity(heap, HEAP.saturating_sub(cut.saturating_mul(64))).ok()
-}
-
-/// Counts what was seen, where it was right.
-fn counted(tally: Tally, seen: Seen) -> Result<Tally, Fail> {
-    if !seen.right {
-        return Err(Fail::new("another state, or another answer"));
-    }
-    let stopped = seen.refused && seen.taken > 0;
-    Ok(Tally {
-        done: tally.done.saturating_add(u32::from(!seen.refused)),
-        refused: tally.refused.saturating_add(u32::from(seen.refused)),
-        stopped: tally.stopped.saturating_add(u32::from(stopped)),
-    })
-}
-
-fn at(counter: u64, site: u16) -> Stamp {
-    Stamp { counter, site }
-}
-
-fn roman(ch: char) -> Symbol {
-    Symbol {
-        style: Style::Roman,
-        ch,
-    }
-}
-
-fn typed(stamp: Stamp, parent: Stamp, ch: char) -> Op {
-    Op::Insert {
-        stamp,
-        parent,
-        symbol: roman(ch),
-    }
+/// A call of which a growth is refused.
+#[derive(Clone, Copy, PartialEq, Eq)]
+enum Call {
+    Insert,
+    Delete,
+    Set,
+    Restart,
+    Give,
+    Bring,
 }
 
 fn measure(stamp: Stamp, value: u32) -> Op {
@@ -83,7 +34,7 @@ fn measure(stamp: Stamp, value: u32) -> Op {
     }
 }
 
-/// What site 1 of `two_sites` holds.
+/// What site 1 holds before the call.
 fn row() -> [Op; 4] {
     [
         typed(at(1, 1), Stamp::HEAD, 'a'),
@@ -91,162 +42,6 @@ fn row() -> [Op; 4] {
         measure(at(3, 1), 120),
         measure(at(4, 1), 144),
     ]
-}
-
-/// Site 1 with `ab` and two sets, so that the next operation grows its row, and site 2, which holds nothing.
-fn two_sites<A: Allocator + Copy>(alloc: A) -> Result<World<A>, StepRefusal> {
-    let mut world = World::new(alloc);
-    world.step(&Event::Site(1))?;
-    world.step(&Event::Site(2))?;
-    edited(&mut world, insertion(0, 'a'))?;
-    edited(&mut world, insertion(1, 'b'))?;
-    edited(&mut world, setting(120))?;
-    edited(&mut world, setting(144))?;
-    Ok(world)
-}
-
-fn insertion(place: usize, ch: char) -> LocalEdit {
-    LocalEdit::Insert {
-        place,
-        symbol: roman(ch),
-    }
-}
-
-fn setting(value: u32) -> LocalEdit {
-    LocalEdit::Set {
-        key: Key::Measure,
-        value,
-    }
-}
-
-/// Edits site 1.
-fn edited<A: Allocator + Copy>(
-    world: &mut World<A>,
-    edit: LocalEdit,
-) -> Result<Answer, StepRefusal> {
-    match edit {
-        LocalEdit::Insert { place, symbol } => world.step(&Event::Insert {
-            site: 1,
-            place,
-            symbol,
-        }),
-        LocalEdit::Delete { place } => world.step(&Event::Delete { site: 1, place }),
-        LocalEdit::Set { key, value } => world.step(&Event::Set {
-            site: 1,
-            key,
-            value,
-        }),
-    }
-}
-
-/// Whether a site is there and holds exactly these operations, in their order.
-fn holds<A: Allocator + Copy>(world: &World<A>, site: u16, ops: &[Op]) -> Result<bool, NoMemory> {
-    let Some(replica) = world.replica(site) else {
-        return Ok(false);
-    };
-    let held = replica.in_order()?;
-    Ok(held.as_slice() == ops)
-}
-
-/// Whether the operations are the row of site 1, and perhaps one more.
-fn has_row<A: Allocator + Copy>(world: &World<A>, more: Option<Op>) -> Result<bool, NoMemory> {
-    let [a, b, narrow, wide] = row();
-    match more {
-        None => holds(world, 1, &row()),
-        Some(op) => holds(world, 1, &[a, b, narrow, wide, op]),
-    }
-}
-
-fn refused_edit(alloc: Global, cut: usize, edit: LocalEdit, made: Op) -> Result<Seen, Fail> {
-    let heap = LocalHeap::new(alloc, HEAP)?;
-    let mut world = two_sites(&heap)?;
-    let ballast = ballast(&heap, cut);
-    let first = edited(&mut world, edit);
-    drop(ballast);
-    let refused = first == Err(StepRefusal::Edit(Refusal::NoMemory));
-    let kept = !refused || has_row(&world, None)?;
-    let answer = if refused {
-        edited(&mut world, edit)
-    } else {
-        first
-    };
-    let right = kept
-        && answer == Ok(Answer::Made(made))
-        && has_row(&world, Some(made))?
-        && holds(&world, 2, &[])?;
-    Ok(Seen {
-        refused,
-        taken: 0,
-        right,
-    })
-}
-
-fn refused_restart(alloc: Global, cut: usize) -> Result<Seen, Fail> {
-    let heap = LocalHeap::new(alloc, HEAP)?;
-    let mut world = two_sites(&heap)?;
-    let ballast = ballast(&heap, cut);
-    let first = world.step(&Event::Restart(1));
-    drop(ballast);
-    let halted = StepRefusal::Halted(Stopped {
-        taken: 0,
-        why: AddRefusal::NoMemory,
-    });
-    let refused = first == Err(halted);
-    let kept = (refused || first == Ok(Answer::Done)) && has_row(&world, None)?;
-    let again = world.step(&Event::Restart(1)) == Ok(Answer::Done);
-    let right = kept && again && has_row(&world, None)? && holds(&world, 2, &[])?;
-    Ok(Seen {
-        refused,
-        taken: 0,
-        right,
-    })
-}
-
-/// Adds the sites of these numbers, up to one for which memory is wanting: that one's number, or the end.
-fn add_sites<A: Allocator + Copy>(
-    world: &mut World<A>,
-    from: u16,
-    to: u16,
-) -> Result<u16, StepRefusal> {
-    for site in from..to {
-        match world.step(&Event::Site(site)) {
-            Ok(_) => {}
-            Err(StepRefusal::NoMemory) => return Ok(site),
-            Err(other) => return Err(other),
-        }
-    }
-    Ok(to)
-}
-
-/// Whether exactly the sites below the number are there, the first with its row, and the others with nothing.
-fn are_sites<A: Allocator + Copy>(world: &World<A>, end: u16) -> Result<bool, NoMemory> {
-    for site in 2..11u16 {
-        let right = if site < end {
-            holds(world, site, &[])?
-        } else {
-            world.replica(site).is_none()
-        };
-        if !right {
-            return Ok(false);
-        }
-    }
-    has_row(world, None)
-}
-
-fn refused_site(alloc: Global, cut: usize) -> Result<Seen, Fail> {
-    let heap = LocalHeap::new(alloc, HEAP)?;
-    let mut world = two_sites(&heap)?;
-    let ballast = ballast(&heap, cut.saturating_mul(4));
-    let stop = add_sites(&mut world, 3, 11)?;
-    drop(ballast);
-    let kept = are_sites(&world, stop)?;
-    let end = add_sites(&mut world, stop, 11)?;
-    let right = kept && end == 11 && are_sites(&world, 11)?;
-    Ok(Seen {
-        refused: stop < 11,
-        taken: 0,
-        right,
-    })
 }
 
 /// 1.1 `a` after the head, 2.2 `c` after 1.1, 3.2 `e` after 2.2, 2.1 `b` after 1.1, 4.3 `z` after the head.
@@ -273,26 +68,93 @@ fn lawful_of(alloc: Global, all: &[Op]) -> Result<Vec<Op>, Fail>
     Ok(ops)
 }
 
-/// Whether a site holds exactly the first of these operations, so many.
-fn gained<A: Allocator + Copy>(world: &World<A>, site: u16, ops: &[Op], taken: usize) -> bool {
-    let Some(replica) = world.replica(site) else {
-        return false;
-    };
-    if replica.len() != taken {
-        return false;
-    }
-    for (place, op) in ops.iter().enumerate() {
-        if replica.has(op) != (place < taken) {
-            return false;
-        }
-    }
-    true
+/// Site 1 with its row, which the next operation grows, site 2, which holds nothing, and site 3 with the arrivals.
+fn three_sites<A: Allocator + Copy>(
+    alloc: A,
+    row: &[Op],
+    arrivals: &[Op],
+) -> Result<World<A>, StepRefusal>
+    requires row { All IsLawful row.now }
+    requires arrivals { All IsLawful arrivals.now }
+{
+    let mut world = World::new(alloc);
+    world.step(&Event::Site(1))?;
+    world.step(&Event::Site(2))?;
+    world.step(&Event::Site(3))?;
+    world.bring(1, row)?;
+    world.bring(3, arrivals)?;
+    Ok(world)
 }
 
-/// How many operations were taken before memory was wanting, or none where it was not and all were.
-fn stopped_at(given: Result<Answer, StepRefusal>) -> Result<Option<usize>, Fail> {
-    match given {
-        Ok(Answer::Taken(Count { new: 5, known: 0 })) => Ok(None),
+fn called<A: Allocator + Copy>(
+    world: &mut World<A>,
+    call: Call,
+    ops: &[Op],
+) -> Result<Answer, StepRefusal>
+    requires { All IsLawful ops.now }
+{
+    let (site, place) = (1, 0);
+    let symbol = roman('x');
+    let key = Key::Measure;
+    match call {
+        Call::Insert => world.step(&Event::Insert {
+            site,
+            place,
+            symbol,
+        }),
+        Call::Delete => world.step(&Event::Delete { site, place }),
+        Call::Set => world.step(&Event::Set {
+            site,
+            key,
+            value: 100,
+        }),
+        Call::Restart => world.step(&Event::Restart(site)),
+        Call::Give => world.step(&Event::Give { to: 2, ops }),
+        Call::Bring => match world.bring(2, ops) {
+            Ok(count) => Ok(Answer::Taken(count)),
+            Err(why) => Err(why),
+        },
+    }
+}
+
+/// The operation that a call makes at site 1.
+fn made_by(call: Call) -> Option<Op> {
+    let stamp = at(5, 1);
+    match call {
+        Call::Insert => Some(typed(stamp, Stamp::HEAD, 'x')),
+        Call::Delete => Some(Op::Delete {
+            stamp,
+            target: at(1, 1),
+        }),
+        Call::Set => Some(measure(stamp, 100)),
+        _ => None,
+    }
+}
+
+/// How many operations a call gives site 2.
+fn given_by(call: Call) -> usize {
+    match call {
+        Call::Give | Call::Bring => 5,
+        _ => 0,
+    }
+}
+
+/// What a call returns, where so many of the operations that it gives are known.
+fn answer_of(call: Call, known: usize) -> Answer {
+    if given_by(call) == 5 {
+        let new = 5usize.saturating_sub(known);
+        return Answer::Taken(Count { new, known });
+    }
+    match made_by(call) {
+        Some(op) => Answer::Made(op),
+        None => Answer::Done,
+    }
+}
+
+/// After how many operations memory ran out, where it did.
+fn stop_of(answer: Result<Answer, StepRefusal>) -> Option<usize> {
+    match answer {
+        Err(StepRefusal::NoMemory | StepRefusal::Edit(Refusal::NoMemory)) => Some(0),
         Err(
             StepRefusal::Halted(
                 Stopped {
@@ -300,163 +162,183 @@ fn stopped_at(given: Result<Answer, StepRefusal>) -> Result<Option<usize>, Fail>
                     why: AddRefusal::NoMemory,
                 },
             ),
-        ) => Ok(Some(taken)),
-        _ => Err(Fail::new("another answer")),
+        ) => Some(taken),
+        _ => None,
     }
 }
 
-/// What is answered where so many of five operations are known.
-fn taken_after(known: usize) -> Result<Answer, StepRefusal> {
-    Ok(Answer::Taken(Count {
-        new: 5usize.saturating_sub(known),
-        known,
-    }))
-}
-
-fn answer_of(given: Result<Count, StepRefusal>) -> Result<Answer, StepRefusal> {
-    match given {
-        Ok(count) => Ok(Answer::Taken(count)),
-        Err(why) => Err(why),
+/// Whether a site holds exactly the first of these operations, so many.
+fn holds<A: Allocator + Copy>(world: &World<A>, site: u16, ops: &[Op], first: usize) -> bool {
+    let Some(replica) = world.replica(site) else {
+        return false;
+    };
+    if replica.len() != first {
+        return false;
     }
+    for (place, op) in ops.iter().enumerate() {
+        if replica.has(op) != (place < first) {
+            return false;
+        }
+    }
+    true
 }
 
-/// Gives site 2 what site 1 holds, in the order of arrival.
-fn stopped_gift(alloc: Global, ops: &[Op], cut: usize) -> Result<Seen, Fail>
-    requires { All IsLawful ops.now }
+/// Whether site 1 has its row and what was made, and site 2 the first arrivals, so many.
+fn is_so<A: Allocator + Copy>(
+    world: &World<A>,
+    made: Option<Op>,
+    arrivals: &[Op],
+    first: usize,
+) -> bool {
+    let [a, b, narrow, wide] = row();
+    let first_site = match made {
+        None => holds(world, 1, &row(), 4),
+        Some(op) => holds(world, 1, &[a, b, narrow, wide, op], 5),
+    };
+    first_site && holds(world, 2, arrivals, first) && holds(world, 3, arrivals, 5)
+}
+
+/// A call in a small heap of which much is taken; the greater the cut the less. Where memory ran out the sites are as
+/// before, but for the operations that were taken, and the same call succeeds with memory.
+fn refused(
+    alloc: Global,
+    call: Call,
+    row: &[Op],
+    arrivals: &[Op],
+    cut: usize,
+) -> Result<Option<usize>, Fail>
+    requires row { All IsLawful row.now }
+    requires arrivals { All IsLawful arrivals.now }
 {
     let heap = LocalHeap::new(alloc, HEAP)?;
-    let mut world = World::new(&heap);
-    world.step(&Event::Site(1))?;
-    world.step(&Event::Site(2))?;
-    world.bring(1, ops)?;
-    let ballast = ballast(&heap, cut);
-    let stop = stopped_at(world.step(&Event::Give { to: 2, ops }))?;
+    let mut world = three_sites(&heap, row, arrivals)?;
+    let size = HEAP.saturating_sub(cut.saturating_mul(64));
+    let ballast = Vec::<u8, &LocalHeap>::with_capacity(&heap, size).ok();
+    let first = called(&mut world, call, arrivals);
     drop(ballast);
-    let taken = stop.unwrap_or(5);
-    let kept = gained(&world, 2, ops, taken) && gained(&world, 1, ops, 5);
-    let again = world.step(&Event::Give { to: 2, ops }) == taken_after(taken);
-    let right = kept && again && gained(&world, 2, ops, 5) && gained(&world, 1, ops, 5);
-    Ok(Seen {
-        refused: stop.is_some(),
-        taken,
-        right,
-    })
-}
-
-/// Brings site 2 operations that no site holds.
-fn stopped_bring(alloc: Global, ops: &[Op], cut: usize) -> Result<Seen, Fail>
-    requires { All IsLawful ops.now }
-{
-    let heap = LocalHeap::new(alloc, HEAP)?;
-    let mut world = two_sites(&heap)?;
-    let ballast = ballast(&heap, cut);
-    let stop = stopped_at(answer_of(world.bring(2, ops)))?;
-    drop(ballast);
-    let taken = stop.unwrap_or(5);
-    let kept = gained(&world, 2, ops, taken) && has_row(&world, None)?;
-    let again = answer_of(world.bring(2, ops)) == taken_after(taken);
-    let right = kept && again && gained(&world, 2, ops, 5) && has_row(&world, None)?;
-    Ok(Seen {
-        refused: stop.is_some(),
-        taken,
-        right,
-    })
-}
-
-/// A site is refused by name of memory itself, and is then not there.
-#[test]
-fn growths_of_site(rt: HostRuntime) -> Result<(), Fail> {
-    let mut tally = NONE_YET;
-    for cut in 0..64usize {
-        tally = counted(tally, refused_site(rt.alloc(), cut)?)?;
+    let stop = stop_of(first);
+    let taken = stop.unwrap_or(0);
+    let mut last = first;
+    if stop.is_some() {
+        if !is_so(&world, None, arrivals, taken) {
+            return Err(Fail::new("another state after a refusal"));
+        }
+        last = called(&mut world, call, arrivals);
     }
-    assert!(rt; tally.done > 0);
-    assert!(rt; tally.refused > 3);
-    Ok(())
+    if last != Ok(answer_of(call, taken)) {
+        return Err(Fail::new("another answer"));
+    }
+    if !is_so(&world, made_by(call), arrivals, given_by(call)) {
+        return Err(Fail::new("another state"));
+    }
+    Ok(stop)
 }
 
-/// A refused insert changes nothing, and with memory it is made as it would have been.
+/// Refuses each growth of a call in turn. A call that gives operations is stopped after some, too.
+fn growths(alloc: Global, call: Call) -> Result<(), Fail> {
+    let row = lawful_of(alloc, &row())?;
+    let arrivals = lawful_of(alloc, &arrivals())?;
+    let (mut done, mut stopped, mut partly) = (0u32, 0u32, 0u32);
+    for cut in 0..256usize {
+        match refused(alloc, call, &row, &arrivals, cut)? {
+            None => done = done.saturating_add(1),
+            Some(taken) => {
+                stopped = stopped.saturating_add(1);
+                partly = partly.saturating_add(u32::from(taken > 0));
+            }
+        }
+    }
+    if done > 0 && stopped > 2 && (partly > 0) == (given_by(call) > 0) {
+        Ok(())
+    } else {
+        Err(Fail::new("no growth was refused, or each"))
+    }
+}
+
 #[test]
 fn growths_of_insert(rt: HostRuntime) -> Result<(), Fail> {
-    let made = typed(at(5, 1), at(1, 1), 'x');
-    let mut tally = NONE_YET;
-    for cut in 0..256usize {
-        tally = counted(
-            tally,
-            refused_edit(rt.alloc(), cut, insertion(1, 'x'), made)?,
-        )?;
-    }
-    assert!(rt; tally.done > 0);
-    assert!(rt; tally.refused > 3);
-    Ok(())
+    growths(rt.alloc(), Call::Insert)
 }
 
-/// A refused delete changes nothing, and with memory it is made as it would have been.
 #[test]
 fn growths_of_delete(rt: HostRuntime) -> Result<(), Fail> {
-    let made = Op::Delete {
-        stamp: at(5, 1),
-        target: at(1, 1),
-    };
-    let edit = LocalEdit::Delete { place: 0 };
-    let mut tally = NONE_YET;
-    for cut in 0..256usize {
-        tally = counted(tally, refused_edit(rt.alloc(), cut, edit, made)?)?;
-    }
-    assert!(rt; tally.done > 0);
-    assert!(rt; tally.refused > 3);
-    Ok(())
+    growths(rt.alloc(), Call::Delete)
 }
 
-/// A refused set changes nothing, and with memory it is made as it would have been.
 #[test]
 fn growths_of_set(rt: HostRuntime) -> Result<(), Fail> {
-    let made = measure(at(5, 1), 100);
-    let mut tally = NONE_YET;
-    for cut in 0..256usize {
-        tally = counted(tally, refused_edit(rt.alloc(), cut, setting(100), made)?)?;
-    }
-    assert!(rt; tally.done > 0);
-    assert!(rt; tally.refused > 3);
-    Ok(())
+    growths(rt.alloc(), Call::Set)
 }
 
-/// A gift stops at the refused growth with exactly the first taken, and with memory goes on from there.
 #[test]
 fn growths_of_give(rt: HostRuntime) -> Result<(), Fail> {
-    let ops = lawful_of(rt.alloc(), &arrivals())?;
-    let mut tally = NONE_YET;
-    for cut in 0..256usize {
-        tally = counted(tally, stopped_gift(rt.alloc(), &ops, cut)?)?;
-    }
-    assert!(rt; tally.done > 0);
-    assert!(rt; tally.refused > 3);
-    assert!(rt; tally.stopped > 0);
-    Ok(())
+    growths(rt.alloc(), Call::Give)
 }
 
-/// What is brought from outside stops as a gift does.
 #[test]
 fn growths_of_bring(rt: HostRuntime) -> Result<(), Fail> {
-    let ops = lawful_of(rt.alloc(), &arrivals())?;
-    let mut tally = NONE_YET;
-    for cut in 0..256usize {
-        tally = counted(tally, stopped_bring(rt.alloc(), &ops, cut)?)?;
-    }
-    assert!(rt; tally.done > 0);
-    assert!(rt; tally.refused > 3);
-    assert!(rt; tally.stopped > 0);
-    Ok(())
+    growths(rt.alloc(), Call::Bring)
 }
 
-/// A refused restart has taken nothing and changes nothing, and with memory the site is opened anew.
+/// A restart that opened nothing would want no memory.
 #[test]
-fn growths_of_restart(rt: HostRuntime) -> Result<(), Fail> {
-    let mut tally = NONE_YET;
-    for cut in 0..256usize {
-        tally = counted(tally, refused_restart(rt.alloc(), cut)?)?;
+fn restart_opens_nothing(rt: HostRuntime) -> Result<(), Fail> {
+    growths(rt.alloc(), Call::Restart)
+}
+
+/// Adds the sites of these numbers, up to one for which memory ran out: that one's number, or the end.
+fn add_sites<A: Allocator + Copy>(
+    world: &mut World<A>,
+    from: u16,
+    to: u16,
+) -> Result<u16, StepRefusal> {
+    for site in from..to {
+        match world.step(&Event::Site(site)) {
+            Ok(_) => {}
+            Err(StepRefusal::NoMemory) => return Ok(site),
+            Err(other) => return Err(other),
+        }
     }
-    assert!(rt; tally.done > 0);
-    assert!(rt; tally.refused > 3);
+    Ok(to)
+}
+
+/// Whether exactly the sites from 1 to below the number are there.
+fn are_sites<A: Allocator + Copy>(world: &World<A>, end: u16) -> bool {
+    for site in 1..11u16 {
+        if world.replica(site).is_some() != (site < end) {
+            return false;
+        }
+    }
+    true
+}
+
+/// Sites are added in a small heap; whether memory ran out.
+fn refused_site(alloc: Global, cut: usize) -> Result<bool, Fail> {
+    let heap = LocalHeap::new(alloc, HEAP)?;
+    let mut world = World::new(&heap);
+    let size = HEAP.saturating_sub(cut.saturating_mul(256));
+    let ballast = Vec::<u8, &LocalHeap>::with_capacity(&heap, size).ok();
+    let stop = add_sites(&mut world, 1, 11)?;
+    drop(ballast);
+    if are_sites(&world, stop) && add_sites(&mut world, stop, 11)? == 11 && are_sites(&world, 11) {
+        Ok(stop < 11)
+    } else {
+        Err(Fail::new("another state"))
+    }
+}
+
+/// A site for which memory ran out is not there, and with memory it is added.
+#[test]
+fn growths_of_site(rt: HostRuntime) -> Result<(), Fail> {
+    let (mut done, mut stopped) = (false, 0u32);
+    for cut in 0..64usize {
+        if refused_site(rt.alloc(), cut)? {
+            stopped = stopped.saturating_add(1);
+        } else {
+            done = true;
+        }
+    }
+    assert!(rt; done);
+    assert!(rt; stopped > 3);
     Ok(())
 }

@@ -6,6 +6,6 @@ mod world;
 pub use world::{Answer, Event, MAX_SITES, StepRefusal, World};
 
 #[cfg(test)]
-mod growth_tests;
+mod growths;
 #[cfg(test)]
-mod worlds;
+mod tests;

@@ -1,62 +1,58 @@
 //! Events of a world, step by step.
 
 use crate::{Answer, Event, StepRefusal, World};
-use desk_held::AddRefusal;
 use desk_ops::{NoMemory, Op, Stamp, Style, Symbol};
-use desk_replica::{Count, Settings, Stopped};
-use linked_list_allocator::LocalHeap;
+use desk_replica::{Count, Settings};
 use std::alloc::Allocator;
 use std::test::Fail;
 
-fn roman(ch: char) -> Symbol {
+pub fn at(counter: u64, site: u16) -> Stamp {
+    Stamp { counter, site }
+}
+
+pub fn roman(ch: char) -> Symbol {
     Symbol {
         style: Style::Roman,
         ch,
     }
 }
 
-/// 9.9 `k` after the head.
-fn stranger() -> Op {
+pub fn typed(stamp: Stamp, parent: Stamp, ch: char) -> Op {
     Op::Insert {
-        stamp: Stamp {
-            counter: 9,
-            site: 9,
-        },
-        parent: Stamp::HEAD,
-        symbol: roman('k'),
+        stamp,
+        parent,
+        symbol: roman(ch),
     }
 }
 
-/// Gives a site an operation, where it is lawful.
-fn give<A: Allocator + Copy>(
+/// A site is added or opened again, or the stranger, 9.9 `k` after the head, is given or brought to it.
+#[derive(Clone, Copy)]
+enum Turn {
+    Site(u16),
+    Restart(u16),
+    Give(u16),
+    Bring(u16),
+}
+
+/// What a turn returns, where the operation is lawful.
+fn turned<A: Allocator + Copy>(
     world: &mut World<A>,
-    to: u16,
+    turn: Turn,
     op: Op,
 ) -> Option<Result<Answer, StepRefusal>> {
     if op.check().is_err() {
         return None;
     }
-    Some(world.step(&Event::Give { to, ops: &[op] }))
-}
-
-/// Brings a site an operation, where it is lawful.
-fn bring<A: Allocator + Copy>(
-    world: &mut World<A>,
-    site: u16,
-    op: Op,
-) -> Option<Result<Count, StepRefusal>> {
-    if op.check().is_err() {
-        return None;
-    }
-    Some(world.bring(site, &[op]))
-}
-
-/// How many operations a site holds.
-fn held<A: Allocator + Copy>(world: &World<A>, site: u16) -> Option<usize> {
-    match world.replica(site) {
-        None => None,
-        Some(replica) => Some(replica.len()),
-    }
+    let ops = &[op];
+    Some(match turn {
+        Turn::Site(site) => world.step(&Event::Site(site)),
+        Turn::Restart(site) => world.step(&Event::Restart(site)),
+        Turn::Give(to) => world.step(&Event::Give { to, ops }),
+        Turn::Bring(site) => match world.bring(site, ops) {
+            Ok(count) => Ok(Answer::Taken(count)),
+            Err(why) => Err(why),
+        },
+    })
 }
 
 /// The feed of 9.9 `k` after the head.
@@ -85,78 +81,41 @@ fn answers_of_k<A: Allocator + Copy>(world: &World<A>, site: u16) -> Result<bool
     )
 }
 
+/// How many operations a site holds.
+fn held<A: Allocator + Copy>(world: &World<A>, site: u16) -> usize {
+    match world.replica(site) {
+        None => 0,
+        Some(replica) => replica.len(),
+    }
+}
+
+const NEW: Answer = Answer::Taken(Count { new: 1, known: 0 });
+
+const KNOWN: Answer = Answer::Taken(Count { new: 0, known: 1 });
+
+/// Turns, what each returns, and how many operations sites 1 and 2 hold afterwards.
+const TURNS: &[(Turn, Result<Answer, StepRefusal>, usize, usize)] = &[
+    (Turn::Site(1), Ok(Answer::Done), 0, 0),
+    (Turn::Site(2), Ok(Answer::Done), 0, 0),
+    (Turn::Give(1), Err(StepRefusal::Strange), 0, 0),
+    (Turn::Give(3), Err(StepRefusal::NoSite), 0, 0),
+    (Turn::Bring(3), Err(StepRefusal::NoSite), 0, 0),
+    (Turn::Bring(1), Ok(NEW), 1, 0),
+    (Turn::Bring(1), Ok(KNOWN), 1, 0),
+    (Turn::Restart(1), Ok(Answer::Done), 1, 0),
+    (Turn::Restart(3), Err(StepRefusal::NoSite), 1, 0),
+    (Turn::Give(2), Ok(NEW), 1, 1),
+];
+
 #[test]
 fn strange_and_bring(rt: HostRuntime) -> Result<(), Fail> {
     let mut world = World::new(rt.alloc());
-    assert_eq!(rt; world.step(&Event::Site(1)), Ok(Answer::Done));
-    assert_eq!(rt; world.step(&Event::Site(2)), Ok(Answer::Done));
-    assert_eq!(rt;
-        give(&mut world, 1, stranger()),
-        Some(Err(StepRefusal::Strange))
-    );
-    assert_eq!(rt;
-        give(&mut world, 3, stranger()),
-        Some(Err(StepRefusal::NoSite))
-    );
-    assert_eq!(rt; held(&world, 1), Some(0));
-    assert_eq!(rt;
-        bring(&mut world, 3, stranger()),
-        Some(Err(StepRefusal::NoSite))
-    );
-    assert_eq!(rt;
-        bring(&mut world, 1, stranger()),
-        Some(Ok(Count { new: 1, known: 0 }))
-    );
-    assert_eq!(rt;
-        bring(&mut world, 1, stranger()),
-        Some(Ok(Count { new: 0, known: 1 }))
-    );
-    assert_eq!(rt; held(&world, 2), Some(0));
-    assert!(rt; answers_of_k(&world, 1)?);
-    assert_eq!(rt; world.step(&Event::Restart(1)), Ok(Answer::Done));
-    assert!(rt; answers_of_k(&world, 1)?);
-    assert_eq!(rt; world.step(&Event::Restart(3)), Err(StepRefusal::NoSite));
-    assert_eq!(rt; held(&world, 1), Some(1));
-    assert_eq!(rt; held(&world, 2), Some(0));
-    assert_eq!(rt;
-        give(&mut world, 2, stranger()),
-        Some(Ok(Answer::Taken(Count { new: 1, known: 0 })))
-    );
-    assert_eq!(rt; held(&world, 2), Some(1));
-    Ok(())
-}
-
-/// Where its growth is refused a restart is halted and changes nothing; with memory it opens anew.
-#[test]
-fn restart_opens_nothing(rt: HostRuntime) -> Result<(), Fail> {
-    let wanted = StepRefusal::Halted(Stopped {
-        taken: 0,
-        why: AddRefusal::NoMemory,
-    });
-    let mut halted = 0u32;
-    for size in 0..128usize {
-        let heap = LocalHeap::new(rt.alloc(), 8192)?;
-        let mut world = World::new(&heap);
-        assert_eq!(rt; world.step(&Event::Site(1)), Ok(Answer::Done));
-        let symbol = roman('a');
-        let insert = Event::Insert {
-            site: 1,
-            place: 0,
-            symbol,
-        };
-        assert!(rt; world.step(&insert).is_ok());
-        let Ok(ballast) = Vec::<u8, &LocalHeap>::with_capacity(&heap, size * 64) else {
-            break;
-        };
-        if let Err(refusal) = world.step(&Event::Restart(1)) {
-            assert_eq!(rt; refusal, wanted);
-            halted = halted.saturating_add(1);
-        }
-        assert_eq!(rt; held(&world, 1), Some(1));
-        drop(ballast);
-        assert_eq!(rt; world.step(&Event::Restart(1)), Ok(Answer::Done));
-        assert_eq!(rt; held(&world, 1), Some(1));
+    for (turn, want, first, second) in TURNS {
+        let got = turned(&mut world, *turn, typed(at(9, 9), Stamp::HEAD, 'k'));
+        assert_eq!(rt; got, Some(*want));
+        assert_eq!(rt; held(&world, 1), *first);
+        assert_eq!(rt; held(&world, 2), *second);
     }
-    assert!(rt; halted > 0);
+    assert!(rt; answers_of_k(&world, 1)?);
     Ok(())
 }
