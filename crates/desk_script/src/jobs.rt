@@ -1,7 +1,8 @@
 //! Scripts of jobs: ribbons, and what they cast.
 
+use crate::run;
+use crate::tests::same;
 use crate::worked::script;
-use crate::{RunFault, run};
 use desk_files::trial::{TrialFiles, TrialReader};
 use desk_files::{FileRefusal, Files, MAX_FILE};
 use std::alloc::{AllocError, Allocator, Global};
@@ -19,8 +20,24 @@ const ONE_FILL: &[u8] = b"case = 1\nspace = \"G1\"\nfill = [\"O15\"]\n";
 
 const OTHER_ORDER: &[u8] = b"case = 1\nspace = \"G1\"\nfill = [\"A5\", \"O15\"]\n";
 
+#[rattlefmt::skip]
 const ROWS: &[u8] =
-    b"rows = [\n [\".\",\"\",\"\",\"\",\"\",\"\",\"\",\"\",\"\",\"\",\"\",\"\",\"\",\"\",\"\"],\n [\"\",\"\",\"\",\"\",\"\",\"\",\"\",\"\",\"\",\"\",\"\",\"\",\"\",\"\",\"\"],\n [\"\",\"\",\"\",\"\",\"\",\"\",\"\",\"\",\"\",\"\",\"\",\"\",\"\",\"\",\"\"],\n [\"t\",\"\",\"\",\"\",\"\",\"\",\"\",\"\",\"\",\"\",\"\",\"\",\"\",\"\",\"\"],\n [\"\",\"a\",\"i:a\",\"\",\"\",\"\",\"\",\"\",\"\",\"\",\"\",\"\",\"\",\"\",\"\"],\n [\"\",\"\",\"\",\"\",\"\",\"\",\"\",\"\",\"\",\"\",\"\",\"\",\"\",\"\",\"\"],\n [\"\",\"\",\"\",\"\",\"\",\"\",\"\",\"\",\"\",\"\",\"\",\"\",\"\",\"\",\"\"],\n [\"n\",\"\",\"\",\"\",\"\",\"\",\"\",\"\",\"\",\"\",\"\",\"\",\"\",\"\",\"\"],\n [\"\",\"\",\"\",\"\",\"\",\"\",\"\",\"\",\"\",\"\",\"\",\"\",\"\",\"\",\"\"],\n [\"\",\"\",\"\",\"\",\"\",\"\",\"\",\"\",\"\",\"\",\"\",\"\",\"\",\"\",\"\"],\n [\"\",\"\",\"\",\"\",\"\",\"\",\"\",\"\",\"\",\"\",\"\",\"\",\"\",\"\",\"\"],\n [\"\",\"\",\"\",\"\",\"\",\"\",\"\",\"\",\"\",\"\",\"\",\"\",\"\",\"\",\"\"],\n [\"\",\"\",\"\",\"\",\"\",\"\",\"\",\"\",\"\",\"\",\"\",\"\",\"\",\"\",\"\"],\n [\"m\",\"\",\"\",\"\",\"\",\"\",\"\",\"\",\"\",\"\",\"\",\"\",\"\",\"\",\"\"],\n [\"M\",\"s:M\",\"\",\"\",\"\",\"\",\"\",\"\",\"\",\"\",\"\",\"\",\"\",\"\",\"\"]\n]\n";
+    b"rows = [\n\
+ [\".\",\"\",\"\",\"\",\"\",\"\",\"\",\"\",\"\",\"\",\"\",\"\",\"\",\"\",\"\"],\n\
+ [\"\",\"\",\"\",\"\",\"\",\"\",\"\",\"\",\"\",\"\",\"\",\"\",\"\",\"\",\"\"],\n\
+ [\"\",\"\",\"\",\"\",\"\",\"\",\"\",\"\",\"\",\"\",\"\",\"\",\"\",\"\",\"\"],\n\
+ [\"t\",\"\",\"\",\"\",\"\",\"\",\"\",\"\",\"\",\"\",\"\",\"\",\"\",\"\",\"\"],\n\
+ [\"\",\"a\",\"i:a\",\"\",\"\",\"\",\"\",\"\",\"\",\"\",\"\",\"\",\"\",\"\",\"\"],\n\
+ [\"\",\"\",\"\",\"\",\"\",\"\",\"\",\"\",\"\",\"\",\"\",\"\",\"\",\"\",\"\"],\n\
+ [\"\",\"\",\"\",\"\",\"\",\"\",\"\",\"\",\"\",\"\",\"\",\"\",\"\",\"\",\"\"],\n\
+ [\"n\",\"\",\"\",\"\",\"\",\"\",\"\",\"\",\"\",\"\",\"\",\"\",\"\",\"\",\"\"],\n\
+ [\"\",\"\",\"\",\"\",\"\",\"\",\"\",\"\",\"\",\"\",\"\",\"\",\"\",\"\",\"\"],\n\
+ [\"\",\"\",\"\",\"\",\"\",\"\",\"\",\"\",\"\",\"\",\"\",\"\",\"\",\"\",\"\"],\n\
+ [\"\",\"\",\"\",\"\",\"\",\"\",\"\",\"\",\"\",\"\",\"\",\"\",\"\",\"\",\"\"],\n\
+ [\"\",\"\",\"\",\"\",\"\",\"\",\"\",\"\",\"\",\"\",\"\",\"\",\"\",\"\",\"\"],\n\
+ [\"\",\"\",\"\",\"\",\"\",\"\",\"\",\"\",\"\",\"\",\"\",\"\",\"\",\"\",\"\"],\n\
+ [\"m\",\"\",\"\",\"\",\"\",\"\",\"\",\"\",\"\",\"\",\"\",\"\",\"\",\"\",\"\"],\n\
+ [\"M\",\"s:M\",\"\",\"\",\"\",\"\",\"\",\"\",\"\",\"\",\"\",\"\",\"\",\"\",\"\"]\n]\n";
 
 /// A few files by name, and how often their device has failed.
 #[derive(Drop)]
@@ -85,19 +102,14 @@ impl Files for Shelf {
     }
 }
 
-/// What a script is answered beside these files.
-fn answers<A: Allocator + Copy>(
-    alloc: A,
-    global: Global,
-    input: &[u8],
-) -> Result<Vec<u8, A>, RunFault> {
-    let mut reader = TrialReader::new(input);
+/// Whether each command of a script, beside these files, has its answer.
+fn answered(alloc: Global, lines: &[(&str, &str)]) -> Result<(), Fail> {
+    let (input, want) = script(alloc, lines)?;
     let mut written = Vec::new(alloc);
+    let mut reader = TrialReader::new(input.as_bytes());
     let mut shelf = Shelf { failures: 0 };
-    match run(alloc, global, &mut reader, &mut written, &mut shelf) {
-        Ok(()) => Ok(written),
-        Err(fault) => Err(fault),
-    }
+    run(alloc, alloc, &mut reader, &mut written, &mut shelf)?;
+    same(&written, want.as_bytes())
 }
 
 const EMPTY_COPY_RIBBON: &[(&str, &str)] = &[
@@ -119,10 +131,7 @@ const EMPTY_COPY_RIBBON: &[(&str, &str)] = &[
 /// An empty copy has the head row alone.
 #[test]
 fn empty_copy_ribbon(rt: HostRuntime) -> Result<(), Fail> {
-    let (input, want) = script(rt.alloc(), EMPTY_COPY_RIBBON)?;
-    let got = answers(rt.alloc(), rt.alloc(), input.as_bytes())?;
-    assert_eq!(rt; got.as_slice(), want.as_bytes());
-    Ok(())
+    answered(rt.alloc(), EMPTY_COPY_RIBBON)
 }
 
 const EMPTY_PARAGRAPH_RIBBON: &[(&str, &str)] = &[
@@ -144,10 +153,7 @@ const EMPTY_PARAGRAPH_RIBBON: &[(&str, &str)] = &[
 /// One empty paragraph is one line with an added space and fills.
 #[test]
 fn empty_paragraph_ribbon(rt: HostRuntime) -> Result<(), Fail> {
-    let (input, want) = script(rt.alloc(), EMPTY_PARAGRAPH_RIBBON)?;
-    let got = answers(rt.alloc(), rt.alloc(), input.as_bytes())?;
-    assert_eq!(rt; got.as_slice(), want.as_bytes());
-    Ok(())
+    answered(rt.alloc(), EMPTY_PARAGRAPH_RIBBON)
 }
 
 const WIDEST_LINES: &[(&str, &str)] = &[
@@ -174,10 +180,7 @@ const WIDEST_LINES: &[(&str, &str)] = &[
 /// Lines that are as wide as may be, and one that is wider.
 #[test]
 fn widest_lines(rt: HostRuntime) -> Result<(), Fail> {
-    let (input, want) = script(rt.alloc(), WIDEST_LINES)?;
-    let got = answers(rt.alloc(), rt.alloc(), input.as_bytes())?;
-    assert_eq!(rt; got.as_slice(), want.as_bytes());
-    Ok(())
+    answered(rt.alloc(), WIDEST_LINES)
 }
 
 const TWO_LINES: &[(&str, &str)] = &[
@@ -196,10 +199,7 @@ const TWO_LINES: &[(&str, &str)] = &[
 /// A paragraph of two lines, and spaces that would be too loose.
 #[test]
 fn two_lines(rt: HostRuntime) -> Result<(), Fail> {
-    let (input, want) = script(rt.alloc(), TWO_LINES)?;
-    let got = answers(rt.alloc(), rt.alloc(), input.as_bytes())?;
-    assert_eq!(rt; got.as_slice(), want.as_bytes());
-    Ok(())
+    answered(rt.alloc(), TWO_LINES)
 }
 
 const CANNOT_FILL: &[(&str, &str)] = &[
@@ -223,10 +223,7 @@ const CANNOT_FILL: &[(&str, &str)] = &[
 /// Spaces and fills that do not take up the rest of a line.
 #[test]
 fn cannot_fill(rt: HostRuntime) -> Result<(), Fail> {
-    let (input, want) = script(rt.alloc(), CANNOT_FILL)?;
-    let got = answers(rt.alloc(), rt.alloc(), input.as_bytes())?;
-    assert_eq!(rt; got.as_slice(), want.as_bytes());
-    Ok(())
+    answered(rt.alloc(), CANNOT_FILL)
 }
 
 const SPACE_VANISHES: &[(&str, &str)] = &[
@@ -244,10 +241,7 @@ const SPACE_VANISHES: &[(&str, &str)] = &[
 /// A space that is not wider than nothing.
 #[test]
 fn space_vanishes(rt: HostRuntime) -> Result<(), Fail> {
-    let (input, want) = script(rt.alloc(), SPACE_VANISHES)?;
-    let got = answers(rt.alloc(), rt.alloc(), input.as_bytes())?;
-    assert_eq!(rt; got.as_slice(), want.as_bytes());
-    Ok(())
+    answered(rt.alloc(), SPACE_VANISHES)
 }
 
 const JOB_FAULTS: &[(&str, &str)] = &[
@@ -278,10 +272,7 @@ const JOB_FAULTS: &[(&str, &str)] = &[
 /// The first fault of a job, or each symbol that the case lacks.
 #[test]
 fn job_faults(rt: HostRuntime) -> Result<(), Fail> {
-    let (input, want) = script(rt.alloc(), JOB_FAULTS)?;
-    let got = answers(rt.alloc(), rt.alloc(), input.as_bytes())?;
-    assert_eq!(rt; got.as_slice(), want.as_bytes());
-    Ok(())
+    answered(rt.alloc(), JOB_FAULTS)
 }
 
 const REFUSED_FILES: &[(&str, &str)] = &[
@@ -320,10 +311,7 @@ const REFUSED_FILES: &[(&str, &str)] = &[
 /// The case file, its reading, the wedge file, its reading: the first refusal is told, after the site.
 #[test]
 fn refused_files(rt: HostRuntime) -> Result<(), Fail> {
-    let (input, want) = script(rt.alloc(), REFUSED_FILES)?;
-    let got = answers(rt.alloc(), rt.alloc(), input.as_bytes())?;
-    assert_eq!(rt; got.as_slice(), want.as_bytes());
-    Ok(())
+    answered(rt.alloc(), REFUSED_FILES)
 }
 
 const NO_FILL: &[u8] = b"case = 1\nspace = \"G1\"\n";
@@ -347,18 +335,17 @@ pub fn trial_files(alloc: Global) -> Result<TrialFiles<Global>, AllocError> {
     Ok(files)
 }
 
-/// What a script is answered beside files in memory.
-fn answers_beside(
-    alloc: Global,
-    files: &mut TrialFiles<Global>,
-    input: &[u8],
-) -> Result<Vec<u8>, RunFault> {
-    let mut reader = TrialReader::new(input);
+/// Whether each command of a script, beside files in memory of which the k-th call fails, has its answer.
+fn answered_beside(alloc: Global, lines: &[(&str, &str)], k: u64) -> Result<(), Fail> {
+    let (input, want) = script(alloc, lines)?;
+    let mut files = trial_files(alloc)?.failing_at_call(k);
     let mut written = Vec::new(alloc);
-    match run(alloc, alloc, &mut reader, &mut written, files) {
-        Ok(()) => Ok(written),
-        Err(fault) => Err(fault),
+    let mut reader = TrialReader::new(input.as_bytes());
+    run(alloc, alloc, &mut reader, &mut written, &mut files)?;
+    if files.failures() != u64::from(k > 0) {
+        return Err(Fail::new("another count of failures"));
     }
+    same(&written, want.as_bytes())
 }
 
 const REFUSED_INPUTS: &[(&str, &str)] = &[
@@ -376,12 +363,7 @@ const REFUSED_INPUTS: &[(&str, &str)] = &[
 /// A case without fills, a wedge with too small a set, and both.
 #[test]
 fn refused_inputs(rt: HostRuntime) -> Result<(), Fail> {
-    let (input, want) = script(rt.alloc(), REFUSED_INPUTS)?;
-    let mut files = trial_files(rt.alloc())?;
-    let got = answers_beside(rt.alloc(), &mut files, input.as_bytes())?;
-    assert_eq!(rt; got.as_slice(), want.as_bytes());
-    assert_eq!(rt; files.failures(), 0);
-    Ok(())
+    answered_beside(rt.alloc(), REFUSED_INPUTS, 0)
 }
 
 const FAILED_READ: &[(&str, &str)] = &[
@@ -394,14 +376,8 @@ const FAILED_READ: &[(&str, &str)] = &[
 /// The first read fails, or the second: that command alone is refused, and nothing else.
 #[test]
 fn failed_reads(rt: HostRuntime) -> Result<(), Fail> {
-    let (input, want) = script(rt.alloc(), FAILED_READ)?;
-    for call in [1u64, 2] {
-        let mut files = trial_files(rt.alloc())?.failing_at_call(call);
-        let got = answers_beside(rt.alloc(), &mut files, input.as_bytes())?;
-        assert_eq!(rt; got.as_slice(), want.as_bytes(), "call {call}");
-        assert_eq!(rt; files.failures(), 1);
-    }
-    Ok(())
+    answered_beside(rt.alloc(), FAILED_READ, 1)?;
+    answered_beside(rt.alloc(), FAILED_READ, 2)
 }
 
 const TWO_CASES: &[(&str, &str)] = &[
@@ -420,8 +396,5 @@ const TWO_CASES: &[(&str, &str)] = &[
 /// The case of the named file is used, and no other.
 #[test]
 fn case_of_its_own(rt: HostRuntime) -> Result<(), Fail> {
-    let (input, want) = script(rt.alloc(), TWO_CASES)?;
-    let got = answers(rt.alloc(), rt.alloc(), input.as_bytes())?;
-    assert_eq!(rt; got.as_slice(), want.as_bytes());
-    Ok(())
+    answered(rt.alloc(), TWO_CASES)
 }

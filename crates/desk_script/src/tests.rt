@@ -20,51 +20,54 @@ pub fn answers<A: Allocator + Copy>(
     }
 }
 
+/// Nothing, where both are the same bytes.
+pub fn same(got: &[u8], want: &[u8]) -> Result<(), Fail> {
+    if got == want {
+        Ok(())
+    } else {
+        Err(Fail::new("another answer"))
+    }
+}
+
 const FAILURES: &[u8] = b"site 1\nsite 2\n";
+
+/// Runs two commands, which must end so and have written this.
+fn ends(
+    mut reader: TrialReader<'_>,
+    mut writer: TrialWriter<Global>,
+    alloc: Global,
+    end: RunFault,
+    want: &[u8],
+) -> Result<(), Fail> {
+    let got = run(alloc, alloc, &mut reader, &mut writer, &mut NoFiles);
+    if got != Err(end) {
+        return Err(Fail::new("another end"));
+    }
+    same(writer.written(), want)
+}
 
 #[test]
 fn failing_writer(rt: HostRuntime) -> Result<(), Fail> {
-    for at_end in [AtEnd::Fails, AtEnd::TakesNone] {
-        let mut reader = TrialReader::new(FAILURES);
-        let mut writer = TrialWriter::new(rt.alloc()).with_room(5, at_end);
-        let result = run(
-            rt.alloc(),
-            rt.alloc(),
-            &mut reader,
-            &mut writer,
-            &mut NoFiles,
-        );
-        assert_eq!(rt; result, Err(RunFault::Write));
-        assert_eq!(rt; writer.written(), b"ok\nok".as_slice());
+    let alloc = rt.alloc();
+    for (bytes, calls, at_end, want) in [
+        (5usize, u64::MAX, AtEnd::Fails, b"ok\nok".as_slice()),
+        (5, u64::MAX, AtEnd::TakesNone, b"ok\nok"),
+        (usize::MAX, 1, AtEnd::Fails, b"ok\n"),
+    ] {
+        let reader = TrialReader::new(FAILURES);
+        let writer = TrialWriter::new(alloc)
+            .with_room(bytes, at_end)
+            .with_calls(calls, at_end);
+        ends(reader, writer, alloc, RunFault::Write, want)?;
     }
-    let mut reader = TrialReader::new(FAILURES);
-    let mut writer = TrialWriter::new(rt.alloc()).with_calls(1, AtEnd::Fails);
-    let result = run(
-        rt.alloc(),
-        rt.alloc(),
-        &mut reader,
-        &mut writer,
-        &mut NoFiles,
-    );
-    assert_eq!(rt; result, Err(RunFault::Write));
-    assert_eq!(rt; writer.written(), b"ok\n".as_slice());
     Ok(())
 }
 
 #[test]
 fn failing_reader(rt: HostRuntime) -> Result<(), Fail> {
-    let mut reader = TrialReader::new(FAILURES).in_steps_of(7).failing_at_call(2);
-    let mut writer = TrialWriter::new(rt.alloc());
-    let result = run(
-        rt.alloc(),
-        rt.alloc(),
-        &mut reader,
-        &mut writer,
-        &mut NoFiles,
-    );
-    assert_eq!(rt; result, Err(RunFault::Read));
-    assert_eq!(rt; writer.written(), b"ok\n".as_slice());
-    Ok(())
+    let reader = TrialReader::new(FAILURES).in_steps_of(7).failing_at_call(2);
+    let writer = TrialWriter::new(rt.alloc());
+    ends(reader, writer, rt.alloc(), RunFault::Read, b"ok\n")
 }
 
 const TWO_SITES: &[u8] = b"site 1\nsite 2\ninsert 1 0 r\"ab\"\nsend 1 2\nshow 1\nshow 2\nfeed 2\n";
@@ -72,29 +75,31 @@ const TWO_SITES: &[u8] = b"site 1\nsite 2\ninsert 1 0 r\"ab\"\nsend 1 2\nshow 1\
 const TWO_SITES_ANSWERS: &[u8] =
     b"ok\nok\nok 1.1..2.1\nok new 2 known 0\ncopy r\"ab\"\ncopy r\"ab\"\nfeed 4d46443101000000000000000100010000000000000000000000000000610100000000000000020001000000000000000100010000000062\n";
 
-#[test]
-fn two_sites_show_ab(rt: HostRuntime) -> Result<(), Fail> {
-    for step in [1, 7, 1000] {
-        let written = answers(rt.alloc(), rt.alloc(), TWO_SITES, step)?;
-        assert_eq!(rt; written.as_slice(), TWO_SITES_ANSWERS);
+/// Scripts and their answers, read in steps of 1, 7 and 1,000 bytes.
+fn answered_in_steps(alloc: Global, scripts: &[(&[u8], &[u8])]) -> Result<(), Fail> {
+    for (input, want) in scripts {
+        for step in [1usize, 7, 1000] {
+            let got = answers(alloc, alloc, input, step)?;
+            same(&got, want)?;
+        }
     }
     Ok(())
 }
 
+#[test]
+fn two_sites_show_ab(rt: HostRuntime) -> Result<(), Fail> {
+    answered_in_steps(rt.alloc(), &[(TWO_SITES, TWO_SITES_ANSWERS)])
+}
+
 /// Places and values are refused in this order, and nothing changes.
+const REFUSED_INSERTS: &[(&[u8], &[u8])] = &[(
+    b"insert 1 0 r\"a\"\nsite 1\ninsert 1 5 r\"a\"\ninsert 1 1 r\"\t\"\ninsert 1 0 i\" \"\nshow 1\ninsert 1 0 r\"b\\n\" i\"c\"\nshow 1\n",
+    b"refused site\nok\nrefused place\nrefused place\nrefused value\ncopy\nok 1.1..3.1\ncopy r\"b\\n\" i\"c\"\n",
+)];
+
 #[test]
 fn refused_inserts(rt: HostRuntime) -> Result<(), Fail> {
-    let written = answers(
-        rt.alloc(),
-        rt.alloc(),
-        b"insert 1 0 r\"a\"\nsite 1\ninsert 1 5 r\"a\"\ninsert 1 1 r\"\t\"\ninsert 1 0 i\" \"\nshow 1\ninsert 1 0 r\"b\\n\" i\"c\"\nshow 1\n",
-        1000,
-    )?;
-    assert_eq!(rt;
-        written.as_slice(),
-        b"refused site\nok\nrefused place\nrefused place\nrefused value\ncopy\nok 1.1..3.1\ncopy r\"b\\n\" i\"c\"\n".as_slice()
-    );
-    Ok(())
+    answered_in_steps(rt.alloc(), REFUSED_INSERTS)
 }
 
 /// Scripts, and what they are answered.
@@ -144,65 +149,54 @@ const SCRIPTS: &[(&[u8], &[u8])] = &[
 
 #[test]
 fn lines_words_and_numbers(rt: HostRuntime) -> Result<(), Fail> {
-    for (input, want) in SCRIPTS {
-        for step in [1usize, 7, 1000] {
-            let got = answers(rt.alloc(), rt.alloc(), input, step)?;
-            assert_eq!(rt; got.as_slice(), *want, "in steps of {step}");
-        }
-    }
-    Ok(())
+    answered_in_steps(rt.alloc(), SCRIPTS)
 }
+
+/// A line of so many bytes with this end, and its answers.
+fn long_line(alloc: Global, length: usize, end: &[u8], want: &[u8]) -> Result<(), Fail> {
+    let mut input = Vec::with_capacity(alloc, length)?;
+    input.resize(length, 0xffu8)?;
+    input.extend_from_slice(end)?;
+    let got = answers(alloc, alloc, &input, 1000)?;
+    same(&got, want)
+}
+
+const LONG_LINES: &[(usize, &[u8], &[u8])] = &[
+    (65_536, b"\n", b"refused command\n"),
+    (65_536, b"\r\n", b"refused command\n"),
+    (65_536, b"", b"refused command\n"),
+    (65_537, b"\n", b"refused line\n"),
+    (65_536, b"\r", b"refused line\n"),
+    (200_000, b"\r\nsite 1\n", b"refused line\nok\n"),
+];
 
 #[test]
 fn long_lines(rt: HostRuntime) -> Result<(), Fail> {
-    let ends: [(usize, &[u8], &[u8]); 6] = [
-        (65_536, b"\n", b"refused command\n"),
-        (65_536, b"\r\n", b"refused command\n"),
-        (65_536, b"", b"refused command\n"),
-        (65_537, b"\n", b"refused line\n"),
-        (65_536, b"\r", b"refused line\n"),
-        (200_000, b"\r\nsite 1\n", b"refused line\nok\n"),
-    ];
-    for (length, end, want) in ends {
-        let mut input = Vec::with_capacity(rt.alloc(), length)?;
-        input.resize(length, 0xffu8)?;
-        input.extend_from_slice(end)?;
-        let got = answers(rt.alloc(), rt.alloc(), &input, 1000)?;
-        assert_eq!(rt; got.as_slice(), want, "{length}");
+    for (length, end, want) in LONG_LINES {
+        long_line(rt.alloc(), *length, end, want)?;
     }
     Ok(())
 }
 
+const REFUSED_COMMANDS: &[(&[u8], &[u8])] = &[
+    (
+        b"site 1\nsite 1\nsite 0\nsend 1 3\ninsert 1 5 r\"a\"\ninsert 1 0 i\" \"\nset 1 measure 11\njump\nribbon 1 none.toml w\n",
+        b"ok\nrefused known\nrefused number\nrefused site\nrefused place\nrefused value\nrefused value\nrefused command\nrefused file missing\n",
+    ),
+    (
+        b"site 1\nsite 2\nsite 3\nsite 4\nsite 5\nsite 6\nsite 7\nsite 8\nsite 9\nsite 10\nsite 11\nsite 12\nsite 13\nsite 14\nsite 15\nsite 16\nsite 17\nsite 16\nsite 0\n",
+        b"ok\nok\nok\nok\nok\nok\nok\nok\nok\nok\nok\nok\nok\nok\nok\nok\nrefused sites\nrefused known\nrefused number\n",
+    ),
+];
+
 #[test]
 fn refused_commands(rt: HostRuntime) -> Result<(), Fail> {
-    let got = answers(
-        rt.alloc(),
-        rt.alloc(),
-        b"site 1\nsite 1\nsite 0\nsend 1 3\ninsert 1 5 r\"a\"\ninsert 1 0 i\" \"\nset 1 measure 11\njump\nribbon 1 none.toml w\n",
-        100,
-    )?;
-    assert_eq!(rt;
-        got.as_slice(),
-        b"ok\nrefused known\nrefused number\nrefused site\nrefused place\nrefused value\nrefused value\nrefused command\nrefused file missing\n".as_slice()
-    );
-
-    let mut input = String::new(rt.alloc());
-    let mut want = String::new(rt.alloc());
-    for n in 1..17 {
-        write!(input, "site {n}\n")?;
-        want.push_str("ok\n")?;
-    }
-    input.push_str("site 17\nsite 16\nsite 0\n")?;
-    want.push_str("refused sites\nrefused known\nrefused number\n")?;
-    let got = answers(rt.alloc(), rt.alloc(), input.as_bytes(), 100)?;
-    assert_eq!(rt; got.as_slice(), want.as_bytes());
-    Ok(())
+    answered_in_steps(rt.alloc(), REFUSED_COMMANDS)
 }
 
 #[test]
 fn always_want_of_memory(rt: HostRuntime) -> Result<(), Fail> {
     let heap = LocalHeap::new(rt.alloc(), 1 << 20)?;
     let got = answers(&heap, rt.alloc(), TWO_SITES, 100)?;
-    assert_eq!(rt; got.as_slice(), TWO_SITES_ANSWERS);
-    Ok(())
+    same(&got, TWO_SITES_ANSWERS)
 }

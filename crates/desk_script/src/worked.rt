@@ -1,7 +1,7 @@
 //! Scripts, and what each of their commands is answered.
 
-use crate::tests::answers;
-use std::alloc::{AllocError, Allocator};
+use crate::tests::{answers, same};
+use std::alloc::{AllocError, Allocator, Global};
 use std::test::Fail;
 
 /// The commands of a script, each with its answer, as lines.
@@ -18,6 +18,13 @@ pub fn script<A: Allocator + Copy>(
         want.push_str("\n")?;
     }
     Ok((input, want))
+}
+
+/// Whether each command of a script has its answer.
+fn answered(alloc: Global, lines: &[(&str, &str)]) -> Result<(), Fail> {
+    let (input, want) = script(alloc, lines)?;
+    let got = answers(alloc, alloc, input.as_bytes(), 1000)?;
+    same(&got, want.as_bytes())
 }
 
 const REFUSED_FEEDS: &[(&str, &str)] = &[
@@ -67,10 +74,7 @@ const REFUSED_FEEDS: &[(&str, &str)] = &[
 /// A feed's first fault is told by its byte, and nothing changes.
 #[test]
 fn refused_feeds(rt: HostRuntime) -> Result<(), Fail> {
-    let (input, want) = script(rt.alloc(), REFUSED_FEEDS)?;
-    let got = answers(rt.alloc(), rt.alloc(), input.as_bytes(), 1000)?;
-    assert_eq!(rt; got.as_slice(), want.as_bytes());
-    Ok(())
+    answered(rt.alloc(), REFUSED_FEEDS)
 }
 
 const FULL_CLOCK: &[(&str, &str)] = &[
@@ -89,10 +93,7 @@ const FULL_CLOCK: &[(&str, &str)] = &[
 /// At the greatest counter no edit is made.
 #[test]
 fn full_clock(rt: HostRuntime) -> Result<(), Fail> {
-    let (input, want) = script(rt.alloc(), FULL_CLOCK)?;
-    let got = answers(rt.alloc(), rt.alloc(), input.as_bytes(), 1000)?;
-    assert_eq!(rt; got.as_slice(), want.as_bytes());
-    Ok(())
+    answered(rt.alloc(), FULL_CLOCK)
 }
 
 const LAST_COUNTER: &[(&str, &str)] = &[
@@ -110,10 +111,7 @@ const LAST_COUNTER: &[(&str, &str)] = &[
 /// One symbol takes the greatest counter and stands; the next is refused.
 #[test]
 fn stopped_at_the_last_counter(rt: HostRuntime) -> Result<(), Fail> {
-    let (input, want) = script(rt.alloc(), LAST_COUNTER)?;
-    let got = answers(rt.alloc(), rt.alloc(), input.as_bytes(), 1000)?;
-    assert_eq!(rt; got.as_slice(), want.as_bytes());
-    Ok(())
+    answered(rt.alloc(), LAST_COUNTER)
 }
 
 const RANGES_ARE_SENT: &[(&str, &str)] = &[
@@ -138,10 +136,7 @@ const RANGES_ARE_SENT: &[(&str, &str)] = &[
 /// A range counts in the order of the operations held, and the sites are looked up before the place.
 #[test]
 fn ranges_are_sent(rt: HostRuntime) -> Result<(), Fail> {
-    let (input, want) = script(rt.alloc(), RANGES_ARE_SENT)?;
-    let got = answers(rt.alloc(), rt.alloc(), input.as_bytes(), 1000)?;
-    assert_eq!(rt; got.as_slice(), want.as_bytes());
-    Ok(())
+    answered(rt.alloc(), RANGES_ARE_SENT)
 }
 
 const MERGES_OF_SITES: &[(&str, &str)] = &[
@@ -160,10 +155,7 @@ const MERGES_OF_SITES: &[(&str, &str)] = &[
 /// A site merges another, or itself; the sites are looked up in written order.
 #[test]
 fn merges_of_sites(rt: HostRuntime) -> Result<(), Fail> {
-    let (input, want) = script(rt.alloc(), MERGES_OF_SITES)?;
-    let got = answers(rt.alloc(), rt.alloc(), input.as_bytes(), 1000)?;
-    assert_eq!(rt; got.as_slice(), want.as_bytes());
-    Ok(())
+    answered(rt.alloc(), MERGES_OF_SITES)
 }
 
 const CONCURRENT_DELETE_AND_INSERT: &[(&str, &str)] = &[
@@ -188,10 +180,7 @@ const CONCURRENT_DELETE_AND_INSERT: &[(&str, &str)] = &[
 /// A symbol that was inserted after one deleted elsewhere stays.
 #[test]
 fn concurrent_delete_and_insert(rt: HostRuntime) -> Result<(), Fail> {
-    let (input, want) = script(rt.alloc(), CONCURRENT_DELETE_AND_INSERT)?;
-    let got = answers(rt.alloc(), rt.alloc(), input.as_bytes(), 1000)?;
-    assert_eq!(rt; got.as_slice(), want.as_bytes());
-    Ok(())
+    answered(rt.alloc(), CONCURRENT_DELETE_AND_INSERT)
 }
 
 const MERGE_COUNTS: &[(&str, &str)] = &[
@@ -223,10 +212,7 @@ const MERGE_COUNTS: &[(&str, &str)] = &[
 /// A merge counts what was new and what was known, and afterwards both feeds are equal.
 #[test]
 fn merge_counts(rt: HostRuntime) -> Result<(), Fail> {
-    let (input, want) = script(rt.alloc(), MERGE_COUNTS)?;
-    let got = answers(rt.alloc(), rt.alloc(), input.as_bytes(), 1000)?;
-    assert_eq!(rt; got.as_slice(), want.as_bytes());
-    Ok(())
+    answered(rt.alloc(), MERGE_COUNTS)
 }
 
 const RESTARTS_AND_EDITS: &[(&str, &str)] = &[
@@ -254,10 +240,7 @@ const RESTARTS_AND_EDITS: &[(&str, &str)] = &[
 /// A site is opened again as it was.
 #[test]
 fn restarts_and_edits(rt: HostRuntime) -> Result<(), Fail> {
-    let (input, want) = script(rt.alloc(), RESTARTS_AND_EDITS)?;
-    let got = answers(rt.alloc(), rt.alloc(), input.as_bytes(), 1000)?;
-    assert_eq!(rt; got.as_slice(), want.as_bytes());
-    Ok(())
+    answered(rt.alloc(), RESTARTS_AND_EDITS)
 }
 
 const REFUSED_SETTINGS: &[(&str, &str)] = &[
@@ -286,10 +269,7 @@ const REFUSED_SETTINGS: &[(&str, &str)] = &[
 /// A setting's key is read with the line, and its value is judged after the site.
 #[test]
 fn refused_settings(rt: HostRuntime) -> Result<(), Fail> {
-    let (input, want) = script(rt.alloc(), REFUSED_SETTINGS)?;
-    let got = answers(rt.alloc(), rt.alloc(), input.as_bytes(), 1000)?;
-    assert_eq!(rt; got.as_slice(), want.as_bytes());
-    Ok(())
+    answered(rt.alloc(), REFUSED_SETTINGS)
 }
 
 const NO_SUCH_SITES: &[(&str, &str)] = &[
@@ -369,10 +349,7 @@ const NO_SUCH_SITES: &[(&str, &str)] = &[
 /// A number that no site may have, or none has, is no site in any command but that which adds one.
 #[test]
 fn no_such_sites(rt: HostRuntime) -> Result<(), Fail> {
-    let (input, want) = script(rt.alloc(), NO_SUCH_SITES)?;
-    let got = answers(rt.alloc(), rt.alloc(), input.as_bytes(), 1000)?;
-    assert_eq!(rt; got.as_slice(), want.as_bytes());
-    Ok(())
+    answered(rt.alloc(), NO_SUCH_SITES)
 }
 
 const CORNERS_OF_COPIES: &[(&str, &str)] = &[
@@ -420,10 +397,7 @@ const CORNERS_OF_COPIES: &[(&str, &str)] = &[
 /// What is COPY, what is lawful in it, and in which order it is refused.
 #[test]
 fn corners_of_copies(rt: HostRuntime) -> Result<(), Fail> {
-    let (input, want) = script(rt.alloc(), CORNERS_OF_COPIES)?;
-    let got = answers(rt.alloc(), rt.alloc(), input.as_bytes(), 1000)?;
-    assert_eq!(rt; got.as_slice(), want.as_bytes());
-    Ok(())
+    answered(rt.alloc(), CORNERS_OF_COPIES)
 }
 
 const CORNERS_OF_WORDS: &[(&str, &str)] = &[
@@ -453,10 +427,7 @@ const CORNERS_OF_WORDS: &[(&str, &str)] = &[
 /// Words are separated by one space, and numbers are ASCII digits.
 #[test]
 fn corners_of_words(rt: HostRuntime) -> Result<(), Fail> {
-    let (input, want) = script(rt.alloc(), CORNERS_OF_WORDS)?;
-    let got = answers(rt.alloc(), rt.alloc(), input.as_bytes(), 1000)?;
-    assert_eq!(rt; got.as_slice(), want.as_bytes());
-    Ok(())
+    answered(rt.alloc(), CORNERS_OF_WORDS)
 }
 
 const SETTINGS_BY_STAMP: &[(&str, &str)] = &[
@@ -505,10 +476,7 @@ const SETTINGS_BY_STAMP: &[(&str, &str)] = &[
 /// The set with the greatest stamp tells, whatever order they came in.
 #[test]
 fn settings_by_stamp(rt: HostRuntime) -> Result<(), Fail> {
-    let (input, want) = script(rt.alloc(), SETTINGS_BY_STAMP)?;
-    let got = answers(rt.alloc(), rt.alloc(), input.as_bytes(), 1000)?;
-    assert_eq!(rt; got.as_slice(), want.as_bytes());
-    Ok(())
+    answered(rt.alloc(), SETTINGS_BY_STAMP)
 }
 
 const WAITING_THEN_LIVE: &[(&str, &str)] = &[
@@ -540,10 +508,7 @@ const WAITING_THEN_LIVE: &[(&str, &str)] = &[
 /// What comes before its target waits, and is live once the target has come.
 #[test]
 fn waiting_then_live(rt: HostRuntime) -> Result<(), Fail> {
-    let (input, want) = script(rt.alloc(), WAITING_THEN_LIVE)?;
-    let got = answers(rt.alloc(), rt.alloc(), input.as_bytes(), 1000)?;
-    assert_eq!(rt; got.as_slice(), want.as_bytes());
-    Ok(())
+    answered(rt.alloc(), WAITING_THEN_LIVE)
 }
 
 const FORKED_STAMP: &[(&str, &str)] = &[
@@ -591,8 +556,5 @@ const FORKED_STAMP: &[(&str, &str)] = &[
 /// Of a forked stamp no operation acts, whatever order they came in.
 #[test]
 fn forked_stamp(rt: HostRuntime) -> Result<(), Fail> {
-    let (input, want) = script(rt.alloc(), FORKED_STAMP)?;
-    let got = answers(rt.alloc(), rt.alloc(), input.as_bytes(), 1000)?;
-    assert_eq!(rt; got.as_slice(), want.as_bytes());
-    Ok(())
+    answered(rt.alloc(), FORKED_STAMP)
 }
