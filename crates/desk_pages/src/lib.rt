@@ -6,6 +6,9 @@ mod page;
 mod pages;
 mod search;
 
-pub use list::Pages;
-pub use page::Summary;
+pub use list::{Pages, Placed};
+pub use page::{FULL, Summary};
 pub use search::Pick;
+
+#[cfg(test)]
+mod tests;

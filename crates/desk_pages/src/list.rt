@@ -1,5 +1,5 @@
 //! A list in pages.
-ghost use Rattle.std.specs.Prelude.{◌≡◌, ◌+◌, ◌≤◌, ◌<◌, ℕ, [], length, take, drop, slice_index_or, slice_set, vec_len, vec_capacity, IfSome, IsNone, OnOk, IfOk, IsOk};
+ghost use Rattle.std.specs.Prelude.{◌≡◌, ◌+◌, ◌≤◌, ◌<◌, ℕ, [], length, take, drop, slice_index_or, slice_set, vec_len, vec_capacity, IfSome, IsNone, OnOk, IfOk, IfErr, IsOk};
 ghost use Rattle.std.specs.List.{insert, remove};
 ghost use Rattle.desk_pages.specs.Pages.{Kept, joined, spare_of, IsKept, IsNth, IsShort, IsEdge};
 
@@ -11,6 +11,15 @@ use std::marker::Model;
 
 /// More entries than any machine can keep.
 const MOST: usize = 1 << 47;
+
+/// Where an entry was put: two hints, and no part of the list.
+#[derive(Clone, Copy, Debug, PartialEq, Eq)]
+pub struct Placed {
+    /// The number of its page.
+    pub page: usize,
+    /// Where a page was cut in two to make room, the place from which on the new one stands.
+    pub cut: Option<usize>,
+}
 
 /// A list in pages of at most 512, seen as its entries and how many more it takes with no new memory.
 #[derive(Drop)]
@@ -84,7 +93,7 @@ impl<T: Copy, S: Summary<T>, A: Allocator + Copy> Pages<T, S, A> {
         requires { i < length self.now.entries }
     {
         let (p, _) = pages::locate(&self.pages, i);
-        self.pages[p].name()
+        pages::name_of(&self.pages, p)
     }
 
     /// The page of that number, and the place of its first entry.
@@ -126,8 +135,8 @@ impl<T: Copy, S: Summary<T>, A: Allocator + Copy> Pages<T, S, A> {
         pages::set(&mut self.pages, p, j, x);
     }
 
-    /// Puts one at place i. Where a page was cut to make room, tells the place from which on the new page stands.
-    pub fn insert(&mut self, i: usize, x: T) -> Option<usize>
+    /// Puts one at place i.
+    pub fn insert(&mut self, i: usize, x: T) -> Placed
         requires within { i ≤ length self.old.entries }
         requires spare { 1 ≤ self.old.spare }
         ensures put { self.new.entries ≡ insert self.old.entries i x }
@@ -138,9 +147,16 @@ impl<T: Copy, S: Summary<T>, A: Allocator + Copy> Pages<T, S, A> {
         pages::put(&mut self.pages, &mut self.free, p, j, self.len, x);
         self.len += 1;
         if p < count && count < self.pages.len() {
-            return Some((i - j).saturating_add(self.pages[p].len()));
+            let at = if j <= HALF { p } else { p + 1 };
+            return Placed {
+                page: pages::name_of(&self.pages, at),
+                cut: Some((i - j).saturating_add(self.pages[p].len())),
+            };
         }
-        None
+        Placed {
+            page: pages::name_of(&self.pages, p),
+            cut: None,
+        }
     }
 
     /// Takes out the i-th entry.
@@ -156,14 +172,14 @@ impl<T: Copy, S: Summary<T>, A: Allocator + Copy> Pages<T, S, A> {
         out
     }
 
-    /// The place of the n-th, from a place on, that is picked.
-    pub fn nth<P: Pick<T, S>>(&self, from: usize, pick: &P, n: usize) -> Option<usize>
+    /// The place of the n-th, from a place on, that is picked, or how many are wanting.
+    pub fn nth<P: Pick<T, S>>(&self, from: usize, pick: &P, n: usize) -> Result<usize, usize>
         requires { from ≤ length self.now.entries }
-        ensures found { IfSome result (λ place. IsNth (P.picked pick.now) self.now.entries from n place) }
-        ensures none { IsNone result → (left : ℕ) × IsShort (P.picked pick.now) self.now.entries from n left }
+        ensures found { IfOk result (λ place. IsNth (P.picked pick.now) self.now.entries from n place) }
+        ensures short { IfErr result (λ left. IsShort (P.picked pick.now) self.now.entries from n left) }
     {
         if from == self.len {
-            return None;
+            return Err(n);
         }
         search::nth(&self.pages, from, pick, n)
     }

@@ -308,3 +308,13 @@ pub fn named<T: Copy, S: Summary<T>, A: Allocator>(
     }
     None
 }
+
+/// The name of page p, or of the last, where there is one.
+pub fn name_of<T: Copy, S: Summary<T>, A: Allocator>(pages: &[Page<T, S, A>], p: usize) -> usize {
+    let last = p.min(pages.len().saturating_sub(1));
+    if last < pages.len() {
+        pages[last].name()
+    } else {
+        0
+    }
+}

@@ -1,5 +1,5 @@
 //! The n-th entry that is picked, found by passing pages by.
-ghost use Rattle.std.specs.Prelude.{◌≡◌, ◌+◌, ◌≤◌, ◌<◌, ◌^◌, ℕ, List, length, IfSome, IsNone, IfOk, IfErr, Bool};
+ghost use Rattle.std.specs.Prelude.{◌≡◌, ◌+◌, ◌≤◌, ◌<◌, ◌^◌, ℕ, List, length, IfSome, IfOk, IfErr, Bool};
 ghost use Rattle.std.specs.List.{count_by};
 ghost use Rattle.desk_pages.specs.Pages.{joined, start_of, ends_in, IsSpotOrEnd, IsHalfFull, IsNth, IsShort, IsEdge};
 
@@ -62,49 +62,49 @@ fn nth_of<T: Copy, S: Summary<T>, A: Allocator, P: Pick<T, S>>(
     nth_in(page.items(), 0, pick, n)
 }
 
-/// The n-th from a page on.
+/// The n-th from a page on, or how many are wanting.
 fn nth_from<T: Copy, S: Summary<T>, A: Allocator, P: Pick<T, S>>(
     pages: &[Page<T, S, A>],
     p: usize,
     start: usize,
     pick: &P,
     n: usize,
-) -> Option<usize>
+) -> Result<usize, usize>
     requires within { p ≤ length pages.now }
     requires start { start ≡ start_of pages.now p }
     requires fits { length (joined pages.now) < 2 ^ 64 }
-    ensures found { IfSome result (λ place. IsNth (P.picked pick.now) (joined pages.now) start n place) }
-    ensures none { IsNone result → (left : ℕ) × IsShort (P.picked pick.now) (joined pages.now) start n left }
+    ensures found { IfOk result (λ place. IsNth (P.picked pick.now) (joined pages.now) start n place) }
+    ensures short { IfErr result (λ left. IsShort (P.picked pick.now) (joined pages.now) start n left) }
 {
     let mut left = n;
     let mut start = start;
     let mut at = p;
     while at < pages.len() {
         match nth_of(&pages[at], pick, left) {
-            Ok(j) => return Some(start + j),
+            Ok(j) => return Ok(start + j),
             Err(rest) => left = rest,
         }
         start += pages[at].len();
         at += 1;
     }
-    None
+    Err(left)
 }
 
-/// The n-th from a place on.
+/// The n-th from a place on, or how many are wanting.
 pub fn nth<T: Copy, S: Summary<T>, A: Allocator, P: Pick<T, S>>(
     pages: &[Page<T, S, A>],
     from: usize,
     pick: &P,
     n: usize,
-) -> Option<usize>
+) -> Result<usize, usize>
     requires within { from < length (joined pages.now) }
     requires fits { length (joined pages.now) < 2 ^ 64 }
-    ensures found { IfSome result (λ place. IsNth (P.picked pick.now) (joined pages.now) from n place) }
-    ensures none { IsNone result → (left : ℕ) × IsShort (P.picked pick.now) (joined pages.now) from n left }
+    ensures found { IfOk result (λ place. IsNth (P.picked pick.now) (joined pages.now) from n place) }
+    ensures short { IfErr result (λ left. IsShort (P.picked pick.now) (joined pages.now) from n left) }
 {
     let (p, j) = locate(pages, from);
     match nth_in(pages[p].items(), j, pick, n) {
-        Ok(k) => Some(from - j + k),
+        Ok(k) => Ok(from - j + k),
         Err(left) => nth_from(pages, p + 1, from - j + pages[p].len(), pick, left),
     }
 }

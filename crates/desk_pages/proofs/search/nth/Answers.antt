@@ -1,5 +1,5 @@
-use Rattle.std.proofs.Common.{◌≡◌, ◌+◌, ◌-◌, [], ℕ, get_or, take, ap, arith, Option, Some, None}
-use Rattle.std.specs.Prelude.{IfSome}
+use Rattle.std.proofs.Common.{◌≡◌, ◌+◌, ◌-◌, [], ℕ, get_or, take, ap, arith, Result, Ok, Err}
+use Rattle.std.specs.Prelude.{IfOk, IfErr}
 use Rattle.std.specs.List.{count_by}
 use Rattle.std.proofs.lemmas.List.{get_or_read}
 use Rattle.desk_pages.specs.Pages.{joined, start_of, IsNth, IsShort}
@@ -7,9 +7,13 @@ use Rattle.desk_pages.proofs.Cuts.{page-length}
 use Rattle.desk_pages.proofs.Picks.{nth-joined, nth-later, short-page, page-within, page-fits, count-at, next-start, next-page}
 use Rattle.desk_pages.proofs.search.nth.Goals as goal
 
-if-some : {A : Type 0} (r : Option A) (P Q : A → Type 0) → ((x : A) → P x → Q x) → IfSome r P → IfSome r Q
-if-some None P Q f h = tt
-if-some (Some x) P Q f h = f x h
+if-ok : {A E : Type 0} (r : Result A E) (P Q : A → Type 0) → ((x : A) → P x → Q x) → IfOk r P → IfOk r Q
+if-ok (Ok x) P Q f h = f x h
+if-ok (Err e) P Q f h = tt
+
+if-err : {A E : Type 0} (r : Result A E) (P Q : E → Type 0) → ((e : E) → P e → Q e) → IfErr r P → IfErr r Q
+if-err (Ok x) P Q f h = tt
+if-err (Err e) P Q f h = f e h
 
 pub overflow_add-result : goal.overflow_add-result
 overflow_add-result g c =
@@ -58,10 +62,10 @@ returns-in-Err-clause-found g c =
     let up = next-page pages p s.within in
     let f = ap (λ (m : ℕ). count_by picks (take m (joined pages))) s.is in
     let t = short-page picks pages p j c.args.n c.in-Err.left s.within (omega (arith, s.inside)) h in
-    if-some c.nth_from.result _ _ (λ place r. nth-later picks (joined pages) c.args.from (start_of pages (p + 1)) c.in-Err.left c.args.n place (rw start at r) (omega (arith, s.is, s.inside)) (omega arith)) c.nth_from.ensures.found
+    if-ok c.nth_from.result _ _ (λ place r. nth-later picks (joined pages) c.args.from (start_of pages (p + 1)) c.in-Err.left c.args.n place (rw start at r) (omega (arith, s.is, s.inside)) (omega arith)) c.nth_from.ensures.found
 
-pub returns-in-Err-clause-none : goal.returns-in-Err-clause-none
-returns-in-Err-clause-none g c = λ none.
+pub returns-in-Err-clause-short : goal.returns-in-Err-clause-short
+returns-in-Err-clause-short g c =
     let pages = c.args.pages.now in
     let picks = g.P.Pick.picked c.args.pick.now in
     let s = c.locate-p.ensures in
@@ -72,5 +76,4 @@ returns-in-Err-clause-none g c = λ none.
     let start = next-start pages c.args.from p j c.len.result c.index-pages-p-in-Err.result s c.index-pages-p-in-Err.is c.len.ensures.len in
     let f = ap (λ (m : ℕ). count_by picks (take m (joined pages))) s.is in
     let t = short-page picks pages p j c.args.n c.in-Err.left s.within (omega (arith, s.inside)) h in
-    let r : (left : ℕ) × IsShort picks (joined pages) (start_of pages (p + 1)) c.in-Err.left left = rw start at (c.nth_from.ensures.none none) in
-    (r.0, (omega (arith, r.1.0, h.0), omega (arith, r.1.1)))
+    if-err c.nth_from.result _ _ (λ (left : ℕ) r. (let q : IsShort picks (joined pages) (start_of pages (p + 1)) c.in-Err.left left = rw start at r in (omega (arith, q.0, h.0), omega (arith, q.1)))) c.nth_from.ensures.short

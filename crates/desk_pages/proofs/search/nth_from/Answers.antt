@@ -57,12 +57,12 @@ loop-at-preserved g c =
       count = omega (arith, i.count, h.1);
     })
 
-pub returns-clause-none : goal.returns-clause-none
-returns-clause-none g c = λ _.
+pub returns-clause-short : goal.returns-clause-short
+returns-clause-short g c =
     let pages = c.args.pages.now in
     let picks = g.P.Pick.picked c.args.pick.now in
     let i = c.loop-at.invariant in
     let s = count-start picks pages c.args.p in
     let a = ap (count_by picks) (joined-past pages c.loop-at.at c.loop-at-test.false) in
     let q = c.requires.start in
-    (c.loop-at.left, (i.less, rw q (omega (arith, i.count))))
+    (i.less, rw q (omega (arith, i.count)))

@@ -1,0 +1,4 @@
+pub mod Ranks
+pub mod Tallies
+pub mod Places
+pub mod Sorts

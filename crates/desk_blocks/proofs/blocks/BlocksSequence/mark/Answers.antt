@@ -1,0 +1,23 @@
+use Rattle.std.proofs.Common.{◌≡◌, ◌∙◌, ap, sym, subst, List, set}
+use Rattle.desk_ops.specs.declared.op.Stamp.{Stamp}
+use Rattle.desk_seq.specs.declared.Entry.{Entry}
+use Rattle.desk_seq.specs.Entries.{stamps_of, marked, with_mark, AreDistinct}
+use Rattle.desk_seq.proofs.Entries.{distinct-mark, set-mark}
+use Rattle.desk_blocks.specs.Rank.{Knows}
+use Rattle.desk_blocks.proofs.Ranks.{stamps-mark}
+use Rattle.desk_blocks.proofs.blocks.BlocksSequence.mark.Goals as goal
+
+pub returns-clause-marked : goal.returns-clause-marked
+returns-clause-marked g c =
+    let es = c.self.inside.pages.entries in
+    let e : Entry = c.entry-entry.result in
+    rw (← c.self.view_is) (c.set.ensures.set ∙ ap (λ (x : Entry). set es c.args.i (marked x)) c.entry-entry.ensures ∙ set-mark es c.args.i e)
+
+pub invariant_of-self : goal.invariant_of-self
+invariant_of-self g c =
+    let es = c.self.inside.pages.entries in
+    let e : Entry = c.entry-entry.result in
+    let is : c.set.new.self.entries ≡ with_mark es c.args.i = c.set.ensures.set ∙ ap (λ (x : Entry). set es c.args.i (marked x)) c.entry-entry.ensures ∙ set-mark es c.args.i e in (
+      subst AreDistinct (sym is) (distinct-mark es c.args.i c.self.invariant.0),
+      subst (λ (ts : List Stamp). Knows c.self.inside.index.stamps ts) (sym (ap stamps_of is ∙ stamps-mark es c.args.i)) c.self.invariant.1,
+    )

@@ -1,0 +1,155 @@
+//! A sequence in pages.
+ghost use Rattle.std.specs.Prelude.{◌≡◌, ◌≤◌, ◌<◌, ◌+◌, length, min, OnOk, IfOk, IfSome, IsNone, take, drop, slice_index_or};
+ghost use Rattle.desk_blocks.specs.Tally.{IsAt};
+
+use crate::index::Index;
+use crate::tally::{Same, Shown, Smaller, Tally};
+use desk_ops::Stamp;
+use desk_pages::Pages;
+use desk_seq::{Entry, Sequence};
+use std::alloc::{AllocError, Allocator};
+use std::marker::Model;
+
+/// A sequence in pages of at most 512, with an index of its stamps.
+#[derive(Drop)]
+pub struct Blocks<A: Allocator> {
+    pages: Pages<Entry, Tally, A>,
+    index: Index<A>,
+}
+
+impl<A: Allocator> Model for Blocks<A> {
+    ghost use Rattle.std.specs.Prelude.{min};
+    ghost use Rattle.desk_seq.specs.Entries.{Listing, listing_code, AreDistinct, stamps_of};
+    ghost use Rattle.desk_seq.specs.contracts.Entry as entry;
+    ghost use Rattle.desk_blocks.specs.Rank.{Knows};
+
+    ghost Value = { Listing };
+
+    ghost coded = { listing_code (entry.the_row).coded };
+
+    ghost view = { λ a. record { entries = a.pages.entries; spare = min a.pages.spare a.index.spare } };
+
+    ghost invariant = { λ a. AreDistinct a.pages.entries × Knows a.index.stamps (stamps_of a.pages.entries) };
+}
+
+impl<A: Allocator + Copy> Sequence for Blocks<A> {
+    type Memory = A;
+
+    ghost entries = { λ s. s.entries };
+
+    ghost free = { λ s. s.spare };
+
+    fn empty(alloc: A) -> Self {
+        Blocks {
+            pages: Pages::new(alloc),
+            index: Index::new(alloc),
+        }
+    }
+
+    fn len(&self) -> usize {
+        let _ = &self.index;
+        self.pages.len()
+    }
+
+    fn entry(&self, i: usize) -> Entry {
+        self.pages.entry(i)
+    }
+
+    fn stretch(&self, i: usize) -> &[Entry] {
+        self.pages.stretch(i)
+    }
+
+    fn find(&self, stamp: Stamp) -> Option<usize> {
+        let Some(hint) = self.index.get(stamp) else {
+            return None;
+        };
+        let _len = self.pages.len();
+        if let Some((start, items)) = self.pages.named(hint) {
+            if let Some(j) = spot_in(items, stamp) {
+                return Some(start + j);
+            }
+        }
+        match self.pages.nth(0, &Same { stamp }, 0) {
+            Ok(place) => Some(place),
+            Err(_) => None,
+        }
+    }
+
+    fn spare(&self) -> usize {
+        self.pages.spare().min(self.index.spare())
+    }
+
+    fn reserve(&mut self, n: usize) -> Result<(), AllocError> {
+        self.index.reserve(n)?;
+        self.pages.reserve(n)
+    }
+
+    fn put(&mut self, i: usize, entry: Entry) {
+        let placed = self.pages.insert(i, entry);
+        self.index.put(entry.stamp, placed.page);
+        if let Some(from) = placed.cut
+            && from < self.pages.len()
+        {
+            let name = self.pages.name_at(from);
+            renew_all(&mut self.index, self.pages.stretch(from), name);
+        }
+    }
+
+    fn mark(&mut self, i: usize) {
+        let mut entry = self.pages.entry(i);
+        entry.deleted = true;
+        self.pages.set(i, entry);
+    }
+
+    fn first_below(&self, from: usize, stamp: Stamp) -> usize {
+        match self.pages.nth(from, &Smaller { stamp }, 0) {
+            Ok(place) => place,
+            Err(_) => self.pages.len(),
+        }
+    }
+
+    fn shown_place(&self, i: usize) -> Option<usize> {
+        match self.pages.nth(0, &Shown, i) {
+            Ok(place) => Some(place),
+            Err(_) => None,
+        }
+    }
+
+    fn shown_len(&self) -> usize {
+        let most = self.pages.len();
+        match self.pages.nth(0, &Shown, most) {
+            Ok(_) => most,
+            Err(left) => most - left,
+        }
+    }
+
+    fn from_entries(alloc: A, list: &[Entry]) -> Result<Self, AllocError> {
+        let index = Index::from_entries(alloc, list)?;
+        Ok(Blocks {
+            pages: Pages::from_slice(alloc, list)?,
+            index,
+        })
+    }
+}
+
+/// A place of the stamp in a page.
+fn spot_in(items: &[Entry], stamp: Stamp) -> Option<usize>
+    ensures { IfSome result (λ j. IsAt items.now stamp j) }
+{
+    for j in 0..items.len() {
+        if items[j].stamp.is_same(stamp) {
+            return Some(j);
+        }
+    }
+    None
+}
+
+/// The hints of all of these.
+fn renew_all<A: Allocator + Copy>(index: &mut Index<A>, items: &[Entry], name: usize)
+    ensures same { index.new.stamps ≡ index.old.stamps }
+    ensures spare { index.new.spare ≡ index.old.spare }
+{
+    for entry in items {
+        index.renew(entry.stamp, name);
+    }
+}

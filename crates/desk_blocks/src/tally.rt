@@ -1,0 +1,108 @@
+//! What is kept of a page of elements, and the two searches that it serves.
+
+use desk_ops::Stamp;
+use desk_pages::{Pick, Summary};
+use desk_seq::Entry;
+
+/// How many are shown, and a stamp that none is smaller than.
+#[derive(Clone, Copy)]
+pub struct Tally {
+    pub shown: usize,
+    pub least: Stamp,
+}
+
+/// Greater than every stamp that an operation bears.
+const NONE: Stamp = Stamp {
+    counter: u64::MAX,
+    site: u16::MAX,
+};
+
+impl Summary<Entry> for Tally {
+    ghost use Rattle.desk_blocks.specs.Tally.{IsTally};
+
+    ghost tells = { IsTally };
+
+    fn of(page: &[Entry]) -> Tally {
+        let mut tally = Tally {
+            shown: 0,
+            least: NONE,
+        };
+        for entry in page {
+            tally = tally.with(*entry);
+        }
+        tally
+    }
+
+    fn with(self, x: Entry) -> Tally {
+        Tally {
+            shown: if x.deleted {
+                self.shown
+            } else {
+                self.shown.saturating_add(1)
+            },
+            least: if x.stamp.is_before(self.least) {
+                x.stamp
+            } else {
+                self.least
+            },
+        }
+    }
+}
+
+/// Those that are shown.
+#[derive(Clone, Copy)]
+pub struct Shown;
+
+impl Pick<Entry, Tally> for Shown {
+    ghost use Rattle.desk_blocks.specs.Tally.{is_shown};
+
+    ghost picked = { λ s e. is_shown e };
+
+    fn picks(&self, x: Entry) -> bool {
+        !x.deleted
+    }
+
+    fn count(&self, summary: Tally, _len: usize) -> Option<usize> {
+        Some(summary.shown)
+    }
+}
+
+/// Those with a smaller stamp.
+#[derive(Clone, Copy)]
+pub struct Smaller {
+    pub stamp: Stamp,
+}
+
+impl Pick<Entry, Tally> for Smaller {
+    ghost use Rattle.desk_blocks.specs.Tally.{is_smaller};
+
+    ghost picked = { λ s e. is_smaller s.stamp e };
+
+    fn picks(&self, x: Entry) -> bool {
+        x.stamp.is_before(self.stamp)
+    }
+
+    fn count(&self, summary: Tally, _len: usize) -> Option<usize> {
+        if summary.least.is_before(self.stamp) {
+            None
+        } else {
+            Some(0)
+        }
+    }
+}
+
+/// Those of a stamp.
+#[derive(Clone, Copy)]
+pub struct Same {
+    pub stamp: Stamp,
+}
+
+impl Pick<Entry, Tally> for Same {
+    ghost use Rattle.desk_blocks.specs.Tally.{is_of};
+
+    ghost picked = { λ s e. is_of s.stamp e };
+
+    fn picks(&self, x: Entry) -> bool {
+        x.stamp.is_same(self.stamp)
+    }
+}

@@ -1,0 +1,283 @@
+//! Blocks against `Flat`, which keeps its entries in one list.
+ghost use Rattle.std.specs.Prelude.{◌≡◌, IfOk};
+
+use crate::Blocks;
+use desk_ops::{Stamp, Style, Symbol};
+use desk_seq::{Entry, Flat, Sequence, integrate};
+use linked_list_allocator::LocalHeap;
+use std::alloc::{AllocError, Allocator, Global};
+use std::test::Fail;
+
+fn next(seed: u64) -> u64 {
+    seed.wrapping_mul(6_364_136_223_846_793_005)
+        .wrapping_add(1_442_695_040_888_963_407)
+}
+
+/// A number below n, or 0.
+fn pick(seed: u64, n: usize) -> usize {
+    ((seed >> 33) % (n.max(1) as u64)) as usize
+}
+
+fn typed(counter: u64, site: u16) -> Entry {
+    Entry {
+        stamp: Stamp { counter, site },
+        symbol: Symbol {
+            style: Style::Roman,
+            ch: 'a',
+        },
+        deleted: false,
+    }
+}
+
+/// Puts an entry where its stamp is not there and the place is.
+fn put<Q: Sequence>(sequence: &mut Q, place: usize, entry: Entry) -> Result<(), AllocError> {
+    if sequence.spare() == 0 {
+        sequence.reserve(7)?;
+    }
+    if place > sequence.len() {
+        return Ok(());
+    }
+    match sequence.find(entry.stamp) {
+        Some(_) => Ok(()),
+        None => {
+            sequence.put(place, entry);
+            Ok(())
+        }
+    }
+}
+
+fn mark<Q: Sequence>(sequence: &mut Q, place: usize) {
+    if place < sequence.len() {
+        sequence.mark(place);
+    }
+}
+
+/// Whether both answer alike of a place and a stamp.
+fn are_alike_at<Q: Sequence, R: Sequence>(one: &Q, other: &R, place: usize, stamp: Stamp) -> bool {
+    if one.find(stamp) != other.find(stamp) || one.shown_place(place) != other.shown_place(place) {
+        return false;
+    }
+    if place > one.len() || place > other.len() {
+        return place > one.len() && place > other.len();
+    }
+    if one.first_below(place, stamp) != other.first_below(place, stamp) {
+        return false;
+    }
+    if place == one.len() || place == other.len() {
+        return place == one.len() && place == other.len();
+    }
+    one.entry(place) == other.entry(place)
+}
+
+/// Whether both answer alike of every place, at one of the first stamps each.
+fn are_alike<Q: Sequence, R: Sequence>(one: &Q, other: &R) -> bool {
+    if one.len() != other.len() || one.shown_len() != other.shown_len() {
+        return false;
+    }
+    let mut seed = 7;
+    for place in 0..one.len() {
+        seed = next(seed);
+        let stamp = typed(pick(seed, 30_000) as u64, 1).stamp;
+        if !are_alike_at(one, other, place, stamp) {
+            return false;
+        }
+    }
+    are_alike_at(one, other, one.len(), typed(0, 0).stamp)
+}
+
+/// One put, mark or look-up at random in both, and whether they answered alike.
+fn step<Q: Sequence, R: Sequence>(
+    one: &mut Q,
+    other: &mut R,
+    seed: u64,
+) -> Result<bool, AllocError> {
+    let more = next(seed);
+    let place = pick(seed, one.len().saturating_add(1));
+    let entry = typed(pick(more, 30_000) as u64, (seed >> 60) as u16);
+    match seed % 8 {
+        0 => {
+            mark(one, place);
+            mark(other, place);
+        }
+        1 | 2 | 3 => return Ok(are_alike_at(one, other, place, entry.stamp)),
+        _ => {
+            put(one, place, entry)?;
+            put(other, place, entry)?;
+        }
+    }
+    Ok(true)
+}
+
+/// So many steps, and both compared at every place after each thousandth.
+fn run<Q: Sequence, R: Sequence>(
+    one: &mut Q,
+    other: &mut R,
+    steps: u32,
+) -> Result<bool, AllocError> {
+    let mut seed = 1;
+    for k in 0..steps {
+        seed = next(seed);
+        if !step(one, other, seed)? {
+            return Ok(false);
+        }
+        if k % 4000 == 3999 && !are_alike(one, other) {
+            return Ok(false);
+        }
+    }
+    Ok(true)
+}
+
+/// The entries of a sequence.
+fn listed<Q: Sequence, A: Allocator>(sequence: &Q, alloc: A) -> Result<Vec<Entry, A>, AllocError>
+    ensures { IfOk result (λ list. list.items ≡ Q.entries sequence.now) }
+{
+    let mut list = Vec::with_capacity(alloc, sequence.len())?;
+    for i in 0..sequence.len() {
+        list.push_reserved(sequence.entry(i));
+    }
+    Ok(list)
+}
+
+/// A sequence made of the entries of another.
+fn made_of<Q: Sequence, R: Sequence, A: Allocator>(
+    sequence: &Q,
+    alloc: A,
+    memory: R::Memory,
+) -> Result<R, AllocError> {
+    let list = listed(sequence, alloc)?;
+    let _ = sequence.len();
+    R::from_entries(memory, list.as_slice())
+}
+
+#[test]
+fn random_calls_answer_alike(rt: HostRuntime) -> Result<(), Fail> {
+    let mut flat = Flat::empty(rt.alloc());
+    let mut blocks = Blocks::empty(rt.alloc());
+    assert!(rt; run(&mut flat, &mut blocks, 20_000)?);
+    assert!(rt; flat.len() > 5_000);
+    let mut made: Blocks<Global> = made_of(&flat, rt.alloc(), rt.alloc())?;
+    assert!(rt; are_alike(&flat, &made));
+    assert!(rt; run(&mut flat, &mut made, 4_000)?);
+    Ok(())
+}
+
+/// The most entries of a block.
+fn greatest<Q: Sequence>(sequence: &Q) -> usize {
+    let mut most = 0;
+    let mut at = 0usize;
+    for _ in 0..sequence.len() {
+        if at >= sequence.len() {
+            break;
+        }
+        let part = sequence.stretch(at);
+        most = most.max(part.len());
+        at = at.saturating_add(part.len());
+    }
+    most
+}
+
+/// 2,000 entries at the front, in the middle and at the end; the most entries that a block ever held.
+fn grown<Q: Sequence>(sequence: &mut Q) -> Result<usize, AllocError> {
+    let mut most = 0;
+    for k in 0..6_000u64 {
+        let place = match k / 2_000 {
+            0 => 0,
+            1 => sequence.len() / 2,
+            _ => sequence.len(),
+        };
+        put(sequence, place, typed(k, 1))?;
+        most = most.max(greatest(sequence));
+    }
+    Ok(most)
+}
+
+#[test]
+fn no_block_holds_more_than_512(rt: HostRuntime) -> Result<(), Fail> {
+    let mut blocks = Blocks::empty(rt.alloc());
+    assert_eq!(rt; grown(&mut blocks)?, 512);
+    assert_eq!(rt; blocks.len(), 6_000);
+    Ok(())
+}
+
+/// Puts an entry where the scan from its parent leads.
+fn arrive<Q: Sequence>(sequence: &mut Q, entry: Entry) -> Result<(), AllocError> {
+    if sequence.spare() == 0 {
+        sequence.reserve(7)?;
+    }
+    match sequence.find(entry.stamp) {
+        Some(_) => Ok(()),
+        None => {
+            integrate(sequence, entry, Stamp::HEAD);
+            Ok(())
+        }
+    }
+}
+
+/// 2,000 entries that hang on the head, in ascending or descending stamps.
+fn arrived<Q: Sequence>(sequence: &mut Q, falling: bool) -> Result<(), AllocError> {
+    for k in 0..2_000u64 {
+        let counter = if falling { 2_000 - k } else { k + 1 };
+        arrive(sequence, typed(counter, 1))?;
+    }
+    Ok(())
+}
+
+/// Whether the stamps fall from 2,000 to 1.
+fn falls<Q: Sequence>(sequence: &Q) -> bool {
+    for i in 0..sequence.len() {
+        if sequence.entry(i).stamp.counter.saturating_add(i as u64) != 2_000 {
+            return false;
+        }
+    }
+    sequence.len() == 2_000
+}
+
+/// In whichever order they arrive, the latest stands first.
+#[test]
+fn two_thousand_inserts(rt: HostRuntime) -> Result<(), Fail> {
+    for falling in [false, true] {
+        let mut flat = Flat::empty(rt.alloc());
+        let mut blocks = Blocks::empty(rt.alloc());
+        arrived(&mut flat, falling)?;
+        arrived(&mut blocks, falling)?;
+        assert!(rt; falls(&flat));
+        assert!(rt; falls(&blocks));
+        assert!(rt; are_alike(&flat, &blocks));
+    }
+    Ok(())
+}
+
+/// 300 entries, each at a third of the length.
+fn fill<Q: Sequence>(sequence: &mut Q) -> Result<(), AllocError> {
+    for k in 0..300u64 {
+        let place = sequence.len() / 3;
+        put(sequence, place, typed(k, 2))?;
+    }
+    Ok(())
+}
+
+/// Whatever growth is refused, the sequence stays as it was, and with memory the same call gives room that takes none.
+#[test]
+fn refused_reserves_change_nothing(rt: HostRuntime) -> Result<(), Fail> {
+    let mut flat = Flat::empty(rt.alloc());
+    fill(&mut flat)?;
+    let mut refused = 0u32;
+    for size in 0..32usize {
+        let heap = LocalHeap::new(rt.alloc(), 524_288)?;
+        let mut blocks = Blocks::empty(&heap);
+        fill(&mut blocks)?;
+        let spare = blocks.spare();
+        let ballast: Vec<u8, &LocalHeap> = Vec::with_capacity(&heap, 425_000 - size * 4_096)?;
+        if blocks.reserve(1_000).is_err() {
+            refused = refused.saturating_add(1);
+            assert!(rt; are_alike(&flat, &blocks));
+            assert!(rt; blocks.spare() >= spare);
+        }
+        drop(ballast);
+        blocks.reserve(1_000)?;
+        assert!(rt; blocks.spare() >= 1_000);
+        assert!(rt; are_alike(&flat, &blocks));
+    }
+    assert!(rt; refused > 5);
+    Ok(())
+}
