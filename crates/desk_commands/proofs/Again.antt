@@ -16,10 +16,6 @@ is_same c d e = grind (arith, nat_tests)
 abbrev pub onto : Style → ℕ → Option (List Symbol) → Option (List Symbol)
 onto style c read = read >>= λ more. Some (symbol style c ∷ more)
 
-onto_is : (style : Style) (c : ℕ) (read : Option (List Symbol)) → (read >>= λ more. Some ((symbol style c ∷ []) ++ more)) ≡ onto style c read
-onto_is style c None = refl
-onto_is style c (Some more) = refl
-
 pub nothing : (read : Option (List Symbol)) → (read >>= λ more. Some ([] ++ more)) ≡ read
 nothing None = refl
 nothing (Some more) = refl

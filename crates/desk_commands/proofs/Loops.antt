@@ -16,17 +16,9 @@ use Rattle.desk_commands.specs.Grammar.{words_of, command_of}
 abbrev pub with_front : {A : Type 0} → List A → Option (List A) → Option (List A)
 with_front front read = read >>= λ more. Some (front ++ more)
 
-pub with_none : {A : Type 0} (read : Option (List A)) → with_front [] read ≡ read
-with_none None = refl
-with_none (Some xs) = refl
-
 regroup : {A : Type 0} (front back : List A) (read : Option (List A)) → with_front front (read >>= λ more. Some (back ++ more)) ≡ with_front (front ++ back) read
 regroup front back None = refl
 regroup front back (Some xs) = ap Some (sym (append_assoc front back xs))
-
-pub pairs_go : (front : List ℕ) (a b h l : ℕ) (rest : List ℕ) → nibble a ≡ Some h → nibble b ≡ Some l
-    → with_front front (pairs (a ∷ b ∷ rest)) ≡ with_front (front ++ (h * 16 + l) ∷ []) (pairs rest)
-pairs_go front a b h l rest p q = rw (p, q) (regroup front ((h * 16 + l) ∷ []) (pairs rest))
 
 pub copy_go : (front : List Symbol) (place : Place) (c : ℕ) (cs : List ℕ) (next : Place × Option Symbol) → step place c ≡ Some next
     → with_front front (copy_from place (c ∷ cs)) ≡ with_front (front ++ option_to_list next.1) (copy_from next.0 cs)

@@ -28,11 +28,6 @@ plain_turn (Some SmallCap) Roman = refl
 plain_turn (Some SmallCap) Italic = refl
 plain_turn (Some SmallCap) SmallCap = refl
 
-plain_close : (run : Option Style) → encode_utf8_all (close run) ≡ close run
-unfolding encode
-plain_close None = refl
-plain_close (Some run) = refl
-
 pub copy_put : (out turned out' whole : List ℕ) (run : Option Style) (symbols : List Symbol) (i : ℕ) (s d : Symbol) → i < length symbols → s ≡ get_or symbols i d
     → turned ≡ out ++ turn run s.style → out' ≡ turned ++ encode_utf8_all (quoted s.ch)
     → out ++ encode_utf8_all (copy_chars_from run (drop i symbols)) ≡ whole
@@ -45,8 +40,3 @@ copy_put out turned out' whole run symbols i s d lt is turns quotes so_far =
     ∙ ap (λ xs. turn run s.style ++ xs) (encodes-append (quoted s.ch) _) in
     let ahead : out' ++ rest ≡ out ++ (turn run s.style ++ (encode_utf8_all (quoted s.ch) ++ rest)) = rw (quotes, turns) (simp append_assoc) in
     ahead ∙ ap (λ xs. out ++ xs) (sym all) ∙ ap (λ xs. out ++ encode_utf8_all (copy_chars_from run xs)) (sym here) ∙ so_far
-
-pub copy_closed : (out out' whole : List ℕ) (run : Option Style) (symbols : List Symbol) (i : ℕ) → length symbols ≤ i → out' ≡ out ++ close run
-    → out ++ encode_utf8_all (copy_chars_from run (drop i symbols)) ≡ whole → out' ≡ whole
-copy_closed out out' whole run symbols i past closes so_far =
-    closes ∙ ap (λ xs. out ++ xs) (sym (plain_close run)) ∙ ap (λ xs. out ++ xs) (sym (at_drop_all (λ xs. encode_utf8_all (copy_chars_from run xs)) symbols i past)) ∙ so_far

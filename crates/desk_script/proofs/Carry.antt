@@ -22,10 +22,6 @@ pub line_moves : (line pending after more : List ℕ) (byte : ℕ) → (byte == 
 line_moves line pending after more byte e cut empty =
     from_end pending more byte e ∙ ap (λ l. line_of l ∷ lines_from [] more) (sym cut) ∙ ap (λ i. line_of line ∷ lines_from i more) (sym empty)
 
-pub carries_start : (w : Desk) (i a : Option (List ℕ)) → Carries w w i i a a []
-carries_start w None a = tt
-carries_start w (Some input) a = ([], no_turn w a, refl)
-
 pub carries_more : (w0 w1 w2 : Desk) (i l m a b c : Option (List ℕ)) (pending chunk after : List ℕ) → Carries w0 w1 i l a b pending → Consumes l m chunk → Moves w1 w2 b c pending chunk after → Carries w0 w2 i m a c after
 carries_more w0 w1 w2 None l m a b c pending chunk after h read turn = tt
 carries_more w0 w1 w2 (Some input) None m a b c pending chunk after h read turn = absurd h

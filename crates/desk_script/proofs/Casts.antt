@@ -34,17 +34,6 @@ pub castable : (copy : List Symbol) (settings : Key → Option ℕ) (case : Case
     → (rows : List RibbonRow) × IsRibbon slice rows × ((lines : List Line) × (cast case wedge rows ≡ Ok lines))
 castable copy settings case wedge bytes slice e h = (h.rows, subst (λ b. IsRibbon b h.rows) (sym e) h.is, (h.got, h.casts))
 
--- any rows that the bytes are read as are cast
-pub casts_as_read : (case : CaseValues) (wedge : WedgeValues) (bytes : List ℕ) (read : List RibbonRow) → RibbonsHaveOneReading → IsRibbon bytes read
-    → (rows : List RibbonRow) × IsRibbon bytes rows × ((lines : List Line) × (cast case wedge rows ≡ Ok lines))
-    → (lines : List Line) × (cast case wedge read ≡ Ok lines)
-casts_as_read case wedge bytes read law is h = subst (λ r. (lines : List Line) × (cast case wedge r ≡ Ok lines)) (law bytes h.0 read h.1 is) h.2
-
 -- a ribbon has no fault
 pub no_fault : (bytes : List ℕ) (why : RibbonFault) → RibbonsHaveNoFault → why ≢ ribbons.NoMemory → (rows : List RibbonRow) × IsRibbon bytes rows → Tells bytes why → ⊥
 no_fault bytes why law other h told = law bytes h.0 why other h.1 told
-
--- rows that are cast have no fault
-pub no_cast_fault : (case : CaseValues) (wedge : WedgeValues) (rows : List RibbonRow) (why : CastFault) → why ≢ casts.NoMemory → (lines : List Line) × (cast case wedge rows ≡ Ok lines)
-    → (why ≢ casts.NoMemory → cast case wedge rows ≡ Err why) → ⊥
-no_cast_fault case wedge rows why other h told = let f : Ok h.0 ≡ Err why = sym h.1 ∙ told other in cc

@@ -1,12 +1,16 @@
--- Files that were read.
-use Rattle.std.proofs.Common.{◌≡◌, ℕ, List}
-use Rattle.std.specs.Prelude.{Option, Result, Ok, Err, IfOk}
-use Rattle.desk_answers.specs.declared.text.Refusal.{Refusal}
-use Rattle.desk_files.specs.Files.{Reads, Shelf, Stays}
-use Rattle.desk_script.specs.Inputs.{Tells, FileGives}
+-- The files of a command.
+use Rattle.std.proofs.Common.{ℕ, List, refl}
+use Rattle.std.specs.Prelude.{Ok, Err}
+use Rattle.desk_script.specs.declared.inputs.NotDone.{NotDone}
+use Rattle.desk_script.specs.declared.inputs.NotDone.TheVariants as ends
+use Rattle.desk_case.specs.Case.{CaseValues}
+use Rattle.desk_case.specs.File.{case_of}
+use Rattle.desk_wedge.specs.File.{wedge_of}
+use Rattle.desk_files.specs.Files.{Shelf}
+use Rattle.desk_script.specs.Inputs.{BothGive, FileGives, IfAnswered, case_refused, wedge_refused}
 
--- the bytes that a file gave
-pub gives_bytes : {V E X : Type 0} (meaning : List ℕ → Result V E) (refused : E → Option Refusal) (name : List ℕ) (before after : Shelf) (bytes : List ℕ) (r : Result (Result V Refusal) X)
-    → Stays before after → Reads (before.kept name) (Ok bytes) → after.failures ≡ before.failures → IfOk r (λ given. Tells refused (meaning bytes) given) → IfOk r (λ given. FileGives meaning refused name before given after)
-gives_bytes meaning refused name before after bytes (Ok given) stays read counts h = (stays, Ok bytes, read, counts, h)
-gives_bytes meaning refused name before after bytes (Err e) stays read counts h = tt
+-- a case, and no wedge
+pub no_wedge : (of_case of_wedge : List ℕ) (before mid after : Shelf) (case : CaseValues) (end : NotDone) → FileGives case_of case_refused of_case before (Ok case) mid
+    → IfAnswered (λ given. FileGives wedge_of wedge_refused of_wedge mid given after) (Err end) → IfAnswered (λ given. BothGive of_case of_wedge before given after) (Err end)
+no_wedge of_case of_wedge before mid after case (ends.Refused why) first h = (Ok case, (mid, first, (Err why, h, refl)))
+no_wedge of_case of_wedge before mid after case ends.NoMemory first h = tt

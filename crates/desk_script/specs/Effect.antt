@@ -27,6 +27,8 @@ use Rattle.desk_caster.specs.Reading.{IsRibbon}
 use Rattle.desk_job.specs.Job.{job}
 use Rattle.desk_job.specs.declared.JobFault.{JobFault}
 use Rattle.desk_script.specs.Inputs.{BothGive}
+use Rattle.desk_script.specs.declared.job.Wanted.{Wanted}
+use Rattle.desk_script.specs.declared.job.Wanted.TheVariants as wants
 use Rattle.desk_answers.specs.Reply.{lines_told}
 use Rattle.desk_answers.specs.declared.text.Refusal.{Refusal}
 use Rattle.desk_answers.specs.declared.text.Refusal.TheVariants as refusals
@@ -44,7 +46,7 @@ use Rattle.desk_script.specs.Desk.{Desk}
 use Rattle.desk_world.specs.World.{Steps, Brings, taken}
 use Rattle.desk_world.specs.World as changes
 
--- the reply to an event that stopped after so many operations: want of memory has none, as it ends the run
+-- the reply to an event that stopped after so many operations: out of memory has none, as it ends the run
 abbrev pub stopped_after : ℕ → AddRefusal → Option Reply
 stopped_after taken adds.Full = Some (if taken == 0 then Refused refusals.Full else Stopped taken refusals.Full)
 stopped_after taken adds.NoMemory = None
@@ -56,7 +58,7 @@ edit_refused edits.Place = Some (Refused refusals.Place)
 edit_refused edits.Value = Some (Refused refusals.Value)
 edit_refused edits.NoMemory = None
 
--- the reply that tells what an event answered. No line gives operations that are strange.
+-- the reply for what an event returned. No line gives operations that are strange.
 abbrev pub told : Result Answer StepRefusal → Option Reply
 told (Ok (answers.Made op)) = Some (Made (stamp_of op))
 told (Ok (answers.Taken count)) = Some (Counted count.new count.known)
@@ -70,7 +72,7 @@ told (Err (steps.Edit why)) = edit_refused why
 told (Err (steps.Halted stop)) = stopped_after stop.taken stop.why
 told (Err steps.NoMemory) = None
 
--- an event happens, and the reply tells of it
+-- an event happens, and the reply is that of its result
 abbrev pub Happens : Sites → changes.Change → Reply → Sites → Type 0
 Happens old change reply new = (result : Result Answer StepRefusal) × Steps old change result new × (told result ≡ Some reply)
 
@@ -125,7 +127,7 @@ Inserts old n place (y ∷ ys) k made reply new =
     × MatchOption (made_of result) ((option_map (after k) (told result) ≡ Some reply) × (new ≡ mid))
     (λ op. Inserts mid n place ys (k + 1) (Some (first_of made (stamp_of op), stamp_of op)) reply new)
 
--- a feed's operations are brought to a site, or its first fault is told
+-- a feed's operations are brought to a site, or its first fault is the reply
 abbrev pub Takes : Sites → ℕ → List ℕ → Reply → Sites → Type 0
 Takes old n bytes reply new =
     ((ops : List Op) × IsFeed bytes ops × ((result : Result Count StepRefusal) × Brings old n ops result new × (told (taken result) ≡ Some reply)))
@@ -182,6 +184,14 @@ abbrev pub TellsLines : CaseValues → WedgeValues → Result (List RibbonRow) (
 TellsLines case wedge (Ok rows) reply = TellsCast case wedge (ribbon rows) reply
 TellsLines case wedge (Err faults) reply = reply ≡ replies.NoRibbon faults
 
+-- what is wanted of a job, or its faults
+abbrev pub TellsJob : Wanted → CaseValues → WedgeValues → Result (List RibbonRow) (List JobFault) → Reply → Type 0
+TellsJob wants.Ribbon case wedge job reply = TellsRibbon job reply
+TellsJob wants.Lines case wedge job reply = TellsLines case wedge job reply
+
+abbrev pub IsJobOf : Wanted → OpSet → CaseValues → WedgeValues → Reply → Type 0
+IsJobOf wanted set case wedge reply = TellsJob wanted case wedge (job_of set case wedge) reply
+
 -- A job at a site: the site is looked up, both files are read by their names, whatever they give, and no set changes.
 abbrev pub Jobs : (OpSet → CaseValues → WedgeValues → Reply → Type 0) → Desk → ℕ → List ℕ → List ℕ → Reply → Desk → Type 0
 Jobs Told old n of_case of_wedge reply new = MatchOption (set_of old.sites n) (Refuses old refusals.Site reply new)
@@ -193,8 +203,8 @@ abbrev pub Keeps : Desk → Request → Reply → Desk → Type 0
 Keeps old request reply new = Does old.sites request reply new.sites × (new.shelf ≡ old.shelf)
 
 abbrev pub Performs : Desk → Request → Reply → Desk → Type 0
-Performs old (Ribbon n case wedge) reply new = Jobs (λ set c w r. TellsRibbon (job_of set c w) r) old n case wedge reply new
-Performs old (Cast n case wedge) reply new = Jobs (λ set c w r. TellsLines c w (job_of set c w) r) old n case wedge reply new
+Performs old (Ribbon n case wedge) reply new = Jobs (IsJobOf wants.Ribbon) old n case wedge reply new
+Performs old (Cast n case wedge) reply new = Jobs (IsJobOf wants.Lines) old n case wedge reply new
 Performs old (Site n) reply new = Keeps old (Site n) reply new
 Performs old (Insert n place copy) reply new = Keeps old (Insert n place copy) reply new
 Performs old (Delete n place) reply new = Keeps old (Delete n place) reply new

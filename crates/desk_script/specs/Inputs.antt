@@ -10,11 +10,13 @@ use Rattle.desk_wedge.specs.File as wedges
 use Rattle.desk_wedge.specs.declared.WedgeFault.{WedgeFault}
 use Rattle.desk_answers.specs.declared.text.Refusal.{Refusal}
 use Rattle.desk_answers.specs.declared.text.Refusal.TheVariants as refusals
+use Rattle.desk_script.specs.declared.inputs.NotDone.{NotDone}
+use Rattle.desk_script.specs.declared.inputs.NotDone.TheVariants as ends
 use Rattle.desk_files.specs.declared.files.FileRefusal.{FileRefusal}
 use Rattle.desk_files.specs.declared.files.FileRefusal.TheVariants as files
 use Rattle.desk_files.specs.Files.{Counts, Reads, Shelf, Stays}
 
--- the refusal that tells why a file was not read: want of memory has none, as it ends the run
+-- the refusal that says why a file was not read: out of memory has none, as it ends the run
 abbrev pub file_refused : FileRefusal → Option Refusal
 file_refused files.Missing = Some refusals.FileMissing
 file_refused files.Device = Some refusals.FileDevice
@@ -28,7 +30,18 @@ case_refused fault = option_map refusals.Case (cases.fault_number fault)
 abbrev pub wedge_refused : WedgeFault → Option Refusal
 wedge_refused fault = option_map refusals.Wedge (wedges.fault_number fault)
 
--- what was read, or the refusal that tells why it was not
+-- a refusal, or that memory ran out
+abbrev pub not_done : Option Refusal → NotDone
+not_done (Some why) = ends.Refused why
+not_done None = ends.NoMemory
+
+-- it holds of what was returned or refused, unless memory ran out
+abbrev pub IfAnswered : {V : Type 0} → (Result V Refusal → Type 0) → Result V NotDone → Type 0
+IfAnswered Holds (Ok value) = Holds (Ok value)
+IfAnswered Holds (Err (ends.Refused why)) = Holds (Err why)
+IfAnswered Holds (Err ends.NoMemory) = Unit {0}
+
+-- what was read, or the refusal that says why it was not
 abbrev pub Tells : {V E : Type 0} → (E → Option Refusal) → Result V E → Result V Refusal → Type 0
 Tells refused (Ok value) given = given ≡ Ok value
 Tells refused (Err why) given = (told : Refusal) × (refused why ≡ Some told) × (given ≡ Err told)
@@ -53,7 +66,7 @@ abbrev pub ThenWedge : List ℕ → Result CaseValues Refusal → Shelf → Resu
 ThenWedge name (Err why) mid given after = (given ≡ Err why) × (after ≡ mid)
 ThenWedge name (Ok case) mid given after = (wedge : Result WedgeValues Refusal) × FileGives wedge_of wedge_refused name mid wedge after × (given ≡ with_case case wedge)
 
--- the case file, its reading, the wedge file, its reading, each by its name: the first refusal is told
+-- the case file, its reading, the wedge file, its reading, each by its name: the first refusal counts
 abbrev pub BothGive : List ℕ → List ℕ → Shelf → Result (CaseValues × WedgeValues) Refusal → Shelf → Type 0
 BothGive of_case of_wedge before given after =
     (case : Result CaseValues Refusal) × ((mid : Shelf) × FileGives case_of case_refused of_case before case mid × ThenWedge of_wedge case mid given after)

@@ -19,11 +19,11 @@ Script old (line ∷ lines) [] new = ⊥
 abbrev pub Turn : Desk → Desk → Option (List ℕ) → Option (List ℕ) → List Line → Type 0
 Turn old new before after lines = (replies : List Reply) × Script old lines replies new × Appends before after (output replies)
 
--- the front of a text was written
+-- a prefix of a text was written
 abbrev pub WritesFront : Option (List ℕ) → Option (List ℕ) → List ℕ → Type 0
 WritesFront before after text = (done : List ℕ) × (rest : List ℕ) × Appends before after done × (text ≡ done ++ rest)
 
--- lines from the front were answered, no file has changed since, and a front of their answers was written
+-- the first lines were answered, no file has changed since, and a prefix of their answers was written
 abbrev pub Fronts : Desk → Shelf → Option (List ℕ) → Option (List ℕ) → List Line → Type 0
 Fronts old last before after lines =
     (front tail : List Line) × (lines ≡ front ++ tail) × (new : Desk) × Stays new.shelf last × (replies : List Reply) × Script old front replies new

@@ -14,7 +14,7 @@ ghost use Rattle.desk_script.specs.Desk.{desk};
 ghost use Rattle.desk_files.specs.Files.{Stays};
 ghost use Rattle.desk_script.specs.Effect.{Allows, Performs, Does, Happens, Says, told, after, first_of, made_of, all_made, all_symbols, Inserts, edit_refused, stopped_after, set_of, sent, Takes};
 
-use crate::job::{cast_lines, ribbon};
+use crate::job::{Wanted, job};
 use crate::memory::Memory;
 use desk_answers::{Refusal, Response};
 use desk_codec::{ReadFault, read_feed};
@@ -149,10 +149,10 @@ fn send<A: Allocator + Copy>(
     let Some(replica) = replica_of(world, from) else {
         return Ok(Response::Refused(Refusal::Site));
     };
-    let ops = replica.in_order()?;
     let Some(to) = number_of(world, to) else {
         return Ok(Response::Refused(Refusal::Site));
     };
+    let ops = replica.in_order()?;
     give_part(world, to, &ops, range)
 }
 
@@ -201,7 +201,8 @@ fn take_feed<A: Allocator + Copy>(
     match read_feed(alloc, feed) {
         Ok(ops) => bring(world, site, &ops),
         Err(ReadFault::Fault(fault)) => Ok(Response::Refused(Refusal::Feed(fault))),
-        Err(ReadFault::Failed | ReadFault::NoMemory) => Err(NoMemory),
+        Err(ReadFault::NoMemory) => Err(NoMemory),
+        Err(ReadFault::Failed) => unreachable!(),
     }
 }
 
@@ -425,8 +426,12 @@ fn act<F: Files, A: Allocator + Copy>(
         Command::Faults(site) => faults(world, site),
         Command::Settings(site) => settings(world, site),
         Command::Feed(site) => feed(world, site),
-        Command::Ribbon { site, case, wedge } => ribbon(memory, world, files, site, case, wedge),
-        Command::Cast { site, case, wedge } => cast_lines(memory, world, files, site, case, wedge),
+        Command::Ribbon { site, case, wedge } => {
+            job(memory, world, files, site, case, wedge, Wanted::Ribbon)
+        }
+        Command::Cast { site, case, wedge } => {
+            job(memory, world, files, site, case, wedge, Wanted::Lines)
+        }
         Command::Restart(site) => restart(world, site),
     }
 }

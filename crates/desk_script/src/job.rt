@@ -1,17 +1,16 @@
 //! The job of a site's copy: its ribbon, and the ribbon cast.
 
-ghost use Rattle.std.specs.Prelude.{◌≡◌, ◌<◌, ◌^◌, length, List, Ok, IfOk, MatchResult};
+ghost use Rattle.std.specs.Prelude.{◌≡◌, ◌<◌, ◌^◌, length, List, Ok, IfOk};
 ghost use Rattle.desk_signals.specs.declared.RibbonRow.{RibbonRow};
 ghost use Rattle.desk_caster.specs.Caster.{Line, cast};
 ghost use Rattle.desk_caster.specs.Reading.{IsRibbon};
 ghost use Rattle.desk_files.specs.Files.{Stays};
-ghost use Rattle.desk_script.specs.Effect.{job_of, TellsRibbon, TellsCast, TellsLines, Performs};
-ghost use Rattle.desk_answers.specs.Reply.{reply, Refused};
-ghost use Rattle.desk_commands.specs.Request as requests;
+ghost use Rattle.desk_script.specs.Effect.{IsJobOf, Jobs, TellsCast, TellsJob, job_of};
+ghost use Rattle.desk_answers.specs.Reply.{reply};
 ghost use Rattle.desk_script.specs.Desk.{desk};
 
 use crate::act::replica_of;
-use crate::inputs::both;
+use crate::inputs::{NotDone, both};
 use crate::memory::Memory;
 use desk_answers::{Refusal, Response};
 use desk_case::MatrixCase;
@@ -25,22 +24,6 @@ use desk_signals::RibbonRow;
 use desk_wedge::Wedge;
 use desk_world::World;
 use std::alloc::Allocator;
-
-/// The ribbon of a replica's copy, or the faults of its job.
-fn ribbon_of<A: Allocator + Copy>(
-    memory: Memory<A>,
-    replica: &Replica<A>,
-    case: &MatrixCase,
-    wedge: &Wedge,
-) -> Result<Response<A>, NoMemory>
-    ensures { IfOk result (λ a. TellsRibbon (job_of replica.now.ops case.now wedge.now) (reply a)) }
-{
-    match make(memory.own, replica, case, wedge) {
-        Ok(bytes) => Ok(Response::Ribbon(bytes)),
-        Err(JobRefusal::Faults(faults)) => Ok(Response::NoRibbon(faults)),
-        Err(JobRefusal::NoMemory) => Err(NoMemory),
-    }
-}
 
 /// The rows of bytes that are a ribbon.
 fn rows_in<A: Allocator + Copy>(alloc: A, bytes: &[u8]) -> Result<Vec<RibbonRow, A>, NoMemory>
@@ -93,84 +76,52 @@ fn cast_bytes<A: Allocator + Copy>(
     Ok(Response::Lines(lines))
 }
 
-/// The lines that the ribbon of a replica's copy casts, or the faults of its job.
-fn lines_of<A: Allocator + Copy>(
+/// What is wanted of a job: its ribbon, or the lines that it casts.
+#[derive(Clone, Copy, Debug, PartialEq, Eq)]
+pub enum Wanted {
+    Ribbon,
+    Lines,
+}
+
+/// The ribbon of a replica's copy or the lines that it casts, or the faults of its job.
+fn made<A: Allocator + Copy>(
     memory: Memory<A>,
     replica: &Replica<A>,
     case: &MatrixCase,
     wedge: &Wedge,
+    wanted: Wanted,
 ) -> Result<Response<A>, NoMemory>
-    ensures { IfOk result (λ a. TellsLines case.now wedge.now (job_of replica.now.ops case.now wedge.now) (reply a)) }
+    ensures { IfOk result (λ a. TellsJob wanted case.now wedge.now (job_of replica.now.ops case.now wedge.now) (reply a)) }
 {
     match make(memory.own, replica, case, wedge) {
-        Ok(bytes) => cast_bytes(memory, &bytes, case, wedge),
+        Ok(bytes) => match wanted {
+            Wanted::Ribbon => Ok(Response::Ribbon(bytes)),
+            Wanted::Lines => cast_bytes(memory, &bytes, case, wedge),
+        },
         Err(JobRefusal::Faults(faults)) => Ok(Response::NoRibbon(faults)),
         Err(JobRefusal::NoMemory) => Err(NoMemory),
     }
 }
 
-/// The ribbon, where a case and a wedge were given.
-fn ribbon_by<A: Allocator + Copy>(
-    memory: Memory<A>,
-    replica: &Replica<A>,
-    given: Result<(MatrixCase, Wedge), Refusal>,
-) -> Result<Response<A>, NoMemory>
-    ensures { IfOk result (λ a. MatchResult given (λ both. TellsRibbon (job_of replica.now.ops both.0 both.1) (reply a)) (λ why. reply a ≡ Refused why)) }
-{
-    match given {
-        Ok((case, wedge)) => ribbon_of(memory, replica, &case, &wedge),
-        Err(why) => Ok(Response::Refused(why)),
-    }
-}
-
-/// The lines cast, where a case and a wedge were given.
-fn lines_by<A: Allocator + Copy>(
-    memory: Memory<A>,
-    replica: &Replica<A>,
-    given: Result<(MatrixCase, Wedge), Refusal>,
-) -> Result<Response<A>, NoMemory>
-    ensures { IfOk result (λ a. MatchResult given (λ both. TellsLines both.0 both.1 (job_of replica.now.ops both.0 both.1) (reply a)) (λ why. reply a ≡ Refused why)) }
-{
-    match given {
-        Ok((case, wedge)) => lines_of(memory, replica, &case, &wedge),
-        Err(why) => Ok(Response::Refused(why)),
-    }
-}
-
-/// The ribbon of a site's copy by two files.
-pub fn ribbon<F: Files, A: Allocator + Copy>(
+/// The job of a site's copy by two files.
+pub fn job<F: Files, A: Allocator + Copy>(
     memory: Memory<A>,
     world: &World<A>,
     files: &mut F,
     site: u32,
     case: &str,
     wedge: &str,
+    wanted: Wanted,
 ) -> Result<Response<A>, NoMemory>
-    ensures told { IfOk result (λ a. Performs (desk world.now (F.shelf files.old)) (requests.Ribbon site case.now wedge.now) (reply a) (desk world.now (F.shelf files.new))) }
+    ensures told { IfOk result (λ a. Jobs (IsJobOf wanted) (desk world.now (F.shelf files.old)) site case.now wedge.now (reply a) (desk world.now (F.shelf files.new))) }
     ensures stays { Stays (F.shelf files.old) (F.shelf files.new) }
 {
     let Some(replica) = replica_of(world, site) else {
         return Ok(Response::Refused(Refusal::Site));
     };
-    let given = both(memory, files, case, wedge)?;
-    ribbon_by(memory, replica, given)
-}
-
-/// The ribbon of a site's copy by two files, cast.
-pub fn cast_lines<F: Files, A: Allocator + Copy>(
-    memory: Memory<A>,
-    world: &World<A>,
-    files: &mut F,
-    site: u32,
-    case: &str,
-    wedge: &str,
-) -> Result<Response<A>, NoMemory>
-    ensures told { IfOk result (λ a. Performs (desk world.now (F.shelf files.old)) (requests.Cast site case.now wedge.now) (reply a) (desk world.now (F.shelf files.new))) }
-    ensures stays { Stays (F.shelf files.old) (F.shelf files.new) }
-{
-    let Some(replica) = replica_of(world, site) else {
-        return Ok(Response::Refused(Refusal::Site));
-    };
-    let given = both(memory, files, case, wedge)?;
-    lines_by(memory, replica, given)
+    match both(memory, files, case, wedge) {
+        Ok((case, wedge)) => made(memory, replica, &case, &wedge, wanted),
+        Err(NotDone::Refused(why)) => Ok(Response::Refused(why)),
+        Err(NotDone::NoMemory) => Err(NoMemory),
+    }
 }

@@ -308,7 +308,7 @@ const REFUSED_FILES: &[(&str, &str)] = &[
     ("ribbon 1 c w", "no ribbon: missing measure"),
 ];
 
-/// The case file, its reading, the wedge file, its reading: the first refusal is told, after the site.
+/// The case file, its reading, the wedge file, its reading: the first refusal is the answer, after the site.
 #[test]
 fn refused_files(rt: HostRuntime) -> Result<(), Fail> {
     answered(rt.alloc(), REFUSED_FILES)

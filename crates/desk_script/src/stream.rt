@@ -1,7 +1,7 @@
 //! Scripts, read and answered line by line.
 
 ghost use Rattle.std.specs.Prelude.{◌≡◌, ◌≢◌, ℕ, ◌≤◌, ◌++◌, ◌∷◌, [], List, OnOk, OnErr, IfErr, IfOk, IfSome, length, string_bytes};
-ghost use Rattle.std.specs.Io.KnownBytes.{Appends};
+ghost use Rattle.std.specs.Io.KnownBytes.{Appends, IsAtEnd};
 ghost use Rattle.desk_script.specs.Lines.{Line, line_of, without_cr};
 ghost use Rattle.desk_answers.specs.Reply.{Reply, reply};
 ghost use Rattle.desk_answers.specs.Text.{text};
@@ -187,7 +187,7 @@ fn finish<W: Write, F: Files, A: Allocator + Copy>(
     take_line(memory, world, writer, files, line)
 }
 
-/// Reads commands to their end, and writes the line of each one's answer. After an `Err` what was written is the front of
+/// Reads commands to their end, and writes the line of each one's answer. After an `Err` what was written is a prefix of
 /// such lines.
 pub fn answer_all<R: Read, W: Write, F: Files, A: Allocator + Copy>(
     memory: Memory<A>,
@@ -200,6 +200,7 @@ pub fn answer_all<R: Read, W: Write, F: Files, A: Allocator + Copy>(
     ensures err { OnErr result (IfSome (R.remaining reader.old) (λ input. AnswersFront (desk world.old (F.shelf files.old)) (F.shelf files.new) input (W.contents writer.old) (W.contents writer.new))) }
     ensures stays { Stays (F.shelf files.old) (F.shelf files.new) }
     ensures own { IfErr result IsOfRun }
+    ensures end { OnOk result (IsAtEnd (R.remaining reader.new)) }
 {
     let mut line = Vec::new(memory.own);
     let mut chunk = [0u8; 512];
@@ -221,7 +222,7 @@ pub fn answer_all<R: Read, W: Write, F: Files, A: Allocator + Copy>(
 }
 
 /// Reads commands to their end, on a world that has no site yet, and writes the line of each one's answer. After an
-/// `Err` what was written is the front of such lines. The reading of a case or a wedge takes the global allocator alone.
+/// `Err` what was written is a prefix of such lines. The reading of a case or a wedge takes the global allocator alone.
 pub fn run<R: Read, W: Write, F: Files, A: Allocator + Copy>(
     alloc: A,
     global: Global,
@@ -233,6 +234,7 @@ pub fn run<R: Read, W: Write, F: Files, A: Allocator + Copy>(
     ensures err { OnErr result (IfSome (R.remaining reader.old) (λ input. AnswersFront (desk no_sites (F.shelf files.old)) (F.shelf files.new) input (W.contents writer.old) (W.contents writer.new))) }
     ensures stays { Stays (F.shelf files.old) (F.shelf files.new) }
     ensures own { IfErr result IsOfRun }
+    ensures end { OnOk result (IsAtEnd (R.remaining reader.new)) }
 {
     let mut world = World::new(alloc);
     let memory = Memory { own: alloc, global };

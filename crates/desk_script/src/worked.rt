@@ -71,7 +71,7 @@ const REFUSED_FEEDS: &[(&str, &str)] = &[
     ("show 1", "copy r\"a\""),
 ];
 
-/// A feed's first fault is told by its byte, and nothing changes.
+/// A feed's first fault is reported with its byte, and nothing changes.
 #[test]
 fn refused_feeds(rt: HostRuntime) -> Result<(), Fail> {
     answered(rt.alloc(), REFUSED_FEEDS)
@@ -473,7 +473,7 @@ const SETTINGS_BY_STAMP: &[(&str, &str)] = &[
     ("settings 65537", "refused site"),
 ];
 
-/// The set with the greatest stamp tells, whatever order they came in.
+/// The set with the greatest stamp counts, whatever order they came in.
 #[test]
 fn settings_by_stamp(rt: HostRuntime) -> Result<(), Fail> {
     answered(rt.alloc(), SETTINGS_BY_STAMP)

@@ -77,9 +77,6 @@ kept_added es fs n t kept none same distinct more named = record {
 pub refused : (old : Sites) (n : ℕ) (why : StepRefusal) → site_refusal old n ≡ Some why → Steps old (changes.Site n) (Err why) old
 refused old n why e = subst (λ o. MatchOption o (Adds old n (Err why) old) (λ w. Refuses old w (Err why) old)) (sym e) (refl, refl)
 
-pub zero_refused : (old : Sites) (n : ℕ) → (n == 0) ≡ true → site_refusal old n ≡ Some refusals.Number
-zero_refused old n a = rw a refl
-
 pub known_refused : (old : Sites) (n : ℕ) → (n == 0) ≡ false → fin.contains_key old n ≡ true → site_refusal old n ≡ Some refusals.KnownSite
 known_refused old n a b = rw (a, b) refl
 

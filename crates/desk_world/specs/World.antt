@@ -86,7 +86,7 @@ taken (Err why) = Err why
 abbrev pub site_with : ℕ → OpSet → State
 site_with n set = record { site = n; ops = set }
 
--- the first cause that refuses an edit, want of memory aside
+-- the first cause that refuses an edit, out of memory aside
 abbrev pub refusal_of : OpSet → LocalEdit → Option EditRefusal
 refusal_of ops (kinds.Insert place symbol) = insert_refusal ops place symbol
 refusal_of ops (kinds.Delete place) = delete_refusal ops place
@@ -98,7 +98,7 @@ IsEdited s t (kinds.Insert place symbol) op = IsInserted s t place symbol op
 IsEdited s t (kinds.Delete place) op = IsDeleted s t place op
 IsEdited s t (kinds.Set key value) op = IsSetTo s t key value op
 
--- an operation is made and gained, or nothing changes, for the first cause or for want of memory
+-- an operation is made and gained, or nothing changes, for the first cause or as memory ran out
 abbrev pub Edits : State → LocalEdit → Result Answer StepRefusal → State → Type 0
 Edits s edit result t = MatchResult result
     (λ a. (op : Op) × (a ≡ answers.Made op) × (refusal_of s.ops edit ≡ None) × IsEdited s t edit op)
