@@ -1,11 +1,11 @@
 -- Reading in loops.
-use Rattle.std.proofs.Common.{◌≡◌, ℕ, ◌+◌, ◌*◌, ◌≤◌, ◌<◌, List, [], ◌∷◌, ◌++◌, Option, Some, None, refl, sym, ap, ◌∙◌, append_assoc, length, drop, get_or}
+use Rattle.std.proofs.Common.{◌≡◌, ℕ, ◌+◌, ◌≤◌, ◌<◌, List, [], ◌∷◌, ◌++◌, Option, Some, None, refl, sym, ap, ◌∙◌, append_assoc, length, drop, get_or}
 use Rattle.std.specs.Prelude.{option_to_list}
 use Rattle.std.proofs.lemmas.List.{append-nil, at_drop_more, at_drop_all}
 use Rattle.desk_ops.specs.declared.op.Symbol.{Symbol}
 use Rattle.desk_commands.specs.declared.copy.Place.{Place}
 use Rattle.desk_commands.specs.declared.copy.Place.TheVariants.{Run, Quote, Opened, Inside, Escape, Closed}
-use Rattle.desk_commands.specs.Reading.{◌>>=◌, nibble, pairs}
+use Rattle.desk_commands.specs.Reading.{◌>>=◌}
 use Rattle.desk_commands.specs.Copy.{step, ends, copy_from}
 use Rattle.std.specs.Str.{IsUtf8, is_utf8}
 use Rattle.std.proofs.Common.{Bool, true, false}
