@@ -1,9 +1,8 @@
 #!/usr/bin/env bash
-# Kills a run on a stored feed at many moments: afterwards the old feed stands, or the new one, and never a part.
+# Kills a run on a stored feed at many moments: afterwards the old feed stands, or the new one, and never a part:
+# kill.sh [PROGRAM].
 set -euo pipefail
-cd "$(dirname "$0")/../crates/copydesk"
-rt run -- script < stdin > /dev/null
-program=$PWD/out/copydesk
+program=$(realpath "${1:-$(dirname "$0")/../crates/copydesk/out/copydesk}")
 folder=$(mktemp -d)
 trap 'rm -rf "$folder"' EXIT
 cd "$folder"

@@ -5,8 +5,6 @@ pub mod laws;
 mod line;
 mod machine;
 mod reading;
-#[cfg(test)]
-mod tests;
 
 use desk_image::BadImage;
 use desk_ops::Symbol;

@@ -16,6 +16,3 @@ pub use laws::{
 };
 pub use reading::{next_op, read_feed};
 pub use writing::{write_feed, write_op};
-
-#[cfg(test)]
-mod tests;

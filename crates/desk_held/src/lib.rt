@@ -188,6 +188,3 @@ impl<A: Allocator + Copy> Held<A> {
         self.ops.as_slice()
     }
 }
-
-#[cfg(test)]
-mod tests;

@@ -105,6 +105,3 @@ pub enum JobRefusal<A: Allocator> {
     Faults(JobFaults<A>),
     NoMemory,
 }
-
-#[cfg(test)]
-mod tests;

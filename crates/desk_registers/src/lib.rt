@@ -87,6 +87,3 @@ impl Registers {
         self.kept(key).map(|kept| kept.value)
     }
 }
-
-#[cfg(test)]
-mod tests;

@@ -1,0 +1,324 @@
+use desk_codec::{FeedFault, FeedWhy, ReadFault, next_op, read_feed, write_feed, write_op};
+use desk_ops::{Key, NoMemory, Op, Stamp, Style, Symbol, Unlawful};
+use linked_list_allocator::LocalHeap;
+use std::alloc::{Allocator, Global};
+use std::test::Fail;
+
+const INSERT_A: Op = Op::Insert {
+    stamp: Stamp {
+        counter: 1,
+        site: 1,
+    },
+    parent: Stamp::HEAD,
+    symbol: Symbol {
+        style: Style::Roman,
+        ch: 'a',
+    },
+};
+
+const INSERT_B: Op = Op::Insert {
+    stamp: Stamp {
+        counter: 2,
+        site: 1,
+    },
+    parent: Stamp {
+        counter: 1,
+        site: 1,
+    },
+    symbol: Symbol {
+        style: Style::Roman,
+        ch: 'b',
+    },
+};
+
+const DELETE: Op = Op::Delete {
+    stamp: Stamp {
+        counter: 4,
+        site: 2,
+    },
+    target: Stamp {
+        counter: 3,
+        site: 1,
+    },
+};
+
+const MEASURE_144: Op = Op::Set {
+    stamp: Stamp {
+        counter: 5,
+        site: 2,
+    },
+    key: Key::Measure,
+    value: 144,
+};
+
+const MEASURE_120: Op = Op::Set {
+    stamp: Stamp {
+        counter: 5,
+        site: 1,
+    },
+    key: Key::Measure,
+    value: 120,
+};
+
+const LAST_COUNTER: Op = Op::Insert {
+    stamp: Stamp {
+        counter: 1 << 62,
+        site: 2,
+    },
+    parent: Stamp::HEAD,
+    symbol: Symbol {
+        style: Style::Roman,
+        ch: 'q',
+    },
+};
+
+/// The feed of `INSERT_A` and `INSERT_B`.
+const FEED_AB: [u8; 56] = [
+    0x4d, 0x46, 0x44, 0x31, 1, 0, 0, 0, 0, 0, 0, 0, 1, 0, 1, 0, 0, 0, 0, 0, 0, 0, 0, 0, 0, 0, 0, 0,
+    0, 0x61, 1, 0, 0, 0, 0, 0, 0, 0, 2, 0, 1, 0, 0, 0, 0, 0, 0, 0, 1, 0, 1, 0, 0, 0, 0, 0x62,
+];
+
+const EXAMPLES: [(Op, &[u8]); 5] = [
+    (
+        INSERT_A,
+        &[
+            1, 0, 0, 0, 0, 0, 0, 0, 1, 0, 1, 0, 0, 0, 0, 0, 0, 0, 0, 0, 0, 0, 0, 0, 0, 0x61,
+        ],
+    ),
+    (
+        DELETE,
+        &[
+            2, 0, 0, 0, 0, 0, 0, 0, 4, 0, 2, 0, 0, 0, 0, 0, 0, 0, 3, 0, 1,
+        ],
+    ),
+    (
+        MEASURE_144,
+        &[3, 0, 0, 0, 0, 0, 0, 0, 5, 0, 2, 1, 0, 0, 0, 0x90],
+    ),
+    (
+        MEASURE_120,
+        &[3, 0, 0, 0, 0, 0, 0, 0, 5, 0, 1, 1, 0, 0, 0, 0x78],
+    ),
+    (
+        LAST_COUNTER,
+        &[
+            1, 0x40, 0, 0, 0, 0, 0, 0, 0, 0, 2, 0, 0, 0, 0, 0, 0, 0, 0, 0, 0, 0, 0, 0, 0, 0x71,
+        ],
+    ),
+];
+
+/// Whether reading bytes as a feed answers these operations, or this fault.
+fn is_read_as<A: Allocator>(alloc: A, bytes: &[u8], want: Result<&[Op], ReadFault>) -> bool {
+    match (read_feed(alloc, bytes), want) {
+        (Ok(ops), Ok(want)) => ops.as_slice() == want,
+        (Err(fault), Err(want)) => fault == want,
+        _ => false,
+    }
+}
+
+/// Whether the bytes of an operation are those, and the bytes are those of the operation, alone and in a feed.
+fn is_spelled(alloc: Global, op: Op, bytes: &[u8]) -> Result<bool, Fail> {
+    if op.check().is_err() || write_op(&op).as_slice() != bytes || bytes.is_empty() {
+        return Ok(false);
+    }
+    let is_next = match next_op(bytes) {
+        Ok((read, rest)) => read == op && rest.is_empty(),
+        Err(_) => false,
+    };
+    let mut feed = Vec::from_slice(alloc, b"MFD1")?;
+    feed.extend_from_slice(bytes)?;
+    Ok(is_next && is_read_as(alloc, &feed, Ok(&[op])))
+}
+
+#[test]
+fn examples_of_bytes(rt: HostRuntime) -> Result<(), Fail> {
+    for (op, bytes) in EXAMPLES {
+        assert!(rt; is_spelled(rt.alloc(), op, bytes)?, "{op:?}");
+    }
+    Ok(())
+}
+
+/// The two operations of `FEED_AB`.
+const AB: [Op; 2] = [INSERT_A, INSERT_B];
+
+#[test]
+fn two_sites_show_ab(rt: HostRuntime) -> Result<(), Fail> {
+    assert!(rt; write_feed(rt.alloc(), &AB)?.as_slice() == FEED_AB.as_slice());
+    assert!(rt; is_read_as(rt.alloc(), &FEED_AB, Ok(&AB)));
+    Ok(())
+}
+
+fn fault(at: u64, why: FeedWhy) -> ReadFault {
+    ReadFault::Fault(FeedFault { at, why })
+}
+
+#[test]
+fn refused_feeds(rt: HostRuntime) {
+    let equal_counters = [
+        0x4d, 0x46, 0x44, 0x31, 1, 0, 0, 0, 0, 0, 0, 0, 3, 0, 1, 0, 0, 0, 0, 0, 0, 0, 3, 0, 2, 0,
+        0, 0, 0, 0x61,
+    ];
+    let cases: [(&[u8], u64, FeedWhy); 4] = [
+        (&equal_counters, 4, FeedWhy::Unlawful(Unlawful::Target)),
+        (&[0x4d, 0x46, 0x44, 0x31, 2, 0], 4, FeedWhy::Cut),
+        (&[0x4d, 0x46, 0x44, 0x31, 9], 4, FeedWhy::Kind),
+        (&[0x4d, 0x46], 0, FeedWhy::Magic),
+    ];
+    for (bytes, at, why) in cases {
+        assert!(rt; is_read_as(rt.alloc(), bytes, Err(fault(at, why))), "{why}");
+    }
+}
+
+/// Of every shorter prefix of a feed: the place and the cause.
+#[test]
+fn prefixes_of_a_feed(rt: HostRuntime) {
+    for len in 0..56usize {
+        let want = match len {
+            0..=3 => Err(fault(0, FeedWhy::Magic)),
+            4 => Ok(&AB[..0]),
+            30 => Ok(&AB[..1]),
+            5..=29 => Err(fault(4, FeedWhy::Cut)),
+            _ => Err(fault(30, FeedWhy::Cut)),
+        };
+        assert!(rt;
+            is_read_as(rt.alloc(), &FEED_AB[..len], want),
+            "{len} bytes"
+        );
+    }
+}
+
+/// Which cause is told where several hold, and of numbers that are no symbol's and no key's.
+#[test]
+fn causes_in_order(rt: HostRuntime) {
+    let cases: [(&[u8], FeedWhy); 5] = [
+        // A surrogate, and a style above 2 with a site of 0.
+        (
+            &[
+                1, 0, 0, 0, 0, 0, 0, 0, 1, 0, 1, 0, 0, 0, 0, 0, 0, 0, 0, 0, 0, 0, 0, 0, 0xd8, 0,
+            ],
+            FeedWhy::Unlawful(Unlawful::Symbol),
+        ),
+        (
+            &[
+                1, 0, 0, 0, 0, 0, 0, 0, 1, 0, 0, 0, 0, 0, 0, 0, 0, 0, 0, 0, 0, 3, 0, 0, 0, 0x61,
+            ],
+            FeedWhy::Unlawful(Unlawful::Site),
+        ),
+        // Key 6, whatever the value, and with a counter of 0.
+        (
+            &[3, 0, 0, 0, 0, 0, 0, 0, 5, 0, 1, 6, 0, 0, 0, 0],
+            FeedWhy::Unlawful(Unlawful::Key),
+        ),
+        (
+            &[3, 0, 0, 0, 0, 0, 0, 0, 0, 0, 1, 6, 0, 0, 0, 0x78],
+            FeedWhy::Unlawful(Unlawful::Counter),
+        ),
+        // Cut off comes before a site of 0.
+        (&[3, 0, 0, 0, 0, 0, 0, 0, 5, 0, 0, 1, 0, 0, 0], FeedWhy::Cut),
+    ];
+    for (bytes, why) in cases {
+        assert!(rt;
+            !bytes.is_empty() && next_op(bytes).err() == Some(why),
+            "{why}"
+        );
+    }
+}
+
+/// Takes what a heap of 512 bytes can give, but for so many times 16.
+fn ballast(heap: &LocalHeap, cut: usize) -> Option<Vec<u8, &LocalHeap>> {
+    Vec::with_capacity(heap, 512usize.saturating_sub(cut.saturating_mul(16))).ok()
+}
+
+/// Whether reading bytes in a cut heap is out of memory. Any other answer is the wanted one, and with memory each is.
+fn is_reading_refused(
+    alloc: Global,
+    cut: usize,
+    bytes: &[u8],
+    want: Result<&[Op], ReadFault>,
+) -> Result<bool, Fail> {
+    let heap = LocalHeap::new(alloc, 512)?;
+    let ballast = ballast(&heap, cut);
+    let refused = is_read_as(&heap, bytes, Err(ReadFault::NoMemory));
+    let right = refused || is_read_as(&heap, bytes, want);
+    drop(ballast);
+    if !right || !is_read_as(&heap, bytes, want) {
+        return Err(Fail::new("another answer"));
+    }
+    Ok(refused)
+}
+
+/// Whether writing the feed in a cut heap is out of memory; with memory it is written.
+fn is_writing_refused(alloc: Global, cut: usize) -> Result<bool, Fail> {
+    let heap = LocalHeap::new(alloc, 512)?;
+    let ballast = ballast(&heap, cut);
+    let refused = match write_feed(&heap, &AB) {
+        Ok(bytes) if bytes.as_slice() == FEED_AB.as_slice() => false,
+        Ok(_) => return Err(Fail::new("another feed")),
+        Err(NoMemory) => true,
+    };
+    drop(ballast);
+    if write_feed(&heap, &AB)?.as_slice() != FEED_AB.as_slice() {
+        return Err(Fail::new("another feed with memory"));
+    }
+    Ok(refused)
+}
+
+/// A refused growth is out of memory; of other magic, and of too few bytes for an operation, the fault comes in any case.
+/// What is written takes its memory at once, so few sizes of a heap refuse it.
+#[test]
+fn growth_refused(rt: HostRuntime) -> Result<(), Fail> {
+    let cases: [(&[u8], Result<&[Op], ReadFault>, u32, u32); 4] = [
+        (&FEED_AB, Ok(&AB), 6, 15),
+        (&FEED_AB[..55], Err(fault(30, FeedWhy::Cut)), 1, 15),
+        (b"MFD1\x09", Err(fault(4, FeedWhy::Kind)), 0, 0),
+        (&FEED_AB[1..], Err(fault(0, FeedWhy::Magic)), 0, 0),
+    ];
+    for (bytes, want, least, most) in cases {
+        let mut refused = 0u32;
+        for cut in 0..16usize {
+            refused = refused.saturating_add(u32::from(is_reading_refused(
+                rt.alloc(),
+                cut,
+                bytes,
+                want,
+            )?));
+        }
+        assert!(rt;
+            least <= refused && refused <= most,
+            "{want:?} refused {refused} times"
+        );
+    }
+    let mut unwritten = 0u32;
+    for cut in 0..16usize {
+        unwritten = unwritten.saturating_add(u32::from(is_writing_refused(rt.alloc(), cut)?));
+    }
+    assert!(rt;
+        3 <= unwritten && unwritten <= 5,
+        "unwritten {unwritten} times"
+    );
+    Ok(())
+}
+
+#[test]
+fn names_its_faults(rt: HostRuntime) -> Result<(), Fail> {
+    for (fault, text) in [
+        (fault(7, FeedWhy::Magic), "at byte 7: no feed begins so"),
+        (
+            fault(7, FeedWhy::Kind),
+            "at byte 7: no such kind of operation",
+        ),
+        (
+            fault(7, FeedWhy::Unlawful(Unlawful::Key)),
+            "at byte 7: unlawful: no such key",
+        ),
+        (fault(7, FeedWhy::Cut), "at byte 7: cut off"),
+        (ReadFault::Failed, "the reading has ended"),
+        (ReadFault::NoMemory, "no memory"),
+    ] {
+        assert!(rt;
+            format!(in rt.alloc(); "{fault}")?.as_str() == text,
+            "{text}"
+        );
+    }
+    Ok(())
+}

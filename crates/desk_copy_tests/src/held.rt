@@ -1,0 +1,290 @@
+ghost use Rattle.std.specs.Prelude.{IfOk, All};
+ghost use Rattle.desk_ops.specs.Op.{IsLawful};
+
+use desk_held::{AddRefusal, Added, Halt, Held};
+use desk_ops::{Key, NoMemory, Op, Stamp, Style, Symbol};
+use linked_list_allocator::LocalHeap;
+use std::alloc::{Allocator, Global};
+use std::test::Fail;
+
+fn insert(counter: u64) -> Op {
+    Op::Insert {
+        stamp: Stamp { counter, site: 1 },
+        parent: Stamp::HEAD,
+        symbol: Symbol {
+            style: Style::Roman,
+            ch: 'a',
+        },
+    }
+}
+
+/// Another operation of the stamp 1.1.
+const FORK: Op = Op::Set {
+    stamp: Stamp {
+        counter: 1,
+        site: 1,
+    },
+    key: Key::Measure,
+    value: 120,
+};
+
+/// Adds a lawful operation.
+fn add<A: Allocator + Copy>(held: &mut Held<A>, op: Op) -> Result<Result<Added, AddRefusal>, Fail> {
+    if op.check().is_err() {
+        return Err(Fail::new("an unlawful operation"));
+    }
+    Ok(held.add(op))
+}
+
+/// A list in order of so many operations from a counter on, of each second counter.
+fn row_of(alloc: Global, first: u64, number: u64) -> Result<Vec<Op>, Fail>
+    ensures { IfOk result (λ v. All IsLawful v.items) }
+{
+    let mut ops = Vec::new(alloc);
+    for k in 0..number {
+        let op = insert(first.saturating_add(k.saturating_mul(2)));
+        if op.check().is_ok() {
+            ops.push(op)?;
+        }
+    }
+    Ok(ops)
+}
+
+/// Adds such a list, or one that falls.
+fn add_row<A: Allocator + Copy>(
+    alloc: Global,
+    held: &mut Held<A>,
+    first: u64,
+    number: u64,
+    falls: bool,
+) -> Result<Option<Halt>, Fail> {
+    let mut ops = row_of(alloc, first, number)?;
+    if falls {
+        ops.reverse();
+    }
+    Ok(held.add_all(&ops).err())
+}
+
+/// Whether what is held are the operations of the counters from 1 on, each second or each, so many.
+fn counts<A: Allocator + Copy>(held: &Held<A>, step: u64, number: usize) -> bool {
+    let mut counter = 1u64;
+    for op in held.as_slice() {
+        if *op != insert(counter) {
+            return false;
+        }
+        counter = counter.saturating_add(step);
+    }
+    held.len() == number
+}
+
+/// Takes what a heap of so many bytes can give, but for so many times 16.
+fn ballast(heap: &LocalHeap, bytes: usize, cut: usize) -> Option<Vec<u8, &LocalHeap>> {
+    Vec::with_capacity(heap, bytes.saturating_sub(cut.saturating_mul(16))).ok()
+}
+
+#[test]
+fn holds_what_is_added(rt: HostRuntime) -> Result<(), Fail> {
+    let mut held = Held::new(rt.alloc());
+    let one = insert(1);
+    for (op, want) in [
+        (one, Added::New),
+        (one, Added::Known),
+        (FORK, Added::Forks),
+        (insert(2), Added::New),
+    ] {
+        assert!(rt; add(&mut held, op)? == Ok(want), "{want:?}");
+    }
+    let row = [one, FORK, insert(2)];
+    let row = row.as_slice();
+    assert!(rt; held.as_slice() == row && held.in_order()?.as_slice() == row);
+    assert!(rt; held.len() == 3 && held.greatest_counter() == 2 && !held.is_empty());
+    assert!(rt; held.has(&one) && held.has(&FORK) && !held.has(&insert(3)));
+    for (op, holds, clear) in [
+        (one, true, None),
+        (row[2], true, Some(row[2])),
+        (insert(3), false, None),
+    ] {
+        let stamp = op.stamp();
+        assert!(rt;
+            held.holds(stamp) == holds
+                && held.clear_op(stamp) == clear
+                && held.is_clear(stamp) == clear.is_some()
+        );
+    }
+    Ok(())
+}
+
+/// Whatever the order and the repetition of long lists, each operation is held once, by stamp.
+fn long_lists(alloc: Global, falls: bool) -> Result<bool, Fail> {
+    let mut held = Held::new(alloc);
+    for first in [2, 1, 2] {
+        if add_row(alloc, &mut held, first, 50, falls)?.is_some() {
+            return Ok(false);
+        }
+    }
+    Ok(counts(&held, 1, 100))
+}
+
+#[test]
+fn long_lists_are_joined(rt: HostRuntime) -> Result<(), Fail> {
+    assert!(rt; long_lists(rt.alloc(), false)?);
+    Ok(())
+}
+
+#[test]
+fn lists_that_fall_are_joined(rt: HostRuntime) -> Result<(), Fail> {
+    assert!(rt; long_lists(rt.alloc(), true)?);
+    Ok(())
+}
+
+/// Whether a list of 40 is halted in a cut heap. It is added up to the refused growth, and with memory to its end.
+fn is_halted(alloc: Global, cut: usize, falls: bool) -> Result<bool, Fail> {
+    let heap = LocalHeap::new(alloc, 8192)?;
+    let ballast = ballast(&heap, 8192, cut);
+    let mut held = Held::new(&heap);
+    let halt = add_row(alloc, &mut held, 1, 40, falls)?;
+    drop(ballast);
+    let (added, is_right) = match halt {
+        None => (40, true),
+        Some(halt) => (
+            halt.added,
+            halt.added < 40 && halt.why == AddRefusal::NoMemory,
+        ),
+    };
+    if !is_right || held.len() != added || !(falls || counts(&held, 2, added)) {
+        return Err(Fail::new("another halt"));
+    }
+    if add_row(alloc, &mut held, 1, 40, falls)?.is_some() || !counts(&held, 2, 40) {
+        return Err(Fail::new("not all are held"));
+    }
+    Ok(halt.is_some())
+}
+
+#[test]
+fn stopped_at_k(rt: HostRuntime) -> Result<(), Fail> {
+    for (falls, most) in [(false, 240usize), (true, 400)] {
+        let mut halts = 0u32;
+        for cut in 0..most {
+            halts = halts.saturating_add(u32::from(is_halted(rt.alloc(), cut, falls)?));
+        }
+        assert!(rt; halts > 20 && halts < 380, "{halts} halts");
+    }
+    Ok(())
+}
+
+/// Whether a growth was refused in a cut heap that holds four operations, and has room for so many more. A refused
+/// addition leaves the set, and with memory it is made; a known operation takes no room.
+fn is_refused(alloc: Global, cut: usize, op: Op, want: Added, spare: usize) -> Result<bool, Fail> {
+    let heap = LocalHeap::new(alloc, 4096)?;
+    let mut held = Held::new(&heap);
+    held.reserve(spare)?;
+    if add_row(alloc, &mut held, 1, 4, false)?.is_some() {
+        return Err(Fail::new("four were refused"));
+    }
+    let ballast = ballast(&heap, 4096, cut);
+    let has_room = held.spare() > 0 || want == Added::Known;
+    let first = add(&mut held, op)?;
+    drop(ballast);
+    match first {
+        Ok(added) if added == want => return Ok(false),
+        Err(AddRefusal::NoMemory) if !has_room && counts(&held, 2, 4) => {}
+        _ => return Err(Fail::new("another answer")),
+    }
+    if add(&mut held, op)? != Ok(want) {
+        return Err(Fail::new("not added with memory"));
+    }
+    Ok(true)
+}
+
+#[test]
+fn refused_growths_change_nothing(rt: HostRuntime) -> Result<(), Fail> {
+    for (op, want, spare, refusals) in [
+        (insert(2), Added::New, 0, true),
+        (FORK, Added::Forks, 0, true),
+        (insert(1), Added::Known, 0, false),
+        (insert(100), Added::New, 5, false),
+    ] {
+        let mut refused = 0u32;
+        for cut in 0..256usize {
+            refused = refused.saturating_add(u32::from(is_refused(
+                rt.alloc(),
+                cut,
+                op,
+                want,
+                spare,
+            )?));
+        }
+        assert!(rt;
+            (refused > 3) == refusals && refused < 250,
+            "{want:?} refused {refused} times"
+        );
+    }
+    Ok(())
+}
+
+/// Whether a reserve was refused in a cut heap: the set and its room are as before, and with memory the same call gives
+/// room.
+fn is_reserve_refused(alloc: Global, cut: usize) -> Result<bool, Fail> {
+    let heap = LocalHeap::new(alloc, 4096)?;
+    let mut held = Held::new(&heap);
+    if add_row(alloc, &mut held, 1, 4, false)?.is_some() {
+        return Err(Fail::new("four were refused"));
+    }
+    let spare = held.spare();
+    let ballast = ballast(&heap, 4096, cut);
+    let refused = held.reserve(20).is_err();
+    drop(ballast);
+    if refused && held.spare() < spare || !counts(&held, 2, 4) {
+        return Err(Fail::new("a refused reserve changed the set"));
+    }
+    held.reserve(20)?;
+    if held.spare() < 20 {
+        return Err(Fail::new("no room"));
+    }
+    Ok(refused)
+}
+
+/// Whether no list of the operations was made in a cut heap; with memory one is.
+fn is_list_refused(alloc: Global, cut: usize) -> Result<bool, Fail> {
+    let heap = LocalHeap::new(alloc, 4096)?;
+    let mut held = Held::new(&heap);
+    if add_row(alloc, &mut held, 1, 5, false)?.is_some() {
+        return Err(Fail::new("five were refused"));
+    }
+    let ballast = ballast(&heap, 4096, cut);
+    let refused = match held.in_order() {
+        Ok(list) => list.as_slice() != held.as_slice(),
+        Err(NoMemory) => true,
+    };
+    drop(ballast);
+    if held.in_order()?.as_slice() != held.as_slice() || !counts(&held, 2, 5) {
+        return Err(Fail::new("another list"));
+    }
+    Ok(refused)
+}
+
+#[test]
+fn growths_of_reserves_and_lists(rt: HostRuntime) -> Result<(), Fail> {
+    let mut reserves = 0u32;
+    let mut lists = 0u32;
+    for cut in 0..256usize {
+        reserves = reserves.saturating_add(u32::from(is_reserve_refused(rt.alloc(), cut)?));
+        lists = lists.saturating_add(u32::from(is_list_refused(rt.alloc(), cut)?));
+    }
+    assert!(rt; reserves > 3 && reserves < 250 && lists > 3 && lists < 250);
+    Ok(())
+}
+
+#[test]
+fn names_its_faults(rt: HostRuntime) -> Result<(), Fail> {
+    for (fault, text) in [
+        (AddRefusal::Full, "as many operations are held as may be"),
+        (AddRefusal::NoMemory, "no memory"),
+    ] {
+        assert!(rt;
+            format!(in rt.alloc(); "{fault}")?.as_str() == text,
+            "{text}"
+        );
+    }
+    Ok(())
+}

@@ -1,0 +1,11 @@
+//! The tests of desk_ops, desk_codec, desk_held and desk_registers.
+#![tactic(auto)]
+
+#[cfg(test)]
+mod codec;
+#[cfg(test)]
+mod held;
+#[cfg(test)]
+mod ops;
+#[cfg(test)]
+mod registers;

@@ -1,0 +1,329 @@
+ghost use Rattle.std.specs.Prelude.{◌≤◌};
+
+use crate::cases::{FILLS, WEDGE, ballast, case_with, wedge_of};
+use desk_caster::{CastFault, CastLine, RibbonFault, cast, read_ribbon};
+use desk_image::BadImage;
+use desk_signals::{Column, Position, RibbonRow, RowNo};
+use linked_list_allocator::LocalHeap;
+use std::alloc::{Allocator, Global};
+use std::fmt::Write;
+use std::test::Fail;
+
+fn cell(column: Column, row: u8, s: bool) -> RibbonRow
+    requires low { 1 ≤ row }
+    requires high { row ≤ 15 }
+{
+    let row = RowNo::new(row).unwrap();
+    RibbonRow::Cell { column, row, s }
+}
+
+fn coarse(number: u8) -> RibbonRow
+    requires low { 1 ≤ number }
+    requires high { number ≤ 15 }
+{
+    RibbonRow::Coarse(Position::new(number).unwrap())
+}
+
+fn fine(number: u8) -> RibbonRow
+    requires low { 1 ≤ number }
+    requires high { number ≤ 15 }
+{
+    RibbonRow::FineOut(Position::new(number).unwrap())
+}
+
+/// The rows of an empty paragraph: the head row, the added space, nine fills of O15 and one of A5, and the wedges.
+fn empty_paragraph(alloc: Global) -> Result<Vec<RibbonRow>, Fail> {
+    let mut rows = Vec::new(alloc);
+    rows.push(fine(8))?;
+    rows.push(cell(Column::G, 1, true))?;
+    for _ in 0..9u32 {
+        rows.push(cell(Column::O, 15, false))?;
+    }
+    rows.push(cell(Column::A, 5, false))?;
+    rows.push(coarse(8))?;
+    rows.push(fine(7))?;
+    Ok(rows)
+}
+
+/// Lines as text, each ended by a semicolon: its positions, its total, and each matrix, which is its symbol, or `_`, or of
+/// a justified space the width.
+fn shown<A: Allocator>(alloc: Global, lines: &[CastLine<A>]) -> Result<String, Fail> {
+    let mut text = String::new(alloc);
+    for line in lines {
+        let (coarse, fine) = (line.coarse().get(), line.fine().get());
+        write!(text, "{coarse}/{fine} {} ", line.total().get())?;
+        for matrix in line.matrices() {
+            match matrix.symbol {
+                Some(symbol) => text.push(symbol.ch)?,
+                None if matrix.s => write!(text, "({})", matrix.width.get())?,
+                None => text.push('_')?,
+            }
+        }
+        text.push(';')?;
+    }
+    Ok(text)
+}
+
+/// What the caster makes of rows, in a heap: lines as text, or its fault.
+fn cast_in<A: Allocator + Copy>(
+    alloc: Global,
+    heap: A,
+    rows: &[RibbonRow],
+) -> Result<Result<String, CastFault>, Fail> {
+    if rows.len() > 100 {
+        return Err(Fail::new("more rows than a test has"));
+    }
+    let wedge = wedge_of(alloc, WEDGE)?;
+    let case = case_with(alloc, FILLS)?;
+    match cast(heap, rows, &case, &wedge) {
+        Ok(lines) => Ok(Ok(shown(alloc, &lines)?)),
+        Err(fault) => Ok(Err(fault)),
+    }
+}
+
+fn is_as(told: &Result<String, CastFault>, want: Result<&str, CastFault>) -> bool {
+    match (told, want) {
+        (Ok(text), Ok(want)) => text.as_str() == want,
+        (Err(fault), Err(want)) => *fault == want,
+        _ => false,
+    }
+}
+
+/// Of rows whose cast has each growth refused in turn: how often it wanted memory, and how often not. Its other answers
+/// are the wanted one, and so is the answer with memory.
+fn refusals(
+    alloc: Global,
+    rows: &[RibbonRow],
+    want: Result<&str, CastFault>,
+) -> Result<(u32, u32), Fail> {
+    let mut refused = 0u32;
+    let mut others = 0u32;
+    for cut in 0..256usize {
+        let heap = LocalHeap::new(alloc, 8192)?;
+        let ballast = ballast(&heap, 8192, cut);
+        let first = cast_in(alloc, &heap, rows)?;
+        drop(ballast);
+        if first == Err(CastFault::NoMemory) {
+            refused = refused.saturating_add(1);
+        } else if is_as(&first, want) {
+            others = others.saturating_add(1);
+        } else {
+            return Err(Fail::new("another answer"));
+        }
+        if !is_as(&cast_in(alloc, &heap, rows)?, want) {
+            return Err(Fail::new("another answer with memory"));
+        }
+    }
+    Ok((refused, others))
+}
+
+#[test]
+fn faults_of_rows(rt: HostRuntime) -> Result<(), Fail> {
+    let (head, n) = (fine(8), cell(Column::A, 8, false));
+    let cases: [(&[RibbonRow], Result<&str, CastFault>); 6] = [
+        (&[head], Ok("")),
+        (&[], Ok("")),
+        (&[coarse(6), fine(9)], Err(CastFault::NotSentOut(0))),
+        (
+            &[head, coarse(3), coarse(3), head],
+            Err(CastFault::NotSentOut(2)),
+        ),
+        (&[head, n, head], Err(CastFault::NoWedges(1))),
+        (
+            &[head, cell(Column::B, 1, false), coarse(3), head],
+            Err(CastFault::NoMatrix(1)),
+        ),
+    ];
+    for (rows, want) in cases {
+        assert!(rt;
+            is_as(&cast_in(rt.alloc(), rt.alloc(), rows)?, want),
+            "{want:?}"
+        );
+    }
+    Ok(())
+}
+
+const EMPTY_PARAGRAPH: &str = "8/7 2159952 (107952)__________;";
+
+#[test]
+fn empty_paragraph_ribbon(rt: HostRuntime) -> Result<(), Fail> {
+    let rows = empty_paragraph(rt.alloc())?;
+    let told = cast_in(rt.alloc(), rt.alloc(), &rows)?;
+    assert!(rt; is_as(&told, Ok(EMPTY_PARAGRAPH)));
+    Ok(())
+}
+
+/// Characters come back in reading order, and each growth of `cast` refused in turn is out of memory.
+#[test]
+fn growths_of_cast(rt: HostRuntime) -> Result<(), Fail> {
+    let (n, space) = (cell(Column::A, 8, false), cell(Column::G, 1, true));
+    let one = [
+        fine(8),
+        n,
+        space,
+        cell(Column::C, 5, false),
+        coarse(3),
+        fine(8),
+    ];
+    let six = [
+        fine(8),
+        n,
+        n,
+        n,
+        n,
+        n,
+        n,
+        n,
+        space,
+        coarse(1),
+        fine(9),
+        space,
+        coarse(2),
+        fine(9),
+        space,
+        coarse(3),
+        fine(9),
+        space,
+        coarse(4),
+        fine(9),
+        space,
+        coarse(5),
+        fine(9),
+        space,
+        coarse(6),
+        fine(9),
+    ];
+    let lines =
+        "1/9 881208 nnnnnnn(41208);2/9 50928 (50928);3/9 60648 (60648);4/9 70368 (70368);5/9 80088 (80088);6/9 89808 (89808);";
+    let bad = [cell(Column::B, 1, false), n, coarse(3), fine(8)];
+    let cases: [(&[RibbonRow], Result<&str, CastFault>); 3] = [
+        (&one, Ok("3/8 288000 n(60000)a;")),
+        (&six, Ok(lines)),
+        (&bad, Err(CastFault::NoMatrix(0))),
+    ];
+    for (rows, want) in cases {
+        let (refused, others) = refusals(rt.alloc(), rows, want)?;
+        assert!(rt;
+            refused > 1 && others > 9,
+            "{want:?} refused {refused} times"
+        );
+    }
+    Ok(())
+}
+
+/// The bytes of an empty paragraph's ribbon.
+const RIBBON: [u8; 64] = [
+    0x4d, 0x52, 0x42, 0x31, 0, 0, 0, 14, 0, 0, 2, 6, 1, 1, 0, 1, 0, 0, 0, 0, 0, 0, 0, 0, 0, 0, 0,
+    0, 0, 0, 0, 0, 0, 0, 0, 0, 0, 0, 0, 0, 0, 0, 0, 0, 0, 0, 0, 0, 0, 0, 0, 0, 0x40, 0, 0x10, 0, 0,
+    0, 2, 2, 0, 0, 4, 6,
+];
+
+/// The same, which says one row fewer, without its last one.
+const FEWER: [u8; 60] = [
+    0x4d, 0x52, 0x42, 0x31, 0, 0, 0, 13, 0, 0, 2, 6, 1, 1, 0, 1, 0, 0, 0, 0, 0, 0, 0, 0, 0, 0, 0,
+    0, 0, 0, 0, 0, 0, 0, 0, 0, 0, 0, 0, 0, 0, 0, 0, 0, 0, 0, 0, 0, 0, 0, 0, 0, 0x40, 0, 0x10, 0, 0,
+    0, 2, 2,
+];
+
+/// Whether reading bytes in a heap answers these rows, or this fault.
+fn is_read_as<A: Allocator>(
+    heap: A,
+    bytes: &[u8],
+    want: Result<&[RibbonRow], RibbonFault>,
+) -> bool {
+    match (read_ribbon(heap, bytes), want) {
+        (Ok(rows), Ok(want)) => rows.as_slice() == want,
+        (Err(fault), Err(want)) => fault == want,
+        _ => false,
+    }
+}
+
+#[test]
+fn ribbons_are_read(rt: HostRuntime) -> Result<(), Fail> {
+    let rows = empty_paragraph(rt.alloc())?;
+    let cases: [(&[u8], Result<&[RibbonRow], RibbonFault>); 8] = [
+        (&RIBBON, Ok(&rows)),
+        (&RIBBON[..60], Err(RibbonFault::Count)),
+        (b"MR", Err(RibbonFault::Magic)),
+        (b"MRB2\0\0\0\0", Err(RibbonFault::Magic)),
+        (b"MRB1", Err(RibbonFault::Count)),
+        (b"MRB1\0\0\0\x01", Err(RibbonFault::Count)),
+        (b"MRB1\0\0\0\0\0", Err(RibbonFault::Count)),
+        (
+            b"MRB1\0\0\0\x01\x80\0\0\0",
+            Err(RibbonFault::Row(0, BadImage::HighBit)),
+        ),
+    ];
+    for (bytes, want) in cases {
+        assert!(rt; is_read_as(rt.alloc(), bytes, want), "{bytes:?}");
+    }
+    Ok(())
+}
+
+/// A ribbon without its last row, which says so: the row before it meets no wedges.
+#[test]
+fn damaged_ribbon(rt: HostRuntime) -> Result<(), Fail> {
+    let rows = read_ribbon(rt.alloc(), &FEWER)?;
+    let told = cast_in(rt.alloc(), rt.alloc(), &rows)?;
+    assert!(rt; is_as(&told, Err(CastFault::NoWedges(12))));
+    Ok(())
+}
+
+/// Each growth of reading refused in turn is out of memory, also of a ribbon whose second row has no meaning; with memory
+/// the answer is the same.
+#[test]
+fn refused_growths_of_reading(rt: HostRuntime) -> Result<(), Fail> {
+    let rows = empty_paragraph(rt.alloc())?;
+    let bad = b"MRB1\0\0\0\x02\0\0\x02\x06\x80\0\0\0";
+    let cases: [(&[u8], Result<&[RibbonRow], RibbonFault>); 2] = [
+        (&RIBBON, Ok(&rows)),
+        (bad, Err(RibbonFault::Row(1, BadImage::HighBit))),
+    ];
+    for (bytes, want) in cases {
+        let mut refused = 0u32;
+        for cut in 0..64usize {
+            let heap = LocalHeap::new(rt.alloc(), 4096)?;
+            let ballast = ballast(&heap, 4096, cut);
+            let is_refused = is_read_as(&heap, bytes, Err(RibbonFault::NoMemory));
+            assert!(rt; is_refused || is_read_as(&heap, bytes, want));
+            drop(ballast);
+            assert!(rt; is_read_as(&heap, bytes, want));
+            refused = refused.saturating_add(u32::from(is_refused));
+        }
+        assert!(rt; refused > 0 && refused < 60, "refused {refused} times");
+    }
+    Ok(())
+}
+
+#[test]
+fn names_its_faults(rt: HostRuntime) -> Result<(), Fail> {
+    for (fault, text) in [
+        (CastFault::NoWedges(3), "the wedges are not set"),
+        (CastFault::NoMatrix(3), "the case has no matrix there"),
+        (CastFault::NotSentOut(3), "a line was not sent out"),
+        (CastFault::NoMemory, "no memory"),
+    ] {
+        assert!(rt;
+            format!(in rt.alloc(); "{fault}")?.as_str() == text,
+            "{text}"
+        );
+    }
+    for (fault, text) in [
+        (RibbonFault::Magic, "no ribbon begins so"),
+        (
+            RibbonFault::Count,
+            "the ribbon has not as many rows as it says",
+        ),
+        (
+            RibbonFault::Row(3, BadImage::HighBit),
+            "a row has no meaning",
+        ),
+        (RibbonFault::NoMemory, "no memory"),
+    ] {
+        assert!(rt;
+            format!(in rt.alloc(); "{fault}")?.as_str() == text,
+            "{text}"
+        );
+    }
+    Ok(())
+}

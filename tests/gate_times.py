@@ -1,0 +1,149 @@
+#!/usr/bin/env python3
+"""The processor time of the gate, by crate and part.
+
+usage: gate_times.py --watch FILE COMMAND ..    runs the command, passes on what it writes, ends with its status, and
+                                                puts into FILE what each process below it has used
+       gate_times.py FILE                       prints FILE as a table, in seconds
+
+The parts are proofs (without tests), tests (the proof of a crate with its tests), edits (the wrong bodies that the prover
+must refuse), builds (compilers) and runs (tests and programs). `from` and `to` are seconds since the command began, from
+the first process of a crate to its last. A process is looked at twice a second, so up to half a second of each is missed;
+the last line has the exact sum of all. The last line that the command wrote is kept, and `gate_times.py FILE` ends with it.
+"""
+import json
+import os
+import resource
+import subprocess
+import sys
+import threading
+import time
+
+PARTS = ["proofs", "tests", "edits", "builds", "runs"]
+TICK = os.sysconf("SC_CLK_TCK")
+
+
+def read(pid, name):
+    with open("/proc/%d/%s" % (pid, name), "rb") as file:
+        return file.read()
+
+
+def processes():
+    """The parent and the processor seconds of each process."""
+    found = {}
+    for name in os.listdir("/proc"):
+        if name.isdigit():
+            try:
+                words = read(int(name), "stat").rpartition(b")")[2].split()
+                found[int(name)] = (int(words[1]), (int(words[11]) + int(words[12])) / TICK)
+            except (OSError, IndexError, ValueError):
+                pass
+    return found
+
+
+def kind_of(pid):
+    """The crate and the part that a process works for, none where its words don't say."""
+    try:
+        words = read(pid, "cmdline").decode(errors="replace").split("\0")
+        folder = os.readlink("/proc/%d/cwd" % pid)
+    except OSError:
+        return None
+    for word in words:
+        if "/rt-run-" in word and "/bin/" in word:
+            return word.rpartition("/bin/")[2].partition(".")[0].removesuffix("_tests"), "runs"
+    if os.path.basename(words[0]) != "rattle" or "--crate-name" not in words:
+        return None
+    crate = words[words.index("--crate-name") + 1]
+    if "/rt-edit-" in folder:
+        return crate, "edits"
+    if "--crate-checked" in words:
+        return crate, "builds"
+    return crate, "tests" if "--test" in words else "proofs"
+
+
+class Watch:
+    """What has been seen of the processes below one of them."""
+
+    def __init__(self, root):
+        self.root, self.began, self.kinds, self.seen = root, time.time(), {}, {}
+
+    def look(self):
+        now, found = time.time() - self.began, processes()
+        for pid, (_, seconds) in found.items():
+            line, at = [], pid
+            while at in found and at != self.root:
+                line.append(at)
+                at = found[at][0]
+            if at != self.root:
+                continue
+            kind = ("", "other")
+            for step in reversed(line):
+                if step not in self.kinds:
+                    told = kind_of(step)
+                    if told:
+                        self.kinds[step] = told
+                inner = self.kinds.get(step)
+                # (a compiler below a prover is no proof)
+                kind = inner or ((kind[0], "builds") if kind[1] in ("proofs", "tests") else kind)
+            first = self.seen.get(pid, (None, now))[1]
+            self.seen[pid] = (kind, first, now, seconds)
+
+
+def watched(file, command):
+    child = subprocess.Popen(command, stdout=subprocess.PIPE, stderr=subprocess.STDOUT)
+    watch, ended = Watch(os.getpid()), threading.Event()
+
+    def look_on():
+        while not ended.wait(0.5):
+            try:
+                watch.look()
+            except Exception as error:  # what is measured must not fail the gate
+                print("gate_times: %s" % error, file=sys.stderr)
+
+    looks = threading.Thread(target=look_on)
+    looks.start()
+    last = ""
+    for line in child.stdout:
+        sys.stdout.buffer.write(line)
+        sys.stdout.buffer.flush()
+        last = line.decode(errors="replace").rstrip("\n")
+    status = child.wait()
+    ended.set()
+    looks.join()
+    used = resource.getrusage(resource.RUSAGE_CHILDREN)
+    told = {"wall": time.time() - watch.began, "processor": used.ru_utime + used.ru_stime, "last": last, "seen": list(watch.seen.values())}
+    with open(file, "w", encoding="utf-8") as out:
+        json.dump(told, out)
+    return status if status >= 0 else 128 - status
+
+
+def table(told):
+    rows = {}
+    for (crate, part), first, last, seconds in told["seen"]:
+        row = rows.setdefault(crate or "rt itself", {"from": first, "to": last})
+        row[part] = row.get(part, 0) + seconds
+        row["from"], row["to"] = min(row["from"], first), max(row["to"], last)
+    heads = [*PARTS, "other"]
+    print("%-22s" % "seconds of processor" + "".join("%8s" % it for it in [*heads, "all", "from", "to"]))
+    for crate, row in sorted(rows.items(), key=lambda it: -sum(it[1].get(part, 0) for part in heads)):
+        numbers = [row.get(part, 0) for part in heads]
+        print("%-22s" % crate + "".join("%8.0f" % it for it in [*numbers, sum(numbers), row["from"], row["to"]]))
+    sums = [sum(row.get(part, 0) for row in rows.values()) for part in heads]
+    print("%-22s" % "all" + "".join("%8.0f" % it for it in [*sums, sum(sums)]))
+    minutes = told["processor"] / 60, told["wall"] / 60
+    print("in all %.1f minutes of processor, in %.1f minutes" % minutes)
+    print(told["last"])
+
+
+def main(words):
+    if words[:1] == ["--watch"] and len(words) > 2:
+        return watched(words[1], words[2:])
+    if len(words) == 1 and not words[0].startswith("-"):
+        with open(words[0], encoding="utf-8") as file:
+            table(json.load(file))
+        return 0
+    print(__doc__, file=sys.stderr)
+    return 2
+
+
+if __name__ == "__main__":
+    sys.exit(main(sys.argv[1:]))
