@@ -156,6 +156,3 @@ impl Image {
         picture
     }
 }
-
-#[cfg(test)]
-mod tests;

@@ -473,6 +473,3 @@ impl BadRow {
         self as u8 + 1
     }
 }
-
-#[cfg(test)]
-mod tests;

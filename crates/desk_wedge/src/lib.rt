@@ -2,8 +2,6 @@
 #![tactic(auto)]
 
 pub mod keys;
-#[cfg(test)]
-mod tests;
 
 ghost use Rattle.std.specs.Prelude.{◌≡◌, ◌≢◌, ◌≤◌, Ok, Err, None, IfOk, IfErr, IfSome, option_and_then};
 ghost use Rattle.std.specs.List.Sorted.{IsNonDecreasing};

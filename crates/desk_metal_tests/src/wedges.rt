@@ -1,76 +1,100 @@
-use crate::{Wedge, WedgeFault, WedgeKey};
+ghost use Rattle.std.specs.Prelude.{◌≤◌};
+
 use desk_signals::RowNo;
 use desk_units::Pica;
+use desk_wedge::{Wedge, WedgeFault, WedgeKey};
+use std::alloc::Global;
 use std::test::Fail;
 
 const W: &str =
     "wedge = 5\nset_q = 48\npica = \"sixth\"\nunits = [5, 6, 7, 8, 9, 9, 9, 10, 10, 11, 12, 13, 14, 15, 18]\n";
 
+fn row(number: u8) -> RowNo
+    requires low { 1 ≤ number }
+    requires high { number ≤ 15 }
+{
+    RowNo::new(number).unwrap()
+}
+
+/// The units of the rows.
+fn has_units(wedge: &Wedge, units: [u8; 15]) -> bool {
+    for (at, want) in units.iter().enumerate() {
+        if wedge.units(row(at as u8 + 1)) != *want {
+            return false;
+        }
+    }
+    true
+}
+
 #[test]
 fn reads_the_wedge_whole(rt: HostRuntime) -> Result<(), Fail> {
-    let wedge = Wedge::read(rt.alloc(), W.as_bytes())?;
-    assert_eq!(rt; wedge.number(), 5);
-    assert_eq!(rt; wedge.set_q().get(), 48);
-    assert_eq!(rt; wedge.pica(), Pica::Sixth);
-    for (at, units) in [5, 6, 7, 8, 9, 9, 9, 10, 10, 11, 12, 13, 14, 15, 18]
-        .iter()
-        .enumerate()
-    {
-        let row = RowNo::new(at as u8 + 1).ok_or("row")?;
-        assert_eq!(rt; wedge.units(row), *units, "row {at}");
-    }
-    wedge.is_lawful();
-    crate::descent_is_first_fall();
+    // Keys come in any order.
     let other =
-        b"units = [1,1,1,1,1,1,1,1,1,1,1,1,1,1,24] # keys come in any order\npica = 'american'\nset_q = 0x60\nwedge = 65_535\nmore = {}";
-    let wedge = Wedge::read(rt.alloc(), other)?;
-    assert_eq!(rt; wedge.number(), 65535);
-    assert_eq!(rt; wedge.set_q().get(), 96);
-    assert_eq!(rt; wedge.pica(), Pica::American);
+        "units = [1,1,1,1,1,1,1,1,1,1,1,1,1,1,24] # all of them\npica = 'american'\nset_q = 0x60\nwedge = 65_535\nmore = {}";
+    for (text, number, set_q, pica, units) in [
+        (
+            W,
+            5,
+            48,
+            Pica::Sixth,
+            [5, 6, 7, 8, 9, 9, 9, 10, 10, 11, 12, 13, 14, 15, 18],
+        ),
+        (
+            other,
+            65535,
+            96,
+            Pica::American,
+            [1, 1, 1, 1, 1, 1, 1, 1, 1, 1, 1, 1, 1, 1, 24],
+        ),
+    ] {
+        let wedge = Wedge::read(rt.alloc(), text.as_bytes())?;
+        assert!(rt;
+            wedge.number() == number && wedge.set_q().get() == set_q && wedge.pica() == pica,
+            "{number}"
+        );
+        assert!(rt; has_units(&wedge, units), "{number}");
+    }
     Ok(())
 }
 
-/// Whether reading the text answers this fault.
-fn faulty(rt: HostRuntime, text: &str, fault: WedgeFault) -> bool {
-    Wedge::read(rt.alloc(), text.as_bytes()) == Err(fault)
+/// Whether reading bytes answers this fault.
+fn is_faulty(alloc: Global, bytes: &[u8], fault: WedgeFault) -> bool {
+    Wedge::read(alloc, bytes) == Err(fault)
 }
 
-/// A wedge file with these units.
-fn with_units(rt: HostRuntime, units: &str) -> Result<String, Fail> {
-    Ok(format!(in rt.alloc(); "wedge = 1\nset_q = 20\npica = \"sixth\"\nunits = {units}")?)
+/// Whether a wedge file with these units answers this fault.
+fn are_faulty(alloc: Global, units: &str, fault: WedgeFault) -> Result<bool, Fail> {
+    let text = format!(in alloc; "wedge = 1\nset_q = 20\npica = \"sixth\"\nunits = {units}")?;
+    Ok(is_faulty(alloc, text.as_bytes(), fault))
 }
 
 #[test]
 fn unlawful_files(rt: HostRuntime) -> Result<(), Fail> {
+    for (units, fault) in [
+        (
+            "[6, 5, 7, 8, 9, 9, 9, 10, 10, 11, 12, 13, 14, 15, 18]",
+            WedgeFault::Descending(row(2)),
+        ),
+        (
+            "[5,6,7,7,5,6,7,8,9,10,11,12,13,14,13]",
+            WedgeFault::Descending(row(5)),
+        ),
+    ] {
+        assert!(rt; are_faulty(rt.alloc(), units, fault)?, "{units}");
+    }
     let narrow =
         "wedge = 5\nset_q = 19\npica = \"sixth\"\nunits = [5, 6, 7, 8, 9, 9, 9, 10, 10, 11, 12, 13, 14, 15, 18]\n";
-    assert!(rt; faulty(rt, narrow, WedgeFault::Range(WedgeKey::SetQ)));
-    let falling =
-        "wedge = 5\nset_q = 48\npica = \"sixth\"\nunits = [6, 5, 7, 8, 9, 9, 9, 10, 10, 11, 12, 13, 14, 15, 18]\n";
-    assert!(rt;
-        faulty(
-            rt,
-            falling,
-            WedgeFault::Descending(RowNo::new(2).ok_or("row")?)
-        )
-    );
-    assert!(rt; faulty(rt, "wedge =", WedgeFault::NotToml));
-    let later = with_units(rt, "[5,6,7,7,5,6,7,8,9,10,11,12,13,14,13]")?;
-    assert!(rt;
-        faulty(
-            rt,
-            later.as_str(),
-            WedgeFault::Descending(RowNo::new(5).ok_or("row")?)
-        )
-    );
+    for (text, fault) in [
+        (narrow, WedgeFault::Range(WedgeKey::SetQ)),
+        ("wedge =", WedgeFault::NotToml),
+    ] {
+        assert!(rt; is_faulty(rt.alloc(), text.as_bytes(), fault), "{text}");
+    }
     Ok(())
 }
 
 #[test]
-fn hostile_files(rt: HostRuntime) -> Result<(), Fail> {
-    assert!(rt; Wedge::read(rt.alloc(), b"\xff") == Err(WedgeFault::NotToml));
-    assert!(rt; Wedge::read(rt.alloc(), b"wedge = 5\n# \xc3\x28\n") == Err(WedgeFault::NotToml));
-    assert!(rt; Wedge::read(rt.alloc(), b"wedge = 0\n\xed\xa0\x80") == Err(WedgeFault::NotToml));
+fn hostile_files(rt: HostRuntime) {
     let cases = [
         ("", WedgeFault::Missing(WedgeKey::Wedge)),
         ("wedge", WedgeFault::NotToml),
@@ -161,9 +185,38 @@ fn hostile_files(rt: HostRuntime) -> Result<(), Fail> {
         ),
     ];
     for (text, fault) in cases {
-        assert!(rt; faulty(rt, text, fault), "{text}");
+        assert!(rt; is_faulty(rt.alloc(), text.as_bytes(), fault), "{text}");
     }
-    Ok(())
+    for bytes in [
+        b"\xff".as_slice(),
+        b"wedge = 5\n# \xc3\x28\n",
+        b"wedge = 0\n\xed\xa0\x80",
+    ] {
+        assert!(rt;
+            is_faulty(rt.alloc(), bytes, WedgeFault::NotToml),
+            "{bytes:?}"
+        );
+    }
+}
+
+/// What stands before, then an opening so many times, a closing as often where there is one, and an end.
+fn nested(
+    alloc: Global,
+    before: &str,
+    opening: &str,
+    depth: u32,
+    closing: &str,
+    end: &str,
+) -> Result<String, Fail> {
+    let mut text = String::from_str(alloc, before)?;
+    for _ in 0..depth {
+        text.push_str(opening)?;
+    }
+    for _ in 0..depth {
+        text.push_str(closing)?;
+    }
+    text.push_str(end)?;
+    Ok(text)
 }
 
 #[test]
@@ -188,28 +241,44 @@ fn hostile_units(rt: HostRuntime) -> Result<(), Fail> {
         "\"123456789012345\"",
     ];
     for list in lists {
-        let text = with_units(rt, list)?;
         assert!(rt;
-            faulty(rt, text.as_str(), WedgeFault::Range(WedgeKey::Units)),
+            are_faulty(rt.alloc(), list, WedgeFault::Range(WedgeKey::Units))?,
             "{list}"
         );
     }
-    let mut deep = with_units(rt, "")?;
-    for _ in 0..5000u32 {
-        deep.push_str("[")?;
+    for closing in ["", "]"] {
+        let deep = nested(rt.alloc(), "", "[", 5000, closing, "")?;
+        assert!(rt;
+            are_faulty(rt.alloc(), deep.as_str(), WedgeFault::NotToml)?,
+            "{closing}"
+        );
     }
-    assert!(rt; faulty(rt, deep.as_str(), WedgeFault::NotToml));
-    for _ in 0..5000u32 {
-        deep.push_str("]")?;
+    Ok(())
+}
+
+/// A value that nests, under a key that is passed over, and then a number out of its range.
+#[test]
+fn nested_values(rt: HostRuntime) -> Result<(), Fail> {
+    for (depth, fault) in [
+        (1, WedgeFault::Range(WedgeKey::Wedge)),
+        (80, WedgeFault::Range(WedgeKey::Wedge)),
+        (100, WedgeFault::NotToml),
+        (5000, WedgeFault::NotToml),
+    ] {
+        let text = nested(rt.alloc(), "other = ", "[", depth, "]", "\nwedge = 0\n")?;
+        assert!(rt;
+            is_faulty(rt.alloc(), text.as_bytes(), fault),
+            "{depth} deep"
+        );
     }
-    assert!(rt; faulty(rt, deep.as_str(), WedgeFault::NotToml));
+    let tables = nested(rt.alloc(), "wedge = ", "{a=", 5000, "", "")?;
+    assert!(rt; is_faulty(rt.alloc(), tables.as_bytes(), WedgeFault::NotToml));
     Ok(())
 }
 
 #[test]
 fn names_its_faults(rt: HostRuntime) -> Result<(), Fail> {
-    let row = RowNo::new(7).ok_or("row")?;
-    let faults = [
+    for (fault, number, text) in [
         (WedgeFault::NotToml, Some(1), "the file is not TOML"),
         (
             WedgeFault::Missing(WedgeKey::Wedge),
@@ -222,87 +291,50 @@ fn names_its_faults(rt: HostRuntime) -> Result<(), Fail> {
             "`units` is of another type, length or value",
         ),
         (
-            WedgeFault::Descending(row),
+            WedgeFault::Descending(row(7)),
             Some(4),
             "row 7 has fewer units than the row before",
         ),
         (WedgeFault::NoMemory, None, "no memory"),
-    ];
-    for (fault, number, text) in faults {
-        assert_eq!(rt; fault.number(), number);
-        let told = format!(in rt.alloc(); "{fault}")?;
-        assert_eq!(rt; told.as_str(), text);
+    ] {
+        assert!(rt;
+            fault.number() == number && format!(in rt.alloc(); "{fault}")?.as_str() == text,
+            "{text}"
+        );
     }
     Ok(())
 }
 
-/// A value that nests so deep, under a key that is passed over, and then a number out of its range.
-fn nested(rt: HostRuntime, depth: u32) -> Result<String, Fail> {
-    let mut text = String::from_str(rt.alloc(), "other = ")?;
-    for _ in 0..depth {
-        text.push_str("[")?;
-    }
-    for _ in 0..depth {
-        text.push_str("]")?;
-    }
-    text.push_str("\nwedge = 0\n")?;
-    Ok(text)
-}
-
-#[test]
-fn nested_values(rt: HostRuntime) -> Result<(), Fail> {
-    for depth in [1, 80] {
-        let text = nested(rt, depth)?;
-        assert!(rt;
-            faulty(rt, text.as_str(), WedgeFault::Range(WedgeKey::Wedge)),
-            "{depth} deep"
-        );
-    }
-    for depth in [100, 5000] {
-        assert!(rt;
-            faulty(rt, nested(rt, depth)?.as_str(), WedgeFault::NotToml),
-            "{depth} deep"
-        );
-    }
-    let mut tables = String::from_str(rt.alloc(), "wedge = ")?;
-    for _ in 0..5000u32 {
-        tables.push_str("{a=")?;
-    }
-    assert!(rt; faulty(rt, tables.as_str(), WedgeFault::NotToml));
-    Ok(())
-}
-
-/// 64 MiB of text: its front, then one byte over and over, and its end.
-fn long(rt: HostRuntime, front: &str, filler: u8, end: &str) -> Result<Vec<u8>, Fail> {
-    let mut bytes = Vec::with_capacity(rt.alloc(), 67_108_864)?;
-    bytes.extend_from_slice(front.as_bytes())?;
+/// Whether 64 MiB of text, which is its prefix, then one byte over and over, and its end, answers this fault, or none.
+fn is_long_as(
+    alloc: Global,
+    prefix: &str,
+    filler: u8,
+    end: &str,
+    fault: Option<WedgeFault>,
+) -> Result<bool, Fail> {
+    let mut bytes = Vec::with_capacity(alloc, 67_108_864)?;
+    bytes.extend_from_slice(prefix.as_bytes())?;
     bytes.resize(67_108_864usize.saturating_sub(end.len()), filler)?;
     bytes.extend_from_slice(end.as_bytes())?;
-    Ok(bytes)
+    Ok(bytes.len() == 67_108_864 && Wedge::read(alloc, bytes.as_slice()).err() == fault)
 }
 
 #[test]
 fn blanks_of_64_mib(rt: HostRuntime) -> Result<(), Fail> {
-    let text = long(rt, "", b' ', W)?;
-    assert_eq!(rt; text.len(), 67_108_864);
-    assert!(rt; Wedge::read(rt.alloc(), text.as_slice()).is_ok());
+    assert!(rt; is_long_as(rt.alloc(), "", b' ', W, None)?);
     Ok(())
 }
 
 #[test]
 fn comment_of_64_mib(rt: HostRuntime) -> Result<(), Fail> {
-    let text = long(rt, "#", b'x', "\nwedge = 0")?;
-    assert_eq!(rt; text.len(), 67_108_864);
-    assert!(rt;
-        Wedge::read(rt.alloc(), text.as_slice()) == Err(WedgeFault::Range(WedgeKey::Wedge))
-    );
+    let range = WedgeFault::Range(WedgeKey::Wedge);
+    assert!(rt; is_long_as(rt.alloc(), "#", b'x', "\nwedge = 0", Some(range))?);
     Ok(())
 }
 
 #[test]
 fn garbage_of_64_mib(rt: HostRuntime) -> Result<(), Fail> {
-    let text = long(rt, "", b'x', "")?;
-    assert_eq!(rt; text.len(), 67_108_864);
-    assert!(rt; Wedge::read(rt.alloc(), text.as_slice()) == Err(WedgeFault::NotToml));
+    assert!(rt; is_long_as(rt.alloc(), "", b'x', "", Some(WedgeFault::NotToml))?);
     Ok(())
 }

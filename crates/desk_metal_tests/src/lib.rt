@@ -1,0 +1,15 @@
+//! The tests of desk_signals, desk_image, desk_units, desk_wedge and desk_case.
+#![tactic(auto)]
+
+#[cfg(test)]
+mod cases;
+#[cfg(test)]
+mod image;
+#[cfg(test)]
+mod rows;
+#[cfg(test)]
+mod signals;
+#[cfg(test)]
+mod units;
+#[cfg(test)]
+mod wedges;
