@@ -1,7 +1,7 @@
 -- The set of a list of waiting operations.
-use Rattle.std.proofs.Common.{◌≡◌, ℕ, zero, suc, ◌+◌, ◌<◌, ◌⊎◌, inl, inr, ◌||◌, Bool, true, false, cond, List, [], ◌∷◌, map, length, take, get_or, refl, sym, ap, ◌∙◌, arith}
+use Rattle.std.proofs.Common.{◌≡◌, ℕ, zero, suc, ◌+◌, ◌<◌, ◌⊎◌, inl, inr, ◌||◌, Bool, true, false, cond, List, [], ◌∷◌, map, length, take, get_or, refl, sym, ap, ◌∙◌, arith, All}
 use Rattle.std.specs.Option.{is_some}
-use Rattle.std.specs.List.{insert, remove, filter, AllByRecursion}
+use Rattle.std.specs.List.{insert, remove, filter, list_any, AllByRecursion}
 use Rattle.std.specs.FinMap as fin
 use Rattle.std.specs.FinMap.Entries.{by_order}
 use Rattle.std.specs.Ordering.{is_lt, is_eq, eq_by_cmp}
@@ -20,9 +20,12 @@ use Rattle.desk_ops.proofs.Lists.{Each-weaker, each-among}
 use Rattle.desk_ops.proofs.Means.{among-any}
 use Rattle.desk_ops.proofs.Tree.{filter-hit, filter-miss}
 use Rattle.desk_ops.proofs.OpSets.{with_op-known}
-use Rattle.desk_ops.proofs.Unions.{has_op-with_op, with_op-comm, size-with_op, with_all-take}
-use Rattle.desk_room.specs.Waiting.{waits_for, waiting_at}
-use Rattle.desk_room.specs.Turn.{turn_cmp, IsInTurn, set_of}
+use Rattle.desk_ops.proofs.Unions.{has_op-with_op, with_op-comm, size-with_op, with_all-take, same-set, has_op-with_all}
+use Rattle.std.specs.List.Sorted.{IsPermutation}
+use Rattle.std.proofs.lemmas.List.Sorted.{list_any-IsPermutation, All-permutation}
+use Rattle.desk_ops.specs.Op.{IsLawful}
+use Rattle.desk_room.specs.Waiting.{waits_for, waiting_at, HasTarget}
+use Rattle.desk_room.specs.Turn.{turn_cmp, IsInTurn, set_of, IsKept}
 use Rattle.desk_room.proofs.Turns.{apart-left}
 
 none-held : (q : Op) → has_op no_ops q ≡ false
@@ -134,3 +137,25 @@ taken-more os k h g y d l is e f = f ∙ ap (λ (h : OpSet). with_op h y) e ∙ 
 
 pub taken-known : (os : List Op) (k : ℕ) (h : OpSet) (y d : Op) → k < length os → y ≡ get_or os k d → h ≡ with_all no_ops (take k os) → has_op h y ≡ true → h ≡ with_all no_ops (take (k + 1) os)
 taken-known os k h y d l is e known = taken-more os k h h y d l is e (sym (with_op-known h y known))
+
+-- ---- of a list in another order
+
+set-any : (xs : List Op) (q : Op) → has_op (set_of xs) q ≡ list_any (eq_by_cmp op_cmp q) xs
+set-any [] q = none-held q
+set-any (x ∷ xs) q = has_op-with_op (set_of xs) x q ∙ ap (λ b. eq_by_cmp op_cmp q x || b) (set-any xs q)
+
+or_false : (a : Bool) → (a || false) ≡ a
+or_false true = refl
+or_false false = refl
+
+pub set-permuted : (xs ys : List Op) → IsPermutation xs ys → set_of ys ≡ with_all no_ops xs
+set-permuted xs ys h = same-set (set_of ys) (with_all no_ops xs) (λ q.
+    set-any ys q ∙ sym (list_any-IsPermutation (eq_by_cmp op_cmp q) xs ys h)
+    ∙ sym (has_op-with_all no_ops xs q ∙ ap (λ b. list_any (eq_by_cmp op_cmp q) xs || b) (none-held q) ∙ or_false (list_any (eq_by_cmp op_cmp q) xs)))
+
+each-from_all : (P : Op → Type 0) (xs : List Op) → All P xs → AllByRecursion P xs
+each-from_all P [] a = tt
+each-from_all P (x ∷ xs) a = (a 0 x (omega arith), each-from_all P xs (λ k d l. a (suc k) d (omega arith)))
+
+pub kept-permuted : (xs ys : List Op) → IsPermutation xs ys → IsInTurn ys → All IsLawful xs → All HasTarget xs → IsKept ys
+kept-permuted xs ys h t lawful targets = record { in_turn = t; lawful = each-from_all IsLawful ys (All-permutation IsLawful xs ys h lawful); targets = each-from_all HasTarget ys (All-permutation HasTarget xs ys h targets) }

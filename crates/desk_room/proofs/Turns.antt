@@ -1,5 +1,5 @@
 -- The order by target, then by stamp and bytes, and a list that is kept in it.
-use Rattle.std.proofs.Common.{◌≡◌, ℕ, zero, suc, ◌-◌, ◌<◌, ◌≤◌, ◌⊎◌, inl, inr, Bool, true, false, List, [], ◌∷◌, length, take, drop, get_or, refl, sym, ap, ◌∙◌, arith}
+use Rattle.std.proofs.Common.{◌≡◌, ℕ, zero, suc, ◌+◌, ◌-◌, ◌<◌, ◌≤◌, ◌⊎◌, inl, inr, Bool, true, false, List, [], ◌∷◌, length, take, drop, get_or, refl, sym, ap, ◌∙◌, arith}
 use Rattle.std.specs.Prelude.{Option, Some, None, IsSome}
 use Rattle.std.specs.Option.{unwrap_or}
 use Rattle.std.specs.List.{insert, remove, AllByRecursion}
@@ -9,6 +9,7 @@ use Rattle.std.specs.declared.cmp.Ordering.{Ordering}
 use Rattle.std.specs.declared.cmp.Ordering.TheVariants.{Less, Equal, Greater}
 use Rattle.std.proofs.lemmas.Cmp.{then_total, on_total, tied_itself}
 use Rattle.std.proofs.lemmas.Bool.{true≢false, cases_eq}
+use Rattle.std.proofs.lemmas.List.{get_or_default}
 use Rattle.desk_ops.specs.declared.op.Stamp.{Stamp}
 use Rattle.desk_ops.specs.declared.op.Op.{Op}
 use Rattle.desk_ops.specs.Stamp.{stamp_cmp, same, before, head}
@@ -212,3 +213,27 @@ first-waits s (x ∷ xs) zero d t l b e o (inl q) w = inl (sym q)
 first-waits s (x ∷ xs) zero d t l b e o (inr m) w = inr (op-less x o s (each-among (λ y. turn_cmp x y ≡ Less) xs o t.0 m) e (waits-head s (target_of o) w))
 first-waits s (x ∷ xs) (suc i) d t l b e o (inl q) w = absurd (true≢false (sym w ∙ ap (waits_for s) (sym q) ∙ not_below s (target_of x) b.0))
 first-waits s (x ∷ xs) (suc i) d t l b e o (inr m) w = first-waits s xs i d t.1 (omega arith) b.1 e o m w
+
+-- ---- a list that is looked at pair by pair
+
+pub turn-from : (xs : List Op) → ((k : ℕ) (d : Op) → k + 1 < length xs → is_lt (turn_cmp (get_or xs k d) (get_or xs (k + 1) d)) ≡ true) → IsInTurn xs
+turn-from [] h = tt
+turn-from (x ∷ []) h = (tt, tt)
+turn-from (x ∷ y ∷ ys) h =
+    let rest : IsInTurn (y ∷ ys) = turn-from (y ∷ ys) (λ k d l. (let e : suc k + 1 ≡ suc (k + 1) = omega arith in ap (λ (n : ℕ). is_lt (turn_cmp (get_or (y ∷ ys) k d) (get_or (x ∷ y ∷ ys) n d))) (sym e) ∙ h (suc k) d (omega arith))) in
+    let less : turn_cmp x y ≡ Less = is_less (turn_cmp x y) (h 0 x (omega arith)) in
+    ((less, Each-weaker (λ z. turn_cmp y z ≡ Less) (λ z. turn_cmp x z ≡ Less) (λ z l. turn_total.trans x y z less l) ys rest.0), rest)
+
+-- the pair before i, and those before it
+pub pairs-more : (xs : List Op) (i : ℕ) (e : Op) → 1 ≤ i → i < length xs → ((k : ℕ) (d : Op) → k + 1 < i → k + 1 < length xs → is_lt (turn_cmp (get_or xs k d) (get_or xs (k + 1) d)) ≡ true) → is_lt (turn_cmp (get_or xs (i - 1) e) (get_or xs i e)) ≡ true → (k : ℕ) (d : Op) → k + 1 < i + 1 → k + 1 < length xs → is_lt (turn_cmp (get_or xs k d) (get_or xs (k + 1) d)) ≡ true
+pairs-more xs i e some l h last k d w v = go (cases_eq (k + 1) i)
+  where
+    go : (k + 1 ≡ i) ⊎ (k + 1 ≡ i → ⊥) → is_lt (turn_cmp (get_or xs k d) (get_or xs (k + 1) d)) ≡ true
+    go (inl q) =
+        let before_it : k ≡ i - 1 = omega arith in
+        ap (λ (o : Op). is_lt (turn_cmp o (get_or xs (k + 1) d))) (get_or_default xs k d e (omega arith))
+        ∙ ap (λ (o : Op). is_lt (turn_cmp (get_or xs k e) o)) (get_or_default xs (k + 1) d e v)
+        ∙ ap (λ (n : ℕ). is_lt (turn_cmp (get_or xs n e) (get_or xs (k + 1) e))) before_it
+        ∙ ap (λ (n : ℕ). is_lt (turn_cmp (get_or xs (i - 1) e) (get_or xs n e))) q
+        ∙ last
+    go (inr n) = h k d (omega arith) v

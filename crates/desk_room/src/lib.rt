@@ -14,7 +14,7 @@ use std::marker::Model;
 
 mod turn;
 
-use turn::{Below, Earlier, target_of};
+use turn::{Below, Earlier, compare, is_in_turn, target_of};
 
 /// The operations that wait: a set, and with it of each target the list of what waits for it, by stamp and bytes; and how
 /// many more can be put with no new memory. It is kept in pages by target, then by stamp and bytes, so that a put and a
@@ -47,8 +47,24 @@ impl<A: Allocator + Copy> Room<A> {
         }
     }
 
-    /// The room of a list's operations, in any order; one that the list has twice waits once.
+    /// The room of a list's operations, in any order; one that the list has twice waits once. A list that has none twice
+    /// is sorted and laid out in full pages.
     pub fn from_ops(alloc: A, ops: &[Op]) -> Result<Self, NoMemory>
+        requires lawful { All IsLawful ops.now }
+        requires targets { All HasTarget ops.now }
+        ensures { IfOk result (λ room. room.ops ≡ with_all no_ops ops.now) }
+    {
+        let mut list = Vec::from_slice(alloc, ops)?;
+        list.sort_unstable_by(|a, b| compare(a, b));
+        if is_in_turn(&list) {
+            let ops = Pages::from_slice(alloc, &list)?;
+            return Ok(Room { ops });
+        }
+        Room::from_each(alloc, ops)
+    }
+
+    /// The same, by one put after the other.
+    fn from_each(alloc: A, ops: &[Op]) -> Result<Self, NoMemory>
         requires lawful { All IsLawful ops.now }
         requires targets { All HasTarget ops.now }
         ensures { IfOk result (λ room. room.ops ≡ with_all no_ops ops.now) }

@@ -102,13 +102,13 @@ fn many_wait(rt: HostRuntime) {
     assert!(rt; room.is_empty());
 }
 
-/// Three that wait, one of them twice.
-fn some_ops<'a>(heap: &'a LocalHeap) -> Result<Vec<Op, &'a LocalHeap>, Fail>
+/// Operations of these counters that wait for one target.
+fn some_ops<'a>(heap: &'a LocalHeap, counters: [u64; 4]) -> Result<Vec<Op, &'a LocalHeap>, Fail>
     ensures lawful { IfOk result (λ v. All IsLawful v.items) }
     ensures targets { IfOk result (λ v. All HasTarget v.items) }
 {
     let mut ops = Vec::new(heap);
-    for counter in [4, 2, 3, 2] {
+    for counter in counters {
         let op = insert(at(counter, 1), at(1, 1));
         if op.check().is_ok() && op.target().is_some() {
             ops.push(op)?;
@@ -121,7 +121,8 @@ fn some_ops<'a>(heap: &'a LocalHeap) -> Result<Vec<Op, &'a LocalHeap>, Fail>
 #[test]
 fn refused_growths_change_nothing(rt: HostRuntime) -> Result<(), Fail> {
     let ample = LocalHeap::new(rt.alloc(), 65536)?;
-    let ops = some_ops(&ample)?;
+    let twice = some_ops(&ample, [4, 2, 3, 2])?;
+    let once = some_ops(&ample, [4, 2, 5, 3])?;
     let op = insert(at(2, 1), at(1, 1));
     let mut refused = 0u32;
     let mut unmade = 0u32;
@@ -140,13 +141,16 @@ fn refused_growths_change_nothing(rt: HostRuntime) -> Result<(), Fail> {
             refused = refused.saturating_add(1);
             assert!(rt; room.spare() >= spare && room.len() == 1 && room.has(&op));
         }
-        unmade = unmade.saturating_add(u32::from(Room::from_ops(&heap, &ops).is_err()));
+        unmade = unmade.saturating_add(u32::from(Room::from_ops(&heap, &twice).is_err()));
+        unmade = unmade.saturating_add(u32::from(Room::from_ops(&heap, &once).is_err()));
         drop(ballast);
         room.reserve(600)?;
         assert!(rt; room.spare() >= 600 && come_out(&mut room, at(1, 1), 1));
-        let mut made = Room::from_ops(&heap, &ops)?;
+        let mut made = Room::from_ops(&heap, &twice)?;
         assert!(rt; made.len() == 3 && come_out(&mut made, at(1, 1), 3));
+        made = Room::from_ops(&heap, &once)?;
+        assert!(rt; made.len() == 4 && come_out(&mut made, at(1, 1), 4));
     }
-    assert!(rt; refused > 40 && refused < 128 && unmade > 40 && unmade < 128);
+    assert!(rt; refused > 40 && refused < 128 && unmade > 40 && unmade < 256);
     Ok(())
 }

@@ -1,10 +1,11 @@
 //! The order in which waiting operations are kept: by target, then by stamp and bytes.
-ghost use Rattle.std.specs.Prelude.{◌≡◌};
+ghost use Rattle.std.specs.Prelude.{◌≡◌, IsTrue};
 ghost use Rattle.std.specs.Ordering.{is_lt};
-ghost use Rattle.desk_room.specs.Turn.{target_or_head, turn_cmp};
+ghost use Rattle.desk_room.specs.Turn.{target_or_head, turn_cmp, IsInTurn};
 
 use desk_ops::{Op, Stamp};
 use desk_pages::Pick;
+use std::cmp::Ordering;
 
 /// The target, and the head where there is none.
 pub fn target_of(op: &Op) -> Stamp
@@ -26,6 +27,31 @@ fn is_earlier(a: &Op, b: &Op) -> bool
         return a < b;
     }
     first.is_before(second)
+}
+
+/// Which of the two is kept first: for a sort, after which `is_in_turn` looks.
+pub fn compare(a: &Op, b: &Op) -> Ordering {
+    if is_earlier(a, b) {
+        Ordering::Less
+    } else if is_earlier(b, a) {
+        Ordering::Greater
+    } else {
+        Ordering::Equal
+    }
+}
+
+/// Whether each operation is kept before the next.
+pub fn is_in_turn(ops: &[Op]) -> bool
+    ensures { IsTrue result → IsInTurn ops.now }
+{
+    let mut i = 1;
+    while i < ops.len() {
+        if !is_earlier(&ops[i - 1], &ops[i]) {
+            return false;
+        }
+        i += 1;
+    }
+    true
 }
 
 /// Picks what is kept before an operation.

@@ -1,11 +1,21 @@
-use Rattle.std.proofs.Common.{◌≡◌, ◌∙◌, sym, ap, refl, arith}
-use Rattle.desk_room.specs.Waiting.{Waiting}
-use Rattle.desk_room.proofs.Sets.{taken-more, taken-known}
+use Rattle.std.proofs.Common.{◌∙◌, sym, ap, subst, List}
+use Rattle.std.specs.List.Sorted.{IsPermutation}
+use Rattle.desk_ops.specs.declared.op.Op.{Op}
+use Rattle.desk_room.specs.Turn.{IsInTurn, IsKept, set_of}
+use Rattle.desk_room.proofs.Sets.{set-permuted, kept-permuted}
 use Rattle.desk_room.proofs.Room.from_ops.Goals as goal
-use Rattle.desk_room.proofs.Room.from_ops.Goals.{then-not-has, else-not-has}
 
-pub loop-i-preserved : goal.loop-i-preserved
-loop-i-preserved g c = elim c.if-not-has.branch [
-  | then-not-has w ↦ (taken-more c.args.ops.now c.loop-i.i c.loop-i.room.ops _ _ _ c.loop-i-test.true refl c.loop-i.invariant.0 (ap (λ (r : Waiting). r.ops) w.room-is ∙ w.put.ensures.put), (let spare : c.if-not-has.room.spare ≡ w.put.new.self.spare = ap (λ (r : Waiting). r.spare) w.room-is in omega (arith, spare, c.loop-i.invariant.1, w.put.ensures.spare)))
-  | else-not-has w ↦ (ap (λ (r : Waiting). r.ops) w.room-is ∙ taken-known c.args.ops.now c.loop-i.i c.loop-i.room.ops _ _ c.loop-i-test.true refl c.loop-i.invariant.0 (sym c.has.ensures ∙ w.if-not-has.false), (let spare : c.if-not-has.room.spare ≡ c.loop-i.room.spare = ap (λ (r : Waiting). r.spare) w.room-is in omega (arith, spare, c.loop-i.invariant.1)))
-]
+pub invariant_of-result : goal.invariant_of-result
+invariant_of-result g c =
+    let xs = c.args.ops.now in
+    let ys = c.sort_unstable_by.new.self.items in
+    let moved : IsPermutation xs ys = subst (λ (zs : List Op). IsPermutation zs ys) c.in_ok-list.ensures.items c.sort_unstable_by.ensures.permutation in
+    let turn : IsInTurn ys = subst IsInTurn c.deref.ensures.value (c.is_in_turn.ensures c.if-is_in_turn.true) in
+    subst IsKept (sym (c.in_ok-ops.ensures ∙ c.deref-then-is_in_turn.ensures.value)) (kept-permuted xs ys moved turn c.requires.lawful c.requires.targets)
+
+pub returns-then-is_in_turn : goal.returns-then-is_in_turn
+returns-then-is_in_turn g c =
+    let xs = c.args.ops.now in
+    let ys = c.sort_unstable_by.new.self.items in
+    let moved : IsPermutation xs ys = subst (λ (zs : List Op). IsPermutation zs ys) c.in_ok-list.ensures.items c.sort_unstable_by.ensures.permutation in
+    ap set_of (c.in_ok-ops.ensures ∙ c.deref-then-is_in_turn.ensures.value) ∙ set-permuted xs ys moved
