@@ -7,6 +7,3 @@ pub mod words;
 
 pub use groups::{Group, break_lines};
 pub use words::{Paragraph, Word, paragraphs};
-
-#[cfg(test)]
-mod tests;

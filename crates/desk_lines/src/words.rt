@@ -43,14 +43,6 @@ impl<A: Allocator> Paragraph<A> {
     {
         self.words.as_slice()
     }
-
-    /// The words, taken out.
-    pub fn into_words(self) -> Vec<Word, A>
-        ensures { result.items ≡ self }
-    {
-        let Paragraph { words } = self;
-        words
-    }
 }
 
 fn is_line_feed(symbol: Symbol) -> bool

@@ -5,7 +5,6 @@ mod bytes;
 mod writer;
 
 pub use bytes::write_ribbon;
-use desk_ops::NoMemory;
 use desk_signals::{Cell, Position};
 use std::alloc::Allocator;
 use std::marker::Model;
@@ -34,31 +33,13 @@ impl<A: Allocator> Model for Punches<A> {
 }
 
 impl<A: Allocator> Punches<A> {
-    ghost use Rattle.std.specs.Prelude.{◌≡◌, ◌++◌, ◌∷◌, [], length, OnOk, OnErr};
-
-    /// No matrices.
-    pub fn new(alloc: A) -> Punches<A>
-        ensures { result ≡ [] }
-    {
-        Punches {
-            punches: Vec::new(alloc),
-        }
-    }
+    ghost use Rattle.std.specs.Prelude.{◌≡◌};
 
     /// These matrices, in reading order.
     pub fn from_vec(punches: Vec<Punch, A>) -> Punches<A>
         ensures { result ≡ punches.items }
     {
         Punches { punches }
-    }
-
-    /// Appends a matrix; after a refusal nothing has changed.
-    pub fn push(&mut self, punch: Punch) -> Result<(), NoMemory>
-        ensures ok { OnOk result (self.new ≡ self.old ++ punch ∷ []) }
-        ensures err { OnErr result (self.new ≡ self.old) }
-    {
-        self.punches.push(punch)?;
-        Ok(())
     }
 
     /// The matrices, in reading order.
@@ -76,6 +57,3 @@ pub struct PunchLine<A: Allocator> {
     pub coarse: Position,
     pub fine: Position,
 }
-
-#[cfg(test)]
-mod tests;

@@ -1,0 +1,156 @@
+ghost use Rattle.std.specs.Prelude.{◌≡◌, ◌≤◌, ◌<◌, ◌^◌, IfOk, length};
+ghost use Rattle.desk_ribbon.specs.Ribbon.{ribbon_rows};
+
+use desk_ops::NoMemory;
+use desk_ribbon::{Punch, PunchLine, Punches, RibbonWriter, write_ribbon};
+use desk_signals::{Cell, Column, Position, RowNo};
+use linked_list_allocator::LocalHeap;
+use std::alloc::Global;
+use std::test::Fail;
+
+fn punch(column: Column, row: u8, s: bool) -> Punch
+    requires low { 1 ≤ row }
+    requires high { row ≤ 15 }
+{
+    let row = RowNo::new(row).unwrap();
+    Punch {
+        cell: Cell { column, row },
+        s,
+    }
+}
+
+/// The line of an empty paragraph: a space, nine fills at O15, one at A5, Coarse(8) and FineOut(7).
+fn empty_paragraph(alloc: Global) -> Result<PunchLine<Global>, Fail>
+    ensures { IfOk result (λ line. length line.matrices ≡ 11) }
+{
+    let space = punch(Column::G, 1, true);
+    let wide = punch(Column::O, 15, false);
+    let narrow = punch(Column::A, 5, false);
+    let all = [
+        space, wide, wide, wide, wide, wide, wide, wide, wide, wide, narrow,
+    ];
+    Ok(PunchLine {
+        matrices: Punches::from_vec(Vec::from_array(alloc, all)?),
+        coarse: Position::new(8).unwrap(),
+        fine: Position::new(7).unwrap(),
+    })
+}
+
+const EMPTY_COPY: [u8; 12] = [0x4d, 0x52, 0x42, 0x31, 0, 0, 0, 1, 0, 0, 2, 6];
+
+const EMPTY_PARAGRAPH: [u8; 64] = [
+    0x4d, 0x52, 0x42, 0x31, 0, 0, 0, 14, 0, 0, 2, 6, 1, 1, 0, 1, 0, 0, 0, 0, 0, 0, 0, 0, 0, 0, 0,
+    0, 0, 0, 0, 0, 0, 0, 0, 0, 0, 0, 0, 0, 0, 0, 0, 0, 0, 0, 0, 0, 0, 0, 0, 0, 0x40, 0, 0x10, 0, 0,
+    0, 2, 2, 0, 0, 4, 6,
+];
+
+#[test]
+fn empty_copy_ribbon(rt: HostRuntime) -> Result<(), Fail> {
+    let lines: [PunchLine<Global>; 0] = [];
+    assert!(rt; write_ribbon(rt.alloc(), &lines)?.as_slice() == EMPTY_COPY.as_slice());
+    let writer = RibbonWriter::new(rt.alloc());
+    assert!(rt; writer.finish()?.as_slice() == EMPTY_COPY.as_slice());
+    Ok(())
+}
+
+#[test]
+fn empty_paragraph_ribbon(rt: HostRuntime) -> Result<(), Fail> {
+    let line = empty_paragraph(rt.alloc())?;
+    let mut writer = RibbonWriter::new(rt.alloc());
+    writer.push(&line)?;
+    for _ in 0..2u32 {
+        assert!(rt; writer.finish()?.as_slice() == EMPTY_PARAGRAPH.as_slice());
+    }
+    assert!(rt; write_ribbon(rt.alloc(), &[line])?.as_slice() == EMPTY_PARAGRAPH.as_slice());
+    Ok(())
+}
+
+/// Takes what a heap of 1024 bytes has left, but for so many times 16.
+fn ballast(heap: &LocalHeap, cut: usize) -> Option<Vec<u8, &LocalHeap>> {
+    let left = 1024usize.saturating_sub(heap.used());
+    Vec::with_capacity(heap, left.saturating_sub(cut.saturating_mul(16))).ok()
+}
+
+/// Whether `push` after so many lines, or else `finish` after it, is out of memory in a cut heap: the writer is as it was,
+/// and with memory it goes on.
+fn is_writer_refused(alloc: Global, before: usize, cut: usize) -> Result<(bool, bool), Fail> {
+    let line = empty_paragraph(alloc)?;
+    let heap = LocalHeap::new(alloc, 1024)?;
+    let mut writer = RibbonWriter::new(&heap);
+    if before == 1 {
+        writer.push(&line)?;
+    }
+    let ballast = ballast(&heap, cut);
+    let pushed = writer.push(&line);
+    let finished = pushed.is_ok() && writer.finish().is_ok();
+    drop(ballast);
+    let lines = before.saturating_add(usize::from(pushed.is_ok()));
+    if writer.finish()?.len() != 12usize.saturating_add(lines.saturating_mul(52)) {
+        return Err(Fail::new("another ribbon"));
+    }
+    if pushed.is_err() {
+        writer.push(&line)?;
+    }
+    if before == 0 && writer.finish()?.as_slice() != EMPTY_PARAGRAPH.as_slice() {
+        return Err(Fail::new("another ribbon with memory"));
+    }
+    Ok((pushed.is_err(), pushed.is_ok() && !finished))
+}
+
+/// Each growth of `push` and `finish` refused in turn, of the first line and of the second.
+#[test]
+fn growths_refused(rt: HostRuntime) -> Result<(), Fail> {
+    for before in [0usize, 1] {
+        let mut pushes = 0u8;
+        let mut finishes = 0u8;
+        for cut in 0..48usize {
+            let (push, finish) = is_writer_refused(rt.alloc(), before, cut)?;
+            pushes = pushes.saturating_add(u8::from(push));
+            finishes = finishes.saturating_add(u8::from(finish));
+        }
+        assert!(rt;
+            pushes > 0 && finishes > 0 && pushes < 40,
+            "{before} lines before"
+        );
+    }
+    Ok(())
+}
+
+/// Whether `write_ribbon` is out of memory in a cut heap; with memory, and where it is not, these are the bytes.
+fn is_write_refused(
+    alloc: Global,
+    cut: usize,
+    lines: &[PunchLine<Global>],
+    wanted: &[u8],
+) -> Result<bool, Fail>
+    requires { length (ribbon_rows lines.now) < 2 ^ 32 }
+{
+    let heap = LocalHeap::new(alloc, 1024)?;
+    let ballast = ballast(&heap, cut);
+    let refused = match write_ribbon(&heap, lines) {
+        Ok(bytes) if bytes.as_slice() == wanted => false,
+        Ok(_) => return Err(Fail::new("another ribbon")),
+        Err(NoMemory) => true,
+    };
+    drop(ballast);
+    if write_ribbon(&heap, lines)?.as_slice() != wanted {
+        return Err(Fail::new("another ribbon with memory"));
+    }
+    Ok(refused)
+}
+
+/// Each growth of `write_ribbon` refused in turn.
+#[test]
+fn growths_of_write_ribbon(rt: HostRuntime) -> Result<(), Fail> {
+    let one = [empty_paragraph(rt.alloc())?];
+    let mut copies = 0u8;
+    let mut lines = 0u8;
+    for cut in 0..16usize {
+        let copy = is_write_refused(rt.alloc(), cut, &[], EMPTY_COPY.as_slice())?;
+        let line = is_write_refused(rt.alloc(), cut, &one, EMPTY_PARAGRAPH.as_slice())?;
+        copies = copies.saturating_add(u8::from(copy));
+        lines = lines.saturating_add(u8::from(line));
+    }
+    assert!(rt; copies > 0 && copies < 16 && lines > 0 && lines < 16);
+    Ok(())
+}
