@@ -68,6 +68,11 @@ pub record IsKept {X : Type 0} (pages : List (List X)) (len all used_room free_r
   pub back : all ≤ free_room
   pub few : all ≤ 2 ^ 40
 
+-- where each group of 64 pages begins, as far as it is known
+pub record IsStarts {X : Type 0} (pages : List (List X)) (starts : List ℕ) : Type 0 where
+  pub within : (g : ℕ) → g < length starts → 64 * g ≤ length pages
+  pub is : (g : ℕ) → g < length starts → slice_index_or starts g 0 ≡ start_of pages (64 * g)
+
 -- a list, and how many more it takes with no new memory
 pub record Kept (X : Type 0) : Type 0 where
   pub entries : List X

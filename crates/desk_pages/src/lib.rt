@@ -5,6 +5,7 @@ mod list;
 mod page;
 mod pages;
 mod search;
+mod starts;
 
 pub use list::{Pages, Placed};
 pub use page::{FULL, Summary};

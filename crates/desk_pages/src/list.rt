@@ -1,11 +1,12 @@
 //! A list in pages.
 ghost use Rattle.std.specs.Prelude.{◌≡◌, ◌+◌, ◌≤◌, ◌<◌, ℕ, [], length, take, drop, slice_index_or, slice_set, vec_len, vec_capacity, IfSome, IsNone, OnOk, IfOk, IfErr, IsOk};
 ghost use Rattle.std.specs.List.{insert, remove};
-ghost use Rattle.desk_pages.specs.Pages.{Kept, joined, spare_of, IsKept, IsNth, IsShort, IsEdge};
+ghost use Rattle.desk_pages.specs.Pages.{Kept, joined, spare_of, IsKept, IsStarts, IsNth, IsShort, IsEdge};
 
 use crate::page::{HALF, Page, Summary};
 use crate::pages;
 use crate::search::{self, Pick};
+use crate::starts::{GROUP, find_starts};
 use std::alloc::{AllocError, Allocator};
 use std::marker::Model;
 
@@ -27,6 +28,8 @@ pub struct Pages<T: Copy, S: Summary<T>, A: Allocator> {
     pages: Vec<Page<T, S, A>, A>,
     free: Vec<Page<T, S, A>, A>,
     len: usize,
+    starts: Vec<usize, A>,
+    order: Vec<usize, A>,
 }
 
 impl<T: Copy, S: Summary<T>, A: Allocator> Model for Pages<T, S, A> {
@@ -34,7 +37,7 @@ impl<T: Copy, S: Summary<T>, A: Allocator> Model for Pages<T, S, A> {
 
     ghost view = { λ a. record { entries = joined a.pages.items; spare = spare_of (vec_len a.pages + vec_len a.free) a.len } };
 
-    ghost invariant = { λ a. IsKept a.pages.items a.len (vec_len a.pages + vec_len a.free) (vec_capacity a.pages) (vec_capacity a.free) };
+    ghost invariant = { λ a. IsKept a.pages.items a.len (vec_len a.pages + vec_len a.free) (vec_capacity a.pages) (vec_capacity a.free) × IsStarts a.pages.items a.starts.items };
 }
 
 impl<T: Copy, S: Summary<T>, A: Allocator + Copy> Pages<T, S, A> {
@@ -45,6 +48,8 @@ impl<T: Copy, S: Summary<T>, A: Allocator + Copy> Pages<T, S, A> {
             pages: Vec::new(alloc),
             free: Vec::new(alloc),
             len: 0,
+            starts: Vec::new(alloc),
+            order: Vec::new(alloc),
         }
     }
 
@@ -57,10 +62,17 @@ impl<T: Copy, S: Summary<T>, A: Allocator + Copy> Pages<T, S, A> {
         }
         let pages = pages::fill(alloc, items)?;
         let free = Vec::with_capacity(alloc, pages.len())?;
+        let mut starts = Vec::with_capacity(alloc, pages.len() / GROUP + 1)?;
+        find_starts(&pages, &mut starts);
+        let mut order = Vec::new(alloc);
+        order.resize(pages.len(), 0)?;
+        pages::find_order(&pages, &mut order);
         Ok(Pages {
             pages,
             free,
             len: items.len(),
+            starts,
+            order,
         })
     }
 
@@ -75,7 +87,7 @@ impl<T: Copy, S: Summary<T>, A: Allocator + Copy> Pages<T, S, A> {
         requires { i < length self.now.entries }
         ensures { result ≡ slice_index_or self.now.entries i result }
     {
-        let (p, j) = pages::locate(&self.pages, i);
+        let (p, j) = pages::locate(&self.pages, &self.starts, i);
         pages::read(&self.pages, p, j)
     }
 
@@ -85,14 +97,14 @@ impl<T: Copy, S: Summary<T>, A: Allocator + Copy> Pages<T, S, A> {
         ensures is { result.now ≡ take (length result.now) (drop i self.now.entries) }
         ensures some { 0 < length result.now }
     {
-        pages::stretch(&self.pages, i)
+        pages::stretch(&self.pages, &self.starts, i)
     }
 
     /// The number of the page in which the i-th entry stands. It stays with the page, and is no part of the list.
     pub fn name_at(&self, i: usize) -> usize
         requires { i < length self.now.entries }
     {
-        let (p, _) = pages::locate(&self.pages, i);
+        let (p, _) = pages::locate(&self.pages, &self.starts, i);
         pages::name_of(&self.pages, p)
     }
 
@@ -100,7 +112,7 @@ impl<T: Copy, S: Summary<T>, A: Allocator + Copy> Pages<T, S, A> {
     pub fn named(&self, name: usize) -> Option<(usize, &[T])>
         ensures { IfSome result (λ r. r.1.now ≡ take (length r.1.now) (drop r.0 self.now.entries)) }
     {
-        pages::named(&self.pages, self.len, name)
+        pages::named(&self.pages, &self.starts, &self.order, self.len, name)
     }
 
     /// How many more it takes with no new memory.
@@ -122,7 +134,12 @@ impl<T: Copy, S: Summary<T>, A: Allocator + Copy> Pages<T, S, A> {
         if self.len > MOST || n > MOST - self.len {
             return Err(AllocError);
         }
-        pages::stock(&mut self.pages, &mut self.free, (self.len + n) / HALF + 2)
+        let count = (self.len + n) / HALF + 2;
+        self.starts.reserve(count / GROUP + 1)?;
+        if self.order.len() < count {
+            self.order.resize(count, 0)?;
+        }
+        pages::stock(&mut self.pages, &mut self.free, count)
     }
 
     /// Writes another over the i-th entry.
@@ -131,7 +148,7 @@ impl<T: Copy, S: Summary<T>, A: Allocator + Copy> Pages<T, S, A> {
         ensures set { self.new.entries ≡ slice_set self.old.entries i x }
         ensures spare { self.new.spare ≡ self.old.spare }
     {
-        let (p, j) = pages::locate(&self.pages, i);
+        let (p, j) = pages::locate(&self.pages, &self.starts, i);
         pages::set(&mut self.pages, p, j, x);
     }
 
@@ -143,8 +160,17 @@ impl<T: Copy, S: Summary<T>, A: Allocator + Copy> Pages<T, S, A> {
         ensures spare { self.new.spare + 1 ≡ self.old.spare }
     {
         let count = self.pages.len();
-        let (p, j) = pages::locate_to_end(&self.pages, i);
-        pages::put(&mut self.pages, &mut self.free, p, j, self.len, x);
+        let (p, j) = pages::locate_to_end(&self.pages, &self.starts, i);
+        pages::put(
+            &mut self.pages,
+            &mut self.free,
+            &mut self.starts,
+            &mut self.order,
+            p,
+            j,
+            self.len,
+            x,
+        );
         self.len += 1;
         if p < count && count < self.pages.len() {
             let at = if j <= HALF { p } else { p + 1 };
@@ -166,8 +192,10 @@ impl<T: Copy, S: Summary<T>, A: Allocator + Copy> Pages<T, S, A> {
         ensures out { result ≡ slice_index_or self.old.entries i result }
         ensures spare { self.old.spare ≤ self.new.spare }
     {
-        let (p, j) = pages::locate(&self.pages, i);
+        let (p, j) = pages::locate(&self.pages, &self.starts, i);
         let out = pages::take(&mut self.pages, &mut self.free, p, j, self.len);
+        find_starts(&self.pages, &mut self.starts);
+        pages::find_order(&self.pages, &mut self.order);
         self.len -= 1;
         out
     }
@@ -181,7 +209,7 @@ impl<T: Copy, S: Summary<T>, A: Allocator + Copy> Pages<T, S, A> {
         if from == self.len {
             return Err(n);
         }
-        search::nth(&self.pages, from, pick, n)
+        search::nth(&self.pages, &self.starts, from, pick, n)
     }
 
     /// The first that is not picked, where those that are picked stand first.
@@ -214,7 +242,16 @@ impl<T: Copy, S: Summary<T>, A: Allocator + Copy> Pages<T, S, A> {
         ensures spare { self.new.spare + 1 ≡ self.old.spare }
     {
         let (p, j) = search::edge(&self.pages, pick);
-        pages::put(&mut self.pages, &mut self.free, p, j, self.len, x);
+        pages::put(
+            &mut self.pages,
+            &mut self.free,
+            &mut self.starts,
+            &mut self.order,
+            p,
+            j,
+            self.len,
+            x,
+        );
         self.len += 1;
     }
 
@@ -229,6 +266,7 @@ impl<T: Copy, S: Summary<T>, A: Allocator + Copy> Pages<T, S, A> {
             return None;
         }
         let out = pages::take(&mut self.pages, &mut self.free, p, j, self.len);
+        find_starts(&self.pages, &mut self.starts);
         self.len -= 1;
         Some(out)
     }

@@ -1,22 +1,26 @@
 //! Pages in use, and free ones.
-ghost use Rattle.std.specs.Prelude.{◌≡◌, ◌+◌, ◌≤◌, ◌<◌, List, [], ◌∷◌, ◌++◌, take, drop, length, vec_capacity, vec_len, slice_index_or, slice_set, OnOk, IfOk, ◌-◌, ◌^◌, IfSome, IsNone};
+ghost use Rattle.std.specs.Prelude.{◌≡◌, ◌+◌, ◌≤◌, ◌<◌, List, [], ◌∷◌, ◌++◌, take, drop, length, vec_capacity, vec_len, slice_index_or, slice_set, OnOk, IfOk, ◌-◌, ◌^◌, IfSome, IsNone, ℕ};
 ghost use Rattle.std.specs.List.{insert, remove};
-ghost use Rattle.desk_pages.specs.Pages.{joined, start_of, IsShortAt, IsSpot, IsSpotOrEnd, IsGap, IsHalfFull, IsClosed, IsKept, cut_at, spare_of};
+ghost use Rattle.desk_pages.specs.Pages.{joined, start_of, IsShortAt, IsStarts, IsSpot, IsSpotOrEnd, IsGap, IsHalfFull, IsClosed, IsKept, cut_at, spare_of};
 
 use crate::page::{FULL, HALF, Page, Summary, insert_reserved};
+use crate::starts::{find_starts, group_before, put_inside, start_at};
 use std::alloc::{AllocError, Allocator};
 
 /// The page of the i-th entry, and its place there; the number of pages at the end.
 pub fn locate_to_end<T: Copy, S: Summary<T>, A: Allocator>(
     pages: &[Page<T, S, A>],
+    starts: &[usize],
     i: usize,
 ) -> (usize, usize)
-    requires { i ≤ length (joined pages.now) }
+    requires within { i ≤ length (joined pages.now) }
+    requires starts { IsStarts pages.now starts.now }
     ensures spot { IsSpotOrEnd pages.now result.0 result.1 }
     ensures is { i ≡ start_of pages.now result.0 + result.1 }
 {
-    let mut left = i;
-    let mut p = 0;
+    let (first, before) = group_before(pages, starts, i);
+    let mut left = i - before;
+    let mut p = first;
     while p < pages.len() && left >= pages[p].len() {
         left -= pages[p].len();
         p += 1;
@@ -27,12 +31,14 @@ pub fn locate_to_end<T: Copy, S: Summary<T>, A: Allocator>(
 /// The page of the i-th entry, and its place there.
 pub fn locate<T: Copy, S: Summary<T>, A: Allocator>(
     pages: &[Page<T, S, A>],
+    starts: &[usize],
     i: usize,
 ) -> (usize, usize)
-    requires { i < length (joined pages.now) }
+    requires within { i < length (joined pages.now) }
+    requires starts { IsStarts pages.now starts.now }
     ensures { IsSpot pages.now i result.0 result.1 }
 {
-    locate_to_end(pages, i)
+    locate_to_end(pages, starts, i)
 }
 
 /// The j-th entry of page p.
@@ -129,8 +135,8 @@ fn open<T: Copy, S: Summary<T>, A: Allocator>(
     pages.push_reserved(page);
 }
 
-/// Puts an entry at the j-th place of page p, or behind all pages.
-pub fn put<T: Copy, S: Summary<T>, A: Allocator>(
+/// Puts an entry at the j-th place of page p, or behind all pages, and cuts a page or takes a free one where there is no room.
+fn put_anywhere<T: Copy, S: Summary<T>, A: Allocator>(
     pages: &mut Vec<Page<T, S, A>, A>,
     free: &mut Vec<Page<T, S, A>, A>,
     p: usize,
@@ -156,13 +162,67 @@ pub fn put<T: Copy, S: Summary<T>, A: Allocator>(
     }
 }
 
+/// The page and the place in it that are this place and have room: its own, or right behind the last entry.
+fn room_at<T: Copy, S: Summary<T>, A: Allocator>(
+    pages: &[Page<T, S, A>],
+    p: usize,
+    j: usize,
+) -> Option<(usize, usize)>
+    requires { IsSpotOrEnd pages.now p j }
+    ensures { IfSome result (λ s. IsGap pages.now (start_of pages.now p + j) s.0 s.1) }
+{
+    if p >= pages.len() {
+        return end(pages);
+    }
+    if pages[p].len() < FULL {
+        Some((p, j))
+    } else {
+        None
+    }
+}
+
+/// Puts an entry at the j-th place of page p, or behind all pages.
+pub fn put<T: Copy, S: Summary<T>, A: Allocator>(
+    pages: &mut Vec<Page<T, S, A>, A>,
+    free: &mut Vec<Page<T, S, A>, A>,
+    starts: &mut Vec<usize, A>,
+    order: &mut Vec<usize, A>,
+    p: usize,
+    j: usize,
+    len: usize,
+    x: T,
+)
+    requires kept { IsKept pages.old.items len (vec_len pages.old + vec_len free.old) (vec_capacity pages.old) (vec_capacity free.old) }
+    requires starts { IsStarts pages.old.items starts.old.items }
+    requires spot { IsSpotOrEnd pages.old.items p j }
+    requires spare { 1 ≤ spare_of (vec_len pages.old + vec_len free.old) len }
+    ensures kept { IsKept pages.new.items (len + 1) (vec_len pages.new + vec_len free.new) (vec_capacity pages.new) (vec_capacity free.new) }
+    ensures starts { IsStarts pages.new.items starts.new.items }
+    ensures put { joined pages.new.items ≡ insert (joined pages.old.items) (start_of pages.old.items p + j) x }
+    ensures count { vec_len pages.new + vec_len free.new ≡ vec_len pages.old + vec_len free.old }
+{
+    match room_at(pages, p, j) {
+        Some((q, k)) => put_inside(pages, starts, q, k, x),
+        None => {
+            put_anywhere(pages, free, p, j, len, x);
+            find_starts(pages, starts);
+            find_order(pages, order);
+        }
+    }
+}
+
 /// The entries from place i to the end of its page.
-pub fn stretch<T: Copy, S: Summary<T>, A: Allocator>(pages: &[Page<T, S, A>], i: usize) -> &[T]
-    requires { i < length (joined pages.now) }
+pub fn stretch<'a, T: Copy, S: Summary<T>, A: Allocator>(
+    pages: &'a [Page<T, S, A>],
+    starts: &[usize],
+    i: usize,
+) -> &'a [T]
+    requires within { i < length (joined pages.now) }
+    requires starts { IsStarts pages.now starts.now }
     ensures is { result.now ≡ take (length result.now) (drop i (joined pages.now)) }
     ensures some { 0 < length result.now }
 {
-    let (p, j) = locate(pages, i);
+    let (p, j) = locate(pages, starts, i);
     let (_, tail) = pages[p].items().split_at(j);
     tail
 }
@@ -178,6 +238,7 @@ pub fn set<T: Copy, S: Summary<T>, A: Allocator>(
     requires inside { j < length (slice_index_or pages.old.items p []) }
     requires half { IsHalfFull pages.old.items }
     ensures set { joined pages.new.items ≡ slice_set (joined pages.old.items) (start_of pages.old.items p + j) x }
+    ensures starts { (starts : List ℕ) → IsStarts pages.old.items starts → IsStarts pages.new.items starts }
     ensures half { IsHalfFull pages.new.items }
     ensures len { vec_len pages.new ≡ vec_len pages.old }
     ensures capacity { vec_capacity pages.new ≡ vec_capacity pages.old }
@@ -289,24 +350,40 @@ pub fn take<T: Copy, S: Summary<T>, A: Allocator>(
     out
 }
 
-/// The page of that name, and where it starts.
-pub fn named<T: Copy, S: Summary<T>, A: Allocator>(
-    pages: &[Page<T, S, A>],
+/// The page of that name, and where it starts, as far as `order` tells where it stands.
+pub fn named<'a, T: Copy, S: Summary<T>, A: Allocator>(
+    pages: &'a [Page<T, S, A>],
+    starts: &[usize],
+    order: &[usize],
     len: usize,
     name: usize,
-) -> Option<(usize, &[T])>
+) -> Option<(usize, &'a [T])>
     requires half { IsHalfFull pages.now }
+    requires starts { IsStarts pages.now starts.now }
     requires len { len ≡ length (joined pages.now) }
     ensures { IfSome result (λ r. r.1.now ≡ take (length r.1.now) (drop r.0 (joined pages.now))) }
 {
-    let mut start = 0;
-    for p in 0..pages.len() {
-        if pages[p].name() == name {
-            return Some((start, pages[p].items()));
-        }
-        start += pages[p].len();
+    if name >= order.len() {
+        return None;
     }
-    None
+    let p = order[name];
+    if p >= pages.len() {
+        return None;
+    }
+    Some((start_at(pages, starts, p), pages[p].items()))
+}
+
+/// Where each page stands, by its name, as far as there is room to keep it.
+pub fn find_order<T: Copy, S: Summary<T>, A: Allocator>(
+    pages: &[Page<T, S, A>],
+    order: &mut Vec<usize, A>,
+) {
+    for p in 0..pages.len() {
+        let name = pages[p].name();
+        if name < order.len() {
+            order[name] = p;
+        }
+    }
 }
 
 /// The name of page p, or of the last, where there is one.

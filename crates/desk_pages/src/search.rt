@@ -1,7 +1,7 @@
 //! The n-th entry that is picked, found by passing pages by.
 ghost use Rattle.std.specs.Prelude.{◌≡◌, ◌+◌, ◌≤◌, ◌<◌, ◌^◌, ℕ, List, length, IfSome, IfOk, IfErr, Bool};
 ghost use Rattle.std.specs.List.{count_by};
-ghost use Rattle.desk_pages.specs.Pages.{joined, start_of, ends_in, IsSpotOrEnd, IsHalfFull, IsNth, IsShort, IsEdge};
+ghost use Rattle.desk_pages.specs.Pages.{joined, start_of, ends_in, IsSpotOrEnd, IsHalfFull, IsStarts, IsNth, IsShort, IsEdge};
 
 use crate::page::{Page, Summary};
 use crate::pages::locate;
@@ -93,16 +93,18 @@ fn nth_from<T: Copy, S: Summary<T>, A: Allocator, P: Pick<T, S>>(
 /// The n-th from a place on, or how many are wanting.
 pub fn nth<T: Copy, S: Summary<T>, A: Allocator, P: Pick<T, S>>(
     pages: &[Page<T, S, A>],
+    starts: &[usize],
     from: usize,
     pick: &P,
     n: usize,
 ) -> Result<usize, usize>
     requires within { from < length (joined pages.now) }
+    requires starts { IsStarts pages.now starts.now }
     requires fits { length (joined pages.now) < 2 ^ 64 }
     ensures found { IfOk result (λ place. IsNth (P.picked pick.now) (joined pages.now) from n place) }
     ensures short { IfErr result (λ left. IsShort (P.picked pick.now) (joined pages.now) from n left) }
 {
-    let (p, j) = locate(pages, from);
+    let (p, j) = locate(pages, starts, from);
     match nth_in(pages[p].items(), j, pick, n) {
         Ok(k) => Ok(from - j + k),
         Err(left) => nth_from(pages, p + 1, from - j + pages[p].len(), pick, left),

@@ -6,5 +6,5 @@ pub returns : goal.returns
 returns g c =
     let s : IsSpot c.self.inside.pages.items c.args.i c.locate-p.result.0 c.locate-p.result.1 = rw c.deref.ensures.value at c.locate-p.ensures in
     let x = c.read.result in
-    let r : x ≡ get_or (joined c.self.inside.pages.items) (start_of c.self.inside.pages.items c.locate-p.result.0 + c.locate-p.result.1) x = rw c.deref-2.ensures.value at c.read.ensures in
+    let r : x ≡ get_or (joined c.self.inside.pages.items) (start_of c.self.inside.pages.items c.locate-p.result.0 + c.locate-p.result.1) x = rw c.deref-3.ensures.value at c.read.ensures in
     rw (← c.self.view_is) (r ∙ ap (λ (n : ℕ). get_or (joined c.self.inside.pages.items) n x) (sym s.is))

@@ -7,11 +7,13 @@ invariant_of-result g c =
     let pages = c.in_ok-pages.pages in
     let f = c.in_ok-pages.ensures.filled in
     let e = ap length f.0 in
-    let h = half-count pages.items f.1 in
-    record {
-      is_len = sym e;
-      half = f.1;
-      room = omega (arith, pages.ok, c.in_ok-free.ensures.len);
-      back = omega (arith, pages.ok, c.in_ok-free.ensures.len, c.in_ok-free.ensures.capacity);
-      few = omega (arith, pages.ok.0, c.in_ok-free.ensures.len);
-    }
+    let h = half-count pages.items f.1 in (
+      record {
+        is_len = sym e;
+        half = f.1;
+        room = omega (arith, pages.ok, c.in_ok-free.ensures.len);
+        back = omega (arith, pages.ok, c.in_ok-free.ensures.len, c.in_ok-free.ensures.capacity);
+        few = omega (arith, pages.ok.0, c.in_ok-free.ensures.len);
+      },
+      rw c.deref.ensures.value at c.find_starts.ensures,
+    )

@@ -11,7 +11,7 @@ overflow_sub-self g c =
     let s : IsSpotOrEnd pages p j = rw c.deref.ensures.value at c.edge-p.ensures.spot in
     let l : p < length pages = omega (arith, c.if-p-len.false, s.within, c.self.inside.pages.ok.0) in
     let w = page-within pages p j l (s.inside l) in
-    omega (arith, c.self.invariant.is_len)
+    omega (arith, c.self.invariant.0.is_len)
 
 pub returns-clause-some : goal.returns-clause-some
 returns-clause-some g c =

@@ -1,0 +1,9 @@
+use Rattle.std.proofs.Common.{◌≡◌}
+use Rattle.desk_pages.specs.Pages.{start_of, IsStarts}
+use Rattle.desk_pages.proofs.starts.find_starts.Given as goal
+
+abbrev pub invariant-loop-p : goal.invariant-loop-p
+invariant-loop-p g l = record {
+  start : l.start ≡ start_of l.pages l.p;
+  starts : IsStarts l.pages l.starts.items;
+}
