@@ -1,0 +1,5 @@
+pub mod Lists
+pub mod Arrivals
+pub mod Drains
+pub mod Arrived
+pub mod Anew

@@ -1,0 +1,192 @@
+//! A sequence and a room that follow a set of operations.
+#![tactic(auto)]
+
+ghost use Rattle.std.specs.Prelude.{◌≡◌, ◌+◌, ◌<◌, ◌≤◌, ◌↔◌, ◌⊎◌, ℕ, true, false, IfSome, IsNone, IsOk, IfOk, OnOk, IsTrue, length, slice_index_or};
+ghost use Rattle.desk_ops.specs.declared.op.Op.{Op};
+ghost use Rattle.desk_ops.specs.Op.{target_of, stamp_of};
+ghost use Rattle.desk_ops.specs.OpSet.{OpSet, has_op, with_op, size, AllLawful};
+ghost use Rattle.desk_ops.specs.Held.{is_clear_in};
+ghost use Rattle.desk_ops.specs.Live.{IsClearOp};
+ghost use Rattle.desk_room.specs.Waiting.{HasTarget};
+ghost use Rattle.desk_seq.specs.Entries.{IsAbsent, AreDistinct};
+ghost use Rattle.desk_walk.specs.Following.{places, place_at, IsActed, CanAct, IsDraining, IsSettled, IsArrival};
+
+use desk_held::Held;
+use desk_ops::{NoMemory, Op, Stamp};
+use desk_room::Room;
+use desk_seq::{Entry, Sequence};
+use std::alloc::Allocator;
+
+/// The stamp at a place: the head's, or that of the entry before it.
+fn stamp_at<Q: Sequence>(sequence: &Q, place: usize) -> Stamp
+    requires { place ≤ length (Q.entries sequence.now) }
+    ensures stamp { result ≡ place_at (Q.entries sequence.now) place }
+    ensures distinct { AreDistinct (Q.entries sequence.now) }
+{
+    let _len = sequence.len();
+    if place == 0 {
+        return Stamp::HEAD;
+    }
+    sequence.entry(place - 1).stamp
+}
+
+/// The place of a stamp: the head's is 0, that of an entry one above its own.
+fn place_of<Q: Sequence>(sequence: &Q, stamp: Stamp) -> Option<usize>
+    ensures within { IfSome result (λ place. place ≤ length (Q.entries sequence.now)) }
+    ensures is { IfSome result (λ place. place_at (Q.entries sequence.now) place ≡ stamp) }
+    ensures none { IsNone result → (j : ℕ) → j < length (places (Q.entries sequence.now)) → place_at (Q.entries sequence.now) j ≡ stamp → ⊥ }
+    ensures distinct { AreDistinct (Q.entries sequence.now) }
+{
+    let _len = sequence.len();
+    if stamp.is_head() {
+        return Some(0);
+    }
+    let Some(place) = sequence.find(stamp) else {
+        return None;
+    };
+    Some(place + 1)
+}
+
+/// Does what an operation says that hangs on the place, and answers how far something may now wait.
+fn act<Q: Sequence>(sequence: &mut Q, op: Op, at: usize, last: usize) -> usize
+    requires within { at ≤ length (Q.entries sequence.old) }
+    requires last { last ≤ length (Q.entries sequence.old) }
+    requires able { CanAct op at (Q.free sequence.old) (Q.entries sequence.old) }
+    ensures acted { IsActed op at last (Q.entries sequence.old) (Q.entries sequence.new) result }
+    ensures reach { result ≤ length (Q.entries sequence.new) }
+    ensures free { Q.free sequence.old ≤ Q.free sequence.new + 1 }
+    ensures more { length (Q.entries sequence.new) ≤ length (Q.entries sequence.old) + 1 }
+    ensures further { last ≤ result }
+{
+    match op {
+        Op::Insert { stamp, symbol, .. } => {
+            let place = sequence.first_below(at, stamp);
+            let entry = Entry {
+                stamp,
+                symbol,
+                deleted: false,
+            };
+            sequence.put(place, entry);
+            let _len = sequence.len();
+            if last < place { place + 1 } else { last + 1 }
+        }
+        Op::Delete { .. } => {
+            sequence.mark(at - 1);
+            last
+        }
+        Op::Set { .. } => last,
+    }
+}
+
+/// One step of a drain: an operation that waits for the place acts, or the drain goes on to the next place; none where
+/// it is at its end.
+fn step<Q: Sequence>(
+    sequence: &mut Q,
+    room: &mut Room<Q::Memory>,
+    at: usize,
+    last: usize,
+) -> Option<(usize, usize)>
+    requires order { at ≤ last }
+    requires within { last ≤ length (Q.entries sequence.old) }
+    requires free { size room.old.ops ≤ Q.free sequence.old }
+    requires follows { (h : OpSet) × AllLawful h × IsDraining h (has_op room.old.ops) (Q.entries sequence.old) at last }
+    ensures on { IfSome result (λ r. (h : OpSet) → AllLawful h → IsDraining h (has_op room.old.ops) (Q.entries sequence.old) at last → IsDraining h (has_op room.new.ops) (Q.entries sequence.new) r.0 r.1) }
+    ensures order { IfSome result (λ r. r.0 ≤ r.1) }
+    ensures within { IfSome result (λ r. r.1 ≤ length (Q.entries sequence.new)) }
+    ensures smaller { IfSome result (λ r. size room.new.ops + size room.new.ops + length (Q.entries sequence.new) + at < size room.old.ops + size room.old.ops + length (Q.entries sequence.old) + r.0) }
+    ensures end { IsNone result → (h : OpSet) → AllLawful h → IsDraining h (has_op room.old.ops) (Q.entries sequence.old) at last → IsSettled h (Q.entries sequence.new) room.new.ops }
+    ensures fewer { size room.new.ops ≤ size room.old.ops }
+    ensures free { Q.free sequence.old + size room.new.ops ≤ Q.free sequence.new + size room.old.ops }
+    ensures spare { room.old.spare ≤ room.new.spare }
+{
+    let stamp = stamp_at(sequence, at);
+    if let Some(op) = room.release(stamp) {
+        let reach = act(sequence, op, at, last);
+        return Some((at, reach));
+    }
+    if at < last {
+        return Some((at + 1, last));
+    }
+    None
+}
+
+/// Releases all that became live: what waits for the place, and what waits for that, until none is left. No memory is
+/// taken.
+fn drain<Q: Sequence>(sequence: &mut Q, room: &mut Room<Q::Memory>, from: usize)
+    requires within { from ≤ length (Q.entries sequence.old) }
+    requires free { size room.old.ops ≤ Q.free sequence.old }
+    requires follows { (h : OpSet) × AllLawful h × IsDraining h (has_op room.old.ops) (Q.entries sequence.old) from from }
+    ensures settled { (h : OpSet) → AllLawful h → IsDraining h (has_op room.old.ops) (Q.entries sequence.old) from from → IsSettled h (Q.entries sequence.new) room.new.ops }
+    ensures fewer { size room.new.ops ≤ size room.old.ops }
+    ensures free { Q.free sequence.old + size room.new.ops ≤ Q.free sequence.new + size room.old.ops }
+    ensures spare { room.old.spare ≤ room.new.spare }
+{
+    let mut at = from;
+    let mut last = from;
+    while let Some((place, reach)) = step(sequence, room, at, last) {
+        at = place;
+        last = reach;
+    }
+}
+
+/// Takes in an operation whose stamp none bears: it waits, or acts with all that waited for it. No memory is taken.
+pub fn enter<Q: Sequence>(sequence: &mut Q, room: &mut Room<Q::Memory>, op: Op)
+    requires arrives { (h : OpSet) × IsArrival h op (Q.entries sequence.old) room.old.ops }
+    requires spare { 1 ≤ room.old.spare }
+    requires free { size room.old.ops < Q.free sequence.old }
+    ensures settled { (h : OpSet) → IsArrival h op (Q.entries sequence.old) room.old.ops → IsSettled (with_op h op) (Q.entries sequence.new) room.new.ops }
+    ensures few { size room.new.ops ≤ size room.old.ops + 1 }
+    ensures free { Q.free sequence.old + size room.new.ops ≤ Q.free sequence.new + size room.old.ops + 1 }
+    ensures spare { room.old.spare ≤ room.new.spare + 1 }
+{
+    let Some(target) = op.target() else {
+        return;
+    };
+    room.put(op);
+    if let Some(from) = place_of(sequence, target) {
+        drain(sequence, room, from);
+    }
+}
+
+/// Whether the operation of a set is a clear insert or delete.
+fn hangs<A: Allocator + Copy>(held: &Held<A>, op: &Op) -> bool
+    ensures { IsTrue result ↔ ((is_clear_in held.now.ops (stamp_of op.now) ≡ true) × HasTarget op.now) }
+{
+    op.target().is_some() && held.is_clear(op.stamp())
+}
+
+/// All clear inserts and deletes of a set.
+fn all_clear<Q: Sequence>(
+    alloc: Q::Memory,
+    held: &Held<Q::Memory>,
+) -> Result<Room<Q::Memory>, NoMemory>
+    ensures clear { IfOk result (λ r. (op : Op) → (has_op r.ops op ≡ true) ↔ (IsClearOp held.now.ops op × HasTarget op)) }
+    ensures few { IfOk result (λ r. size r.ops ≤ size held.now.ops) }
+    ensures lawful { AllLawful held.now.ops }
+{
+    let ops = held.as_slice();
+    let mut room = Room::new(alloc);
+    room.reserve(ops.len())?;
+    for op in ops {
+        if hangs(held, op) {
+            room.put(*op);
+        }
+    }
+    Ok(room)
+}
+
+/// The sequence and the room of a set, made anew.
+pub fn made_anew<Q: Sequence>(
+    alloc: Q::Memory,
+    held: &Held<Q::Memory>,
+) -> Result<(Q, Room<Q::Memory>), NoMemory>
+    ensures settled { IfOk result (λ r. IsSettled held.now.ops (Q.entries r.0) r.1.ops) }
+    ensures few { IfOk result (λ r. size r.1.ops ≤ size held.now.ops) }
+    ensures free { IfOk result (λ r. size r.1.ops ≤ Q.free r.0) }
+{
+    let mut room = all_clear::<Q>(alloc, held)?;
+    let mut sequence = Q::empty(alloc);
+    sequence.reserve(room.len())?;
+    drain(&mut sequence, &mut room, 0);
+    Ok((sequence, room))
+}
