@@ -1,5 +1,5 @@
 -- What files hold by name, when they may tell of a device, and what their calls leave.
-use Rattle.std.specs.Prelude.{◌≡◌, ◌≢◌, ◌≤◌, ℕ, ◌<◌, ◌⊎◌, ◌++◌, List, Result, Ok, Err, codes, length}
+use Rattle.std.specs.Prelude.{◌≡◌, ◌≢◌, ◌≤◌, ℕ, ◌<◌, ◌⊎◌, ◌++◌, List, Option, None, Some, Result, Ok, Err, codes, length}
 use Rattle.desk_files.specs.declared.files.FileRefusal.{FileRefusal}
 use Rattle.desk_files.specs.declared.files.FileRefusal.TheVariants as refusals
 
@@ -14,13 +14,14 @@ pub data Kept : Type 0 where
 abbrev pub Names : Type 0
 Names = List ℕ → Kept
 
--- what each name stands for, and how often the device has failed
+-- what each name stands for, how often the device has failed, and the name that is held for one run alone, if one is
 pub record Shelf : Type 0 where
   pub kept : Names
   pub failures : ℕ
+  pub held : Option (List ℕ)
 
-abbrev pub shelf : Names → ℕ → Shelf
-shelf kept failures = record { kept = kept; failures = failures }
+abbrev pub shelf : Names → ℕ → Option (List ℕ) → Shelf
+shelf kept failures held = record { kept = kept; failures = failures; held = held }
 
 -- a count rose, or can rise no more
 abbrev pub HasRisen : ℕ → ℕ → Type 0
@@ -30,9 +31,9 @@ HasRisen before after = (before < after) ⊎ (before ≡ 18446744073709551615)
 abbrev pub HasFailed : Shelf → Shelf → Type 0
 HasFailed before after = HasRisen before.failures after.failures
 
--- no file has changed, and the count has not fallen
+-- no file has changed, the count has not fallen, and the same name is held
 abbrev pub Stays : Shelf → Shelf → Type 0
-Stays before after = (after.kept ≡ before.kept) × (before.failures ≤ after.failures)
+Stays before after = (after.kept ≡ before.kept) × (before.failures ≤ after.failures) × (after.held ≡ before.held)
 
 -- a refusal tells of the device exactly where the count says that it failed, while it can
 abbrev pub IsCounted : FileRefusal → Shelf → Shelf → Type 0
@@ -120,6 +121,17 @@ pub record IsRenamed (from to : List ℕ) (before after : Names) : Type 0 where
 -- the name under which a file is written before it takes its place
 abbrev pub new_name : List ℕ → List ℕ
 new_name name = name ++ codes ".new"
+
+-- no name was held, and this one is now. What stands under it, and under the name of the writing, is what other runs left until now; no other name stands for something else.
+pub record IsNowHeld (name : List ℕ) (before after : Shelf) : Type 0 where
+  pub free : before.held ≡ None
+  pub held : after.held ≡ Some name
+  pub failures : after.failures ≡ before.failures
+  pub others : (other : List ℕ) → other ≢ name → other ≢ new_name name → after.kept other ≡ before.kept other
+
+-- no name was held before, and this one is after
+abbrev pub IsHeldAlone : List ℕ → Shelf → Shelf → Type 0
+IsHeldAlone name before after = (before.held ≡ None) × (after.held ≡ Some name)
 
 -- a file is not stored for want of a place: the name, or that of the writing, can stand for no file
 abbrev pub HasNoPlace : List ℕ → Names → Type 0

@@ -1,7 +1,7 @@
 //! Files by name.
 
-ghost use Rattle.std.specs.Prelude.{◌≢◌, ◌≤◌, ◌⊎◌, IfErr, IfOk, IsErrOf, ◌≡◌, length};
-ghost use Rattle.desk_files.specs.Files.{Counts, IsGone, IsNowhere, IsRenamed, IsWritten, Reads, Shelf, Spares, Stays, bytes_read, max_file, shelf};
+ghost use Rattle.std.specs.Prelude.{◌≢◌, ◌≤◌, ◌⊎◌, IfErr, IfOk, IsErrOf, None, ◌≡◌, length};
+ghost use Rattle.desk_files.specs.Files.{Counts, IsGone, IsNowHeld, IsNowhere, IsRenamed, IsWritten, Reads, Shelf, Spares, Stays, bytes_read, max_file, shelf};
 
 use std::alloc::Allocator;
 use thiserror::Error;
@@ -15,7 +15,7 @@ pub enum FileRefusal {
     /// The file, or the folder that it would stand in, is not there.
     #[error("missing")]
     Missing,
-    /// The device failed.
+    /// The device failed, or would not do what it was asked: another run has the name, or there is no right to it.
     #[error("device")]
     Device,
     /// The file has more than 67,108,864 bytes.
@@ -29,18 +29,30 @@ pub enum FileRefusal {
 pub trait Files {
     ghost use Rattle.desk_files.specs.declared.files.FileRefusal.{FileRefusal};
 
-    /// What each name stands for, as far as the files can tell, and how often the device has failed.
+    /// What each name stands for, as far as the files can tell, how often the device has failed, and the name that is held.
     ghost shelf: { Self → Shelf };
 
     /// How often the device has failed. It stays at its greatest value.
     fn failures(&self) -> u64
         ensures { result ≡ (shelf self.now).failures };
 
+    /// Takes a name for this run alone, which must hold none yet: no other run takes it until these files end, and none
+    /// but this run changes what stands under it and under `name.new`. Until now another run may have changed that. Where
+    /// another run has the name, or it could not be written, the call is refused as `Device`, and no file changes.
+    /// `Missing` comes only where no file can have the name, `Device` as from `read`, and `Large` never.
+    fn hold(&mut self, name: &str) -> Result<(), FileRefusal>
+        ensures counted { Counts result (shelf self.old) (shelf self.new) }
+        ensures small { IfErr result (λ e. e ≢ FileRefusal.Large) }
+        ensures missing { IsErrOf result FileRefusal.Missing → IsNowhere ((shelf self.old).kept name.now) }
+        ensures taken { IfOk result (λ _. IsNowHeld name.now (shelf self.old) (shelf self.new)) }
+        ensures refused { IfErr result (λ _. Stays (shelf self.old) (shelf self.new)) };
+
     /// A file's bytes, `MAX_FILE` at most. No file changes. `Device` comes exactly where the device failed in this call, by
     /// the count while it can rise.
     fn read<A: Allocator + Copy>(&mut self, alloc: A, name: &str) -> Result<Vec<u8, A>, FileRefusal>
         ensures counted { Counts result (shelf self.old) (shelf self.new) }
         ensures kept { (shelf self.new).kept ≡ (shelf self.old).kept }
+        ensures held { (shelf self.new).held ≡ (shelf self.old).held }
         ensures within { IfOk result (λ v. length v.items ≤ max_file) }
         ensures given { Reads ((shelf self.old).kept name.now) (bytes_read (λ v. v.items) result) };
 
@@ -51,6 +63,7 @@ pub trait Files {
         ensures small { IfErr result (λ e. e ≢ FileRefusal.Large) }
         ensures missing { IsErrOf result FileRefusal.Missing → IsNowhere ((shelf self.old).kept name.now) }
         ensures written { IfOk result (λ _. IsWritten bytes.now ((shelf self.old).kept name.now) ((shelf self.new).kept name.now)) }
+        ensures held { (shelf self.new).held ≡ (shelf self.old).held }
         ensures others { Spares name.now (shelf self.old).kept (shelf self.new).kept };
 
     /// Gives a file another name, in place of a file that had it. A refused call changes no file. `Missing` comes only
@@ -60,6 +73,7 @@ pub trait Files {
         ensures small { IfErr result (λ e. e ≢ FileRefusal.Large) }
         ensures missing { IsErrOf result FileRefusal.Missing → IsGone ((shelf self.old).kept from.now) ⊎ IsNowhere ((shelf self.old).kept to.now) }
         ensures renamed { IfOk result (λ _. IsRenamed from.now to.now (shelf self.old).kept (shelf self.new).kept) }
+        ensures held { (shelf self.new).held ≡ (shelf self.old).held }
         ensures refused { IfErr result (λ _. (shelf self.new).kept ≡ (shelf self.old).kept) };
 }
 
@@ -70,10 +84,14 @@ pub struct NoFiles;
 impl Files for NoFiles {
     ghost use Rattle.desk_files.specs.Files.{Nowhere};
 
-    ghost shelf = { λ _. shelf (λ _. Nowhere) 0 };
+    ghost shelf = { λ _. shelf (λ _. Nowhere) 0 None };
 
     fn failures(&self) -> u64 {
         0
+    }
+
+    fn hold(&mut self, _name: &str) -> Result<(), FileRefusal> {
+        Err(FileRefusal::Missing)
     }
 
     fn read<A: Allocator + Copy>(

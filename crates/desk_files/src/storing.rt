@@ -27,6 +27,7 @@ pub fn store<F: Files, A: Allocator + Copy>(
     ensures small { IfErr result (λ e. e ≢ FileRefusal.Large) }
     ensures missing { IsErrOf result FileRefusal.Missing → HasNoPlace name.now (F.shelf files.old).kept }
     ensures counted { Counts result (F.shelf files.old) (F.shelf files.new) }
+    ensures held { (F.shelf files.new).held ≡ (F.shelf files.old).held }
     ensures ok { OnOk result (IsReplaced name.now bytes.now (F.shelf files.old).kept (F.shelf files.new).kept) }
     ensures err { OnErr result (Spares (new_name name.now) (F.shelf files.old).kept (F.shelf files.new).kept) }
 {

@@ -1,6 +1,6 @@
 //! A reader, a writer and files in memory, which fail where they are told to. For tests.
 
-ghost use Rattle.std.specs.Prelude.{◌≡◌, ◌≤◌, ◌<◌, ◌≢◌, IfErr, IfOk, IsErrOf, IsFalse, IsTrue, ◌+◌, min, nat_eq, Some, length, option_map};
+ghost use Rattle.std.specs.Prelude.{◌≡◌, ◌≤◌, ◌<◌, ◌≢◌, IfErr, IfOk, IsErrOf, IsFalse, IsTrue, None, ◌+◌, min, nat_eq, Some, length, option_map, string_bytes};
 ghost use Rattle.desk_files.specs.Files.{HasRisen, IsGone, IsRenamed, max_file, shelf};
 ghost use Rattle.desk_files.specs.Trial.{IsPut, bytes_in, kept_in};
 
@@ -175,6 +175,7 @@ pub struct TrialFiles<A: Allocator + Copy> {
     calls: u64,
     failing_call: u64,
     failures: u64,
+    held: Option<String<A>>,
 }
 
 impl<A: Allocator + Copy> TrialFiles<A> {
@@ -186,6 +187,7 @@ impl<A: Allocator + Copy> TrialFiles<A> {
             calls: 0,
             failing_call: 0,
             failures: 0,
+            held: None,
         }
     }
 
@@ -195,6 +197,14 @@ impl<A: Allocator + Copy> TrialFiles<A> {
             failing_call: k,
             ..self
         }
+    }
+
+    /// The files as the next run finds them: the name that was held is free.
+    pub fn for_next_run(self) -> Self
+        ensures free { result.held ≡ None }
+        ensures files { result.changes ≡ self.changes }
+    {
+        TrialFiles { held: None, ..self }
     }
 
     /// The bytes of a file.
@@ -208,6 +218,7 @@ impl<A: Allocator + Copy> TrialFiles<A> {
     pub fn put(&mut self, name: &str, bytes: &[u8]) -> Result<(), AllocError>
         ensures failures { self.new.failures ≡ self.old.failures }
         ensures calls { (self.new.calls ≡ self.old.calls) × (self.new.failing_call ≡ self.old.failing_call) }
+        ensures held { self.new.held ≡ self.old.held }
         ensures ok { IfOk result (λ _. IsPut name.now bytes.now self.old.changes.items self.new.changes.items) }
         ensures err { IfErr result (λ _. self.new.changes.items ≡ self.old.changes.items) }
     {
@@ -219,6 +230,15 @@ impl<A: Allocator + Copy> TrialFiles<A> {
         Ok(())
     }
 
+    /// Counts a failure of the device.
+    fn count_failure(&mut self)
+        ensures risen { HasRisen self.old.failures self.new.failures }
+        ensures counted { self.old.failures ≤ self.new.failures }
+        ensures same { self.new ≡ record self.old { failures = self.new.failures } }
+    {
+        self.failures = self.failures.saturating_add(1);
+    }
+
     /// Counts a call, and answers whether it fails.
     fn fails(&mut self) -> bool
         ensures told { result ≡ nat_eq self.new.calls self.old.failing_call }
@@ -228,12 +248,13 @@ impl<A: Allocator + Copy> TrialFiles<A> {
         ensures fine { IsFalse result → self.new.failures ≡ self.old.failures }
         ensures counted { self.old.failures ≤ self.new.failures }
         ensures kept { self.new.changes ≡ self.old.changes }
+        ensures held { self.new.held ≡ self.old.held }
     {
         self.calls = self.calls.saturating_add(1);
         if self.calls != self.failing_call {
             return false;
         }
-        self.failures = self.failures.saturating_add(1);
+        self.count_failure();
         true
     }
 
@@ -243,6 +264,7 @@ impl<A: Allocator + Copy> TrialFiles<A> {
         ensures missing { IsErrOf result FileRefusal.Missing → IsGone (kept_in self.old.changes.items from.now) }
         ensures failures { self.new.failures ≡ self.old.failures }
         ensures calls { (self.new.calls ≡ self.old.calls) × (self.new.failing_call ≡ self.old.failing_call) }
+        ensures held { self.new.held ≡ self.old.held }
         ensures ok { IfOk result (λ _. IsRenamed from.now to.now (kept_in self.old.changes.items) (kept_in self.new.changes.items)) }
         ensures err { IfErr result (λ _. self.new.changes.items ≡ self.old.changes.items) }
     {
@@ -263,10 +285,25 @@ impl<A: Allocator + Copy> TrialFiles<A> {
 }
 
 impl<A: Allocator + Copy> Files for TrialFiles<A> {
-    ghost shelf = { λ f. shelf (kept_in f.changes.items) f.failures };
+    ghost shelf = { λ f. shelf (kept_in f.changes.items) f.failures (option_map string_bytes f.held) };
 
     fn failures(&self) -> u64 {
         self.failures
+    }
+
+    fn hold(&mut self, name: &str) -> Result<(), FileRefusal> {
+        if self.fails() {
+            return Err(FileRefusal::Device);
+        }
+        if self.held.is_some() {
+            self.count_failure();
+            return Err(FileRefusal::Device);
+        }
+        let Ok(name) = String::from_str(self.alloc, name) else {
+            return Err(FileRefusal::NoMemory);
+        };
+        self.held = Some(name);
+        Ok(())
     }
 
     fn read<B: Allocator + Copy>(

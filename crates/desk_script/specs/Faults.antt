@@ -5,7 +5,7 @@ use Rattle.desk_ops.specs.OpSet.{no_ops, size, with_all}
 use Rattle.desk_codec.specs.Fault.{IsFirstFault}
 use Rattle.desk_codec.specs.Feed.{IsFeed}
 use Rattle.desk_held.specs.declared.AddRefusal.TheVariants.{Full}
-use Rattle.desk_files.specs.Files.{HasFailed, HasNoPlace, Shelf}
+use Rattle.desk_files.specs.Files.{HasFailed, HasNoPlace, IsNowhere, Shelf, Stays}
 use Rattle.desk_script.specs.declared.fault.RunFault.{RunFault}
 use Rattle.desk_script.specs.declared.fault.RunFault.TheVariants as faults
 use Rattle.desk_files.specs.declared.files.FileRefusal.{FileRefusal}
@@ -20,6 +20,23 @@ IsOfRun faults.NoMemory = Unit {0}
 IsOfRun (faults.Feed fault) = ⊥
 IsOfRun (faults.File why) = ⊥
 IsOfRun (faults.Opening stop) = ⊥
+
+-- the name of a stored feed was not taken for a run, by the files before and after: for want of memory, of a place, or since the device refused
+abbrev pub IsUntakenFor : List ℕ → Shelf → Shelf → RunFault → Type 0
+IsUntakenFor name before after faults.Read = ⊥
+IsUntakenFor name before after faults.Write = ⊥
+IsUntakenFor name before after faults.TooLong = ⊥
+IsUntakenFor name before after faults.NoMemory = after.failures ≡ before.failures
+IsUntakenFor name before after (faults.Feed fault) = ⊥
+IsUntakenFor name before after (faults.File refusals.Missing) = IsNowhere (before.kept name) × (after.failures ≡ before.failures)
+IsUntakenFor name before after (faults.File refusals.Device) = HasFailed before after
+IsUntakenFor name before after (faults.File refusals.Large) = ⊥
+IsUntakenFor name before after (faults.File refusals.NoMemory) = ⊥
+IsUntakenFor name before after (faults.Opening stop) = ⊥
+
+-- and so no file has changed
+abbrev pub IsUntaken : List ℕ → Shelf → Shelf → RunFault → Type 0
+IsUntaken name before after fault = IsUntakenFor name before after fault × Stays before after
 
 -- the read of a stored feed was refused, by the files before and after
 abbrev pub IsUnread : (Result (List ℕ) FileRefusal → Type 0) → Shelf → Shelf → FileRefusal → Type 0
@@ -43,7 +60,7 @@ abbrev pub IsUnopened : (Result (List ℕ) FileRefusal → Type 0) → Shelf →
 IsUnopened Gives before after faults.Read = ⊥
 IsUnopened Gives before after faults.Write = ⊥
 IsUnopened Gives before after faults.TooLong = ⊥
-IsUnopened Gives before after faults.NoMemory = Unit {0}
+IsUnopened Gives before after faults.NoMemory = after.failures ≡ before.failures
 IsUnopened Gives before after (faults.Feed fault) = (bytes : List ℕ) × Gives (Ok bytes) × IsFirstFault bytes fault
 IsUnopened Gives before after (faults.File why) = IsUnread Gives before after why
 IsUnopened Gives before after (faults.Opening stop) =

@@ -52,11 +52,43 @@ fn full_set_and_stored_feed(rt: HostRuntime) -> Result<(), Fail> {
     )?;
     assert_eq!(rt; first.as_slice(), b"ok 1.3\nok\nok 1.4\n".as_slice());
     assert!(rt; holds(&files, "a.feed", ONE_INSERT));
-    let second = answered_on(rt.alloc(), &mut files, 3, b"show 3\n")?;
-    assert_eq!(rt; second.as_slice(), b"copy r\"x\"\n".as_slice());
-    assert!(rt; holds(&files, "a.feed", ONE_INSERT));
     assert!(rt; files.bytes_of("a.feed.new").is_none());
     Ok(())
+}
+
+/// A second run on files that hold the feed's name is refused at once; where they were let go it reads the feed. A feed
+/// that it does not change is not written.
+#[test]
+fn one_run_at_a_time(rt: HostRuntime) -> Result<(), Fail> {
+    let mut files = TrialFiles::new(rt.alloc());
+    files.put("a.feed", ONE_INSERT)?;
+    files.put("a.feed.new", b"left over")?;
+    let first = answered_on(rt.alloc(), &mut files, 3, b"show 3\n")?;
+    assert_eq!(rt; first.as_slice(), b"copy r\"x\"\n".as_slice());
+    let device = Err(RunFault::File(FileRefusal::Device));
+    assert_eq!(rt; silent_on(rt.alloc(), &mut files, 3), device);
+    assert_eq!(rt; files.failures(), 1);
+    let mut files = files.for_next_run();
+    let second = answered_on(rt.alloc(), &mut files, 3, b"show 3\n")?;
+    assert_eq!(rt; second.as_slice(), first.as_slice());
+    assert!(rt; holds(&files, "a.feed", ONE_INSERT));
+    assert!(rt; holds(&files, "a.feed.new", b"left over"));
+    Ok(())
+}
+
+/// How a run ends that writes nothing and asks its reader for nothing.
+fn silent_on(alloc: Global, files: &mut TrialFiles<Global>, site: u16) -> Result<(), RunFault> {
+    let mut writer = TrialWriter::new(alloc).with_room(0, AtEnd::Fails);
+    let mut reader = TrialReader::new(b"insert 3 0 r\"y\"\n").failing_at_call(1);
+    run_on_feed(
+        alloc,
+        alloc,
+        &mut reader,
+        &mut writer,
+        files,
+        "a.feed",
+        site.max(1),
+    )
 }
 
 /// A run on a feed that is refused or not opened: nothing is written, and the file stays.
@@ -94,6 +126,7 @@ fn refused_stored_feeds(rt: HostRuntime) -> Result<(), Fail> {
     assert_eq!(rt; refused_on(rt.alloc(), b"", 0)?, Some(magic));
     let device = RunFault::File(FileRefusal::Device);
     assert_eq!(rt; refused_on(rt.alloc(), ONE_INSERT, 1)?, Some(device));
+    assert_eq!(rt; refused_on(rt.alloc(), ONE_INSERT, 2)?, Some(device));
     Ok(())
 }
 
@@ -146,7 +179,7 @@ fn feed_stored_after_stopped_run(rt: HostRuntime) -> Result<(), Fail> {
 /// The answers are written before the feed is stored.
 #[test]
 fn not_stored_after_all_answers(rt: HostRuntime) -> Result<(), Fail> {
-    let mut files = TrialFiles::new(rt.alloc()).failing_at_call(2);
+    let mut files = TrialFiles::new(rt.alloc()).failing_at_call(3);
     files.put("a.feed", ONE_INSERT)?;
     let mut writer = TrialWriter::new(rt.alloc());
     let mut reader = TrialReader::new(b"insert 3 0 r\"y\"\n");
@@ -166,7 +199,7 @@ fn not_stored_after_all_answers(rt: HostRuntime) -> Result<(), Fail> {
     Ok(())
 }
 
-/// All is answered, and then there is no place for the feed.
+/// Where there is no place for the feed nothing is answered.
 #[test]
 fn not_stored_where_no_file_can_be(rt: HostRuntime) -> Result<(), Fail> {
     let mut writer = TrialWriter::new(rt.alloc());
@@ -181,7 +214,7 @@ fn not_stored_where_no_file_can_be(rt: HostRuntime) -> Result<(), Fail> {
         3,
     );
     assert_eq!(rt; result, Err(RunFault::File(FileRefusal::Missing)));
-    assert_eq!(rt; writer.written(), b"ok 1.3\n".as_slice());
+    assert_eq!(rt; writer.written(), b"".as_slice());
     Ok(())
 }
 
@@ -189,7 +222,7 @@ fn not_stored_where_no_file_can_be(rt: HostRuntime) -> Result<(), Fail> {
 #[test]
 fn stored_after_a_failed_read(rt: HostRuntime) -> Result<(), Fail> {
     const INPUT: &[u8] = b"insert 3 0 r\"x\"\nribbon 3 c w\n";
-    let mut files = TrialFiles::new(rt.alloc()).failing_at_call(2);
+    let mut files = TrialFiles::new(rt.alloc()).failing_at_call(3);
     let first = answered_on(rt.alloc(), &mut files, 3, INPUT)?;
     assert_eq!(rt;
         first.as_slice(),
@@ -198,7 +231,7 @@ fn stored_after_a_failed_read(rt: HostRuntime) -> Result<(), Fail> {
     assert_eq!(rt; files.failures(), 1);
     assert!(rt; holds(&files, "a.feed", ONE_INSERT));
 
-    let mut files = TrialFiles::new(rt.alloc()).failing_at_call(2);
+    let mut files = TrialFiles::new(rt.alloc()).failing_at_call(3);
     let mut writer = TrialWriter::new(rt.alloc()).with_room(20, AtEnd::Fails);
     let mut reader = TrialReader::new(INPUT);
     let result = run_on_feed(

@@ -174,6 +174,7 @@ fn refused_day(alloc: Global, cut: usize) -> Result<Seen, Fail> {
     let kept = result == Err(RunFault::NoMemory)
         && DAY_ANSWERS.starts_with(&first)
         && has(&files, "a.feed", ONE_INSERT);
+    let mut files = files.for_next_run();
     let (again, end) = ran_on(&heap, alloc, &mut files);
     let right = kept
         && end.is_ok()

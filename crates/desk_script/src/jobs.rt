@@ -61,12 +61,17 @@ fn parts(name: &str) -> Result<(&'static [u8], &'static [u8]), FileRefusal> {
 }
 
 impl Files for Shelf {
+    ghost use Rattle.std.specs.Prelude.{None};
     ghost use Rattle.desk_files.specs.Files.{Unknown, shelf};
 
-    ghost shelf = { λ s. shelf (λ _. Unknown) s.failures };
+    ghost shelf = { λ s. shelf (λ _. Unknown) s.failures None };
 
     fn failures(&self) -> u64 {
         self.failures
+    }
+
+    fn hold(&mut self, _name: &str) -> Result<(), FileRefusal> {
+        Err(FileRefusal::Missing)
     }
 
     fn read<A: Allocator + Copy>(
