@@ -2,6 +2,7 @@
 use Rattle.std.specs.Prelude.{◌≡◌, ◌≢◌, ◌≤◌, ◌<◌, ◌⊎◌, ℕ, List, [], Option, Some, true, pos, codes}
 use Rattle.std.specs.Str.Parse.{IsNumeral, digits_value, without_leading_plus}
 use Rattle.clap.specs.Words.{App, IsAmong, Row, Rule, Text, fault_of, first_of, new_app, new_rule, one_of, subcommand_of, with_rule, with_subcommand}
+use Rattle.clap.specs.declared.builder.action.ArgAction.TheVariants.{SetTrue}
 use Rattle.clap.specs.declared.builder.value_parser.ValueParser.TheVariants as parsers
 use Rattle.clap.specs.declared.error.kind.ErrorKind.{ErrorKind}
 use Rattle.clap.specs.declared.error.kind.ErrorKind.TheVariants as kind
@@ -20,8 +21,11 @@ site_rule = record (new_rule (codes "site")) {
   required = true;
 }
 
+abbrev pub why_rule : Rule
+why_rule = record (new_rule (codes "why")) { long = Some (codes "why"); action = Some SetTrue }
+
 abbrev pub desk_app : App
-desk_app = with_rule (with_rule (new_app (codes "desk")) feed_rule) site_rule
+desk_app = with_rule (with_rule (with_rule (new_app (codes "desk")) feed_rule) site_rule) why_rule
 
 abbrev pub no_subcommand : App
 no_subcommand = record {
@@ -50,7 +54,7 @@ NamesDesk rows feed site = (first_of (codes "feed") rows ≡ Some feed) × HasSi
 -- a subcommand with its matches asks for this
 abbrev pub Wishes : Option (Text × List Row) → Wish → Type 0
 Wishes asked wishes.Script = (rows : List Row) × (asked ≡ Some (codes "script", rows))
-Wishes asked (wishes.Desk feed site) = (rows : List Row) × (asked ≡ Some (codes "desk", rows)) × NamesDesk rows feed.now site
+Wishes asked (wishes.Desk feed site why) = (rows : List Row) × (asked ≡ Some (codes "desk", rows)) × NamesDesk rows feed.now site
 Wishes asked wishes.Nothing = ((rows : List Row) → asked ≡ Some (codes "script", rows) → ⊥)
     × ((rows : List Row) (feed : Text) (site : ℕ) → asked ≡ Some (codes "desk", rows) → NamesDesk rows feed site → ⊥)
 

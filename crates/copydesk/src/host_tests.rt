@@ -108,6 +108,12 @@ fn files_of_the_machine(rt: HostRuntime) -> Result<(), Fail> {
     make_file(&rt, a.as_str(), 67_108_864)?;
     assert_eq!(rt; unread(rt.alloc(), &mut files, a.as_str()), None);
     assert_eq!(rt; files.failures(), 3);
+
+    let mut others = HostFiles::new(&rt);
+    assert_eq!(rt; files.hold(a.as_str()), Ok(()));
+    assert_eq!(rt; others.hold(a.as_str()), Err(FileRefusal::Device));
+    drop(files);
+    assert_eq!(rt; others.hold(a.as_str()), Ok(()));
     fs::remove_dir_all(&rt, folder.as_str())?;
     Ok(())
 }

@@ -4,13 +4,16 @@
 ghost use Rattle.std.specs.Prelude.{◌≡◌, ◌↔◌, ◌⊎◌};
 ghost use Rattle.std.specs.IoError.{error_kind};
 
+mod hold;
 mod host;
 mod program;
+mod trouble;
 
 use desk_script::RunFault;
 use host::HostFiles;
 use program::program;
-use std::io::{ErrorKind, Write};
+use std::alloc::Global;
+use std::io::{ErrorKind, IsTerminal, Write};
 use std::process::ExitCode;
 use std::{env, io};
 
@@ -28,13 +31,28 @@ fn main(rt: HostRuntime) -> ExitCode {
     }
 }
 
-/// The words after the program's name.
-fn words_of<R: std::rt::Env + AllocGlobal>(rt: &R) -> io::Result<Vec<String>> {
+/// The words after the program's name. Where standard error is a terminal a desk is asked to say why it stopped.
+fn words_of(rt: &HostRuntime) -> io::Result<Vec<String>> {
     let mut words = Vec::new(rt.alloc());
     for word in env::args(rt)?.skip(1) {
         words.push(word)?;
     }
+    if rt.stderr().is_terminal() {
+        ask_why(rt.alloc(), &mut words)?;
+    }
     Ok(words)
+}
+
+/// Adds `--why` to the words of a desk, unless it is among them.
+fn ask_why(alloc: Global, words: &mut Vec<String>) -> io::Result<()> {
+    let is_desk = match words.first() {
+        Some(word) => word.as_str() == "desk",
+        None => false,
+    };
+    if is_desk && !words.iter().any(|word| word.as_str() == "--why") {
+        words.insert(1, String::from_str(alloc, "--why")?)?;
+    }
+    Ok(())
 }
 
 /// Tells why the words could not be read, and gives the status of it: 1 for want of memory, as of a run, and else 2, as of

@@ -6,8 +6,9 @@ ghost use Rattle.clap.specs.declared.builder.command.Command.TheViews.{out-Comma
 ghost use Rattle.copydesk.specs.Runs.{IsRun, IsStopped};
 ghost use Rattle.copydesk.specs.Words.{AsksFor, AsksHelp, AsksNothing, HasSite, NamesDesk, Wishes, copydesk, desk_app};
 
+use crate::trouble::Explains;
 use clap::error::ErrorKind;
-use clap::{Arg, ArgMatches, Command, Error, value_parser};
+use clap::{Arg, ArgAction, ArgMatches, Command, Error, value_parser};
 use desk_script::{Files, RunFault, run, run_on_feed};
 use std::alloc::{AllocError, Global};
 use std::io::{Read, Write};
@@ -17,11 +18,40 @@ use std::io::{Read, Write};
 enum Wish<'a> {
     /// A script.
     Script,
-    /// A script on a stored feed, for a site.
-    Desk { feed: &'a str, site: u16 },
+    /// A script on a stored feed, for a site, and whether a line is to say why a run stopped.
+    Desk { feed: &'a str, site: u16, why: bool },
     /// Nothing that can be done.
     Nothing,
 }
+
+/// What the commands of a script are, for the help.
+const COMMANDS: &str = "\
+As in: copydesk script < commands
+
+Each line is a command, and each has one line in answer:
+  site S                    begins site S, from 1 to 65535
+  insert S I SYMBOLS        inserts at place I, counted from 0: insert 1 0 r\"of\" r\" \" i\"the\"
+  delete S I                deletes the symbol at place I
+  set S KEY VALUE           sets measure, tight, loose, case or wedge
+  send A B, send A B F..T   gives B the operations of A, or those from F to T - 1, in order
+  take S HEX                gives S the operations of a feed
+  merge A B                 gives B all that A holds
+  restart S                 opens S anew from its operations
+  show S, faults S, settings S, feed S
+                            the copy, its faults, the settings, the feed in hex
+  ribbon S CASE WEDGE       the ribbon of the copy, in hex, by the two files
+  cast S CASE WEDGE         the lines that the ribbon casts";
+
+/// What a run on a feed is, for the help.
+const ON_A_FEED: &str = "\
+As in: copydesk desk one.feed --site 1 < commands
+
+The feed is stored once all commands were answered: an `ok` stands when the run has ended with status 0.
+While a run has a feed, no other can have it. FEED.lock, beside it, is the sign of that, and stays.
+A number belongs to one feed: go on with a copied or restored feed under a new number.
+
+Status: 0 done; 1 the run stopped, with one line on standard error; 2 the words were refused.
+`copydesk script --help` tells the commands.";
 
 fn desk_command<'a>(alloc: Global) -> Result<Command<'a>, AllocError>
     ensures app { IfOk result (λ c. app_of c ≡ desk_app) }
@@ -35,18 +65,24 @@ fn desk_command<'a>(alloc: Global) -> Result<Command<'a>, AllocError>
         .required(true)
         .value_parser(value_parser!(u16).range(1..))
         .help("The number of the site whose feed it is, from 1 to 65535.");
+    let why = Arg::new(alloc, "why")
+        .long("why")
+        .action(ArgAction::SetTrue)
+        .help("Says in a second line why a run stopped.");
     Command::new(alloc, "desk")
         .about("Runs commands from standard input to standard output on a stored feed.")
+        .after_help(ON_A_FEED)
         .arg(feed)?
-        .arg(site)
+        .arg(site)?
+        .arg(why)
 }
 
 fn command<'a>(alloc: Global) -> Result<Command<'a>, AllocError>
     ensures { IfOk result (λ c. app_of c ≡ copydesk) }
 {
-    let script = Command::new(alloc, "script").about(
-        "Runs commands from standard input to standard output.",
-    );
+    let script = Command::new(alloc, "script")
+        .about("Runs commands from standard input to standard output.")
+        .after_help(COMMANDS);
     let desk = desk_command(alloc)?;
     Command::new(alloc, "copydesk")
         .about("A copy desk for Monotype composition.")
@@ -72,14 +108,14 @@ fn site_of(matches: &ArgMatches<'_>) -> Option<u16>
     }
 }
 
-/// The feed's name and the site's number that a subcommand's matches hold.
-fn desk_of<'a>(matches: &ArgMatches<'a>) -> Option<(&'a str, u16)>
+/// The feed's name and the site's number that a subcommand's matches hold, and whether they ask why.
+fn desk_of<'a>(matches: &ArgMatches<'a>) -> Option<(&'a str, u16, bool)>
     ensures some { IfSome result (λ p. NamesDesk (rows_of (found_of matches.now)) p.0.now p.1) }
     ensures none { IsNone result → (feed : Text) (site : ℕ) → NamesDesk (rows_of (found_of matches.now)) feed site → ⊥ }
 {
     match matches.get_str("feed") {
         Some(feed) => match site_of(matches) {
-            Some(site) => Some((feed, site)),
+            Some(site) => Some((feed, site, matches.get_flag("why"))),
             None => None,
         },
         None => None,
@@ -100,7 +136,7 @@ fn wish_of<'a>(matches: &ArgMatches<'a>) -> Wish<'a>
         return Wish::Nothing;
     }
     match desk_of(inner) {
-        Some((feed, site)) => Wish::Desk { feed, site },
+        Some((feed, site, why)) => Wish::Desk { feed, site, why },
         None => Wish::Nothing,
     }
 }
@@ -133,6 +169,50 @@ fn status_of<E: Write>(faults: &mut E, outcome: Result<(), RunFault>) -> u8
     }
 }
 
+/// Writes a second line on what stopped a run on a feed: which file, what was asked of it, and the cause.
+fn explain<E: Write, F: Explains>(
+    faults: &mut E,
+    files: &F,
+    feed: &str,
+    outcome: Result<(), RunFault>,
+) {
+    let _ = match outcome {
+        Ok(()) => Ok(()),
+        Err(RunFault::Read) => writeln!(faults, "standard input: it cannot be read"),
+        Err(RunFault::Write) => writeln!(faults, "standard output: it cannot be written"),
+        Err(RunFault::TooLong) => writeln!(faults, "standard input: it has no end"),
+        Err(RunFault::NoMemory) => writeln!(faults, "{feed}: out of memory"),
+        Err(RunFault::Feed(fault)) => {
+            let (at, why) = (fault.at, fault.why);
+            writeln!(faults, "{feed}: byte {at}: {why}")
+        }
+        Err(RunFault::File(_)) => files.explain(feed, faults),
+        Err(RunFault::Opening(_)) => {
+            writeln!(
+                faults,
+                "{feed}: it has more operations than a desk can hold"
+            )
+        }
+    };
+}
+
+/// The status of a run on a feed. Where it is asked why, a second line says it.
+fn status_on<E: Write, F: Explains>(
+    faults: &mut E,
+    files: &F,
+    feed: &str,
+    why: bool,
+    outcome: Result<(), RunFault>,
+) -> u8
+    ensures { MatchResult outcome (λ _. result ≡ 0) (λ _. result ≡ 1) }
+{
+    let status = status_of(faults, outcome);
+    if why {
+        explain(faults, files, feed, outcome);
+    }
+    status
+}
+
 /// What `clap` says of the words: its help goes to the writer, and a refusal to the faults.
 fn refused<W: Write, E: Write>(writer: &mut W, faults: &mut E, error: &Error) -> u8
     ensures within { result ≤ 2 }
@@ -155,7 +235,7 @@ fn refused<W: Write, E: Write>(writer: &mut W, faults: &mut E, error: &Error) ->
 
 /// Does what the words ask for, and gives the status: 0 where it was done or help was asked for, 1 where a run stopped,
 /// and 2 where the words were refused. A failure to write the help or a fault's line changes no status.
-pub fn program<R: Read, W: Write, E: Write, F: Files>(
+pub fn program<R: Read, W: Write, E: Write, F: Files + Explains>(
     alloc: Global,
     words: &[String],
     reader: &mut R,
@@ -175,9 +255,9 @@ pub fn program<R: Read, W: Write, E: Write, F: Files>(
             let outcome = run(alloc, alloc, reader, writer, files);
             status_of(faults, outcome)
         }
-        Ok(Wish::Desk { feed, site }) => {
+        Ok(Wish::Desk { feed, site, why }) => {
             let outcome = run_on_feed(alloc, alloc, reader, writer, files, feed, site);
-            status_of(faults, outcome)
+            status_on(faults, files, feed, why, outcome)
         }
         Ok(Wish::Nothing) => 2,
         Err(error) => refused(writer, faults, &error),

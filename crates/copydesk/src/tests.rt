@@ -1,9 +1,10 @@
 use crate::program::program;
+use crate::trouble::Explains;
 use desk_script::trial::{AtEnd, TrialFiles, TrialReader, TrialWriter};
 use desk_script::{Files, NoFiles};
-use std::alloc::{AllocError, Global};
+use std::alloc::{AllocError, Allocator, Global};
+use std::io::{self, Write};
 use std::test::Fail;
-use std::{fs, io};
 
 /// A status, what was written, and what was told of faults.
 #[derive(Drop)]
@@ -11,6 +12,18 @@ struct Outcome {
     status: u8,
     written: TrialWriter<Global>,
     faults: TrialWriter<Global>,
+}
+
+impl Explains for NoFiles {
+    fn explain<E: Write>(&self, feed: &str, faults: &mut E) -> io::Result<()> {
+        writeln!(faults, "{feed}: no file can be")
+    }
+}
+
+impl<A: Allocator + Copy> Explains for TrialFiles<A> {
+    fn explain<E: Write>(&self, feed: &str, faults: &mut E) -> io::Result<()> {
+        writeln!(faults, "{feed}: a call failed")
+    }
 }
 
 /// The words of a line.
@@ -23,7 +36,7 @@ fn words(alloc: Global, line: &str) -> Result<Vec<String>, AllocError> {
 }
 
 /// Runs the program on the words.
-fn attempt<F: Files>(
+fn attempt<F: Files + Explains>(
     alloc: Global,
     words: &[String],
     reader: TrialReader<'_>,
@@ -42,7 +55,7 @@ fn attempt<F: Files>(
 }
 
 /// Runs the program on the words of a line, with a reader and a writer that do not fail.
-fn tried_on<F: Files>(
+fn tried_on<F: Files + Explains>(
     alloc: Global,
     line: &str,
     input: &[u8],
@@ -169,6 +182,7 @@ fn full_set_and_stored_feed(rt: HostRuntime) -> Result<(), Fail> {
     assert_eq!(rt; got.status, 0);
     assert_eq!(rt; got.written.written(), b"ok 1.3\n".as_slice());
     assert!(rt; holds(&files, "a.feed", ONE_INSERT));
+    let mut files = files.for_next_run();
     let got = tried_on(rt.alloc(), "desk a.feed --site=3", b"show 3\n", &mut files)?;
     assert_eq!(rt; got.status, 0);
     assert_eq!(rt; got.written.written(), b"copy r\"x\"\n".as_slice());
@@ -188,6 +202,13 @@ fn refused_stored_feed(rt: HostRuntime) -> Result<(), Fail> {
         b"copydesk: feed refused\n".as_slice()
     );
     assert!(rt; holds(&files, "a.feed", b"MF"));
+    let mut files = files.for_next_run();
+    let got = tried_on(rt.alloc(), "desk a.feed --site 3 --why", b"", &mut files)?;
+    assert_eq!(rt; got.status, 1);
+    assert_eq!(rt;
+        got.faults.written(),
+        b"copydesk: feed refused\na.feed: byte 0: no feed begins so\n".as_slice()
+    );
     Ok(())
 }
 
@@ -218,7 +239,7 @@ fn too_many_stored(rt: HostRuntime) -> Result<(), Fail> {
 
 #[test]
 fn failing_files(rt: HostRuntime) -> Result<(), Fail> {
-    let mut files = TrialFiles::new(rt.alloc()).failing_at_call(3);
+    let mut files = TrialFiles::new(rt.alloc()).failing_at_call(4);
     let got = tried_on(rt.alloc(), "desk a.feed --site 3", b"show 3\n", &mut files)?;
     assert_eq!(rt; got.status, 1);
     assert_eq!(rt; got.written.written(), b"copy\n".as_slice());

@@ -6,13 +6,13 @@ use Rattle.copydesk.proofs.program.program.Goals as goal
 
 pub returns-in-Ok-Desk-clause-done : goal.returns-in-Ok-Desk-clause-done
 returns-in-Ok-Desk-clause-done g c zero =
-    let asks : AsksFor (map string_bytes c.args.words.now) (wishes.Desk c.in-Ok-Desk.feed c.in-Ok-Desk.site) = subst (AsksFor (map string_bytes c.args.words.now)) c.in-Ok-Desk.field-0-is c.in-Ok-Desk.ensures.wish in
-    inl (inr (c.in-Ok-Desk.feed.now, c.in-Ok-Desk.site, (asks.0, asks.1.0, asks.1.1, asks.1.2), done_of c.run_on_feed-outcome.result c.status_of-in-Ok-Desk.result c.status_of-in-Ok-Desk.ensures c.run_on_feed-outcome.ensures.ok zero))
+    let asks : AsksFor (map string_bytes c.args.words.now) (wishes.Desk c.in-Ok-Desk.feed c.in-Ok-Desk.site c.in-Ok-Desk.why) = subst (AsksFor (map string_bytes c.args.words.now)) c.in-Ok-Desk.field-0-is c.in-Ok-Desk.ensures.wish in
+    inl (inr (c.in-Ok-Desk.feed.now, c.in-Ok-Desk.site, (asks.0, asks.1.0, asks.1.1, asks.1.2), done_of c.run_on_feed-outcome.result c.status_on.result c.status_on.ensures c.run_on_feed-outcome.ensures.ok zero))
 
 pub returns-in-Ok-Desk-clause-stopped : goal.returns-in-Ok-Desk-clause-stopped
 returns-in-Ok-Desk-clause-stopped g c one =
-    let asks : AsksFor (map string_bytes c.args.words.now) (wishes.Desk c.in-Ok-Desk.feed c.in-Ok-Desk.site) = subst (AsksFor (map string_bytes c.args.words.now)) c.in-Ok-Desk.field-0-is c.in-Ok-Desk.ensures.wish in
-    inl (inr (c.in-Ok-Desk.feed.now, c.in-Ok-Desk.site, (asks.0, asks.1.0, asks.1.1, asks.1.2), halt_of c.run_on_feed-outcome.result _ c.status_of-in-Ok-Desk.result c.status_of-in-Ok-Desk.ensures c.run_on_feed-outcome.ensures.err one))
+    let asks : AsksFor (map string_bytes c.args.words.now) (wishes.Desk c.in-Ok-Desk.feed c.in-Ok-Desk.site c.in-Ok-Desk.why) = subst (AsksFor (map string_bytes c.args.words.now)) c.in-Ok-Desk.field-0-is c.in-Ok-Desk.ensures.wish in
+    inl (inr (c.in-Ok-Desk.feed.now, c.in-Ok-Desk.site, (asks.0, asks.1.0, asks.1.1, asks.1.2), halt_of c.run_on_feed-outcome.result _ c.status_on.result c.status_on.ensures c.run_on_feed-outcome.ensures.err one))
 
 pub returns-in-Ok-Nothing-clause-refused : goal.returns-in-Ok-Nothing-clause-refused
 returns-in-Ok-Nothing-clause-refused g c two =
