@@ -27,4 +27,15 @@ expect 0 "" --help
 expect 0 "" script
 expect 0 "" desk a.feed --site 65535
 [ "$(head -c 4 a.feed)" = MFD1 ] && [ "$(wc -c < a.feed)" = 4 ]
+
+# Help names the program, the words and every command.
+told=$("$program" desk --help)
+[[ "$told" == *"copydesk desk one.feed --site 1 < commands"*"FEED.lock"* ]]
+told=$("$program" script --help)
+for command in site insert delete set send take merge restart show faults settings feed ribbon cast; do
+  if [[ "$told" != *" $command "* ]]; then
+    echo "the help of script does not name $command" >&2
+    exit 1
+  fi
+done
 echo "words: as they must be"
