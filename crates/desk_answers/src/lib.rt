@@ -1,6 +1,8 @@
-//! The answers to the commands of a script, and their text.
+//! The answers to the commands of a script, their text, and which answer each refusal of the crates below has.
 #![tactic(auto)]
 
+mod not_done;
 mod text;
 
+pub use not_done::NotDone;
 pub use text::{Refusal, Response, put};

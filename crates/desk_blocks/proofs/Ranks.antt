@@ -1,5 +1,5 @@
 -- Rising stamps.
-use Rattle.std.proofs.Common.{◌≡◌, ℕ, zero, suc, ◌+◌, ◌-◌, ◌<◌, ◌≤◌, true, false, List, [], ◌∷◌, length, get_or, set, refl, sym, ap, ◌∙◌, subst, arith, ◌⊎◌, inl, inr}
+use Rattle.std.proofs.Common.{◌≡◌, Bool, ℕ, zero, suc, ◌+◌, ◌-◌, ◌<◌, ◌≤◌, true, false, List, [], ◌∷◌, length, get_or, set, refl, sym, ap, ◌∙◌, subst, arith, ◌⊎◌, inl, inr}
 use Rattle.std.specs.List.{insert}
 use Rattle.std.proofs.lemmas.Bool.{cases_eq, cases_lt}
 use Rattle.std.proofs.lemmas.List.Edits.{length-insert, get_or-insert_below, get_or-insert_at, get_or-insert_above}
@@ -138,23 +138,14 @@ edge-rank hs s i up e = record { within = rw (length-homes hs) e.within; below =
     stops : i < length (homes_of hs) → before (get_or (homes_of hs) i head) s ≡ false
     stops l = let w : i < length hs = subst (λ (n : ℕ). i < n) (length-homes hs) l in ap (λ (t : Stamp). before t s) (at i w) ∙ e.stops none w
 
--- where s is one of them, it stands at its rank
-pub rank-there : (ts : List Stamp) (s : Stamp) (i : ℕ) → IsRising ts → IsRank ts s i → ((k : ℕ) × (k < length ts) × (get_or ts k head ≡ s)) → (i < length ts) × (get_or ts i head ≡ s)
-rank-there ts s i up r there = by_cases (same (get_or ts i head) s) (λ q. (within (cases_lt i (length ts)), same-true (get_or ts i head) s q)) (λ q. absurd (clash (λ _. q)))
-  where
-    clash : (i < length ts → same (get_or ts i head) s ≡ false) → ⊥
-    clash f = true≢false (sym (same-from (get_or ts there.0 head) s there.2) ∙ none-by_rank ts s i up r f there.0 there.1)
-
-    within : (i < length ts) ⊎ (length ts ≤ i) → i < length ts
-    within (inl l) = l
-    within (inr l) = absurd (clash (λ w. absurd (omega arith)))
-
 pub homes-set : (hs : List Home) (i : ℕ) (h : Home) → i < length hs → get_or (homes_of hs) i head ≡ h.stamp → homes_of (set hs i h) ≡ homes_of hs
 homes-set [] i h l e = refl
 homes-set (x ∷ hs) zero h l e = ap (λ (s : Stamp). s ∷ homes_of hs) (sym e)
 homes-set (x ∷ hs) (suc i) h l e = ap (λ (l : List Stamp). x.stamp ∷ l) (homes-set hs i h (omega arith) e)
 
-pub homes-same : (hs : List Home) (s : Stamp) (i : ℕ) (h : Home) → h.stamp ≡ s → IsRising (homes_of hs) → IsEdge (λ (x : Home). before x.stamp s) hs i → ((k : ℕ) × (k < length (homes_of hs)) × (get_or (homes_of hs) k head ≡ s)) → homes_of (set hs i h) ≡ homes_of hs
-homes-same hs s i h q up e there =
-    let r = rank-there (homes_of hs) s i up (edge-rank hs s i up e) there in
-    homes-set hs i h (subst (λ (n : ℕ). i < n) (length-homes hs) r.0) (r.1 ∙ sym q)
+-- another home of the stamp that stands there, or none
+pub homes-same : (hs new : List Home) (s : Stamp) (h : Home) (done : Bool) → h.stamp ≡ s → (done ≡ true → (i : ℕ) × (IsEdge (λ (x : Home). before x.stamp s) hs i) × (i < length hs) × (same (get_or hs i h).stamp s ≡ true) × (new ≡ set hs i h)) → (done ≡ false → (i : ℕ) × (IsEdge (λ (x : Home). before x.stamp s) hs i) × (i < length hs → same (get_or hs i h).stamp s ≡ false) × (new ≡ hs)) → homes_of new ≡ homes_of hs
+homes-same hs new s h done q put none = by_cases done (λ e. written (put e)) (λ e. ap homes_of (none e).3)
+  where
+    written : (i : ℕ) × (IsEdge (λ (x : Home). before x.stamp s) hs i) × (i < length hs) × (same (get_or hs i h).stamp s ≡ true) × (new ≡ set hs i h) → homes_of new ≡ homes_of hs
+    written p = ap homes_of p.4 ∙ homes-set hs p.0 h p.2 (home-at hs p.0 h p.2 ∙ same-true (get_or hs p.0 h).stamp s p.3 ∙ sym q)

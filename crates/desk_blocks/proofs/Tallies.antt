@@ -1,10 +1,10 @@
 -- What a page's tally says.
-use Rattle.std.proofs.Common.{◌≡◌, Bool, true, false, cond, ℕ, zero, suc, ◌+◌, ◌<◌, List, [], ◌∷◌, ◌++◌, length, get_or, take, drop, refl, sym, ap, ◌∙◌, subst, arith}
+use Rattle.std.proofs.Common.{◌≡◌, Bool, true, false, cond, ℕ, zero, suc, ◌+◌, ◌-◌, ◌<◌, List, [], ◌∷◌, ◌++◌, length, get_or, take, drop, set, refl, sym, ap, ◌∙◌, subst, arith}
 use Rattle.std.specs.List.{count_by, AllByRecursion, insert}
 use Rattle.std.proofs.lemmas.Bool.{true≢false}
 use Rattle.std.proofs.lemmas.List.{take_more}
 use Rattle.std.proofs.lemmas.List.Edits.{insert_end}
-use Rattle.std.proofs.lemmas.List.Sums.{sum_by-cons, sum_by-insert, count_by-le-length}
+use Rattle.std.proofs.lemmas.List.Sums.{sum_by-append, sum_by-cons, sum_by-insert, sum_by-set, count_by-le-length}
 use Rattle.desk_ops.specs.declared.op.Stamp.{Stamp}
 use Rattle.desk_ops.specs.Stamp.{before, same}
 use Rattle.desk_ops.proofs.Stamps.{by_cases, before-trans, before-other, before-irrefl, same-true}
@@ -38,8 +38,38 @@ tally-with t u xs i x h e n m = record {
   least = each-insert (λ (y : Entry). before y.stamp u.least ≡ false) xs i x (each-map (λ (y : Entry). before y.stamp t.least ≡ false) (λ (y : Entry). before y.stamp u.least ≡ false) (λ y. m y.stamp) xs h.least) n;
 }
 
-pub tally-short : (t : Tally) (xs : List Entry) → IsTally t xs → length xs < 512 → t.shown < 512
-tally-short t xs h l = let c = count_by-le-length is_shown xs in let a = h.shown in omega arith
+pub tally-short : (t : Tally) (xs : List Entry) (n : ℕ) → IsTally t xs → length xs < n → t.shown < n
+tally-short t xs n h l = let c = count_by-le-length is_shown xs in let a = h.shown in omega arith
+
+each-set : {A : Type 0} (P : A → Type 0) (xs : List A) (i : ℕ) (y : A) → AllByRecursion P (insert xs i y) → AllByRecursion P (set xs i y)
+each-set P [] i y a = tt
+each-set P (x ∷ xs) zero y a = (a.0, a.1.1)
+each-set P (x ∷ xs) (suc i) y a = (a.0, each-set P xs i y a.1)
+
+each-append : {A : Type 0} (P : A → Type 0) (xs ys : List A) → AllByRecursion P xs → AllByRecursion P ys → AllByRecursion P (xs ++ ys)
+each-append P [] ys a b = b
+each-append P (x ∷ xs) ys a b = (a.0, each-append P xs ys a.1 b)
+
+-- one more, and the one that it stands for is counted no more
+pub tally-replace : (t u : Tally) (xs : List Entry) (i : ℕ) (new old : Entry) → i < length xs → old ≡ get_or xs i old → IsTally t (insert xs i new) → u.least ≡ t.least → u.shown ≡ t.shown - cond (is_shown old) 1 0 → IsTally u (set xs i new)
+tally-replace t u xs i new old l e h n m = record {
+  shown =
+      let a = sum_by-insert (λ (y : Entry). cond (is_shown y) 1 0) xs i new in
+      let b = sum_by-set (λ (y : Entry). cond (is_shown y) 1 0) xs i new old l in
+      let c = h.shown in
+      let q : cond {A = ℕ} (is_shown old) 1 0 ≡ cond {A = ℕ} (is_shown (get_or xs i old)) 1 0 = ap (λ (y : Entry). cond {A = ℕ} (is_shown y) 1 0) e in
+      omega (arith, a, b, c, q, m);
+  least = rw n (each-set (λ (y : Entry). before y.stamp t.least ≡ false) xs i new h.least);
+}
+
+-- that of two lists in one
+pub tally-join : (t v u : Tally) (xs ys : List Entry) → IsTally t xs → IsTally v ys → u.shown ≡ t.shown + v.shown → ((s : Stamp) → before s t.least ≡ false → before s u.least ≡ false) → ((s : Stamp) → before s v.least ≡ false → before s u.least ≡ false) → IsTally u (xs ++ ys)
+tally-join t v u xs ys h k e f g = record {
+  shown = let a = sum_by-append (λ (y : Entry). cond (is_shown y) 1 0) xs ys in let b = h.shown in let c = k.shown in omega arith;
+  least = each-append (λ (y : Entry). before y.stamp u.least ≡ false) xs ys
+      (each-map (λ (y : Entry). before y.stamp t.least ≡ false) (λ (y : Entry). before y.stamp u.least ≡ false) (λ y. f y.stamp) xs h.least)
+      (each-map (λ (y : Entry). before y.stamp v.least ≡ false) (λ (y : Entry). before y.stamp u.least ≡ false) (λ y. g y.stamp) ys k.least);
+}
 
 pub tally-next : (t : Tally) (page : List Entry) (k : ℕ) (d : Entry) → k < length page → IsTally t (insert (take k page) (length (take k page)) (get_or page k d)) → IsTally t (take (k + 1) page)
 tally-next t page k d l h = subst (λ (ys : List Entry). IsTally t ys) (insert_end (take k page) (get_or page k d) ∙ sym (take_more page k d l)) h

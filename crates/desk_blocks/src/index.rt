@@ -32,6 +32,33 @@ impl Pick<Home, ()> for Below {
     fn picks(&self, x: Home) -> bool {
         x.stamp.is_before(self.stamp)
     }
+
+    /// As if the counters of the page rose evenly.
+    fn guess(&self, before: Home, last: Home, len: usize) -> Option<usize> {
+        let all = last.stamp.counter.saturating_sub(before.stamp.counter);
+        let part = self.stamp.counter.saturating_sub(before.stamp.counter);
+        if all == 0 || part > all {
+            return None;
+        }
+        let place = part.saturating_mul(len as u64) / all;
+        Some((place as usize).saturating_sub(1))
+    }
+}
+
+/// Those of a stamp.
+#[derive(Clone, Copy)]
+struct Bearing {
+    stamp: Stamp,
+}
+
+impl Pick<Home, ()> for Bearing {
+    ghost use Rattle.desk_ops.specs.Stamp.{same};
+
+    ghost picked = { λ s h. same h.stamp s.stamp };
+
+    fn picks(&self, x: Home) -> bool {
+        x.stamp.is_same(self.stamp)
+    }
 }
 
 #[derive(Drop)]
@@ -120,10 +147,8 @@ impl<A: Allocator + Copy> Index<A> {
         ensures same { self.new.stamps ≡ self.old.stamps }
         ensures spare { self.new.spare ≡ self.old.spare }
     {
-        if self.get(stamp).is_none() {
-            return;
-        }
-        self.homes.overwrite(&Below { stamp }, Home { stamp, page });
+        self.homes
+            .overwrite(&Below { stamp }, &Bearing { stamp }, Home { stamp, page });
     }
 }
 

@@ -47,6 +47,31 @@ impl Summary<Entry> for Tally {
             },
         }
     }
+
+    fn replaced(self, old: Entry, new: Entry) -> Tally {
+        let tally = self.with(new);
+        if old.deleted {
+            return tally;
+        }
+        Tally {
+            shown: tally.shown.saturating_sub(1),
+            least: tally.least,
+        }
+    }
+
+    fn join(self, other: Tally) -> Tally {
+        let shown = self.shown.saturating_add(other.shown);
+        if other.least.is_before(self.least) {
+            return Tally {
+                shown,
+                least: other.least,
+            };
+        }
+        Tally {
+            shown,
+            least: self.least,
+        }
+    }
 }
 
 /// Those that are shown.

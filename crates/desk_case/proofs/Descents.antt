@@ -1,10 +1,10 @@
 -- Numbers that descend.
-use Rattle.std.proofs.Common.{◌≡◌, ◌∙◌, ℕ, zero, suc, ◌≤◌, ◌<◌, Bool, true, false, ◌&&◌, List, [], ◌∷◌, length, get_or, refl, sym, arith}
+use Rattle.std.proofs.Common.{◌≡◌, ◌∙◌, ℕ, zero, suc, ◌≤◌, ◌<◌, Bool, true, ◌&&◌, List, [], ◌∷◌, length, get_or, refl, sym, arith}
 use Rattle.std.specs.Prelude.{IsTrue, nat_lt}
 use Rattle.std.proofs.Common.{◌-◌, take, drop}
 use Rattle.std.proofs.lemmas.List.{take_all}
 use Rattle.std.specs.List.{AllPairs}
-use Rattle.std.proofs.lemmas.Bool.{false≢true}
+use Rattle.std.proofs.lemmas.Bool.{and_parts}
 use Rattle.std.proofs.lemmas.Bool.Decides.{nat_tests}
 use Rattle.desk_signals.specs.declared.Cell.{Cell}
 use Rattle.desk_wedge.specs.Wedge.{WedgeValues, units_of_row}
@@ -29,11 +29,6 @@ begun w (c ∷ cs) first before some is told =
     let same : first ≡ c = is in
     rw (long, take_all (length cs) cs (omega arith), told, same) (descends_cons (units_of_row w c.row) (units_of_cells w cs))
 
-both_true : (a b : Bool) → (a && b) ≡ true → (a ≡ true) × (b ≡ true)
-both_true true true e = (refl, refl)
-both_true true false e = absurd (false≢true e)
-both_true false b e = absurd (false≢true e)
-
 pub record AreBelow (before : ℕ) (us : List ℕ) : Type 0 where
   pub each : (k d : ℕ) → k < length us → get_or us k d < before
 
@@ -47,7 +42,7 @@ below_cons before u us h rest = record { each = below_at }
 all_below : (before : ℕ) (us : List ℕ) → descends_from before us ≡ true → AreBelow before us
 all_below before [] e = record { each = λ k d within. absurd (omega arith) }
 all_below before (u ∷ us) e =
-    let parts = both_true (nat_lt u before) (descends_from u us) e in
+    let parts = and_parts (nat_lt u before) (descends_from u us) e in
     let test = parts.0 in
     below_cons before u us (grind (arith, nat_tests)) (all_below u us parts.1)
 
@@ -63,7 +58,7 @@ no_pairs i j d p q = absurd (omega arith)
 pairs_from : (before : ℕ) (us : List ℕ) → descends_from before us ≡ true → AllPairs (λ a b. b < a) us
 pairs_from before [] e = no_pairs
 pairs_from before (u ∷ us) e =
-    let parts = both_true (nat_lt u before) (descends_from u us) e in
+    let parts = and_parts (nat_lt u before) (descends_from u us) e in
     pairs_cons u us (all_below u us parts.1) (pairs_from u us parts.1)
 
 pairs : (us : List ℕ) → IsTrue (is_descending us) → AllPairs (λ a b. b < a) us

@@ -1,87 +1,28 @@
 -- The values of a file are a case's.
-use Rattle.std.proofs.Common.{◌≡◌, ◌∙◌, ℕ, ◌+◌, ◌*◌, ◌≤◌, Bool, true, false, ◌&&◌, if◌then◌else◌, List, [], ◌∷◌, length, Option, Some, None, Result, Ok, Err, refl, sym, ap, length-append, arith}
-use Rattle.std.specs.Prelude.{map, option_map, option_and_then, nat_le, is_some, All}
-use Rattle.std.proofs.lemmas.Bool.{false≢true, leb-true}
+use Rattle.std.proofs.Common.{◌≡◌, ◌∙◌, ℕ, ◌+◌, ◌*◌, Bool, true, false, if◌then◌else◌, List, [], ◌∷◌, length, Option, Some, None, Result, Ok, Err, refl, sym, ap, length-append, arith}
+use Rattle.std.specs.Prelude.{map, option_map, option_and_then, is_some, All}
 use Rattle.std.proofs.lemmas.List.Elements.{All-cons, All-nil, All-head, All-tail}
 use Rattle.std.proofs.lemmas.List.{length-map}
-use Rattle.toml.specs.Data.{Data, Items, no_items, item, Members, get_member, as_str, as_array}
+use Rattle.toml.specs.Data.{Data, Members, as_str}
 use Rattle.desk_signals.specs.declared.Cell.{Cell}
 use Rattle.desk_ops.specs.declared.op.Symbol.{Symbol}
-use Rattle.desk_wedge.specs.Keys.{◌>>=◌, number_of, or_fault}
-use Rattle.desk_wedge.proofs.Items.{number_range}
+use Rattle.desk_keys.specs.Keys.{◌>>=◌, number_of}
+use Rattle.desk_keys.specs.Items.{array_of}
+use Rattle.desk_keys.proofs.Values.{IsReadFrom, value_read, IsArrayOf, array_read, all_read}
+use Rattle.desk_keys.proofs.Numbers.{number_range}
 use Rattle.desk_case.specs.declared.CaseKey.{CaseKey}
 use Rattle.desk_case.specs.declared.CaseKey.TheVariants as key
 use Rattle.desk_case.specs.declared.CaseFault.{CaseFault}
 use Rattle.desk_case.specs.declared.CaseFault.TheVariants.{Missing, Shape}
 use Rattle.desk_case.specs.Names.{cell_named, IsCell}
 use Rattle.desk_case.specs.Case.{symbol_in, IsCase}
-use Rattle.desk_case.specs.File.{key_name, joined, each_of, so_many, array_of, row_of, joined_rows, cell_of_data, fill_of, at_key, matrix_of, matrices_of, grid_from, first_doubled, first_held}
+use Rattle.desk_case.specs.File.{key_name, row_of, joined_rows, cell_of_data, fill_of, at_key, matrix_of, matrices_of, grid_from, first_doubled, first_held}
 use Rattle.desk_case.proofs.Cells.{named_is}
 use Rattle.desk_case.proofs.Grids.{Grid, distinct}
 use Rattle.desk_case.proofs.Indexes.{none_of}
 
--- what was read at a key was read from its value
-pub record IsReadFrom {A : Type 0} (read : Data → Option A) (a : A) : Type 0 where
-  pub from : Data
-  pub is : read from ≡ Some a
-
-read_in : {A : Type 0} (k : CaseKey) (read : Data → Option A) (d : Data) (a : A) (o : Option A) → read d ≡ o → or_fault (Shape k) o ≡ Ok a → IsReadFrom read a
-read_in k read d a None told e = cc
-read_in k read d a (Some b) told e = let same : b ≡ a = cc in record { from = d; is = told ∙ ap Some same }
-
-read_at : {A : Type 0} (k : CaseKey) (read : Data → Option A) (a : A) (o : Option Data) → (or_fault (Missing k) o >>= (λ d. or_fault (Shape k) (read d))) ≡ Ok a
-    → IsReadFrom read a
-read_at k read a None e = cc
-read_at k read a (Some d) e = read_in k read d a (read d) refl e
-
 pub at_key_read : {A : Type 0} (k : CaseKey) (read : Data → Option A) (ms : Members) (a : A) → at_key k read ms ≡ Ok a → IsReadFrom read a
-at_key_read k read ms a e = read_at k read a (get_member (key_name k) ms) e
-
--- an array of so many, each read
-pub record IsArrayOf {A : Type 0} (low high : ℕ) (read : Data → Option A) (xs : List A) : Type 0 where
-  pub items : Items
-  pub each : each_of read items ≡ Some xs
-  pub least : low ≤ length xs
-  pub most : length xs ≤ high
-
-both_true : (a b : Bool) → (a && b) ≡ true → (a ≡ true) × (b ≡ true)
-both_true true true e = (refl, refl)
-both_true true false e = absurd (false≢true e)
-both_true false b e = absurd (false≢true e)
-
-many_at : {A : Type 0} (low high : ℕ) (read : Data → Option A) (is : Items) (ys xs : List A) (b : Bool) → (nat_le low (length ys) && nat_le (length ys) high) ≡ b
-    → each_of read is ≡ Some ys → (if b then Some ys else None) ≡ Some xs → IsArrayOf low high read xs
-many_at low high read is ys xs true test each e =
-    let same : ys ≡ xs = cc in
-    let parts = both_true (nat_le low (length ys)) (nat_le (length ys) high) test in
-    rw (← same) (record { items = is; each = each; least = leb-true low (length ys) parts.0; most = leb-true (length ys) high parts.1 })
-many_at low high read is ys xs false test each e = cc
-
-many_in : {A : Type 0} (low high : ℕ) (read : Data → Option A) (is : Items) (xs : List A) (o : Option (List A)) → each_of read is ≡ o
-    → option_and_then (so_many low high) o ≡ Some xs → IsArrayOf low high read xs
-many_in low high read is xs None each e = cc
-many_in low high read is xs (Some ys) each e = many_at low high read is ys xs (nat_le low (length ys) && nat_le (length ys) high) refl each e
-
-array_in : {A : Type 0} (low high : ℕ) (read : Data → Option A) (xs : List A) (o : Option Items)
-    → option_and_then (so_many low high) (option_and_then (each_of read) o) ≡ Some xs → IsArrayOf low high read xs
-array_in low high read xs None e = cc
-array_in low high read xs (Some is) e = many_in low high read is xs (each_of read is) refl e
-
-pub array_read : {A : Type 0} (low high : ℕ) (read : Data → Option A) (d : Data) (xs : List A) → array_of low high read d ≡ Some xs → IsArrayOf low high read xs
-array_read low high read d xs e = array_in low high read xs (as_array d) e
-
--- what holds of each value that is read holds of all
-all_joined : {A : Type 0} (P : A → Type 0) (o : Option A) (rest : Option (List A)) (xs : List A) → ((a : A) → o ≡ Some a → P a) → ((ys : List A) → rest ≡ Some ys → All P ys)
-    → joined o rest ≡ Some xs → All P xs
-all_joined P None rest xs here more e = cc
-all_joined P (Some a) None xs here more e = cc
-all_joined P (Some a) (Some ys) xs here more e =
-    let same : xs ≡ a ∷ ys = cc in
-    rw same (All-cons P a ys (here a refl) (more ys refl))
-
-all_read : {A : Type 0} (P : A → Type 0) (read : Data → Option A) → ((d : Data) (a : A) → read d ≡ Some a → P a) → (is : Items) (xs : List A) → each_of read is ≡ Some xs → All P xs
-all_read P read each no_items xs e = let same : xs ≡ [] = cc in rw same (All-nil P)
-all_read P read each (item d ds) xs e = all_joined P (read d) (each_of read ds) xs (each d) (all_read P read each ds) e
+at_key_read k read ms a e = value_read (key_name k) (Missing k) (Shape k) read ms a e
 
 -- 15 rows of 15
 row_length : (d : Data) (texts : List (List ℕ)) → row_of d ≡ Some texts → length texts ≡ 15

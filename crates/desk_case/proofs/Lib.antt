@@ -3,7 +3,6 @@ pub mod Cells
 pub mod Grids
 pub mod Indexes
 pub mod Descents
-pub mod Lists
 pub mod Rows
 pub mod Lawful
 pub mod FirstFault

@@ -9,13 +9,13 @@ use Rattle.toml.specs.Data.{Data, as_str, as_array}
 use Rattle.toml.specs.declared.value.Value.{Value}
 use Rattle.toml.specs.View.{view, items_view}
 use Rattle.desk_ops.specs.declared.op.Symbol.{Symbol}
-use Rattle.desk_wedge.specs.Keys.{◌>>=◌}
+use Rattle.desk_keys.specs.Keys.{◌>>=◌}
 use Rattle.desk_case.specs.declared.CaseFault.{CaseFault}
 use Rattle.desk_case.specs.declared.CaseFault.TheVariants.{BadText}
 use Rattle.desk_case.specs.Names.{cell_of_place}
 use Rattle.desk_case.specs.File.{row_of, joined_rows, matrix_of, matrices_of, grid_from}
 use Rattle.desk_case.specs.Reading.{AddsRow}
-use Rattle.desk_case.proofs.Lists.{AreReadTo, none_read, one_read, fault_read, right_length, wrong_length}
+use Rattle.desk_keys.proofs.Items.{AreReadTo, none_read, one_read, fault_read, right_length, wrong_length}
 
 abbrev pub Matrices : Type 0
 Matrices = List (Option (Option Symbol))

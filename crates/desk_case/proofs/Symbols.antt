@@ -1,7 +1,7 @@
 -- Symbols that compare as one are one.
-use Rattle.std.proofs.Common.{◌≡◌, ℕ, Bool, true, false, ◌&&◌, refl, arith, eq-eqb}
+use Rattle.std.proofs.Common.{◌≡◌, ℕ, true, refl, arith, eq-eqb}
 use Rattle.std.specs.Prelude.{◌==◌}
-use Rattle.std.proofs.lemmas.Bool.{false≢true}
+use Rattle.std.proofs.lemmas.Bool.{and_parts, false≢true}
 use Rattle.std.proofs.lemmas.Bool.Decides.{nat_tests}
 use Rattle.desk_ops.specs.declared.op.Style.{Style}
 use Rattle.desk_ops.specs.declared.op.Style.TheVariants.{Roman, Italic, SmallCap}
@@ -25,11 +25,6 @@ style_itself Roman = refl
 style_itself Italic = refl
 style_itself SmallCap = refl
 
-both_true : (a b : Bool) → (a && b) ≡ true → (a ≡ true) × (b ≡ true)
-both_true true true e = (refl, refl)
-both_true true false e = absurd (false≢true e)
-both_true false b e = absurd (false≢true e)
-
 abbrev made : Style → ℕ → Symbol
 made s c = record { style = s; ch = c }
 
@@ -38,7 +33,7 @@ same_made s t c d p q = cc
 
 pub symbol_same : (x y : Symbol) → same_symbol x y ≡ true → x ≡ y
 symbol_same x y e =
-    let parts = both_true ((style_eq.ghosts).eq x.style y.style) (x.ch == y.ch) e in
+    let parts = and_parts ((style_eq.ghosts).eq x.style y.style) (x.ch == y.ch) e in
     let chars : x.ch ≡ y.ch = grind (arith, nat_tests, parts.1) in
     same_made x.style y.style x.ch y.ch (style_same x.style y.style parts.0) chars
 

@@ -1,10 +1,13 @@
 -- The values of a case file, or its first fault.
-use Rattle.std.specs.Prelude.{ℕ, ◌+◌, nat_le, nat_lt, Bool, true, ◌&&◌, if◌then◌else◌, List, [], ◌∷◌, ◌++◌, length, codes, Option, Some, None, Result, Ok, Err, map, option_map, option_and_then, is_some}
+use Rattle.std.specs.Prelude.{ℕ, ◌+◌, nat_lt, Bool, true, ◌&&◌, if◌then◌else◌, List, [], ◌∷◌, ◌++◌, codes, Option, Some, None, Result, Ok, Err, ok_or, map, option_map, option_and_then, is_some}
 use Rattle.std.specs.Str.{chars}
-use Rattle.toml.specs.Data.{Data, Items, no_items, item, Members, get_member, as_str, as_array}
+use Rattle.toml.specs.Data.{Data, Members, as_str}
 use Rattle.desk_signals.specs.declared.Cell.{Cell}
 use Rattle.desk_ops.specs.declared.op.Symbol.{Symbol}
-use Rattle.desk_wedge.specs.Keys.{◌>>=◌, number_of, or_fault, document}
+use Rattle.desk_keys.specs.Keys.{◌>>=◌, number_of, value_at, file_of}
+use Rattle.desk_keys.specs.Items.{array_of}
+use Rattle.desk_keys.specs.declared.TableFault.{TableFault}
+use Rattle.desk_keys.specs.declared.TableFault.TheVariants as table
 use Rattle.desk_wedge.specs.Wedge.{WedgeValues, units_of_row}
 use Rattle.desk_case.specs.declared.TheConstants.{COLUMNS, ROWS}
 use Rattle.desk_case.specs.declared.CaseKey.{CaseKey}
@@ -33,24 +36,6 @@ fault_number (NotBlank cell) = Some 6
 fault_number FillOrder = Some 7
 fault_number NoMemory = None
 
--- what all the items are, read one by one
-abbrev pub joined : {A : Type 0} → Option A → Option (List A) → Option (List A)
-joined (Some a) (Some more) = Some (a ∷ more)
-joined (Some a) None = None
-joined None more = None
-
-abbrev pub each_of : {A : Type 0} → (Data → Option A) → Items → Option (List A)
-each_of read no_items = Some []
-each_of read (item d ds) = joined (read d) (each_of read ds)
-
--- a list of so many
-abbrev pub so_many : {A : Type 0} → ℕ → ℕ → List A → Option (List A)
-so_many low high xs = if nat_le low (length xs) && nat_le (length xs) high then Some xs else None
-
--- an array of so many values, each read
-abbrev pub array_of : {A : Type 0} → ℕ → ℕ → (Data → Option A) → Data → Option (List A)
-array_of low high read d = option_and_then (so_many low high) (option_and_then (each_of read) (as_array d))
-
 abbrev pub row_of : Data → Option (List (List ℕ))
 row_of d = array_of COLUMNS COLUMNS as_str d
 
@@ -71,8 +56,7 @@ fill_of d = array_of 1 4 cell_of_data d
 
 -- what a key holds, read; else that it is missing, or that it is no such value
 abbrev pub at_key : {A : Type 0} → CaseKey → (Data → Option A) → Members → Result A CaseFault
-at_key key read members =
-    or_fault (Missing key) (get_member (key_name key) members) >>= (λ d. or_fault (Shape key) (read d))
+at_key key read members = value_at (key_name key) (Missing key) (Shape key) read members
 
 -- a blank, a symbol, or a text that is neither
 abbrev pub matrix_of : List ℕ → Option (Option Symbol)
@@ -86,7 +70,7 @@ matrices_of d = option_map (map matrix_of) (texts_of d)
 abbrev pub grid_from : ℕ → List (Option (Option Symbol)) → Result (List (Option Symbol)) CaseFault
 grid_from n [] = Ok []
 grid_from n (m ∷ ms) =
-    or_fault (BadText (cell_of_place n)) m >>= (λ held. grid_from (n + 1) ms >>= (λ grid. Ok (held ∷ grid)))
+    ok_or m (BadText (cell_of_place n)) >>= (λ held. grid_from (n + 1) ms >>= (λ grid. Ok (held ∷ grid)))
 
 -- the symbol, where an earlier cell holds it
 abbrev pub met : List (Option Symbol) → Option Symbol → Option Symbol
@@ -126,13 +110,14 @@ case_of_members members =
     unless Doubled (first_doubled grid) grid >>= (λ grid.
     unless NotBlank (first_held grid (s ∷ f)) (record { number = n; grid = grid; space = s; fill = f })))))))
 
-abbrev pub case_of_document : Option Members → Result CaseValues CaseFault
-case_of_document None = Err NotToml
-case_of_document (Some members) = case_of_members members
+-- why bytes give no table, as a fault of the file
+abbrev pub table_fault : TableFault → CaseFault
+table_fault table.NotToml = NotToml
+table_fault table.NoMemory = NoMemory
 
 -- the values of a file, or its first fault
 abbrev pub case_of : List ℕ → Result CaseValues CaseFault
-case_of bytes = case_of_document (document bytes)
+case_of bytes = file_of NotToml case_of_members bytes
 
 -- each number is above the next
 abbrev pub is_descending : List ℕ → Bool

@@ -5,12 +5,12 @@ use Rattle.desk_case.specs.declared.CaseFault.{CaseFault}
 use Rattle.desk_case.specs.declared.CaseFault.TheVariants.{NoMemory}
 use Rattle.desk_case.specs.File.{matrix_of}
 
--- an answer is the file's, or want of memory
+-- an answer is the file's, or out of memory
 abbrev pub Gives : {A B : Type 0} → (B → A) → Result A CaseFault → Result B CaseFault → Type 0
 Gives value file (Ok b) = file ≡ Ok (value b)
 Gives value file (Err e) = e ≢ NoMemory → file ≡ Err e
 
--- what the texts of a row stand for comes after what is there, and the answer tells whether it is a row
+-- what the texts of a row stand for comes after what is there, and the answer is whether it is a row
 abbrev pub AddsRow : List (Option (Option Symbol)) → List (Option (Option Symbol)) → Option (List (List ℕ)) → Bool → Type 0
 AddsRow before after (Some texts) added = (added ≡ true) × (after ≡ before ++ map matrix_of texts)
 AddsRow before after None added = added ≡ false

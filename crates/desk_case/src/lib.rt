@@ -7,11 +7,12 @@ mod texts;
 
 ghost use Rattle.std.specs.Prelude.{◌≡◌, ◌≢◌, Ok, Err, Some, None, IfOk, IfErr, IfSome, All};
 ghost use Rattle.toml.specs.Errors.{IsBlank};
-ghost use Rattle.desk_case.specs.File.{key_name, fault_number, case_of, checked, is_descending, units_of_cells};
+ghost use Rattle.desk_case.specs.File.{key_name, fault_number, table_fault, case_of, checked, is_descending, units_of_cells};
 ghost use Rattle.desk_case.specs.Case.{symbol_at, cell_of, IsCase};
 ghost use Rattle.desk_case.specs.Laws.{CellsAndSymbolsAreInverse, NamesAreOneToOne, DoubledIsFirst, DescentIsOfAllPairs};
 ghost use Rattle.desk_case.specs.declared.CaseFault.TheVariants as fault;
 
+use desk_keys::TableFault;
 use desk_ops::Symbol;
 use desk_signals::Cell;
 use desk_wedge::Wedge;
@@ -49,7 +50,7 @@ impl CaseKey {
     }
 }
 
-/// Why a file is no case, or a case does not go with a wedge: the first fault that holds, or want of memory.
+/// Why a file is no case, or a case does not go with a wedge: the first fault that holds, or out of memory.
 #[derive(Clone, Copy, Debug, PartialEq, Eq, Error)]
 pub enum CaseFault {
     #[error("the file is not TOML")]
@@ -71,7 +72,7 @@ pub enum CaseFault {
 }
 
 impl CaseFault {
-    /// The number of the fault; want of memory has none.
+    /// The number of the fault; out of memory has none.
     pub fn number(self) -> Option<u8>
         ensures { result ≡ fault_number self }
     {
@@ -84,6 +85,20 @@ impl CaseFault {
             CaseFault::NotBlank(_) => Some(6),
             CaseFault::FillOrder => Some(7),
             CaseFault::NoMemory => None,
+        }
+    }
+}
+
+impl From<TableFault> for CaseFault {
+    ghost use Rattle.std.specs.Prelude.{◌≡◌};
+    ghost use Rattle.desk_case.specs.File.{table_fault};
+
+    ghost from_gives = { λ table fault. fault ≡ table_fault table };
+
+    fn from(fault: TableFault) -> CaseFault {
+        match fault {
+            TableFault::NotToml => CaseFault::NotToml,
+            TableFault::NoMemory => CaseFault::NoMemory,
         }
     }
 }
@@ -144,6 +159,7 @@ impl MatrixCase {
     pub fn fill(&self) -> &[Cell]
         ensures value { result.now ≡ self.now.fill }
         ensures blank { All (λ cell. symbol_at self.now cell ≡ None) result.now }
+        ensures lawful { IsCase self.now }
     {
         self.fill.as_slice()
     }
@@ -166,23 +182,15 @@ impl MatrixCase {
         let _ = &self.number;
     }
 
-    /// Reads a case file: its values, or its first fault, which is never `FillOrder`. Want of memory may come in place of either.
+    /// Reads a case file: its values, or its first fault, which is never `FillOrder`. Out of memory may come in place of either.
     pub fn read(alloc: Global, bytes: &[u8]) -> Result<MatrixCase, CaseFault>
         ensures ok { IfOk result (λ c. case_of bytes.now ≡ Ok c) }
         ensures err { IfErr result (λ e. e ≢ fault.NoMemory → case_of bytes.now ≡ Err e) }
         ensures order { result ≢ Err fault.FillOrder }
         ensures memory { result ≡ Err fault.NoMemory → ¬ IsBlank bytes.now }
     {
-        match toml::table_from_slice(alloc, bytes) {
-            Ok(table) => read::case(alloc, &table),
-            Err(error) => {
-                if error.is_memory() {
-                    Err(CaseFault::NoMemory)
-                } else {
-                    Err(CaseFault::NotToml)
-                }
-            }
-        }
+        let table = desk_keys::table(alloc, bytes)?;
+        read::case(alloc, &table)
     }
 }
 

@@ -2,7 +2,7 @@
 ghost use Rattle.std.specs.Prelude.{◌≡◌, ◌≢◌, ◌≤◌, ◌*◌, ◌++◌, [], ◌∷◌, Ok, Err, Some, None, IfOk, IfErr, MatchOption, length, map, option_map, is_some, true, false};
 ghost use Rattle.toml.specs.Data.{no_members};
 ghost use Rattle.toml.specs.View.{view, table_view};
-ghost use Rattle.desk_wedge.specs.Keys.{number_of};
+ghost use Rattle.desk_keys.specs.Keys.{number_of};
 ghost use Rattle.desk_case.specs.Case.{symbol_in, IsIndexOf};
 ghost use Rattle.desk_case.specs.Names.{IsCell};
 ghost use Rattle.desk_case.specs.File.{at_key, row_of, matrices_of, cell_of_data, fill_of, grid_from, first_doubled, first_held, case_of_members};
@@ -10,9 +10,9 @@ ghost use Rattle.desk_case.specs.Reading.{Gives, AddsRow};
 ghost use Rattle.desk_case.specs.declared.CaseFault.TheVariants as fault;
 
 use crate::{COLUMNS, CaseFault, CaseKey, MatrixCase, ROWS, names, texts};
+use desk_keys::{member, whole_number};
 use desk_ops::Symbol;
 use desk_signals::Cell;
-use desk_wedge::keys::{member, whole_number};
 use indexmap::IndexMap;
 use std::alloc::{AllocError, Global};
 use toml::{Table, Value};
@@ -21,13 +21,8 @@ use toml::{Table, Value};
 fn number_at(table: &Table) -> Result<u16, CaseFault>
     ensures { result ≡ at_key CaseKey.Case (number_of 1 65535) (table_view table.now) }
 {
-    match member(table, "case") {
-        Some(value) => match whole_number(value, 1, 65535) {
-            Some(number) => Ok(number),
-            None => Err(CaseFault::Shape(CaseKey::Case)),
-        },
-        None => Err(CaseFault::Missing(CaseKey::Case)),
-    }
+    let value = member(table, CaseKey::Case.name()).ok_or(CaseFault::Missing(CaseKey::Case))?;
+    whole_number(value, 1, 65535).ok_or(CaseFault::Shape(CaseKey::Case))
 }
 
 /// The cell that a value names.
@@ -44,13 +39,8 @@ fn cell(value: &Value) -> Option<Cell>
 fn space_at(table: &Table) -> Result<Cell, CaseFault>
     ensures { result ≡ at_key CaseKey.Space cell_of_data (table_view table.now) }
 {
-    match member(table, "space") {
-        Some(value) => match cell(value) {
-            Some(cell) => Ok(cell),
-            None => Err(CaseFault::Shape(CaseKey::Space)),
-        },
-        None => Err(CaseFault::Missing(CaseKey::Space)),
-    }
+    let value = member(table, CaseKey::Space.name()).ok_or(CaseFault::Missing(CaseKey::Space))?;
+    cell(value).ok_or(CaseFault::Shape(CaseKey::Space))
 }
 
 /// The fills that a value names, 1 to 4.
@@ -77,17 +67,14 @@ fn fill(alloc: Global, value: &Value) -> Result<Option<Vec<Cell>>, AllocError>
 fn fill_at(alloc: Global, table: &Table) -> Result<Vec<Cell>, CaseFault>
     ensures { Gives (λ v. v.items) (at_key CaseKey.Fill fill_of (table_view table.now)) result }
 {
-    match member(table, "fill") {
-        Some(value) => match fill(alloc, value) {
-            Ok(Some(fill)) => Ok(fill),
-            Ok(None) => Err(CaseFault::Shape(CaseKey::Fill)),
-            Err(_) => Err(CaseFault::NoMemory),
-        },
-        None => Err(CaseFault::Missing(CaseKey::Fill)),
+    let value = member(table, CaseKey::Fill.name()).ok_or(CaseFault::Missing(CaseKey::Fill))?;
+    match fill(alloc, value) {
+        Ok(fill) => fill.ok_or(CaseFault::Shape(CaseKey::Fill)),
+        Err(_) => Err(CaseFault::NoMemory),
     }
 }
 
-/// Adds what the texts of a row stand for, and tells whether it is a row of texts.
+/// Adds what the texts of a row stand for, and returns whether it is a row of texts.
 fn add_row(matrices: &mut Vec<Option<Option<Symbol>>>, row: &Value) -> Result<bool, AllocError>
     ensures { IfOk result (AddsRow matrices.old.items matrices.new.items (row_of (view row.now))) }
 {
@@ -129,13 +116,10 @@ fn rows(alloc: Global, value: &Value) -> Result<Option<Vec<Option<Option<Symbol>
 fn rows_at(alloc: Global, table: &Table) -> Result<Vec<Option<Option<Symbol>>>, CaseFault>
     ensures { Gives (λ v. v.items) (at_key CaseKey.Rows matrices_of (table_view table.now)) result }
 {
-    match member(table, "rows") {
-        Some(value) => match rows(alloc, value) {
-            Ok(Some(matrices)) => Ok(matrices),
-            Ok(None) => Err(CaseFault::Shape(CaseKey::Rows)),
-            Err(_) => Err(CaseFault::NoMemory),
-        },
-        None => Err(CaseFault::Missing(CaseKey::Rows)),
+    let value = member(table, CaseKey::Rows.name()).ok_or(CaseFault::Missing(CaseKey::Rows))?;
+    match rows(alloc, value) {
+        Ok(matrices) => matrices.ok_or(CaseFault::Shape(CaseKey::Rows)),
+        Err(_) => Err(CaseFault::NoMemory),
     }
 }
 

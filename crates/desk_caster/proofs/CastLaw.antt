@@ -1,6 +1,7 @@
 -- The rows of lines whose cells the case has, cast from the last to the first, give these lines again.
-use Rattle.std.proofs.Common.{◌≡◌, ℕ, suc, ◌+◌, ◌*◌, List, [], ◌∷◌, ◌++◌, map, length, refl, ap, Some, Ok, Option, append_assoc, arith}
+use Rattle.std.proofs.Common.{◌≡◌, ℕ, suc, ◌+◌, List, [], ◌∷◌, ◌++◌, map, length, refl, ap, Some, Ok, Option, append_assoc, arith}
 use Rattle.std.specs.List.{flat_map}
+use Rattle.desk_units.specs.WedgeSum.{sum_at}
 use Rattle.desk_wedge.specs.Wedge.{WedgeValues}
 use Rattle.desk_case.specs.Case.{CaseValues}
 use Rattle.desk_signals.specs.declared.RibbonRow.{RibbonRow}
@@ -14,7 +15,7 @@ use Rattle.desk_caster.specs.declared.CastMatrix.{CastMatrix}
 
 -- the matrices of a line that is cast at these positions
 abbrev pub casts : CaseValues → WedgeValues → ℕ → ℕ → List Punch → List CastMatrix
-casts case wedge coarse fine punches = map (λ punch. cast_matrix case wedge (15 * coarse + fine) punch.cell punch.s) punches
+casts case wedge coarse fine punches = map (λ punch. cast_matrix case wedge (sum_at coarse fine) punch.cell punch.s) punches
 
 -- a caster with a line in progress
 abbrev pub at_line : Option ℕ → ℕ → ℕ → ℕ → List CastMatrix → List Line → State

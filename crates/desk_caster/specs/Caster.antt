@@ -1,7 +1,8 @@
 -- The caster, which reads a ribbon from its last row to the first.
-use Rattle.std.specs.Prelude.{ℕ, suc, ◌+◌, ◌*◌, Bool, cond, if◌then◌else◌, ◌||◌, ◌==◌, is_some, ℤ, pos, ◌+ℤ◌, List, [], ◌∷◌, Option, Some, None, Result, Ok, Err}
+use Rattle.std.specs.Prelude.{ℕ, suc, Bool, cond, if◌then◌else◌, ◌||◌, ◌==◌, is_some, ℤ, pos, ◌+ℤ◌, List, [], ◌∷◌, Option, Some, None, Result, Ok, Err}
 use Rattle.std.specs.List.{list_any}
-use Rattle.desk_units.specs.Widths.{units_width, widening}
+use Rattle.desk_units.specs.Widths.{units_width}
+use Rattle.desk_units.specs.WedgeSum.{sum_at, widening}
 use Rattle.desk_wedge.specs.Wedge.{WedgeValues, units_of_row}
 use Rattle.desk_case.specs.Case.{CaseValues, symbol_at}
 use Rattle.desk_case.specs.Names.{place}
@@ -71,12 +72,12 @@ start_line place coarse (Some fine) (Some line) sent = Err (NotSentOut line.star
 start_line place coarse (Some fine) None sent =
     Ok (record { fine = Some fine; line = Some (record { started = place; coarse = coarse; fine = fine; matrices = [] }); sent = sent })
 
--- A matrix is cast onto the front of the line in progress.
+-- A matrix is cast before the others of the line in progress.
 abbrev pub cast_onto : CaseValues → WedgeValues → ℕ → Cell → Bool → Option ℕ → Option Begun → List Line → Result State CastFault
 cast_onto case wedge place cell s fine None sent = Err (NoWedges place)
 cast_onto case wedge place cell s fine (Some line) sent =
     if has_matrix case cell
-    then Ok (record { fine = fine; line = Some (record line { matrices = cast_matrix case wedge (15 * line.coarse + line.fine) cell s ∷ line.matrices }); sent = sent })
+    then Ok (record { fine = fine; line = Some (record line { matrices = cast_matrix case wedge (sum_at line.coarse line.fine) cell s ∷ line.matrices }); sent = sent })
     else Err (NoMatrix place)
 
 -- what the caster does at the row of this place

@@ -1,7 +1,8 @@
 -- Lines as they are to be cast, and what a reader sees of lines that were.
-use Rattle.std.specs.Prelude.{◌≡◌, ◌+◌, ◌*◌, Bool, true, false, List, [], ◌∷◌, ◌++◌, map, Option, Some, None}
+use Rattle.std.specs.Prelude.{◌≡◌, Bool, true, false, List, [], ◌∷◌, ◌++◌, map, Option, Some, None}
 use Rattle.desk_ops.specs.declared.op.Style.TheVariants.{Roman}
 use Rattle.desk_ops.specs.declared.op.Symbol.{Symbol}
+use Rattle.desk_units.specs.WedgeSum.{sum_at}
 use Rattle.desk_wedge.specs.Wedge.{WedgeValues}
 use Rattle.desk_case.specs.Case.{CaseValues}
 use Rattle.desk_ribbon.specs.declared.Punch.{Punch}
@@ -21,7 +22,7 @@ LinesHaveAll case (line ∷ lines) = HasAll case line.matrices × LinesHaveAll c
 -- the line as it is to be cast: its matrices at its positions
 abbrev pub line_cast : {A : Type 0} → CaseValues → WedgeValues → PunchLine A → Line
 line_cast case wedge line =
-    let matrices = map (λ punch. cast_matrix case wedge (15 * line.coarse + line.fine) punch.cell punch.s) line.matrices in
+    let matrices = map (λ punch. cast_matrix case wedge (sum_at line.coarse line.fine) punch.cell punch.s) line.matrices in
     record { coarse = line.coarse; fine = line.fine; matrices = matrices; total = total_width matrices }
 
 -- what a matrix means to a reader: one with S is a Roman space, one without S that has a symbol is that symbol

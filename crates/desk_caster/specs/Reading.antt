@@ -24,7 +24,7 @@ pub record IsRibbon (bytes : List ℕ) (rows : List RibbonRow) : Type 0 where
   pub number : length rows < 2 ^ 32
   pub lawful : AllByRecursion IsRow rows
 
--- images of rows stand at the front, so many as the place tells, and then one that has no meaning
+-- the bytes begin with images of rows, as many as the place says, and then one that has no meaning
 pub record IsBadRow (bytes : List ℕ) (place : ℕ) (why : BadImage) : Type 0 where
   pub before : List RibbonRow
   pub rows : AllByRecursion IsRow before
@@ -56,14 +56,14 @@ pub record HasNoCount (bytes : List ℕ) : Type 0 where
   pub begins : bytes ≡ magic ++ body
   pub none : (number : ℕ) (images : List ℕ) → IsCounted body number images → ⊥
 
--- a fault told of images; want of memory may be told of any
+-- the fault of images; out of memory may be that of any
 abbrev pub TellsRow : List ℕ → RibbonFault → Type 0
 TellsRow images fault.Magic = ⊥
 TellsRow images fault.Count = ⊥
 TellsRow images (fault.Row place why) = IsBadRow images place why
 TellsRow images fault.NoMemory = Unit {0}
 
--- a fault told of bytes is their first; want of memory may be told of any
+-- the fault of bytes is their first; out of memory may be that of any
 abbrev pub Tells : List ℕ → RibbonFault → Type 0
 Tells bytes fault.Magic = (body : List ℕ) → bytes ≡ magic ++ body → ⊥
 Tells bytes fault.Count = HasNoCount bytes

@@ -1,17 +1,20 @@
 //! The caster: what a ribbon's bytes mean, and the lines that it casts.
+//!
+//! The Monotype caster reads a ribbon from its end, so it meets the wedge positions of a line before the line's matrices.
+//! Which rows set and send out a line is this project's choice: Coarse starts a line, FineOut ends the one before.
 #![tactic(auto)]
 
+mod caster;
 pub mod laws;
 mod line;
-mod machine;
 mod reading;
 
+pub use caster::cast;
 use desk_image::BadImage;
 use desk_ops::Symbol;
 use desk_signals::Cell;
 use desk_units::Atoms;
 pub use line::CastLine;
-pub use machine::cast;
 pub use reading::read_ribbon;
 use thiserror::Error;
 
@@ -26,7 +29,7 @@ pub struct CastMatrix {
     pub width: Atoms,
 }
 
-/// Why bytes are no ribbon: the first fault that holds, or want of memory.
+/// Why bytes are no ribbon: the first fault that holds, or out of memory.
 #[derive(Clone, Copy, PartialEq, Eq, Debug, Error)]
 pub enum RibbonFault {
     #[error("no ribbon begins so")]
@@ -40,7 +43,7 @@ pub enum RibbonFault {
     NoMemory,
 }
 
-/// Why rows cast no lines: the first fault that the caster meets, with a row's place in punched order from 0, or want of memory.
+/// Why rows cast no lines: the first fault that the caster meets, with a row's place in punched order from 0, or out of memory.
 #[derive(Clone, Copy, PartialEq, Eq, Debug, Error)]
 pub enum CastFault {
     /// The row met needs positions of the wedges that are not there.

@@ -1,12 +1,13 @@
 //! Lines that were sent out, and the line in progress.
 ghost use Rattle.std.specs.Prelude.{◌≡◌, ◌+◌, ◌*◌, ◌<◌, ◌≤◌, ◌^◌, [], ◌∷◌, IfOk, length, ◌+ℤ◌};
+ghost use Rattle.desk_units.specs.WedgeSum.{sum_at};
 ghost use Rattle.desk_caster.specs.Bounds.{IsWithin};
 ghost use Rattle.desk_caster.specs.Caster.{sent_out};
 
 use crate::CastMatrix;
 use desk_ops::NoMemory;
 use desk_signals::Position;
-use desk_units::Atoms;
+use desk_units::{Atoms, WedgeSum};
 use std::alloc::Allocator;
 use std::marker::Model;
 
@@ -101,15 +102,13 @@ impl<A: Allocator + Copy> Begun<A> {
     }
 
     /// The wedge sum of the line's positions.
-    pub fn wedge_sum(&self) -> u8
-        ensures value { result ≡ 15 * self.now.coarse + self.now.fine }
-        ensures low { 16 ≤ result }
-        ensures high { result ≤ 240 }
+    pub fn wedge_sum(&self) -> WedgeSum
+        ensures { result ≡ sum_at self.now.coarse self.now.fine }
     {
-        15 * self.coarse.get() + self.fine.get()
+        WedgeSum::of_positions(self.coarse, self.fine)
     }
 
-    /// The line with a matrix cast onto its front.
+    /// The line with a matrix cast before its others.
     pub fn with(self, matrix: CastMatrix) -> Result<Self, NoMemory>
         requires width { IsWithin matrix.width 1 }
         requires room { length self.matrices + 1 < 2 ^ 32 }

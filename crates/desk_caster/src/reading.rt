@@ -52,13 +52,13 @@ fn rows_of<A: Allocator>(
     Ok(rows)
 }
 
-/// The rows of a ribbon, in punched order, or the first fault of bytes that are none: Magic where other than the first
-/// four bytes stand there, Count where the length is not that of the number of rows, and then the first row whose image
-/// has no meaning. Want of memory may come in place of any.
+/// The rows of a ribbon, in punched order, or the first fault of bytes that are none: Magic where the first four bytes are
+/// not `MRB1` or not there, Count where the length is not that of the number of rows, and then the first row whose image
+/// has no meaning. Out of memory may come in place of any.
 pub fn read_ribbon<A: Allocator>(alloc: A, bytes: &[u8]) -> Result<Vec<RibbonRow, A>, RibbonFault>
     ensures ribbon { IfOk result (λ rows. IsRibbon bytes.now rows.items) }
     ensures fault { IfErr result (λ fault. Tells bytes.now fault) }
-    // Other magic, another count and a ribbon of no rows are never told as want of memory.
+    // For other magic, another count and a ribbon of no rows the answer is never out of memory.
     ensures memory { result ≡ Err fault.NoMemory → MayHoldOne bytes.now }
 {
     let [b'M', b'R', b'B', b'1', body @ ..] = bytes else {

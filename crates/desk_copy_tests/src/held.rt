@@ -68,8 +68,8 @@ fn add_row<A: Allocator + Copy>(
 /// Whether what is held are the operations of the counters from 1 on, each second or each, so many.
 fn counts<A: Allocator + Copy>(held: &Held<A>, step: u64, number: usize) -> bool {
     let mut counter = 1u64;
-    for op in held.as_slice() {
-        if *op != insert(counter) {
+    for i in 0..held.len() {
+        if held.op(i) != insert(counter) {
             return false;
         }
         counter = counter.saturating_add(step);
@@ -77,9 +77,9 @@ fn counts<A: Allocator + Copy>(held: &Held<A>, step: u64, number: usize) -> bool
     held.len() == number
 }
 
-/// Takes what a heap of so many bytes can give, but for so many times 16.
-fn ballast(heap: &LocalHeap, bytes: usize, cut: usize) -> Option<Vec<u8, &LocalHeap>> {
-    Vec::with_capacity(heap, bytes.saturating_sub(cut.saturating_mul(16))).ok()
+/// Takes what a heap of so many bytes can give, but for so many.
+fn ballast(heap: &LocalHeap, bytes: usize, left: usize) -> Option<Vec<u8, &LocalHeap>> {
+    Vec::with_capacity(heap, bytes.saturating_sub(left)).ok()
 }
 
 #[test]
@@ -96,7 +96,7 @@ fn holds_what_is_added(rt: HostRuntime) -> Result<(), Fail> {
     }
     let row = [one, FORK, insert(2)];
     let row = row.as_slice();
-    assert!(rt; held.as_slice() == row && held.in_order()?.as_slice() == row);
+    assert!(rt; held.in_order()?.as_slice() == row);
     assert!(rt; held.len() == 3 && held.greatest_counter() == 2 && !held.is_empty());
     assert!(rt; held.has(&one) && held.has(&FORK) && !held.has(&insert(3)));
     for (op, holds, clear) in [
@@ -137,24 +137,25 @@ fn lists_that_fall_are_joined(rt: HostRuntime) -> Result<(), Fail> {
     Ok(())
 }
 
-/// Whether a list of 40 is halted in a cut heap. It is added up to the refused growth, and with memory to its end.
-fn is_halted(alloc: Global, cut: usize, falls: bool) -> Result<bool, Fail> {
-    let heap = LocalHeap::new(alloc, 8192)?;
-    let ballast = ballast(&heap, 8192, cut);
+/// Whether a list of 600 is halted where so many bytes are left. It is added up to the refused growth, and with memory
+/// to its end.
+fn is_halted(alloc: Global, left: usize, falls: bool) -> Result<bool, Fail> {
+    let heap = LocalHeap::new(alloc, 262_144)?;
+    let ballast = ballast(&heap, 262_144, left);
     let mut held = Held::new(&heap);
-    let halt = add_row(alloc, &mut held, 1, 40, falls)?;
+    let halt = add_row(alloc, &mut held, 1, 600, falls)?;
     drop(ballast);
     let (added, is_right) = match halt {
-        None => (40, true),
+        None => (600, true),
         Some(halt) => (
             halt.added,
-            halt.added < 40 && halt.why == AddRefusal::NoMemory,
+            halt.added < 600 && halt.why == AddRefusal::NoMemory,
         ),
     };
     if !is_right || held.len() != added || !(falls || counts(&held, 2, added)) {
         return Err(Fail::new("another halt"));
     }
-    if add_row(alloc, &mut held, 1, 40, falls)?.is_some() || !counts(&held, 2, 40) {
+    if add_row(alloc, &mut held, 1, 600, falls)?.is_some() || !counts(&held, 2, 600) {
         return Err(Fail::new("not all are held"));
     }
     Ok(halt.is_some())
@@ -162,26 +163,30 @@ fn is_halted(alloc: Global, cut: usize, falls: bool) -> Result<bool, Fail> {
 
 #[test]
 fn stopped_at_k(rt: HostRuntime) -> Result<(), Fail> {
-    for (falls, most) in [(false, 240usize), (true, 400)] {
+    for falls in [false, true] {
         let mut halts = 0u32;
-        for cut in 0..most {
-            halts = halts.saturating_add(u32::from(is_halted(rt.alloc(), cut, falls)?));
+        for cut in 0..128usize {
+            halts = halts.saturating_add(u32::from(is_halted(
+                rt.alloc(),
+                cut.saturating_mul(1024),
+                falls,
+            )?));
         }
-        assert!(rt; halts > 20 && halts < 380, "{halts} halts");
+        assert!(rt; halts > 20 && halts < 120, "{halts} halts");
     }
     Ok(())
 }
 
-/// Whether a growth was refused in a cut heap that holds four operations, and has room for so many more. A refused
-/// addition leaves the set, and with memory it is made; a known operation takes no room.
-fn is_refused(alloc: Global, cut: usize, op: Op, want: Added, spare: usize) -> Result<bool, Fail> {
-    let heap = LocalHeap::new(alloc, 4096)?;
+/// Whether a growth was refused where so many bytes are left, four operations are held, and there is room for so many
+/// more. A refused addition leaves the set, and with memory it is made; a known operation takes no room.
+fn is_refused(alloc: Global, left: usize, op: Op, want: Added, spare: usize) -> Result<bool, Fail> {
+    let heap = LocalHeap::new(alloc, 131_072)?;
     let mut held = Held::new(&heap);
     held.reserve(spare)?;
     if add_row(alloc, &mut held, 1, 4, false)?.is_some() {
         return Err(Fail::new("four were refused"));
     }
-    let ballast = ballast(&heap, 4096, cut);
+    let ballast = ballast(&heap, 131_072, left);
     let has_room = held.spare() > 0 || want == Added::Known;
     let first = add(&mut held, op)?;
     drop(ballast);
@@ -208,7 +213,7 @@ fn refused_growths_change_nothing(rt: HostRuntime) -> Result<(), Fail> {
         for cut in 0..256usize {
             refused = refused.saturating_add(u32::from(is_refused(
                 rt.alloc(),
-                cut,
+                cut.saturating_mul(512),
                 op,
                 want,
                 spare,
@@ -222,16 +227,16 @@ fn refused_growths_change_nothing(rt: HostRuntime) -> Result<(), Fail> {
     Ok(())
 }
 
-/// Whether a reserve was refused in a cut heap: the set and its room are as before, and with memory the same call gives
-/// room.
-fn is_reserve_refused(alloc: Global, cut: usize) -> Result<bool, Fail> {
-    let heap = LocalHeap::new(alloc, 4096)?;
+/// Whether a reserve was refused where so many bytes are left: the set and its room are as before, and with memory the
+/// same call gives room.
+fn is_reserve_refused(alloc: Global, left: usize) -> Result<bool, Fail> {
+    let heap = LocalHeap::new(alloc, 131_072)?;
     let mut held = Held::new(&heap);
     if add_row(alloc, &mut held, 1, 4, false)?.is_some() {
         return Err(Fail::new("four were refused"));
     }
     let spare = held.spare();
-    let ballast = ballast(&heap, 4096, cut);
+    let ballast = ballast(&heap, 131_072, left);
     let refused = held.reserve(20).is_err();
     drop(ballast);
     if refused && held.spare() < spare || !counts(&held, 2, 4) {
@@ -244,20 +249,21 @@ fn is_reserve_refused(alloc: Global, cut: usize) -> Result<bool, Fail> {
     Ok(refused)
 }
 
-/// Whether no list of the operations was made in a cut heap; with memory one is.
-fn is_list_refused(alloc: Global, cut: usize) -> Result<bool, Fail> {
-    let heap = LocalHeap::new(alloc, 4096)?;
+/// Whether no list of the operations was made where so many bytes are left; with memory one is.
+fn is_list_refused(alloc: Global, left: usize) -> Result<bool, Fail> {
+    let heap = LocalHeap::new(alloc, 131_072)?;
     let mut held = Held::new(&heap);
     if add_row(alloc, &mut held, 1, 5, false)?.is_some() {
         return Err(Fail::new("five were refused"));
     }
-    let ballast = ballast(&heap, 4096, cut);
+    let want = row_of(alloc, 1, 5)?;
+    let ballast = ballast(&heap, 131_072, left);
     let refused = match held.in_order() {
-        Ok(list) => list.as_slice() != held.as_slice(),
+        Ok(list) => list.as_slice() != want.as_slice(),
         Err(NoMemory) => true,
     };
     drop(ballast);
-    if held.in_order()?.as_slice() != held.as_slice() || !counts(&held, 2, 5) {
+    if held.in_order()?.as_slice() != want.as_slice() {
         return Err(Fail::new("another list"));
     }
     Ok(refused)
@@ -268,8 +274,14 @@ fn growths_of_reserves_and_lists(rt: HostRuntime) -> Result<(), Fail> {
     let mut reserves = 0u32;
     let mut lists = 0u32;
     for cut in 0..256usize {
-        reserves = reserves.saturating_add(u32::from(is_reserve_refused(rt.alloc(), cut)?));
-        lists = lists.saturating_add(u32::from(is_list_refused(rt.alloc(), cut)?));
+        reserves = reserves.saturating_add(u32::from(is_reserve_refused(
+            rt.alloc(),
+            cut.saturating_mul(512),
+        )?));
+        lists = lists.saturating_add(u32::from(is_list_refused(
+            rt.alloc(),
+            cut.saturating_mul(16),
+        )?));
     }
     assert!(rt; reserves > 3 && reserves < 250 && lists > 3 && lists < 250);
     Ok(())

@@ -1,2 +1,3 @@
 pub mod Joins
-mod Rows
+mod Edges
+mod Pairs

@@ -1,12 +1,11 @@
 -- What is held, and how many more operations can be held with no new memory.
-use Rattle.std.specs.Prelude.{◌≡◌, ℕ, ◌≤◌, cond, List, ◌∷◌, length, drop, T, refl}
+use Rattle.std.specs.Prelude.{◌≡◌, ℕ, ◌≤◌, cond, List, length, T, refl}
 use Rattle.std.specs.Coded.{Coded, code_by, coded×, coded_ℕ}
-use Rattle.std.specs.List.{AllByRecursion, filter}
-use Rattle.desk_ops.specs.declared.op.Stamp.{Stamp}
+use Rattle.std.specs.List.{AllByRecursion}
 use Rattle.desk_ops.specs.declared.op.Op.{Op}
 use Rattle.desk_ops.specs.Op.{stamp_of, IsLawful}
 use Rattle.desk_ops.specs.OpSet.{OpSet, op_set_code, has_op, is_rising}
-use Rattle.desk_ops.specs.Held.{bears, is_borne_in}
+use Rattle.desk_ops.specs.Held.{is_borne_in}
 use Rattle.desk_held.specs.declared.Added.{Added}
 use Rattle.desk_held.specs.declared.Added.TheVariants.{New, Known, Forks}
 
@@ -26,8 +25,3 @@ pub record IsKept (ops : List Op) : Type 0 where
 -- what adding an operation is
 abbrev pub added_to : OpSet → Op → Added
 added_to ops op = cond (has_op ops op) Known (cond (is_borne_in ops (stamp_of op)) Forks New)
-
--- the row begins with the operation, which bears the stamp
-pub record IsFirstBearer (stamp : Stamp) (op : Op) (ops : List Op) : Type 0 where
-  pub some : 1 ≤ length ops
-  pub bearers : filter (bears stamp) ops ≡ op ∷ filter (bears stamp) (drop 1 ops)

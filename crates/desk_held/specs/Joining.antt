@@ -1,20 +1,10 @@
 -- Lists of operations added to a set, one after the other.
-use Rattle.std.specs.Prelude.{◌≡◌, ℕ, ◌<◌, ◌≤◌, ◌↔◌, ◌⊎◌, false, List, ◌∷◌, length, take}
+use Rattle.std.specs.Prelude.{◌≡◌, ℕ, ◌<◌, ◌↔◌, false, List, length, take}
 use Rattle.std.specs.List.{HoldsAt}
 use Rattle.desk_ops.specs.declared.op.Op.{Op}
 use Rattle.desk_ops.specs.OpSet.{OpSet, has_op, with_all, size}
 use Rattle.desk_held.specs.declared.AddRefusal.TheVariants.{Full}
 use Rattle.desk_held.specs.declared.join.Halt.{Halt}
-
--- the operation stands first in one of the lists, and these are left
-abbrev pub IsNextOf : List Op → List Op → Op → List Op → List Op → Type 0
-IsNextOf left right op left_rest right_rest = ((left ≡ op ∷ left_rest) × (right ≡ right_rest)) ⊎ ((left ≡ left_rest) × (right ≡ op ∷ right_rest))
-
--- so many operations, the first of the list, were gained
-pub record IsFirstJoined (old after : OpSet) (ops : List Op) (n : ℕ) : Type 0 where
-  pub some : 0 < n
-  pub within : n ≤ length ops
-  pub gained : after ≡ with_all old (take n ops)
 
 -- exactly the first operations of the list were gained, and the next is not held; it would be too many where that is the cause, and only there
 pub record IsHalted (old after : OpSet) (ops : List Op) (halt : Halt) : Type 0 where

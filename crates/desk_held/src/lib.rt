@@ -1,20 +1,22 @@
 //! The operations that a replica holds: a finite set, kept in order.
 #![tactic(auto)]
 
-ghost use Rattle.std.specs.Prelude.{◌≡◌, ◌+◌, ◌≤◌, ◌<◌, ◌↔◌, IfOk, OnOk, OnErr, IsErrOf, IsOk, IsTrue, All, true, false};
+ghost use Rattle.std.specs.Prelude.{◌≡◌, ◌+◌, ◌≤◌, ◌<◌, ◌↔◌, IfOk, OnOk, OnErr, IsErrOf, IsOk, IsTrue, All, true, false, slice_index_or};
 ghost use Rattle.desk_ops.specs.Op.{IsLawful};
 ghost use Rattle.desk_ops.specs.OpSet.{no_ops, has_op, with_op, in_order, size, AllLawful};
 ghost use Rattle.desk_ops.specs.Held.{is_borne_in, is_clear_in, clear_op_in, greatest_counter_of};
 
 use desk_ops::{NoMemory, Op, Stamp};
+use desk_pages::Pages;
+use search::{Below, Earlier, UpTo};
 use std::alloc::Allocator;
 use std::marker::Model;
 use thiserror::Error;
 
 mod join;
-mod row;
+mod search;
 
-pub use join::{Halt, MANY};
+pub use join::Halt;
 
 /// The greatest number of operations that are held.
 pub const LIMIT: usize = 1_048_576;
@@ -39,14 +41,14 @@ pub enum AddRefusal {
     NoMemory,
 }
 
-/// A finite set of lawful operations, with room for some more.
+/// A finite set of lawful operations, by stamp and then by bytes, in pages; with room for some more.
 #[derive(Drop)]
 pub struct Held<A: Allocator + Copy> {
-    ops: Vec<Op, A>,
+    ops: Pages<Op, (), A>,
+    alloc: A,
 }
 
 impl<A: Allocator + Copy> Model for Held<A> {
-    ghost use Rattle.std.specs.Prelude.{◌-◌, vec_capacity, vec_len};
     ghost use Rattle.desk_ops.specs.OpSet.{from_rising};
     ghost use Rattle.desk_held.specs.Holding.{Holding, holding_code, IsKept};
 
@@ -54,9 +56,9 @@ impl<A: Allocator + Copy> Model for Held<A> {
 
     ghost coded = { holding_code };
 
-    ghost view = { λ a. record { ops = from_rising a.ops.items; spare = vec_capacity a.ops - vec_len a.ops } };
+    ghost view = { λ a. record { ops = from_rising a.ops.entries; spare = a.ops.spare } };
 
-    ghost invariant = { λ a. IsKept a.ops.items };
+    ghost invariant = { λ a. IsKept a.ops.entries };
 }
 
 impl<A: Allocator + Copy> Held<A> {
@@ -67,7 +69,8 @@ impl<A: Allocator + Copy> Held<A> {
         ensures { result.ops ≡ no_ops }
     {
         Held {
-            ops: Vec::new(alloc),
+            ops: Pages::new(alloc),
+            alloc,
         }
     }
 
@@ -76,6 +79,7 @@ impl<A: Allocator + Copy> Held<A> {
     pub fn len(&self) -> usize
         ensures value { result ≡ size self.now.ops }
         ensures within { result ≤ LIMIT }
+        ensures lawful { AllLawful self.now.ops }
     {
         self.ops.len()
     }
@@ -90,7 +94,7 @@ impl<A: Allocator + Copy> Held<A> {
     pub fn spare(&self) -> usize
         ensures { result ≡ self.now.spare }
     {
-        self.ops.capacity() - self.ops.len()
+        self.ops.spare()
     }
 
     /// Makes room for at least `n` more operations.
@@ -107,12 +111,14 @@ impl<A: Allocator + Copy> Held<A> {
     pub fn has(&self, op: &Op) -> bool
         ensures { result ≡ has_op self.now.ops op.now }
     {
-        row::gap(&self.ops, op).is_none()
+        match self.ops.seek(&Earlier { op: *op }) {
+            Some(first) => first == *op,
+            None => false,
+        }
     }
 
-    /// Adds an operation. `Full` comes exactly where 1,048,576 operations are held and this one is not; want of
-    /// memory only where the operation is not held and there was no room. With room no memory is taken.
-    #[tactic(auto, using(desk_ops::proofs::OpSets::op_sets))]
+    /// Adds an operation. `Full` comes exactly where 1,048,576 operations are held and this one is not; out of memory
+    /// only where the operation is not held and there was no room. With room no memory is taken.
     pub fn add(&mut self, op: Op) -> Result<Added, AddRefusal>
         requires { IsLawful op }
         ensures added { IfOk result (λ a. a ≡ added_to self.old.ops op) }
@@ -126,33 +132,59 @@ impl<A: Allocator + Copy> Held<A> {
         ensures spare { self.old.spare ≤ self.new.spare + 1 }
         ensures err_spare { OnErr result (self.old.spare ≤ self.new.spare) }
     {
-        let Some(place) = row::gap(&self.ops, &op) else {
+        if self.has(&op) {
             return Ok(Added::Known);
-        };
-        if self.ops.len() == LIMIT {
+        }
+        if self.len() == LIMIT {
             return Err(AddRefusal::Full);
         }
-        let forks = row::is_borne(&self.ops, op.stamp());
-        if self.ops.insert(place, op).is_err() {
+        let forks = self.holds(op.stamp());
+        if self.reserve(1).is_err() {
             return Err(AddRefusal::NoMemory);
         }
+        self.put(op);
         Ok(if forks { Added::Forks } else { Added::New })
     }
 
+    /// Adds an operation that is not held, where there is room for it.
+    fn put(&mut self, op: Op)
+        requires lawful { IsLawful op }
+        requires absent { has_op self.old.ops op ≡ false }
+        requires below { size self.old.ops < LIMIT }
+        requires spare { 1 ≤ self.old.spare }
+        ensures ops { self.new.ops ≡ with_op self.old.ops op }
+        ensures spare { self.old.spare ≤ self.new.spare + 1 }
+    {
+        self.ops.insert_in_order(&Earlier { op }, op);
+    }
+
     /// Whether some held operation bears the stamp.
-    #[tactic(auto, using(desk_ops::proofs::OpSets::op_sets))]
     pub fn holds(&self, stamp: Stamp) -> bool
         ensures { result ≡ is_borne_in self.now.ops stamp }
     {
-        row::is_borne(&self.ops, stamp)
+        match self.ops.seek(&Below { stamp }) {
+            Some(first) => first.stamp().is_same(stamp),
+            None => false,
+        }
     }
 
     /// The operation that bears the stamp, where exactly one does.
-    #[tactic(auto, using(desk_ops::proofs::OpSets::op_sets))]
     pub fn clear_op(&self, stamp: Stamp) -> Option<Op>
         ensures { result ≡ clear_op_in self.now.ops stamp }
     {
-        row::sole_bearer(&self.ops, stamp)
+        let Some(first) = self.ops.seek(&Below { stamp }) else {
+            return None;
+        };
+        if !first.stamp().is_same(stamp) {
+            return None;
+        }
+        let Some(next) = self.ops.seek(&UpTo { op: first }) else {
+            return Some(first);
+        };
+        if next.stamp().is_same(stamp) {
+            return None;
+        }
+        Some(first)
     }
 
     /// Whether exactly one operation bears the stamp.
@@ -163,28 +195,39 @@ impl<A: Allocator + Copy> Held<A> {
     }
 
     /// The greatest counter that is held, or 0 where nothing is.
-    #[tactic(auto, using(desk_ops::proofs::OpSets::op_sets))]
     pub fn greatest_counter(&self) -> u64
         ensures { result ≡ greatest_counter_of self.now.ops }
     {
-        row::greatest_counter(&self.ops)
+        let len = self.ops.len();
+        if len == 0 {
+            return 0;
+        }
+        self.ops.entry(len - 1).stamp().counter
+    }
+
+    /// The i-th operation, by stamp and then by bytes.
+    #[tactic(auto, using(desk_ops::proofs::OpSets::op_sets))]
+    pub fn op(&self, i: usize) -> Op
+        requires { i < size self.now.ops }
+        ensures value { result ≡ slice_index_or (in_order self.now.ops) i result }
+        ensures lawful { IsLawful result }
+    {
+        self.ops.entry(i)
     }
 
     /// The operations, by stamp and then by bytes.
     #[tactic(auto, using(desk_ops::proofs::OpSets::op_sets))]
     pub fn in_order(&self) -> Result<Vec<Op, A>, NoMemory>
-        ensures { IfOk result (λ v. v.items ≡ in_order self.now.ops) }
+        ensures items { IfOk result (λ v. v.items ≡ in_order self.now.ops) }
+        ensures lawful { IfOk result (λ v. All IsLawful v.items) }
     {
-        Ok(self.ops.to_vec(*self.ops.allocator())?)
-    }
-
-    /// The operations, by stamp and then by bytes, where they are kept.
-    #[tactic(auto, using(desk_ops::proofs::OpSets::op_sets))]
-    pub fn as_slice(&self) -> &[Op]
-        ensures items { result.now ≡ in_order self.now.ops }
-        ensures lawful { All IsLawful result.now }
-        ensures set { AllLawful self.now.ops }
-    {
-        self.ops.as_slice()
+        let mut list = Vec::with_capacity(self.alloc, self.ops.len())?;
+        let mut at = 0;
+        while at < self.ops.len() {
+            let part = self.ops.stretch(at);
+            list.extend_from_slice(part)?;
+            at += part.len();
+        }
+        Ok(list)
     }
 }

@@ -21,13 +21,14 @@ use Rattle.desk_case.specs.Names.{IsCell}
 use Rattle.desk_lines.specs.Words.{is_space, is_line_feed, words, paragraphs, words_of, drop_empty_last}
 use Rattle.desk_lines.specs.Groups.{groups}
 use Rattle.desk_lines.proofs.WordLaws.{span, span_is, split_is}
-use Rattle.desk_justify.specs.Positions.{pair_of}
+use Rattle.desk_units.specs.WedgeSum.{pair_of}
 use Rattle.desk_justify.specs.Filled.{fill_counts, fills_of, room}
 use Rattle.desk_ribbon.specs.declared.Punch.{Punch}
 use Rattle.desk_ribbon.specs.Ribbon.{punch_row}
 use Rattle.desk_job.specs.Job.{Terms, SetLine, measure, widths, word_width, widths_of, fill_widths, tight_space, has_added, rest, fills, wedge_sum, plain, word_punches, spaced_punches, words_punches, space_punch, fill_punches, punches, rows_at, line_rows, cut, marked, lines_of_words, lines}
-use Rattle.desk_job.specs.Usable.{IsUsable}
-use Rattle.desk_job.specs.Making.{HasRoom, all_lines}
+use Rattle.desk_job.specs.Terms.{IsUsable}
+use Rattle.desk_job.specs.Making.{CanAdd, all_lines}
+use Rattle.desk_job.proofs.Fitting.{copy_fits}
 use Rattle.desk_job.proofs.Widths.{units_in}
 use Rattle.desk_job.proofs.Paragraphs.{Fit, groups_fit, copy_is}
 
@@ -248,10 +249,10 @@ copy_few terms copy is =
     let b : span (slice_split is_line_feed copy) ≡ length copy + 1 = span_is is_line_feed copy (slice_split is_line_feed copy) (split_is is_line_feed copy) in
     few_more terms (lines terms copy) (span (paragraphs copy)) (length copy + 1) (omega (arith, a, b)) (paragraphs_few terms (paragraphs copy) is)
 
--- There is room for the lines of a copy.
+-- The lines of a copy can be added.
 pub copy_room : (terms : Terms) (copy : List Symbol) → IsUsable terms → length copy ≤ 2 ^ 20 →
-    HasRoom terms (all_lines terms copy (words_of copy)) (record { next = 1; faults = []; rows = [] })
+    CanAdd terms (all_lines terms copy (words_of copy)) (record { next = 1; faults = []; rows = [] })
 copy_room terms copy is small =
     let few = copy_few terms copy is in
     let a = few.rows in let b = few.lines in
-    rw (copy_is terms copy) (record { rows = λ none. omega (arith, a, small); numbers = omega (arith, b, small) })
+    rw (copy_is terms copy) (record { fit = copy_fits terms copy; rows = λ none. omega (arith, a, small); numbers = omega (arith, b, small) })

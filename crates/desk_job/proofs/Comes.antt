@@ -1,27 +1,20 @@
 -- The ribbon of a job, cast, is the copy line by line.
-use Rattle.std.proofs.Common.{◌≡◌, ℕ, ◌≤◌, ◌^◌, Bool, true, false, List, [], ◌∷◌, map, length, refl, sym, ap, ◌∙◌, arith, Option, Some, None, Result, Ok, Err}
-use Rattle.std.specs.Prelude.{ℤ, pos, ◌<ℤ◌, int_le, not, if◌then◌else◌, ◌==◌, nat_lt, IfSome, IfOk}
-use Rattle.std.proofs.lemmas.Int.{ints, by_lt_z}
-use Rattle.std.proofs.lemmas.Bool.{false≢true}
+use Rattle.std.proofs.Common.{◌≡◌, ℕ, ◌≤◌, ◌^◌, List, [], ◌∷◌, map, length, refl, sym, ap, ◌∙◌, subst, arith, Option, Result, Ok, Err}
+use Rattle.std.specs.Prelude.{IfOk}
 use Rattle.desk_ops.specs.declared.op.Symbol.{Symbol}
 use Rattle.desk_ops.specs.declared.op.Key.{Key}
-use Rattle.desk_ops.specs.declared.op.Key.TheVariants as key
-use Rattle.desk_ops.specs.Op.{IsValue}
 use Rattle.desk_signals.specs.declared.RibbonRow.{RibbonRow}
-use Rattle.desk_wedge.specs.Wedge.{WedgeValues, IsWedge}
-use Rattle.desk_case.specs.Case.{CaseValues, IsCase}
-use Rattle.desk_case.specs.File.{is_descending, units_of_cells}
+use Rattle.desk_wedge.specs.Wedge.{WedgeValues}
+use Rattle.desk_case.specs.Case.{CaseValues}
 use Rattle.desk_ribbon.specs.Ribbon as ribbon
-use Rattle.desk_caster.specs.Caster.{Line, cast}
+use Rattle.desk_caster.specs.Caster.{cast}
 use Rattle.desk_caster.specs.Lines.{line_cast}
-use Rattle.desk_caster.specs.Reading.{IsRibbon}
 use Rattle.desk_caster.proofs.CastLaw.{lines_come_back}
-use Rattle.desk_job.specs.Job.{Terms, tight_space, lines, line_faults, lacking, rows_of, rows_or, or_faults, fault_if, terms_of, terms_fault, faults_of, all_given, job, job_of}
-use Rattle.desk_job.specs.Usable.{IsUsable}
-use Rattle.desk_job.specs.Answer.{IsMade}
-use Rattle.desk_job.specs.Reading.{AreLines, CastsCopy}
+use Rattle.desk_job.specs.Job.{Terms, lines, line_faults, lacking, rows_of, rows_or, or_faults, terms_of, values_of}
+use Rattle.desk_job.specs.Terms.{IsUsable}
+use Rattle.desk_job.specs.Answer.{IsMade, set_copy}
+use Rattle.desk_job.specs.Reading.{CastsCopy, CastsLines}
 use Rattle.desk_job.specs.declared.JobFault.{JobFault}
-use Rattle.desk_job.specs.declared.JobFault.TheVariants.{OtherCase, OtherWedge, Crossed, FillOrder, SpaceVanishes}
 use Rattle.desk_job.specs.declared.terms.Values.{Values}
 use Rattle.desk_job.proofs.Bounds.{copy_few}
 use Rattle.desk_job.proofs.SetLaws.{lines_punched}
@@ -38,54 +31,9 @@ neither_list : (a b : List JobFault) → or_faults a b ≡ [] → (a ≡ []) × 
 neither_list [] b none = (refl, none)
 neither_list (fault ∷ faults) b none = absurd (one_fault fault faults none)
 
--- the tests of the terms, one after the other
-abbrev chain : (a b c d e : Bool) → List JobFault
-chain a b c d e =
-    if not a then OtherCase ∷ []
-    else if not b then OtherWedge ∷ []
-    else if c then Crossed ∷ []
-    else if not d then FillOrder ∷ []
-    else fault_if e SpaceVanishes
-
-passed : (a b c d e : Bool) → chain a b c d e ≡ [] → (d ≡ true) × (e ≡ false)
-passed false b c d e none = absurd (one_fault OtherCase [] none)
-passed true false c d e none = absurd (one_fault OtherWedge [] none)
-passed true true true d e none = absurd (one_fault Crossed [] none)
-passed true true false false e none = absurd (one_fault FillOrder [] none)
-passed true true false true true none = absurd (one_fault SpaceVanishes [] none)
-passed true true false true false none = (refl, refl)
-
-above_none : (z : ℤ) → int_le z (pos 0) ≡ false → pos 0 <ℤ z
-above_none z e =
-    by_lt_z (pos 0) z (λ h. h) (λ h. absurd (false≢true (sym e ∙ (let t : int_le z (pos 0) ≡ true = grind (arith, ints) in t))))
-
-usable : (case : CaseValues) (wedge : WedgeValues) (values : Values) → IsCase case → IsWedge wedge →
-    IsValue key.Measure values.measure → IsValue key.Tight values.tight → IsValue key.Loose values.loose →
-    terms_fault (terms_of case wedge values) values ≡ [] → IsUsable (terms_of case wedge values)
-usable case wedge values is_case is_wedge measure tight loose none =
-    let both = passed (values.case == case.number) (values.wedge == wedge.number) (nat_lt values.loose values.tight)
-    (is_descending (units_of_cells wedge case.fill)) (int_le (tight_space (terms_of case wedge values)) (pos 0)) none in
-    record {
-      case = is_case;
-      wedge = is_wedge;
-      points = measure;
-      tight = tight;
-      loose = loose;
-      descend = both.0;
-      space = above_none (tight_space (terms_of case wedge values)) both.1;
-    }
-
--- the rows, cast, are the lines
-pub record Comes (terms : Terms) (copy : List Symbol) (bytes : List ℕ) : Type 0 where
-  pub rows : List RibbonRow
-  pub is : IsRibbon bytes rows
-  pub got : List Line
-  pub casts : cast terms.case terms.wedge rows ≡ Ok got
-  pub are : AreLines terms (lines terms copy) got
-
 comes_back : (terms : Terms) (copy : List Symbol) (bytes : List ℕ) → IsUsable terms → length copy ≤ 2 ^ 20 →
     lacking terms.case 0 copy ≡ [] → line_faults terms 1 (lines terms copy) ≡ [] → bytes ≡ ribbon.ribbon (rows_of terms (lines terms copy)) →
-    Comes terms copy bytes
+    CastsLines terms (lines terms copy) bytes
 comes_back terms copy bytes usable small known none is =
     let ls = lines terms copy in
     let set = lines_punched terms ls usable.case (copy_can_be_set terms copy usable known none) in
@@ -99,38 +47,21 @@ comes_back terms copy bytes usable small known none is =
       are = set.read;
     }
 
-set_comes : (copy : List Symbol) (case : CaseValues) (wedge : WedgeValues) (values : Values) (bytes : List ℕ) → IsCase case → IsWedge wedge → length copy ≤ 2 ^ 20 →
-    IsValue key.Measure values.measure → IsValue key.Tight values.tight → IsValue key.Loose values.loose →
-    IsMade bytes (job_of copy case wedge (Ok values)) → Comes (terms_of case wedge values) copy bytes
-set_comes copy case wedge values bytes is_case is_wedge small measure tight loose made =
-    let terms = terms_of case wedge values in
-    let none = no_faults bytes (rows_of terms (lines terms copy)) (faults_of terms values copy) made in
-    let first = neither_list (terms_fault terms values) (or_faults (lacking case 0 copy) (line_faults terms 1 (lines terms copy))) none.0 in
-    let next = neither_list (lacking case 0 copy) (line_faults terms 1 (lines terms copy)) first.1 in
-    comes_back terms copy bytes (usable case wedge values is_case is_wedge measure tight loose first.0) small next.0 next.1 none.1
+-- Bytes that are the ribbon of a copy by its terms, cast, are the copy.
+pub set_comes : (terms : Terms) (copy : List Symbol) (bytes : List ℕ) → IsUsable terms → length copy ≤ 2 ^ 20 → IsMade bytes (set_copy terms copy) →
+    CastsLines terms (lines terms copy) bytes
+set_comes terms copy bytes usable small made =
+    let none = no_faults bytes (rows_of terms (lines terms copy)) (or_faults (lacking terms.case 0 copy) (line_faults terms 1 (lines terms copy))) made in
+    let parts = neither_list (lacking terms.case 0 copy) (line_faults terms 1 (lines terms copy)) none.0 in
+    comes_back terms copy bytes usable small parts.0 parts.1 none.1
 
-given_comes : (copy : List Symbol) (case : CaseValues) (wedge : WedgeValues) (bytes : List ℕ) (m t l c w : Option ℕ) → IsCase case → IsWedge wedge → length copy ≤ 2 ^ 20 →
-    IfSome m (IsValue key.Measure) → IfSome t (IsValue key.Tight) → IfSome l (IsValue key.Loose) →
-    IsMade bytes (job_of copy case wedge (all_given m t l c w)) →
-    (values : Values) × (all_given m t l c w ≡ Ok values) × Comes (terms_of case wedge values) copy bytes
-given_comes copy case wedge bytes None t l c w is_case is_wedge small a b d made = absurd made
-given_comes copy case wedge bytes (Some m) None l c w is_case is_wedge small a b d made = absurd made
-given_comes copy case wedge bytes (Some m) (Some t) None c w is_case is_wedge small a b d made = absurd made
-given_comes copy case wedge bytes (Some m) (Some t) (Some l) None w is_case is_wedge small a b d made = absurd made
-given_comes copy case wedge bytes (Some m) (Some t) (Some l) (Some c) None is_case is_wedge small a b d made = absurd made
-given_comes copy case wedge bytes (Some m) (Some t) (Some l) (Some c) (Some w) is_case is_wedge small a b d made =
-    let values : Values = record { measure = m; tight = t; loose = l; case = c; wedge = w } in
-    (values, refl, set_comes copy case wedge values bytes is_case is_wedge small a b d made)
-
--- Bytes that are the ribbon of a job, cast, are the copy.
-pub cast_is_copy : (copy : List Symbol) (settings : Key → Option ℕ) (case : CaseValues) (wedge : WedgeValues) (bytes : List ℕ) → IsCase case → IsWedge wedge → length copy ≤ 2 ^ 20 →
-    IfSome (settings key.Measure) (IsValue key.Measure) → IfSome (settings key.Tight) (IsValue key.Tight) → IfSome (settings key.Loose) (IsValue key.Loose) →
-    IsMade bytes (job copy settings case wedge) → CastsCopy copy settings case wedge bytes
-cast_is_copy copy settings case wedge bytes is_case is_wedge small a b d made =
-    let found = given_comes copy case wedge bytes (settings key.Measure) (settings key.Tight) (settings key.Loose) (settings key.Case) (settings key.Wedge)
-    is_case is_wedge small a b d made in
-    let comes = found.2 in
-    record { values = found.0; given = found.1; rows = comes.rows; is = comes.is; got = comes.got; casts = comes.casts; are = comes.are }
+-- and so where the terms are those of a job's settings
+pub job_comes : (copy : List Symbol) (settings : Key → Option ℕ) (case : CaseValues) (wedge : WedgeValues) (values : Values) (terms : Terms) (bytes : List ℕ) →
+    Ok values ≡ values_of settings → terms ≡ terms_of case wedge values → CastsLines terms (lines terms copy) bytes →
+    CastsCopy copy settings case wedge bytes
+job_comes copy settings case wedge values terms bytes given is comes =
+    let lines_come = subst (λ (t : Terms). CastsLines t (lines t copy) bytes) is comes in
+    record { values = values; given = sym given; rows = lines_come.rows; is = lines_come.is; got = lines_come.got; casts = lines_come.casts; are = lines_come.are }
 
 pub each_ok : {A E : Type 0} (P Q : A → Type 0) (r : Result A E) → ((a : A) → P a → Q a) → IfOk r P → IfOk r Q
 each_ok P Q (Ok a) f p = f a p

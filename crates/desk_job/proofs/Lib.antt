@@ -10,5 +10,6 @@ pub mod Replicas
 pub mod ReadLaws
 pub mod ShortLaws
 pub mod SetLaws
+pub mod Fitting
 pub mod NoFaults
 pub mod Comes

@@ -1,30 +1,24 @@
 -- Where a job has no fault, each of its lines can be set.
-use Rattle.std.proofs.Common.{◌≡◌, ◌⊎◌, inl, inr, ℕ, zero, suc, ◌+◌, ◌-◌, ◌*◌, ◌/◌, ◌<◌, ◌≤◌, Bool, true, false, List, [], ◌∷◌, ◌++◌, length, take, drop, refl, sym, ap, ◌∙◌, arith, length-take}
-use Rattle.std.specs.Prelude.{ℤ, pos, negsuc, ◌+ℤ◌, ◌-ℤ◌, ◌*ℤ◌, ◌≤ℤ◌, ◌<ℤ◌, int_lt, not, ◌||◌, ◌==◌, is_some, sum_by}
+use Rattle.std.proofs.Common.{◌≡◌, ℕ, zero, suc, Bool, true, false, List, [], ◌∷◌, ◌++◌, length, take, drop, refl, sym, ap, ◌∙◌, arith}
+use Rattle.std.specs.Prelude.{ℤ, pos, ◌≤ℤ◌, int_lt, not, ◌||◌, ◌==◌, is_some}
 use Rattle.std.specs.List.{slice_split, onto_first, flat_map, AllByRecursion}
 use Rattle.std.proofs.lemmas.Int.{ints, by_lt_z}
 use Rattle.std.proofs.lemmas.Bool.{false≢true}
 use Rattle.std.proofs.lemmas.Bool.Decides.{nat_tests}
-use Rattle.std.proofs.lemmas.List.{length-map}
 use Rattle.std.proofs.lemmas.List.Splits.{slice_split-cons_yes, slice_split-cons_no}
-use Rattle.std.proofs.Math.Nat.{mul-le-mul_left}
 use Rattle.desk_ops.specs.declared.op.Symbol.{Symbol}
-use Rattle.desk_units.specs.Widths.{step, widening, floor_div, steps_of}
+use Rattle.desk_units.specs.WedgeSum.{greatest}
 use Rattle.desk_case.specs.Case.{CaseValues, cell_of}
 use Rattle.desk_lines.specs.Words.{is_space, is_line_feed, drop_empty_last, paragraphs, words}
-use Rattle.desk_lines.specs.Groups.{AreGroups, FitsIn, groups, ranges}
-use Rattle.desk_lines.specs.declared.groups.Group.{Group}
-use Rattle.desk_lines.proofs.GroupLaws.{groups_are_groups}
-use Rattle.desk_justify.specs.Positions.{sum_of}
-use Rattle.desk_job.specs.Job.{Terms, SetLine, measure, widths, word_width, tight_space, space_width, spaces, wedge_sum, line_fault, line_faults, fault_if, is_lacking, lacking, cut, marked, lines_of_words, lines}
-use Rattle.desk_job.specs.Usable.{IsUsable}
+use Rattle.desk_lines.specs.Groups.{groups}
+use Rattle.desk_job.specs.Job.{Terms, SetLine, measure, widths, tight_space, spaces, wedge_sum, line_fault, line_faults, fault_if, is_lacking, lacking, cut, marked, lines_of_words, lines}
+use Rattle.desk_job.specs.Terms.{IsUsable}
+use Rattle.desk_job.specs.Setting.{Fits}
 use Rattle.desk_job.specs.declared.JobFault.{JobFault}
 use Rattle.desk_job.specs.declared.JobFault.TheVariants.{NoMatrix}
 use Rattle.desk_job.proofs.Adding.{none_before}
-use Rattle.desk_job.proofs.LineSizes.{one_more, none_of, width_is}
-use Rattle.desk_job.proofs.Parts.{take_map, drop_map}
+use Rattle.desk_job.proofs.Fitting.{copy_fits, ordinary_low}
 use Rattle.desk_job.proofs.ReadLaws.{Has, WordsHave}
-use Rattle.desk_job.proofs.ShortLaws.{scaled}
 use Rattle.desk_job.proofs.SetLaws.{CanBeSet, each_append}
 
 -- ---- symbols
@@ -107,112 +101,24 @@ words_have case copy none =
 
 -- ---- lines
 
--- what each line of a copy has, where the case lacks nothing
-pub record IsGood (terms : Terms) (line : SetLine) : Type 0 where
-  pub has : WordsHave terms.case line.words
-  pub fits : line.filled ≡ false → (2 ≤ length line.words) × FitsIn (tight_space terms) (pos (measure terms)) (widths terms line.words)
+-- The case has the words of the line.
+abbrev pub HasWords : Terms → SetLine → Type 0
+HasWords terms line = WordsHave terms.case line.words
 
--- The sizes are those of groups.
-abbrev pub Fitting : Terms → List ℕ → List (List Symbol) → Type 0
-Fitting terms [] ws = Unit {0}
-Fitting terms (size ∷ sizes) ws =
-    (1 ≤ size) × (size ≤ length ws) × ((FitsIn (tight_space terms) (pos (measure terms)) (widths terms (take size ws))) ⊎ (size ≡ 1))
-    × Fitting terms sizes (drop size ws)
-
-fitting : (terms : Terms) (here : ℕ) (ws : List (List Symbol)) (sizes : List ℕ) →
-    AreGroups (tight_space terms) (pos (measure terms)) here (widths terms ws) (ranges here sizes) → Fitting terms sizes ws
-fitting terms here ws [] is = tt
-fitting terms here ws (size ∷ sizes) is =
-    let same : here + size ≡ here + is.0 = ap (λ (g : Group). g.to) is.1 in
-    let k : is.0 ≡ size = omega (arith, same) in
-    let f = λ (w : List Symbol). pos (word_width terms w) in
-    let long = length-map ws f in
-    let some = is.2.some in
-    let within = is.2.within in
-    let front : take size (widths terms ws) ≡ widths terms (take size ws) = take_map f size ws in
-    let back : drop size (widths terms ws) ≡ widths terms (drop size ws) = drop_map f size ws in (
-      omega (arith, some, k),
-      omega (arith, within, k, long),
-      rw front at (rw k at is.2.fits),
-      fitting terms (here + size) (drop size ws) sizes (rw back at (rw k at is.3)),
-    )
-
-good_marked : (terms : Terms) (sizes : List ℕ) (ws : List (List Symbol)) → Fitting terms sizes ws → WordsHave terms.case ws →
-    Each (IsGood terms) (marked (cut sizes ws))
-good_marked terms [] ws fits has = tt
-good_marked terms (size ∷ []) ws fits has =
-    (record { has = take_each (Each (Has terms.case)) size ws has; fits = λ e. absurd (false≢true (sym e)) }, tt)
-good_marked terms (size ∷ next ∷ sizes) ws fits has = (
-  record { has = take_each (Each (Has terms.case)) size ws has; fits = two terms size ws fits.0 fits.1 fits.2 },
-  good_marked terms (next ∷ sizes) (drop size ws) fits.3 (drop_each (Each (Has terms.case)) size ws has),
+has_marked : (terms : Terms) (sizes : List ℕ) (ws : List (List Symbol)) → WordsHave terms.case ws → Each (HasWords terms) (marked (cut sizes ws))
+has_marked terms [] ws has = tt
+has_marked terms (size ∷ []) ws has = (take_each (Each (Has terms.case)) size ws has, tt)
+has_marked terms (size ∷ next ∷ sizes) ws has = (
+  take_each (Each (Has terms.case)) size ws has,
+  has_marked terms (next ∷ sizes) (drop size ws) (drop_each (Each (Has terms.case)) size ws has),
 )
-  where
-    two : (terms : Terms) (size : ℕ) (ws : List (List Symbol)) → 1 ≤ size → size ≤ length ws →
-        (FitsIn (tight_space terms) (pos (measure terms)) (widths terms (take size ws))) ⊎ (size ≡ 1) → (length (take size ws) == 1) ≡ false →
-        (2 ≤ length (take size ws)) × FitsIn (tight_space terms) (pos (measure terms)) (widths terms (take size ws))
-    two terms size ws some within (inl f) e =
-        let long = length-take size ws in
-        let more : length (take size ws) < 1 ⊎ 1 < length (take size ws) = grind (arith, nat_tests, e) in
-        (elim more [ inl h ↦ absurd (omega (arith, h, long, some, within)) | inr h ↦ omega (arith, h) ], f)
-    two terms size ws some within (inr one) e =
-        let long = length-take size ws in
-        let is : length (take size ws) ≡ 1 = omega (arith, long, one, within) in
-        absurd (false≢true (sym e ∙ (let t : (length (take size ws) == 1) ≡ true = rw is refl in t)))
 
-good_words : (terms : Terms) (ws : List (List Symbol)) → WordsHave terms.case ws → Each (IsGood terms) (lines_of_words terms ws)
-good_words terms ws has =
-    let sizes = groups (tight_space terms) (pos (measure terms)) (widths terms ws) in
-    good_marked terms sizes ws (fitting terms 0 ws sizes (groups_are_groups (tight_space terms) (pos (measure terms)) (widths terms ws)).0) has
-
-good_paragraphs : (terms : Terms) (ps : List (List Symbol)) → Each (λ p. WordsHave terms.case (words p)) ps →
-    Each (IsGood terms) (flat_map (λ p. lines_of_words terms (words p)) ps)
-good_paragraphs terms [] each = tt
-good_paragraphs terms (p ∷ ps) each =
-    each_append (IsGood terms) (lines_of_words terms (words p)) (flat_map (λ p. lines_of_words terms (words p)) ps)
-    (good_words terms (words p) each.0) (good_paragraphs terms ps each.1)
-
--- ---- the wedge sum of an ordinary line
-
-shared : (s : ℕ) (a b : ℤ) → pos s *ℤ (a +ℤ b) ≡ pos s *ℤ a +ℤ pos s *ℤ b
-shared zero a b = let x = none_of (a +ℤ b) in let y = none_of a in let z = none_of b in omega (arith, ints, x, y, z)
-shared (suc s) a b =
-    let x = one_more (a +ℤ b) s in let y = one_more a s in let z = one_more b s in let more = shared s a b in omega (arith, ints, x, y, z, more)
-
--- k steps of n that don't pass the rest are no more than the quotient
-floor_low : (n : ℕ) (rest k : ℤ) → 0 < n → (pos n *ℤ k) ≤ℤ rest → floor_div rest n <ℤ k → ⊥
-floor_low n (pos a) (pos k) some fits over =
-    let more = mul-le-mul_left {m = suc (a / n)} {n = k} n (omega (arith, ints, over)) in omega (arith, ints, fits, more)
-floor_low n (pos a) (negsuc k) some fits over = omega (arith, ints, over)
-floor_low n (negsuc a) (pos k) some fits over = omega (arith, ints, fits)
-floor_low n (negsuc a) (negsuc k) some fits over =
-    let more = mul-le-mul_left {m = suc k} {n = a / n} n (omega (arith, ints, over)) in omega (arith, ints, fits, more)
-
-low_of : (sum space limit s tight : ℕ) → 1 ≤ s →
-    (pos sum +ℤ pos s *ℤ (pos space +ℤ widening tight)) ≤ℤ pos limit →
-    pos tight ≤ℤ sum_of (pos limit -ℤ pos (sum + s * space)) s
-low_of sum space limit s tight some fits =
-    let k = pos tight -ℤ pos 53 in
-    let d = shared s (pos space) (widening tight) in
-    let e = scaled s k in
-    let f : pos s *ℤ pos space ≡ pos (s * space) = refl in
-    let within : (pos (step * s) *ℤ k) ≤ℤ (pos limit -ℤ pos (sum + s * space)) = omega (arith, ints, fits, d, e, f) in
-    by_lt_z (steps_of (pos limit -ℤ pos (sum + s * space)) s) k
-    (λ below. absurd (floor_low (step * s) (pos limit -ℤ pos (sum + s * space)) k (omega arith) within below))
-    (λ above. omega (arith, ints, above))
-
-less_none : (z : ℤ) → z -ℤ pos 0 ≡ z
-less_none z = omega (arith, ints)
-
-ordinary_low : (terms : Terms) (words : List (List Symbol)) → 2 ≤ length words →
-    FitsIn (tight_space terms) (pos (measure terms)) (widths terms words) →
-    pos terms.tight ≤ℤ wedge_sum terms (record { words = words; filled = false })
-ordinary_low terms [] some fits = absurd (omega arith)
-ordinary_low terms (word ∷ []) some fits = absurd (omega arith)
-ordinary_low terms (word ∷ next ∷ words) some fits =
-    let n : (length (word ∷ next ∷ words) - 1) + 0 ≡ suc (length words) = omega arith in
-    rw (n, less_none (pos (measure terms) -ℤ pos (sum_by (word_width terms) (word ∷ next ∷ words) + suc (length words) * space_width terms)))
-    (low_of (sum_by (word_width terms) (word ∷ next ∷ words)) (space_width terms) (measure terms) (suc (length words)) terms.tight (omega arith)
-    (rw (width_is terms word (next ∷ words)) at fits))
+has_paragraphs : (terms : Terms) (ps : List (List Symbol)) → Each (λ p. WordsHave terms.case (words p)) ps →
+    Each (HasWords terms) (flat_map (λ p. lines_of_words terms (words p)) ps)
+has_paragraphs terms [] each = tt
+has_paragraphs terms (p ∷ ps) each =
+    each_append (HasWords terms) (lines_of_words terms (words p)) (flat_map (λ p. lines_of_words terms (words p)) ps)
+    (has_marked terms (groups (tight_space terms) (pos (measure terms)) (widths terms (words p))) (words p) each.0) (has_paragraphs terms ps each.1)
 
 -- ---- faults of lines
 
@@ -225,45 +131,47 @@ neither true b e = absurd (false≢true (sym e))
 neither false b e = (refl, e)
 
 set_filled : (terms : Terms) (n : ℕ) (words : List (List Symbol)) (b : Bool) → b ≡ (spaces terms (record { words = words; filled = true }) == 0) → IsUsable terms →
-    IsGood terms (record { words = words; filled = true }) → line_fault terms n (record { words = words; filled = true }) ≡ [] →
+    HasWords terms (record { words = words; filled = true }) → line_fault terms n (record { words = words; filled = true }) ≡ [] →
     CanBeSet terms (record { words = words; filled = true })
-set_filled terms n words true is usable good none = absurd (let e = rw (← is) at none in let f : 1 ≡ 0 = ap length e in omega (arith, f))
-set_filled terms n words false is usable good none =
+set_filled terms n words true is usable has none = absurd (let e = rw (← is) at none in let f : 1 ≡ 0 = ap length e in omega (arith, f))
+set_filled terms n words false is usable has none =
     let line : SetLine = record { words = words; filled = true } in
     let e = rw (← is) at none in
-    let both = neither (int_lt (wedge_sum terms line) (pos terms.tight)) (int_lt (pos 240) (wedge_sum terms line)) (none_if _ _ e) in
+    let both = neither (int_lt (wedge_sum terms line) (pos terms.tight)) (int_lt (pos greatest) (wedge_sum terms line)) (none_if _ _ e) in
     let low = not_less (wedge_sum terms line) (pos terms.tight) both.0 in
-    let high = not_less (pos 240) (wedge_sum terms line) both.1 in
+    let high = not_less (pos greatest) (wedge_sum terms line) both.1 in
     let tight = usable.tight.0 in
-    record { has = good.has; some = grind (arith, nat_tests, is); low = omega (arith, ints, low, tight); high = high }
+    record { has = has; some = grind (arith, nat_tests, is); low = omega (arith, ints, low, tight); high = high }
 
 set_ordinary : (terms : Terms) (n : ℕ) (words : List (List Symbol)) (b : Bool) → b ≡ (spaces terms (record { words = words; filled = false }) == 0) → IsUsable terms →
-    IsGood terms (record { words = words; filled = false }) → line_fault terms n (record { words = words; filled = false }) ≡ [] →
+    HasWords terms (record { words = words; filled = false }) → Fits terms (record { words = words; filled = false }) → line_fault terms n (record { words = words; filled = false }) ≡ [] →
     CanBeSet terms (record { words = words; filled = false })
-set_ordinary terms n words true is usable good none = absurd (let e = rw (← is) at none in let f : 1 ≡ 0 = ap length e in omega (arith, f))
-set_ordinary terms n words false is usable good none =
+set_ordinary terms n words true is usable has fit none = absurd (let e = rw (← is) at none in let f : 1 ≡ 0 = ap length e in omega (arith, f))
+set_ordinary terms n words false is usable has fit none =
     let line : SetLine = record { words = words; filled = false } in
     let e = rw (← is) at none in
     let high = not_less (pos terms.loose) (wedge_sum terms line) (none_if _ _ e) in
-    let fits = good.fits refl in
+    let fits = fit refl in
     let low = ordinary_low terms words fits.0 fits.1 in
     let tight = usable.tight.0 in
     let loose = usable.loose.1 in
-    record { has = good.has; some = grind (arith, nat_tests, is); low = omega (arith, ints, low, tight); high = omega (arith, ints, high, loose) }
+    record { has = has; some = grind (arith, nat_tests, is); low = omega (arith, ints, low, tight); high = omega (arith, ints, high, loose) }
 
-can_be_set : (terms : Terms) (n : ℕ) (words : List (List Symbol)) (filled : Bool) → IsUsable terms → IsGood terms (record { words = words; filled = filled }) →
-    line_fault terms n (record { words = words; filled = filled }) ≡ [] → CanBeSet terms (record { words = words; filled = filled })
-can_be_set terms n words true usable good none = set_filled terms n words _ refl usable good none
-can_be_set terms n words false usable good none = set_ordinary terms n words _ refl usable good none
+can_be_set : (terms : Terms) (n : ℕ) (words : List (List Symbol)) (filled : Bool) → IsUsable terms → HasWords terms (record { words = words; filled = filled }) →
+    Fits terms (record { words = words; filled = filled }) → line_fault terms n (record { words = words; filled = filled }) ≡ [] →
+    CanBeSet terms (record { words = words; filled = filled })
+can_be_set terms n words true usable has fits none = set_filled terms n words _ refl usable has none
+can_be_set terms n words false usable has fits none = set_ordinary terms n words _ refl usable has fits none
 
-all_can_be_set : (terms : Terms) (n : ℕ) (ls : List SetLine) → IsUsable terms → Each (IsGood terms) ls → line_faults terms n ls ≡ [] → Each (CanBeSet terms) ls
-all_can_be_set terms n [] usable each none = tt
-all_can_be_set terms n (line ∷ ls) usable each none = (
-  can_be_set terms n line.words line.filled usable each.0 (none_before (line_fault terms n line) (line_faults terms (suc n) ls) none),
-  all_can_be_set terms (suc n) ls usable each.1 (none_after (line_fault terms n line) (line_faults terms (suc n) ls) none),
+all_can_be_set : (terms : Terms) (n : ℕ) (ls : List SetLine) → IsUsable terms → Each (HasWords terms) ls → Each (Fits terms) ls → line_faults terms n ls ≡ [] →
+    Each (CanBeSet terms) ls
+all_can_be_set terms n [] usable has fits none = tt
+all_can_be_set terms n (line ∷ ls) usable has fits none = (
+  can_be_set terms n line.words line.filled usable has.0 fits.0 (none_before (line_fault terms n line) (line_faults terms (suc n) ls) none),
+  all_can_be_set terms (suc n) ls usable has.1 fits.1 (none_after (line_fault terms n line) (line_faults terms (suc n) ls) none),
 )
 
 pub copy_can_be_set : (terms : Terms) (copy : List Symbol) → IsUsable terms → lacking terms.case 0 copy ≡ [] → line_faults terms 1 (lines terms copy) ≡ [] →
     Each (CanBeSet terms) (lines terms copy)
 copy_can_be_set terms copy usable known none =
-    all_can_be_set terms 1 (lines terms copy) usable (good_paragraphs terms (paragraphs copy) (words_have terms.case copy known)) none
+    all_can_be_set terms 1 (lines terms copy) usable (has_paragraphs terms (paragraphs copy) (words_have terms.case copy known)) (copy_fits terms copy) none

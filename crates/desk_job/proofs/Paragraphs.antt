@@ -15,7 +15,7 @@ use Rattle.desk_lines.proofs.WordLaws.{words_are_words, split_only}
 use Rattle.desk_job.specs.Job.{Terms, SetLine, widths, word_width, tight_space, measure, cut, marked, lines, lines_of_words}
 use Rattle.desk_job.specs.Setting.{IsWord, words_at}
 use Rattle.desk_job.specs.Making.{Found, AreWordsOf, IsRange, all_lines, group_words, lines_at, paragraph_lines}
-use Rattle.desk_job.proofs.Adding.{IsAdding}
+use Rattle.desk_job.proofs.Adding.{IsAdding, each_part}
 use Rattle.desk_job.proofs.Parts.{take_map, drop_map}
 
 -- ---- groups
@@ -167,15 +167,11 @@ few_words copy here (word ∷ ws) low turn =
     let a = turn.0 in let b = turn.1 in
     omega (arith, more, a, b)
 
-each_first : {A : Type 0} (P : A → Type 0) (xs ys : List A) → AllByRecursion P (xs ++ ys) → AllByRecursion P xs × AllByRecursion P ys
-each_first P [] ys each = (tt, each)
-each_first P (x ∷ xs) ys each = let more = each_first P xs ys each.1 in ((each.0, more.0), more.1)
-
 all_words : (copy : List Symbol) (found : List (List Word)) → AllByRecursion (IsWord copy) (joined found) → length (joined found) ≤ 2 ^ 20 + 1 →
     AllByRecursion (AreWordsOf copy) found
 all_words copy [] each few = tt
 all_words copy (ws ∷ found) each few =
-    let parts = each_first (IsWord copy) ws (joined found) each in
+    let parts = each_part (IsWord copy) ws (joined found) each in
     let long = length-append ws (joined found) in
     (record { number = omega (arith, few, long); each = All-from_recursion (IsWord copy) ws parts.0 }, all_words copy found parts.1 (omega (arith, few, long)))
 

@@ -1,5 +1,5 @@
 -- Lines that can be set are cast line by line.
-use Rattle.std.proofs.Common.{◌≡◌, ℕ, zero, suc, ◌+◌, ◌-◌, ◌*◌, ◌/◌, ◌%◌, ◌≤◌, Bool, true, false, cond, List, [], ◌∷◌, ◌++◌, map, replicate, refl, ap, Some, None, Option, arith, eq-eqb}
+use Rattle.std.proofs.Common.{◌≡◌, ℕ, zero, suc, ◌≤◌, Bool, true, false, cond, List, [], ◌∷◌, ◌++◌, map, replicate, refl, ap, Some, None, Option, arith, eq-eqb}
 use Rattle.std.specs.Prelude.{ℤ, pos, negsuc, ◌≤ℤ◌, nat_le, ◌||◌, is_some}
 use Rattle.std.specs.List.{flat_map, zip, list_any, AllByRecursion}
 use Rattle.std.proofs.lemmas.Int.{ints}
@@ -12,7 +12,7 @@ use Rattle.desk_signals.specs.Rows.{IsRow}
 use Rattle.desk_case.specs.Names.{IsCell, place}
 use Rattle.desk_case.specs.Case.{CaseValues, IsCase, symbol_at, cell_of}
 use Rattle.desk_case.proofs.Grids.{inverse}
-use Rattle.desk_justify.specs.Positions.{pair_of}
+use Rattle.desk_units.specs.WedgeSum.{coarse_of, fine_of, greatest, least, pair_of, sum_at}
 use Rattle.desk_ribbon.specs.declared.Punch.{Punch}
 use Rattle.desk_ribbon.specs.declared.PunchLine.{PunchLine}
 use Rattle.desk_ribbon.specs.Ribbon as ribbon
@@ -29,21 +29,21 @@ pub record HasPair (sum : ℤ) : Type 0 where
   pub coarse : ℕ
   pub fine : ℕ
   pub is : pair_of sum ≡ Some (coarse, fine)
-  pub adds : sum ≡ pos (15 * coarse + fine)
+  pub adds : sum ≡ pos (sum_at coarse fine)
   pub coarse_in : (1 ≤ coarse) × (coarse ≤ 15)
   pub fine_in : (1 ≤ fine) × (fine ≤ 15)
 
-pub pair_exists : (sum : ℤ) → pos 16 ≤ℤ sum → sum ≤ℤ pos 240 → HasPair sum
+pub pair_exists : (sum : ℤ) → pos least ≤ℤ sum → sum ≤ℤ pos greatest → HasPair sum
 pair_exists (pos sum) low high =
-    let a : 16 ≤ sum = omega (arith, ints, low) in
-    let b : sum ≤ 240 = omega (arith, ints, high) in
-    let s : nat_le 16 sum ≡ true = grind (arith, nat_tests) in
-    let t : nat_le sum 240 ≡ true = grind (arith, nat_tests) in
+    let a : least ≤ sum = omega (arith, ints, low) in
+    let b : sum ≤ greatest = omega (arith, ints, high) in
+    let s : nat_le least sum ≡ true = grind (arith, nat_tests) in
+    let t : nat_le sum greatest ≡ true = grind (arith, nat_tests) in
     record {
-      coarse = (sum - 1) / 15;
-      fine = (sum - 1) % 15 + 1;
+      coarse = coarse_of sum;
+      fine = fine_of sum;
       is = rw (s, t) refl;
-      adds = ap pos (let e : sum ≡ 15 * ((sum - 1) / 15) + ((sum - 1) % 15 + 1) = omega arith in e);
+      adds = ap pos (let e : sum ≡ sum_at (coarse_of sum) (fine_of sum) = omega arith in e);
       coarse_in = (omega (arith, a), omega (arith, b));
       fine_in = (omega arith, omega arith);
     }
@@ -163,8 +163,8 @@ rows_are case (p ∷ ps) rest h k = ((h.0.1.0, h.0.1.1), rows_are case ps rest h
 pub record CanBeSet (terms : Terms) (line : SetLine) : Type 0 where
   pub has : WordsHave terms.case line.words
   pub some : 1 ≤ spaces terms line
-  pub low : pos 16 ≤ℤ wedge_sum terms line
-  pub high : wedge_sum terms line ≤ℤ pos 240
+  pub low : pos least ≤ℤ wedge_sum terms line
+  pub high : wedge_sum terms line ≤ℤ pos greatest
 
 -- lines as they are punched
 pub record ArePunched (terms : Terms) (ls : List SetLine) : Type 0 where

@@ -6,7 +6,8 @@ use Rattle.std.proofs.lemmas.Int.{ints}
 use Rattle.std.proofs.lemmas.List.Sums.{sum_by-cons}
 use Rattle.std.proofs.Math.IntN.{pos-*ℤ-negsuc}
 use Rattle.desk_ops.specs.declared.op.Symbol.{Symbol}
-use Rattle.desk_units.specs.Widths.{step, widening, IsSteps, steps_of}
+use Rattle.desk_units.specs.Widths.{step, IsSteps, steps_of}
+use Rattle.desk_units.specs.WedgeSum.{driven, neutral, sum_at, widening}
 use Rattle.desk_units.proofs.StepLaws.{one_number_of_steps}
 use Rattle.desk_signals.specs.declared.Cell.{Cell}
 use Rattle.desk_wedge.specs.Wedge.{WedgeValues}
@@ -19,9 +20,9 @@ use Rattle.desk_job.specs.Job.{Terms, SetLine, plain, word_punches, spaced_punch
 use Rattle.desk_job.proofs.LineSizes.{one_more}
 
 -- the width of matrices at neutral, and how many are justified
-abbrev pub neutral : WedgeValues → List Punch → ℕ
-neutral wedge [] = 0
-neutral wedge (punch ∷ more) = row_width wedge punch.cell.row + neutral wedge more
+abbrev pub neutral_width : WedgeValues → List Punch → ℕ
+neutral_width wedge [] = 0
+neutral_width wedge (punch ∷ more) = row_width wedge punch.cell.row + neutral_width wedge more
 
 abbrev pub justified : List Punch → ℕ
 justified [] = 0
@@ -40,11 +41,11 @@ no_times (pos k) = omega (arith, ints)
 no_times (negsuc k) = omega (arith, ints)
 
 pub total_is : (case : CaseValues) (wedge : WedgeValues) (coarse fine : ℕ) (ps : List Punch) →
-    total_width (casts case wedge coarse fine ps) ≡ pos (neutral wedge ps) +ℤ pos (justified ps) *ℤ widening (15 * coarse + fine)
-total_is case wedge coarse fine [] = no_times (widening (15 * coarse + fine))
+    total_width (casts case wedge coarse fine ps) ≡ pos (neutral_width wedge ps) +ℤ pos (justified ps) *ℤ widening (sum_at coarse fine)
+total_is case wedge coarse fine [] = no_times (widening (sum_at coarse fine))
 total_is case wedge coarse fine (p ∷ ps) =
-    total_step (widening (15 * coarse + fine)) (total_width (casts case wedge coarse fine ps)) (row_width wedge p.cell.row) (justified ps)
-    (neutral wedge ps) p.s (total_is case wedge coarse fine ps)
+    total_step (widening (sum_at coarse fine)) (total_width (casts case wedge coarse fine ps)) (row_width wedge p.cell.row) (justified ps)
+    (neutral_width wedge ps) p.s (total_is case wedge coarse fine ps)
 
 neg_scaled : (s m : ℕ) → pos s *ℤ neg_ℤ (pos m) ≡ neg_ℤ (pos (s * m))
 neg_scaled s zero = omega (arith, ints)
@@ -59,19 +60,19 @@ scaled s (negsuc k) =
     ∙ (ap (λ (n : ℕ). neg_ℤ (pos n)) (let e : s * (step * suc k) ≡ (step * s) * suc k = omega arith in e)
     ∙ sym (pos-*ℤ-negsuc (step * s) k)))
 
-pub short_by : (measure width s p : ℕ) (d : ℤ) → IsSteps (pos measure -ℤ pos width) s d → pos 53 +ℤ d ≡ pos p →
+pub short_by : (measure width s p : ℕ) (d : ℤ) → IsSteps (pos measure -ℤ pos width) s d → driven d ≡ pos p →
     (pos 0 ≤ℤ (pos measure -ℤ (pos width +ℤ pos s *ℤ widening p)))
     × ((pos measure -ℤ (pos width +ℤ pos s *ℤ widening p)) <ℤ pos (step * s))
 short_by measure width s p (pos k) is sum =
-    let e : pos p -ℤ pos 53 ≡ pos k = omega (arith, ints) in
+    let e : pos p -ℤ pos neutral ≡ pos k = omega (arith, ints) in
     let low = is.not_over in let high = is.short in
     rw e (omega (arith, ints, low), omega (arith, ints, high))
 short_by measure width s p (negsuc k) is sum =
-    let e : pos p -ℤ pos 53 ≡ negsuc k = omega (arith, ints) in
+    let e : pos p -ℤ pos neutral ≡ negsuc k = omega (arith, ints) in
     let low = is.not_over in let high = is.short in
     rw (e, scaled s (negsuc k)) (omega (arith, ints, low), omega (arith, ints, high))
 
-pub neutral_append : (wedge : WedgeValues) (a b : List Punch) → neutral wedge (a ++ b) ≡ neutral wedge a + neutral wedge b
+pub neutral_append : (wedge : WedgeValues) (a b : List Punch) → neutral_width wedge (a ++ b) ≡ neutral_width wedge a + neutral_width wedge b
 neutral_append wedge [] b = omega arith
 neutral_append wedge (p ∷ a) b = omega (arith, neutral_append wedge a b)
 
@@ -79,7 +80,7 @@ pub justified_append : (a b : List Punch) → justified (a ++ b) ≡ justified a
 justified_append [] b = omega arith
 justified_append (p ∷ a) b = omega (arith, justified_append a b)
 
-neutral_plain : (terms : Terms) (found : Option Cell) → neutral terms.wedge (plain found) ≡ cell_width terms.wedge found
+neutral_plain : (terms : Terms) (found : Option Cell) → neutral_width terms.wedge (plain found) ≡ cell_width terms.wedge found
 neutral_plain terms None = refl
 neutral_plain terms (Some cell) = omega arith
 
@@ -87,7 +88,7 @@ justified_plain : (found : Option Cell) → justified (plain found) ≡ 0
 justified_plain None = refl
 justified_plain (Some cell) = refl
 
-neutral_word : (terms : Terms) (word : List Symbol) → neutral terms.wedge (word_punches terms.case word) ≡ word_width terms word
+neutral_word : (terms : Terms) (word : List Symbol) → neutral_width terms.wedge (word_punches terms.case word) ≡ word_width terms word
 neutral_word terms [] = refl
 neutral_word terms (y ∷ word) =
     omega (arith, neutral_append terms.wedge (plain (cell_of terms.case y)) (word_punches terms.case word), neutral_plain terms (cell_of terms.case y), neutral_word terms word, sum_by-cons (symbol_width terms) y word)
@@ -98,7 +99,7 @@ justified_word case (y ∷ word) =
     omega (arith, justified_append (plain (cell_of case y)) (word_punches case word), justified_plain (cell_of case y), justified_word case word)
 
 neutral_spaced : (terms : Terms) (words : List (List Symbol)) →
-    neutral terms.wedge (spaced_punches terms.case words) ≡ sum_by (word_width terms) words + length words * space_width terms
+    neutral_width terms.wedge (spaced_punches terms.case words) ≡ sum_by (word_width terms) words + length words * space_width terms
 neutral_spaced terms [] = omega arith
 neutral_spaced terms (word ∷ words) =
     let a = neutral_append terms.wedge (word_punches terms.case word) (spaced_punches terms.case words) in
@@ -111,7 +112,7 @@ less_one : (n w : ℕ) → (suc n - 1) * w ≡ n * w
 less_one n w = let e : suc n - 1 ≡ n = omega arith in rw e refl
 
 neutral_words : (terms : Terms) (words : List (List Symbol)) →
-    neutral terms.wedge (words_punches terms.case words) ≡ sum_by (word_width terms) words + (length words - 1) * space_width terms
+    neutral_width terms.wedge (words_punches terms.case words) ≡ sum_by (word_width terms) words + (length words - 1) * space_width terms
 neutral_words terms [] = omega arith
 neutral_words terms (word ∷ words) =
     let a = neutral_append terms.wedge (word_punches terms.case word) (spaced_punches terms.case words) in
@@ -137,7 +138,7 @@ justified_words case (word ∷ words) =
     let c = justified_spaced case words in
     omega (arith, a, b, c)
 
-neutral_fill : (wedge : WedgeValues) (n : ℕ) (cell : Cell) → neutral wedge (replicate n (record { cell = cell; s = false })) ≡ n * row_width wedge cell.row
+neutral_fill : (wedge : WedgeValues) (n : ℕ) (cell : Cell) → neutral_width wedge (replicate n (record { cell = cell; s = false })) ≡ n * row_width wedge cell.row
 neutral_fill wedge zero cell = omega arith
 neutral_fill wedge (suc n) cell = omega (arith, neutral_fill wedge n cell)
 
@@ -146,7 +147,7 @@ justified_fill zero cell = refl
 justified_fill (suc n) cell = omega (arith, justified_fill n cell)
 
 neutral_fills : (wedge : WedgeValues) (counts : List ℕ) (cells : List Cell) →
-    neutral wedge (fill_punches (zip counts cells)) ≡ taken counts (widths_of wedge cells)
+    neutral_width wedge (fill_punches (zip counts cells)) ≡ taken counts (widths_of wedge cells)
 neutral_fills wedge [] cells = refl
 neutral_fills wedge (n ∷ counts) [] = refl
 neutral_fills wedge (n ∷ counts) (cell ∷ cells) =
@@ -171,7 +172,7 @@ justified_added terms true = omega arith
 justified_added terms false = refl
 
 neutral_added : (terms : Terms) (added : Bool) →
-    neutral terms.wedge (cond added (space_punch terms.case ∷ []) []) ≡ cond added 1 0 * space_width terms
+    neutral_width terms.wedge (cond added (space_punch terms.case ∷ []) []) ≡ cond added 1 0 * space_width terms
 neutral_added terms true = omega arith
 neutral_added terms false = omega arith
 
@@ -188,7 +189,7 @@ justified_line terms line =
     )
 
 -- and what they are to take up is left of the measure
-pub neutral_line : (terms : Terms) (line : SetLine) → left terms line ≡ pos (measure terms) -ℤ pos (neutral terms.wedge (punches terms line))
+pub neutral_line : (terms : Terms) (line : SetLine) → left terms line ≡ pos (measure terms) -ℤ pos (neutral_width terms.wedge (punches terms line))
 neutral_line terms line =
     omega (
       arith,
@@ -201,11 +202,11 @@ neutral_line terms line =
     )
 
 -- a line that is cast at its positions is short of the measure by less than a step for each space
-pub line_short : (terms : Terms) (line : SetLine) (coarse fine : ℕ) → 1 ≤ spaces terms line → wedge_sum terms line ≡ pos (15 * coarse + fine) →
+pub line_short : (terms : Terms) (line : SetLine) (coarse fine : ℕ) → 1 ≤ spaces terms line → wedge_sum terms line ≡ pos (sum_at coarse fine) →
     (pos 0 ≤ℤ (pos (measure terms) -ℤ total_width (casts terms.case terms.wedge coarse fine (punches terms line))))
     × ((pos (measure terms) -ℤ total_width (casts terms.case terms.wedge coarse fine (punches terms line))) <ℤ pos (step * spaces terms line))
 line_short terms line coarse fine some sum =
     let is = (one_number_of_steps (left terms line) (spaces terms line) some).0 in
     rw (total_is terms.case terms.wedge coarse fine (punches terms line), justified_line terms line)
-    (short_by (measure terms) (neutral terms.wedge (punches terms line)) (spaces terms line) (15 * coarse + fine) (steps_of (left terms line) (spaces terms line))
+    (short_by (measure terms) (neutral_width terms.wedge (punches terms line)) (spaces terms line) (sum_at coarse fine) (steps_of (left terms line) (spaces terms line))
     (subst (λ (z : ℤ). IsSteps z (spaces terms line) (steps_of (left terms line) (spaces terms line))) (neutral_line terms line) is) sum)

@@ -17,7 +17,7 @@ use Rattle.desk_units.specs.declared.Pica.TheVariants.{Sixth, American}
 use Rattle.desk_justify.specs.Filled.{ArePositive, Descend}
 use Rattle.desk_caster.specs.Caster.{row_width}
 use Rattle.desk_job.specs.Job.{Terms, widths_of, fill_widths}
-use Rattle.desk_job.specs.Usable.{IsUsable, IsSmall}
+use Rattle.desk_job.specs.Terms.{IsUsable, IsSmall}
 
 pub units_in : (w : WedgeValues) (cell : Cell) → IsWedge w → IsCell cell → IsUnits (units_of_row w cell.row)
 units_in w cell is cell_is = All-get_or IsUnits w.units (cell.row - 1) 0 (let n = is.units.rows in omega (arith, n, cell_is.0, cell_is.1)) is.units.each

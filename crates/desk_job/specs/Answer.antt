@@ -1,4 +1,4 @@
--- What the program answers of a job.
+-- What the program answers for a job.
 use Rattle.std.specs.Prelude.{◌≡◌, ℕ, List, [], Option, IfSome, Result, Ok, Err}
 use Rattle.desk_ops.specs.declared.op.Symbol.{Symbol}
 use Rattle.desk_ops.specs.declared.op.Key.{Key}
@@ -17,19 +17,19 @@ abbrev pub set_copy : Terms → List Symbol → Result (List RibbonRow) (List Jo
 set_copy terms copy =
     rows_or (rows_of terms (lines terms copy)) (or_faults (lacking terms.case 0 copy) (line_faults terms 1 (lines terms copy)))
 
--- These faults are told; want of memory may be told of any.
-abbrev pub TellsThese : {A : Type 0} → JobRefusal A → List JobFault → Type 0
-TellsThese (refusal.Faults told) faults = (told ≡ faults) × ((faults ≡ []) → ⊥)
-TellsThese refusal.NoMemory faults = Unit {0}
+-- The refusal has these faults, which are some; out of memory may come in place of any.
+abbrev pub HasFaults : {A : Type 0} → JobRefusal A → List JobFault → Type 0
+HasFaults (refusal.Faults found) faults = (found ≡ faults) × ((faults ≡ []) → ⊥)
+HasFaults refusal.NoMemory faults = Unit {0}
 
 -- The bytes are the ribbon of the rows of the job.
 abbrev pub IsMade : List ℕ → Result (List RibbonRow) (List JobFault) → Type 0
 IsMade bytes (Ok rows) = bytes ≡ ribbon rows
 IsMade bytes (Err faults) = ⊥
 
--- The faults told are those of the job; want of memory may be told of any.
+-- The refusal's faults are those of the job; out of memory may come in place of any.
 abbrev pub IsRefused : {A : Type 0} → JobRefusal A → Result (List RibbonRow) (List JobFault) → Type 0
-IsRefused (refusal.Faults told) made = made ≡ Err told
+IsRefused (refusal.Faults faults) made = made ≡ Err faults
 IsRefused refusal.NoMemory made = Unit {0}
 
 -- the settings by their keys

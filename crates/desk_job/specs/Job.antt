@@ -4,7 +4,8 @@ use Rattle.std.specs.List.{flat_map, zip}
 use Rattle.desk_ops.specs.declared.op.Symbol.{Symbol}
 use Rattle.desk_ops.specs.declared.op.Key.{Key}
 use Rattle.desk_ops.specs.declared.op.Key.TheVariants as key
-use Rattle.desk_units.specs.Widths.{measure_width, widening}
+use Rattle.desk_units.specs.Widths.{measure_width}
+use Rattle.desk_units.specs.WedgeSum.{greatest, pair_of, widening}
 use Rattle.desk_signals.specs.declared.Cell.{Cell}
 use Rattle.desk_signals.specs.declared.RibbonRow.{RibbonRow}
 use Rattle.desk_signals.specs.declared.RibbonRow.TheVariants.{Coarse, FineOut}
@@ -14,7 +15,7 @@ use Rattle.desk_case.specs.File.{is_descending, units_of_cells}
 use Rattle.desk_lines.specs.Words.{is_space, is_line_feed, paragraphs, words}
 use Rattle.desk_lines.specs.Groups.{group_width, groups}
 use Rattle.desk_justify.specs.Filled.{fills_of, taken}
-use Rattle.desk_justify.specs.Positions.{sum_of, pair_of}
+use Rattle.desk_justify.specs.Positions.{sum_of}
 use Rattle.desk_ribbon.specs.Ribbon.{head_row, punch_row}
 use Rattle.desk_ribbon.specs.declared.Punch.{Punch}
 use Rattle.desk_caster.specs.Caster.{row_width}
@@ -125,7 +126,7 @@ fault_if false fault = []
 abbrev pub sum_fault : Terms → ℕ → Bool → ℕ → ℤ → List JobFault
 sum_fault terms n filled spaces sum =
     if spaces == 0 then TooWide n ∷ []
-    else if filled then fault_if (int_lt sum (pos terms.tight) || int_lt (pos 240) sum) (CannotFill n)
+    else if filled then fault_if (int_lt sum (pos terms.tight) || int_lt (pos greatest) sum) (CannotFill n)
     else fault_if (int_lt (pos terms.loose) sum) (TooLoose n)
 
 -- why the line of this number can't be set, if so

@@ -1,5 +1,5 @@
 pub mod Job
-pub mod Usable
+pub mod Terms
 pub mod Setting
 pub mod Making
 pub mod Answer

@@ -1,12 +1,12 @@
 -- What is found of a copy, line by line.
 use Rattle.std.specs.Prelude.{◌≡◌, ℕ, ◌+◌, ◌-◌, ◌^◌, ◌<◌, ◌≤◌, ◌||◌, ◌==◌, List, [], ◌∷◌, ◌++◌, length, take, drop}
-use Rattle.std.specs.List.{All, flat_map}
+use Rattle.std.specs.List.{All, AllByRecursion, flat_map}
 use Rattle.desk_ops.specs.declared.op.Symbol.{Symbol}
 use Rattle.desk_signals.specs.declared.RibbonRow.{RibbonRow}
 use Rattle.desk_lines.specs.declared.words.Word.{Word}
 use Rattle.desk_lines.specs.declared.groups.Group.{Group}
 use Rattle.desk_job.specs.Job.{Terms, SetLine, line_rows, line_faults, lines_of_words}
-use Rattle.desk_job.specs.Setting.{IsWord, words_at, line_at}
+use Rattle.desk_job.specs.Setting.{Fits, IsWord, words_at, line_at}
 use Rattle.desk_job.specs.declared.JobFault.{JobFault}
 
 -- the number of the next line, the faults found, and the rows punched as long as there is no fault
@@ -18,11 +18,12 @@ pub record Found : Type 0 where
 -- what is found of these lines has come to what was found before
 pub record Adds (terms : Terms) (ls : List SetLine) (old new : Found) : Type 0 where
   pub numbered : new.next ≡ old.next + length ls
-  pub told : new.faults ≡ old.faults ++ line_faults terms old.next ls
+  pub faulted : new.faults ≡ old.faults ++ line_faults terms old.next ls
   pub punched : new.faults ≡ [] → new.rows ≡ old.rows ++ flat_map (line_rows terms) ls
 
--- There is room for the lines: the ribbon gets fewer than 2 ^ 32 rows, and each line a number.
-pub record HasRoom (terms : Terms) (ls : List SetLine) (old : Found) : Type 0 where
+-- The lines can be added: each that is not to be filled fits, the ribbon gets fewer than 2 ^ 32 rows, and each line a number.
+pub record CanAdd (terms : Terms) (ls : List SetLine) (old : Found) : Type 0 where
+  pub fit : AllByRecursion (Fits terms) ls
   pub rows : old.faults ≡ [] → length old.rows + length (flat_map (line_rows terms) ls) + 1 < 2 ^ 32
   pub numbers : old.next + length ls < 2 ^ 32
 

@@ -43,6 +43,14 @@ AreLines terms (line ∷ lines) (got ∷ more) = IsLine terms line got × AreLin
 AreLines terms [] (got ∷ more) = ⊥
 AreLines terms (line ∷ lines) [] = ⊥
 
+-- the bytes are a ribbon, and its rows cast with the same case and wedge are these lines, one by one
+pub record CastsLines (terms : Terms) (ls : List SetLine) (bytes : List ℕ) : Type 0 where
+  pub rows : List RibbonRow
+  pub is : IsRibbon bytes rows
+  pub got : List Line
+  pub casts : cast terms.case terms.wedge rows ≡ Ok got
+  pub are : AreLines terms ls got
+
 -- the bytes are a ribbon, and its rows cast with the same case and wedge are the copy line by line
 pub record CastsCopy (copy : List Symbol) (settings : Key → Option ℕ) (case : CaseValues) (wedge : WedgeValues) (bytes : List ℕ) : Type 0 where
   pub values : Values

@@ -1,14 +1,15 @@
 -- A line as the program finds it in the copy, and what it is set by.
-use Rattle.std.specs.Prelude.{◌≡◌, ℕ, ◌≤◌, Bool, List, [], ◌∷◌, ◌++◌, length, if◌then◌else◌, map, Option, Some, None, Result, Ok, Err}
+use Rattle.std.specs.Prelude.{◌≡◌, ℕ, ℤ, pos, ◌≤◌, Bool, false, List, [], ◌∷◌, ◌++◌, length, if◌then◌else◌, map, Option, Some, None, Result, Ok, Err}
 use Rattle.std.specs.List.{zip}
 use Rattle.desk_ops.specs.declared.op.Symbol.{Symbol}
 use Rattle.desk_lines.specs.declared.words.Word.{Word}
 use Rattle.desk_lines.specs.Words.{spelled}
-use Rattle.desk_justify.specs.Positions.{pair_of}
+use Rattle.desk_units.specs.WedgeSum.{coarse_of, fine_of, pair_of}
 use Rattle.desk_signals.specs.declared.RibbonRow.{RibbonRow}
-use Rattle.desk_job.specs.Job.{Terms, SetLine, has_added, fills, wedge_sum, line_fault, words_punches, space_punch, fill_punches, rows_at}
+use Rattle.desk_lines.specs.Groups.{FitsIn}
+use Rattle.desk_job.specs.Job.{Terms, SetLine, measure, widths, tight_space, has_added, fills, wedge_sum, sum_fault, line_fault, words_punches, space_punch, fill_punches, rows_at}
 use Rattle.desk_job.specs.declared.JobFault.{JobFault}
-use Rattle.desk_job.specs.declared.line.Setting.{Setting}
+use Rattle.desk_job.specs.declared.setting.Setting.{Setting}
 
 -- words by their places in a copy
 abbrev pub words_at : List Symbol → List Word → List (List Symbol)
@@ -27,16 +28,28 @@ pub record IsSetting (terms : Terms) (line : SetLine) (setting : Setting) : Type
   pub added : setting.added ≡ has_added terms line
   pub fills : setting.fills.items ≡ fills terms line
   pub number : length setting.fills.items ≤ length terms.case.fill
-  pub pair : setting.pair ≡ pair_of (wedge_sum terms line)
+  pub sum : pair_of (wedge_sum terms line) ≡ Some (coarse_of setting.sum, fine_of setting.sum)
 
 -- what the line is set by, or its fault
 abbrev pub Sets : Terms → ℕ → SetLine → Result Setting JobFault → Type 0
 Sets terms n line (Ok setting) = IsSetting terms line setting × (line_fault terms n line ≡ [])
 Sets terms n line (Err fault) = line_fault terms n line ≡ fault ∷ []
 
-abbrev pub told : Option JobFault → List JobFault
-told None = []
-told (Some fault) = fault ∷ []
+-- A line that is not to be filled has a space, and fits in the measure at tight.
+abbrev pub Fits : Terms → SetLine → Type 0
+Fits terms line =
+    line.filled ≡ false → (2 ≤ length line.words) × FitsIn (tight_space terms) (pos (measure terms)) (widths terms line.words)
+
+-- the wedge sum that sets a line with so many spaces, where they take up the rest at this number, or the line's fault
+abbrev pub SetsAt : Terms → ℕ → Bool → ℕ → ℤ → Result ℕ JobFault → Type 0
+SetsAt terms n filled spaces sum (Ok found) =
+    (pair_of sum ≡ Some (coarse_of found, fine_of found)) × (sum_fault terms n filled spaces sum ≡ [])
+SetsAt terms n filled spaces sum (Err fault) = sum_fault terms n filled spaces sum ≡ fault ∷ []
+
+-- the fault, if there is one
+abbrev pub listed : Option JobFault → List JobFault
+listed None = []
+listed (Some fault) = fault ∷ []
 
 -- the rows of words that are set so
 abbrev pub set_rows : Terms → List (List Symbol) → Setting → List RibbonRow
@@ -44,4 +57,4 @@ set_rows terms ws setting =
     rows_at
     (words_punches terms.case ws
     ++ ((if setting.added then space_punch terms.case ∷ [] else []) ++ fill_punches (zip setting.fills.items terms.case.fill)))
-    setting.pair
+    (Some (coarse_of setting.sum, fine_of setting.sum))

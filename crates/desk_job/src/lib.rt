@@ -1,10 +1,10 @@
 //! The job: the ribbon of a copy, or why there is none.
 #![tactic(auto)]
 
-mod copy;
-mod line;
+mod making;
 mod punch;
 mod ribbon;
+mod setting;
 mod terms;
 
 use desk_ops::Key;
@@ -98,7 +98,7 @@ impl<A: Allocator> JobFaults<A> {
     }
 }
 
-/// Why no ribbon was made: the faults of the job, or want of memory.
+/// Why no ribbon was made: the faults of the job, or out of memory.
 #[derive(Drop)]
 #[derive_where(PartialEq, Eq, Debug)]
 pub enum JobRefusal<A: Allocator> {

@@ -5,7 +5,7 @@ ghost use Rattle.std.specs.List.{zip};
 ghost use Rattle.desk_job.specs.Job as job;
 ghost use Rattle.desk_job.specs.Setting.{IsWord, set_rows, words_at};
 
-use crate::line::Setting;
+use crate::setting::Setting;
 use crate::terms::Terms;
 use desk_case::MatrixCase;
 use desk_lines::Word;
@@ -122,9 +122,7 @@ pub fn punch<A: Allocator + Copy>(
     requires room { length ribbon.old + length (set_rows terms.now (words_at copy.now words.now) setting.now) + 1 < 2 ^ 32 }
     ensures { OnOk result (ribbon.new ≡ ribbon.old ++ set_rows terms.now (words_at copy.now words.now) setting.now) }
 {
-    let Some((coarse, fine)) = setting.pair else {
-        return Ok(());
-    };
+    let (coarse, fine) = setting.sum.positions();
     let case = terms.case();
     let mut punches = Vec::new(alloc);
     add_words(&mut punches, case, copy, words)?;

@@ -5,14 +5,15 @@ ghost use Rattle.desk_ops.specs.Settings.{setting_of};
 ghost use Rattle.desk_ops.specs.Shown.{copy_of};
 ghost use Rattle.desk_job.specs.Job as job;
 ghost use Rattle.desk_job.specs.Reading.{CastsCopy};
-ghost use Rattle.desk_job.specs.Answer.{AreValues, IsMade, IsRefused, TellsThese, by_key};
+ghost use Rattle.desk_job.specs.Answer.{AreValues, IsMade, IsRefused, HasFaults, by_key};
 
-use crate::copy::set_copy;
+use crate::making::set_copy;
 use crate::terms::{Terms, Values};
 use crate::{JobFault, JobFaults, JobRefusal};
 use desk_case::MatrixCase;
 use desk_ops::{Key, NoMemory, Symbol};
 use desk_replica::{Replica, Settings};
+use desk_seq::Sequence;
 use desk_wedge::Wedge;
 use std::alloc::Allocator;
 
@@ -46,7 +47,7 @@ fn given(settings: &Settings) -> Result<Values, Key>
 
 /// The refusal of a job for one fault.
 fn one_fault<A: Allocator>(alloc: A, fault: JobFault) -> JobRefusal<A>
-    ensures { TellsThese result (fault ∷ []) }
+    ensures { HasFaults result (fault ∷ []) }
 {
     let mut faults = Vec::new(alloc);
     match faults.push(fault) {
@@ -55,32 +56,9 @@ fn one_fault<A: Allocator>(alloc: A, fault: JobFault) -> JobRefusal<A>
     }
 }
 
-/// The ribbon of a copy, or the faults of its job.
-fn answer<A: Allocator + Copy>(
-    alloc: A,
-    copy: &[Symbol],
-    settings: &Settings,
-    case: &MatrixCase,
-    wedge: &Wedge,
-) -> Result<Vec<u8, A>, JobRefusal<A>>
-    requires copy { length copy.now ≤ 2 ^ 20 }
-    requires settings { AreValues settings.now }
-    ensures ok { IfOk result (λ bytes. IsMade bytes.items (job.job copy.now (by_key settings.now) case.now wedge.now)) }
-    ensures err { IfErr result (λ refusal. IsRefused refusal (job.job copy.now (by_key settings.now) case.now wedge.now)) }
-{
-    let values = match given(settings) {
-        Ok(values) => values,
-        Err(key) => return Err(one_fault(alloc, JobFault::MissingSetting(key))),
-    };
-    match Terms::new(case, wedge, values) {
-        Ok(terms) => set_copy(alloc, &terms, copy),
-        Err(fault) => Err(one_fault(alloc, fault)),
-    }
-}
-
 /// The ribbon of a copy of at most 1,048,576 symbols, or the faults of its job: the first that holds of a missing
 /// setting, another case, another wedge, settings that cross, fills in no order and a space that vanishes; or the place of
-/// each symbol that the case lacks; or the fault of each line that can't be set. Want of memory may come in place of any.
+/// each symbol that the case lacks; or the fault of each line that can't be set. Out of memory may come in place of any.
 ///
 /// The ribbon, cast with the same case and wedge, is the copy line by line, each line short of the measure by less than
 /// a step for each of its spaces.
@@ -97,19 +75,24 @@ pub fn make_from<A: Allocator + Copy>(
     ensures err { IfErr result (λ refusal. IsRefused refusal (job.job copy.now (by_key settings.now) case.now wedge.now)) }
     ensures cast { IfOk result (λ bytes. CastsCopy copy.now (by_key settings.now) case.now wedge.now bytes.items) }
 {
-    case.is_lawful();
-    wedge.is_lawful();
-    answer(alloc, copy, settings, case, wedge)
+    let values = match given(settings) {
+        Ok(values) => values,
+        Err(key) => return Err(one_fault(alloc, JobFault::MissingSetting(key))),
+    };
+    match Terms::new(case, wedge, values) {
+        Ok(terms) => set_copy(alloc, &terms, copy),
+        Err(fault) => Err(one_fault(alloc, fault)),
+    }
 }
 
-/// The ribbon of a replica's copy by its settings, or the faults of the job, as `make_from` tells them. The ribbon, cast,
+/// The ribbon of a replica's copy by its settings, or the faults of the job, as for `make_from`. The ribbon, cast,
 /// is the copy line by line.
-pub fn make<A: Allocator + Copy>(
-    alloc: A,
-    replica: &Replica<A>,
+pub fn make<Q: Sequence>(
+    alloc: Q::Memory,
+    replica: &Replica<Q>,
     case: &MatrixCase,
     wedge: &Wedge,
-) -> Result<Vec<u8, A>, JobRefusal<A>>
+) -> Result<Vec<u8, Q::Memory>, JobRefusal<Q::Memory>>
     ensures ok { IfOk result (λ bytes. IsMade bytes.items (job.job (copy_of replica.now.ops) (setting_of replica.now.ops) case.now wedge.now)) }
     ensures err { IfErr result (λ refusal. IsRefused refusal (job.job (copy_of replica.now.ops) (setting_of replica.now.ops) case.now wedge.now)) }
     ensures cast { IfOk result (λ bytes. CastsCopy (copy_of replica.now.ops) (setting_of replica.now.ops) case.now wedge.now bytes.items) }

@@ -1,11 +1,12 @@
-//! What a line is set by, and the widths that follow.
+//! What the lines of a job are set by, and the widths that follow. What is kept in `Terms` is tested once, when they are made.
 
 ghost use Rattle.std.specs.Prelude.{◌≡◌, ◌≤◌, ◌^◌, ◌*◌, ◌+ℤ◌, ◌≤ℤ◌, ℤ, pos, length, take, All, [], ◌∷◌, IfOk, IfErr, OnOk};
-ghost use Rattle.desk_units.specs.Widths.{widening};
+ghost use Rattle.desk_units.specs.WedgeSum.{IsWedgeSum, widening};
 ghost use Rattle.desk_caster.specs.Caster.{row_width};
+ghost use Rattle.desk_wedge.specs.Wedge.{IsWedge};
 ghost use Rattle.desk_job.specs.Job as job;
-ghost use Rattle.desk_job.specs.Usable.{AreLawful, IsSmall, IsUsable};
-ghost use Rattle.desk_job.specs.Setting.{told};
+ghost use Rattle.desk_job.specs.Terms.{AreLawful, IsSmall, IsUsable};
+ghost use Rattle.desk_job.specs.Setting.{listed};
 ghost use Rattle.desk_lines.specs.Groups.{IsWidth};
 ghost use Rattle.desk_justify.specs.Filled.{ArePositive, Descend};
 
@@ -13,12 +14,9 @@ use crate::JobFault;
 use desk_case::MatrixCase;
 use desk_ops::Symbol;
 use desk_signals::Cell;
-use desk_units::{ATOMS_PER_STEP, Atoms, measure, width};
+use desk_units::{Atoms, WedgeSum, measure, width};
 use desk_wedge::Wedge;
 use std::marker::Model;
-
-/// The wedge sum at which a space has the width of its units.
-const NEUTRAL: i64 = 53;
 
 /// The case, the wedge, the measure in points, and the least and the greatest wedge sum. A space at the least sum is wider
 /// than 0, and the fills descend.
@@ -27,14 +25,14 @@ pub struct Terms<'a> {
     case: &'a MatrixCase,
     wedge: &'a Wedge,
     points: u32,
-    tight: u32,
-    loose: u32,
+    tight: WedgeSum,
+    loose: WedgeSum,
     fills: [Atoms; 4],
 }
 
 impl<'a> Model for Terms<'a> {
     ghost use Rattle.desk_job.specs.Job as job;
-    ghost use Rattle.desk_job.specs.Usable.{IsUsable};
+    ghost use Rattle.desk_job.specs.Terms.{IsUsable};
     ghost use Rattle.std.specs.Prelude.{◌≡◌, length, take};
 
     ghost Value = { job.Terms };
@@ -48,6 +46,7 @@ impl<'a> Model for Terms<'a> {
 fn cell_width(wedge: &Wedge, cell: &Cell) -> Atoms
     ensures value { result ≡ pos (row_width wedge.now cell.now.row) }
     ensures small { IsSmall result }
+    ensures lawful { IsWedge wedge.now }
 {
     width(wedge.units(cell.row), wedge.set_q(), wedge.pica())
 }
@@ -62,17 +61,6 @@ fn widths_of_fills(wedge: &Wedge, cells: &[Cell]) -> [Atoms; 4]
         widths[i] = cell_width(wedge, cell);
     }
     widths
-}
-
-/// How much wider than at neutral a space is at a wedge sum.
-fn driven(sum: u32) -> Atoms
-    requires low { 16 ≤ sum }
-    requires high { sum ≤ 240 }
-    ensures value { result ≡ widening sum }
-    ensures most { result ≤ℤ pos 121176 }
-    ensures least { pos 0 ≤ℤ (result +ℤ pos 23976) }
-{
-    Atoms::new(ATOMS_PER_STEP * (sum as i64 - NEUTRAL))
 }
 
 /// A width that is not negative as a number of atoms.
@@ -94,30 +82,28 @@ pub struct Values {
 }
 
 /// The width of a space that is so much wider.
-fn widened(space: Atoms, driven: Atoms) -> Atoms
-    requires space { IsSmall space }
-    requires least { pos 0 ≤ℤ (driven +ℤ pos 23976) }
-    requires most { driven ≤ℤ pos 121176 }
-    ensures value { result ≡ space +ℤ driven }
+fn widened(space: Atoms, sum: WedgeSum) -> Atoms
+    requires { IsSmall space }
+    ensures value { result ≡ space +ℤ widening sum }
     ensures limit { result ≤ℤ pos (2 ^ 20) }
 {
-    Atoms::new(space.get() + driven.get())
+    Atoms::new(space.get() + sum.widening().get())
 }
 
-/// A space at a wedge sum.
-fn space_at(wedge: &Wedge, case: &MatrixCase, sum: u32) -> Atoms
-    requires low { 16 ≤ sum }
-    requires high { sum ≤ 240 }
-    ensures value { result ≡ pos (row_width wedge.now case.now.space.row) +ℤ widening sum }
-    ensures limit { result ≤ℤ pos (2 ^ 20) }
+/// The wedge sum of a setting's value.
+fn sum_of_value(value: u32) -> WedgeSum
+    requires { IsWedgeSum value }
+    ensures { result ≡ value }
 {
-    widened(cell_width(wedge, &case.space()), driven(sum))
+    WedgeSum::new(value).unwrap()
 }
 
-/// Why values, case and wedge don't go together, if so.
-fn terms_fault(case: &MatrixCase, wedge: &Wedge, values: Values) -> Option<JobFault>
-    requires { AreLawful values }
-    ensures { told result ≡ job.terms_fault (job.terms_of case.now wedge.now values) values }
+/// Why values, case and wedge don't go together, if so; the space has this width at neutral.
+fn terms_fault(case: &MatrixCase, wedge: &Wedge, values: Values, space: Atoms) -> Option<JobFault>
+    requires values { AreLawful values }
+    requires space { space ≡ pos (row_width wedge.now case.now.space.row) }
+    requires small { IsSmall space }
+    ensures { listed result ≡ job.terms_fault (job.terms_of case.now wedge.now values) values }
 {
     if values.case != case.number() as u32 {
         Some(JobFault::OtherCase)
@@ -127,7 +113,7 @@ fn terms_fault(case: &MatrixCase, wedge: &Wedge, values: Values) -> Option<JobFa
         Some(JobFault::Crossed)
     } else if case.check(wedge).is_err() {
         Some(JobFault::FillOrder)
-    } else if space_at(wedge, case, values.tight).get() <= 0 {
+    } else if widened(space, sum_of_value(values.tight)).get() <= 0 {
         Some(JobFault::SpaceVanishes)
     } else {
         None
@@ -143,29 +129,22 @@ impl<'a> Terms<'a> {
     ) -> Result<Terms<'a>, JobFault>
         requires { AreLawful values }
         ensures ok { IfOk result (λ t. t ≡ job.terms_of case.now wedge.now values) }
+        ensures usable { IfOk result IsUsable }
         ensures none { OnOk result (job.terms_fault (job.terms_of case.now wedge.now values) values ≡ []) }
         ensures err { IfErr result (λ fault. job.terms_fault (job.terms_of case.now wedge.now values) values ≡ fault ∷ []) }
     {
-        case.is_lawful();
-        wedge.is_lawful();
-        match terms_fault(case, wedge, values) {
+        let space = cell_width(wedge, &case.space());
+        match terms_fault(case, wedge, values, space) {
             Some(fault) => Err(fault),
             None => Ok(Terms {
                 case,
                 wedge,
                 points: values.measure,
-                tight: values.tight,
-                loose: values.loose,
+                tight: sum_of_value(values.tight),
+                loose: sum_of_value(values.loose),
                 fills: widths_of_fills(wedge, case.fill()),
             }),
         }
-    }
-
-    /// Every terms are usable.
-    pub fn are_usable(&self)
-        ensures { IsUsable self.now }
-    {
-        let _ = &self.points;
     }
 
     /// The measure.
@@ -190,28 +169,28 @@ impl<'a> Terms<'a> {
         ensures some { pos 1 ≤ℤ result }
         ensures limit { result ≤ℤ pos (2 ^ 20) }
     {
-        space_at(self.wedge, self.case, self.tight)
+        widened(cell_width(self.wedge, &self.case.space()), self.tight)
     }
 
     /// The least wedge sum.
-    pub fn tight(&self) -> u32
-        ensures value { result ≡ self.now.tight }
-        ensures low { 16 ≤ result }
+    pub fn tight(&self) -> WedgeSum
+        ensures { result ≡ self.now.tight }
     {
         self.tight
     }
 
     /// The greatest wedge sum.
-    pub fn loose(&self) -> u32
+    pub fn loose(&self) -> WedgeSum
         ensures value { result ≡ self.now.loose }
-        ensures high { result ≤ 240 }
+        ensures range { IsWedgeSum self.now.loose }
     {
         self.loose
     }
 
-    /// The case.
+    /// The case. It and all other terms are in their ranges, and go together.
     pub fn case(&self) -> &MatrixCase
-        ensures { result.now ≡ self.now.case }
+        ensures value { result.now ≡ self.now.case }
+        ensures usable { IsUsable self.now }
     {
         self.case
     }

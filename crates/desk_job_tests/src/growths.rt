@@ -1,18 +1,19 @@
 //! Each growth of `make` refused in turn.
 
-use crate::cases::{FILLS, WEDGE, ballast, case_with, wedge_of};
+use crate::cases::{FILLS, WEDGE, case_with, wedge_of};
 use crate::jobs::{EMPTY_PARAGRAPH, Job, are_faults, replica_of, ribbon};
 use desk_case::MatrixCase;
 use desk_job::{JobFault, JobRefusal, make};
-use desk_ops::Key;
+use desk_ops::{Key, NoMemory};
 use desk_replica::Replica;
+use desk_seq::Flat;
 use desk_wedge::Wedge;
 use linked_list_allocator::LocalHeap;
 use std::alloc::Global;
 use std::test::Fail;
 
-/// The bytes of a heap.
-const HEAP: usize = 16384;
+/// The bytes of a heap: a page of operations takes some 24,000.
+const HEAP: usize = 262_144;
 
 /// How often no growth was refused, and how often one was: of those for the copy, and of those for the answer.
 #[derive(Clone, Copy)]
@@ -22,13 +23,26 @@ struct Tally {
     answers: u32,
 }
 
-/// Takes the holes that others left in a heap, so that nothing fits there.
-fn fill_holes(alloc: Global, heap: &LocalHeap) -> Result<Vec<Vec<u8, &LocalHeap>>, Fail> {
-    let mut fillers = Vec::new(alloc);
-    for size in [2048usize, 1024, 512, 256, 128, 64, 32, 16] {
-        fillers.push(Vec::with_capacity(heap, size)?)?;
+/// Takes all that a heap has left, but for one piece of so many bytes. Where it has no such piece it takes nothing.
+fn fill(
+    alloc: Global,
+    heap: &LocalHeap,
+    bytes: usize,
+) -> Result<Vec<Vec<u8, &LocalHeap>>, NoMemory> {
+    let mut parts = Vec::new(alloc);
+    let Ok(piece) = Vec::<u8, &LocalHeap>::with_capacity(heap, bytes) else {
+        return Ok(parts);
+    };
+    for power in 0..14u32 {
+        for _ in 0..HEAP {
+            let Ok(part) = Vec::with_capacity(heap, 131_072usize >> power) else {
+                break;
+            };
+            parts.push(part)?;
+        }
     }
-    Ok(fillers)
+    drop(piece);
+    Ok(parts)
 }
 
 /// What is wanted of a job: this ribbon, or where that is empty these faults.
@@ -38,19 +52,21 @@ struct Want<'a> {
     faults: &'a [JobFault],
 }
 
-/// Whether `make` was out of memory where one heap is cut. With memory the answer is the one wanted, and so is any other.
+/// Whether `make` was out of memory where one heap has so many bytes left. With memory the answer is the one wanted, and
+/// so is any other.
 fn is_refused<'a>(
+    alloc: Global,
     small: &LocalHeap,
-    cut: usize,
+    bytes: usize,
     heap: &'a LocalHeap,
-    replica: &Replica<&'a LocalHeap>,
+    replica: &Replica<Flat<&'a LocalHeap>>,
     case: &MatrixCase,
     wedge: &Wedge,
     want: Want<'_>,
 ) -> Result<bool, Fail> {
-    let ballast = ballast(small, HEAP, cut);
+    let parts = fill(alloc, small, bytes)?;
     let first = make(heap, replica, case, wedge);
-    drop(ballast);
+    drop(parts);
     let refused = matches!(&first, Err(JobRefusal::NoMemory));
     for answer in [first, make(heap, replica, case, wedge)] {
         let right = match &answer {
@@ -74,15 +90,15 @@ fn refuse_each(alloc: Global, job: Job<'_>, want: Want<'_>) -> Result<Tally, Fai
     let heap = LocalHeap::new(alloc, HEAP)?;
     let replica = replica_of(&own, job)?;
     let feed = replica.write_feed()?;
-    let _fillers = fill_holes(alloc, &own)?;
     let mut tally = Tally {
         done: 0,
         copies: 0,
         answers: 0,
     };
     for cut in 0..256usize {
-        let copy = is_refused(&own, cut, &heap, &replica, &case, &wedge, want)?;
-        let answer = is_refused(&heap, cut, &heap, &replica, &case, &wedge, want)?;
+        let bytes = cut.saturating_mul(16);
+        let copy = is_refused(alloc, &own, bytes, &heap, &replica, &case, &wedge, want)?;
+        let answer = is_refused(alloc, &heap, bytes, &heap, &replica, &case, &wedge, want)?;
         tally.copies = tally.copies.saturating_add(u32::from(copy));
         tally.answers = tally.answers.saturating_add(u32::from(answer));
         tally.done = tally.done.saturating_add(u32::from(!copy && !answer));
@@ -110,7 +126,7 @@ fn growths_of_ribbons(rt: HostRuntime) -> Result<(), Fail> {
         };
         let tally = refuse_each(rt.alloc(), job, want)?;
         assert!(rt;
-            tally.done > 1 && tally.copies > 1 && tally.answers > 1,
+            tally.done > 1 && tally.copies > u32::from(text.len() > 1) && tally.answers > 1,
             "{text}"
         );
     }

@@ -3,6 +3,7 @@ use desk_caster::{cast, read_ribbon};
 use desk_job::{JobFault, JobRefusal, make};
 use desk_ops::{Key, Style, Symbol};
 use desk_replica::Replica;
+use desk_seq::Flat;
 use std::alloc::{Allocator, Global};
 use std::test::Fail;
 
@@ -25,7 +26,7 @@ const STANDARD: [(Key, u32); 5] = [
 
 /// Gives a replica these settings.
 fn set_all<A: Allocator + Copy>(
-    replica: &mut Replica<A>,
+    replica: &mut Replica<Flat<A>>,
     settings: &[(Key, u32)],
 ) -> Result<(), Fail> {
     for (key, value) in settings {
@@ -35,7 +36,7 @@ fn set_all<A: Allocator + Copy>(
 }
 
 /// A replica of site 1 with the job's text and settings.
-pub fn replica_of<A: Allocator + Copy>(alloc: A, job: Job<'_>) -> Result<Replica<A>, Fail> {
+pub fn replica_of<A: Allocator + Copy>(alloc: A, job: Job<'_>) -> Result<Replica<Flat<A>>, Fail> {
     let mut replica = Replica::new(alloc, 1);
     for (place, byte) in job.text.as_bytes().iter().enumerate() {
         let (style, ch) = (Style::Roman, char::from(*byte));
@@ -215,7 +216,12 @@ fn space_vanishes(rt: HostRuntime) -> Result<(), Fail> {
     let replica = replica_of(rt.alloc(), most("", &[(Key::Tight, 16)]))?;
     let told = make(rt.alloc(), &replica, &case, &wedge);
     assert!(rt; are_faults(&told, &[JobFault::SpaceVanishes]));
-    let told = make(rt.alloc(), &Replica::new(rt.alloc(), 1), &case, &wedge);
+    let told = make(
+        rt.alloc(),
+        &Replica::<Flat<_>>::new(rt.alloc(), 1),
+        &case,
+        &wedge,
+    );
     assert!(rt; are_faults(&told, &[JobFault::MissingSetting(Key::Measure)]));
     Ok(())
 }

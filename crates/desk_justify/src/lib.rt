@@ -1,24 +1,30 @@
 //! Wedge positions that justify a line, and fills for a line that its own spaces do not.
+//!
+//! The wedges move all spaces of a line by one width, in whole steps of 0.0005 inch. The steps are rounded down, so that no
+//! line is wider than its measure, and each is short of it by less than a step for each space. Fills are taken widest
+//! first, as often as each fits: few matrices then come near the measure.
 #![tactic(auto)]
 
-ghost use Rattle.std.specs.Prelude.{◌≡◌, ◌≤◌, ◌^◌, ◌↔◌, pos, ◌≤ℤ◌, IfSome, IsNone, length};
-ghost use Rattle.desk_justify.specs.Positions.{IsOutside, Justifies, pair_of, sum_of};
+ghost use Rattle.std.specs.Prelude.{◌≡◌, ◌≤◌, ◌^◌, ◌↔◌, pos, ◌≤ℤ◌, IfSome, IsNone, MatchOption, length};
+ghost use Rattle.desk_units.specs.WedgeSum.{IsOutside, IsWedgeSum, pair_of};
+ghost use Rattle.desk_justify.specs.Positions.{Justifies, sum_of};
 ghost use Rattle.desk_justify.specs.Filled.{ArePositive, Descend, fills_of, room};
 
 pub mod laws;
 
 use arrayvec::ArrayVec;
 use desk_signals::Position;
-use desk_units::{Atoms, floor_steps};
+use desk_units::{Atoms, WedgeSum, floor_steps};
 
-/// The wedge sum of the neutral positions.
-const NEUTRAL_SUM: i64 = 53;
-
-/// The steps from the neutral positions to the least sum.
-const LEAST_STEPS: i64 = 16 - NEUTRAL_SUM;
-
-/// The steps from the neutral positions to the greatest sum.
-const MOST_STEPS: i64 = 240 - NEUTRAL_SUM;
+/// The wedge sum at which 1 to 2^32 spaces take up the rest, but for less than a step for each; none where the wedges do
+/// not reach so far.
+pub fn wedge_sum(rest: Atoms, spaces: u64) -> Option<WedgeSum>
+    requires some { 1 ≤ spaces }
+    requires limit { spaces ≤ 2 ^ 32 }
+    ensures { MatchOption result (IsOutside (sum_of rest spaces)) (λ sum. (pos sum ≡ sum_of rest spaces) × IsWedgeSum sum) }
+{
+    WedgeSum::from_steps(floor_steps(rest, spaces))
+}
 
 /// The positions of the coarse and the fine wedge at which 1 to 2^32 spaces take up the rest, but for less than a
 /// step for each; none where the wedges do not reach so far.
@@ -29,14 +35,8 @@ pub fn positions(rest: Atoms, spaces: u64) -> Option<(Position, Position)>
     ensures outside { IsNone result ↔ IsOutside (sum_of rest spaces) }
     ensures value { result ≡ pair_of (sum_of rest spaces) }
 {
-    let steps = floor_steps(rest, spaces);
-    if steps < LEAST_STEPS || steps > MOST_STEPS {
-        return None;
-    }
-    let sum = (NEUTRAL_SUM + steps) as u8;
-    let coarse = Position::new((sum - 1) / 15)?;
-    let fine = Position::new((sum - 1) % 15 + 1)?;
-    Some((coarse, fine))
+    let sum = wedge_sum(rest, spaces)?;
+    Some(sum.positions())
 }
 
 /// What may be filled: nothing where the rest is negative.

@@ -13,13 +13,13 @@ group_width space (word ∷ next ∷ words) = (word +ℤ space) +ℤ group_width
 abbrev pub FitsIn : (space measure : ℤ) → List ℤ → Type 0
 FitsIn space measure words = group_width space words ≤ℤ measure
 
--- how many words the longest front of at most n words has that fits, 0 where none does
+-- how many words the longest prefix of at most n words has that fits, 0 where none does
 abbrev pub longest : (space measure : ℤ) → List ℤ → ℕ → ℕ
 longest space measure words zero = 0
 longest space measure words (suc n) =
     if int_le (group_width space (take (suc n) words)) measure then suc n else longest space measure words n
 
--- how many words the first group has: the longest front that fits, or else one word
+-- how many words the first group has: the longest prefix that fits, or else one word
 abbrev pub first_group : (space measure : ℤ) → List ℤ → ℕ
 first_group space measure words = max 1 (longest space measure words (length words))
 
@@ -44,7 +44,7 @@ ranges here (size ∷ sizes) = record { from = here; to = here + size } ∷ rang
 abbrev pub groups_of : (space measure : ℤ) → List ℤ → List Group
 groups_of space measure words = ranges 0 (groups space measure words)
 
--- The first words, so many of them, are the first group: the longest front that isn't empty and fits, or the first
+-- The first words, so many of them, are the first group: the longest prefix that isn't empty and fits, or the first
 -- word alone if that doesn't fit.
 pub record IsFirstGroup (space measure : ℤ) (words : List ℤ) (size : ℕ) : Type 0 where
   pub some : 1 ≤ size

@@ -1,4 +1,7 @@
 //! The words of a paragraph in groups, each of which is set in one line.
+//!
+//! Each line takes as many words as fit, from the first line on, as an operator at the keyboard does: what follows cannot
+//! change a line that is punched. So one pass over the words is enough.
 
 ghost use Rattle.std.specs.Prelude.{◌≡◌, ◌≤◌, ◌^◌, pos, ◌+ℤ◌, ◌≤ℤ◌, ◌<ℤ◌, IfErr, IfOk, MatchBool, length};
 ghost use Rattle.desk_lines.specs.Groups.{AreWidths, IsWidth, groups_of};
@@ -32,7 +35,7 @@ fn fits(width: Atoms, measure: Atoms) -> bool
     width.get() <= measure.get()
 }
 
-/// The groups of a paragraph's words, by their widths: each is the longest front of the words left that fits in the
+/// The groups of a paragraph's words, by their widths: each is the longest prefix of the words left that fits in the
 /// measure with its inner spaces, or the first word alone where that does not fit.
 ///
 /// Words and the measure are 0 to 2^40 atoms wide, a space 1 to 2^20.

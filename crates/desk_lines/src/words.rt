@@ -1,9 +1,12 @@
 //! The paragraphs of a copy and their words.
+//!
+//! Words may be empty, so that two spaces in a row are two spaces of the line. A space of another style than Roman parts
+//! no words; no copy has one.
 
 ghost use Rattle.std.specs.Prelude.{◌≡◌, ◌≤◌, IfErr, IfOk, length};
 ghost use Rattle.desk_lines.specs.Words.{is_line_feed, is_space, words_of};
 
-use desk_ops::{NoMemory, Style, Symbol};
+use desk_ops::{NoMemory, Symbol};
 use std::alloc::Allocator;
 use std::marker::Model;
 
@@ -45,16 +48,18 @@ impl<A: Allocator> Paragraph<A> {
     }
 }
 
-fn is_line_feed(symbol: Symbol) -> bool
+/// Whether the symbol ends a paragraph.
+pub fn is_line_feed(symbol: Symbol) -> bool
     ensures { result ≡ is_line_feed symbol }
 {
-    symbol.ch == '\n' && symbol.style == Style::Roman
+    symbol == Symbol::LINE_FEED
 }
 
-fn is_space(symbol: Symbol) -> bool
+/// Whether the symbol ends a word.
+pub fn is_space(symbol: Symbol) -> bool
     ensures { result ≡ is_space symbol }
 {
-    symbol.ch == ' ' && symbol.style == Style::Roman
+    symbol == Symbol::SPACE
 }
 
 /// The words of each paragraph of a copy, by their places in the copy. The copy is split at each line feed and one

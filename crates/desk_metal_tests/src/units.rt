@@ -1,4 +1,5 @@
-use desk_units::{Atoms, Pica, SetQ, floor_steps, measure, width};
+use desk_signals::Position;
+use desk_units::{Atoms, Pica, SetQ, WedgeSum, floor_steps, measure, width};
 use std::test::Fail;
 
 #[test]
@@ -43,5 +44,39 @@ fn steps_round_down(rt: HostRuntime) {
         assert!(rt; spaces >= 1 && spaces <= 4_294_967_296);
         let steps = floor_steps(Atoms::new(atoms), spaces);
         assert!(rt; steps == want, "{atoms} over {spaces}");
+    }
+}
+
+/// Whether the positions and the sum are of one another, and the sum is so many steps above neutral and so much wider.
+fn is_sum(coarse: u8, fine: u8, sum: u8, steps: i64, wider: i64) -> bool {
+    let (Some(coarse), Some(fine)) = (Position::new(coarse), Position::new(fine)) else {
+        return false;
+    };
+    let found = WedgeSum::of_positions(coarse, fine);
+    found.get() == sum
+        && found.positions() == (coarse, fine)
+        && WedgeSum::new(sum as u32) == Some(found)
+        && WedgeSum::from_steps(steps) == Some(found)
+        && found.widening().get() == wider
+}
+
+#[test]
+fn sums_of_positions(rt: HostRuntime) {
+    for (coarse, fine, sum, steps, wider) in [
+        (3, 8, 53, 0, 0),
+        (6, 9, 99, 46, 29_808),
+        (2, 13, 43, -10, -6_480),
+        (8, 7, 127, 74, 47_952),
+        (1, 1, 16, -37, -23_976),
+        (15, 15, 240, 187, 121_176),
+    ] {
+        assert!(rt; is_sum(coarse, fine, sum, steps, wider), "{sum}");
+    }
+    assert!(rt; WedgeSum::NEUTRAL.get() == 53);
+    for number in [0, 15, 241, u32::MAX] {
+        assert!(rt; WedgeSum::new(number).is_none(), "{number}");
+    }
+    for steps in [-38, 188, i64::MIN, i64::MAX] {
+        assert!(rt; WedgeSum::from_steps(steps).is_none(), "{steps}");
     }
 }

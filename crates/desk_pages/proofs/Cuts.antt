@@ -198,13 +198,14 @@ spot-gap pages i p j s l = let a = s.inside in record { within = s.within; insid
 pub gap-put : {X : Type 0} (pages : List (List X)) (i p j : ℕ) (x : X) (r y : List X) → IsGap pages i p j → r ≡ get_or pages p r → y ≡ insert r j x → y ≡ insert (get_or pages p []) j x
 gap-put pages i p j x r y g e q = q ∙ ap (λ (z : List _). insert z j x) (get_or_read pages p r g.within e [])
 
-pub kept-more : {X : Type 0} (old new : List (List X)) (i len all a b : ℕ) (x : X) → len ≡ length (joined old) → i ≤ len → joined new ≡ insert (joined old) i x → IsHalfFull new → all ≤ a → all ≤ b → all ≤ 1099511627776 → IsKept new (len + 1) all a b
-kept-more old new i len all a b x e l put h ra rb few = record {
+pub kept-more : {X : Type 0} (old new : List (List X)) (i len all a b : ℕ) (x : X) → len ≡ length (joined old) → i ≤ len → joined new ≡ insert (joined old) i x → IsHalfFull new → all ≤ a → all ≤ b → all ≤ 1099511627776 → 1 ≤ spare_of all len → IsKept new (len + 1) all a b
+kept-more old new i len all a b x e l put h ra rb few spare = record {
   is_len = let m = ap length put ∙ length-insert (joined old) i x (omega arith) in omega arith;
   half = h;
   room = ra;
   back = rb;
   few = few;
+  fits = omega arith;
 }
 
 -- ---- what stands up to a place, and from a place on
@@ -278,6 +279,7 @@ kept-set old new i len all a b x k e h = record {
   room = k.room;
   back = k.back;
   few = k.few;
+  fits = k.fits;
 }
 
 -- ---- a place, or the end

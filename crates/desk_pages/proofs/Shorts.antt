@@ -1,8 +1,9 @@
 -- A page that has become short.
-use Rattle.std.proofs.Common.{◌≡◌, ℕ, zero, suc, ◌+◌, ◌-◌, ◌<◌, ◌≤◌, List, [], ◌∷◌, ◌++◌, length, get_or, set, refl, sym, ap, ◌∙◌, arith, append_assoc, length-append}
+use Rattle.std.proofs.Common.{◌≡◌, ℕ, zero, suc, ◌+◌, ◌-◌, ◌<◌, ◌≤◌, List, [], ◌∷◌, ◌++◌, length, get_or, take, drop, set, refl, sym, ap, ◌∙◌, arith, append_assoc, length-append, length-drop}
 use Rattle.std.specs.List.{insert, remove}
-use Rattle.std.proofs.lemmas.List.Edits.{insert_end, length-remove, remove-append_left, remove-append_right, length-insert}
-use Rattle.desk_pages.specs.Pages.{joined, start_of, IsHalfFull, IsShortAt}
+use Rattle.std.proofs.lemmas.List.{take-append-drop, length-take-le}
+use Rattle.std.proofs.lemmas.List.Edits.{remove-append_left, remove-append_right}
+use Rattle.desk_pages.specs.Pages.{joined, start_of, HasMore, IsHalfFull, IsShortAt}
 use Rattle.desk_pages.proofs.Cuts.{half-cons, past-page}
 
 pub short-set : {X : Type 0} (pages : List (List X)) (p : ℕ) (y : List X) → IsHalfFull pages → p < length pages → length (get_or pages p []) ≤ length y + 1 → IsShortAt (set pages p y) p
@@ -53,31 +54,39 @@ merge-half (r ∷ s ∷ []) zero h l = let e = length-append r s in let a : 255 
 merge-half (r ∷ s ∷ t ∷ pages) zero h l = (let e = length-append r s in let a : 255 ≤ length r = h.0 in let b : 256 ≤ length s = h.1.0 in omega arith, h.1.1)
 merge-half (r ∷ s ∷ pages) (suc p) h l = half-cons r (set (remove (s ∷ pages) (suc p)) p (get_or (s ∷ pages) p [] ++ get_or (s ∷ pages) (suc p) [])) h.0 (merge-half (s ∷ pages) p h.1 (omega arith))
 
--- one of the next moved over
-pub move-joined : {X : Type 0} (pages : List (List X)) (p n : ℕ) (x : X) → suc p < length pages → n ≡ length (get_or pages p []) → 0 < length (get_or pages (suc p) []) → x ≡ get_or (get_or pages (suc p) []) 0 x → joined (set (set pages (suc p) (remove (get_or pages (suc p) []) 0)) p (insert (get_or pages p []) n x)) ≡ joined pages
-move-joined [] p n x l e m q = absurd (omega arith)
-move-joined (r ∷ []) p n x l e m q = absurd (omega arith)
-move-joined (r ∷ [] ∷ pages) zero n x l e m q = absurd (omega arith)
-move-joined (r ∷ (y ∷ s) ∷ pages) zero n x l e m q =
-    ap (λ z. z ++ (s ++ joined pages)) (ap (λ (k : ℕ). insert r k x) e ∙ insert_end r x)
-    ∙ append_assoc r (x ∷ []) (s ++ joined pages)
-    ∙ ap (λ z. r ++ z ∷ (s ++ joined pages)) q
-move-joined (r ∷ s ∷ pages) (suc p) n x l e m q = ap (λ z. r ++ z) (move-joined (s ∷ pages) p n x (omega arith) e m q)
+-- the first of the next moved over
+pub share-joined : {X : Type 0} (pages : List (List X)) (p n : ℕ) → suc p < length pages → joined (insert (set (remove pages (suc p)) p (get_or pages p [] ++ take n (get_or pages (suc p) []))) (suc p) (drop n (get_or pages (suc p) []))) ≡ joined pages
+share-joined [] p n l = absurd (omega arith)
+share-joined (r ∷ []) p n l = absurd (omega arith)
+share-joined (r ∷ s ∷ pages) zero n l =
+    append_assoc r (take n s) (drop n s ++ joined pages)
+    ∙ ap (λ z. r ++ z) (sym (append_assoc (take n s) (drop n s) (joined pages)) ∙ ap (λ z. z ++ joined pages) (take-append-drop n s))
+share-joined (r ∷ s ∷ pages) (suc p) n l = ap (λ z. r ++ z) (share-joined (s ∷ pages) p n (omega arith))
 
-pub move-half : {X : Type 0} (pages : List (List X)) (p n : ℕ) (x : X) → IsShortAt pages p → suc p < length pages → n ≡ length (get_or pages p []) → 257 ≤ length (get_or pages (suc p) []) → IsHalfFull (set (set pages (suc p) (remove (get_or pages (suc p) []) 0)) p (insert (get_or pages p []) n x))
-move-half [] p n x h l e m = absurd (omega arith)
-move-half (r ∷ []) p n x h l e m = absurd (omega arith)
-move-half (r ∷ s ∷ []) zero n x h l e m =
+pub share-half : {X : Type 0} (pages : List (List X)) (p n : ℕ) → IsShortAt pages p → suc p < length pages → 1 ≤ n → n + 256 ≤ length (get_or pages (suc p) []) → IsHalfFull (insert (set (remove pages (suc p)) p (get_or pages p [] ++ take n (get_or pages (suc p) []))) (suc p) (drop n (get_or pages (suc p) [])))
+share-half [] p n h l m f = absurd (omega arith)
+share-half (r ∷ []) p n h l m f = absurd (omega arith)
+share-half (r ∷ s ∷ []) zero n h l m f =
     let a : 255 ≤ length r = h.0 in
-    let b = length-insert r n x (omega arith) in
-    let c = length-remove s 0 (omega arith) in
-    (omega arith, let k : 1 ≤ length (remove s 0) = omega arith in k)
-move-half (r ∷ s ∷ t ∷ pages) zero n x h l e m =
+    let b = length-append r (take n s) in
+    let c = length-take-le n s (omega arith) in
+    let d = length-drop n s in
+    (omega arith, let k : 1 ≤ length (drop n s) = omega arith in k)
+share-half (r ∷ s ∷ t ∷ pages) zero n h l m f =
     let a : 255 ≤ length r = h.0 in
-    let b = length-insert r n x (omega arith) in
-    let c = length-remove s 0 (omega arith) in
+    let b = length-append r (take n s) in
+    let c = length-take-le n s (omega arith) in
+    let d = length-drop n s in
     (omega arith, (omega arith, h.1.1))
-move-half (r ∷ s ∷ pages) (suc p) n x h l e m = half-cons r (set (set (s ∷ pages) (suc p) (remove (get_or (s ∷ pages) (suc p) []) 0)) p (insert (get_or (s ∷ pages) p []) n x)) h.0 (move-half (s ∷ pages) p n x h.1 (omega arith) e m)
+share-half (r ∷ s ∷ pages) (suc p) n h l m f = half-cons r (insert (set (remove (s ∷ pages) (suc p)) p (get_or (s ∷ pages) p [] ++ take n (get_or (s ∷ pages) (suc p) []))) (suc p) (drop n (get_or (s ∷ pages) (suc p) []))) h.0 (share-half (s ∷ pages) p n h.1 (omega arith) m f)
+
+-- a page that has more may lose one
+pub more-half : {X : Type 0} (pages : List (List X)) (p : ℕ) (y : List X) → IsHalfFull pages → p < length pages → HasMore pages p → length y + 1 ≡ length (get_or pages p []) → IsHalfFull (set pages p y)
+more-half [] p y h l m e = tt
+more-half (r ∷ []) zero y h l m e = let a = m.some in let k : 1 ≤ length y = omega arith in k
+more-half (r ∷ []) (suc p) y h l m e = absurd (omega arith)
+more-half (r ∷ s ∷ pages) zero y h l m e = (let a = m.more (omega arith) in omega arith, h.1)
+more-half (r ∷ s ∷ pages) (suc p) y h l m e = half-cons r (set (s ∷ pages) p y) h.0 (more-half (s ∷ pages) p y h.1 (omega arith) (record { some = m.some; more = λ w. m.more (omega arith) }) e)
 
 -- one out of a page
 pub joined-remove : {X : Type 0} (pages : List (List X)) (p j : ℕ) → p < length pages → j < length (get_or pages p []) → joined (set pages p (remove (get_or pages p []) j)) ≡ remove (joined pages) (start_of pages p + j)

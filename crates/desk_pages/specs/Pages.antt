@@ -44,6 +44,11 @@ IsShortAt (r ∷ []) (suc p) = 1 ≤ length r
 IsShortAt (r ∷ s ∷ pages) zero = (255 ≤ length r) × IsHalfFull (s ∷ pages)
 IsShortAt (r ∷ s ∷ pages) (suc p) = (256 ≤ length r) × IsShortAt (s ∷ pages) p
 
+-- page p may lose an entry and stay long enough
+pub record HasMore {X : Type 0} (pages : List (List X)) (p : ℕ) : Type 0 where
+  pub some : 2 ≤ length (slice_index_or pages p [])
+  pub more : suc p < length pages → 257 ≤ length (slice_index_or pages p [])
+
 -- no page, or the last is full
 abbrev pub IsClosed : {X : Type 0} → List (List X) → Type 0
 IsClosed [] = Unit {0}
@@ -67,11 +72,25 @@ pub record IsKept {X : Type 0} (pages : List (List X)) (len all used_room free_r
   pub room : all ≤ used_room
   pub back : all ≤ free_room
   pub few : all ≤ 2 ^ 40
+  pub fits : len < 2 ^ 48
 
 -- where each group of 64 pages begins, as far as it is known
 pub record IsStarts {X : Type 0} (pages : List (List X)) (starts : List ℕ) : Type 0 where
   pub within : (g : ℕ) → g < length starts → 64 * g ≤ length pages
   pub is : (g : ℕ) → g < length starts → slice_index_or starts g 0 ≡ start_of pages (64 * g)
+
+-- the pages of group g
+abbrev pub group_at : {X : Type 0} → List (List X) → ℕ → List (List X)
+group_at pages g = take 64 (drop (64 * g) pages)
+
+-- a summary of each group of 64 pages, as far as it is known
+pub record IsSums {X S : Type 0} (tells : S → List X → Type 0) (pages : List (List X)) (sums : List S) : Type 0 where
+  pub within : (g : ℕ) → g < length sums → 64 * g + 64 ≤ length pages
+  pub is : (g : ℕ) (d : S) → g < length sums → tells (slice_index_or sums g d) (joined (group_at pages g))
+
+-- where each group begins, and a summary of each
+abbrev pub IsGroups : {X S : Type 0} → (S → List X → Type 0) → List (List X) → List ℕ → List S → Type 0
+IsGroups tells pages starts sums = IsStarts pages starts × IsSums tells pages sums
 
 -- a list, and how many more it takes with no new memory
 pub record Kept (X : Type 0) : Type 0 where

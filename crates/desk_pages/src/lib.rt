@@ -1,6 +1,7 @@
 //! A long list, kept in pages of at most 512 so that it grows anywhere in little time.
 #![tactic(auto)]
 
+mod groups;
 mod list;
 mod page;
 mod pages;

@@ -1,12 +1,13 @@
 //! A list in pages.
-ghost use Rattle.std.specs.Prelude.{◌≡◌, ◌+◌, ◌≤◌, ◌<◌, ℕ, [], length, take, drop, slice_index_or, slice_set, vec_len, vec_capacity, IfSome, IsNone, OnOk, IfOk, IfErr, IsOk};
+ghost use Rattle.std.specs.Prelude.{◌≡◌, ◌+◌, ◌≤◌, ◌<◌, ℕ, [], length, take, drop, slice_index_or, slice_set, vec_len, vec_capacity, IfSome, IsNone, OnOk, IfOk, IfErr, IsOk, true, false};
 ghost use Rattle.std.specs.List.{insert, remove};
-ghost use Rattle.desk_pages.specs.Pages.{Kept, joined, spare_of, IsKept, IsStarts, IsNth, IsShort, IsEdge};
+ghost use Rattle.desk_pages.specs.Pages.{Kept, joined, spare_of, IsKept, IsGroups, IsNth, IsShort, IsEdge};
 
+use crate::groups::{self, Groups, find_groups};
 use crate::page::{HALF, Page, Summary};
 use crate::pages;
 use crate::search::{self, Pick};
-use crate::starts::{GROUP, find_starts};
+use crate::starts::GROUP;
 use std::alloc::{AllocError, Allocator};
 use std::marker::Model;
 
@@ -28,7 +29,7 @@ pub struct Pages<T: Copy, S: Summary<T>, A: Allocator> {
     pages: Vec<Page<T, S, A>, A>,
     free: Vec<Page<T, S, A>, A>,
     len: usize,
-    starts: Vec<usize, A>,
+    groups: Groups<S, A>,
     order: Vec<usize, A>,
 }
 
@@ -37,7 +38,7 @@ impl<T: Copy, S: Summary<T>, A: Allocator> Model for Pages<T, S, A> {
 
     ghost view = { λ a. record { entries = joined a.pages.items; spare = spare_of (vec_len a.pages + vec_len a.free) a.len } };
 
-    ghost invariant = { λ a. IsKept a.pages.items a.len (vec_len a.pages + vec_len a.free) (vec_capacity a.pages) (vec_capacity a.free) × IsStarts a.pages.items a.starts.items };
+    ghost invariant = { λ a. IsKept a.pages.items a.len (vec_len a.pages + vec_len a.free) (vec_capacity a.pages) (vec_capacity a.free) × IsGroups S.tells a.pages.items a.groups.starts.items a.groups.sums.items };
 }
 
 impl<T: Copy, S: Summary<T>, A: Allocator + Copy> Pages<T, S, A> {
@@ -48,7 +49,10 @@ impl<T: Copy, S: Summary<T>, A: Allocator + Copy> Pages<T, S, A> {
             pages: Vec::new(alloc),
             free: Vec::new(alloc),
             len: 0,
-            starts: Vec::new(alloc),
+            groups: Groups {
+                starts: Vec::new(alloc),
+                sums: Vec::new(alloc),
+            },
             order: Vec::new(alloc),
         }
     }
@@ -62,8 +66,12 @@ impl<T: Copy, S: Summary<T>, A: Allocator + Copy> Pages<T, S, A> {
         }
         let pages = pages::fill(alloc, items)?;
         let free = Vec::with_capacity(alloc, pages.len())?;
-        let mut starts = Vec::with_capacity(alloc, pages.len() / GROUP + 1)?;
-        find_starts(&pages, &mut starts);
+        let count = pages.len() / GROUP + 1;
+        let mut groups = Groups {
+            starts: Vec::with_capacity(alloc, count)?,
+            sums: Vec::with_capacity(alloc, count)?,
+        };
+        find_groups(&pages, &mut groups);
         let mut order = Vec::new(alloc);
         order.resize(pages.len(), 0)?;
         pages::find_order(&pages, &mut order);
@@ -71,7 +79,7 @@ impl<T: Copy, S: Summary<T>, A: Allocator + Copy> Pages<T, S, A> {
             pages,
             free,
             len: items.len(),
-            starts,
+            groups,
             order,
         })
     }
@@ -87,7 +95,7 @@ impl<T: Copy, S: Summary<T>, A: Allocator + Copy> Pages<T, S, A> {
         requires { i < length self.now.entries }
         ensures { result ≡ slice_index_or self.now.entries i result }
     {
-        let (p, j) = pages::locate(&self.pages, &self.starts, i);
+        let (p, j) = pages::locate(&self.pages, &self.groups.starts, i);
         pages::read(&self.pages, p, j)
     }
 
@@ -97,14 +105,14 @@ impl<T: Copy, S: Summary<T>, A: Allocator + Copy> Pages<T, S, A> {
         ensures is { result.now ≡ take (length result.now) (drop i self.now.entries) }
         ensures some { 0 < length result.now }
     {
-        pages::stretch(&self.pages, &self.starts, i)
+        pages::stretch(&self.pages, &self.groups.starts, i)
     }
 
     /// The number of the page in which the i-th entry stands. It stays with the page, and is no part of the list.
     pub fn name_at(&self, i: usize) -> usize
         requires { i < length self.now.entries }
     {
-        let (p, _) = pages::locate(&self.pages, &self.starts, i);
+        let (p, _) = pages::locate(&self.pages, &self.groups.starts, i);
         pages::name_of(&self.pages, p)
     }
 
@@ -112,7 +120,13 @@ impl<T: Copy, S: Summary<T>, A: Allocator + Copy> Pages<T, S, A> {
     pub fn named(&self, name: usize) -> Option<(usize, &[T])>
         ensures { IfSome result (λ r. r.1.now ≡ take (length r.1.now) (drop r.0 self.now.entries)) }
     {
-        pages::named(&self.pages, &self.starts, &self.order, self.len, name)
+        pages::named(
+            &self.pages,
+            &self.groups.starts,
+            &self.order,
+            self.len,
+            name,
+        )
     }
 
     /// How many more it takes with no new memory.
@@ -135,10 +149,8 @@ impl<T: Copy, S: Summary<T>, A: Allocator + Copy> Pages<T, S, A> {
             return Err(AllocError);
         }
         let count = (self.len + n) / HALF + 2;
-        self.starts.reserve(count / GROUP + 1)?;
-        if self.order.len() < count {
-            self.order.resize(count, 0)?;
-        }
+        self.groups.make_room(count / GROUP + 1)?;
+        pages::name_room(&mut self.order, count)?;
         pages::stock(&mut self.pages, &mut self.free, count)
     }
 
@@ -148,8 +160,8 @@ impl<T: Copy, S: Summary<T>, A: Allocator + Copy> Pages<T, S, A> {
         ensures set { self.new.entries ≡ slice_set self.old.entries i x }
         ensures spare { self.new.spare ≡ self.old.spare }
     {
-        let (p, j) = pages::locate(&self.pages, &self.starts, i);
-        pages::set(&mut self.pages, p, j, x);
+        let (p, j) = pages::locate(&self.pages, &self.groups.starts, i);
+        groups::set(&mut self.pages, &mut self.groups, p, j, x);
     }
 
     /// Puts one at place i.
@@ -160,11 +172,11 @@ impl<T: Copy, S: Summary<T>, A: Allocator + Copy> Pages<T, S, A> {
         ensures spare { self.new.spare + 1 ≡ self.old.spare }
     {
         let count = self.pages.len();
-        let (p, j) = pages::locate_to_end(&self.pages, &self.starts, i);
+        let (p, j) = pages::locate_to_end(&self.pages, &self.groups.starts, i);
         pages::put(
             &mut self.pages,
             &mut self.free,
-            &mut self.starts,
+            &mut self.groups,
             &mut self.order,
             p,
             j,
@@ -192,10 +204,16 @@ impl<T: Copy, S: Summary<T>, A: Allocator + Copy> Pages<T, S, A> {
         ensures out { result ≡ slice_index_or self.old.entries i result }
         ensures spare { self.old.spare ≤ self.new.spare }
     {
-        let (p, j) = pages::locate(&self.pages, &self.starts, i);
-        let out = pages::take(&mut self.pages, &mut self.free, p, j, self.len);
-        find_starts(&self.pages, &mut self.starts);
-        pages::find_order(&self.pages, &mut self.order);
+        let (p, j) = pages::locate(&self.pages, &self.groups.starts, i);
+        let out = pages::take(
+            &mut self.pages,
+            &mut self.free,
+            &mut self.groups,
+            &mut self.order,
+            p,
+            j,
+            self.len,
+        );
         self.len -= 1;
         out
     }
@@ -209,7 +227,7 @@ impl<T: Copy, S: Summary<T>, A: Allocator + Copy> Pages<T, S, A> {
         if from == self.len {
             return Err(n);
         }
-        search::nth(&self.pages, &self.starts, from, pick, n)
+        search::nth(&self.pages, &self.groups, from, pick, n)
     }
 
     /// The first that is not picked, where those that are picked stand first.
@@ -224,15 +242,21 @@ impl<T: Copy, S: Summary<T>, A: Allocator + Copy> Pages<T, S, A> {
         Some(pages::read(&self.pages, p, j))
     }
 
-    /// Writes another over the first that is not picked.
-    pub fn overwrite<P: Pick<T, S>>(&mut self, pick: &P, x: T)
-        ensures set { (i : ℕ) × IsEdge (P.picked pick.now) self.old.entries i × (self.new.entries ≡ slice_set self.old.entries i x) }
+    /// Writes another over the first that is not picked, where a second search picks that; whether it did.
+    pub fn overwrite<P: Pick<T, S>, Q: Pick<T, S>>(&mut self, pick: &P, only: &Q, x: T) -> bool
+        ensures set { result ≡ true → (i : ℕ) × IsEdge (P.picked pick.now) self.old.entries i × (i < length self.old.entries) × (Q.picked only.now (slice_index_or self.old.entries i x) ≡ true) × (self.new.entries ≡ slice_set self.old.entries i x) }
+        ensures none { result ≡ false → (i : ℕ) × IsEdge (P.picked pick.now) self.old.entries i × (i < length self.old.entries → Q.picked only.now (slice_index_or self.old.entries i x) ≡ false) × (self.new.entries ≡ self.old.entries) }
         ensures spare { self.new.spare ≡ self.old.spare }
     {
         let (p, j) = search::edge(&self.pages, pick);
-        if p < self.pages.len() {
-            pages::set(&mut self.pages, p, j, x);
+        if p == self.pages.len() {
+            return false;
         }
+        if only.picks(pages::read(&self.pages, p, j)) {
+            groups::set(&mut self.pages, &mut self.groups, p, j, x);
+            return true;
+        }
+        false
     }
 
     /// Puts one before the first that is not picked.
@@ -245,7 +269,7 @@ impl<T: Copy, S: Summary<T>, A: Allocator + Copy> Pages<T, S, A> {
         pages::put(
             &mut self.pages,
             &mut self.free,
-            &mut self.starts,
+            &mut self.groups,
             &mut self.order,
             p,
             j,
@@ -265,8 +289,15 @@ impl<T: Copy, S: Summary<T>, A: Allocator + Copy> Pages<T, S, A> {
         if p == self.pages.len() {
             return None;
         }
-        let out = pages::take(&mut self.pages, &mut self.free, p, j, self.len);
-        find_starts(&self.pages, &mut self.starts);
+        let out = pages::take(
+            &mut self.pages,
+            &mut self.free,
+            &mut self.groups,
+            &mut self.order,
+            p,
+            j,
+            self.len,
+        );
         self.len -= 1;
         Some(out)
     }

@@ -1,5 +1,5 @@
 //! One page, and what is kept of it.
-ghost use Rattle.std.specs.Prelude.{◌≡◌, ◌+◌, ◌-◌, ◌≤◌, ◌<◌, List, [], ◌++◌, length, take, drop, slice_index_or, slice_set, vec_len, vec_capacity, IfOk, ℕ};
+ghost use Rattle.std.specs.Prelude.{◌≡◌, ◌+◌, ◌-◌, ◌≤◌, ◌<◌, ◌^◌, List, [], ◌++◌, length, take, drop, slice_index_or, slice_set, vec_len, vec_capacity, IfOk, IfSome, ℕ};
 ghost use Rattle.std.specs.List.{insert, remove};
 
 use std::alloc::{AllocError, Allocator};
@@ -22,7 +22,15 @@ pub trait Summary<T: Copy>: Copy {
 
     /// That with one entry more, wherever it is put.
     fn with(self, x: T) -> Self
-        ensures { (xs : List T) (i : ℕ) → length xs < 512 → i ≤ length xs → tells self xs → tells result (insert xs i x) };
+        ensures { (xs : List T) (i : ℕ) → length xs < 2 ^ 48 → i ≤ length xs → tells self xs → tells result (insert xs i x) };
+
+    /// That with one entry written over another, wherever that stands.
+    fn replaced(self, old: T, new: T) -> Self
+        ensures { (xs : List T) (i : ℕ) → length xs < 2 ^ 48 → i < length xs → old ≡ slice_index_or xs i old → tells self xs → tells result (slice_set xs i new) };
+
+    /// That of two lists in one.
+    fn join(self, other: Self) -> Self
+        ensures { (xs ys : List T) → length xs + length ys < 2 ^ 48 → tells self xs → tells other ys → tells result (xs ++ ys) };
 }
 
 /// Nothing is kept.
@@ -32,12 +40,17 @@ impl<T: Copy> Summary<T> for () {
     fn of(_page: &[T]) -> () {}
 
     fn with(self, _x: T) -> () {}
+
+    fn replaced(self, _old: T, _new: T) -> () {}
+
+    fn join(self, _other: ()) -> () {}
 }
 
 /// At most 512 entries, with memory for as many.
 #[derive(Drop)]
 pub struct Page<T: Copy, S: Summary<T>, A: Allocator> {
     items: Vec<T, A>,
+    last: Option<T>,
     summary: S,
     name: usize,
 }
@@ -47,7 +60,7 @@ impl<T: Copy, S: Summary<T>, A: Allocator> Model for Page<T, S, A> {
 
     ghost view = { λ r. r.items.items };
 
-    ghost invariant = { λ r. (length r.items.items ≤ 512) × (512 ≤ vec_capacity r.items) × S.tells r.summary r.items.items };
+    ghost invariant = { λ r. (length r.items.items ≤ 512) × (512 ≤ vec_capacity r.items) × S.tells r.summary r.items.items × IfSome r.last (λ x. x ≡ slice_index_or r.items.items (length r.items.items - 1) x) };
 }
 
 impl<T: Copy, S: Summary<T>, A: Allocator> Page<T, S, A> {
@@ -56,6 +69,7 @@ impl<T: Copy, S: Summary<T>, A: Allocator> Page<T, S, A> {
     {
         Ok(Page {
             items: Vec::with_capacity(alloc, FULL)?,
+            last: None,
             summary: S::of(&[]),
             name,
         })
@@ -83,7 +97,10 @@ impl<T: Copy, S: Summary<T>, A: Allocator> Page<T, S, A> {
         requires { 0 < length self.now }
         ensures { result ≡ slice_index_or self.now (length self.now - 1) result }
     {
-        self.items[self.items.len() - 1]
+        match self.last {
+            Some(x) => x,
+            None => self.items[self.items.len() - 1],
+        }
     }
 
     pub fn summary(&self) -> S
@@ -100,6 +117,7 @@ impl<T: Copy, S: Summary<T>, A: Allocator> Page<T, S, A> {
     {
         self.summary = self.summary.with(x);
         insert_reserved(&mut self.items, j, x);
+        self.last = last_of(&self.items);
     }
 
     pub fn remove(&mut self, j: usize) -> T
@@ -108,6 +126,7 @@ impl<T: Copy, S: Summary<T>, A: Allocator> Page<T, S, A> {
         ensures out { result ≡ slice_index_or self.old j result }
     {
         let out = self.items.remove(j);
+        self.last = last_of(&self.items);
         self.summary = S::of(&self.items);
         out
     }
@@ -117,8 +136,9 @@ impl<T: Copy, S: Summary<T>, A: Allocator> Page<T, S, A> {
         requires { j < length self.old }
         ensures { self.new ≡ slice_set self.old j x }
     {
+        self.summary = self.summary.replaced(self.items[j], x);
         self.items[j] = x;
-        self.summary = S::of(&self.items);
+        self.last = last_of(&self.items);
     }
 
     /// Holds these alone.
@@ -130,6 +150,7 @@ impl<T: Copy, S: Summary<T>, A: Allocator> Page<T, S, A> {
         if self.items.extend_from_slice(items).is_err() {
             prove!(false);
         }
+        self.last = last_of(&self.items);
         self.summary = S::of(&self.items);
     }
 
@@ -142,6 +163,7 @@ impl<T: Copy, S: Summary<T>, A: Allocator> Page<T, S, A> {
         let (_, tail) = self.items.split_at(HALF);
         upper.fill(tail);
         self.items.truncate(HALF);
+        self.last = last_of(&self.items);
         self.summary = S::of(&self.items);
     }
 
@@ -153,7 +175,31 @@ impl<T: Copy, S: Summary<T>, A: Allocator> Page<T, S, A> {
         if self.items.extend_from_slice(items).is_err() {
             prove!(false);
         }
+        self.last = last_of(&self.items);
         self.summary = S::of(&self.items);
+    }
+
+    /// Keeps what stands behind the first n.
+    pub fn drop_front(&mut self, n: usize)
+        requires { n ≤ length self.old }
+        ensures { self.new ≡ drop n self.old }
+    {
+        self.items.rotate_left(n);
+        self.items.truncate(self.items.len() - n);
+        self.last = last_of(&self.items);
+        self.summary = S::of(&self.items);
+    }
+}
+
+/// The last entry, where there is one.
+fn last_of<T: Copy>(items: &[T]) -> Option<T>
+    ensures { IfSome result (λ x. x ≡ slice_index_or items.now (length items.now - 1) x) }
+{
+    let count = items.len();
+    if count == 0 {
+        None
+    } else {
+        Some(items[count - 1])
     }
 }
 

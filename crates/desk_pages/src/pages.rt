@@ -1,10 +1,11 @@
 //! Pages in use, and free ones.
-ghost use Rattle.std.specs.Prelude.{◌≡◌, ◌+◌, ◌≤◌, ◌<◌, List, [], ◌∷◌, ◌++◌, take, drop, length, vec_capacity, vec_len, slice_index_or, slice_set, OnOk, IfOk, ◌-◌, ◌^◌, IfSome, IsNone, ℕ};
+ghost use Rattle.std.specs.Prelude.{◌≡◌, ◌+◌, ◌≤◌, ◌<◌, List, [], ◌∷◌, ◌++◌, take, drop, length, vec_capacity, vec_len, slice_index_or, OnOk, IfOk, ◌-◌, ◌^◌, IfSome, IsNone, true};
 ghost use Rattle.std.specs.List.{insert, remove};
-ghost use Rattle.desk_pages.specs.Pages.{joined, start_of, IsShortAt, IsStarts, IsSpot, IsSpotOrEnd, IsGap, IsHalfFull, IsClosed, IsKept, cut_at, spare_of};
+ghost use Rattle.desk_pages.specs.Pages.{joined, start_of, HasMore, IsShortAt, IsStarts, IsGroups, IsSpot, IsSpotOrEnd, IsGap, IsHalfFull, IsClosed, IsKept, cut_at, spare_of};
 
+use crate::groups::{Groups, find_groups, put_inside, take_inside};
 use crate::page::{FULL, HALF, Page, Summary, insert_reserved};
-use crate::starts::{find_starts, group_before, put_inside, start_at};
+use crate::starts::{group_before, start_at};
 use std::alloc::{AllocError, Allocator};
 
 /// The page of the i-th entry, and its place there; the number of pages at the end.
@@ -185,7 +186,7 @@ fn room_at<T: Copy, S: Summary<T>, A: Allocator>(
 pub fn put<T: Copy, S: Summary<T>, A: Allocator>(
     pages: &mut Vec<Page<T, S, A>, A>,
     free: &mut Vec<Page<T, S, A>, A>,
-    starts: &mut Vec<usize, A>,
+    groups: &mut Groups<S, A>,
     order: &mut Vec<usize, A>,
     p: usize,
     j: usize,
@@ -193,19 +194,19 @@ pub fn put<T: Copy, S: Summary<T>, A: Allocator>(
     x: T,
 )
     requires kept { IsKept pages.old.items len (vec_len pages.old + vec_len free.old) (vec_capacity pages.old) (vec_capacity free.old) }
-    requires starts { IsStarts pages.old.items starts.old.items }
+    requires groups { IsGroups S.tells pages.old.items groups.old.starts.items groups.old.sums.items }
     requires spot { IsSpotOrEnd pages.old.items p j }
     requires spare { 1 ≤ spare_of (vec_len pages.old + vec_len free.old) len }
     ensures kept { IsKept pages.new.items (len + 1) (vec_len pages.new + vec_len free.new) (vec_capacity pages.new) (vec_capacity free.new) }
-    ensures starts { IsStarts pages.new.items starts.new.items }
+    ensures groups { IsGroups S.tells pages.new.items groups.new.starts.items groups.new.sums.items }
     ensures put { joined pages.new.items ≡ insert (joined pages.old.items) (start_of pages.old.items p + j) x }
     ensures count { vec_len pages.new + vec_len free.new ≡ vec_len pages.old + vec_len free.old }
 {
     match room_at(pages, p, j) {
-        Some((q, k)) => put_inside(pages, starts, q, k, x),
+        Some((q, k)) => put_inside(pages, groups, q, k, x),
         None => {
             put_anywhere(pages, free, p, j, len, x);
-            find_starts(pages, starts);
+            find_groups(pages, groups);
             find_order(pages, order);
         }
     }
@@ -225,25 +226,6 @@ pub fn stretch<'a, T: Copy, S: Summary<T>, A: Allocator>(
     let (p, j) = locate(pages, starts, i);
     let (_, tail) = pages[p].items().split_at(j);
     tail
-}
-
-/// Writes another entry over the j-th of page p.
-pub fn set<T: Copy, S: Summary<T>, A: Allocator>(
-    pages: &mut Vec<Page<T, S, A>, A>,
-    p: usize,
-    j: usize,
-    x: T,
-)
-    requires within { p < vec_len pages.old }
-    requires inside { j < length (slice_index_or pages.old.items p []) }
-    requires half { IsHalfFull pages.old.items }
-    ensures set { joined pages.new.items ≡ slice_set (joined pages.old.items) (start_of pages.old.items p + j) x }
-    ensures starts { (starts : List ℕ) → IsStarts pages.old.items starts → IsStarts pages.new.items starts }
-    ensures half { IsHalfFull pages.new.items }
-    ensures len { vec_len pages.new ≡ vec_len pages.old }
-    ensures capacity { vec_capacity pages.new ≡ vec_capacity pages.old }
-{
-    pages[p].set(j, x);
 }
 
 /// Free pages, until there are as many pages as said.
@@ -306,7 +288,7 @@ fn level<T: Copy, S: Summary<T>, A: Allocator>(
     ensures same { joined pages.new.items ≡ joined pages.old.items }
     ensures half { IsHalfFull pages.new.items }
     ensures count { vec_len pages.new + vec_len free.new ≡ vec_len pages.old + vec_len free.old }
-    ensures capacity { vec_capacity pages.new ≡ vec_capacity pages.old }
+    ensures capacity { vec_capacity pages.old ≤ vec_capacity pages.new }
     ensures free_capacity { vec_capacity free.new ≡ vec_capacity free.old }
 {
     let len = pages[p].len();
@@ -319,18 +301,59 @@ fn level<T: Copy, S: Summary<T>, A: Allocator>(
     if len >= HALF {
         return;
     }
-    if len + pages[p + 1].len() <= FULL {
-        let next = pages.remove(p + 1);
+    let mut next = pages.remove(p + 1);
+    if len + next.len() <= FULL {
         pages[p].append(next.items());
         free.push_reserved(next);
     } else {
-        let first = pages[p + 1].remove(0);
-        pages[p].insert(len, first);
+        let n = (next.len() - HALF) / 2;
+        let (front, _) = next.items().split_at(n);
+        pages[p].append(front);
+        next.drop_front(n);
+        insert_reserved(pages, p + 1, next);
     }
+}
+
+/// Whether a page may lose an entry and stay long enough.
+fn has_more<T: Copy, S: Summary<T>, A: Allocator>(pages: &[Page<T, S, A>], p: usize) -> bool
+    requires { p < length pages.now }
+    ensures { result ≡ true → HasMore pages.now p }
+{
+    let least = if p + 1 == pages.len() { 1 } else { HALF };
+    pages[p].len() > least
 }
 
 /// Takes out the j-th entry of page p.
 pub fn take<T: Copy, S: Summary<T>, A: Allocator>(
+    pages: &mut Vec<Page<T, S, A>, A>,
+    free: &mut Vec<Page<T, S, A>, A>,
+    groups: &mut Groups<S, A>,
+    order: &mut Vec<usize, A>,
+    p: usize,
+    j: usize,
+    len: usize,
+) -> T
+    requires kept { IsKept pages.old.items len (vec_len pages.old + vec_len free.old) (vec_capacity pages.old) (vec_capacity free.old) }
+    requires groups { IsGroups S.tells pages.old.items groups.old.starts.items groups.old.sums.items }
+    requires within { p < length pages.old.items }
+    requires inside { j < length (slice_index_or pages.old.items p []) }
+    ensures kept { IsKept pages.new.items (len - 1) (vec_len pages.new + vec_len free.new) (vec_capacity pages.new) (vec_capacity free.new) }
+    ensures groups { IsGroups S.tells pages.new.items groups.new.starts.items groups.new.sums.items }
+    ensures rest { joined pages.new.items ≡ remove (joined pages.old.items) (start_of pages.old.items p + j) }
+    ensures out { result ≡ slice_index_or (joined pages.old.items) (start_of pages.old.items p + j) result }
+    ensures count { vec_len pages.new + vec_len free.new ≡ vec_len pages.old + vec_len free.old }
+{
+    if has_more(pages, p) {
+        return take_inside(pages, groups, p, j);
+    }
+    let out = take_short(pages, free, p, j, len);
+    find_groups(pages, groups);
+    find_order(pages, order);
+    out
+}
+
+/// Takes out the j-th entry of page p, and fills the page from the next.
+fn take_short<T: Copy, S: Summary<T>, A: Allocator>(
     pages: &mut Vec<Page<T, S, A>, A>,
     free: &mut Vec<Page<T, S, A>, A>,
     p: usize,
@@ -371,6 +394,14 @@ pub fn named<'a, T: Copy, S: Summary<T>, A: Allocator>(
         return None;
     }
     Some((start_at(pages, starts, p), pages[p].items()))
+}
+
+/// Room to keep where so many pages stand.
+pub fn name_room<A: Allocator>(order: &mut Vec<usize, A>, count: usize) -> Result<(), AllocError> {
+    if order.len() < count {
+        order.resize(count, 0)?;
+    }
+    Ok(())
 }
 
 /// Where each page stands, by its name, as far as there is room to keep it.

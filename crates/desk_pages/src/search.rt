@@ -1,10 +1,12 @@
 //! The n-th entry that is picked, found by passing pages by.
-ghost use Rattle.std.specs.Prelude.{◌≡◌, ◌+◌, ◌≤◌, ◌<◌, ◌^◌, ℕ, List, length, IfSome, IfOk, IfErr, Bool};
+ghost use Rattle.std.specs.Prelude.{◌≡◌, ◌+◌, ◌≤◌, ◌<◌, ◌^◌, ℕ, List, length, take, IfSome, IsSome, IfOk, IfErr, Bool};
 ghost use Rattle.std.specs.List.{count_by};
-ghost use Rattle.desk_pages.specs.Pages.{joined, start_of, ends_in, IsSpotOrEnd, IsHalfFull, IsStarts, IsNth, IsShort, IsEdge};
+ghost use Rattle.desk_pages.specs.Pages.{joined, start_of, ends_in, IsSpotOrEnd, IsHalfFull, IsGroups, IsNth, IsShort, IsEdge};
 
+use crate::groups::Groups;
 use crate::page::{Page, Summary};
 use crate::pages::locate;
+use crate::starts::GROUP;
 use std::alloc::Allocator;
 
 /// Which entries a search is for.
@@ -18,6 +20,12 @@ pub trait Pick<T: Copy, S: Summary<T>> {
     fn count(&self, _summary: S, _len: usize) -> Option<usize>
         ensures { IfSome result (λ n. (xs : List T) → S.tells _summary xs → length xs ≡ _len → count_by (picked self.now) xs ≡ n) }
     {
+        None
+    }
+
+    /// Where in a page those that are picked may end, by the last entry before the page and the page's own last: a hint,
+    /// by which a search begins there and not in the middle.
+    fn guess(&self, _before: T, _last: T, _len: usize) -> Option<usize> {
         None
     }
 }
@@ -62,9 +70,40 @@ fn nth_of<T: Copy, S: Summary<T>, A: Allocator, P: Pick<T, S>>(
     nth_in(page.items(), 0, pick, n)
 }
 
+/// How many are wanting behind a group that begins at a page, and where the next begins, where the group may be passed by.
+fn pass<T: Copy, S: Summary<T>, A: Allocator, P: Pick<T, S>>(
+    pages: &[Page<T, S, A>],
+    groups: &Groups<S, A>,
+    at: usize,
+    pick: &P,
+    n: usize,
+) -> Option<(usize, usize)>
+    requires { IsGroups S.tells pages.now groups.now.starts.items groups.now.sums.items }
+    ensures within { IsSome result → at + 64 ≤ length pages.now }
+    ensures less { IfSome result (λ r. r.0 ≤ n) }
+    ensures start { IfSome result (λ r. r.1 ≡ start_of pages.now (at + 64)) }
+    ensures count { IfSome result (λ r. count_by (P.picked pick.now) (joined (take (at + 64) pages.now)) + r.0 ≡ count_by (P.picked pick.now) (joined (take at pages.now)) + n) }
+{
+    let _ = pages;
+    let g = at / GROUP;
+    if at % GROUP != 0 || g >= groups.sums.len() || groups.starts.len() <= g + 1 {
+        return None;
+    }
+    let next = groups.starts[g + 1];
+    let Some(count) = pick.count(groups.sums[g], next.saturating_sub(groups.starts[g])) else {
+        return None;
+    };
+    if count <= n {
+        Some((n - count, next))
+    } else {
+        None
+    }
+}
+
 /// The n-th from a page on, or how many are wanting.
 fn nth_from<T: Copy, S: Summary<T>, A: Allocator, P: Pick<T, S>>(
     pages: &[Page<T, S, A>],
+    groups: &Groups<S, A>,
     p: usize,
     start: usize,
     pick: &P,
@@ -72,6 +111,7 @@ fn nth_from<T: Copy, S: Summary<T>, A: Allocator, P: Pick<T, S>>(
 ) -> Result<usize, usize>
     requires within { p ≤ length pages.now }
     requires start { start ≡ start_of pages.now p }
+    requires groups { IsGroups S.tells pages.now groups.now.starts.items groups.now.sums.items }
     requires fits { length (joined pages.now) < 2 ^ 64 }
     ensures found { IfOk result (λ place. IsNth (P.picked pick.now) (joined pages.now) start n place) }
     ensures short { IfErr result (λ left. IsShort (P.picked pick.now) (joined pages.now) start n left) }
@@ -80,6 +120,12 @@ fn nth_from<T: Copy, S: Summary<T>, A: Allocator, P: Pick<T, S>>(
     let mut start = start;
     let mut at = p;
     while at < pages.len() {
+        if let Some((rest, next)) = pass(pages, groups, at, pick, left) {
+            left = rest;
+            start = next;
+            at += GROUP;
+            continue;
+        }
         match nth_of(&pages[at], pick, left) {
             Ok(j) => return Ok(start + j),
             Err(rest) => left = rest,
@@ -93,37 +139,53 @@ fn nth_from<T: Copy, S: Summary<T>, A: Allocator, P: Pick<T, S>>(
 /// The n-th from a place on, or how many are wanting.
 pub fn nth<T: Copy, S: Summary<T>, A: Allocator, P: Pick<T, S>>(
     pages: &[Page<T, S, A>],
-    starts: &[usize],
+    groups: &Groups<S, A>,
     from: usize,
     pick: &P,
     n: usize,
 ) -> Result<usize, usize>
     requires within { from < length (joined pages.now) }
-    requires starts { IsStarts pages.now starts.now }
+    requires groups { IsGroups S.tells pages.now groups.now.starts.items groups.now.sums.items }
     requires fits { length (joined pages.now) < 2 ^ 64 }
     ensures found { IfOk result (λ place. IsNth (P.picked pick.now) (joined pages.now) from n place) }
     ensures short { IfErr result (λ left. IsShort (P.picked pick.now) (joined pages.now) from n left) }
 {
-    let (p, j) = locate(pages, starts, from);
+    let (p, j) = locate(pages, &groups.starts, from);
     match nth_in(pages[p].items(), j, pick, n) {
         Ok(k) => Ok(from - j + k),
-        Err(left) => nth_from(pages, p + 1, from - j + pages[p].len(), pick, left),
+        Err(left) => nth_from(pages, groups, p + 1, from - j + pages[p].len(), pick, left),
     }
 }
 
-/// Where those that are picked end, in one page.
-pub fn edge_in<T: Copy, S: Summary<T>, P: Pick<T, S>>(items: &[T], pick: &P) -> usize
+/// So many entries from a guess on a search looks at entries ever farther from it; then it halves what is left.
+const NEAR: usize = 32;
+
+/// Where those that are picked end, in one page: looked for near a guess first, where there is one.
+pub fn edge_in<T: Copy, S: Summary<T>, P: Pick<T, S>>(
+    items: &[T],
+    pick: &P,
+    guess: Option<usize>,
+) -> usize
     ensures { IsEdge (P.picked pick.now) items.now result }
 {
     let mut low = 0;
     let mut high = items.len();
+    let mut step = if guess.is_some() { 1 } else { NEAR };
+    let mut at = guess.unwrap_or(0);
     while low < high {
-        let mid = low + (high - low) / 2;
+        let mid = if step < NEAR {
+            at.clamp(low, high - 1)
+        } else {
+            low + (high - low) / 2
+        };
         if pick.picks(items[mid]) {
             low = mid + 1;
+            at = mid.saturating_add(step);
         } else {
             high = mid;
+            at = mid.saturating_sub(step);
         }
+        step = step.saturating_mul(2);
     }
     low
 }
@@ -162,5 +224,21 @@ pub fn edge<T: Copy, S: Summary<T>, A: Allocator, P: Pick<T, S>>(
     if p == pages.len() {
         return (p, 0);
     }
-    (p, edge_in(pages[p].items(), pick))
+    let guess = guess_in(pages, p, pick);
+    (p, edge_in(pages[p].items(), pick, guess))
+}
+
+/// Where in a page those that are picked may end: a hint.
+fn guess_in<T: Copy, S: Summary<T>, A: Allocator, P: Pick<T, S>>(
+    pages: &[Page<T, S, A>],
+    p: usize,
+    pick: &P,
+) -> Option<usize>
+    requires half { IsHalfFull pages.now }
+    requires within { p < length pages.now }
+{
+    if p == 0 {
+        return None;
+    }
+    pick.guess(pages[p - 1].last(), pages[p].last(), pages[p].len())
 }

@@ -1,7 +1,6 @@
 //! Where the groups of pages begin, so that a look-up by place goes over few pages.
-ghost use Rattle.std.specs.Prelude.{◌≡◌, ◌+◌, ◌≤◌, ◌<◌, ◌^◌, ℕ, length, slice_index_or, vec_len, vec_capacity};
-ghost use Rattle.std.specs.List.{insert};
-ghost use Rattle.desk_pages.specs.Pages.{joined, start_of, IsGap, IsHalfFull, IsStarts};
+ghost use Rattle.std.specs.Prelude.{◌≡◌, ◌+◌, ◌-◌, ◌≤◌, ◌<◌, ◌^◌, ℕ, length, slice_index_or};
+ghost use Rattle.desk_pages.specs.Pages.{joined, start_of, IsStarts};
 
 use crate::page::{Page, Summary};
 use std::alloc::Allocator;
@@ -103,30 +102,8 @@ pub fn find_starts<T: Copy, S: Summary<T>, A: Allocator>(
     }
 }
 
-/// Puts an entry where a page has room: each group behind it begins one later.
-pub fn put_inside<T: Copy, S: Summary<T>, A: Allocator>(
-    pages: &mut Vec<Page<T, S, A>, A>,
-    starts: &mut Vec<usize, A>,
-    q: usize,
-    k: usize,
-    x: T,
-)
-    requires gap { IsGap pages.old.items (start_of pages.old.items q + k) q k }
-    requires half { IsHalfFull pages.old.items }
-    requires starts { IsStarts pages.old.items starts.old.items }
-    requires fits { length (joined pages.old.items) < 2 ^ 48 }
-    ensures put { joined pages.new.items ≡ insert (joined pages.old.items) (start_of pages.old.items q + k) x }
-    ensures half { IsHalfFull pages.new.items }
-    ensures starts { IsStarts pages.new.items starts.new.items }
-    ensures len { vec_len pages.new ≡ vec_len pages.old }
-    ensures capacity { vec_capacity pages.new ≡ vec_capacity pages.old }
-{
-    pages[q].insert(k, x);
-    raise(starts, q / GROUP + 1);
-}
-
 /// One more in each from the g-th on.
-fn raise<A: Allocator>(starts: &mut Vec<usize, A>, g: usize)
+pub fn raise<A: Allocator>(starts: &mut Vec<usize, A>, g: usize)
     requires { (n : ℕ) → n < length starts.old.items → slice_index_or starts.old.items n 0 < 2 ^ 48 }
     ensures len { length starts.new.items ≡ length starts.old.items }
     ensures below { (n : ℕ) → n < g → slice_index_or starts.new.items n 0 ≡ slice_index_or starts.old.items n 0 }
@@ -135,6 +112,19 @@ fn raise<A: Allocator>(starts: &mut Vec<usize, A>, g: usize)
     let mut n = g;
     while n < starts.len() {
         starts[n] += 1;
+        n += 1;
+    }
+}
+
+/// One less in each from the g-th on.
+pub fn lower<A: Allocator>(starts: &mut Vec<usize, A>, g: usize)
+    ensures len { length starts.new.items ≡ length starts.old.items }
+    ensures below { (n : ℕ) → n < g → slice_index_or starts.new.items n 0 ≡ slice_index_or starts.old.items n 0 }
+    ensures lowered { (n : ℕ) → g ≤ n → n < length starts.old.items → slice_index_or starts.new.items n 0 ≡ slice_index_or starts.old.items n 0 - 1 }
+{
+    let mut n = g;
+    while n < starts.len() {
+        starts[n] = starts[n].saturating_sub(1);
         n += 1;
     }
 }

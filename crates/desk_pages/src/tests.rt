@@ -123,7 +123,8 @@ fn pages_in_order(rt: HostRuntime) -> Result<(), Fail> {
     }
     assert_eq!(rt; pages.seek(&Under(6_000)), None);
     assert_eq!(rt; pages.remove_in_order(&Under(6_000)), None);
-    pages.overwrite(&Under(5_998), 5_999);
+    assert!(rt; !pages.overwrite(&Under(5_998), &Under(5_998), 5_999));
+    assert!(rt; pages.overwrite(&Under(5_998), &Under(5_999), 5_999));
     for k in 0..2_999u32 {
         assert_eq!(rt; pages.remove_in_order(&Under(k)), Some(k * 2));
     }

@@ -31,8 +31,8 @@ use Rattle.desk_ops.proofs.Ends.{on, held_among, insert_from_op}
 use Rattle.desk_ops.proofs.Faulty.{fault_at, end_head, end_borne, end_bare}
 use Rattle.desk_replica.specs.declared.faults.Way.{Way}
 use Rattle.desk_replica.specs.Ways.{kind_at, way_of, ways_before, faults_before, way_at, AreRising, IsNone, AreWays, ends_with, ways_with, AreTold}
-use Rattle.desk_replica.proofs.Built.{clear_before, clear_before-clear, clear_before-other, filter-last, each-taken, earlier_all, below_it, among-at, each-at}
-use Rattle.desk_replica.proofs.Walked.{inserts-last}
+use Rattle.desk_replica.proofs.Passes.{clear_before, clear_before-clear, clear_before-other, filter-last, each-taken, earlier_all, below_it, among-at, each-at}
+use Rattle.desk_replica.proofs.Passes.{inserts-last}
 
 -- ---- a target that no clear insert bears
 

@@ -1,6 +1,6 @@
 -- What is kept of each key, while operations come.
 use Rattle.std.proofs.Common.{◌≡◌, ℕ, ◌+◌, ◌<◌, ◌≤◌, Bool, true, false, cond, List, [], ◌∷◌, ◌++◌, length, get_or, refl, sym, ap, ◌∙◌, subst, ◌⊎◌, inl, inr}
-use Rattle.std.specs.Prelude.{Option, Some, None, option_map}
+use Rattle.std.specs.Prelude.{Option, Some, None, IsSome, option_map}
 use Rattle.std.proofs.lemmas.Bool.{true≢false}
 use Rattle.std.proofs.lemmas.List.{take_all}
 use Rattle.std.specs.List.{filter}
@@ -9,7 +9,7 @@ use Rattle.desk_ops.specs.declared.op.Key.{Key}
 use Rattle.desk_ops.specs.declared.op.Op.{Op}
 use Rattle.desk_ops.specs.declared.op.Op.TheVariants.{Insert, Delete, Set}
 use Rattle.desk_ops.specs.Stamp.{before, same}
-use Rattle.desk_ops.specs.Op.{stamp_of}
+use Rattle.desk_ops.specs.Op.{stamp_of, target_of}
 use Rattle.desk_ops.specs.OpSet.{OpSet, no_ops, has_op, with_op, in_order}
 use Rattle.desk_ops.specs.Lists.{Among}
 use Rattle.desk_ops.specs.Held.{is_borne_in, is_clear, clear_ops}
@@ -31,7 +31,7 @@ use Rattle.desk_registers.specs.declared.Kept.{Kept}
 use Rattle.desk_registers.specs.Registers.{kept_with, IsOther, IsGreatestOf}
 use Rattle.desk_registers.proofs.Greatest.{same_greatest, step, Or, Is}
 use Rattle.desk_replica.specs.JobSettings.{kept_op, IsOtherSet, Sets, AreKept}
-use Rattle.desk_replica.proofs.Built.{clear_before, clear_before-clear, clear_before-other, earlier}
+use Rattle.desk_replica.proofs.Passes.{clear_before, clear_before-clear, clear_before-other, earlier}
 
 -- ---- the value
 
@@ -190,6 +190,18 @@ module _ (h : OpSet) (ops : List Op) (is : ops ≡ in_order h) (i : ℕ) (d : Op
   pub pass-other : (kept : Key → Option Kept) → is_clear (in_order h) (stamp_of (get_or ops i d)) ≡ false → AreKeptOf (clear_before (in_order h) i) kept → AreKeptOf (clear_before (in_order h) (i + 1)) kept
   pass-other kept forked a =
       subst (λ l. AreKeptOf l kept) (sym (clear_before-other h i d (subst (λ os. i < length os) is lt) (ap (λ os. is_clear (in_order h) (stamp_of (get_or os i d))) (sym is) ∙ forked))) a
+
+  -- one that is not clear, or makes no setting
+  pub pass-idle : (kept : Key → Option Kept) → (is_clear (in_order h) (stamp_of (get_or ops i d)) ≡ false) ⊎ IsSome (target_of (get_or ops i d)) → AreKeptOf (clear_before (in_order h) i) kept → AreKeptOf (clear_before (in_order h) (i + 1)) kept
+  pass-idle kept (inl forked) a = pass-other kept forked a
+  pass-idle kept (inr hangs) a = by_cases (is_clear (in_order h) (stamp_of (get_or ops i d)))
+      (λ clear. pass-clear kept kept clear a (λ key. sym (idle (get_or ops i d) hangs key)))
+      (λ forked. pass-other kept forked a)
+    where
+      idle : (o : Op) → IsSome (target_of o) → (key : Key) → kept_op kept o key ≡ kept key
+      idle (Insert stamp parent symbol) some key = refl
+      idle (Delete stamp target) some key = refl
+      idle (Set stamp k value) some key = absurd (true≢false (sym some))
 
   pub pass-apart : (kept : Key → Option Kept) → is_clear (in_order h) (stamp_of (get_or ops i d)) ≡ true → AreKeptOf (clear_before (in_order h) i) kept → IsOtherSet kept (get_or ops i d)
   pass-apart kept clear a =

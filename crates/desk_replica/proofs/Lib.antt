@@ -1,10 +1,9 @@
 pub mod Sets
-pub mod Links
-pub mod Nodes
-pub mod Finds
-pub mod Walked
-pub mod Built
+pub mod Searches
+pub mod Passes
+pub mod Shows
 pub mod Made
 pub mod KeptSets
+pub mod Sound
 pub mod Ends
 pub mod Convergence

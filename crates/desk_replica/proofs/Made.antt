@@ -6,7 +6,6 @@ use Rattle.desk_ops.proofs.Stamps.{by_cases}
 use Rattle.desk_ops.specs.declared.op.Unlawful.TheVariants as unlawful
 use Rattle.desk_replica.specs.declared.Refusal.{Refusal}
 use Rattle.desk_replica.specs.declared.Refusal.TheVariants as refusal
-use Rattle.desk_replica.proofs.Links.{ne-from}
 use Rattle.std.specs.List.{filter}
 use Rattle.desk_ops.specs.declared.op.Stamp.{Stamp}
 use Rattle.desk_ops.specs.declared.op.Symbol.{Symbol}
@@ -26,17 +25,18 @@ use Rattle.desk_ops.proofs.Means.{insert_stamp}
 use Rattle.desk_ops.proofs.Tree.{walk-clear}
 use Rattle.desk_ops.proofs.Lawful.{symbol_from, value_from}
 use Rattle.desk_ops.specs.Held.{greatest_counter, greatest_counter_of}
-use Rattle.desk_replica.specs.declared.rebuild.Entry.{Entry}
-use Rattle.desk_replica.specs.Built.{entry_of, shown_entries}
 use Rattle.desk_replica.specs.State.{State, IsKept}
 use Rattle.desk_ops.specs.Settings.{setting_of}
 use Rattle.desk_ops.specs.Laws.{IsParentAt}
 use Rattle.desk_replica.specs.Edits.{new_stamp, parent_at, stamp_at, new_insert, edit_refusal, insert_refusal, IsInserted, IsDeleted, IsSetTo}
-use Rattle.desk_replica.proofs.Walked.{each-insert}
+use Rattle.desk_replica.proofs.Passes.{each-insert}
 use Rattle.desk_ops.proofs.Newest.{insert_shows, delete_shows, set_shows}
 use Rattle.desk_ops.proofs.NewValues.{setting_new, setting_stays}
 
 -- ---- numbers
+
+ne-from : (a b : ℕ) → a ≢ b → (a == b) ≡ false
+ne-from a b e = grind (arith, nat_tests)
 
 le-true : (a b : ℕ) → a ≤ b → nat_le a b ≡ true
 le-true a b h = grind (arith, nat_tests)
@@ -148,44 +148,6 @@ set_to old after key value op kept clock is_one is gained = record {
   where
     set_key : {k : Key} {t : Stamp} {n : ℕ} → Set (new_stamp old) key value ≡ Set t k n → key ≡ k
     set_key e = cc
-
--- ---- what the code reads
-
-stamp-read : (es : List Entry) (j : ℕ) (d : Entry) → j < length es → (get_or es j d).stamp ≡ get_or (map (λ (e : Entry). e.stamp) es) j head
-stamp-read [] j d lt = absurd (omega arith)
-stamp-read (e ∷ es) zero d lt = refl
-stamp-read (e ∷ es) (suc j) d lt = stamp-read es j d (omega arith)
-
-pub parent-read : (es : List Entry) (place : ℕ) (d : Entry) → place ≢ 0 → place ≤ length es → (get_or es (place - 1) d).stamp ≡ get_or (head ∷ map (λ (e : Entry). e.stamp) es) place head
-parent-read es zero d some le = absurd (some refl)
-parent-read es (suc j) d some le = let k : suc j - 1 ≡ j = omega arith in ap (λ n. (get_or es n d).stamp) k ∙ stamp-read es j d (omega arith)
-
-pub entry-stamps : (xs : List Insertion) → map (λ (e : Entry). e.stamp) (map entry_of xs) ≡ map (λ (x : Insertion). x.stamp) xs
-entry-stamps [] = refl
-entry-stamps (x ∷ xs) = ap (λ l. x.stamp ∷ l) (entry-stamps xs)
-
-pub length-entries : (xs : List Insertion) → length (map entry_of xs) ≡ length xs
-length-entries [] = refl
-length-entries (x ∷ xs) = ap suc (length-entries xs)
-
-pub stamp-shown : (es : List Entry) (h : OpSet) (place : ℕ) → es ≡ shown_entries h → get_or (map (λ (e : Entry). e.stamp) es) place head ≡ stamp_at (shown_of h) place
-stamp-shown es h place shows = ap (λ (l : List Entry). get_or (map (λ (e : Entry). e.stamp) l) place head) shows ∙ ap (λ ss. get_or ss place head) (entry-stamps (shown_of h))
-
-pub delete-made : (old : State) (place : ℕ) (stamp target : Stamp) (es : List Entry) → es ≡ shown_entries old.ops → stamp ≡ new_stamp old → target ≡ get_or (map (λ (e : Entry). e.stamp) es) place head
-    → Delete stamp target ≡ Delete (new_stamp old) (stamp_at (shown_of old.ops) place)
-delete-made old place stamp target es shows stamped is = ap (λ s. Delete s target) stamped ∙ ap (Delete (new_stamp old)) (is ∙ stamp-shown es old.ops place shows)
-
-pub below-shown : (es : List Entry) (h : OpSet) (place : ℕ) → es ≡ shown_entries h → place < length es → place < length (shown_of h)
-below-shown es h place e lt = subst (λ n. place < n) (ap length e ∙ length-entries (shown_of h)) lt
-
-pub within-shown : (es : List Entry) (h : OpSet) (place : ℕ) → es ≡ shown_entries h → place ≤ length es → place ≤ length (shown_of h)
-within-shown es h place e le = subst (λ n. place ≤ n) (ap length e ∙ length-entries (shown_of h)) le
-
-pub made : (old : State) (place : ℕ) (y : Symbol) (stamp parent : Stamp) (es : List Entry) → es ≡ shown_entries old.ops → stamp ≡ new_stamp old → parent ≡ get_or (head ∷ map (λ (e : Entry). e.stamp) es) place head
-    → Insert stamp parent y ≡ insert_of (new_insert old place y)
-made old place y stamp parent es shows stamped hangs =
-    ap (λ s. Insert s parent y) stamped
-    ∙ ap (λ p. Insert (new_stamp old) p y) (hangs ∙ ap (λ (l : List Entry). get_or (head ∷ map (λ (e : Entry). e.stamp) l) place head) shows ∙ ap (λ ss. get_or (head ∷ ss) place head) (entry-stamps (shown_of old.ops)))
 
 -- what holds of the operation that was to be added holds of the one answered
 pub on_made : (P : Op → Type 0) (r : Result Op Refusal) (h after : OpSet) (o : Op) → IfOk r (λ p. p ≡ o) → OnOk r (after ≡ with_op h o) → (after ≡ with_op h o → P o) → IfOk r P

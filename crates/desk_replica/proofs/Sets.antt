@@ -1,14 +1,19 @@
 -- Sets of operations that grow: lawful, and how many.
-use Rattle.std.proofs.Common.{◌≡◌, ◌+◌, ◌-◌, ◌<◌, ◌≤◌, take, get_or, ℕ, cond, List, [], ◌∷◌, length, drop, false, refl, sym, ap, ◌∙◌, subst, arith}
+use Rattle.std.proofs.Common.{◌≡◌, ◌+◌, ◌-◌, ◌<◌, ◌≤◌, ◌⊎◌, inl, inr, take, get_or, ℕ, zero, suc, cond, List, [], ◌∷◌, length, drop, false, refl, sym, ap, ◌∙◌, subst, arith}
 use Rattle.std.specs.List.{AllByRecursion}
 use Rattle.desk_ops.specs.declared.op.Op.{Op}
-use Rattle.desk_ops.specs.Op.{IsLawful}
+use Rattle.desk_ops.specs.Op.{IsLawful, stamp_of}
+use Rattle.desk_ops.specs.Held.{is_borne_in}
 use Rattle.desk_ops.specs.OpSet.{OpSet, no_ops, has_op, with_op, with_all, in_order, size, AllLawful}
-use Rattle.desk_replica.specs.State.{IsCounted}
-use Rattle.std.proofs.lemmas.List.{take-append-drop}
+use Rattle.desk_replica.specs.State.{IsCounted, ForksNone, HasRoom}
+use Rattle.std.proofs.lemmas.List.{take-append-drop, take_all, drop_all}
 use Rattle.std.proofs.Math.Seq.{drop-cons}
 use Rattle.std.proofs.Common.{length-drop}
-use Rattle.desk_held.specs.declared.AddRefusal.TheVariants.{Full}
+use Rattle.desk_held.specs.declared.AddRefusal.{AddRefusal}
+use Rattle.desk_held.specs.declared.AddRefusal.TheVariants.{Full, NoMemory}
+use Rattle.std.specs.Prelude.{◌↔◌, Bool, true, Result, Ok, Err, IsErrOf, All}
+use Rattle.std.proofs.lemmas.Bool.{true≢false}
+use Rattle.desk_replica.specs.declared.Took.{Took}
 use Rattle.desk_replica.specs.declared.Stopped.{Stopped}
 use Rattle.desk_replica.specs.State.{IsStopped}
 use Rattle.desk_ops.proofs.Unions.{with_all-append, size-with_op}
@@ -18,6 +23,10 @@ use Rattle.desk_ops.proofs.OpSets.{no_ops-from_rising, in_order-from_rising}
 
 pub none-lawful : AllLawful no_ops
 none-lawful = subst (AllByRecursion IsLawful) (sym (ap in_order (sym no_ops-from_rising) ∙ in_order-from_rising [] tt)) tt
+
+pub each-of-all : (ops : List Op) → All IsLawful ops → AllByRecursion IsLawful ops
+each-of-all [] a = tt
+each-of-all (o ∷ ops) a = (a 0 o (omega arith), each-of-all ops (λ k d l. a (suc k) d (omega (arith, l))))
 
 pub ruleset sets = (none-lawful, lawful-with_op)
 
@@ -65,3 +74,88 @@ module _ (old after : OpSet) (ops : List Op) (before now : ℕ) (gained : after 
 
   pub counted : IsCounted old after ops (record { new = now - before; known = length ops - (now - before) })
   counted = record { news = let k : before ≤ now = count-new in omega (arith, k, was, is); all = let k : now - before ≤ length ops = count-known in omega (arith, k) }
+
+-- ---- an operation that was refused
+
+is_full : AddRefusal → Bool
+is_full Full = true
+is_full NoMemory = false
+
+err_full : Result Took AddRefusal → Bool
+err_full (Ok took) = false
+err_full (Err why) = is_full why
+
+abbrev tried : AddRefusal → Result Took AddRefusal
+tried why = Err why
+
+-- it was not held, whatever the cause
+pub halt-next : (why : AddRefusal) (held : Bool) (P Q : Type 0) → ((IsErrOf (tried why) Full) ↔ ((held ≡ false) × P)) → (IsErrOf (tried why) NoMemory → (held ≡ false) × Q) → held ≡ false
+halt-next Full held P Q full memory = (full.0 refl).0
+halt-next NoMemory held P Q full memory = (memory refl).0
+
+pub halt-full : (why : AddRefusal) (h after : OpSet) (o : Op) → has_op h o ≡ false → after ≡ h → ((IsErrOf (tried why) Full) ↔ ((has_op h o ≡ false) × (size h ≡ 1048576))) → (why ≡ Full) ↔ (size after ≡ 1048576)
+unfolding is_full err_full
+halt-full Full h after o new same full = ((λ e. ap size same ∙ (full.0 refl).1), (λ e. refl))
+halt-full NoMemory h after o new same full = ((λ e. absurd (true≢false (sym (ap is_full e)))), (λ e. absurd (true≢false (sym (ap err_full (full.1 (new, sym (ap size same) ∙ e)))))))
+
+split-at : (ops : List Op) (i : ℕ) (o : Op) → i < length ops → o ≡ get_or ops i o → drop i ops ≡ o ∷ drop (i + 1) ops
+split-at [] i o lt at = absurd (omega arith)
+split-at (p ∷ ops) zero o lt at = ap (λ (q : Op). q ∷ ops) (sym at)
+split-at (p ∷ ops) (suc i) o lt at = let e : suc (i + 1) ≡ suc i + 1 = omega arith in split-at ops i o (omega arith) at ∙ ap (λ (n : ℕ). o ∷ drop n (p ∷ ops)) e
+
+take-none : (ops : List Op) → take 0 ops ≡ []
+take-none [] = refl
+take-none (o ∷ ops) = refl
+
+drop-none : (ops : List Op) → drop 0 ops ≡ ops
+drop-none [] = refl
+drop-none (o ∷ ops) = refl
+
+grows_by_one : (h : OpSet) (o : Op) → size (with_op h o) ≤ size h + 1
+grows_by_one h o = by_cases (has_op h o)
+    (λ e. let n : size (with_op h o) ≡ size h = size-with_op h o ∙ ap (λ b. cond b (size h) (size h + 1)) e in omega (arith, n))
+    (λ e. let n : size (with_op h o) ≡ size h + 1 = size-with_op h o ∙ ap (λ b. cond b (size h) (size h + 1)) e in omega (arith, n))
+
+-- ---- room for a list that forks no stamp
+
+pub room-more : (h after : OpSet) (spare left : ℕ) (o : Op) (os : List Op) → HasRoom h spare (o ∷ os) → after ≡ with_op h o → (is_borne_in h (stamp_of o) ≡ false → spare ≤ left + 1) → (has_op h o ≡ true → left ≡ spare) → HasRoom after left os
+room-more h after spare left o os r e new known = record {
+  below = let a = r.below in let b = grows_by_one h o in let c : size after ≡ size (with_op h o) = ap size e in omega (arith, a, b, c);
+  spare = go r.unforked.0;
+  unforked = subst (λ (g : OpSet). ForksNone g os) (sym e) r.unforked.1;
+}
+  where
+    go : (has_op h o ≡ true) ⊎ (is_borne_in h (stamp_of o) ≡ false) → length os ≤ left
+    go (inl held) = let a = r.spare in let b = known held in omega (arith, a, b)
+    go (inr other) = let a = r.spare in let b = new other in omega (arith, a, b)
+
+pub room-refused : (h : OpSet) (spare : ℕ) (o : Op) (os : List Op) (why : AddRefusal) → HasRoom h spare (o ∷ os) → ((IsErrOf (tried why) Full) ↔ ((has_op h o ≡ false) × (size h ≡ 1048576))) → (IsErrOf (tried why) NoMemory → (has_op h o ≡ false) × ((spare ≡ 0) ⊎ (is_borne_in h (stamp_of o) ≡ true))) → ⊥
+room-refused h spare o os Full r full memory = let a = (full.0 refl).1 in let b = r.below in absurd (omega (arith, a, b))
+room-refused h spare o os NoMemory r full memory = go r.unforked.0 (memory refl).0 (memory refl).1
+  where
+    go : (has_op h o ≡ true) ⊎ (is_borne_in h (stamp_of o) ≡ false) → has_op h o ≡ false → (spare ≡ 0) ⊎ (is_borne_in h (stamp_of o) ≡ true) → ⊥
+    go (inl held) none q = true≢false (sym held ∙ none)
+    go (inr other) none (inl zero_spare) = let a = r.spare in absurd (omega (arith, a, zero_spare))
+    go (inr other) none (inr borne) = true≢false (sym borne ∙ other)
+
+-- of a list from a place on
+pub room-rest : (h after : OpSet) (spare left : ℕ) (ops : List Op) (i : ℕ) (o : Op) → i < length ops → o ≡ get_or ops i o → HasRoom h spare (drop i ops) → after ≡ with_op h o → (is_borne_in h (stamp_of o) ≡ false → spare ≤ left + 1) → (has_op h o ≡ true → left ≡ spare) → HasRoom after left (drop (i + 1) ops)
+room-rest h after spare left ops i o lt at r e new known =
+    room-more h after spare left o (drop (i + 1) ops) (subst (HasRoom h spare) (split-at ops i o lt at) r) e new known
+
+pub rest-refused : (h : OpSet) (spare : ℕ) (ops : List Op) (i : ℕ) (o : Op) (why : AddRefusal) → i < length ops → o ≡ get_or ops i o → HasRoom h spare (drop i ops) → ((IsErrOf (tried why) Full) ↔ ((has_op h o ≡ false) × (size h ≡ 1048576))) → (IsErrOf (tried why) NoMemory → (has_op h o ≡ false) × ((spare ≡ 0) ⊎ (is_borne_in h (stamp_of o) ≡ true))) → ⊥
+rest-refused h spare ops i o why lt at r full memory =
+    room-refused h spare o (drop (i + 1) ops) why (subst (HasRoom h spare) (split-at ops i o lt at) r) full memory
+
+-- where all were joined, or none
+pub room-joined : (h after : OpSet) (spare left : ℕ) (ops : List Op) (n : ℕ) → HasRoom h spare ops → after ≡ with_all h (take n ops) → (n ≡ length ops) ⊎ ((n ≡ 0) × (spare ≤ left)) → HasRoom after left (drop n ops)
+room-joined h after spare left ops n r e (inl all) =
+    subst (HasRoom after left) (sym (ap (λ (k : ℕ). drop k ops) all ∙ drop_all (length ops) ops (omega arith)))
+    (record {
+      below = let a = r.below in let c : size after ≡ size (with_all h ops) = ap size e ∙ ap (λ (os : List Op). size (with_all h os)) (ap (λ (k : ℕ). take k ops) all ∙ take_all (length ops) ops (omega arith)) in let b = size-few h ops in omega (arith, a, b, c);
+      spare = omega arith;
+      unforked = tt;
+    })
+room-joined h after spare left ops n r e (inr none) =
+    subst (λ (g : OpSet). HasRoom g left (drop n ops)) (sym (e ∙ ap (λ (k : ℕ). with_all h (take k ops)) none.0 ∙ ap (with_all h) (take-none ops)))
+    (subst (HasRoom h left) (sym (ap (λ (k : ℕ). drop k ops) none.0 ∙ drop-none ops)) (record { below = r.below; spare = let a = r.spare in let b = none.1 in omega (arith, a, b); unforked = r.unforked }))

@@ -9,9 +9,7 @@ use Rattle.desk_ops.specs.OpSet.{OpSet}
 use Rattle.desk_ops.specs.Live.{IsLiveOp}
 use Rattle.desk_ops.specs.Settings.{setting_of}
 use Rattle.desk_registers.specs.declared.Kept.{Kept}
-use Rattle.desk_registers.specs.declared.Registers.{Registers}
 use Rattle.desk_registers.specs.Registers.{kept, kept_with, IsOther, IsGreatestOf}
-use Rattle.desk_replica.specs.State.{IsKept}
 use Rattle.desk_replica.specs.declared.settings.Settings.{Settings}
 
 abbrev pub settings_of : OpSet → Settings
@@ -36,8 +34,3 @@ Sets h key stamp value = IsLiveOp h (Set stamp key value)
 -- of each key the live set with the greatest stamp is kept
 abbrev pub AreKept : OpSet → (Key → Option Kept) → Type 0
 AreKept h kept = (key : Key) → IsGreatestOf (Sets h key) (kept key)
-
--- a site of a number, lawful operations, and of each key its setting
-pub record IsSound (site : ℕ) (ops : OpSet) (registers : Registers) : Type 0 where
-  pub held : IsKept site ops
-  pub settings : AreKept ops (kept registers)

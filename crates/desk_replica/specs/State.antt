@@ -1,20 +1,24 @@
 -- What a replica is: a site, and the operations that it holds.
-use Rattle.std.specs.Prelude.{◌≡◌, ℕ, ◌+◌, ◌≤◌, cond, refl, List, length}
+use Rattle.std.specs.Prelude.{◌≡◌, ℕ, ◌+◌, ◌≤◌, ◌⊎◌, true, false, cond, refl, List, [], ◌∷◌, length}
 use Rattle.std.specs.Coded.{Coded, code_by, coded×, coded_ℕ}
 use Rattle.desk_ops.specs.declared.op.Op.{Op}
-use Rattle.desk_ops.specs.OpSet.{OpSet, op_set_code, has_op, size, AllLawful}
+use Rattle.desk_ops.specs.Op.{stamp_of}
+use Rattle.desk_ops.specs.OpSet.{OpSet, op_set_code, has_op, with_op, size, AllLawful}
+use Rattle.desk_ops.specs.Held.{is_borne_in}
 use Rattle.desk_held.specs.Joining.{IsHalted}
 use Rattle.desk_replica.specs.declared.Count.{Count}
 use Rattle.desk_replica.specs.declared.Stopped.{Stopped}
 use Rattle.desk_replica.specs.declared.Took.{Took}
 use Rattle.desk_replica.specs.declared.Took.TheVariants.{New, Known}
 
+-- and how many more operations it takes with no new memory, where none of them forks a stamp
 pub record State : Type 0 where
   pub site : ℕ
   pub ops : OpSet
+  pub spare : ℕ
 
 abbrev pub state_code : Coded State
-state_code = code_by (ℕ × OpSet) (coded× coded_ℕ op_set_code) (λ s. (s.site, s.ops)) (λ p. record { site = p.0; ops = p.1 }) (λ _. refl)
+state_code = code_by (ℕ × (OpSet × ℕ)) (coded× coded_ℕ (coded× op_set_code coded_ℕ)) (λ s. (s.site, (s.ops, s.spare))) (λ p. record { site = p.0; ops = p.1.0; spare = p.1.1 }) (λ _. refl)
 
 -- no site has the number 0, and each operation is lawful
 pub record IsKept (site : ℕ) (ops : OpSet) : Type 0 where
@@ -29,6 +33,17 @@ took_by ops op = cond (has_op ops op) Known New
 pub record IsCounted (old after : OpSet) (ops : List Op) (count : Count) : Type 0 where
   pub news : count.new + size old ≡ size after
   pub all : count.new + count.known ≡ length ops
+
+-- no operation of the list forks a stamp, where they are taken in one after the other
+abbrev pub ForksNone : OpSet → List Op → Type 0
+ForksNone ops [] = Unit {0}
+ForksNone ops (op ∷ rest) = ((has_op ops op ≡ true) ⊎ (is_borne_in ops (stamp_of op) ≡ false)) × ForksNone (with_op ops op) rest
+
+-- all of the list can be held, there is room for as many with no new memory, and none forks a stamp
+pub record HasRoom (ops : OpSet) (room : ℕ) (list : List Op) : Type 0 where
+  pub below : size ops + length list ≤ 1048576
+  pub spare : length list ≤ room
+  pub unforked : ForksNone ops list
 
 -- exactly the first operations of the list were gained, and the next is not held; it would be too many where that is the cause, and only there
 abbrev pub IsStopped : OpSet → OpSet → List Op → Stopped → Type 0

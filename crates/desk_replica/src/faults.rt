@@ -7,7 +7,6 @@ ghost use Rattle.desk_ops.specs.OpSet.{in_order, AllLawful};
 ghost use Rattle.desk_ops.specs.Faults.{faults_of, fault_of, marked};
 ghost use Rattle.desk_replica.specs.Ways.{kind_at, AreRising, IsNone, IsOne, AreWays, ends_with, ways_with, AreTold};
 
-use crate::rebuild::is_before;
 use desk_held::Held;
 use desk_ops::{CopyFault, FaultKind, NoMemory, Op, Stamp};
 use std::alloc::Allocator;
@@ -24,7 +23,7 @@ fn find(ways: &[Way], stamp: Stamp) -> Option<usize>
     requires { AreRising ways.now }
     ensures { MatchOption result (IsNone stamp ways.now) (λ k. IsOne stamp ways.now k) }
 {
-    let place = ways.partition_point(|way| is_before(way.stamp, stamp));
+    let place = ways.partition_point(|way| way.stamp.is_before(stamp));
     if place == ways.len() {
         return None;
     }
@@ -109,16 +108,17 @@ fn join<A: Allocator>(
 /// Tells the operation at the place.
 fn pass<A: Allocator + Copy>(
     held: &Held<A>,
+    ops: &[Op],
     place: usize,
     ways: &mut Vec<Way, A>,
     faults: &mut Vec<CopyFault, A>,
 ) -> Result<(), NoMemory>
     requires lawful { AllLawful held.now.ops }
+    requires list { ops.now ≡ in_order held.now.ops }
     requires within { place < length (in_order held.now.ops) }
     requires told { AreTold (in_order held.now.ops) place ways.old.items faults.old.items }
     ensures { OnOk result (AreTold (in_order held.now.ops) (place + 1) ways.new.items faults.new.items) }
 {
-    let ops = held.as_slice();
     let op = ops[place];
     let stamp = op.stamp();
     if held.is_clear(stamp) {
@@ -142,8 +142,9 @@ pub fn faults_of<A: Allocator + Copy>(
 {
     let mut ways = Vec::new(alloc);
     let mut faults = Vec::new(alloc);
-    for place in 0..held.as_slice().len() {
-        pass(held, place, &mut ways, &mut faults)?;
+    let ops = held.in_order()?;
+    for place in 0..ops.len() {
+        pass(held, &ops, place, &mut ways, &mut faults)?;
     }
     Ok(faults)
 }

@@ -1,25 +1,29 @@
 //! One site's copy: what it holds, what its operations add, and what they show.
 #![tactic(auto)]
 
-ghost use Rattle.std.specs.Prelude.{◌≡◌, ◌+◌, ◌≤◌, ◌<◌, ◌↔◌, ◌⊎◌, All, IfOk, IfErr, OnOk, OnErr, IsErrOf, length, take, slice_index_or, true, false};
+ghost use Rattle.std.specs.Prelude.{◌≡◌, ◌+◌, ◌≤◌, ◌<◌, ◌↔◌, ◌⊎◌, ◌++◌, ◌^◌, ℕ, All, IfOk, IfErr, IfSome, IsNone, IsOk, OnOk, OnErr, IsErrOf, MatchOption, length, take, true, false};
 ghost use Rattle.desk_ops.specs.Op.{IsLawful};
 ghost use Rattle.desk_ops.specs.OpSet.{no_ops, has_op, with_op, with_all, union, in_order, size, AllLawful};
-ghost use Rattle.desk_ops.specs.Held.{greatest_counter_of};
-ghost use Rattle.desk_ops.specs.Shown.{copy_of};
+ghost use Rattle.desk_ops.specs.Op.{stamp_of};
+ghost use Rattle.desk_ops.specs.Held.{greatest_counter_of, is_borne_in};
+ghost use Rattle.desk_ops.specs.Shown.{copy_of, shown_of};
 ghost use Rattle.desk_ops.specs.Settings.{setting_of};
 ghost use Rattle.desk_ops.specs.Faults.{faults_of};
 ghost use Rattle.desk_codec.specs.Feed.{feed, IsFeed};
-ghost use Rattle.desk_replica.specs.Built.{shown_entries};
 ghost use Rattle.desk_replica.specs.JobSettings.{settings_of};
-ghost use Rattle.desk_replica.specs.Edits.{new_stamp, edit_refusal, insert_refusal, delete_refusal, set_refusal, IsInserted, IsDeleted, IsSetTo};
+ghost use Rattle.desk_walk.specs.Following.{entries_of, IsWaiting};
+ghost use Rattle.desk_replica.specs.Shows.{shown_symbols};
+ghost use Rattle.desk_replica.specs.Edits.{new_stamp, parent_at, stamp_at, edit_refusal, insert_refusal, delete_refusal, set_refusal, IsInserted, IsDeleted, IsSetTo};
 
 use desk_codec::write_feed;
-use desk_held::{AddRefusal, Added, Held, LIMIT, MANY};
+use desk_held::{AddRefusal, Held, LIMIT};
 use desk_ops::op::MAX_COUNTER;
 use desk_ops::{CopyFault, Key, NoMemory, Op, Stamp, Symbol};
 use desk_registers::Registers;
+use desk_room::Room;
+use desk_seq::{Entry, Sequence};
+use desk_walk::{enter, made_anew};
 use faults::faults_of;
-use rebuild::{Entry, Tree, parent_at, stamp_at, symbols};
 use settings::{keep, kept_in};
 use std::alloc::Allocator;
 use std::marker::Model;
@@ -27,10 +31,15 @@ use thiserror::Error;
 
 mod faults;
 pub mod laws;
-mod rebuild;
 mod settings;
 
 pub use settings::Settings;
+
+/// A list is long from this number of operations on,
+const MANY: usize = 32;
+
+/// and from this part of what is held on: making anew costs a pass over all of it.
+const PART: usize = 16;
 
 /// What taking in an operation did.
 #[derive(Clone, Copy, Debug, PartialEq, Eq)]
@@ -72,35 +81,87 @@ pub struct Stopped {
     pub why: AddRefusal,
 }
 
-/// A site, and the operations that it holds.
+/// A site, and the operations that it holds; with them a sequence that is their walk, a room of what waits, and registers
+/// of the settings. These follow the set: an operation that comes is put where it acts, with all that waited for it, and
+/// only where it forks a stamp are they made anew.
 #[derive(Drop)]
-pub struct Replica<A: Allocator + Copy> {
+pub struct Replica<Q: Sequence> {
     site: u16,
-    held: Held<A>,
+    held: Held<Q::Memory>,
+    sequence: Q,
+    room: Room<Q::Memory>,
     registers: Registers,
-    alloc: A,
+    alloc: Q::Memory,
 }
 
-impl<A: Allocator + Copy> Model for Replica<A> {
-    ghost use Rattle.desk_replica.specs.JobSettings.{IsSound};
+impl<Q: Sequence> Model for Replica<Q> {
     ghost use Rattle.desk_replica.specs.State.{State, state_code};
+    ghost use Rattle.desk_replica.specs.Shows.{IsSound, spare_of};
 
     ghost Value = { State };
 
     ghost coded = { state_code };
 
-    ghost view = { λ a. record { site = a.site; ops = a.held.ops } };
+    ghost view = { λ a. record { site = a.site; ops = a.held.ops; spare = spare_of a.held.spare a.room.spare (Q.free a.sequence) a.room.ops } };
 
-    ghost invariant = { λ a. IsSound a.site a.held.ops a.registers };
+    ghost invariant = { λ a. IsSound a.site a.held.ops a.registers (Q.entries a.sequence) a.room.ops (Q.free a.sequence) };
 }
 
-impl<A: Allocator + Copy> Replica<A> {
-    ghost use Rattle.desk_held.specs.Holding.{added_to};
-    ghost use Rattle.desk_replica.specs.State.{took_by, IsCounted, IsKept, IsStopped};
+/// Makes room for at least `n` more in all three: in the sequence for all that waits too.
+fn reserve_all<Q: Sequence>(
+    held: &mut Held<Q::Memory>,
+    sequence: &mut Q,
+    room: &mut Room<Q::Memory>,
+    n: usize,
+) -> Result<(), NoMemory>
+    requires { size room.old.ops + n < 2 ^ 32 }
+    ensures held { held.new.ops ≡ held.old.ops }
+    ensures entries { Q.entries sequence.new ≡ Q.entries sequence.old }
+    ensures waiting { room.new.ops ≡ room.old.ops }
+    ensures held_grows { held.old.spare ≤ held.new.spare }
+    ensures free_grows { Q.free sequence.old ≤ Q.free sequence.new }
+    ensures room_grows { room.old.spare ≤ room.new.spare }
+    ensures some { OnOk result ((n ≤ held.new.spare) × (n ≤ room.new.spare) × (size room.new.ops + n ≤ Q.free sequence.new)) }
+    ensures enough { n ≤ held.old.spare → n ≤ room.old.spare → size room.old.ops + n ≤ Q.free sequence.old → IsOk result }
+{
+    held.reserve(n)?;
+    room.reserve(n)?;
+    sequence.reserve(room.len() + n)?;
+    Ok(())
+}
+
+/// Adds an operation for which there is room.
+fn add_one<A: Allocator + Copy>(held: &mut Held<A>, op: Op)
+    requires lawful { IsLawful op }
+    requires below { size held.old.ops < LIMIT }
+    requires spare { 1 ≤ held.old.spare }
+    ensures ops { held.new.ops ≡ with_op held.old.ops op }
+    ensures spare { held.old.spare ≤ held.new.spare + 1 }
+{
+    match held.add(op) {
+        Ok(_) => {}
+        Err(AddRefusal::Full) => prove!(false),
+        Err(AddRefusal::NoMemory) => prove!(false),
+    }
+}
+
+/// Adds the symbols of the entries that are shown.
+fn add_shown<A: Allocator>(symbols: &mut Vec<Symbol, A>, part: &[Entry]) -> Result<(), NoMemory>
+    ensures { OnOk result (symbols.new.items ≡ symbols.old.items ++ shown_symbols part.now) }
+{
+    for entry in part {
+        if !entry.deleted {
+            symbols.push(entry.symbol)?;
+        }
+    }
+    Ok(())
+}
+
+impl<Q: Sequence> Replica<Q> {
+    ghost use Rattle.desk_replica.specs.State.{took_by, IsCounted, IsKept, IsStopped, HasRoom};
 
     /// A replica that holds nothing.
-    #[tactic(auto, using(crate::proofs::Sets::sets))]
-    pub fn new(alloc: A, site: u16) -> Self
+    pub fn new(alloc: Q::Memory, site: u16) -> Self
         requires { 1 ≤ site }
         ensures site { result.site ≡ site }
         ensures ops { result.ops ≡ no_ops }
@@ -108,6 +169,8 @@ impl<A: Allocator + Copy> Replica<A> {
         Replica {
             site,
             held: Held::new(alloc),
+            sequence: Q::empty(alloc),
+            room: Room::new(alloc),
             registers: Registers::new(),
             alloc,
         }
@@ -115,7 +178,7 @@ impl<A: Allocator + Copy> Replica<A> {
 
     /// A replica that holds the operations of a list. `Full` comes only where the list has more than 1,048,576 different
     /// operations, and of such a list none is made, since no replica holds more. Nothing is taken in of a refused list.
-    pub fn open(alloc: A, site: u16, ops: &[Op]) -> Result<Self, Stopped>
+    pub fn open(alloc: Q::Memory, site: u16, ops: &[Op]) -> Result<Self, Stopped>
         requires numbered { 1 ≤ site }
         requires lawful { All IsLawful ops.now }
         ensures site { IfOk result (λ r. r.site ≡ site) }
@@ -164,32 +227,135 @@ impl<A: Allocator + Copy> Replica<A> {
         self.held.has(op)
     }
 
+    /// The sequence: the walk of the set, with exactly the targets of live deletes marked.
+    pub fn sequence(&self) -> &Q
+        ensures { Q.entries result.now ≡ entries_of self.now.ops }
+    {
+        &self.sequence
+    }
+
+    /// What waits: exactly the clear inserts and deletes that are not live.
+    pub fn room(&self) -> &Room<Q::Memory>
+        ensures { (op : Op) → (has_op result.now.ops op ≡ true) ↔ IsWaiting self.now.ops op }
+    {
+        &self.room
+    }
+
+    /// How many more operations that fork no stamp can be taken in with no new memory.
+    pub fn spare(&self) -> usize
+        ensures { result ≡ self.now.spare }
+    {
+        let free = self.sequence.spare() - self.room.len();
+        self.held.spare().min(self.room.spare().min(free))
+    }
+
+    /// Makes room for at least `n` more operations. Where a growth was refused the set stays, and spare may have grown.
+    pub fn reserve(&mut self, n: usize) -> Result<(), NoMemory>
+        requires { n ≤ LIMIT }
+        ensures site { self.new.site ≡ self.old.site }
+        ensures ops { self.new.ops ≡ self.old.ops }
+        ensures grows { self.old.spare ≤ self.new.spare }
+        ensures room { OnOk result (n ≤ self.new.spare) }
+        ensures enough { n ≤ self.old.spare → IsOk result }
+    {
+        let _len = self.held.len();
+        reserve_all(&mut self.held, &mut self.sequence, &mut self.room, n)
+    }
+
+    /// Takes in an operation whose stamp none bears, where there is room for it. No memory is taken.
+    fn enter(&mut self, op: Op)
+        requires lawful { IsLawful op }
+        requires new { is_borne_in self.old.ops (stamp_of op) ≡ false }
+        requires below { size self.old.ops < LIMIT }
+        requires spare { 1 ≤ self.old.spare }
+        ensures site { self.new.site ≡ self.old.site }
+        ensures ops { self.new.ops ≡ with_op self.old.ops op }
+        ensures spare { self.old.spare ≤ self.new.spare + 1 }
+    {
+        add_one(&mut self.held, op);
+        keep(&mut self.registers, &op);
+        enter(&mut self.sequence, &mut self.room, op);
+    }
+
+    /// The set with the operations of a list; none where memory or the limit does not allow it.
+    fn joined(&self, ops: &[Op]) -> Option<Held<Q::Memory>>
+        requires { All IsLawful ops.now }
+        ensures { IfSome result (λ h. h.ops ≡ with_all self.now.ops ops.now) }
+    {
+        let Ok(list) = self.held.in_order() else {
+            return None;
+        };
+        let mut held = Held::new(self.alloc);
+        let Ok(()) = held.add_all(&list) else {
+            return None;
+        };
+        let Ok(()) = held.add_all(ops) else {
+            return None;
+        };
+        Some(held)
+    }
+
+    /// Takes in the first operations of a list by making all anew, whole before it replaces the old; none where memory does
+    /// not allow it.
+    fn join(&mut self, ops: &[Op]) -> bool
+        requires { All IsLawful ops.now }
+        ensures site { self.new.site ≡ self.old.site }
+        ensures joined { result ≡ true → self.new.ops ≡ with_all self.old.ops ops.now }
+        ensures none { result ≡ false → self.new.ops ≡ self.old.ops }
+        ensures spare { result ≡ false → self.new.spare ≡ self.old.spare }
+    {
+        let Some(held) = self.joined(ops) else {
+            return false;
+        };
+        let Ok((sequence, room)) = made_anew(self.alloc, &held) else {
+            return false;
+        };
+        let Ok(list) = held.in_order() else {
+            return false;
+        };
+        self.registers = kept_in(&held, &list);
+        self.held = held;
+        self.sequence = sequence;
+        self.room = room;
+        true
+    }
+
     /// Adds an operation to what is held.
-    #[tactic(auto, using(crate::proofs::Sets::sets))]
-    fn put(&mut self, op: Op) -> Result<Added, AddRefusal>
+    fn put(&mut self, op: Op) -> Result<Took, AddRefusal>
         requires { IsLawful op }
         ensures site { self.new.site ≡ self.old.site }
-        ensures added { IfOk result (λ a. a ≡ added_to self.old.ops op) }
+        ensures took { IfOk result (λ t. t ≡ took_by self.old.ops op) }
         ensures ok { OnOk result (self.new.ops ≡ with_op self.old.ops op) }
         ensures err { OnErr result (self.new.ops ≡ self.old.ops) }
         ensures full { IsErrOf result AddRefusal.Full ↔ ((has_op self.old.ops op ≡ false) × (size self.old.ops ≡ LIMIT)) }
-        ensures memory { IsErrOf result AddRefusal.NoMemory → has_op self.old.ops op ≡ false }
+        ensures memory { IsErrOf result AddRefusal.NoMemory → (has_op self.old.ops op ≡ false) × ((self.old.spare ≡ 0) ⊎ (is_borne_in self.old.ops (stamp_of op) ≡ true)) }
+        ensures spare { is_borne_in self.old.ops (stamp_of op) ≡ false → self.old.spare ≤ self.new.spare + 1 }
+        ensures err_spare { OnErr result (self.old.spare ≤ self.new.spare) }
+        ensures known_spare { has_op self.old.ops op ≡ true → self.new.spare ≡ self.old.spare }
     {
-        let added = match self.held.add(op) {
-            Ok(added) => added,
-            Err(refusal) => return Err(refusal),
-        };
-        match added {
-            Added::Known => {}
-            Added::New => keep(&mut self.registers, &op),
-            Added::Forks => self.registers = kept_in(&self.held),
+        if self.held.has(&op) {
+            return Ok(Took::Known);
         }
-        Ok(added)
+        if self.held.len() == LIMIT {
+            return Err(AddRefusal::Full);
+        }
+        if self.held.holds(op.stamp()) {
+            return if self.join(&[op]) {
+                Ok(Took::New)
+            } else {
+                Err(AddRefusal::NoMemory)
+            };
+        }
+        let Ok(()) = self.reserve(1) else {
+            return Err(AddRefusal::NoMemory);
+        };
+        self.enter(op);
+        Ok(Took::New)
     }
 
-    /// Takes in an operation. `Full` comes exactly where 1,048,576 operations are held and this one is not; no memory is
-    /// wanted for one that is held. No other refusal comes.
-    #[tactic(auto, using(crate::proofs::Sets::sets))]
+    /// Takes in an operation, and with it all that waited for it. `Full` comes exactly where 1,048,576 operations are held
+    /// and this one is not; want of memory only where this one is not held and there was no room, or it forks a stamp. No
+    /// other refusal comes, and after one the set is as it was.
     pub fn take(&mut self, op: Op) -> Result<Took, Refusal>
         requires { IsLawful op }
         ensures site { self.new.site ≡ self.old.site }
@@ -198,47 +364,48 @@ impl<A: Allocator + Copy> Replica<A> {
         ensures err { OnErr result (self.new.ops ≡ self.old.ops) }
         ensures full { IsErrOf result Refusal.Full ↔ ((has_op self.old.ops op ≡ false) × (size self.old.ops ≡ LIMIT)) }
         ensures memory { IsErrOf result Refusal.NoMemory → has_op self.old.ops op ≡ false }
+        ensures growth { IsErrOf result Refusal.NoMemory → (self.old.spare ≡ 0) ⊎ (is_borne_in self.old.ops (stamp_of op) ≡ true) }
         ensures causes { IfErr result (λ e. (e ≡ Refusal.Full) ⊎ (e ≡ Refusal.NoMemory)) }
+
+        // An operation that forks no stamp takes at most one place, and a refusal or a known one none.
+        ensures spare { is_borne_in self.old.ops (stamp_of op) ≡ false → self.old.spare ≤ self.new.spare + 1 }
+        ensures err_spare { OnErr result (self.old.spare ≤ self.new.spare) }
+        ensures known_spare { has_op self.old.ops op ≡ true → self.new.spare ≡ self.old.spare }
     {
         match self.put(op) {
-            Ok(Added::Known) => Ok(Took::Known),
-            Ok(Added::New | Added::Forks) => Ok(Took::New),
+            Ok(took) => Ok(took),
             Err(AddRefusal::Full) => Err(Refusal::Full),
             Err(AddRefusal::NoMemory) => Err(Refusal::NoMemory),
         }
     }
 
-    /// Takes in operations one after the other, up to the first that is refused.
-    fn take_each(&mut self, ops: &[Op]) -> Result<(), Stopped>
-        requires { All IsLawful ops.now }
-        ensures site { self.new.site ≡ self.old.site }
-        ensures ok { OnOk result (self.new.ops ≡ with_all self.old.ops ops.now) }
-        ensures stopped { IfErr result (λ s. IsStopped self.old.ops self.new.ops ops.now s) }
-    {
-        for (taken, op) in ops.iter().enumerate() {
-            if let Err(why) = self.put(*op) {
-                return Err(Stopped { taken, why });
+    /// Whether all is to be made anew for a list: it is long, or an operation of it forks a stamp.
+    fn is_to_join(&self, ops: &[Op]) -> bool {
+        if ops.len() >= MANY && ops.len() >= self.held.len() / PART {
+            return true;
+        }
+        for op in ops {
+            if self.held.holds(op.stamp()) && !self.held.has(op) {
+                return true;
             }
         }
-        Ok(())
+        false
     }
 
-    /// The same of a long list: it is joined to what is held, and the settings are made anew once.
-    fn take_many(&mut self, ops: &[Op]) -> Result<(), Stopped>
+    /// How many operations of a list, from its first on, were taken in by making all anew.
+    fn join_first(&mut self, ops: &[Op]) -> usize
         requires { All IsLawful ops.now }
         ensures site { self.new.site ≡ self.old.site }
-        ensures ok { OnOk result (self.new.ops ≡ with_all self.old.ops ops.now) }
-        ensures stopped { IfErr result (λ s. IsStopped self.old.ops self.new.ops ops.now s) }
+        ensures within { result ≤ length ops.now }
+        ensures joined { self.new.ops ≡ with_all self.old.ops (take result ops.now) }
+        ensures whole { size self.old.ops + length ops.now ≤ LIMIT → (result ≡ length ops.now) ⊎ ((result ≡ 0) × (self.old.spare ≤ self.new.spare)) }
     {
-        let result = self.held.add_all(ops);
-        self.registers = kept_in(&self.held);
-        match result {
-            Ok(()) => Ok(()),
-            Err(halt) => Err(Stopped {
-                taken: halt.added,
-                why: halt.why,
-            }),
+        let many = ops.len().min(LIMIT - self.held.len());
+        let first = &ops[..many];
+        if self.is_to_join(first) && self.join(first) {
+            return many;
         }
+        0
     }
 
     /// Takes in operations one after the other, up to the first that is refused.
@@ -247,22 +414,27 @@ impl<A: Allocator + Copy> Replica<A> {
         ensures site { self.new.site ≡ self.old.site }
         ensures ok { OnOk result (self.new.ops ≡ with_all self.old.ops ops.now) }
         ensures stopped { IfErr result (λ s. IsStopped self.old.ops self.new.ops ops.now s) }
+        ensures room { HasRoom self.old.ops self.old.spare ops.now → IsOk result }
     {
-        if ops.len() < MANY {
-            self.take_each(ops)
-        } else {
-            self.take_many(ops)
+        let joined = self.join_first(ops);
+        for taken in joined..ops.len() {
+            if let Err(why) = self.put(ops[taken]) {
+                return Err(Stopped { taken, why });
+            }
         }
+        Ok(())
     }
 
     /// Takes in the operations of a list, one after the other, up to the first that is refused: `Full` comes exactly
-    /// where 1,048,576 operations are held and the next is not among them.
+    /// where 1,048,576 operations are held and the next is not among them. None is refused where all can be held, there is
+    /// room for as many, and none forks a stamp.
     pub fn take_all(&mut self, ops: &[Op]) -> Result<Count, Stopped>
         requires { All IsLawful ops.now }
         ensures site { self.new.site ≡ self.old.site }
         ensures ok { OnOk result (self.new.ops ≡ with_all self.old.ops ops.now) }
         ensures counts { IfOk result (λ c. IsCounted self.old.ops self.new.ops ops.now c) }
         ensures stopped { IfErr result (λ s. IsStopped self.old.ops self.new.ops ops.now s) }
+        ensures room { HasRoom self.old.ops self.old.spare ops.now → IsOk result }
     {
         let before = self.len();
         if let Err(stopped) = self.take_in(ops) {
@@ -278,17 +450,40 @@ impl<A: Allocator + Copy> Replica<A> {
     /// Takes in the operations of another replica, by stamp and then by bytes, up to the first that is refused: `Full`
     /// comes exactly where 1,048,576 operations are held and the next is not among them. The other is only read. A
     /// long list takes memory for both sets, where that is to be had.
-    pub fn merge<B: Allocator + Copy>(&mut self, other: &Replica<B>) -> Result<Count, Stopped>
+    pub fn merge(&mut self, other: &Replica<Q>) -> Result<Count, Stopped>
         ensures site { self.new.site ≡ self.old.site }
         ensures ok { OnOk result (self.new.ops ≡ union self.old.ops other.now.ops) }
         ensures counts { IfOk result (λ c. IsCounted self.old.ops self.new.ops (in_order other.now.ops) c) }
         ensures stopped { IfErr result (λ s. IsStopped self.old.ops self.new.ops (in_order other.now.ops) s) }
     {
-        self.take_all(other.held.as_slice())
+        match other.held.in_order() {
+            Ok(ops) => self.take_all(&ops),
+            Err(NoMemory) => self.take_each(&other.held),
+        }
+    }
+
+    /// Takes in the operations of a set one by one, up to the first that is refused.
+    fn take_each(&mut self, ops: &Held<Q::Memory>) -> Result<Count, Stopped>
+        ensures site { self.new.site ≡ self.old.site }
+        ensures ok { OnOk result (self.new.ops ≡ union self.old.ops ops.now.ops) }
+        ensures counts { IfOk result (λ c. IsCounted self.old.ops self.new.ops (in_order ops.now.ops) c) }
+        ensures stopped { IfErr result (λ s. IsStopped self.old.ops self.new.ops (in_order ops.now.ops) s) }
+    {
+        let before = self.len();
+        for taken in 0..ops.len() {
+            if let Err(why) = self.put(ops.op(taken)) {
+                return Err(Stopped { why, taken });
+            }
+        }
+        let new = self.len() - before;
+        Ok(Count {
+            new,
+            known: ops.len() - new,
+        })
     }
 
     /// The operations held, by stamp and then by bytes.
-    pub fn in_order(&self) -> Result<Vec<Op, A>, NoMemory>
+    pub fn in_order(&self) -> Result<Vec<Op, Q::Memory>, NoMemory>
         ensures items { IfOk result (λ v. v.items ≡ in_order self.now.ops) }
         ensures lawful { IfOk result (λ v. All IsLawful v.items) }
     {
@@ -296,41 +491,41 @@ impl<A: Allocator + Copy> Replica<A> {
     }
 
     /// The feed of the operations held, by stamp and then by bytes.
-    pub fn write_feed(&self) -> Result<Vec<u8, A>, NoMemory>
+    pub fn write_feed(&self) -> Result<Vec<u8, Q::Memory>, NoMemory>
         ensures bytes { IfOk result (λ v. v.items ≡ feed (in_order self.now.ops)) }
         ensures grammar { IfOk result (λ v. IsFeed v.items (in_order self.now.ops)) }
     {
-        write_feed(self.alloc, self.held.as_slice())
-    }
-
-    /// The elements that are shown, in their order.
-    fn shown(&self) -> Result<Vec<Entry, A>, NoMemory>
-        ensures { IfOk result (λ v. v.items ≡ shown_entries self.now.ops) }
-    {
-        let mut tree = Tree::new(self.alloc, self.held.len())?;
-        for op in self.held.as_slice() {
-            if self.held.is_clear(op.stamp()) {
-                tree.act(op)?;
-            }
-        }
-        tree.shown(self.alloc)
+        let ops = self.held.in_order()?;
+        write_feed(self.alloc, &ops)
     }
 
     /// The copy faults: of each stamp whose operations do not act why they do not, by stamp. It is one pass over the
     /// operations, oldest first; the memory taken grows with the number of operations held, and with nothing else.
-    pub fn copy_faults(&self) -> Result<Vec<CopyFault, A>, NoMemory>
+    pub fn copy_faults(&self) -> Result<Vec<CopyFault, Q::Memory>, NoMemory>
         ensures { IfOk result (λ v. v.items ≡ faults_of self.now.ops) }
     {
         faults_of(self.alloc, &self.held)
     }
 
-    /// The copy: the symbols that the set shows. It is made anew from the operations, oldest first, each insert directly
-    /// after its parent.
-    pub fn copy(&self) -> Result<Vec<Symbol, A>, NoMemory>
+    /// The copy: the symbols that the set shows. It is read from the sequence, stretch by stretch.
+    pub fn copy(&self) -> Result<Vec<Symbol, Q::Memory>, NoMemory>
         ensures { IfOk result (λ v. v.items ≡ copy_of self.now.ops) }
     {
-        let shown = self.shown()?;
-        symbols(self.alloc, &shown)
+        let mut symbols = Vec::with_capacity(self.alloc, self.sequence.shown_len())?;
+        let mut at = 0;
+        while at < self.sequence.len() {
+            let part = self.sequence.stretch(at);
+            add_shown(&mut symbols, part)?;
+            at += part.len();
+        }
+        Ok(symbols)
+    }
+
+    /// How many symbols the copy has. No memory is taken.
+    pub fn copy_len(&self) -> usize
+        ensures { result ≡ length (copy_of self.now.ops) }
+    {
+        self.sequence.shown_len()
     }
 
     /// The value of a setting.
@@ -353,11 +548,36 @@ impl<A: Allocator + Copy> Replica<A> {
         }
     }
 
+    /// The stamp of the element that is shown at the place.
+    fn stamp_at(&self, place: usize) -> Option<Stamp>
+        ensures within { IfSome result (λ s. place < length (shown_of self.now.ops)) }
+        ensures is { IfSome result (λ s. s ≡ stamp_at (shown_of self.now.ops) place) }
+        ensures none { IsNone result → length (shown_of self.now.ops) ≤ place }
+    {
+        match self.sequence.shown_place(place) {
+            Some(at) => Some(self.sequence.entry(at).stamp),
+            None => None,
+        }
+    }
+
+    /// What an element at the place stands after: the head, or the element that is shown before it.
+    fn parent_at(&self, place: usize) -> Option<Stamp>
+        ensures within { IfSome result (λ s. place ≤ length (shown_of self.now.ops)) }
+        ensures is { IfSome result (λ s. s ≡ parent_at (shown_of self.now.ops) place) }
+        ensures none { IsNone result → length (shown_of self.now.ops) < place }
+    {
+        if place == 0 {
+            return Some(Stamp::HEAD);
+        }
+        Some(self.stamp_at(place - 1)?)
+    }
+
     /// The stamp of the next operation that is made here, or why none can be made: as many operations are held as may be,
     /// or the greatest counter is.
     fn next_stamp(&self) -> Result<Stamp, Refusal>
         ensures stamp { IfOk result (λ s. s ≡ new_stamp self.now) }
         ensures kept { IsKept self.now.site self.now.ops }
+        ensures below { OnOk result (size self.now.ops < LIMIT) }
         ensures clock { OnOk result (greatest_counter_of self.now.ops < MAX_COUNTER) }
         ensures free { OnOk result (edit_refusal self.now.ops true true ≡ None) }
         ensures refused { IfErr result (λ e. edit_refusal self.now.ops true true ≡ Some e) }
@@ -377,35 +597,39 @@ impl<A: Allocator + Copy> Replica<A> {
 
     /// Adds an operation that was made here.
     fn make(&mut self, op: Op) -> Result<Op, Refusal>
-        requires { IsLawful op }
+        requires lawful { IsLawful op }
+        requires new { greatest_counter_of self.old.ops < (stamp_of op).counter }
+        requires below { size self.old.ops < LIMIT }
         ensures site { self.new.site ≡ self.old.site }
         ensures op { IfOk result (λ o. o ≡ op) }
         ensures ok { OnOk result (self.new.ops ≡ with_op self.old.ops op) }
         ensures err { OnErr result (self.new.ops ≡ self.old.ops) }
         ensures memory { IfErr result (λ e. e ≡ Refusal.NoMemory) }
+        ensures growth { OnErr result (self.old.spare ≡ 0) }
+        ensures spare { self.old.spare ≤ self.new.spare + 1 }
     {
-        match self.put(op) {
-            Ok(_) => Ok(op),
-            Err(_) => Err(Refusal::NoMemory),
-        }
+        let Ok(()) = self.reserve(1) else {
+            return Err(Refusal::NoMemory);
+        };
+        self.enter(op);
+        Ok(op)
     }
 
     /// Inserts a symbol at a place of the copy, and answers the operation made. `Place` comes where the place is above
     /// the copy's length, `Value` where the symbol is not lawful, `Full` and `ClockFull` where nothing more can be made,
-    /// the first of these that holds. Want of memory may come in place of each.
+    /// the first of these that holds. Want of memory comes only where none of them holds and there was no room.
     pub fn insert_at(&mut self, place: usize, symbol: Symbol) -> Result<Op, Refusal>
         ensures site { self.new.site ≡ self.old.site }
         ensures made { IfOk result (λ op. IsInserted self.old self.new place symbol op) }
         ensures allowed { OnOk result (insert_refusal self.old.ops place symbol ≡ None) }
         ensures same { OnErr result (self.new.ops ≡ self.old.ops) }
         ensures refused { IfErr result (λ e. (e ≡ Refusal.NoMemory) ⊎ (insert_refusal self.old.ops place symbol ≡ Some e)) }
+        ensures memory { IsErrOf result Refusal.NoMemory → (insert_refusal self.old.ops place symbol ≡ None) × (self.old.spare ≡ 0) }
+        ensures spare { self.old.spare ≤ self.new.spare + 1 }
     {
-        let Ok(shown) = self.shown() else {
-            return Err(Refusal::NoMemory);
-        };
-        if place > shown.len() {
+        let Some(parent) = self.parent_at(place) else {
             return Err(Refusal::Place);
-        }
+        };
         if symbol.check().is_err() {
             return Err(Refusal::Value);
         }
@@ -413,51 +637,46 @@ impl<A: Allocator + Copy> Replica<A> {
             Ok(stamp) => stamp,
             Err(refusal) => return Err(refusal),
         };
-        let op = Op::Insert {
+        self.make(Op::Insert {
             stamp,
-            parent: parent_at(&shown, place),
+            parent,
             symbol,
-        };
-        self.make(op)
+        })
     }
 
     /// Deletes the element at a place of the copy, and answers the operation made. `Place` comes where the place is not
     /// below the copy's length, `Full` and `ClockFull` where nothing more can be made, the first of these that holds. Want
-    /// of memory may come in place of each.
+    /// of memory comes only where none of them holds and there was no room.
     pub fn delete_at(&mut self, place: usize) -> Result<Op, Refusal>
         ensures site { self.new.site ≡ self.old.site }
         ensures made { IfOk result (λ op. IsDeleted self.old self.new place op) }
         ensures allowed { OnOk result (delete_refusal self.old.ops place ≡ None) }
         ensures same { OnErr result (self.new.ops ≡ self.old.ops) }
         ensures refused { IfErr result (λ e. (e ≡ Refusal.NoMemory) ⊎ (delete_refusal self.old.ops place ≡ Some e)) }
+        ensures memory { IsErrOf result Refusal.NoMemory → (delete_refusal self.old.ops place ≡ None) × (self.old.spare ≡ 0) }
+        ensures spare { self.old.spare ≤ self.new.spare + 1 }
     {
-        let Ok(shown) = self.shown() else {
-            return Err(Refusal::NoMemory);
-        };
-        if place >= shown.len() {
+        let Some(target) = self.stamp_at(place) else {
             return Err(Refusal::Place);
-        }
+        };
         let stamp = match self.next_stamp() {
             Ok(stamp) => stamp,
             Err(refusal) => return Err(refusal),
         };
-        let op = Op::Delete {
-            stamp,
-            target: stamp_at(&shown, place),
-        };
-        self.make(op)
+        self.make(Op::Delete { stamp, target })
     }
 
     /// Gives a setting of the job a value, and answers the operation made. `Value` comes where the key does not take the
     /// value, `Full` and `ClockFull` where nothing more can be made, the first of these that holds. Want of memory comes
-    /// only where none of them holds.
+    /// only where none of them holds and there was no room.
     pub fn set(&mut self, key: Key, value: u32) -> Result<Op, Refusal>
         ensures site { self.new.site ≡ self.old.site }
         ensures made { IfOk result (λ op. IsSetTo self.old self.new key value op) }
         ensures allowed { OnOk result (set_refusal self.old.ops key value ≡ None) }
         ensures same { OnErr result (self.new.ops ≡ self.old.ops) }
         ensures refused { IfErr result (λ e. (e ≡ Refusal.NoMemory) ⊎ (set_refusal self.old.ops key value ≡ Some e)) }
-        ensures memory { IsErrOf result Refusal.NoMemory → set_refusal self.old.ops key value ≡ None }
+        ensures memory { IsErrOf result Refusal.NoMemory → (set_refusal self.old.ops key value ≡ None) × (self.old.spare ≡ 0) }
+        ensures spare { self.old.spare ≤ self.new.spare + 1 }
     {
         if !key.takes(value) {
             return Err(Refusal::Value);
@@ -469,6 +688,3 @@ impl<A: Allocator + Copy> Replica<A> {
         self.make(Op::Set { stamp, key, value })
     }
 }
-
-#[cfg(test)]
-mod tests;

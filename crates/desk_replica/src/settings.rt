@@ -1,7 +1,9 @@
 //! The settings of the job, kept beside the operations that set them.
-ghost use Rattle.std.specs.Prelude.{◌≡◌};
+ghost use Rattle.std.specs.Prelude.{◌≡◌, ◌⊎◌, true, false, IsTrue, IsSome};
 ghost use Rattle.desk_ops.specs.declared.op.Key.{Key};
-ghost use Rattle.desk_ops.specs.OpSet.{AllLawful};
+ghost use Rattle.desk_ops.specs.Op.{stamp_of, target_of};
+ghost use Rattle.desk_ops.specs.OpSet.{in_order};
+ghost use Rattle.desk_ops.specs.Held.{is_clear_in};
 ghost use Rattle.desk_registers.specs.Registers.{kept};
 ghost use Rattle.desk_replica.specs.JobSettings.{kept_op, IsOtherSet, AreKept};
 
@@ -31,14 +33,22 @@ pub fn keep(registers: &mut Registers, op: &Op)
     }
 }
 
+/// Whether an operation is a clear one that makes a setting.
+fn sets<A: Allocator + Copy>(held: &Held<A>, op: &Op) -> bool
+    ensures yes { IsTrue result → is_clear_in held.now.ops (stamp_of op.now) ≡ true }
+    ensures no { result ≡ false → (is_clear_in held.now.ops (stamp_of op.now) ≡ false) ⊎ IsSome (target_of op.now) }
+{
+    op.target().is_none() && held.is_clear(op.stamp())
+}
+
 /// The settings of the clear operations that are held, made anew in one pass over them.
-pub fn kept_in<A: Allocator + Copy>(held: &Held<A>) -> Registers
-    ensures kept { AreKept held.now.ops (kept result) }
-    ensures lawful { AllLawful held.now.ops }
+pub fn kept_in<A: Allocator + Copy>(held: &Held<A>, ops: &[Op]) -> Registers
+    requires { ops.now ≡ in_order held.now.ops }
+    ensures { AreKept held.now.ops (kept result) }
 {
     let mut registers = Registers::new();
-    for op in held.as_slice() {
-        if held.is_clear(op.stamp()) {
+    for op in ops {
+        if sets(held, op) {
             keep(&mut registers, op);
         }
     }

@@ -4,6 +4,7 @@ use Rattle.std.specs.List.{flat_map}
 use Rattle.std.specs.Int.{to_be_bytes, w32}
 use Rattle.desk_signals.specs.declared.RibbonRow.{RibbonRow}
 use Rattle.desk_signals.specs.declared.RibbonRow.TheVariants.{Cell, Coarse, FineOut}
+use Rattle.desk_units.specs.WedgeSum.{fine_of, neutral}
 use Rattle.desk_image.specs.Images.{image}
 use Rattle.desk_ribbon.specs.declared.Punch.{Punch}
 use Rattle.desk_ribbon.specs.declared.PunchLine.{PunchLine}
@@ -18,7 +19,7 @@ line_rows line = map punch_row line.matrices ++ (Coarse line.coarse ∷ FineOut 
 
 -- the row before the first line, which brings the fine wedge to neutral
 abbrev pub head_row : RibbonRow
-head_row = FineOut 8
+head_row = FineOut (fine_of neutral)
 
 -- the rows of a ribbon: the head row, and then the rows of each line
 abbrev pub ribbon_rows : {A : Type 0} → List (PunchLine A) → List RibbonRow

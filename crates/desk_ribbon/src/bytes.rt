@@ -8,7 +8,8 @@ ghost use Rattle.desk_ribbon.specs.Ribbon.{head_row, image_bytes, line_rows, pun
 use crate::{Punch, PunchLine};
 use desk_image::Image;
 use desk_ops::NoMemory;
-use desk_signals::{Position, RibbonRow};
+use desk_signals::RibbonRow;
+use desk_units::WedgeSum;
 use std::alloc::Allocator;
 
 /// The row of a matrix.
@@ -22,11 +23,12 @@ pub fn row_of(punch: Punch) -> RibbonRow
     }
 }
 
-/// The row before the first line.
+/// The row before the first line, which the caster reads last: it sends that line out and leaves the fine wedge at neutral.
 fn first_row() -> RibbonRow
     ensures { result ≡ head_row }
 {
-    RibbonRow::FineOut(Position::new(8).unwrap())
+    let (_, fine) = WedgeSum::NEUTRAL.positions();
+    RibbonRow::FineOut(fine)
 }
 
 /// Writes the image of a row.

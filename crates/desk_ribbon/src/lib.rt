@@ -1,4 +1,7 @@
 //! Ribbons: lines of matrices as rows, and rows as bytes.
+//!
+//! The caster reads a ribbon from its end, as in the Monotype system, so the rows that set the wedges for a line are
+//! punched after its matrices. The bytes are this project's: a magic, the number of rows, and an image of each.
 #![tactic(auto)]
 
 mod bytes;

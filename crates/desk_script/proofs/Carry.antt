@@ -3,11 +3,12 @@ use Rattle.std.proofs.Common.{◌≡◌, ℕ, ◌==◌, true, List, [], ◌∷�
 use Rattle.std.specs.Prelude.{Option, Some, None, IfSome}
 use Rattle.std.specs.Io.KnownBytes.{Consumes, IsAtEnd}
 use Rattle.std.proofs.lemmas.List.{append-nil}
-use Rattle.desk_script.specs.Lines.{Line, line_of, without_cr, lines}
+use Rattle.desk_steps.specs.Line.{Line, line_of}
+use Rattle.desk_script.specs.Lines.{without_cr, lines}
 use Rattle.desk_answers.specs.Text.{output}
 use Rattle.desk_files.specs.Files.{Shelf, Stays}
 use Rattle.desk_world.specs.Sites.{Sites}
-use Rattle.desk_script.specs.Desk.{Desk, desk}
+use Rattle.desk_steps.specs.Desk.{Desk, desk}
 use Rattle.desk_script.specs.Script.{Turn, Fronts, Answers, AnswersFront}
 use Rattle.desk_script.specs.Pending.{last_line, lines_from, Moves, Carries}
 use Rattle.desk_script.proofs.Turns.{no_turn, turn_turn, turn_front}

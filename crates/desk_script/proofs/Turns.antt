@@ -6,9 +6,9 @@ use Rattle.std.proofs.lemmas.List.{append-nil}
 use Rattle.desk_answers.specs.Reply.{Reply}
 use Rattle.desk_answers.specs.Text.{text, output}
 use Rattle.desk_files.specs.Files.{Shelf, Stays}
-use Rattle.desk_script.specs.Desk.{Desk}
-use Rattle.desk_script.specs.Lines.{Line}
-use Rattle.desk_script.specs.Effect.{Allows}
+use Rattle.desk_steps.specs.Desk.{Desk}
+use Rattle.desk_steps.specs.Line.{Line}
+use Rattle.desk_steps.specs.Line.{Allows}
 use Rattle.desk_script.specs.Script.{Script, Turn, WritesFront, Fronts}
 
 pub appends_none : (a : Option (List ℕ)) → Appends a a []

@@ -1,80 +1,70 @@
--- Why a run stopped.
-use Rattle.std.specs.Prelude.{◌≡◌, ◌≤◌, ◌<◌, ℕ, List, Result, Ok, Err}
+-- Why a run stopped, by the phase in which it did.
+use Rattle.std.specs.Prelude.{◌≡◌, ◌≢◌, ◌<◌, ℕ, List, Result, Ok, Err}
 use Rattle.desk_ops.specs.declared.op.Op.{Op}
 use Rattle.desk_ops.specs.OpSet.{no_ops, size, with_all}
 use Rattle.desk_codec.specs.Fault.{IsFirstFault}
 use Rattle.desk_codec.specs.Feed.{IsFeed}
-use Rattle.desk_held.specs.declared.AddRefusal.TheVariants.{Full}
-use Rattle.desk_files.specs.Files.{HasFailed, HasNoPlace, IsNowhere, Shelf, Stays}
-use Rattle.desk_script.specs.declared.fault.RunFault.{RunFault}
-use Rattle.desk_script.specs.declared.fault.RunFault.TheVariants as faults
+use Rattle.desk_held.specs.declared.AddRefusal.{AddRefusal}
+use Rattle.desk_held.specs.declared.AddRefusal.TheVariants.{Full, NoMemory}
+use Rattle.desk_replica.specs.declared.Stopped.{Stopped}
+use Rattle.desk_files.specs.Files.{HasNoPlace, IsCounted, IsNowhere, Reads, Shelf, Spares, Stays, new_name}
 use Rattle.desk_files.specs.declared.files.FileRefusal.{FileRefusal}
 use Rattle.desk_files.specs.declared.files.FileRefusal.TheVariants as refusals
+use Rattle.desk_script.specs.declared.fault.LineFault.{LineFault}
+use Rattle.desk_script.specs.declared.fault.LineFault.TheVariants as lines
+use Rattle.desk_script.specs.declared.fault.OpenFault.{OpenFault}
+use Rattle.desk_script.specs.declared.fault.OpenFault.TheVariants as openings
+use Rattle.desk_script.specs.declared.fault.RunFault.{RunFault}
+use Rattle.desk_script.specs.declared.fault.RunFault.TheVariants as faults
+
+-- the fault of a run, by that of the phase
+
+abbrev pub of_lines : LineFault → RunFault
+of_lines lines.Read = faults.Read
+of_lines lines.Write = faults.Write
+of_lines lines.TooLong = faults.TooLong
+of_lines lines.NoMemory = faults.NoMemory
+
+abbrev pub of_opening : OpenFault → RunFault
+of_opening (openings.Feed fault) = faults.Feed fault
+of_opening (openings.Opening stop) = faults.Opening stop
+of_opening openings.NoMemory = faults.NoMemory
+
+abbrev pub of_file : FileRefusal → RunFault
+of_file refusals.Missing = faults.File refusals.Missing
+of_file refusals.Device = faults.File refusals.Device
+of_file refusals.Large = faults.File refusals.Large
+of_file refusals.NoMemory = faults.NoMemory
+
+-- what a stop of a replica's opening is, by its cause
+abbrev pub of_stop : Stopped → AddRefusal → OpenFault
+of_stop stop Full = openings.Opening stop
+of_stop stop NoMemory = openings.NoMemory
 
 -- the fault is of the run of commands itself, and not of a stored feed
-abbrev pub IsOfRun : RunFault → Type 0
-IsOfRun faults.Read = Unit {0}
-IsOfRun faults.Write = Unit {0}
-IsOfRun faults.TooLong = Unit {0}
-IsOfRun faults.NoMemory = Unit {0}
-IsOfRun (faults.Feed fault) = ⊥
-IsOfRun (faults.File why) = ⊥
-IsOfRun (faults.Opening stop) = ⊥
+abbrev pub IsOfLines : RunFault → Type 0
+IsOfLines fault = (why : LineFault) × (fault ≡ of_lines why)
 
--- the name of a stored feed was not taken for a run, by the files before and after: for want of memory, of a place, or since the device refused
-abbrev pub IsUntakenFor : List ℕ → Shelf → Shelf → RunFault → Type 0
-IsUntakenFor name before after faults.Read = ⊥
-IsUntakenFor name before after faults.Write = ⊥
-IsUntakenFor name before after faults.TooLong = ⊥
-IsUntakenFor name before after faults.NoMemory = after.failures ≡ before.failures
-IsUntakenFor name before after (faults.Feed fault) = ⊥
-IsUntakenFor name before after (faults.File refusals.Missing) = IsNowhere (before.kept name) × (after.failures ≡ before.failures)
-IsUntakenFor name before after (faults.File refusals.Device) = HasFailed before after
-IsUntakenFor name before after (faults.File refusals.Large) = ⊥
-IsUntakenFor name before after (faults.File refusals.NoMemory) = ⊥
-IsUntakenFor name before after (faults.Opening stop) = ⊥
+-- the name of a stored feed was not taken for a run, and no file has changed: Missing comes only where no file can have the name
+abbrev pub IsUntaken : List ℕ → Shelf → Shelf → FileRefusal → Type 0
+IsUntaken name before after why =
+    (why ≢ refusals.Large) × (why ≡ refusals.Missing → IsNowhere (before.kept name)) × IsCounted why before after × Stays before after
 
--- and so no file has changed
-abbrev pub IsUntaken : List ℕ → Shelf → Shelf → RunFault → Type 0
-IsUntaken name before after fault = IsUntakenFor name before after fault × Stays before after
+-- a stored feed that is there was not read, and no file has changed
+abbrev pub IsUnread : List ℕ → Shelf → Shelf → FileRefusal → Type 0
+IsUnread name before after why = (why ≢ refusals.Missing) × Reads (before.kept name) (Err why) × IsCounted why before after × Stays before after
 
--- the read of a stored feed was refused, by the files before and after
-abbrev pub IsUnread : (Result (List ℕ) FileRefusal → Type 0) → Shelf → Shelf → FileRefusal → Type 0
-IsUnread Gives before after refusals.Missing = ⊥
-IsUnread Gives before after refusals.Device = Gives (Err refusals.Device) × HasFailed before after
-IsUnread Gives before after refusals.Large = Gives (Err refusals.Large)
-IsUnread Gives before after refusals.NoMemory = ⊥
-
--- a replica would hold too many operations
-abbrev pub IsCrowded : List Op → RunFault → Type 0
-IsCrowded ops faults.Read = ⊥
-IsCrowded ops faults.Write = ⊥
-IsCrowded ops faults.TooLong = ⊥
-IsCrowded ops faults.NoMemory = Unit {0}
-IsCrowded ops (faults.Feed fault) = ⊥
-IsCrowded ops (faults.File why) = ⊥
-IsCrowded ops (faults.Opening stop) = (1048576 < size (with_all no_ops ops)) × (stop.why ≡ Full) × (stop.taken ≡ 0)
+-- a replica would hold more operations than it may
+abbrev pub IsCrowded : List Op → Stopped → Type 0
+IsCrowded ops stop = (1048576 < size (with_all no_ops ops)) × (stop.why ≡ Full) × (stop.taken ≡ 0)
 
 -- why a stored feed was not opened, by what was read of it
-abbrev pub IsUnopened : (Result (List ℕ) FileRefusal → Type 0) → Shelf → Shelf → RunFault → Type 0
-IsUnopened Gives before after faults.Read = ⊥
-IsUnopened Gives before after faults.Write = ⊥
-IsUnopened Gives before after faults.TooLong = ⊥
-IsUnopened Gives before after faults.NoMemory = after.failures ≡ before.failures
-IsUnopened Gives before after (faults.Feed fault) = (bytes : List ℕ) × Gives (Ok bytes) × IsFirstFault bytes fault
-IsUnopened Gives before after (faults.File why) = IsUnread Gives before after why
-IsUnopened Gives before after (faults.Opening stop) =
-    (bytes : List ℕ) × Gives (Ok bytes) × (ops : List Op) × IsFeed bytes ops × IsCrowded ops (faults.Opening stop)
+abbrev pub IsUnopened : Result (List ℕ) FileRefusal → OpenFault → Type 0
+IsUnopened read (openings.Feed fault) = (bytes : List ℕ) × (read ≡ Ok bytes) × IsFirstFault bytes fault
+IsUnopened read (openings.Opening stop) = (bytes : List ℕ) × (read ≡ Ok bytes) × (ops : List Op) × IsFeed bytes ops × IsCrowded ops stop
+IsUnopened read openings.NoMemory = Unit {0}
 
--- a feed was not stored, by the files before and after
-abbrev pub IsOfStoring : List ℕ → Shelf → Shelf → RunFault → Type 0
-IsOfStoring name before after faults.Read = ⊥
-IsOfStoring name before after faults.Write = ⊥
-IsOfStoring name before after faults.TooLong = ⊥
-IsOfStoring name before after faults.NoMemory = after.failures ≡ before.failures
-IsOfStoring name before after (faults.Feed fault) = ⊥
-IsOfStoring name before after (faults.File refusals.Missing) = HasNoPlace name before.kept × (after.failures ≡ before.failures)
-IsOfStoring name before after (faults.File refusals.Device) = HasFailed before after × (before.failures ≤ after.failures)
-IsOfStoring name before after (faults.File refusals.Large) = ⊥
-IsOfStoring name before after (faults.File refusals.NoMemory) = ⊥
-IsOfStoring name before after (faults.Opening stop) = ⊥
+-- a feed was not stored, and nothing but what stands under the name of the writing may have changed: Missing comes only where no file can have that name or the feed's
+abbrev pub IsNotStored : List ℕ → Shelf → Shelf → FileRefusal → Type 0
+IsNotStored name before after why =
+    Spares (new_name name) before.kept after.kept × (why ≢ refusals.Large) × (why ≡ refusals.Missing → HasNoPlace name before.kept) × IsCounted why before after

@@ -1,6 +1,7 @@
 -- The lines of a script.
 use Rattle.std.specs.Prelude.{ℕ, Bool, true, false, ◌==◌, ◌&&◌, nat_le, List, [], ◌∷◌, map, length, if◌then◌else◌}
 use Rattle.std.specs.List.{onto_first}
+use Rattle.desk_steps.specs.Line.{Line, line_of}
 
 -- the pieces between line feeds, of which the last has no end
 abbrev pub pieces : List ℕ → List (List ℕ)
@@ -24,14 +25,6 @@ ended piece (next ∷ pieces) = without_cr piece ∷ ended next pieces
 abbrev pub lines_of_pieces : List (List ℕ) → List (List ℕ)
 lines_of_pieces [] = []
 lines_of_pieces (piece ∷ pieces) = ended piece pieces
-
--- a line without its end: its bytes, where they are at most 65,536
-pub data Line : Type 0 where
-  Bytes : List ℕ → Line
-  Long : Line
-
-abbrev pub line_of : List ℕ → Line
-line_of bytes = if nat_le (length bytes) 65536 then Bytes bytes else Long
 
 abbrev pub lines : List ℕ → List Line
 lines input = map line_of (lines_of_pieces (pieces input))

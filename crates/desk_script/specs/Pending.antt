@@ -1,7 +1,8 @@
 -- Lines while their bytes come in.
 use Rattle.std.specs.Prelude.{◌≡◌, ℕ, ◌==◌, true, false, List, [], ◌∷◌, ◌++◌, Option, Some, None}
-use Rattle.desk_script.specs.Lines.{Line, without_cr, line_of}
-use Rattle.desk_script.specs.Desk.{Desk}
+use Rattle.desk_steps.specs.Line.{Line, line_of}
+use Rattle.desk_script.specs.Lines.{without_cr}
+use Rattle.desk_steps.specs.Desk.{Desk}
 use Rattle.desk_script.specs.Script.{Turn}
 
 -- a last line without an end counts if it is not empty

@@ -1,12 +1,13 @@
 -- Which answers a script may get.
 use Rattle.std.specs.Prelude.{◌≡◌, ℕ, List, [], ◌∷◌, ◌++◌, Option}
 use Rattle.std.specs.Io.KnownBytes.{Appends}
-use Rattle.desk_script.specs.Lines.{Line, lines}
+use Rattle.desk_steps.specs.Line.{Line}
+use Rattle.desk_script.specs.Lines.{lines}
 use Rattle.desk_answers.specs.Reply.{Reply}
 use Rattle.desk_answers.specs.Text.{output}
 use Rattle.desk_files.specs.Files.{Shelf, Stays}
-use Rattle.desk_script.specs.Desk.{Desk}
-use Rattle.desk_script.specs.Effect.{Allows}
+use Rattle.desk_steps.specs.Desk.{Desk}
+use Rattle.desk_steps.specs.Line.{Allows}
 
 -- the answers that lines may get, one for each
 abbrev pub Script : Desk → List Line → List Reply → Desk → Type 0

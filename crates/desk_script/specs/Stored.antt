@@ -4,15 +4,16 @@ use Rattle.std.specs.FinMap as fin
 use Rattle.desk_ops.specs.declared.op.Op.{Op}
 use Rattle.desk_ops.specs.OpSet.{OpSet, in_order, no_ops, with_all}
 use Rattle.desk_codec.specs.Feed.{IsFeed, feed}
-use Rattle.desk_files.specs.Files.{Counts, IsNowHeld, IsReplaced, Reads, Shelf, Spares, Stays, new_name}
-use Rattle.desk_script.specs.Faults.{IsOfStoring, IsUnopened, IsUnread, IsUntaken}
+use Rattle.desk_files.specs.Files.{Counts, IsNowHeld, IsReplaced, Reads, Shelf, Stays}
+use Rattle.desk_script.specs.Faults.{IsNotStored, IsUnopened, IsUnread, IsUntaken, of_file, of_lines, of_opening}
+use Rattle.desk_script.specs.declared.fault.LineFault.{LineFault}
+use Rattle.desk_script.specs.declared.fault.OpenFault.{OpenFault}
 use Rattle.desk_script.specs.declared.fault.RunFault.{RunFault}
-use Rattle.desk_script.specs.declared.fault.RunFault.TheVariants as faults
 use Rattle.desk_files.specs.declared.files.FileRefusal.{FileRefusal}
 use Rattle.desk_files.specs.declared.files.FileRefusal.TheVariants as refusals
 use Rattle.desk_script.specs.Lines.{lines}
 use Rattle.desk_world.specs.Sites.{Sites, no_sites}
-use Rattle.desk_script.specs.Desk.{Desk}
+use Rattle.desk_steps.specs.Desk.{Desk}
 use Rattle.desk_script.specs.Script.{Turn, Fronts}
 
 -- what files gave is a feed of these operations, or there is no file, and so no operation
@@ -50,44 +51,37 @@ IsStoredAs name bytes read before last =
 abbrev pub IsStored : List ℕ → ℕ → Desk → Result (List ℕ) FileRefusal → Shelf → Type 0
 IsStored name n desk read last = (set : OpSet) × (fin.get desk.sites n ≡ Some set) × IsStoredAs name (feed (in_order set)) read desk.shelf last
 
--- it was not stored, for this cause, and nothing but what stands under the name of the writing may have changed
-abbrev pub IsNotStored : List ℕ → Shelf → Shelf → RunFault → Type 0
-IsNotStored name before last fault = Spares (new_name name) before.kept last.kept × IsOfStoring name before last fault
-
 -- the name was taken for this run; then a whole run from the stored operations; then the feed was stored
 abbrev pub AnswersStored : List ℕ → ℕ → Shelf → Shelf → Option (List ℕ) → Option (List ℕ) → Option (List ℕ) → Type 0
 AnswersStored name n first last input before after =
     (held : Shelf) × IsNowHeld name first held × (read : Result (List ℕ) FileRefusal) × (start : Desk) × IsStart name n held read start
     × (new : Desk) × AnswersAll start new input before after × IsStored name n new read last
 
--- nothing was written, and no file has changed
-abbrev pub IsUnbegun : Shelf → Shelf → Option (List ℕ) → Option (List ℕ) → Type 0
-IsUnbegun first last before after = (after ≡ before) × Stays first last
-
--- a run that stopped among the lines: a front of the answers was written, and no file has changed
+-- a run that stopped among the lines: a prefix of the answers was written, and no file has changed
 abbrev pub IsBroken : List ℕ → ℕ → Shelf → Shelf → Option (List ℕ) → Option (List ℕ) → Option (List ℕ) → Type 0
 IsBroken name n held last input before after =
     (read : Result (List ℕ) FileRefusal) × (start : Desk) × IsStart name n held read start × Stays start.shelf last × IfSome input (λ bytes. Fronts start last before after (lines bytes))
 
--- a whole run, after which the feed was not stored for this cause
-abbrev pub IsUnstored : List ℕ → ℕ → Shelf → Shelf → Option (List ℕ) → Option (List ℕ) → Option (List ℕ) → RunFault → Type 0
-IsUnstored name n held last input before after fault =
-    (read : Result (List ℕ) FileRefusal) × (start : Desk) × IsStart name n held read start × (new : Desk) × AnswersAll start new input before after × IsNotStored name new.shelf last fault
+-- a whole run, after which the feed was not stored
+abbrev pub IsUnstored : List ℕ → ℕ → Shelf → Shelf → Option (List ℕ) → Option (List ℕ) → Option (List ℕ) → FileRefusal → Type 0
+IsUnstored name n held last input before after why =
+    (read : Result (List ℕ) FileRefusal) × (start : Desk) × IsStart name n held read start × (new : Desk) × AnswersAll start new input before after × IsNotStored name new.shelf last why
 
--- why a run stopped that had taken the name, and what it left
+-- what was read of a stored feed was not opened
+abbrev pub IsClosed : List ℕ → Shelf → Shelf → OpenFault → Type 0
+IsClosed name held last why =
+    (read : Result (List ℕ) FileRefusal) × Reads (held.kept name) read × Counts read held last × Stays held last × IsUnopened read why
+
+-- Why a run stopped that had taken the name, and what it left: it did not read the feed, or not open it, and nothing was written; or it stopped among the lines; or it did not store the feed.
 abbrev pub IsHaltedOnFeed : List ℕ → ℕ → Shelf → Shelf → Option (List ℕ) → Option (List ℕ) → Option (List ℕ) → RunFault → Type 0
-IsHaltedOnFeed name n held last input before after faults.Read = IsBroken name n held last input before after
-IsHaltedOnFeed name n held last input before after faults.Write = IsBroken name n held last input before after
-IsHaltedOnFeed name n held last input before after faults.TooLong = IsBroken name n held last input before after
-IsHaltedOnFeed name n held last input before after faults.NoMemory =
-    (IsUnbegun held last before after × (last.failures ≡ held.failures)) ⊎ IsBroken name n held last input before after ⊎ IsUnstored name n held last input before after faults.NoMemory
-IsHaltedOnFeed name n held last input before after (faults.Feed fault) = IsUnbegun held last before after × IsUnopened (Reads (held.kept name)) held last (faults.Feed fault)
-IsHaltedOnFeed name n held last input before after (faults.File why) =
-    (IsUnbegun held last before after × IsUnread (Reads (held.kept name)) held last why) ⊎ IsUnstored name n held last input before after (faults.File why)
-IsHaltedOnFeed name n held last input before after (faults.Opening stop) = IsUnbegun held last before after × IsUnopened (Reads (held.kept name)) held last (faults.Opening stop)
+IsHaltedOnFeed name n held last input before after fault =
+    ((after ≡ before) × (why : FileRefusal) × (fault ≡ of_file why) × IsUnread name held last why)
+    ⊎ ((after ≡ before) × (why : OpenFault) × (fault ≡ of_opening why) × IsClosed name held last why)
+    ⊎ ((why : LineFault) × (fault ≡ of_lines why) × IsBroken name n held last input before after)
+    ⊎ ((why : FileRefusal) × (fault ≡ of_file why) × IsUnstored name n held last input before after why)
 
 -- why a run on a stored feed stopped, and what it left: the name was not taken and nothing was done, or it was, and then the run stopped
 abbrev pub IsHalted : List ℕ → ℕ → Shelf → Shelf → Option (List ℕ) → Option (List ℕ) → Option (List ℕ) → RunFault → Type 0
 IsHalted name n first last input before after fault =
-    ((after ≡ before) × IsUntaken name first last fault)
+    ((after ≡ before) × (why : FileRefusal) × (fault ≡ of_file why) × IsUntaken name first last why)
     ⊎ ((held : Shelf) × IsNowHeld name first held × IsHaltedOnFeed name n held last input before after fault)

@@ -1,7 +1,14 @@
-//! Why a run of a script stopped.
+//! Why a run of a script stopped, by the phase in which it did.
+
+ghost use Rattle.std.specs.Prelude.{◌≡◌};
+ghost use Rattle.desk_script.specs.Faults.{of_file, of_lines, of_opening, of_stop};
+ghost use Rattle.desk_script.specs.declared.fault.LineFault.TheVariants as lines;
+ghost use Rattle.desk_script.specs.declared.fault.OpenFault.TheVariants as openings;
 
 use desk_codec::FeedFault;
 use desk_files::FileRefusal;
+use desk_held::AddRefusal;
+use desk_ops::NoMemory;
 use desk_replica::Stopped;
 use thiserror::Error;
 
@@ -22,10 +29,95 @@ pub enum RunFault {
     /// The stored bytes are no feed.
     #[error("feed refused")]
     Feed(FeedFault),
-    /// The stored feed was not read, or was not stored anew. Want of memory is told as `NoMemory`.
+    /// The feed's name was not taken, or the stored feed was not read, or was not stored anew. Out of memory is `NoMemory`.
     #[error("file fault")]
     File(FileRefusal),
     /// The stored feed has more operations than a replica holds: the cause is always `Full`.
     #[error("not opened")]
     Opening(Stopped),
+}
+
+/// Why not all lines were answered.
+#[derive(Clone, Copy, Debug, PartialEq, Eq)]
+pub enum LineFault {
+    /// The reader failed.
+    Read,
+    /// The writer failed, or took no byte.
+    Write,
+    /// `MAX_READS` calls of `read` did not come to the end.
+    TooLong,
+    NoMemory,
+}
+
+/// Why a stored feed that was read was not opened.
+#[derive(Clone, Copy, Debug, PartialEq, Eq)]
+pub enum OpenFault {
+    /// Its bytes are no feed.
+    Feed(FeedFault),
+    /// It has more operations than a replica holds.
+    Opening(Stopped),
+    NoMemory,
+}
+
+impl From<NoMemory> for LineFault {
+    ghost from_gives = { λ _ fault. fault ≡ lines.NoMemory };
+
+    fn from(_: NoMemory) -> LineFault {
+        LineFault::NoMemory
+    }
+}
+
+impl From<NoMemory> for OpenFault {
+    ghost from_gives = { λ _ fault. fault ≡ openings.NoMemory };
+
+    fn from(_: NoMemory) -> OpenFault {
+        OpenFault::NoMemory
+    }
+}
+
+impl From<Stopped> for OpenFault {
+    ghost from_gives = { λ stop fault. fault ≡ of_stop stop stop.why };
+
+    fn from(stop: Stopped) -> OpenFault {
+        match stop.why {
+            AddRefusal::Full => OpenFault::Opening(stop),
+            AddRefusal::NoMemory => OpenFault::NoMemory,
+        }
+    }
+}
+
+impl From<LineFault> for RunFault {
+    ghost from_gives = { λ why fault. fault ≡ of_lines why };
+
+    fn from(why: LineFault) -> RunFault {
+        match why {
+            LineFault::Read => RunFault::Read,
+            LineFault::Write => RunFault::Write,
+            LineFault::TooLong => RunFault::TooLong,
+            LineFault::NoMemory => RunFault::NoMemory,
+        }
+    }
+}
+
+impl From<OpenFault> for RunFault {
+    ghost from_gives = { λ why fault. fault ≡ of_opening why };
+
+    fn from(why: OpenFault) -> RunFault {
+        match why {
+            OpenFault::Feed(fault) => RunFault::Feed(fault),
+            OpenFault::Opening(stop) => RunFault::Opening(stop),
+            OpenFault::NoMemory => RunFault::NoMemory,
+        }
+    }
+}
+
+impl From<FileRefusal> for RunFault {
+    ghost from_gives = { λ why fault. fault ≡ of_file why };
+
+    fn from(why: FileRefusal) -> RunFault {
+        match why {
+            FileRefusal::NoMemory => RunFault::NoMemory,
+            other => RunFault::File(other),
+        }
+    }
 }

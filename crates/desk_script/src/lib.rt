@@ -1,12 +1,8 @@
 //! Scripts: lines of commands on a world of sites, and the answers to them.
 #![tactic(auto)]
 
-mod act;
 mod fault;
 mod feed_run;
-mod inputs;
-mod job;
-mod memory;
 mod stream;
 
 pub use desk_answers::{Refusal, Response, put};
@@ -18,14 +14,3 @@ pub use desk_world::{Answer, Event, MAX_SITES, StepRefusal, World};
 pub use fault::RunFault;
 pub use feed_run::run_on_feed;
 pub use stream::{MAX_READS, run};
-
-#[cfg(test)]
-mod file_tests;
-#[cfg(test)]
-mod growth_runs;
-#[cfg(test)]
-mod jobs;
-#[cfg(test)]
-mod tests;
-#[cfg(test)]
-mod worked;

@@ -2,23 +2,24 @@
 
 ghost use Rattle.std.specs.Prelude.{◌≡◌, ◌≢◌, ℕ, ◌≤◌, ◌++◌, ◌∷◌, [], List, OnOk, OnErr, IfErr, IfOk, IfSome, length, string_bytes};
 ghost use Rattle.std.specs.Io.KnownBytes.{Appends, IsAtEnd};
-ghost use Rattle.desk_script.specs.Lines.{Line, line_of, without_cr};
+ghost use Rattle.desk_steps.specs.Line.{Line, line_of};
+ghost use Rattle.desk_script.specs.Lines.{without_cr};
 ghost use Rattle.desk_answers.specs.Reply.{Reply, reply};
 ghost use Rattle.desk_answers.specs.Text.{text};
 ghost use Rattle.desk_world.specs.Sites.{Sites, no_sites};
-ghost use Rattle.desk_script.specs.Desk.{desk};
+ghost use Rattle.desk_steps.specs.Desk.{KeepsSites, desk};
 ghost use Rattle.desk_files.specs.Files.{Stays};
-ghost use Rattle.desk_script.specs.Effect.{Allows};
+ghost use Rattle.desk_steps.specs.Line.{Allows};
 ghost use Rattle.desk_script.specs.Script.{Turn, Fronts, WritesFront, Answers, AnswersFront};
-ghost use Rattle.desk_script.specs.Faults.{IsOfRun};
+ghost use Rattle.desk_script.specs.Faults.{IsOfLines};
 ghost use Rattle.desk_script.specs.Pending.{Moves, lines_from, last_line};
 
-use crate::act::answer;
-use crate::fault::RunFault;
-use crate::memory::Memory;
+use crate::fault::{LineFault, RunFault};
 use desk_answers::{Response, put};
 use desk_files::Files;
+use desk_inputs::Memory;
 use desk_ops::NoMemory;
+use desk_steps::answer;
 use desk_world::World;
 use std::alloc::{Allocator, Global};
 use std::io::{Read, Write};
@@ -30,17 +31,16 @@ pub const MAX_READS: u32 = 268_435_456;
 const PENDING_LIMIT: usize = 65_538;
 
 /// Writes the bytes. A write of no bytes is a failure.
-fn send<W: Write>(writer: &mut W, bytes: &[u8]) -> Result<(), RunFault>
+fn send<W: Write>(writer: &mut W, bytes: &[u8]) -> Result<(), LineFault>
     ensures ok { OnOk result (Appends (W.contents writer.old) (W.contents writer.new) bytes.now) }
     ensures err { OnErr result (WritesFront (W.contents writer.old) (W.contents writer.new) bytes.now) }
-    ensures own { IfErr result IsOfRun }
 {
     let mut sent = 0;
     while sent < bytes.len() {
         match writer.write(&bytes[sent..]) {
-            Ok(0) => return Err(RunFault::Write),
+            Ok(0) => return Err(LineFault::Write),
             Ok(n) => sent += n,
-            Err(_) => return Err(RunFault::Write),
+            Err(_) => return Err(LineFault::Write),
         }
     }
     Ok(())
@@ -64,6 +64,7 @@ fn answered<F: Files, A: Allocator + Copy>(
     line: &[u8],
 ) -> Result<String<A>, NoMemory>
     ensures told { IfOk result (λ s. (r : Reply) × Allows (desk world.old (F.shelf files.old)) (line_of line.now) r (desk world.new (F.shelf files.new)) × (string_bytes s ≡ text r ++ 10 ∷ [])) }
+    ensures sites { OnOk result (KeepsSites world.old world.new) }
     ensures stays { Stays (F.shelf files.old) (F.shelf files.new) }
 {
     let reply = answer(memory, world, files, line)?;
@@ -77,15 +78,13 @@ fn take_line<W: Write, F: Files, A: Allocator + Copy>(
     writer: &mut W,
     files: &mut F,
     line: &[u8],
-) -> Result<(), RunFault>
+) -> Result<(), LineFault>
     ensures ok { OnOk result (Turn (desk world.old (F.shelf files.old)) (desk world.new (F.shelf files.new)) (W.contents writer.old) (W.contents writer.new) (line_of line.now ∷ [])) }
     ensures err { OnErr result ((more : List Line) → Fronts (desk world.old (F.shelf files.old)) (F.shelf files.new) (W.contents writer.old) (W.contents writer.new) (line_of line.now ∷ more)) }
+    ensures sites { OnOk result (KeepsSites world.old world.new) }
     ensures stays { Stays (F.shelf files.old) (F.shelf files.new) }
-    ensures own { IfErr result IsOfRun }
 {
-    let Ok(text) = answered(memory, world, files, line) else {
-        return Err(RunFault::NoMemory);
-    };
+    let text = answered(memory, world, files, line)?;
     send(writer, text.as_bytes())
 }
 
@@ -102,20 +101,19 @@ fn without_cr(line: &[u8]) -> &[u8]
 }
 
 /// Keeps a byte of a line, where it can matter.
-fn keep<A: Allocator + Copy>(line: &mut Vec<u8, A>, byte: u8) -> Result<(), RunFault>
+fn keep<A: Allocator + Copy>(line: &mut Vec<u8, A>, byte: u8) -> Result<(), LineFault>
     requires within { length line.old.items ≤ PENDING_LIMIT }
     requires inside { byte ≢ 10 }
     ensures kept { length line.new.items ≤ PENDING_LIMIT }
     ensures ok { OnOk result ((more : List ℕ) → lines_from line.old.items (byte ∷ more) ≡ lines_from line.new.items more) }
-    ensures own { IfErr result IsOfRun }
 {
     if line.len() == PENDING_LIMIT {
         return Ok(());
     }
-    if line.push(byte).is_err() {
-        return Err(RunFault::NoMemory);
+    match line.push(byte) {
+        Ok(()) => Ok(()),
+        Err(_) => Err(LineFault::NoMemory),
     }
-    Ok(())
 }
 
 /// Takes the next byte, and answers the line that it ends.
@@ -126,20 +124,18 @@ fn take_byte<W: Write, F: Files, A: Allocator + Copy>(
     files: &mut F,
     line: &mut Vec<u8, A>,
     byte: u8,
-) -> Result<(), RunFault>
+) -> Result<(), LineFault>
     requires { length line.old.items ≤ PENDING_LIMIT }
     ensures kept { length line.new.items ≤ PENDING_LIMIT }
     ensures ok { OnOk result (Moves (desk world.old (F.shelf files.old)) (desk world.new (F.shelf files.new)) (W.contents writer.old) (W.contents writer.new) line.old.items (byte ∷ []) line.new.items) }
     ensures err { OnErr result ((more : List ℕ) → Fronts (desk world.old (F.shelf files.old)) (F.shelf files.new) (W.contents writer.old) (W.contents writer.new) (lines_from line.old.items (byte ∷ more))) }
+    ensures sites { OnOk result (KeepsSites world.old world.new) }
     ensures stays { Stays (F.shelf files.old) (F.shelf files.new) }
-    ensures own { IfErr result IsOfRun }
 {
     if byte != b'\n' {
         return keep(line, byte);
     }
-    if let Err(fault) = take_line(memory, world, writer, files, without_cr(line)) {
-        return Err(fault);
-    }
+    take_line(memory, world, writer, files, without_cr(line))?;
     line.clear();
     Ok(())
 }
@@ -152,18 +148,16 @@ fn take_bytes<W: Write, F: Files, A: Allocator + Copy>(
     files: &mut F,
     line: &mut Vec<u8, A>,
     bytes: &[u8],
-) -> Result<(), RunFault>
+) -> Result<(), LineFault>
     requires { length line.old.items ≤ PENDING_LIMIT }
     ensures kept { length line.new.items ≤ PENDING_LIMIT }
     ensures ok { OnOk result (Moves (desk world.old (F.shelf files.old)) (desk world.new (F.shelf files.new)) (W.contents writer.old) (W.contents writer.new) line.old.items bytes.now line.new.items) }
     ensures err { OnErr result ((more : List ℕ) → Fronts (desk world.old (F.shelf files.old)) (F.shelf files.new) (W.contents writer.old) (W.contents writer.new) (lines_from line.old.items (bytes.now ++ more))) }
+    ensures sites { OnOk result (KeepsSites world.old world.new) }
     ensures stays { Stays (F.shelf files.old) (F.shelf files.new) }
-    ensures own { IfErr result IsOfRun }
 {
     for b in bytes {
-        if let Err(fault) = take_byte(memory, world, writer, files, line, *b) {
-            return Err(fault);
-        }
+        take_byte(memory, world, writer, files, line, *b)?;
     }
     Ok(())
 }
@@ -175,11 +169,11 @@ fn finish<W: Write, F: Files, A: Allocator + Copy>(
     writer: &mut W,
     files: &mut F,
     line: &[u8],
-) -> Result<(), RunFault>
+) -> Result<(), LineFault>
     ensures ok { OnOk result (Turn (desk world.old (F.shelf files.old)) (desk world.new (F.shelf files.new)) (W.contents writer.old) (W.contents writer.new) (last_line line.now)) }
     ensures err { OnErr result (Fronts (desk world.old (F.shelf files.old)) (F.shelf files.new) (W.contents writer.old) (W.contents writer.new) (last_line line.now)) }
+    ensures sites { OnOk result (KeepsSites world.old world.new) }
     ensures stays { Stays (F.shelf files.old) (F.shelf files.new) }
-    ensures own { IfErr result IsOfRun }
 {
     if line.is_empty() {
         return Ok(());
@@ -195,30 +189,23 @@ pub fn answer_all<R: Read, W: Write, F: Files, A: Allocator + Copy>(
     reader: &mut R,
     writer: &mut W,
     files: &mut F,
-) -> Result<(), RunFault>
+) -> Result<(), LineFault>
     ensures ok { OnOk result (IfSome (R.remaining reader.old) (λ input. Answers (desk world.old (F.shelf files.old)) (desk world.new (F.shelf files.new)) input (W.contents writer.old) (W.contents writer.new))) }
     ensures err { OnErr result (IfSome (R.remaining reader.old) (λ input. AnswersFront (desk world.old (F.shelf files.old)) (F.shelf files.new) input (W.contents writer.old) (W.contents writer.new))) }
+    ensures sites { OnOk result (KeepsSites world.old world.new) }
     ensures stays { Stays (F.shelf files.old) (F.shelf files.new) }
-    ensures own { IfErr result IsOfRun }
     ensures end { OnOk result (IsAtEnd (R.remaining reader.new)) }
 {
     let mut line = Vec::new(memory.own);
     let mut chunk = [0u8; 512];
     'reads: for _ in 0..MAX_READS {
         match reader.read(&mut chunk) {
-            Err(_) => return Err(RunFault::Read),
-            Ok(0) => {
-                return finish(memory, world, writer, files, &line);
-            }
-            Ok(n) => {
-                let bytes = &chunk[..n];
-                if let Err(fault) = take_bytes(memory, world, writer, files, &mut line, bytes) {
-                    return Err(fault);
-                }
-            }
+            Err(_) => return Err(LineFault::Read),
+            Ok(0) => return finish(memory, world, writer, files, &line),
+            Ok(n) => take_bytes(memory, world, writer, files, &mut line, &chunk[..n])?,
         }
     }
-    Err(RunFault::TooLong)
+    Err(LineFault::TooLong)
 }
 
 /// Reads commands to their end, on a world that has no site yet, and writes the line of each one's answer. After an
@@ -233,10 +220,10 @@ pub fn run<R: Read, W: Write, F: Files, A: Allocator + Copy>(
     ensures ok { OnOk result (IfSome (R.remaining reader.old) (λ input. (new : Sites) × Answers (desk no_sites (F.shelf files.old)) (desk new (F.shelf files.new)) input (W.contents writer.old) (W.contents writer.new))) }
     ensures err { OnErr result (IfSome (R.remaining reader.old) (λ input. AnswersFront (desk no_sites (F.shelf files.old)) (F.shelf files.new) input (W.contents writer.old) (W.contents writer.new))) }
     ensures stays { Stays (F.shelf files.old) (F.shelf files.new) }
-    ensures own { IfErr result IsOfRun }
+    ensures own { IfErr result IsOfLines }
     ensures end { OnOk result (IsAtEnd (R.remaining reader.new)) }
 {
     let mut world = World::new(alloc);
     let memory = Memory { own: alloc, global };
-    answer_all(memory, &mut world, reader, writer, files)
+    Ok(answer_all(memory, &mut world, reader, writer, files)?)
 }

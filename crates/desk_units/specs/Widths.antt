@@ -20,14 +20,6 @@ units_width units set pica = units * set * unit_atoms pica
 abbrev pub measure_width : (points : ℕ) → Pica → ℕ
 measure_width points pica = points * (72 * unit_atoms pica)
 
--- the wedge sum at which a justified matrix has the width of its units
-abbrev pub neutral : ℕ
-neutral = 53
-
--- how much wider than its units a justified matrix is at a wedge sum
-abbrev pub widening : ℕ → ℤ
-widening sum = pos step *ℤ (pos sum -ℤ pos neutral)
-
 -- Driven so many steps apart, the spaces leave less than a step for each space of the rest.
 pub record IsSteps (rest : ℤ) (spaces : ℕ) (steps : ℤ) : Type 0 where
   pub not_over : pos 0 ≤ℤ (rest -ℤ pos (step * spaces) *ℤ steps)

@@ -22,7 +22,7 @@ use Rattle.desk_walk.proofs.Arrivals.{IsAdded, added-put, added-none, not-held, 
 use Rattle.desk_walk.proofs.Drains.{settled-entries, settled-waits}
 
 -- a place is the head's, or an entry's
-place-is : (es : List Entry) (j : ℕ) → j < length (places es) → (place_at es j ≡ head) ⊎ Among (place_at es j) (stamps_of es)
+pub place-is : (es : List Entry) (j : ℕ) → j < length (places es) → (place_at es j ≡ head) ⊎ Among (place_at es j) (stamps_of es)
 place-is es zero lt = inl refl
 place-is es (suc j) lt = inr (among-at (stamps_of es) j (omega arith))
 

@@ -161,9 +161,9 @@ module _ (h : OpSet) (lawful : AllLawful h) (waits : Op → Bool) (es : List Ent
 
   -- ---- a step
 
-  module _ (at last : ℕ) (rest : (j : ℕ) → j < length (places es) → (j < at) ⊎ (last < j) → IsFree waits es j) (within : at ≤ length es) (distinct : AreDistinct es) (now : Op → Bool) where
+  module _ (at : ℕ) (within : at ≤ length es) (distinct : AreDistinct es) (now : Op → Bool) where
     module _ (e : Insertion) (w : waits (insert_of e) ≡ true) (on : e.parent ≡ place_at es at) (out : IsWithout waits now (insert_of e))
-        (place : ℕ) (b : IsFirstBelow (stamps_of es) at e.stamp place) (reach : ℕ) (over : place < reach) (further : last < reach) where
+        (place : ℕ) (b : IsFirstBelow (stamps_of es) at e.stamp place) where
       abbrev pub new : Entry
       new = new_entry e.stamp e.symbol
 
@@ -251,18 +251,19 @@ module _ (h : OpSet) (lawful : AllLawful h) (waits : Op → Bool) (es : List Ent
           deletes s t (inl k) = inl (other (Delete s t) (λ j. cc) k)
           deletes s t (inr m) = inr (more t m)
 
-      pub put-rest : (j : ℕ) → j < length (places (insert es place new)) → (j < at) ⊎ (reach < j) → IsFree now (insert es place new) j
-      put-rest j lt (inl l) = λ q k i. rest j (let n : length (stamps_of es) ≡ length es = length-stamps es in omega arith) (inl l) q (out.within q k) (i ∙ ap Some (low j l))
-        where
-          low : (j : ℕ) → j < at → place_at (insert es place new) j ≡ place_at es j
-          low zero l = refl
-          low (suc j) l = ap (λ (ts : List Stamp). get_or ts j head) stamps-new ∙ insert-low (stamps_of es) place e.stamp j (let a : at ≤ place = b.after in omega arith) le
-      put-rest zero lt (inr l) = absurd (omega arith)
-      put-rest (suc zero) lt (inr l) = absurd (omega arith)
-      put-rest (suc (suc j)) lt (inr l) = λ q k i.
-          let m : length (stamps_of (insert es place new)) ≡ suc (length (stamps_of es)) = ap length stamps-new ∙ length-insert (stamps_of es) place e.stamp in
-          rest (suc j) (omega arith) (inr (omega arith)) q (out.within q k)
-          (i ∙ ap Some (ap (λ (ts : List Stamp). get_or ts (suc j) head) stamps-new ∙ insert-high (stamps_of es) place e.stamp j (omega arith) le))
+      module _ (last : ℕ) (rest : (j : ℕ) → j < length (places es) → (j < at) ⊎ (last < j) → IsFree waits es j) (reach : ℕ) (over : place < reach) (further : last < reach) where
+        pub put-rest : (j : ℕ) → j < length (places (insert es place new)) → (j < at) ⊎ (reach < j) → IsFree now (insert es place new) j
+        put-rest j lt (inl l) = λ q k i. rest j (let n : length (stamps_of es) ≡ length es = length-stamps es in omega arith) (inl l) q (out.within q k) (i ∙ ap Some (low j l))
+          where
+            low : (j : ℕ) → j < at → place_at (insert es place new) j ≡ place_at es j
+            low zero l = refl
+            low (suc j) l = ap (λ (ts : List Stamp). get_or ts j head) stamps-new ∙ insert-low (stamps_of es) place e.stamp j (let a : at ≤ place = b.after in omega arith) le
+        put-rest zero lt (inr l) = absurd (omega arith)
+        put-rest (suc zero) lt (inr l) = absurd (omega arith)
+        put-rest (suc (suc j)) lt (inr l) = λ q k i.
+            let m : length (stamps_of (insert es place new)) ≡ suc (length (stamps_of es)) = ap length stamps-new ∙ length-insert (stamps_of es) place e.stamp in
+            rest (suc j) (omega arith) (inr (omega arith)) q (out.within q k)
+            (i ∙ ap Some (ap (λ (ts : List Stamp). get_or ts (suc j) head) stamps-new ∙ insert-high (stamps_of es) place e.stamp j (omega arith) le))
 
     module _ (s t : Stamp) (w : waits (Delete s t) ≡ true) (k : ℕ) (is : at ≡ suc k) (on : t ≡ place_at es at) (out : IsWithout waits now (Delete s t)) where
       at-k : t ≡ get_or (stamps_of es) k head
@@ -325,8 +326,8 @@ module _ (h : OpSet) (lawful : AllLawful h) (waits : Op → Bool) (es : List Ent
               go (inr m) = inl m
           deletes a u (inr m) = inr (subst (Among u) (sym same-stamps) m)
 
-      pub mark-rest : (j : ℕ) → j < length (places (with_mark es k)) → (j < at) ⊎ (last < j) → IsFree now (with_mark es k) j
-      mark-rest j lt o = λ q n i. rest j (subst (λ (ts : List Stamp). j < length (head ∷ ts)) same-stamps lt) o q (out.within q n) (i ∙ ap (λ (ts : List Stamp). Some (get_or (head ∷ ts) j head)) same-stamps)
+      pub mark-rest : (last : ℕ) → ((j : ℕ) → j < length (places es) → (j < at) ⊎ (last < j) → IsFree waits es j) → (j : ℕ) → j < length (places (with_mark es k)) → (j < at) ⊎ (last < j) → IsFree now (with_mark es k) j
+      mark-rest last rest j lt o = λ q n i. rest j (subst (λ (ts : List Stamp). j < length (head ∷ ts)) same-stamps lt) o q (out.within q n) (i ∙ ap (λ (ts : List Stamp). Some (get_or (head ∷ ts) j head)) same-stamps)
 
 -- ---- a step, in the words of the room
 
@@ -348,8 +349,8 @@ module _ (h : OpSet) (lawful : AllLawful h) (old after : OpSet) (es : List Entry
       let on : p ≡ place_at es at = (let t = r.target in cc) in
       let out = without old after (place_at es at) (Insert s p y) r in
       record {
-        follows = subst (IsFollowing h (has_op after)) (sym a.2) (put h lawful (has_op old) es d.follows at last d.rest within distinct (has_op after) e r.held on out a.0 a.1 reach a.3 a.4);
-        rest = subst (λ (gs : List Entry). (j : ℕ) → j < length (places gs) → (j < at) ⊎ (reach < j) → IsFree (has_op after) gs j) (sym a.2) (put-rest h lawful (has_op old) es d.follows at last d.rest within distinct (has_op after) e r.held on out a.0 a.1 reach a.3 a.4);
+        follows = subst (IsFollowing h (has_op after)) (sym a.2) (put h lawful (has_op old) es d.follows at within distinct (has_op after) e r.held on out a.0 a.1);
+        rest = subst (λ (gs : List Entry). (j : ℕ) → j < length (places gs) → (j < at) ⊎ (reach < j) → IsFree (has_op after) gs j) (sym a.2) (put-rest h lawful (has_op old) es d.follows at within distinct (has_op after) e r.held on out a.0 a.1 last d.rest reach a.3 a.4);
       }
   acts (Delete s t) r fs reach a =
       let on : t ≡ place_at es at = (let u = r.target in cc) in
@@ -357,10 +358,10 @@ module _ (h : OpSet) (lawful : AllLawful h) (old after : OpSet) (es : List Entry
       let pos : 0 < at = not-first t s r.held on in
       let is : at ≡ suc (at - 1) = omega arith in
       record {
-        follows = subst (IsFollowing h (has_op after)) (sym a.0) (mark h lawful (has_op old) es d.follows at last d.rest within distinct (has_op after) s t r.held (at - 1) is on out);
+        follows = subst (IsFollowing h (has_op after)) (sym a.0) (mark h lawful (has_op old) es d.follows at within distinct (has_op after) s t r.held (at - 1) is on out);
         rest = subst (λ (gs : List Entry). (j : ℕ) → j < length (places gs) → (j < at) ⊎ (reach < j) → IsFree (has_op after) gs j) (sym a.0)
             (subst (λ (n : ℕ). (j : ℕ) → j < length (places (with_mark es (at - 1))) → (j < at) ⊎ (n < j) → IsFree (has_op after) (with_mark es (at - 1)) j) (sym a.1)
-            (mark-rest h lawful (has_op old) es d.follows at last d.rest within distinct (has_op after) s t r.held (at - 1) is on out));
+            (mark-rest h lawful (has_op old) es d.follows at within distinct (has_op after) s t r.held (at - 1) is on out last d.rest));
       }
     where
       not-first : (t s : Stamp) → has_op old (Delete s t) ≡ true → t ≡ place_at es at → 0 < at

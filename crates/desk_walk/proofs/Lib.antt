@@ -3,3 +3,8 @@ pub mod Arrivals
 pub mod Drains
 pub mod Arrived
 pub mod Anew
+pub mod Beside
+pub mod Links
+pub mod Trees
+pub mod Linking
+pub mod Walking

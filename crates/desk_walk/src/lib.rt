@@ -15,7 +15,9 @@ use desk_held::Held;
 use desk_ops::{NoMemory, Op, Stamp};
 use desk_room::Room;
 use desk_seq::{Entry, Sequence};
-use std::alloc::Allocator;
+use tree::settled_lists;
+
+mod tree;
 
 /// The stamp at a place: the head's, or that of the entry before it.
 fn stamp_at<Q: Sequence>(sequence: &Q, place: usize) -> Stamp
@@ -148,33 +150,6 @@ pub fn enter<Q: Sequence>(sequence: &mut Q, room: &mut Room<Q::Memory>, op: Op)
     }
 }
 
-/// Whether the operation of a set is a clear insert or delete.
-fn hangs<A: Allocator + Copy>(held: &Held<A>, op: &Op) -> bool
-    ensures { IsTrue result ↔ ((is_clear_in held.now.ops (stamp_of op.now) ≡ true) × HasTarget op.now) }
-{
-    op.target().is_some() && held.is_clear(op.stamp())
-}
-
-/// All clear inserts and deletes of a set.
-fn all_clear<Q: Sequence>(
-    alloc: Q::Memory,
-    held: &Held<Q::Memory>,
-) -> Result<Room<Q::Memory>, NoMemory>
-    ensures clear { IfOk result (λ r. (op : Op) → (has_op r.ops op ≡ true) ↔ (IsClearOp held.now.ops op × HasTarget op)) }
-    ensures few { IfOk result (λ r. size r.ops ≤ size held.now.ops) }
-    ensures lawful { AllLawful held.now.ops }
-{
-    let ops = held.as_slice();
-    let mut room = Room::new(alloc);
-    room.reserve(ops.len())?;
-    for op in ops {
-        if hangs(held, op) {
-            room.put(*op);
-        }
-    }
-    Ok(room)
-}
-
 /// The sequence and the room of a set, made anew.
 pub fn made_anew<Q: Sequence>(
     alloc: Q::Memory,
@@ -184,9 +159,9 @@ pub fn made_anew<Q: Sequence>(
     ensures few { IfOk result (λ r. size r.1.ops ≤ size held.now.ops) }
     ensures free { IfOk result (λ r. size r.1.ops ≤ Q.free r.0) }
 {
-    let mut room = all_clear::<Q>(alloc, held)?;
-    let mut sequence = Q::empty(alloc);
+    let (entries, waiting) = settled_lists(alloc, held)?;
+    let mut sequence = Q::from_entries(alloc, &entries)?;
+    let room = Room::from_ops(alloc, &waiting)?;
     sequence.reserve(room.len())?;
-    drain(&mut sequence, &mut room, 0);
     Ok((sequence, room))
 }

@@ -1,3 +1,2 @@
-pub mod Items
-pub mod FirstFault
+pub mod ReadUnits
 pub mod Descents

@@ -1,15 +1,18 @@
 -- The values of a wedge file, or its first fault.
-use Rattle.std.specs.Prelude.{ℕ, ◌+◌, ◌==◌, nat_lt, if◌then◌else◌, List, [], ◌∷◌, length, codes, Option, Some, None, Result, Ok, Err, option_and_then}
+use Rattle.std.specs.Prelude.{ℕ, ◌+◌, nat_lt, if◌then◌else◌, List, [], ◌∷◌, codes, Option, Some, None, Result, Ok, Err, option_and_then}
 use Rattle.std.specs.Str.{bytes_eq}
-use Rattle.toml.specs.Data.{Data, Items, no_items, item, Members, get_member, as_str, as_array}
+use Rattle.toml.specs.Data.{Data, Members, as_str}
 use Rattle.desk_units.specs.declared.Pica.{Pica}
 use Rattle.desk_units.specs.declared.Pica.TheVariants.{Sixth, American}
+use Rattle.desk_keys.specs.Keys.{◌>>=◌, number_of, value_at, file_of}
+use Rattle.desk_keys.specs.Items.{array_of}
+use Rattle.desk_keys.specs.declared.TableFault.{TableFault}
+use Rattle.desk_keys.specs.declared.TableFault.TheVariants as table
 use Rattle.desk_wedge.specs.declared.WedgeKey.{WedgeKey}
 use Rattle.desk_wedge.specs.declared.WedgeKey.TheVariants as key
 use Rattle.desk_wedge.specs.declared.WedgeFault.{WedgeFault}
 use Rattle.desk_wedge.specs.declared.WedgeFault.TheVariants.{NotToml, Missing, Range, Descending, NoMemory}
 use Rattle.desk_wedge.specs.Wedge.{WedgeValues}
-use Rattle.desk_wedge.specs.Keys.{◌>>=◌, number_of, or_fault, document}
 
 -- what a key of the file is called
 abbrev pub key_name : WedgeKey → List ℕ
@@ -32,27 +35,13 @@ pica_named text = if bytes_eq text (codes "sixth") then Some Sixth else if bytes
 abbrev pub pica_of : Data → Option Pica
 pica_of d = option_and_then pica_named (as_str d)
 
--- a list's head before its tail, where both are there
-abbrev pub both : Option ℕ → Option (List ℕ) → Option (List ℕ)
-both (Some n) (Some ns) = Some (n ∷ ns)
-both _ _ = None
-
--- the whole numbers that all the items are
-abbrev pub numbers_of : ℕ → ℕ → Items → Option (List ℕ)
-numbers_of low high no_items = Some []
-numbers_of low high (item d ds) = both (number_of low high d) (numbers_of low high ds)
-
 -- the units of 15 rows
-abbrev pub rows_of_units : List ℕ → Option (List ℕ)
-rows_of_units units = if length units == 15 then Some units else None
-
 abbrev pub units_of : Data → Option (List ℕ)
-units_of d = option_and_then rows_of_units (option_and_then (numbers_of 1 24) (as_array d))
+units_of d = array_of 15 15 (number_of 1 24) d
 
 -- what a key holds, read; else that it is missing, or that it is no such value
 abbrev pub at_key : {A : Type 0} → WedgeKey → (Data → Option A) → Members → Result A WedgeFault
-at_key key read members =
-    or_fault (Missing key) (get_member (key_name key) members) >>= (λ d. or_fault (Range key) (read d))
+at_key key read members = value_at (key_name key) (Missing key) (Range key) read members
 
 -- the first row, from this one on, whose units are fewer than those of the row before
 abbrev pub descent_from : ℕ → ℕ → List ℕ → Option ℕ
@@ -75,10 +64,11 @@ wedge_of_members members =
     at_key key.Units units_of members >>= (λ us.
     unless_descending (record { number = n; set_q = q; pica = p; units = us }) (first_descent us)))))
 
-abbrev pub wedge_of_document : Option Members → Result WedgeValues WedgeFault
-wedge_of_document None = Err NotToml
-wedge_of_document (Some members) = wedge_of_members members
+-- why bytes give no table, as a fault of the file
+abbrev pub table_fault : TableFault → WedgeFault
+table_fault table.NotToml = NotToml
+table_fault table.NoMemory = NoMemory
 
 -- the values of a file, or its first fault
 abbrev pub wedge_of : List ℕ → Result WedgeValues WedgeFault
-wedge_of bytes = wedge_of_document (document bytes)
+wedge_of bytes = file_of NotToml wedge_of_members bytes

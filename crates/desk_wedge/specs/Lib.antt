@@ -1,4 +1,3 @@
 pub mod Wedge
-pub mod Keys
 pub mod File
 pub mod Descent

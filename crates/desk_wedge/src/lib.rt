@@ -1,20 +1,19 @@
 //! The normal wedge: the units of each row of the matrix case, read from the wedge's file.
 #![tactic(auto)]
 
-pub mod keys;
-
 ghost use Rattle.std.specs.Prelude.{◌≡◌, ◌≢◌, ◌≤◌, Ok, Err, None, IfOk, IfErr, IfSome, option_and_then};
 ghost use Rattle.std.specs.List.Sorted.{IsNonDecreasing};
-ghost use Rattle.desk_wedge.specs.File.{key_name, fault_number, pica_of, units_of, rows_of_units, numbers_of, first_descent, at_key, wedge_of_members, wedge_of};
+ghost use Rattle.desk_wedge.specs.File.{key_name, fault_number, table_fault, pica_of, units_of, first_descent, at_key, wedge_of_members, wedge_of};
 ghost use Rattle.desk_wedge.specs.Wedge.{units_of_row, IsUnits, AreUnits, IsWedge};
 ghost use Rattle.desk_wedge.specs.Descent.{DescentIsFirstFall};
-ghost use Rattle.desk_wedge.specs.Keys.{number_of};
+ghost use Rattle.desk_keys.specs.Keys.{number_of};
+ghost use Rattle.desk_keys.specs.Items.{each_of, so_many};
 ghost use Rattle.desk_wedge.specs.declared.WedgeFault.TheVariants as fault;
 ghost use Rattle.desk_wedge.specs.declared.WedgeKey.TheVariants as key;
 ghost use Rattle.toml.specs.Errors.{IsBlank};
 ghost use Rattle.toml.specs.View.{view, items_view, table_view};
 
-use crate::keys::{member, whole_number};
+use desk_keys::{TableFault, member, whole_number};
 use desk_signals::RowNo;
 use desk_units::{Pica, SetQ};
 use std::alloc::Global;
@@ -45,7 +44,7 @@ impl WedgeKey {
     }
 }
 
-/// Why a file is no wedge: the first fault that holds, or want of memory.
+/// Why a file is no wedge: the first fault that holds, or out of memory.
 #[derive(Clone, Copy, Debug, PartialEq, Eq, Error)]
 pub enum WedgeFault {
     #[error("the file is not TOML")]
@@ -61,7 +60,7 @@ pub enum WedgeFault {
 }
 
 impl WedgeFault {
-    /// The number of the fault; want of memory has none.
+    /// The number of the fault; out of memory has none.
     pub fn number(self) -> Option<u8>
         ensures { result ≡ fault_number self }
     {
@@ -71,6 +70,20 @@ impl WedgeFault {
             WedgeFault::Range(_) => Some(3),
             WedgeFault::Descending(_) => Some(4),
             WedgeFault::NoMemory => None,
+        }
+    }
+}
+
+impl From<TableFault> for WedgeFault {
+    ghost use Rattle.std.specs.Prelude.{◌≡◌};
+    ghost use Rattle.desk_wedge.specs.File.{table_fault};
+
+    ghost from_gives = { λ table fault. fault ≡ table_fault table };
+
+    fn from(fault: TableFault) -> WedgeFault {
+        match fault {
+            TableFault::NotToml => WedgeFault::NotToml,
+            TableFault::NoMemory => WedgeFault::NoMemory,
         }
     }
 }
@@ -122,6 +135,7 @@ impl Wedge {
     pub fn units(&self, row: RowNo) -> u8
         ensures value { result ≡ units_of_row self.now row }
         ensures range { IsUnits result }
+        ensures lawful { IsWedge self.now }
     {
         self.units[row.get() as usize - 1]
     }
@@ -163,7 +177,7 @@ fn units(value: &Value) -> Option<[u8; 15]>
 
 /// The units that 15 items are.
 fn rows(items: &[Value]) -> Option<[u8; 15]>
-    ensures value { result ≡ option_and_then rows_of_units (numbers_of 1 24 (items_view items.now)) }
+    ensures value { result ≡ option_and_then (so_many 15 15) (each_of (number_of 1 24) (items_view items.now)) }
     ensures each { IfSome result AreUnits }
 {
     let mut units = [0; 15];
@@ -198,32 +212,19 @@ fn number_at(table: &Table, key: WedgeKey, low: u16, high: u16) -> Result<u16, W
     ensures value { result ≡ at_key key (number_of low high) (table_view table.now) }
     ensures range { IfOk result (λ n. (low ≤ n) × (n ≤ high)) }
 {
-    match member(table, key.name()) {
-        Some(value) => match whole_number(value, low, high) {
-            Some(number) => Ok(number),
-            None => Err(WedgeFault::Range(key)),
-        },
-        None => Err(WedgeFault::Missing(key)),
-    }
+    let value = member(table, key.name()).ok_or(WedgeFault::Missing(key))?;
+    whole_number(value, low, high).ok_or(WedgeFault::Range(key))
 }
 
 impl Wedge {
-    /// Reads a wedge file: its values, or its first fault. Want of memory may come in place of either.
+    /// Reads a wedge file: its values, or its first fault. Out of memory may come in place of either.
     pub fn read(alloc: Global, bytes: &[u8]) -> Result<Wedge, WedgeFault>
         ensures ok { IfOk result (λ w. wedge_of bytes.now ≡ Ok w) }
         ensures err { IfErr result (λ e. e ≢ fault.NoMemory → wedge_of bytes.now ≡ Err e) }
         ensures memory { result ≡ Err fault.NoMemory → ¬ IsBlank bytes.now }
     {
-        match toml::table_from_slice(alloc, bytes) {
-            Ok(table) => Wedge::from_table(&table),
-            Err(error) => {
-                if error.is_memory() {
-                    Err(WedgeFault::NoMemory)
-                } else {
-                    Err(WedgeFault::NotToml)
-                }
-            }
-        }
+        let table = desk_keys::table(alloc, bytes)?;
+        Wedge::from_table(&table)
     }
 
     /// The wedge that a document gives.
@@ -259,13 +260,8 @@ fn set_at(table: &Table) -> Result<SetQ, WedgeFault>
 fn pica_at(table: &Table) -> Result<Pica, WedgeFault>
     ensures { result ≡ at_key key.Pica pica_of (table_view table.now) }
 {
-    match member(table, "pica") {
-        Some(value) => match pica(value) {
-            Some(pica) => Ok(pica),
-            None => Err(WedgeFault::Range(WedgeKey::Pica)),
-        },
-        None => Err(WedgeFault::Missing(WedgeKey::Pica)),
-    }
+    let value = member(table, WedgeKey::Pica.name()).ok_or(WedgeFault::Missing(WedgeKey::Pica))?;
+    pica(value).ok_or(WedgeFault::Range(WedgeKey::Pica))
 }
 
 /// The units at their key.
@@ -273,11 +269,6 @@ fn units_at(table: &Table) -> Result<[u8; 15], WedgeFault>
     ensures value { result ≡ at_key key.Units units_of (table_view table.now) }
     ensures each { IfOk result AreUnits }
 {
-    match member(table, "units") {
-        Some(value) => match units(value) {
-            Some(units) => Ok(units),
-            None => Err(WedgeFault::Range(WedgeKey::Units)),
-        },
-        None => Err(WedgeFault::Missing(WedgeKey::Units)),
-    }
+    let value = member(table, WedgeKey::Units.name()).ok_or(WedgeFault::Missing(WedgeKey::Units))?;
+    units(value).ok_or(WedgeFault::Range(WedgeKey::Units))
 }

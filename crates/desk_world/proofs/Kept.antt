@@ -2,7 +2,7 @@
 use Rattle.std.proofs.Common.{◌||◌, ◌≡◌, ℕ, ◌+◌, ◌==◌, Bool, true, false, cond, List, [], map, length, refl, sym, ap, ◌∙◌, subst, nat_eq, arith, ◌≤◌, ◌<◌}
 use Rattle.std.proofs.lemmas.Bool.Decides.{nat_tests}
 use Rattle.std.specs.List.{IsDistinct}
-use Rattle.std.specs.Prelude.{Option, Some, None, Result, Err, option_map, is_some, IfSome, MatchOption, MatchBool, nat_le}
+use Rattle.std.specs.Prelude.{Option, Some, None, Result, Ok, Err, option_map, is_some, IfSome, MatchOption, MatchBool, nat_le}
 use Rattle.std.specs.FinMap as fin
 use Rattle.std.specs.FinSet.{nat_cmp-IsAntisymmetric}
 use Rattle.std.specs.Cmp.{nat_cmp_total}
@@ -20,7 +20,8 @@ use Rattle.desk_world.specs.declared.world.StepRefusal.{StepRefusal}
 use Rattle.desk_world.specs.declared.world.StepRefusal.TheVariants as refusals
 use Rattle.desk_world.specs.Sites.{Sites, sites_of, all_held, IsKept, IsUpdated}
 use Rattle.desk_world.specs.declared.world.LocalEdit.{LocalEdit}
-use Rattle.desk_world.specs.World.{site_refusal, Refuses, Adds, Edits, EditsSite, Gains, Brings, Steps, site_with, taken, IsReopened}
+use Rattle.desk_world.specs.declared.world.LocalEdit.TheVariants as kinds
+use Rattle.desk_world.specs.World.{site_refusal, Refuses, Adds, Edits, EditsSite, IsEdited, Gains, Brings, Steps, site_with, taken, IsReopened}
 use Rattle.desk_world.specs.World as changes
 use Rattle.desk_world.proofs.Sites.{get-sites_of, sites_of-updated}
 
@@ -165,8 +166,15 @@ kept_edited es fs n edit r kept h = at (lookup (nat_eq n) es) h
     at None g = subst IsKept (sym g.1) kept
     at (Some s) g = kept_updated es fs n s g.0 kept g.1
 
-named : (s : State) (n : ℕ) → s.site ≡ n → s ≡ site_with n s.ops
-named s n e i = record { site = e i; ops = s.ops }
+-- an edit says nothing of room
+told : (s t : State) (edit : LocalEdit) (op : Op) → IsEdited s t edit op → IsEdited (site_with s.site s.ops) (site_with t.site t.ops) edit op
+told s t (kinds.Insert place symbol) op e = record { is = e.is; lawful = e.lawful; gained = e.gained; shows = e.shows; settings = e.settings }
+told s t (kinds.Delete place) op e = record { is = e.is; lawful = e.lawful; gained = e.gained; shows = e.shows; settings = e.settings }
+told s t (kinds.Set key value) op e = record { is = e.is; lawful = e.lawful; gained = e.gained; shows = e.shows; sets = e.sets; others = e.others }
+
+roomless : (s t : State) (edit : LocalEdit) (r : Result Answer StepRefusal) → Edits s edit r t → Edits (site_with s.site s.ops) edit r (site_with t.site t.ops)
+roomless s t edit (Ok a) e = (e.0, e.1, e.2, told s t edit e.0 e.3)
+roomless s t edit (Err why) e = e
 
 abbrev EditsTo : Sites → ℕ → LocalEdit → Result Answer StepRefusal → Sites → Option OpSet → Type 0
 EditsTo old n edit r new o = MatchOption o (Refuses old refusals.NoSite r new) (λ set. (after : OpSet) × Edits (site_with n set) edit r (site_with n after) × (new ≡ fin.insert old n after))
@@ -185,7 +193,7 @@ edited es fs n edit r old kept view h = at (lookup (nat_eq n) es) refl h
         let new : sites_of fs ≡ fin.insert old n t.ops = sites_of-updated es fs n t g.1.entries ∙ ap (λ m. fin.insert m n t.ops) view in
         let own : s.site ≡ n = site_kept es n s kept e in
         let done : Edits (site_with n s.ops) edit r (site_with n t.ops) =
-        subst (λ (x : State). Edits x edit r (site_with n t.ops)) (named s n own) (subst (λ (x : State). Edits s edit r x) (named t n (g.1.named ∙ own)) g.2) in
+        subst (λ (m : ℕ). Edits (site_with m s.ops) edit r (site_with n t.ops)) own (subst (λ (m : ℕ). Edits (site_with s.site s.ops) edit r (site_with m t.ops)) (g.1.named ∙ own) (roomless s t edit r g.2)) in
         subst (EditsTo old n edit r (sites_of fs)) (sym set) (t.ops, done, new)
 
 -- ---- a site that is opened again

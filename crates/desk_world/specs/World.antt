@@ -82,9 +82,9 @@ abbrev pub taken : Result Count StepRefusal → Result Answer StepRefusal
 taken (Ok count) = Ok (answers.Taken count)
 taken (Err why) = Err why
 
--- a site's number, and what it holds
+-- a site's number, and what it holds; of its room nothing is said
 abbrev pub site_with : ℕ → OpSet → State
-site_with n set = record { site = n; ops = set }
+site_with n set = record { site = n; ops = set; spare = 0 }
 
 -- the first cause that refuses an edit, out of memory aside
 abbrev pub refusal_of : OpSet → LocalEdit → Option EditRefusal

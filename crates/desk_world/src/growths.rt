@@ -12,8 +12,8 @@ use linked_list_allocator::LocalHeap;
 use std::alloc::{Allocator, Global};
 use std::test::Fail;
 
-/// The bytes of a heap.
-const HEAP: usize = 16384;
+/// The bytes of a heap: what one site keeps takes some 180,000.
+const HEAP: usize = 1_048_576;
 
 /// A call of which a growth is refused.
 #[derive(Clone, Copy, PartialEq, Eq)]
@@ -34,24 +34,30 @@ fn measure(stamp: Stamp, value: u32) -> Op {
     }
 }
 
-/// What site 1 holds before the call.
-fn row() -> [Op; 4] {
-    [
-        typed(at(1, 1), Stamp::HEAD, 'a'),
-        typed(at(2, 1), at(1, 1), 'b'),
-        measure(at(3, 1), 120),
-        measure(at(4, 1), 144),
-    ]
+/// What site 1 holds before the call: two inserts, and the measure set thirty times. It is made at once, with no room for
+/// more.
+fn list(alloc: Global) -> Result<Vec<Op>, Fail>
+    ensures { IfOk result (λ v. All IsLawful v.items) }
+{
+    let mut all = Vec::new(alloc);
+    all.push(typed(at(1, 1), Stamp::HEAD, 'a'))?;
+    all.push(typed(at(2, 1), at(1, 1), 'b'))?;
+    for counter in 3..33u64 {
+        all.push(measure(at(counter, 1), 120))?;
+    }
+    lawful_of(alloc, &all)
 }
 
-/// 1.1 `a` after the head, 2.2 `c` after 1.1, 3.2 `e` after 2.2, 2.1 `b` after 1.1, 4.3 `z` after the head.
-fn arrivals() -> [Op; 5] {
+/// 1.1 `a` after the head, 2.2 `c` after 1.1, 3.2 `e` after 2.2, 2.1 `b` after 1.1, 4.3 `z` after the head, and 4.3 `y`,
+/// which forks it, so that all is made anew.
+fn arrivals() -> [Op; 6] {
     [
         typed(at(1, 1), Stamp::HEAD, 'a'),
         typed(at(2, 2), at(1, 1), 'c'),
         typed(at(3, 2), at(2, 2), 'e'),
         typed(at(2, 1), at(1, 1), 'b'),
         typed(at(4, 3), Stamp::HEAD, 'z'),
+        typed(at(4, 3), Stamp::HEAD, 'y'),
     ]
 }
 
@@ -68,20 +74,20 @@ fn lawful_of(alloc: Global, all: &[Op]) -> Result<Vec<Op>, Fail>
     Ok(ops)
 }
 
-/// Site 1 with its row, which the next operation grows, site 2, which holds nothing, and site 3 with the arrivals.
+/// Site 1 with its list, which the next operation grows, site 2, which holds nothing, and site 3 with the arrivals.
 fn three_sites<A: Allocator + Copy>(
     alloc: A,
-    row: &[Op],
+    list: &[Op],
     arrivals: &[Op],
 ) -> Result<World<A>, StepRefusal>
-    requires row { All IsLawful row.now }
+    requires list { All IsLawful list.now }
     requires arrivals { All IsLawful arrivals.now }
 {
     let mut world = World::new(alloc);
     world.step(&Event::Site(1))?;
     world.step(&Event::Site(2))?;
     world.step(&Event::Site(3))?;
-    world.bring(1, row)?;
+    world.bring(1, list)?;
     world.bring(3, arrivals)?;
     Ok(world)
 }
@@ -119,7 +125,7 @@ fn called<A: Allocator + Copy>(
 
 /// The operation that a call makes at site 1.
 fn made_by(call: Call) -> Option<Op> {
-    let stamp = at(5, 1);
+    let stamp = at(33, 1);
     match call {
         Call::Insert => Some(typed(stamp, Stamp::HEAD, 'x')),
         Call::Delete => Some(Op::Delete {
@@ -134,15 +140,15 @@ fn made_by(call: Call) -> Option<Op> {
 /// How many operations a call gives site 2.
 fn given_by(call: Call) -> usize {
     match call {
-        Call::Give | Call::Bring => 5,
+        Call::Give | Call::Bring => 6,
         _ => 0,
     }
 }
 
 /// What a call returns, where so many of the operations that it gives are known.
 fn answer_of(call: Call, known: usize) -> Answer {
-    if given_by(call) == 5 {
-        let new = 5usize.saturating_sub(known);
+    if given_by(call) > 0 {
+        let new = given_by(call).saturating_sub(known);
         return Answer::Taken(Count { new, known });
     }
     match made_by(call) {
@@ -167,12 +173,22 @@ fn stop_of(answer: Result<Answer, StepRefusal>) -> Option<usize> {
     }
 }
 
-/// Whether a site holds exactly the first of these operations, so many.
-fn holds<A: Allocator + Copy>(world: &World<A>, site: u16, ops: &[Op], first: usize) -> bool {
+/// Whether a site holds exactly the first of these operations, so many, and one more, where there is one.
+fn holds<A: Allocator + Copy>(
+    world: &World<A>,
+    site: u16,
+    ops: &[Op],
+    first: usize,
+    more: Option<Op>,
+) -> bool {
     let Some(replica) = world.replica(site) else {
         return false;
     };
-    if replica.len() != first {
+    let (count, has) = match more {
+        None => (first, true),
+        Some(op) => (first.saturating_add(1), replica.has(&op)),
+    };
+    if replica.len() != count || !has {
         return false;
     }
     for (place, op) in ops.iter().enumerate() {
@@ -183,44 +199,63 @@ fn holds<A: Allocator + Copy>(world: &World<A>, site: u16, ops: &[Op], first: us
     true
 }
 
-/// Whether site 1 has its row and what was made, and site 2 the first arrivals, so many.
+/// Whether site 1 has its list and what was made, and site 2 the first arrivals, so many.
 fn is_so<A: Allocator + Copy>(
     world: &World<A>,
+    list: &[Op],
     made: Option<Op>,
     arrivals: &[Op],
     first: usize,
 ) -> bool {
-    let [a, b, narrow, wide] = row();
-    let first_site = match made {
-        None => holds(world, 1, &row(), 4),
-        Some(op) => holds(world, 1, &[a, b, narrow, wide, op], 5),
-    };
-    first_site && holds(world, 2, arrivals, first) && holds(world, 3, arrivals, 5)
+    holds(world, 1, list, list.len(), made)
+        && holds(world, 2, arrivals, first, None)
+        && holds(world, 3, arrivals, arrivals.len(), None)
 }
 
-/// A call in a small heap of which much is taken; the greater the cut the less. Where memory ran out the sites are as
+/// Takes all that a heap has left, but for one piece of so many bytes. Where it has no such piece it takes nothing.
+fn fill(
+    alloc: Global,
+    heap: &LocalHeap,
+    bytes: usize,
+) -> Result<Vec<Vec<u8, &LocalHeap>>, NoMemory> {
+    let mut parts = Vec::new(alloc);
+    let Ok(piece) = Vec::<u8, &LocalHeap>::with_capacity(heap, bytes) else {
+        return Ok(parts);
+    };
+    for power in 0..14u32 {
+        for _ in 0..HEAP {
+            let Ok(part) = Vec::with_capacity(heap, 131_072usize >> power) else {
+                break;
+            };
+            parts.push(part)?;
+        }
+    }
+    drop(piece);
+    Ok(parts)
+}
+
+/// A call in a heap of which all is taken but for one piece; the greater the cut the greater it is. Where memory ran out the sites are as
 /// before, but for the operations that were taken, and the same call succeeds with memory.
 fn refused(
     alloc: Global,
     call: Call,
-    row: &[Op],
+    list: &[Op],
     arrivals: &[Op],
     cut: usize,
 ) -> Result<Option<usize>, Fail>
-    requires row { All IsLawful row.now }
+    requires list { All IsLawful list.now }
     requires arrivals { All IsLawful arrivals.now }
 {
     let heap = LocalHeap::new(alloc, HEAP)?;
-    let mut world = three_sites(&heap, row, arrivals)?;
-    let size = HEAP.saturating_sub(cut.saturating_mul(64));
-    let ballast = Vec::<u8, &LocalHeap>::with_capacity(&heap, size).ok();
+    let mut world = three_sites(&heap, list, arrivals)?;
+    let parts = fill(alloc, &heap, cut.saturating_mul(1536))?;
     let first = called(&mut world, call, arrivals);
-    drop(ballast);
+    drop(parts);
     let stop = stop_of(first);
     let taken = stop.unwrap_or(0);
     let mut last = first;
     if stop.is_some() {
-        if !is_so(&world, None, arrivals, taken) {
+        if !is_so(&world, list, None, arrivals, taken) {
             return Err(Fail::new("another state after a refusal"));
         }
         last = called(&mut world, call, arrivals);
@@ -228,7 +263,7 @@ fn refused(
     if last != Ok(answer_of(call, taken)) {
         return Err(Fail::new("another answer"));
     }
-    if !is_so(&world, made_by(call), arrivals, given_by(call)) {
+    if !is_so(&world, list, made_by(call), arrivals, given_by(call)) {
         return Err(Fail::new("another state"));
     }
     Ok(stop)
@@ -236,11 +271,11 @@ fn refused(
 
 /// Refuses each growth of a call in turn. A call that gives operations is stopped after some, too.
 fn growths(alloc: Global, call: Call) -> Result<(), Fail> {
-    let row = lawful_of(alloc, &row())?;
+    let list = list(alloc)?;
     let arrivals = lawful_of(alloc, &arrivals())?;
     let (mut done, mut stopped, mut partly) = (0u32, 0u32, 0u32);
     for cut in 0..256usize {
-        match refused(alloc, call, &row, &arrivals, cut)? {
+        match refused(alloc, call, &list, &arrivals, cut)? {
             None => done = done.saturating_add(1),
             Some(taken) => {
                 stopped = stopped.saturating_add(1);
@@ -248,7 +283,7 @@ fn growths(alloc: Global, call: Call) -> Result<(), Fail> {
             }
         }
     }
-    if done > 0 && stopped > 2 && (partly > 0) == (given_by(call) > 0) {
+    if done > 0 && stopped > 3 && (partly > 0) == (given_by(call) > 0) {
         Ok(())
     } else {
         Err(Fail::new("no growth was refused, or each"))
@@ -316,7 +351,7 @@ fn are_sites<A: Allocator + Copy>(world: &World<A>, end: u16) -> bool {
 fn refused_site(alloc: Global, cut: usize) -> Result<bool, Fail> {
     let heap = LocalHeap::new(alloc, HEAP)?;
     let mut world = World::new(&heap);
-    let size = HEAP.saturating_sub(cut.saturating_mul(256));
+    let size = HEAP.saturating_sub(cut.saturating_mul(1024));
     let ballast = Vec::<u8, &LocalHeap>::with_capacity(&heap, size).ok();
     let stop = add_sites(&mut world, 1, 11)?;
     drop(ballast);

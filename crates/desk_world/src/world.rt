@@ -11,6 +11,7 @@ ghost use Rattle.desk_world.specs.Sites.{no_sites, is_held, all_held, sites_of, 
 ghost use Rattle.desk_world.specs.World.{Steps, change, IsSound, Edits, EditsSite, Gains, Brings, taken, IsReopened};
 ghost use Rattle.desk_world.specs.World as world;
 
+use desk_blocks::Blocks;
 use desk_held::AddRefusal;
 use desk_ops::{Key, NoMemory, Op, Symbol};
 use desk_replica::{Count, Replica, Stopped};
@@ -94,7 +95,7 @@ pub enum StepRefusal {
     NoMemory,
 }
 
-type SiteMap<A> = IndexMap<u16, Replica<A>, BuildHasherDefault<FoldHasher>, A>;
+type SiteMap<A> = IndexMap<u16, Replica<Blocks<A>>, BuildHasherDefault<FoldHasher>, A>;
 
 /// Sites by their numbers, each with a replica.
 #[derive(Drop)]
@@ -116,7 +117,10 @@ impl<A: Allocator + Copy> Model for World<A> {
 }
 
 /// Gives a replica operations.
-fn gain<A: Allocator + Copy>(replica: &mut Replica<A>, ops: &[Op]) -> Result<Count, StepRefusal>
+fn gain<A: Allocator + Copy>(
+    replica: &mut Replica<Blocks<A>>,
+    ops: &[Op],
+) -> Result<Count, StepRefusal>
     requires { All IsLawful ops.now }
     ensures site { replica.new.site ≡ replica.old.site }
     ensures ops { Gains replica.old.ops ops.now result replica.new.ops }
@@ -154,7 +158,7 @@ fn taken(given: Result<Count, StepRefusal>) -> Result<Answer, StepRefusal>
 
 /// Edits a replica.
 fn edit<A: Allocator + Copy>(
-    replica: &mut Replica<A>,
+    replica: &mut Replica<Blocks<A>>,
     change: LocalEdit,
 ) -> Result<Answer, StepRefusal>
     ensures site { replica.new.site ≡ replica.old.site }
@@ -187,7 +191,10 @@ fn edit_at<A: Allocator + Copy>(
 }
 
 /// Opens a replica again from the operations that it holds.
-fn reopen<A: Allocator + Copy>(alloc: A, replica: &mut Replica<A>) -> Result<Answer, StepRefusal>
+fn reopen<A: Allocator + Copy>(
+    alloc: A,
+    replica: &mut Replica<Blocks<A>>,
+) -> Result<Answer, StepRefusal>
     ensures site { replica.new.site ≡ replica.old.site }
     ensures ops { replica.new.ops ≡ replica.old.ops }
     ensures answer { IsReopened replica.old.ops result }
@@ -241,7 +248,7 @@ impl<A: Allocator + Copy> World<A> {
     }
 
     /// A world of one site, with its replica.
-    pub fn with_site(alloc: A, replica: Replica<A>) -> Result<World<A>, NoMemory>
+    pub fn with_site(alloc: A, replica: Replica<Blocks<A>>) -> Result<World<A>, NoMemory>
         ensures { IfOk result (λ w. w ≡ fin.insert no_sites replica.site replica.ops) }
     {
         let mut sites = IndexMap::new(alloc);
@@ -252,7 +259,7 @@ impl<A: Allocator + Copy> World<A> {
     }
 
     /// The replica of a site, if it is there.
-    pub fn replica(&self, site: u16) -> Option<&Replica<A>>
+    pub fn replica(&self, site: u16) -> Option<&Replica<Blocks<A>>>
         ensures ops { option_map (λ r. r.now.ops) result ≡ fin.get self.now site }
         ensures number { IfSome result (λ r. r.now.site ≡ site) }
     {

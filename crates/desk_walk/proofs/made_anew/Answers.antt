@@ -1,15 +1,9 @@
-use Rattle.std.proofs.Common.{◌∙◌}
-use Rattle.desk_walk.proofs.Anew.{begins}
+use Rattle.std.proofs.Common.{◌≡◌, ◌∙◌, ap, arith}
+use Rattle.desk_ops.specs.OpSet.{no_ops, with_all, size}
+use Rattle.desk_walk.proofs.Walking.{size-all}
 use Rattle.desk_walk.proofs.made_anew.Goals as goal
 
-pub drain-requires-clause-follows : goal.drain-requires-clause-follows
-drain-requires-clause-follows g c = (
-  c.args.held.now.ops,
-  c.all_clear.ensures.lawful,
-  begins c.args.held.now.ops c.in_ok-room.room.ops c.in_ok-room.ensures.clear (g.Q.Sequence.entries c.reserve.new.self) (c.reserve.ensures.same ∙ c.empty-sequence.ensures),
-)
-
-pub returns-clause-settled : goal.returns-clause-settled
-returns-clause-settled g c =
-    c.drain.ensures.settled c.args.held.now.ops c.all_clear.ensures.lawful
-    (begins c.args.held.now.ops c.in_ok-room.room.ops c.in_ok-room.ensures.clear (g.Q.Sequence.entries c.reserve.new.self) (c.reserve.ensures.same ∙ c.empty-sequence.ensures))
+pub returns-clause-few : goal.returns-clause-few
+returns-clause-few g c =
+    let n : size c.in_ok-room.room.ops ≡ size (with_all no_ops c.in_ok-entries.waiting.items) = ap size (c.in_ok-room.ensures ∙ ap (with_all no_ops) c.deref-2.ensures.value) in
+    omega (arith, n, size-all c.in_ok-entries.waiting.items, c.in_ok-entries.ensures.few)

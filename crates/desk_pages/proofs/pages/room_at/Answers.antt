@@ -1,6 +1,4 @@
-use Rattle.std.proofs.Common.{◌≡◌, ◌<◌, ◌≤◌, [], length, get_or, refl, arith}
-use Rattle.std.specs.Prelude.{IfSome}
-use Rattle.desk_pages.specs.Pages.{joined, start_of, IsGap}
+use Rattle.std.proofs.Common.{◌<◌, length, refl, arith}
 use Rattle.desk_pages.proofs.Cuts.{end-is, page-length}
 use Rattle.desk_pages.proofs.pages.room_at.Goals as goal
 

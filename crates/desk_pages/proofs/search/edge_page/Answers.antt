@@ -37,3 +37,9 @@ loop-low-preserved g c =
       below = c.loop-low.invariant.below;
       stops = λ d _. ends-read picks pages k c.index-pages-mid.result d c.last.result c.requires l c.index-pages-mid.is c.last.ensures ∙ sym c.picks.ensures ∙ c.if-picks.false;
     }
+
+pub returns : goal.returns
+returns g c =
+    let i = c.loop-low.invariant in
+    let e : c.loop-low.high ≡ c.loop-low.low = omega (arith, c.loop-low-test.false, i.low) in
+    record { within = omega (arith, i.low, i.high); below = i.below; stops = rw e at i.stops }

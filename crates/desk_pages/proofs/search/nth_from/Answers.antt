@@ -1,9 +1,10 @@
-use Rattle.std.proofs.Common.{◌<◌, [], length, get_or, ap, add-one, arith}
+use Rattle.std.proofs.Common.{◌<◌, [], length, get_or, ap, refl, add-one, arith}
 use Rattle.std.specs.List.{count_by}
 use Rattle.std.proofs.lemmas.List.{get_or_read}
 use Rattle.desk_pages.specs.Pages.{start_of, IsNth, IsShort}
 use Rattle.desk_pages.proofs.Cuts.{start-more, page-length, joined-past}
 use Rattle.desk_pages.proofs.Picks.{nth-joined, page-within, page-fits, count-page, count-start}
+use Rattle.desk_pages.proofs.Sums.{start-grows}
 use Rattle.desk_pages.proofs.search.nth_from.Goals as goal
 
 pub overflow_add-result : goal.overflow_add-result
@@ -66,3 +67,18 @@ returns-clause-short g c =
     let a = ap (count_by picks) (joined-past pages c.loop-at.at c.loop-at-test.false) in
     let q = c.requires.start in
     (i.less, rw q (omega (arith, i.count)))
+
+pub loop-at-preserved-in-Some : goal.loop-at-preserved-in-Some
+loop-at-preserved-in-Some g c =
+    let pages = c.args.pages.now in
+    let i = c.loop-at.invariant in
+    let e = c.in-Some.ensures in
+    let m = start-grows pages c.loop-at.at 64 in
+    record {
+      low = omega (arith, i.low);
+      within = e.within refl;
+      is = e.start;
+      after = omega (arith, i.after, i.is, e.start);
+      less = omega (arith, i.less, e.less);
+      count = omega (arith, i.count, e.count);
+    }

@@ -1,5 +1,4 @@
-use Rattle.std.proofs.Common.{◌≡◌, ◌<◌, ◌+◌, length, arith}
-use Rattle.desk_pages.specs.Pages.{start_of}
+use Rattle.std.proofs.Common.{◌<◌, length, arith}
 use Rattle.desk_pages.proofs.Cuts.{page-length}
 use Rattle.desk_pages.proofs.Picks.{page-fits, next-page}
 use Rattle.desk_pages.proofs.starts.find_starts.Goals as goal

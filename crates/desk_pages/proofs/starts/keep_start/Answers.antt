@@ -1,3 +1,0 @@
-use Rattle.std.proofs.Common.{◌≡◌, ◌*◌, length, arith}
-use Rattle.desk_pages.proofs.Groups.{starts-push}
-use Rattle.desk_pages.proofs.starts.keep_start.Goals as goal

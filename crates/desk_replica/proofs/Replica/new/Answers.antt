@@ -1,13 +1,5 @@
-use Rattle.std.proofs.Common.{sym, subst}
-use Rattle.desk_ops.specs.OpSet.{OpSet, AllLawful}
-use Rattle.desk_registers.specs.Registers.{kept}
-use Rattle.desk_replica.specs.JobSettings.{AreKept}
-use Rattle.desk_replica.proofs.Sets.{none-lawful}
-use Rattle.desk_replica.proofs.KeptSets.{kept-none}
+use Rattle.desk_replica.proofs.Sound.{sound-none}
 use Rattle.desk_replica.proofs.Replica.new.Goals as goal
 
 pub invariant_of-result : goal.invariant_of-result
-invariant_of-result g c = record {
-  held = record { numbered = c.requires; lawful = subst AllLawful (sym c.new.ensures) none-lawful };
-  settings = subst (λ (h : OpSet). AreKept h (kept c.new-2.result)) (sym c.new.ensures) (kept-none (kept c.new-2.result) c.new-2.ensures);
-}
+invariant_of-result g c = sound-none c.args.site c.new.result.ops c.new-3.result (g.Q.Sequence.entries c.empty.result) c.new-2.result.ops (g.Q.Sequence.free c.empty.result) c.requires c.new.ensures c.new-3.ensures c.empty.ensures c.new-2.ensures

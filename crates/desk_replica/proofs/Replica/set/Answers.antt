@@ -5,8 +5,8 @@ use Rattle.desk_replica.specs.Edits.{IsSetTo}
 use Rattle.desk_replica.proofs.Made.{set-lawful, set_to, on_made}
 use Rattle.desk_replica.proofs.Replica.set.Goals as goal
 
-pub make-requires : goal.make-requires
-make-requires g c =
+pub make-requires-clause-lawful : goal.make-requires-clause-lawful
+make-requires-clause-lawful g c =
     subst (λ s. IsLawful (Set s c.args.key c.args.value)) (sym c.in-Ok.ensures.stamp)
     (set-lawful c.args.self.now c.args.key c.args.value c.in-Ok.ensures.kept c.in-Ok.ensures.clock (sym c.if-not-takes.ensures))
 

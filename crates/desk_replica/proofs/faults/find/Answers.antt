@@ -5,7 +5,7 @@ use Rattle.desk_ops.proofs.Stamps.{same-fields}
 use Rattle.desk_replica.specs.declared.faults.Way.{Way}
 use Rattle.std.proofs.lemmas.List.{get_or_default}
 use Rattle.desk_replica.specs.Ways.{no_way}
-use Rattle.desk_replica.proofs.Finds.{partitioned, find-absent}
+use Rattle.desk_replica.proofs.Searches.{partitioned, find-absent}
 use Rattle.desk_replica.proofs.faults.find.Goals as goal
 
 pub returns-then-place-ways : goal.returns-then-place-ways

@@ -4,19 +4,19 @@ use Rattle.desk_replica.proofs.faults.pass.Goals as goal
 
 pub fault_of-kind-requires : goal.fault_of-kind-requires
 fault_of-kind-requires g c =
-    pass_ways c.args.held.now.ops c.requires.lawful c.as_slice-ops.result.now c.as_slice-ops.ensures.items c.args.place _ c.requires.within c.args.ways.now.items c.args.faults.now.items c.requires.told c.deref.result.now c.deref.ensures.value
+    pass_ways c.args.held.now.ops c.requires.lawful c.args.ops.now c.requires.list c.args.place _ c.requires.within c.args.ways.now.items c.args.faults.now.items c.requires.told c.deref.result.now c.deref.ensures.value
 
 pub returns-then-is_clear : goal.returns-then-is_clear
 returns-then-is_clear g c =
-    pass_clear c.args.held.now.ops c.requires.lawful c.as_slice-ops.result.now c.as_slice-ops.ensures.items c.args.place _ c.requires.within c.args.ways.now.items c.args.faults.now.items c.requires.told
+    pass_clear c.args.held.now.ops c.requires.lawful c.args.ops.now c.requires.list c.args.place _ c.requires.within c.args.ways.now.items c.args.faults.now.items c.requires.told
     c.join.result c.stamp-stamp.result c.fault_of-kind.result c.join.new.ways.items c.tell.new.faults.items c.stamp-stamp.ensures (sym c.is_clear.ensures ∙ c.if-is_clear.true) c.fault_of-kind.ensures c.in_ok-tell.ensures c.join.ensures
 
 pub returns-then-ends_with : goal.returns-then-ends_with
 returns-then-ends_with g c =
-    pass_known c.args.held.now.ops c.requires.lawful c.as_slice-ops.result.now c.as_slice-ops.ensures.items c.args.place _ c.requires.within c.args.ways.now.items c.args.faults.now.items c.requires.told
+    pass_known c.args.held.now.ops c.requires.lawful c.args.ops.now c.requires.list c.args.place _ c.requires.within c.args.ways.now.items c.args.faults.now.items c.requires.told
     c.stamp-stamp.result c.stamp-stamp.ensures (sym c.is_clear.ensures ∙ c.if-is_clear.false) (sym c.ends_with.ensures ∙ c.if-ends_with.true)
 
 pub returns : goal.returns
 returns g c =
-    pass_forked c.args.held.now.ops c.requires.lawful c.as_slice-ops.result.now c.as_slice-ops.ensures.items c.args.place _ c.requires.within c.args.ways.now.items c.args.faults.now.items c.requires.told
+    pass_forked c.args.held.now.ops c.requires.lawful c.args.ops.now c.requires.list c.args.place _ c.requires.within c.args.ways.now.items c.args.faults.now.items c.requires.told
     c.tell-2.result c.stamp-stamp.result c.tell-2.new.faults.items c.stamp-stamp.ensures (sym c.is_clear.ensures ∙ c.if-is_clear.false) (sym c.ends_with.ensures ∙ c.if-ends_with.false) c.tell-2.ensures

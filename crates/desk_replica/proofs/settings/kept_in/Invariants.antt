@@ -1,6 +1,6 @@
 use Rattle.desk_ops.specs.OpSet.{in_order}
 use Rattle.desk_registers.specs.Registers.{kept}
-use Rattle.desk_replica.proofs.Built.{clear_before}
+use Rattle.desk_replica.proofs.Passes.{clear_before}
 use Rattle.desk_replica.proofs.KeptSets.{AreKeptOf}
 use Rattle.desk_replica.proofs.settings.kept_in.Given as goal
 

@@ -1,14 +1,14 @@
-use Rattle.std.proofs.Common.{◌≡◌, None, refl, subst}
-use Rattle.std.specs.Prelude.{IfErr}
-use Rattle.std.proofs.lemmas.Result.{IfErr-weaker}
-use Rattle.desk_files.specs.Files.{Unknown, shelf}
-use Rattle.desk_script.specs.Faults.{IsCrowded}
-use Rattle.desk_script.specs.Stored.{was_read}
+use Rattle.std.proofs.Common.{refl, subst, sym}
+use Rattle.std.proofs.lemmas.Result.{err_from_is_err_and}
+use Rattle.desk_script.specs.Faults.{IsUnopened}
+use Rattle.desk_script.specs.Stored.{Stores, was_read}
 use Rattle.desk_script.proofs.Feeds.{unopened}
 use Rattle.desk_script.proofs.feed_run.opened.Goals as goal
 
-pub returns-in-Ok-clause-err : goal.returns-in-Ok-clause-err
-returns-in-Ok-clause-err g c =
-    let crowded : IfErr c.world_of.result (IsCrowded c.in-Ok.ops.items) = subst (λ l. IfErr c.world_of.result (IsCrowded l)) c.deref.ensures.value c.world_of.ensures.err in
-    IfErr-weaker c.world_of.result _ _
-    (λ e h. unopened (λ read. read ≡ was_read c.args.old.now) (shelf (λ _. Unknown) 0 None) (shelf (λ _. Unknown) 0 None) (was_read c.args.old.now) c.in-Ok.ops.items e refl refl c.in-Ok.ensures.feed h) crowded
+pub returns-in_err-replica-clause-err : goal.returns-in_err-replica-clause-err
+returns-in_err-replica-clause-err g c =
+    let stop = c.in_err-replica.field-0.0 in
+    let ops = c.deref.result.now in
+    let stores = subst (λ l. Stores (was_read c.args.old.now) l) (sym c.deref.ensures.value) c.in_ok-ops.ensures.feed in
+    let p = err_from_is_err_and c.from_residual-in_err-replica.result c.from_residual-in_err-replica.ensures.1 in
+    rw p.1 (rw p.2 (unopened (was_read c.args.old.now) ops stop stop.why refl stores c.in_err-replica.ensures.none c.in_err-replica.ensures.full))

@@ -1,52 +1,120 @@
-use Rattle.std.proofs.Common.{inl, inr, subst}
-use Rattle.std.specs.Prelude.{IfErr}
-use Rattle.std.proofs.lemmas.Result.{IfErr-weaker, on_ok_weaker}
-use Rattle.desk_script.specs.Desk.{desk}
-use Rattle.desk_script.specs.Stored.{IsNotStored, IsStart, was_read}
-use Rattle.desk_script.proofs.Feeds.{broken_halts, fails_later, unstored_halts}
+use Rattle.std.proofs.Common.{◌≡◌, ◌∙◌, ap, inl, inr, refl, subst, sym}
+use Rattle.std.proofs.lemmas.Result.{err_from_is_err_and}
+use Rattle.std.specs.Prelude.{Err}
+use Rattle.desk_steps.specs.Desk.{desk}
+use Rattle.desk_script.specs.Stored.{IsStart, was_read}
+use Rattle.desk_script.proofs.Feeds.{counts_up, fails_from, fails_later, file_failed, is_there, no_line_fails, no_opening_fails, of_device}
 use Rattle.desk_script.proofs.feed_run.run_on_feed.Goals as goal
 
-pub returns-in-Err-answer_all-clause-err : goal.returns-in-Err-answer_all-clause-err
-returns-in-Err-answer_all-clause-err g c =
-    let start : IsStart c.args.name.now c.args.site (g.F.Files.shelf c.take_name.new.files) (was_read c.in-Ok.old) (desk c.in-Ok-opened.world (g.F.Files.shelf c.stored.new.files)) =
-    (c.in-Ok.ensures.ok.0, c.in-Ok.ensures.ok.1, c.in-Ok-opened.ensures.ok.0, c.in-Ok-opened.ensures.ok.1, c.in-Ok-opened.ensures.ok.2, c.stored.ensures.stays) in
-    inr (
-      g.F.Files.shelf c.take_name.new.files,
-      c.in_default.ensures.ok,
-      broken_halts c.args.name.now c.args.site (g.F.Files.shelf c.take_name.new.files) (g.F.Files.shelf c.answer_all.new.files) _ _ _ c.in-Err-answer_all.fault c.in-Err-answer_all.ensures.own
-          (was_read c.in-Ok.old, desk c.in-Ok-opened.world (g.F.Files.shelf c.stored.new.files), start, c.answer_all.ensures.stays, c.in-Err-answer_all.ensures.err),
-    )
+-- ---- the name was not taken
+
+pub returns-in_err-hold-clause-err : goal.returns-in_err-hold-clause-err
+returns-in_err-hold-clause-err g c =
+    let p = err_from_is_err_and c.from_residual.result c.from_residual.ensures.1 in
+    rw p.1 (inl (refl, c.in_err-hold.field-0.0, p.2, (c.in_err-hold.ensures.small, (λ e. c.in_err-hold.ensures.missing (ap Err e)), c.in_err-hold.ensures.counted, c.in_err-hold.ensures.refused)))
+
+pub returns-in_err-hold-clause-device : goal.returns-in_err-hold-clause-device
+returns-in_err-hold-clause-device g c is =
+    let p = err_from_is_err_and c.from_residual.result c.from_residual.ensures.1 in
+    file_failed c.in_err-hold.field-0.0 (g.F.Files.shelf c.args.files.now) (g.F.Files.shelf c.hold.new.self) (of_device _ _ _ p.1 p.2 is) c.in_err-hold.ensures.counted
+
+-- ---- the feed was not read
+
+pub returns-in_err-old-clause-err : goal.returns-in_err-old-clause-err
+returns-in_err-old-clause-err g c =
+    let p = err_from_is_err_and c.from_residual-in_err-old.result c.from_residual-in_err-old.ensures.1 in
+    rw p.1 (inr (g.F.Files.shelf c.hold.new.self, c.in_ok-hold.ensures.taken, inl (refl, c.in_err-old.field-0.0, p.2, c.in_err-old.ensures.err)))
+
+pub returns-in_err-old-clause-device : goal.returns-in_err-old-clause-device
+returns-in_err-old-clause-device g c is =
+    let p = err_from_is_err_and c.from_residual-in_err-old.result c.from_residual-in_err-old.ensures.1 in
+    fails_from (g.F.Files.shelf c.args.files.now) (g.F.Files.shelf c.hold.new.self) (g.F.Files.shelf c.stored.new.files) c.in_ok-hold.ensures.taken.failures
+    (file_failed c.in_err-old.field-0.0 (g.F.Files.shelf c.hold.new.self) (g.F.Files.shelf c.stored.new.files) (of_device _ _ _ p.1 p.2 is) c.in_err-old.ensures.err.2)
+
+-- ---- it was not opened
+
+pub returns-in_err-world-clause-err : goal.returns-in_err-world-clause-err
+returns-in_err-world-clause-err g c =
+    let p = err_from_is_err_and c.from_residual-in_err-world.result c.from_residual-in_err-world.ensures.1 in
+    rw p.1 (inr (
+      g.F.Files.shelf c.hold.new.self,
+      c.in_ok-hold.ensures.taken,
+      inr (inl (refl, c.in_err-world.field-0.0, p.2, (was_read c.in_ok-old.old, c.in_ok-old.ensures.ok.0, c.in_ok-old.ensures.ok.1, c.stored.ensures.stays, c.in_err-world.ensures.err))),
+    ))
+
+pub returns-in_err-world-clause-device : goal.returns-in_err-world-clause-device
+returns-in_err-world-clause-device g c is =
+    let p = err_from_is_err_and c.from_residual-in_err-world.result c.from_residual-in_err-world.ensures.1 in
+    absurd (no_opening_fails c.in_err-world.field-0.0 (of_device _ _ _ p.1 p.2 is))
+
+-- ---- it stopped among the lines
+
+pub returns-in_err-answer_all-clause-err : goal.returns-in_err-answer_all-clause-err
+returns-in_err-answer_all-clause-err g c =
+    let start : IsStart c.args.name.now c.args.site (g.F.Files.shelf c.hold.new.self) (was_read c.in_ok-old.old) (desk c.in_ok-world.world (g.F.Files.shelf c.stored.new.files)) =
+    (c.in_ok-old.ensures.ok.0, c.in_ok-old.ensures.ok.1, c.in_ok-world.ensures.ok.0, c.in_ok-world.ensures.ok.1, c.in_ok-world.ensures.ok.2, c.stored.ensures.stays) in
+    let p = err_from_is_err_and c.from_residual-in_err-answer_all.result c.from_residual-in_err-answer_all.ensures.1 in
+    rw p.1 (inr (
+      g.F.Files.shelf c.hold.new.self,
+      c.in_ok-hold.ensures.taken,
+      inr (inr (inl (
+        c.in_err-answer_all.field-0.0,
+        p.2,
+        (was_read c.in_ok-old.old, desk c.in_ok-world.world (g.F.Files.shelf c.stored.new.files), start, c.answer_all.ensures.stays, c.in_err-answer_all.ensures.err),
+      ))),
+    ))
+
+pub returns-in_err-answer_all-clause-device : goal.returns-in_err-answer_all-clause-device
+returns-in_err-answer_all-clause-device g c is =
+    let p = err_from_is_err_and c.from_residual-in_err-answer_all.result c.from_residual-in_err-answer_all.ensures.1 in
+    absurd (no_line_fails c.in_err-answer_all.field-0.0 (of_device _ _ _ p.1 p.2 is))
+
+-- ---- the feed is stored, or not
+
+pub keep_feed-requires : goal.keep_feed-requires
+keep_feed-requires g c = is_there c.args.site c.in_ok-world.ensures.ok.0 c.in_ok-world.world c.answer_all.new.world c.in_ok-world.ensures.ok.2 c.in_ok-answer_all.ensures.sites
+
+pub returns-in_err-keep_feed-clause-err : goal.returns-in_err-keep_feed-clause-err
+returns-in_err-keep_feed-clause-err g c =
+    let start : IsStart c.args.name.now c.args.site (g.F.Files.shelf c.hold.new.self) (was_read c.in_ok-old.old) (desk c.in_ok-world.world (g.F.Files.shelf c.stored.new.files)) =
+    (c.in_ok-old.ensures.ok.0, c.in_ok-old.ensures.ok.1, c.in_ok-world.ensures.ok.0, c.in_ok-world.ensures.ok.1, c.in_ok-world.ensures.ok.2, c.stored.ensures.stays) in
+    let p = err_from_is_err_and c.from_residual-in_err-keep_feed.result c.from_residual-in_err-keep_feed.ensures.1 in
+    rw p.1 (inr (
+      g.F.Files.shelf c.hold.new.self,
+      c.in_ok-hold.ensures.taken,
+      inr (inr (inr (
+        c.in_err-keep_feed.field-0.0,
+        p.2,
+        (
+          was_read c.in_ok-old.old,
+          desk c.in_ok-world.world (g.F.Files.shelf c.stored.new.files),
+          start,
+          desk c.answer_all.new.world (g.F.Files.shelf c.answer_all.new.files),
+          (c.answer_all.ensures.stays, c.in_ok-answer_all.ensures.ok),
+          c.in_err-keep_feed.ensures.err,
+        ),
+      ))),
+    ))
+
+pub returns-in_err-keep_feed-clause-device : goal.returns-in_err-keep_feed-clause-device
+returns-in_err-keep_feed-clause-device g c is =
+    let p = err_from_is_err_and c.from_residual-in_err-keep_feed.result c.from_residual-in_err-keep_feed.ensures.1 in
+    let device = of_device _ _ _ p.1 p.2 is in
+    let mid = g.F.Files.shelf c.answer_all.new.files in
+    let last = g.F.Files.shelf c.keep_feed.new.files in
+    fails_later (g.F.Files.shelf c.args.files.now).failures (g.F.Files.shelf c.hold.new.self).failures (g.F.Files.shelf c.stored.new.files).failures mid.failures last.failures c.in_ok-hold.ensures.taken.failures c.stored.ensures.stays.1 c.answer_all.ensures.stays.1
+    (file_failed c.in_err-keep_feed.field-0.0 mid last device c.in_err-keep_feed.ensures.err.3) (counts_up c.in_err-keep_feed.field-0.0 mid last c.in_err-keep_feed.ensures.err.3)
 
 pub returns-clause-ok : goal.returns-clause-ok
 returns-clause-ok g c =
-    let start : IsStart c.args.name.now c.args.site (g.F.Files.shelf c.take_name.new.files) (was_read c.in-Ok.old) (desk c.in-Ok-opened.world (g.F.Files.shelf c.stored.new.files)) =
-    (c.in-Ok.ensures.ok.0, c.in-Ok.ensures.ok.1, c.in-Ok-opened.ensures.ok.0, c.in-Ok-opened.ensures.ok.1, c.in-Ok-opened.ensures.ok.2, c.stored.ensures.stays) in
-    on_ok_weaker c.keep_feed.result
-    (λ stored. (
-      g.F.Files.shelf c.take_name.new.files,
-      c.in_default.ensures.ok,
-      was_read c.in-Ok.old,
-      desk c.in-Ok-opened.world (g.F.Files.shelf c.stored.new.files),
+    let start : IsStart c.args.name.now c.args.site (g.F.Files.shelf c.hold.new.self) (was_read c.in_ok-old.old) (desk c.in_ok-world.world (g.F.Files.shelf c.stored.new.files)) =
+    (c.in_ok-old.ensures.ok.0, c.in_ok-old.ensures.ok.1, c.in_ok-world.ensures.ok.0, c.in_ok-world.ensures.ok.1, c.in_ok-world.ensures.ok.2, c.stored.ensures.stays) in (
+      g.F.Files.shelf c.hold.new.self,
+      c.in_ok-hold.ensures.taken,
+      was_read c.in_ok-old.old,
+      desk c.in_ok-world.world (g.F.Files.shelf c.stored.new.files),
       start,
       desk c.answer_all.new.world (g.F.Files.shelf c.answer_all.new.files),
-      (c.answer_all.ensures.stays, c.in_default-answer_all.ensures.ok),
-      stored,
-    )) c.keep_feed.ensures.ok
-
-pub returns-clause-err : goal.returns-clause-err
-returns-clause-err g c =
-    let start : IsStart c.args.name.now c.args.site (g.F.Files.shelf c.take_name.new.files) (was_read c.in-Ok.old) (desk c.in-Ok-opened.world (g.F.Files.shelf c.stored.new.files)) =
-    (c.in-Ok.ensures.ok.0, c.in-Ok.ensures.ok.1, c.in-Ok-opened.ensures.ok.0, c.in-Ok-opened.ensures.ok.1, c.in-Ok-opened.ensures.ok.2, c.stored.ensures.stays) in
-    IfErr-weaker c.keep_feed.result _ _
-    (λ e kept. inr (
-      g.F.Files.shelf c.take_name.new.files,
-      c.in_default.ensures.ok,
-      unstored_halts c.args.name.now c.args.site (g.F.Files.shelf c.take_name.new.files) (g.F.Files.shelf c.answer_all.new.files) (g.F.Files.shelf c.keep_feed.new.files) _ _ _ e kept.1
-          (was_read c.in-Ok.old, desk c.in-Ok-opened.world (g.F.Files.shelf c.stored.new.files), start, desk c.answer_all.new.world (g.F.Files.shelf c.answer_all.new.files), (c.answer_all.ensures.stays, c.in_default-answer_all.ensures.ok), kept),
-    )) c.keep_feed.ensures.err
-
-pub returns-clause-device : goal.returns-clause-device
-returns-clause-device g c is =
-    let kept = subst (λ r. IfErr r (IsNotStored c.args.name.now (g.F.Files.shelf c.answer_all.new.files) (g.F.Files.shelf c.keep_feed.new.files))) is c.keep_feed.ensures.err in
-    fails_later (g.F.Files.shelf c.args.files.now).failures (g.F.Files.shelf c.take_name.new.files).failures (g.F.Files.shelf c.stored.new.files).failures (g.F.Files.shelf c.answer_all.new.files).failures (g.F.Files.shelf c.keep_feed.new.files).failures
-    c.in_default.ensures.ok.failures c.stored.ensures.stays.1 c.answer_all.ensures.stays.1 kept.1.0 kept.1.1
+      (c.answer_all.ensures.stays, c.in_ok-answer_all.ensures.ok),
+      c.in_ok-keep_feed.ensures.ok,
+    )

@@ -1,12 +1,17 @@
 use Rattle.desk_files.proofs.Shelves.{stays_same, stays_trans}
-use Rattle.std.proofs.Common.{rules, ◌<◌, length, take, subst}
+use Rattle.std.proofs.Common.{rules, ◌<◌, length, refl, take, subst}
 use Rattle.std.specs.Io.KnownBytes.{Consumes}
 use Rattle.std.proofs.lemmas.Result.{on_err_weaker, on_ok_weaker}
-use Rattle.desk_script.specs.Desk.{desk}
+use Rattle.desk_steps.specs.Desk.{desk}
 use Rattle.desk_script.specs.Script.{Turn, Fronts}
 use Rattle.desk_script.specs.Pending.{last_line}
+use Rattle.desk_steps.proofs.Keeping.{keeps_same, keeps_trans}
+use Rattle.desk_script.proofs.Bytes.{on_err}
 use Rattle.desk_script.proofs.Carry.{carries_more, carries_front, carries_end, carries_end_front, carries_stop}
 use Rattle.desk_script.proofs.stream.answer_all.Goals as goal
+
+pub reads-init : goal.reads-init
+reads-init g c = record { kept = search rules; stays = stays_same _; sites = keeps_same _ _ refl; carries = search rules }
 
 pub returns-in-Err-clause-err : goal.returns-in-Err-clause-err
 returns-in-Err-clause-err g c = carries_stop (desk c.args.world.now (g.F.Files.shelf c.args.files.now)) (desk c.reads.world (g.F.Files.shelf c.reads.files)) _ _ _ _ _ c.reads.line.items (stays_same _) c.reads.invariant.carries
@@ -27,16 +32,21 @@ returns-in-Ok-eq0-clause-err g c =
     on_err_weaker c.finish.result (λ turn. carries_end_front (desk c.args.world.now (g.F.Files.shelf c.args.files.now)) (desk c.reads.world (g.F.Files.shelf c.reads.files)) (g.F.Files.shelf c.finish.new.files) _ _ _ _ (g.W.Write.contents c.reads.writer) _ c.reads.line.items c.reads.invariant.carries read end
     (subst (λ l. Fronts (desk c.reads.world (g.F.Files.shelf c.reads.files)) (g.F.Files.shelf c.finish.new.files) (g.W.Write.contents c.reads.writer) (g.W.Write.contents c.finish.new.writer) (last_line l)) c.deref.ensures.value turn)) c.finish.ensures.err
 
-pub returns-in-Err-take_bytes-clause-err : goal.returns-in-Err-take_bytes-clause-err
-returns-in-Err-take_bytes-clause-err g c =
-    carries_front (desk c.args.world.now (g.F.Files.shelf c.args.files.now)) (desk c.reads.world (g.F.Files.shelf c.reads.files)) (g.F.Files.shelf c.take_bytes.new.files) _ _ _ _ (g.W.Write.contents c.reads.writer) _ c.reads.line.items (take c.in-Ok.n c.read.new.buf) c.reads.invariant.carries c.in-Ok.ensures.bytes.0 c.in-Err-take_bytes.ensures.err
+pub returns-in_err-take_bytes-in-Ok-clause-err : goal.returns-in_err-take_bytes-in-Ok-clause-err
+returns-in_err-take_bytes-in-Ok-clause-err g c =
+    on_err c.from_residual.result
+    (carries_front (desk c.args.world.now (g.F.Files.shelf c.args.files.now)) (desk c.reads.world (g.F.Files.shelf c.reads.files)) (g.F.Files.shelf c.take_bytes.new.files) _ _ _ _ (g.W.Write.contents c.reads.writer) _ c.reads.line.items (take c.in-Ok.n c.read.new.buf) c.reads.invariant.carries c.in-Ok.ensures.bytes.0 c.in_err-take_bytes-in-Ok.ensures.err)
 
 pub reads-preserved : goal.reads-preserved
 reads-preserved g c = record {
   kept = c.take_bytes.ensures.kept;
   stays = stays_trans c.reads.invariant.stays c.take_bytes.ensures.stays;
-  carries = carries_more (desk c.args.world.now (g.F.Files.shelf c.args.files.now)) (desk c.reads.world (g.F.Files.shelf c.reads.files)) (desk c.take_bytes.new.world (g.F.Files.shelf c.take_bytes.new.files)) _ _ _ _ (g.W.Write.contents c.reads.writer) _ c.reads.line.items (take c.in-Ok.n c.read.new.buf) c.take_bytes.new.line.items c.reads.invariant.carries c.in-Ok.ensures.bytes.0 c.in_default.ensures.ok;
+  sites = keeps_trans c.args.world.now c.reads.world c.take_bytes.new.world c.reads.invariant.sites c.in_ok-take_bytes-in-Ok.ensures.sites;
+  carries = carries_more (desk c.args.world.now (g.F.Files.shelf c.args.files.now)) (desk c.reads.world (g.F.Files.shelf c.reads.files)) (desk c.take_bytes.new.world (g.F.Files.shelf c.take_bytes.new.files)) _ _ _ _ (g.W.Write.contents c.reads.writer) _ c.reads.line.items (take c.in-Ok.n c.read.new.buf) c.take_bytes.new.line.items c.reads.invariant.carries c.in-Ok.ensures.bytes.0 c.in_ok-take_bytes-in-Ok.ensures.ok;
 }
 
 pub returns-clause-err : goal.returns-clause-err
 returns-clause-err g c = carries_stop (desk c.args.world.now (g.F.Files.shelf c.args.files.now)) (desk c.reads.world (g.F.Files.shelf c.reads.files)) _ _ _ _ _ c.reads.line.items (stays_same _) c.reads.invariant.carries
+
+pub returns-in-Ok-eq0-clause-sites : goal.returns-in-Ok-eq0-clause-sites
+returns-in-Ok-eq0-clause-sites g c = on_ok_weaker c.finish.result (λ kept. keeps_trans c.args.world.now c.reads.world c.finish.new.world c.reads.invariant.sites kept) c.finish.ensures.sites

@@ -1,12 +1,19 @@
-use Rattle.std.proofs.lemmas.Result.{on_err_weaker, on_ok_weaker}
+use Rattle.std.proofs.lemmas.Result.{err_from_is_err_and}
 use Rattle.desk_world.specs.Sites.{no_sites}
+use Rattle.desk_script.proofs.Bytes.{on_err}
 use Rattle.desk_script.proofs.Carry.{run_whole, run_front}
 use Rattle.desk_script.proofs.stream.run.Goals as goal
 
 pub returns-clause-ok : goal.returns-clause-ok
 returns-clause-ok g c =
-    on_ok_weaker c.answer_all.result (run_whole c.new-world.result no_sites c.answer_all.new.world (g.F.Files.shelf c.args.files.now) (g.F.Files.shelf c.answer_all.new.files) (g.R.Read.remaining c.args.reader.now) _ _ c.new-world.ensures) c.answer_all.ensures.ok
+    run_whole c.new-world.result no_sites c.answer_all.new.world (g.F.Files.shelf c.args.files.now) (g.F.Files.shelf c.answer_all.new.files) (g.R.Read.remaining c.args.reader.now) _ _ c.new-world.ensures c.in_ok-answer_all.ensures.ok
 
-pub returns-clause-err : goal.returns-clause-err
-returns-clause-err g c =
-    on_err_weaker c.answer_all.result (run_front c.new-world.result no_sites (g.F.Files.shelf c.args.files.now) (g.F.Files.shelf c.answer_all.new.files) (g.R.Read.remaining c.args.reader.now) _ _ c.new-world.ensures) c.answer_all.ensures.err
+pub returns-in_err-answer_all-clause-err : goal.returns-in_err-answer_all-clause-err
+returns-in_err-answer_all-clause-err g c =
+    on_err c.from_residual.result
+    (run_front c.new-world.result no_sites (g.F.Files.shelf c.args.files.now) (g.F.Files.shelf c.answer_all.new.files) (g.R.Read.remaining c.args.reader.now) _ _ c.new-world.ensures c.in_err-answer_all.ensures.err)
+
+pub returns-in_err-answer_all-clause-own : goal.returns-in_err-answer_all-clause-own
+returns-in_err-answer_all-clause-own g c =
+    let p = err_from_is_err_and c.from_residual.result c.from_residual.ensures.1 in
+    rw p.1 (c.in_err-answer_all.field-0.0, p.2)

@@ -1,7 +1,7 @@
 use Rattle.std.proofs.Common.{◌≡◌, ℕ, ◌≤◌, List, ◌++◌, drop, length}
 use Rattle.desk_files.specs.Files.{Stays}
-use Rattle.desk_script.specs.Desk.{desk}
-use Rattle.desk_script.specs.Lines.{Line}
+use Rattle.desk_steps.specs.Desk.{KeepsSites, desk}
+use Rattle.desk_steps.specs.Line.{Line}
 use Rattle.desk_script.specs.Script.{Turn}
 use Rattle.desk_script.specs.Pending.{lines_from}
 use Rattle.desk_script.proofs.stream.take_bytes.Given as goal
@@ -10,6 +10,7 @@ abbrev pub invariant-loop-b : goal.invariant-loop-b
 invariant-loop-b g l = record {
   kept : length l.line.items ≤ 65538;
   stays : Stays (g.F.Files.shelf l.fn.files) (g.F.Files.shelf l.files);
+  sites : KeepsSites l.fn.world l.world;
   moves : (done : List Line) × Turn (desk l.fn.world (g.F.Files.shelf l.fn.files)) (desk l.world (g.F.Files.shelf l.files)) (g.W.Write.contents l.fn.writer) (g.W.Write.contents l.writer) done
       × ((more : List ℕ) → lines_from l.fn.line.items (l.bytes ++ more) ≡ done ++ lines_from l.line.items (drop l.b-index l.bytes ++ more));
 }

@@ -6,7 +6,7 @@ use Rattle.desk_blocks.proofs.tally.TallySummaryEntry.with.Goals.{then-x, else-x
 
 pub returns-then-is_before : goal.returns-then-is_before
 returns-then-is_before c = λ xs i l w h.
-    let short = tally-short c.args.self xs h l in
+    let short = tally-short c.args.self xs 281474976710656 h l in
     let shown : c.if-x.result ≡ c.args.self.shown + cond (is_shown c.args.x) 1 0 = elim c.if-x.branch [
       | then-x w ↦ rw w.if-x.true (omega (arith, w.result-is))
       | else-x w ↦ rw w.if-x.false (omega (arith, w.result-is, w.saturating_add.ensures))

@@ -14,6 +14,7 @@ invariant_of-result g c =
         room = omega (arith, pages.ok, c.in_ok-free.ensures.len);
         back = omega (arith, pages.ok, c.in_ok-free.ensures.len, c.in_ok-free.ensures.capacity);
         few = omega (arith, pages.ok.0, c.in_ok-free.ensures.len);
+        fits = omega (arith, c.if-items-gt-MOST.false);
       },
-      rw c.deref.ensures.value at c.find_starts.ensures,
+      rw c.deref.ensures.value at c.find_groups.ensures,
     )

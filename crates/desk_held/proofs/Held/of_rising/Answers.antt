@@ -1,0 +1,7 @@
+use Rattle.std.proofs.Common.{◌∙◌, ap, refl}
+use Rattle.desk_ops.specs.OpSet.{no_ops, with_all, from_rising}
+use Rattle.desk_held.proofs.Joins.{of_rising_list}
+use Rattle.desk_held.proofs.Held.of_rising.Goals as goal
+
+pub returns : goal.returns
+returns g c = ap from_rising c.in-Ok.ensures ∙ of_rising_list c.args.ops.now (c.is_rising.ensures c.if-not-is_rising.false)

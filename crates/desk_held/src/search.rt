@@ -1,0 +1,81 @@
+//! Searches among operations that strictly rise.
+ghost use Rattle.std.specs.Prelude.{◌≡◌, T, IsTrue};
+ghost use Rattle.std.specs.Ordering.{is_lt};
+ghost use Rattle.desk_ops.specs.Order.{op_cmp};
+ghost use Rattle.desk_ops.specs.OpSet.{is_rising};
+
+use desk_ops::{Op, Stamp};
+use desk_pages::Pick;
+
+/// Whether the first operation comes before the second.
+fn is_earlier(a: &Op, b: &Op) -> bool
+    ensures { result ≡ is_lt (op_cmp a.now b.now) }
+{
+    a < b
+}
+
+/// Picks what comes before an operation.
+#[derive(Clone, Copy)]
+pub struct Earlier {
+    pub op: Op,
+}
+
+impl Pick<Op, ()> for Earlier {
+    ghost use Rattle.std.specs.Ordering.{is_lt};
+    ghost use Rattle.desk_ops.specs.Order.{op_cmp};
+
+    ghost picked = { λ s x. is_lt (op_cmp x s.op) };
+
+    fn picks(&self, x: Op) -> bool {
+        is_earlier(&x, &self.op)
+    }
+}
+
+/// Picks what comes before an operation, and that itself.
+#[derive(Clone, Copy)]
+pub struct UpTo {
+    pub op: Op,
+}
+
+impl Pick<Op, ()> for UpTo {
+    ghost use Rattle.std.specs.Prelude.{not};
+    ghost use Rattle.std.specs.Ordering.{is_lt};
+    ghost use Rattle.desk_ops.specs.Order.{op_cmp};
+
+    ghost picked = { λ s x. not (is_lt (op_cmp s.op x)) };
+
+    fn picks(&self, x: Op) -> bool {
+        !is_earlier(&self.op, &x)
+    }
+}
+
+/// Picks what bears a smaller stamp.
+#[derive(Clone, Copy)]
+pub struct Below {
+    pub stamp: Stamp,
+}
+
+impl Pick<Op, ()> for Below {
+    ghost use Rattle.desk_ops.specs.Op.{stamp_of};
+    ghost use Rattle.desk_ops.specs.Stamp.{before};
+
+    ghost picked = { λ s x. before (stamp_of x) s.stamp };
+
+    fn picks(&self, x: Op) -> bool {
+        x.stamp().is_before(self.stamp)
+    }
+}
+
+/// Whether each operation comes before the next.
+pub fn is_rising(ops: &[Op]) -> bool
+    ensures { IsTrue result → T (is_rising ops.now) }
+{
+    let mut i = 1;
+    while i < ops.len() {
+        if !is_earlier(&ops[i - 1], &ops[i]) {
+            return false;
+        }
+        i += 1;
+    }
+    true
+}

@@ -1,0 +1,39 @@
+-- What a made ribbon casts.
+use Rattle.std.proofs.Common.{◌≡◌, ℕ, List, sym, subst, ◌∙◌}
+use Rattle.std.specs.Prelude.{◌≢◌, Option, Result, Ok, Err, IfOk}
+use Rattle.desk_ops.specs.declared.op.Symbol.{Symbol}
+use Rattle.desk_ops.specs.declared.op.Key.{Key}
+use Rattle.desk_signals.specs.declared.RibbonRow.{RibbonRow}
+use Rattle.desk_case.specs.Case.{CaseValues}
+use Rattle.desk_wedge.specs.Wedge.{WedgeValues}
+use Rattle.desk_job.specs.declared.JobFault.{JobFault}
+use Rattle.desk_job.specs.Answer.{IsMade}
+use Rattle.desk_job.specs.Reading.{CastsCopy}
+use Rattle.desk_caster.specs.Caster.{Line, cast}
+use Rattle.desk_caster.specs.Reading.{IsRibbon, Tells}
+use Rattle.desk_caster.specs.ReadingLaws.{RibbonsHaveNoFault, RibbonsHaveOneReading}
+use Rattle.desk_caster.specs.declared.RibbonFault.{RibbonFault}
+use Rattle.desk_caster.specs.declared.RibbonFault.TheVariants as ribbons
+use Rattle.desk_caster.specs.declared.CastFault.{CastFault}
+use Rattle.desk_caster.specs.declared.CastFault.TheVariants as casts
+use Rattle.desk_answers.specs.Reply.{Reply}
+use Rattle.desk_inputs.specs.Job.{TellsCast, TellsLines}
+
+tells : (case : CaseValues) (wedge : WedgeValues) (bytes : List ℕ) (made : Result (List RibbonRow) (List JobFault)) (reply : Reply) → IsMade bytes made → TellsCast case wedge bytes reply → TellsLines case wedge made reply
+tells case wedge bytes (Ok rows) reply e h = subst (λ b. TellsCast case wedge b reply) e h
+tells case wedge bytes (Err faults) reply e h = absurd e
+
+-- the answer of the bytes is that of the job
+pub of_job : {X E : Type 0} (case : CaseValues) (wedge : WedgeValues) (bytes slice : List ℕ) (made : Result (List RibbonRow) (List JobFault)) (r : Result X E) (told : X → Reply)
+    → slice ≡ bytes → IsMade bytes made → IfOk r (λ a. TellsCast case wedge slice (told a)) → IfOk r (λ a. TellsLines case wedge made (told a))
+of_job case wedge bytes slice made (Ok a) told e is h = tells case wedge bytes made (told a) is (subst (λ b. TellsCast case wedge b (told a)) e h)
+of_job case wedge bytes slice made (Err x) told e is h = tt
+
+-- the bytes of a made ribbon are read, and its rows are cast
+pub castable : (copy : List Symbol) (settings : Key → Option ℕ) (case : CaseValues) (wedge : WedgeValues) (bytes slice : List ℕ) → slice ≡ bytes → CastsCopy copy settings case wedge bytes
+    → (rows : List RibbonRow) × IsRibbon slice rows × ((lines : List Line) × (cast case wedge rows ≡ Ok lines))
+castable copy settings case wedge bytes slice e h = (h.rows, subst (λ b. IsRibbon b h.rows) (sym e) h.is, (h.got, h.casts))
+
+-- a ribbon has no fault
+pub no_fault : (bytes : List ℕ) (why : RibbonFault) → RibbonsHaveNoFault → why ≢ ribbons.NoMemory → (rows : List RibbonRow) × IsRibbon bytes rows → Tells bytes why → ⊥
+no_fault bytes why law other h told = law bytes h.0 why other h.1 told

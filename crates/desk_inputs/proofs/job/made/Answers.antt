@@ -1,0 +1,19 @@
+use Rattle.std.proofs.Common.{subst, sym}
+use Rattle.std.specs.Prelude.{IfOk}
+use Rattle.desk_ops.specs.Settings.{setting_of}
+use Rattle.desk_ops.specs.Shown.{copy_of}
+use Rattle.desk_inputs.specs.declared.job.Wanted.{Wanted}
+use Rattle.desk_inputs.specs.Job.{TellsJob, job_of}
+use Rattle.desk_answers.specs.Reply.{reply}
+use Rattle.desk_inputs.proofs.Casts.{castable, of_job}
+use Rattle.desk_inputs.proofs.job.made.Goals as goal
+
+pub cast_bytes-requires : goal.cast_bytes-requires
+cast_bytes-requires g c =
+    let set = c.args.replica.now.ops in
+    castable (copy_of set) (setting_of set) c.args.case.now c.args.wedge.now c.in-Ok.bytes.items c.deref.result.now c.deref.ensures.value c.in-Ok.ensures.cast
+
+pub returns-in-Lines : goal.returns-in-Lines
+returns-in-Lines g c =
+    subst (λ (w : Wanted). IfOk c.cast_bytes.result (λ a. TellsJob w c.args.case.now c.args.wedge.now (job_of c.args.replica.now.ops c.args.case.now c.args.wedge.now) (reply a))) (sym c.in-Lines.is)
+    (of_job c.args.case.now c.args.wedge.now c.in-Ok.bytes.items c.deref.result.now (job_of c.args.replica.now.ops c.args.case.now c.args.wedge.now) c.cast_bytes.result reply c.deref.ensures.value c.in-Ok.ensures.ok c.cast_bytes.ensures)

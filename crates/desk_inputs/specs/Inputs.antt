@@ -1,0 +1,49 @@
+-- What the files of a command give.
+use Rattle.std.specs.Prelude.{◌≡◌, ℕ, List, Option, Some, Result, Ok, Err}
+use Rattle.desk_case.specs.Case.{CaseValues}
+use Rattle.desk_case.specs.File.{case_of}
+use Rattle.desk_wedge.specs.Wedge.{WedgeValues}
+use Rattle.desk_wedge.specs.File.{wedge_of}
+use Rattle.desk_answers.specs.declared.text.Refusal.{Refusal}
+use Rattle.desk_answers.specs.NotDone.{case_refused, file_refused, wedge_refused}
+use Rattle.desk_answers.specs.declared.not_done.NotDone.{NotDone}
+use Rattle.desk_answers.specs.declared.not_done.NotDone.TheVariants as ends
+use Rattle.desk_files.specs.declared.files.FileRefusal.{FileRefusal}
+use Rattle.desk_files.specs.Files.{Counts, Reads, Shelf, Stays}
+
+-- it holds of what was returned or refused, unless memory ran out
+abbrev pub IfAnswered : {V : Type 0} → (Result V Refusal → Type 0) → Result V NotDone → Type 0
+IfAnswered Holds (Ok value) = Holds (Ok value)
+IfAnswered Holds (Err (ends.Refused why)) = Holds (Err why)
+IfAnswered Holds (Err (ends.Stopped taken why)) = ⊥
+IfAnswered Holds (Err ends.NoMemory) = Unit {0}
+
+-- what was read, or the refusal that says why it was not
+abbrev pub Tells : {V E : Type 0} → (E → Option Refusal) → Result V E → Result V Refusal → Type 0
+Tells refused (Ok value) given = given ≡ Ok value
+Tells refused (Err why) given = (told : Refusal) × (refused why ≡ Some told) × (given ≡ Err told)
+
+-- what bytes mean, or a refusal
+abbrev pub TellsBytes : {V E : Type 0} → (List ℕ → Result V E) → (E → Option Refusal) → Result (List ℕ) FileRefusal → Result V Refusal → Type 0
+TellsBytes meaning refused (Ok bytes) given = Tells refused (meaning bytes) given
+TellsBytes meaning refused (Err why) given = (told : Refusal) × (file_refused why ≡ Some told) × (given ≡ Err told)
+
+-- A file is read by its name, and none changes. It gives its bytes or a refusal: that of a device exactly where the device failed.
+abbrev pub FileGives : {V E : Type 0} → (List ℕ → Result V E) → (E → Option Refusal) → List ℕ → Shelf → Result V Refusal → Shelf → Type 0
+FileGives meaning refused name before given after =
+    Stays before after × (read : Result (List ℕ) FileRefusal) × Reads (before.kept name) read × Counts read before after
+    × TellsBytes meaning refused read given
+
+abbrev pub with_case : CaseValues → Result WedgeValues Refusal → Result (CaseValues × WedgeValues) Refusal
+with_case case (Ok wedge) = Ok (case, wedge)
+with_case case (Err why) = Err why
+
+-- the wedge file is read after the case
+abbrev pub ThenWedge : List ℕ → Result CaseValues Refusal → Shelf → Result (CaseValues × WedgeValues) Refusal → Shelf → Type 0
+ThenWedge name (Err why) mid given after = (given ≡ Err why) × (after ≡ mid)
+ThenWedge name (Ok case) mid given after = (wedge : Result WedgeValues Refusal) × FileGives wedge_of wedge_refused name mid wedge after × (given ≡ with_case case wedge)
+
+-- the case file, its reading, the wedge file, its reading, each by its name: the first refusal counts
+abbrev pub BothGive : List ℕ → List ℕ → Shelf → Result (CaseValues × WedgeValues) Refusal → Shelf → Type 0
+BothGive of_case of_wedge before given after =
+    (case : Result CaseValues Refusal) × ((mid : Shelf) × FileGives case_of case_refused of_case before case mid × ThenWedge of_wedge case mid given after)

@@ -1,0 +1,51 @@
+-- The job of a site's copy by two files.
+use Rattle.std.specs.Prelude.{◌≡◌, ℕ, List, Result, Ok, Err, MatchResult}
+use Rattle.desk_ops.specs.OpSet.{OpSet}
+use Rattle.desk_ops.specs.Shown.{copy_of}
+use Rattle.desk_ops.specs.Settings.{setting_of}
+use Rattle.desk_signals.specs.declared.RibbonRow.{RibbonRow}
+use Rattle.desk_case.specs.Case.{CaseValues}
+use Rattle.desk_wedge.specs.Wedge.{WedgeValues}
+use Rattle.desk_ribbon.specs.Ribbon.{ribbon}
+use Rattle.desk_caster.specs.Caster.{Line as CastLine, cast}
+use Rattle.desk_caster.specs.Reading.{IsRibbon}
+use Rattle.desk_job.specs.Job.{job}
+use Rattle.desk_job.specs.declared.JobFault.{JobFault}
+use Rattle.desk_files.specs.Files.{Shelf}
+use Rattle.desk_answers.specs.Reply.{Reply, Refused, lines_told}
+use Rattle.desk_answers.specs.Reply as replies
+use Rattle.desk_answers.specs.declared.text.Refusal.{Refusal}
+use Rattle.desk_inputs.specs.Inputs.{BothGive}
+use Rattle.desk_inputs.specs.declared.job.Wanted.{Wanted}
+use Rattle.desk_inputs.specs.declared.job.Wanted.TheVariants as wants
+
+-- the job of a set: the rows of its ribbon, or its faults
+abbrev pub job_of : OpSet → CaseValues → WedgeValues → Result (List RibbonRow) (List JobFault)
+job_of set case wedge = job (copy_of set) (setting_of set) case wedge
+
+abbrev pub TellsRibbon : Result (List RibbonRow) (List JobFault) → Reply → Type 0
+TellsRibbon (Ok rows) reply = reply ≡ replies.Ribbon (ribbon rows)
+TellsRibbon (Err faults) reply = reply ≡ replies.NoRibbon faults
+
+-- bytes are read as a ribbon, and its rows are cast
+abbrev pub TellsCast : CaseValues → WedgeValues → List ℕ → Reply → Type 0
+TellsCast case wedge bytes reply =
+    (rows : List RibbonRow) × IsRibbon bytes rows × ((lines : List CastLine) × (cast case wedge rows ≡ Ok lines) × (reply ≡ replies.Lines (lines_told lines)))
+
+abbrev pub TellsLines : CaseValues → WedgeValues → Result (List RibbonRow) (List JobFault) → Reply → Type 0
+TellsLines case wedge (Ok rows) reply = TellsCast case wedge (ribbon rows) reply
+TellsLines case wedge (Err faults) reply = reply ≡ replies.NoRibbon faults
+
+-- what is wanted of a job, or its faults
+abbrev pub TellsJob : Wanted → CaseValues → WedgeValues → Result (List RibbonRow) (List JobFault) → Reply → Type 0
+TellsJob wants.Ribbon case wedge job reply = TellsRibbon job reply
+TellsJob wants.Lines case wedge job reply = TellsLines case wedge job reply
+
+abbrev pub IsJobOf : Wanted → OpSet → CaseValues → WedgeValues → Reply → Type 0
+IsJobOf wanted set case wedge reply = TellsJob wanted case wedge (job_of set case wedge) reply
+
+-- both files are read by their names, whatever they give, and the reply is what is wanted of the job by them, or the first refusal
+abbrev pub IsJobByFiles : Wanted → OpSet → List ℕ → List ℕ → Shelf → Reply → Shelf → Type 0
+IsJobByFiles wanted set of_case of_wedge before reply after =
+    (given : Result (CaseValues × WedgeValues) Refusal) × BothGive of_case of_wedge before given after
+    × MatchResult given (λ both. IsJobOf wanted set both.0 both.1 reply) (λ why. reply ≡ Refused why)

@@ -1,0 +1,31 @@
+-- What holds of the terms of every job that has no fault before its symbols.
+use Rattle.std.specs.Prelude.{◌≡◌, ◌≤◌, true, ℤ, pos, ◌≤ℤ◌, ◌<ℤ◌}
+use Rattle.desk_units.specs.WedgeSum.{IsWedgeSum}
+use Rattle.desk_wedge.specs.Wedge.{IsWedge}
+use Rattle.desk_case.specs.Case.{IsCase}
+use Rattle.desk_case.specs.File.{is_descending, units_of_cells}
+use Rattle.desk_ops.specs.Op.{IsValue}
+use Rattle.desk_ops.specs.declared.op.Key.TheVariants.{Measure, Tight, Loose}
+use Rattle.desk_job.specs.declared.terms.Values.{Values}
+use Rattle.desk_job.specs.Job.{Terms, tight_space}
+
+-- the case and the wedge are lawful, the values are in their ranges, the fills descend, and a space at tight is wider than 0
+pub record IsUsable (terms : Terms) : Type 0 where
+  pub case : IsCase terms.case
+  pub wedge : IsWedge terms.wedge
+  pub points : (12 ≤ terms.points) × (terms.points ≤ 720)
+  pub tight : IsWedgeSum terms.tight
+  pub loose : IsWedgeSum terms.loose
+  pub descend : is_descending (units_of_cells terms.wedge terms.case.fill) ≡ true
+  pub space : pos 0 <ℤ tight_space terms
+
+-- The width is that of one matrix at neutral.
+pub record IsSmall (width : ℤ) : Type 0 where
+  pub some : pos 1 ≤ℤ width
+  pub limit : width ≤ℤ pos 576000
+
+-- The values are in their ranges.
+pub record AreLawful (values : Values) : Type 0 where
+  pub measure : IsValue Measure values.measure
+  pub tight : IsValue Tight values.tight
+  pub loose : IsValue Loose values.loose

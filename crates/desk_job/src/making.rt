@@ -1,0 +1,257 @@
+//! The lines of a copy: their faults, or their rows.
+//!
+//! Each line is set once, for its fault or for its rows; after the first fault no more rows are punched.
+
+ghost use Rattle.std.specs.Prelude.{◌≡◌, ◌+◌, ◌≤◌, ◌<◌, ◌^◌, ◌∷◌, [], ◌-◌, ◌||◌, ◌==◌, length, drop, All, Err, OnOk, IfOk, IfErr};
+ghost use Rattle.desk_ribbon.specs.Ribbon.{head_row, ribbon};
+ghost use Rattle.desk_job.specs.Answer.{IsMade, IsRefused, HasFaults, set_copy};
+ghost use Rattle.desk_lines.specs.Groups.{AreWidths};
+ghost use Rattle.desk_job.specs.Job as job;
+ghost use Rattle.desk_job.specs.declared.JobRefusal.TheVariants as refusal;
+ghost use Rattle.desk_job.specs.Terms.{IsUsable};
+ghost use Rattle.desk_job.specs.Setting.{IsWord, line_at, words_at};
+ghost use Rattle.desk_job.specs.Making.{Adds, AreWordsOf, CanAdd, IsRange, all_lines, lines_at, paragraph_lines};
+
+use crate::punch::punch;
+use crate::setting::set_line;
+use crate::terms::Terms;
+use crate::{JobFault, JobFaults, JobRefusal};
+use desk_case::MatrixCase;
+use desk_lines::{Group, Paragraph, Word, break_lines, is_line_feed, is_space, paragraphs};
+use desk_ops::{NoMemory, Symbol};
+use desk_ribbon::RibbonWriter;
+use desk_units::Atoms;
+use std::alloc::Allocator;
+use std::marker::Model;
+
+/// What is found of a copy, line by line: the faults, and the ribbon as long as there is none.
+#[derive(Drop)]
+pub struct Making<A: Allocator + Copy> {
+    next: usize,
+    faults: Vec<JobFault, A>,
+    ribbon: RibbonWriter<A>,
+}
+
+impl<A: Allocator + Copy> Model for Making<A> {
+    ghost use Rattle.desk_job.specs.Making.{Found};
+
+    ghost Value = { Found };
+
+    ghost view = { λ m. record { next = m.next; faults = m.faults.items; rows = m.ribbon } };
+}
+
+/// The widths of words.
+fn word_widths<A: Allocator>(
+    alloc: A,
+    terms: &Terms,
+    copy: &[Symbol],
+    words: &[Word],
+) -> Result<Vec<Atoms, A>, NoMemory>
+    requires copy { length copy.now ≤ 2 ^ 20 }
+    requires words { All (IsWord copy.now) words.now }
+    ensures value { IfOk result (λ widths. widths.items ≡ job.widths terms.now (words_at copy.now words.now)) }
+    ensures within { IfOk result (λ widths. AreWidths widths.items) }
+{
+    let mut widths = Vec::with_capacity(alloc, words.len())?;
+    for word in words {
+        widths.push(terms.symbols_width(&copy[word.from..word.to]))?;
+    }
+    Ok(widths)
+}
+
+/// Whether the line of this group, at this place, is to be filled: the last one, and each of one word.
+fn is_filled(groups: &[Group], i: usize, group: &Group) -> bool
+    requires place { i < length groups.now }
+    requires order { (group.now).from < (group.now).to }
+    ensures { result ≡ (length (drop (i + 1) groups.now) == 0) || ((group.now).to - (group.now).from == 1) }
+{
+    i + 1 == groups.len() || group.to - group.from == 1
+}
+
+impl<A: Allocator + Copy> Making<A> {
+    /// Nothing yet.
+    fn new(alloc: A) -> Making<A>
+        ensures { result ≡ record { next = 1; faults = []; rows = [] } }
+    {
+        Making {
+            next: 1,
+            faults: Vec::new(alloc),
+            ribbon: RibbonWriter::new(alloc),
+        }
+    }
+
+    /// Adds a line of these words.
+    fn add_line(
+        &mut self,
+        alloc: A,
+        terms: &Terms,
+        copy: &[Symbol],
+        words: &[Word],
+        widths: &[Atoms],
+        filled: bool,
+    ) -> Result<(), NoMemory>
+        requires some { 1 ≤ length words.now }
+        requires number { length words.now ≤ 2 ^ 20 + 1 }
+        requires words { All (IsWord copy.now) words.now }
+        requires widths { widths.now ≡ job.widths terms.now (words_at copy.now words.now) }
+        requires within { AreWidths widths.now }
+        requires can_add { CanAdd terms.now (line_at copy.now words.now filled ∷ []) self.old }
+        ensures { OnOk result (Adds terms.now (line_at copy.now words.now filled ∷ []) self.old self.new) }
+    {
+        match set_line(terms, self.next, copy, words, widths, filled) {
+            Err(fault) => self.faults.push(fault)?,
+            Ok(setting) => {
+                if self.faults.is_empty() {
+                    punch(&mut self.ribbon, alloc, terms, copy, words, &setting)?;
+                }
+            }
+        }
+        self.next += 1;
+        Ok(())
+    }
+
+    /// Adds the lines of these groups of words, the last of which is the last of its paragraph.
+    fn add_groups(
+        &mut self,
+        alloc: A,
+        terms: &Terms,
+        copy: &[Symbol],
+        words: &[Word],
+        widths: &[Atoms],
+        groups: &[Group],
+    ) -> Result<(), NoMemory>
+        requires number { length words.now ≤ 2 ^ 20 + 1 }
+        requires words { All (IsWord copy.now) words.now }
+        requires widths { widths.now ≡ job.widths terms.now (words_at copy.now words.now) }
+        requires within { AreWidths widths.now }
+        requires ranges { All (IsRange (length words.now)) groups.now }
+        requires can_add { CanAdd terms.now (lines_at copy.now words.now groups.now) self.old }
+        ensures { OnOk result (Adds terms.now (lines_at copy.now words.now groups.now) self.old self.new) }
+    {
+        for (i, group) in groups.iter().enumerate() {
+            let filled = is_filled(groups, i, group);
+            let these = &words[group.from..group.to];
+            let wide = &widths[group.from..group.to];
+            self.add_line(alloc, terms, copy, these, wide, filled)?;
+        }
+        Ok(())
+    }
+
+    /// Adds the lines of a paragraph of these words.
+    fn add_paragraph(
+        &mut self,
+        alloc: A,
+        terms: &Terms,
+        copy: &[Symbol],
+        words: &[Word],
+    ) -> Result<(), NoMemory>
+        requires copy { length copy.now ≤ 2 ^ 20 }
+        requires number { length words.now ≤ 2 ^ 20 + 1 }
+        requires words { All (IsWord copy.now) words.now }
+        requires can_add { CanAdd terms.now (paragraph_lines terms.now copy.now words.now) self.old }
+        ensures { OnOk result (Adds terms.now (paragraph_lines terms.now copy.now words.now) self.old self.new) }
+    {
+        let widths = word_widths(alloc, terms, copy, words)?;
+        let groups = break_lines(alloc, &widths, terms.tight_space(), terms.measure())?;
+        self.add_groups(alloc, terms, copy, words, &widths, &groups)
+    }
+
+    /// Adds the lines of paragraphs.
+    fn add_paragraphs(
+        &mut self,
+        alloc: A,
+        terms: &Terms,
+        copy: &[Symbol],
+        found: &[Paragraph<A>],
+    ) -> Result<(), NoMemory>
+        requires copy { length copy.now ≤ 2 ^ 20 }
+        requires words { All (AreWordsOf copy.now) found.now }
+        requires can_add { CanAdd terms.now (all_lines terms.now copy.now found.now) self.old }
+        ensures { OnOk result (Adds terms.now (all_lines terms.now copy.now found.now) self.old self.new) }
+    {
+        for paragraph in found {
+            self.add_paragraph(alloc, terms, copy, paragraph.words())?;
+        }
+        Ok(())
+    }
+
+    /// The ribbon, or the faults found. Out of memory comes only where there is no fault.
+    fn finish(self) -> Result<Vec<u8, A>, JobRefusal<A>>
+        ensures ok { IfOk result (λ bytes. (self.faults ≡ []) × (bytes.items ≡ ribbon (head_row ∷ self.rows))) }
+        ensures err { IfErr result (λ refusal. HasFaults refusal self.faults) }
+        ensures memory { result ≡ Err refusal.NoMemory → self.faults ≡ [] }
+    {
+        let Making { faults, ribbon, .. } = self;
+        if faults.is_empty() {
+            match ribbon.finish() {
+                Ok(bytes) => Ok(bytes),
+                Err(NoMemory) => Err(JobRefusal::NoMemory),
+            }
+        } else {
+            Err(JobRefusal::Faults(JobFaults::from_vec(faults)))
+        }
+    }
+}
+
+/// Whether the case lacks the symbol, which is no separator.
+fn is_lacking(case: &MatrixCase, symbol: Symbol) -> bool
+    ensures { result ≡ job.is_lacking case.now symbol }
+{
+    !(is_space(symbol) || is_line_feed(symbol) || case.cell_of(symbol).is_some())
+}
+
+/// The place of each symbol that the case lacks.
+fn lacking<A: Allocator>(
+    alloc: A,
+    case: &MatrixCase,
+    copy: &[Symbol],
+) -> Result<Vec<JobFault, A>, NoMemory>
+    ensures { IfOk result (λ faults. faults.items ≡ job.lacking case.now 0 copy.now) }
+{
+    let mut faults = Vec::new(alloc);
+    for (i, symbol) in copy.iter().enumerate() {
+        if is_lacking(case, *symbol) {
+            faults.push(JobFault::NoMatrix(i))?;
+        }
+    }
+    Ok(faults)
+}
+
+/// What is found of all lines of a copy.
+fn make_lines<A: Allocator + Copy>(
+    alloc: A,
+    terms: &Terms,
+    copy: &[Symbol],
+) -> Result<Making<A>, NoMemory>
+    requires usable { IsUsable terms.now }
+    requires copy { length copy.now ≤ 2 ^ 20 }
+    ensures { IfOk result (λ making. Adds terms.now (job.lines terms.now copy.now) (record { next = 1; faults = []; rows = [] }) making) }
+{
+    let found = paragraphs(alloc, copy)?;
+    let mut making = Making::new(alloc);
+    making.add_paragraphs(alloc, terms, copy, &found)?;
+    Ok(making)
+}
+
+/// The ribbon of a copy, or the symbols that the case lacks, or else the faults of its lines.
+pub fn set_copy<A: Allocator + Copy>(
+    alloc: A,
+    terms: &Terms,
+    copy: &[Symbol],
+) -> Result<Vec<u8, A>, JobRefusal<A>>
+    requires { length copy.now ≤ 2 ^ 20 }
+    ensures ok { IfOk result (λ bytes. IsMade bytes.items (set_copy terms.now copy.now)) }
+    ensures err { IfErr result (λ refusal. IsRefused refusal (set_copy terms.now copy.now)) }
+{
+    let lacking = match lacking(alloc, terms.case(), copy) {
+        Ok(faults) => faults,
+        Err(NoMemory) => return Err(JobRefusal::NoMemory),
+    };
+    if !lacking.is_empty() {
+        return Err(JobRefusal::Faults(JobFaults::from_vec(lacking)));
+    }
+    match make_lines(alloc, terms, copy) {
+        Ok(making) => making.finish(),
+        Err(NoMemory) => Err(JobRefusal::NoMemory),
+    }
+}

@@ -1,0 +1,5 @@
+pub mod Documents
+pub mod Numbers
+pub mod Items
+pub mod Values
+pub mod FirstFault

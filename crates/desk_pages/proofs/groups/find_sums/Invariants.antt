@@ -1,0 +1,9 @@
+use Rattle.std.proofs.Common.{◌-◌, ◌/◌, length}
+use Rattle.desk_pages.specs.Pages.{IsSums}
+use Rattle.desk_pages.proofs.groups.find_sums.Given as goal
+
+abbrev pub invariant-loop-sums : goal.invariant-loop-sums
+invariant-loop-sums g l = IsSums g.S.Summary.tells l.pages l.sums.items
+
+abbrev pub decreases-loop-sums : goal.decreases-loop-sums
+decreases-loop-sums g l = length l.pages / 64 - length l.sums.items

@@ -1,0 +1,182 @@
+//! What is kept of each group of pages, so that a look-up by place and a search by summaries go over few pages.
+ghost use Rattle.std.specs.Prelude.{◌≡◌, ◌≢◌, ◌+◌, ◌*◌, ◌≤◌, ◌<◌, ◌^◌, ℕ, List, [], length, take, drop, slice_index_or, slice_set, vec_len, vec_capacity};
+ghost use Rattle.std.specs.List.{insert, remove};
+ghost use Rattle.desk_pages.specs.Pages.{joined, start_of, HasMore, IsGap, IsHalfFull, IsSums, IsGroups};
+
+use crate::page::{Page, Summary};
+use crate::pages::read;
+use crate::starts::{GROUP, find_starts, lower, raise};
+use std::alloc::{AllocError, Allocator};
+
+/// Where each group of pages begins, and a summary of each, as far as there is room to keep it.
+#[derive(Drop)]
+pub struct Groups<S: Copy, A: Allocator> {
+    pub starts: Vec<usize, A>,
+    pub sums: Vec<S, A>,
+}
+
+impl<S: Copy, A: Allocator> Groups<S, A> {
+    /// Room for so many groups, and what is known of them as it was.
+    pub fn make_room(&mut self, n: usize) -> Result<(), AllocError>
+        ensures starts { self.new.starts.items ≡ self.old.starts.items }
+        ensures sums { self.new.sums.items ≡ self.old.sums.items }
+    {
+        self.starts.reserve(n)?;
+        self.sums.reserve(n)
+    }
+}
+
+/// Finds where each group begins, and sums each up.
+pub fn find_groups<T: Copy, S: Summary<T>, A: Allocator>(
+    pages: &[Page<T, S, A>],
+    groups: &mut Groups<S, A>,
+)
+    requires { length (joined pages.now) < 2 ^ 48 }
+    ensures { IsGroups S.tells pages.now groups.new.starts.items groups.new.sums.items }
+{
+    find_starts(pages, &mut groups.starts);
+    find_sums(pages, &mut groups.sums);
+}
+
+/// Sums up each whole group, as far as there is room to keep it.
+fn find_sums<T: Copy, S: Summary<T>, A: Allocator>(pages: &[Page<T, S, A>], sums: &mut Vec<S, A>)
+    requires { length (joined pages.now) < 2 ^ 48 }
+    ensures { IsSums S.tells pages.now sums.new.items }
+{
+    sums.truncate(0);
+    while sums.len() < pages.len() / GROUP && sums.len() < sums.capacity() {
+        let sum = sum_of(pages, sums.len());
+        sums.push_reserved(sum);
+    }
+}
+
+/// The summary of a whole group.
+fn sum_of<T: Copy, S: Summary<T>, A: Allocator>(pages: &[Page<T, S, A>], g: usize) -> S
+    requires within { 64 * g + 64 ≤ length pages.now }
+    requires fits { length (joined pages.now) < 2 ^ 48 }
+    ensures { S.tells result (joined (take 64 (drop (64 * g) pages.now))) }
+{
+    let first = GROUP * g;
+    let mut sum = S::of(&[]);
+    for k in 0..GROUP {
+        sum = sum.join(pages[first + k].summary());
+    }
+    sum
+}
+
+/// Puts an entry where a page has room: each group behind it begins one later.
+pub fn put_inside<T: Copy, S: Summary<T>, A: Allocator>(
+    pages: &mut Vec<Page<T, S, A>, A>,
+    groups: &mut Groups<S, A>,
+    q: usize,
+    k: usize,
+    x: T,
+)
+    requires gap { IsGap pages.old.items (start_of pages.old.items q + k) q k }
+    requires half { IsHalfFull pages.old.items }
+    requires groups { IsGroups S.tells pages.old.items groups.old.starts.items groups.old.sums.items }
+    requires fits { length (joined pages.old.items) < 2 ^ 48 }
+    ensures put { joined pages.new.items ≡ insert (joined pages.old.items) (start_of pages.old.items q + k) x }
+    ensures half { IsHalfFull pages.new.items }
+    ensures groups { IsGroups S.tells pages.new.items groups.new.starts.items groups.new.sums.items }
+    ensures len { vec_len pages.new ≡ vec_len pages.old }
+    ensures capacity { vec_capacity pages.new ≡ vec_capacity pages.old }
+{
+    pages[q].insert(k, x);
+    raise(&mut groups.starts, q / GROUP + 1);
+    sum_with(&mut groups.sums, q / GROUP, x);
+}
+
+/// One entry more in the summary of a group.
+fn sum_with<T: Copy, S: Summary<T>, A: Allocator>(sums: &mut Vec<S, A>, g: usize, x: T)
+    ensures len { length sums.new.items ≡ length sums.old.items }
+    ensures others { (n : ℕ) (d : S) → n ≢ g → slice_index_or sums.new.items n d ≡ slice_index_or sums.old.items n d }
+    ensures more { (xs : List T) (i : ℕ) (d : S) → g < length sums.old.items → length xs < 2 ^ 48 → i ≤ length xs → S.tells (slice_index_or sums.old.items g d) xs → S.tells (slice_index_or sums.new.items g d) (insert xs i x) }
+{
+    if g < sums.len() {
+        sums[g] = sums[g].with(x);
+    }
+}
+
+/// Writes another entry over the j-th of page p.
+pub fn set<T: Copy, S: Summary<T>, A: Allocator>(
+    pages: &mut Vec<Page<T, S, A>, A>,
+    groups: &mut Groups<S, A>,
+    p: usize,
+    j: usize,
+    x: T,
+)
+    requires within { p < vec_len pages.old }
+    requires inside { j < length (slice_index_or pages.old.items p []) }
+    requires half { IsHalfFull pages.old.items }
+    requires groups { IsGroups S.tells pages.old.items groups.old.starts.items groups.old.sums.items }
+    requires fits { length (joined pages.old.items) < 2 ^ 48 }
+    ensures set { joined pages.new.items ≡ slice_set (joined pages.old.items) (start_of pages.old.items p + j) x }
+    ensures groups { IsGroups S.tells pages.new.items groups.new.starts.items groups.new.sums.items }
+    ensures half { IsHalfFull pages.new.items }
+    ensures len { vec_len pages.new ≡ vec_len pages.old }
+    ensures capacity { vec_capacity pages.new ≡ vec_capacity pages.old }
+{
+    let old = read(pages, p, j);
+    pages[p].set(j, x);
+    sum_replaced(&mut groups.sums, p / GROUP, old, x);
+}
+
+/// One entry written over another in the summary of a group.
+fn sum_replaced<T: Copy, S: Summary<T>, A: Allocator>(
+    sums: &mut Vec<S, A>,
+    g: usize,
+    old: T,
+    new: T,
+)
+    ensures len { length sums.new.items ≡ length sums.old.items }
+    ensures others { (n : ℕ) (d : S) → n ≢ g → slice_index_or sums.new.items n d ≡ slice_index_or sums.old.items n d }
+    ensures replaced { (xs : List T) (i : ℕ) (d : S) → g < length sums.old.items → length xs < 2 ^ 48 → i < length xs → old ≡ slice_index_or xs i old → S.tells (slice_index_or sums.old.items g d) xs → S.tells (slice_index_or sums.new.items g d) (slice_set xs i new) }
+{
+    if g < sums.len() {
+        sums[g] = sums[g].replaced(old, new);
+    }
+}
+
+/// Takes out an entry where its page stays long enough: each group behind it begins one earlier.
+pub fn take_inside<T: Copy, S: Summary<T>, A: Allocator>(
+    pages: &mut Vec<Page<T, S, A>, A>,
+    groups: &mut Groups<S, A>,
+    p: usize,
+    j: usize,
+) -> T
+    requires within { p < length pages.old.items }
+    requires inside { j < length (slice_index_or pages.old.items p []) }
+    requires more { HasMore pages.old.items p }
+    requires half { IsHalfFull pages.old.items }
+    requires groups { IsGroups S.tells pages.old.items groups.old.starts.items groups.old.sums.items }
+    requires fits { length (joined pages.old.items) < 2 ^ 48 }
+    ensures rest { joined pages.new.items ≡ remove (joined pages.old.items) (start_of pages.old.items p + j) }
+    ensures out { result ≡ slice_index_or (joined pages.old.items) (start_of pages.old.items p + j) result }
+    ensures half { IsHalfFull pages.new.items }
+    ensures groups { IsGroups S.tells pages.new.items groups.new.starts.items groups.new.sums.items }
+    ensures len { vec_len pages.new ≡ vec_len pages.old }
+    ensures capacity { vec_capacity pages.new ≡ vec_capacity pages.old }
+{
+    let out = pages[p].remove(j);
+    lower(&mut groups.starts, p / GROUP + 1);
+    sum_again(pages, &mut groups.sums, p / GROUP);
+    out
+}
+
+/// Sums up a group again.
+fn sum_again<T: Copy, S: Summary<T>, A: Allocator>(
+    pages: &[Page<T, S, A>],
+    sums: &mut Vec<S, A>,
+    g: usize,
+)
+    requires within { g < length sums.old.items → 64 * g + 64 ≤ length pages.now }
+    requires fits { length (joined pages.now) < 2 ^ 48 }
+    ensures len { length sums.new.items ≡ length sums.old.items }
+    ensures others { (n : ℕ) (d : S) → n ≢ g → slice_index_or sums.new.items n d ≡ slice_index_or sums.old.items n d }
+    ensures summed { (d : S) → g < length sums.old.items → S.tells (slice_index_or sums.new.items g d) (joined (take 64 (drop (64 * g) pages.now))) }
+{
+    if g < sums.len() {
+        sums[g] = sum_of(pages, g);
+    }
+}

@@ -1,0 +1,8 @@
+use Rattle.std.proofs.Common.{◌∙◌, ap}
+use Rattle.desk_walk.specs.Following.{entries_of}
+use Rattle.desk_replica.proofs.Shows.{copy-count}
+use Rattle.desk_replica.proofs.Replica.copy_len.Goals as goal
+
+pub returns : goal.returns
+returns g c =
+    c.shown_len.ensures ∙ copy-count c.args.self.now.ops (g.Q.Sequence.entries c.self.inside.sequence) (c.self.invariant.settled.entries ∙ ap (λ s. entries_of s.ops) c.self.view_is)

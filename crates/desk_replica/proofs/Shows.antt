@@ -1,0 +1,141 @@
+-- What is shown of the entries of a sequence.
+use Rattle.std.proofs.Common.{◌≡◌, ℕ, zero, suc, ◌+◌, ◌-◌, ◌<◌, ◌≤◌, Bool, true, false, not, cond, List, [], ◌∷◌, ◌++◌, map, length, get_or, take, drop, refl, sym, ap, ◌∙◌, subst, arith, append_assoc}
+use Rattle.std.specs.List.{filter}
+use Rattle.std.proofs.lemmas.List.{take_all, take_more, append-nil, length-map}
+use Rattle.std.proofs.Math.Seq.{take-add}
+use Rattle.desk_ops.specs.declared.op.Stamp.{Stamp}
+use Rattle.desk_ops.specs.declared.op.Symbol.{Symbol}
+use Rattle.desk_ops.specs.Stamp.{head}
+use Rattle.desk_ops.specs.Op.{Insertion}
+use Rattle.desk_ops.specs.OpSet.{OpSet}
+use Rattle.desk_ops.specs.Walk.{walk_of}
+use Rattle.desk_ops.specs.Shown.{is_deleted_in, shown, shown_of, copy_of}
+use Rattle.desk_ops.proofs.Stamps.{by_cases}
+use Rattle.desk_ops.proofs.Tree.{filter-hit, filter-miss}
+use Rattle.desk_seq.specs.declared.Entry.{Entry}
+use Rattle.desk_seq.specs.Entries.{stamps_of, shown_in, IsShownAt}
+use Rattle.desk_seq.proofs.Entries.{stamps-at}
+use Rattle.desk_walk.specs.Following.{entry_of, entries_of}
+use Rattle.desk_replica.specs.Edits.{parent_at, stamp_at}
+use Rattle.desk_replica.specs.Shows.{is_shown, shown_symbols}
+
+abbrev symbols : List Entry → List Symbol
+symbols es = map (λ (e : Entry). e.symbol) es
+
+pub symbols-append : (xs ys : List Entry) → shown_symbols (xs ++ ys) ≡ shown_symbols xs ++ shown_symbols ys
+symbols-append [] ys = refl
+symbols-append (e ∷ xs) ys =
+    elim (is_shown e) as (λ b. symbols (cond b (e ∷ filter is_shown (xs ++ ys)) (filter is_shown (xs ++ ys))) ≡ symbols (cond b (e ∷ filter is_shown xs) (filter is_shown xs)) ++ shown_symbols ys) [
+      | true ↦ ap (λ l. e.symbol ∷ l) (symbols-append xs ys)
+      | false ↦ symbols-append xs ys
+    ]
+
+shown-one : (e : Entry) (b : Bool) → e.deleted ≡ b → shown_symbols (e ∷ []) ≡ cond b [] (e.symbol ∷ [])
+shown-one e true k = ap (λ b. symbols (cond (not b) (e ∷ []) [])) k
+shown-one e false k = ap (λ b. symbols (cond (not b) (e ∷ []) [])) k
+
+module _ (es : List Entry) (i : ℕ) (d : Entry) (lt : i < length es) where
+  one_more : shown_symbols (take (i + 1) es) ≡ shown_symbols (take i es) ++ shown_symbols (get_or es i d ∷ [])
+  one_more = ap shown_symbols (take_more es i d lt) ∙ symbols-append (take i es) (get_or es i d ∷ [])
+
+  pub pass-shown : (old : List Symbol) (first now : List Symbol) → (get_or es i d).deleted ≡ false → old ≡ first ++ shown_symbols (take i es) → now ≡ old ++ (get_or es i d).symbol ∷ [] → now ≡ first ++ shown_symbols (take (i + 1) es)
+  pass-shown old first now k was is =
+      is ∙ ap (λ l. l ++ (get_or es i d).symbol ∷ []) was ∙ append_assoc first (shown_symbols (take i es)) ((get_or es i d).symbol ∷ [])
+      ∙ ap (λ l. first ++ l) (sym (one_more ∙ ap (λ l. shown_symbols (take i es) ++ l) (shown-one (get_or es i d) false k)))
+
+  pub pass-hidden : (first now : List Symbol) → (get_or es i d).deleted ≡ true → now ≡ first ++ shown_symbols (take i es) → now ≡ first ++ shown_symbols (take (i + 1) es)
+  pass-hidden first now k was = was ∙ ap (λ l. first ++ l) (sym (one_more ∙ ap (λ l. shown_symbols (take i es) ++ l) (shown-one (get_or es i d) true k) ∙ append-nil (shown_symbols (take i es))))
+
+pub start-shown : (first : List Symbol) (es : List Entry) → first ≡ first ++ shown_symbols (take 0 es)
+start-shown first es = sym (append-nil first)
+
+pub end-shown : (first now : List Symbol) (es : List Entry) (i : ℕ) → length es ≤ i → now ≡ first ++ shown_symbols (take i es) → now ≡ first ++ shown_symbols es
+end-shown first now es i le is = is ∙ ap (λ l. first ++ shown_symbols l) (take_all i es le)
+
+-- an element as an entry that is not deleted
+abbrev plain : Insertion → Entry
+plain x = record { stamp = x.stamp; symbol = x.symbol; deleted = false }
+
+shown-entry : (x : Insertion) (es : List Entry) (xs : List Insertion) (b : Bool) → es ≡ map plain xs → cond (not b) (record { stamp = x.stamp; symbol = x.symbol; deleted = b } ∷ es) es ≡ map plain (cond (not b) (x ∷ xs) xs)
+shown-entry x es xs true e = e
+shown-entry x es xs false e = ap (λ l. plain x ∷ l) e
+
+shown-entries : (h : OpSet) (xs : List Insertion) → filter is_shown (map (entry_of h) xs) ≡ map plain (filter (λ x. not (is_deleted_in h x.stamp)) xs)
+shown-entries h [] = refl
+shown-entries h (x ∷ xs) = shown-entry x (filter is_shown (map (entry_of h) xs)) (filter (λ x. not (is_deleted_in h x.stamp)) xs) (is_deleted_in h x.stamp) (shown-entries h xs)
+
+shown-all : (h : OpSet) (es : List Entry) → es ≡ entries_of h → filter is_shown es ≡ map plain (shown_of h)
+unfolding shown
+shown-all h es e = ap (filter is_shown) e ∙ shown-entries h (walk_of h)
+
+plain-symbols : (xs : List Insertion) → symbols (map plain xs) ≡ map (λ (x : Insertion). x.symbol) xs
+plain-symbols [] = refl
+plain-symbols (x ∷ xs) = ap (λ l. x.symbol ∷ l) (plain-symbols xs)
+
+plain-stamps : (xs : List Insertion) → stamps_of (map plain xs) ≡ map (λ (x : Insertion). x.stamp) xs
+plain-stamps [] = refl
+plain-stamps (x ∷ xs) = ap (λ l. x.stamp ∷ l) (plain-stamps xs)
+
+plain-length : (xs : List Insertion) → length (map plain xs) ≡ length xs
+plain-length [] = refl
+plain-length (x ∷ xs) = ap suc (plain-length xs)
+
+pub copy-is : (h : OpSet) (es : List Entry) → es ≡ entries_of h → shown_symbols es ≡ copy_of h
+copy-is h es e = ap symbols (shown-all h es e) ∙ plain-symbols (shown_of h)
+
+-- one stretch more
+pub copy-more : (es part : List Entry) (at : ℕ) (old new : List Symbol) → part ≡ take (length part) (drop at es) → old ≡ shown_symbols (take at es) → new ≡ old ++ shown_symbols part → new ≡ shown_symbols (take (at + length part) es)
+copy-more es part at old new is was now =
+    now ∙ ap (λ l. l ++ shown_symbols part) was
+    ∙ ap (λ l. shown_symbols (take at es) ++ shown_symbols l) is
+    ∙ sym (symbols-append (take at es) (take (length part) (drop at es)))
+    ∙ ap shown_symbols (sym (take-add at (length part) es))
+
+pub copy-all : (h : OpSet) (es : List Entry) (at : ℕ) (symbols : List Symbol) → es ≡ entries_of h → length es ≤ at → symbols ≡ shown_symbols (take at es) → symbols ≡ copy_of h
+copy-all h es at ys e le is = is ∙ ap shown_symbols (take_all at es le) ∙ copy-is h es e
+
+-- ---- the i-th that is shown
+
+count : (es : List Entry) → shown_in es ≡ length (filter is_shown es)
+count [] = refl
+count (e ∷ es) =
+    elim e.deleted as (λ b. cond b (shown_in es) (shown_in es + 1) ≡ length (cond (not b) (e ∷ filter is_shown es) (filter is_shown es))) [
+      | true ↦ count es
+      | false ↦ let n : shown_in es ≡ length (filter is_shown es) = count es in omega arith
+    ]
+
+pub count-is : (h : OpSet) (es : List Entry) → es ≡ entries_of h → shown_in es ≡ length (shown_of h)
+count-is h es e = count es ∙ ap length (shown-all h es e) ∙ plain-length (shown_of h)
+
+pub copy-count : (h : OpSet) (es : List Entry) → es ≡ entries_of h → shown_in es ≡ length (copy_of h)
+copy-count h es e = count es ∙ sym (length-map (filter is_shown es) (λ (x : Entry). x.symbol)) ∙ ap length (copy-is h es e)
+
+abbrev IsTold : List Entry → ℕ → Stamp → Type 0
+IsTold fs i s = (i < length fs) × (get_or (stamps_of fs) i head ≡ s)
+
+told : (es : List Entry) (i at : ℕ) → at < length es → ((d : Entry) → (get_or es at d).deleted ≡ false) → shown_in (take at es) ≡ i → IsTold (filter is_shown es) i (get_or (stamps_of es) at head)
+told [] i at lt live is = absurd (omega arith)
+told (e ∷ es) i zero lt live is =
+    subst (λ (fs : List Entry). IsTold fs i e.stamp) (sym (filter-hit is_shown e es (ap not (live e))))
+    (subst (λ (n : ℕ). IsTold (e ∷ filter is_shown es) n e.stamp) is (omega arith, refl))
+told (e ∷ es) i (suc n) lt live is =
+    by_cases e.deleted
+    (λ k. subst (λ (fs : List Entry). IsTold fs i (get_or (stamps_of es) n head)) (sym (filter-miss is_shown e es (ap not k)))
+    (told es i n (omega arith) live (sym (ap (λ b. cond b (shown_in (take n es)) (shown_in (take n es) + 1)) k) ∙ is)))
+    (λ k. let e1 : shown_in (take n es) + 1 ≡ i = sym (ap (λ b. cond b (shown_in (take n es)) (shown_in (take n es) + 1)) k) ∙ is in
+    let r = told es (shown_in (take n es)) n (omega arith) live refl in
+    subst (λ (fs : List Entry). IsTold fs i (get_or (stamps_of es) n head)) (sym (filter-hit is_shown e es (ap not k)))
+    (subst (λ (m : ℕ). IsTold (e ∷ filter is_shown es) m (get_or (stamps_of es) n head)) (let f : suc (shown_in (take n es)) ≡ i = omega arith in f) (let l : shown_in (take n es) < length (filter is_shown es) = r.0 in omega arith, r.1)))
+
+pub shown-stamp : (h : OpSet) (es : List Entry) → es ≡ entries_of h → (i at : ℕ) → IsShownAt es i at → (x : Entry) → x ≡ get_or es at x → (i < length (shown_of h)) × (x.stamp ≡ stamp_at (shown_of h) i)
+shown-stamp h es e i at s x is =
+    let r = told es i at s.within s.shown s.before_it in
+    let l : i < length (filter is_shown es) = r.0 in
+    let n : length (filter is_shown es) ≡ length (shown_of h) = ap length (shown-all h es e) ∙ plain-length (shown_of h) in (
+      omega arith,
+      ap (λ (y : Entry). y.stamp) is ∙ sym (stamps-at es at x s.within) ∙ sym r.1 ∙ ap (λ (fs : List Entry). get_or (stamps_of fs) i head) (shown-all h es e) ∙ ap (λ ss. get_or ss i head) (plain-stamps (shown_of h)),
+    )
+
+pub parent-is : (xs : List Insertion) (place : ℕ) (s : Stamp) → (place ≡ 0 → ⊥) → s ≡ stamp_at xs (place - 1) → s ≡ parent_at xs place
+parent-is xs zero s some e = absurd (some refl)
+parent-is xs (suc n) s some e = let k : suc n - 1 ≡ n = omega arith in e ∙ ap (stamp_at xs) k

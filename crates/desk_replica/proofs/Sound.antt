@@ -1,0 +1,91 @@
+-- What a replica keeps stays sound.
+use Rattle.std.proofs.Common.{◌≡◌, ℕ, zero, suc, ◌+◌, ◌-◌, ◌<◌, ◌≤◌, true, false, cond, min, List, [], ◌∷◌, length, get_or, take, refl, sym, ap, ◌∙◌, subst, ◌⊎◌, inl, inr, arith}
+use Rattle.std.specs.Prelude.{Option, None, Result, Ok, Err, OnOk, IsOk, All}
+use Rattle.desk_ops.specs.declared.op.Key.{Key}
+use Rattle.desk_ops.specs.declared.op.Op.{Op}
+use Rattle.desk_ops.specs.Op.{stamp_of, IsLawful}
+use Rattle.desk_ops.specs.OpSet.{OpSet, no_ops, has_op, with_op, with_all, in_order, size, AllLawful}
+use Rattle.desk_ops.specs.Held.{is_borne_in}
+use Rattle.desk_ops.proofs.Stamps.{by_cases}
+use Rattle.desk_ops.proofs.Joined.{lawful-with_op}
+use Rattle.desk_ops.proofs.Unions.{size-with_op}
+use Rattle.desk_ops.proofs.Bearers.{op_borne}
+use Rattle.std.proofs.lemmas.Bool.{true≢false}
+use Rattle.desk_registers.specs.declared.Kept.{Kept}
+use Rattle.desk_registers.specs.declared.Registers.{Registers}
+use Rattle.desk_registers.specs.Registers.{kept}
+use Rattle.desk_seq.specs.declared.Entry.{Entry}
+use Rattle.desk_walk.specs.Following.{IsSettled, IsArrival}
+use Rattle.desk_walk.proofs.Anew.{settled-none, none-size}
+use Rattle.desk_replica.specs.State.{IsKept}
+use Rattle.desk_replica.specs.JobSettings.{AreKept, kept_op}
+use Rattle.desk_replica.specs.Shows.{IsSound, spare_of}
+use Rattle.desk_replica.proofs.Sets.{none-lawful}
+use Rattle.desk_replica.proofs.KeptSets.{kept-new, kept-alike, kept-none}
+
+pub sound-none : (site : ℕ) (h : OpSet) (r : Registers) (es : List Entry) (w : OpSet) (free : ℕ) → 1 ≤ site → h ≡ no_ops → ((key : Key) → kept r key ≡ None) → es ≡ [] → w ≡ no_ops → IsSound site h r es w free
+sound-none site h r es w free some e none f k =
+    let n : size w ≡ 0 = ap size k ∙ none-size in
+    record {
+      held = record { numbered = some; lawful = subst AllLawful (sym e) none-lawful };
+      settings = subst (λ (v : OpSet). AreKept v (kept r)) (sym e) (kept-none (kept r) none);
+      settled = settled-none h es w e f k;
+      few = omega (arith, n);
+      fits = omega (arith, n);
+    }
+
+-- with more room
+pub sound-room : (site : ℕ) (h g : OpSet) (r : Registers) (es fs : List Entry) (w v : OpSet) (free more : ℕ) → IsSound site h r es w free → g ≡ h → fs ≡ es → v ≡ w → free ≤ more → IsSound site g r fs v more
+sound-room site h g r es fs w v free more s e f k le =
+    subst (λ (u : OpSet). IsSound site u r fs v more) (sym e) (subst (λ (ds : List Entry). IsSound site h r ds v more) (sym f) (subst (λ (u : OpSet). IsSound site h r es u more) (sym k)
+    (record { held = s.held; settings = s.settings; settled = s.settled; few = s.few; fits = let l = s.fits in omega (arith, l, le) })))
+
+-- an operation comes whose stamp none bears
+module _ (site : ℕ) (h : OpSet) (o : Op) (r : Registers) (es : List Entry) (w : OpSet) (free : ℕ) (s : IsSound site h r es w free) (lawful : IsLawful o) (new : is_borne_in h (stamp_of o) ≡ false) where
+  pub arrival : IsArrival h o es w
+  arrival = record { lawful = s.held.lawful; own = lawful; new = new; settled = s.settled }
+
+  pub unheld : has_op h o ≡ false
+  unheld = by_cases (has_op h o) (λ e. absurd (true≢false (sym (op_borne h (stamp_of o) (o, e, refl)) ∙ new))) (λ e. e)
+
+  pub sound-more : (g : OpSet) (q : Registers) (fs : List Entry) (v : OpSet) (left : ℕ) → g ≡ with_op h o → ((key : Key) → kept q key ≡ kept_op (kept r) o key) → IsSettled (with_op h o) fs v → size v ≤ size w + 1 → size w < free → free + size v ≤ left + size w + 1 → IsSound site g q fs v left
+  sound-more g q fs v left e k settled few below l =
+      let n : size (with_op h o) ≡ size h + 1 = size-with_op h o ∙ ap (λ b. cond b (size h) (size h + 1)) unheld in
+      let m = s.few in
+      subst (λ (u : OpSet). IsSound site u q fs v left) (sym e) (record {
+        held = record { numbered = s.held.numbered; lawful = lawful-with_op h o s.held.lawful lawful };
+        settings = kept-alike (with_op h o) (kept_op (kept r) o) (kept q) k (kept-new h o new (kept r) s.settings);
+        settled = settled;
+        few = omega (arith, n, m, few);
+        fits = omega (arith, below, l);
+      })
+
+-- all made anew
+pub sound-anew : (site : ℕ) (h : OpSet) (r : Registers) (es : List Entry) (w : OpSet) (free : ℕ) → 1 ≤ site → AllLawful h → AreKept h (kept r) → IsSettled h es w → size w ≤ size h → size w ≤ free → IsSound site h r es w free
+sound-anew site h r es w free some lawful settings settled few le = record { held = record { numbered = some; lawful = lawful }; settings = settings; settled = settled; few = few; fits = le }
+
+-- ---- room
+
+pub spare-parts : (n held room free : ℕ) (w : OpSet) → size w ≤ free → n ≤ spare_of held room free w → (n ≤ held) × (n ≤ room) × (size w + n ≤ free)
+spare-parts n held room free w le h = (omega arith, omega arith, omega arith)
+
+pub spare-from : (n held room free : ℕ) (w : OpSet) → n ≤ held → n ≤ room → size w + n ≤ free → n ≤ spare_of held room free w
+spare-from n held room free w a b c = omega arith
+
+pub spare-grows : (held room free held2 room2 free2 : ℕ) (w v : OpSet) → v ≡ w → held ≤ held2 → room ≤ room2 → free ≤ free2 → spare_of held room free w ≤ spare_of held2 room2 free2 v
+spare-grows held room free held2 room2 free2 w v e a b c = let n : size v ≡ size w = ap size e in omega arith
+
+pub spare-falls : (held room free held2 room2 free2 : ℕ) (w v : OpSet) → size w ≤ free → held ≤ held2 + 1 → room ≤ room2 + 1 → free + size v ≤ free2 + size w + 1 → spare_of held room free w ≤ spare_of held2 room2 free2 v + 1
+spare-falls held room free held2 room2 free2 w v le a b c = omega arith
+
+pub on-ok : {A E : Type 0} {P Q : Type 0} (r : Result A E) → OnOk r P → (P → Q) → OnOk r Q
+on-ok (Ok x) p f = f p
+on-ok (Err e) p f = tt
+
+pub no-spare : (s : ℕ) → (1 ≤ s → ⊥) → s ≡ 0
+no-spare zero none = refl
+no-spare (suc s) none = absurd (none (omega arith))
+
+pub all-one : (o : Op) → IsLawful o → All IsLawful (o ∷ [])
+all-one o l zero d lt = l
+all-one o l (suc i) d lt = absurd (omega arith)

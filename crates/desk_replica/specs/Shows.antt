@@ -1,0 +1,31 @@
+-- What a replica keeps beside its set, and what of it is shown.
+use Rattle.std.specs.Prelude.{ℕ, ◌≤◌, ◌-◌, min, not, Bool, List, map}
+use Rattle.std.specs.List.{filter}
+use Rattle.desk_ops.specs.declared.op.Symbol.{Symbol}
+use Rattle.desk_ops.specs.OpSet.{OpSet, size}
+use Rattle.desk_registers.specs.declared.Registers.{Registers}
+use Rattle.desk_registers.specs.Registers.{kept}
+use Rattle.desk_seq.specs.declared.Entry.{Entry}
+use Rattle.desk_walk.specs.Following.{IsSettled}
+use Rattle.desk_replica.specs.State.{IsKept}
+use Rattle.desk_replica.specs.JobSettings.{AreKept}
+
+abbrev pub is_shown : Entry → Bool
+is_shown e = not e.deleted
+
+-- the symbols of the entries that are not deleted
+abbrev pub shown_symbols : List Entry → List Symbol
+shown_symbols es = map (λ (e : Entry). e.symbol) (filter is_shown es)
+
+-- a site of a number and lawful operations; of each key its setting; the walk with its marks, and what waits; and all that
+-- waits has a place in the sequence
+pub record IsSound (site : ℕ) (ops : OpSet) (registers : Registers) (es : List Entry) (waiting : OpSet) (left : ℕ) : Type 0 where
+  pub held : IsKept site ops
+  pub settings : AreKept ops (kept registers)
+  pub settled : IsSettled ops es waiting
+  pub few : size waiting ≤ size ops
+  pub fits : size waiting ≤ left
+
+-- how many more operations all parts take with no new memory
+abbrev pub spare_of : ℕ → ℕ → ℕ → OpSet → ℕ
+spare_of held room free waiting = min held (min room (free - size waiting))

@@ -1,0 +1,19 @@
+//! The tests of desk_replica, and with it of desk_walk.
+#![tactic(auto)]
+
+#[cfg(test)]
+mod calls;
+#[cfg(test)]
+mod cases;
+#[cfg(test)]
+mod full;
+#[cfg(test)]
+mod growths;
+#[cfg(test)]
+mod listed;
+#[cfg(test)]
+mod long;
+#[cfg(test)]
+mod orders;
+#[cfg(test)]
+mod worked;

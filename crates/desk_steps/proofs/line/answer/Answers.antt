@@ -1,0 +1,19 @@
+use Rattle.desk_answers.specs.Reply.{Refused, Stopped, reply}
+use Rattle.desk_steps.specs.Desk.{desk}
+use Rattle.desk_steps.specs.Line.{line_of}
+use Rattle.desk_steps.proofs.Keeping.{allows_keep}
+use Rattle.desk_steps.proofs.line.answer.Goals as goal
+
+pub returns-in-Ok-clause-sites : goal.returns-in-Ok-clause-sites
+returns-in-Ok-clause-sites g c =
+    allows_keep (desk c.args.world.now (g.F.Files.shelf c.args.files.now)) (desk c.do_line.new.world (g.F.Files.shelf c.do_line.new.files)) (line_of c.args.line.now) (reply c.in-Ok.response) c.in-Ok.ensures.done
+
+pub returns-in-Err-Refused-clause-sites : goal.returns-in-Err-Refused-clause-sites
+returns-in-Err-Refused-clause-sites g c =
+    allows_keep (desk c.args.world.now (g.F.Files.shelf c.args.files.now)) (desk c.do_line.new.world (g.F.Files.shelf c.do_line.new.files)) (line_of c.args.line.now) (Refused c.in-Err-Refused.why)
+    (rw c.in-Err-Refused.field-0-is at c.in-Err-Refused.ensures.done)
+
+pub returns-in-Err-Stopped-clause-sites : goal.returns-in-Err-Stopped-clause-sites
+returns-in-Err-Stopped-clause-sites g c =
+    allows_keep (desk c.args.world.now (g.F.Files.shelf c.args.files.now)) (desk c.do_line.new.world (g.F.Files.shelf c.do_line.new.files)) (line_of c.args.line.now) (Stopped c.in-Err-Stopped.taken c.in-Err-Stopped.why)
+    (rw c.in-Err-Stopped.field-0-is at c.in-Err-Stopped.ensures.done)

@@ -1,0 +1,20 @@
+-- A line of a script, and the answer that it may get.
+use Rattle.std.specs.Prelude.{ℕ, nat_le, List, length, MatchOption, if◌then◌else◌}
+use Rattle.desk_answers.specs.Reply.{Reply}
+use Rattle.desk_answers.specs.declared.text.Refusal.TheVariants as refusals
+use Rattle.desk_commands.specs.Grammar.{command_of}
+use Rattle.desk_steps.specs.Act.{Performs, Refuses}
+use Rattle.desk_steps.specs.Desk.{Desk}
+
+-- a line without its end: its bytes, where they are at most 65,536
+pub data Line : Type 0 where
+  Bytes : List ℕ → Line
+  Long : Line
+
+abbrev pub line_of : List ℕ → Line
+line_of bytes = if nat_le (length bytes) 65536 then Bytes bytes else Long
+
+-- the answer that a line may get, and what it leaves
+abbrev pub Allows : Desk → Line → Reply → Desk → Type 0
+Allows old Long reply new = Refuses old refusals.Line reply new
+Allows old (Bytes bytes) reply new = MatchOption (command_of bytes) (Refuses old refusals.Command reply new) (λ request. Performs old request reply new)

@@ -1,0 +1,238 @@
+//! What each command does.
+
+ghost use Rattle.std.specs.Prelude.{◌≡◌, All, IfErr, IfOk, MatchResult, None, Some};
+ghost use Rattle.desk_answers.specs.NotDone.{IfReplied};
+ghost use Rattle.desk_commands.specs.Request as requests;
+ghost use Rattle.desk_commands.specs.Request.{request};
+ghost use Rattle.desk_files.specs.Files.{Stays};
+ghost use Rattle.desk_inputs.specs.Job.{IsJobByFiles};
+ghost use Rattle.desk_ops.specs.Op.{IsLawful};
+ghost use Rattle.desk_steps.specs.Act.{Does, GivesPart, IsBrought, Jobs, Performs, Takes, sent};
+ghost use Rattle.desk_steps.specs.Desk.{desk};
+
+use crate::event::{happen, number_of, replica_of};
+use crate::insert::insert;
+use desk_answers::{NotDone, Refusal, Response};
+use desk_codec::{ReadFault, read_feed};
+use desk_commands::Command;
+use desk_files::Files;
+use desk_inputs::{Memory, Wanted, job_by_files};
+use desk_ops::{Key, Op};
+use desk_world::{Answer, Event, World};
+use std::alloc::Allocator;
+
+fn add_site<A: Allocator + Copy>(world: &mut World<A>, site: u32) -> Result<Response<A>, NotDone>
+    ensures { IfReplied result (λ reply. Does world.old (requests.Site site) reply world.new) }
+{
+    let Ok(number) = u16::try_from(site) else {
+        return Err(NotDone::Refused(Refusal::Number));
+    };
+    happen(world, &Event::Site(number))
+}
+
+fn delete<A: Allocator + Copy>(
+    world: &mut World<A>,
+    site: u32,
+    place: u32,
+) -> Result<Response<A>, NotDone>
+    ensures { IfReplied result (λ reply. Does world.old (requests.Delete site place) reply world.new) }
+{
+    let site = number_of(world, site)?;
+    let place = place as usize;
+    happen(world, &Event::Delete { site, place })
+}
+
+fn set<A: Allocator + Copy>(
+    world: &mut World<A>,
+    site: u32,
+    key: Key,
+    value: u32,
+) -> Result<Response<A>, NotDone>
+    ensures { IfReplied result (λ reply. Does world.old (requests.SetTo site key value) reply world.new) }
+{
+    let site = number_of(world, site)?;
+    happen(world, &Event::Set { site, key, value })
+}
+
+fn restart<A: Allocator + Copy>(world: &mut World<A>, site: u32) -> Result<Response<A>, NotDone>
+    ensures { IfReplied result (λ reply. Does world.old (requests.Restart site) reply world.new) }
+{
+    let site = number_of(world, site)?;
+    happen(world, &Event::Restart(site))
+}
+
+/// Brings operations to a site that is there.
+fn bring<A: Allocator + Copy>(
+    world: &mut World<A>,
+    site: u16,
+    ops: &[Op],
+) -> Result<Response<A>, NotDone>
+    requires { All IsLawful ops.now }
+    ensures { IfReplied result (λ reply. IsBrought world.old site ops.now reply world.new) }
+{
+    let count = world.bring(site, ops)?;
+    Ok(Response::from(Answer::Taken(count)))
+}
+
+/// Takes a feed at a site that is there.
+fn take_feed<A: Allocator + Copy>(
+    alloc: A,
+    world: &mut World<A>,
+    site: u16,
+    feed: &[u8],
+) -> Result<Response<A>, NotDone>
+    ensures { IfReplied result (λ reply. Takes world.old site feed.now reply world.new) }
+{
+    match read_feed(alloc, feed) {
+        Ok(ops) => bring(world, site, &ops),
+        Err(ReadFault::Fault(fault)) => Err(NotDone::Refused(Refusal::Feed(fault))),
+        Err(ReadFault::NoMemory) => Err(NotDone::NoMemory),
+        Err(ReadFault::Failed) => unreachable!(),
+    }
+}
+
+fn take<A: Allocator + Copy>(
+    alloc: A,
+    world: &mut World<A>,
+    site: u32,
+    feed: &[u8],
+) -> Result<Response<A>, NotDone>
+    ensures { IfReplied result (λ reply. Does world.old (requests.Take site feed.now) reply world.new) }
+{
+    let site = number_of(world, site)?;
+    take_feed(alloc, world, site, feed)
+}
+
+/// The operations at the places of a range, or all.
+fn sent(ops: &[Op], range: Option<(u32, u32)>) -> Result<&[Op], NotDone>
+    requires { All IsLawful ops.now }
+    ensures part { MatchResult result (λ part. Some part.now ≡ sent ops.now range) (λ _. None ≡ sent ops.now range) }
+    ensures lawful { IfOk result (λ part. All IsLawful part.now) }
+    ensures refused { IfErr result (λ end. end ≡ NotDone.Refused Refusal.Place) }
+{
+    let Some((from, to)) = range else {
+        return Ok(ops);
+    };
+    if from <= to && to as usize <= ops.len() {
+        Ok(&ops[from as usize..to as usize])
+    } else {
+        Err(NotDone::Refused(Refusal::Place))
+    }
+}
+
+/// Gives a site the operations at the places of a range, or all.
+fn give_part<A: Allocator + Copy>(
+    world: &mut World<A>,
+    to: u16,
+    ops: &[Op],
+    range: Option<(u32, u32)>,
+) -> Result<Response<A>, NotDone>
+    requires { All IsLawful ops.now }
+    ensures { IfReplied result (λ reply. GivesPart world.old ops.now range to reply world.new) }
+{
+    let ops = sent(ops, range)?;
+    happen(world, &Event::Give { to, ops })
+}
+
+fn send<A: Allocator + Copy>(
+    world: &mut World<A>,
+    from: u32,
+    to: u32,
+    range: Option<(u32, u32)>,
+) -> Result<Response<A>, NotDone>
+    ensures { IfReplied result (λ reply. Does world.old (requests.Send from to range) reply world.new) }
+{
+    let replica = replica_of(world, from)?;
+    let to = number_of(world, to)?;
+    let ops = replica.in_order()?;
+    give_part(world, to, &ops, range)
+}
+
+fn merge<A: Allocator + Copy>(
+    world: &mut World<A>,
+    to: u32,
+    from: u32,
+) -> Result<Response<A>, NotDone>
+    ensures { IfReplied result (λ reply. Does world.old (requests.Merge to from) reply world.new) }
+{
+    let to = number_of(world, to)?;
+    let ops = replica_of(world, from)?.in_order()?;
+    happen(world, &Event::Give { to, ops: &ops })
+}
+
+fn show<A: Allocator + Copy>(world: &World<A>, site: u32) -> Result<Response<A>, NotDone>
+    ensures { IfReplied result (λ reply. Does world.now (requests.Show site) reply world.now) }
+{
+    let copy = replica_of(world, site)?.copy()?;
+    Ok(Response::Copy(copy))
+}
+
+fn faults<A: Allocator + Copy>(world: &World<A>, site: u32) -> Result<Response<A>, NotDone>
+    ensures { IfReplied result (λ reply. Does world.now (requests.Faults site) reply world.now) }
+{
+    let faults = replica_of(world, site)?.copy_faults()?;
+    Ok(Response::Faults(faults))
+}
+
+fn settings<A: Allocator + Copy>(world: &World<A>, site: u32) -> Result<Response<A>, NotDone>
+    ensures { IfReplied result (λ reply. Does world.now (requests.Settings site) reply world.now) }
+{
+    let replica = replica_of(world, site)?;
+    Ok(Response::Settings(replica.settings()))
+}
+
+fn feed<A: Allocator + Copy>(world: &World<A>, site: u32) -> Result<Response<A>, NotDone>
+    ensures { IfReplied result (λ reply. Does world.now (requests.Feed site) reply world.now) }
+{
+    let feed = replica_of(world, site)?.write_feed()?;
+    Ok(Response::Feed(feed))
+}
+
+/// The job of a site's copy by two files.
+fn job_at<F: Files, A: Allocator + Copy>(
+    memory: Memory<A>,
+    world: &World<A>,
+    files: &mut F,
+    site: u32,
+    case: &str,
+    wedge: &str,
+    wanted: Wanted,
+) -> Result<Response<A>, NotDone>
+    ensures made { IfReplied result (λ reply. Jobs wanted (desk world.now (F.shelf files.old)) site case.now wedge.now reply (desk world.now (F.shelf files.new))) }
+    ensures stays { Stays (F.shelf files.old) (F.shelf files.new) }
+{
+    let replica = replica_of(world, site)?;
+    job_by_files(memory, replica, files, case, wedge, wanted)
+}
+
+/// Does what a command says.
+pub fn act<F: Files, A: Allocator + Copy>(
+    memory: Memory<A>,
+    world: &mut World<A>,
+    files: &mut F,
+    command: Command<'_, A>,
+) -> Result<Response<A>, NotDone>
+    ensures done { IfReplied result (λ reply. Performs (desk world.old (F.shelf files.old)) (request command.entry) reply (desk world.new (F.shelf files.new))) }
+    ensures stays { Stays (F.shelf files.old) (F.shelf files.new) }
+{
+    match command {
+        Command::Site(site) => add_site(world, site),
+        Command::Insert { site, place, copy } => insert(world, site, place, &copy),
+        Command::Delete { site, place } => delete(world, site, place),
+        Command::Set { site, key, value } => set(world, site, key, value),
+        Command::Take { site, feed } => take(memory.own, world, site, &feed),
+        Command::Send { from, to, range } => send(world, from, to, range),
+        Command::Merge { to, from } => merge(world, to, from),
+        Command::Show(site) => show(world, site),
+        Command::Faults(site) => faults(world, site),
+        Command::Settings(site) => settings(world, site),
+        Command::Feed(site) => feed(world, site),
+        Command::Ribbon { site, case, wedge } => {
+            job_at(memory, world, files, site, case, wedge, Wanted::Ribbon)
+        }
+        Command::Cast { site, case, wedge } => {
+            job_at(memory, world, files, site, case, wedge, Wanted::Lines)
+        }
+        Command::Restart(site) => restart(world, site),
+    }
+}

@@ -1,0 +1,53 @@
+//! The site that a command names, and the events that happen there.
+
+ghost use Rattle.std.specs.Prelude.{◌≡◌, IfErr, IfOk, MatchResult, None, Some};
+ghost use Rattle.desk_ops.specs.OpSet.{OpSet};
+ghost use Rattle.desk_answers.specs.NotDone.{IfReplied};
+ghost use Rattle.desk_steps.specs.Event.{Happens, set_of};
+ghost use Rattle.desk_world.specs.World.{IsSound, change};
+
+use desk_answers::{NotDone, Refusal, Response};
+use desk_blocks::Blocks;
+use desk_replica::Replica;
+use desk_world::{Event, World};
+use std::alloc::Allocator;
+
+/// The replica of the site that a command names.
+pub fn replica_of<A: Allocator + Copy>(
+    world: &World<A>,
+    site: u32,
+) -> Result<&Replica<Blocks<A>>, NotDone>
+    ensures there { MatchResult result (λ replica. Some replica.now.ops ≡ set_of world.now site) (λ _. None ≡ set_of world.now site) }
+    ensures number { IfOk result (λ replica. replica.now.site ≡ site) }
+    ensures refused { IfErr result (λ end. end ≡ NotDone.Refused Refusal.Site) }
+{
+    let Ok(number) = u16::try_from(site) else {
+        return Err(NotDone::Refused(Refusal::Site));
+    };
+    match world.replica(number) {
+        Some(replica) => Ok(replica),
+        None => Err(NotDone::Refused(Refusal::Site)),
+    }
+}
+
+/// The number of a site that is there.
+pub fn number_of<A: Allocator + Copy>(world: &World<A>, site: u32) -> Result<u16, NotDone>
+    ensures there { MatchResult result (λ _. (set : OpSet) × (Some set ≡ set_of world.now site)) (λ _. None ≡ set_of world.now site) }
+    ensures number { IfOk result (λ number. number ≡ site) }
+    ensures refused { IfErr result (λ end. end ≡ NotDone.Refused Refusal.Site) }
+{
+    let replica = replica_of(world, site)?;
+    Ok(replica.site())
+}
+
+/// Lets an event happen.
+pub fn happen<A: Allocator + Copy>(
+    world: &mut World<A>,
+    event: &Event<'_>,
+) -> Result<Response<A>, NotDone>
+    requires { IsSound (change event.now) }
+    ensures { IfReplied result (λ reply. Happens world.old (change event.now) reply world.new) }
+{
+    let answer = world.step(event)?;
+    Ok(Response::from(answer))
+}

@@ -1,0 +1,108 @@
+//! Symbols inserted one after another.
+
+ghost use Rattle.std.specs.Prelude.{◌≡◌, ◌+◌, ◌<◌, ◌^◌, length, None, option_map};
+ghost use Rattle.desk_answers.specs.NotDone.{IfReplied, reply_of};
+ghost use Rattle.desk_answers.specs.Reply.{reply};
+ghost use Rattle.desk_commands.specs.Request as requests;
+ghost use Rattle.desk_ops.specs.Op.{stamp_of};
+ghost use Rattle.desk_steps.specs.Act.{Does};
+ghost use Rattle.desk_steps.specs.Insert.{Inserts, after, all_made, all_symbols, first_of};
+
+use crate::event::replica_of;
+use desk_answers::{NotDone, Refusal, Response};
+use desk_ops::{Op, Stamp, Symbol};
+use desk_world::{Answer, Event, World};
+use std::alloc::Allocator;
+
+/// A refusal after that many edits says that these stand.
+fn after(count: usize, end: NotDone) -> NotDone
+    ensures { reply_of result ≡ option_map (after count) (reply_of end) }
+{
+    match end {
+        NotDone::Refused(why) if count > 0 => NotDone::Stopped(count, why),
+        other => other,
+    }
+}
+
+/// The first stamp and the last of those made, where this is the next.
+fn span(made: Option<(Stamp, Stamp)>, op: &Op) -> (Stamp, Stamp)
+    ensures { result ≡ (first_of made (stamp_of op.now), stamp_of op.now) }
+{
+    match made {
+        None => (op.stamp(), op.stamp()),
+        Some((first, _)) => (first, op.stamp()),
+    }
+}
+
+fn all_made<A: Allocator + Copy>(count: usize, made: Option<(Stamp, Stamp)>) -> Response<A>
+    ensures { reply result ≡ all_made count made }
+{
+    match made {
+        None => Response::Done,
+        Some((first, _)) if count == 1 => Response::Made(first),
+        Some((first, last)) => Response::MadeMany(first, last),
+    }
+}
+
+/// Inserts symbols one after another, up to one that is refused.
+fn insert_all<A: Allocator + Copy>(
+    world: &mut World<A>,
+    site: u16,
+    place: usize,
+    copy: &[Symbol],
+) -> Result<Response<A>, NotDone>
+    requires { place + length copy.now < 2 ^ 64 }
+    ensures { IfReplied result (λ reply. Inserts world.old site place copy.now 0 None reply world.new) }
+{
+    let mut stamps = None;
+    let mut count = 0;
+    for symbol in copy {
+        let event = Event::Insert {
+            site,
+            place: place + count,
+            symbol: *symbol,
+        };
+        match world.step(&event) {
+            Ok(Answer::Made(op)) => {
+                stamps = Some(span(stamps, &op));
+                count += 1;
+            }
+            Ok(Answer::Taken(_)) => unreachable!(),
+            Ok(Answer::Done) => unreachable!(),
+            Err(why) => return Err(after(count, NotDone::from(why))),
+        }
+    }
+    Ok(all_made(count, stamps))
+}
+
+/// Whether each symbol is lawful.
+fn all_symbols(copy: &[Symbol]) -> bool
+    ensures { result ≡ all_symbols copy.now }
+{
+    for symbol in copy {
+        if symbol.check().is_err() {
+            return false;
+        }
+    }
+    true
+}
+
+/// Inserts a copy at a place, once the place and each of its symbols are known to be lawful.
+pub fn insert<A: Allocator + Copy>(
+    world: &mut World<A>,
+    site: u32,
+    place: u32,
+    copy: &[Symbol],
+) -> Result<Response<A>, NotDone>
+    ensures { IfReplied result (λ reply. Does world.old (requests.Insert site place copy.now) reply world.new) }
+{
+    let replica = replica_of(world, site)?;
+    let number = replica.site();
+    if place as usize > replica.copy_len() {
+        return Err(NotDone::Refused(Refusal::Place));
+    }
+    if !all_symbols(copy) {
+        return Err(NotDone::Refused(Refusal::Value));
+    }
+    insert_all(world, number, place as usize, copy)
+}

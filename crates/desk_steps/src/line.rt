@@ -1,0 +1,56 @@
+//! A line, carried out and answered.
+
+ghost use Rattle.std.specs.Prelude.{IfOk, OnOk};
+ghost use Rattle.desk_answers.specs.NotDone.{IfReplied};
+ghost use Rattle.desk_answers.specs.Reply.{reply};
+ghost use Rattle.desk_files.specs.Files.{Stays};
+ghost use Rattle.desk_steps.specs.Desk.{KeepsSites, desk};
+ghost use Rattle.desk_steps.specs.Line.{Allows, line_of};
+
+use crate::act::act;
+use desk_answers::{NotDone, Refusal, Response};
+use desk_commands::parse;
+use desk_files::Files;
+use desk_inputs::Memory;
+use desk_ops::NoMemory;
+use desk_world::World;
+use std::alloc::Allocator;
+
+/// A longer line is no command.
+const MAX_LINE: usize = 65_536;
+
+/// Does what a line says.
+fn do_line<F: Files, A: Allocator + Copy>(
+    memory: Memory<A>,
+    world: &mut World<A>,
+    files: &mut F,
+    line: &[u8],
+) -> Result<Response<A>, NotDone>
+    ensures done { IfReplied result (λ reply. Allows (desk world.old (F.shelf files.old)) (line_of line.now) reply (desk world.new (F.shelf files.new))) }
+    ensures stays { Stays (F.shelf files.old) (F.shelf files.new) }
+{
+    if line.len() > MAX_LINE {
+        return Err(NotDone::Refused(Refusal::Line));
+    }
+    let command = parse(memory.own, line)?;
+    act(memory, world, files, command)
+}
+
+/// Does what a line says, and returns its answer. No line takes a site away.
+pub fn answer<F: Files, A: Allocator + Copy>(
+    memory: Memory<A>,
+    world: &mut World<A>,
+    files: &mut F,
+    line: &[u8],
+) -> Result<Response<A>, NoMemory>
+    ensures answered { IfOk result (λ response. Allows (desk world.old (F.shelf files.old)) (line_of line.now) (reply response) (desk world.new (F.shelf files.new))) }
+    ensures sites { OnOk result (KeepsSites world.old world.new) }
+    ensures stays { Stays (F.shelf files.old) (F.shelf files.new) }
+{
+    match do_line(memory, world, files, line) {
+        Ok(response) => Ok(response),
+        Err(NotDone::Refused(why)) => Ok(Response::Refused(why)),
+        Err(NotDone::Stopped(taken, why)) => Ok(Response::Stopped(taken, why)),
+        Err(NotDone::NoMemory) => Err(NoMemory),
+    }
+}
