@@ -262,7 +262,6 @@ each-at P [] i d a lt = absurd (omega arith)
 each-at P (o ∷ ops) zero d a lt = a.0
 each-at P (o ∷ ops) (suc i) d a lt = each-at P ops i d a.1 (omega arith)
 
-
 pub all-insert : (P : Op → Type 0) (ops : List Op) (i : ℕ) (x : Op) → AllByRecursion P ops → P x → AllByRecursion P (insert ops i x)
 all-insert P ops zero x a h = (h, a)
 all-insert P [] (suc i) x a h = (h, tt)
