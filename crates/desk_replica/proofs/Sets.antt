@@ -103,11 +103,11 @@ split-at [] i o lt at = absurd (omega arith)
 split-at (p ∷ ops) zero o lt at = ap (λ (q : Op). q ∷ ops) (sym at)
 split-at (p ∷ ops) (suc i) o lt at = let e : suc (i + 1) ≡ suc i + 1 = omega arith in split-at ops i o (omega arith) at ∙ ap (λ (n : ℕ). o ∷ drop n (p ∷ ops)) e
 
-take-none : (ops : List Op) → take 0 ops ≡ []
+pub take-none : (ops : List Op) → take 0 ops ≡ []
 take-none [] = refl
 take-none (o ∷ ops) = refl
 
-drop-none : (ops : List Op) → drop 0 ops ≡ ops
+pub drop-none : (ops : List Op) → drop 0 ops ≡ ops
 drop-none [] = refl
 drop-none (o ∷ ops) = refl
 

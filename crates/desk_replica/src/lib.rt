@@ -448,13 +448,15 @@ impl<Q: Sequence> Replica<Q> {
     }
 
     /// Takes in the operations of another replica, by stamp and then by bytes, up to the first that is refused: `Full`
-    /// comes exactly where 1,048,576 operations are held and the next is not among them. The other is only read. A
-    /// long list takes memory for both sets, where that is to be had.
+    /// comes exactly where 1,048,576 operations are held and the next is not among them. None is refused where all can be
+    /// held, there is room for as many, and none forks a stamp. The other is only read. A long list takes memory for both
+    /// sets, where that is to be had.
     pub fn merge(&mut self, other: &Replica<Q>) -> Result<Count, Stopped>
         ensures site { self.new.site ≡ self.old.site }
         ensures ok { OnOk result (self.new.ops ≡ union self.old.ops other.now.ops) }
         ensures counts { IfOk result (λ c. IsCounted self.old.ops self.new.ops (in_order other.now.ops) c) }
         ensures stopped { IfErr result (λ s. IsStopped self.old.ops self.new.ops (in_order other.now.ops) s) }
+        ensures room { HasRoom self.old.ops self.old.spare (in_order other.now.ops) → IsOk result }
     {
         match other.held.in_order() {
             Ok(ops) => self.take_all(&ops),
@@ -468,6 +470,7 @@ impl<Q: Sequence> Replica<Q> {
         ensures ok { OnOk result (self.new.ops ≡ union self.old.ops ops.now.ops) }
         ensures counts { IfOk result (λ c. IsCounted self.old.ops self.new.ops (in_order ops.now.ops) c) }
         ensures stopped { IfErr result (λ s. IsStopped self.old.ops self.new.ops (in_order ops.now.ops) s) }
+        ensures room { HasRoom self.old.ops self.old.spare (in_order ops.now.ops) → IsOk result }
     {
         let before = self.len();
         for taken in 0..ops.len() {

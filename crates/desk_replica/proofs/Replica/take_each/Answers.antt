@@ -4,8 +4,8 @@ use Rattle.desk_ops.specs.declared.op.Op.{Op}
 use Rattle.desk_ops.specs.OpSet.{OpSet, has_op, with_all, in_order, size}
 use Rattle.desk_walk.proofs.Anew.{number}
 use Rattle.desk_held.proofs.Joins.{gained-more}
-use Rattle.desk_replica.proofs.Sets.{count-new, count-known, counted, halt-next, halt-full}
-use Rattle.desk_replica.specs.State.{IsCounted}
+use Rattle.desk_replica.proofs.Sets.{count-new, count-known, counted, drop-none, take-none, halt-next, halt-full, rest-refused, room-rest}
+use Rattle.desk_replica.specs.State.{HasRoom, IsCounted}
 use Rattle.desk_replica.proofs.Replica.take_each.Goals as goal
 
 ended : (os : List Op) (n end at : ℕ) → length os ≡ n → end ≡ n → end ≤ at → length os ≤ at
@@ -29,10 +29,29 @@ pub loop-taken-preserved : goal.loop-taken-preserved
 loop-taken-preserved g c =
     let list = in_order c.args.ops.now.ops in
     let n : length list ≡ size c.args.ops.now.ops = number c.args.ops.now.ops in
+    let lt : c.loop-taken.taken < length list = omega (arith, n, c.loop-taken-test.true, c.len-taken-end.ensures.value) in
     record {
-      gained = gained-more c.args.self.now.ops c.loop-taken.self.ops _ list c.loop-taken.taken c.op.result (omega (arith, n, c.loop-taken-test.true, c.len-taken-end.ensures.value)) c.op.ensures.value c.loop-taken.invariant.gained c.in_default.ensures.ok;
+      gained = gained-more c.args.self.now.ops c.loop-taken.self.ops _ list c.loop-taken.taken c.op.result lt c.op.ensures.value c.loop-taken.invariant.gained c.in_default.ensures.ok;
       site = c.in_default.ensures.site ∙ c.loop-taken.invariant.site;
+      room = λ r. room-rest c.loop-taken.self.ops _ c.loop-taken.self.spare _ list c.loop-taken.taken c.op.result lt c.op.ensures.value (c.loop-taken.invariant.room r) c.in_default.ensures.ok c.in_default.ensures.spare c.in_default.ensures.known_spare;
     }
+
+pub loop-taken-init : goal.loop-taken-init
+loop-taken-init g c =
+    let list = in_order c.args.ops.now.ops in
+    let h = c.args.self.now.ops in
+    record {
+      gained = ap (with_all h) (sym (take-none list));
+      site = refl;
+      room = λ r. subst (HasRoom h c.args.self.now.spare) (sym (drop-none list)) r;
+    }
+
+pub returns-in-Err-clause-room : goal.returns-in-Err-clause-room
+returns-in-Err-clause-room g c = λ r.
+    let list = in_order c.args.ops.now.ops in
+    let n : length list ≡ size c.args.ops.now.ops = number c.args.ops.now.ops in
+    let lt : c.loop-taken.taken < length list = omega (arith, n, c.loop-taken-test.true, c.len-taken-end.ensures.value) in
+    absurd (rest-refused c.loop-taken.self.ops c.loop-taken.self.spare list c.loop-taken.taken c.op.result c.in-Err.why lt c.op.ensures.value (c.loop-taken.invariant.room r) c.in-Err.ensures.full c.in-Err.ensures.memory)
 
 pub returns-clause-ok : goal.returns-clause-ok
 returns-clause-ok g c =
