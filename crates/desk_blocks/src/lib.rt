@@ -6,6 +6,3 @@ mod index;
 mod tally;
 
 pub use blocks::Blocks;
-
-#[cfg(test)]
-mod tests;

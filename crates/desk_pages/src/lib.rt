@@ -11,6 +11,3 @@ mod starts;
 pub use list::{Pages, Placed};
 pub use page::{FULL, Summary};
 pub use search::Pick;
-
-#[cfg(test)]
-mod tests;

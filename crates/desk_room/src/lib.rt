@@ -148,6 +148,3 @@ impl<A: Allocator + Copy> Room<A> {
         self.ops.remove_in_order(&below)
     }
 }
-
-#[cfg(test)]
-mod tests;

@@ -138,6 +138,3 @@ pub trait Sequence: Drop {
         Ok(made)
     }
 }
-
-#[cfg(test)]
-mod tests;

@@ -4,8 +4,3 @@
 mod world;
 
 pub use world::{Answer, Event, MAX_SITES, StepRefusal, World};
-
-#[cfg(test)]
-mod growths;
-#[cfg(test)]
-mod tests;

@@ -1,8 +1,8 @@
 //! Events of a world, step by step.
 
-use crate::{Answer, Event, StepRefusal, World};
 use desk_ops::{NoMemory, Op, Stamp, Style, Symbol};
 use desk_replica::{Count, Settings};
+use desk_world::{Answer, Event, StepRefusal, World};
 use std::alloc::Allocator;
 use std::test::Fail;
 

@@ -1,10 +1,13 @@
+//! What waits in a room, and comes out by stamp.
+
 ghost use Rattle.std.specs.Prelude.{IfOk, All};
 ghost use Rattle.desk_ops.specs.Op.{IsLawful};
 ghost use Rattle.desk_room.specs.Waiting.{HasTarget};
 
-use crate::*;
-use desk_ops::{Key, Style, Symbol};
+use desk_ops::{Key, Op, Stamp, Style, Symbol};
+use desk_room::Room;
 use linked_list_allocator::LocalHeap;
+use std::alloc::Allocator;
 use std::test::Fail;
 
 fn at(counter: u64, site: u16) -> Stamp {
@@ -119,7 +122,7 @@ fn some_ops<'a>(heap: &'a LocalHeap, counters: [u64; 4]) -> Result<Vec<Op, &'a L
 
 /// Each growth of `reserve` and `from_ops` refused: the room is as it was, and the call repeated with memory does its work.
 #[test]
-fn refused_growths_change_nothing(rt: HostRuntime) -> Result<(), Fail> {
+fn refused_growths_of_room(rt: HostRuntime) -> Result<(), Fail> {
     let ample = LocalHeap::new(rt.alloc(), 65536)?;
     let twice = some_ops(&ample, [4, 2, 3, 2])?;
     let once = some_ops(&ample, [4, 2, 5, 3])?;

@@ -1,22 +1,13 @@
 //! Blocks against `Flat`, which keeps its entries in one list.
 ghost use Rattle.std.specs.Prelude.{◌≡◌, IfOk};
 
-use crate::Blocks;
+use crate::numbers::{next, pick};
+use desk_blocks::Blocks;
 use desk_ops::{Stamp, Style, Symbol};
 use desk_seq::{Entry, Flat, Sequence, integrate};
 use linked_list_allocator::LocalHeap;
 use std::alloc::{AllocError, Allocator, Global};
 use std::test::Fail;
-
-fn next(seed: u64) -> u64 {
-    seed.wrapping_mul(6_364_136_223_846_793_005)
-        .wrapping_add(1_442_695_040_888_963_407)
-}
-
-/// A number below n, or 0.
-fn pick(seed: u64, n: usize) -> usize {
-    ((seed >> 33) % (n.max(1) as u64)) as usize
-}
 
 fn typed(counter: u64, site: u16) -> Entry {
     Entry {

@@ -1,17 +1,8 @@
 //! Pages against a list in one piece.
-use crate::{FULL, Pages, Pick};
+use crate::numbers::{next, pick};
+use desk_pages::{FULL, Pages, Pick};
 use std::alloc::{AllocError, Allocator, Global};
 use std::test::Fail;
-
-fn next(seed: u64) -> u64 {
-    seed.wrapping_mul(6_364_136_223_846_793_005)
-        .wrapping_add(1_442_695_040_888_963_407)
-}
-
-/// A number below n, or 0.
-fn pick(seed: u64, n: usize) -> usize {
-    ((seed >> 33) % (n.max(1) as u64)) as usize
-}
 
 /// Those below a number.
 #[derive(Clone, Copy)]

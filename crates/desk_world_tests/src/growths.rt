@@ -3,11 +3,11 @@
 ghost use Rattle.std.specs.Prelude.{All, IfOk};
 ghost use Rattle.desk_ops.specs.Op.{IsLawful};
 
-use crate::tests::{at, roman, typed};
-use crate::{Answer, Event, StepRefusal, World};
+use crate::events::{at, roman, typed};
 use desk_held::AddRefusal;
 use desk_ops::{Key, NoMemory, Op, Stamp};
 use desk_replica::{Count, Refusal, Stopped};
+use desk_world::{Answer, Event, StepRefusal, World};
 use linked_list_allocator::LocalHeap;
 use std::alloc::{Allocator, Global};
 use std::test::Fail;

@@ -1,8 +1,11 @@
+//! Arrivals in a sequence.
+
 ghost use Rattle.std.specs.Prelude.{◌≡◌};
 
-use crate::*;
-use desk_ops::Style;
+use desk_ops::{Stamp, Style, Symbol};
+use desk_seq::{Entry, Flat, Sequence, integrate};
 use linked_list_allocator::LocalHeap;
+use std::alloc::{AllocError, Allocator};
 use std::test::Fail;
 
 fn at(counter: u64, site: u16) -> Stamp
@@ -102,7 +105,7 @@ fn deleted_parent_keeps_its_place(rt: HostRuntime) {
 /// Each growth of `reserve` and `from_entries` refused: the sequence is as it was, and the call repeated with memory
 /// leaves room for all that was asked for.
 #[test]
-fn refused_growths_change_nothing(rt: HostRuntime) -> Result<(), Fail> {
+fn refused_growths_of_flat(rt: HostRuntime) -> Result<(), Fail> {
     let mut refused = 0u32;
     let mut unmade = 0u32;
     for cut in 0..96usize {

@@ -1,5 +1,5 @@
 use Rattle.std.proofs.Common.{◌≡◌, ◌≤◌, take, length, vec_capacity}
-use Rattle.desk_blocks.proofs.tests.listed.Given as goal
+use Rattle.desk_sequence_tests.proofs.blocks.listed.Given as goal
 
 abbrev pub invariant-loop-i : goal.invariant-loop-i
 invariant-loop-i g l = record {

@@ -1,0 +1,13 @@
+//! The tests of desk_pages, desk_seq, desk_blocks and desk_room.
+#![tactic(auto)]
+
+#[cfg(test)]
+mod blocks;
+#[cfg(test)]
+mod numbers;
+#[cfg(test)]
+mod pages;
+#[cfg(test)]
+mod room;
+#[cfg(test)]
+mod seq;

@@ -1,0 +1,7 @@
+//! The tests of desk_world.
+#![tactic(auto)]
+
+#[cfg(test)]
+mod events;
+#[cfg(test)]
+mod growths;
