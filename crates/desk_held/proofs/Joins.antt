@@ -1,5 +1,5 @@
 -- Lists of operations added to a set, and the sets of lists.
-use Rattle.std.proofs.Common.{◌≡◌, ℕ, ◌<◌, ◌≤◌, ◌||◌, List, [], ◌∷◌, length, take, get_or, refl, sym, ap, ◌∙◌, arith}
+use Rattle.std.proofs.Common.{◌≡◌, ℕ, ◌<◌, ◌≤◌, ◌||◌, cond, true, List, [], ◌∷◌, length, take, get_or, refl, sym, ap, ◌∙◌, arith}
 use Rattle.std.specs.List.Sorted.{IsPermutation}
 use Rattle.std.specs.Ordering.{eq_by_cmp}
 use Rattle.std.proofs.lemmas.List.{length-map}
@@ -10,7 +10,8 @@ use Rattle.desk_ops.specs.declared.op.Op.{Op}
 use Rattle.desk_ops.specs.Order.{op_cmp}
 use Rattle.desk_ops.specs.OpSet.{OpSet, no_ops, has_op, with_op, with_all, in_order, size, is_rising, from_rising}
 use Rattle.desk_ops.proofs.OpSets.{no_ops-from_rising, in_order-from_rising}
-use Rattle.desk_ops.proofs.Unions.{with_all-take, same-set, has_op-with_all, union-comm}
+use Rattle.desk_ops.proofs.Stamps.{by_cases}
+use Rattle.desk_ops.proofs.Unions.{with_all-take, same-set, has_op-with_all, size-with_op, union-comm}
 
 no_ops-in_order : in_order no_ops ≡ []
 no_ops-in_order = ap in_order (sym no_ops-from_rising) ∙ in_order-from_rising [] tt
@@ -29,10 +30,16 @@ pub with_all-permutation : (h : OpSet) (os ps : List Op) → IsPermutation os ps
 with_all-permutation h os ps m = same-set (with_all h os) (with_all h ps)
     (λ q. has_op-with_all h os q ∙ ap (λ b. b || has_op h q) (list_any-IsPermutation (eq_by_cmp op_cmp q) os ps m) ∙ sym (has_op-with_all h ps q))
 
--- what was gained of a list, and that each addition took at most one place
+-- what was gained of a list, and that each operation that was gained took at most one place
 pub record IsGained (old now : OpSet) (old_spare now_spare : ℕ) (ops : List Op) (i : ℕ) : Type 0 where
   pub whole : now ≡ with_all old (take i ops)
   pub room : old_spare ≤ now_spare + i
+  pub places : old_spare + size old ≤ now_spare + size now
+
+pub places-more : (now after : OpSet) (op : Op) (all now_spare spare : ℕ) → all ≤ now_spare + size now → after ≡ with_op now op → (has_op now op ≡ true → spare ≡ now_spare) → now_spare ≤ spare + 1 → all ≤ spare + size after
+places-more now after op all now_spare spare le e known new = by_cases (has_op now op)
+    (λ held. let n : size after ≡ size now = ap size e ∙ size-with_op now op ∙ ap (λ b. cond b (size now) (size now + 1)) held in omega (arith, n, le, known held))
+    (λ none. let n : size after ≡ size now + 1 = ap size e ∙ size-with_op now op ∙ ap (λ b. cond b (size now) (size now + 1)) none in omega (arith, n, le, new))
 
 pub no_list : (os : List Op) → length os ≡ 0 → os ≡ []
 no_list [] z = refl

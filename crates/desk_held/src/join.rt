@@ -1,7 +1,7 @@
 //! Lists of operations added at once.
 ghost use Rattle.std.specs.Prelude.{◌≡◌, ◌+◌, ◌≤◌, All, IfSome, IfErr, OnOk, length};
 ghost use Rattle.desk_ops.specs.Op.{IsLawful};
-ghost use Rattle.desk_ops.specs.OpSet.{no_ops, with_all};
+ghost use Rattle.desk_ops.specs.OpSet.{no_ops, size, with_all};
 ghost use Rattle.desk_held.specs.Joining.{IsHalted};
 
 use crate::search::is_rising;
@@ -50,14 +50,14 @@ impl<A: Allocator + Copy> Held<A> {
     }
 
     /// Adds the operations of a list, one after the other, up to the first that is refused: `Full` comes exactly where
-    /// 1,048,576 operations are held and the next is not among them; out of memory only after as many additions as
-    /// there was room for. Where nothing is held and there is no room for all, the list is sorted, if it does not rise,
+    /// 1,048,576 operations are held and the next is not among them; out of memory only where the set has gained as
+    /// many as there was room for. Where nothing is held and there is no room for all, the list is sorted, if it does not rise,
     /// and laid out at once.
     pub fn add_all(&mut self, ops: &[Op]) -> Result<(), Halt>
         requires { All IsLawful ops.now }
         ensures ok { OnOk result (self.new.ops ≡ with_all self.old.ops ops.now) }
         ensures err { IfErr result (λ halt. IsHalted self.old.ops self.new.ops ops.now halt) }
-        ensures memory { IfErr result (λ halt. halt.why ≡ AddRefusal.NoMemory → self.old.spare ≤ halt.added) }
+        ensures memory { IfErr result (λ halt. halt.why ≡ AddRefusal.NoMemory → self.old.spare + size self.old.ops ≤ size self.new.ops) }
         ensures spare { self.old.spare ≤ self.new.spare + length ops.now }
     {
         if self.is_empty()
@@ -75,7 +75,7 @@ impl<A: Allocator + Copy> Held<A> {
         requires { All IsLawful ops.now }
         ensures ok { OnOk result (self.new.ops ≡ with_all self.old.ops ops.now) }
         ensures err { IfErr result (λ halt. IsHalted self.old.ops self.new.ops ops.now halt) }
-        ensures memory { IfErr result (λ halt. halt.why ≡ AddRefusal.NoMemory → self.old.spare ≤ halt.added) }
+        ensures memory { IfErr result (λ halt. halt.why ≡ AddRefusal.NoMemory → self.old.spare + size self.old.ops ≤ size self.new.ops) }
         ensures spare { self.old.spare ≤ self.new.spare + length ops.now }
     {
         for (added, op) in ops.iter().enumerate() {
