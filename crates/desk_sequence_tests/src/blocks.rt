@@ -76,6 +76,23 @@ fn are_alike<Q: Sequence, R: Sequence>(one: &Q, other: &R) -> bool {
     are_alike_at(one, other, one.len(), typed(0, 0).stamp)
 }
 
+/// Whether both answer alike of so many random places, at a stamp each, which is often among the least.
+fn are_alike_in_parts<Q: Sequence, R: Sequence>(one: &Q, other: &R, parts: u32) -> bool {
+    if one.len() != other.len() || one.shown_len() != other.shown_len() {
+        return false;
+    }
+    let mut seed = 7;
+    for k in 0..parts {
+        seed = next(seed);
+        let place = pick(seed, one.len().saturating_add(1));
+        let counter = pick(next(seed), 30_000usize >> (k % 16));
+        if !are_alike_at(one, other, place, typed(counter as u64, 1).stamp) {
+            return false;
+        }
+    }
+    true
+}
+
 /// One put, mark or look-up at random in both, and whether they answered alike.
 fn step<Q: Sequence, R: Sequence>(
     one: &mut Q,
@@ -99,13 +116,14 @@ fn step<Q: Sequence, R: Sequence>(
     Ok(true)
 }
 
-/// So many steps, and both compared at every place after each thousandth.
+/// So many steps, and both compared at every place after each 4,000.
 fn run<Q: Sequence, R: Sequence>(
     one: &mut Q,
     other: &mut R,
+    first: u64,
     steps: u32,
 ) -> Result<bool, AllocError> {
-    let mut seed = 1;
+    let mut seed = first;
     for k in 0..steps {
         seed = next(seed);
         if !step(one, other, seed)? {
@@ -144,11 +162,45 @@ fn made_of<Q: Sequence, R: Sequence, A: Allocator>(
 fn random_calls_answer_alike(rt: HostRuntime) -> Result<(), Fail> {
     let mut flat = Flat::empty(rt.alloc());
     let mut blocks = Blocks::empty(rt.alloc());
-    assert!(rt; run(&mut flat, &mut blocks, 20_000)?);
+    assert!(rt; run(&mut flat, &mut blocks, 1, 20_000)?);
     assert!(rt; flat.len() > 5_000);
     let mut made: Blocks<Global> = made_of(&flat, rt.alloc(), rt.alloc())?;
     assert!(rt; are_alike(&flat, &made));
-    assert!(rt; run(&mut flat, &mut made, 4_000)?);
+    assert!(rt; run(&mut flat, &mut made, 2, 4_000)?);
+    Ok(())
+}
+
+/// So many entries, each at a random place.
+fn scatter<Q: Sequence>(sequence: &mut Q, number: u64) -> Result<(), AllocError> {
+    let mut seed = 3;
+    for counter in 0..number {
+        seed = next(seed);
+        let place = pick(seed, sequence.len().saturating_add(1));
+        put(sequence, place, typed(counter, 1))?;
+    }
+    Ok(())
+}
+
+/// 3,000 steps, and both compared in parts.
+fn run_long<Q: Sequence, R: Sequence>(
+    one: &mut Q,
+    other: &mut R,
+    first: u64,
+) -> Result<bool, AllocError> {
+    let is_alike = run(one, other, first, 3_000)?;
+    Ok(is_alike && are_alike_in_parts(one, other, 2_000))
+}
+
+/// Over more than two groups of 64 pages, cut at random places or laid out in full pages.
+#[test]
+fn many_pages_answer_alike(rt: HostRuntime) -> Result<(), Fail> {
+    let mut blocks = Blocks::empty(rt.alloc());
+    scatter(&mut blocks, 70_000)?;
+    let mut flat: Flat<Global> = made_of(&blocks, rt.alloc(), rt.alloc())?;
+    assert_eq!(rt; flat.len(), 70_000);
+    assert!(rt; run_long(&mut flat, &mut blocks, 1)?);
+    let mut made: Blocks<Global> = made_of(&flat, rt.alloc(), rt.alloc())?;
+    assert!(rt; run_long(&mut flat, &mut made, 2)?);
     Ok(())
 }
 
@@ -247,28 +299,98 @@ fn fill<Q: Sequence>(sequence: &mut Q) -> Result<(), AllocError> {
     Ok(())
 }
 
-/// Whatever growth is refused, the sequence stays as it was, and with memory the same call gives room that takes none.
+/// Whether a reserve of 1,000 was refused beside a ballast of so many bytes: the sequence stays as it was, and with memory
+/// the same call gives room that takes none.
+fn is_reserve_refused<Q: Sequence, R: Sequence>(
+    filled: &Q,
+    memory: R::Memory,
+    heap: &LocalHeap,
+    bytes: usize,
+) -> Result<bool, Fail> {
+    let mut sequence = R::empty(memory);
+    fill(&mut sequence)?;
+    let spare = sequence.spare();
+    let ballast: Option<Vec<u8, &LocalHeap>> = Vec::with_capacity(heap, bytes).ok();
+    let refused = sequence.reserve(1_000).is_err();
+    drop(ballast);
+    if sequence.spare() < spare || !are_alike_in_parts(filled, &sequence, 20) {
+        return Err(Fail::new("a refused reserve changed the sequence"));
+    }
+    sequence.reserve(1_000)?;
+    if sequence.spare() < 1_000 || !are_alike_in_parts(filled, &sequence, 20) {
+        return Err(Fail::new("no room"));
+    }
+    Ok(refused)
+}
+
+/// Each growth of `reserve` refused, in heaps of which ever 32 bytes more are left.
 #[test]
 fn refused_reserves_change_nothing(rt: HostRuntime) -> Result<(), Fail> {
     let mut flat = Flat::empty(rt.alloc());
     fill(&mut flat)?;
     let mut refused = 0u32;
-    for size in 0..32usize {
+    for cut in 0..5_200usize {
         let heap = LocalHeap::new(rt.alloc(), 524_288)?;
-        let mut blocks = Blocks::empty(&heap);
-        fill(&mut blocks)?;
-        let spare = blocks.spare();
-        let ballast: Vec<u8, &LocalHeap> = Vec::with_capacity(&heap, 425_000 - size * 4_096)?;
-        if blocks.reserve(1_000).is_err() {
-            refused = refused.saturating_add(1);
-            assert!(rt; are_alike(&flat, &blocks));
-            assert!(rt; blocks.spare() >= spare);
-        }
-        drop(ballast);
-        blocks.reserve(1_000)?;
-        assert!(rt; blocks.spare() >= 1_000);
-        assert!(rt; are_alike(&flat, &blocks));
+        let is_one = is_reserve_refused::<Flat<Global>, Blocks<&LocalHeap>>(
+            &flat,
+            &heap,
+            &heap,
+            440_000 - cut * 32,
+        )?;
+        refused = refused.saturating_add(u32::from(is_one));
     }
-    assert!(rt; refused > 5);
+    assert!(rt; refused > 2_000 && refused < 5_000, "{refused} refused");
+    Ok(())
+}
+
+/// The bytes of a heap that has room for a sequence of 600 and little more.
+const LIST_HEAP: usize = 90_112;
+
+/// Whether no sequence is made of the entries of another where so many bytes are left: all memory is given back, so that
+/// the same call makes it.
+fn is_list_refused<Q: Sequence, R: Sequence>(
+    listed: &Q,
+    alloc: Global,
+    memory: R::Memory,
+    heap: &LocalHeap,
+    left: usize,
+) -> Result<bool, Fail> {
+    let ballast: Option<Vec<u8, &LocalHeap>> = Vec::with_capacity(
+        heap,
+        LIST_HEAP.saturating_sub(left),
+    ).ok();
+    let first = made_of::<Q, R, Global>(listed, alloc, memory);
+    drop(ballast);
+    let refused = first.is_err();
+    if let Ok(made) = first
+        && !are_alike_in_parts(listed, &made, 20)
+    {
+        return Err(Fail::new("another sequence was made"));
+    }
+    let made: R = made_of(listed, alloc, memory)?;
+    if !are_alike_in_parts(listed, &made, 20) {
+        return Err(Fail::new("another sequence was made with memory"));
+    }
+    Ok(refused)
+}
+
+/// Each growth of `from_entries` refused, in heaps of which ever 16 bytes more are left.
+#[test]
+fn refused_lists_are_not_made(rt: HostRuntime) -> Result<(), Fail> {
+    let mut flat = Flat::empty(rt.alloc());
+    scatter(&mut flat, 600)?;
+    let mut refused = 0u32;
+    for cut in 0..5_600usize {
+        let heap = LocalHeap::new(rt.alloc(), LIST_HEAP)?;
+        let is_one = is_list_refused::<Flat<Global>, Blocks<&LocalHeap>>(
+            &flat,
+            rt.alloc(),
+            &heap,
+            &heap,
+            cut * 16,
+        )?;
+        refused = refused.saturating_add(u32::from(is_one));
+    }
+    assert!(rt; refused > 3_000 && refused < 5_600, "{refused} refused");
     Ok(())
 }
