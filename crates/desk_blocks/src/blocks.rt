@@ -1,5 +1,5 @@
 //! A sequence in pages.
-ghost use Rattle.std.specs.Prelude.{◌≡◌, ◌≤◌, ◌<◌, ◌+◌, length, min, OnOk, IfOk, IfSome, IsNone, take, drop, slice_index_or};
+ghost use Rattle.std.specs.Prelude.{◌≡◌, ◌<◌, ◌+◌, min, IfSome};
 ghost use Rattle.desk_blocks.specs.Tally.{IsAt};
 
 use crate::index::Index;

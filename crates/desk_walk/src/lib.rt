@@ -1,14 +1,10 @@
 //! A sequence and a room that follow a set of operations.
 #![tactic(auto)]
 
-ghost use Rattle.std.specs.Prelude.{◌≡◌, ◌+◌, ◌<◌, ◌≤◌, ◌↔◌, ◌⊎◌, ℕ, true, false, IfSome, IsNone, IsOk, IfOk, OnOk, IsTrue, length, slice_index_or};
+ghost use Rattle.std.specs.Prelude.{◌≡◌, ◌+◌, ◌<◌, ◌≤◌, ℕ, false, IfSome, IsNone, IfOk, length};
 ghost use Rattle.desk_ops.specs.declared.op.Op.{Op};
-ghost use Rattle.desk_ops.specs.Op.{target_of, stamp_of};
 ghost use Rattle.desk_ops.specs.OpSet.{OpSet, has_op, with_op, size, AllLawful};
-ghost use Rattle.desk_ops.specs.Held.{is_clear_in};
-ghost use Rattle.desk_ops.specs.Live.{IsClearOp};
-ghost use Rattle.desk_room.specs.Waiting.{HasTarget};
-ghost use Rattle.desk_seq.specs.Entries.{IsAbsent, AreDistinct};
+ghost use Rattle.desk_seq.specs.Entries.{AreDistinct};
 ghost use Rattle.desk_walk.specs.Following.{places, place_at, IsActed, CanAct, IsDraining, IsSettled, IsArrival};
 
 use desk_held::Held;

@@ -1,10 +1,10 @@
 //! The walk of a set in one pass over its operations, oldest first. A clear insert is linked directly after its parent,
 //! since it is the newest so far.
-ghost use Rattle.std.specs.Prelude.{◌≡◌, ◌+◌, ◌^◌, ◌<◌, ◌≤◌, ◌++◌, ◌∷◌, ℕ, [], true, IsNone, IfSome, IfOk, OnOk, length, vec_len};
+ghost use Rattle.std.specs.Prelude.{◌≡◌, ◌+◌, ◌^◌, ◌<◌, ◌≤◌, ℕ, true, IsNone, IfSome, IfOk, OnOk, length, vec_len};
 ghost use Rattle.desk_ops.specs.Op.{target_of, stamp_of};
 ghost use Rattle.desk_ops.specs.OpSet.{in_order, size};
 ghost use Rattle.desk_ops.specs.Held.{is_clear_in};
-ghost use Rattle.desk_walk.specs.Tree.{op_at, entry_by, linked, crossed, passed, IsLinking, IsActing, IsPlaceOf, walked, AreSettled};
+ghost use Rattle.desk_walk.specs.Tree.{op_at, entry_by, linked, passed, IsLinking, IsActing, IsPlaceOf, walked, AreSettled};
 
 use desk_held::Held;
 use desk_ops::{NoMemory, Op, Stamp, Symbol};
