@@ -55,7 +55,7 @@ fn ask_why(alloc: Global, words: &mut Vec<String>) -> io::Result<()> {
     Ok(())
 }
 
-/// Tells why the words could not be read, and gives the status of it: 1 for want of memory, as of a run, and else 2, as of
+/// Tells why the words could not be read, and gives the status of it: 1 where memory ran out, as of a run, and else 2, as of
 /// words that `clap` refuses. A failure to write the line changes no status.
 fn unread<E: Write>(faults: &mut E, error: &io::Error) -> u8
     ensures within { (result ≡ 1) ⊎ (result ≡ 2) }

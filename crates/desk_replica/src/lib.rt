@@ -354,7 +354,7 @@ impl<Q: Sequence> Replica<Q> {
     }
 
     /// Takes in an operation, and with it all that waited for it. `Full` comes exactly where 1,048,576 operations are held
-    /// and this one is not; want of memory only where this one is not held and there was no room, or it forks a stamp. No
+    /// and this one is not; out of memory only where this one is not held and there was no room, or it forks a stamp. No
     /// other refusal comes, and after one the set is as it was.
     pub fn take(&mut self, op: Op) -> Result<Took, Refusal>
         requires { IsLawful op }
@@ -620,7 +620,7 @@ impl<Q: Sequence> Replica<Q> {
 
     /// Inserts a symbol at a place of the copy, and answers the operation made. `Place` comes where the place is above
     /// the copy's length, `Value` where the symbol is not lawful, `Full` and `ClockFull` where nothing more can be made,
-    /// the first of these that holds. Want of memory comes only where none of them holds and there was no room.
+    /// the first of these that holds. Out of memory comes only where none of them holds and there was no room.
     pub fn insert_at(&mut self, place: usize, symbol: Symbol) -> Result<Op, Refusal>
         ensures site { self.new.site ≡ self.old.site }
         ensures made { IfOk result (λ op. IsInserted self.old self.new place symbol op) }
@@ -648,7 +648,7 @@ impl<Q: Sequence> Replica<Q> {
     }
 
     /// Deletes the element at a place of the copy, and answers the operation made. `Place` comes where the place is not
-    /// below the copy's length, `Full` and `ClockFull` where nothing more can be made, the first of these that holds. Want
+    /// below the copy's length, `Full` and `ClockFull` where nothing more can be made, the first of these that holds. Out
     /// of memory comes only where none of them holds and there was no room.
     pub fn delete_at(&mut self, place: usize) -> Result<Op, Refusal>
         ensures site { self.new.site ≡ self.old.site }
@@ -670,7 +670,7 @@ impl<Q: Sequence> Replica<Q> {
     }
 
     /// Gives a setting of the job a value, and answers the operation made. `Value` comes where the key does not take the
-    /// value, `Full` and `ClockFull` where nothing more can be made, the first of these that holds. Want of memory comes
+    /// value, `Full` and `ClockFull` where nothing more can be made, the first of these that holds. Out of memory comes
     /// only where none of them holds and there was no room.
     pub fn set(&mut self, key: Key, value: u32) -> Result<Op, Refusal>
         ensures site { self.new.site ≡ self.old.site }

@@ -47,7 +47,7 @@ pub fn fill<'a, A: Allocator>(
     parts
 }
 
-/// How many operations of its list a refused call took in; none where the answer is no want of memory.
+/// How many operations of its list a refused call took in; none where the answer is not that memory ran out.
 fn taken(answer: Answer) -> Option<usize> {
     match answer {
         Answer::Refused(Refusal::NoMemory) => Some(0),
