@@ -3,11 +3,11 @@ use Rattle.std.specs.Prelude.{ℕ, Bool, not, ◌==◌, ◌&&◌, if◌then◌el
 use Rattle.desk_ops.specs.declared.op.Style.{Style}
 use Rattle.desk_ops.specs.declared.op.Style.TheVariants.{Roman, Italic, SmallCap}
 use Rattle.desk_ops.specs.declared.op.Symbol.{Symbol}
-use Rattle.desk_ops.specs.Op.{is_symbol}
+use Rattle.desk_ops.specs.Op.{is_line_feed, is_space, is_symbol}
 
 -- a lawful symbol that is neither space nor line feed
 abbrev pub is_printed : Symbol → Bool
-is_printed symbol = is_symbol symbol && not (symbol.ch == 32) && not (symbol.ch == 10)
+is_printed symbol = is_symbol symbol && not (is_space symbol) && not (is_line_feed symbol)
 
 abbrev pub printed : Style → ℕ → Option Symbol
 printed s c = let symbol : Symbol = record { style = s; ch = c } in if is_printed symbol then Some symbol else None

@@ -103,7 +103,8 @@ impl From<TableFault> for CaseFault {
     }
 }
 
-/// A matrix case.
+/// A matrix case: its number and its cells are in their ranges, no symbol stands in two cells, and the cells of its
+/// space and of its 1 to 4 fills are blank.
 #[derive(Drop)]
 pub struct MatrixCase {
     number: u16,
@@ -173,13 +174,6 @@ impl MatrixCase {
         } else {
             Err(CaseFault::FillOrder)
         }
-    }
-
-    /// Every case has its number and its cells in their ranges, no symbol in two cells, and blank cells for its space and its 1 to 4 fills.
-    pub fn is_lawful(&self)
-        ensures { IsCase self.now }
-    {
-        let _ = &self.number;
     }
 
     /// Reads a case file: its values, or its first fault, which is never `FillOrder`. Out of memory may come in place of either.

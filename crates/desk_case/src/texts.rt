@@ -21,7 +21,7 @@ fn printed(style: Style, ch: char) -> Option<Symbol>
     ensures { result ≡ printed style ch }
 {
     let symbol = Symbol { style, ch };
-    if symbol.check().is_err() || ch == ' ' || ch == '\n' {
+    if symbol.check().is_err() || symbol.is_space() || symbol.is_line_feed() {
         return None;
     }
     Some(symbol)

@@ -1,7 +1,7 @@
 -- Lines as they are to be cast, and what a reader sees of lines that were.
 use Rattle.std.specs.Prelude.{◌≡◌, Bool, true, false, List, [], ◌∷◌, ◌++◌, map, Option, Some, None}
-use Rattle.desk_ops.specs.declared.op.Style.TheVariants.{Roman}
 use Rattle.desk_ops.specs.declared.op.Symbol.{Symbol}
+use Rattle.desk_ops.specs.Op.{space}
 use Rattle.desk_units.specs.WedgeSum.{sum_at}
 use Rattle.desk_wedge.specs.Wedge.{WedgeValues}
 use Rattle.desk_case.specs.Case.{CaseValues}
@@ -27,7 +27,7 @@ line_cast case wedge line =
 
 -- what a matrix means to a reader: one with S is a Roman space, one without S that has a symbol is that symbol
 abbrev pub meaning : Bool → Option Symbol → List Symbol
-meaning true symbol = record { style = Roman; ch = 32 } ∷ []
+meaning true symbol = space ∷ []
 meaning false (Some symbol) = symbol ∷ []
 meaning false None = []
 

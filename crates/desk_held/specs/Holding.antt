@@ -4,7 +4,7 @@ use Rattle.std.specs.Coded.{Coded, code_by, coded×, coded_ℕ}
 use Rattle.std.specs.List.{AllByRecursion}
 use Rattle.desk_ops.specs.declared.op.Op.{Op}
 use Rattle.desk_ops.specs.Op.{stamp_of, IsLawful}
-use Rattle.desk_ops.specs.OpSet.{OpSet, op_set_code, has_op, is_rising}
+use Rattle.desk_ops.specs.OpSet.{OpSet, op_set_code, has_op, is_rising, max_ops}
 use Rattle.desk_ops.specs.Held.{is_borne_in}
 use Rattle.desk_held.specs.declared.Added.{Added}
 use Rattle.desk_held.specs.declared.Added.TheVariants.{New, Known, Forks}
@@ -19,7 +19,7 @@ holding_code = code_by (OpSet × ℕ) (coded× op_set_code coded_ℕ) (λ h. (h.
 -- the operations are lawful and rise, and are no more than the limit
 pub record IsKept (ops : List Op) : Type 0 where
   pub rising : T (is_rising ops)
-  pub within : length ops ≤ 1048576
+  pub within : length ops ≤ max_ops
   pub lawful : AllByRecursion IsLawful ops
 
 -- what adding an operation is

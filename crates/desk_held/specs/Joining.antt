@@ -2,7 +2,7 @@
 use Rattle.std.specs.Prelude.{◌≡◌, ℕ, ◌<◌, ◌↔◌, false, List, length, take}
 use Rattle.std.specs.List.{HoldsAt}
 use Rattle.desk_ops.specs.declared.op.Op.{Op}
-use Rattle.desk_ops.specs.OpSet.{OpSet, has_op, with_all, size}
+use Rattle.desk_ops.specs.OpSet.{OpSet, has_op, with_all, size, max_ops}
 use Rattle.desk_held.specs.declared.AddRefusal.TheVariants.{Full}
 use Rattle.desk_held.specs.declared.join.Halt.{Halt}
 
@@ -11,4 +11,4 @@ pub record IsHalted (old after : OpSet) (ops : List Op) (halt : Halt) : Type 0 w
   pub gained : after ≡ with_all old (take halt.added ops)
   pub within : halt.added < length ops
   pub next : HoldsAt (λ op. has_op after op ≡ false) ops halt.added
-  pub full : (halt.why ≡ Full) ↔ (size after ≡ 1048576)
+  pub full : (halt.why ≡ Full) ↔ (size after ≡ max_ops)

@@ -18,7 +18,8 @@ use Rattle.std.proofs.lemmas.List.Elements.{recursion_from_All}
 use Rattle.desk_signals.specs.declared.RibbonRow.TheVariants.{Coarse, FineOut}
 use Rattle.desk_wedge.specs.Wedge.{units_of_row}
 use Rattle.desk_case.specs.Names.{IsCell}
-use Rattle.desk_lines.specs.Words.{is_space, is_line_feed, words, paragraphs, words_of, drop_empty_last}
+use Rattle.desk_ops.specs.Op.{is_line_feed, is_space}
+use Rattle.desk_lines.specs.Words.{words, paragraphs, words_of, drop_empty_last}
 use Rattle.desk_lines.specs.Groups.{groups}
 use Rattle.desk_lines.proofs.WordLaws.{span, span_is, split_is}
 use Rattle.desk_units.specs.WedgeSum.{pair_of}

@@ -9,7 +9,8 @@ use Rattle.std.proofs.lemmas.List.Splits.{slice_split-cons_yes, slice_split-cons
 use Rattle.desk_ops.specs.declared.op.Symbol.{Symbol}
 use Rattle.desk_units.specs.WedgeSum.{greatest}
 use Rattle.desk_case.specs.Case.{CaseValues, cell_of}
-use Rattle.desk_lines.specs.Words.{is_space, is_line_feed, drop_empty_last, paragraphs, words}
+use Rattle.desk_ops.specs.Op.{is_line_feed, is_space}
+use Rattle.desk_lines.specs.Words.{drop_empty_last, paragraphs, words}
 use Rattle.desk_lines.specs.Groups.{groups}
 use Rattle.desk_job.specs.Job.{Terms, SetLine, measure, widths, tight_space, spaces, wedge_sum, line_fault, line_faults, fault_if, is_lacking, lacking, cut, marked, lines_of_words, lines}
 use Rattle.desk_job.specs.Terms.{IsUsable}

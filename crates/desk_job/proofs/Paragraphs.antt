@@ -8,7 +8,8 @@ use Rattle.std.proofs.lemmas.Bool.Decides.{nat_tests}
 use Rattle.desk_ops.specs.declared.op.Symbol.{Symbol}
 use Rattle.desk_lines.specs.declared.words.Word.{Word}
 use Rattle.desk_lines.specs.declared.groups.Group.{Group}
-use Rattle.desk_lines.specs.Words.{is_space, is_line_feed, spelled, words, words_of, AreSplit, StandInTurn, joined, drop_empty_last}
+use Rattle.desk_ops.specs.Op.{is_line_feed, is_space}
+use Rattle.desk_lines.specs.Words.{spelled, words, words_of, AreSplit, StandInTurn, joined, drop_empty_last}
 use Rattle.desk_lines.specs.Groups.{AreGroups, groups, groups_of, ranges}
 use Rattle.desk_lines.proofs.GroupLaws.{groups_are_groups}
 use Rattle.desk_lines.proofs.WordLaws.{words_are_words, split_only}

@@ -3,6 +3,7 @@ use Rattle.std.proofs.Common.{◌≡◌, ℕ, zero, suc, Bool, true, false, cond
 use Rattle.std.specs.Prelude.{is_some}
 use Rattle.std.specs.List.{zip, AllByRecursion}
 use Rattle.desk_ops.specs.declared.op.Symbol.{Symbol}
+use Rattle.desk_ops.specs.Op.{space}
 use Rattle.desk_signals.specs.declared.Cell.{Cell}
 use Rattle.desk_wedge.specs.Wedge.{WedgeValues}
 use Rattle.desk_case.specs.Case.{CaseValues, symbol_at, cell_of}
@@ -10,7 +11,7 @@ use Rattle.desk_ribbon.specs.declared.Punch.{Punch}
 use Rattle.desk_caster.specs.Lines.{reading, meaning}
 use Rattle.desk_caster.proofs.CastLaw.{casts}
 use Rattle.desk_job.specs.Job.{Terms, SetLine, plain, word_punches, spaced_punches, words_punches, space_punch, fill_punches, fills, punches, has_added}
-use Rattle.desk_job.specs.Reading.{space, spaced, joined, text}
+use Rattle.desk_job.specs.Reading.{spaced, joined, text}
 
 -- Cells and symbols of the case are inverse to each other, and its space and its fills bear no symbol.
 pub record IsSound (case : CaseValues) : Type 0 where

@@ -12,7 +12,8 @@ use Rattle.desk_signals.specs.declared.RibbonRow.TheVariants.{Coarse, FineOut}
 use Rattle.desk_wedge.specs.Wedge.{WedgeValues}
 use Rattle.desk_case.specs.Case.{CaseValues, cell_of}
 use Rattle.desk_case.specs.File.{is_descending, units_of_cells}
-use Rattle.desk_lines.specs.Words.{is_space, is_line_feed, paragraphs, words}
+use Rattle.desk_ops.specs.Op.{is_line_feed, is_space}
+use Rattle.desk_lines.specs.Words.{paragraphs, words}
 use Rattle.desk_lines.specs.Groups.{group_width, groups}
 use Rattle.desk_justify.specs.Filled.{fills_of, taken}
 use Rattle.desk_justify.specs.Positions.{sum_of}

@@ -1,9 +1,9 @@
 -- What a reader of the cast lines sees, and how short the lines are.
 use Rattle.std.specs.Prelude.{◌≡◌, ℕ, ◌*◌, if◌then◌else◌, pos, ◌-ℤ◌, ◌≤ℤ◌, ◌<ℤ◌, List, [], ◌∷◌, ◌++◌, Option, Ok}
 use Rattle.std.specs.List.{flat_map}
-use Rattle.desk_ops.specs.declared.op.Style.TheVariants.{Roman}
 use Rattle.desk_ops.specs.declared.op.Symbol.{Symbol}
 use Rattle.desk_ops.specs.declared.op.Key.{Key}
+use Rattle.desk_ops.specs.Op.{space}
 use Rattle.desk_units.specs.Widths.{step}
 use Rattle.desk_signals.specs.declared.RibbonRow.{RibbonRow}
 use Rattle.desk_wedge.specs.Wedge.{WedgeValues}
@@ -13,9 +13,6 @@ use Rattle.desk_caster.specs.Lines.{reading}
 use Rattle.desk_caster.specs.Reading.{IsRibbon}
 use Rattle.desk_job.specs.Job.{Terms, SetLine, measure, spaces, has_added, lines, terms_of, values_of}
 use Rattle.desk_job.specs.declared.terms.Values.{Values}
-
-abbrev pub space : Symbol
-space = record { style = Roman; ch = 32 }
 
 -- words with a space before each
 abbrev pub spaced : List (List Symbol) → List Symbol

@@ -17,7 +17,7 @@ use crate::setting::set_line;
 use crate::terms::Terms;
 use crate::{JobFault, JobFaults, JobRefusal};
 use desk_case::MatrixCase;
-use desk_lines::{Group, Paragraph, Word, break_lines, is_line_feed, is_space, paragraphs};
+use desk_lines::{Group, Paragraph, Word, break_lines, paragraphs};
 use desk_ops::{NoMemory, Symbol};
 use desk_ribbon::RibbonWriter;
 use desk_units::Atoms;
@@ -197,7 +197,7 @@ impl<A: Allocator + Copy> Making<A> {
 fn is_lacking(case: &MatrixCase, symbol: Symbol) -> bool
     ensures { result ≡ job.is_lacking case.now symbol }
 {
-    !(is_space(symbol) || is_line_feed(symbol) || case.cell_of(symbol).is_some())
+    !(symbol.is_space() || symbol.is_line_feed() || case.cell_of(symbol).is_some())
 }
 
 /// The place of each symbol that the case lacks.

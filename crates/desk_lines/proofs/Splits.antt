@@ -10,7 +10,8 @@ use Rattle.std.proofs.Math.Seq.{get_or-drop, get_or-take, take-length}
 use Rattle.desk_ops.specs.declared.op.Symbol.{Symbol}
 use Rattle.desk_ops.specs.declared.op.Style.TheVariants.{Roman}
 use Rattle.desk_lines.specs.declared.words.Word.{Word}
-use Rattle.desk_lines.specs.Words.{is_line_feed, is_space, drop_empty_last, paragraphs, words, word_places, paragraph_places, words_of, IsSplit}
+use Rattle.desk_ops.specs.Op.{is_line_feed, is_space}
+use Rattle.desk_lines.specs.Words.{drop_empty_last, paragraphs, words, word_places, paragraph_places, words_of, IsSplit}
 use Rattle.desk_lines.proofs.WordLaws.{split_is, split_only, append_empty}
 
 -- the words of all paragraphs, an empty last one too, where the first begins here

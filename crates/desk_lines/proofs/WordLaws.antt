@@ -6,7 +6,8 @@ use Rattle.std.proofs.lemmas.List.Splits.{slice_split-cons_yes, slice_split-cons
 use Rattle.std.proofs.lemmas.List.Elements.{All-nil, All-cons}
 use Rattle.desk_ops.specs.declared.op.Symbol.{Symbol}
 use Rattle.desk_lines.specs.declared.words.Word.{Word}
-use Rattle.desk_lines.specs.Words.{is_line_feed, is_space, drop_empty_last, paragraphs, words, word_places, paragraph_places, IsSplit, joined, spelled, StandInTurn, AreSplit, WordsAreWords}
+use Rattle.desk_ops.specs.Op.{is_line_feed, is_space}
+use Rattle.desk_lines.specs.Words.{drop_empty_last, paragraphs, words, word_places, paragraph_places, IsSplit, joined, spelled, StandInTurn, AreSplit, WordsAreWords}
 
 -- a symbol more in the first part
 split_onto : {A : Type 0} (test : A → Bool) (x : A) (xs : List A) (parts : List (List A)) → test x ≡ false →

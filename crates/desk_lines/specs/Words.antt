@@ -1,15 +1,9 @@
 -- Paragraphs and words of a copy.
 use Rattle.std.specs.Prelude.{◌≡◌, ℕ, ◌+◌, ◌-◌, ◌≤◌, Bool, true, false, ◌&&◌, ◌==◌, List, [], ◌∷◌, ◌++◌, length, map, take, drop}
 use Rattle.std.specs.List.{slice_split, All}
-use Rattle.desk_ops.specs.Op.{is_roman}
+use Rattle.desk_ops.specs.Op.{is_line_feed, is_space}
 use Rattle.desk_ops.specs.declared.op.Symbol.{Symbol}
 use Rattle.desk_lines.specs.declared.words.Word.{Word}
-
-abbrev pub is_line_feed : Symbol → Bool
-is_line_feed y = (y.ch == 10) && is_roman y.style
-
-abbrev pub is_space : Symbol → Bool
-is_space y = (y.ch == 32) && is_roman y.style
 
 abbrev pub unless_empty : {A : Type 0} → List A → List (List A)
 unless_empty [] = []

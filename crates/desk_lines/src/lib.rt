@@ -6,4 +6,4 @@ pub mod laws;
 pub mod words;
 
 pub use groups::{Group, break_lines};
-pub use words::{Paragraph, Word, is_line_feed, is_space, paragraphs};
+pub use words::{Paragraph, Word, paragraphs};

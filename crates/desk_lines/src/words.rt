@@ -4,7 +4,7 @@
 //! no words; no copy has one.
 
 ghost use Rattle.std.specs.Prelude.{◌≡◌, ◌≤◌, IfErr, IfOk, length};
-ghost use Rattle.desk_lines.specs.Words.{is_line_feed, is_space, words_of};
+ghost use Rattle.desk_lines.specs.Words.{words_of};
 
 use desk_ops::{NoMemory, Symbol};
 use std::alloc::Allocator;
@@ -48,20 +48,6 @@ impl<A: Allocator> Paragraph<A> {
     }
 }
 
-/// Whether the symbol ends a paragraph.
-pub fn is_line_feed(symbol: Symbol) -> bool
-    ensures { result ≡ is_line_feed symbol }
-{
-    symbol == Symbol::LINE_FEED
-}
-
-/// Whether the symbol ends a word.
-pub fn is_space(symbol: Symbol) -> bool
-    ensures { result ≡ is_space symbol }
-{
-    symbol == Symbol::SPACE
-}
-
 /// The words of each paragraph of a copy, by their places in the copy. The copy is split at each line feed and one
 /// empty last paragraph is dropped; a paragraph is split at each Roman space, and its words may be empty.
 pub fn paragraphs<A: Allocator + Copy>(
@@ -77,12 +63,12 @@ pub fn paragraphs<A: Allocator + Copy>(
     let mut from = 0;
     for (i, symbol) in copy.iter().enumerate() {
         let symbol = *symbol;
-        if is_line_feed(symbol) {
+        if symbol.is_line_feed() {
             words.push(Word { from, to: i })?;
             found.push(Paragraph::from_words(words))?;
             words = Vec::new(alloc);
             from = i + 1;
-        } else if is_space(symbol) {
+        } else if symbol.is_space() {
             words.push(Word { from, to: i })?;
             from = i + 1;
         }

@@ -13,7 +13,7 @@ use Rattle.desk_ops.specs.declared.op.Op.{Op}
 use Rattle.desk_ops.specs.declared.op.Op.TheVariants.{Insert, Delete, Set}
 use Rattle.desk_ops.specs.declared.op.Unlawful.{Unlawful}
 use Rattle.desk_ops.specs.declared.op.Unlawful.TheVariants as unlawful
-use Rattle.desk_ops.specs.Stamp.{head, is_head, is_counter, is_stamp, IsStamp}
+use Rattle.desk_ops.specs.Stamp.{head, is_head, max_counter, is_counter, is_stamp, IsStamp}
 use Rattle.desk_ops.specs.Op.{symbol_verdict, IsLawful, IsSymbol, IsValue, is_roman, is_symbol, is_value, first_of, causes, verdict}
 use Rattle.desk_ops.proofs.Stamps.{by_cases}
 use Rattle.desk_ops.proofs.Lists.{Each}
@@ -65,11 +65,11 @@ site_true n e = grind (arith, nat_tests)
 pub stamp_from : (s : Stamp) → is_stamp s ≡ true → IsStamp s
 stamp_from s e =
     let p = both (is_counter s.counter) (not (s.site == 0)) e in
-    let q = both (nat_le 1 s.counter) (nat_le s.counter 4611686018427387904) p.0 in
-    (le_from 1 s.counter q.0, le_from s.counter 4611686018427387904 q.1, site_from s.site p.1)
+    let q = both (nat_le 1 s.counter) (nat_le s.counter max_counter) p.0 in
+    (le_from 1 s.counter q.0, le_from s.counter max_counter q.1, site_from s.site p.1)
 
 pub stamp_true : (s : Stamp) → IsStamp s → is_stamp s ≡ true
-stamp_true s h = and (is_counter s.counter) (not (s.site == 0)) (and (nat_le 1 s.counter) (nat_le s.counter 4611686018427387904) (le_true 1 s.counter h.0) (le_true s.counter 4611686018427387904 h.1)) (site_true s.site h.2)
+stamp_true s h = and (is_counter s.counter) (not (s.site == 0)) (and (nat_le 1 s.counter) (nat_le s.counter max_counter) (le_true 1 s.counter h.0) (le_true s.counter max_counter h.1)) (site_true s.site h.2)
 
 pub head_from : (s : Stamp) → is_head s ≡ true → s ≡ head
 head_from s e = let p = both (s.counter == 0) (s.site == 0) e in λ i. record { counter = eq_from s.counter 0 p.0 i; site = eq_from s.site 0 p.1 i }

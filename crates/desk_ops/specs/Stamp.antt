@@ -23,13 +23,17 @@ head = record { counter = 0; site = 0 }
 abbrev pub is_head : Stamp → Bool
 is_head s = s.counter == 0 && s.site == 0
 
--- counters are 1 to 2^62
+-- the greatest counter, 2^62
+abbrev pub max_counter : ℕ
+max_counter = 4611686018427387904
+
+-- counters are 1 to the greatest
 abbrev pub is_counter : ℕ → Bool
-is_counter n = nat_le 1 n && nat_le n 4611686018427387904
+is_counter n = nat_le 1 n && nat_le n max_counter
 
 -- sites are 1 to 65535: a number of 16 bits, and not 0
 abbrev pub is_stamp : Stamp → Bool
 is_stamp s = is_counter s.counter && not (s.site == 0)
 
 abbrev pub IsStamp : Stamp → Type 0
-IsStamp s = (1 ≤ s.counter) × (s.counter ≤ 4611686018427387904) × (1 ≤ s.site)
+IsStamp s = (1 ≤ s.counter) × (s.counter ≤ max_counter) × (1 ≤ s.site)

@@ -1,22 +1,23 @@
 //! The laws of the definitions, each on a function with an empty body.
-ghost use Rattle.std.specs.Prelude.{◌≡◌};
-ghost use Rattle.desk_ops.specs.declared.op.Style.TheVariants.{Roman};
-ghost use Rattle.desk_ops.specs.Stamp.{head};
+ghost use Rattle.std.specs.Prelude.{◌≡◌, ◌^◌};
+ghost use Rattle.desk_ops.specs.Stamp.{head, max_counter};
+ghost use Rattle.desk_ops.specs.Op.{line_feed, space};
 ghost use Rattle.desk_ops.specs.Rows.{ConcurrentDeleteAndInsert, FiveArrivals, ForkedStamp, LaterSiblingFirst, SettingsByStamps, TombstonesKept, WaitingThenLive};
 ghost use Rattle.desk_ops.specs.Laws.{DrainGivesWalk, FaultsByEnds, HeldIsTold, LawfulIsTold, LiveByParents, MergingIsUnion, NewestActs, OneOrder, OrderGoesByStamp, OrderIsKept, PlaceGivesWalk, ScanGivesWalk, SettingsByStamp, ShownIsWhatIsLeft, WalkGoesByKids, WalkHoldsTheLive};
 
-use crate::op::{Stamp, Symbol};
+use crate::op::{MAX_COUNTER, Stamp, Symbol};
 
 /// An operation is lawful exactly where no cause against it is found.
 pub fn lawful_is_told()
     ensures { LawfulIsTold }
 {}
 
-/// The constants are the head, the space and the line feed.
+/// The constants are the head, the space, the line feed and the greatest counter, 2^62.
 pub fn constants_are_told()
     ensures head { Stamp.HEAD ≡ head }
-    ensures space { Symbol.SPACE ≡ record { style = Roman; ch = 32 } }
-    ensures line_feed { Symbol.LINE_FEED ≡ record { style = Roman; ch = 10 } }
+    ensures space { Symbol.SPACE ≡ space }
+    ensures line_feed { Symbol.LINE_FEED ≡ line_feed }
+    ensures counter { (MAX_COUNTER ≡ max_counter) × (max_counter ≡ 2 ^ 62) }
 {}
 
 /// Operations stand by stamp, and those of one stamp by kind and fields.

@@ -13,7 +13,7 @@ use Rattle.desk_ops.specs.declared.op.Op.TheVariants.{Insert, Delete, Set}
 use Rattle.desk_ops.specs.declared.fault.FaultKind.{FaultKind}
 use Rattle.desk_ops.specs.declared.fault.FaultKind.TheVariants.{Forked, Void, Waiting}
 use Rattle.desk_ops.specs.declared.fault.CopyFault.{CopyFault}
-use Rattle.desk_ops.specs.declared.op.NoMemory.{NoMemory}
+use Rattle.desk_memory.specs.declared.NoMemory.{NoMemory}
 use Rattle.desk_ops.specs.Stamp.{same, before, head, is_head}
 use Rattle.desk_ops.specs.Op.{stamp_of, target_of, insertion, Insertion, IsLawful}
 use Rattle.desk_ops.specs.Order.{op_cmp}

@@ -12,9 +12,9 @@ use Rattle.desk_ops.specs.declared.op.Symbol.{Symbol}
 use Rattle.desk_ops.specs.declared.op.Key.{Key}
 use Rattle.desk_ops.specs.declared.op.Op.{Op}
 use Rattle.desk_ops.specs.declared.op.Op.TheVariants.{Insert, Delete, Set}
-use Rattle.desk_ops.specs.Stamp.{head, IsStamp}
+use Rattle.desk_ops.specs.Stamp.{head, IsStamp, max_counter}
 use Rattle.desk_ops.specs.Op.{Insertion, stamp_of, is_symbol, is_value, symbol_verdict, IsLawful}
-use Rattle.desk_ops.specs.OpSet.{OpSet, with_op, in_order, size, AllLawful}
+use Rattle.desk_ops.specs.OpSet.{OpSet, with_op, in_order, size, AllLawful, max_ops}
 use Rattle.desk_ops.specs.Live.{insert_of}
 use Rattle.desk_ops.specs.Held.{is_clear, clear_ops, clear_inserts}
 use Rattle.desk_ops.specs.Walk.{walk_from}
@@ -88,12 +88,12 @@ parent_is h (suc j) le = let e : suc j ≡ j + 1 = omega arith in inr (j, e, ome
 
 -- ---- the insert
 
-pub new-lawful : (s : State) (place : ℕ) (symbol : Symbol) → IsKept s.site s.ops → greatest_counter_of s.ops < 4611686018427387904 → is_symbol symbol ≡ true → IsLawful (insert_of (new_insert s place symbol))
+pub new-lawful : (s : State) (place : ℕ) (symbol : Symbol) → IsKept s.site s.ops → greatest_counter_of s.ops < max_counter → is_symbol symbol ≡ true → IsLawful (insert_of (new_insert s place symbol))
 new-lawful s place symbol kept clock is =
     let p = parent-ok (greatest_counter_of s.ops) (shown_of s.ops) place (shown-old s.ops kept.lawful) in
     ((omega arith, omega arith, kept.numbered), p.0, p.1, symbol_from symbol is)
 
-pub inserted : (old after : State) (place : ℕ) (symbol : Symbol) (op : Op) → IsKept old.site old.ops → greatest_counter_of old.ops < 4611686018427387904 → is_symbol symbol ≡ true → place ≤ length (shown_of old.ops)
+pub inserted : (old after : State) (place : ℕ) (symbol : Symbol) (op : Op) → IsKept old.site old.ops → greatest_counter_of old.ops < max_counter → is_symbol symbol ≡ true → place ≤ length (shown_of old.ops)
     → op ≡ insert_of (new_insert old place symbol) → after.ops ≡ with_op old.ops op → IsInserted old after place symbol op
 inserted old after place symbol op kept clock is_value within is gained = record {
   is = is;
@@ -114,13 +114,13 @@ at_stamp P [] i all lt = absurd (omega arith)
 at_stamp P (x ∷ xs) zero all lt = all.0
 at_stamp P (x ∷ xs) (suc i) all lt = at_stamp P xs i all.1 (omega arith)
 
-pub delete-lawful : (s : State) (place : ℕ) → IsKept s.site s.ops → greatest_counter_of s.ops < 4611686018427387904 → place < length (shown_of s.ops) → IsLawful (Delete (new_stamp s) (stamp_at (shown_of s.ops) place))
+pub delete-lawful : (s : State) (place : ℕ) → IsKept s.site s.ops → greatest_counter_of s.ops < max_counter → place < length (shown_of s.ops) → IsLawful (Delete (new_stamp s) (stamp_at (shown_of s.ops) place))
 delete-lawful s place kept clock lt =
     let t : IsOldStamp (greatest_counter_of s.ops) (stamp_at (shown_of s.ops) place) = at_stamp (IsOldStamp (greatest_counter_of s.ops)) (shown_of s.ops) place (shown-old s.ops kept.lawful) lt in
     let k : (stamp_at (shown_of s.ops) place).counter ≤ greatest_counter_of s.ops = t.1 in
     ((omega arith, omega arith, kept.numbered), t.0, omega arith)
 
-pub deleted : (old after : State) (place : ℕ) (op : Op) → IsKept old.site old.ops → greatest_counter_of old.ops < 4611686018427387904 → place < length (shown_of old.ops)
+pub deleted : (old after : State) (place : ℕ) (op : Op) → IsKept old.site old.ops → greatest_counter_of old.ops < max_counter → place < length (shown_of old.ops)
     → op ≡ Delete (new_stamp old) (stamp_at (shown_of old.ops) place) → after.ops ≡ with_op old.ops op → IsDeleted old after place op
 deleted old after place op kept clock lt is gained = record {
   is = is;
@@ -132,10 +132,10 @@ deleted old after place op kept clock lt is gained = record {
 
 -- ---- the set
 
-pub set-lawful : (s : State) (key : Key) (value : ℕ) → IsKept s.site s.ops → greatest_counter_of s.ops < 4611686018427387904 → is_value key value ≡ true → IsLawful (Set (new_stamp s) key value)
+pub set-lawful : (s : State) (key : Key) (value : ℕ) → IsKept s.site s.ops → greatest_counter_of s.ops < max_counter → is_value key value ≡ true → IsLawful (Set (new_stamp s) key value)
 set-lawful s key value kept clock is = ((omega arith, omega arith, kept.numbered), value_from key value is)
 
-pub set_to : (old after : State) (key : Key) (value : ℕ) (op : Op) → IsKept old.site old.ops → greatest_counter_of old.ops < 4611686018427387904 → is_value key value ≡ true
+pub set_to : (old after : State) (key : Key) (value : ℕ) (op : Op) → IsKept old.site old.ops → greatest_counter_of old.ops < max_counter → is_value key value ≡ true
     → op ≡ Set (new_stamp old) key value → after.ops ≡ with_op old.ops op → IsSetTo old after key value op
 set_to old after key value op kept clock is_one is gained = record {
   is = is;
@@ -157,13 +157,13 @@ on_made P (Err e) h after o is ok f = tt
 -- ---- refusals, in their order
 
 abbrev by_size : Bool → OpSet → Option Refusal
-by_size full ops = cond full (Some refusal.Full) (cond (nat_le 4611686018427387904 (greatest_counter_of ops)) (Some refusal.ClockFull) None)
+by_size full ops = cond full (Some refusal.Full) (cond (nat_le max_counter (greatest_counter_of ops)) (Some refusal.ClockFull) None)
 
-clock_free : (ops : OpSet) → size ops ≢ 1048576 → edit_refusal ops true true ≡ by_size false ops
-clock_free ops e = let k : (size ops == 1048576) ≡ false = ne-from (size ops) 1048576 e in ap (λ b. by_size b ops) k
+clock_free : (ops : OpSet) → size ops ≢ max_ops → edit_refusal ops true true ≡ by_size false ops
+clock_free ops e = let k : (size ops == max_ops) ≡ false = ne-from (size ops) max_ops e in ap (λ b. by_size b ops) k
 
-pub refused_none : (ops : OpSet) → size ops ≢ 1048576 → greatest_counter_of ops < 4611686018427387904 → edit_refusal ops true true ≡ None
-refused_none ops e lt = clock_free ops e ∙ ap (λ b. cond b (Some refusal.ClockFull) None) (le-false 4611686018427387904 (greatest_counter_of ops) lt)
+pub refused_none : (ops : OpSet) → size ops ≢ max_ops → greatest_counter_of ops < max_counter → edit_refusal ops true true ≡ None
+refused_none ops e lt = clock_free ops e ∙ ap (λ b. cond b (Some refusal.ClockFull) None) (le-false max_counter (greatest_counter_of ops) lt)
 
 lt-true : (a b : ℕ) → a < b → nat_lt a b ≡ true
 lt-true a b h = grind (arith, nat_tests)

@@ -6,9 +6,9 @@ use Rattle.desk_ops.specs.declared.op.Symbol.{Symbol}
 use Rattle.desk_ops.specs.declared.op.Key.{Key}
 use Rattle.desk_ops.specs.declared.op.Op.{Op}
 use Rattle.desk_ops.specs.declared.op.Op.TheVariants.{Delete, Set}
-use Rattle.desk_ops.specs.Stamp.{head}
+use Rattle.desk_ops.specs.Stamp.{head, max_counter}
 use Rattle.desk_ops.specs.Op.{IsLawful, Insertion, is_symbol, is_value}
-use Rattle.desk_ops.specs.OpSet.{OpSet, with_op, size}
+use Rattle.desk_ops.specs.OpSet.{OpSet, with_op, size, max_ops}
 use Rattle.desk_ops.specs.Live.{insert_of}
 use Rattle.desk_ops.specs.Shown.{shown_of}
 use Rattle.desk_ops.specs.Held.{greatest_counter_of}
@@ -33,8 +33,8 @@ abbrev pub edit_refusal : OpSet → Bool → Bool → Option Refusal
 edit_refusal ops is_there is_value =
     cond (not is_there) (Some refusal.Place)
     (cond (not is_value) (Some refusal.Value)
-    (cond (size ops == 1048576) (Some refusal.Full)
-    (cond (nat_le 4611686018427387904 (greatest_counter_of ops)) (Some refusal.ClockFull) None)))
+    (cond (size ops == max_ops) (Some refusal.Full)
+    (cond (nat_le max_counter (greatest_counter_of ops)) (Some refusal.ClockFull) None)))
 
 abbrev pub insert_refusal : OpSet → ℕ → Symbol → Option Refusal
 insert_refusal ops place symbol = edit_refusal ops (nat_le place (length (shown_of ops))) (is_symbol symbol)

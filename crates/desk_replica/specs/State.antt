@@ -3,7 +3,7 @@ use Rattle.std.specs.Prelude.{◌≡◌, ℕ, ◌+◌, ◌≤◌, ◌⊎◌, tru
 use Rattle.std.specs.Coded.{Coded, code_by, coded×, coded_ℕ}
 use Rattle.desk_ops.specs.declared.op.Op.{Op}
 use Rattle.desk_ops.specs.Op.{stamp_of}
-use Rattle.desk_ops.specs.OpSet.{OpSet, op_set_code, has_op, with_op, size, AllLawful}
+use Rattle.desk_ops.specs.OpSet.{OpSet, op_set_code, has_op, with_op, size, AllLawful, max_ops}
 use Rattle.desk_ops.specs.Held.{is_borne_in}
 use Rattle.desk_held.specs.Joining.{IsHalted}
 use Rattle.desk_replica.specs.declared.Count.{Count}
@@ -41,7 +41,7 @@ ForksNone ops (op ∷ rest) = ((has_op ops op ≡ true) ⊎ (is_borne_in ops (st
 
 -- all of the list can be held, there is room for as many with no new memory, and none forks a stamp
 pub record HasRoom (ops : OpSet) (room : ℕ) (list : List Op) : Type 0 where
-  pub below : size ops + length list ≤ 1048576
+  pub below : size ops + length list ≤ max_ops
   pub spare : length list ≤ room
   pub unforked : ForksNone ops list
 

@@ -7,7 +7,7 @@ ghost use Rattle.desk_ribbon.specs.Ribbon.{head_row, image_bytes, line_rows, pun
 
 use crate::{Punch, PunchLine};
 use desk_image::Image;
-use desk_ops::NoMemory;
+use desk_memory::NoMemory;
 use desk_signals::RibbonRow;
 use desk_units::WedgeSum;
 use std::alloc::Allocator;

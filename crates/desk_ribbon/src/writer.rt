@@ -2,7 +2,7 @@
 
 use crate::PunchLine;
 use crate::bytes::{begin, put_row};
-use desk_ops::NoMemory;
+use desk_memory::NoMemory;
 use desk_signals::RibbonRow;
 use std::alloc::Allocator;
 use std::marker::Model;

@@ -6,7 +6,7 @@ use Rattle.std.specs.Cmp.{nat_cmp_total}
 use Rattle.std.proofs.lemmas.Cmp.{eq_by_cmp_equiv}
 use Rattle.std.specs.FinMap as fin
 use Rattle.desk_ops.specs.declared.op.Op.{Op}
-use Rattle.desk_ops.specs.OpSet.{OpSet, no_ops, size, with_all}
+use Rattle.desk_ops.specs.OpSet.{OpSet, no_ops, size, with_all, max_ops}
 use Rattle.desk_held.specs.declared.AddRefusal.{AddRefusal}
 use Rattle.desk_held.specs.declared.AddRefusal.TheVariants as adds
 use Rattle.desk_replica.specs.declared.Stopped.{Stopped}
@@ -24,10 +24,10 @@ use Rattle.desk_script.specs.declared.fault.RunFault.TheVariants as faults
 use Rattle.desk_script.specs.Faults.{IsCrowded, IsNotStored, IsUnopened, of_file, of_lines, of_opening, of_stop}
 use Rattle.desk_script.specs.Stored.{Stores, one_site}
 
-none_crowds : (ops : List Op) → ops ≡ [] → 1048576 < size (with_all no_ops ops) → ⊥
+none_crowds : (ops : List Op) → ops ≡ [] → max_ops < size (with_all no_ops ops) → ⊥
 none_crowds ops none many =
     let empty : size (with_all no_ops []) ≡ 0 = fin.len-empty _ _ in
-    let more : 1048576 < size (with_all no_ops []) = subst (λ l. 1048576 < size (with_all no_ops l)) none many in
+    let more : max_ops < size (with_all no_ops []) = subst (λ l. max_ops < size (with_all no_ops l)) none many in
     omega arith
 
 crowded_by : (read : Result (List ℕ) FileRefusal) (ops : List Op) (stop : Stopped) → Stores read ops → IsCrowded ops stop → IsUnopened read (openings.Opening stop)
@@ -39,7 +39,7 @@ crowded_by (Err refusals.NoMemory) ops stop stores crowded = absurd stores
 
 -- a feed with too many operations is not opened
 pub unopened : (read : Result (List ℕ) FileRefusal) (ops : List Op) (stop : Stopped) (why : AddRefusal) → stop.why ≡ why → Stores read ops → stop.taken ≡ 0
-    → (stop.why ≡ adds.Full → 1048576 < size (with_all no_ops ops)) → IsUnopened read (of_stop stop why)
+    → (stop.why ≡ adds.Full → max_ops < size (with_all no_ops ops)) → IsUnopened read (of_stop stop why)
 unopened read ops stop adds.Full is stores none full = crowded_by read ops stop stores (full is, is, none)
 unopened read ops stop adds.NoMemory is stores none full = tt
 

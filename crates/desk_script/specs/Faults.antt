@@ -1,7 +1,7 @@
 -- Why a run stopped, by the phase in which it did.
 use Rattle.std.specs.Prelude.{◌≡◌, ◌≢◌, ◌<◌, ℕ, List, Result, Ok, Err}
 use Rattle.desk_ops.specs.declared.op.Op.{Op}
-use Rattle.desk_ops.specs.OpSet.{no_ops, size, with_all}
+use Rattle.desk_ops.specs.OpSet.{no_ops, size, with_all, max_ops}
 use Rattle.desk_codec.specs.Fault.{IsFirstFault}
 use Rattle.desk_codec.specs.Feed.{IsFeed}
 use Rattle.desk_held.specs.declared.AddRefusal.{AddRefusal}
@@ -56,7 +56,7 @@ IsUnread name before after why = (why ≢ refusals.Missing) × Reads (before.kep
 
 -- a replica would hold more operations than it may
 abbrev pub IsCrowded : List Op → Stopped → Type 0
-IsCrowded ops stop = (1048576 < size (with_all no_ops ops)) × (stop.why ≡ Full) × (stop.taken ≡ 0)
+IsCrowded ops stop = (max_ops < size (with_all no_ops ops)) × (stop.why ≡ Full) × (stop.taken ≡ 0)
 
 -- why a stored feed was not opened, by what was read of it
 abbrev pub IsUnopened : Result (List ℕ) FileRefusal → OpenFault → Type 0

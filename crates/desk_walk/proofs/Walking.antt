@@ -9,7 +9,7 @@ use Rattle.desk_ops.specs.declared.op.Stamp.{Stamp}
 use Rattle.desk_ops.specs.declared.op.Op.{Op}
 use Rattle.desk_ops.specs.Stamp.{head, is_head}
 use Rattle.desk_ops.specs.Op.{stamp_of, target_of, IsLawful}
-use Rattle.desk_ops.specs.OpSet.{OpSet, no_ops, has_op, with_op, with_all, in_order, size, AllLawful}
+use Rattle.desk_ops.specs.OpSet.{OpSet, no_ops, has_op, with_op, with_all, in_order, size, AllLawful, max_ops}
 use Rattle.desk_ops.specs.Lists.{Among}
 use Rattle.desk_ops.specs.Held.{is_clear_in}
 use Rattle.desk_ops.specs.Live.{insert_of, IsClearOp}
@@ -53,7 +53,7 @@ holds-clear h = λ q. (to q, from q)
     from : (q : Op) → IsClearOp h q × HasTarget q → has_op (with_all no_ops (filter (hangs h) (in_order h))) q ≡ true
     from q c = all-held (filter (hangs h) (in_order h)) q (among-filter_from (hangs h) (in_order h) q (among_held h q c.0.0) (hangs-from h q c.0.1 c.1))
 
-pub linking-none : (h : OpSet) → AllLawful h → size h ≤ 1048576 → (nodes : List Node) (waiting : List Op) → nodes ≡ record { next = 0; linked = true; deleted = false } ∷ [] → waiting ≡ [] → IsLinking h 0 nodes 0 waiting
+pub linking-none : (h : OpSet) → AllLawful h → size h ≤ max_ops → (nodes : List Node) (waiting : List Op) → nodes ≡ record { next = 0; linked = true; deleted = false } ∷ [] → waiting ≡ [] → IsLinking h 0 nodes 0 waiting
 unfolding links
 linking-none h lawful small nodes waiting e f =
     subst (λ (ns : List Node). IsLinking h 0 ns 0 waiting) (sym e) (subst (λ (os : List Op). IsLinking h 0 (record { next = 0; linked = true; deleted = false } ∷ []) 0 os) (sym f) (record {

@@ -3,14 +3,13 @@ use Rattle.std.specs.Prelude.{◌≡◌, ◌⊎◌, ℕ, zero, suc, ◌+◌, ◌
 use Rattle.std.specs.List.{AllByRecursion, filter}
 use Rattle.std.specs.Option.{is_some}
 use Rattle.desk_ops.specs.declared.op.Stamp.{Stamp}
-use Rattle.desk_ops.specs.declared.op.Style.TheVariants.{Roman}
 use Rattle.desk_ops.specs.declared.op.Symbol.{Symbol}
 use Rattle.desk_ops.specs.declared.op.Key.TheVariants.{Measure}
 use Rattle.desk_ops.specs.declared.op.Op.{Op}
 use Rattle.desk_ops.specs.declared.op.Op.TheVariants.{Insert, Delete, Set}
 use Rattle.desk_ops.specs.Stamp.{head}
-use Rattle.desk_ops.specs.Op.{stamp_of, target_of, Insertion, IsLawful}
-use Rattle.desk_ops.specs.OpSet.{OpSet, no_ops, has_op, with_all, in_order, size, AllLawful}
+use Rattle.desk_ops.specs.Op.{stamp_of, target_of, Insertion, IsLawful, space}
+use Rattle.desk_ops.specs.OpSet.{OpSet, no_ops, has_op, with_all, in_order, size, AllLawful, max_ops}
 use Rattle.desk_ops.specs.Lists.{Among}
 use Rattle.desk_ops.specs.Held.{is_clear_in}
 use Rattle.desk_ops.specs.Live.{insert_of}
@@ -29,8 +28,8 @@ op_at ops k = slice_index_or ops k no_op
 -- an insert's symbol, and a space of what is none
 abbrev pub symbol_of : Op → Symbol
 symbol_of (Insert stamp parent symbol) = symbol
-symbol_of (Delete stamp target) = record { style = Roman; ch = 32 }
-symbol_of (Set stamp key value) = record { style = Roman; ch = 32 }
+symbol_of (Delete stamp target) = space
+symbol_of (Set stamp key value) = space
 
 -- the entry of an insert
 abbrev pub entry_by : Op → Bool → Entry
@@ -119,7 +118,7 @@ pub record IsTree (h : OpSet) (nodes : List Node) (count : ℕ) : Type 0 where
 -- the first i operations were looked at: the walk follows the set, but for what waits and what was not looked at
 pub record IsLinking (h : OpSet) (i : ℕ) (nodes : List Node) (count : ℕ) (waiting : List Op) : Type 0 where
   pub lawful : AllLawful h
-  pub small : size h ≤ 1048576
+  pub small : size h ≤ max_ops
   pub long : length nodes ≡ i + 1
   pub counted : count ≤ i
   pub few : length waiting ≤ i

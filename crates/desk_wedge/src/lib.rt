@@ -88,7 +88,7 @@ impl From<TableFault> for WedgeFault {
     }
 }
 
-/// A normal wedge.
+/// A normal wedge: a number, a set and 15 rows of units in their ranges, and the units never fall.
 #[derive(Clone, Copy, Debug, PartialEq, Eq)]
 pub struct Wedge {
     number: u16,
@@ -138,13 +138,6 @@ impl Wedge {
         ensures lawful { IsWedge self.now }
     {
         self.units[row.get() as usize - 1]
-    }
-
-    /// Every wedge has a number, a set and 15 rows of units in their ranges, and its units never fall.
-    pub fn is_lawful(&self)
-        ensures { IsWedge self.now }
-    {
-        let _ = &self.number;
     }
 }
 

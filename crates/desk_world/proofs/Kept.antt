@@ -8,7 +8,7 @@ use Rattle.std.specs.FinSet.{nat_cmp-IsAntisymmetric}
 use Rattle.std.specs.Cmp.{nat_cmp_total}
 use Rattle.std.specs.Map.{lookup}
 use Rattle.desk_ops.specs.declared.op.Op.{Op}
-use Rattle.desk_ops.specs.OpSet.{OpSet, no_ops, with_all, in_order, has_op, size}
+use Rattle.desk_ops.specs.OpSet.{OpSet, no_ops, with_all, in_order, has_op, size, max_ops}
 use Rattle.desk_ops.specs.Order.{op_cmp}
 use Rattle.desk_ops.proofs.Unions.{same-set, has_op-union}
 use Rattle.desk_held.specs.declared.AddRefusal.TheVariants as adds
@@ -236,5 +236,5 @@ reopened es fs n r old view h = at (lookup (nat_eq n) es) refl h
 pub anew : (set : OpSet) → with_all no_ops (in_order set) ≡ set
 anew set = same-set (with_all no_ops (in_order set)) set (λ q. has_op-union no_ops set q ∙ ap (λ b. b || has_op set q) (ap is_some (fin.get-empty op_cmp q)))
 
-pub only_full : (set : OpSet) (stop : Stopped) → (stop.why ≡ adds.Full → 1048576 < size (with_all no_ops (in_order set))) → stop.why ≡ adds.Full → 1048576 < size set
-only_full set stop full is = subst (λ g. 1048576 < size g) (anew set) (full is)
+pub only_full : (set : OpSet) (stop : Stopped) → (stop.why ≡ adds.Full → max_ops < size (with_all no_ops (in_order set))) → stop.why ≡ adds.Full → max_ops < size set
+only_full set stop full is = subst (λ g. max_ops < size g) (anew set) (full is)

@@ -3,7 +3,7 @@ use Rattle.std.specs.Prelude.{◌≡◌, ℕ, ◌<◌, ◌==◌, nat_le, List, O
 use Rattle.std.specs.FinMap as fin
 use Rattle.desk_ops.specs.declared.op.Op.{Op}
 use Rattle.desk_ops.specs.Op.{IsLawful}
-use Rattle.desk_ops.specs.OpSet.{OpSet, no_ops, with_all, size}
+use Rattle.desk_ops.specs.OpSet.{OpSet, no_ops, with_all, size, max_ops}
 use Rattle.desk_replica.specs.declared.Count.{Count}
 use Rattle.desk_replica.specs.declared.Stopped.{Stopped}
 use Rattle.desk_ops.specs.declared.op.Symbol.{Symbol}
@@ -112,7 +112,7 @@ EditsSite old n edit result new = MatchOption (fin.get old n) (Refuses old refus
 -- opening a set again succeeds, or stops before anything was taken; full only where the set is more than may be held
 abbrev pub IsReopened : OpSet → Result Answer StepRefusal → Type 0
 IsReopened set result = MatchResult result (λ a. a ≡ answers.Done)
-    (λ e. (stop : Stopped) × (e ≡ refusals.Halted stop) × (stop.taken ≡ 0) × (stop.why ≡ adds.Full → 1048576 < size set))
+    (λ e. (stop : Stopped) × (e ≡ refusals.Halted stop) × (stop.taken ≡ 0) × (stop.why ≡ adds.Full → max_ops < size set))
 
 -- what an event answers, and the sites after it: no other than the named one changes
 abbrev pub Steps : Sites → Change → Result Answer StepRefusal → Sites → Type 0

@@ -5,7 +5,7 @@ ghost use Rattle.desk_ribbon.specs.Ribbon.{line_rows};
 
 use crate::PunchLine;
 use crate::bytes::row_of;
-use desk_ops::NoMemory;
+use desk_memory::NoMemory;
 use desk_signals::RibbonRow;
 use std::alloc::Allocator;
 

@@ -1,5 +1,5 @@
 use Rattle.std.proofs.Common.{◌<◌, refl, ap, subst, ◌∙◌}
-use Rattle.desk_ops.specs.OpSet.{no_ops, with_all, size}
+use Rattle.desk_ops.specs.OpSet.{no_ops, with_all, size, max_ops}
 use Rattle.desk_world.proofs.Kept.{anew, only_full}
 use Rattle.desk_world.proofs.world.reopen.Goals as goal
 
@@ -8,4 +8,4 @@ returns-in-Ok-open-clause-ops g c = c.in-Ok-open.ensures.ops ∙ ap (with_all no
 
 pub returns-clause-answer : goal.returns-clause-answer
 returns-clause-answer g c =
-    (c.in-Err.stop, refl, c.in-Err.ensures.none, only_full c.args.replica.now.ops c.in-Err.stop (λ is. subst (λ l. 1048576 < size (with_all no_ops l)) (c.deref.ensures.value ∙ c.in-Ok.ensures.items) (c.in-Err.ensures.full is)))
+    (c.in-Err.stop, refl, c.in-Err.ensures.none, only_full c.args.replica.now.ops c.in-Err.stop (λ is. subst (λ l. max_ops < size (with_all no_ops l)) (c.deref.ensures.value ∙ c.in-Ok.ensures.items) (c.in-Err.ensures.full is)))
