@@ -4,7 +4,7 @@ use Rattle.std.specs.List.{AllByRecursion}
 use Rattle.desk_ops.specs.declared.op.Op.{Op}
 use Rattle.desk_ops.specs.Op.{IsLawful, stamp_of}
 use Rattle.desk_ops.specs.Held.{is_borne_in}
-use Rattle.desk_ops.specs.OpSet.{OpSet, no_ops, has_op, with_op, with_all, in_order, size, AllLawful}
+use Rattle.desk_ops.specs.OpSet.{OpSet, no_ops, has_op, with_op, with_all, in_order, size, AllLawful, max_ops}
 use Rattle.desk_replica.specs.State.{IsCounted, ForksNone, HasRoom}
 use Rattle.std.proofs.lemmas.List.{take-append-drop, take_all, drop_all}
 use Rattle.std.proofs.Math.Seq.{drop-cons}
@@ -38,13 +38,13 @@ grows_all h [] = omega arith
 grows_all h (o ∷ ops) = let a = grows h o in let b = grows_all (with_op h o) ops in omega (arith, a, b)
 
 -- a stop with as many as may be: the whole list has more
-pub too_many : (old after : OpSet) (ops : List Op) (stop : Stopped) → IsStopped old after ops stop → stop.why ≡ Full → 1048576 < size (with_all old ops)
+pub too_many : (old after : OpSet) (ops : List Op) (stop : Stopped) → IsStopped old after ops stop → stop.why ≡ Full → max_ops < size (with_all old ops)
 too_many old after ops stop s why = go (drop stop.taken ops) refl
   where
     rest : with_all old ops ≡ with_all after (drop stop.taken ops)
     rest = ap (with_all old) (sym (take-append-drop stop.taken ops)) ∙ with_all-append old (take stop.taken ops) (drop stop.taken ops) ∙ ap (λ h. with_all h (drop stop.taken ops)) (sym s.gained)
 
-    go : (l : List Op) → drop stop.taken ops ≡ l → 1048576 < size (with_all old ops)
+    go : (l : List Op) → drop stop.taken ops ≡ l → max_ops < size (with_all old ops)
     go [] e = let n : length (drop stop.taken ops) ≡ 0 = ap length e in let w = s.within in absurd (omega (arith, n, w, length-drop stop.taken ops))
     go (o ∷ l) e =
         let at : get_or ops stop.taken o ≡ o = ap (λ (x : List Op). get_or x 0 o) (sym (drop-cons ops stop.taken o s.within) ∙ e) in
@@ -52,7 +52,7 @@ too_many old after ops stop s why = go (drop stop.taken ops) refl
         let one : size (with_op after o) ≡ size after + 1 = size-with_op after o ∙ ap (λ b. cond b (size after) (size after + 1)) new in
         let all : size (with_op after o) ≤ size (with_all (with_op after o) l) = grows_all (with_op after o) l in
         let is : size (with_all old ops) ≡ size (with_all (with_op after o) l) = ap size (rest ∙ ap (with_all after) e) in
-        let full : size after ≡ 1048576 = s.full.0 why in
+        let full : size after ≡ max_ops = s.full.0 why in
         omega (arith, one, all, is, full)
 
 -- how many a list makes of them
@@ -93,7 +93,7 @@ pub halt-next : (why : AddRefusal) (held : Bool) (P Q : Type 0) → ((IsErrOf (t
 halt-next Full held P Q full memory = (full.0 refl).0
 halt-next NoMemory held P Q full memory = (memory refl).0
 
-pub halt-full : (why : AddRefusal) (h after : OpSet) (o : Op) → has_op h o ≡ false → after ≡ h → ((IsErrOf (tried why) Full) ↔ ((has_op h o ≡ false) × (size h ≡ 1048576))) → (why ≡ Full) ↔ (size after ≡ 1048576)
+pub halt-full : (why : AddRefusal) (h after : OpSet) (o : Op) → has_op h o ≡ false → after ≡ h → ((IsErrOf (tried why) Full) ↔ ((has_op h o ≡ false) × (size h ≡ max_ops))) → (why ≡ Full) ↔ (size after ≡ max_ops)
 unfolding is_full err_full
 halt-full Full h after o new same full = ((λ e. ap size same ∙ (full.0 refl).1), (λ e. refl))
 halt-full NoMemory h after o new same full = ((λ e. absurd (true≢false (sym (ap is_full e)))), (λ e. absurd (true≢false (sym (ap err_full (full.1 (new, sym (ap size same) ∙ e)))))))
@@ -129,7 +129,7 @@ room-more h after spare left o os r e new known = record {
     go (inl held) = let a = r.spare in let b = known held in omega (arith, a, b)
     go (inr other) = let a = r.spare in let b = new other in omega (arith, a, b)
 
-pub room-refused : (h : OpSet) (spare : ℕ) (o : Op) (os : List Op) (why : AddRefusal) → HasRoom h spare (o ∷ os) → ((IsErrOf (tried why) Full) ↔ ((has_op h o ≡ false) × (size h ≡ 1048576))) → (IsErrOf (tried why) NoMemory → (has_op h o ≡ false) × ((spare ≡ 0) ⊎ (is_borne_in h (stamp_of o) ≡ true))) → ⊥
+pub room-refused : (h : OpSet) (spare : ℕ) (o : Op) (os : List Op) (why : AddRefusal) → HasRoom h spare (o ∷ os) → ((IsErrOf (tried why) Full) ↔ ((has_op h o ≡ false) × (size h ≡ max_ops))) → (IsErrOf (tried why) NoMemory → (has_op h o ≡ false) × ((spare ≡ 0) ⊎ (is_borne_in h (stamp_of o) ≡ true))) → ⊥
 room-refused h spare o os Full r full memory = let a = (full.0 refl).1 in let b = r.below in absurd (omega (arith, a, b))
 room-refused h spare o os NoMemory r full memory = go r.unforked.0 (memory refl).0 (memory refl).1
   where
@@ -143,7 +143,7 @@ pub room-rest : (h after : OpSet) (spare left : ℕ) (ops : List Op) (i : ℕ) (
 room-rest h after spare left ops i o lt at r e new known =
     room-more h after spare left o (drop (i + 1) ops) (subst (HasRoom h spare) (split-at ops i o lt at) r) e new known
 
-pub rest-refused : (h : OpSet) (spare : ℕ) (ops : List Op) (i : ℕ) (o : Op) (why : AddRefusal) → i < length ops → o ≡ get_or ops i o → HasRoom h spare (drop i ops) → ((IsErrOf (tried why) Full) ↔ ((has_op h o ≡ false) × (size h ≡ 1048576))) → (IsErrOf (tried why) NoMemory → (has_op h o ≡ false) × ((spare ≡ 0) ⊎ (is_borne_in h (stamp_of o) ≡ true))) → ⊥
+pub rest-refused : (h : OpSet) (spare : ℕ) (ops : List Op) (i : ℕ) (o : Op) (why : AddRefusal) → i < length ops → o ≡ get_or ops i o → HasRoom h spare (drop i ops) → ((IsErrOf (tried why) Full) ↔ ((has_op h o ≡ false) × (size h ≡ max_ops))) → (IsErrOf (tried why) NoMemory → (has_op h o ≡ false) × ((spare ≡ 0) ⊎ (is_borne_in h (stamp_of o) ≡ true))) → ⊥
 rest-refused h spare ops i o why lt at r full memory =
     room-refused h spare o (drop (i + 1) ops) why (subst (HasRoom h spare) (split-at ops i o lt at) r) full memory
 
