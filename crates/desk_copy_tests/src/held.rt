@@ -253,10 +253,10 @@ fn is_reserve_refused(alloc: Global, left: usize) -> Result<bool, Fail> {
 fn is_list_refused(alloc: Global, left: usize) -> Result<bool, Fail> {
     let heap = LocalHeap::new(alloc, 131_072)?;
     let mut held = Held::new(&heap);
-    if add_row(alloc, &mut held, 1, 5, false)?.is_some() {
-        return Err(Fail::new("five were refused"));
+    if add_row(alloc, &mut held, 1, 40, false)?.is_some() {
+        return Err(Fail::new("forty were refused"));
     }
-    let want = row_of(alloc, 1, 5)?;
+    let want = row_of(alloc, 1, 40)?;
     let ballast = ballast(&heap, 131_072, left);
     let refused = match held.in_order() {
         Ok(list) => list.as_slice() != want.as_slice(),
@@ -280,7 +280,7 @@ fn growths_of_reserves_and_lists(rt: HostRuntime) -> Result<(), Fail> {
         )?));
         lists = lists.saturating_add(u32::from(is_list_refused(
             rt.alloc(),
-            cut.saturating_mul(16),
+            cut.saturating_mul(96).saturating_add(16_384),
         )?));
     }
     assert!(rt; reserves > 3 && reserves < 250 && lists > 3 && lists < 250);
