@@ -9,8 +9,7 @@ use Rattle.desk_ops.proofs.Stamps.{before-trans, before-other, before-apart, bef
 use Rattle.desk_blocks.specs.declared.index.Home.{Home}
 use Rattle.desk_blocks.specs.Rank.{homes_of, IsRising, IsRank, IsNoneOf, Knows}
 use Rattle.desk_pages.specs.Pages.{IsEdge}
-use Rattle.desk_ops.proofs.Stamps.{by_cases, same-from}
-use Rattle.std.proofs.lemmas.Bool.{true≢false}
+use Rattle.desk_ops.proofs.Stamps.{by_cases}
 use Rattle.desk_seq.specs.declared.Entry.{Entry}
 use Rattle.desk_seq.specs.Entries.{stamps_of, IsAbsent, with_mark}
 use Rattle.desk_seq.proofs.Entries.{absent-at, absent-from, length-stamps}

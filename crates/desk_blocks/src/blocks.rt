@@ -132,11 +132,11 @@ impl<A: Allocator + Copy> Sequence for Blocks<A> {
     }
 }
 
-/// A place of the stamp in a page.
+/// A place of the stamp in a page: what was put last is most often asked for, and most often stands last.
 fn spot_in(items: &[Entry], stamp: Stamp) -> Option<usize>
     ensures { IfSome result (λ j. IsAt items.now stamp j) }
 {
-    for j in 0..items.len() {
+    for j in (0..items.len()).rev() {
         if items[j].stamp.is_same(stamp) {
             return Some(j);
         }

@@ -1,9 +1,9 @@
 -- How many are picked, page by page.
-use Rattle.std.proofs.Common.{◌≡◌, Bool, true, false, ℕ, ◌⊎◌, inl, inr, zero, suc, ◌+◌, ◌-◌, ◌<◌, ◌≤◌, List, [], ◌∷◌, ◌++◌, length, get_or, take, refl, sym, ap, ◌∙◌, subst, arith, append_assoc, append-nil, add-one, cond}
+use Rattle.std.proofs.Common.{◌≡◌, Bool, true, false, ℕ, ◌⊎◌, inl, inr, zero, suc, ◌+◌, ◌-◌, ◌<◌, ◌≤◌, List, [], ◌∷◌, ◌++◌, length, get_or, take, drop, refl, sym, ap, ◌∙◌, subst, arith, append_assoc, append-nil, add-one, cond, length-drop}
 use Rattle.std.specs.List.{count_by}
 use Rattle.std.proofs.lemmas.Bool.{true≢false, cases_lt}
-use Rattle.std.proofs.lemmas.List.Sums.{sum_by-append}
-use Rattle.std.proofs.lemmas.List.{get_or_read}
+use Rattle.std.proofs.lemmas.List.Sums.{sum_by-append, count_by-le-length, count_by_more_no}
+use Rattle.std.proofs.lemmas.List.{get_or_read, take-append-drop, length-take-le}
 use Rattle.desk_pages.specs.Pages.{joined, start_of, IsSpot, IsHalfFull, ends_in, IsEdge, IsNth, IsShort}
 use Rattle.desk_pages.proofs.Cuts.{start-more, start-le, take-joined, take-start, entry-joined, joined-past, page-length}
 
@@ -30,6 +30,37 @@ page-within pages p j l k = let s = start-more pages p l in let t = start-le pag
 
 pub page-fits : {X : Type 0} (pages : List (List X)) (p : ℕ) → p < length pages → start_of pages p + length (get_or pages p []) ≤ length (joined pages)
 page-fits pages p l = let s = start-more pages p l in let t = start-le pages (suc p) in omega arith
+
+-- one more is picked where the count rises
+pub picked-where-more : {X : Type 0} (picks : X → Bool) (xs : List X) (n : ℕ) (d : X) → n < length xs → count_by picks (take n xs) < count_by picks (take (n + 1) xs) → picks (get_or xs n d) ≡ true
+picked-where-more picks xs n d l e = or (picks (get_or xs n d)) refl
+  where
+    or : (b : Bool) → picks (get_or xs n d) ≡ b → picks (get_or xs n d) ≡ true
+    or true q = q
+    or false q = let m = count_by_more_no picks xs n d l q in absurd (omega (arith, m, e))
+
+-- where all are picked, the first n count n
+pub count-all : {X : Type 0} (picks : X → Bool) (xs : List X) (n : ℕ) → length xs ≤ count_by picks xs → n ≤ length xs → count_by picks (take n xs) ≡ n
+count-all picks xs n e l =
+    let w = ap (count_by picks) (take-append-drop n xs) in
+    let c = count-append picks (take n xs) (drop n xs) in
+    let a = count_by-le-length picks (take n xs) in
+    let b = count_by-le-length picks (drop n xs) in
+    let t = length-take-le n xs l in
+    let d = length-drop n xs in
+    omega (arith, w, c)
+
+-- where all are picked, the n-th stands at place n
+pub nth-all : {X : Type 0} (picks : X → Bool) (xs : List X) (n : ℕ) → length xs ≤ count_by picks xs → n < length xs → IsNth picks xs 0 n n
+nth-all picks xs n e l =
+    let a = count-all picks xs n e (omega (arith, l)) in
+    let b = count-all picks xs (n + 1) e (omega (arith, l)) in
+    record {
+      after = omega arith;
+      within = l;
+      picked = λ d. picked-where-more picks xs n d l (omega (arith, a, b));
+      count = let z : count_by picks (take n xs) ≡ 0 + n = omega (arith, a) in z;
+    }
 
 -- found in a page, where low of them are picked in it before
 pub nth-joined : {X : Type 0} (picks : X → Bool) (pages : List (List X)) (p low left j from n : ℕ) → p < length pages → IsNth picks (get_or pages p []) low left j → from ≤ start_of pages p + j → count_by picks (joined (take p pages)) + (count_by picks (take low (get_or pages p [])) + left) ≡ count_by picks (take from (joined pages)) + n → IsNth picks (joined pages) from n (start_of pages p + j)

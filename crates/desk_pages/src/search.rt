@@ -62,10 +62,13 @@ fn nth_of<T: Copy, S: Summary<T>, A: Allocator, P: Pick<T, S>>(
     ensures found { IfOk result (λ place. IsNth (P.picked pick.now) page.now 0 n place) }
     ensures short { IfErr result (λ left. IsShort (P.picked pick.now) page.now 0 n left) }
 {
-    if let Some(count) = pick.count(page.summary(), page.len())
-        && count <= n
-    {
-        return Err(n - count);
+    if let Some(count) = pick.count(page.summary(), page.len()) {
+        if count <= n {
+            return Err(n - count);
+        }
+        if count == page.len() {
+            return Ok(n);
+        }
     }
     nth_in(page.items(), 0, pick, n)
 }
@@ -151,6 +154,9 @@ pub fn nth<T: Copy, S: Summary<T>, A: Allocator, P: Pick<T, S>>(
     ensures short { IfErr result (λ left. IsShort (P.picked pick.now) (joined pages.now) from n left) }
 {
     let (p, j) = locate(pages, &groups.starts, from);
+    if j == 0 {
+        return nth_from(pages, groups, p, from, pick, n);
+    }
     match nth_in(pages[p].items(), j, pick, n) {
         Ok(k) => Ok(from - j + k),
         Err(left) => nth_from(pages, groups, p + 1, from - j + pages[p].len(), pick, left),
@@ -190,8 +196,24 @@ pub fn edge_in<T: Copy, S: Summary<T>, P: Pick<T, S>>(
     low
 }
 
-/// The first page whose last entry is not picked, as far as the one before it tells.
+/// The first page whose last entry is not picked, as far as the one before it tells. What is newest stands last in most
+/// lists, so the last page is looked at first.
 fn edge_page<T: Copy, S: Summary<T>, A: Allocator, P: Pick<T, S>>(
+    pages: &[Page<T, S, A>],
+    pick: &P,
+) -> usize
+    requires { IsHalfFull pages.now }
+    ensures { IsEdge (ends_in (P.picked pick.now)) pages.now result }
+{
+    let count = pages.len();
+    if count > 0 && pick.picks(pages[count - 1].last()) {
+        return count;
+    }
+    edge_by_halves(pages, pick)
+}
+
+/// The same, by halving what is left.
+fn edge_by_halves<T: Copy, S: Summary<T>, A: Allocator, P: Pick<T, S>>(
     pages: &[Page<T, S, A>],
     pick: &P,
 ) -> usize

@@ -1,23 +1,21 @@
 -- What a replica keeps stays sound.
-use Rattle.std.proofs.Common.{◌≡◌, ℕ, zero, suc, ◌+◌, ◌-◌, ◌<◌, ◌≤◌, true, false, cond, min, List, [], ◌∷◌, length, get_or, take, refl, sym, ap, ◌∙◌, subst, ◌⊎◌, inl, inr, arith}
-use Rattle.std.specs.Prelude.{Option, None, Result, Ok, Err, OnOk, IsOk, All}
+use Rattle.std.proofs.Common.{◌≡◌, ℕ, zero, suc, ◌+◌, ◌<◌, ◌≤◌, false, cond, List, [], ◌∷◌, refl, sym, ap, ◌∙◌, subst, arith}
+use Rattle.std.specs.Prelude.{None, Result, Ok, Err, OnOk, All}
 use Rattle.desk_ops.specs.declared.op.Key.{Key}
 use Rattle.desk_ops.specs.declared.op.Op.{Op}
 use Rattle.desk_ops.specs.Op.{stamp_of, IsLawful}
-use Rattle.desk_ops.specs.OpSet.{OpSet, no_ops, has_op, with_op, with_all, in_order, size, AllLawful}
+use Rattle.desk_ops.specs.OpSet.{OpSet, no_ops, has_op, with_op, size, AllLawful}
 use Rattle.desk_ops.specs.Held.{is_borne_in}
 use Rattle.desk_ops.proofs.Stamps.{by_cases}
 use Rattle.desk_ops.proofs.Joined.{lawful-with_op}
 use Rattle.desk_ops.proofs.Unions.{size-with_op}
 use Rattle.desk_ops.proofs.Bearers.{op_borne}
 use Rattle.std.proofs.lemmas.Bool.{true≢false}
-use Rattle.desk_registers.specs.declared.Kept.{Kept}
 use Rattle.desk_registers.specs.declared.Registers.{Registers}
 use Rattle.desk_registers.specs.Registers.{kept}
 use Rattle.desk_seq.specs.declared.Entry.{Entry}
 use Rattle.desk_walk.specs.Following.{IsSettled, IsArrival}
 use Rattle.desk_walk.proofs.Anew.{settled-none, none-size}
-use Rattle.desk_replica.specs.State.{IsKept}
 use Rattle.desk_replica.specs.JobSettings.{AreKept, kept_op}
 use Rattle.desk_replica.specs.Shows.{IsSound, spare_of}
 use Rattle.desk_replica.proofs.Sets.{none-lawful}

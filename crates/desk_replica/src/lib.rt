@@ -83,7 +83,8 @@ pub struct Stopped {
 
 /// A site, and the operations that it holds; with them a sequence that is their walk, a room of what waits, and registers
 /// of the settings. These follow the set: an operation that comes is put where it acts, with all that waited for it, and
-/// only where it forks a stamp are they made anew.
+/// only where it forks a stamp are they made anew. The place where the last one acted is kept as a hint: what is typed or
+/// comes in order hangs there.
 #[derive(Drop)]
 pub struct Replica<Q: Sequence> {
     site: u16,
@@ -91,6 +92,7 @@ pub struct Replica<Q: Sequence> {
     sequence: Q,
     room: Room<Q::Memory>,
     registers: Registers,
+    near: usize,
     alloc: Q::Memory,
 }
 
@@ -172,6 +174,7 @@ impl<Q: Sequence> Replica<Q> {
             sequence: Q::empty(alloc),
             room: Room::new(alloc),
             registers: Registers::new(),
+            near: 0,
             alloc,
         }
     }
@@ -262,8 +265,9 @@ impl<Q: Sequence> Replica<Q> {
         reserve_all(&mut self.held, &mut self.sequence, &mut self.room, n)
     }
 
-    /// Takes in an operation whose stamp none bears, where there is room for it. No memory is taken.
-    fn enter(&mut self, op: Op)
+    /// Takes in an operation whose stamp none bears, where there is room for it. No memory is taken. Its target is looked
+    /// for at the place first, or where the last one acted.
+    fn enter(&mut self, op: Op, place: Option<usize>)
         requires lawful { IsLawful op }
         requires new { is_borne_in self.old.ops (stamp_of op) ≡ false }
         requires below { size self.old.ops < LIMIT }
@@ -274,7 +278,8 @@ impl<Q: Sequence> Replica<Q> {
     {
         add_one(&mut self.held, op);
         keep(&mut self.registers, &op);
-        enter(&mut self.sequence, &mut self.room, op);
+        let near = place.unwrap_or(self.near);
+        self.near = enter(&mut self.sequence, &mut self.room, op, near);
     }
 
     /// The set with the operations of a list; none where memory or the limit does not allow it.
@@ -349,7 +354,7 @@ impl<Q: Sequence> Replica<Q> {
         let Ok(()) = self.reserve(1) else {
             return Err(AddRefusal::NoMemory);
         };
-        self.enter(op);
+        self.enter(op, None);
         Ok(Took::New)
     }
 
@@ -551,26 +556,27 @@ impl<Q: Sequence> Replica<Q> {
         }
     }
 
-    /// The stamp of the element that is shown at the place.
-    fn stamp_at(&self, place: usize) -> Option<Stamp>
-        ensures within { IfSome result (λ s. place < length (shown_of self.now.ops)) }
-        ensures is { IfSome result (λ s. s ≡ stamp_at (shown_of self.now.ops) place) }
+    /// The stamp of the element that is shown at the place; with it a hint where in the sequence it stands.
+    fn stamp_at(&self, place: usize) -> Option<(Stamp, usize)>
+        ensures within { IfSome result (λ r. place < length (shown_of self.now.ops)) }
+        ensures is { IfSome result (λ r. r.0 ≡ stamp_at (shown_of self.now.ops) place) }
         ensures none { IsNone result → length (shown_of self.now.ops) ≤ place }
     {
         match self.sequence.shown_place(place) {
-            Some(at) => Some(self.sequence.entry(at).stamp),
+            Some(at) => Some((self.sequence.entry(at).stamp, at.saturating_add(1))),
             None => None,
         }
     }
 
-    /// What an element at the place stands after: the head, or the element that is shown before it.
-    fn parent_at(&self, place: usize) -> Option<Stamp>
-        ensures within { IfSome result (λ s. place ≤ length (shown_of self.now.ops)) }
-        ensures is { IfSome result (λ s. s ≡ parent_at (shown_of self.now.ops) place) }
+    /// What an element at the place stands after: the head, or the element that is shown before it; with it a hint where
+    /// in the sequence that stands.
+    fn parent_at(&self, place: usize) -> Option<(Stamp, usize)>
+        ensures within { IfSome result (λ r. place ≤ length (shown_of self.now.ops)) }
+        ensures is { IfSome result (λ r. r.0 ≡ parent_at (shown_of self.now.ops) place) }
         ensures none { IsNone result → length (shown_of self.now.ops) < place }
     {
         if place == 0 {
-            return Some(Stamp::HEAD);
+            return Some((Stamp::HEAD, 0));
         }
         Some(self.stamp_at(place - 1)?)
     }
@@ -598,8 +604,8 @@ impl<Q: Sequence> Replica<Q> {
         })
     }
 
-    /// Adds an operation that was made here.
-    fn make(&mut self, op: Op) -> Result<Op, Refusal>
+    /// Adds an operation that was made here. Its target is looked for at the place first.
+    fn make(&mut self, op: Op, place: Option<usize>) -> Result<Op, Refusal>
         requires lawful { IsLawful op }
         requires new { greatest_counter_of self.old.ops < (stamp_of op).counter }
         requires below { size self.old.ops < LIMIT }
@@ -614,7 +620,7 @@ impl<Q: Sequence> Replica<Q> {
         let Ok(()) = self.reserve(1) else {
             return Err(Refusal::NoMemory);
         };
-        self.enter(op);
+        self.enter(op, place);
         Ok(op)
     }
 
@@ -630,7 +636,7 @@ impl<Q: Sequence> Replica<Q> {
         ensures memory { IsErrOf result Refusal.NoMemory → (insert_refusal self.old.ops place symbol ≡ None) × (self.old.spare ≡ 0) }
         ensures spare { self.old.spare ≤ self.new.spare + 1 }
     {
-        let Some(parent) = self.parent_at(place) else {
+        let Some((parent, at)) = self.parent_at(place) else {
             return Err(Refusal::Place);
         };
         if symbol.check().is_err() {
@@ -640,11 +646,14 @@ impl<Q: Sequence> Replica<Q> {
             Ok(stamp) => stamp,
             Err(refusal) => return Err(refusal),
         };
-        self.make(Op::Insert {
-            stamp,
-            parent,
-            symbol,
-        })
+        self.make(
+            Op::Insert {
+                stamp,
+                parent,
+                symbol,
+            },
+            Some(at),
+        )
     }
 
     /// Deletes the element at a place of the copy, and answers the operation made. `Place` comes where the place is not
@@ -659,14 +668,14 @@ impl<Q: Sequence> Replica<Q> {
         ensures memory { IsErrOf result Refusal.NoMemory → (delete_refusal self.old.ops place ≡ None) × (self.old.spare ≡ 0) }
         ensures spare { self.old.spare ≤ self.new.spare + 1 }
     {
-        let Some(target) = self.stamp_at(place) else {
+        let Some((target, at)) = self.stamp_at(place) else {
             return Err(Refusal::Place);
         };
         let stamp = match self.next_stamp() {
             Ok(stamp) => stamp,
             Err(refusal) => return Err(refusal),
         };
-        self.make(Op::Delete { stamp, target })
+        self.make(Op::Delete { stamp, target }, Some(at))
     }
 
     /// Gives a setting of the job a value, and answers the operation made. `Value` comes where the key does not take the
@@ -688,6 +697,6 @@ impl<Q: Sequence> Replica<Q> {
             Ok(stamp) => stamp,
             Err(refusal) => return Err(refusal),
         };
-        self.make(Op::Set { stamp, key, value })
+        self.make(Op::Set { stamp, key, value }, None)
     }
 }

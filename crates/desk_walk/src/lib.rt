@@ -2,13 +2,15 @@
 #![tactic(auto)]
 
 ghost use Rattle.std.specs.Prelude.{◌≡◌, ◌+◌, ◌<◌, ◌≤◌, ℕ, false, IfSome, IsNone, IfOk, length};
+ghost use Rattle.std.specs.List.{insert};
 ghost use Rattle.desk_ops.specs.declared.op.Op.{Op};
+ghost use Rattle.desk_ops.specs.Op.{target_of};
 ghost use Rattle.desk_ops.specs.OpSet.{OpSet, has_op, with_op, size, AllLawful};
-ghost use Rattle.desk_seq.specs.Entries.{AreDistinct};
-ghost use Rattle.desk_walk.specs.Following.{places, place_at, IsActed, CanAct, IsDraining, IsSettled, IsArrival};
+ghost use Rattle.desk_seq.specs.Entries.{stamps_of, AreDistinct, IsAbsent, IsFirstBelow};
+ghost use Rattle.desk_walk.specs.Following.{places, place_at, new_entry, IsActed, CanAct, IsDraining, IsSettled, IsArrival};
 
 use desk_held::Held;
-use desk_ops::{NoMemory, Op, Stamp};
+use desk_ops::{NoMemory, Op, Stamp, Symbol};
 use desk_room::Room;
 use desk_seq::{Entry, Sequence};
 use tree::settled_lists;
@@ -28,21 +30,47 @@ fn stamp_at<Q: Sequence>(sequence: &Q, place: usize) -> Stamp
     sequence.entry(place - 1).stamp
 }
 
-/// The place of a stamp: the head's is 0, that of an entry one above its own.
-fn place_of<Q: Sequence>(sequence: &Q, stamp: Stamp) -> Option<usize>
+/// The place of a stamp: the head's is 0, that of an entry one above its own. It is looked for at a place near it first.
+fn place_of<Q: Sequence>(sequence: &Q, stamp: Stamp, near: usize) -> Option<usize>
     ensures within { IfSome result (λ place. place ≤ length (Q.entries sequence.now)) }
     ensures is { IfSome result (λ place. place_at (Q.entries sequence.now) place ≡ stamp) }
     ensures none { IsNone result → (j : ℕ) → j < length (places (Q.entries sequence.now)) → place_at (Q.entries sequence.now) j ≡ stamp → ⊥ }
     ensures distinct { AreDistinct (Q.entries sequence.now) }
 {
-    let _len = sequence.len();
+    let len = sequence.len();
     if stamp.is_head() {
         return Some(0);
+    }
+    if near <= len && stamp_at(sequence, near).is_same(stamp) {
+        return Some(near);
     }
     let Some(place) = sequence.find(stamp) else {
         return None;
     };
     Some(place + 1)
+}
+
+/// Puts the element of an insert that hangs on the place where the scan from there leads, and answers where that is.
+fn stand<Q: Sequence>(sequence: &mut Q, at: usize, stamp: Stamp, symbol: Symbol) -> usize
+    requires within { at ≤ length (Q.entries sequence.old) }
+    requires free { 1 ≤ Q.free sequence.old }
+    requires absent { IsAbsent stamp (Q.entries sequence.old) }
+    ensures first { IsFirstBelow (stamps_of (Q.entries sequence.old)) at stamp result }
+    ensures put { Q.entries sequence.new ≡ insert (Q.entries sequence.old) result (new_entry stamp symbol) }
+    ensures inside { result < length (Q.entries sequence.new) }
+    ensures more { length (Q.entries sequence.new) ≡ length (Q.entries sequence.old) + 1 }
+    ensures free { Q.free sequence.old ≤ Q.free sequence.new + 1 }
+{
+    let place = sequence.first_below(at, stamp);
+    sequence.put(
+        place,
+        Entry {
+            stamp,
+            symbol,
+            deleted: false,
+        },
+    );
+    place
 }
 
 /// Does what an operation says that hangs on the place, and answers how far something may now wait.
@@ -58,13 +86,7 @@ fn act<Q: Sequence>(sequence: &mut Q, op: Op, at: usize, last: usize) -> usize
 {
     match op {
         Op::Insert { stamp, symbol, .. } => {
-            let place = sequence.first_below(at, stamp);
-            let entry = Entry {
-                stamp,
-                symbol,
-                deleted: false,
-            };
-            sequence.put(place, entry);
+            let place = stand(sequence, at, stamp, symbol);
             let _len = sequence.len();
             if last < place { place + 1 } else { last + 1 }
         }
@@ -127,8 +149,44 @@ fn drain<Q: Sequence>(sequence: &mut Q, room: &mut Room<Q::Memory>, from: usize)
     }
 }
 
-/// Takes in an operation whose stamp none bears: it waits, or acts with all that waited for it. No memory is taken.
-pub fn enter<Q: Sequence>(sequence: &mut Q, room: &mut Room<Q::Memory>, op: Op)
+/// Does what an arrival says that hangs on the place, and releases all that waited for it; answers the place of what it
+/// made or marked. Nothing waits for what was there before, so the drain begins at the new element. No memory is taken.
+fn arrive<Q: Sequence>(sequence: &mut Q, room: &mut Room<Q::Memory>, op: Op, at: usize) -> usize
+    requires arrives { (h : OpSet) × IsArrival h op (Q.entries sequence.old) room.old.ops }
+    requires within { at ≤ length (Q.entries sequence.old) }
+    requires target { target_of op ≡ Some (place_at (Q.entries sequence.old) at) }
+    requires distinct { AreDistinct (Q.entries sequence.old) }
+    requires free { size room.old.ops < Q.free sequence.old }
+    ensures settled { (h : OpSet) → IsArrival h op (Q.entries sequence.old) room.old.ops → IsSettled (with_op h op) (Q.entries sequence.new) room.new.ops }
+    ensures fewer { size room.new.ops ≤ size room.old.ops }
+    ensures free { Q.free sequence.old + size room.new.ops ≤ Q.free sequence.new + size room.old.ops + 1 }
+    ensures spare { room.old.spare ≤ room.new.spare }
+{
+    match op {
+        Op::Insert { stamp, symbol, .. } => {
+            let place = stand(sequence, at, stamp, symbol);
+            let _len = sequence.len();
+            drain(sequence, room, place + 1);
+            place + 1
+        }
+        Op::Delete { .. } => {
+            let element = at - 1;
+            sequence.mark(element);
+            at
+        }
+        Op::Set { .. } => at,
+    }
+}
+
+/// Takes in an operation whose stamp none bears: it waits, or acts with all that waited for it. No memory is taken. Its
+/// target is looked for at a place near it first, which is never believed without a look; the answer is the place to look
+/// at for the next.
+pub fn enter<Q: Sequence>(
+    sequence: &mut Q,
+    room: &mut Room<Q::Memory>,
+    op: Op,
+    near: usize,
+) -> usize
     requires arrives { (h : OpSet) × IsArrival h op (Q.entries sequence.old) room.old.ops }
     requires spare { 1 ≤ room.old.spare }
     requires free { size room.old.ops < Q.free sequence.old }
@@ -138,11 +196,14 @@ pub fn enter<Q: Sequence>(sequence: &mut Q, room: &mut Room<Q::Memory>, op: Op)
     ensures spare { room.old.spare ≤ room.new.spare + 1 }
 {
     let Some(target) = op.target() else {
-        return;
+        return near;
     };
-    room.put(op);
-    if let Some(from) = place_of(sequence, target) {
-        drain(sequence, room, from);
+    match place_of(sequence, target, near) {
+        Some(at) => arrive(sequence, room, op, at),
+        None => {
+            room.put(op);
+            near
+        }
     }
 }
 

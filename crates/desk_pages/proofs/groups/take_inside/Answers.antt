@@ -1,4 +1,4 @@
-use Rattle.std.proofs.Common.{◌≡◌, ◌+◌, ◌*◌, ◌/◌, ◌<◌, ◌∙◌, ap, sym, [], List, length, get_or, set, arith}
+use Rattle.std.proofs.Common.{◌+◌, ◌/◌, ◌∙◌, ap, sym, [], List, length, get_or, set, arith}
 use Rattle.std.specs.List.{remove}
 use Rattle.std.proofs.lemmas.List.{get_or_read, length-set}
 use Rattle.std.proofs.lemmas.List.Edits.{length-remove}

@@ -1,4 +1,4 @@
-use Rattle.std.proofs.Common.{◌≡◌, ◌+◌, ◌-◌, ◌<◌, ap, length, vec_len, vec_capacity, arith}
+use Rattle.std.proofs.Common.{◌+◌, ap, length, arith}
 use Rattle.std.proofs.lemmas.List.Edits.{length-remove}
 use Rattle.desk_pages.specs.Pages.{joined, start_of}
 use Rattle.desk_pages.proofs.Picks.{page-within}

@@ -32,8 +32,8 @@ overflow_add-from g c =
     let w = page-fits pages c.locate-p.result.0 s.within in
     omega (arith, s.is, c.requires.fits)
 
-pub nth_from-requires-clause-start : goal.nth_from-requires-clause-start
-nth_from-requires-clause-start g c = next-start c.args.pages.now c.args.from c.locate-p.result.0 c.locate-p.result.1 c.len.result c.index-pages-p-in-Err.result c.locate-p.ensures c.index-pages-p-in-Err.is c.len.ensures.len
+pub nth_from-requires-in-Err-clause-start : goal.nth_from-requires-in-Err-clause-start
+nth_from-requires-in-Err-clause-start g c = next-start c.args.pages.now c.args.from c.locate-p.result.0 c.locate-p.result.1 c.len.result c.index-pages-p-in-Err.result c.locate-p.ensures c.index-pages-p-in-Err.is c.len.ensures.len
 
 pub returns-in-Ok-clause-found : goal.returns-in-Ok-clause-found
 returns-in-Ok-clause-found g c =
@@ -62,7 +62,7 @@ returns-in-Err-clause-found g c =
     let up = next-page pages p s.within in
     let f = ap (λ (m : ℕ). count_by picks (take m (joined pages))) s.is in
     let t = short-page picks pages p j c.args.n c.in-Err.left s.within (omega (arith, s.inside)) h in
-    if-ok c.nth_from.result _ _ (λ place r. nth-later picks (joined pages) c.args.from (start_of pages (p + 1)) c.in-Err.left c.args.n place (rw start at r) (omega (arith, s.is, s.inside)) (omega arith)) c.nth_from.ensures.found
+    if-ok c.nth_from-in-Err.result _ _ (λ place r. nth-later picks (joined pages) c.args.from (start_of pages (p + 1)) c.in-Err.left c.args.n place (rw start at r) (omega (arith, s.is, s.inside)) (omega arith)) c.nth_from-in-Err.ensures.found
 
 pub returns-in-Err-clause-short : goal.returns-in-Err-clause-short
 returns-in-Err-clause-short g c =
@@ -76,4 +76,4 @@ returns-in-Err-clause-short g c =
     let start = next-start pages c.args.from p j c.len.result c.index-pages-p-in-Err.result s c.index-pages-p-in-Err.is c.len.ensures.len in
     let f = ap (λ (m : ℕ). count_by picks (take m (joined pages))) s.is in
     let t = short-page picks pages p j c.args.n c.in-Err.left s.within (omega (arith, s.inside)) h in
-    if-err c.nth_from.result _ _ (λ (left : ℕ) r. (let q : IsShort picks (joined pages) (start_of pages (p + 1)) c.in-Err.left left = rw start at r in (omega (arith, q.0, h.0), omega (arith, q.1)))) c.nth_from.ensures.short
+    if-err c.nth_from-in-Err.result _ _ (λ (left : ℕ) r. (let q : IsShort picks (joined pages) (start_of pages (p + 1)) c.in-Err.left left = rw start at r in (omega (arith, q.0, h.0), omega (arith, q.1)))) c.nth_from-in-Err.ensures.short

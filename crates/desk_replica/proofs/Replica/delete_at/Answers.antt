@@ -1,4 +1,4 @@
-use Rattle.std.proofs.Common.{◌≡◌, ◌∙◌, ap, sym, subst}
+use Rattle.std.proofs.Common.{◌∙◌, ap, sym, subst}
 use Rattle.desk_ops.specs.declared.op.Op.TheVariants.{Delete}
 use Rattle.desk_ops.specs.Op.{IsLawful}
 use Rattle.desk_replica.specs.Edits.{IsDeleted, new_stamp}

@@ -1,4 +1,4 @@
-use Rattle.std.proofs.Common.{◌≡◌, ◌≤◌, ◌<◌, ◌+◌, ◌∙◌, ap, arith, false}
+use Rattle.std.proofs.Common.{◌≡◌, ◌≤◌, ◌<◌, ◌∙◌, ap, arith, false}
 use Rattle.desk_ops.specs.Op.{stamp_of}
 use Rattle.desk_ops.specs.OpSet.{size}
 use Rattle.desk_ops.specs.Held.{is_borne_in}
@@ -11,8 +11,8 @@ use Rattle.desk_replica.proofs.Replica.enter.Goals as goal
 pub keep-requires : goal.keep-requires
 keep-requires g c = other-new c.self.inside.held.ops c.args.op (ap (λ s. is_borne_in s.ops (stamp_of c.args.op)) c.self.view_is ∙ c.requires.new) (kept c.self.inside.registers) c.self.invariant.settings
 
-pub enter-requires-clause-arrives : goal.enter-requires-clause-arrives
-enter-requires-clause-arrives g c = (
+pub enter-self-inside-requires-clause-arrives : goal.enter-self-inside-requires-clause-arrives
+enter-self-inside-requires-clause-arrives g c = (
   c.self.inside.held.ops,
   arrival c.self.inside.site c.self.inside.held.ops c.args.op c.self.inside.registers (g.Q.Sequence.entries c.self.inside.sequence) c.self.inside.room.ops (g.Q.Sequence.free c.self.inside.sequence) c.self.invariant c.requires.lawful
       (ap (λ s. is_borne_in s.ops (stamp_of c.args.op)) c.self.view_is ∙ c.requires.new),
@@ -30,7 +30,7 @@ invariant_of-self g c =
     let parts = spare-parts 1 c.self.inside.held.spare c.self.inside.room.spare free w c.self.invariant.fits s in
     let below : size w < free = omega (arith, parts.2) in
     sound-more c.self.inside.site h c.args.op c.self.inside.registers es w free c.self.invariant c.requires.lawful new
-    c.add_one.new.held.ops c.keep.new.registers (g.Q.Sequence.entries c.enter.new.sequence) c.enter.new.room.ops (g.Q.Sequence.free c.enter.new.sequence)
+    c.add_one.new.held.ops c.keep.new.registers (g.Q.Sequence.entries c.enter-self-inside.new.sequence) c.enter-self-inside.new.room.ops (g.Q.Sequence.free c.enter-self-inside.new.sequence)
     c.add_one.ensures.ops c.keep.ensures
-    (c.enter.ensures.settled h (arrival c.self.inside.site h c.args.op c.self.inside.registers es w free c.self.invariant c.requires.lawful new))
-    c.enter.ensures.few below c.enter.ensures.free
+    (c.enter-self-inside.ensures.settled h (arrival c.self.inside.site h c.args.op c.self.inside.registers es w free c.self.invariant c.requires.lawful new))
+    c.enter-self-inside.ensures.few below c.enter-self-inside.ensures.free

@@ -1,4 +1,4 @@
-use Rattle.std.proofs.Common.{◌≡◌, ◌∙◌, ap, sym, subst}
+use Rattle.std.proofs.Common.{◌∙◌, ap, sym, subst}
 use Rattle.std.specs.Prelude.{is_err}
 use Rattle.desk_ops.specs.declared.op.Op.TheVariants.{Insert}
 use Rattle.desk_ops.specs.Op.{IsLawful}

@@ -1,4 +1,4 @@
-use Rattle.std.proofs.Common.{◌≡◌, ℕ, List, ◌≤◌, ◌<◌, ◌-◌, ◌∙◌, ap, sym, subst, arith, refl, length, take, get_or, false}
+use Rattle.std.proofs.Common.{◌≡◌, ℕ, List, ◌≤◌, ◌<◌, ◌-◌, ◌∙◌, ap, sym, subst, arith, refl, length, get_or, false}
 use Rattle.std.proofs.lemmas.List.{take_all, get_or_default}
 use Rattle.desk_ops.specs.declared.op.Op.{Op}
 use Rattle.desk_ops.specs.OpSet.{OpSet, has_op, with_all, in_order, size}

@@ -1,4 +1,4 @@
-use Rattle.std.proofs.Common.{◌≡◌, ◌+◌, ◌<◌, ◌∙◌, sym, arith}
+use Rattle.std.proofs.Common.{◌∙◌, sym, arith}
 use Rattle.desk_blocks.proofs.Tallies.{tally-join, tally-short, lower, higher}
 use Rattle.desk_blocks.proofs.tally.TallySummaryEntry.join.Goals as goal
 

@@ -1,4 +1,4 @@
-use Rattle.std.proofs.Common.{◌≡◌, ◌-◌, refl, arith}
+use Rattle.std.proofs.Common.{refl, arith}
 use Rattle.desk_blocks.proofs.Tallies.{tally-replace}
 use Rattle.desk_blocks.proofs.tally.TallySummaryEntry.replaced.Goals as goal
 

@@ -1,6 +1,6 @@
 use Rattle.std.proofs.Common.{◌≡◌, ◌≤◌, ◌<◌, ◌-◌, true, false, length, get_or}
 use Rattle.desk_pages.specs.Pages.{ends_in}
-use Rattle.desk_pages.proofs.search.edge_page.Given as goal
+use Rattle.desk_pages.proofs.search.edge_by_halves.Given as goal
 
 abbrev pub invariant-loop-low : goal.invariant-loop-low
 invariant-loop-low g l = record {
