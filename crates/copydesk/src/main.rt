@@ -13,22 +13,30 @@ use desk_script::RunFault;
 use host::HostFiles;
 use program::program;
 use std::alloc::Global;
-use std::io::{ErrorKind, IsTerminal, Write};
+use std::io::{BufWriter, ErrorKind, IsTerminal, Write};
 use std::process::ExitCode;
 use std::{env, io};
 
 fn main(rt: HostRuntime) -> ExitCode {
-    match words_of(&rt) {
-        Ok(words) => ExitCode::from(program(
-            rt.alloc(),
-            &words,
-            &mut rt.reader(),
-            &mut io::writer(&rt),
-            &mut rt.stderr(),
-            &mut HostFiles::new(&rt),
-        )),
+    match on_streams(&rt) {
+        Ok(status) => ExitCode::from(status),
         Err(error) => ExitCode::from(unread(&mut rt.stderr(), &error)),
     }
+}
+
+/// Does what the words ask for, and gives the status. Answers are gathered in a buffer: it is let out before more
+/// commands are read, and at the end.
+fn on_streams(rt: &HostRuntime) -> io::Result<u8> {
+    let words = words_of(rt)?;
+    let mut writer = BufWriter::new(rt.alloc(), io::writer(rt))?;
+    Ok(program(
+        rt.alloc(),
+        &words,
+        &mut rt.reader(),
+        &mut writer,
+        &mut rt.stderr(),
+        &mut HostFiles::new(rt),
+    ))
 }
 
 /// The words after the program's name. Where standard error is a terminal a desk is asked to say why it stopped.

@@ -1,6 +1,6 @@
 -- Lines that were answered, one part after another.
 use Rattle.std.proofs.Common.{◌≡◌, ℕ, List, [], ◌∷◌, ◌++◌, Option, Some, None, refl, sym, ap, ◌∙◌, subst, append_assoc}
-use Rattle.std.specs.Io.KnownBytes.{Appends}
+use Rattle.std.specs.Io.KnownBytes.{Appends, Keeps}
 use Rattle.std.proofs.KnownBytes.{Appends-trans}
 use Rattle.std.proofs.lemmas.List.{append-nil}
 use Rattle.desk_answers.specs.Reply.{Reply}
@@ -53,3 +53,18 @@ turn_front old mid last a b c ls ms (rs, first, written) (front, tail, split, ne
   script-append old mid new ls front rs ss first second,
   (output rs ++ done, rest, Appends-trans a b c _ _ written more, output-append rs ss ∙ ap (λ l. output rs ++ l) cut ∙ sym (append_assoc (output rs) done rest)),
 )
+
+-- ---- a writer that lets out what it held back
+
+appends_keeps : (a b c : Option (List ℕ)) (bytes : List ℕ) → Appends a b bytes → Keeps b c → Appends a c bytes
+appends_keeps None b c bytes h k = tt
+appends_keeps (Some xs) None c bytes h k = absurd h
+appends_keeps (Some xs) (Some ys) None bytes h k = absurd k
+appends_keeps (Some xs) (Some ys) (Some zs) bytes h k = k ∙ h
+
+pub turn_kept : (old new : Desk) (a b c : Option (List ℕ)) (ls : List Line) → Turn old new a b ls → Keeps b c → Turn old new a c ls
+turn_kept old new a b c ls (rs, first, written) k = (rs, first, appends_keeps a b c (output rs) written k)
+
+-- all of the first lines were answered, and what comes after them was not
+pub turn_stops : (old new : Desk) (last : Shelf) (a b : Option (List ℕ)) (ls more : List Line) → Stays new.shelf last → Turn old new a b ls → Fronts old last a b (ls ++ more)
+turn_stops old new last a b ls more still (rs, first, written) = (ls, more, refl, new, still, rs, first, (output rs, [], written, sym (append-nil (output rs))))

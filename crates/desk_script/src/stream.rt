@@ -1,7 +1,7 @@
 //! Scripts, read and answered line by line.
 
 ghost use Rattle.std.specs.Prelude.{◌≡◌, ◌≢◌, ℕ, ◌≤◌, ◌++◌, ◌∷◌, [], List, OnOk, OnErr, IfErr, IfOk, IfSome, length, string_bytes};
-ghost use Rattle.std.specs.Io.KnownBytes.{Appends, IsAtEnd};
+ghost use Rattle.std.specs.Io.KnownBytes.{Appends, IsAtEnd, Keeps};
 ghost use Rattle.desk_steps.specs.Line.{Line, line_of};
 ghost use Rattle.desk_script.specs.Lines.{without_cr};
 ghost use Rattle.desk_answers.specs.Reply.{Reply, reply};
@@ -30,6 +30,12 @@ pub const MAX_READS: u32 = 268_435_456;
 /// No more of a line is kept: with more bytes than these it is too long, however it ends.
 const PENDING_LIMIT: usize = 65_538;
 
+/// The bytes that most answers fit in.
+const USUAL: usize = 64;
+
+/// So much is read at a time.
+const CHUNK: usize = 8192;
+
 /// Writes the bytes. A write of no bytes is a failure.
 fn send<W: Write>(writer: &mut W, bytes: &[u8]) -> Result<(), LineFault>
     ensures ok { OnOk result (Appends (W.contents writer.old) (W.contents writer.new) bytes.now) }
@@ -46,11 +52,21 @@ fn send<W: Write>(writer: &mut W, bytes: &[u8]) -> Result<(), LineFault>
     Ok(())
 }
 
+/// Lets out what the writer holds back.
+fn flush<W: Write>(writer: &mut W) -> Result<(), LineFault>
+    ensures { Keeps (W.contents writer.old) (W.contents writer.new) }
+{
+    match writer.flush() {
+        Ok(()) => Ok(()),
+        Err(_) => Err(LineFault::Write),
+    }
+}
+
 /// An answer's line.
 fn spelled<A: Allocator + Copy>(alloc: A, answer: &Response<A>) -> Result<String<A>, NoMemory>
     ensures { IfOk result (λ s. string_bytes s ≡ text (reply answer.now) ++ 10 ∷ []) }
 {
-    let mut out = String::new(alloc);
+    let mut out = String::with_capacity(alloc, USUAL)?;
     put(&mut out, answer)?;
     out.push_str("\n")?;
     Ok(out)
@@ -141,7 +157,7 @@ fn take_byte<W: Write, F: Files, A: Allocator + Copy>(
 }
 
 /// Takes the next bytes, and answers each line that is whole now.
-fn take_bytes<W: Write, F: Files, A: Allocator + Copy>(
+fn take_each<W: Write, F: Files, A: Allocator + Copy>(
     memory: Memory<A>,
     world: &mut World<A>,
     writer: &mut W,
@@ -162,6 +178,43 @@ fn take_bytes<W: Write, F: Files, A: Allocator + Copy>(
     Ok(())
 }
 
+/// Takes the next bytes, and answers each line that is whole now: its answers are out before more is read.
+fn take_bytes<W: Write, F: Files, A: Allocator + Copy>(
+    memory: Memory<A>,
+    world: &mut World<A>,
+    writer: &mut W,
+    files: &mut F,
+    line: &mut Vec<u8, A>,
+    bytes: &[u8],
+) -> Result<(), LineFault>
+    requires { length line.old.items ≤ PENDING_LIMIT }
+    ensures kept { length line.new.items ≤ PENDING_LIMIT }
+    ensures ok { OnOk result (Moves (desk world.old (F.shelf files.old)) (desk world.new (F.shelf files.new)) (W.contents writer.old) (W.contents writer.new) line.old.items bytes.now line.new.items) }
+    ensures err { OnErr result ((more : List ℕ) → Fronts (desk world.old (F.shelf files.old)) (F.shelf files.new) (W.contents writer.old) (W.contents writer.new) (lines_from line.old.items (bytes.now ++ more))) }
+    ensures sites { OnOk result (KeepsSites world.old world.new) }
+    ensures stays { Stays (F.shelf files.old) (F.shelf files.new) }
+{
+    take_each(memory, world, writer, files, line, bytes)?;
+    flush(writer)
+}
+
+/// Answers a line, and lets its answer out.
+fn take_last<W: Write, F: Files, A: Allocator + Copy>(
+    memory: Memory<A>,
+    world: &mut World<A>,
+    writer: &mut W,
+    files: &mut F,
+    line: &[u8],
+) -> Result<(), LineFault>
+    ensures ok { OnOk result (Turn (desk world.old (F.shelf files.old)) (desk world.new (F.shelf files.new)) (W.contents writer.old) (W.contents writer.new) (line_of line.now ∷ [])) }
+    ensures err { OnErr result ((more : List Line) → Fronts (desk world.old (F.shelf files.old)) (F.shelf files.new) (W.contents writer.old) (W.contents writer.new) (line_of line.now ∷ more)) }
+    ensures sites { OnOk result (KeepsSites world.old world.new) }
+    ensures stays { Stays (F.shelf files.old) (F.shelf files.new) }
+{
+    take_line(memory, world, writer, files, line)?;
+    flush(writer)
+}
+
 /// Answers a last line that has no end.
 fn finish<W: Write, F: Files, A: Allocator + Copy>(
     memory: Memory<A>,
@@ -178,11 +231,11 @@ fn finish<W: Write, F: Files, A: Allocator + Copy>(
     if line.is_empty() {
         return Ok(());
     }
-    take_line(memory, world, writer, files, line)
+    take_last(memory, world, writer, files, line)
 }
 
-/// Reads commands to their end, and writes the line of each one's answer. After an `Err` what was written is a prefix of
-/// such lines.
+/// Reads commands to their end, and writes the line of each one's answer. A writer may hold them back: it is flushed
+/// before each read, and at the end. After an `Err` what was written is a prefix of such lines.
 pub fn answer_all<R: Read, W: Write, F: Files, A: Allocator + Copy>(
     memory: Memory<A>,
     world: &mut World<A>,
@@ -197,7 +250,7 @@ pub fn answer_all<R: Read, W: Write, F: Files, A: Allocator + Copy>(
     ensures end { OnOk result (IsAtEnd (R.remaining reader.new)) }
 {
     let mut line = Vec::new(memory.own);
-    let mut chunk = [0u8; 512];
+    let mut chunk = [0u8; CHUNK];
     'reads: for _ in 0..MAX_READS {
         match reader.read(&mut chunk) {
             Err(_) => return Err(LineFault::Read),

@@ -7,4 +7,4 @@ use Rattle.desk_script.proofs.stream.finish.Goals as goal
 
 pub returns-clause-err : goal.returns-clause-err
 returns-clause-err g c =
-    on_err_weaker c.take_line.result (λ h. subst (Fronts (desk c.args.world.now (g.F.Files.shelf c.args.files.now)) (g.F.Files.shelf c.take_line.new.files) (g.W.Write.contents c.args.writer.now) (g.W.Write.contents c.take_line.new.writer)) (sym (last_some c.args.line.now (search rules))) (h [])) c.take_line.ensures.err
+    on_err_weaker c.take_last.result (λ h. subst (Fronts (desk c.args.world.now (g.F.Files.shelf c.args.files.now)) (g.F.Files.shelf c.take_last.new.files) (g.W.Write.contents c.args.writer.now) (g.W.Write.contents c.take_last.new.writer)) (sym (last_some c.args.line.now (search rules))) (h [])) c.take_last.ensures.err
