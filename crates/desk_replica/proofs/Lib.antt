@@ -7,3 +7,5 @@ pub mod KeptSets
 pub mod Sound
 pub mod Ends
 pub mod Convergence
+pub mod Orders
+pub mod Merges

@@ -4,3 +4,4 @@ pub mod JobSettings
 pub mod Ways
 pub mod Laws
 pub mod Shows
+pub mod Orders

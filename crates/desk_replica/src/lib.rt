@@ -5,7 +5,7 @@ ghost use Rattle.std.specs.Prelude.{◌≡◌, ◌+◌, ◌≤◌, ◌<◌, ◌�
 ghost use Rattle.desk_ops.specs.Op.{IsLawful};
 ghost use Rattle.desk_ops.specs.OpSet.{no_ops, has_op, with_op, with_all, union, in_order, size, AllLawful};
 ghost use Rattle.desk_ops.specs.Op.{stamp_of};
-ghost use Rattle.desk_ops.specs.Held.{greatest_counter_of, is_borne_in};
+ghost use Rattle.desk_ops.specs.Held.{greatest_counter_of, is_borne_in, IsUnforked};
 ghost use Rattle.desk_ops.specs.Shown.{copy_of, shown_of};
 ghost use Rattle.desk_ops.specs.Settings.{setting_of};
 ghost use Rattle.desk_ops.specs.Faults.{faults_of};
@@ -13,6 +13,7 @@ ghost use Rattle.desk_codec.specs.Feed.{feed, IsFeed};
 ghost use Rattle.desk_replica.specs.JobSettings.{settings_of};
 ghost use Rattle.desk_walk.specs.Following.{entries_of, IsWaiting};
 ghost use Rattle.desk_replica.specs.Shows.{shown_symbols};
+ghost use Rattle.desk_replica.specs.Orders.{KeepsOrder, ShareOneOrder};
 ghost use Rattle.desk_replica.specs.Edits.{new_stamp, parent_at, stamp_at, edit_refusal, insert_refusal, delete_refusal, set_refusal, IsInserted, IsDeleted, IsSetTo};
 
 use desk_codec::write_feed;
@@ -337,6 +338,7 @@ impl<Q: Sequence> Replica<Q> {
         ensures spare { is_borne_in self.old.ops (stamp_of op) ≡ false → self.old.spare ≤ self.new.spare + 1 }
         ensures err_spare { OnErr result (self.old.spare ≤ self.new.spare) }
         ensures known_spare { has_op self.old.ops op ≡ true → self.new.spare ≡ self.old.spare }
+        ensures lawful { AllLawful self.old.ops }
     {
         if self.held.has(&op) {
             return Ok(Took::Known);
@@ -376,6 +378,9 @@ impl<Q: Sequence> Replica<Q> {
         ensures spare { is_borne_in self.old.ops (stamp_of op) ≡ false → self.old.spare ≤ self.new.spare + 1 }
         ensures err_spare { OnErr result (self.old.spare ≤ self.new.spare) }
         ensures known_spare { has_op self.old.ops op ≡ true → self.new.spare ≡ self.old.spare }
+
+        // Whatever the outcome.
+        ensures order { KeepsOrder self.old.ops self.new.ops }
     {
         match self.put(op) {
             Ok(took) => Ok(took),
@@ -440,6 +445,7 @@ impl<Q: Sequence> Replica<Q> {
         ensures counts { IfOk result (λ c. IsCounted self.old.ops self.new.ops ops.now c) }
         ensures stopped { IfErr result (λ s. IsStopped self.old.ops self.new.ops ops.now s) }
         ensures room { HasRoom self.old.ops self.old.spare ops.now → IsOk result }
+        ensures order { KeepsOrder self.old.ops self.new.ops }
     {
         let before = self.len();
         if let Err(stopped) = self.take_in(ops) {
@@ -462,7 +468,11 @@ impl<Q: Sequence> Replica<Q> {
         ensures counts { IfOk result (λ c. IsCounted self.old.ops self.new.ops (in_order other.now.ops) c) }
         ensures stopped { IfErr result (λ s. IsStopped self.old.ops self.new.ops (in_order other.now.ops) s) }
         ensures room { HasRoom self.old.ops self.old.spare (in_order other.now.ops) → IsOk result }
+        ensures order { KeepsOrder self.old.ops self.new.ops }
+        ensures other_order { OnOk result (KeepsOrder other.now.ops self.new.ops) }
+        ensures one_order { IsUnforked (union self.old.ops other.now.ops) → ShareOneOrder self.old.ops other.now.ops self.new.ops }
     {
+        let _ = &self.site;
         match other.held.in_order() {
             Ok(ops) => self.take_all(&ops),
             Err(NoMemory) => self.take_each(&other.held),
