@@ -1,5 +1,5 @@
 -- Elements that two sets show keep their order, and one order holds what the parts of a set without forks show.
-use Rattle.std.proofs.Common.{◌≡◌, ℕ, zero, suc, ◌<◌, Bool, true, false, not, cond, List, [], ◌∷◌, map, refl, sym, ap, ◌∙◌, subst, subst₂, ◌⊎◌, inl, inr, arith}
+use Rattle.std.proofs.Common.{◌≡◌, ℕ, zero, suc, ◌<◌, Bool, true, false, not, cond, List, [], ◌∷◌, ◌++◌, reverse, map, refl, sym, ap, ◌∙◌, subst, subst₂, ◌⊎◌, inl, inr, arith}
 use Rattle.std.specs.List.{filter}
 use Rattle.std.specs.Ordering.{ordering_reverse, is_lt}
 use Rattle.std.specs.declared.cmp.Ordering.{Ordering}
@@ -13,13 +13,13 @@ use Rattle.desk_ops.specs.OpSet.{OpSet, has_op, in_order, IsWithin, AllLawful}
 use Rattle.desk_ops.specs.Lists.{Among, Precedes}
 use Rattle.desk_ops.specs.Held.{bearing, is_one, is_more, is_clear, is_forked, is_clear_in, live_inserts, live_inserts_of, IsUnforked}
 use Rattle.desk_ops.specs.Live.{insert_of, IsClearOp, IsOfLiveInsert, IsLiveOp}
-use Rattle.desk_ops.specs.Walk.{walk}
+use Rattle.desk_ops.specs.Walk.{walk, walk_of}
 use Rattle.desk_ops.specs.PathOrder.{path_of, path_cmp, InPathOrder}
 use Rattle.desk_ops.specs.Shown.{is_deleted, shown, shown_of}
 use Rattle.desk_ops.proofs.Stamps.{same-refl, same-from}
 use Rattle.desk_ops.proofs.Lists.{each-among, each-filter, among-filter, among-filter_from, precedes-cases, precedes-first, precedes-second}
-use Rattle.desk_ops.proofs.Paths.{path_total, walk-in_order}
-use Rattle.desk_ops.proofs.Kept.{not_less_itself}
+use Rattle.desk_ops.proofs.Paths.{path-absent, path_total, walk-in_order, Each-reverse}
+use Rattle.desk_ops.proofs.Kept.{not_less_itself, descends, step, among-reversed}
 use Rattle.desk_ops.proofs.Means.{live_ascending, live_grows, live_agree, shown-kept}
 use Rattle.desk_ops.proofs.Tree.{walk-live}
 use Rattle.desk_ops.proofs.Ends.{among_held, live_from_op, op_from_live}
@@ -74,10 +74,20 @@ order-filter p f (x ∷ xs) h = elim (f x) as (λ b. InPathOrder p (cond b (x �
   | false ↦ order-filter p f xs h.1
 ]
 
--- what a set shows stands in its own path order, forks or not
+-- a walk stands in its set's path order, forks or not, and so does what is shown of it
+walked : (h : OpSet) → AllLawful h → InPathOrder (path_of h) (walk_of h)
+unfolding walk
+walked h l = walk-in_order (live_inserts (in_order h)) (live_ascending h) head (live_grows (in_order h) l).1
+
 own_order : (h : OpSet) → AllLawful h → InPathOrder (path_of h) (shown_of h)
-unfolding shown walk
-own_order h l = order-filter (path_of h) (λ x. not (is_deleted (in_order h) x.stamp)) (walk (in_order h)) (walk-in_order (live_inserts (in_order h)) (live_ascending h) head (live_grows (in_order h) l).1)
+unfolding shown
+own_order h l = order-filter (path_of h) (λ x. not (is_deleted (in_order h) x.stamp)) (walk (in_order h)) (walked h l)
+
+at_head : (h : OpSet) → AllLawful h → path_of h head ≡ []
+at_head h l = path-absent (reverse (live_inserts (in_order h))) head (Each-reverse (λ x. same x.stamp head ≡ false) (live_inserts (in_order h)) (live_grows (in_order h) l).1)
+
+below : (h : OpSet) → AllLawful h → (x : Insertion) → Among x (live_inserts_of h) → path_of h x.stamp ≡ path_of h x.parent ++ x.stamp ∷ []
+below h l x m = (step (reverse (live_inserts (in_order h))) (descends (live_inserts (in_order h)) (live_ascending h) (live_grows (in_order h) l).0) x (among-reversed (live_inserts (in_order h)) x m)).0
 
 not_both_in : (p : Stamp → List Stamp) (xs : List Insertion) → InPathOrder p xs → (s t : Stamp) → path_cmp (p s) (p t) ≡ Less → Precedes t s (stamps xs) → ⊥
 not_both_in p xs o s t l b = not_less_itself (p s) (path_total.trans (p s) (p t) (p s) l (path-less p xs o t s b))
@@ -204,6 +214,9 @@ one_order_of_sets = record {
   not_both = not_both;
   larger = kept;
   back = turned_back;
+  at_head = at_head;
+  below = below;
+  walked = walked;
   total = total;
   stands = stands;
   alike = alike;

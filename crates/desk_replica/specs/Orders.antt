@@ -1,11 +1,13 @@
 -- The order of what sets show. An element is known by its stamp.
-use Rattle.std.specs.Prelude.{◌≡◌, ◌⊎◌, List, [], ◌∷◌, map}
+use Rattle.std.specs.Prelude.{◌≡◌, ◌⊎◌, List, [], ◌∷◌, ◌++◌, map}
 use Rattle.std.specs.declared.cmp.Ordering.TheVariants.{Less}
 use Rattle.desk_ops.specs.declared.op.Stamp.{Stamp}
+use Rattle.desk_ops.specs.Stamp.{head}
 use Rattle.desk_ops.specs.Op.{Insertion}
 use Rattle.desk_ops.specs.OpSet.{OpSet, union, IsWithin, AllLawful}
 use Rattle.desk_ops.specs.Lists.{Among, Precedes}
 use Rattle.desk_ops.specs.Held.{live_inserts_of, IsUnforked}
+use Rattle.desk_ops.specs.Walk.{walk_of}
 use Rattle.desk_ops.specs.PathOrder.{path_of, path_cmp, InPathOrder}
 use Rattle.desk_ops.specs.Shown.{shown_of}
 
@@ -57,6 +59,10 @@ pub record OneOrderOfSets : Type 0 where
   -- a set keeps the order of each of its parts, and each part that of the set
   pub larger : (h g : OpSet) → AllLawful h → AllLawful g → IsWithin h g → KeepsOrder h g
   pub back : (h g : OpSet) → AllLawful g → KeepsOrder h g → KeepsOrder g h
+  -- the path of a live insert is that of its parent, and then its stamp; forked or not, a set's walk stands in path order
+  pub at_head : (h : OpSet) → AllLawful h → path_of h head ≡ []
+  pub below : (h : OpSet) → AllLawful h → (x : Insertion) → Among x (live_inserts_of h) → path_of h x.stamp ≡ path_of h x.parent ++ x.stamp ∷ []
+  pub walked : (h : OpSet) → AllLawful h → InPathOrder (path_of h) (walk_of h)
   -- where no stamp of a set is forked, one order holds what all its parts show
   pub total : (u : OpSet) → AllLawful u → IsUnforked u → IsOrderOfLive u
   pub stands : (u h : OpSet) → AllLawful u → AllLawful h → IsUnforked u → IsWithin h u → StandsIn u h

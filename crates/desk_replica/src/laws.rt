@@ -9,8 +9,9 @@ pub fn convergence()
     ensures { Convergence }
 {}
 
-/// Elements that a set and a part of it show stand in one order, forks and all. Where no stamp of the set is forked, one
-/// order holds what all its parts show, so that any two of these show what they share in the same order.
+/// A path goes from a parent to what hangs on it, and a walk stands in path order. Elements that a set and a part of it
+/// show stand in one order, forks and all. Where no stamp of the set is forked, one order holds what all its parts show, so
+/// that any two of these show what they share in the same order.
 pub fn one_order_of_sets()
     ensures { OneOrderOfSets }
 {}

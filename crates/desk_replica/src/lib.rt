@@ -362,7 +362,7 @@ impl<Q: Sequence> Replica<Q> {
 
     /// Takes in an operation, and with it all that waited for it. `Full` comes exactly where 1,048,576 operations are held
     /// and this one is not; out of memory only where this one is not held and there was no room, or it forks a stamp. No
-    /// other refusal comes, and after one the set is as it was.
+    /// other refusal comes, and after one the set is as it was. Elements that are shown before and after keep their order.
     pub fn take(&mut self, op: Op) -> Result<Took, Refusal>
         requires { IsLawful op }
         ensures site { self.new.site ≡ self.old.site }
@@ -378,8 +378,6 @@ impl<Q: Sequence> Replica<Q> {
         ensures spare { is_borne_in self.old.ops (stamp_of op) ≡ false → self.old.spare ≤ self.new.spare + 1 }
         ensures err_spare { OnErr result (self.old.spare ≤ self.new.spare) }
         ensures known_spare { has_op self.old.ops op ≡ true → self.new.spare ≡ self.old.spare }
-
-        // Whatever the outcome.
         ensures order { KeepsOrder self.old.ops self.new.ops }
     {
         match self.put(op) {
@@ -437,7 +435,8 @@ impl<Q: Sequence> Replica<Q> {
 
     /// Takes in the operations of a list, one after the other, up to the first that is refused: `Full` comes exactly
     /// where 1,048,576 operations are held and the next is not among them. None is refused where all can be held, there is
-    /// room for as many, and none forks a stamp.
+    /// room for as many, and none forks a stamp. Elements that are shown before and after keep their order, whatever the
+    /// outcome.
     pub fn take_all(&mut self, ops: &[Op]) -> Result<Count, Stopped>
         requires { All IsLawful ops.now }
         ensures site { self.new.site ≡ self.old.site }
@@ -461,7 +460,9 @@ impl<Q: Sequence> Replica<Q> {
     /// Takes in the operations of another replica, by stamp and then by bytes, up to the first that is refused: `Full`
     /// comes exactly where 1,048,576 operations are held and the next is not among them. None is refused where all can be
     /// held, there is room for as many, and none forks a stamp. The other is only read. A long list takes memory for both
-    /// sets, where that is to be had.
+    /// sets, where that is to be had. Elements that are shown before and after keep their order, whatever the outcome, and
+    /// so do those that the other shows, where the merge succeeds; where no stamp of the union is forked, its path order is
+    /// one total order in which stands what both showed and what is shown after.
     pub fn merge(&mut self, other: &Replica<Q>) -> Result<Count, Stopped>
         ensures site { self.new.site ≡ self.old.site }
         ensures ok { OnOk result (self.new.ops ≡ union self.old.ops other.now.ops) }

@@ -10,6 +10,8 @@ mod full;
 #[cfg(test)]
 mod growths;
 #[cfg(test)]
+mod kept;
+#[cfg(test)]
 mod listed;
 #[cfg(test)]
 mod long;

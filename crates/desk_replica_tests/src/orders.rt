@@ -8,7 +8,7 @@ use desk_seq::{Flat, Sequence};
 use std::alloc::Global;
 use std::test::Fail;
 
-fn next(seed: u64) -> u64 {
+pub fn next(seed: u64) -> u64 {
     seed.wrapping_mul(6_364_136_223_846_793_005)
         .wrapping_add(1_442_695_040_888_963_407)
 }
@@ -180,7 +180,7 @@ fn random_op(seed: u64) -> Op {
 }
 
 /// Operations at random, some of them twice and some of one stamp.
-fn random_ops(alloc: Global, seed: u64) -> Result<Vec<Op>, NoMemory> {
+pub fn random_ops(alloc: Global, seed: u64) -> Result<Vec<Op>, NoMemory> {
     let mut ops = Vec::new(alloc);
     let mut seed = seed;
     for _ in 0..16u32 {
