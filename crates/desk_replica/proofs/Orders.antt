@@ -1,7 +1,7 @@
 -- Elements that two sets show keep their order, and one order holds what the parts of a set without forks show.
 use Rattle.std.proofs.Common.{◌≡◌, ℕ, zero, suc, ◌<◌, Bool, true, false, not, cond, List, [], ◌∷◌, ◌++◌, reverse, map, refl, sym, ap, ◌∙◌, subst, subst₂, ◌⊎◌, inl, inr, arith}
 use Rattle.std.specs.List.{filter}
-use Rattle.std.specs.Ordering.{ordering_reverse, is_lt}
+use Rattle.std.specs.Ordering.{ordering_reverse}
 use Rattle.std.specs.declared.cmp.Ordering.{Ordering}
 use Rattle.std.specs.declared.cmp.Ordering.TheVariants.{Less, Equal, Greater}
 use Rattle.std.proofs.lemmas.Bool.{true≢false}
@@ -12,7 +12,7 @@ use Rattle.desk_ops.specs.Op.{Insertion, stamp_of, IsLawful}
 use Rattle.desk_ops.specs.OpSet.{OpSet, has_op, in_order, IsWithin, AllLawful}
 use Rattle.desk_ops.specs.Lists.{Among, Precedes}
 use Rattle.desk_ops.specs.Held.{bearing, is_one, is_more, is_clear, is_forked, is_clear_in, live_inserts, live_inserts_of, IsUnforked}
-use Rattle.desk_ops.specs.Live.{insert_of, IsClearOp, IsOfLiveInsert, IsLiveOp}
+use Rattle.desk_ops.specs.Live.{insert_of, IsOfLiveInsert, IsLiveOp}
 use Rattle.desk_ops.specs.Walk.{walk, walk_of}
 use Rattle.desk_ops.specs.PathOrder.{path_of, path_cmp, InPathOrder}
 use Rattle.desk_ops.specs.Shown.{is_deleted, shown, shown_of}

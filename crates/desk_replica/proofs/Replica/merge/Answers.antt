@@ -1,4 +1,4 @@
-use Rattle.std.proofs.Common.{◌≡◌, ◌∙◌, ap, subst}
+use Rattle.std.proofs.Common.{◌∙◌, ap, subst}
 use Rattle.desk_ops.specs.OpSet.{in_order, AllLawful}
 use Rattle.desk_replica.proofs.Merges.{merge-order, merge-other, merge-one}
 use Rattle.desk_replica.proofs.Replica.merge.Goals as goal
