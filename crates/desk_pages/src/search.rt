@@ -30,8 +30,8 @@ pub trait Pick<T: Copy, S: Summary<T>> {
     }
 }
 
-/// The n-th from a place on in one page, or how many are wanting.
-pub fn nth_in<T: Copy, S: Summary<T>, P: Pick<T, S>>(
+/// The n-th from a place on in one page, entry by entry, or how many are wanting.
+fn nth_by_one<T: Copy, S: Summary<T>, P: Pick<T, S>>(
     items: &[T],
     from: usize,
     pick: &P,
@@ -51,6 +51,51 @@ pub fn nth_in<T: Copy, S: Summary<T>, P: Pick<T, S>>(
         }
     }
     Err(left)
+}
+
+/// How many are picked from one place of a page up to another.
+fn count_between<T: Copy, S: Summary<T>, P: Pick<T, S>>(
+    items: &[T],
+    from: usize,
+    to: usize,
+    pick: &P,
+) -> usize
+    requires order { from ≤ to }
+    requires within { to ≤ length items.now }
+    ensures { count_by (P.picked pick.now) (take from items.now) + result ≡ count_by (P.picked pick.now) (take to items.now) }
+{
+    let mut count: usize = 0;
+    for j in from..to {
+        count += pick.picks(items[j]) as usize;
+    }
+    count
+}
+
+/// So many entries are counted before one of them is looked at.
+const STRIDE: usize = 16;
+
+/// The n-th from a place on in one page, or how many are wanting: strides that do not reach it are counted.
+pub fn nth_in<T: Copy, S: Summary<T>, P: Pick<T, S>>(
+    items: &[T],
+    from: usize,
+    pick: &P,
+    n: usize,
+) -> Result<usize, usize>
+    requires { from ≤ length items.now }
+    ensures found { IfOk result (λ place. IsNth (P.picked pick.now) items.now from n place) }
+    ensures short { IfErr result (λ left. IsShort (P.picked pick.now) items.now from n left) }
+{
+    let mut left = n;
+    let mut at = from;
+    while left > 0 && items.len() - at >= STRIDE {
+        let count = count_between(items, at, at + STRIDE, pick);
+        if count > left {
+            break;
+        }
+        left -= count;
+        at += STRIDE;
+    }
+    nth_by_one(items, at, pick, left)
 }
 
 /// The n-th of one page, or how many are wanting.
