@@ -95,7 +95,7 @@ impl<T: Copy, S: Summary<T>, A: Allocator + Copy> Pages<T, S, A> {
         requires { i < length self.now.entries }
         ensures { result ≡ slice_index_or self.now.entries i result }
     {
-        let (p, j) = pages::locate(&self.pages, &self.groups.starts, i);
+        let (p, j) = pages::locate(&self.pages, &self.groups.starts, self.len, i);
         pages::read(&self.pages, p, j)
     }
 
@@ -105,14 +105,14 @@ impl<T: Copy, S: Summary<T>, A: Allocator + Copy> Pages<T, S, A> {
         ensures is { result.now ≡ take (length result.now) (drop i self.now.entries) }
         ensures some { 0 < length result.now }
     {
-        pages::stretch(&self.pages, &self.groups.starts, i)
+        pages::stretch(&self.pages, &self.groups.starts, self.len, i)
     }
 
     /// The number of the page in which the i-th entry stands. It stays with the page, and is no part of the list.
     pub fn name_at(&self, i: usize) -> usize
         requires { i < length self.now.entries }
     {
-        let (p, _) = pages::locate(&self.pages, &self.groups.starts, i);
+        let (p, _) = pages::locate(&self.pages, &self.groups.starts, self.len, i);
         pages::name_of(&self.pages, p)
     }
 
@@ -160,7 +160,7 @@ impl<T: Copy, S: Summary<T>, A: Allocator + Copy> Pages<T, S, A> {
         ensures set { self.new.entries ≡ slice_set self.old.entries i x }
         ensures spare { self.new.spare ≡ self.old.spare }
     {
-        let (p, j) = pages::locate(&self.pages, &self.groups.starts, i);
+        let (p, j) = pages::locate(&self.pages, &self.groups.starts, self.len, i);
         groups::set(&mut self.pages, &mut self.groups, p, j, x);
     }
 
@@ -172,7 +172,7 @@ impl<T: Copy, S: Summary<T>, A: Allocator + Copy> Pages<T, S, A> {
         ensures spare { self.new.spare + 1 ≡ self.old.spare }
     {
         let count = self.pages.len();
-        let (p, j) = pages::locate_to_end(&self.pages, &self.groups.starts, i);
+        let (p, j) = pages::locate_to_end(&self.pages, &self.groups.starts, self.len, i);
         pages::put(
             &mut self.pages,
             &mut self.free,
@@ -204,7 +204,7 @@ impl<T: Copy, S: Summary<T>, A: Allocator + Copy> Pages<T, S, A> {
         ensures out { result ≡ slice_index_or self.old.entries i result }
         ensures spare { self.old.spare ≤ self.new.spare }
     {
-        let (p, j) = pages::locate(&self.pages, &self.groups.starts, i);
+        let (p, j) = pages::locate(&self.pages, &self.groups.starts, self.len, i);
         let out = pages::take(
             &mut self.pages,
             &mut self.free,
@@ -227,7 +227,7 @@ impl<T: Copy, S: Summary<T>, A: Allocator + Copy> Pages<T, S, A> {
         if from == self.len {
             return Err(n);
         }
-        search::nth(&self.pages, &self.groups, from, pick, n)
+        search::nth(&self.pages, &self.groups, self.len, from, pick, n)
     }
 
     /// The first that is not picked, where those that are picked stand first.

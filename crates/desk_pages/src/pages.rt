@@ -8,17 +8,48 @@ use crate::page::{FULL, HALF, Page, Summary, insert_reserved};
 use crate::starts::{group_before, start_at};
 use std::alloc::{AllocError, Allocator};
 
-/// The page of the i-th entry, and its place there; the number of pages at the end.
+/// The page of the i-th entry and its place there, where that is the last page; the number of pages at the end.
+fn locate_last<T: Copy, S: Summary<T>, A: Allocator>(
+    pages: &[Page<T, S, A>],
+    len: usize,
+    i: usize,
+) -> Option<(usize, usize)>
+    requires len { len ≡ length (joined pages.now) }
+    requires within { i ≤ length (joined pages.now) }
+    ensures spot { IfSome result (λ s. IsSpotOrEnd pages.now s.0 s.1) }
+    ensures is { IfSome result (λ s. i ≡ start_of pages.now s.0 + s.1) }
+{
+    let count = pages.len();
+    if i == len {
+        return Some((count, 0));
+    }
+    if count == 0 {
+        return None;
+    }
+    let start = len - pages[count - 1].len();
+    if i < start {
+        None
+    } else {
+        Some((count - 1, i - start))
+    }
+}
+
+/// The page of the i-th entry, and its place there; the number of pages at the end. The last page is looked at first.
 pub fn locate_to_end<T: Copy, S: Summary<T>, A: Allocator>(
     pages: &[Page<T, S, A>],
     starts: &[usize],
+    len: usize,
     i: usize,
 ) -> (usize, usize)
+    requires len { len ≡ length (joined pages.now) }
     requires within { i ≤ length (joined pages.now) }
     requires starts { IsStarts pages.now starts.now }
     ensures spot { IsSpotOrEnd pages.now result.0 result.1 }
     ensures is { i ≡ start_of pages.now result.0 + result.1 }
 {
+    if let Some(spot) = locate_last(pages, len, i) {
+        return spot;
+    }
     let (first, before) = group_before(pages, starts, i);
     let mut left = i - before;
     let mut p = first;
@@ -33,13 +64,15 @@ pub fn locate_to_end<T: Copy, S: Summary<T>, A: Allocator>(
 pub fn locate<T: Copy, S: Summary<T>, A: Allocator>(
     pages: &[Page<T, S, A>],
     starts: &[usize],
+    len: usize,
     i: usize,
 ) -> (usize, usize)
+    requires len { len ≡ length (joined pages.now) }
     requires within { i < length (joined pages.now) }
     requires starts { IsStarts pages.now starts.now }
     ensures { IsSpot pages.now i result.0 result.1 }
 {
-    locate_to_end(pages, starts, i)
+    locate_to_end(pages, starts, len, i)
 }
 
 /// The j-th entry of page p.
@@ -216,14 +249,16 @@ pub fn put<T: Copy, S: Summary<T>, A: Allocator>(
 pub fn stretch<'a, T: Copy, S: Summary<T>, A: Allocator>(
     pages: &'a [Page<T, S, A>],
     starts: &[usize],
+    len: usize,
     i: usize,
 ) -> &'a [T]
+    requires len { len ≡ length (joined pages.now) }
     requires within { i < length (joined pages.now) }
     requires starts { IsStarts pages.now starts.now }
     ensures is { result.now ≡ take (length result.now) (drop i (joined pages.now)) }
     ensures some { 0 < length result.now }
 {
-    let (p, j) = locate(pages, starts, i);
+    let (p, j) = locate(pages, starts, len, i);
     let (_, tail) = pages[p].items().split_at(j);
     tail
 }

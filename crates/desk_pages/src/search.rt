@@ -188,17 +188,19 @@ fn nth_from<T: Copy, S: Summary<T>, A: Allocator, P: Pick<T, S>>(
 pub fn nth<T: Copy, S: Summary<T>, A: Allocator, P: Pick<T, S>>(
     pages: &[Page<T, S, A>],
     groups: &Groups<S, A>,
+    len: usize,
     from: usize,
     pick: &P,
     n: usize,
 ) -> Result<usize, usize>
+    requires len { len ≡ length (joined pages.now) }
     requires within { from < length (joined pages.now) }
     requires groups { IsGroups S.tells pages.now groups.now.starts.items groups.now.sums.items }
     requires fits { length (joined pages.now) < 2 ^ 64 }
     ensures found { IfOk result (λ place. IsNth (P.picked pick.now) (joined pages.now) from n place) }
     ensures short { IfErr result (λ left. IsShort (P.picked pick.now) (joined pages.now) from n left) }
 {
-    let (p, j) = locate(pages, &groups.starts, from);
+    let (p, j) = locate(pages, &groups.starts, len, from);
     if j == 0 {
         return nth_from(pages, groups, p, from, pick, n);
     }
