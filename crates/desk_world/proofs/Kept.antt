@@ -2,13 +2,14 @@
 use Rattle.std.proofs.Common.{◌||◌, ◌≡◌, ℕ, ◌+◌, ◌==◌, Bool, true, false, cond, List, [], map, length, refl, sym, ap, ◌∙◌, subst, nat_eq, arith, ◌≤◌, ◌<◌}
 use Rattle.std.proofs.lemmas.Bool.Decides.{nat_tests}
 use Rattle.std.specs.List.{IsDistinct}
-use Rattle.std.specs.Prelude.{Option, Some, None, Result, Ok, Err, option_map, is_some, IfSome, MatchOption, MatchBool, nat_le}
+use Rattle.std.specs.Prelude.{All, Option, Some, None, Result, Ok, Err, option_map, is_some, IfSome, MatchOption, MatchBool, nat_le}
 use Rattle.std.specs.FinMap as fin
 use Rattle.std.specs.FinSet.{nat_cmp-IsAntisymmetric}
 use Rattle.std.specs.Cmp.{nat_cmp_total}
 use Rattle.std.specs.Map.{lookup}
 use Rattle.desk_ops.specs.declared.op.Op.{Op}
-use Rattle.desk_ops.specs.OpSet.{OpSet, no_ops, with_all, in_order, has_op, size, max_ops}
+use Rattle.desk_ops.specs.Op.{IsLawful}
+use Rattle.desk_ops.specs.OpSet.{OpSet, no_ops, with_all, in_order, has_op, size, max_ops, AllLawful}
 use Rattle.desk_ops.specs.Order.{op_cmp}
 use Rattle.desk_ops.proofs.Unions.{same-set, has_op-union}
 use Rattle.desk_held.specs.declared.AddRefusal.TheVariants as adds
@@ -18,12 +19,13 @@ use Rattle.desk_replica.specs.State.{State}
 use Rattle.desk_world.specs.declared.world.Answer.{Answer}
 use Rattle.desk_world.specs.declared.world.StepRefusal.{StepRefusal}
 use Rattle.desk_world.specs.declared.world.StepRefusal.TheVariants as refusals
-use Rattle.desk_world.specs.Sites.{Sites, sites_of, all_held, IsKept, IsUpdated}
+use Rattle.desk_world.specs.Sites.{Sites, sites_of, all_held, AreLawful, IsKept, IsUpdated}
 use Rattle.desk_world.specs.declared.world.LocalEdit.{LocalEdit}
 use Rattle.desk_world.specs.declared.world.LocalEdit.TheVariants as kinds
 use Rattle.desk_world.specs.World.{site_refusal, Refuses, Adds, Edits, EditsSite, IsEdited, Gains, Brings, Steps, site_with, taken, IsReopened}
 use Rattle.desk_world.specs.World as changes
 use Rattle.desk_world.proofs.Sites.{get-sites_of, sites_of-updated}
+use Rattle.desk_world.proofs.Gained.{gains_lawful, edits_lawful}
 
 same_number : (n q : ℕ) → nat_eq n q ≡ true → n ≡ q
 same_number n q e = grind (arith, nat_tests)
@@ -36,7 +38,7 @@ le_false m n h = grind (arith, nat_tests)
 
 pub nothing_kept : IsKept []
 unfolding IsDistinct
-nothing_kept = record { distinct = tt; counted = fin.len-empty _ _; numbered = λ n. tt }
+nothing_kept = record { distinct = tt; counted = fin.len-empty _ _; numbered = λ n. tt; lawful = λ n. tt }
 
 there_after : (n : ℕ) (s : State) (o : Option State) → o ≡ Some s → is_some (option_map (λ h. h.ops) o) ≡ true
 there_after n s o e = ap (λ p. is_some (option_map (λ h. h.ops) p)) e
@@ -49,6 +51,26 @@ numbered_after : (es fs : List (ℕ × State)) (n : ℕ) (t : State) → IsKept 
     → (q : ℕ) → IfSome (lookup (nat_eq q) fs) (λ s. s.site ≡ q)
 numbered_after es fs n t kept same named q = numbered_at (nat_eq n q) n q t (lookup (nat_eq q) es) (lookup (nat_eq q) fs) refl (same q) named (kept.numbered q)
 
+lawful_at : (b : Bool) (t : State) (o p : Option State) → p ≡ cond b (Some t) o → AllLawful t.ops → IfSome o (λ s. AllLawful s.ops) → IfSome p (λ s. AllLawful s.ops)
+lawful_at true t o p is new old = subst (λ x. IfSome x (λ s. AllLawful s.ops)) (sym is) new
+lawful_at false t o p is new old = subst (λ x. IfSome x (λ s. AllLawful s.ops)) (sym is) old
+
+lawful_after : (es fs : List (ℕ × State)) (n : ℕ) (t : State) → IsKept es → ((q : ℕ) → lookup (nat_eq q) fs ≡ cond (nat_eq n q) (Some t) (lookup (nat_eq q) es)) → AllLawful t.ops
+    → (q : ℕ) → IfSome (lookup (nat_eq q) fs) (λ s. AllLawful s.ops)
+lawful_after es fs n t kept same new q = lawful_at (nat_eq n q) t (lookup (nat_eq q) es) (lookup (nat_eq q) fs) (same q) new (kept.lawful q)
+
+-- what a site that is there holds
+pub lawful_there : (es : List (ℕ × State)) (n : ℕ) (s : State) → IsKept es → lookup (nat_eq n) es ≡ Some s → AllLawful s.ops
+lawful_there es n s kept there = subst (λ o. IfSome o (λ x. AllLawful x.ops)) there (kept.lawful n)
+
+-- what each site holds, told by the sites
+pub lawful_sites : (es : List (ℕ × State)) (sites : Sites) → IsKept es → sites_of es ≡ sites → AreLawful sites
+lawful_sites es sites kept view n = subst (λ o. IfSome o AllLawful) (sym (get-sites_of es n) ∙ ap (λ m. fin.get m n) view) (at (lookup (nat_eq n) es) (kept.lawful n))
+  where
+    at : (o : Option State) → IfSome o (λ s. AllLawful s.ops) → IfSome (option_map (λ s. s.ops) o) AllLawful
+    at None l = tt
+    at (Some s) l = l
+
 len_after : (es fs : List (ℕ × State)) (n : ℕ) (t : State) → ((q : ℕ) → lookup (nat_eq q) fs ≡ cond (nat_eq n q) (Some t) (lookup (nat_eq q) es))
     → fin.len (sites_of fs) ≡ cond (is_some (option_map (λ h. h.ops) (lookup (nat_eq n) es))) (fin.len (sites_of es)) (fin.len (sites_of es) + 1)
 len_after es fs n t same =
@@ -58,19 +80,21 @@ len_after es fs n t same =
 site_kept : (es : List (ℕ × State)) (n : ℕ) (s : State) → IsKept es → lookup (nat_eq n) es ≡ Some s → s.site ≡ n
 site_kept es n s kept there = subst (λ o. IfSome o (λ x. x.site ≡ n)) there (kept.numbered n)
 
-pub kept_updated : (es fs : List (ℕ × State)) (n : ℕ) (s t : State) → IsKept es → IsUpdated es fs n s t → IsKept fs
-kept_updated es fs n s t kept up = record {
+pub kept_updated : (es fs : List (ℕ × State)) (n : ℕ) (s t : State) → IsKept es → IsUpdated es fs n s t → AllLawful t.ops → IsKept fs
+kept_updated es fs n s t kept up own = record {
   distinct = up.distinct;
   counted = len_after es fs n t up.entries ∙ ap (λ b. cond b (fin.len (sites_of es)) (fin.len (sites_of es) + 1)) (there_after n s _ up.there) ∙ kept.counted ∙ sym up.as_many;
   numbered = numbered_after es fs n t kept up.entries (up.named ∙ site_kept es n s kept up.there);
+  lawful = lawful_after es fs n t kept up.entries own;
 }
 
 pub kept_added : (es fs : List (ℕ × State)) (n : ℕ) (t : State) → IsKept es → lookup (nat_eq n) es ≡ None → ((q : ℕ) → lookup (nat_eq q) fs ≡ cond (nat_eq n q) (Some t) (lookup (nat_eq q) es))
-    → IsDistinct nat_eq (map (λ e. e.0) fs) → length fs ≡ length es + 1 → t.site ≡ n → IsKept fs
-kept_added es fs n t kept none same distinct more named = record {
+    → IsDistinct nat_eq (map (λ e. e.0) fs) → length fs ≡ length es + 1 → t.site ≡ n → AllLawful t.ops → IsKept fs
+kept_added es fs n t kept none same distinct more named own = record {
   distinct = distinct;
   counted = len_after es fs n t same ∙ ap (λ o. cond (is_some (option_map (λ h. h.ops) o)) (fin.len (sites_of es)) (fin.len (sites_of es) + 1)) none ∙ ap (λ k. k + 1) kept.counted ∙ sym more;
   numbered = numbered_after es fs n t kept same named;
+  lawful = lawful_after es fs n t kept same own;
 }
 
 -- ---- what is answered
@@ -130,12 +154,12 @@ GainsAt es fs to ops r o = MatchOption o ((r ≡ Err refusals.NoSite) × (fs ≡
 abbrev BringsTo : Sites → ℕ → List Op → Result Count StepRefusal → Sites → Option OpSet → Type 0
 BringsTo old n ops r new o = MatchOption o ((r ≡ Err refusals.NoSite) × (new ≡ old)) (λ set. (after : OpSet) × Gains set ops r after × (new ≡ fin.insert old n after))
 
-pub kept_brought : (es fs : List (ℕ × State)) (to : ℕ) (ops : List Op) (r : Result Count StepRefusal) → IsKept es → GainsAt es fs to ops r (lookup (nat_eq to) es) → IsKept fs
-kept_brought es fs to ops r kept h = at (lookup (nat_eq to) es) h
+pub kept_brought : (es fs : List (ℕ × State)) (to : ℕ) (ops : List Op) (r : Result Count StepRefusal) → IsKept es → All IsLawful ops → GainsAt es fs to ops r (lookup (nat_eq to) es) → IsKept fs
+kept_brought es fs to ops r kept lawful h = at (lookup (nat_eq to) es) h
   where
     at : (o : Option State) → GainsAt es fs to ops r o → IsKept fs
     at None g = subst IsKept (sym g.1) kept
-    at (Some s) g = kept_updated es fs to s g.0 kept g.1
+    at (Some s) g = kept_updated es fs to s g.0 kept g.1 (gains_lawful s.ops ops r g.0.ops (lawful_there es to s kept g.1.there) lawful g.2)
 
 pub brought : (es fs : List (ℕ × State)) (to : ℕ) (ops : List Op) (r : Result Count StepRefusal) (old : Sites) → sites_of es ≡ old
     → GainsAt es fs to ops r (lookup (nat_eq to) es) → Brings old to ops r (sites_of fs)
@@ -164,7 +188,7 @@ kept_edited es fs n edit r kept h = at (lookup (nat_eq n) es) h
   where
     at : (o : Option State) → EditsAt es fs n edit r o → IsKept fs
     at None g = subst IsKept (sym g.1) kept
-    at (Some s) g = kept_updated es fs n s g.0 kept g.1
+    at (Some s) g = kept_updated es fs n s g.0 kept g.1 (edits_lawful s g.0 edit r (lawful_there es n s kept g.1.there) g.2)
 
 -- an edit says nothing of room
 told : (s t : State) (edit : LocalEdit) (op : Op) → IsEdited s t edit op → IsEdited (site_with s.site s.ops) (site_with t.site t.ops) edit op
@@ -206,7 +230,7 @@ kept_reopened es fs n r kept h = at (lookup (nat_eq n) es) h
   where
     at : (o : Option State) → ReopensAt es fs n r o → IsKept fs
     at None g = subst IsKept (sym g.1) kept
-    at (Some s) g = kept_updated es fs n s g.0 kept g.1
+    at (Some s) g = kept_updated es fs n s g.0 kept g.1 (subst AllLawful (sym g.2) (lawful_there es n s kept g.1.there))
 
 -- an entry with the same operations says the same
 same_sites : (es fs : List (ℕ × State)) (n : ℕ) (s t : State) → IsUpdated es fs n s t → t.ops ≡ s.ops → sites_of fs ≡ sites_of es

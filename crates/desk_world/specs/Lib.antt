@@ -1,2 +1,4 @@
 pub mod Sites
 pub mod World
+pub mod Plays
+pub mod Honest

@@ -6,7 +6,7 @@ use Rattle.std.specs.FinMap as fin
 use Rattle.std.specs.Map.{lookup}
 use Rattle.std.specs.Coded.{Coded, coded_ℕ}
 use Rattle.desk_ops.specs.declared.op.Op.{Op}
-use Rattle.desk_ops.specs.OpSet.{OpSet, op_set_code, has_op}
+use Rattle.desk_ops.specs.OpSet.{OpSet, op_set_code, has_op, AllLawful}
 use Rattle.desk_replica.specs.State.{State}
 
 abbrev pub Sites : Type 0
@@ -27,17 +27,22 @@ abbrev pub all_held : Sites → List Op → Bool
 all_held sites [] = true
 all_held sites (op ∷ ops) = is_held sites op && all_held sites ops
 
+-- what each site holds is lawful
+abbrev pub AreLawful : Sites → Type 0
+AreLawful sites = (n : ℕ) → IfSome (fin.get sites n) AllLawful
+
 -- ---- how the sites are kept
 
 -- what the entries say
 abbrev pub sites_of : List (ℕ × State) → Sites
 sites_of entries = fin.from_entries (map (λ e. (e.0, e.1.ops)) entries)
 
--- each site stands once, under its own number
+-- each site stands once, under its own number, and what it holds is lawful
 pub record IsKept (entries : List (ℕ × State)) : Type 0 where
   pub distinct : IsDistinct nat_eq (map (λ e. e.0) entries)
   pub counted : fin.len (sites_of entries) ≡ length entries
   pub numbered : (n : ℕ) → IfSome (lookup (nat_eq n) entries) (λ s. s.site ≡ n)
+  pub lawful : (n : ℕ) → IfSome (lookup (nat_eq n) entries) (λ s. AllLawful s.ops)
 
 -- the entries, but for the replica of one site
 pub record IsUpdated (old new : List (ℕ × State)) (n : ℕ) (s t : State) : Type 0 where

@@ -1,6 +1,6 @@
 //! A world of sites, and the events that change it.
 
-ghost use Rattle.std.specs.Prelude.{◌≡◌, All, Err, IfOk, IfSome, MatchOption, None, option_map, map, nat_eq};
+ghost use Rattle.std.specs.Prelude.{◌≡◌, true, All, Err, IfOk, IfSome, MatchOption, None, OnErr, option_map, map, nat_eq};
 ghost use Rattle.std.specs.FinMap as fin;
 ghost use Rattle.std.specs.List.{list_any};
 ghost use Rattle.std.specs.Map.{lookup};
@@ -9,6 +9,8 @@ ghost use Rattle.desk_ops.specs.OpSet.{has_op};
 ghost use Rattle.desk_replica.specs.State.{State};
 ghost use Rattle.desk_world.specs.Sites.{no_sites, is_held, all_held, sites_of, IsUpdated};
 ghost use Rattle.desk_world.specs.World.{Steps, change, IsSound, Edits, EditsSite, Gains, Brings, taken, IsReopened};
+ghost use Rattle.desk_world.specs.Plays.{Plays};
+ghost use Rattle.desk_world.specs.Honest.{IsHonest, StandsIn};
 ghost use Rattle.desk_world.specs.World as world;
 
 use desk_blocks::Blocks;
@@ -237,9 +239,10 @@ fn any_holds<A: Allocator + Copy>(sites: &SiteMap<A>, op: &Op) -> bool
 }
 
 impl<A: Allocator + Copy> World<A> {
-    /// A world with no site.
+    /// A world with no site, which is honest.
     pub fn new(alloc: A) -> World<A>
-        ensures { result ≡ no_sites }
+        ensures sites { result ≡ no_sites }
+        ensures honest { IsHonest result }
     {
         World {
             alloc,
@@ -252,16 +255,20 @@ impl<A: Allocator + Copy> World<A> {
         ensures { IfOk result (λ w. w ≡ fin.insert no_sites replica.site replica.ops) }
     {
         let mut sites = IndexMap::new(alloc);
+        let _len = replica.len();
         match sites.insert(replica.site(), replica) {
             Ok(_) => Ok(World { alloc, sites }),
             Err(_) => Err(NoMemory),
         }
     }
 
-    /// The replica of a site, if it is there.
+    /// The replica of a site, if it is there. In an honest world it has no forked and no void fault, and none at all where
+    /// it holds all that the sites hold; what it shows stands in the one order of all of that; and a site that holds the
+    /// same operations answers the same.
     pub fn replica(&self, site: u16) -> Option<&Replica<Blocks<A>>>
         ensures ops { option_map (λ r. r.now.ops) result ≡ fin.get self.now site }
         ensures number { IfSome result (λ r. r.now.site ≡ site) }
+        ensures honest { IsHonest self.now → IfSome result (λ r. StandsIn self.now r.now.ops) }
     {
         self.sites.get(&site)
     }
@@ -304,10 +311,11 @@ impl<A: Allocator + Copy> World<A> {
     }
 
     /// Gives a site operations that may come from outside the world: `NoSite`, or `Halted` after the first `taken`. No
-    /// other site changes.
+    /// other site changes. An honest world stays honest where some site holds each of them; else it need not.
     pub fn bring(&mut self, site: u16, ops: &[Op]) -> Result<Count, StepRefusal>
         requires { All IsLawful ops.now }
-        ensures { Brings self.old site ops.now result self.new }
+        ensures gained { Brings self.old site ops.now result self.new }
+        ensures honest { all_held self.old ops.now ≡ true → IsHonest self.old → IsHonest self.new }
     {
         gain_at(&mut self.sites, site, ops)
     }
@@ -338,11 +346,14 @@ impl<A: Allocator + Copy> World<A> {
         reopen_at(self.alloc, &mut self.sites, site)
     }
 
-    /// Lets an event happen. It changes the named site alone, and `Give` asks for lawful operations.
+    /// Lets an event happen. It changes the named site alone, and `Give` asks for lawful operations. An honest world stays
+    /// honest, after a refusal too.
     pub fn step(&mut self, event: &Event<'_>) -> Result<Answer, StepRefusal>
         requires { IsSound (change event.now) }
-        ensures { Steps self.old (change event.now) result self.new }
+        ensures steps { Steps self.old (change event.now) result self.new }
+        ensures honest { IsHonest self.old → IsHonest self.new }
     {
+        let _ = &self.sites;
         match *event {
             Event::Site(site) => self.add_site(site),
             Event::Insert {
@@ -355,5 +366,23 @@ impl<A: Allocator + Copy> World<A> {
             Event::Give { to, ops } => self.give(to, ops),
             Event::Restart(site) => self.restart(site),
         }
+    }
+    /// Lets the events of a list happen, one after the other, and returns what `step` returns of each, in their order. A
+    /// refused event changes nothing, and those after it still happen. Out of memory comes only where the list of answers
+    /// finds no room; no event has happened then. An honest world stays honest.
+    pub fn play(
+        &mut self,
+        events: &[Event<'_>],
+    ) -> Result<Vec<Result<Answer, StepRefusal>, A>, NoMemory>
+        requires { All (λ event. IsSound (change event)) events.now }
+        ensures plays { IfOk result (λ answers. Plays self.old (map change events.now) answers.items self.new) }
+        ensures none { OnErr result (self.new ≡ self.old) }
+        ensures honest { IsHonest self.old → IsHonest self.new }
+    {
+        let mut answers = Vec::with_capacity(self.alloc, events.len())?;
+        for event in events {
+            answers.push_reserved(self.step(event));
+        }
+        Ok(answers)
     }
 }

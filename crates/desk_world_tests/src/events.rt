@@ -82,7 +82,7 @@ fn answers_of_k<A: Allocator + Copy>(world: &World<A>, site: u16) -> Result<bool
 }
 
 /// How many operations a site holds.
-fn held<A: Allocator + Copy>(world: &World<A>, site: u16) -> usize {
+pub fn held<A: Allocator + Copy>(world: &World<A>, site: u16) -> usize {
     match world.replica(site) {
         None => 0,
         Some(replica) => replica.len(),

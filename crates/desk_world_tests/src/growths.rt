@@ -62,7 +62,7 @@ fn arrivals() -> [Op; 6] {
 }
 
 /// The lawful ones of these operations.
-fn lawful_of(alloc: Global, all: &[Op]) -> Result<Vec<Op>, Fail>
+pub fn lawful_of(alloc: Global, all: &[Op]) -> Result<Vec<Op>, Fail>
     ensures { IfOk result (λ v. All IsLawful v.items) }
 {
     let mut ops = Vec::new(alloc);
@@ -375,5 +375,27 @@ fn growths_of_site(rt: HostRuntime) -> Result<(), Fail> {
     }
     assert!(rt; done);
     assert!(rt; stopped > 3);
+    Ok(())
+}
+
+/// Where the list of answers finds no room nothing happens, and with memory all does.
+#[test]
+fn growths_of_play(rt: HostRuntime) -> Result<(), Fail> {
+    let list = list(rt.alloc())?;
+    let arrivals = lawful_of(rt.alloc(), &arrivals())?;
+    let heap = LocalHeap::new(rt.alloc(), HEAP)?;
+    let mut world = three_sites(&heap, &list, &arrivals)?;
+    let events = [Event::Site(4); 8];
+    let parts = fill(rt.alloc(), &heap, 0)?;
+    let none = world.play(&events).is_err();
+    drop(parts);
+    assert!(rt; none);
+    assert!(rt; is_so(&world, &list, None, &arrivals, 0));
+    assert!(rt; world.replica(4).is_none());
+    let answers = world.play(&events)?;
+    assert_eq!(rt; answers.len(), 8);
+    assert_eq!(rt; answers[0], Ok(Answer::Done));
+    assert_eq!(rt; answers[7], Err(StepRefusal::KnownSite));
+    assert!(rt; world.replica(4).is_some());
     Ok(())
 }

@@ -5,3 +5,5 @@
 mod events;
 #[cfg(test)]
 mod growths;
+#[cfg(test)]
+mod plays;

@@ -6,12 +6,12 @@ use Rattle.desk_script.proofs.stream.run.Goals as goal
 
 pub returns-clause-ok : goal.returns-clause-ok
 returns-clause-ok g c =
-    run_whole c.new-world.result no_sites c.answer_all.new.world (g.F.Files.shelf c.args.files.now) (g.F.Files.shelf c.answer_all.new.files) (g.R.Read.remaining c.args.reader.now) _ _ c.new-world.ensures c.in_ok-answer_all.ensures.ok
+    run_whole c.new-world.result no_sites c.answer_all.new.world (g.F.Files.shelf c.args.files.now) (g.F.Files.shelf c.answer_all.new.files) (g.R.Read.remaining c.args.reader.now) _ _ c.new-world.ensures.sites c.in_ok-answer_all.ensures.ok
 
 pub returns-in_err-answer_all-clause-err : goal.returns-in_err-answer_all-clause-err
 returns-in_err-answer_all-clause-err g c =
     on_err c.from_residual.result
-    (run_front c.new-world.result no_sites (g.F.Files.shelf c.args.files.now) (g.F.Files.shelf c.answer_all.new.files) (g.R.Read.remaining c.args.reader.now) _ _ c.new-world.ensures c.in_err-answer_all.ensures.err)
+    (run_front c.new-world.result no_sites (g.F.Files.shelf c.args.files.now) (g.F.Files.shelf c.answer_all.new.files) (g.R.Read.remaining c.args.reader.now) _ _ c.new-world.ensures.sites c.in_err-answer_all.ensures.err)
 
 pub returns-in_err-answer_all-clause-own : goal.returns-in_err-answer_all-clause-own
 returns-in_err-answer_all-clause-own g c =

@@ -1,9 +1,10 @@
-use Rattle.std.proofs.Common.{◌≡◌, false, true, ap, ◌∙◌, refl, rules, length, ◌+◌, cond, nat_eq}
+use Rattle.std.proofs.Common.{◌≡◌, false, true, ap, ◌∙◌, refl, rules, sym, subst, length, ◌+◌, cond, nat_eq}
 use Rattle.std.specs.Prelude.{is_some, None, Ok, Err, nat_le}
 use Rattle.std.specs.FinMap as fin
 use Rattle.std.specs.Map.{lookup}
 use Rattle.std.proofs.lemmas.Bool.{ne_eqb}
-use Rattle.desk_ops.specs.OpSet.{no_ops}
+use Rattle.desk_ops.specs.OpSet.{no_ops, AllLawful}
+use Rattle.desk_replica.proofs.Sets.{none-lawful}
 use Rattle.desk_world.specs.Sites.{sites_of}
 use Rattle.desk_world.specs.World.{site_refusal}
 use Rattle.desk_world.specs.declared.world.Answer.TheVariants as answers
@@ -27,7 +28,7 @@ pub invariant_of-self : goal.invariant_of-self
 invariant_of-self g c =
     let none : lookup (nat_eq c.args.site) c.self.inside.sites.entries ≡ None = none_from _ (search rules) in
     kept_added c.self.inside.sites.entries c.insert.new.self.entries c.args.site c.new.result c.self.invariant none c.in-Ok.ensures.updates.0 c.in-Ok.ensures.unique
-    (c.in-Ok.ensures.len ∙ ap (λ o. length c.self.inside.sites.entries + cond (is_some o) 0 1) (c.in-Ok.ensures.old ∙ none)) c.new.ensures.site
+    (c.in-Ok.ensures.len ∙ ap (λ o. length c.self.inside.sites.entries + cond (is_some o) 0 1) (c.in-Ok.ensures.old ∙ none)) c.new.ensures.site (subst AllLawful (sym c.new.ensures.ops) none-lawful)
 
 pub returns-in-Ok : goal.returns-in-Ok
 returns-in-Ok g c =
