@@ -14,7 +14,7 @@ use Rattle.desk_ops.specs.Op.{stamp_of, target_of, IsLawful, Insertion}
 use Rattle.desk_ops.specs.OpSet.{OpSet, has_op, in_order, IsWithin, AllLawful}
 use Rattle.desk_ops.specs.Lists.{Among}
 use Rattle.desk_ops.specs.Held.{bearing, is_one, is_more, is_clear, is_forked, is_clear_in, is_borne_in, is_forked_in, clear_inserts_of, live_inserts_of, IsUnforked}
-use Rattle.desk_ops.specs.Live.{insert_of, IsClearOp, IsOfLiveInsert, HangsOnLive, IsLiveOp}
+use Rattle.desk_ops.specs.Live.{insert_of, IsClearOp, IsOfLiveInsert, IsLiveOp}
 use Rattle.desk_ops.specs.Shown.{is_deleted_in, shown, shown_of}
 use Rattle.desk_ops.specs.Walk.{walk_of}
 use Rattle.desk_ops.specs.Faults.{EndsAt, stops, goes, IsStuck, HasFault, faults_of}
@@ -22,8 +22,8 @@ use Rattle.desk_ops.proofs.Lists.{each-among, each-from_among, among-filter, amo
 use Rattle.desk_ops.proofs.Stamps.{same-from, same-refl, by_cases}
 use Rattle.desk_ops.proofs.Means.{clear_one, not-head}
 use Rattle.desk_ops.proofs.Tree.{walk-live}
-use Rattle.desk_ops.proofs.Ends.{among_held, held_among, insert_from_op, op_from_insert, op_from_live, live_from_op}
-use Rattle.desk_ops.proofs.Bearers.{borne_op, op_borne, forked_two}
+use Rattle.desk_ops.proofs.Ends.{among_held, insert_from_op, op_from_insert, op_from_live, live_from_op}
+use Rattle.desk_ops.proofs.Bearers.{borne_op, forked_two}
 use Rattle.desk_ops.proofs.Stuck.{fault_listed}
 use Rattle.desk_ops.proofs.Joined.{same_bool}
 use Rattle.desk_ops.proofs.Unions.{same-set}

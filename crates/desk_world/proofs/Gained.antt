@@ -1,5 +1,5 @@
 -- Sets that gained operations: what they hold, and that it is lawful.
-use Rattle.std.proofs.Common.{◌≡◌, ℕ, zero, suc, true, ◌||◌, false, Bool, List, [], ◌∷◌, take, refl, sym, ap, ◌∙◌, subst, ◌⊎◌, inl, inr}
+use Rattle.std.proofs.Common.{◌≡◌, ℕ, zero, suc, true, ◌||◌, List, [], ◌∷◌, take, sym, ap, ◌∙◌, subst, ◌⊎◌, inl, inr}
 use Rattle.std.specs.Prelude.{All, Result, Ok, Err}
 use Rattle.std.specs.List.{list_any}
 use Rattle.std.specs.Ordering.{eq_by_cmp}

@@ -1,12 +1,11 @@
 -- Honest worlds stay honest.
-use Rattle.std.proofs.Common.{◌≡◌, ℕ, ◌+◌, ◌<◌, ◌≤◌, Bool, true, false, List, [], ◌∷◌, refl, sym, ap, ◌∙◌, subst, ◌⊎◌, inl, inr, Some, None, arith}
+use Rattle.std.proofs.Common.{◌≡◌, ℕ, ◌+◌, ◌≤◌, true, sym, ap, ◌∙◌, subst, ◌⊎◌, inl, inr, Some, arith}
 use Rattle.std.specs.FinMap as fin
-use Rattle.std.specs.Option.{is_some, unwrap_or}
-use Rattle.std.proofs.lemmas.Bool.{true≢false}
+use Rattle.std.specs.Option.{unwrap_or}
 use Rattle.desk_ops.specs.declared.op.Stamp.{Stamp}
 use Rattle.desk_ops.specs.declared.op.Op.{Op}
 use Rattle.desk_ops.specs.Stamp.{head}
-use Rattle.desk_ops.specs.Op.{stamp_of, target_of, IsLawful, Insertion}
+use Rattle.desk_ops.specs.Op.{stamp_of, target_of, IsLawful}
 use Rattle.desk_ops.specs.OpSet.{OpSet, has_op, with_op, in_order, IsWithin, AllLawful}
 use Rattle.desk_ops.specs.Lists.{Among}
 use Rattle.desk_ops.specs.Held.{greatest_counter_of, IsUnforked}

@@ -1,6 +1,6 @@
 -- What events leave of an honest world, and what it says of a site.
 use Rattle.std.proofs.Common.{◌≡◌, ℕ, zero, suc, ◌==◌, Bool, true, false, ◌&&◌, List, [], ◌∷◌, refl, sym, ap, ◌∙◌, subst, ◌⊎◌, inl, inr}
-use Rattle.std.specs.Prelude.{All, Option, Some, None, Result, Ok, Err, MatchOption, MatchBool, MatchResult, IfSome, option_map, nat_le}
+use Rattle.std.specs.Prelude.{Option, Some, None, Result, Ok, Err, MatchOption, MatchBool, IfSome, option_map}
 use Rattle.std.specs.Option.{is_some, unwrap_or}
 use Rattle.std.specs.Borrow.{Bor}
 use Rattle.std.specs.FinMap as fin
@@ -8,7 +8,6 @@ use Rattle.std.specs.Ordering.{nat_cmp}
 use Rattle.std.proofs.lemmas.Bool.{true≢false}
 use Rattle.desk_ops.specs.declared.op.Stamp.{Stamp}
 use Rattle.desk_ops.specs.declared.op.Op.{Op}
-use Rattle.desk_ops.specs.declared.op.Op.TheVariants.{Insert, Delete, Set}
 use Rattle.desk_ops.specs.Stamp.{head}
 use Rattle.desk_ops.specs.Op.{stamp_of, target_of, IsLawful}
 use Rattle.desk_ops.specs.Order.{op_cmp}
@@ -22,8 +21,7 @@ use Rattle.desk_ops.proofs.One.{one_order}
 use Rattle.desk_ops.proofs.Parts.{one_unforked, place_live, waits, whole}
 use Rattle.desk_replica.specs.declared.Count.{Count}
 use Rattle.desk_replica.specs.State.{State}
-use Rattle.desk_replica.specs.Edits.{new_stamp, new_insert, parent_at, stamp_at}
-use Rattle.desk_replica.specs.Laws.{Convergence}
+use Rattle.desk_replica.specs.Edits.{new_stamp, parent_at, stamp_at}
 use Rattle.desk_replica.proofs.Convergence.{convergence}
 use Rattle.desk_world.specs.declared.world.Answer.{Answer}
 use Rattle.desk_world.specs.declared.world.StepRefusal.{StepRefusal}

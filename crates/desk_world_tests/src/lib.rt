@@ -7,3 +7,5 @@ mod events;
 mod growths;
 #[cfg(test)]
 mod plays;
+#[cfg(test)]
+mod random;

@@ -1,4 +1,4 @@
-use Rattle.std.proofs.Common.{◌≡◌, ◌+◌, ◌∙◌, sym, ap, subst, map, take, arith}
+use Rattle.std.proofs.Common.{◌+◌, ◌∙◌, sym, ap, subst, map, take, arith}
 use Rattle.desk_world.specs.World.{change}
 use Rattle.desk_world.specs.Plays.{Plays}
 use Rattle.desk_world.proofs.Played.{plays_on}
