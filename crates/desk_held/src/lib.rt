@@ -146,8 +146,8 @@ impl<A: Allocator + Copy> Held<A> {
         Ok(if forks { Added::Forks } else { Added::New })
     }
 
-    /// Adds an operation that is not held, where there is room for it.
-    fn put(&mut self, op: Op)
+    /// Adds an operation that is not held, where there is room for it. No memory is taken.
+    pub fn put(&mut self, op: Op)
         requires lawful { IsLawful op }
         requires absent { has_op self.old.ops op ≡ false }
         requires below { size self.old.ops < LIMIT }

@@ -1,4 +1,5 @@
 pub mod Sets
+pub mod Known
 pub mod Searches
 pub mod Passes
 pub mod Shows

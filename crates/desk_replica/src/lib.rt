@@ -133,19 +133,12 @@ fn reserve_all<Q: Sequence>(
     Ok(())
 }
 
-/// Adds an operation for which there is room.
-fn add_one<A: Allocator + Copy>(held: &mut Held<A>, op: Op)
-    requires lawful { IsLawful op }
-    requires below { size held.old.ops < LIMIT }
-    requires spare { 1 ≤ held.old.spare }
-    ensures ops { held.new.ops ≡ with_op held.old.ops op }
-    ensures spare { held.old.spare ≤ held.new.spare + 1 }
+/// Whether the operation is held: looked for only where its stamp is borne.
+fn is_known<A: Allocator + Copy>(held: &Held<A>, op: &Op, is_borne: bool) -> bool
+    requires { is_borne ≡ is_borne_in held.now.ops (stamp_of op.now) }
+    ensures { result ≡ has_op held.now.ops op.now }
 {
-    match held.add(op) {
-        Ok(_) => {}
-        Err(AddRefusal::Full) => prove!(false),
-        Err(AddRefusal::NoMemory) => prove!(false),
-    }
+    is_borne && held.has(op)
 }
 
 /// Adds the symbols of the entries that are shown.
@@ -277,7 +270,7 @@ impl<Q: Sequence> Replica<Q> {
         ensures ops { self.new.ops ≡ with_op self.old.ops op }
         ensures spare { self.old.spare ≤ self.new.spare + 1 }
     {
-        add_one(&mut self.held, op);
+        self.held.put(op);
         keep(&mut self.registers, &op);
         let near = place.unwrap_or(self.near);
         self.near = enter(&mut self.sequence, &mut self.room, op, near);
@@ -340,13 +333,14 @@ impl<Q: Sequence> Replica<Q> {
         ensures known_spare { has_op self.old.ops op ≡ true → self.new.spare ≡ self.old.spare }
         ensures lawful { AllLawful self.old.ops }
     {
-        if self.held.has(&op) {
+        let is_borne = self.held.holds(op.stamp());
+        if is_known(&self.held, &op, is_borne) {
             return Ok(Took::Known);
         }
         if self.held.len() == LIMIT {
             return Err(AddRefusal::Full);
         }
-        if self.held.holds(op.stamp()) {
+        if is_borne {
             return if self.join(&[op]) {
                 Ok(Took::New)
             } else {

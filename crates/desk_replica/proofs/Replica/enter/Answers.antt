@@ -5,8 +5,12 @@ use Rattle.desk_ops.specs.Held.{is_borne_in}
 use Rattle.desk_registers.specs.Registers.{kept}
 use Rattle.desk_replica.specs.Shows.{spare_of}
 use Rattle.desk_replica.proofs.KeptSets.{other-new}
+use Rattle.desk_replica.proofs.Known.{not_known}
 use Rattle.desk_replica.proofs.Sound.{arrival, sound-more, spare-parts}
 use Rattle.desk_replica.proofs.Replica.enter.Goals as goal
+
+pub put-requires-clause-absent : goal.put-requires-clause-absent
+put-requires-clause-absent g c = not_known c.self.inside.held.ops c.args.op (ap (λ s. is_borne_in s.ops (stamp_of c.args.op)) c.self.view_is ∙ c.requires.new)
 
 pub keep-requires : goal.keep-requires
 keep-requires g c = other-new c.self.inside.held.ops c.args.op (ap (λ s. is_borne_in s.ops (stamp_of c.args.op)) c.self.view_is ∙ c.requires.new) (kept c.self.inside.registers) c.self.invariant.settings
@@ -30,7 +34,7 @@ invariant_of-self g c =
     let parts = spare-parts 1 c.self.inside.held.spare c.self.inside.room.spare free w c.self.invariant.fits s in
     let below : size w < free = omega (arith, parts.2) in
     sound-more c.self.inside.site h c.args.op c.self.inside.registers es w free c.self.invariant c.requires.lawful new
-    c.add_one.new.held.ops c.keep.new.registers (g.Q.Sequence.entries c.enter-self-inside.new.sequence) c.enter-self-inside.new.room.ops (g.Q.Sequence.free c.enter-self-inside.new.sequence)
-    c.add_one.ensures.ops c.keep.ensures
+    c.put.new.self.ops c.keep.new.registers (g.Q.Sequence.entries c.enter-self-inside.new.sequence) c.enter-self-inside.new.room.ops (g.Q.Sequence.free c.enter-self-inside.new.sequence)
+    c.put.ensures.ops c.keep.ensures
     (c.enter-self-inside.ensures.settled h (arrival c.self.inside.site h c.args.op c.self.inside.registers es w free c.self.invariant c.requires.lawful new))
     c.enter-self-inside.ensures.few below c.enter-self-inside.ensures.free
