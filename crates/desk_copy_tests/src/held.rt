@@ -1,7 +1,7 @@
 ghost use Rattle.std.specs.Prelude.{IfOk, All};
 ghost use Rattle.desk_ops.specs.Op.{IsLawful};
 
-use desk_held::{AddRefusal, Added, Halt, Held};
+use desk_held::{AddRefusal, Added, Halt, Held, LIMIT};
 use desk_ops::{Key, NoMemory, Op, Stamp, Style, Symbol};
 use linked_list_allocator::LocalHeap;
 use std::alloc::{Allocator, Global};
@@ -34,6 +34,15 @@ fn add<A: Allocator + Copy>(held: &mut Held<A>, op: Op) -> Result<Result<Added, 
         return Err(Fail::new("an unlawful operation"));
     }
     Ok(held.add(op))
+}
+
+/// Puts a lawful operation that is not held where there is room; whether it could.
+fn put<A: Allocator + Copy>(held: &mut Held<A>, op: Op) -> bool {
+    let can = op.check().is_ok() && !held.has(&op) && held.len() < LIMIT && held.spare() > 0;
+    if can {
+        held.put(op);
+    }
+    can
 }
 
 /// A list in order of so many operations from a counter on, of each second counter.
@@ -111,6 +120,19 @@ fn holds_what_is_added(rt: HostRuntime) -> Result<(), Fail> {
                 && held.is_clear(stamp) == clear.is_some()
         );
     }
+    Ok(())
+}
+
+#[test]
+fn put_needs_no_memory(rt: HostRuntime) -> Result<(), Fail> {
+    let mut held = Held::new(rt.alloc());
+    assert!(rt; !put(&mut held, insert(2)));
+    held.reserve(3)?;
+    let room = held.spare();
+    assert!(rt; put(&mut held, insert(2)) && put(&mut held, FORK) && put(&mut held, insert(1)));
+    assert!(rt; held.spare() >= room.saturating_sub(3) && !put(&mut held, FORK));
+    let row = [insert(1), FORK, insert(2)];
+    assert!(rt; held.in_order()?.as_slice() == row.as_slice());
     Ok(())
 }
 
