@@ -1,4 +1,6 @@
 //! The settings of a job: of each key the value with the greatest stamp.
+//!
+//! Such a register keeps its last value and that value's stamp alone, and takes operations in any order and repeated.
 #![tactic(auto)]
 
 ghost use Rattle.std.specs.Prelude.{◌≡◌, None, option_map};
