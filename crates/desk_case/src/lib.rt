@@ -1,4 +1,7 @@
 //! The matrix case: which symbol each of its cells holds, read from the case's file.
+//!
+//! In the Monotype system the case is moved until the wanted matrix stands over the mould; a row of the ribbon names its
+//! column and its row. The file is TOML; of several faults the first in a fixed order is reported.
 #![tactic(auto)]
 
 pub mod names;

@@ -1,4 +1,7 @@
 //! The operations that a replica holds: a finite set, kept in order.
+//!
+//! It is kept by stamp and then by bytes, the order of a feed, so that equal sets are written alike byte for byte. What is
+//! newest stands last, where a site's own operations are added.
 #![tactic(auto)]
 
 ghost use Rattle.std.specs.Prelude.{◌≡◌, ◌+◌, ◌≤◌, ◌<◌, ◌↔◌, IfOk, OnOk, OnErr, IsErrOf, IsOk, IsTrue, All, true, false, slice_index_or};

@@ -1,4 +1,8 @@
 //! One site's copy: what it holds, what its operations add, and what they show.
+//!
+//! The meaning is that of the set of operations (`desk_ops`); the sequence, the room and the registers follow the set, so
+//! that an edit costs no pass over the copy. What is shown keeps its order for good and at every site: the strong list
+//! specification of Attiya et al. 2016 ("Specification and complexity of collaborative text editing").
 #![tactic(auto)]
 
 ghost use Rattle.std.specs.Prelude.{◌≡◌, ◌+◌, ◌≤◌, ◌<◌, ◌↔◌, ◌⊎◌, ◌++◌, ◌^◌, All, IfOk, IfErr, IfSome, IsNone, IsOk, OnOk, OnErr, IsErrOf, length, take, true, false};

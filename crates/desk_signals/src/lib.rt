@@ -1,4 +1,7 @@
 //! Rows of a controller ribbon and the signals of its 31 channels.
+//!
+//! The signals are those of the Lanston Monotype system: A to N and 1 to 14 for the columns and rows of the matrix case, S
+//! for a justifying space, 0005 and 0075 for the justification wedges. How they lie across the paper is left out.
 #![tactic(auto)]
 
 ghost use Rattle.std.specs.Prelude.{◌≡◌, ℕ, ◌<◌, ◌≤◌, ◌↔◌, IsTrue, SomeIff, IfSome, IfNone, IfOk, MatchOption, false, true, length, [], ◌∷◌};

@@ -1,4 +1,7 @@
 //! A sequence and a room that follow a set of operations.
+//!
+//! RGA (Roh et al. 2011) takes it that what an operation hangs on came before it. Here operations come in any order: one
+//! whose target is not there waits in the room, and an arrival lets out all that waited for it.
 #![tactic(auto)]
 
 ghost use Rattle.std.specs.Prelude.{◌≡◌, ◌+◌, ◌<◌, ◌≤◌, ℕ, false, IfSome, IsNone, IfOk, length};

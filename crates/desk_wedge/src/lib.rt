@@ -1,4 +1,7 @@
 //! The normal wedge: the units of each row of the matrix case, read from the wedge's file.
+//!
+//! In the Monotype system the wedge gives all matrices of a row one width, so how wide a symbol is depends on its row
+//! alone. The file is TOML; of several faults the first in a fixed order is reported.
 #![tactic(auto)]
 
 ghost use Rattle.std.specs.Prelude.{◌≡◌, ◌≢◌, ◌≤◌, Ok, Err, None, IfOk, IfErr, IfSome, option_and_then};
