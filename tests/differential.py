@@ -1,9 +1,12 @@
 #!/usr/bin/env python3
-"""Random scripts through the program and through the independent one beside this file; the answers must be the same.
+"""Scripts through the program and through the independent one beside this file; the answers must be the same.
 
-usage: differential.py PROGRAM [SCRIPTS [SEED]]      all commands; ends with status 1 at the first difference
+usage: differential.py PROGRAM [SCRIPTS [SEED]]      random ones, all commands; ends with status 1 at the first difference
        differential.py PROGRAM --only WORD,WORD ..   some commands alone
+       differential.py PROGRAM --jobs                the directed jobs of jobs.py, which stand at the limits of lines and wedges
+       differential.py PROGRAM --large               one job of over 100,000 symbols
 """
+import multiprocessing
 import os
 import random
 import subprocess
@@ -12,6 +15,7 @@ import tempfile
 
 HERE = os.path.dirname(os.path.abspath(__file__))
 sys.path.insert(0, HERE)
+import jobs
 import oracle
 
 ROWS = [["" for _ in range(15)] for _ in range(15)]
@@ -144,42 +148,100 @@ class Scripts:
         return (text if self.pick.random() < 0.1 else text + "\n").encode("utf-8")
 
 
+def random_script(seed, k, only=None):
+    return Scripts(random.Random(seed * 1000003 + k), only).script()
+
+
 def run(program, script, folder):
-    return subprocess.run([program, "script"], input=script, stdout=subprocess.PIPE, stderr=subprocess.PIPE, cwd=folder, timeout=60)
+    return subprocess.run([program, "script"], input=script, stdout=subprocess.PIPE, stderr=subprocess.PIPE, cwd=folder, timeout=300)
 
 
-def first_difference(script, wanted, got):
+def first_difference(lines, wanted, got):
     for k, (a, b) in enumerate(zip(wanted, got)):
         if a != b:
-            return "answer %d\n wanted %r\n    got %r" % (k + 1, a[:300], b[:300])
+            at = next((i for i, (x, y) in enumerate(zip(a, b)) if x != y), min(len(a), len(b)))
+            near = slice(max(0, at - 60), at + 240)
+            return "answer %d, byte %d, to %r\n wanted %r\n    got %r" % (k + 1, at, lines[k][:200], a[near], b[near])
     return "%d answers wanted, %d got" % (len(wanted), len(got))
 
 
-def main():
-    program, rest = os.path.abspath(sys.argv[1]), sys.argv[2:]
-    only = None
-    if rest and rest[0] == "--only":
-        only, rest = rest[1].split(","), rest[2:]
-    count, seed = int(rest[0]) if rest else 200, int(rest[1]) if len(rest) > 1 else 1
+def compare(name, script):
+    """A script through both: the number of answers, and what differs or an empty text. It runs in the files' folder."""
+    world, lines = oracle.World(), list(oracle.lines(script))
+    wanted = [world.answer(line).encode("utf-8") for line in lines]
+    done = run(PROGRAM, script, os.getcwd())
+    got = done.stdout.split(b"\n")[:-1]
+    if done.returncode == 0 and got == wanted:
+        return len(wanted), ""
+    kept = os.path.join(tempfile.gettempdir(), "differs.script")
+    with open(kept, "wb") as file:
+        file.write(script)
+    return len(wanted), "%s differs (status %d); it is kept as %s\n%s" % (name, done.returncode, kept, first_difference(lines, wanted, got))
+
+
+def compare_all(files, named):
+    """Named scripts in two lanes: the number of answers, or None once one differs."""
+    answers = 0
     with tempfile.TemporaryDirectory() as folder:
-        for name, text in FILES.items():
+        for name, text in files.items():
             with open(os.path.join(folder, name), "w", encoding="utf-8") as file:
                 file.write(text)
         os.chdir(folder)
-        answers = 0
-        for k in range(count):
-            script = Scripts(random.Random(seed * 1000003 + k), only).script()
-            world = oracle.World()
-            wanted = [world.answer(line).encode("utf-8") for line in oracle.lines(script)]
-            done = run(program, script, folder)
-            got = done.stdout.split(b"\n")[:-1]
-            if done.returncode != 0 or got != wanted:
-                sys.stdout.write("script %d of seed %d differs (status %d)\n%s\n" % (k, seed, done.returncode, first_difference(script, wanted, got)))
-                with open(os.path.join(tempfile.gettempdir(), "differs.script"), "wb") as file:
-                    file.write(script)
-                return 1
-            answers += len(wanted)
-    print("%d scripts, %d answers, no difference" % (count, answers))
+        with multiprocessing.get_context("fork").Pool(2) as lanes:
+            for number, differs in lanes.imap(call, ((name, script) for name, script in named)):
+                if differs:
+                    print(differs)
+                    return None
+                answers += number
+        os.chdir(HERE)
+    return answers
+
+
+def call(given):
+    return compare(*given)
+
+
+def large():
+    """Over 100,000 symbols and 65,535 rows, keyed at two sites in turn, and a symbol deleted; what both then hold is cast."""
+    pick, metal = random.Random(1), jobs.Metal(random.Random(2), 36, "sixth", units=jobs.PLAIN)
+    sorts = [y for y in metal.symbols if y[0] == 0]
+    lines = ["site 1", "site 2"] + ["set 1 %s %d" % it for it in jobs.settings_of(metal, 720, 16, 240).items()]
+    held = 0
+    for k in range(3):
+        copy = []
+        while len(copy) < 38000:
+            for _ in range(pick.randrange(1, 160)):
+                copy += [pick.choice(sorts) for _ in range(pick.randrange(7))] + [jobs.SPACE]
+            copy[-1] = jobs.END
+        lines += ["merge %d %d" % (1 + k % 2, 2 - k % 2), "insert %d %d %s" % (1 + k % 2, held, oracle.text_of(copy))]
+        held += len(copy)
+    lines += ["merge 2 1", "delete 2 50000", "merge 1 2", "ribbon 1 c w", "cast 2 c w"]
+    return {"c": metal.case_text(), "w": metal.wedge_text()}, "\n".join(lines + [""]).encode("utf-8"), held
+
+
+def main():
+    global PROGRAM
+    PROGRAM, rest = os.path.abspath(sys.argv[1]), sys.argv[2:]
+    if rest == ["--jobs"]:
+        made, forged = jobs.jobs(), list(jobs.forged())
+        files, parts = jobs.scripts(made)
+        named = [("jobs %d to %d" % (16 * k, 16 * k + 15), b"\n".join(lines + [b""])) for k, (_, lines, _) in enumerate(parts)]
+        answers = compare_all(files, named + [("forged script %d" % k, script) for k, script in enumerate(forged)])
+        what = "%d directed jobs and %d scripts of forged feeds" % (len(made), len(forged))
+    elif rest == ["--large"]:
+        files, script, held = large()
+        answers = compare_all(files, [("the large job", script)])
+        what = "a job of %d symbols" % held
+    else:
+        only = None
+        if rest and rest[0] == "--only":
+            only, rest = rest[1].split(","), rest[2:]
+        count, seed = int(rest[0]) if rest else 200, int(rest[1]) if len(rest) > 1 else 1
+        answers = compare_all(FILES, (("script %d of seed %d" % (k, seed), random_script(seed, k, only)) for k in range(count)))
+        what = "%d scripts" % count
+    if answers is None:
+        return 1
+    print("%s, %d answers, no difference" % (what, answers))
     return 0
 
 

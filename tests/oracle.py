@@ -132,7 +132,7 @@ class Meaning:
         for op in ops:
             if op[0] == "set" and op[1] in clear:
                 self.settings[op[2]] = op[3]
-        self.faults = []
+        self.faults, ends = [], {HEAD: HEAD}  # of each clear insert where it ends, followed up from parent to parent
         for stamp in sorted(bearing):
             if stamp not in clear:
                 self.faults.append(("forked", stamp))
@@ -140,11 +140,11 @@ class Meaning:
             op = clear[stamp]
             if op[0] == "set":
                 continue
-            target = op[2]
-            while target in clear and clear[target][0] == "insert":
-                target = clear[target][2]
-            if target != HEAD:
-                self.faults.append(("void" if target in bearing else "waiting", stamp))
+            end = ends.get(op[2], op[2])
+            if op[0] == "insert":
+                ends[stamp] = end
+            if end != HEAD:
+                self.faults.append(("void" if end in bearing else "waiting", stamp))
         self.copy = [op[3] for op in self.shown]
 
 
@@ -485,6 +485,7 @@ def stamp_text(stamp):
 class World:
     def __init__(self):
         self.sites = {}
+        self.greatest = {}  # of each site the greatest counter that it holds
         self.meanings = {}
 
     def meaning(self, site):
@@ -499,6 +500,7 @@ class World:
         if len(self.sites[site]) >= LIMIT:
             raise OverflowError
         self.sites[site].add(op)
+        self.greatest[site] = max(self.greatest.get(site, 0), op[1][0])
         self.meanings.pop(site, None)
         return True
 
@@ -517,7 +519,7 @@ class World:
     def new_stamp(self, site):
         if len(self.sites[site]) >= LIMIT:
             return None, "full"
-        greatest = max((op[1][0] for op in self.sites[site]), default=0)
+        greatest = self.greatest.get(site, 0)
         if greatest >= MAX_COUNTER:
             return None, "clock"
         return (greatest + 1, site), None

@@ -1,0 +1,298 @@
+#!/usr/bin/env python3
+"""A test of the tests: wrong programs that a composing room would fear, each told from the right one by the jobs of `jobs.py` or by the
+random scripts of `differential.py`.
+
+usage: wrong_models.py             ends with 1 where fewer than 3 jobs, or 3 scripts, answer otherwise by a wrong model
+       wrong_models.py --count     runs all of them, and prints of each wrong model how many answer otherwise
+
+Each wrong model is the independent program with one or two of its texts replaced, so no proved program is needed. Each old text has
+to stand exactly once in `oracle.py`.
+"""
+import collections
+import functools
+import multiprocessing
+import os
+import random
+import sys
+import tomllib
+import types
+
+HERE = os.path.dirname(os.path.abspath(__file__))
+sys.path.insert(0, HERE)
+import differential
+import jobs
+
+# Of the ribbon half: lines, justification, faults, units, rows, the caster, the two files.
+RIBBON = {
+    # groups
+    "a group that fits exactly does not fit": [("(n - 1) * tight_space <= measure", "(n - 1) * tight_space < measure")],
+    "broken one word early": [("            at += best\n", "            at += max(1, best - 1)\n"), ("groups.append((at, at + best))", "groups.append((at, at + max(1, best - 1)))")],
+    "broken one word late": [("(n - 1) * tight_space <= measure", "(n - 1) * tight_space <= measure + widths[at + n - 1]")],
+    "groups measured with neutral spaces": [("(n - 1) * tight_space <= measure", "(n - 1) * space <= measure")],
+    "groups measured with a space too many": [("(n - 1) * tight_space <= measure", "n * tight_space <= measure")],
+    "groups measured without their spaces": [("sum(widths[at:at + n]) + (n - 1) * tight_space <= measure", "sum(widths[at:at + n]) <= measure")],
+    "empty words are dropped": [("words = split(paragraph, (0, 32))", "words = [w for w in split(paragraph, (0, 32)) if w] or [[]]")],
+    "empty paragraphs are dropped": [("    lines = []\n    for paragraph in paragraphs:", "    lines = []\n    for paragraph in filter(None, paragraphs):")],
+    "the empty last paragraph is kept": [("    if not paragraphs[-1]:\n        paragraphs.pop()\n", "")],
+    "every empty last paragraph is dropped": [("    if not paragraphs[-1]:\n", "    while paragraphs and not paragraphs[-1]:\n")],
+    "the space between two groups is kept": [("inner = sum(widths[a:b]) + (b - a - 1) * tight_space", "inner = sum(widths[a:b]) + (b - a - (k + 1 == len(groups))) * tight_space")],
+    "line feeds are spaces": [("paragraphs = split(copy, (0, 10))", "paragraphs = split([(0, 32) if y == (0, 10) else y for y in copy], (0, 10))")],
+    # filled lines
+    "last lines are justified": [("filled = k + 1 == len(groups) or b - a == 1", "filled = b - a == 1")],
+    "a word alone is not filled": [("filled = k + 1 == len(groups) or b - a == 1", "filled = k + 1 == len(groups)")],
+    "every line is filled": [("filled = k + 1 == len(groups) or b - a == 1", "filled = True")],
+    "only the last line of the copy is filled": [("filled = k + 1 == len(groups) or b - a == 1", "filled = paragraph is paragraphs[-1] and k + 1 == len(groups) or b - a == 1")],
+    "no space is added": [("added = filled and inner + tight_space <= measure", "added = False")],
+    "a space is added that does not fit": [("added = filled and inner + tight_space <= measure", "added = filled")],
+    "a space is added to each line": [("added = filled and inner + tight_space <= measure", "added = inner + tight_space <= measure")],
+    "a space is added to a word alone only": [("added = filled and inner + tight_space <= measure", "added = filled and b - a == 1 and inner + tight_space <= measure")],
+    "the added space has to leave some room": [("added = filled and inner + tight_space <= measure", "added = filled and inner + tight_space < measure")],
+    "the added space is measured at neutral": [("added = filled and inner + tight_space <= measure", "added = filled and inner + space <= measure")],
+    "the added space is not justified": [("spaces = b - a - 1 + (1 if added else 0)", "spaces = max(b - a - 1, 1 if added else 0)")],
+    "fills stand before the added space": [("        if added:\n            images.append(image_cell(case[\"space\"], True))\n", ""),
+                                           ("            images.extend([image_cell(cell, False)] * count)\n", "            images.extend([image_cell(cell, False)] * count)\n        if added:\n            images.append(image_cell(case[\"space\"], True))\n")],
+    "fills stand narrowest first": [("zip(case[\"fill\"], fills)", "reversed(list(zip(case[\"fill\"], fills)))")],
+    "fills are used narrowest first": [("                for j, cell in enumerate(case[\"fill\"]):\n", "                for j, cell in reversed(list(enumerate(case[\"fill\"]))):\n")],
+    "only the widest fill is used": [("                for j, cell in enumerate(case[\"fill\"]):\n", "                for j, cell in enumerate(case[\"fill\"][:1]):\n")],
+    "three fills at most": [("                for j, cell in enumerate(case[\"fill\"]):\n", "                for j, cell in enumerate(case[\"fill\"][:3]):\n")],
+    "a fill that fits exactly is left out": [("fills[j] = left // width(cell)", "fills[j] = max(0, left - 1) // width(cell)")],
+    "each fill is used once at most": [("fills[j] = left // width(cell)", "fills[j] = min(1, left // width(cell))")],
+    "one fill too many": [("fills[j] = left // width(cell)", "fills[j] = -(-left // width(cell))")],
+    "fills in every line": [("if filled and rest >= 0:", "if rest >= 0:")],
+    "fills where the rest is negative": [("if filled and rest >= 0:", "if filled:")],
+    "no fills": [("if filled and rest >= 0:", "if False:")],
+    "fills measured with the spaces at tight": [("                left = rest\n", "                left = rest - spaces * (tight_space - space)\n"), ("                rest = left\n", "                rest -= sum(n * width(cell) for n, cell in zip(fills, case[\"fill\"]))\n")],
+    # justification
+    "division truncates": [("p = 53 + rest // (STEP * spaces)", "p = 53 + int(rest / (STEP * spaces))")],
+    "division rounds": [("p = 53 + rest // (STEP * spaces)", "p = 53 + (2 * rest + STEP * spaces) // (2 * STEP * spaces)")],
+    "division rounds up": [("p = 53 + rest // (STEP * spaces)", "p = 53 - -rest // (STEP * spaces)")],
+    "drift with the wrong sign": [("p = 53 + rest // (STEP * spaces)", "p = 53 - rest // (STEP * spaces)")],
+    "the rest goes to one space": [("p = 53 + rest // (STEP * spaces)", "p = 53 + rest // STEP")],
+    "the added space takes no part": [("p = 53 + rest // (STEP * spaces)", "p = 53 + rest // (STEP * max(1, spaces - added))")],
+    "a step of 0.0005 of another inch": [("STEP = 648", "STEP = 650")],
+    "neutral is 3 and 3": [("p = 53 + rest // (STEP * spaces)", "p = 48 + rest // (STEP * spaces)")],
+    "fine and coarse swapped": [("images.append(image_coarse((p - 1) // 15))", "images.append(image_coarse((p - 1) % 15 + 1))"), ("images.append(image_fine((p - 1) % 15 + 1))", "images.append(image_fine((p - 1) // 15))")],
+    "fine positions count from 0": [("images.append(image_coarse((p - 1) // 15))", "images.append(image_coarse(p // 15))"), ("images.append(image_fine((p - 1) % 15 + 1))", "images.append(image_fine(p % 15 or 1))")],
+    "neutral positions on every line": [("images.append(image_coarse((p - 1) // 15))", "images.append(image_coarse(3))"), ("images.append(image_fine((p - 1) % 15 + 1))", "images.append(image_fine(8))")],
+    "ordinary lines at neutral": [("        for k, word in enumerate(words):\n            if k:\n                images.append", "        p = p if filled else 53\n        for k, word in enumerate(words):\n            if k:\n                images.append")],
+    # faults of lines
+    "tight taken for loose": [("elif p > settings[\"loose\"]:", "elif p > settings[\"tight\"]:")],
+    "loose taken for tight in a filled line": [("if p < settings[\"tight\"] or p > 240:", "if p < settings[\"loose\"] or p > 240:")],
+    "loose taken for tight in groups": [("measure, settings[\"tight\"]), 1):", "measure, settings[\"loose\"]), 1):")],
+    "as loose as loose is too loose": [("elif p > settings[\"loose\"]:", "elif p >= settings[\"loose\"]:")],
+    "one looser than loose is not too loose": [("elif p > settings[\"loose\"]:", "elif p > settings[\"loose\"] + 1:")],
+    "no line is too loose": [("elif p > settings[\"loose\"]:", "elif p > 240:")],
+    "a filled line as tight as tight": [("if p < settings[\"tight\"] or p > 240:", "if p <= settings[\"tight\"] or p > 240:")],
+    "a filled line one tighter than tight": [("if p < settings[\"tight\"] or p > 240:", "if p < settings[\"tight\"] - 1 or p > 240:")],
+    "a filled line at 240 is refused": [("if p < settings[\"tight\"] or p > 240:", "if p < settings[\"tight\"] or p >= 240:")],
+    "a filled line at 241 is set": [("if p < settings[\"tight\"] or p > 240:", "if p < settings[\"tight\"] or p > 241:"), ("image_coarse((p - 1) // 15)", "image_coarse(min(15, (p - 1) // 15))")],
+    "a filled line may not be loose": [("if p < settings[\"tight\"] or p > 240:", "if p < settings[\"tight\"] or p > settings[\"loose\"]:")],
+    "a filled line wider than neutral is never refused": [("if p < settings[\"tight\"] or p > 240:", "if p < min(53, settings[\"tight\"]) or p > 240:")],
+    "what cannot be filled is too loose": [("\"cannot fill %d\" % n", "\"too loose %d\" % n")],
+    "too wide only where the words are wider than the measure": [("        if spaces == 0:\n            faults.append", "        spaces = spaces or (1 if rest >= 0 else 0)\n        if spaces == 0:\n            faults.append")],
+    "lines count from 0": [("measure, settings[\"tight\"]), 1):", "measure, settings[\"tight\"]), 0):")],
+    "the first line's fault alone": [("return (faults, None) if faults else ([], images)", "return (faults[:1], None) if faults else ([], images)")],
+    "a line with a fault is left out": [("return (faults, None) if faults else ([], images)", "return [], images")],
+    # faults of the job
+    "the last missing key": [("    for key in KEYS:\n        if settings[key] is None:", "    for key in reversed(KEYS):\n        if settings[key] is None:")],
+    "the wedge before the case": [("    if settings[\"case\"] != case[\"number\"]:\n        return [\"other case\"], None\n", ""), ("        return [\"other wedge\"], None\n", "        return [\"other wedge\"], None\n    if settings[\"case\"] != case[\"number\"]:\n        return [\"other case\"], None\n")],
+    "any case will do": [("settings[\"case\"] != case[\"number\"]", "False")],
+    "any wedge will do": [("settings[\"wedge\"] != wedge[\"wedge\"]", "False")],
+    "tight at loose is crossed": [("settings[\"tight\"] > settings[\"loose\"]", "settings[\"tight\"] >= settings[\"loose\"]")],
+    "crossed settings pass": [("settings[\"tight\"] > settings[\"loose\"]", "False")],
+    "equal fills are in order": [("units[k] <= units[k + 1]", "units[k] < units[k + 1]")],
+    "fills in any order": [("units[k] <= units[k + 1]", "False")],
+    "the space vanishes at loose": [("if space + STEP * (settings[\"tight\"] - 53) <= 0:", "if space + STEP * (settings[\"loose\"] - 53) <= 0:")],
+    "the space vanishes a unit of the set too early": [("if space + STEP * (settings[\"tight\"] - 53) <= 0:", "if space + STEP * (settings[\"tight\"] - 53) <= pica:")],
+    "no space vanishes": [("if space + STEP * (settings[\"tight\"] - 53) <= 0:", "if False:")],
+    "a missing sort is skipped": [("    measure = settings[\"measure\"] * 72 * pica\n", "    measure = settings[\"measure\"] * 72 * pica\n    copy = [y for y in copy if y in ((0, 32), (0, 10)) or y in case[\"symbols\"]]\n"), ("    if lacking:\n        return lacking, None\n", "")],
+    "the first missing sort alone": [("        return lacking, None", "        return lacking[:1], None")],
+    "places count from 1": [("\"no matrix %d\" % k for k, y", "\"no matrix %d\" % (k + 1) for k, y")],
+    "places are counted without spaces": [("for k, y in enumerate(copy) if y not in ((0, 32), (0, 10)) and", "for k, y in enumerate([y for y in copy if y not in ((0, 32), (0, 10))]) if")],
+    "a sort of another style will do": [("return 0, {\"number\": doc[\"case\"], \"symbols\": symbols,", "symbols = {**{(s, y[1]): c for y, c in symbols.items() for s in (0, 1, 2)}, **symbols}\n    return 0, {\"number\": doc[\"case\"], \"symbols\": symbols,")],
+    # units
+    "American pica taken as a sixth of an inch": [("    pica = 250 if wedge[\"pica\"] == \"sixth\" else 249\n    unit = wedge[\"set_q\"] * pica\n    width = lambda", "    pica = 250\n    unit = wedge[\"set_q\"] * pica\n    width = lambda")],
+    "the measure always in sixths": [("measure = settings[\"measure\"] * 72 * pica", "measure = settings[\"measure\"] * 72 * 250")],
+    "the set is ignored": [("    unit = wedge[\"set_q\"] * pica\n    width = lambda", "    unit = 48 * pica\n    width = lambda")],
+    "the set in whole points": [("    unit = wedge[\"set_q\"] * pica\n    width = lambda", "    unit = wedge[\"set_q\"] // 4 * 4 * pica\n    width = lambda")],
+    "units of the row above": [("width = lambda cell: wedge[\"units\"][cell[1] - 1] * unit\n    space", "width = lambda cell: wedge[\"units\"][max(0, cell[1] - 2)] * unit\n    space")],
+    "the space has the units of its column": [("    space = width(case[\"space\"])\n", "    space = width((0, min(15, case[\"space\"][0] + 1)))\n")],
+    "12 points too many": [("measure = settings[\"measure\"] * 72 * pica", "measure = (settings[\"measure\"] + 12) * 72 * pica")],
+    # rows
+    "wedge rows before the line": [("        for k, word in enumerate(words):\n            if k:\n                images.append", "        images.append(image_coarse((p - 1) // 15))\n        images.append(image_fine((p - 1) % 15 + 1))\n        for k, word in enumerate(words):\n            if k:\n                images.append"),
+                                   ("        images.append(image_coarse((p - 1) // 15))\n        images.append(image_fine((p - 1) % 15 + 1))\n    return", "    return")],
+    "0005 before 0075": [("        images.append(image_coarse((p - 1) // 15))\n        images.append(image_fine((p - 1) % 15 + 1))\n", "        images.append(image_fine((p - 1) % 15 + 1))\n        images.append(image_coarse((p - 1) // 15))\n")],
+    "no head row": [("faults, images = [], [image_fine(8)]", "faults, images = [], []")],
+    "a head row before each line": [("        for k, word in enumerate(words):\n            if k:\n                images.append", "        images.append(image_fine(8))\n        for k, word in enumerate(words):\n            if k:\n                images.append")],
+    "another head row": [("faults, images = [], [image_fine(8)]", "faults, images = [], [image_fine(3)]")],
+    "S not punched on spaces": [("                images.append(image_cell(case[\"space\"], True))\n            images.extend", "                images.append(image_cell(case[\"space\"], False))\n            images.extend")],
+    "S not punched on the added space": [("        if added:\n            images.append(image_cell(case[\"space\"], True))", "        if added:\n            images.append(image_cell(case[\"space\"], False))")],
+    "S punched on fills": [("images.extend([image_cell(cell, False)] * count)", "images.extend([image_cell(cell, True)] * count)")],
+    "S punched on fills of the space's cell": [("images.extend([image_cell(cell, False)] * count)", "images.extend([image_cell(cell, cell == case[\"space\"])] * count)")],
+    "S punched on letters": [("images.extend(image_cell(case[\"symbols\"][y], False) for y in word)", "images.extend(image_cell(case[\"symbols\"][y], True) for y in word)")],
+    "words from right to left": [("images.extend(image_cell(case[\"symbols\"][y], False) for y in word)", "images.extend(image_cell(case[\"symbols\"][y], False) for y in reversed(word))")],
+    "column O has a signal": [("(bit(chr(65 + column)) if column < 14 else 0)", "bit(chr(65 + min(column, 13)))")],
+    "row 15 has a signal": [("(bit(str(row)) if row < 15 else 0)", "bit(str(min(row, 14)))")],
+    "position 15 has a signal": [("return bit(\"0075\") | (bit(str(c)) if c < 15 else 0)", "return bit(\"0075\") | bit(str(min(c, 14)))")],
+    "0005 without 0075": [("return bit(\"0005\") | bit(\"0075\") |", "return bit(\"0005\") |")],
+    "columns are read as rows": [("symbols[symbol] = (c, r + 1)", "symbols[symbol] = (r, c + 1) if c < 15 else (c, r + 1)")],
+    "the number of rows without the head": [("b\"MRB1\" + len(images).to_bytes(4, \"big\")", "b\"MRB1\" + (len(images) - 1).to_bytes(4, \"big\")")],
+    "the number of rows in one byte": [("b\"MRB1\" + len(images).to_bytes(4, \"big\")", "b\"MRB1\" + (len(images) & 255).to_bytes(4, \"big\")")],
+    # the caster
+    "S widens nothing at the caster": [("(STEP * (line[0] - 53) if row[2] else 0)", "0")],
+    "every matrix is widened": [("(STEP * (line[0] - 53) if row[2] else 0)", "STEP * (line[0] - 53)")],
+    "the caster counts from no neutral": [("(STEP * (line[0] - 53) if row[2] else 0)", "(STEP * line[0] if row[2] else 0)")],
+    "lines in the order cast": [("return list(reversed(out))", "return out")],
+    "15 fine positions of 0075": [("line = [15 * row[1] + fine, 0, 0]", "line = [row[1] + 15 * fine, 0, 0]")],
+    "the caster takes every pica as a sixth": [("    pica = 250 if wedge[\"pica\"] == \"sixth\" else 249\n    unit = wedge[\"set_q\"] * pica\n    fine,", "    pica = 250\n    unit = wedge[\"set_q\"] * pica\n    fine,")],
+    "spaces are no matrices": [("            line[1] += 1\n", "            line[1] += 1 - row[2]\n")],
+}
+
+# Of the copy half: the walk, forks, what waits, settings, stamps, feeds, gifts.
+COPY = {
+    "siblings oldest first": [("list(kids.get(HEAD, []))", "list(reversed(kids.get(HEAD, [])))"), ("stack.extend(kids.get(one[1], []))", "stack.extend(reversed(kids.get(one[1], [])))")],
+    "children of the head oldest first": [("list(kids.get(HEAD, []))", "list(reversed(kids.get(HEAD, [])))")],
+    "of equal counters the smaller site is newer": [("        for op in ops:\n            if op[0] == \"insert\" and op[1] in live and op[1] in clear:", "        for op in sorted(ops, key=lambda o: (o[1][0], -o[1][1])):\n            if op[0] == \"insert\" and op[1] in live and op[1] in clear:")],
+    "siblings by site": [("        for op in ops:\n            if op[0] == \"insert\" and op[1] in live and op[1] in clear:", "        for op in sorted(ops, key=lambda o: (o[1][1], o[1][0])):\n            if op[0] == \"insert\" and op[1] in live and op[1] in clear:")],
+    "of a fork the first is kept": [("clear = {s: b[0] for s, b in bearing.items() if len(b) == 1}", "clear = {s: b[0] for s, b in bearing.items()}")],
+    "of a fork the last is kept": [("clear = {s: b[0] for s, b in bearing.items() if len(b) == 1}", "clear = {s: b[-1] for s, b in bearing.items()}")],
+    "tombstones are dropped, and what hangs on them": [("            walk.append(one)\n", "            if one[1] in deleted:\n                continue\n            walk.append(one)\n")],
+    "deletes do nothing": [("deleted = {op[2] for op in clear.values()", "deleted = {op[2] for op in ()")],
+    "forked deletes delete": [("deleted = {op[2] for op in clear.values()", "deleted = {op[2] for op in ops")],
+    "what waits is dropped": [("        if op in self.sites[site]:\n            return False\n", "        if op in self.sites[site]:\n            return False\n        if op[0] != \"set\" and op[2] != HEAD and op[2] not in {held[1] for held in self.sites[site]}:\n            return False\n")],
+    "deletes that wait are dropped": [("        if op in self.sites[site]:\n            return False\n", "        if op in self.sites[site]:\n            return False\n        if op[0] == \"delete\" and op[2] not in {held[1] for held in self.sites[site]}:\n            return False\n")],
+    "the setting that came last wins": [("self.sites[site] = set()", "self.sites[site] = type(\"Came\", (list,), {\"add\": list.append})()"), ("        for op in ops:\n            if op[0] == \"set\" and op[1] in clear:", "        for op in held:\n            if op[0] == \"set\" and op[1] in clear:")],
+    "the setting that came first wins": [("self.sites[site] = set()", "self.sites[site] = type(\"Came\", (list,), {\"add\": list.append})()"), ("        for op in ops:\n            if op[0] == \"set\" and op[1] in clear:", "        for op in reversed(held):\n            if op[0] == \"set\" and op[1] in clear:")],
+    "the greatest value wins": [("self.settings[op[2]] = op[3]", "self.settings[op[2]] = max(op[3], self.settings[op[2]] or 0)")],
+    "forked settings act": [("            if op[0] == \"set\" and op[1] in clear:", "            if op[0] == \"set\":")],
+    "void is told as waiting": [("\"void\" if end in bearing else \"waiting\"", "\"waiting\"")],
+    "waiting is told as void": [("\"void\" if end in bearing else \"waiting\"", "\"void\"")],
+    "faults of inserts alone": [("            if op[0] == \"set\":\n                continue", "            if op[0] != \"insert\":\n                continue")],
+    "a new counter from the site's own operations": [("self.greatest.get(site, 0), op[1][0])", "self.greatest.get(site, 0), op[1][0] if op[1][1] == site else 0)")],
+    "a new counter from the number held": [("greatest = self.greatest.get(site, 0)\n        if", "greatest = len(self.sites[site])\n        if")],
+    "places count what is deleted": [("self.shown = [op", "self.walk = walk\n        self.shown = [op"), ("        shown = self.meaning(site).shown\n        if place > len(shown):", "        shown = self.meaning(site).walk\n        if place > len(shown):")],
+    "symbols of one insert are siblings": [("            parent = stamp  #", "            parent = parent  #")],
+    "send gives to the sender": [("return self.gain(command[2], ops)", "return self.gain(site, ops)")],
+    "send's end is counted in": [("                ops = ops[a:b]\n", "                ops = ops[a:b + 1]\n")],
+    "merge gives to both": [("            return self.gain(site, sorted(self.sites[command[2]], key=order))", "            self.gain(command[2], sorted(self.sites[site], key=order))\n            return self.gain(site, sorted(self.sites[command[2]], key=order))")],
+    "what is known counts as new": [("                    known += 1", "                    new += 1")],
+    "a feed by kind": [("b\"\".join(spelling(op) for op in sorted(self.sites[site], key=order))", "b\"\".join(sorted(map(spelling, self.sites[site])))")],
+    "restart forgets what waits": [("        if name == \"restart\":\n", "        if name == \"restart\":\n            gone = {s for k, s in self.meaning(site).faults if k == \"waiting\"}\n            self.sites[site] = {op for op in self.sites[site] if op[1] not in gone}\n            self.meanings.pop(site)\n")],
+    "a target of its own age": [("or not t < counter:", "or not t <= counter:")],
+    "a feed is taken up to its fault": [("                return \"refused feed %d %s\" % (fault.at, fault.word)", "                self.gain(site, read_feed(command[2][:max(4, fault.at)]) if fault.at else [])\n                return \"refused feed %d %s\" % (fault.at, fault.word)")],
+}
+
+
+TOML = types.SimpleNamespace(loads=functools.lru_cache(None)(tomllib.loads))
+
+
+def model(changes, files):
+    """The independent program with some of its texts replaced, and files in memory."""
+    with open(os.path.join(HERE, "oracle.py"), encoding="utf-8") as file:
+        text = file.read()
+    for old, new in changes:
+        if text.count(old) != 1:
+            raise ValueError("`%s` stands %d times in oracle.py" % (old.strip(), text.count(old)))
+        text = text.replace(old, new)
+    made = types.ModuleType("wrong")
+    exec(compile(text, "wrong", "exec"), made.__dict__)
+    made.tomllib = TOML
+    made.first_fault_case = functools.lru_cache(None)(made.first_fault_case)
+    made.first_fault_wedge = functools.lru_cache(None)(made.first_fault_wedge)
+    made.read_file = lambda name: files.get(name, "missing")
+    return made
+
+
+def answers(world, lines):
+    """What a world answers; a line at which it breaks down is answered so."""
+    out = []
+    for line in lines:
+        try:
+            out.append(world.answer(line))
+        except Exception as fault:
+            out.append("broke down: " + type(fault).__name__)
+    return out
+
+
+class Jobs:
+    """The directed jobs: their copies and settings are made once, and each model is asked for the ribbons and casts."""
+
+    models = RIBBON
+
+    def __init__(self):
+        files, parts = jobs.scripts(jobs.jobs())
+        self.files = {name: text.encode("utf-8") for name, text in files.items()}
+        right = model([], self.files)
+        random.Random(1).shuffle(parts)
+        self.parts = []
+        for part, lines, starts in parts:
+            world = right.World()
+            told = answers(world, lines)
+            asked = [[k for k in range(a, b) if lines[k].startswith((b"ribbon", b"cast"))] for a, b in zip(starts, starts[1:])]
+            self.parts.append((world, [(job.aim, [lines[k] for k in ks], [told[k] for k in ks]) for job, ks in zip(part, asked)]))
+
+    def told(self, made):
+        for world, asked in self.parts:
+            other = made.World()
+            other.sites, other.meanings = world.sites, world.meanings
+            for aim, lines, wanted in asked:
+                if answers(other, lines) != wanted:
+                    yield aim
+
+
+class Scripts:
+    """The random scripts of the gate, and those of forged feeds, each from its first line on."""
+
+    models = COPY
+
+    def __init__(self):
+        self.files = {name: text.encode("utf-8") for name, text in differential.FILES.items()}
+        right = model([], self.files)
+        self.scripts = []
+        made = [("random", differential.random_script(1, k)) for k in range(500)] + [("forged", script) for script in jobs.forged()]
+        random.Random(1).shuffle(made)
+        for aim, script in made:
+            lines = list(differential.oracle.lines(script))
+            self.scripts.append((aim, lines, answers(right.World(), lines)))
+
+    def told(self, made):
+        for aim, lines, wanted in self.scripts:
+            if answers(made.World(), lines) != wanted:
+                yield aim
+
+
+def tell(name):
+    """How many jobs or scripts tell a wrong model; at most three where they are not counted."""
+    source = next(it for it in SOURCES if name in it.models)
+    try:
+        made = model(source.models[name], source.files)
+    except ValueError as fault:
+        return name, str(fault)
+    found = collections.Counter()
+    for aim in source.told(made):
+        found[aim] += 1
+        if not COUNT and sum(found.values()) == ENOUGH:
+            break
+    return name, found
+
+
+ENOUGH = 3
+COUNT = "--count" in sys.argv[1:]
+SOURCES = []
+
+
+def main():
+    SOURCES.extend([Jobs(), Scripts()])
+    bad = 0
+    with multiprocessing.get_context("fork").Pool(2) as lanes:
+        for name, found in lanes.imap(tell, list(RIBBON) + list(COPY)):
+            number = 0 if isinstance(found, str) else sum(found.values())
+            bad += number < ENOUGH
+            if COUNT or number < ENOUGH:
+                print("%5d  %s: %s" % (number, name, found if isinstance(found, str) else ", ".join("%d %s" % (n, aim) for aim, n in found.most_common(3))), flush=True)
+    print("%d wrong models of the ribbon half and %d of the copy half, %d not told" % (len(RIBBON), len(COPY), bad))
+    return 1 if bad else 0
+
+
+if __name__ == "__main__":
+    sys.exit(main())
