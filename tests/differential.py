@@ -6,6 +6,7 @@ usage: differential.py PROGRAM [SCRIPTS [SEED]]      random ones, all commands; 
        differential.py PROGRAM --jobs                the directed jobs of jobs.py, which stand at the limits of lines and wedges
        differential.py PROGRAM --large               one job of over 100,000 symbols
 """
+import functools
 import multiprocessing
 import os
 import random
@@ -17,6 +18,9 @@ HERE = os.path.dirname(os.path.abspath(__file__))
 sys.path.insert(0, HERE)
 import jobs
 import oracle
+
+oracle.first_fault_case = functools.lru_cache(256)(oracle.first_fault_case)  # many commands read the same files
+oracle.first_fault_wedge = functools.lru_cache(256)(oracle.first_fault_wedge)
 
 ROWS = [["" for _ in range(15)] for _ in range(15)]
 for row, column, text in [(0, 0, "."), (3, 0, "t"), (4, 1, "a"), (4, 2, "i:a"), (7, 0, "n"), (13, 0, "m"), (14, 0, "M"), (14, 1, "s:M")]:
