@@ -1,0 +1,5 @@
+use Rattle.std.proofs.Common.{rules}
+use Rattle.desk_ops.proofs.op.Symbol.is_line_feed.Goals as goal
+
+pub returns : goal.returns
+returns c = search rules steps 300000
