@@ -1,0 +1,21 @@
+use Rattle.std.proofs.Common.{arith, rules}
+use Rattle.std.proofs.lemmas.Grind.{common_steps}
+use Rattle.desk_files.proofs.storing.store.Goals as goal
+
+pub returns-in_default-clause-small : goal.returns-in_default-clause-small
+returns-in_default-clause-small g c = search rules steps 2000000
+
+pub returns-in-Ok-write_new-clause-counted : goal.returns-in-Ok-write_new-clause-counted
+returns-in-Ok-write_new-clause-counted g c = search rules steps 2000000
+
+pub returns-in-Ok-write_new-clause-ok : goal.returns-in-Ok-write_new-clause-ok
+returns-in-Ok-write_new-clause-ok g c = grind (arith, common_steps)
+
+pub returns-clause-counted : goal.returns-clause-counted
+returns-clause-counted g c = search rules steps 2000000
+
+pub returns-clause-err : goal.returns-clause-err
+returns-clause-err g c = search rules steps 2000000
+
+pub returns-clause-missing : goal.returns-clause-missing
+returns-clause-missing g c = search rules steps 2000000
