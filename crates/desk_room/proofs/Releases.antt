@@ -14,18 +14,18 @@ use Rattle.desk_ops.specs.Op.{target_of, IsLawful}
 use Rattle.desk_ops.specs.Order.{op_cmp}
 use Rattle.desk_ops.specs.OrderLaws.{op_total, op_antisymmetric}
 use Rattle.desk_ops.specs.OpSet.{OpSet, has_op, with_op}
-use Rattle.desk_ops.proofs.Stamps.{by_cases, is_equal, same-refl, before-other}
+use Rattle.desk_ops.proofs.Stamps.{by_cases, is_equal, same-refl, same-symm, before-other}
 use Rattle.desk_pages.specs.Pages.{IsEdge}
 use Rattle.desk_room.specs.Waiting.{HasTarget, is_some_same, waits_for, waiting_at, IsReleased}
 use Rattle.desk_room.specs.Turn.{target_or_head, turn_cmp, IsInTurn, IsKept, set_of}
-use Rattle.desk_room.proofs.Turns.{IsDown, earlier-down, below-down, edge-below, behind, after, all-at, absent-at_edge, apart-remove, each-remove, turn-remove, has-target, no_one-waits, first-waits}
+use Rattle.desk_room.proofs.Turns.{IsDown, earlier-down, above-down, edge-below, behind, after, all-at, absent-at_edge, apart-remove, each-remove, turn-remove, has-target, no_one-waits, first-waits}
 use Rattle.desk_room.proofs.Sets.{set-remove, set-absent, set-among, added-held, no_one-held, list-first}
 
 abbrev pub earlier : Op → Op → Bool
 earlier op x = is_lt (turn_cmp x op)
 
-abbrev pub below : Stamp → Op → Bool
-below s x = before (target_or_head x) s
+abbrev pub above : Stamp → Op → Bool
+above s x = before s (target_or_head x)
 
 -- the entry at an edge, and that it is not picked
 pub at-edge : (p : Op → Bool) (xs : List Op) (i : ℕ) (x : Op) → IsEdge p xs i → i < length xs → x ≡ get_or xs i x → p x ≡ false
@@ -58,11 +58,11 @@ has-none xs op t edge = sym (set-absent xs op (absent-at_edge op xs (length xs) 
 
 -- ---- nothing waits
 
-pub none-waits : (s : Stamp) (xs : List Op) → IsInTurn xs → IsEdge (below s) xs (length xs) → (op : Op) → has_op (set_of xs) op ≡ true → waits_for s op ≡ false
-none-waits s xs t edge = no_one-held s xs (no_one-waits s xs (length xs) t (picked (below s) (below-down s) xs (length xs) t edge) (λ d w. absurd (omega arith)))
+pub none-waits : (s : Stamp) (xs : List Op) → IsInTurn xs → IsEdge (above s) xs (length xs) → (op : Op) → has_op (set_of xs) op ≡ true → waits_for s op ≡ false
+none-waits s xs t edge = no_one-held s xs (no_one-waits s xs (length xs) t (picked (above s) (above-down s) xs (length xs) t edge) (λ d w. absurd (omega arith)))
 
-pub other-waits : (s : Stamp) (xs : List Op) (i : ℕ) (x : Op) → IsInTurn xs → IsEdge (below s) xs i → i < length xs → x ≡ get_or xs i x → same (target_or_head x) s ≡ false → (op : Op) → has_op (set_of xs) op ≡ true → waits_for s op ≡ false
-other-waits s xs i x t edge l is apart = no_one-held s xs (no_one-waits s xs i t (picked (below s) (below-down s) xs i t edge) (λ d w. ap (λ (o : Op). before s (target_or_head o)) (get-or xs i x d w is) ∙ before-other (target_or_head x) s (at-edge (below s) xs i x edge l is) apart))
+pub other-waits : (s : Stamp) (xs : List Op) (i : ℕ) (x : Op) → IsInTurn xs → IsEdge (above s) xs i → i < length xs → x ≡ get_or xs i x → same (target_or_head x) s ≡ false → (op : Op) → has_op (set_of xs) op ≡ true → waits_for s op ≡ false
+other-waits s xs i x t edge l is apart = no_one-held s xs (no_one-waits s xs i t (picked (above s) (above-down s) xs i t edge) (λ d w. ap (λ (o : Op). before (target_or_head o) s) (get-or xs i x d w is) ∙ before-other s (target_or_head x) (at-edge (above s) xs i x edge l is) (same-symm s (target_or_head x) ∙ apart)))
 
 -- ---- release
 
@@ -85,13 +85,13 @@ one-edge p down xs i j d t at to l w = go (cases_lt i j) (cases_lt j i)
     go (inr h) (inl k) = absurd (behind p xs j i d (picked p down xs i t at) w (to.stops d w) k)
     go (inr h) (inr k) = omega arith
 
-released-at : (s : Stamp) (xs : List Op) (i : ℕ) (d : Op) → IsKept xs → IsEdge (below s) xs i → i < length xs → target_or_head (get_or xs i d) ≡ s → IsReleased (set_of xs) (set_of (remove xs i)) s (get_or xs i d)
+released-at : (s : Stamp) (xs : List Op) (i : ℕ) (d : Op) → IsKept xs → IsEdge (above s) xs i → i < length xs → target_or_head (get_or xs i d) ≡ s → IsReleased (set_of xs) (set_of (remove xs i)) s (get_or xs i d)
 released-at s xs i d k edge l t =
     let y : Op = get_or xs i d in
     let rest : set_of xs ≡ with_op (set_of (remove xs i)) y = set-remove xs i d l in
     let gone : has_op (set_of (remove xs i)) y ≡ false = set-absent (remove xs i) y (apart-remove xs i d k.in_turn l) in
     let target : target_of y ≡ Some s = has-target s y (all-at HasTarget xs i d k.targets l) t in
-    let first : (o : Op) → has_op (set_of xs) o ≡ true → waits_for s o ≡ true → (o ≡ y) ⊎ (op_cmp y o ≡ Less) = λ o h w. first-waits s xs i d k.in_turn l (picked (below s) (below-down s) xs i k.in_turn edge) t o (set-among xs o h) w in
+    let first : (o : Op) → has_op (set_of xs) o ≡ true → waits_for s o ≡ true → (o ≡ y) ⊎ (op_cmp y o ≡ Less) = λ o h w. first-waits s xs i d k.in_turn l (picked (above s) (above-down s) xs i k.in_turn edge) t o (set-among xs o h) w in
     let at : waiting_at (with_op (set_of (remove xs i)) y) s ≡ y ∷ waiting_at (set_of (remove xs i)) s = list-first s (set_of (remove xs i)) y (ap (is_some_same s) target ∙ same-refl s) gone (λ o h w. first o (ap (λ (h : OpSet). has_op h o) rest ∙ h) w) in
     record {
       held = ap (λ (h : OpSet). has_op h y) rest ∙ added-held (set_of (remove xs i)) y;
@@ -103,9 +103,9 @@ released-at s xs i d k edge l t =
       at = ap (λ (h : OpSet). waiting_at h s) rest ∙ at;
     }
 
-pub released : (s : Stamp) (r : Option Op) (xs ys : List Op) (i : ℕ) (first : Op) → IsKept xs → IsEdge (below s) xs i → i < length xs → first ≡ get_or xs i first → target_or_head first ≡ s → IfSome r (λ x. IsTaken (below s) xs ys x) → IfSome r (λ op. IsReleased (set_of xs) (set_of ys) s op)
+pub released : (s : Stamp) (r : Option Op) (xs ys : List Op) (i : ℕ) (first : Op) → IsKept xs → IsEdge (above s) xs i → i < length xs → first ≡ get_or xs i first → target_or_head first ≡ s → IfSome r (λ x. IsTaken (above s) xs ys x) → IfSome r (λ op. IsReleased (set_of xs) (set_of ys) s op)
 released s None xs ys i first k edge l is t f = tt
 released s (Some x) xs ys i first k edge l is t f =
-    let e : i ≡ f.0 = one-edge (below s) (below-down s) xs i f.0 x k.in_turn edge f.1 l f.2 in
+    let e : i ≡ f.0 = one-edge (above s) (above-down s) xs i f.0 x k.in_turn edge f.1 l f.2 in
     let to : target_or_head (get_or xs f.0 x) ≡ s = ap (λ (n : ℕ). target_or_head (get_or xs n x)) (sym e) ∙ ap target_or_head (get-or xs i first x l is) ∙ t in
     subst (λ (ys : List Op). IsReleased (set_of xs) (set_of ys) s x) (sym f.4) (subst (λ (o : Op). IsReleased (set_of xs) (set_of (remove xs f.0)) s o) (sym f.3) (released-at s xs f.0 x k f.1 f.2 to))

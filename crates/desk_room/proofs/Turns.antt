@@ -1,4 +1,4 @@
--- The order by target, then by stamp and bytes, and a list that is kept in it.
+-- The order of the greatest target first, then by stamp and bytes, and a list that is kept in it.
 use Rattle.std.proofs.Common.{◌≡◌, ℕ, zero, suc, ◌+◌, ◌-◌, ◌<◌, ◌≤◌, ◌⊎◌, inl, inr, Bool, true, false, List, [], ◌∷◌, length, take, drop, get_or, refl, sym, ap, ◌∙◌, arith}
 use Rattle.std.specs.Prelude.{Option, Some, None, IsSome}
 use Rattle.std.specs.Option.{unwrap_or}
@@ -7,7 +7,7 @@ use Rattle.std.specs.Cmp.{IsTotalOrder}
 use Rattle.std.specs.Ordering.{ordering_then, ordering_reverse, is_lt, is_eq, eq_by_cmp}
 use Rattle.std.specs.declared.cmp.Ordering.{Ordering}
 use Rattle.std.specs.declared.cmp.Ordering.TheVariants.{Less, Equal, Greater}
-use Rattle.std.proofs.lemmas.Cmp.{then_total, on_total, tied_itself}
+use Rattle.std.proofs.lemmas.Cmp.{then_total, on_total, back_total, tied_itself}
 use Rattle.std.proofs.lemmas.Bool.{true≢false, cases_eq}
 use Rattle.std.proofs.lemmas.List.{get_or_default}
 use Rattle.desk_ops.specs.declared.op.Stamp.{Stamp}
@@ -23,7 +23,7 @@ use Rattle.desk_room.specs.Waiting.{HasTarget, is_some_same, waits_for}
 use Rattle.desk_room.specs.Turn.{target_or_head, turn_cmp, IsInTurn}
 
 pub turn_total : IsTotalOrder turn_cmp
-turn_total = then_total (on_total target_or_head stamp_total) op_total
+turn_total = then_total (on_total target_or_head (back_total stamp_total)) op_total
 
 -- ---- what is before another
 
@@ -48,17 +48,17 @@ after y x h n = go (turn_cmp y x) refl h
   where
     go : (r : Ordering) → turn_cmp y x ≡ r → is_lt r ≡ false → turn_cmp x y ≡ Less
     go Less e k = absurd (true≢false k)
-    go Equal e k = absurd (true≢false (sym (ap is_eq (tied_itself op_total x)) ∙ ap (λ (z : Op). eq_by_cmp op_cmp x z) (sym (op_antisymmetric y x (second_equal (stamp_cmp (target_or_head y) (target_or_head x)) (op_cmp y x) e))) ∙ n))
+    go Equal e k = absurd (true≢false (sym (ap is_eq (tied_itself op_total x)) ∙ ap (λ (z : Op). eq_by_cmp op_cmp x z) (sym (op_antisymmetric y x (second_equal (stamp_cmp (target_or_head x) (target_or_head y)) (op_cmp y x) e))) ∙ n))
     go Greater e k = turn_total.antisymm x y ∙ ap ordering_reverse e
 
--- a smaller target, or the same
-target-order : (x y : Op) → turn_cmp x y ≡ Less → (before (target_or_head x) (target_or_head y) ≡ true) ⊎ (target_or_head x ≡ target_or_head y)
+-- a greater target, or the same
+target-order : (x y : Op) → turn_cmp x y ≡ Less → (before (target_or_head y) (target_or_head x) ≡ true) ⊎ (target_or_head x ≡ target_or_head y)
 unfolding before
-target-order x y h = go (stamp_cmp (target_or_head x) (target_or_head y)) refl h
+target-order x y h = go (stamp_cmp (target_or_head y) (target_or_head x)) refl h
   where
-    go : (r : Ordering) → stamp_cmp (target_or_head x) (target_or_head y) ≡ r → ordering_then r (op_cmp x y) ≡ Less → (is_lt (stamp_cmp (target_or_head x) (target_or_head y)) ≡ true) ⊎ (target_or_head x ≡ target_or_head y)
+    go : (r : Ordering) → stamp_cmp (target_or_head y) (target_or_head x) ≡ r → ordering_then r (op_cmp x y) ≡ Less → (is_lt (stamp_cmp (target_or_head y) (target_or_head x)) ≡ true) ⊎ (target_or_head x ≡ target_or_head y)
     go Less e k = inl (ap is_lt e)
-    go Equal e k = inr (stamp_tied (target_or_head x) (target_or_head y) e)
+    go Equal e k = inr (sym (stamp_tied (target_or_head y) (target_or_head x) e))
     go Greater e k = absurd (true≢false (sym (ap is_lt k)))
 
 pub then-same : (s t : Stamp) (r : Ordering) → same s t ≡ true → is_lt (ordering_then (stamp_cmp s t) r) ≡ is_lt r
@@ -87,12 +87,12 @@ IsDown p = (x y : Op) → turn_cmp x y ≡ Less → p y ≡ true → p x ≡ tru
 pub earlier-down : (op : Op) → IsDown (λ x. is_lt (turn_cmp x op))
 earlier-down op x y l h = ap is_lt (turn_total.trans x y op l (is_less (turn_cmp y op) h))
 
-pub below-down : (s : Stamp) → IsDown (λ x. before (target_or_head x) s)
-below-down s x y l h = go (target-order x y l)
+pub above-down : (s : Stamp) → IsDown (λ x. before s (target_or_head x))
+above-down s x y l h = go (target-order x y l)
   where
-    go : (before (target_or_head x) (target_or_head y) ≡ true) ⊎ (target_or_head x ≡ target_or_head y) → before (target_or_head x) s ≡ true
-    go (inl k) = before-trans (target_or_head x) (target_or_head y) s k h
-    go (inr e) = ap (λ (t : Stamp). before t s) e ∙ h
+    go : (before (target_or_head y) (target_or_head x) ≡ true) ⊎ (target_or_head x ≡ target_or_head y) → before s (target_or_head x) ≡ true
+    go (inl k) = before-trans s (target_or_head y) (target_or_head x) h k
+    go (inr e) = ap (before s) e ∙ h
 
 pub edge-below : (p : Op → Bool) → IsDown p → (xs : List Op) (i : ℕ) → IsInTurn xs → i ≤ length xs → ((d : Op) → 0 < i → p (get_or xs (i - 1) d) ≡ true) → AllByRecursion (λ y. p y ≡ true) (take i xs)
 edge-below p down [] zero t l h = tt
@@ -191,27 +191,27 @@ some-target s (Some t) some h = ap Some h
 pub has-target : (s : Stamp) (o : Op) → HasTarget o → target_or_head o ≡ s → target_of o ≡ Some s
 has-target s o some h = some-target s (target_of o) some h
 
--- no one, where each has a smaller target or a greater one
-pub no_one-waits : (s : Stamp) (xs : List Op) (i : ℕ) → IsInTurn xs → AllByRecursion (λ y. before (target_or_head y) s ≡ true) (take i xs) → ((d : Op) → i < length xs → before s (target_or_head (get_or xs i d)) ≡ true) → AllByRecursion (λ y. waits_for s y ≡ false) xs
+-- no one, where each has a greater target or a smaller one
+pub no_one-waits : (s : Stamp) (xs : List Op) (i : ℕ) → IsInTurn xs → AllByRecursion (λ y. before s (target_or_head y) ≡ true) (take i xs) → ((d : Op) → i < length xs → before (target_or_head (get_or xs i d)) s ≡ true) → AllByRecursion (λ y. waits_for s y ≡ false) xs
 no_one-waits s [] i t b a = tt
-no_one-waits s (x ∷ xs) zero t b a = (not_above s (target_of x) (a x (omega arith)), Each-weaker (λ y. turn_cmp x y ≡ Less) (λ y. waits_for s y ≡ false) (λ y l. not_above s (target_of y) (up y (target-order x y l))) xs t.0)
+no_one-waits s (x ∷ xs) zero t b a = (not_below s (target_of x) (a x (omega arith)), Each-weaker (λ y. turn_cmp x y ≡ Less) (λ y. waits_for s y ≡ false) (λ y l. not_below s (target_of y) (up y (target-order x y l))) xs t.0)
   where
-    up : (y : Op) → (before (target_or_head x) (target_or_head y) ≡ true) ⊎ (target_or_head x ≡ target_or_head y) → before s (target_or_head y) ≡ true
-    up y (inl k) = before-trans s (target_or_head x) (target_or_head y) (a x (omega arith)) k
-    up y (inr e) = ap (before s) (sym e) ∙ a x (omega arith)
-no_one-waits s (x ∷ xs) (suc i) t b a = (not_below s (target_of x) b.0, no_one-waits s xs i t.1 b.1 (λ d l. a d (omega arith)))
+    up : (y : Op) → (before (target_or_head y) (target_or_head x) ≡ true) ⊎ (target_or_head x ≡ target_or_head y) → before (target_or_head y) s ≡ true
+    up y (inl k) = before-trans (target_or_head y) (target_or_head x) s k (a x (omega arith))
+    up y (inr e) = ap (λ (t : Stamp). before t s) (sym e) ∙ a x (omega arith)
+no_one-waits s (x ∷ xs) (suc i) t b a = (not_above s (target_of x) b.0, no_one-waits s xs i t.1 b.1 (λ d l. a d (omega arith)))
 
 op-less : (x o : Op) (s : Stamp) → turn_cmp x o ≡ Less → target_or_head x ≡ s → target_or_head o ≡ s → op_cmp x o ≡ Less
 op-less x o s l tx to =
-    let tied : stamp_cmp (target_or_head x) (target_or_head o) ≡ Equal = ap (λ (t : Stamp). stamp_cmp t (target_or_head o)) tx ∙ ap (stamp_cmp s) to ∙ tied_itself stamp_total s in
+    let tied : stamp_cmp (target_or_head o) (target_or_head x) ≡ Equal = ap (λ (t : Stamp). stamp_cmp t (target_or_head x)) to ∙ ap (stamp_cmp s) tx ∙ tied_itself stamp_total s in
     sym (ap (λ (r : Ordering). ordering_then r (op_cmp x o)) tied) ∙ l
 
 -- the one at the edge is the first of those that wait
-pub first-waits : (s : Stamp) (xs : List Op) (i : ℕ) (d : Op) → IsInTurn xs → i < length xs → AllByRecursion (λ y. before (target_or_head y) s ≡ true) (take i xs) → target_or_head (get_or xs i d) ≡ s → (o : Op) → Among o xs → waits_for s o ≡ true → (o ≡ get_or xs i d) ⊎ (op_cmp (get_or xs i d) o ≡ Less)
+pub first-waits : (s : Stamp) (xs : List Op) (i : ℕ) (d : Op) → IsInTurn xs → i < length xs → AllByRecursion (λ y. before s (target_or_head y) ≡ true) (take i xs) → target_or_head (get_or xs i d) ≡ s → (o : Op) → Among o xs → waits_for s o ≡ true → (o ≡ get_or xs i d) ⊎ (op_cmp (get_or xs i d) o ≡ Less)
 first-waits s [] i d t l b e o m w = absurd (omega arith)
 first-waits s (x ∷ xs) zero d t l b e o (inl q) w = inl (sym q)
 first-waits s (x ∷ xs) zero d t l b e o (inr m) w = inr (op-less x o s (each-among (λ y. turn_cmp x y ≡ Less) xs o t.0 m) e (waits-head s (target_of o) w))
-first-waits s (x ∷ xs) (suc i) d t l b e o (inl q) w = absurd (true≢false (sym w ∙ ap (waits_for s) (sym q) ∙ not_below s (target_of x) b.0))
+first-waits s (x ∷ xs) (suc i) d t l b e o (inl q) w = absurd (true≢false (sym w ∙ ap (waits_for s) (sym q) ∙ not_above s (target_of x) b.0))
 first-waits s (x ∷ xs) (suc i) d t l b e o (inr m) w = first-waits s xs i d t.1 (omega arith) b.1 e o m w
 
 -- ---- a list that is looked at pair by pair

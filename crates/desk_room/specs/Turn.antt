@@ -1,8 +1,8 @@
--- The list in which waiting operations are kept: by target, then by stamp and bytes.
+-- The list in which waiting operations are kept: those of the greatest target first, and those of one target by stamp and bytes.
 use Rattle.std.specs.Prelude.{◌≡◌, List, [], ◌∷◌}
 use Rattle.std.specs.Option.{unwrap_or}
 use Rattle.std.specs.List.{AllByRecursion}
-use Rattle.std.specs.Ordering.{on, then_cmp}
+use Rattle.std.specs.Ordering.{on, flip_args, then_cmp}
 use Rattle.std.specs.declared.cmp.Ordering.{Ordering}
 use Rattle.std.specs.declared.cmp.Ordering.TheVariants.{Less}
 use Rattle.desk_ops.specs.declared.op.Stamp.{Stamp}
@@ -17,7 +17,7 @@ abbrev pub target_or_head : Op → Stamp
 target_or_head op = unwrap_or (target_of op) head
 
 abbrev pub turn_cmp : Op → Op → Ordering
-turn_cmp = then_cmp (on target_or_head stamp_cmp) op_cmp
+turn_cmp = then_cmp (on target_or_head (flip_args stamp_cmp)) op_cmp
 
 -- each is before all that follow
 abbrev pub IsInTurn : List Op → Type 0

@@ -14,10 +14,10 @@ use std::marker::Model;
 
 mod turn;
 
-use turn::{Below, Earlier, compare, is_in_turn, target_of};
+use turn::{Above, Earlier, compare, is_in_turn, target_of};
 
 /// The operations that wait: a set, and with it of each target the list of what waits for it, by stamp and bytes; and how
-/// many more can be put with no new memory. It is kept in pages by target, then by stamp and bytes, so that a put and a
+/// many more can be put with no new memory. It is kept in pages, the greatest target first, then by stamp and bytes, so that a put and a
 /// release look at a few pages and change one or two. No call but `reserve` and `from_ops` takes memory, and these answer
 /// `NoMemory` only where a growth was refused.
 #[derive(Drop)]
@@ -138,13 +138,13 @@ impl<A: Allocator + Copy> Room<A> {
         ensures stays { IsNone result → (op : Op) → has_op self.old.ops op ≡ true → waits_for target op ≡ false }
         ensures spare { self.old.spare ≤ self.new.spare }
     {
-        let below = Below { target };
-        let Some(first) = self.ops.seek(&below) else {
+        let above = Above { target };
+        let Some(first) = self.ops.seek(&above) else {
             return None;
         };
         if !target_of(&first).is_same(target) {
             return None;
         }
-        self.ops.remove_in_order(&below)
+        self.ops.remove_in_order(&above)
     }
 }

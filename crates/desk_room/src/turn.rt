@@ -1,4 +1,6 @@
-//! The order in which waiting operations are kept: by target, then by stamp and bytes.
+//! The order in which waiting operations are kept: those of the greatest target first, and those of one target by stamp
+//! and bytes. Of a chain that comes last element first, each waits for a smaller target than those before it: it is put at
+//! the end of the list, which is quick, and taken out of there.
 ghost use Rattle.std.specs.Prelude.{◌≡◌, IsTrue};
 ghost use Rattle.std.specs.Ordering.{is_lt};
 ghost use Rattle.desk_room.specs.Turn.{target_or_head, turn_cmp, IsInTurn};
@@ -23,10 +25,10 @@ fn is_earlier(a: &Op, b: &Op) -> bool
 {
     let first = target_of(a);
     let second = target_of(b);
-    if first.is_same(second) {
+    if second.is_same(first) {
         return a < b;
     }
-    first.is_before(second)
+    second.is_before(first)
 }
 
 /// Which of the two is kept first: for a sort, after which `is_in_turn` looks.
@@ -71,19 +73,19 @@ impl Pick<Op, ()> for Earlier {
     }
 }
 
-/// Picks what waits for a smaller target.
+/// Picks what waits for a greater target.
 #[derive(Clone, Copy)]
-pub struct Below {
+pub struct Above {
     pub target: Stamp,
 }
 
-impl Pick<Op, ()> for Below {
+impl Pick<Op, ()> for Above {
     ghost use Rattle.desk_ops.specs.Stamp.{before};
     ghost use Rattle.desk_room.specs.Turn.{target_or_head};
 
-    ghost picked = { λ s x. before (target_or_head x) s.target };
+    ghost picked = { λ s x. before s.target (target_or_head x) };
 
     fn picks(&self, x: Op) -> bool {
-        target_of(&x).is_before(self.target)
+        self.target.is_before(target_of(&x))
     }
 }
