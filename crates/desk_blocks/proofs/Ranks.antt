@@ -6,7 +6,7 @@ use Rattle.std.proofs.lemmas.List.Edits.{length-insert, get_or-insert_below, get
 use Rattle.desk_ops.specs.declared.op.Stamp.{Stamp}
 use Rattle.desk_ops.specs.Stamp.{same, before, head}
 use Rattle.desk_ops.proofs.Stamps.{before-trans, before-other, before-apart, before-apart_left, same-true}
-use Rattle.desk_blocks.specs.declared.index.Home.{Home}
+use Rattle.desk_blocks.specs.Home.{Home}
 use Rattle.desk_blocks.specs.Rank.{homes_of, IsRising, IsRank, IsNoneOf, Knows}
 use Rattle.desk_pages.specs.Pages.{IsEdge}
 use Rattle.desk_ops.proofs.Stamps.{by_cases}

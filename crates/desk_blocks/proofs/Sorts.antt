@@ -13,7 +13,7 @@ use Rattle.desk_ops.proofs.Stamps.{before-other, same-symm, stamp_total}
 use Rattle.desk_seq.specs.declared.Entry.{Entry}
 use Rattle.desk_seq.specs.Entries.{stamps_of, AreDistinct}
 use Rattle.desk_seq.proofs.Entries.{absent-at, length-stamps}
-use Rattle.desk_blocks.specs.declared.index.Home.{Home}
+use Rattle.desk_blocks.specs.Home.{Home}
 use Rattle.desk_blocks.specs.Rank.{homes_of, IsRising, IsNoneOf, Knows}
 use Rattle.desk_blocks.proofs.Ranks.{home-at, length-homes}
 

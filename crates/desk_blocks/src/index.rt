@@ -11,11 +11,48 @@ use desk_seq::Entry;
 use std::alloc::{AllocError, Allocator};
 use std::marker::Model;
 
-/// A stamp, and the number of the page in which it stands: a hint.
+/// A stamp, and the number of the page in which it stands: a hint. Its fields lie in the order that takes 16 bytes, and a
+/// page's number in 32 bits, which a list of less than four thousand million pages keeps.
 #[derive(Clone, Copy)]
 pub struct Home {
-    pub stamp: Stamp,
-    pub page: usize,
+    counter: u64,
+    page: u32,
+    site: u16,
+}
+
+impl Model for Home {
+    ghost use Rattle.desk_ops.specs.contracts.op.Stamp as stamp;
+    ghost use Rattle.desk_blocks.specs.Home.{Home, home_code};
+
+    ghost Value = { Home };
+
+    ghost coded = { home_code (stamp.the_row).coded };
+
+    ghost view = { λ h. record { stamp = record { counter = h.counter; site = h.site }; page = h.page } };
+
+    ghost inverse = { λ h. record { counter = h.stamp.counter; page = h.page; site = h.stamp.site } };
+}
+
+impl Home {
+    /// A page beyond 32 bits is told as the last that they name: no hint is believed without a look.
+    fn new(stamp: Stamp, page: usize) -> Home
+        ensures { result.stamp ≡ stamp }
+    {
+        Home {
+            counter: stamp.counter,
+            page: u32::try_from(page).unwrap_or(u32::MAX),
+            site: stamp.site,
+        }
+    }
+
+    fn stamp(self) -> Stamp
+        ensures { result ≡ self.stamp }
+    {
+        Stamp {
+            counter: self.counter,
+            site: self.site,
+        }
+    }
 }
 
 /// Those with a smaller stamp.
@@ -30,13 +67,13 @@ impl Pick<Home, ()> for Below {
     ghost picked = { λ s h. before h.stamp s.stamp };
 
     fn picks(&self, x: Home) -> bool {
-        x.stamp.is_before(self.stamp)
+        x.stamp().is_before(self.stamp)
     }
 
     /// As if the counters of the page rose evenly.
     fn guess(&self, before: Home, last: Home, len: usize) -> Option<usize> {
-        let all = last.stamp.counter.saturating_sub(before.stamp.counter);
-        let part = self.stamp.counter.saturating_sub(before.stamp.counter);
+        let all = last.counter.saturating_sub(before.counter);
+        let part = self.stamp.counter.saturating_sub(before.counter);
         if all == 0 || part > all {
             return None;
         }
@@ -57,7 +94,7 @@ impl Pick<Home, ()> for Bearing {
     ghost picked = { λ s h. same h.stamp s.stamp };
 
     fn picks(&self, x: Home) -> bool {
-        x.stamp.is_same(self.stamp)
+        x.stamp().is_same(self.stamp)
     }
 }
 
@@ -111,7 +148,7 @@ impl<A: Allocator + Copy> Index<A> {
         ensures { IfOk result (λ index. Knows index.stamps (stamps_of list.now)) }
     {
         let mut homes = homes_of(alloc, list)?;
-        homes.sort_unstable_by_key(|home| home.stamp);
+        homes.sort_unstable_by_key(|home| home.stamp());
         Ok(Index {
             homes: Pages::from_slice(alloc, &homes)?,
         })
@@ -125,8 +162,8 @@ impl<A: Allocator + Copy> Index<A> {
         let Some(home) = self.homes.seek(&Below { stamp }) else {
             return None;
         };
-        if home.stamp.is_same(stamp) {
-            Some(home.page)
+        if home.stamp().is_same(stamp) {
+            Some(home.page as usize)
         } else {
             None
         }
@@ -139,7 +176,7 @@ impl<A: Allocator + Copy> Index<A> {
         ensures spare { self.new.spare + 1 ≡ self.old.spare }
     {
         self.homes
-            .insert_in_order(&Below { stamp }, Home { stamp, page });
+            .insert_in_order(&Below { stamp }, Home::new(stamp, page));
     }
 
     /// Renews the hint of a stamp that is there.
@@ -147,8 +184,7 @@ impl<A: Allocator + Copy> Index<A> {
         ensures same { self.new.stamps ≡ self.old.stamps }
         ensures spare { self.new.spare ≡ self.old.spare }
     {
-        self.homes
-            .overwrite(&Below { stamp }, &Bearing { stamp }, Home { stamp, page });
+        self.homes.overwrite(&Below { stamp }, &Bearing { stamp }, Home::new(stamp, page));
     }
 }
 
@@ -158,10 +194,7 @@ fn homes_of<A: Allocator + Copy>(alloc: A, list: &[Entry]) -> Result<Vec<Home, A
 {
     let mut homes = Vec::with_capacity(alloc, list.len())?;
     for i in 0..list.len() {
-        homes.push_reserved(Home {
-            stamp: list[i].stamp,
-            page: i / FULL,
-        });
+        homes.push_reserved(Home::new(list[i].stamp, i / FULL));
     }
     Ok(homes)
 }

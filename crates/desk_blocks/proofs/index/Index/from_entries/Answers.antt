@@ -3,7 +3,7 @@ use Rattle.std.specs.List.Sorted.{IsSortedByKey}
 use Rattle.std.proofs.lemmas.List.Sorted.{answers_always}
 use Rattle.desk_ops.specs.Stamp.{stamp_cmp}
 use Rattle.desk_seq.specs.Entries.{stamps_of}
-use Rattle.desk_blocks.specs.declared.index.Home.{Home}
+use Rattle.desk_blocks.specs.Home.{Home}
 use Rattle.desk_blocks.specs.Rank.{homes_of, IsRising, Knows}
 use Rattle.desk_blocks.proofs.Sorts.{knows-moved, rising-sorted, sorted-from}
 use Rattle.desk_blocks.proofs.index.Index.from_entries.Goals as goal
