@@ -1,3 +1,4 @@
 pub mod Joins
 mod Edges
 mod Pairs
+pub mod Ranges

@@ -1,5 +1,5 @@
 -- What is held, and how many more operations can be held with no new memory.
-use Rattle.std.specs.Prelude.{◌≡◌, ℕ, ◌≤◌, cond, List, length, T, refl}
+use Rattle.std.specs.Prelude.{ℕ, ◌≤◌, cond, List, length, T, refl}
 use Rattle.std.specs.Coded.{Coded, code_by, coded×, coded_ℕ}
 use Rattle.std.specs.List.{AllByRecursion}
 use Rattle.desk_ops.specs.declared.op.Op.{Op}

@@ -1,5 +1,5 @@
 -- Lists of operations added to a set, one after the other.
-use Rattle.std.specs.Prelude.{◌≡◌, ℕ, ◌<◌, ◌↔◌, false, List, length, take}
+use Rattle.std.specs.Prelude.{◌≡◌, ◌<◌, ◌↔◌, false, List, length, take}
 use Rattle.std.specs.List.{HoldsAt}
 use Rattle.desk_ops.specs.declared.op.Op.{Op}
 use Rattle.desk_ops.specs.OpSet.{OpSet, has_op, with_all, size, max_ops}

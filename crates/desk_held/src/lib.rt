@@ -4,7 +4,7 @@
 //! newest stands last, where a site's own operations are added.
 #![tactic(auto)]
 
-ghost use Rattle.std.specs.Prelude.{◌≡◌, ◌+◌, ◌≤◌, ◌<◌, ◌↔◌, IfOk, OnOk, OnErr, IsErrOf, IsOk, IsTrue, All, true, false, slice_index_or};
+ghost use Rattle.std.specs.Prelude.{◌≡◌, ◌+◌, ◌-◌, ◌≤◌, ◌<◌, ◌↔◌, take, drop, IfOk, OnOk, OnErr, IsErrOf, IsOk, IsTrue, All, true, false, slice_index_or};
 ghost use Rattle.desk_ops.specs.Op.{IsLawful};
 ghost use Rattle.desk_ops.specs.OpSet.{no_ops, has_op, with_op, in_order, size, AllLawful};
 ghost use Rattle.desk_ops.specs.Held.{is_borne_in, is_clear_in, clear_op_in, greatest_counter_of};
@@ -218,19 +218,31 @@ impl<A: Allocator + Copy> Held<A> {
         self.ops.entry(i)
     }
 
+    /// The operations from place `from` up to place `until`, by stamp and then by bytes. It reads those alone.
+    #[tactic(auto, using(desk_ops::proofs::OpSets::op_sets))]
+    pub fn range(&self, from: usize, until: usize) -> Result<Vec<Op, A>, NoMemory>
+        requires order { from ≤ until }
+        requires within { until ≤ size self.now.ops }
+        ensures items { IfOk result (λ v. v.items ≡ take (until - from) (drop from (in_order self.now.ops))) }
+        ensures lawful { IfOk result (λ v. All IsLawful v.items) }
+    {
+        let mut list = Vec::with_capacity(self.alloc, until - from)?;
+        let mut at = from;
+        while at < until {
+            let part = self.ops.stretch(at);
+            let many = part.len().min(until - at);
+            list.extend_from_slice(&part[..many])?;
+            at += many;
+        }
+        Ok(list)
+    }
+
     /// The operations, by stamp and then by bytes.
     #[tactic(auto, using(desk_ops::proofs::OpSets::op_sets))]
     pub fn in_order(&self) -> Result<Vec<Op, A>, NoMemory>
         ensures items { IfOk result (λ v. v.items ≡ in_order self.now.ops) }
         ensures lawful { IfOk result (λ v. All IsLawful v.items) }
     {
-        let mut list = Vec::with_capacity(self.alloc, self.ops.len())?;
-        let mut at = 0;
-        while at < self.ops.len() {
-            let part = self.ops.stretch(at);
-            list.extend_from_slice(part)?;
-            at += part.len();
-        }
-        Ok(list)
+        self.range(0, self.len())
     }
 }

@@ -1,5 +1,5 @@
 use Rattle.std.proofs.Common.{◌≡◌, ◌∙◌, ap, sym}
-use Rattle.desk_ops.specs.OpSet.{no_ops, with_all, size}
+use Rattle.desk_ops.specs.OpSet.{no_ops, with_all}
 use Rattle.desk_held.specs.Holding.{Holding}
 use Rattle.desk_held.proofs.Joins.{none_held}
 use Rattle.desk_held.proofs.Held.add_all.Goals as goal

@@ -1,7 +1,6 @@
-use Rattle.std.proofs.Common.{◌≡◌, ◌<◌, ◌-◌, ◌∙◌, sym, ap, arith, length, get_or}
+use Rattle.std.proofs.Common.{◌<◌, ◌-◌, ◌∙◌, sym, ap, arith, length, get_or}
 use Rattle.desk_ops.specs.declared.op.Op.{Op}
 use Rattle.desk_ops.specs.Op.{stamp_of}
-use Rattle.desk_ops.specs.OpSet.{in_order}
 use Rattle.desk_ops.specs.Held.{greatest_counter, greatest_counter_of}
 use Rattle.desk_ops.proofs.OpSets.{in_order-from_rising}
 use Rattle.desk_ops.proofs.Bearers.{ordered_rising, greatest-last}

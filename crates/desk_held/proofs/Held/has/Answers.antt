@@ -1,7 +1,6 @@
 use Rattle.std.proofs.Common.{◌∙◌, ap, refl}
 use Rattle.desk_ops.specs.OpSet.{has_op}
 use Rattle.desk_ops.specs.OrderLaws.{op_tie}
-use Rattle.desk_pages.specs.Pages.{IsEdge}
 use Rattle.desk_held.specs.Holding.{Holding}
 use Rattle.desk_held.proofs.Edges.{has-at, has-none}
 use Rattle.desk_held.proofs.Held.has.Goals as goal

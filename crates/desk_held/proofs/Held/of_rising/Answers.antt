@@ -1,5 +1,5 @@
-use Rattle.std.proofs.Common.{◌∙◌, ap, refl}
-use Rattle.desk_ops.specs.OpSet.{no_ops, with_all, from_rising}
+use Rattle.std.proofs.Common.{◌∙◌, ap}
+use Rattle.desk_ops.specs.OpSet.{from_rising}
 use Rattle.desk_held.proofs.Joins.{of_rising_list}
 use Rattle.desk_held.proofs.Held.of_rising.Goals as goal
 

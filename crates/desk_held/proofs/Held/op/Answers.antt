@@ -1,4 +1,4 @@
-use Rattle.std.proofs.Common.{sym, subst, ◌<◌, length, ◌∙◌, ap}
+use Rattle.std.proofs.Common.{sym, subst, ◌<◌, ◌∙◌, ap}
 use Rattle.desk_ops.specs.Op.{IsLawful}
 use Rattle.desk_ops.specs.OpSet.{size}
 use Rattle.desk_ops.proofs.OpSets.{size-from_rising}
