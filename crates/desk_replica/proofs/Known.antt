@@ -1,5 +1,5 @@
 -- What is not borne is not held.
-use Rattle.std.proofs.Common.{◌≡◌, Bool, true, false, refl, sym, ◌∙◌}
+use Rattle.std.proofs.Common.{◌≡◌, false, refl, sym, ◌∙◌}
 use Rattle.std.proofs.lemmas.Bool.{true≢false}
 use Rattle.desk_ops.specs.declared.op.Op.{Op}
 use Rattle.desk_ops.specs.Op.{stamp_of}

@@ -5,7 +5,7 @@
 //! specification of Attiya et al. 2016 ("Specification and complexity of collaborative text editing").
 #![tactic(auto)]
 
-ghost use Rattle.std.specs.Prelude.{◌≡◌, ◌+◌, ◌≤◌, ◌<◌, ◌↔◌, ◌⊎◌, ◌++◌, ◌^◌, All, IfOk, IfErr, IfSome, IsNone, IsOk, OnOk, OnErr, IsErrOf, length, take, true, false};
+ghost use Rattle.std.specs.Prelude.{◌≡◌, ◌+◌, ◌-◌, ◌≤◌, ◌<◌, ◌↔◌, ◌⊎◌, ◌++◌, ◌^◌, drop, All, IfOk, IfErr, IfSome, IsNone, IsOk, OnOk, OnErr, IsErrOf, length, take, true, false};
 ghost use Rattle.desk_ops.specs.Op.{IsLawful};
 ghost use Rattle.desk_ops.specs.OpSet.{no_ops, has_op, with_op, with_all, union, in_order, size, AllLawful};
 ghost use Rattle.desk_ops.specs.Op.{stamp_of};
@@ -505,6 +505,16 @@ impl<Q: Sequence> Replica<Q> {
         ensures lawful { IfOk result (λ v. All IsLawful v.items) }
     {
         self.held.in_order()
+    }
+
+    /// The operations from place `from` up to place `until`, by stamp and then by bytes. It reads those alone.
+    pub fn range(&self, from: usize, until: usize) -> Result<Vec<Op, Q::Memory>, NoMemory>
+        requires order { from ≤ until }
+        requires within { until ≤ size self.now.ops }
+        ensures items { IfOk result (λ v. v.items ≡ take (until - from) (drop from (in_order self.now.ops))) }
+        ensures lawful { IfOk result (λ v. All IsLawful v.items) }
+    {
+        self.held.range(from, until)
     }
 
     /// The feed of the operations held, by stamp and then by bytes.
