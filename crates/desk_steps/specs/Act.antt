@@ -13,6 +13,8 @@ use Rattle.desk_inputs.specs.Job.{IsJobByFiles}
 use Rattle.desk_inputs.specs.declared.job.Wanted.{Wanted}
 use Rattle.desk_inputs.specs.declared.job.Wanted.TheVariants as wants
 use Rattle.desk_answers.specs.NotDone.{event_reply}
+use Rattle.desk_answers.specs.declared.not_done.NotDone.{NotDone}
+use Rattle.desk_answers.specs.declared.not_done.NotDone.TheVariants as ends
 use Rattle.desk_answers.specs.declared.text.Refusal.{Refusal}
 use Rattle.desk_answers.specs.declared.text.Refusal.TheVariants as refusals
 use Rattle.desk_answers.specs.Reply.{Reply, Copy, Refused}
@@ -40,6 +42,10 @@ Takes old n bytes reply new =
 abbrev pub sent : List Op → Option (ℕ × ℕ) → Option (List Op)
 sent ops None = Some ops
 sent ops (Some range) = if nat_le range.0 range.1 && nat_le range.1 (length ops) then Some (take (range.1 - range.0) (drop range.0 ops)) else None
+
+-- there is no part: the places are refused, or no memory was left for it
+abbrev pub IsNoPart : NotDone → Option (List Op) → Type 0
+IsNoPart end part = ((end ≡ ends.Refused refusals.Place) × (part ≡ None)) ⊎ (end ≡ ends.NoMemory)
 
 -- a site is given the operations at the places, or the places are refused
 abbrev pub GivesPart : Sites → List Op → Option (ℕ × ℕ) → ℕ → Reply → Sites → Type 0

@@ -1,23 +1,26 @@
 //! What each command does.
 
-ghost use Rattle.std.specs.Prelude.{◌≡◌, All, IfErr, IfOk, MatchResult, None, Some};
+ghost use Rattle.std.specs.Prelude.{◌≡◌, All, IfErr, IfOk, Some};
 ghost use Rattle.desk_answers.specs.NotDone.{IfReplied};
 ghost use Rattle.desk_commands.specs.Request as requests;
 ghost use Rattle.desk_commands.specs.Request.{request};
 ghost use Rattle.desk_files.specs.Files.{Stays};
 ghost use Rattle.desk_inputs.specs.Job.{IsJobByFiles};
 ghost use Rattle.desk_ops.specs.Op.{IsLawful};
-ghost use Rattle.desk_steps.specs.Act.{Does, GivesPart, IsBrought, Jobs, Performs, Takes, sent};
+ghost use Rattle.desk_ops.specs.OpSet.{in_order};
+ghost use Rattle.desk_steps.specs.Act.{Does, IsBrought, IsNoPart, Jobs, Performs, Takes, sent};
 ghost use Rattle.desk_steps.specs.Desk.{desk};
 
 use crate::event::{happen, number_of, replica_of};
 use crate::insert::insert;
 use desk_answers::{NotDone, Refusal, Response};
+use desk_blocks::Blocks;
 use desk_codec::{ReadFault, read_feed};
 use desk_commands::Command;
 use desk_files::Files;
 use desk_inputs::{Memory, Wanted, job_by_files};
 use desk_ops::{Key, Op};
+use desk_replica::Replica;
 use desk_world::{Answer, Event, World};
 use std::alloc::Allocator;
 
@@ -103,35 +106,23 @@ fn take<A: Allocator + Copy>(
     take_feed(alloc, world, site, feed)
 }
 
-/// The operations at the places of a range, or all.
-fn sent(ops: &[Op], range: Option<(u32, u32)>) -> Result<&[Op], NotDone>
-    requires { All IsLawful ops.now }
-    ensures part { MatchResult result (λ part. Some part.now ≡ sent ops.now range) (λ _. None ≡ sent ops.now range) }
-    ensures lawful { IfOk result (λ part. All IsLawful part.now) }
-    ensures refused { IfErr result (λ end. end ≡ NotDone.Refused Refusal.Place) }
+/// A replica's operations at the places of a range, or all. It copies those alone.
+fn part_of<A: Allocator + Copy>(
+    replica: &Replica<Blocks<A>>,
+    range: Option<(u32, u32)>,
+) -> Result<Vec<Op, A>, NotDone>
+    ensures part { IfOk result (λ part. Some part.items ≡ sent (in_order replica.now.ops) range) }
+    ensures lawful { IfOk result (λ part. All IsLawful part.items) }
+    ensures refused { IfErr result (λ end. IsNoPart end (sent (in_order replica.now.ops) range)) }
 {
     let Some((from, to)) = range else {
-        return Ok(ops);
+        return Ok(replica.in_order()?);
     };
-    if from <= to && to as usize <= ops.len() {
-        Ok(&ops[from as usize..to as usize])
+    if from <= to && to as usize <= replica.len() {
+        Ok(replica.range(from as usize, to as usize)?)
     } else {
         Err(NotDone::Refused(Refusal::Place))
     }
-}
-
-/// Gives a site the operations at the places of a range, or all.
-fn give_part<A: Allocator + Copy>(
-    world: &mut World<A>,
-    to: u16,
-    ops: &[Op],
-    range: Option<(u32, u32)>,
-) -> Result<Response<A>, NotDone>
-    requires { All IsLawful ops.now }
-    ensures { IfReplied result (λ reply. GivesPart world.old ops.now range to reply world.new) }
-{
-    let ops = sent(ops, range)?;
-    happen(world, &Event::Give { to, ops })
 }
 
 fn send<A: Allocator + Copy>(
@@ -144,8 +135,8 @@ fn send<A: Allocator + Copy>(
 {
     let replica = replica_of(world, from)?;
     let to = number_of(world, to)?;
-    let ops = replica.in_order()?;
-    give_part(world, to, &ops, range)
+    let ops = part_of(replica, range)?;
+    happen(world, &Event::Give { to, ops: &ops })
 }
 
 fn merge<A: Allocator + Copy>(
