@@ -1,0 +1,32 @@
+-- What holds of the texts of copies.
+use Rattle.std.specs.Prelude.{◌≡◌, true, false, List, [], ◌∷◌, map, Ok}
+use Rattle.std.specs.Char.{IsScalar}
+use Rattle.std.specs.Str.{encode_utf8_all}
+use Rattle.desk_ops.specs.declared.op.Style.TheVariants.{Roman}
+use Rattle.desk_ops.specs.declared.op.Symbol.{Symbol}
+use Rattle.desk_ops.specs.Op.{IsSymbol}
+use Rattle.desk_text.specs.Writing.{text_bytes}
+use Rattle.desk_text.specs.Reading.{reading}
+
+-- each symbol is lawful
+abbrev pub AreLawful : List Symbol → Type 0
+AreLawful [] = Unit {0}
+AreLawful (s ∷ copy) = IsSymbol s × AreLawful copy
+
+-- each symbol has a character
+abbrev pub AreCharacters : List Symbol → Type 0
+AreCharacters [] = Unit {0}
+AreCharacters (s ∷ copy) = IsScalar s.ch × AreCharacters copy
+
+abbrev pub AreRoman : List Symbol → Type 0
+AreRoman [] = Unit {0}
+AreRoman (s ∷ copy) = (s.style ≡ Roman) × AreRoman copy
+
+-- what is written for a lawful copy is read again as that copy
+abbrev pub TextIsReadAgain : Type 0
+TextIsReadAgain = (copy : List Symbol) → AreLawful copy → AreCharacters copy → reading false (text_bytes copy) ≡ Ok copy
+
+-- the characters of a lawful Roman copy, read as plain text, are that copy
+abbrev pub PlainIsReadAgain : Type 0
+PlainIsReadAgain =
+    (copy : List Symbol) → AreLawful copy → AreCharacters copy → AreRoman copy → reading true (encode_utf8_all (map (λ s. s.ch) copy)) ≡ Ok copy

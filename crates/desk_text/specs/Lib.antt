@@ -1,0 +1,4 @@
+pub mod Marks
+pub mod Writing
+pub mod Reading
+pub mod Laws

@@ -1,0 +1,13 @@
+//! A copy as text in UTF-8 with marks for its styles, and text read as a copy.
+#![tactic(auto)]
+
+mod fault;
+mod laws;
+mod marks;
+mod reader;
+mod writing;
+
+pub use fault::{Cause, Place, TextFault};
+pub use laws::{law_of_plain_text, law_of_text};
+pub use reader::read_text;
+pub use writing::write_text;

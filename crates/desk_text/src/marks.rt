@@ -1,0 +1,19 @@
+//! Marks of styles.
+
+ghost use Rattle.std.specs.Prelude.{◌≡◌};
+ghost use Rattle.desk_text.specs.Marks.{is_mark, same_style};
+
+use desk_ops::Style;
+
+/// Whether it stands for itself only behind a backslash.
+pub fn is_mark(c: char) -> bool
+    ensures { result ≡ is_mark c }
+{
+    matches!(c, '\\' | '^' | '_')
+}
+
+pub fn is_same(one: Style, other: Style) -> bool
+    ensures { result ≡ same_style one other }
+{
+    one == other
+}
