@@ -38,7 +38,7 @@ pub steps_on : (plain : Bool) (style to : Style) (c : ℕ) (o : Option Symbol) (
     → Reads plain style (c ∷ cs) (option_to_list o ++ copy)
 steps_on plain style to c o cs copy stepped reads here = rw (stepped here, reads (after here c)) refl
 
-one_space : (style : Style) (cs : List ℕ) (copy : List Symbol) → Reads false style cs copy → Reads false style (32 ∷ cs) (space ∷ copy)
+pub one_space : (style : Style) (cs : List ℕ) (copy : List Symbol) → Reads false style cs copy → Reads false style (32 ∷ cs) (space ∷ copy)
 unfolding step marked
 one_space style cs copy reads = steps_on false style style 32 (Some space) cs copy (stepped style) reads
   where
@@ -51,7 +51,7 @@ all_spaces (suc n) style cs copy reads = one_space style (spaces n ++ cs) (repli
 
 -- ---- marks
 
-closes : (style : Style) (cs : List ℕ) (copy : List Symbol) → Reads false Roman cs copy → Reads false style (mark style ++ cs) copy
+pub closes : (style : Style) (cs : List ℕ) (copy : List Symbol) → Reads false Roman cs copy → Reads false style (mark style ++ cs) copy
 unfolding step marked
 closes Roman cs copy reads = reads
 closes Italic cs copy reads = steps_on false Italic Roman 95 None cs copy stepped reads
@@ -63,7 +63,7 @@ closes SmallCap cs copy reads = steps_on false SmallCap Roman 94 None cs copy st
     stepped : (here : Place) → step false (Within SmallCap) here 94 ≡ Ok (Within Roman, None)
     stepped here = refl
 
-opens : (style : Style) (cs : List ℕ) (copy : List Symbol) → Reads false style cs copy → Reads false Roman (mark style ++ cs) copy
+pub opens : (style : Style) (cs : List ℕ) (copy : List Symbol) → Reads false style cs copy → Reads false Roman (mark style ++ cs) copy
 unfolding step marked
 opens Roman cs copy reads = reads
 opens Italic cs copy reads = steps_on false Roman Italic 95 None cs copy stepped reads
@@ -98,7 +98,7 @@ turns SmallCap count Italic cs copy reads = turned_over SmallCap count Italic cs
 no_mark : (c : ℕ) → is_mark c ≡ false → ((c == 92) ≡ false) × ((c == 95) ≡ false) × ((c == 94) ≡ false)
 no_mark c e = (grind (arith, nat_tests), grind (arith, nat_tests), grind (arith, nat_tests))
 
-no_return : (s : Symbol) → IsSymbol s → (s.ch == 13) ≡ false
+pub no_return : (s : Symbol) → IsSymbol s → (s.ch == 13) ≡ false
 no_return s (inl (roman, inl e)) = rw e refl
 no_return s (inl (roman, inr e)) = rw e refl
 no_return s (inr (more, wide)) = not_same s.ch 13 (λ e. omega (arith, e, more))
@@ -114,22 +114,22 @@ is_blank s (inl (roman, inl e)) same = absurd (omega (arith, e, is_same s.ch 32 
 is_blank s (inr (more, wide)) same = absurd (omega (arith, more, is_same s.ch 32 same))
 
 -- a symbol that is no space and no line feed stands for itself where its character is no mark
-stands : (plain : Bool) (s : Symbol) → IsSymbol s → (s.ch == 32) ≡ false → (s.ch == 10) ≡ false → is_mark s.ch ≡ false → (here : Place) → step plain (Within s.style) here s.ch ≡ Ok (Within s.style, Some s)
+pub stands : (plain : Bool) (s : Symbol) → IsSymbol s → (s.ch == 32) ≡ false → (s.ch == 10) ≡ false → is_mark s.ch ≡ false → (here : Place) → step plain (Within s.style) here s.ch ≡ Ok (Within s.style, Some s)
 unfolding step marked
 stands true s lawful other line plain here = rw (line, no_return s lawful, other, symbol_true s lawful) refl
 stands false s lawful other line plain here =
     let n = no_mark s.ch plain in
     rw (line, no_return s lawful, n.0, n.1, n.2, other, symbol_true s lawful) refl
 
-line_ends : (plain : Bool) (here : Place) → step plain (Within Roman) here 10 ≡ Ok (Within Roman, Some line_feed)
+pub line_ends : (plain : Bool) (here : Place) → step plain (Within Roman) here 10 ≡ Ok (Within Roman, Some line_feed)
 unfolding step
 line_ends plain here = refl
 
-feed_read : (plain : Bool) (cs : List ℕ) (copy : List Symbol) → Reads plain Roman cs copy → Reads plain Roman (10 ∷ cs) (line_feed ∷ copy)
+pub feed_read : (plain : Bool) (cs : List ℕ) (copy : List Symbol) → Reads plain Roman cs copy → Reads plain Roman (10 ∷ cs) (line_feed ∷ copy)
 feed_read plain cs copy reads = steps_on plain Roman Roman 10 (Some line_feed) cs copy (line_ends plain) reads
 
 -- a mark behind a backslash
-escaped_read : (style : Style) (c : ℕ) (cs : List ℕ) (copy : List Symbol) → is_mark c ≡ true → Reads false style cs copy → Reads false style (92 ∷ c ∷ cs) (symbol style c ∷ copy)
+pub escaped_read : (style : Style) (c : ℕ) (cs : List ℕ) (copy : List Symbol) → is_mark c ≡ true → Reads false style cs copy → Reads false style (92 ∷ c ∷ cs) (symbol style c ∷ copy)
 unfolding step marked
 escaped_read style c cs copy m reads here = rw (m, reads (after (after here 92) c)) refl
 
@@ -150,7 +150,7 @@ quoted_read s cs copy lawful other reads =
         (λ e. subst (λ (f : Symbol). Reads false f.style (f.ch ∷ cs) (f ∷ copy)) (sym (is_feed s lawful e)) (feed_read false cs copy (subst (λ (f : Symbol). Reads false f.style cs copy) (is_feed s lawful e) reads)))
         (λ e. steps_on false s.style s.style s.ch (Some s) cs copy (stands false s lawful other e m) reads)
 
-nothing_left : Reads false Roman [] []
+pub nothing_left : Reads false Roman [] []
 nothing_left here = refl
 
 -- ---- the whole text

@@ -2,3 +2,4 @@ pub mod Texts
 pub mod Loops
 pub mod Again
 pub mod Lawful
+pub mod Grammar

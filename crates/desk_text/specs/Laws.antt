@@ -1,11 +1,12 @@
 -- What holds of the texts of copies.
-use Rattle.std.specs.Prelude.{◌≡◌, true, false, List, [], ◌∷◌, map, Ok}
+use Rattle.std.specs.Prelude.{◌≡◌, ◌↔◌, ℕ, true, false, List, [], ◌∷◌, map, Ok}
 use Rattle.std.specs.Char.{IsScalar}
-use Rattle.std.specs.Str.{encode_utf8_all}
+use Rattle.std.specs.Str.{IsUtf8, chars, encode_utf8_all}
 use Rattle.desk_ops.specs.declared.op.Style.TheVariants.{Roman}
 use Rattle.desk_ops.specs.declared.op.Symbol.{Symbol}
 use Rattle.desk_ops.specs.Op.{IsSymbol}
 use Rattle.desk_text.specs.Writing.{text_bytes}
+use Rattle.desk_text.specs.Grammar.{IsText}
 use Rattle.desk_text.specs.Reading.{reading}
 
 -- each symbol is lawful
@@ -30,3 +31,7 @@ TextIsReadAgain = (copy : List Symbol) → AreLawful copy → AreCharacters copy
 abbrev pub PlainIsReadAgain : Type 0
 PlainIsReadAgain =
     (copy : List Symbol) → AreLawful copy → AreCharacters copy → AreRoman copy → reading true (encode_utf8_all (map (λ s. s.ch) copy)) ≡ Ok copy
+
+-- what is read of characters is what the cases of the grammar allow
+abbrev pub ReadIsGrammar : Type 0
+ReadIsGrammar = (bytes : List ℕ) (copy : List Symbol) → IsUtf8 bytes → (reading false bytes ≡ Ok copy) ↔ IsText Roman (chars bytes) copy

@@ -1,4 +1,5 @@
 pub mod Marks
 pub mod Writing
 pub mod Reading
+pub mod Grammar
 pub mod Laws

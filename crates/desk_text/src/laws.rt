@@ -1,6 +1,6 @@
 //! What holds of the texts of copies, whoever writes or reads them.
 
-ghost use Rattle.desk_text.specs.Laws.{TextIsReadAgain, PlainIsReadAgain};
+ghost use Rattle.desk_text.specs.Laws.{TextIsReadAgain, PlainIsReadAgain, ReadIsGrammar};
 
 /// What is written for a lawful copy is read again as that copy.
 pub fn law_of_text()
@@ -10,4 +10,10 @@ pub fn law_of_text()
 /// The characters of a lawful Roman copy, read as plain text, are that copy.
 pub fn law_of_plain_text()
     ensures { PlainIsReadAgain }
+{}
+
+/// The characters that are read as a copy are those that its grammar allows: ends of lines and spaces, characters and
+/// escaped marks in a style, and marks that open and close one.
+pub fn law_of_grammar()
+    ensures { ReadIsGrammar }
 {}

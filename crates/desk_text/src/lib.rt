@@ -8,6 +8,6 @@ mod reader;
 mod writing;
 
 pub use fault::{Cause, Place, TextFault};
-pub use laws::{law_of_plain_text, law_of_text};
+pub use laws::{law_of_grammar, law_of_plain_text, law_of_text};
 pub use reader::read_text;
 pub use writing::write_text;
