@@ -19,7 +19,7 @@ import tempfile
 import time
 
 HERE = os.path.dirname(os.path.abspath(__file__))
-MAGIC = b"MFD1"
+MAGIC = b"MFD2"
 FAULT = b"copydesk: file fault\n"
 SEED = 1957
 NOBODY = 65534

@@ -68,11 +68,13 @@ class Scripts:
     def place(self):
         return self.pick.choice([0, 0, 1, 2, 3, 5, 8, 20, self.pick.randrange(0, 90)])
 
+    def stamp(self):
+        return (self.pick.randrange(0, 12) if self.pick.random() < 0.95 else self.pick.choice([1 << 62, (1 << 62) + 1, 0]), self.pick.randrange(0, 4))
+
     def op(self):
         """The bytes of an operation, mostly lawful."""
-        stamp = lambda: (self.pick.randrange(0, 12) if self.pick.random() < 0.95 else self.pick.choice([1 << 62, (1 << 62) + 1, 0]), self.pick.randrange(0, 4))
         kind = self.pick.choice(["insert", "insert", "insert", "delete", "delete", "set"])
-        s, t = stamp(), stamp()
+        s, t = self.stamp(), self.stamp()
         if self.pick.random() < 0.9 and not t < s:
             s, t = t, s
         if self.pick.random() < 0.3:
@@ -84,8 +86,22 @@ class Scripts:
         key = self.pick.choice(oracle.KEYS)
         return oracle.spelling((kind, s, key, self.pick.choice([1, 5, 12, 16, 53, 120, 240, 300])))
 
+    def run(self):
+        """A run from an insert on; one of a count that no run has, and one of no symbol's numbers, now and then."""
+        s, t = self.stamp(), self.stamp()
+        if self.pick.random() < 0.9 and not t < s:
+            s, t = t, s
+        if self.pick.random() < 0.3:
+            t = (0, 0)
+        count = self.pick.choice([2, 2, 3, 5, 63, 64]) if self.pick.random() < 0.95 else self.pick.choice([0, 1, 65])
+        symbols = b"".join(bytes([self.pick.choice([0, 0, 1, 2])]) + ord(self.pick.choice("ntam")).to_bytes(4, "big") for _ in range(count))
+        if self.pick.random() < 0.03 and symbols:
+            symbols = symbols[:-1] + b"\x09"
+        return b"\x04" + oracle.spelling(("delete", s, t))[1:] + bytes([count]) + symbols
+
     def hex(self):
-        data = b"MFD1" + b"".join(self.op() for _ in range(self.pick.choice([0, 1, 1, 2, 4, 9])))
+        runs = self.pick.random() < 0.5
+        data = (b"MFD2" if runs else b"MFD1") + b"".join(self.run() if runs and self.pick.random() < 0.4 else self.op() for _ in range(self.pick.choice([0, 1, 1, 2, 4, 9])))
         if self.pick.random() < 0.06:
             data = data[:self.pick.randrange(0, len(data))]
         if self.pick.random() < 0.04 and data:

@@ -1,19 +1,45 @@
 #!/usr/bin/env python3
 """Refuses each growth of the program in turn: growths.py PROGRAM.
 
-A run in which one growth was refused either answers all as the undisturbed run does, or ends with status 1 and
-`copydesk: no memory`, and then what it wrote is a front of the undisturbed answers: no want of memory is told as another
-refusal, of the wedge or the case file too, whose text `toml` reads with the global allocator. Words that are refused or
-ask for help keep their status, or end in that way too. On a stored feed the file holds the old feed after an end with
-status 1, and the new one after one with 0.
+A line of which a growth was refused is answered `refused memory`, and has changed nothing, or `stopped K memory`, and its
+first K operations stand; each other answer is that of the independent program, which follows: it passes over the first and
+does the front of the second. The lines of the first script and of the stored feed stand twice, so that what was refused is
+asked again with memory. The run goes on: it ends with status 1 and `copydesk: no memory` only before the first answer, or
+where the next line is longer than all before it, so that there was no memory to keep it, and what it wrote then is whole
+lines. Then all growths from one on are refused, for each twentieth, and the same holds. No want of memory is told as another
+refusal, of the wedge or the case file too, whose text `toml` reads with the global allocator. On a stored feed a run may end
+so also at its end, where it stores; the file holds the old feed then, and the followed one after an end with status 0. Words
+that are refused or ask for help keep their status, or end in that way too.
 """
+import functools
 import os
+import re
 import subprocess
 import sys
 import tempfile
 
+import oracle
+
+oracle.first_fault_case = functools.lru_cache(64)(oracle.first_fault_case)  # each run reads the same files
+oracle.first_fault_wedge = functools.lru_cache(64)(oracle.first_fault_wedge)
+
 HERE = os.path.dirname(os.path.abspath(__file__))
 EXAMPLES = os.path.join(os.path.dirname(HERE), "examples")
+FIRST = """site 1
+site 2
+insert 1 0 r"ab"
+send 1 2
+show 1
+show 2
+feed 2
+set 1 measure 288
+set 1 tight 40
+set 1 loose 200
+set 1 case 12
+set 1 wedge 5
+ribbon 1 case12.toml wedge5.toml
+cast 1 case12.toml wedge5.toml
+"""
 SCRIPT = """site 1
 site 2
 insert 1 0 r"In ab" i"c" r"\\n"
@@ -109,13 +135,16 @@ def shim(folder):
 
 
 class Runs:
-    def __init__(self, program, words, text, folder, library, texts=False):
-        self.command, self.text, self.folder, self.library = [program] + words, text, folder, library
-        self.texts = texts
+    """A program with its words and its input, in a folder: run while growths are refused."""
 
-    def run(self, number):
+    def __init__(self, program, words, text, folder, library):
+        self.command, self.text, self.folder, self.library = [program] + words, text.encode(), folder, library
+
+    def run(self, number, always=False):
         environment = dict(os.environ, LD_PRELOAD=self.library, REFUSE=str(number))
-        done = subprocess.run(self.command, input=self.text.encode(), cwd=self.folder, env=environment, capture_output=True, timeout=60)
+        if always:
+            environment["ALWAYS"] = "1"
+        done = subprocess.run(self.command, input=self.text, cwd=self.folder, env=environment, capture_output=True, timeout=60)
         return done.returncode, done.stdout, done.stderr
 
     def count(self):
@@ -123,95 +152,191 @@ class Runs:
         reading, writing = os.pipe()
         environment = dict(os.environ, LD_PRELOAD=self.library, COUNT="1")
         move = "exec 3>&%d; exec \"$@\"" % writing
-        subprocess.run(["bash", "-c", move, "bash"] + self.command, input=self.text.encode(), cwd=self.folder, env=environment, stdout=subprocess.DEVNULL, stderr=subprocess.DEVNULL, pass_fds=[writing], timeout=60)
+        subprocess.run(["bash", "-c", move, "bash"] + self.command, input=self.text, cwd=self.folder, env=environment, stdout=subprocess.DEVNULL, stderr=subprocess.DEVNULL, pass_fds=[writing], timeout=60)
         os.close(writing)
         with os.fdopen(reading) as told:
             return int(told.read().split()[-1])
 
 
-def compare(runs, whole, number):
-    """What is wrong with the run in which this growth is refused, and whether it ended early."""
-    status, written, told = runs.run(number)
-    if status == whole[0] != 1:
-        fronts = whole[1].startswith(written) and whole[2].startswith(told)
-        same = (written, told) == whole[1:] or (runs.texts and fronts)
-        return None if same else "ended with %d and other answers" % status, False
-    if status != 1 or told != b"copydesk: no memory\n":
-        return "ended with %d and %r" % (status, told), True
-    return None if whole[1].startswith(written) else "wrote what is no front of the answers", True
+def front(world, line, count):
+    """Does the first operations of a line, and whether there are more."""
+    name, site, *rest = oracle.parse(line)
+    if name == "insert":
+        done = world.insert(site, rest[0], rest[1][:count])
+        return len(rest[1]) > count and done.startswith("ok ")
+    if name == "take":
+        ops = oracle.read_feed(rest[0])
+    else:
+        ops = sorted(world.sites[site if name == "send" else rest[0]], key=oracle.order)
+        ops = ops[rest[1][0]:rest[1][1]] if name == "send" and rest[1] is not None else ops
+    to = rest[0] if name == "send" else site
+    return len(ops) > count and world.gain(to, ops[:count]).startswith("ok ")
+
+
+class Follower:
+    """The independent program, which does what a run has told of each line that it did."""
+
+    def __init__(self, start):
+        self.world, self.lacked = oracle.World(), set()
+        for line in start:
+            self.world.answer(line)
+
+    def line(self, line, answer):
+        """What is wrong with the answer of a line."""
+        stopped = re.fullmatch(rb"stopped ([1-9][0-9]*) memory", answer)
+        if answer == b"refused memory" or stopped:
+            self.lacked.add((line.split(b" ")[0].decode(), bool(stopped)))
+        if answer == b"refused memory":
+            return None
+        if stopped:
+            return None if front(self.world, line, int(stopped[1])) else "%r was stopped after all: %r" % (line, answer)
+        want = self.world.answer(line).encode("utf-8", "surrogatepass")
+        return None if answer == want else "%r was answered %r and not %r" % (line, answer[:80], want[:80])
+
+    def feed(self, site):
+        return bytes.fromhex(self.world.answer(b"feed %d" % site).split(" ")[1])
+
+
+def ended_early(lines, answered, at_end):
+    """What is wrong with an end before all was done, after so many answers."""
+    if answered == 0 or (at_end and answered == len(lines)):
+        return None
+    if answered < len(lines) and len(lines[answered]) > max(len(line) for line in lines[:answered]):
+        return None
+    return "ended early after %d answers" % answered
+
+
+class Sweep:
+    """A script of which growths are refused: what was wrong, how often the run ended early, and what lacked memory."""
+
+    def __init__(self, runs, start=(), feed=None):
+        self.runs, self.start, self.feed = runs, start, feed
+        self.lines = list(oracle.lines(runs.text))
+        self.faults, self.early, self.times, self.lacked = [], 0, 0, set()
+        self.cwd = os.getcwd()
+
+    def once(self, number, always):
+        """What is wrong with one run."""
+        status, written, told = self.runs.run(number, always)
+        answers = written.split(b"\n")
+        if answers.pop() != b"":
+            return "part of a line was written"
+        follower = Follower(self.start)
+        wrong = [fault for fault in map(follower.line, self.lines, answers) if fault]
+        if wrong:
+            return wrong[0]
+        self.lacked |= follower.lacked
+        if number and not always and sum(a.endswith(b" memory") for a in answers) > 1:
+            return "one growth was told of twice"
+        if status == 0:
+            return self.whole(answers, told, follower)
+        self.early += 1
+        if status != 1 or told != b"copydesk: no memory\n":
+            return "ended with %d and %r" % (status, told)
+        return ended_early(self.lines, len(answers), self.feed is not None) or self.kept(None)
+
+    def whole(self, answers, told, follower):
+        if told or len(answers) != len(self.lines):
+            return "ended well with %d answers of %d, and %r" % (len(answers), len(self.lines), told)
+        return self.kept(follower)
+
+    def kept(self, follower):
+        """What is wrong with the stored feed: it is the followed one, or where the run ended early the old one."""
+        if self.feed is None:
+            return None
+        path, old, site = self.feed
+        with open(path, "rb") as file:
+            now = file.read()
+        with open(path, "wb") as file:
+            file.write(old)
+        return None if now == (follower.feed(site) if follower else old) else "the stored feed is another one"
+
+    def all(self):
+        os.chdir(self.runs.folder)  # the independent program reads its files there
+        growths = self.runs.count()
+        if self.feed:
+            with open(self.feed[0], "wb") as file:
+                file.write(self.feed[1])
+        self.note("undisturbed", self.once(0, False))
+        if self.early or self.lacked:
+            self.faults.append("memory was wanted with nothing refused")
+        for number in range(1, growths + 1):
+            self.note("growth %d" % number, self.once(number, False))
+        for number in range(1, growths + 1, 20):
+            self.note("from growth %d on" % number, self.once(number, True))
+        os.chdir(self.cwd)
+        return self
+
+    def note(self, place, fault):
+        self.times += 1
+        if fault:
+            self.faults.append("%s: %s" % (place, fault))
+
+
+def twice(text):
+    return "".join(line + "\n" + line + "\n" for line in text.splitlines())
 
 
 def script(program, folder, library, text=SCRIPT):
-    runs = Runs(program, ["script"], text, folder, library)
-    whole = runs.run(0)
-    if whole[0] or whole[2] or whole[1].count(b"\n") != text.count("\n"):
-        return ["the undisturbed run ended with %d: %r" % (whole[0], whole[2])], 0, 0
-    return sweep(runs, whole, lambda early: None)
+    return Sweep(Runs(program, ["script"], text, folder, library)).all()
+
+
+def first(program, folder, library):
+    return script(program, folder, library, twice(FIRST))
 
 
 def bad_files(program, folder, library):
     return script(program, folder, library, BAD_FILES)
 
 
+def stored(program, folder, library):
+    """On a stored feed of two symbols and a measure."""
+    path = os.path.join(folder, "a.feed")
+    runs = Runs(program, ["desk", "a.feed", "--site", "3"], twice(STORED), folder, library)
+    runs.run(0)
+    with open(path, "rb") as file:
+        old = file.read()
+    start = [b"site 3", b"take 3 " + old.hex().encode()]
+    return Sweep(runs, start, (path, old, 3)).all()
+
+
 def words(program, folder, library):
     """Words that ask for help, and words that are refused: their texts may be cut short, their status may not change."""
-    faults, number, early = [], 0, 0
+    sweep = Sweep(Runs(program, [], "", folder, library))
     for line in ("--help", "desk --help", "jump", "desk a.feed", "desk a.feed --site 0", "script now"):
-        runs = Runs(program, line.split(), "site 1\n", folder, library, True)
-        some, growths, ended = sweep(runs, runs.run(0), lambda early: None)
-        faults += ["%s: %s" % (line, fault) for fault in some]
-        number, early = number + growths, early + ended
-    return faults, number, early
+        runs = Runs(program, line.split(), "site 1\n", folder, library)
+        whole = runs.run(0)
+        for number in range(1, runs.count() + 1):
+            status, written, told = runs.run(number)
+            ended = status == 1 and told == b"copydesk: no memory\n"
+            sweep.early += ended
+            same = status == whole[0] and whole[2].startswith(told)
+            fine = whole[1].startswith(written) and (ended or same)
+            sweep.note("%s, growth %d" % (line, number), None if fine else "ended with %d and %r" % (status, told))
+    return sweep
 
 
-def stored(program, folder, library):
-    feed = os.path.join(folder, "a.feed")
-    runs = Runs(program, ["desk", "a.feed", "--site", "3"], STORED, folder, library)
-    runs.run(0)
-    with open(feed, "rb") as file:
-        old = file.read()
-    whole = runs.run(0)
-    with open(feed, "rb") as file:
-        new = file.read()
-
-    def back():
-        with open(feed, "wb") as file:
-            file.write(old)
-
-    def held(early):
-        with open(feed, "rb") as file:
-            now = file.read()
-        back()
-        return None if now == (old if early else new) else "the stored feed is not the %s one" % ("old" if early else "new")
-
-    back()
-    return sweep(runs, whole, held)
-
-
-def sweep(runs, whole, held):
-    number, faults, early = runs.count(), [], 0
-    held(False)
-    for k in range(1, number + 1):
-        fault, ended = compare(runs, whole, k)
-        early += ended
-        fault = fault or held(ended)
-        if fault:
-            faults.append("growth %d: %s" % (k, fault))
-    return faults, number, early
+# the commands that a run of the script was seen to refuse for want of memory, and those that it stopped
+LACKING = {(name, False) for name in ("site", "insert", "take", "send", "merge", "show", "faults", "settings", "feed", "ribbon", "cast", "restart")}
 
 
 def main():
     program = os.path.abspath(sys.argv[1])
     with tempfile.TemporaryDirectory() as folder:
-        library, failed = shim(folder), False
+        library, failed, lacked = shim(folder), False, set()
         files(folder)
-        for name, part in (("script", script), ("bad files", bad_files), ("words", words), ("stored feed", stored)):
-            faults, number, early = part(program, folder, library)
-            for fault in faults[:20]:
+        for name, part in (("first script", first), ("script", script), ("bad files", bad_files), ("words", words), ("stored feed", stored)):
+            sweep = part(program, folder, library)
+            for fault in sweep.faults[:20]:
                 print(fault)
-            failed = failed or bool(faults) or early == 0
-            print("%s: %d growths refused in turn, %d runs ended early, %d faults" % (name, number, early, len(faults)))
-    return 1 if failed else 0
+            lacked |= sweep.lacked
+            failed = failed or bool(sweep.faults) or sweep.early == 0
+            print("%s: %d runs with growths refused, %d ended early, %d faults" % (name, sweep.times, sweep.early, len(sweep.faults)))
+        missing = sorted(LACKING - lacked)
+        print("lacked memory: %s" % ", ".join("%s%s" % (name, " (stopped)" if stop else "") for name, stop in sorted(lacked)))
+        if missing:
+            print("never lacked memory: %s" % missing)
+    return 1 if failed or missing else 0
 
 
 if __name__ == "__main__":

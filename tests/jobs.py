@@ -17,9 +17,7 @@ import tempfile
 sys.path.insert(0, os.path.dirname(os.path.abspath(__file__)))
 import oracle
 
-WIDE = False  # cases of 15 by 17 too; False until the program reads them
 SEED = 1897
-COLUMNS = list("ABCDEFGHIJKLMNO") + ["NI", "NL"]
 PICA = {"sixth": 250, "american": 249}
 STEP, NEUTRAL = 648, 53
 SUMS = [16, 17, 38, 52, 53, 54, 150, 239, 240, 241]
@@ -38,7 +36,7 @@ class Metal:
         self.set_q, self.pica, self.atoms = set_q, pica, PICA[pica]
         self.case, self.wedge = pick.choice(NUMBERS), pick.choice(NUMBERS)
         self.units = units or self.steps(pick)
-        self.columns = 17 if WIDE and pick.random() < 0.4 else 15
+        self.columns = 17 if pick.random() < 0.4 else 15
         cells = [(column, row) for column in range(self.columns) for row in range(1, 16)]
         pick.shuffle(cells)
         self.symbols = {}
@@ -89,7 +87,7 @@ class Metal:
         rows = [["" for _ in range(self.columns)] for _ in range(15)]
         for (style, ch), (column, row) in self.symbols.items():
             rows[row - 1][column] = ["", "i:", "s:"][style] + chr(ch)
-        name = lambda cell: '"%s%d"' % (COLUMNS[cell[0]], cell[1])
+        name = lambda cell: '"%s%d"' % (oracle.COLUMNS[cell[0]], cell[1])
         space, fill = other.get("space", self.space), other.get("fill", self.fill)
         if other.get("ragged"):
             rows[3] = rows[3][:15] if self.columns == 17 else rows[3] + ["", ""]
@@ -350,9 +348,9 @@ def next_door(pick, metal):
                   (other.case_text(case=metal.case), other.wedge_text(wedge=metal.wedge)),
                   (metal.case_text(case=metal.case % 65535 + 1), metal.wedge_text()),
                   (metal.case_text(), metal.wedge_text(wedge=metal.wedge % 65535 + 1))]
-    if WIDE:  # rows of both widths, and a space or a fill in a column that a case of 15 has not
-        job.pairs += [(metal.case_text(ragged=True), metal.wedge_text()), (metal.case_text(space=(15, 1)), metal.wedge_text()),
-                      (metal.case_text(fill=metal.fill[:3] + [(16, 15)]), metal.wedge_text())]
+    # rows of both widths, and a space or a fill in a column that a case of 15 has not
+    job.pairs += [(metal.case_text(ragged=True), metal.wedge_text()), (metal.case_text(space=(15, 1)), metal.wedge_text()),
+                  (metal.case_text(fill=metal.fill[:3] + [(16, 15)]), metal.wedge_text())]
     job.aim = "next door"
     return job
 

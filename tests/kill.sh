@@ -7,7 +7,7 @@ folder=$(mktemp -d)
 trap 'rm -rf "$folder"' EXIT
 cd "$folder"
 
-# The old feed: 20,000 settings by site 3.
+# The old feed: 20,000 settings by site 3, in the form of single operations.
 printf 'MFD1' > old
 printf '%b' "$(awk 'BEGIN {
   for (i = 1; i <= 20000; i++)

@@ -15,6 +15,7 @@ STEP = 648
 KEYS = ["measure", "tight", "loose", "case", "wedge"]
 RANGES = {"measure": (12, 720), "tight": (16, 240), "loose": (16, 240), "case": (1, 65535), "wedge": (1, 65535)}
 STYLES = "ris"
+COLUMNS = list("ABCDEFGHIJKLMNO") + ["NI", "NL"]  # a case has the first 15, or all
 HEAD = (0, 0)
 
 # An operation: ("insert", stamp, parent, (style, ch)), ("delete", stamp, target), ("set", stamp, key, value).
@@ -76,32 +77,87 @@ def unlawful(kind, data):
     return 0
 
 
+def stamp_at(data, at):
+    return (int.from_bytes(data[at:at + 8], "big"), int.from_bytes(data[at + 8:at + 10], "big"))
+
+
+def read_op(one):
+    """The lawful operation of these bytes."""
+    kind, stamp = one[0], stamp_at(one, 1)
+    if kind == 3:
+        return ("set", stamp, KEYS[one[11] - 1], int.from_bytes(one[12:16], "big"))
+    if kind == 2:
+        return ("delete", stamp, stamp_at(one, 11))
+    return ("insert", stamp, stamp_at(one, 11), (one[21], int.from_bytes(one[22:26], "big")))
+
+
+def inserts(run):
+    """The bytes of each insert that a run's bytes spell."""
+    counter, site = stamp_at(run, 1)
+    parent = run[11:21]
+    for at in range(22, len(run), 5):
+        stamp = counter.to_bytes(8, "big") + site.to_bytes(2, "big")
+        yield bytes([1]) + stamp + parent + run[at:at + 5]
+        counter, parent = counter + 1, stamp
+
+
 def read_feed(data):
-    if data[:4] != b"MFD1":
+    runs = {b"MFD1": False, b"MFD2": True}.get(bytes(data[:4]))
+    if runs is None:
         raise Feed(0, "magic")
     ops, at = [], 4
     while at < len(data):
         kind = data[at]
-        if kind not in (1, 2, 3):
+        if kind not in (1, 2, 3) and not (runs and kind == 4):
             raise Feed(at, "kind")
-        size = {1: 26, 2: 21, 3: 16}[kind]
+        size = {1: 26, 2: 21, 3: 16, 4: 22}[kind]
         if len(data) - at < size:
             raise Feed(at, "cut")
+        if kind == 4:
+            count = data[at + 21]
+            if not 2 <= count <= 64:
+                raise Feed(at, "run")
+            size += 5 * count
+            if len(data) - at < size:
+                raise Feed(at, "cut")
         one = data[at:at + size]
-        cause = unlawful(kind, one)
-        if cause:
-            raise Feed(at, "unlawful %d" % cause)
-        stamp = (int.from_bytes(one[1:9], "big"), int.from_bytes(one[9:11], "big"))
-        if kind == 3:
-            ops.append(("set", stamp, KEYS[one[11] - 1], int.from_bytes(one[12:16], "big")))
-        else:
-            target = (int.from_bytes(one[11:19], "big"), int.from_bytes(one[19:21], "big"))
-            if kind == 2:
-                ops.append(("delete", stamp, target))
-            else:
-                ops.append(("insert", stamp, target, (one[21], int.from_bytes(one[22:26], "big"))))
+        for single in inserts(one) if kind == 4 else [one]:
+            cause = unlawful(single[0], single)
+            if cause:
+                raise Feed(at, "unlawful %d" % cause)
+            ops.append(read_op(single))
         at += size
     return ops
+
+
+def singles_feed(held):
+    """The feed of single operations, each once, by stamp and then by bytes."""
+    return b"MFD1" + b"".join(spelling(op) for op in sorted(held, key=order))
+
+
+def runs_feed(held):
+    """The feed of runs: a clear insert is followed by those of its site that hang from it in turn, 64 at most."""
+    ops, bearing = sorted(held, key=order), {}
+    for op in ops:
+        bearing.setdefault(op[1], []).append(op)
+    clear = {s: b[0] for s, b in bearing.items() if len(b) == 1 and b[0][0] == "insert"}
+    out, written = [b"MFD2"], set()
+    for op in ops:
+        if op in written:
+            continue
+        run = [op]
+        while run[-1][1] in clear and len(run) < 64:
+            counter, site = run[-1][1]
+            after = clear.get((counter + 1, site))
+            if after is None or after[2] != run[-1][1]:
+                break
+            run.append(after)
+        written.update(run)
+        if len(run) == 1:
+            out.append(spelling(op))
+        else:
+            out.append(bytes([4]) + spelling(op)[1:21] + bytes([len(run)]) + b"".join(spelling(one)[21:] for one in run))
+    return b"".join(out)
 
 
 # ---- what a set of operations means
@@ -173,13 +229,14 @@ def first_fault_wedge(data):
     return 0, doc
 
 
-def cell_name(text):
-    if not isinstance(text, str) or not 2 <= len(text) <= 3 or not "A" <= text[0] <= "O":
+def cell_name(text, columns):
+    """The cell that a text names in a case of so many columns, or None."""
+    if not isinstance(text, str):
         return None
-    number = text[1:]
-    if not number.isascii() or not number.isdigit() or number[0] == "0" or not 1 <= int(number) <= 15:
-        return None
-    return (ord(text[0]) - 65, int(number))
+    for column, name in enumerate(COLUMNS[:columns]):
+        if text in [name + str(row) for row in range(1, 16)]:
+            return (column, int(text[len(name):]))
+    return None
 
 
 def cell_text(text):
@@ -206,13 +263,16 @@ def first_fault_case(data):
 
     def rows_good(v):
         return isinstance(v, list) and len(v) == 15 and all(
-            isinstance(r, list) and len(r) == 15 and all(isinstance(t, str) for t in r) for r in v)
+            isinstance(r, list) and len(r) == len(v[0]) in (15, 17) and all(isinstance(t, str) for t in r) for r in v)
+
+    def columns():
+        return len(doc["rows"][0])
 
     checks = [
         ("case", lambda v: whole(v) and 1 <= v <= 65535),
         ("rows", rows_good),
-        ("space", lambda v: cell_name(v) is not None),
-        ("fill", lambda v: isinstance(v, list) and 1 <= len(v) <= 4 and all(cell_name(t) is not None for t in v)),
+        ("space", lambda v: cell_name(v, columns()) is not None),
+        ("fill", lambda v: isinstance(v, list) and 1 <= len(v) <= 4 and all(cell_name(t, columns()) is not None for t in v)),
     ]
     for key, good in checks:
         if key not in doc:
@@ -220,7 +280,7 @@ def first_fault_case(data):
         if not good(doc[key]):
             return 3, None
     symbols, cells = {}, {}
-    texts = [(r, c, cell_text(doc["rows"][r][c])) for r in range(15) for c in range(15)]
+    texts = [(r, c, cell_text(doc["rows"][r][c])) for r in range(15) for c in range(columns())]
     if any(s is None for _, _, s in texts):
         return 4, None
     for r, c, symbol in texts:
@@ -229,7 +289,7 @@ def first_fault_case(data):
                 return 5, None
             symbols[symbol] = (c, r + 1)
             cells[(c, r + 1)] = symbol
-    space, fill = cell_name(doc["space"]), [cell_name(t) for t in doc["fill"]]
+    space, fill = cell_name(doc["space"], columns()), [cell_name(t, columns()) for t in doc["fill"]]
     if space in cells or any(f in cells for f in fill):
         return 6, None
     return 0, {"number": doc["case"], "symbols": symbols, "cells": cells, "space": space, "fill": fill}
@@ -347,7 +407,8 @@ def bit(name):
 
 def image_cell(cell, s):
     column, row = cell
-    return (bit(chr(65 + column)) if column < 14 else 0) | (bit(str(row)) if row < 15 else 0) | (1 if s else 0)
+    letters = sum(bit(letter) for letter in COLUMNS[column] if letter != "O")
+    return letters | (bit(str(row)) if row < 15 else 0) | (1 if s else 0)
 
 
 def image_coarse(c):
@@ -363,14 +424,26 @@ def ribbon_bytes(images):
 
 
 def row_of(image):
-    letters = [k for k in range(14) if image >> (30 - k) & 1]
+    """The row of an image, or the first cause that makes it none."""
+    letters = "".join(chr(65 + k) for k in range(14) if image >> (30 - k) & 1)
     numbers = [n for n in range(1, 15) if image >> (17 - n) & 1]
+    fine, coarse, s = image >> 2 & 1, image >> 1 & 1, image & 1
+    if len(letters) > 1 and letters not in ("IN", "LN"):
+        return ("two letters",)
+    if len(numbers) > 1:
+        return ("two numbers",)
+    if fine and not coarse:
+        return ("0005 without 0075",)
+    if coarse and letters:
+        return ("0075 with a letter",)
+    if coarse and s:
+        return ("0075 with S",)
     number = numbers[0] if numbers else 15
-    if image & 4:
+    if fine:
         return ("fine", number)
-    if image & 2:
+    if coarse:
         return ("coarse", number)
-    return ("cell", (letters[0] if letters else 14, number), image & 1)
+    return ("cell", (COLUMNS.index(letters[::-1] or "O"), number), s)
 
 
 def cast(images, wedge):
@@ -625,7 +698,7 @@ class World:
             settings = self.meaning(site).settings
             return "settings " + " ".join("%s=%s" % (k, "-" if settings[k] is None else settings[k]) for k in KEYS)
         if name == "feed":
-            return "feed " + (b"MFD1" + b"".join(spelling(op) for op in sorted(self.sites[site], key=order))).hex()
+            return "feed " + runs_feed(self.sites[site]).hex()
         if name == "restart":
             return "ok"
         given = self.files(site, command[2], command[3])

@@ -1,6 +1,6 @@
-// Loaded before the C library, it refuses one growth of a program: the call of malloc or realloc whose number
-// REFUSE gives, counting from 1. At the end it writes how many calls there were to the file descriptor 3, if
-// COUNT is set. The calls underneath are those of the GNU C library.
+// Loaded before the C library, it refuses growths of a program, which are calls of malloc or realloc: the one whose number
+// REFUSE gives, counting from 1, and if ALWAYS is set each later one too. At the end it writes how many calls there were to
+// the file descriptor 3, if COUNT is set. The calls underneath are those of the GNU C library.
 #include <errno.h>
 #include <stddef.h>
 #include <stdio.h>
@@ -14,8 +14,9 @@ static long calls;
 
 static int refused(void) {
     const char *number = getenv("REFUSE");
+    long first = number ? atol(number) : 0;
     calls += 1;
-    return number && atol(number) == calls;
+    return first > 0 && (calls == first || (calls > first && getenv("ALWAYS")));
 }
 
 void *malloc(size_t size) {

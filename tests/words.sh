@@ -26,7 +26,7 @@ expect 2 error: desk $'\xff' --site 1
 expect 0 "" --help
 expect 0 "" script
 expect 0 "" desk a.feed --site 65535
-[ "$(head -c 4 a.feed)" = MFD1 ] && [ "$(wc -c < a.feed)" = 4 ]
+[ "$(head -c 4 a.feed)" = MFD2 ] && [ "$(wc -c < a.feed)" = 4 ]
 
 # Help names the program, the words and every command.
 told=$("$program" desk --help)

@@ -79,7 +79,7 @@ fn tried(alloc: Global, line: &str, input: &[u8]) -> Result<Outcome, AllocError>
 const TWO_SITES: &[u8] = b"site 1\nsite 2\ninsert 1 0 r\"ab\"\nsend 1 2\nshow 1\nshow 2\nfeed 2\n";
 
 const TWO_SITES_ANSWERS: &[u8] =
-    b"ok\nok\nok 1.1..2.1\nok new 2 known 0\ncopy r\"ab\"\ncopy r\"ab\"\nfeed 4d46443101000000000000000100010000000000000000000000000000610100000000000000020001000000000000000100010000000062\n";
+    b"ok\nok\nok 1.1..2.1\nok new 2 known 0\ncopy r\"ab\"\ncopy r\"ab\"\nfeed 4d4644320400000000000000010001000000000000000000000200000000610000000062\n";
 
 #[test]
 fn two_sites_show_ab(rt: HostRuntime) -> Result<(), Fail> {
@@ -154,7 +154,7 @@ fn failing_reader(rt: HostRuntime) -> Result<(), Fail> {
 }
 
 /// One insert, 1.3.
-const ONE_INSERT: &[u8] = b"MFD1\x01\0\0\0\0\0\0\0\x01\0\x03\0\0\0\0\0\0\0\0\0\0\0\0\0\0x";
+const ONE_INSERT: &[u8] = b"MFD2\x01\0\0\0\0\0\0\0\x01\0\x03\0\0\0\0\0\0\0\0\0\0\0\0\0\0x";
 
 /// Whether a file of that name has these bytes.
 fn holds(files: &TrialFiles<Global>, name: &str, bytes: &[u8]) -> bool {

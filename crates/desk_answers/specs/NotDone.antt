@@ -1,5 +1,5 @@
 -- Why a command is not carried out, and its answer then.
-use Rattle.std.specs.Prelude.{ℕ, ◌==◌, Option, Some, None, Result, Ok, Err, IfSome, option_map, if◌then◌else◌}
+use Rattle.std.specs.Prelude.{ℕ, ◌==◌, Option, Some, None, Result, Ok, Err, option_map, if◌then◌else◌}
 use Rattle.desk_ops.specs.Op.{stamp_of}
 use Rattle.desk_held.specs.declared.AddRefusal.{AddRefusal}
 use Rattle.desk_held.specs.declared.AddRefusal.TheVariants as adds
@@ -24,20 +24,23 @@ use Rattle.desk_answers.specs.declared.not_done.NotDone.{NotDone}
 use Rattle.desk_answers.specs.declared.not_done.NotDone.TheVariants as ends
 use Rattle.desk_answers.specs.Reply.{Reply, Done, Made, Counted, Refused, Stopped, reply}
 
--- the reply to a command that is not carried out; out of memory has none, as it ends the run
-abbrev pub reply_of : NotDone → Option Reply
-reply_of (ends.Refused why) = Some (Refused why)
-reply_of (ends.Stopped taken why) = Some (Stopped taken why)
-reply_of ends.NoMemory = None
+-- the reply to a command that is not carried out
+abbrev pub reply_of : NotDone → Reply
+reply_of (ends.Refused why) = Refused why
+reply_of (ends.Stopped taken why) = Stopped taken why
+reply_of ends.NoMemory = Refused refusals.Memory
 
 -- the reply to a command, carried out or not
-abbrev pub reply_to : {A : Type 0} → Result (Response A) NotDone → Option Reply
-reply_to (Ok response) = Some (reply response)
+abbrev pub reply_to : {A : Type 0} → Result (Response A) NotDone → Reply
+reply_to (Ok response) = reply response
 reply_to (Err end) = reply_of end
 
--- it holds of the reply, if there is one
+-- it holds of the reply, unless memory was refused before anything changed
 abbrev pub IfReplied : {A : Type 0} → Result (Response A) NotDone → (Reply → Type 0) → Type 0
-IfReplied result Holds = IfSome (reply_to result) Holds
+IfReplied (Ok response) Holds = Holds (reply response)
+IfReplied (Err (ends.Refused why)) Holds = Holds (Refused why)
+IfReplied (Err (ends.Stopped taken why)) Holds = Holds (Stopped taken why)
+IfReplied (Err ends.NoMemory) Holds = Unit {0}
 
 -- refused for this, or out of memory
 abbrev pub not_done : Option Refusal → NotDone
@@ -62,28 +65,32 @@ case_refused fault = option_map refusals.Case (cases.fault_number fault)
 abbrev pub wedge_refused : WedgeFault → Option Refusal
 wedge_refused fault = option_map refusals.Wedge (wedges.fault_number fault)
 
--- the reply to an event that stopped after so many operations
-abbrev pub stopped_after : ℕ → AddRefusal → Option Reply
-stopped_after taken adds.Full = Some (if taken == 0 then Refused refusals.Full else Stopped taken refusals.Full)
-stopped_after taken adds.NoMemory = None
+-- a refusal after so many operations says that these stand
+abbrev pub stopped : ℕ → Refusal → Reply
+stopped taken why = if taken == 0 then Refused why else Stopped taken why
 
-abbrev pub edit_refused : EditRefusal → Option Reply
-edit_refused edits.Full = Some (Refused refusals.Full)
-edit_refused edits.ClockFull = Some (Refused refusals.Clock)
-edit_refused edits.Place = Some (Refused refusals.Place)
-edit_refused edits.Value = Some (Refused refusals.Value)
-edit_refused edits.NoMemory = None
+-- the reply to an event that stopped after so many operations
+abbrev pub stopped_after : ℕ → AddRefusal → Reply
+stopped_after taken adds.Full = stopped taken refusals.Full
+stopped_after taken adds.NoMemory = stopped taken refusals.Memory
+
+abbrev pub edit_refused : EditRefusal → Reply
+edit_refused edits.Full = Refused refusals.Full
+edit_refused edits.ClockFull = Refused refusals.Clock
+edit_refused edits.Place = Refused refusals.Place
+edit_refused edits.Value = Refused refusals.Value
+edit_refused edits.NoMemory = Refused refusals.Memory
 
 -- the reply for what an event returned. No line gives operations that are strange.
-abbrev pub event_reply : Result Answer StepRefusal → Option Reply
-event_reply (Ok (answers.Made op)) = Some (Made (stamp_of op))
-event_reply (Ok (answers.Taken count)) = Some (Counted count.new count.known)
-event_reply (Ok answers.Done) = Some Done
-event_reply (Err steps.Number) = Some (Refused refusals.Number)
-event_reply (Err steps.KnownSite) = Some (Refused refusals.Known)
-event_reply (Err steps.TooManySites) = Some (Refused refusals.Sites)
-event_reply (Err steps.NoSite) = Some (Refused refusals.Site)
-event_reply (Err steps.Strange) = Some (Refused refusals.Site)
+abbrev pub event_reply : Result Answer StepRefusal → Reply
+event_reply (Ok (answers.Made op)) = Made (stamp_of op)
+event_reply (Ok (answers.Taken count)) = Counted count.new count.known
+event_reply (Ok answers.Done) = Done
+event_reply (Err steps.Number) = Refused refusals.Number
+event_reply (Err steps.KnownSite) = Refused refusals.Known
+event_reply (Err steps.TooManySites) = Refused refusals.Sites
+event_reply (Err steps.NoSite) = Refused refusals.Site
+event_reply (Err steps.Strange) = Refused refusals.Site
 event_reply (Err (steps.Edit why)) = edit_refused why
 event_reply (Err (steps.Halted stop)) = stopped_after stop.taken stop.why
-event_reply (Err steps.NoMemory) = None
+event_reply (Err steps.NoMemory) = Refused refusals.Memory

@@ -1,5 +1,5 @@
 -- Answers, without where they lie in memory.
-use Rattle.std.specs.Prelude.{ℕ, ℤ, List, map, length}
+use Rattle.std.specs.Prelude.{ℕ, ℤ, Bool, true, false, List, map, length}
 use Rattle.desk_caster.specs.Caster.{Line}
 use Rattle.desk_job.specs.declared.JobFault.{JobFault}
 use Rattle.desk_ops.specs.declared.op.Stamp.{Stamp}
@@ -43,3 +43,19 @@ reply (responses.NoRibbon faults) = NoRibbon faults
 reply (responses.Lines lines) = Lines (lines_told lines.items)
 reply (responses.Refused why) = Refused why
 reply (responses.Stopped taken why) = Stopped taken why
+
+-- an answer that tells what there is, at any length; the others are refusals, or tell what a command did
+abbrev pub is_long : Reply → Bool
+is_long Done = false
+is_long (Made stamp) = false
+is_long (MadeMany first last) = false
+is_long (Counted new known) = false
+is_long (Copy copy) = true
+is_long (Feed feed) = true
+is_long (Faults faults) = true
+is_long (Settings settings) = true
+is_long (Ribbon ribbon) = true
+is_long (NoRibbon faults) = true
+is_long (Lines lines) = true
+is_long (Refused why) = false
+is_long (Stopped taken why) = false

@@ -38,6 +38,7 @@ fault_text faults.Magic = codes "magic"
 fault_text faults.Kind = codes "kind"
 fault_text (faults.Unlawful cause) = codes "unlawful " ++ decimal (cause_number cause)
 fault_text faults.Cut = codes "cut"
+fault_text faults.Run = codes "run"
 
 abbrev pub refusal_text : Refusal → List ℕ
 refusal_text refusals.Line = codes "line"
@@ -56,6 +57,7 @@ refusal_text (refusals.Case n) = codes "case " ++ decimal n
 refusal_text (refusals.Wedge n) = codes "wedge " ++ decimal n
 refusal_text refusals.Full = codes "full"
 refusal_text refusals.Clock = codes "clock"
+refusal_text refusals.Memory = codes "memory"
 
 -- a copy behind a space, where there is one
 abbrev pub shown_text : List Symbol → List ℕ

@@ -1,6 +1,6 @@
 //! Why a command is not carried out, and what it is answered then.
 
-ghost use Rattle.std.specs.Prelude.{◌≡◌, Err, Ok, None, Some};
+ghost use Rattle.std.specs.Prelude.{◌≡◌, Err, Ok, None};
 ghost use Rattle.desk_answers.specs.NotDone.{case_refused, file_refused, line_refused, not_done, reply_of, event_reply, wedge_refused};
 ghost use Rattle.desk_answers.specs.Reply.{reply};
 ghost use Rattle.desk_world.specs.declared.world.StepRefusal.TheVariants as steps;
@@ -23,6 +23,7 @@ pub enum NotDone {
     Refused(Refusal),
     /// So many operations were taken before the refusal.
     Stopped(usize, Refusal),
+    /// Memory was refused before anything changed.
     NoMemory,
 }
 
@@ -99,9 +100,10 @@ impl From<Stopped> for NotDone {
 
     fn from(stop: Stopped) -> NotDone {
         match stop.why {
-            AddRefusal::NoMemory => NotDone::NoMemory,
             AddRefusal::Full if stop.taken == 0 => NotDone::Refused(Refusal::Full),
             AddRefusal::Full => NotDone::Stopped(stop.taken, Refusal::Full),
+            AddRefusal::NoMemory if stop.taken == 0 => NotDone::NoMemory,
+            AddRefusal::NoMemory => NotDone::Stopped(stop.taken, Refusal::Memory),
         }
     }
 }
@@ -123,7 +125,7 @@ impl From<StepRefusal> for NotDone {
 }
 
 impl<A: Allocator + Copy> From<Answer> for Response<A> {
-    ghost from_gives = { λ answer response. event_reply (Ok answer) ≡ Some (reply response) };
+    ghost from_gives = { λ answer response. event_reply (Ok answer) ≡ reply response };
 
     fn from(answer: Answer) -> Response<A> {
         match answer {

@@ -1,17 +1,20 @@
 //! Answers, and what they say.
 
-ghost use Rattle.std.specs.Prelude.{◌≡◌, ◌<◌, ◌++◌, ◌∷◌, [], true, length, List, OnOk, codes, string_bytes};
+ghost use Rattle.std.specs.Prelude.{◌≡◌, ◌+◌, ◌<◌, ◌≤◌, ◌++◌, ◌∷◌, [], true, false, length, List, IfSome, OnOk, codes, is_some, string_bytes};
 ghost use Rattle.std.specs.Fmt.{decimal, signed_decimal};
-ghost use Rattle.desk_answers.specs.Reply.{reply, lines_told};
+ghost use Rattle.arrayvec.specs.ArrayString.{array_string_len};
+ghost use Rattle.desk_answers.specs.Reply.{is_long, reply, lines_told};
 ghost use Rattle.desk_answers.specs.Reply as replies;
 ghost use Rattle.desk_answers.specs.Text.{stamp_text, hex_digit, hex_text, refusal_text, cause_number, fault_text, kind_text, separator, entries_text, faults_text, value_text, settings_text, key_text, job_fault_text, job_faults_text, lines_text, text};
 
+use arrayvec::ArrayString;
 use desk_caster::CastLine;
 use desk_codec::{FeedFault, FeedWhy};
 use desk_commands::put_copy;
 use desk_job::{JobFault, JobFaults};
 use desk_ops::{CopyFault, FaultKind, Key, Stamp, Symbol, Unlawful};
 use desk_replica::Settings;
+use itoa::Buffer;
 use std::alloc::{AllocError, Allocator};
 
 /// Why a line changed nothing, or why it stopped.
@@ -49,6 +52,23 @@ pub enum Refusal {
     Full,
     /// The greatest counter is held.
     Clock,
+    /// Memory was refused.
+    Memory,
+}
+
+/// The bytes of a short answer and its end of line fit in these.
+const SHORT: usize = 96;
+
+/// A text of at most 96 bytes, which takes no memory.
+pub type Short = ArrayString<SHORT>;
+
+fn put_number(out: &mut Short, n: u64)
+    requires { array_string_len out.old + 20 ≤ SHORT }
+    ensures text { out.new.bytes ≡ out.old.bytes ++ decimal n }
+    ensures len { array_string_len out.new ≤ array_string_len out.old + 20 }
+{
+    let mut digits = Buffer::new();
+    out.push_str(digits.format(n));
 }
 
 /// The number of a cause.
@@ -65,20 +85,48 @@ fn cause_number(cause: Unlawful) -> u8
     }
 }
 
-fn put_fault<A: Allocator + Copy>(out: &mut String<A>, why: FeedWhy) -> Result<(), AllocError>
-    ensures { OnOk result (string_bytes out.new ≡ string_bytes out.old ++ fault_text why) }
+/// Writes a word, and a number behind it.
+fn put_numbered(out: &mut Short, word: &str, n: u64)
+    requires { array_string_len out.old + length word.now + 20 ≤ SHORT }
+    ensures text { out.new.bytes ≡ out.old.bytes ++ word.now ++ decimal n }
+    ensures len { array_string_len out.new ≤ array_string_len out.old + length word.now + 20 }
+{
+    out.push_str(word);
+    put_number(out, n);
+}
+
+fn put_fault(out: &mut Short, why: FeedWhy)
+    requires { array_string_len out.old + 29 ≤ SHORT }
+    ensures text { out.new.bytes ≡ out.old.bytes ++ fault_text why }
+    ensures len { array_string_len out.new ≤ array_string_len out.old + 29 }
 {
     match why {
         FeedWhy::Magic => out.push_str("magic"),
         FeedWhy::Kind => out.push_str("kind"),
-        FeedWhy::Unlawful(cause) => write!(out, "unlawful {}", cause_number(cause)),
+        FeedWhy::Unlawful(cause) => {
+            put_numbered(out, "unlawful ", u64::from(cause_number(cause)));
+        }
         FeedWhy::Cut => out.push_str("cut"),
+        FeedWhy::Run => out.push_str("run"),
     }
 }
 
+/// Writes a feed's fault: where it is, and what.
+fn put_feed_fault(out: &mut Short, fault: FeedFault)
+    requires { array_string_len out.old + 55 ≤ SHORT }
+    ensures text { out.new.bytes ≡ out.old.bytes ++ codes "feed " ++ decimal fault.at ++ codes " " ++ fault_text fault.why }
+    ensures len { array_string_len out.new ≤ array_string_len out.old + 55 }
+{
+    put_numbered(out, "feed ", fault.at);
+    out.push_str(" ");
+    put_fault(out, fault.why);
+}
+
 /// Writes a refusal at the end.
-fn put_refusal<A: Allocator + Copy>(out: &mut String<A>, why: Refusal) -> Result<(), AllocError>
-    ensures { OnOk result (string_bytes out.new ≡ string_bytes out.old ++ refusal_text why) }
+fn put_refusal(out: &mut Short, why: Refusal)
+    requires { array_string_len out.old + 55 ≤ SHORT }
+    ensures text { out.new.bytes ≡ out.old.bytes ++ refusal_text why }
+    ensures len { array_string_len out.new ≤ array_string_len out.old + 55 }
 {
     match why {
         Refusal::Line => out.push_str("line"),
@@ -89,17 +137,15 @@ fn put_refusal<A: Allocator + Copy>(out: &mut String<A>, why: Refusal) -> Result
         Refusal::Site => out.push_str("site"),
         Refusal::Place => out.push_str("place"),
         Refusal::Value => out.push_str("value"),
-        Refusal::Feed(fault) => {
-            write!(out, "feed {} ", fault.at)?;
-            put_fault(out, fault.why)
-        }
+        Refusal::Feed(fault) => put_feed_fault(out, fault),
         Refusal::FileMissing => out.push_str("file missing"),
         Refusal::FileDevice => out.push_str("file device"),
         Refusal::FileLarge => out.push_str("file large"),
-        Refusal::Case(fault) => write!(out, "case {fault}"),
-        Refusal::Wedge(fault) => write!(out, "wedge {fault}"),
+        Refusal::Case(fault) => put_numbered(out, "case ", u64::from(fault)),
+        Refusal::Wedge(fault) => put_numbered(out, "wedge ", u64::from(fault)),
         Refusal::Full => out.push_str("full"),
         Refusal::Clock => out.push_str("clock"),
+        Refusal::Memory => out.push_str("memory"),
     }
 }
 
@@ -165,10 +211,21 @@ fn put_hex<A: Allocator + Copy>(out: &mut String<A>, bytes: &[u8]) -> Result<(),
     Ok(())
 }
 
-fn put_stamp<A: Allocator + Copy>(out: &mut String<A>, stamp: Stamp) -> Result<(), AllocError>
-    ensures { OnOk result (string_bytes out.new ≡ string_bytes out.old ++ stamp_text stamp) }
+fn put_stamp(out: &mut Short, stamp: Stamp)
+    requires { array_string_len out.old + 41 ≤ SHORT }
+    ensures text { out.new.bytes ≡ out.old.bytes ++ stamp_text stamp }
+    ensures len { array_string_len out.new ≤ array_string_len out.old + 41 }
 {
-    write!(out, "{}.{}", stamp.counter, stamp.site)
+    put_number(out, stamp.counter);
+    put_numbered(out, ".", u64::from(stamp.site));
+}
+
+fn stamp_of(stamp: Stamp) -> Short
+    ensures { result.bytes ≡ stamp_text stamp }
+{
+    let mut out = Short::new();
+    put_stamp(&mut out, stamp);
+    out
 }
 
 fn kind_of(kind: FaultKind) -> &'static str
@@ -214,7 +271,7 @@ fn put_entries<A: Allocator + Copy>(
         out.push_str(separator(is_first))?;
         out.push_str(kind_of(fault.kind))?;
         out.push_str(" ")?;
-        put_stamp(out, fault.stamp)?;
+        out.push_str(stamp_of(fault.stamp).as_str())?;
         is_first = false;
     }
     Ok(())
@@ -319,26 +376,94 @@ fn put_lines<A: Allocator + Copy>(
     Ok(())
 }
 
-/// Writes the stamp of an operation that was made.
-fn put_made<A: Allocator + Copy>(out: &mut String<A>, stamp: Stamp) -> Result<(), AllocError>
-    ensures { OnOk result (string_bytes out.new ≡ string_bytes out.old ++ text (replies.Made stamp)) }
+/// The stamp of an operation that was made.
+fn made(stamp: Stamp) -> Short
+    ensures text { result.bytes ≡ text (replies.Made stamp) }
+    ensures len { array_string_len result < SHORT }
 {
-    out.push_str("ok ")?;
-    put_stamp(out, stamp)
+    let mut out = Short::new();
+    out.push_str("ok ");
+    put_stamp(&mut out, stamp);
+    out
 }
 
-/// Writes the first stamp and the last of operations that were made.
-fn put_made_many<A: Allocator + Copy>(
-    out: &mut String<A>,
-    first: Stamp,
-    last: Stamp,
-) -> Result<(), AllocError>
-    ensures { OnOk result (string_bytes out.new ≡ string_bytes out.old ++ text (replies.MadeMany first last)) }
+/// The first stamp and the last of operations that were made.
+fn made_many(first: Stamp, last: Stamp) -> Short
+    ensures text { result.bytes ≡ text (replies.MadeMany first last) }
+    ensures len { array_string_len result < SHORT }
 {
-    out.push_str("ok ")?;
-    put_stamp(out, first)?;
-    out.push_str("..")?;
-    put_stamp(out, last)
+    let mut out = Short::new();
+    out.push_str("ok ");
+    put_stamp(&mut out, first);
+    out.push_str("..");
+    put_stamp(&mut out, last);
+    out
+}
+
+/// How many operations were taken.
+fn counted(new: usize, known: usize) -> Short
+    ensures text { result.bytes ≡ text (replies.Counted new known) }
+    ensures len { array_string_len result < SHORT }
+{
+    let mut out = Short::new();
+    put_numbered(&mut out, "ok new ", new as u64);
+    put_numbered(&mut out, " known ", known as u64);
+    out
+}
+
+fn refused(why: Refusal) -> Short
+    ensures text { result.bytes ≡ text (replies.Refused why) }
+    ensures len { array_string_len result < SHORT }
+{
+    let mut out = Short::new();
+    out.push_str("refused ");
+    put_refusal(&mut out, why);
+    out
+}
+
+/// How many operations were taken before a refusal, and that.
+fn stopped(taken: usize, why: Refusal) -> Short
+    ensures text { result.bytes ≡ text (replies.Stopped taken why) }
+    ensures len { array_string_len result < SHORT }
+{
+    let mut out = Short::new();
+    put_numbered(&mut out, "stopped ", taken as u64);
+    out.push_str(" ");
+    put_refusal(&mut out, why);
+    out
+}
+
+fn done() -> Short
+    ensures text { result.bytes ≡ text replies.Done }
+    ensures len { array_string_len result < SHORT }
+{
+    let mut out = Short::new();
+    out.push_str("ok");
+    out
+}
+
+/// An answer's text without its end of line, where it is a refusal or tells what a command did: it takes no memory. The
+/// other answers tell what there is, at any length.
+pub fn short<A: Allocator + Copy>(answer: &Response<A>) -> Option<Short>
+    ensures text { IfSome result (λ s. s.bytes ≡ text (reply answer.now)) }
+    ensures len { IfSome result (λ s. array_string_len s < SHORT) }
+    ensures long { is_some result ≡ false → is_long (reply answer.now) ≡ true }
+{
+    match answer {
+        Response::Done => Some(done()),
+        Response::Made(stamp) => Some(made(*stamp)),
+        Response::MadeMany(first, last) => Some(made_many(*first, *last)),
+        Response::Counted { new, known } => Some(counted(*new, *known)),
+        Response::Refused(why) => Some(refused(*why)),
+        Response::Stopped(taken, why) => Some(stopped(*taken, *why)),
+        Response::Copy(_)
+        | Response::Feed(_)
+        | Response::Faults(_)
+        | Response::Settings(_)
+        | Response::Ribbon(_)
+        | Response::NoRibbon(_)
+        | Response::Lines(_) => None,
+    }
 }
 
 /// Writes a copy, behind a space where there is one.
@@ -370,10 +495,10 @@ pub fn put<A: Allocator + Copy>(out: &mut String<A>, answer: &Response<A>) -> Re
     ensures { OnOk result (string_bytes out.new ≡ string_bytes out.old ++ text (reply answer.now)) }
 {
     match answer {
-        Response::Done => out.push_str("ok"),
-        Response::Made(stamp) => put_made(out, *stamp),
-        Response::MadeMany(first, last) => put_made_many(out, *first, *last),
-        Response::Counted { new, known } => write!(out, "ok new {new} known {known}"),
+        Response::Done => out.push_str(done().as_str()),
+        Response::Made(stamp) => out.push_str(made(*stamp).as_str()),
+        Response::MadeMany(first, last) => out.push_str(made_many(*first, *last).as_str()),
+        Response::Counted { new, known } => out.push_str(counted(*new, *known).as_str()),
         Response::Copy(copy) => put_shown(out, copy),
         Response::Feed(feed) => put_bytes(out, "feed ", feed),
         Response::Faults(faults) => put_faults(out, faults),
@@ -390,13 +515,7 @@ pub fn put<A: Allocator + Copy>(out: &mut String<A>, answer: &Response<A>) -> Re
             write!(out, "lines {}", lines.len())?;
             put_lines(out, lines)
         }
-        Response::Refused(why) => {
-            out.push_str("refused ")?;
-            put_refusal(out, *why)
-        }
-        Response::Stopped(taken, why) => {
-            write!(out, "stopped {taken} ")?;
-            put_refusal(out, *why)
-        }
+        Response::Refused(why) => out.push_str(refused(*why).as_str()),
+        Response::Stopped(taken, why) => out.push_str(stopped(*taken, *why).as_str()),
     }
 }

@@ -1,10 +1,11 @@
 //! A sequence in pages.
-ghost use Rattle.std.specs.Prelude.{◌≡◌, ◌<◌, ◌+◌, min, IfSome};
+ghost use Rattle.std.specs.Prelude.{◌≡◌, ◌<◌, ◌≤◌, ◌+◌, length, min, IfSome};
 ghost use Rattle.desk_blocks.specs.Tally.{IsAt};
 
 use crate::index::Index;
+use crate::slot::{Slot, add_shown, slots_of};
 use crate::tally::{Same, Shown, Smaller, Tally};
-use desk_ops::Stamp;
+use desk_ops::{Stamp, Symbol};
 use desk_pages::Pages;
 use desk_seq::{Entry, Sequence};
 use std::alloc::{AllocError, Allocator};
@@ -13,7 +14,7 @@ use std::marker::Model;
 /// A sequence in pages of at most 512, with an index of its stamps.
 #[derive(Drop)]
 pub struct Blocks<A: Allocator> {
-    pages: Pages<Entry, Tally, A>,
+    pages: Pages<Slot, Tally, A>,
     index: Index<A>,
 }
 
@@ -30,6 +31,17 @@ impl<A: Allocator> Model for Blocks<A> {
     ghost view = { λ a. record { entries = a.pages.entries; spare = min a.pages.spare a.index.spare } };
 
     ghost invariant = { λ a. AreDistinct a.pages.entries × Knows a.index.stamps (stamps_of a.pages.entries) };
+}
+
+impl<A: Allocator + Copy> Blocks<A> {
+    /// How many entries stand side by side in memory from place i on: one at least, and a page's 512 at most.
+    pub fn stretch_len(&self, i: usize) -> usize
+        requires { i < length self.now.entries }
+        ensures some { 0 < result }
+        ensures within { i + result ≤ length self.now.entries }
+    {
+        self.pages.stretch(i).len()
+    }
 }
 
 impl<A: Allocator + Copy> Sequence for Blocks<A> {
@@ -52,11 +64,7 @@ impl<A: Allocator + Copy> Sequence for Blocks<A> {
     }
 
     fn entry(&self, i: usize) -> Entry {
-        self.pages.entry(i)
-    }
-
-    fn stretch(&self, i: usize) -> &[Entry] {
-        self.pages.stretch(i)
+        self.pages.entry(i).entry()
     }
 
     fn find(&self, stamp: Stamp) -> Option<usize> {
@@ -85,7 +93,7 @@ impl<A: Allocator + Copy> Sequence for Blocks<A> {
     }
 
     fn put(&mut self, i: usize, entry: Entry) {
-        let placed = self.pages.insert(i, entry);
+        let placed = self.pages.insert(i, Slot::of(entry));
         self.index.put(entry.stamp, placed.page);
         if let Some(from) = placed.cut
             && from < self.pages.len()
@@ -96,9 +104,8 @@ impl<A: Allocator + Copy> Sequence for Blocks<A> {
     }
 
     fn mark(&mut self, i: usize) {
-        let mut entry = self.pages.entry(i);
-        entry.deleted = true;
-        self.pages.set(i, entry);
+        let slot = self.pages.entry(i);
+        self.pages.set(i, slot.marked());
     }
 
     fn first_below(&self, from: usize, stamp: Stamp) -> usize {
@@ -123,21 +130,33 @@ impl<A: Allocator + Copy> Sequence for Blocks<A> {
         }
     }
 
+    fn symbols(&self, alloc: A) -> Result<Vec<Symbol, A>, AllocError> {
+        let mut symbols = Vec::with_capacity(alloc, self.shown_len())?;
+        let mut at = 0;
+        while at < self.pages.len() {
+            let part = self.pages.stretch(at);
+            add_shown(&mut symbols, part)?;
+            at += part.len();
+        }
+        Ok(symbols)
+    }
+
     fn from_entries(alloc: A, list: &[Entry]) -> Result<Self, AllocError> {
         let index = Index::from_entries(alloc, list)?;
+        let slots = slots_of(alloc, list)?;
         Ok(Blocks {
-            pages: Pages::from_slice(alloc, list)?,
+            pages: Pages::from_slice(alloc, &slots)?,
             index,
         })
     }
 }
 
 /// A place of the stamp in a page: what was put last is most often asked for, and most often stands last.
-fn spot_in(items: &[Entry], stamp: Stamp) -> Option<usize>
+fn spot_in(items: &[Slot], stamp: Stamp) -> Option<usize>
     ensures { IfSome result (λ j. IsAt items.now stamp j) }
 {
     for j in (0..items.len()).rev() {
-        if items[j].stamp.is_same(stamp) {
+        if items[j].stamp().is_same(stamp) {
             return Some(j);
         }
     }
@@ -145,11 +164,11 @@ fn spot_in(items: &[Entry], stamp: Stamp) -> Option<usize>
 }
 
 /// The hints of all of these.
-fn renew_all<A: Allocator + Copy>(index: &mut Index<A>, items: &[Entry], name: usize)
+fn renew_all<A: Allocator + Copy>(index: &mut Index<A>, items: &[Slot], name: usize)
     ensures same { index.new.stamps ≡ index.old.stamps }
     ensures spare { index.new.spare ≡ index.old.spare }
 {
-    for entry in items {
-        index.renew(entry.stamp, name);
+    for slot in items {
+        index.renew(slot.stamp(), name);
     }
 }

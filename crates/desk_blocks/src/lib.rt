@@ -6,6 +6,7 @@
 
 mod blocks;
 mod index;
+mod slot;
 mod tally;
 
 pub use blocks::Blocks;

@@ -1,8 +1,8 @@
 //! What is kept of a page of elements, and the two searches that it serves.
 
+use crate::slot::Slot;
 use desk_ops::Stamp;
 use desk_pages::{Pick, Summary};
-use desk_seq::Entry;
 
 /// How many are shown, and a stamp that none is smaller than.
 #[derive(Clone, Copy)]
@@ -17,40 +17,41 @@ const NONE: Stamp = Stamp {
     site: u16::MAX,
 };
 
-impl Summary<Entry> for Tally {
+impl Summary<Slot> for Tally {
     ghost use Rattle.desk_blocks.specs.Tally.{IsTally};
 
     ghost tells = { IsTally };
 
-    fn of(page: &[Entry]) -> Tally {
+    fn of(page: &[Slot]) -> Tally {
         let mut tally = Tally {
             shown: 0,
             least: NONE,
         };
-        for entry in page {
-            tally = tally.with(*entry);
+        for slot in page {
+            tally = tally.with(*slot);
         }
         tally
     }
 
-    fn with(self, x: Entry) -> Tally {
+    fn with(self, x: Slot) -> Tally {
+        let stamp = x.stamp();
         Tally {
-            shown: if x.deleted {
+            shown: if x.is_deleted() {
                 self.shown
             } else {
                 self.shown.saturating_add(1)
             },
-            least: if x.stamp.is_before(self.least) {
-                x.stamp
+            least: if stamp.is_before(self.least) {
+                stamp
             } else {
                 self.least
             },
         }
     }
 
-    fn replaced(self, old: Entry, new: Entry) -> Tally {
+    fn replaced(self, old: Slot, new: Slot) -> Tally {
         let tally = self.with(new);
-        if old.deleted {
+        if old.is_deleted() {
             return tally;
         }
         Tally {
@@ -78,13 +79,13 @@ impl Summary<Entry> for Tally {
 #[derive(Clone, Copy)]
 pub struct Shown;
 
-impl Pick<Entry, Tally> for Shown {
+impl Pick<Slot, Tally> for Shown {
     ghost use Rattle.desk_blocks.specs.Tally.{is_shown};
 
     ghost picked = { λ s e. is_shown e };
 
-    fn picks(&self, x: Entry) -> bool {
-        !x.deleted
+    fn picks(&self, x: Slot) -> bool {
+        !x.is_deleted()
     }
 
     fn count(&self, summary: Tally, _len: usize) -> Option<usize> {
@@ -98,13 +99,13 @@ pub struct Smaller {
     pub stamp: Stamp,
 }
 
-impl Pick<Entry, Tally> for Smaller {
+impl Pick<Slot, Tally> for Smaller {
     ghost use Rattle.desk_blocks.specs.Tally.{is_smaller};
 
     ghost picked = { λ s e. is_smaller s.stamp e };
 
-    fn picks(&self, x: Entry) -> bool {
-        x.stamp.is_before(self.stamp)
+    fn picks(&self, x: Slot) -> bool {
+        x.stamp().is_before(self.stamp)
     }
 
     fn count(&self, summary: Tally, _len: usize) -> Option<usize> {
@@ -122,12 +123,12 @@ pub struct Same {
     pub stamp: Stamp,
 }
 
-impl Pick<Entry, Tally> for Same {
+impl Pick<Slot, Tally> for Same {
     ghost use Rattle.desk_blocks.specs.Tally.{is_of};
 
     ghost picked = { λ s e. is_of s.stamp e };
 
-    fn picks(&self, x: Entry) -> bool {
-        x.stamp.is_same(self.stamp)
+    fn picks(&self, x: Slot) -> bool {
+        x.stamp().is_same(self.stamp)
     }
 }

@@ -1,5 +1,5 @@
--- Columns and their indices, cells and their places, cells and their names.
-use Rattle.std.proofs.Common.{◌≡◌, ◌∙◌, ℕ, ◌+◌, ◌-◌, ◌*◌, ◌/◌, ◌%◌, ◌≤◌, ◌<◌, Bool, true, false, ◌&&◌, if◌then◌else◌, List, [], ◌∷◌, length, Option, Some, None, refl, sym, ap, arith}
+-- Cells and their places, cells and their names.
+use Rattle.std.proofs.Common.{◌≡◌, ◌∙◌, ℕ, ◌+◌, ◌-◌, ◌*◌, ◌/◌, ◌%◌, ◌≤◌, ◌<◌, Bool, true, false, ◌&&◌, if◌then◌else◌, List, [], ◌∷◌, ◌++◌, eqb-true, Option, Some, None, refl, sym, ap, arith}
 use Rattle.std.specs.Prelude.{◌==◌, nat_le, nat_lt}
 use Rattle.std.specs.Option.{unwrap_or}
 use Rattle.std.proofs.lemmas.Bool.{le-leb, leb-true}
@@ -7,87 +7,10 @@ use Rattle.std.proofs.lemmas.Bool.Decides.{nat_tests}
 use Rattle.desk_signals.specs.declared.Column.{Column}
 use Rattle.desk_signals.specs.declared.Column.TheVariants as column
 use Rattle.desk_signals.specs.declared.Cell.{Cell}
-use Rattle.desk_case.specs.Names.{index, column_at, letter, column_of_letter, digits, row_of_digits, name_of, cell_at, cell_named, IsCell, place, cell_of_place}
+use Rattle.desk_signals.specs.Columns.{index, column_at}
+use Rattle.desk_case.specs.Names.{column_name, column_of_letter, digits, row_of_digits, name_of, cell_at, cell_named, IsCell, place, cell_of_place}
 use Rattle.desk_case.specs.Laws.{NamesAreOneToOne}
-
-abbrev all_columns : List Column
-all_columns =
-    column.A ∷ column.B ∷ column.C ∷ column.D ∷ column.E ∷ column.F ∷ column.G ∷ column.H ∷ column.I ∷ column.J ∷ column.K ∷ column.L ∷ column.M ∷ column.N
-    ∷ column.O ∷ []
-
--- the column with an index, where the first has index k
-abbrev column_from : List Column → ℕ → ℕ → Option Column
-column_from [] k n = None
-column_from (c ∷ cs) k n = if n == k then Some c else column_from cs (k + 1) n
-
-abbrev AreIndexed : List Column → ℕ → Type 0
-AreIndexed [] k = Unit {0}
-AreIndexed (c ∷ cs) k = (index c ≡ k) × AreIndexed cs (k + 1)
-
-all_indexed : AreIndexed all_columns 0
-all_indexed = (refl, (refl, (refl, (refl, (refl, (refl, (refl, (refl, (refl, (refl, (refl, (refl, (refl, (refl, (refl, tt)))))))))))))))
-
-index_here : (a c : Column) (k n : ℕ) (b : Bool) (rest : Option Column) → (n == k) ≡ b → index a ≡ k → (rest ≡ Some c → index c ≡ n)
-    → (if b then Some a else rest) ≡ Some c → index c ≡ n
-index_here a c k n true rest test is ih e =
-    let same : a ≡ c = cc in
-    let here : n ≡ k = grind (arith, nat_tests) in
-    ap index (sym same) ∙ is ∙ sym here
-index_here a c k n false rest test is ih e = ih e
-
-index_from : (cs : List Column) (c : Column) (k n : ℕ) → AreIndexed cs k → column_from cs k n ≡ Some c → index c ≡ n
-index_from [] c k n indexed e = cc
-index_from (a ∷ cs) c k n indexed e = index_here a c k n (n == k) (column_from cs (k + 1) n) refl indexed.0 (index_from cs c (k + 1) n indexed.1) e
-
-pub index_back : (n : ℕ) (c : Column) → column_at n ≡ Some c → index c ≡ n
-index_back n c e = index_from all_columns c 0 n all_indexed e
-
-there_here : (a : Column) (k n : ℕ) (b : Bool) (rest : Option Column) → (n == k) ≡ b → (k + 1 ≤ n → (c : Column) × (rest ≡ Some c)) → k ≤ n
-    → (c : Column) × ((if b then Some a else rest) ≡ Some c)
-there_here a k n true rest test ih h = (a, refl)
-there_here a k n false rest test ih h = let other : k + 1 ≤ n = grind (arith, nat_tests) in ih other
-
-there_from : (cs : List Column) (k n : ℕ) → k ≤ n → n < k + length cs → (c : Column) × (column_from cs k n ≡ Some c)
-there_from [] k n low high = absurd (omega arith)
-there_from (a ∷ cs) k n low high =
-    there_here a k n (n == k) (column_from cs (k + 1) n) refl (λ h. there_from cs (k + 1) n h (omega arith)) low
-
-pub column_there : (n : ℕ) → n < 15 → (c : Column) × (column_at n ≡ Some c)
-column_there n h = there_from all_columns 0 n (omega arith) h
-
-pub column_back : (c : Column) → column_at (index c) ≡ Some c
-column_back column.A = refl
-column_back column.B = refl
-column_back column.C = refl
-column_back column.D = refl
-column_back column.E = refl
-column_back column.F = refl
-column_back column.G = refl
-column_back column.H = refl
-column_back column.I = refl
-column_back column.J = refl
-column_back column.K = refl
-column_back column.L = refl
-column_back column.M = refl
-column_back column.N = refl
-column_back column.O = refl
-
-pub index_small : (c : Column) → index c < 15
-index_small column.A = omega arith
-index_small column.B = omega arith
-index_small column.C = omega arith
-index_small column.D = omega arith
-index_small column.E = omega arith
-index_small column.F = omega arith
-index_small column.G = omega arith
-index_small column.H = omega arith
-index_small column.I = omega arith
-index_small column.J = omega arith
-index_small column.K = omega arith
-index_small column.L = omega arith
-index_small column.M = omega arith
-index_small column.N = omega arith
-index_small column.O = omega arith
+use Rattle.desk_case.proofs.Columns.{index_small, column_back, column_there, index_back}
 
 abbrev cell_made : Column → ℕ → Cell
 cell_made c r = record { column = c; row = r }
@@ -96,27 +19,27 @@ same_cell_made : (c d : Column) (r s : ℕ) → c ≡ d → r ≡ s → cell_mad
 same_cell_made c d r s p q = cc
 
 -- a place and its cell
-pub place_is_cell : (n : ℕ) → n < 225 → IsCell (cell_of_place n)
+pub place_is_cell : (n : ℕ) → n < 255 → IsCell (cell_of_place n)
 place_is_cell n h = (omega arith, omega arith)
 
-back_at : (n i : ℕ) (c : Column) → index c ≡ n % 15 → place (cell_made c (n / 15 + 1)) ≡ n
+back_at : (n i : ℕ) (c : Column) → index c ≡ n % 17 → place (cell_made c (n / 17 + 1)) ≡ n
 back_at n i c e = omega arith
 
-pub place_back : (n : ℕ) → n < 225 → place (cell_of_place n) ≡ n
+pub place_back : (n : ℕ) → n < 255 → place (cell_of_place n) ≡ n
 place_back n h =
-    let some = column_there (n % 15) (omega arith) in
-    rw (some.1) (back_at n 0 some.0 (index_back (n % 15) some.0 some.1))
+    let some = column_there (n % 17) (omega arith) in
+    rw (some.1) (back_at n 0 some.0 (index_back (n % 17) some.0 some.1))
 
-parts_of_place : (r i : ℕ) → 1 ≤ r → i < 15 → ((15 * (r - 1) + i) % 15 ≡ i) × ((15 * (r - 1) + i) / 15 + 1 ≡ r)
+parts_of_place : (r i : ℕ) → 1 ≤ r → i < 17 → ((17 * (r - 1) + i) % 17 ≡ i) × ((17 * (r - 1) + i) / 17 + 1 ≡ r)
 parts_of_place r i low high = (omega arith, omega arith)
 
 pub cell_back : (c : Cell) → IsCell c → cell_of_place (place c) ≡ c
 cell_back c k =
     let parts = parts_of_place c.row (index c.column) k.0 (index_small c.column) in
-    same_cell_made (unwrap_or (column_at (place c % 15)) column.A) c.column (place c / 15 + 1) c.row
+    same_cell_made (unwrap_or (column_at (place c % 17)) column.A) c.column (place c / 17 + 1) c.row
     (ap (λ n. unwrap_or (column_at n) column.A) parts.0 ∙ ap (λ o. unwrap_or o column.A) (column_back c.column)) parts.1
 
-pub place_within : (c : Cell) → IsCell c → place c < 225
+pub place_within : (c : Cell) → IsCell c → place c < 255
 place_within c k = let small = index_small c.column in omega arith
 
 -- a cell and its name
@@ -127,12 +50,22 @@ parts_of_cell (Some c) (Some r) cell e =
     let same : cell_made c r ≡ cell = cc in
     (ap (λ (x : Cell). Some x.column) same, ap (λ (x : Cell). Some x.row) same)
 
-letter_at : (l : ℕ) (c : Column) (b : Bool) → nat_le 65 l ≡ b → (if b then column_at (l - 65) else None) ≡ Some c → l ≡ letter c
-letter_at l c true test e =
-    let h = leb-true 65 l test in
+two_bytes : (l k m n : ℕ) → l ≡ m → k ≡ n → l ∷ k ∷ [] ≡ m ∷ n ∷ []
+two_bytes l k m n p q = cc
+
+named_by_letter : (c : Column) → index c < 15 → column_name c ≡ (index c + 65) ∷ []
+named_by_letter column.NI h = absurd (omega (arith, h))
+named_by_letter column.NL h = absurd (omega (arith, h))
+named_by_letter c h = refl
+
+letter_at : (l : ℕ) (c : Column) (a b : Bool) → nat_le 65 l ≡ a → nat_le l 79 ≡ b → (if a && b then column_at (l - 65) else None) ≡ Some c → (l ∷ []) ≡ column_name c
+letter_at l c true true low high e =
+    let h = leb-true 65 l low in
+    let k = leb-true l 79 high in
     let is = index_back (l - 65) c e in
-    omega arith
-letter_at l c false test e = cc
+    ap (λ (n : ℕ). n ∷ []) (omega arith) ∙ sym (named_by_letter c (omega arith))
+letter_at l c true false low high e = cc
+letter_at l c false b low high e = cc
 
 one_digit : (d r : ℕ) (a b : Bool) → nat_le 49 d ≡ a → nat_le d 57 ≡ b → (if a && b then Some (d - 48) else None) ≡ Some r
     → (d ≡ r + 48) × (1 ≤ r) × (r < 10)
@@ -172,30 +105,33 @@ digits_at (t ∷ d ∷ []) r e =
     (same_two t d r parts.0 parts.1 parts.2, omega (arith, parts.2), parts.3)
 digits_at (t ∷ d ∷ x ∷ more) r e = cc
 
+named_letter : (l : ℕ) (ds : List ℕ) (cell : Cell) → cell_at (column_of_letter l) (row_of_digits ds) ≡ Some cell → (l ∷ ds ≡ name_of cell) × IsCell cell
+named_letter l ds cell e =
+    let parts = parts_of_cell (column_of_letter l) (row_of_digits ds) cell e in
+    let first = letter_at l cell.column (nat_le 65 l) (nat_le l 79) refl refl parts.0 in
+    let rest = digits_at ds cell.row parts.1 in
+    (ap (λ (xs : List ℕ). l ∷ xs) rest.0 ∙ ap (λ (xs : List ℕ). xs ++ digits cell.row) first, (rest.1, rest.2))
+
+named_pair : (l k : ℕ) (ds : List ℕ) (c : Column) (cell : Cell) → l ∷ k ∷ [] ≡ column_name c → cell_at (Some c) (row_of_digits ds) ≡ Some cell → (l ∷ k ∷ ds ≡ name_of cell) × IsCell cell
+named_pair l k ds c cell named e =
+    let parts = parts_of_cell (Some c) (row_of_digits ds) cell e in
+    let same : c ≡ cell.column = cc in
+    let rest = digits_at ds cell.row parts.1 in
+    (ap (λ (xs : List ℕ). l ∷ k ∷ xs) rest.0 ∙ ap (λ (xs : List ℕ). xs ++ digits cell.row) (named ∙ ap column_name same), (rest.1, rest.2))
+
+named_at : (l k : ℕ) (ds : List ℕ) (cell : Cell) (a b c : Bool) → (l == 78) ≡ a → (k == 73) ≡ b → (k == 76) ≡ c
+    → (if a && b then cell_at (Some column.NI) (row_of_digits ds) else if a && c then cell_at (Some column.NL) (row_of_digits ds)
+    else cell_at (column_of_letter l) (row_of_digits (k ∷ ds))) ≡ Some cell
+    → (l ∷ k ∷ ds ≡ name_of cell) × IsCell cell
+named_at l k ds cell true true c p q r e = named_pair l k ds column.NI cell (two_bytes l k 78 73 (eqb-true l 78 p) (eqb-true k 73 q)) e
+named_at l k ds cell true false true p q r e = named_pair l k ds column.NL cell (two_bytes l k 78 76 (eqb-true l 78 p) (eqb-true k 76 r)) e
+named_at l k ds cell true false false p q r e = named_letter l (k ∷ ds) cell e
+named_at l k ds cell false b c p q r e = named_letter l (k ∷ ds) cell e
+
 pub named_is : (text : List ℕ) (cell : Cell) → cell_named text ≡ Some cell → (text ≡ name_of cell) × IsCell cell
 named_is [] cell e = cc
-named_is (l ∷ ds) cell e =
-    let parts = parts_of_cell (column_of_letter l) (row_of_digits ds) cell e in
-    let first = letter_at l cell.column (nat_le 65 l) refl parts.0 in
-    let rest = digits_at ds cell.row parts.1 in
-    (rw (first, rest.0) refl, (rest.1, rest.2))
-
-letter_back : (c : Column) → column_of_letter (letter c) ≡ Some c
-letter_back column.A = refl
-letter_back column.B = refl
-letter_back column.C = refl
-letter_back column.D = refl
-letter_back column.E = refl
-letter_back column.F = refl
-letter_back column.G = refl
-letter_back column.H = refl
-letter_back column.I = refl
-letter_back column.J = refl
-letter_back column.K = refl
-letter_back column.L = refl
-letter_back column.M = refl
-letter_back column.N = refl
-letter_back column.O = refl
+named_is (l ∷ []) cell e = cc
+named_is (l ∷ k ∷ ds) cell e = named_at l k ds cell (l == 78) (k == 73) (k == 76) refl refl refl e
 
 digits_back_at : (r : ℕ) (b : Bool) → nat_lt r 10 ≡ b → 1 ≤ r → r ≤ 15 → row_of_digits (if b then (r + 48) ∷ [] else 49 ∷ (r + 38) ∷ []) ≡ Some r
 digits_back_at r true test low high =
@@ -207,8 +143,47 @@ digits_back_at r false test low high =
     let back : r + 38 - 38 ≡ r = omega arith in
     rw (le-leb 48 (r + 38) (omega arith), le-leb (r + 38) 53 (omega arith), back) refl
 
+-- the name of each cell, read
+past_at : {A : Type 0} (a b c : Bool) (x y z : A) → b ≡ false → c ≡ false → (if a && b then x else if a && c then y else z) ≡ z
+past_at true false false x y z p q = refl
+past_at true true c x y z p q = absurd (cc)
+past_at true false true x y z p q = absurd (cc)
+past_at false b c x y z p q = refl
+
+past_pairs : (l k : ℕ) (ds : List ℕ) → k < 60 → cell_named (l ∷ k ∷ ds) ≡ cell_at (column_of_letter l) (row_of_digits (k ∷ ds))
+past_pairs l k ds small =
+    past_at (l == 78) (k == 73) (k == 76) (cell_at (Some column.NI) (row_of_digits ds)) (cell_at (Some column.NL) (row_of_digits ds))
+    (cell_at (column_of_letter l) (row_of_digits (k ∷ ds))) (grind (arith, nat_tests)) (grind (arith, nat_tests))
+
+letter_back : (c : Column) → index c < 15 → column_of_letter (index c + 65) ≡ Some c
+letter_back c h =
+    let back : index c + 65 - 65 ≡ index c = omega arith in
+    rw (le-leb 65 (index c + 65) (omega arith), le-leb (index c + 65) 79 (omega (arith, h)), back) (column_back c)
+
+both_back : (l : ℕ) (ds : List ℕ) (c : Column) (r : ℕ) → column_of_letter l ≡ Some c → row_of_digits ds ≡ Some r
+    → cell_at (column_of_letter l) (row_of_digits ds) ≡ Some (cell_made c r)
+both_back l ds c r p q = ap (λ o. cell_at o (row_of_digits ds)) p ∙ ap (cell_at (Some c)) q
+
+digits_back : (r : ℕ) → 1 ≤ r → r ≤ 15 → row_of_digits (digits r) ≡ Some r
+digits_back r low high = digits_back_at r (nat_lt r 10) refl low high
+
+letter_name_at : (l r : ℕ) (b : Bool) → nat_lt r 10 ≡ b
+    → cell_named (l ∷ (if b then (r + 48) ∷ [] else 49 ∷ (r + 38) ∷ [])) ≡ cell_at (column_of_letter l) (row_of_digits (if b then (r + 48) ∷ [] else 49 ∷ (r + 38) ∷ []))
+letter_name_at l r true test = let small : r < 10 = grind (arith, nat_tests) in past_pairs l (r + 48) [] (omega (arith, small))
+letter_name_at l r false test = past_pairs l 49 ((r + 38) ∷ []) (omega arith)
+
+letter_name_back : (c : Column) (r : ℕ) → index c < 15 → 1 ≤ r → r ≤ 15 → cell_named (name_of (cell_made c r)) ≡ Some (cell_made c r)
+letter_name_back c r h low high =
+    ap (λ (xs : List ℕ). cell_named (xs ++ digits r)) (named_by_letter c h)
+    ∙ (letter_name_at (index c + 65) r (nat_lt r 10) refl ∙ both_back (index c + 65) (digits r) c r (letter_back c h) (digits_back r low high))
+
+name_back_at : (c : Column) (r : ℕ) → 1 ≤ r → r ≤ 15 → cell_named (name_of (cell_made c r)) ≡ Some (cell_made c r)
+name_back_at column.NI r low high = ap (cell_at (Some column.NI)) (digits_back r low high)
+name_back_at column.NL r low high = ap (cell_at (Some column.NL)) (digits_back r low high)
+name_back_at c r low high = letter_name_back c r (omega arith) low high
+
 pub name_back : (cell : Cell) → IsCell cell → cell_named (name_of cell) ≡ Some cell
-name_back cell k = rw (letter_back cell.column, digits_back_at cell.row (nat_lt cell.row 10) refl k.0 k.1) refl
+name_back cell k = name_back_at cell.column cell.row k.0 k.1
 
 pub names : NamesAreOneToOne
 names text cell = (named_is text cell, λ h. rw (h.0) (name_back cell h.1))

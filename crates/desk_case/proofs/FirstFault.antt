@@ -5,7 +5,7 @@ use Rattle.desk_ops.specs.declared.op.Symbol.{Symbol}
 use Rattle.desk_keys.specs.Keys.{number_of}
 use Rattle.desk_keys.proofs.FirstFault.{IsNever, then_never, value_never, never_err}
 use Rattle.desk_case.specs.Case.{CaseValues}
-use Rattle.desk_case.specs.File.{key_name, at_key, matrices_of, cell_of_data, fill_of, grid_from, first_doubled, first_held, unless, case_of_members}
+use Rattle.desk_case.specs.File.{key_name, at_key, sheet_of, cell_of_data, fill_of, grid_from, first_doubled, first_held, unless, case_of_members}
 use Rattle.desk_case.specs.Reading.{Gives}
 use Rattle.desk_case.specs.declared.CaseKey.{CaseKey}
 use Rattle.desk_case.specs.declared.CaseKey.TheVariants as key
@@ -28,10 +28,10 @@ unless_never fault (Some a) b h = h a
 members_never : (ms : Members) → IsNever FillOrder (case_of_members ms)
 members_never ms =
     then_never FillOrder (at_key key.Case (number_of 1 65535) ms) _ (key_never key.Case (number_of 1 65535) ms) (λ n.
-    then_never FillOrder (at_key key.Rows matrices_of ms) _ (key_never key.Rows matrices_of ms) (λ matrices.
-    then_never FillOrder (at_key key.Space cell_of_data ms) _ (key_never key.Space cell_of_data ms) (λ s.
-    then_never FillOrder (at_key key.Fill fill_of ms) _ (key_never key.Fill fill_of ms) (λ f.
-    then_never FillOrder (grid_from 0 matrices) _ (grid_never 0 matrices) (λ g.
+    then_never FillOrder (at_key key.Rows sheet_of ms) _ (key_never key.Rows sheet_of ms) (λ sheet.
+    then_never FillOrder (at_key key.Space (cell_of_data sheet.columns) ms) _ (key_never key.Space (cell_of_data sheet.columns) ms) (λ s.
+    then_never FillOrder (at_key key.Fill (fill_of sheet.columns) ms) _ (key_never key.Fill (fill_of sheet.columns) ms) (λ f.
+    then_never FillOrder (grid_from 0 sheet.matrices) _ (grid_never 0 sheet.matrices) (λ g.
     then_never FillOrder (unless Doubled (first_doubled g) g) _ (unless_never Doubled (first_doubled g) g (λ a e. cc)) (λ grid.
     unless_never NotBlank (first_held grid (s ∷ f)) _ (λ a e. cc)))))))
 

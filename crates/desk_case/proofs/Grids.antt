@@ -158,7 +158,7 @@ cell_there : (case : CaseValues) → IsCase case → (s : Symbol) (c : Cell) (o 
 cell_there case k s c None e told = absurd (some_not_none (sym told))
 cell_there case k s c (Some n) e told =
     let at = found case.grid s n e in
-    let within : n < 225 = omega (arith, slice_get_within case.grid n (Some s) at, k.cells) in
+    let within : n < 255 = omega (arith, slice_get_within case.grid n (Some s) at, k.cells) in
     let is : cell_of_place n ≡ c = cc in
     let back : place c ≡ n = ap place (sym is) ∙ place_back n within in
     (ap (λ i. option_flatten (slice_get case.grid i)) back ∙ ap option_flatten at, subst (λ x. IsCell x) is (place_is_cell n within))

@@ -1,3 +1,4 @@
+pub mod Columns
 pub mod Symbols
 pub mod Cells
 pub mod Grids
@@ -6,3 +7,4 @@ pub mod Descents
 pub mod Rows
 pub mod Lawful
 pub mod FirstFault
+pub mod Narrow

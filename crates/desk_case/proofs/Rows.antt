@@ -1,6 +1,6 @@
 -- Reading the rows of a case, text by text, and what their cells hold.
 use Rattle.std.proofs.Common.{◌≡◌, ◌≢◌, ◌∙◌, ℕ, ◌+◌, ◌≤◌, ◌<◌, true, false, List, [], ◌∷◌, ◌++◌, length, drop, get_or, Option, Some, None, Result, Ok, Err, refl, sym, ap, append_assoc, arith}
-use Rattle.std.specs.Prelude.{map, option_map, nat_le, ◌&&◌}
+use Rattle.std.specs.Prelude.{map, option_map, nat_le, replicate, ◌-◌, ◌&&◌}
 use Rattle.std.proofs.lemmas.Bool.{true≢false, false≢true}
 use Rattle.std.proofs.lemmas.Bool.Decides.{nat_tests}
 use Rattle.std.proofs.lemmas.List.{append-nil, map-append, drop_more}
@@ -13,9 +13,9 @@ use Rattle.desk_keys.specs.Keys.{◌>>=◌}
 use Rattle.desk_case.specs.declared.CaseFault.{CaseFault}
 use Rattle.desk_case.specs.declared.CaseFault.TheVariants.{BadText}
 use Rattle.desk_case.specs.Names.{cell_of_place}
-use Rattle.desk_case.specs.File.{row_of, joined_rows, matrix_of, matrices_of, grid_from}
+use Rattle.desk_case.specs.File.{row_of, joined_rows, matrix_of, cells_of, matrices_of, grid_from}
 use Rattle.desk_case.specs.Reading.{AddsRow}
-use Rattle.desk_keys.proofs.Items.{AreReadTo, none_read, one_read, fault_read, right_length, wrong_length}
+use Rattle.desk_keys.proofs.Items.{AreReadTo, none_read, one_read, fault_read, all_read, each_length, right_length, wrong_length}
 
 abbrev pub Matrices : Type 0
 Matrices = List (Option (Option Symbol))
@@ -42,79 +42,89 @@ not_row : (before after : Matrices) (o : Option (List (List ℕ))) → None ≡ 
 not_row before after None e = refl
 not_row before after (Some texts) e = absurd (cc)
 
-pub other_row : (before after : Matrices) (d : Data) → None ≡ as_array d → AddsRow before after (row_of d) false
-other_row before after d e = not_row before after (row_of d) (rw (sym e) refl)
+pub other_row : (columns : ℕ) (before after : Matrices) (d : Data) → None ≡ as_array d → AddsRow before after (row_of columns d) false
+other_row columns before after d e = not_row before after (row_of columns d) (rw (sym e) refl)
 
-pub text_missing : (vs : List Value) (i : ℕ) (d : Data) (before after last : Matrices) (v : Value) → Some (items_view vs) ≡ as_array d → i < length vs → v ≡ get_or vs i v
-    → None ≡ as_str (view v) → IsRowReadTo vs i before after → AddsRow before last (row_of d) false
-text_missing vs i d before after last v array within is said h =
+pub text_missing : (columns : ℕ) (vs : List Value) (i : ℕ) (d : Data) (before after last : Matrices) (v : Value) → Some (items_view vs) ≡ as_array d → i < length vs → v ≡ get_or vs i v
+    → None ≡ as_str (view v) → IsRowReadTo vs i before after → AddsRow before last (row_of columns d) false
+text_missing columns vs i d before after last v array within is said h =
     let none = fault_read as_str vs i h.front v within is said h.so_far in
-    not_row before last (row_of d) (rw (← array, none) refl)
+    not_row before last (row_of columns d) (rw (← array, none) refl)
 
-pub short_row : (vs : List Value) (d : Data) (before after : Matrices) → Some (items_view vs) ≡ as_array d → length vs ≢ 15 → AddsRow before after (row_of d) false
-short_row vs d before after array other =
-    let outside : (nat_le 15 (length vs) && nat_le (length vs) 15) ≡ false = grind (arith, nat_tests) in
-    not_row before after (row_of d) (rw (← array) (wrong_length as_str vs 15 15 outside))
+pub short_row : (columns : ℕ) (vs : List Value) (d : Data) (before after : Matrices) → Some (items_view vs) ≡ as_array d → length vs ≢ columns → AddsRow before after (row_of columns d) false
+short_row columns vs d before after array other =
+    let outside : (nat_le columns (length vs) && nat_le (length vs) columns) ≡ false = grind (arith, nat_tests) in
+    not_row before after (row_of columns d) (rw (← array) (wrong_length as_str vs columns columns outside))
 
-adds : (before after : Matrices) (o : Option (List (List ℕ))) (front : List (List ℕ)) → Some front ≡ o → after ≡ before ++ map matrix_of front → AddsRow before after o true
+adds : (before after : Matrices) (o : Option (List (List ℕ))) (front : List (List ℕ)) → Some front ≡ o → after ≡ before ++ cells_of front → AddsRow before after o true
 adds before after None front e grown = absurd (cc)
-adds before after (Some texts) front e grown = let same : front ≡ texts = cc in (refl, grown ∙ ap (λ x. before ++ map matrix_of x) same)
+adds before after (Some texts) front e grown = let same : front ≡ texts = cc in (refl, grown ∙ ap (λ x. before ++ cells_of x) same)
 
-pub row_read : (vs : List Value) (i : ℕ) (d : Data) (before after : Matrices) → Some (items_view vs) ≡ as_array d → length vs ≡ 15 → length vs ≤ i
-    → IsRowReadTo vs i before after → AddsRow before after (row_of d) true
-row_read vs i d before after array long end h =
-    adds before after (row_of d) h.front (rw (← array) (right_length as_str vs i 15 15 h.front end h.so_far (omega arith) (omega arith))) h.grown
+padded_row : (before after : Matrices) (front : List (List ℕ)) (columns blanks : ℕ) → after ≡ before ++ map matrix_of front → length front ≡ columns → blanks ≡ 17 - columns
+    → after ++ replicate blanks (Some None) ≡ before ++ cells_of front
+padded_row before after front columns blanks grown long is =
+    let same : blanks ≡ 17 - length front = omega (arith, long, is) in
+    ap (λ x. x ++ replicate blanks (Some None)) grown ∙ append_assoc before (map matrix_of front) (replicate blanks (Some None))
+    ∙ ap (λ n. before ++ (map matrix_of front ++ replicate n (Some None))) same
+
+pub row_read : (columns : ℕ) (vs : List Value) (i : ℕ) (d : Data) (before after last : Matrices) (blanks : ℕ) → Some (items_view vs) ≡ as_array d → length vs ≡ columns → length vs ≤ i
+    → blanks ≡ 17 - columns → last ≡ after ++ replicate blanks (Some None) → IsRowReadTo vs i before after → AddsRow before last (row_of columns d) true
+row_read columns vs i d before after last blanks array long end is padded h =
+    let all = all_read as_str vs i h.front end h.so_far in
+    let same : length h.front ≡ columns = each_length as_str vs h.front all ∙ long in
+    adds before last (row_of columns d) h.front (rw (← array) (right_length as_str vs i columns columns h.front end h.so_far (omega arith) (omega arith)))
+    (padded ∙ padded_row before after h.front columns blanks h.grown same is)
 
 -- rows, some of which have been added
-pub record AreRowsReadTo (vs : List Value) (i : ℕ) (matrices : Matrices) : Type 0 where
+pub record AreRowsReadTo (columns : ℕ) (vs : List Value) (i : ℕ) (matrices : Matrices) : Type 0 where
   pub front : List (List (List ℕ))
-  pub grown : matrices ≡ map matrix_of (joined_rows front)
-  pub so_far : AreReadTo row_of vs i front
+  pub grown : matrices ≡ joined_rows (map cells_of front)
+  pub so_far : AreReadTo (row_of columns) vs i front
 
-pub rows_begun : (vs : List Value) → AreRowsReadTo vs 0 []
-rows_begun vs = record { front = []; grown = refl; so_far = none_read row_of vs }
+pub rows_begun : (columns : ℕ) (vs : List Value) → AreRowsReadTo columns vs 0 []
+rows_begun columns vs = record { front = []; grown = refl; so_far = none_read (row_of columns) vs }
 
-rows_joined : (rows : List (List (List ℕ))) (row : List (List ℕ)) → joined_rows (rows ++ row ∷ []) ≡ joined_rows rows ++ row
+rows_joined : (rows : List Matrices) (row : Matrices) → joined_rows (rows ++ row ∷ []) ≡ joined_rows rows ++ row
 rows_joined [] row = append-nil row
 rows_joined (r ∷ rows) row = ap (λ x. r ++ x) (rows_joined rows row) ∙ sym (append_assoc r (joined_rows rows) row)
 
-row_added_at : (vs : List Value) (i : ℕ) (before after : Matrices) (v : Value) (o : Option (List (List ℕ))) → row_of (view v) ≡ o → i < length vs → v ≡ get_or vs i v
-    → AddsRow before after o true → AreRowsReadTo vs i before → AreRowsReadTo vs (i + 1) after
-row_added_at vs i before after v None said within is added h = absurd (true≢false added)
-row_added_at vs i before after v (Some texts) said within is added h = record {
+row_added_at : (columns : ℕ) (vs : List Value) (i : ℕ) (before after : Matrices) (v : Value) (o : Option (List (List ℕ))) → row_of columns (view v) ≡ o → i < length vs → v ≡ get_or vs i v
+    → AddsRow before after o true → AreRowsReadTo columns vs i before → AreRowsReadTo columns vs (i + 1) after
+row_added_at columns vs i before after v None said within is added h = absurd (true≢false added)
+row_added_at columns vs i before after v (Some texts) said within is added h = record {
   front = h.front ++ texts ∷ [];
-  grown = added.1 ∙ ap (λ x. x ++ map matrix_of texts) h.grown ∙ sym (map-append matrix_of (joined_rows h.front) texts)
-      ∙ ap (map matrix_of) (sym (rows_joined h.front texts));
-  so_far = one_read row_of vs i h.front v texts within is (sym said) h.so_far;
+  grown = added.1 ∙ ap (λ x. x ++ cells_of texts) h.grown ∙ sym (rows_joined (map cells_of h.front) (cells_of texts))
+      ∙ ap joined_rows (sym (map-append cells_of h.front (texts ∷ [])));
+  so_far = one_read (row_of columns) vs i h.front v texts within is (sym said) h.so_far;
 }
 
-pub row_added : (vs : List Value) (i : ℕ) (before after : Matrices) (v : Value) → i < length vs → v ≡ get_or vs i v → AddsRow before after (row_of (view v)) true
-    → AreRowsReadTo vs i before → AreRowsReadTo vs (i + 1) after
-row_added vs i before after v within is added h = row_added_at vs i before after v (row_of (view v)) refl within is added h
+pub row_added : (columns : ℕ) (vs : List Value) (i : ℕ) (before after : Matrices) (v : Value) → i < length vs → v ≡ get_or vs i v → AddsRow before after (row_of columns (view v)) true
+    → AreRowsReadTo columns vs i before → AreRowsReadTo columns vs (i + 1) after
+row_added columns vs i before after v within is added h = row_added_at columns vs i before after v (row_of columns (view v)) refl within is added h
 
 not_added : (before after : Matrices) (o : Option (List (List ℕ))) → AddsRow before after o false → None ≡ o
 not_added before after None h = refl
 not_added before after (Some texts) h = absurd (false≢true h.0)
 
-pub row_missing : (vs : List Value) (i : ℕ) (d : Data) (before after : Matrices) (v : Value) → Some (items_view vs) ≡ as_array d → i < length vs → v ≡ get_or vs i v
-    → AddsRow before after (row_of (view v)) false → AreRowsReadTo vs i before → None ≡ matrices_of d
-row_missing vs i d before after v array within is missing h =
-    let none = fault_read row_of vs i h.front v within is (not_added before after (row_of (view v)) missing) h.so_far in
+pub row_missing : (columns : ℕ) (vs : List Value) (i : ℕ) (d : Data) (before after : Matrices) (v : Value) → Some (items_view vs) ≡ as_array d → i < length vs → v ≡ get_or vs i v
+    → AddsRow before after (row_of columns (view v)) false → AreRowsReadTo columns vs i before → None ≡ matrices_of columns d
+row_missing columns vs i d before after v array within is missing h =
+    let none = fault_read (row_of columns) vs i h.front v within is (not_added before after (row_of columns (view v)) missing) h.so_far in
     rw (← array, none) refl
 
-pub other_rows : (d : Data) → None ≡ as_array d → None ≡ matrices_of d
-other_rows d e = rw (sym e) refl
+pub other_rows : (columns : ℕ) (d : Data) → None ≡ as_array d → None ≡ matrices_of columns d
+other_rows columns d e = rw (sym e) refl
 
-pub few_rows : (vs : List Value) (d : Data) → Some (items_view vs) ≡ as_array d → length vs ≢ 15 → None ≡ matrices_of d
-few_rows vs d array other =
+pub few_rows : (columns : ℕ) (vs : List Value) (d : Data) → Some (items_view vs) ≡ as_array d → length vs ≢ 15 → None ≡ matrices_of columns d
+few_rows columns vs d array other =
     let outside : (nat_le 15 (length vs) && nat_le (length vs) 15) ≡ false = grind (arith, nat_tests) in
-    rw (← array) (ap (λ o. option_map (map matrix_of) (option_map joined_rows o)) (wrong_length row_of vs 15 15 outside))
+    rw (← array) (ap (option_map (λ rows. joined_rows (map cells_of rows))) (wrong_length (row_of columns) vs 15 15 outside))
 
-pub rows_read : (vs : List Value) (i : ℕ) (d : Data) (matrices : Matrices) → Some (items_view vs) ≡ as_array d → length vs ≡ 15 → length vs ≤ i
-    → AreRowsReadTo vs i matrices → Some matrices ≡ matrices_of d
-rows_read vs i d matrices array long end h =
+pub rows_read : (columns : ℕ) (vs : List Value) (i : ℕ) (d : Data) (matrices : Matrices) → Some (items_view vs) ≡ as_array d → length vs ≡ 15 → length vs ≤ i
+    → AreRowsReadTo columns vs i matrices → Some matrices ≡ matrices_of columns d
+rows_read columns vs i d matrices array long end h =
     ap Some h.grown
-    ∙ rw (← array) (ap (λ o. option_map (map matrix_of) (option_map joined_rows o)) (right_length row_of vs i 15 15 h.front end h.so_far (omega arith) (omega arith)))
+    ∙ rw (← array) (ap (option_map (λ rows. joined_rows (map cells_of rows))) (right_length (row_of columns) vs i 15 15 h.front end h.so_far (omega arith) (omega arith)))
 
 -- what the cells hold, behind those already read
 abbrev pub behind : List (Option Symbol) → Result (List (Option Symbol)) CaseFault → Result (List (Option Symbol)) CaseFault

@@ -1,15 +1,16 @@
 -- The values of a case file, or its first fault.
-use Rattle.std.specs.Prelude.{ℕ, ◌+◌, nat_lt, Bool, true, ◌&&◌, if◌then◌else◌, List, [], ◌∷◌, ◌++◌, codes, Option, Some, None, Result, Ok, Err, ok_or, map, option_map, option_and_then, is_some}
+use Rattle.std.specs.Prelude.{ℕ, ◌+◌, ◌-◌, nat_lt, Bool, true, ◌&&◌, if◌then◌else◌, List, [], ◌∷◌, ◌++◌, codes, length, replicate, Option, Some, None, Result, Ok, Err, ok_or, map, option_map, option_and_then, is_some}
 use Rattle.std.specs.Str.{chars}
 use Rattle.toml.specs.Data.{Data, Members, as_str}
 use Rattle.desk_signals.specs.declared.Cell.{Cell}
+use Rattle.desk_signals.specs.Columns.{index}
 use Rattle.desk_ops.specs.declared.op.Symbol.{Symbol}
 use Rattle.desk_keys.specs.Keys.{◌>>=◌, number_of, value_at, file_of}
 use Rattle.desk_keys.specs.Items.{array_of}
 use Rattle.desk_keys.specs.declared.TableFault.{TableFault}
 use Rattle.desk_keys.specs.declared.TableFault.TheVariants as table
 use Rattle.desk_wedge.specs.Wedge.{WedgeValues, units_of_row}
-use Rattle.desk_case.specs.declared.TheConstants.{COLUMNS, ROWS}
+use Rattle.desk_case.specs.declared.TheConstants.{COLUMNS, NARROW, ROWS}
 use Rattle.desk_case.specs.declared.CaseKey.{CaseKey}
 use Rattle.desk_case.specs.declared.CaseKey.TheVariants as key
 use Rattle.desk_case.specs.declared.CaseFault.{CaseFault}
@@ -36,23 +37,24 @@ fault_number (NotBlank cell) = Some 6
 fault_number FillOrder = Some 7
 fault_number NoMemory = None
 
-abbrev pub row_of : Data → Option (List (List ℕ))
-row_of d = array_of COLUMNS COLUMNS as_str d
+-- the texts of a row of so many columns
+abbrev pub row_of : ℕ → Data → Option (List (List ℕ))
+row_of columns d = array_of columns columns as_str d
 
 -- rows, one after another
 abbrev pub joined_rows : {A : Type 0} → List (List A) → List A
 joined_rows [] = []
 joined_rows (row ∷ rows) = row ++ joined_rows rows
 
--- the texts of the cells, row by row and column by column
-abbrev pub texts_of : Data → Option (List (List ℕ))
-texts_of d = option_map joined_rows (array_of ROWS ROWS row_of d)
+-- the cell that a text names, where a file of so many columns has it
+abbrev pub cell_within : ℕ → List ℕ → Option Cell
+cell_within columns text = option_and_then (λ cell. if nat_lt (index cell.column) columns then Some cell else None) (cell_named text)
 
-abbrev pub cell_of_data : Data → Option Cell
-cell_of_data d = option_and_then cell_named (as_str d)
+abbrev pub cell_of_data : ℕ → Data → Option Cell
+cell_of_data columns d = option_and_then (cell_within columns) (as_str d)
 
-abbrev pub fill_of : Data → Option (List Cell)
-fill_of d = array_of 1 4 cell_of_data d
+abbrev pub fill_of : ℕ → Data → Option (List Cell)
+fill_of columns d = array_of 1 4 (cell_of_data columns) d
 
 -- what a key holds, read; else that it is missing, or that it is no such value
 abbrev pub at_key : {A : Type 0} → CaseKey → (Data → Option A) → Members → Result A CaseFault
@@ -62,9 +64,29 @@ at_key key read members = value_at (key_name key) (Missing key) (Shape key) read
 abbrev pub matrix_of : List ℕ → Option (Option Symbol)
 matrix_of text = matrix_of_text (chars text)
 
--- what the texts of the cells stand for
-abbrev pub matrices_of : Data → Option (List (Option (Option Symbol)))
-matrices_of d = option_map (map matrix_of) (texts_of d)
+-- what the texts of a row stand for, and blanks in the columns that it has not
+abbrev pub cells_of : List (List ℕ) → List (Option (Option Symbol))
+cells_of texts = map matrix_of texts ++ replicate (COLUMNS - length texts) (Some None)
+
+-- what the cells' texts in a file of so many columns stand for, row by row and column by column
+abbrev pub matrices_of : ℕ → Data → Option (List (Option (Option Symbol)))
+matrices_of columns d = option_map (λ rows. joined_rows (map cells_of rows)) (array_of ROWS ROWS (row_of columns) d)
+
+-- the rows of a file: how many columns each has, and what the cells' texts stand for
+pub record Sheet : Type 0 where
+  pub columns : ℕ
+  pub matrices : List (Option (Option Symbol))
+
+abbrev pub sheet_in : ℕ → Data → Option Sheet
+sheet_in columns d = option_map (λ ms. record { columns = columns; matrices = ms }) (matrices_of columns d)
+
+abbrev pub or_else : {A : Type 0} → Option A → Option A → Option A
+or_else (Some a) other = Some a
+or_else None other = other
+
+-- the columns A to O in all rows, or all columns in all rows
+abbrev pub sheet_of : Data → Option Sheet
+sheet_of d = or_else (sheet_in NARROW d) (sheet_in COLUMNS d)
 
 -- what the cells from a place on hold; a fault at the first text that is neither blank nor a symbol
 abbrev pub grid_from : ℕ → List (Option (Option Symbol)) → Result (List (Option Symbol)) CaseFault
@@ -76,10 +98,6 @@ grid_from n (m ∷ ms) =
 abbrev pub met : List (Option Symbol) → Option Symbol → Option Symbol
 met before None = None
 met before (Some symbol) = if is_some (place_in before symbol) then Some symbol else None
-
-abbrev pub or_else : {A : Type 0} → Option A → Option A → Option A
-or_else (Some a) other = Some a
-or_else None other = other
 
 -- the first symbol that stands in an earlier cell
 abbrev pub doubled_after : List (Option Symbol) → List (Option Symbol) → Option Symbol
@@ -103,10 +121,10 @@ unless fault (Some a) b = Err (fault a)
 abbrev pub case_of_members : Members → Result CaseValues CaseFault
 case_of_members members =
     at_key key.Case (number_of 1 65535) members >>= (λ n.
-    at_key key.Rows matrices_of members >>= (λ matrices.
-    at_key key.Space cell_of_data members >>= (λ s.
-    at_key key.Fill fill_of members >>= (λ f.
-    grid_from 0 matrices >>= (λ grid.
+    at_key key.Rows sheet_of members >>= (λ sheet.
+    at_key key.Space (cell_of_data sheet.columns) members >>= (λ s.
+    at_key key.Fill (fill_of sheet.columns) members >>= (λ f.
+    grid_from 0 sheet.matrices >>= (λ grid.
     unless Doubled (first_doubled grid) grid >>= (λ grid.
     unless NotBlank (first_held grid (s ∷ f)) (record { number = n; grid = grid; space = s; fill = f })))))))
 

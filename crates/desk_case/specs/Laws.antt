@@ -1,11 +1,14 @@
 -- What the words of a case mean, said of cells, places and names.
-use Rattle.std.specs.Prelude.{◌≡◌, ℕ, ◌<◌, ◌↔◌, IsTrue, List, Option, Some, MatchOption}
+use Rattle.std.specs.Prelude.{◌≡◌, ◌≢◌, ℕ, ◌<◌, ◌≤◌, ◌↔◌, IsTrue, List, All, Option, Some, None, Ok, MatchOption}
 use Rattle.std.specs.List.{AllPairs}
+use Rattle.toml.specs.Data.{Members}
 use Rattle.desk_signals.specs.declared.Cell.{Cell}
+use Rattle.desk_signals.specs.Columns.{index}
 use Rattle.desk_ops.specs.declared.op.Symbol.{Symbol}
+use Rattle.desk_case.specs.declared.CaseKey.TheVariants as key
 use Rattle.desk_case.specs.Names.{cell_named, name_of, IsCell}
 use Rattle.desk_case.specs.Case.{CaseValues, symbol_at, cell_of, StandsAt, IsDistinct, IsCase}
-use Rattle.desk_case.specs.File.{first_doubled, is_descending}
+use Rattle.desk_case.specs.File.{Sheet, at_key, sheet_of, case_of_members, first_doubled, is_descending}
 
 -- a symbol's cell is the cell that holds it
 abbrev pub CellsAndSymbolsAreInverse : Type 0
@@ -34,3 +37,10 @@ DoubledIsFirst = (grid : List (Option Symbol)) → MatchOption (first_doubled gr
 -- each number is above every later one
 abbrev pub DescentIsOfAllPairs : Type 0
 DescentIsOfAllPairs = (us : List ℕ) → IsTrue (is_descending us) ↔ AllPairs (λ u v. v < u) us
+
+-- where a file has not the columns NI and NL, its case has no symbol there, and neither its space nor a fill
+abbrev pub NarrowCasesLackColumns : Type 0
+NarrowCasesLackColumns =
+    (members : Members) (sheet : Sheet) (case : CaseValues) → at_key key.Rows sheet_of members ≡ Ok sheet → case_of_members members ≡ Ok case
+    → (cell : Cell) → IsCell cell → sheet.columns ≤ index cell.column
+    → (symbol_at case cell ≡ None) × (cell ≢ case.space) × All (λ fill. cell ≢ fill) case.fill

@@ -12,7 +12,7 @@ ghost use Rattle.std.specs.Prelude.{◌≡◌, ◌≢◌, Ok, Err, Some, None, I
 ghost use Rattle.toml.specs.Errors.{IsBlank};
 ghost use Rattle.desk_case.specs.File.{key_name, fault_number, table_fault, case_of, checked, is_descending, units_of_cells};
 ghost use Rattle.desk_case.specs.Case.{symbol_at, cell_of, IsCase};
-ghost use Rattle.desk_case.specs.Laws.{CellsAndSymbolsAreInverse, NamesAreOneToOne, DoubledIsFirst, DescentIsOfAllPairs};
+ghost use Rattle.desk_case.specs.Laws.{CellsAndSymbolsAreInverse, NamesAreOneToOne, DoubledIsFirst, DescentIsOfAllPairs, NarrowCasesLackColumns};
 ghost use Rattle.desk_case.specs.declared.CaseFault.TheVariants as fault;
 
 use desk_keys::TableFault;
@@ -24,8 +24,11 @@ use std::alloc::Global;
 use std::marker::Model;
 use thiserror::Error;
 
-/// The columns of a case.
-pub const COLUMNS: usize = 15;
+/// The columns of a case: A to O, NI and NL. The last two are blank where the case's file does not have them.
+pub const COLUMNS: usize = 17;
+
+/// The columns of a file without NI and NL.
+const NARROW: usize = 15;
 
 /// The rows of a case.
 pub const ROWS: usize = 15;
@@ -227,4 +230,9 @@ pub fn doubled_is_first()
 /// Units that descend are each above all later ones.
 pub fn descent_is_of_all_pairs()
     ensures { DescentIsOfAllPairs }
+{}
+
+/// Where a file has not the columns NI and NL, its case holds nothing there, and has neither its space nor a fill there.
+pub fn narrow_cases_lack_columns()
+    ensures { NarrowCasesLackColumns }
 {}

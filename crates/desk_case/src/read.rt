@@ -1,15 +1,15 @@
 //! The values of a case file, key by key.
-ghost use Rattle.std.specs.Prelude.{◌≡◌, ◌≢◌, ◌≤◌, ◌*◌, ◌++◌, [], ◌∷◌, Ok, Err, Some, None, IfOk, IfErr, MatchOption, length, map, option_map, is_some, true, false};
+ghost use Rattle.std.specs.Prelude.{◌≡◌, ◌≢◌, ◌≤◌, ◌*◌, ◌++◌, [], ◌∷◌, Ok, Err, Some, None, OnOk, IfOk, IfErr, MatchOption, length, replicate, option_map, is_some, true, false};
 ghost use Rattle.toml.specs.Data.{no_members};
 ghost use Rattle.toml.specs.View.{view, table_view};
 ghost use Rattle.desk_keys.specs.Keys.{number_of};
 ghost use Rattle.desk_case.specs.Case.{symbol_in, IsIndexOf};
 ghost use Rattle.desk_case.specs.Names.{IsCell};
-ghost use Rattle.desk_case.specs.File.{at_key, row_of, matrices_of, cell_of_data, fill_of, grid_from, first_doubled, first_held, case_of_members};
-ghost use Rattle.desk_case.specs.Reading.{Gives, AddsRow};
+ghost use Rattle.desk_case.specs.File.{at_key, row_of, matrices_of, sheet_of, cell_of_data, fill_of, grid_from, first_doubled, first_held, case_of_members};
+ghost use Rattle.desk_case.specs.Reading.{Gives, AddsRow, sheet_seen};
 ghost use Rattle.desk_case.specs.declared.CaseFault.TheVariants as fault;
 
-use crate::{COLUMNS, CaseFault, CaseKey, MatrixCase, ROWS, names, texts};
+use crate::{COLUMNS, CaseFault, CaseKey, MatrixCase, NARROW, ROWS, names, texts};
 use desk_keys::{member, whole_number};
 use desk_ops::Symbol;
 use desk_signals::Cell;
@@ -25,27 +25,29 @@ fn number_at(table: &Table) -> Result<u16, CaseFault>
     whole_number(value, 1, 65535).ok_or(CaseFault::Shape(CaseKey::Case))
 }
 
-/// The cell that a value names.
-fn cell(value: &Value) -> Option<Cell>
-    ensures { result ≡ cell_of_data (view value.now) }
+/// The cell that a value names, where a file of so many columns has it.
+fn cell(columns: usize, value: &Value) -> Option<Cell>
+    ensures { result ≡ cell_of_data columns (view value.now) }
 {
-    match value.as_str() {
-        Some(name) => names::cell(name),
-        None => None,
+    let cell = names::cell(value.as_str()?)?;
+    if (cell.column.index() as usize) < columns {
+        Some(cell)
+    } else {
+        None
     }
 }
 
 /// The space at its key.
-fn space_at(table: &Table) -> Result<Cell, CaseFault>
-    ensures { result ≡ at_key CaseKey.Space cell_of_data (table_view table.now) }
+fn space_at(columns: usize, table: &Table) -> Result<Cell, CaseFault>
+    ensures { result ≡ at_key CaseKey.Space (cell_of_data columns) (table_view table.now) }
 {
     let value = member(table, CaseKey::Space.name()).ok_or(CaseFault::Missing(CaseKey::Space))?;
-    cell(value).ok_or(CaseFault::Shape(CaseKey::Space))
+    cell(columns, value).ok_or(CaseFault::Shape(CaseKey::Space))
 }
 
 /// The fills that a value names, 1 to 4.
-fn fill(alloc: Global, value: &Value) -> Result<Option<Vec<Cell>>, AllocError>
-    ensures { IfOk result (λ o. option_map (λ v. v.items) o ≡ fill_of (view value.now)) }
+fn fill(alloc: Global, columns: usize, value: &Value) -> Result<Option<Vec<Cell>>, AllocError>
+    ensures { IfOk result (λ o. option_map (λ v. v.items) o ≡ fill_of columns (view value.now)) }
 {
     let Some(items) = value.as_array() else {
         return Ok(None);
@@ -55,7 +57,7 @@ fn fill(alloc: Global, value: &Value) -> Result<Option<Vec<Cell>>, AllocError>
     }
     let mut fill = Vec::new(alloc);
     for item in items.iter() {
-        match cell(item) {
+        match cell(columns, item) {
             Some(cell) => fill.push(cell)?,
             None => return Ok(None),
         }
@@ -64,24 +66,40 @@ fn fill(alloc: Global, value: &Value) -> Result<Option<Vec<Cell>>, AllocError>
 }
 
 /// The fills at their key.
-fn fill_at(alloc: Global, table: &Table) -> Result<Vec<Cell>, CaseFault>
-    ensures { Gives (λ v. v.items) (at_key CaseKey.Fill fill_of (table_view table.now)) result }
+fn fill_at(alloc: Global, columns: usize, table: &Table) -> Result<Vec<Cell>, CaseFault>
+    ensures { Gives (λ v. v.items) (at_key CaseKey.Fill (fill_of columns) (table_view table.now)) result }
 {
     let value = member(table, CaseKey::Fill.name()).ok_or(CaseFault::Missing(CaseKey::Fill))?;
-    match fill(alloc, value) {
+    match fill(alloc, columns, value) {
         Ok(fill) => fill.ok_or(CaseFault::Shape(CaseKey::Fill)),
         Err(_) => Err(CaseFault::NoMemory),
     }
 }
 
-/// Adds what the texts of a row stand for, and returns whether it is a row of texts.
-fn add_row(matrices: &mut Vec<Option<Option<Symbol>>>, row: &Value) -> Result<bool, AllocError>
-    ensures { IfOk result (AddsRow matrices.old.items matrices.new.items (row_of (view row.now))) }
+/// Adds blanks.
+fn add_blanks(matrices: &mut Vec<Option<Option<Symbol>>>, count: usize) -> Result<(), AllocError>
+    ensures { OnOk result (matrices.new.items ≡ matrices.old.items ++ replicate count (Some None)) }
+{
+    for _ in 0..count {
+        matrices.push(Some(None))?;
+    }
+    Ok(())
+}
+
+/// Adds what the texts of a row stand for, with blanks in the columns that it has not, and returns whether it is a row of
+/// so many texts.
+fn add_row(
+    columns: usize,
+    matrices: &mut Vec<Option<Option<Symbol>>>,
+    row: &Value,
+) -> Result<bool, AllocError>
+    requires { columns ≤ COLUMNS }
+    ensures { IfOk result (AddsRow matrices.old.items matrices.new.items (row_of columns (view row.now))) }
 {
     let Some(items) = row.as_array() else {
         return Ok(false);
     };
-    if items.len() != COLUMNS {
+    if items.len() != columns {
         return Ok(false);
     }
     for item in items.iter() {
@@ -90,12 +108,18 @@ fn add_row(matrices: &mut Vec<Option<Option<Symbol>>>, row: &Value) -> Result<bo
             None => return Ok(false),
         }
     }
+    add_blanks(matrices, COLUMNS - columns)?;
     Ok(true)
 }
 
-/// What the texts of the rows stand for, row by row.
-fn rows(alloc: Global, value: &Value) -> Result<Option<Vec<Option<Option<Symbol>>>>, AllocError>
-    ensures { IfOk result (λ o. option_map (λ v. v.items) o ≡ matrices_of (view value.now)) }
+/// What the texts of rows of so many columns stand for, row by row.
+fn rows(
+    alloc: Global,
+    columns: usize,
+    value: &Value,
+) -> Result<Option<Vec<Option<Option<Symbol>>>>, AllocError>
+    requires { columns ≤ COLUMNS }
+    ensures { IfOk result (λ o. option_map (λ v. v.items) o ≡ matrices_of columns (view value.now)) }
 {
     let Some(items) = value.as_array() else {
         return Ok(None);
@@ -105,20 +129,46 @@ fn rows(alloc: Global, value: &Value) -> Result<Option<Vec<Option<Option<Symbol>
     }
     let mut matrices = Vec::new(alloc);
     for item in items.iter() {
-        if !add_row(&mut matrices, item)? {
+        if !add_row(columns, &mut matrices, item)? {
             return Ok(None);
         }
     }
     Ok(Some(matrices))
 }
 
-/// What the texts at their key stand for.
-fn rows_at(alloc: Global, table: &Table) -> Result<Vec<Option<Option<Symbol>>>, CaseFault>
-    ensures { Gives (λ v. v.items) (at_key CaseKey.Rows matrices_of (table_view table.now)) result }
+/// The rows of a file: how many columns each has, and what the texts of all cells stand for.
+#[derive(Drop)]
+struct FileRows {
+    columns: usize,
+    matrices: Vec<Option<Option<Symbol>>>,
+}
+
+/// The rows that a value gives: all of the columns A to O, or all of all columns.
+fn sheet(alloc: Global, value: &Value) -> Result<Option<FileRows>, AllocError>
+    ensures { IfOk result (λ o. option_map sheet_seen o ≡ sheet_of (view value.now)) }
+{
+    if let Some(matrices) = rows(alloc, NARROW, value)? {
+        return Ok(Some(FileRows {
+            columns: NARROW,
+            matrices,
+        }));
+    }
+    match rows(alloc, COLUMNS, value)? {
+        Some(matrices) => Ok(Some(FileRows {
+            columns: COLUMNS,
+            matrices,
+        })),
+        None => Ok(None),
+    }
+}
+
+/// The rows at their key.
+fn sheet_at(alloc: Global, table: &Table) -> Result<FileRows, CaseFault>
+    ensures { Gives sheet_seen (at_key CaseKey.Rows sheet_of (table_view table.now)) result }
 {
     let value = member(table, CaseKey::Rows.name()).ok_or(CaseFault::Missing(CaseKey::Rows))?;
-    match rows(alloc, value) {
-        Ok(matrices) => matrices.ok_or(CaseFault::Shape(CaseKey::Rows)),
+    match sheet(alloc, value) {
+        Ok(sheet) => sheet.ok_or(CaseFault::Shape(CaseKey::Rows)),
         Err(_) => Err(CaseFault::NoMemory),
     }
 }
@@ -194,10 +244,10 @@ pub fn case(alloc: Global, table: &Table) -> Result<MatrixCase, CaseFault>
     ensures memory { result ≡ Err fault.NoMemory → table_view table.now ≢ no_members }
 {
     let number = number_at(table)?;
-    let matrices = rows_at(alloc, table)?;
-    let space = space_at(table)?;
-    let fill = fill_at(alloc, table)?;
-    let grid = grid(alloc, matrices.as_slice())?;
+    let sheet = sheet_at(alloc, table)?;
+    let space = space_at(sheet.columns, table)?;
+    let fill = fill_at(alloc, sheet.columns, table)?;
+    let grid = grid(alloc, sheet.matrices.as_slice())?;
     let cells = cells(alloc, grid.as_slice())?;
     match first_held(grid.as_slice(), &space, fill.as_slice()) {
         Some(cell) => Err(CaseFault::NotBlank(cell)),

@@ -1,202 +1,45 @@
 -- Any bytes are a feed or have a first fault.
-use Rattle.std.proofs.Common.{◌≡◌, ℕ, zero, suc, ◌+◌, ◌^◌, ◌<◌, ◌≤◌, ◌==◌, Bool, true, false, cond, not, List, [], ◌∷◌, ◌++◌, length, get_or, take, drop, All, Option, Some, None, Result, Ok, Err, refl, sym, ap, subst, ◌∙◌, ◌⊎◌, inl, inr, append_assoc, length-append, arith}
-use Rattle.std.specs.Int.{w16, w32, w64, to_be_bytes, from_be_bytes}
-use Rattle.std.specs.Char.{InScalarRange}
+use Rattle.std.proofs.Common.{◌≡◌, ℕ, zero, suc, ◌+◌, ◌*◌, ◌<◌, ◌≤◌, List, [], ◌∷◌, ◌++◌, length, get_or, All, Some, None, refl, sym, ap, subst, ◌∙◌, ◌⊎◌, inl, inr, append_assoc, length-append, arith}
 use Rattle.std.proofs.lemmas.Bool.{cases_eq, cases_lt}
 use Rattle.std.proofs.lemmas.Bool.Decides.{nat_tests}
-use Rattle.std.proofs.lemmas.List.{length-drop, get_or_past, get_or-append-add}
+use Rattle.std.proofs.lemmas.List.{get_or_past, length-map}
+use Rattle.std.specs.List.{flat_map}
 use Rattle.desk_ops.specs.declared.op.Stamp.{Stamp}
-use Rattle.desk_ops.specs.declared.op.Style.{Style}
-use Rattle.desk_ops.specs.declared.op.Symbol.{Symbol}
-use Rattle.desk_ops.specs.declared.op.Key.{Key}
 use Rattle.desk_ops.specs.declared.op.Op.{Op}
-use Rattle.desk_ops.specs.declared.op.Op.TheVariants as ops
-use Rattle.desk_ops.specs.declared.op.Unlawful.{Unlawful}
-use Rattle.desk_ops.specs.declared.op.Unlawful.TheVariants as unlawful
-use Rattle.desk_ops.specs.Op.{verdict}
-use Rattle.desk_ops.specs.Stamp.{is_counter}
-use Rattle.desk_codec.specs.declared.fields.Fields.{Fields}
-use Rattle.desk_codec.specs.declared.fields.Fields.TheVariants.{Insert, Delete, Set}
+use Rattle.desk_codec.specs.declared.form.FeedForm.{FeedForm}
+use Rattle.desk_codec.specs.declared.form.FeedForm.TheVariants.{Singles, Runs}
 use Rattle.desk_codec.specs.declared.fault.FeedWhy.{FeedWhy}
 use Rattle.desk_codec.specs.declared.fault.FeedWhy.TheVariants as why
 use Rattle.desk_codec.specs.declared.fault.FeedFault.{FeedFault}
-use Rattle.desk_codec.specs.Feed.{magic, size_of_kind, stamp_spelling, spelling, IsStampValue, IsHeld, Spells, IsFeed}
-use Rattle.desk_codec.specs.Fault.{fields_of, bytes_of, AreValues, style_of, key_of, is_character, no_symbol, symbol_in, setting_cause, cause, IsWrong, IsFirstFault}
+use Rattle.desk_codec.specs.Spelling.{size_of_kind, stamp_spelling, spelling, IsStampValue}
+use Rattle.desk_codec.specs.Item.{Item, One, Run, symbol_spelling, item_spelling}
+use Rattle.desk_codec.specs.Feed.{magic_of, HasRuns, IsRunLength, Stands, Spells, ops_in, IsFeed}
+use Rattle.desk_codec.specs.Fault.{bytes_of, Mark, mark_of, mark_bytes, OneOf, IsWrong, IsFirstFault}
 use Rattle.desk_codec.specs.Laws.{Fronts, FeedOrFault}
-use Rattle.desk_codec.proofs.Numbers.{IsBytes, IsBytes-drop, IsBytes-take, number_there_4, stamp_there}
-use Rattle.desk_codec.proofs.FieldLaws.{bytes_of-fields, insert_back, set_back}
-use Rattle.desk_codec.proofs.LawfulAsTold.{lawful_from}
+use Rattle.desk_codec.proofs.Numbers.{IsBytes}
+use Rattle.desk_codec.proofs.FieldLaws.{bytes_of-fields}
+use Rattle.desk_codec.proofs.ItemLaws.{symbols_bytes, item_length}
+use Rattle.desk_codec.proofs.HereLaws.{FieldsHere, stamp_here, insert_here, delete_here, set_here, judged, run_judged, marks_here, rest_bytes, begins, run_stands, run_there, run_unlawful}
 use Rattle.desk_codec.proofs.FaultLaws.{not_both, one_fault, fronts_not_both, wrong_once}
 
--- ---- fields stand at the front of bytes enough
+-- ---- an item at the front, or something wrong
 
-below_2 : (bytes : List ℕ) → IsBytes bytes → from_be_bytes w16 bytes < 2 ^ 16
-below_2 bytes fits = omega (arith, fits 0, fits 1)
-
-below_4 : (bytes : List ℕ) → IsBytes bytes → from_be_bytes w32 bytes < 2 ^ 32
-below_4 bytes fits = omega (arith, fits 0, fits 1, fits 2, fits 3)
-
-below_8 : (bytes : List ℕ) → IsBytes bytes → from_be_bytes w64 bytes < 2 ^ 64
-below_8 bytes fits = omega (arith, fits 0, fits 1, fits 2, fits 3, fits 4, fits 5, fits 6, fits 7)
-
-record StampHere (bytes : List ℕ) : Type 0 where
-  stamp : Stamp
-  value : IsStampValue stamp
+record ItemHere (form : FeedForm) (bytes : List ℕ) : Type 0 where
+  item : Item
+  stands : Stands form item
   rest : List ℕ
-  front : bytes ≡ stamp_spelling stamp ++ rest
-  fits : IsBytes rest
-  len : length rest + 10 ≡ length bytes
+  front : bytes ≡ item_spelling item ++ rest
 
-stamp_here : (bytes : List ℕ) → IsBytes bytes → 10 ≤ length bytes → StampHere bytes
-stamp_here bytes fits long =
-    let one = take 8 bytes in
-    let rest = drop 8 bytes in
-    let rest_fits : IsBytes rest = IsBytes-drop 8 bytes fits in
-    let two = take 2 rest in
-    let end = drop 2 rest in
-    let stamp : Stamp = record { counter = from_be_bytes w64 one; site = from_be_bytes w16 two } in
-    record {
-      stamp = stamp;
-      value = (below_8 one (IsBytes-take 8 bytes fits), below_2 two (IsBytes-take 2 rest rest_fits));
-      rest = end;
-      front = stamp_there bytes one rest two end stamp fits long refl refl refl refl refl refl;
-      fits = IsBytes-drop 2 rest rest_fits;
-      len = omega (arith, length-drop 2 rest, length-drop 8 bytes);
-    }
+abbrev IsFront : FeedForm → List ℕ → Type 0
+IsFront form bytes = ItemHere form bytes ⊎ ((w : FeedWhy) × IsWrong form bytes w)
 
-record NumberHere (bytes : List ℕ) : Type 0 where
-  number : ℕ
-  value : number < 2 ^ 32
-  rest : List ℕ
-  front : bytes ≡ to_be_bytes w32 number ++ rest
-
-number_here : (bytes : List ℕ) → IsBytes bytes → 4 ≤ length bytes → NumberHere bytes
-number_here bytes fits long = record {
-  number = from_be_bytes w32 (take 4 bytes);
-  value = below_4 (take 4 bytes) (IsBytes-take 4 bytes fits);
-  rest = drop 4 bytes;
-  front = number_there_4 bytes (take 4 bytes) (drop 4 bytes) (from_be_bytes w32 (take 4 bytes)) fits long refl refl refl;
-}
-
-record ByteAndNumberHere (bytes : List ℕ) : Type 0 where
-  byte : ℕ
-  byte_value : byte < 2 ^ 8
-  number : ℕ
-  value : number < 2 ^ 32
-  rest : List ℕ
-  front : bytes ≡ byte ∷ to_be_bytes w32 number ++ rest
-
-byte_and_number_here : (bytes : List ℕ) → IsBytes bytes → 5 ≤ length bytes → ByteAndNumberHere bytes
-byte_and_number_here [] fits long = absurd (omega arith)
-byte_and_number_here (b ∷ bytes) fits long =
-    let n = number_here bytes (λ i. fits (suc i)) (omega arith) in
-    record { byte = b; byte_value = fits 0; number = n.number; value = n.value; rest = n.rest; front = ap (λ (l : List ℕ). b ∷ l) n.front }
-
-record FieldsHere (bytes : List ℕ) : Type 0 where
-  fields : Fields
-  values : AreValues fields
-  rest : List ℕ
-  front : bytes ≡ bytes_of fields ++ rest
-
-insert_here : (bytes : List ℕ) → IsBytes bytes → 25 ≤ length bytes → FieldsHere (1 ∷ bytes)
-insert_here bytes fits long =
-    let s = stamp_here bytes fits (omega arith) in
-    let p = stamp_here s.rest s.fits (omega (arith, s.len)) in
-    let n = byte_and_number_here p.rest p.fits (omega (arith, s.len, p.len)) in
-    let front : bytes ≡ stamp_spelling s.stamp ++ (stamp_spelling p.stamp ++ (n.byte ∷ to_be_bytes w32 n.number ++ n.rest)) =
-    s.front ∙ ap (λ (l : List ℕ). stamp_spelling s.stamp ++ l) (p.front ∙ ap (λ (l : List ℕ). stamp_spelling p.stamp ++ l) n.front)
-    in
-    record { fields = Insert s.stamp p.stamp n.byte n.number; values = (s.value, p.value, n.byte_value, n.value); rest = n.rest; front = ap (λ (l : List ℕ). 1 ∷ l) front }
-
-delete_here : (bytes : List ℕ) → IsBytes bytes → 20 ≤ length bytes → FieldsHere (2 ∷ bytes)
-delete_here bytes fits long =
-    let s = stamp_here bytes fits (omega arith) in
-    let p = stamp_here s.rest s.fits (omega (arith, s.len)) in
-    let front : bytes ≡ stamp_spelling s.stamp ++ (stamp_spelling p.stamp ++ p.rest) = s.front ∙ ap (λ (l : List ℕ). stamp_spelling s.stamp ++ l) p.front in
-    record { fields = Delete s.stamp p.stamp; values = (s.value, p.value); rest = p.rest; front = ap (λ (l : List ℕ). 2 ∷ l) front }
-
-set_here : (bytes : List ℕ) → IsBytes bytes → 15 ≤ length bytes → FieldsHere (3 ∷ bytes)
-set_here bytes fits long =
-    let s = stamp_here bytes fits (omega arith) in
-    let n = byte_and_number_here s.rest s.fits (omega (arith, s.len)) in
-    let front : bytes ≡ stamp_spelling s.stamp ++ (n.byte ∷ to_be_bytes w32 n.number ++ n.rest) = s.front ∙ ap (λ (l : List ℕ). stamp_spelling s.stamp ++ l) n.front in
-    record { fields = Set s.stamp n.byte n.number; values = (s.value, n.byte_value, n.value); rest = n.rest; front = ap (λ (l : List ℕ). 3 ∷ l) front }
-
--- ---- fields are a lawful operation's or have a cause
-
-result_cases : (r : Result (Unit {0}) Unlawful) → (r ≡ Ok tt) ⊎ ((u : Unlawful) × (r ≡ Err u))
-result_cases (Ok x) = inl refl
-result_cases (Err u) = inr (u, refl)
-
-abbrev symbol_if : Bool → Style → ℕ → Symbol
-symbol_if b s ch = cond b (record { style = s; ch = ch }) no_symbol
-
-scalar_if : (s : Style) (ch : ℕ) (b : Bool) → is_character ch ≡ b → InScalarRange (symbol_if b s ch).ch
-scalar_if s ch true e = grind (arith, nat_tests)
-scalar_if s ch false e = inl (omega arith)
-
-scalar_in : (o : Option Style) (ch : ℕ) → InScalarRange (symbol_in o ch).ch
-scalar_in (Some s) ch = scalar_if s ch (is_character ch) refl
-scalar_in None ch = inl (omega arith)
-
-record Judged (fields : Fields) : Type 0 where
-  op : Op
-  held : IsHeld op
-  is : fields_of op ≡ fields
-
-abbrev IsJudged : Fields → Type 0
-IsJudged fields = Judged fields ⊎ ((u : Unlawful) × (cause fields ≡ Err u))
-
-abbrev same_error : Unlawful → Result (Unit {0}) Unlawful
-same_error u = Err u
-
-first_of_stamp : (a b : Bool) (r s t : Unlawful) → (u : Unlawful) × (cond a (cond b (same_error t) (same_error s)) (same_error r) ≡ Err u)
-first_of_stamp true true r s t = (t, refl)
-first_of_stamp true false r s t = (s, refl)
-first_of_stamp false b r s t = (r, refl)
-
-set_judged : (stamp : Stamp) (key value : ℕ) (o : Option Key) → key_of key ≡ o → IsStampValue stamp → value < 2 ^ 32 → IsJudged (Set stamp key value)
-set_judged stamp key value (Some k) e sv v =
-    elim (result_cases (verdict (ops.Set stamp k value))) [
-      | inl lawful ↦ inl (record { op = ops.Set stamp k value; held = record { lawful = lawful_from (ops.Set stamp k value) lawful; value = (sv, v) }; is = set_back stamp key value k (ops.Set stamp k value) refl e })
-      | inr h ↦ inr (h.0, ap (λ (o : Option Key). setting_cause stamp o value) e ∙ h.1)
-    ]
-set_judged stamp key value None e sv v =
-    let h = first_of_stamp (is_counter stamp.counter) (not (stamp.site == 0)) unlawful.Counter unlawful.Site unlawful.Key in
-    inr (h.0, ap (λ (o : Option Key). setting_cause stamp o value) e ∙ h.1)
-
-judged : (fields : Fields) → AreValues fields → IsJudged fields
-judged (Insert stamp parent style ch) f =
-    let y : Symbol = symbol_in (style_of style) ch in
-    elim (result_cases (verdict (ops.Insert stamp parent y))) [
-      | inl lawful ↦ inl (record { op = ops.Insert stamp parent y; held = record { lawful = lawful_from (ops.Insert stamp parent y) lawful; value = (f.0, f.1, scalar_in (style_of style) ch) }; is = insert_back stamp parent style ch (ops.Insert stamp parent y) refl lawful })
-      | inr h ↦ inr h
-    ]
-judged (Delete stamp target) f =
-    elim (result_cases (verdict (ops.Delete stamp target))) [
-      | inl lawful ↦ inl (record { op = ops.Delete stamp target; held = record { lawful = lawful_from (ops.Delete stamp target) lawful; value = f }; is = refl })
-      | inr h ↦ inr h
-    ]
-judged (Set stamp key value) f = set_judged stamp key value (key_of key) refl f.0 f.2
-
--- ---- an operation at the front, or something wrong
-
-record OpHere (bytes : List ℕ) : Type 0 where
-  op : Op
-  held : IsHeld op
-  rest : List ℕ
-  front : bytes ≡ spelling op ++ rest
-
-abbrev IsFront : List ℕ → Type 0
-IsFront bytes = OpHere bytes ⊎ ((w : FeedWhy) × IsWrong bytes w)
-
-from_fields : (bytes : List ℕ) → FieldsHere bytes → IsFront bytes
-from_fields bytes f =
+from_fields : (form : FeedForm) (bytes : List ℕ) → FieldsHere bytes → IsFront form bytes
+from_fields form bytes f =
     elim (judged f.fields f.values) [
       | inl h ↦
           let same : bytes_of f.fields ≡ spelling h.op = ap bytes_of (sym h.is) ∙ bytes_of-fields h.op in
-          inl (record { op = h.op; held = h.held; rest = f.rest; front = f.front ∙ ap (λ (l : List ℕ). l ++ f.rest) same })
-      | inr h ↦ inr (why.Unlawful h.0, record { fields = f.fields; values = f.values; rest = f.rest; front = f.front; is = h.1 })
+          inl (record { item = One h.op; stands = h.held; rest = f.rest; front = f.front ∙ ap (λ (l : List ℕ). l ++ f.rest) same })
+      | inr h ↦ inr (why.Unlawful h.0, record { fields = OneOf f.fields; values = f.values; stands = tt; rest = f.rest; front = f.front; is = h.1 })
     ]
 
 no_size : (k : ℕ) → (k ≡ 1 → ⊥) → (k ≡ 2 → ⊥) → (k ≡ 3 → ⊥) → size_of_kind k ≡ None
@@ -220,92 +63,173 @@ kind_cases k =
           ]
     ]
 
-front_of : (k size : ℕ) (bytes : List ℕ) → size_of_kind k ≡ Some size → (size ≤ length (k ∷ bytes) → FieldsHere (k ∷ bytes)) → IsFront (k ∷ bytes)
-front_of k size bytes e make =
+front_of : (form : FeedForm) (k size : ℕ) (bytes : List ℕ) → size_of_kind k ≡ Some size → (size ≤ length (k ∷ bytes) → FieldsHere (k ∷ bytes)) → IsFront form (k ∷ bytes)
+front_of form k size bytes e make =
     elim (cases_lt (length (k ∷ bytes)) size) [
-      | inl short ↦ inr (why.Cut, record { kind = k; rest = bytes; front = refl; size = size; some = e; short = short })
-      | inr long ↦ from_fields (k ∷ bytes) (make long)
+      | inl short ↦ inr (why.Cut, inl (record { kind = k; rest = bytes; front = refl; size = size; some = e; short = short }))
+      | inr long ↦ from_fields form (k ∷ bytes) (make long)
     ]
 
-front : (bytes : List ℕ) → IsBytes bytes → 0 < length bytes → IsFront bytes
-front [] fits some = absurd (omega arith)
-front (k ∷ bytes) fits some =
+-- ---- a run at the front, or something wrong
+
+record FrontHere (bytes : List ℕ) : Type 0 where
+  stamp : Stamp
+  stamp_value : IsStampValue stamp
+  parent : Stamp
+  parent_value : IsStampValue parent
+  count : ℕ
+  rest : List ℕ
+  front : bytes ≡ 4 ∷ stamp_spelling stamp ++ stamp_spelling parent ++ count ∷ rest
+  fits : IsBytes rest
+
+count_here : (bytes : List ℕ) (stamp parent : Stamp) (l : List ℕ) → IsStampValue stamp → IsStampValue parent → IsBytes l → 1 ≤ length l → bytes ≡ stamp_spelling stamp ++ (stamp_spelling parent ++ l) → FrontHere (4 ∷ bytes)
+count_here bytes stamp parent [] s p fits some e = absurd (omega arith)
+count_here bytes stamp parent (c ∷ rest) s p fits some e =
+    record { stamp = stamp; stamp_value = s; parent = parent; parent_value = p; count = c; rest = rest; front = ap (λ (l : List ℕ). 4 ∷ l) e; fits = λ i. fits (suc i) }
+
+front_here : (bytes : List ℕ) → IsBytes bytes → 21 ≤ length bytes → FrontHere (4 ∷ bytes)
+front_here bytes fits long =
+    let s = stamp_here bytes fits (omega (arith, long)) in
+    let ten = s.len in
+    let p = stamp_here s.rest s.fits (omega (arith, long, ten)) in
+    let twenty = p.len in
+    count_here bytes s.stamp p.stamp p.rest s.value p.value p.fits (omega (arith, long, ten, twenty)) (s.front ∙ ap (λ (l : List ℕ). stamp_spelling s.stamp ++ l) p.front)
+
+run_here : (form : FeedForm) (bytes : List ℕ) → HasRuns form → (h : FrontHere bytes) → IsRunLength h.count → 5 * h.count ≤ length h.rest → IsFront form bytes
+run_here form bytes runs h within long =
+    let m = marks_here h.count h.rest h.fits long in
+    elim (run_judged m.marks h.stamp h.parent h.stamp_value h.parent_value m.values) [
+      | inl r ↦
+          let many : length r.symbols ≡ h.count = sym (length-map r.symbols mark_of) ∙ ap (λ (l : List Mark). length l) r.are ∙ m.many in
+          let body : h.rest ≡ flat_map symbol_spelling r.symbols ++ m.rest = m.front ∙ ap (λ (l : List ℕ). l ++ m.rest) (ap (λ (l : List Mark). flat_map mark_bytes l) (sym r.are) ∙ symbols_bytes r.symbols) in
+          inl (record {
+            item = Run h.stamp h.parent r.symbols;
+            stands = run_stands form h.stamp h.parent h.count r.symbols runs within many r.each;
+            rest = m.rest;
+            front = run_there bytes h.stamp h.parent h.count h.rest m.rest r.symbols h.front many body;
+          })
+      | inr u ↦ inr (why.Unlawful u.0, run_unlawful form bytes h.stamp h.parent h.count h.rest m.rest m.marks u.0 runs h.stamp_value h.parent_value h.front within m.many m.values m.front u.1)
+    ]
+
+run_front : (form : FeedForm) (bytes : List ℕ) → HasRuns form → FrontHere bytes → IsFront form bytes
+run_front form bytes runs h =
+    let front = begins bytes h.stamp h.parent h.count h.rest h.front in
+    elim (cases_lt h.count 2) [
+      | inl few ↦ inr (why.Run, record { runs = runs; count = h.count; rest = h.rest; front = front; out = λ within. let least = within.0 in omega (arith, few, least) })
+      | inr least ↦
+          elim (cases_lt 64 h.count) [
+            | inl many ↦ inr (why.Run, record { runs = runs; count = h.count; rest = h.rest; front = front; out = λ within. let most = within.1 in omega (arith, many, most) })
+            | inr most ↦
+                elim (cases_lt (length h.rest) (5 * h.count)) [
+                  | inl short ↦ inr (why.Cut, inr (inr (record { runs = runs; count = h.count; rest = h.rest; front = front; within = (least, most); short = short })))
+                  | inr long ↦ run_here form bytes runs h (least, most) long
+                ]
+          ]
+    ]
+
+four_front : (form : FeedForm) (bytes : List ℕ) → IsBytes bytes → IsFront form (4 ∷ bytes)
+four_front Singles bytes fits = inr (why.Kind, record { kind = 4; rest = bytes; front = refl; none = refl; no_run = λ runs e. runs })
+four_front Runs bytes fits =
+    elim (cases_lt (length (4 ∷ bytes)) 22) [
+      | inl short ↦ inr (why.Cut, inr (inl (record { runs = tt; rest = bytes; front = refl; short = short })))
+      | inr long ↦ run_front Runs (4 ∷ bytes) tt (front_here bytes fits (omega (arith, long)))
+    ]
+
+front : (form : FeedForm) (bytes : List ℕ) → IsBytes bytes → 0 < length bytes → IsFront form bytes
+front form [] fits some = absurd (omega arith)
+front form (k ∷ bytes) fits some =
     let rest : IsBytes bytes = λ i. fits (suc i) in
     elim (kind_cases k) [
-      | inl (inl e) ↦ subst (λ (n : ℕ). IsFront (n ∷ bytes)) (sym e) (front_of 1 26 bytes refl (λ long. insert_here bytes rest (omega arith)))
-      | inl (inr e) ↦ subst (λ (n : ℕ). IsFront (n ∷ bytes)) (sym e) (front_of 2 21 bytes refl (λ long. delete_here bytes rest (omega arith)))
-      | inr (inl e) ↦ subst (λ (n : ℕ). IsFront (n ∷ bytes)) (sym e) (front_of 3 16 bytes refl (λ long. set_here bytes rest (omega arith)))
-      | inr (inr e) ↦ inr (why.Kind, record { kind = k; rest = bytes; front = refl; none = e })
+      | inl (inl e) ↦ subst (λ (n : ℕ). IsFront form (n ∷ bytes)) (sym e) (front_of form 1 26 bytes refl (λ long. insert_here bytes rest (omega arith)))
+      | inl (inr e) ↦ subst (λ (n : ℕ). IsFront form (n ∷ bytes)) (sym e) (front_of form 2 21 bytes refl (λ long. delete_here bytes rest (omega arith)))
+      | inr (inl e) ↦ subst (λ (n : ℕ). IsFront form (n ∷ bytes)) (sym e) (front_of form 3 16 bytes refl (λ long. set_here bytes rest (omega arith)))
+      | inr (inr e) ↦
+          elim (cases_eq k 4) [
+            | inl four ↦ subst (λ (n : ℕ). IsFront form (n ∷ bytes)) (sym four) (four_front form bytes rest)
+            | inr other ↦ inr (why.Kind, record { kind = k; rest = bytes; front = refl; none = e; no_run = λ runs four. other four })
+          ]
     ]
 
--- ---- operations to the end, or to where something is wrong
+-- ---- items to the end, or to where something is wrong
 
-record Stops (bytes : List ℕ) : Type 0 where
-  before : List Op
+record Stops (form : FeedForm) (bytes : List ℕ) : Type 0 where
+  before : List Item
   front : List ℕ
-  spells : Spells front before
+  spells : Spells form front before
   rest : List ℕ
   split : bytes ≡ front ++ rest
   w : FeedWhy
-  wrong : IsWrong rest w
+  wrong : IsWrong form rest w
 
-abbrev IsRead : List ℕ → Type 0
-IsRead bytes = ((ops : List Op) × Spells bytes ops) ⊎ Stops bytes
+abbrev IsRead : FeedForm → List ℕ → Type 0
+IsRead form bytes = ((items : List Item) × Spells form bytes items) ⊎ Stops form bytes
 
-after_op : (bytes : List ℕ) (h : OpHere bytes) → IsRead h.rest → IsRead bytes
-after_op bytes h (inl r) = inl (h.op ∷ r.0, (h.held, (h.rest, h.front, r.1)))
-after_op bytes h (inr r) = inr (record {
-  before = h.op ∷ r.before;
-  front = spelling h.op ++ r.front;
-  spells = (h.held, (r.front, refl, r.spells));
+after_item : (form : FeedForm) (bytes : List ℕ) (h : ItemHere form bytes) → IsRead form h.rest → IsRead form bytes
+after_item form bytes h (inl r) = inl (h.item ∷ r.0, (h.stands, (h.rest, h.front, r.1)))
+after_item form bytes h (inr r) = inr (record {
+  before = h.item ∷ r.before;
+  front = item_spelling h.item ++ r.front;
+  spells = (h.stands, (r.front, refl, r.spells));
   rest = r.rest;
-  split = h.front ∙ ap (λ (l : List ℕ). spelling h.op ++ l) r.split ∙ sym (append_assoc (spelling h.op) r.front r.rest);
+  split = h.front ∙ ap (λ (l : List ℕ). item_spelling h.item ++ l) r.split ∙ sym (append_assoc (item_spelling h.item) r.front r.rest);
   w = r.w;
   wrong = r.wrong;
 })
 
-rest_bytes : (bytes front rest : List ℕ) → IsBytes bytes → bytes ≡ front ++ rest → IsBytes rest
-rest_bytes bytes front rest fits e i = let h = fits (length front + i) in rw (ap (λ (l : List ℕ). get_or l (length front + i) 0) e ∙ get_or-append-add front rest i 0) at h
-
-spelling_some : (op : Op) → 0 < length (spelling op)
-spelling_some (ops.Insert s p y) = omega arith
-spelling_some (ops.Delete s t) = omega arith
-spelling_some (ops.Set s k v) = omega arith
-
-read_on : (n : ℕ) (bytes : List ℕ) → length bytes ≤ n → IsBytes bytes → IsRead bytes
-read_on zero [] le fits = inl ([], refl)
-read_on zero (k ∷ bytes) le fits = absurd (omega arith)
-read_on (suc n) [] le fits = inl ([], refl)
-read_on (suc n) (k ∷ bytes) le fits =
-    elim (front (k ∷ bytes) fits (omega arith)) [
+read_on : (form : FeedForm) (n : ℕ) (bytes : List ℕ) → length bytes ≤ n → IsBytes bytes → IsRead form bytes
+read_on form zero [] le fits = inl ([], refl)
+read_on form zero (k ∷ bytes) le fits = absurd (omega arith)
+read_on form (suc n) [] le fits = inl ([], refl)
+read_on form (suc n) (k ∷ bytes) le fits =
+    elim (front form (k ∷ bytes) fits (omega arith)) [
       | inl h ↦
-          let len : length (k ∷ bytes) ≡ length (spelling h.op) + length h.rest = ap (λ (l : List ℕ). length l) h.front ∙ length-append (spelling h.op) h.rest in
-          let some = spelling_some h.op in
-          after_op (k ∷ bytes) h (read_on n h.rest (omega arith) (rest_bytes (k ∷ bytes) (spelling h.op) h.rest fits h.front))
+          let len : length (k ∷ bytes) ≡ length (item_spelling h.item) + length h.rest = ap (λ (l : List ℕ). length l) h.front ∙ length-append (item_spelling h.item) h.rest in
+          let some = item_length h.item in
+          after_item form (k ∷ bytes) h (read_on form n h.rest (omega arith) (rest_bytes (k ∷ bytes) (item_spelling h.item) h.rest fits h.front))
       | inr h ↦ inr (record { before = []; front = []; spells = refl; rest = k ∷ bytes; split = refl; w = h.0; wrong = h.1 })
     ]
 
 abbrev HasMagic : List ℕ → Type 0
-HasMagic bytes = ((rest : List ℕ) × (bytes ≡ magic ++ rest)) ⊎ ((rest : List ℕ) → bytes ≡ magic ++ rest → ⊥)
+HasMagic bytes = ((form : FeedForm) × (rest : List ℕ) × (bytes ≡ magic_of form ++ rest)) ⊎ ((form : FeedForm) (rest : List ℕ) → bytes ≡ magic_of form ++ rest → ⊥)
+
+-- the four bytes of a magic
+four_of : (form : FeedForm) (bytes rest : List ℕ) → bytes ≡ magic_of form ++ rest → (4 ≤ length bytes) × (get_or bytes 0 0 ≡ 77) × (get_or bytes 1 0 ≡ 70) × (get_or bytes 2 0 ≡ 68) × ((get_or bytes 3 0 ≡ 49) ⊎ (get_or bytes 3 0 ≡ 50))
+four_of Singles bytes rest e =
+    let len : length bytes ≡ 4 + length rest = ap (λ (l : List ℕ). length l) e ∙ length-append (magic_of Singles) rest in
+    (omega (arith, len), ap (λ (l : List ℕ). get_or l 0 0) e, ap (λ (l : List ℕ). get_or l 1 0) e, ap (λ (l : List ℕ). get_or l 2 0) e, inl (ap (λ (l : List ℕ). get_or l 3 0) e))
+four_of Runs bytes rest e =
+    let len : length bytes ≡ 4 + length rest = ap (λ (l : List ℕ). length l) e ∙ length-append (magic_of Runs) rest in
+    (omega (arith, len), ap (λ (l : List ℕ). get_or l 0 0) e, ap (λ (l : List ℕ). get_or l 1 0) e, ap (λ (l : List ℕ). get_or l 2 0) e, inr (ap (λ (l : List ℕ). get_or l 3 0) e))
+
+too_short : (form : FeedForm) (bytes rest : List ℕ) → length bytes < 4 → bytes ≡ magic_of form ++ rest → ⊥
+too_short form bytes rest short e = let four = (four_of form bytes rest e).0 in omega (arith, short, four)
+
+neither : (n : ℕ) → (n ≡ 49 → ⊥) → (n ≡ 50 → ⊥) → (n ≡ 49) ⊎ (n ≡ 50) → ⊥
+neither n f g (inl e) = f e
+neither n f g (inr e) = g e
 
 has_magic : (bytes : List ℕ) → HasMagic bytes
-has_magic [] = inr (λ rest e. cc)
-has_magic (a ∷ []) = inr (λ rest e. cc)
-has_magic (a ∷ b ∷ []) = inr (λ rest e. cc)
-has_magic (a ∷ b ∷ c ∷ []) = inr (λ rest e. cc)
+has_magic [] = inr (λ form rest e. too_short form [] rest (omega arith) e)
+has_magic (a ∷ []) = inr (λ form rest e. too_short form (a ∷ []) rest (omega arith) e)
+has_magic (a ∷ b ∷ []) = inr (λ form rest e. too_short form (a ∷ b ∷ []) rest (omega arith) e)
+has_magic (a ∷ b ∷ c ∷ []) = inr (λ form rest e. too_short form (a ∷ b ∷ c ∷ []) rest (omega arith) e)
 has_magic (a ∷ b ∷ c ∷ d ∷ rest) =
     elim (cases_eq a 77) [
-      | inr n ↦ inr (λ rest e. n (cc))
+      | inr n ↦ inr (λ form more e. n ((four_of form (a ∷ b ∷ c ∷ d ∷ rest) more e).1))
       | inl ea ↦
           elim (cases_eq b 70) [
-            | inr n ↦ inr (λ rest e. n (cc))
+            | inr n ↦ inr (λ form more e. n ((four_of form (a ∷ b ∷ c ∷ d ∷ rest) more e).2))
             | inl eb ↦
                 elim (cases_eq c 68) [
-                  | inr n ↦ inr (λ rest e. n (cc))
+                  | inr n ↦ inr (λ form more e. n ((four_of form (a ∷ b ∷ c ∷ d ∷ rest) more e).3))
                   | inl ec ↦
                       elim (cases_eq d 49) [
-                        | inr n ↦ inr (λ rest e. n (cc))
-                        | inl ed ↦ inl (rest, cc)
+                        | inl ed ↦ inl (Singles, rest, cc)
+                        | inr n ↦
+                            elim (cases_eq d 50) [
+                              | inl ed ↦ inl (Runs, rest, cc)
+                              | inr m ↦ inr (λ form more e. neither d n m ((four_of form (a ∷ b ∷ c ∷ d ∷ rest) more e).4))
+                            ]
                       ]
                 ]
           ]
@@ -318,28 +242,28 @@ all_bytes bytes all i =
       | inr le ↦ rw (get_or_past bytes i 0 le) (omega arith)
     ]
 
-after_magic : (bytes rest : List ℕ) → bytes ≡ magic ++ rest → IsRead rest → ((ops : List Op) × IsFeed bytes ops) ⊎ ((fault : FeedFault) × IsFirstFault bytes fault)
-after_magic bytes rest e (inl r) = inl (r.0, (rest, e, r.1))
-after_magic bytes rest e (inr r) =
-    inr (record { «at» = 4 + length r.front; why = r.w }, inr (rest, e, record { before = r.before; front = r.front; spells = r.spells; rest = r.rest; split = r.split; there = refl; wrong = r.wrong }))
+after_magic : (form : FeedForm) (bytes rest : List ℕ) → bytes ≡ magic_of form ++ rest → IsRead form rest → ((ops : List Op) × IsFeed bytes ops) ⊎ ((fault : FeedFault) × IsFirstFault bytes fault)
+after_magic form bytes rest e (inl r) = inl (ops_in r.0, record { form = form; items = r.0; rest = rest; front = e; spells = r.1; joined = refl })
+after_magic form bytes rest e (inr r) =
+    inr (record { «at» = 4 + length r.front; why = r.w }, inr (form, rest, e, record { before = r.before; front = r.front; spells = r.spells; rest = r.rest; split = r.split; there = refl; wrong = r.wrong }))
 
 either : (bytes : List ℕ) → All (λ b. b < 256) bytes → ((ops : List Op) × IsFeed bytes ops) ⊎ ((fault : FeedFault) × IsFirstFault bytes fault)
 either bytes all =
     elim (has_magic bytes) [
-      | inl h ↦ after_magic bytes h.0 h.1 (read_on (length h.0) h.0 (omega arith) (rest_bytes bytes magic h.0 (all_bytes bytes all) h.1))
+      | inl h ↦ after_magic h.0 bytes h.1 h.2 (read_on h.0 (length h.1) h.1 (omega arith) (rest_bytes bytes (magic_of h.0) h.1 (all_bytes bytes all) h.2))
       | inr none ↦ inr (record { «at» = 0; why = why.Magic }, inl (record { none = none; is = refl }))
     ]
 
 pub feed_or_fault : FeedOrFault
 feed_or_fault = record { either = either; not_both = not_both; one_fault = one_fault }
 
-each_front : (bytes : List ℕ) → IsFront bytes → ((op : Op) × IsHeld op × ((rest : List ℕ) × (bytes ≡ spelling op ++ rest))) ⊎ ((w : FeedWhy) × IsWrong bytes w)
-each_front bytes (inl h) = inl (h.op, h.held, (h.rest, h.front))
-each_front bytes (inr h) = inr h
+each_front : (form : FeedForm) (bytes : List ℕ) → IsFront form bytes → ((item : Item) × Stands form item × ((rest : List ℕ) × (bytes ≡ item_spelling item ++ rest))) ⊎ ((w : FeedWhy) × IsWrong form bytes w)
+each_front form bytes (inl h) = inl (h.item, h.stands, (h.rest, h.front))
+each_front form bytes (inr h) = inr h
 
 pub fronts : Fronts
 fronts = record {
-  either = λ bytes all some. each_front bytes (front bytes (all_bytes bytes all) some);
+  either = λ form bytes all some. each_front form bytes (front form bytes (all_bytes bytes all) some);
   not_both = fronts_not_both;
   one = wrong_once;
 }

@@ -15,7 +15,7 @@ use Rattle.desk_ops.specs.Op.{verdict}
 use Rattle.desk_ops.specs.Order.{style_code, key_code}
 use Rattle.desk_codec.specs.declared.fields.Fields.{Fields}
 use Rattle.desk_codec.specs.declared.fields.Fields.TheVariants.{Insert, Delete, Set}
-use Rattle.desk_codec.specs.Feed.{spelling, stamp_spelling, IsValue}
+use Rattle.desk_codec.specs.Spelling.{spelling, stamp_spelling, IsValue}
 use Rattle.desk_codec.proofs.Numbers.{number_same_4, stamp_same, symbol_exact, style_exact, key_exact}
 use Rattle.desk_codec.specs.Fault.{fields_of, bytes_of, AreValues, style_of, key_of, is_character, no_symbol, symbol_in, setting_cause, cause}
 
@@ -115,7 +115,7 @@ pub scalar_fits : (c : ℕ) → InScalarRange c → c < 2 ^ 32
 scalar_fits c (inl h) = omega arith
 scalar_fits c (inr h) = omega arith
 
-style_fits : (s : Style) → style_code s < 2 ^ 8
+pub style_fits : (s : Style) → style_code s < 2 ^ 8
 style_fits Roman = omega arith
 style_fits Italic = omega arith
 style_fits SmallCap = omega arith

@@ -1,8 +1,21 @@
 pub mod LawfulAsTold
 pub mod Numbers
 pub mod FieldLaws
+pub mod ItemLaws
+pub mod HereLaws
+pub mod RunLaws
+pub mod ReadLaws
 pub mod FaultLaws
 pub mod EitherLaw
 pub mod AnswerLaws
 pub mod Grammar
 pub mod OrderLaw
+pub mod PieceLaws
+pub mod PieceStepLaws
+pub mod ReaderLaws
+pub mod RunPlaces
+pub mod RunSpellings
+pub mod RunChains
+pub mod RunSteps
+pub mod GroupLaws
+mod RunsExamples

@@ -11,7 +11,7 @@ use Rattle.desk_ops.specs.declared.op.Style.TheVariants.{Roman, Italic, SmallCap
 use Rattle.desk_ops.specs.declared.op.Key.{Key}
 use Rattle.desk_ops.specs.declared.op.Key.TheVariants.{Measure, Tight, Loose, Case, Wedge}
 use Rattle.desk_ops.specs.Order.{style_code, key_code}
-use Rattle.desk_codec.specs.Feed.{stamp_spelling, IsStampValue}
+use Rattle.desk_codec.specs.Spelling.{stamp_spelling, IsStampValue}
 
 pub number_same_2 : (m n : ℕ) (x y : List ℕ) → m < 2 ^ 16 → n < 2 ^ 16 → to_be_bytes w16 m ++ x ≡ to_be_bytes w16 n ++ y → (m ≡ n) × (x ≡ y)
 number_same_2 m n x y p q e =

@@ -16,7 +16,7 @@ use Rattle.desk_ops.specs.Stamp.{stamp_cmp}
 use Rattle.desk_ops.specs.Order.{op_cmp, rest_of, style_code, key_code}
 use Rattle.desk_ops.proofs.Stamps.{stamp_total, stamp_tied}
 use Rattle.desk_ops.proofs.Means.{by_stamp}
-use Rattle.desk_codec.specs.Feed.{spelling, stamp_spelling, IsStampValue, IsValue}
+use Rattle.desk_codec.specs.Spelling.{spelling, stamp_spelling, IsStampValue, IsValue}
 use Rattle.desk_codec.specs.Order.{OrderOfBytes}
 
 -- ---- one answer after another

@@ -1,6 +1,7 @@
--- Where a feed goes wrong: the first place from the left at which neither an operation nor the end stands.
-use Rattle.std.specs.Prelude.{◌≡◌, ℕ, ◌+◌, ◌^◌, ◌<◌, ◌==◌, ◌||◌, ◌&&◌, not, Bool, false, nat_lt, nat_le, if◌then◌else◌, List, [], ◌∷◌, ◌++◌, length, Option, Some, None, Result, Err, ◌⊎◌}
+-- Where a feed goes wrong: the first place from the left at which neither an item nor the end stands.
+use Rattle.std.specs.Prelude.{◌≡◌, ℕ, ◌+◌, ◌*◌, ◌^◌, ◌<◌, ◌==◌, ◌||◌, ◌&&◌, not, Bool, false, nat_lt, nat_le, if◌then◌else◌, List, [], ◌∷◌, ◌++◌, length, map, Option, Some, None, Result, Ok, Err, ◌⊎◌}
 use Rattle.std.specs.Int.{to_be_bytes, w32}
+use Rattle.std.specs.List.{flat_map, AllByRecursion}
 use Rattle.desk_ops.specs.declared.op.Stamp.{Stamp}
 use Rattle.desk_ops.specs.declared.op.Style.{Style}
 use Rattle.desk_ops.specs.declared.op.Style.TheVariants.{Roman, Italic, SmallCap}
@@ -19,7 +20,10 @@ use Rattle.desk_codec.specs.declared.fields.Fields.TheVariants.{Insert, Delete, 
 use Rattle.desk_codec.specs.declared.fault.FeedWhy.{FeedWhy}
 use Rattle.desk_codec.specs.declared.fault.FeedWhy.TheVariants as why
 use Rattle.desk_codec.specs.declared.fault.FeedFault.{FeedFault}
-use Rattle.desk_codec.specs.Feed.{magic, size_of_kind, stamp_spelling, IsStampValue, Spells}
+use Rattle.desk_codec.specs.declared.form.FeedForm.{FeedForm}
+use Rattle.desk_codec.specs.Spelling.{size_of_kind, stamp_spelling, IsStampValue}
+use Rattle.desk_codec.specs.Item.{Item, One, Run, next_stamp}
+use Rattle.desk_codec.specs.Feed.{magic_of, HasRuns, IsRunLength, Spells}
 
 -- ---- fields, lawful or not
 
@@ -72,17 +76,88 @@ cause (Insert stamp parent style ch) = verdict (ops.Insert stamp parent (symbol_
 cause (Delete stamp target) = verdict (ops.Delete stamp target)
 cause (Set stamp key value) = setting_cause stamp (key_of key) value
 
+-- ---- the fields of items, lawful or not
+
+-- the numbers of a style and a character, as a run has them
+pub record Mark : Type 0 where
+  pub style : ℕ
+  pub ch : ℕ
+
+-- the fields of an operation alone, or of a run
+pub data ItemFields : Type 0 where
+  OneOf : Fields → ItemFields
+  RunOf : Stamp → Stamp → List Mark → ItemFields
+
+abbrev pub mark_of : Symbol → Mark
+mark_of symbol = record { style = style_code symbol.style; ch = symbol.ch }
+
+-- the fields that an item's bytes have
+abbrev pub item_fields : Item → ItemFields
+item_fields (One op) = OneOf (fields_of op)
+item_fields (Run stamp parent symbols) = RunOf stamp parent (map mark_of symbols)
+
+abbrev pub mark_bytes : Mark → List ℕ
+mark_bytes mark = mark.style ∷ to_be_bytes w32 mark.ch
+
+-- the bytes that have these fields
+abbrev pub item_bytes : ItemFields → List ℕ
+item_bytes (OneOf fields) = bytes_of fields
+item_bytes (RunOf stamp parent marks) = 4 ∷ stamp_spelling stamp ++ stamp_spelling parent ++ length marks ∷ flat_map mark_bytes marks
+
+abbrev pub IsMarkValue : Mark → Type 0
+IsMarkValue mark = (mark.style < 2 ^ 8) × (mark.ch < 2 ^ 32)
+
+-- the numbers are values of their fields' types
+abbrev pub AreItemValues : ItemFields → Type 0
+AreItemValues (OneOf fields) = AreValues fields
+AreItemValues (RunOf stamp parent marks) = IsStampValue stamp × IsStampValue parent × (length marks < 2 ^ 8) × AllByRecursion IsMarkValue marks
+
+-- an item of such fields may stand in a feed of the form
+abbrev pub MayStand : FeedForm → ItemFields → Type 0
+MayStand form (OneOf fields) = Unit {0}
+MayStand form (RunOf stamp parent marks) = HasRuns form × IsRunLength (length marks)
+
+-- the cause, or else the later one
+abbrev pub then_cause : Result (Unit {0}) Unlawful → Result (Unit {0}) Unlawful → Result (Unit {0}) Unlawful
+then_cause (Ok done) later = later
+then_cause (Err first) later = Err first
+
+-- the first cause of the first insert of a run that is not lawful
+abbrev pub run_cause : Stamp → Stamp → List Mark → Result (Unit {0}) Unlawful
+run_cause stamp parent [] = Ok tt
+run_cause stamp parent (mark ∷ marks) = then_cause (cause (Insert stamp parent mark.style mark.ch)) (run_cause (next_stamp stamp) stamp marks)
+
+-- the first cause why fields are those of no lawful item
+abbrev pub item_cause : ItemFields → Result (Unit {0}) Unlawful
+item_cause (OneOf fields) = cause fields
+item_cause (RunOf stamp parent marks) = run_cause stamp parent marks
+
 -- ---- faults
 
--- the byte at the front begins no operation
-pub record HasNoKind (bytes : List ℕ) : Type 0 where
+-- the byte at the front begins no item of the form
+pub record HasNoKind (form : FeedForm) (bytes : List ℕ) : Type 0 where
   pub kind : ℕ
   pub rest : List ℕ
   pub front : bytes ≡ kind ∷ rest
   pub none : size_of_kind kind ≡ None
+  pub no_run : HasRuns form → kind ≡ 4 → ⊥
+
+-- the front of a run: its kind, the twenty bytes of its two stamps, and its count
+pub record BeginsRun (bytes : List ℕ) (count : ℕ) (rest : List ℕ) : Type 0 where
+  pub stamps : List ℕ
+  pub twenty : length stamps ≡ 20
+  pub front : bytes ≡ 4 ∷ stamps ++ count ∷ rest
+
+-- a run begins that has no such count
+pub record IsNoRun (form : FeedForm) (bytes : List ℕ) : Type 0 where
+  pub runs : HasRuns form
+  pub count : ℕ
+  pub rest : List ℕ
+  pub front : BeginsRun bytes count rest
+  pub out : IsRunLength count → ⊥
 
 -- the byte at the front begins an operation, and the bytes end inside it
-pub record IsCut (bytes : List ℕ) : Type 0 where
+pub record IsCutOp (bytes : List ℕ) : Type 0 where
   pub kind : ℕ
   pub rest : List ℕ
   pub front : bytes ≡ kind ∷ rest
@@ -90,36 +165,58 @@ pub record IsCut (bytes : List ℕ) : Type 0 where
   pub some : size_of_kind kind ≡ Some size
   pub short : length bytes < size
 
--- the bytes of fields stand at the front, and this is the first cause why they are not lawful
-pub record IsUnlawful (bytes : List ℕ) (first : Unlawful) : Type 0 where
-  pub fields : Fields
-  pub values : AreValues fields
+-- a run begins, and the bytes end before its count
+pub record IsCutFront (form : FeedForm) (bytes : List ℕ) : Type 0 where
+  pub runs : HasRuns form
   pub rest : List ℕ
-  pub front : bytes ≡ bytes_of fields ++ rest
-  pub is : cause fields ≡ Err first
+  pub front : bytes ≡ 4 ∷ rest
+  pub short : length bytes < 22
 
--- what is wrong at the front of bytes
-abbrev pub IsWrong : List ℕ → FeedWhy → Type 0
-IsWrong bytes why.Magic = ⊥
-IsWrong bytes why.Kind = HasNoKind bytes
-IsWrong bytes (why.Unlawful first) = IsUnlawful bytes first
-IsWrong bytes why.Cut = IsCut bytes
+-- a run begins, and the bytes end inside its symbols
+pub record IsCutRun (form : FeedForm) (bytes : List ℕ) : Type 0 where
+  pub runs : HasRuns form
+  pub count : ℕ
+  pub rest : List ℕ
+  pub front : BeginsRun bytes count rest
+  pub within : IsRunLength count
+  pub short : length rest < 5 * count
 
--- Bytes read on from a place begin with operations, and then something is wrong: that is the fault, at its place.
-pub record GoesWrong (place : ℕ) (bytes : List ℕ) (fault : FeedFault) : Type 0 where
-  pub before : List Op
+-- an item begins, and the bytes end inside it
+abbrev pub IsCut : FeedForm → List ℕ → Type 0
+IsCut form bytes = IsCutOp bytes ⊎ (IsCutFront form bytes ⊎ IsCutRun form bytes)
+
+-- the bytes of an item's fields stand at the front, and this is the first cause why they are not lawful
+pub record IsUnlawful (form : FeedForm) (bytes : List ℕ) (first : Unlawful) : Type 0 where
+  pub fields : ItemFields
+  pub values : AreItemValues fields
+  pub stands : MayStand form fields
+  pub rest : List ℕ
+  pub front : bytes ≡ item_bytes fields ++ rest
+  pub is : item_cause fields ≡ Err first
+
+-- what is wrong at the front of bytes in a feed of the form
+abbrev pub IsWrong : FeedForm → List ℕ → FeedWhy → Type 0
+IsWrong form bytes why.Magic = ⊥
+IsWrong form bytes why.Kind = HasNoKind form bytes
+IsWrong form bytes (why.Unlawful first) = IsUnlawful form bytes first
+IsWrong form bytes why.Cut = IsCut form bytes
+IsWrong form bytes why.Run = IsNoRun form bytes
+
+-- Bytes read on from a place begin with items, and then something is wrong: that is the fault, at its place.
+pub record GoesWrong (form : FeedForm) (place : ℕ) (bytes : List ℕ) (fault : FeedFault) : Type 0 where
+  pub before : List Item
   pub front : List ℕ
-  pub spells : Spells front before
+  pub spells : Spells form front before
   pub rest : List ℕ
   pub split : bytes ≡ front ++ rest
   pub there : fault.at ≡ place + length front
-  pub wrong : IsWrong rest fault.why
+  pub wrong : IsWrong form rest fault.why
 
 -- no magic stands at the front
 pub record HasNoMagic (bytes : List ℕ) (fault : FeedFault) : Type 0 where
-  pub none : (rest : List ℕ) → bytes ≡ magic ++ rest → ⊥
+  pub none : (form : FeedForm) (rest : List ℕ) → bytes ≡ magic_of form ++ rest → ⊥
   pub is : fault ≡ record { «at» = 0; why = why.Magic }
 
 -- the first fault of bytes that are no feed
 abbrev pub IsFirstFault : List ℕ → FeedFault → Type 0
-IsFirstFault bytes fault = HasNoMagic bytes fault ⊎ ((rest : List ℕ) × (bytes ≡ magic ++ rest) × GoesWrong 4 rest fault)
+IsFirstFault bytes fault = HasNoMagic bytes fault ⊎ ((form : FeedForm) × (rest : List ℕ) × (bytes ≡ magic_of form ++ rest) × GoesWrong form 4 rest fault)

@@ -1,65 +1,64 @@
--- Feeds: a magic, and then the bytes of operations, one after the other. Numbers are big endian.
-use Rattle.std.specs.Prelude.{◌≡◌, ℕ, ◌^◌, ◌<◌, ◌==◌, if◌then◌else◌, Option, Some, None, List, [], ◌∷◌, ◌++◌, codes}
-use Rattle.std.specs.Int.{to_be_bytes, w16, w32, w64}
-use Rattle.std.specs.List.{flat_map}
-use Rattle.std.specs.Char.{InScalarRange}
+-- Feeds: a magic, and then the bytes of items, one after the other. The magic says which items stand there.
+use Rattle.std.specs.Prelude.{◌≡◌, ℕ, ◌≤◌, List, [], ◌∷◌, ◌++◌, length, codes}
+use Rattle.std.specs.List.{flat_map, AllByRecursion}
 use Rattle.desk_ops.specs.declared.op.Stamp.{Stamp}
+use Rattle.desk_ops.specs.declared.op.Symbol.{Symbol}
 use Rattle.desk_ops.specs.declared.op.Op.{Op}
-use Rattle.desk_ops.specs.declared.op.Op.TheVariants.{Insert, Delete, Set}
-use Rattle.desk_ops.specs.Op.{IsLawful}
-use Rattle.desk_ops.specs.Order.{style_code, key_code}
+use Rattle.desk_codec.specs.declared.form.FeedForm.{FeedForm}
+use Rattle.desk_codec.specs.declared.form.FeedForm.TheVariants.{Singles, Runs}
+use Rattle.desk_codec.specs.Spelling.{spelling, IsHeld}
+use Rattle.desk_codec.specs.Item.{Item, One, Run, run_ops, item_ops, item_spelling}
 
--- what a feed begins with
+-- what a feed of single operations begins with
 abbrev pub magic : List ℕ
 magic = codes "MFD1"
 
--- the byte that an operation begins with
-abbrev pub kind_of : Op → ℕ
-kind_of (Insert stamp parent symbol) = 1
-kind_of (Delete stamp target) = 2
-kind_of (Set stamp key value) = 3
+-- what a feed of runs begins with
+abbrev pub runs_magic : List ℕ
+runs_magic = codes "MFD2"
 
--- how many bytes an operation of the kind takes; no other byte begins one
-abbrev pub size_of_kind : ℕ → Option ℕ
-size_of_kind kind = if kind == 1 then Some 26 else if kind == 2 then Some 21 else if kind == 3 then Some 16 else None
+-- what a feed of each form begins with
+abbrev pub magic_of : FeedForm → List ℕ
+magic_of Singles = magic
+magic_of Runs = runs_magic
 
--- eight bytes of counter, and two of site
-abbrev pub stamp_spelling : Stamp → List ℕ
-stamp_spelling stamp = to_be_bytes w64 stamp.counter ++ to_be_bytes w16 stamp.site
-
--- what follows the kind: the stamp, and then the other fields in their order
-abbrev pub fields_spelling : Op → List ℕ
-fields_spelling (Insert stamp parent symbol) = stamp_spelling stamp ++ stamp_spelling parent ++ style_code symbol.style ∷ to_be_bytes w32 symbol.ch
-fields_spelling (Delete stamp target) = stamp_spelling stamp ++ stamp_spelling target
-fields_spelling (Set stamp key value) = stamp_spelling stamp ++ key_code key ∷ to_be_bytes w32 value
-
--- the bytes of an operation: its kind, and then its fields
-abbrev pub spelling : Op → List ℕ
-spelling op = kind_of op ∷ fields_spelling op
-
--- the bytes of a feed of operations
+-- the bytes of a feed of single operations
 abbrev pub feed : List Op → List ℕ
 feed ops = magic ++ flat_map spelling ops
 
--- the numbers of a stamp and of an operation are values of their fields' types
-abbrev pub IsStampValue : Stamp → Type 0
-IsStampValue stamp = (stamp.counter < 2 ^ 64) × (stamp.site < 2 ^ 16)
+-- runs stand in the feeds of one form alone
+abbrev pub HasRuns : FeedForm → Type 0
+HasRuns Singles = ⊥
+HasRuns Runs = Unit {0}
 
-abbrev pub IsValue : Op → Type 0
-IsValue (Insert stamp parent symbol) = IsStampValue stamp × IsStampValue parent × InScalarRange symbol.ch
-IsValue (Delete stamp target) = IsStampValue stamp × IsStampValue target
-IsValue (Set stamp key value) = IsStampValue stamp × (value < 2 ^ 32)
+-- a run has 2 to 64 inserts
+abbrev pub IsRunLength : ℕ → Type 0
+IsRunLength count = (2 ≤ count) × (count ≤ 64)
 
--- what a feed holds: a lawful operation
-pub record IsHeld (op : Op) : Type 0 where
-  pub lawful : IsLawful op
-  pub value : IsValue op
+-- a run of lawful inserts
+pub record IsHeldRun (stamp parent : Stamp) (symbols : List Symbol) : Type 0 where
+  pub count : IsRunLength (length symbols)
+  pub each : AllByRecursion IsHeld (run_ops stamp parent symbols)
 
--- the bytes are those of the operations, one after the other
-abbrev pub Spells : List ℕ → List Op → Type 0
-Spells bytes [] = bytes ≡ []
-Spells bytes (op ∷ ops) = IsHeld op × ((rest : List ℕ) × (bytes ≡ spelling op ++ rest) × Spells rest ops)
+-- what stands in a feed of the form
+abbrev pub Stands : FeedForm → Item → Type 0
+Stands form (One op) = IsHeld op
+Stands form (Run stamp parent symbols) = HasRuns form × IsHeldRun stamp parent symbols
 
--- the feed grammar: the magic, and then the operations
-abbrev pub IsFeed : List ℕ → List Op → Type 0
-IsFeed bytes ops = (rest : List ℕ) × (bytes ≡ magic ++ rest) × Spells rest ops
+-- the bytes are those of the items, one after the other
+abbrev pub Spells : FeedForm → List ℕ → List Item → Type 0
+Spells form bytes [] = bytes ≡ []
+Spells form bytes (item ∷ items) = Stands form item × ((rest : List ℕ) × (bytes ≡ item_spelling item ++ rest) × Spells form rest items)
+
+-- the operations of items, joined
+abbrev pub ops_in : List Item → List Op
+ops_in items = flat_map item_ops items
+
+-- the feed grammar: the magic of a form, and then items, whose operations these are
+pub record IsFeed (bytes : List ℕ) (ops : List Op) : Type 0 where
+  pub form : FeedForm
+  pub items : List Item
+  pub rest : List ℕ
+  pub front : bytes ≡ magic_of form ++ rest
+  pub spells : Spells form rest items
+  pub joined : ops ≡ ops_in items

@@ -1,6 +1,15 @@
+pub mod Spelling
+pub mod Item
 pub mod Feed
 pub mod Fault
 pub mod Laws
 pub mod Kind
 pub mod Reading
 pub mod Order
+pub mod Pieces
+pub mod PieceSteps
+pub mod ItemReading
+pub mod PieceReading
+pub mod Runs
+pub mod RunSteps
+pub mod RunLaws

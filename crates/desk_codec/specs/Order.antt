@@ -7,7 +7,7 @@ use Rattle.desk_ops.specs.declared.op.Op.{Op}
 use Rattle.desk_ops.specs.Op.{stamp_of}
 use Rattle.desk_ops.specs.Stamp.{stamp_cmp}
 use Rattle.desk_ops.specs.Order.{op_cmp}
-use Rattle.desk_codec.specs.Feed.{spelling, IsValue}
+use Rattle.desk_codec.specs.Spelling.{spelling, IsValue}
 
 -- operations stand by stamp, and those of one stamp by their bytes, the first bytes that differ deciding
 pub record OrderOfBytes : Type 0 where

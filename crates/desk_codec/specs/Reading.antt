@@ -4,7 +4,8 @@ use Rattle.desk_ops.specs.declared.op.Op.{Op}
 use Rattle.desk_codec.specs.declared.fault.FeedFault.{FeedFault}
 use Rattle.desk_codec.specs.declared.fault.ReadFault.{ReadFault}
 use Rattle.desk_codec.specs.declared.fault.ReadFault.TheVariants.{Fault, Failed, NoMemory}
-use Rattle.desk_codec.specs.Feed.{magic}
+use Rattle.desk_codec.specs.declared.form.FeedForm.{FeedForm}
+use Rattle.desk_codec.specs.Feed.{magic_of}
 use Rattle.desk_codec.specs.Fault.{IsFirstFault}
 
 -- a fault told of bytes is their first; Failed is never told, and want of memory may be told of any
@@ -20,8 +21,9 @@ Answers view (Err (Fault fault)) answer = answer ≡ Err fault
 Answers view (Err Failed) answer = ⊥
 Answers view (Err NoMemory) answer = Unit {0}
 
--- the magic stands there, and after it as many bytes as the shortest operation takes: such bytes alone take memory
+-- a magic stands there, and after it as many bytes as the shortest item takes: such bytes alone take memory
 pub record MayHoldOne (bytes : List ℕ) : Type 0 where
+  pub form : FeedForm
   pub body : List ℕ
-  pub begins : bytes ≡ magic ++ body
+  pub begins : bytes ≡ magic_of form ++ body
   pub long : 16 ≤ length body

@@ -19,12 +19,15 @@ pub enum FeedWhy {
     /// The operation is not lawful.
     #[error("unlawful: {0}")]
     Unlawful(Unlawful),
-    /// The feed ends inside the operation.
+    /// The feed ends inside the operation or run.
     #[error("cut off")]
     Cut,
+    /// A run has 2 to 64 inserts, and this one has another count.
+    #[error("no run has so many")]
+    Run,
 }
 
-/// The first fault from the left, and the place of its operation's first byte.
+/// The first fault from the left, and the place of the first byte of its operation or run.
 #[derive(Clone, Copy, Debug, PartialEq, Eq, Error)]
 #[error("at byte {at}: {why}")]
 pub struct FeedFault {

@@ -2,7 +2,7 @@
 
 ghost use Rattle.std.specs.Prelude.{◌≡◌, ◌+◌, ◌≤◌, ◌<◌, ◌^◌, ◌∷◌, ◌++◌, length, MatchOption, IfOk, IfErr, Err, Some, None};
 ghost use Rattle.std.specs.Int.{w32, to_be_bytes};
-ghost use Rattle.desk_codec.specs.Feed.{stamp_spelling, IsStampValue, IsHeld};
+ghost use Rattle.desk_codec.specs.Spelling.{stamp_spelling, IsStampValue, IsHeld};
 ghost use Rattle.desk_codec.specs.Fault.{fields_of, bytes_of, AreValues, style_of, key_of, symbol_in, setting_cause, cause};
 ghost use Rattle.desk_codec.specs.Kind.{kind_byte, kind_size};
 
@@ -159,7 +159,7 @@ pub fn take_byte(bytes: &[u8]) -> (u8, &[u8])
     (bytes[0], &bytes[1..])
 }
 
-fn take_u32(bytes: &[u8]) -> (u32, &[u8])
+pub fn take_u32(bytes: &[u8]) -> (u32, &[u8])
     requires { 4 ≤ length bytes.now }
     ensures bytes { bytes.now ≡ to_be_bytes w32 result.0 ++ result.1.now }
     ensures value { result.0 < 2 ^ 32 }
@@ -168,7 +168,7 @@ fn take_u32(bytes: &[u8]) -> (u32, &[u8])
     (u32::from_be_bytes(*front), rest)
 }
 
-fn take_stamp(bytes: &[u8]) -> (Stamp, &[u8])
+pub fn take_stamp(bytes: &[u8]) -> (Stamp, &[u8])
     requires { 10 ≤ length bytes.now }
     ensures bytes { bytes.now ≡ stamp_spelling result.0 ++ result.1.now }
     ensures value { IsStampValue result.0 }

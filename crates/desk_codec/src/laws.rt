@@ -2,6 +2,7 @@
 
 ghost use Rattle.desk_codec.specs.Laws.{Sizes, PrefixFree, OneList, OneFeed, Fronts, FeedOrFault};
 ghost use Rattle.desk_codec.specs.Order.{OrderOfBytes};
+ghost use Rattle.desk_codec.specs.PieceSteps.{PiecesAreTheFeed};
 
 /// An insert takes 26 bytes, a delete 21, and a setting 16.
 #[tactic(auto, using(crate::proofs::Grammar::sizes))]
@@ -39,4 +40,9 @@ pub fn law_of_feed_or_fault()
 /// Operations stand by stamp, and those of one stamp by their bytes.
 pub fn law_of_order()
     ensures { OrderOfBytes }
+{}
+
+/// However bytes are cut into pieces, the lists that the pieces give, joined, are the list of all, or the one fault is theirs.
+pub fn law_of_pieces()
+    ensures { PiecesAreTheFeed }
 {}

@@ -3,23 +3,26 @@
 ghost use Rattle.std.specs.Prelude.{◌≡◌, ◌<◌, ◌++◌, List, length, All, IfOk, IfErr, Ok, Err};
 ghost use Rattle.desk_ops.specs.declared.op.Op.{Op};
 ghost use Rattle.desk_ops.specs.Op.{IsLawful};
-ghost use Rattle.desk_codec.specs.Feed.{spelling, IsHeld, IsFeed};
+ghost use Rattle.desk_codec.specs.Spelling.{spelling, IsHeld};
+ghost use Rattle.desk_codec.specs.Feed.{IsFeed};
 ghost use Rattle.desk_codec.specs.Fault.{IsWrong, IsFirstFault};
 ghost use Rattle.desk_codec.specs.Reading.{Tells, Answers, MayHoldOne};
+ghost use Rattle.desk_codec.specs.declared.form.FeedForm.TheVariants.{Singles};
 ghost use Rattle.desk_codec.specs.declared.fault.FeedFault.{FeedFault};
 ghost use Rattle.desk_codec.specs.declared.fault.ReadFault.TheVariants as fault;
 
-use crate::fault::{FeedFault, FeedWhy, ReadFault};
+use crate::fault::{FeedWhy, ReadFault};
 use crate::fields::{Fields, take_byte};
-use crate::form::{Kind, LEAST_SIZE};
+use crate::form::Kind;
+use crate::reader::FeedReader;
 use desk_ops::Op;
 use std::alloc::Allocator;
 
-/// The operation at the front of bytes and the bytes after it, or what is wrong there.
+/// The operation at the front of bytes and the bytes after it, or what is wrong there. No run is read.
 pub fn next_op(bytes: &[u8]) -> Result<(Op, &[u8]), FeedWhy>
     requires { 0 < length bytes.now }
     ensures op { IfOk result (λ next. IsHeld next.0 × (bytes.now ≡ spelling next.0 ++ next.1.now)) }
-    ensures wrong { IfErr result (λ why. IsWrong bytes.now why) }
+    ensures wrong { IfErr result (λ why. IsWrong Singles bytes.now why) }
 {
     let (byte, rest) = take_byte(bytes);
     let Some(kind) = Kind::of_byte(byte) else {
@@ -35,33 +38,18 @@ pub fn next_op(bytes: &[u8]) -> Result<(Op, &[u8]), FeedWhy>
     }
 }
 
+/// One `feed` of all bytes, and one `finish`.
 fn operations_of<A: Allocator>(alloc: A, bytes: &[u8]) -> Result<Vec<Op, A>, ReadFault>
     ensures feed { IfOk result (λ ops. IsFeed bytes.now ops.items) }
     ensures fault { IfErr result (λ fault. Tells bytes.now fault) }
     ensures memory { result ≡ Err fault.NoMemory → MayHoldOne bytes.now }
 {
-    let [b'M', b'F', b'D', b'1', body @ ..] = bytes else {
-        return Err(ReadFault::Fault(FeedFault {
-            at: 0,
-            why: FeedWhy::Magic,
-        }));
-    };
-    // No operation is shorter, so no further growth is needed.
-    let mut ops = Vec::with_capacity(alloc, body.len() / LEAST_SIZE)?;
-    let mut rest = body;
-    while !rest.is_empty() {
-        match next_op(rest) {
-            Ok((op, after)) => {
-                ops.push(op)?;
-                rest = after;
-            }
-            Err(why) => {
-                let at = (bytes.len() - rest.len()) as u64;
-                return Err(ReadFault::Fault(FeedFault { at, why }));
-            }
-        }
+    let mut reader = FeedReader::new();
+    let ops = reader.feed(alloc, bytes)?;
+    match reader.finish() {
+        Ok(()) => Ok(ops),
+        Err(fault) => Err(fault),
     }
-    Ok(ops)
 }
 
 /// The operations of a feed, or the first fault of bytes that are none. It never answers `Failed`.

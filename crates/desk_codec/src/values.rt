@@ -1,6 +1,6 @@
 //! What the types of its fields say of an operation's numbers.
 
-ghost use Rattle.desk_codec.specs.Feed.{IsValue};
+ghost use Rattle.desk_codec.specs.Spelling.{IsValue};
 
 use desk_ops::Op;
 

@@ -5,7 +5,8 @@ ghost use Rattle.arrayvec.specs.ArrayVec.{array_vec_len};
 ghost use Rattle.desk_ops.specs.declared.op.Op.{Op};
 ghost use Rattle.desk_ops.specs.Op.{IsLawful};
 ghost use Rattle.desk_ops.specs.Order.{style_code, key_code};
-ghost use Rattle.desk_codec.specs.Feed.{stamp_spelling, spelling, feed, IsFeed};
+ghost use Rattle.desk_codec.specs.Spelling.{stamp_spelling, spelling};
+ghost use Rattle.desk_codec.specs.Feed.{feed, IsFeed};
 
 use crate::form::{Kind, MAGIC};
 use crate::values::op_known;
@@ -14,8 +15,8 @@ use desk_ops::{Key, NoMemory, Op, Stamp, Style};
 use std::alloc::Allocator;
 
 /// Appends bytes, for which there is room.
-fn put(out: &mut ArrayVec<u8, 26>, bytes: &[u8])
-    requires { array_vec_len out.old + length bytes.now ≤ 26 }
+pub fn put<const N: usize>(out: &mut ArrayVec<u8, N>, bytes: &[u8])
+    requires { array_vec_len out.old + length bytes.now ≤ N }
     ensures items { out.new.items ≡ out.old.items ++ bytes.now }
     ensures len { array_vec_len out.new ≡ array_vec_len out.old + length bytes.now }
 {

@@ -1,10 +1,11 @@
+use crate::read_runs::RUN_AB;
 use desk_codec::{FeedFault, FeedWhy, ReadFault, next_op, read_feed, write_feed, write_op};
 use desk_ops::{Key, NoMemory, Op, Stamp, Style, Symbol, Unlawful};
 use linked_list_allocator::LocalHeap;
 use std::alloc::{Allocator, Global};
 use std::test::Fail;
 
-const INSERT_A: Op = Op::Insert {
+pub const INSERT_A: Op = Op::Insert {
     stamp: Stamp {
         counter: 1,
         site: 1,
@@ -16,7 +17,7 @@ const INSERT_A: Op = Op::Insert {
     },
 };
 
-const INSERT_B: Op = Op::Insert {
+pub const INSERT_B: Op = Op::Insert {
     stamp: Stamp {
         counter: 2,
         site: 1,
@@ -31,7 +32,7 @@ const INSERT_B: Op = Op::Insert {
     },
 };
 
-const DELETE: Op = Op::Delete {
+pub const DELETE: Op = Op::Delete {
     stamp: Stamp {
         counter: 4,
         site: 2,
@@ -42,7 +43,7 @@ const DELETE: Op = Op::Delete {
     },
 };
 
-const MEASURE_144: Op = Op::Set {
+pub const MEASURE_144: Op = Op::Set {
     stamp: Stamp {
         counter: 5,
         site: 2,
@@ -73,7 +74,7 @@ const LAST_COUNTER: Op = Op::Insert {
 };
 
 /// The feed of `INSERT_A` and `INSERT_B`.
-const FEED_AB: [u8; 56] = [
+pub const FEED_AB: [u8; 56] = [
     0x4d, 0x46, 0x44, 0x31, 1, 0, 0, 0, 0, 0, 0, 0, 1, 0, 1, 0, 0, 0, 0, 0, 0, 0, 0, 0, 0, 0, 0, 0,
     0, 0x61, 1, 0, 0, 0, 0, 0, 0, 0, 2, 0, 1, 0, 0, 0, 0, 0, 0, 0, 1, 0, 1, 0, 0, 0, 0, 0x62,
 ];
@@ -108,7 +109,7 @@ const EXAMPLES: [(Op, &[u8]); 5] = [
 ];
 
 /// Whether reading bytes as a feed answers these operations, or this fault.
-fn is_read_as<A: Allocator>(alloc: A, bytes: &[u8], want: Result<&[Op], ReadFault>) -> bool {
+pub fn is_read_as<A: Allocator>(alloc: A, bytes: &[u8], want: Result<&[Op], ReadFault>) -> bool {
     match (read_feed(alloc, bytes), want) {
         (Ok(ops), Ok(want)) => ops.as_slice() == want,
         (Err(fault), Err(want)) => fault == want,
@@ -139,7 +140,7 @@ fn examples_of_bytes(rt: HostRuntime) -> Result<(), Fail> {
 }
 
 /// The two operations of `FEED_AB`.
-const AB: [Op; 2] = [INSERT_A, INSERT_B];
+pub const AB: [Op; 2] = [INSERT_A, INSERT_B];
 
 #[test]
 fn two_sites_show_ab(rt: HostRuntime) -> Result<(), Fail> {
@@ -148,7 +149,7 @@ fn two_sites_show_ab(rt: HostRuntime) -> Result<(), Fail> {
     Ok(())
 }
 
-fn fault(at: u64, why: FeedWhy) -> ReadFault {
+pub fn fault(at: u64, why: FeedWhy) -> ReadFault {
     ReadFault::Fault(FeedFault { at, why })
 }
 
@@ -225,7 +226,7 @@ fn causes_in_order(rt: HostRuntime) {
 }
 
 /// Takes what a heap of 512 bytes can give, but for so many times 16.
-fn ballast(heap: &LocalHeap, cut: usize) -> Option<Vec<u8, &LocalHeap>> {
+pub fn ballast(heap: &LocalHeap, cut: usize) -> Option<Vec<u8, &LocalHeap>> {
     Vec::with_capacity(heap, 512usize.saturating_sub(cut.saturating_mul(16))).ok()
 }
 
@@ -267,8 +268,9 @@ fn is_writing_refused(alloc: Global, cut: usize) -> Result<bool, Fail> {
 /// What is written takes its memory at once, so few sizes of a heap refuse it.
 #[test]
 fn growth_refused(rt: HostRuntime) -> Result<(), Fail> {
-    let cases: [(&[u8], Result<&[Op], ReadFault>, u32, u32); 4] = [
+    let cases: [(&[u8], Result<&[Op], ReadFault>, u32, u32); 5] = [
         (&FEED_AB, Ok(&AB), 6, 15),
+        (&RUN_AB, Ok(&AB), 6, 15),
         (&FEED_AB[..55], Err(fault(30, FeedWhy::Cut)), 1, 15),
         (b"MFD1\x09", Err(fault(4, FeedWhy::Kind)), 0, 0),
         (&FEED_AB[1..], Err(fault(0, FeedWhy::Magic)), 0, 0),
@@ -312,6 +314,7 @@ fn names_its_faults(rt: HostRuntime) -> Result<(), Fail> {
             "at byte 7: unlawful: no such key",
         ),
         (fault(7, FeedWhy::Cut), "at byte 7: cut off"),
+        (fault(7, FeedWhy::Run), "at byte 7: no run has so many"),
         (ReadFault::Failed, "the reading has ended"),
         (ReadFault::NoMemory, "no memory"),
     ] {

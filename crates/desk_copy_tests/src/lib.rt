@@ -8,4 +8,10 @@ mod held;
 #[cfg(test)]
 mod ops;
 #[cfg(test)]
+mod pieces;
+#[cfg(test)]
+mod read_runs;
+#[cfg(test)]
 mod registers;
+#[cfg(test)]
+mod runs;

@@ -5,6 +5,7 @@ ghost use Rattle.desk_ops.specs.OpSet.{no_ops, size, with_all};
 ghost use Rattle.desk_held.specs.Joining.{IsHalted};
 
 use crate::search::is_rising;
+use crate::slot::slots_of;
 use crate::{AddRefusal, Held, LIMIT};
 use desk_ops::Op;
 use desk_pages::Pages;
@@ -28,7 +29,10 @@ impl<A: Allocator + Copy> Held<A> {
         if ops.len() > LIMIT || !is_rising(ops) {
             return None;
         }
-        let Ok(ops) = Pages::from_slice(alloc, ops) else {
+        let Ok(slots) = slots_of(alloc, ops) else {
+            return None;
+        };
+        let Ok(ops) = Pages::from_slice(alloc, &slots) else {
             return None;
         };
         Some(Held { ops, alloc })

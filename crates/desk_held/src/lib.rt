@@ -12,12 +12,14 @@ ghost use Rattle.desk_ops.specs.Held.{is_borne_in, is_clear_in, clear_op_in, gre
 use desk_ops::{NoMemory, Op, Stamp};
 use desk_pages::Pages;
 use search::{Below, Earlier, UpTo};
+use slot::{Slot, append, entry, insert_in_order, seek};
 use std::alloc::Allocator;
 use std::marker::Model;
 use thiserror::Error;
 
 mod join;
 mod search;
+mod slot;
 
 pub use join::Halt;
 
@@ -47,7 +49,7 @@ pub enum AddRefusal {
 /// A finite set of lawful operations, by stamp and then by bytes, in pages; with room for some more.
 #[derive(Drop)]
 pub struct Held<A: Allocator + Copy> {
-    ops: Pages<Op, (), A>,
+    ops: Pages<Slot, (), A>,
     alloc: A,
 }
 
@@ -114,7 +116,7 @@ impl<A: Allocator + Copy> Held<A> {
     pub fn has(&self, op: &Op) -> bool
         ensures { result ≡ has_op self.now.ops op.now }
     {
-        match self.ops.seek(&Earlier { op: *op }) {
+        match seek(&self.ops, &Earlier { op: *op }) {
             Some(first) => first == *op,
             None => false,
         }
@@ -158,14 +160,14 @@ impl<A: Allocator + Copy> Held<A> {
         ensures ops { self.new.ops ≡ with_op self.old.ops op }
         ensures spare { self.old.spare ≤ self.new.spare + 1 }
     {
-        self.ops.insert_in_order(&Earlier { op }, op);
+        insert_in_order(&mut self.ops, &Earlier { op }, op);
     }
 
     /// Whether some held operation bears the stamp.
     pub fn holds(&self, stamp: Stamp) -> bool
         ensures { result ≡ is_borne_in self.now.ops stamp }
     {
-        match self.ops.seek(&Below { stamp }) {
+        match seek(&self.ops, &Below { stamp }) {
             Some(first) => first.stamp().is_same(stamp),
             None => false,
         }
@@ -175,13 +177,13 @@ impl<A: Allocator + Copy> Held<A> {
     pub fn clear_op(&self, stamp: Stamp) -> Option<Op>
         ensures { result ≡ clear_op_in self.now.ops stamp }
     {
-        let Some(first) = self.ops.seek(&Below { stamp }) else {
+        let Some(first) = seek(&self.ops, &Below { stamp }) else {
             return None;
         };
         if !first.stamp().is_same(stamp) {
             return None;
         }
-        let Some(next) = self.ops.seek(&UpTo { op: first }) else {
+        let Some(next) = seek(&self.ops, &UpTo { op: first }) else {
             return Some(first);
         };
         if next.stamp().is_same(stamp) {
@@ -205,7 +207,7 @@ impl<A: Allocator + Copy> Held<A> {
         if len == 0 {
             return 0;
         }
-        self.ops.entry(len - 1).stamp().counter
+        entry(&self.ops, len - 1).stamp().counter
     }
 
     /// The i-th operation, by stamp and then by bytes.
@@ -215,7 +217,7 @@ impl<A: Allocator + Copy> Held<A> {
         ensures value { result ≡ slice_index_or (in_order self.now.ops) i result }
         ensures lawful { IsLawful result }
     {
-        self.ops.entry(i)
+        entry(&self.ops, i)
     }
 
     /// The operations from place `from` up to place `until`, by stamp and then by bytes. It reads those alone.
@@ -231,7 +233,7 @@ impl<A: Allocator + Copy> Held<A> {
         while at < until {
             let part = self.ops.stretch(at);
             let many = part.len().min(until - at);
-            list.extend_from_slice(&part[..many])?;
+            append(&mut list, &part[..many])?;
             at += many;
         }
         Ok(list)

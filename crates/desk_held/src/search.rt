@@ -4,6 +4,7 @@ ghost use Rattle.std.specs.Ordering.{is_lt};
 ghost use Rattle.desk_ops.specs.Order.{op_cmp};
 ghost use Rattle.desk_ops.specs.OpSet.{is_rising};
 
+use crate::slot::Slot;
 use desk_ops::{Op, Stamp};
 use desk_pages::Pick;
 
@@ -20,14 +21,14 @@ pub struct Earlier {
     pub op: Op,
 }
 
-impl Pick<Op, ()> for Earlier {
+impl Pick<Slot, ()> for Earlier {
     ghost use Rattle.std.specs.Ordering.{is_lt};
     ghost use Rattle.desk_ops.specs.Order.{op_cmp};
 
     ghost picked = { λ s x. is_lt (op_cmp x s.op) };
 
-    fn picks(&self, x: Op) -> bool {
-        is_earlier(&x, &self.op)
+    fn picks(&self, x: Slot) -> bool {
+        is_earlier(&x.op(), &self.op)
     }
 }
 
@@ -37,15 +38,15 @@ pub struct UpTo {
     pub op: Op,
 }
 
-impl Pick<Op, ()> for UpTo {
+impl Pick<Slot, ()> for UpTo {
     ghost use Rattle.std.specs.Prelude.{not};
     ghost use Rattle.std.specs.Ordering.{is_lt};
     ghost use Rattle.desk_ops.specs.Order.{op_cmp};
 
     ghost picked = { λ s x. not (is_lt (op_cmp s.op x)) };
 
-    fn picks(&self, x: Op) -> bool {
-        !is_earlier(&self.op, &x)
+    fn picks(&self, x: Slot) -> bool {
+        !is_earlier(&self.op, &x.op())
     }
 }
 
@@ -55,13 +56,13 @@ pub struct Below {
     pub stamp: Stamp,
 }
 
-impl Pick<Op, ()> for Below {
+impl Pick<Slot, ()> for Below {
     ghost use Rattle.desk_ops.specs.Op.{stamp_of};
     ghost use Rattle.desk_ops.specs.Stamp.{before};
 
     ghost picked = { λ s x. before (stamp_of x) s.stamp };
 
-    fn picks(&self, x: Op) -> bool {
+    fn picks(&self, x: Slot) -> bool {
         x.stamp().is_before(self.stamp)
     }
 }

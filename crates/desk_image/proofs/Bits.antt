@@ -15,7 +15,7 @@ use Rattle.desk_signals.specs.declared.Signal.{Signal}
 use Rattle.desk_signals.specs.declared.Signal.TheVariants as signal
 use Rattle.desk_signals.specs.declared.RibbonRow.{RibbonRow}
 use Rattle.desk_signals.specs.Rows.{place, same, has, repeats, the_signals, signals_of}
-use Rattle.desk_signals.proofs.Same.{same-eq, neither, both_false}
+use Rattle.desk_signals.proofs.Same.{same-eq, neither, both_false, and_false, and_true, has_filter}
 use Rattle.desk_image.specs.Images.{bit, image, Shows, image_of, signals_in}
 
 below_31 : (x : Signal) → place x < 31
@@ -128,28 +128,6 @@ image_below (x ∷ xs) = or_lt 31 (2 ^ bit x) (image_of xs) (bit_below x) (image
 
 pub image_shows : (xs : List Signal) → Shows (image_of xs) xs
 image_shows xs = (image_below xs, shown_bit xs)
-
-passes_same : (p : Signal → Bool) (x y : Signal) (b : Bool) → same y x ≡ true → p x ≡ b → p y ≡ b
-passes_same p x y b is passes = ap p (same-eq y x is) ∙ passes
-
-has_filter_step : (p : Signal → Bool) (x y : Signal) (xs : List Signal) (a b : Bool) → same y x ≡ a → p x ≡ b → has (filter p xs) y ≡ (p y && has xs y) →
-    has (cond b (x ∷ filter p xs) (filter p xs)) y ≡ (p y && (a || has xs y))
-has_filter_step p x y xs true true is passes ih = rw (is, passes_same p x y true is passes) refl
-has_filter_step p x y xs true false is passes ih = ih ∙ rw (passes_same p x y false is passes) refl
-has_filter_step p x y xs false true is passes ih = rw is ih
-has_filter_step p x y xs false false is passes ih = ih
-
-and_false : (b : Bool) → false ≡ (b && false)
-and_false true = refl
-and_false false = refl
-
-and_true : (b : Bool) → (b && true) ≡ b
-and_true true = refl
-and_true false = refl
-
-has_filter : (p : Signal → Bool) (xs : List Signal) (y : Signal) → has (filter p xs) y ≡ (p y && has xs y)
-has_filter p [] y = and_false (p y)
-has_filter p (x ∷ xs) y = has_filter_step p x y xs (same y x) (p x) refl refl (has_filter p xs y)
 
 repeats_filter_step : (p : Signal → Bool) (x : Signal) (xs : List Signal) (b : Bool) → has xs x ≡ false → repeats (filter p xs) ≡ false →
     repeats (cond b (x ∷ filter p xs) (filter p xs)) ≡ false

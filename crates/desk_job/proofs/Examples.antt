@@ -15,6 +15,7 @@ use Rattle.desk_wedge.specs.Wedge.{WedgeValues}
 use Rattle.desk_case.specs.Case.{CaseValues}
 use Rattle.desk_caster.specs.Caster.{Line, cast}
 use Rattle.desk_caster.specs.declared.CastFault.{CastFault}
+use Rattle.desk_caster.specs.declared.CastFault.TheVariants as cast_fault
 use Rattle.desk_job.specs.Job.{job}
 use Rattle.desk_job.specs.declared.JobFault.{JobFault}
 use Rattle.desk_job.specs.declared.JobFault.TheVariants as fault
@@ -26,10 +27,10 @@ abbrev roman : ℕ → Symbol
 roman c = record { style = Roman; ch = c }
 
 abbrev row_of : (a b c : Option Symbol) → List (Option Symbol)
-row_of a b c = a ∷ b ∷ c ∷ replicate 12 None
+row_of a b c = a ∷ b ∷ c ∷ replicate 14 None
 
 abbrev blank : List (Option Symbol)
-blank = replicate 15 None
+blank = replicate 17 None
 
 abbrev space : Cell
 space = record { column = column.G; row = 1 }
@@ -49,6 +50,16 @@ case_one = record {
       ++ row_of (Some (roman 77)) (Some (record { style = SmallCap; ch = 77 })) None;
   space = space;
   fill = o15 ∷ a5 ∷ [];
+}
+
+-- the same with the symbol q in NI8
+abbrev case_seventeen : CaseValues
+case_seventeen = record case_one {
+  grid = row_of (Some (roman 46)) None None ++ blank ++ blank ++ row_of (Some (roman 116)) None None
+      ++ row_of None (Some (roman 97)) (Some (record { style = Italic; ch = 97 })) ++ blank ++ blank
+      ++ (Some (roman 110) ∷ replicate 14 None ++ (Some (roman 113) ∷ None ∷ []))
+      ++ blank ++ blank ++ blank ++ blank ++ blank ++ row_of (Some (roman 109)) None None
+      ++ row_of (Some (roman 77)) (Some (record { style = SmallCap; ch = 77 })) None;
 }
 
 abbrev settings_of : (tight loose : ℕ) → Key → Option ℕ
@@ -80,6 +91,23 @@ in_short (Err e) = []
 
 empty_paragraph_cast : in_short (cast case_one wedge empty_paragraph_rows) ≡ (11, pos 2159952) ∷ []
 empty_paragraph_cast = refl
+
+-- one word of a matrix in NI, and the same rows where the case has none there
+abbrev wide_word_rows : List RibbonRow
+wide_word_rows =
+    row.FineOut 8 ∷ row.Cell column.NI 8 false ∷ row.Cell column.G 1 true ∷ (replicate 9 (plain o15) ++ (row.Coarse 7 ∷ row.FineOut 3 ∷ []))
+
+wide_word : job (roman 113 ∷ []) standard case_seventeen wedge ≡ Ok wide_word_rows
+wide_word = refl
+
+wide_word_cast : in_short (cast case_seventeen wedge wide_word_rows) ≡ (11, pos 2159640) ∷ []
+wide_word_cast = refl
+
+no_wide_word : job (roman 113 ∷ []) standard case_one wedge ≡ Err (fault.NoMatrix 0 ∷ [])
+no_wide_word = refl
+
+no_wide_matrix : cast case_one wedge wide_word_rows ≡ Err (cast_fault.NoMatrix 1)
+no_wide_matrix = refl
 
 too_wide : job (replicate 18 (roman 110)) standard case_one wedge ≡ Err (fault.TooWide 1 ∷ [])
 too_wide = refl

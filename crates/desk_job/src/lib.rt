@@ -1,14 +1,14 @@
 //! The job: the ribbon of a copy, or why there is none.
 #![tactic(auto)]
 
-mod making;
-mod punch;
+pub mod making;
+pub mod punch;
 mod ribbon;
-mod setting;
-mod terms;
+pub mod setting;
+pub mod terms;
 
 use desk_ops::Key;
-pub use ribbon::{make, make_from};
+pub use ribbon::{given, make, make_from};
 use std::alloc::Allocator;
 use std::marker::Model;
 use thiserror::Error;

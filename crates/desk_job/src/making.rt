@@ -41,7 +41,7 @@ impl<A: Allocator + Copy> Model for Making<A> {
 }
 
 /// The widths of words.
-fn word_widths<A: Allocator>(
+pub fn word_widths<A: Allocator>(
     alloc: A,
     terms: &Terms,
     copy: &[Symbol],
@@ -60,7 +60,7 @@ fn word_widths<A: Allocator>(
 }
 
 /// Whether the line of this group, at this place, is to be filled: the last one, and each of one word.
-fn is_filled(groups: &[Group], i: usize, group: &Group) -> bool
+pub fn is_filled(groups: &[Group], i: usize, group: &Group) -> bool
     requires place { i < length groups.now }
     requires order { (group.now).from < (group.now).to }
     ensures { result ≡ (length (drop (i + 1) groups.now) == 0) || ((group.now).to - (group.now).from == 1) }
@@ -201,7 +201,7 @@ fn is_lacking(case: &MatrixCase, symbol: Symbol) -> bool
 }
 
 /// The place of each symbol that the case lacks.
-fn lacking<A: Allocator>(
+pub fn lacking<A: Allocator>(
     alloc: A,
     case: &MatrixCase,
     copy: &[Symbol],

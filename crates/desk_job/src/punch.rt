@@ -31,7 +31,10 @@ fn add_word<A: Allocator>(
 }
 
 /// Appends a space that is justified.
-fn add_space<A: Allocator>(punches: &mut Vec<Punch, A>, case: &MatrixCase) -> Result<(), NoMemory>
+pub fn add_space<A: Allocator>(
+    punches: &mut Vec<Punch, A>,
+    case: &MatrixCase,
+) -> Result<(), NoMemory>
     ensures { OnOk result (punches.new.items ≡ punches.old.items ++ job.space_punch case.now ∷ []) }
 {
     punches.push(Punch {
@@ -59,7 +62,7 @@ fn add_more_words<A: Allocator>(
 }
 
 /// Appends the matrices of words, with a space between each two.
-fn add_words<A: Allocator>(
+pub fn add_words<A: Allocator>(
     punches: &mut Vec<Punch, A>,
     case: &MatrixCase,
     copy: &[Symbol],
@@ -90,7 +93,7 @@ fn add_times<A: Allocator>(
 }
 
 /// Appends each fill as often as it is used.
-fn add_fills<A: Allocator>(
+pub fn add_fills<A: Allocator>(
     punches: &mut Vec<Punch, A>,
     counts: &[u32],
     cells: &[Cell],

@@ -18,7 +18,7 @@ use desk_wedge::Wedge;
 use std::alloc::Allocator;
 
 /// The values of settings, or the least key that has none.
-fn given(settings: &Settings) -> Result<Values, Key>
+pub fn given(settings: &Settings) -> Result<Values, Key>
     ensures { result ≡ job.values_of (by_key settings.now) }
 {
     let Some(measure) = settings.measure else {

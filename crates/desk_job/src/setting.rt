@@ -28,7 +28,7 @@ pub struct Setting {
 }
 
 /// The sum of the widths of words.
-fn total(widths: &[Atoms]) -> u64
+pub fn total(widths: &[Atoms]) -> u64
     requires words { length widths.now ≤ 2 ^ 20 + 1 }
     requires widths { AreWidths widths.now }
     ensures value { result ≡ sum_by unsigned_abs widths.now }
@@ -52,7 +52,7 @@ fn has_room(terms: &Terms, words: usize, width: u64) -> bool
 }
 
 /// The measure less words of this width and so many spaces at neutral.
-fn rest(terms: &Terms, width: u64, spaces: usize) -> Atoms
+pub fn rest(terms: &Terms, width: u64, spaces: usize) -> Atoms
     requires spaces { spaces ≤ 2 ^ 20 + 1 }
     requires width { width ≤ 2 ^ 61 }
     ensures value { result ≡ pos (job.measure terms.now) -ℤ pos (width + spaces * job.space_width terms.now) }
@@ -64,7 +64,7 @@ fn rest(terms: &Terms, width: u64, spaces: usize) -> Atoms
 }
 
 /// How often each fill is used: none in a line that is not to be filled.
-fn fills(terms: &Terms, rest: Atoms, filled: bool) -> ArrayVec<u32, 4>
+pub fn fills(terms: &Terms, rest: Atoms, filled: bool) -> ArrayVec<u32, 4>
     requires { rest ≤ℤ pos 12960000 }
     ensures value { result.items ≡ (if filled then fills_of rest (job.fill_widths terms.now) else []) }
     ensures number { length result.items ≤ length (job.fill_widths terms.now) }
@@ -92,7 +92,7 @@ fn taken(counts: &[u32], widths: &[Atoms]) -> u64
 }
 
 /// What the spaces are to take up: the rest, less the fills.
-fn left(terms: &Terms, rest: Atoms, counts: &[u32]) -> Atoms
+pub fn left(terms: &Terms, rest: Atoms, counts: &[u32]) -> Atoms
     requires number { length counts.now ≤ length (job.fill_widths terms.now) }
     requires limit { rest ≤ℤ pos 12960000 }
     requires least { pos 0 ≤ℤ (rest +ℤ pos (2 ^ 62)) }
@@ -126,7 +126,7 @@ fn line_sum(
 }
 
 /// Whether one space is added after the words of a line.
-fn has_added(terms: &Terms, words: usize, width: u64, filled: bool) -> bool
+pub fn has_added(terms: &Terms, words: usize, width: u64, filled: bool) -> bool
     requires words { words ≤ 2 ^ 20 + 1 }
     requires width { width ≤ 2 ^ 61 }
     ensures { result ≡ filled && int_le (pos width +ℤ pos words *ℤ job.tight_space terms.now) (pos (job.measure terms.now)) }
@@ -135,7 +135,7 @@ fn has_added(terms: &Terms, words: usize, width: u64, filled: bool) -> bool
 }
 
 /// The spaces between words, and the one added.
-fn spaces(words: usize, added: bool) -> usize
+pub fn spaces(words: usize, added: bool) -> usize
     requires { 1 ≤ words }
     ensures { result ≡ words - 1 + (if added then 1 else 0) }
 {

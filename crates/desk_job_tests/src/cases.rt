@@ -22,6 +22,16 @@ pub fn wedge_of(alloc: Global, text: &str) -> Result<Wedge, Fail> {
 
 /// The first case, with these fills: its rows by their first three cells, the others blank.
 pub fn case_with(alloc: Global, fill: &str) -> Result<MatrixCase, Fail> {
+    case_ended(alloc, fill, "", "")
+}
+
+/// The first case with two columns more, which are blank but for `q` in NI8.
+pub fn wide_case(alloc: Global) -> Result<MatrixCase, Fail> {
+    case_ended(alloc, FILLS, ",'',''", ",'q',''")
+}
+
+/// The first case, with these fills, and with these ends of its rows and of its eighth row.
+fn case_ended(alloc: Global, fill: &str, end: &str, eighth: &str) -> Result<MatrixCase, Fail> {
     let mut text = format!(in alloc; "case = 1\nspace = 'G1'\nfill = [{fill}]\nrows = [\n")?;
     for cells in [
         "'.','',''",
@@ -42,7 +52,9 @@ pub fn case_with(alloc: Global, fill: &str) -> Result<MatrixCase, Fail> {
     ] {
         text.push_str("[")?;
         text.push_str(cells)?;
-        text.push_str(",'','','','','','','','','','','',''],\n")?;
+        text.push_str(",'','','','','','','','','','','',''")?;
+        text.push_str(if cells == "'n','',''" { eighth } else { end })?;
+        text.push_str("],\n")?;
     }
     text.push_str("]\n")?;
     Ok(MatrixCase::read(alloc, text.as_bytes())?)

@@ -9,3 +9,5 @@ mod casting;
 mod growths;
 #[cfg(test)]
 mod jobs;
+#[cfg(test)]
+mod wide;

@@ -11,13 +11,13 @@ const W: &str =
     "wedge = 5\nset_q = 48\npica = \"sixth\"\nunits = [5, 6, 7, 8, 9, 9, 9, 10, 10, 11, 12, 13, 14, 15, 18]\n";
 
 /// Case 1, without its rows.
-const HEAD: &str = "case = 1\nspace = \"G1\"\nfill = [\"O15\", \"A5\"]\nrows = [\n";
+pub const HEAD: &str = "case = 1\nspace = \"G1\"\nfill = [\"O15\", \"A5\"]\nrows = [\n";
 
 /// Texts of cells, each with its row and column, counted from 0.
-type Texts<'a> = &'a [(usize, usize, &'a str)];
+pub type Texts<'a> = &'a [(usize, usize, &'a str)];
 
 /// The texts of Case 1.
-const CASE_1: Texts<'static> = &[
+pub const CASE_1: Texts<'static> = &[
     (0, 0, "."),
     (3, 0, "t"),
     (4, 1, "a"),
@@ -28,11 +28,11 @@ const CASE_1: Texts<'static> = &[
     (14, 1, "s:M"),
 ];
 
-fn symbol(style: Style, ch: char) -> Symbol {
+pub fn symbol(style: Style, ch: char) -> Symbol {
     Symbol { style, ch }
 }
 
-fn at(column: Column, row: u8) -> Cell
+pub fn at(column: Column, row: u8) -> Cell
     requires low { 1 ≤ row }
     requires high { row ≤ 15 }
 {
@@ -50,12 +50,18 @@ fn text_at<'a>(texts: Texts<'a>, row: usize, column: usize) -> &'a str {
     ""
 }
 
-/// A case file: what stands before its rows, the number of rows, and the texts that are not blank.
-fn file(alloc: Global, head: &str, rows: usize, texts: Texts<'_>) -> Result<String, Fail> {
+/// A case file of so many columns: what stands before its rows, the number of rows, and the texts that are not blank.
+pub fn file_of(
+    alloc: Global,
+    head: &str,
+    columns: usize,
+    rows: usize,
+    texts: Texts<'_>,
+) -> Result<String, Fail> {
     let mut file = String::from_str(alloc, head)?;
     for row in 0..rows {
         file.push_str(" [")?;
-        for column in 0..15usize {
+        for column in 0..columns {
             file.push_str("\"")?;
             file.push_str(text_at(texts, row, column))?;
             file.push_str("\",")?;
@@ -66,6 +72,11 @@ fn file(alloc: Global, head: &str, rows: usize, texts: Texts<'_>) -> Result<Stri
     Ok(file)
 }
 
+/// A case file without NI and NL.
+fn file(alloc: Global, head: &str, rows: usize, texts: Texts<'_>) -> Result<String, Fail> {
+    file_of(alloc, head, 15, rows, texts)
+}
+
 /// The case of a file.
 fn case_of(alloc: Global, head: &str, texts: Texts<'_>) -> Result<MatrixCase, Fail> {
     let text = file(alloc, head, 15, texts)?;
@@ -73,7 +84,7 @@ fn case_of(alloc: Global, head: &str, texts: Texts<'_>) -> Result<MatrixCase, Fa
 }
 
 /// Whether reading bytes answers this fault.
-fn is_faulty(alloc: Global, bytes: &[u8], fault: CaseFault) -> bool {
+pub fn is_faulty(alloc: Global, bytes: &[u8], fault: CaseFault) -> bool {
     MatrixCase::read(alloc, bytes).err() == Some(fault)
 }
 
@@ -203,6 +214,22 @@ fn names_of_cells(rt: HostRuntime) -> Result<(), Fail> {
         "A+1",
         "A1\\u0000",
         "Ａ1",
+        "P3",
+        "Q3",
+        "NI3",
+        "NL15",
+        "NI",
+        "NI0",
+        "NI16",
+        "NI03",
+        "NLI3",
+        "IN3",
+        "LN3",
+        "NM3",
+        "NN3",
+        "Ni3",
+        "ni3",
+        "N I3",
     ];
     for name in hostile {
         for (head, key) in [
@@ -226,11 +253,15 @@ fn names_of_cells(rt: HostRuntime) -> Result<(), Fail> {
     }
     for (name, cell, place) in [
         ("A1", at(Column::A, 1), 0),
-        ("B2", at(Column::B, 2), 16),
+        ("B2", at(Column::B, 2), 18),
         ("G1", at(Column::G, 1), 6),
-        ("H9", at(Column::H, 9), 127),
-        ("H10", at(Column::H, 10), 142),
-        ("O15", at(Column::O, 15), 224),
+        ("H9", at(Column::H, 9), 143),
+        ("H10", at(Column::H, 10), 160),
+        ("N3", at(Column::N, 3), 47),
+        ("NI3", at(Column::NI, 3), 49),
+        ("O15", at(Column::O, 15), 252),
+        ("NI15", at(Column::NI, 15), 253),
+        ("NL15", at(Column::NL, 15), 254),
     ] {
         assert!(rt;
             names::cell(name) == Some(cell)

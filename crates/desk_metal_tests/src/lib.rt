@@ -4,6 +4,8 @@
 #[cfg(test)]
 mod cases;
 #[cfg(test)]
+mod every_image;
+#[cfg(test)]
 mod image;
 #[cfg(test)]
 mod rows;
@@ -13,3 +15,5 @@ mod signals;
 mod units;
 #[cfg(test)]
 mod wedges;
+#[cfg(test)]
+mod wide;

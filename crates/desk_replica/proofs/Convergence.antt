@@ -7,7 +7,7 @@ use Rattle.desk_ops.specs.Order.{op_cmp}
 use Rattle.desk_ops.specs.OpSet.{OpSet, has_op, with_all, union, in_order}
 use Rattle.desk_ops.specs.Shown.{copy_of}
 use Rattle.desk_ops.specs.Faults.{faults_of}
-use Rattle.desk_codec.specs.Feed.{feed}
+use Rattle.desk_codec.specs.Runs.{set_feed}
 use Rattle.desk_ops.proofs.Means.{among-any, any-among}
 use Rattle.desk_ops.proofs.Joined.{same_bool}
 use Rattle.desk_ops.proofs.Unions.{same-set, has_op-with_all, union-comm, union-assoc, union-same, with_all-append}
@@ -15,7 +15,7 @@ use Rattle.desk_replica.specs.JobSettings.{settings_of}
 use Rattle.desk_replica.specs.Laws.{AnswerAlike, HaveSameMembers, Convergence}
 
 alike : (h g : OpSet) → h ≡ g → (h ≡ g) × AnswerAlike h g
-alike h g e = (e, record { copy = ap copy_of e; faults = ap faults_of e; settings = ap settings_of e; order = ap in_order e; feed = ap (λ k. feed (in_order k)) e })
+alike h g e = (e, record { copy = ap copy_of e; faults = ap faults_of e; settings = ap settings_of e; order = ap in_order e; feed = ap set_feed e })
 
 same_any : (os ps : List Op) → HaveSameMembers os ps → (q : Op) → list_any (eq_by_cmp op_cmp q) os ≡ list_any (eq_by_cmp op_cmp q) ps
 same_any os ps m q = same_bool (list_any (eq_by_cmp op_cmp q) os) (list_any (eq_by_cmp op_cmp q) ps)

@@ -5,7 +5,7 @@ use Rattle.desk_ops.specs.OpSet.{OpSet, has_op, with_all, union, in_order}
 use Rattle.desk_ops.specs.Lists.{Among}
 use Rattle.desk_ops.specs.Shown.{copy_of}
 use Rattle.desk_ops.specs.Faults.{faults_of}
-use Rattle.desk_codec.specs.Feed.{feed}
+use Rattle.desk_codec.specs.Runs.{set_feed}
 use Rattle.desk_replica.specs.JobSettings.{settings_of}
 
 -- replicas of the two sets have the same copy, copy faults, settings, order of operations and feed
@@ -14,7 +14,7 @@ pub record AnswerAlike (h g : OpSet) : Type 0 where
   pub faults : faults_of h ≡ faults_of g
   pub settings : settings_of h ≡ settings_of g
   pub order : in_order h ≡ in_order g
-  pub feed : feed (in_order h) ≡ feed (in_order g)
+  pub feed : set_feed h ≡ set_feed g
 
 -- what stands in the one stands in the other, in whatever order and however often
 abbrev pub HaveSameMembers : List Op → List Op → Type 0

@@ -1,7 +1,5 @@
 -- What a replica keeps beside its set, and what of it is shown.
-use Rattle.std.specs.Prelude.{ℕ, ◌≤◌, ◌-◌, min, not, Bool, List, map}
-use Rattle.std.specs.List.{filter}
-use Rattle.desk_ops.specs.declared.op.Symbol.{Symbol}
+use Rattle.std.specs.Prelude.{ℕ, ◌≤◌, ◌-◌, min, List}
 use Rattle.desk_ops.specs.OpSet.{OpSet, size}
 use Rattle.desk_registers.specs.declared.Registers.{Registers}
 use Rattle.desk_registers.specs.Registers.{kept}
@@ -9,13 +7,6 @@ use Rattle.desk_seq.specs.declared.Entry.{Entry}
 use Rattle.desk_walk.specs.Following.{IsSettled}
 use Rattle.desk_replica.specs.State.{IsKept}
 use Rattle.desk_replica.specs.JobSettings.{AreKept}
-
-abbrev pub is_shown : Entry → Bool
-is_shown e = not e.deleted
-
--- the symbols of the entries that are not deleted
-abbrev pub shown_symbols : List Entry → List Symbol
-shown_symbols es = map (λ (e : Entry). e.symbol) (filter is_shown es)
 
 -- a site of a number and lawful operations; of each key its setting; the walk with its marks, and what waits; and all that
 -- waits has a place in the sequence

@@ -13,14 +13,15 @@ ghost use Rattle.desk_ops.specs.Held.{greatest_counter_of, is_borne_in, IsUnfork
 ghost use Rattle.desk_ops.specs.Shown.{copy_of, shown_of};
 ghost use Rattle.desk_ops.specs.Settings.{setting_of};
 ghost use Rattle.desk_ops.specs.Faults.{faults_of};
-ghost use Rattle.desk_codec.specs.Feed.{feed, IsFeed};
+ghost use Rattle.std.specs.List.Sorted.{IsPermutation};
+ghost use Rattle.desk_codec.specs.Feed.{IsFeed};
+ghost use Rattle.desk_codec.specs.Runs.{runs_ops, set_feed};
 ghost use Rattle.desk_replica.specs.JobSettings.{settings_of};
 ghost use Rattle.desk_walk.specs.Following.{entries_of, IsWaiting};
-ghost use Rattle.desk_replica.specs.Shows.{shown_symbols};
 ghost use Rattle.desk_replica.specs.Orders.{KeepsOrder, ShareOneOrder};
 ghost use Rattle.desk_replica.specs.Edits.{new_stamp, parent_at, stamp_at, edit_refusal, insert_refusal, delete_refusal, set_refusal, IsInserted, IsDeleted, IsSetTo};
 
-use desk_codec::write_feed;
+use desk_codec::write_runs;
 use desk_held::{AddRefusal, Held, LIMIT};
 use desk_ops::op::MAX_COUNTER;
 use desk_ops::{CopyFault, Key, NoMemory, Op, Stamp, Symbol};
@@ -29,12 +30,14 @@ use desk_room::Room;
 use desk_seq::{Entry, Sequence};
 use desk_walk::{enter, made_anew};
 use faults::faults_of;
+use forks::forks_a_stamp;
 use settings::{keep, kept_in};
 use std::alloc::Allocator;
 use std::marker::Model;
 use thiserror::Error;
 
 mod faults;
+mod forks;
 pub mod laws;
 mod settings;
 
@@ -143,18 +146,6 @@ fn is_known<A: Allocator + Copy>(held: &Held<A>, op: &Op, is_borne: bool) -> boo
     ensures { result ≡ has_op held.now.ops op.now }
 {
     is_borne && held.has(op)
-}
-
-/// Adds the symbols of the entries that are shown.
-fn add_shown<A: Allocator>(symbols: &mut Vec<Symbol, A>, part: &[Entry]) -> Result<(), NoMemory>
-    ensures { OnOk result (symbols.new.items ≡ symbols.old.items ++ shown_symbols part.now) }
-{
-    for entry in part {
-        if !entry.deleted {
-            symbols.push(entry.symbol)?;
-        }
-    }
-    Ok(())
 }
 
 impl<Q: Sequence> Replica<Q> {
@@ -385,7 +376,9 @@ impl<Q: Sequence> Replica<Q> {
         }
     }
 
-    /// Whether all is to be made anew for a list: it is long, or an operation of it forks a stamp.
+    /// Whether all is to be made anew for a list: it is long, or an operation of it forks a stamp of what is held, or it has
+    /// many operations and forks a stamp of its own. So a list of many costs one pass over what is held, however many of
+    /// them fork.
     fn is_to_join(&self, ops: &[Op]) -> bool {
         if ops.len() >= MANY && ops.len() >= self.held.len() / PART {
             return true;
@@ -395,7 +388,7 @@ impl<Q: Sequence> Replica<Q> {
                 return true;
             }
         }
-        false
+        ops.len() >= MANY && forks_a_stamp(self.alloc, ops)
     }
 
     /// How many operations of a list, from its first on, were taken in by making all anew.
@@ -517,13 +510,15 @@ impl<Q: Sequence> Replica<Q> {
         self.held.range(from, until)
     }
 
-    /// The feed of the operations held, by stamp and then by bytes.
+    /// The feed of the operations held: by stamp and then by bytes, but what a site typed in one go together, in runs. It is
+    /// read as these operations, each once.
     pub fn write_feed(&self) -> Result<Vec<u8, Q::Memory>, NoMemory>
-        ensures bytes { IfOk result (λ v. v.items ≡ feed (in_order self.now.ops)) }
-        ensures grammar { IfOk result (λ v. IsFeed v.items (in_order self.now.ops)) }
+        ensures bytes { IfOk result (λ v. v.items ≡ set_feed self.now.ops) }
+        ensures grammar { IfOk result (λ v. IsFeed v.items (runs_ops (in_order self.now.ops))) }
+        ensures same { IfOk result (λ _. IsPermutation (in_order self.now.ops) (runs_ops (in_order self.now.ops))) }
     {
         let ops = self.held.in_order()?;
-        write_feed(self.alloc, &ops)
+        write_runs(self.alloc, &ops)
     }
 
     /// The copy faults: of each stamp whose operations do not act why they do not, by stamp. It is one pass over the
@@ -534,18 +529,11 @@ impl<Q: Sequence> Replica<Q> {
         faults_of(self.alloc, &self.held)
     }
 
-    /// The copy: the symbols that the set shows. It is read from the sequence, stretch by stretch.
+    /// The copy: the symbols that the set shows. It is read from the sequence.
     pub fn copy(&self) -> Result<Vec<Symbol, Q::Memory>, NoMemory>
         ensures { IfOk result (λ v. v.items ≡ copy_of self.now.ops) }
     {
-        let mut symbols = Vec::with_capacity(self.alloc, self.sequence.shown_len())?;
-        let mut at = 0;
-        while at < self.sequence.len() {
-            let part = self.sequence.stretch(at);
-            add_shown(&mut symbols, part)?;
-            at += part.len();
-        }
-        Ok(symbols)
+        Ok(self.sequence.symbols(self.alloc)?)
     }
 
     /// How many symbols the copy has. No memory is taken.

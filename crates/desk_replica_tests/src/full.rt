@@ -50,7 +50,7 @@ fn opens<Q: Sequence>(memory: Q::Memory, ops: &[Op]) -> Answer {
 
 /// One of the operations is known, each other is refused; an edit is refused by its first cause.
 #[test]
-fn full_replica(rt: HostRuntime) -> Result<(), Fail> {
+fn full_set_and_stored_feed(rt: HostRuntime) -> Result<(), Fail> {
     let mut ops = million(rt.alloc(), 1_048_575)?;
     let (held, other) = (measure(at(1, 1), 12), measure(at(1, 2), 12));
     let list = [held, other];

@@ -333,7 +333,7 @@ fn growths_of_answers(rt: HostRuntime) -> Result<(), Fail> {
     for (call, answer) in [
         (Call::Copy, Answer::Read(2)),
         (Call::Order, Answer::Read(4)),
-        (Call::Feed, Answer::Read(88)),
+        (Call::Feed, Answer::Read(68)),
         (Call::Reserve(500), Answer::Reserved),
     ] {
         let case = Case {

@@ -41,10 +41,6 @@ impl<Q: Sequence> Sequence for Listed<Q> {
         self.inner.entry(i)
     }
 
-    fn stretch(&self, i: usize) -> &[Entry] {
-        self.inner.stretch(i)
-    }
-
     fn find(&self, stamp: Stamp) -> Option<usize> {
         self.inner.find(stamp)
     }

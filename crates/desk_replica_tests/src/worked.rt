@@ -78,10 +78,10 @@ fn both() -> [Op; 2] {
     ]
 }
 
-/// Their feed.
-const FEED_AB: [u8; 56] = [
-    0x4d, 0x46, 0x44, 0x31, 1, 0, 0, 0, 0, 0, 0, 0, 1, 0, 1, 0, 0, 0, 0, 0, 0, 0, 0, 0, 0, 0, 0, 0,
-    0, 0x61, 1, 0, 0, 0, 0, 0, 0, 0, 2, 0, 1, 0, 0, 0, 0, 0, 0, 0, 1, 0, 1, 0, 0, 0, 0, 0x62,
+/// Their feed: one run.
+const FEED_AB: [u8; 36] = [
+    0x4d, 0x46, 0x44, 0x32, 4, 0, 0, 0, 0, 0, 0, 0, 1, 0, 1, 0, 0, 0, 0, 0, 0, 0, 0, 0, 0, 2, 0, 0,
+    0, 0, 0x61, 0, 0, 0, 0, 0x62,
 ];
 
 /// Whether a replica of the two writes this feed, and answers its site and what it holds.

@@ -65,6 +65,32 @@ fn empty_paragraph_ribbon(rt: HostRuntime) -> Result<(), Fail> {
     Ok(())
 }
 
+/// The word of a matrix in NI8: the head row, NI8, the space with S, nine fills of O15, and the wedges at 7 and 3.
+const WIDE_WORD: [u8; 64] = [
+    0x4d, 0x52, 0x42, 0x31, 0, 0, 0, 14, 0, 0, 2, 6, 0, 0x42, 2, 0, 1, 1, 0, 1, 0, 0, 0, 0, 0, 0,
+    0, 0, 0, 0, 0, 0, 0, 0, 0, 0, 0, 0, 0, 0, 0, 0, 0, 0, 0, 0, 0, 0, 0, 0, 0, 0, 0, 0, 0, 0, 0, 0,
+    4, 2, 0, 0, 0x40, 6,
+];
+
+#[test]
+fn wide_word_ribbon(rt: HostRuntime) -> Result<(), Fail> {
+    let word = punch(Column::NI, 8, false);
+    let space = punch(Column::G, 1, true);
+    let fill = punch(Column::O, 15, false);
+    let all = [
+        word, space, fill, fill, fill, fill, fill, fill, fill, fill, fill,
+    ];
+    let line = PunchLine {
+        matrices: Punches::from_vec(Vec::from_array(rt.alloc(), all)?),
+        coarse: Position::new(7).unwrap(),
+        fine: Position::new(3).unwrap(),
+    };
+    let mut writer = RibbonWriter::new(rt.alloc());
+    writer.push(&line)?;
+    assert!(rt; writer.finish()?.as_slice() == WIDE_WORD.as_slice());
+    Ok(())
+}
+
 /// Takes what a heap of 1024 bytes has left, but for so many times 16.
 fn ballast(heap: &LocalHeap, cut: usize) -> Option<Vec<u8, &LocalHeap>> {
     let left = 1024usize.saturating_sub(heap.used());

@@ -1,5 +1,5 @@
 -- A loop of reads over lines.
-use Rattle.std.proofs.Common.{◌≡◌, ℕ, ◌==◌, true, List, [], ◌∷◌, ◌++◌, refl, sym, ap, ◌∙◌, subst, append_assoc}
+use Rattle.std.proofs.Common.{◌≡◌, ℕ, ◌==◌, true, List, [], ◌∷◌, ◌++◌, sym, ap, ◌∙◌, subst, append_assoc}
 use Rattle.std.specs.Prelude.{Option, Some, None, IfSome}
 use Rattle.std.specs.Io.KnownBytes.{Consumes, IsAtEnd}
 use Rattle.std.proofs.lemmas.List.{append-nil}
@@ -11,7 +11,7 @@ use Rattle.desk_world.specs.Sites.{Sites}
 use Rattle.desk_steps.specs.Desk.{Desk, desk}
 use Rattle.desk_script.specs.Script.{Turn, Fronts, Answers, AnswersFront}
 use Rattle.desk_script.specs.Pending.{last_line, lines_from, Moves, Carries}
-use Rattle.desk_script.proofs.Turns.{no_turn, turn_turn, turn_front}
+use Rattle.desk_script.proofs.Turns.{turn_turn, turn_front}
 use Rattle.desk_script.proofs.Cutting.{from_end, lines-from}
 
 pub line_fronts : (old : Desk) (last : Shelf) (a b : Option (List ℕ)) (line pending more : List ℕ) (byte : ℕ) → (byte == 10) ≡ true → line ≡ without_cr pending

@@ -1,15 +1,16 @@
 -- Lines that were answered, one part after another.
-use Rattle.std.proofs.Common.{◌≡◌, ℕ, List, [], ◌∷◌, ◌++◌, Option, Some, None, refl, sym, ap, ◌∙◌, subst, append_assoc}
+use Rattle.std.proofs.Common.{◌≡◌, ℕ, inl, inr, true, List, [], ◌∷◌, ◌++◌, Option, Some, None, refl, sym, ap, ◌∙◌, subst, append_assoc}
 use Rattle.std.specs.Io.KnownBytes.{Appends, Keeps}
 use Rattle.std.proofs.KnownBytes.{Appends-trans}
 use Rattle.std.proofs.lemmas.List.{append-nil}
-use Rattle.desk_answers.specs.Reply.{Reply}
+use Rattle.desk_answers.specs.Reply.{Reply, is_long}
 use Rattle.desk_answers.specs.Text.{text, output}
 use Rattle.desk_files.specs.Files.{Shelf, Stays}
 use Rattle.desk_steps.specs.Desk.{Desk}
 use Rattle.desk_steps.specs.Line.{Line}
 use Rattle.desk_steps.specs.Line.{Allows}
-use Rattle.desk_script.specs.Script.{Script, Turn, WritesFront, Fronts}
+use Rattle.desk_stored.specs.Sending.{WritesFront}
+use Rattle.desk_script.specs.Script.{Script, Turn, Fronts, IsTold}
 
 pub appends_none : (a : Option (List ℕ)) → Appends a a []
 appends_none None = tt
@@ -20,6 +21,11 @@ no_turn old a = ([], refl, appends_none a)
 
 pub no_front : (old : Desk) (last : Shelf) (a : Option (List ℕ)) (lines : List Line) → Stays old.shelf last → Fronts old last a a lines
 no_front old last a lines still = ([], lines, refl, old, still, [], refl, ([], [], appends_none a, refl))
+
+-- a reply whose text finds no memory is that refusal, and it is allowed where nothing has changed
+pub told_allowed : (old new : Desk) (line : Line) (reply told : Reply) → Allows old line reply new → (is_long reply ≡ true → new.sites ≡ old.sites) → Stays old.shelf new.shelf → IsTold reply told → Allows old line told new
+told_allowed old new line reply told allowed same stays (inl is) = subst (λ (r : Reply). Allows old line r new) (sym is) allowed
+told_allowed old new line reply told allowed same stays (inr h) = inr (h.1, same h.0, stays)
 
 pub one_turn : (old new : Desk) (a b : Option (List ℕ)) (line : Line) (bytes : List ℕ) (reply : Reply) → Allows old line reply new → bytes ≡ text reply ++ 10 ∷ [] → Appends a b bytes → Turn old new a b (line ∷ [])
 one_turn old new a b line bytes reply allowed is written = (reply ∷ [], (new, allowed, refl), subst (Appends a b) is written)

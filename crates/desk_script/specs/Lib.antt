@@ -1,4 +1,5 @@
 pub use Rattle.desk_files.specs.Files
+pub use Rattle.desk_stored.specs.Sending
 pub use Rattle.desk_world.specs.Sites
 pub use Rattle.desk_world.specs.World
 pub use Rattle.desk_commands.specs.Request

@@ -1,13 +1,19 @@
 -- Which answers a script may get.
-use Rattle.std.specs.Prelude.{◌≡◌, ℕ, List, [], ◌∷◌, ◌++◌, Option}
+use Rattle.std.specs.Prelude.{◌≡◌, ◌⊎◌, ℕ, true, List, [], ◌∷◌, ◌++◌, Option}
 use Rattle.std.specs.Io.KnownBytes.{Appends}
 use Rattle.desk_steps.specs.Line.{Line}
 use Rattle.desk_script.specs.Lines.{lines}
-use Rattle.desk_answers.specs.Reply.{Reply}
+use Rattle.desk_answers.specs.Reply.{Reply, Refused, is_long}
+use Rattle.desk_answers.specs.declared.text.Refusal.TheVariants as refusals
 use Rattle.desk_answers.specs.Text.{output}
 use Rattle.desk_files.specs.Files.{Shelf, Stays}
 use Rattle.desk_steps.specs.Desk.{Desk}
 use Rattle.desk_steps.specs.Line.{Allows}
+use Rattle.desk_stored.specs.Sending.{WritesFront}
+
+-- what is written for a reply: it, or if it is a long one and its text finds no memory, that refusal
+abbrev pub IsTold : Reply → Reply → Type 0
+IsTold reply told = (told ≡ reply) ⊎ ((is_long reply ≡ true) × (told ≡ Refused refusals.Memory))
 
 -- the answers that lines may get, one for each
 abbrev pub Script : Desk → List Line → List Reply → Desk → Type 0
@@ -19,10 +25,6 @@ Script old (line ∷ lines) [] new = ⊥
 -- all these lines were answered, and the answers written
 abbrev pub Turn : Desk → Desk → Option (List ℕ) → Option (List ℕ) → List Line → Type 0
 Turn old new before after lines = (replies : List Reply) × Script old lines replies new × Appends before after (output replies)
-
--- a prefix of a text was written
-abbrev pub WritesFront : Option (List ℕ) → Option (List ℕ) → List ℕ → Type 0
-WritesFront before after text = (done : List ℕ) × (rest : List ℕ) × Appends before after done × (text ≡ done ++ rest)
 
 -- the first lines were answered, no file has changed since, and a prefix of their answers was written
 abbrev pub Fronts : Desk → Shelf → Option (List ℕ) → Option (List ℕ) → List Line → Type 0

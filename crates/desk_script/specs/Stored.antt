@@ -1,37 +1,25 @@
 -- A script on a stored feed.
-use Rattle.std.specs.Prelude.{◌≡◌, ◌≢◌, ◌⊎◌, ℕ, List, [], Option, None, Some, IfSome, Result, Ok, Err, Vec}
+use Rattle.std.specs.Prelude.{◌≡◌, ◌⊎◌, ℕ, List, Option, Some, IfSome, Result}
 use Rattle.std.specs.FinMap as fin
 use Rattle.desk_ops.specs.declared.op.Op.{Op}
-use Rattle.desk_ops.specs.OpSet.{OpSet, in_order, no_ops, with_all}
-use Rattle.desk_codec.specs.Feed.{IsFeed, feed}
-use Rattle.desk_files.specs.Files.{Counts, IsNowHeld, IsReplaced, Reads, Shelf, Stays}
-use Rattle.desk_script.specs.Faults.{IsNotStored, IsUnopened, IsUnread, IsUntaken, of_file, of_lines, of_opening}
+use Rattle.desk_ops.specs.OpSet.{OpSet, no_ops, with_all}
+use Rattle.desk_codec.specs.Runs.{set_feed}
+use Rattle.desk_files.specs.Files.{Counts, IsNowHeld, Reads, Shelf, Stays}
+use Rattle.desk_script.specs.Faults.{of_file, of_lines, of_opening}
+use Rattle.desk_stored.specs.Faults.{IsNotStored, IsUnopened, IsUnread, IsUntaken}
+use Rattle.desk_stored.specs.Stored.{IsStoredAs, Stores}
+use Rattle.desk_stored.specs.declared.fault.OpenFault.{OpenFault}
 use Rattle.desk_script.specs.declared.fault.LineFault.{LineFault}
-use Rattle.desk_script.specs.declared.fault.OpenFault.{OpenFault}
 use Rattle.desk_script.specs.declared.fault.RunFault.{RunFault}
 use Rattle.desk_files.specs.declared.files.FileRefusal.{FileRefusal}
-use Rattle.desk_files.specs.declared.files.FileRefusal.TheVariants as refusals
 use Rattle.desk_script.specs.Lines.{lines}
 use Rattle.desk_world.specs.Sites.{Sites, no_sites}
 use Rattle.desk_steps.specs.Desk.{Desk}
 use Rattle.desk_script.specs.Script.{Turn, Fronts}
 
--- what files gave is a feed of these operations, or there is no file, and so no operation
-abbrev pub Stores : Result (List ℕ) FileRefusal → List Op → Type 0
-Stores (Ok bytes) ops = IsFeed bytes ops
-Stores (Err refusals.Missing) ops = ops ≡ []
-Stores (Err refusals.Device) ops = ⊥
-Stores (Err refusals.Large) ops = ⊥
-Stores (Err refusals.NoMemory) ops = ⊥
-
 -- a world of one site, which holds these operations
 abbrev pub one_site : ℕ → List Op → Sites
 one_site n ops = fin.insert no_sites n (with_all no_ops ops)
-
--- what was read of a stored feed
-abbrev pub was_read : {A : Type 0} → Option (Vec ℕ A) → Result (List ℕ) FileRefusal
-was_read (Some bytes) = Ok bytes.items
-was_read None = Err refusals.Missing
 
 -- the desk of the site with the stored operations, by what was read under the name while it was held
 abbrev pub IsStart : List ℕ → ℕ → Shelf → Result (List ℕ) FileRefusal → Desk → Type 0
@@ -42,14 +30,9 @@ IsStart name n held read start =
 abbrev pub AnswersAll : Desk → Desk → Option (List ℕ) → Option (List ℕ) → Option (List ℕ) → Type 0
 AnswersAll start new input before after = Stays start.shelf new.shelf × IfSome input (λ bytes. Turn start new before after (lines bytes))
 
--- these bytes were stored, or nothing was written, since they were what was read
-abbrev pub IsStoredAs : List ℕ → List ℕ → Result (List ℕ) FileRefusal → Shelf → Shelf → Type 0
-IsStoredAs name bytes read before last =
-    (read ≡ Ok bytes → last.kept ≡ before.kept) × (read ≢ Ok bytes → IsReplaced name bytes before.kept last.kept) × (last.failures ≡ before.failures)
-
 -- the site's feed, and no other, stands under the name
 abbrev pub IsStored : List ℕ → ℕ → Desk → Result (List ℕ) FileRefusal → Shelf → Type 0
-IsStored name n desk read last = (set : OpSet) × (fin.get desk.sites n ≡ Some set) × IsStoredAs name (feed (in_order set)) read desk.shelf last
+IsStored name n desk read last = (set : OpSet) × (fin.get desk.sites n ≡ Some set) × IsStoredAs name (set_feed set) read desk.shelf last
 
 -- the name was taken for this run; then a whole run from the stored operations; then the feed was stored
 abbrev pub AnswersStored : List ℕ → ℕ → Shelf → Shelf → Option (List ℕ) → Option (List ℕ) → Option (List ℕ) → Type 0

@@ -1,15 +1,13 @@
 //! Why a run of a script stopped, by the phase in which it did.
 
 ghost use Rattle.std.specs.Prelude.{◌≡◌};
-ghost use Rattle.desk_script.specs.Faults.{of_file, of_lines, of_opening, of_stop};
+ghost use Rattle.desk_script.specs.Faults.{of_file, of_lines, of_opening};
 ghost use Rattle.desk_script.specs.declared.fault.LineFault.TheVariants as lines;
-ghost use Rattle.desk_script.specs.declared.fault.OpenFault.TheVariants as openings;
 
 use desk_codec::FeedFault;
 use desk_files::FileRefusal;
-use desk_held::AddRefusal;
-use desk_ops::NoMemory;
 use desk_replica::Stopped;
+use desk_stored::{OpenFault, Unsent};
 use thiserror::Error;
 
 /// Why a run stopped before its end.
@@ -24,6 +22,7 @@ pub enum RunFault {
     /// 268,435,456 calls of `read` did not come to the end.
     #[error("too long")]
     TooLong,
+    /// A line could not be kept, or a stored feed not be opened or stored. Memory that is refused to a command is an answer.
     #[error("no memory")]
     NoMemory,
     /// The stored bytes are no feed.
@@ -46,43 +45,15 @@ pub enum LineFault {
     Write,
     /// `MAX_READS` calls of `read` did not come to the end.
     TooLong,
+    /// A line could not be kept.
     NoMemory,
 }
 
-/// Why a stored feed that was read was not opened.
-#[derive(Clone, Copy, Debug, PartialEq, Eq)]
-pub enum OpenFault {
-    /// Its bytes are no feed.
-    Feed(FeedFault),
-    /// It has more operations than a replica holds.
-    Opening(Stopped),
-    NoMemory,
-}
+impl From<Unsent> for LineFault {
+    ghost from_gives = { λ _ fault. fault ≡ lines.Write };
 
-impl From<NoMemory> for LineFault {
-    ghost from_gives = { λ _ fault. fault ≡ lines.NoMemory };
-
-    fn from(_: NoMemory) -> LineFault {
-        LineFault::NoMemory
-    }
-}
-
-impl From<NoMemory> for OpenFault {
-    ghost from_gives = { λ _ fault. fault ≡ openings.NoMemory };
-
-    fn from(_: NoMemory) -> OpenFault {
-        OpenFault::NoMemory
-    }
-}
-
-impl From<Stopped> for OpenFault {
-    ghost from_gives = { λ stop fault. fault ≡ of_stop stop stop.why };
-
-    fn from(stop: Stopped) -> OpenFault {
-        match stop.why {
-            AddRefusal::Full => OpenFault::Opening(stop),
-            AddRefusal::NoMemory => OpenFault::NoMemory,
-        }
+    fn from(_: Unsent) -> LineFault {
+        LineFault::Write
     }
 }
 

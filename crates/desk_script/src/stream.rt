@@ -10,16 +10,18 @@ ghost use Rattle.desk_world.specs.Sites.{Sites, no_sites};
 ghost use Rattle.desk_steps.specs.Desk.{KeepsSites, desk};
 ghost use Rattle.desk_files.specs.Files.{Stays};
 ghost use Rattle.desk_steps.specs.Line.{Allows};
-ghost use Rattle.desk_script.specs.Script.{Turn, Fronts, WritesFront, Answers, AnswersFront};
+ghost use Rattle.desk_script.specs.Script.{Turn, Fronts, Answers, AnswersFront, IsTold};
+ghost use Rattle.desk_stored.specs.Sending.{WritesFront};
 ghost use Rattle.desk_script.specs.Faults.{IsOfLines};
 ghost use Rattle.desk_script.specs.Pending.{Moves, lines_from, last_line};
 
 use crate::fault::{LineFault, RunFault};
-use desk_answers::{Response, put};
+use desk_answers::{Response, put, short};
 use desk_files::Files;
 use desk_inputs::Memory;
 use desk_ops::NoMemory;
 use desk_steps::answer;
+use desk_stored::let_out;
 use desk_world::World;
 use std::alloc::{Allocator, Global};
 use std::io::{Read, Write};
@@ -30,39 +32,32 @@ pub const MAX_READS: u32 = 268_435_456;
 /// No more of a line is kept: with more bytes than these it is too long, however it ends.
 const PENDING_LIMIT: usize = 65_538;
 
-/// The bytes that most answers fit in.
+/// The bytes that most long answers fit in.
 const USUAL: usize = 64;
+
+/// The answer where there is no memory for another.
+const NO_MEMORY: &str = "refused memory\n";
 
 /// So much is read at a time.
 const CHUNK: usize = 8192;
 
-/// Writes the bytes. A write of no bytes is a failure.
+/// Writes the bytes.
 fn send<W: Write>(writer: &mut W, bytes: &[u8]) -> Result<(), LineFault>
     ensures ok { OnOk result (Appends (W.contents writer.old) (W.contents writer.new) bytes.now) }
     ensures err { OnErr result (WritesFront (W.contents writer.old) (W.contents writer.new) bytes.now) }
+    ensures fault { IfErr result (λ fault. fault ≡ LineFault.Write) }
 {
-    let mut sent = 0;
-    while sent < bytes.len() {
-        match writer.write(&bytes[sent..]) {
-            Ok(0) => return Err(LineFault::Write),
-            Ok(n) => sent += n,
-            Err(_) => return Err(LineFault::Write),
-        }
-    }
-    Ok(())
+    Ok(desk_stored::send(writer, bytes)?)
 }
 
 /// Lets out what the writer holds back.
 fn flush<W: Write>(writer: &mut W) -> Result<(), LineFault>
     ensures { Keeps (W.contents writer.old) (W.contents writer.new) }
 {
-    match writer.flush() {
-        Ok(()) => Ok(()),
-        Err(_) => Err(LineFault::Write),
-    }
+    Ok(let_out(writer)?)
 }
 
-/// An answer's line.
+/// The line of a long answer.
 fn spelled<A: Allocator + Copy>(alloc: A, answer: &Response<A>) -> Result<String<A>, NoMemory>
     ensures { IfOk result (λ s. string_bytes s ≡ text (reply answer.now) ++ 10 ∷ []) }
 {
@@ -72,22 +67,28 @@ fn spelled<A: Allocator + Copy>(alloc: A, answer: &Response<A>) -> Result<String
     Ok(out)
 }
 
-/// The line of a line's answer.
-fn answered<F: Files, A: Allocator + Copy>(
-    memory: Memory<A>,
-    world: &mut World<A>,
-    files: &mut F,
-    line: &[u8],
-) -> Result<String<A>, NoMemory>
-    ensures told { IfOk result (λ s. (r : Reply) × Allows (desk world.old (F.shelf files.old)) (line_of line.now) r (desk world.new (F.shelf files.new)) × (string_bytes s ≡ text r ++ 10 ∷ [])) }
-    ensures sites { OnOk result (KeepsSites world.old world.new) }
-    ensures stays { Stays (F.shelf files.old) (F.shelf files.new) }
+/// Writes the line of an answer, which may be a long one only where nothing has changed: if there is no memory for its
+/// text, the line is refused for that. All else is written with no memory.
+fn tell<W: Write, A: Allocator + Copy>(
+    alloc: A,
+    writer: &mut W,
+    answer: &Response<A>,
+) -> Result<(), LineFault>
+    ensures ok { OnOk result ((r : Reply) × IsTold (reply answer.now) r × Appends (W.contents writer.old) (W.contents writer.new) (text r ++ 10 ∷ [])) }
+    ensures err { OnErr result ((r : Reply) × IsTold (reply answer.now) r × WritesFront (W.contents writer.old) (W.contents writer.new) (text r ++ 10 ∷ [])) }
+    ensures fault { IfErr result (λ fault. fault ≡ LineFault.Write) }
 {
-    let reply = answer(memory, world, files, line)?;
-    spelled(memory.own, &reply)
+    if let Some(mut line) = short(answer) {
+        line.push_str("\n");
+        return send(writer, line.as_str().as_bytes());
+    }
+    match spelled(alloc, answer) {
+        Ok(line) => send(writer, line.as_bytes()),
+        Err(NoMemory) => send(writer, NO_MEMORY.as_bytes()),
+    }
 }
 
-/// Answers a line.
+/// Answers a line. Only the writer can fail: a line that was kept never ends the run for want of memory.
 fn take_line<W: Write, F: Files, A: Allocator + Copy>(
     memory: Memory<A>,
     world: &mut World<A>,
@@ -97,11 +98,12 @@ fn take_line<W: Write, F: Files, A: Allocator + Copy>(
 ) -> Result<(), LineFault>
     ensures ok { OnOk result (Turn (desk world.old (F.shelf files.old)) (desk world.new (F.shelf files.new)) (W.contents writer.old) (W.contents writer.new) (line_of line.now ∷ [])) }
     ensures err { OnErr result ((more : List Line) → Fronts (desk world.old (F.shelf files.old)) (F.shelf files.new) (W.contents writer.old) (W.contents writer.new) (line_of line.now ∷ more)) }
+    ensures fault { IfErr result (λ fault. fault ≡ LineFault.Write) }
     ensures sites { OnOk result (KeepsSites world.old world.new) }
     ensures stays { Stays (F.shelf files.old) (F.shelf files.new) }
 {
-    let text = answered(memory, world, files, line)?;
-    send(writer, text.as_bytes())
+    let reply = answer(memory, world, files, line);
+    tell(memory.own, writer, &reply)
 }
 
 /// The line without a carriage return at its end.
@@ -235,7 +237,8 @@ fn finish<W: Write, F: Files, A: Allocator + Copy>(
 }
 
 /// Reads commands to their end, and writes the line of each one's answer. A writer may hold them back: it is flushed
-/// before each read, and at the end. After an `Err` what was written is a prefix of such lines.
+/// before each read, and at the end. Memory that is refused to a command is an answer, and the run goes on: `NoMemory`
+/// comes only where a line cannot be kept. After an `Err` what was written is a prefix of such lines.
 pub fn answer_all<R: Read, W: Write, F: Files, A: Allocator + Copy>(
     memory: Memory<A>,
     world: &mut World<A>,
@@ -261,8 +264,9 @@ pub fn answer_all<R: Read, W: Write, F: Files, A: Allocator + Copy>(
     Err(LineFault::TooLong)
 }
 
-/// Reads commands to their end, on a world that has no site yet, and writes the line of each one's answer. After an
-/// `Err` what was written is a prefix of such lines. The reading of a case or a wedge takes the global allocator alone.
+/// Reads commands to their end, on a world that has no site yet, and writes the line of each one's answer. Memory that is
+/// refused to a command is an answer: `NoMemory` comes only where a line cannot be kept. After an `Err` what was written
+/// is a prefix of such lines. The reading of a case or a wedge takes the global allocator alone.
 pub fn run<R: Read, W: Write, F: Files, A: Allocator + Copy>(
     alloc: A,
     global: Global,

@@ -39,7 +39,7 @@ fn answered_on(
 }
 
 /// One insert, 1.3 by site 3.
-const ONE_INSERT: &[u8] = b"MFD1\x01\0\0\0\0\0\0\0\x01\0\x03\0\0\0\0\0\0\0\0\0\0\0\0\0\0x";
+const ONE_INSERT: &[u8] = b"MFD2\x01\0\0\0\0\0\0\0\x01\0\x03\0\0\0\0\0\0\0\0\0\0\0\0\0\0x";
 
 #[test]
 fn full_set_and_stored_feed(rt: HostRuntime) -> Result<(), Fail> {
@@ -176,27 +176,40 @@ fn feed_stored_after_stopped_run(rt: HostRuntime) -> Result<(), Fail> {
     Ok(())
 }
 
-/// The answers are written before the feed is stored.
-#[test]
-fn not_stored_after_all_answers(rt: HostRuntime) -> Result<(), Fail> {
-    let mut files = TrialFiles::new(rt.alloc()).failing_at_call(3);
+/// A run on a feed of which the writing or the renaming fails: all is answered and the old feed stays, and the next run
+/// stores its own.
+fn not_stored_at(alloc: Global, failing_call: u64) -> Result<(), Fail> {
+    let mut files = TrialFiles::new(alloc).failing_at_call(failing_call);
     files.put("a.feed", ONE_INSERT)?;
-    let mut writer = TrialWriter::new(rt.alloc());
+    let mut writer = TrialWriter::new(alloc);
     let mut reader = TrialReader::new(b"insert 3 0 r\"y\"\n");
-    let result = run_on_feed(
-        rt.alloc(),
-        rt.alloc(),
+    let end = run_on_feed(
+        alloc,
+        alloc,
         &mut reader,
         &mut writer,
         &mut files,
         "a.feed",
         3,
     );
-    assert_eq!(rt; result, Err(RunFault::File(FileRefusal::Device)));
-    assert_eq!(rt; writer.written(), b"ok 2.3\n".as_slice());
-    assert!(rt; holds(&files, "a.feed", ONE_INSERT));
-    assert_eq!(rt; files.failures(), 1);
+    let device = Err(RunFault::File(FileRefusal::Device));
+    let right = end == device && files.failures() == 1 && holds(&files, "a.feed", ONE_INSERT);
+    if !right || writer.written() != b"ok 2.3\n".as_slice() {
+        return Err(Fail::new("another end"));
+    }
+    let mut files = files.for_next_run();
+    answered_on(alloc, &mut files, 3, b"delete 3 0\n")?;
+    if holds(&files, "a.feed", ONE_INSERT) || files.bytes_of("a.feed.new").is_some() {
+        return Err(Fail::new("the next run has not stored its feed"));
+    }
     Ok(())
+}
+
+/// The answers are written before the feed is stored.
+#[test]
+fn not_stored_after_all_answers(rt: HostRuntime) -> Result<(), Fail> {
+    not_stored_at(rt.alloc(), 3)?;
+    not_stored_at(rt.alloc(), 4)
 }
 
 /// Where there is no place for the feed nothing is answered.

@@ -3,6 +3,7 @@ use desk_files::trial::{AtEnd, TrialReader, TrialWriter};
 use desk_script::{RunFault, run};
 use linked_list_allocator::LocalHeap;
 use std::alloc::{Allocator, Global};
+use std::io::{self, ErrorKind, Read, Write};
 use std::test::Fail;
 
 /// What a script is answered, read in steps of so many bytes.
@@ -60,20 +61,158 @@ fn failing_writer(rt: HostRuntime) -> Result<(), Fail> {
             .with_calls(calls, at_end);
         ends(reader, writer, alloc, RunFault::Write, want)?;
     }
+    for k in 0..=TWO_SITES_ANSWERS.len() {
+        written_up_to(alloc, k)?;
+    }
     Ok(())
+}
+
+/// Takes a byte in each call, and fails at one call alone.
+#[derive(Drop)]
+struct OnceFailing {
+    written: Vec<u8>,
+    calls: usize,
+    failing_call: usize,
+}
+
+impl Write for OnceFailing {
+    fn write(&mut self, buf: &[u8]) -> io::Result<usize> {
+        self.calls = self.calls.saturating_add(1);
+        if self.calls == self.failing_call {
+            return Err(io::Error::from(ErrorKind::Interrupted));
+        }
+        let Some(byte) = buf.first() else {
+            return Ok(0);
+        };
+        self.written.push(*byte)?;
+        Ok(1)
+    }
+
+    fn flush(&mut self) -> io::Result<()> {
+        Ok(())
+    }
+}
+
+/// A write that was refused is not tried again: exactly the bytes before it are written.
+fn written_up_to(alloc: Global, k: usize) -> Result<(), Fail> {
+    let mut reader = TrialReader::new(TWO_SITES);
+    let mut writer = OnceFailing {
+        written: Vec::new(alloc),
+        calls: 0,
+        failing_call: k.saturating_add(1),
+    };
+    let end = run(alloc, alloc, &mut reader, &mut writer, &mut NoFiles);
+    if k == TWO_SITES_ANSWERS.len() {
+        end?;
+    } else if end != Err(RunFault::Write) {
+        return Err(Fail::new("another end"));
+    }
+    same(
+        &writer.written,
+        &TWO_SITES_ANSWERS[..k.min(TWO_SITES_ANSWERS.len())],
+    )
+}
+
+/// How many bytes the first lines of a text have.
+fn front(text: &[u8], lines: usize) -> usize {
+    let mut left = lines;
+    for (k, byte) in text.iter().enumerate() {
+        if left == 0 {
+            return k;
+        }
+        if *byte == b'\n' {
+            left -= 1;
+        }
+    }
+    text.len()
+}
+
+/// How many lines end in a text.
+fn ended(text: &[u8]) -> usize {
+    let mut lines = 0usize;
+    for byte in text {
+        if *byte == b'\n' {
+            lines = lines.saturating_add(1);
+        }
+    }
+    lines
+}
+
+/// Gives a byte in each call, may fail at one call, and counts them.
+#[derive(Drop)]
+struct Counting<'a> {
+    bytes: &'a [u8],
+    calls: usize,
+    failing_call: usize,
+}
+
+impl<'a> Read for Counting<'a> {
+    fn read(&mut self, buf: &mut [u8]) -> io::Result<usize> {
+        self.calls = self.calls.saturating_add(1);
+        if self.calls == self.failing_call {
+            return Err(io::Error::from(ErrorKind::Interrupted));
+        }
+        let Some((byte, later)) = self.bytes.split_first() else {
+            return Ok(0);
+        };
+        let Some(first) = buf.first_mut() else {
+            return Ok(0);
+        };
+        *first = *byte;
+        self.bytes = later;
+        Ok(1)
+    }
+}
+
+/// A read that failed is not tried again, nor is one that found the end: what was written is the answers to the lines that
+/// were read to their end.
+fn read_up_to(alloc: Global, failing_call: usize) -> Result<(), Fail> {
+    let mut reader = Counting {
+        bytes: TWO_SITES,
+        calls: 0,
+        failing_call,
+    };
+    let mut written = Vec::new(alloc);
+    let end = run(alloc, alloc, &mut reader, &mut written, &mut NoFiles);
+    let whole = TWO_SITES.len().saturating_add(1);
+    let calls = failing_call.min(whole);
+    let right = if failing_call > whole {
+        end == Ok(())
+    } else {
+        end == Err(RunFault::Read)
+    };
+    if !right || reader.calls != calls {
+        return Err(Fail::new("another end"));
+    }
+    let read = calls.saturating_sub(1).min(TWO_SITES.len());
+    let lines = ended(&TWO_SITES[..read]);
+    same(
+        &written,
+        &TWO_SITES_ANSWERS[..front(TWO_SITES_ANSWERS, lines)],
+    )
 }
 
 #[test]
 fn failing_reader(rt: HostRuntime) -> Result<(), Fail> {
+    let alloc = rt.alloc();
     let reader = TrialReader::new(FAILURES).in_steps_of(7).failing_at_call(2);
-    let writer = TrialWriter::new(rt.alloc());
-    ends(reader, writer, rt.alloc(), RunFault::Read, b"ok\n")
+    ends(
+        reader,
+        TrialWriter::new(alloc),
+        alloc,
+        RunFault::Read,
+        b"ok\n",
+    )?;
+    for k in 1..=TWO_SITES.len().saturating_add(2) {
+        read_up_to(alloc, k)?;
+    }
+    Ok(())
 }
 
 const TWO_SITES: &[u8] = b"site 1\nsite 2\ninsert 1 0 r\"ab\"\nsend 1 2\nshow 1\nshow 2\nfeed 2\n";
 
 const TWO_SITES_ANSWERS: &[u8] =
-    b"ok\nok\nok 1.1..2.1\nok new 2 known 0\ncopy r\"ab\"\ncopy r\"ab\"\nfeed 4d46443101000000000000000100010000000000000000000000000000610100000000000000020001000000000000000100010000000062\n";
+    b"ok\nok\nok 1.1..2.1\nok new 2 known 0\ncopy r\"ab\"\ncopy r\"ab\"\nfeed 4d4644320400000000000000010001000000000000000000000200000000610000000062\n";
 
 /// Scripts and their answers, read in steps of 1, 7 and 1,000 bytes.
 fn answered_in_steps(alloc: Global, scripts: &[(&[u8], &[u8])]) -> Result<(), Fail> {
@@ -143,7 +282,7 @@ const SCRIPTS: &[(&[u8], &[u8])] = &[
     ),
     (
         b"site 1\nsend 1 1\nfeed 1\nshow 1\n",
-        b"ok\nok new 0 known 0\nfeed 4d464431\ncopy\n",
+        b"ok\nok new 0 known 0\nfeed 4d464432\ncopy\n",
     ),
 ];
 

@@ -1,8 +1,9 @@
 -- Entries in their order: their stamps, and what is asked of them.
-use Rattle.std.specs.Prelude.{◌≡◌, ℕ, ◌<◌, ◌≤◌, ◌+◌, true, false, cond, List, [], ◌∷◌, length, map, slice_index_or, take, refl, zero, suc}
-use Rattle.std.specs.List.{AllByRecursion}
+use Rattle.std.specs.Prelude.{◌≡◌, ℕ, ◌<◌, ◌≤◌, ◌+◌, Bool, true, false, not, cond, List, [], ◌∷◌, length, map, slice_index_or, take, refl, zero, suc}
+use Rattle.std.specs.List.{AllByRecursion, filter}
 use Rattle.std.specs.Coded.{Coded, code_by, coded×, coded_ℕ, coded_list}
 use Rattle.desk_ops.specs.declared.op.Stamp.{Stamp}
+use Rattle.desk_ops.specs.declared.op.Symbol.{Symbol}
 use Rattle.desk_ops.specs.Op.{Insertion}
 use Rattle.desk_ops.specs.Stamp.{same, before, head}
 use Rattle.desk_ops.specs.Walk.{walk_from}
@@ -47,6 +48,13 @@ with_mark (e ∷ es) (suc i) = e ∷ with_mark es i
 abbrev pub shown_in : List Entry → ℕ
 shown_in [] = 0
 shown_in (e ∷ es) = cond e.deleted (shown_in es) (shown_in es + 1)
+
+abbrev pub is_shown : Entry → Bool
+is_shown e = not e.deleted
+
+-- the symbols of the entries that are not deleted
+abbrev pub shown_symbols : List Entry → List Symbol
+shown_symbols es = map (λ (e : Entry). e.symbol) (filter is_shown es)
 
 -- the place of the i-th entry that is shown
 pub record IsShownAt (es : List Entry) (i place : ℕ) : Type 0 where

@@ -47,11 +47,6 @@ impl<A: Allocator + Copy> Sequence for Flat<A> {
         self.items[i]
     }
 
-    fn stretch(&self, i: usize) -> &[Entry] {
-        let (_, tail) = self.items.split_at(i);
-        tail
-    }
-
     fn find(&self, stamp: Stamp) -> Option<usize> {
         find_in(&self.items, stamp)
     }

@@ -1,9 +1,9 @@
 //! The elements of a copy in their order, those that were deleted among them, and the scan that puts a new one in.
 #![tactic(auto)]
 
-ghost use Rattle.std.specs.Prelude.{◌≡◌, ℕ, ◌+◌, ◌≤◌, ◌<◌, List, [], length, take, drop, IfSome, IfOk, IsNone, OnOk, IsOk, slice_index_or};
+ghost use Rattle.std.specs.Prelude.{◌≡◌, ℕ, ◌+◌, ◌≤◌, ◌<◌, List, [], length, IfSome, IfOk, IsNone, OnOk, IsOk, slice_index_or};
 ghost use Rattle.std.specs.List.{insert};
-ghost use Rattle.desk_seq.specs.Entries.{stamps_of, IsAbsent, AreDistinct, IsFoundAt, IsFirstBelow, with_mark, shown_in, IsShownAt};
+ghost use Rattle.desk_seq.specs.Entries.{stamps_of, IsAbsent, AreDistinct, IsFoundAt, IsFirstBelow, with_mark, shown_in, shown_symbols, IsShownAt};
 ghost use Rattle.desk_seq.specs.declared.Entry.{Entry};
 
 use desk_ops::{Stamp, Symbol};
@@ -23,8 +23,8 @@ pub struct Entry {
     pub deleted: bool,
 }
 
-/// A list of entries with distinct stamps, and how many more it takes with no new memory. No call but `reserve` and
-/// `from_entries` takes memory, and these answer `AllocError` only where a growth was refused.
+/// A list of entries with distinct stamps, and how many more it takes with no new memory. No call but `reserve`,
+/// `symbols` and `from_entries` takes memory, and these answer `AllocError` only where a growth was refused.
 pub trait Sequence: Drop {
     type Memory: Allocator + Copy;
 
@@ -45,12 +45,6 @@ pub trait Sequence: Drop {
     fn entry(&self, i: usize) -> Entry
         requires { i < length (entries self.now) }
         ensures { result ≡ slice_index_or (entries self.now) i result };
-
-    /// The entries from place i on that stand side by side in memory: one at least.
-    fn stretch(&self, i: usize) -> &[Entry]
-        requires { i < length (entries self.now) }
-        ensures is { result.now ≡ take (length result.now) (drop i (entries self.now)) }
-        ensures some { 0 < length result.now };
 
     /// Where the entry with the stamp stands.
     fn find(&self, stamp: Stamp) -> Option<usize>
@@ -123,6 +117,20 @@ pub trait Sequence: Drop {
             count += 1;
         }
         count
+    }
+
+    /// The symbols of the entries that are shown, in their order.
+    fn symbols(&self, alloc: Self::Memory) -> Result<Vec<Symbol, Self::Memory>, AllocError>
+        ensures { IfOk result (λ v. v.items ≡ shown_symbols (entries self.now)) }
+    {
+        let mut symbols = Vec::with_capacity(alloc, self.shown_len())?;
+        for at in 0..self.len() {
+            let entry = self.entry(at);
+            if !entry.deleted {
+                symbols.push(entry.symbol)?;
+            }
+        }
+        Ok(symbols)
     }
 
     /// A sequence of these entries.

@@ -199,28 +199,30 @@ fn many_pages_answer_alike(rt: HostRuntime) -> Result<(), Fail> {
     let mut flat: Flat<Global> = made_of(&blocks, rt.alloc(), rt.alloc())?;
     assert_eq!(rt; flat.len(), 70_000);
     assert!(rt; run_long(&mut flat, &mut blocks, 1)?);
+    assert!(rt; flat.symbols(rt.alloc())? == blocks.symbols(rt.alloc())?);
     let mut made: Blocks<Global> = made_of(&flat, rt.alloc(), rt.alloc())?;
     assert!(rt; run_long(&mut flat, &mut made, 2)?);
+    assert!(rt; flat.symbols(rt.alloc())? == made.symbols(rt.alloc())?);
     Ok(())
 }
 
 /// The most entries of a block.
-fn greatest<Q: Sequence>(sequence: &Q) -> usize {
+fn greatest<A: Allocator + Copy>(sequence: &Blocks<A>) -> usize {
     let mut most = 0;
     let mut at = 0usize;
     for _ in 0..sequence.len() {
         if at >= sequence.len() {
             break;
         }
-        let part = sequence.stretch(at);
-        most = most.max(part.len());
-        at = at.saturating_add(part.len());
+        let part = sequence.stretch_len(at);
+        most = most.max(part);
+        at = at.saturating_add(part);
     }
     most
 }
 
 /// 2,000 entries at the front, in the middle and at the end; the most entries that a block ever held.
-fn grown<Q: Sequence>(sequence: &mut Q) -> Result<usize, AllocError> {
+fn grown<A: Allocator + Copy>(sequence: &mut Blocks<A>) -> Result<usize, AllocError> {
     let mut most = 0;
     for k in 0..6_000u64 {
         let place = match k / 2_000 {
@@ -329,7 +331,7 @@ fn refused_reserves_change_nothing(rt: HostRuntime) -> Result<(), Fail> {
     let mut flat = Flat::empty(rt.alloc());
     fill(&mut flat)?;
     let mut refused = 0u32;
-    for cut in 0..5_200usize {
+    for cut in 0..2_400usize {
         let heap = LocalHeap::new(rt.alloc(), 524_288)?;
         let is_one = is_reserve_refused::<Flat<Global>, Blocks<&LocalHeap>>(
             &flat,
@@ -339,12 +341,12 @@ fn refused_reserves_change_nothing(rt: HostRuntime) -> Result<(), Fail> {
         )?;
         refused = refused.saturating_add(u32::from(is_one));
     }
-    assert!(rt; refused > 2_000 && refused < 5_000, "{refused} refused");
+    assert!(rt; refused > 500 && refused < 2_000, "{refused} refused");
     Ok(())
 }
 
 /// The bytes of a heap that has room for a sequence of 600 and little more.
-const LIST_HEAP: usize = 90_112;
+const LIST_HEAP: usize = 65_536;
 
 /// Whether no sequence is made of the entries of another where so many bytes are left: all memory is given back, so that
 /// the same call makes it.
@@ -380,7 +382,7 @@ fn refused_lists_are_not_made(rt: HostRuntime) -> Result<(), Fail> {
     let mut flat = Flat::empty(rt.alloc());
     scatter(&mut flat, 600)?;
     let mut refused = 0u32;
-    for cut in 0..5_600usize {
+    for cut in 0..3_200usize {
         let heap = LocalHeap::new(rt.alloc(), LIST_HEAP)?;
         let is_one = is_list_refused::<Flat<Global>, Blocks<&LocalHeap>>(
             &flat,
@@ -391,6 +393,6 @@ fn refused_lists_are_not_made(rt: HostRuntime) -> Result<(), Fail> {
         )?;
         refused = refused.saturating_add(u32::from(is_one));
     }
-    assert!(rt; refused > 3_000 && refused < 5_600, "{refused} refused");
+    assert!(rt; refused > 2_000 && refused < 3_200, "{refused} refused");
     Ok(())
 }

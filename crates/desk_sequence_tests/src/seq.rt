@@ -50,20 +50,29 @@ fn arrive<Q: Sequence>(sequence: &mut Q, entry: Entry, parent: Stamp) -> bool {
     true
 }
 
-/// Whether the copy is shown as these characters, and read so by stretches.
+/// Whether the copy is shown as these characters.
 fn shows<Q: Sequence>(sequence: &Q, text: &str) -> bool {
-    let mut place = 0;
     for (i, ch) in text.chars().enumerate() {
         match sequence.shown_place(i) {
-            Some(at) if sequence.entry(at).symbol.ch == ch => place = at,
+            Some(at) if sequence.entry(at).symbol.ch == ch => {}
             _ => return false,
         }
     }
     let len = text.chars().count();
-    sequence.shown_len() == len
-        && sequence.shown_place(len).is_none()
-        && place < sequence.len()
-        && sequence.stretch(place).first() == Some(&sequence.entry(place))
+    sequence.shown_len() == len && sequence.shown_place(len).is_none()
+}
+
+/// Whether the copy is read as these characters; none where memory is refused.
+fn reads<Q: Sequence>(sequence: &Q, alloc: Q::Memory, text: &str) -> Option<bool> {
+    let Ok(symbols) = sequence.symbols(alloc) else {
+        return None;
+    };
+    for (i, ch) in text.chars().enumerate() {
+        if i >= symbols.len() || symbols[i].ch != ch {
+            return Some(false);
+        }
+    }
+    Some(symbols.len() == text.chars().count())
 }
 
 /// Arrivals in an order of their own: a newer sibling comes before an older one and what hangs on it.
@@ -80,6 +89,7 @@ fn five_arrivals(rt: HostRuntime) {
     for (stamp, ch, parent, text) in table {
         assert!(rt; arrive(&mut copy, typed(stamp, ch), parent), "{ch}");
         assert!(rt; shows(&copy, text), "{text}");
+        assert_eq!(rt; reads(&copy, rt.alloc(), text), Some(true), "{text}");
         assert!(rt; !arrive(&mut copy, typed(stamp, ch), parent), "{ch} again");
     }
     assert!(rt; !arrive(&mut copy, typed(at(9, 9), 'x'), at(8, 8)));
@@ -97,17 +107,19 @@ fn deleted_parent_keeps_its_place(rt: HostRuntime) {
     assert!(rt; shows(&copy, "d"));
     assert!(rt; arrive(&mut copy, typed(at(3, 2), 'b'), at(1, 1)));
     assert!(rt; shows(&copy, "bd"));
+    assert_eq!(rt; reads(&copy, rt.alloc(), "bd"), Some(true));
     assert_eq!(rt; copy.find(at(1, 1)), Some(0));
     assert_eq!(rt; copy.find(at(3, 2)), Some(1));
     assert_eq!(rt; copy.find(at(9, 9)), None);
 }
 
-/// Each growth of `reserve` and `from_entries` refused: the sequence is as it was, and the call repeated with memory
+/// Each growth of `reserve`, `symbols` and `from_entries` refused: the sequence is as it was, and the call repeated with memory
 /// leaves room for all that was asked for.
 #[test]
 fn refused_growths_of_flat(rt: HostRuntime) -> Result<(), Fail> {
     let mut refused = 0u32;
     let mut unmade = 0u32;
+    let mut unread = 0u32;
     for cut in 0..96usize {
         let heap = LocalHeap::new(rt.alloc(), 4096)?;
         let mut copy = Flat::empty(&heap);
@@ -119,11 +131,15 @@ fn refused_growths_of_flat(rt: HostRuntime) -> Result<(), Fail> {
             assert!(rt; copy.spare() >= spare && shows(&copy, "a"));
         }
         unmade = unmade.saturating_add(u32::from(made(&heap).is_err()));
+        unread = unread.saturating_add(u32::from(reads(&copy, &heap, "a").is_none()));
         drop(ballast);
         copy.reserve(30)?;
         assert!(rt; copy.spare() >= 30 && shows(&copy, "a"));
+        assert_eq!(rt; reads(&copy, &heap, "a"), Some(true));
         assert!(rt; shows(&made(&heap)?, "abc"));
     }
-    assert!(rt; refused > 3 && refused < 96 && unmade > 3 && unmade < 96);
+    assert!(rt;
+        refused > 3 && refused < 96 && unmade > 3 && unmade < 96 && unread > 0 && unread < 96
+    );
     Ok(())
 }

@@ -3,7 +3,7 @@ use Rattle.std.proofs.Common.{◌≡◌, ℕ, ◌<◌, ◌≤◌, Bool, true, fa
 use Rattle.std.specs.Result.{result_err, IfOk}
 use Rattle.std.specs.List.{filter}
 use Rattle.std.specs.List.Sorted.{IsPermutation}
-use Rattle.std.proofs.lemmas.List.Sorted.{IsPermutation-refl, IsPermutation-sym, IsPermutation-trans, IsPermutation-cons, IsPermutation-insert, IsPermutation-append_right, list_any-IsPermutation}
+use Rattle.std.proofs.lemmas.List.Sorted.{IsPermutation-refl, IsPermutation-sym, IsPermutation-trans, IsPermutation-cons, IsPermutation-insert, IsPermutation-append_left, IsPermutation-append_right, list_any-IsPermutation}
 use Rattle.desk_signals.specs.declared.BadRow.{BadRow}
 use Rattle.desk_signals.specs.declared.BadRow.TheVariants.{TwoLetters, TwoNumbers, Repeated}
 use Rattle.desk_signals.specs.declared.Column.{Column}
@@ -11,7 +11,7 @@ use Rattle.desk_signals.specs.declared.Signal.{Signal}
 use Rattle.desk_signals.specs.declared.Signal.TheVariants as signal
 use Rattle.desk_signals.specs.declared.RibbonRow.{RibbonRow}
 use Rattle.desk_signals.specs.declared.RibbonRow.TheVariants.{Cell, Coarse, FineOut}
-use Rattle.desk_signals.specs.Rows.{IsRow, Spells, signals_of, letters_of, number_of, letters, numbers, is_letter, is_number, has, same, repeats, wedge_fault, fault_of}
+use Rattle.desk_signals.specs.Rows.{IsRow, Spells, signals_of, letters_of, number_of, letters, numbers, is_letter, is_number, has, same, repeats, two_letters, wedge_fault, fault_of}
 use Rattle.desk_signals.proofs.Same.{lone, filter-permutation}
 use Rattle.desk_signals.proofs.Table.{row_once, row_faultless}
 use Rattle.desk_signals.proofs.RowLaws.{spelled_once, signals_have_one_row}
@@ -77,11 +77,13 @@ spelled xs row e = IsPermutation-sym xs (signals_of row) (subst (λ ys. IsPermut
 once : (xs : List Signal) (y : Signal) (b : Bool) → repeats xs ≡ false → b ≡ has xs y → filter (same y) xs ≡ cond b (y ∷ []) []
 once xs y b none is = lone xs y none ∙ ap (λ b. cond b (y ∷ []) []) (sym is)
 
-pub cell_spelled : (xs : List Signal) (c : Column) (n : ℕ) (s : Bool) → repeats xs ≡ false → letters xs ≡ letters_of c → numbers xs ≡ number_of n →
+pub cell_spelled : (xs : List Signal) (c : Column) (n : ℕ) (s : Bool) → repeats xs ≡ false → IsPermutation (letters_of c) (letters xs) → numbers xs ≡ number_of n →
     false ≡ has xs signal.Fine → false ≡ has xs signal.Coarse → s ≡ has xs signal.S → Spells xs (Cell c n s)
 cell_spelled xs c n s none l m f k t =
-    spelled xs (Cell c n s)
-    (rw (l, m, once xs signal.Fine false none f, once xs signal.Coarse false none k, once xs signal.S s none t) refl)
+    let rest : numbers xs ++ (filter (same signal.Fine) xs ++ (filter (same signal.Coarse) xs ++ filter (same signal.S) xs)) ≡ number_of n ++ cond s (signal.S ∷ []) [] =
+    rw (m, once xs signal.Fine false none f, once xs signal.Coarse false none k, once xs signal.S s none t) refl in
+    let same_rest = subst (λ ys. IsPermutation (signals_of (Cell c n s)) (letters xs ++ ys)) (sym rest) (IsPermutation-append_left (number_of n ++ cond s (signal.S ∷ []) []) (letters_of c) (letters xs) l) in
+    IsPermutation-trans (signals_of (Cell c n s)) (sorted xs) xs same_rest (IsPermutation-sym xs (sorted xs) (sorted_permutes xs))
 
 pub coarse_spelled : (xs : List Signal) (n : ℕ) → repeats xs ≡ false → letters xs ≡ [] → numbers xs ≡ number_of n →
     false ≡ has xs signal.Fine → true ≡ has xs signal.Coarse → false ≡ has xs signal.S → Spells xs (Coarse n)
@@ -101,27 +103,33 @@ spelled_faultless xs row is spells =
     let e0 = spelled_once xs row is spells ∙ sym (row_once row is) in
     let e1 = sym (filter-permutation is_letter (signals_of row) xs spells) in
     let e2 = sym (filter-permutation is_number (signals_of row) xs spells) in
-    let e3 = sym (list_any-IsPermutation (same signal.Fine) (signals_of row) xs spells) in
-    let e4 = sym (list_any-IsPermutation (same signal.Coarse) (signals_of row) xs spells) in
-    let e5 = sym (list_any-IsPermutation (same signal.S) (signals_of row) xs spells) in
-    rw (e0, e1, e2, e3, e4, e5) (row_faultless row is)
+    let e3 = alike signal.Fine in
+    let e4 = alike signal.Coarse in
+    let e5 = alike signal.S in
+    let e6 = alike signal.N in
+    let e7 = alike signal.I in
+    let e8 = alike signal.L in
+    rw (e0, e1, e2, e3, e4, e5, e6, e7, e8) (row_faultless row is)
+  where
+    alike : (x : Signal) → has xs x ≡ has (signals_of row) x
+    alike x = sym (list_any-IsPermutation (same x) (signals_of row) xs spells)
 
 -- the causes, one by one
-pub two_letters : (xs : List Signal) → repeats xs ≡ false → 1 < length (letters xs) → Some TwoLetters ≡ fault_of xs
-two_letters xs none two = rw (none, lt-ltb 1 (length (letters xs)) two) refl
+pub two_letters_told : (xs : List Signal) → repeats xs ≡ false → two_letters xs ≡ true → Some TwoLetters ≡ fault_of xs
+two_letters_told xs none two = rw (none, two) refl
 
-pub two_numbers : (xs : List Signal) → repeats xs ≡ false → length (letters xs) ≤ 1 → 1 < length (numbers xs) → Some TwoNumbers ≡ fault_of xs
-two_numbers xs none one two =
-    rw (none, le-ltb 1 (length (letters xs)) one, lt-ltb 1 (length (numbers xs)) two) refl
+pub two_numbers : (xs : List Signal) → repeats xs ≡ false → two_letters xs ≡ false → 1 < length (numbers xs) → Some TwoNumbers ≡ fault_of xs
+two_numbers xs none one two = rw (none, one, lt-ltb 1 (length (numbers xs)) two) refl
 
-pub the_wedge_fault : (xs : List Signal) (fine coarse s : Bool) (n m : ℕ) → repeats xs ≡ false → n ≡ length (letters xs) → n ≤ 1 → m ≡ length (numbers xs) → m ≤ 1 →
+pub the_wedge_fault : (xs : List Signal) (fine coarse s : Bool) (n m : ℕ) → repeats xs ≡ false → two_letters xs ≡ false → n ≡ length (letters xs) → m ≡ length (numbers xs) → m ≤ 1 →
     fine ≡ has xs signal.Fine → coarse ≡ has xs signal.Coarse → s ≡ has xs signal.S → wedge_fault fine coarse (ltb 0 n) s ≡ fault_of xs
-the_wedge_fault xs fine coarse s n m none count one count_numbers lone_number f k t =
-    rw (none, f, k, t, sym count, sym count_numbers, le-ltb 1 n one, le-ltb 1 m lone_number) refl
+the_wedge_fault xs fine coarse s n m none few count count_numbers lone_number f k t =
+    rw (none, few, f, k, t, count, sym count_numbers, le-ltb 1 m lone_number) refl
 
 -- signals without a fault
 record Faultless (xs : List Signal) : Type 0 where
   once : repeats xs ≡ false
+  few : two_letters xs ≡ false
   wedges : wedge_fault (has xs signal.Fine) (has xs signal.Coarse) (ltb 0 (length (letters xs))) (has xs signal.S) ≡ None
 
 none_left : (b : Bool) (why : BadRow) (rest : Option BadRow) → cond b (Some why) rest ≡ None → (b ≡ false) × (rest ≡ None)
@@ -131,9 +139,9 @@ none_left false why rest e = (refl, e)
 faultless : (xs : List Signal) → fault_of xs ≡ None → Faultless xs
 faultless xs e =
     let first = none_left (repeats xs) Repeated _ e in
-    let second = none_left (ltb 1 (length (letters xs))) TwoLetters _ first.1 in
+    let second = none_left (two_letters xs) TwoLetters _ first.1 in
     let third = none_left (ltb 1 (length (numbers xs))) TwoNumbers _ second.1 in
-    record { once = first.0; wedges = third.1 }
+    record { once = first.0; few = second.0; wedges = third.1 }
 
 fine_alone : (fine coarse letter s : Bool) → wedge_fault fine coarse letter s ≡ None → fine ≡ true → coarse ≡ true
 fine_alone fine true letter s e is = refl
@@ -165,7 +173,7 @@ coarse_row xs n e m f k =
     let alone = coarse_alone _ _ _ _ all.wedges (sym k) in
     coarse_spelled xs n all.once (no_length (letters xs) (ltb-false 0 (length (letters xs)) alone.0)) m f k (sym alone.1)
 
-pub cell_row : (xs : List Signal) (c : Column) (n : ℕ) (s : Bool) → fault_of xs ≡ None → letters xs ≡ letters_of c → numbers xs ≡ number_of n →
+pub cell_row : (xs : List Signal) (c : Column) (n : ℕ) (s : Bool) → fault_of xs ≡ None → IsPermutation (letters_of c) (letters xs) → numbers xs ≡ number_of n →
     false ≡ has xs signal.Fine → false ≡ has xs signal.Coarse → s ≡ has xs signal.S → Spells xs (Cell c n s)
 cell_row xs c n s e l m f k t = cell_spelled xs c n s (faultless xs e).once l m f k t
 

@@ -1,5 +1,5 @@
 -- Signals that stand in a list, and how often.
-use Rattle.std.proofs.Common.{◌≡◌, ℕ, suc, ◌<◌, ◌≤◌, Bool, true, false, cond, ◌||◌, List, [], ◌∷◌, length, get_or, refl, sym, ap, ap₂, ◌∙◌, subst, arith, eqb-true}
+use Rattle.std.proofs.Common.{◌≡◌, ℕ, suc, ◌<◌, ◌≤◌, Bool, true, false, cond, ◌&&◌, ◌||◌, List, [], ◌∷◌, length, get_or, refl, sym, ap, ap₂, ◌∙◌, subst, arith, eqb-true}
 use Rattle.std.specs.List.{filter, list_any, insert}
 use Rattle.std.specs.List.Sorted.{IsPermutation}
 use Rattle.std.proofs.lemmas.List.Sums.{length-filter}
@@ -127,10 +127,10 @@ no_repeats (x ∷ xs) few =
     (no_repeats xs (λ y. tail_less (same y) (same y x) x (filter (same y) xs) 1 (few y)))
 
 -- a signal taken out of a list where it stands
-record Taken (ys : List Signal) (y : Signal) : Type 0 where
-  rest : List Signal
-  at : ℕ
-  is : ys ≡ insert rest at y
+pub record Taken (ys : List Signal) (y : Signal) : Type 0 where
+  pub rest : List Signal
+  pub at : ℕ
+  pub is : ys ≡ insert rest at y
 
 take_out_step : (y z : Signal) (ys : List Signal) (b : Bool) → same y z ≡ b → (b || has ys y) ≡ true → (has ys y ≡ true → Taken ys y) → Taken (z ∷ ys) y
 take_out_step y z ys true is there rec = record { rest = ys; at = 0; is = ap (λ (x : Signal). x ∷ ys) (sym (same-eq y z is)) }
@@ -138,7 +138,7 @@ take_out_step y z ys false is there rec =
     let found = rec there in
     record { rest = z ∷ found.rest; at = suc found.at; is = ap (λ (xs : List Signal). z ∷ xs) found.is }
 
-take_out : (ys : List Signal) (y : Signal) → has ys y ≡ true → Taken ys y
+pub take_out : (ys : List Signal) (y : Signal) → has ys y ≡ true → Taken ys y
 take_out [] y there = absurd (cc)
 take_out (z ∷ ys) y there = take_out_step y z ys (same y z) refl there (take_out ys y)
 
@@ -169,3 +169,26 @@ same_times (x ∷ xs) ys e =
     (e z ∙ (ap (λ l. times l z) found.is ∙ sym (filter-permutation (same z) (x ∷ found.rest) (insert found.rest found.at x) back)))) in
     subst (λ l. IsPermutation (x ∷ xs) l) (sym found.is)
     (IsPermutation-trans (x ∷ xs) (x ∷ found.rest) (insert found.rest found.at x) (IsPermutation-cons x xs found.rest rest) back)
+
+-- what stands among those that pass a test
+passes_same : (p : Signal → Bool) (x y : Signal) (b : Bool) → same y x ≡ true → p x ≡ b → p y ≡ b
+passes_same p x y b is passes = ap p (same-eq y x is) ∙ passes
+
+has_filter_step : (p : Signal → Bool) (x y : Signal) (xs : List Signal) (a b : Bool) → same y x ≡ a → p x ≡ b → has (filter p xs) y ≡ (p y && has xs y) →
+    has (cond b (x ∷ filter p xs) (filter p xs)) y ≡ (p y && (a || has xs y))
+has_filter_step p x y xs true true is passes ih = rw (is, passes_same p x y true is passes) refl
+has_filter_step p x y xs true false is passes ih = ih ∙ rw (passes_same p x y false is passes) refl
+has_filter_step p x y xs false true is passes ih = rw is ih
+has_filter_step p x y xs false false is passes ih = ih
+
+pub and_false : (b : Bool) → false ≡ (b && false)
+and_false true = refl
+and_false false = refl
+
+pub and_true : (b : Bool) → (b && true) ≡ b
+and_true true = refl
+and_true false = refl
+
+pub has_filter : (p : Signal → Bool) (xs : List Signal) (y : Signal) → has (filter p xs) y ≡ (p y && has xs y)
+has_filter p [] y = and_false (p y)
+has_filter p (x ∷ xs) y = has_filter_step p x y xs (same y x) (p x) refl refl (has_filter p xs y)

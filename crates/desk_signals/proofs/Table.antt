@@ -1,5 +1,5 @@
 -- What a test over the table of all rows says of each row.
-use Rattle.std.proofs.Common.{◌≡◌, ℕ, ◌+◌, ◌-◌, ◌*◌, ◌/◌, ◌%◌, ◌<◌, ◌≤◌, Bool, true, false, not, ◌&&◌, eqb, List, [], ◌∷◌, length, get_or, refl, sym, ap, subst, ◌∙◌, Option, Some, None, eqb-true, arith}
+use Rattle.std.proofs.Common.{◌≡◌, ℕ, ◌+◌, ◌-◌, ◌*◌, ◌/◌, ◌%◌, ◌<◌, ◌≤◌, Bool, true, false, not, ◌&&◌, eqb, length, get_or, refl, sym, ap, subst, ◌∙◌, Option, Some, None, eqb-true, arith}
 use Rattle.std.specs.Prelude.{if◌then◌else◌, sum_by}
 use Rattle.std.specs.List.{list_all, range_with_len}
 use Rattle.std.proofs.lemmas.List.FromFn.{get_or-range_with_len}
@@ -10,29 +10,10 @@ use Rattle.desk_signals.specs.declared.Column.TheVariants as column
 use Rattle.desk_signals.specs.declared.Signal.{Signal}
 use Rattle.desk_signals.specs.declared.RibbonRow.{RibbonRow}
 use Rattle.desk_signals.specs.declared.RibbonRow.TheVariants.{Cell, Coarse, FineOut}
+use Rattle.desk_signals.specs.Columns.{the_columns, index}
 use Rattle.desk_signals.specs.Rows.{IsRow, signals_of, place, is_letter, is_number, repeats, fault_of}
 
-abbrev pub the_columns : List Column
-the_columns = column.A ∷ column.B ∷ column.C ∷ column.D ∷ column.E ∷ column.F ∷ column.G ∷ column.H ∷ column.I ∷ column.J ∷ column.K ∷ column.L ∷ column.M ∷ column.N ∷ column.O ∷ []
-
-abbrev column_place : Column → ℕ
-column_place column.A = 0
-column_place column.B = 1
-column_place column.C = 2
-column_place column.D = 3
-column_place column.E = 4
-column_place column.F = 5
-column_place column.G = 6
-column_place column.H = 7
-column_place column.I = 8
-column_place column.J = 9
-column_place column.K = 10
-column_place column.L = 11
-column_place column.M = 12
-column_place column.N = 13
-column_place column.O = 14
-
-at_column : (c : Column) → get_or the_columns (column_place c) column.O ≡ c
+pub at_column : (c : Column) → get_or the_columns (index c) column.O ≡ c
 at_column column.A = refl
 at_column column.B = refl
 at_column column.C = refl
@@ -48,23 +29,27 @@ at_column column.L = refl
 at_column column.M = refl
 at_column column.N = refl
 at_column column.O = refl
+at_column column.NI = refl
+at_column column.NL = refl
 
-below_15 : (c : Column) → column_place c < length the_columns
-below_15 column.A = omega arith
-below_15 column.B = omega arith
-below_15 column.C = omega arith
-below_15 column.D = omega arith
-below_15 column.E = omega arith
-below_15 column.F = omega arith
-below_15 column.G = omega arith
-below_15 column.H = omega arith
-below_15 column.I = omega arith
-below_15 column.J = omega arith
-below_15 column.K = omega arith
-below_15 column.L = omega arith
-below_15 column.M = omega arith
-below_15 column.N = omega arith
-below_15 column.O = omega arith
+pub index_within : (c : Column) → index c < length the_columns
+index_within column.A = omega arith
+index_within column.B = omega arith
+index_within column.C = omega arith
+index_within column.D = omega arith
+index_within column.E = omega arith
+index_within column.F = omega arith
+index_within column.G = omega arith
+index_within column.H = omega arith
+index_within column.I = omega arith
+index_within column.J = omega arith
+index_within column.K = omega arith
+index_within column.L = omega arith
+index_within column.M = omega arith
+index_within column.N = omega arith
+index_within column.O = omega arith
+index_within column.NI = omega arith
+index_within column.NL = omega arith
 
 -- a test over all rows
 abbrev pub all_pass : (RibbonRow → Bool) → Bool
@@ -82,7 +67,7 @@ number_passes p e n low high =
 
 column_passes : (p : Column → Bool) → list_all p the_columns ≡ true → (c : Column) → p c ≡ true
 column_passes p e c =
-    subst (λ d. p d ≡ true) (at_column c) (AllPass-from_list_all p the_columns e (column_place c) column.O (below_15 c))
+    subst (λ d. p d ≡ true) (at_column c) (AllPass-from_list_all p the_columns e (index c) column.O (index_within c))
 
 at_s : (test : RibbonRow → Bool) (c : Column) (n : ℕ) (s : Bool) → (test (Cell c n true) ≡ true) × (test (Cell c n false) ≡ true) → test (Cell c n s) ≡ true
 at_s test c n true e = e.0
@@ -132,7 +117,11 @@ abbrev pub number_in : ℕ → ℕ
 number_in n = if eqb n 0 then 15 else n
 
 abbrev pub column_in : ℕ → Column
-column_in n = if eqb n 0 then column.O else get_or the_columns (n - 1) column.O
+column_in n =
+    if eqb n 0 then column.O
+    else if eqb n 23 then column.NI
+    else if eqb n 26 then column.NL
+    else get_or the_columns (n - 1) column.O
 
 abbrev pub row_in : ℕ → RibbonRow
 row_in sum =
@@ -149,7 +138,7 @@ same_bool-eq true b e = sym e
 same_bool-eq false b e = sym (was_not b e)
 
 abbrev same_row : RibbonRow → RibbonRow → Bool
-same_row (Cell c n s) (Cell d m t) = eqb (column_place c) (column_place d) && (eqb n m && same_bool s t)
+same_row (Cell c n s) (Cell d m t) = eqb (index c) (index d) && (eqb n m && same_bool s t)
 same_row (Cell c n s) (Coarse m) = false
 same_row (Cell c n s) (FineOut m) = false
 same_row (Coarse n) (Cell d m t) = false
@@ -159,9 +148,9 @@ same_row (FineOut n) (Cell d m t) = false
 same_row (FineOut n) (Coarse m) = false
 same_row (FineOut n) (FineOut m) = eqb n m
 
-same_column : (c d : Column) → eqb (column_place c) (column_place d) ≡ true → c ≡ d
+same_column : (c d : Column) → eqb (index c) (index d) ≡ true → c ≡ d
 same_column c d e =
-    sym (at_column c) ∙ (ap (λ (n : ℕ). get_or the_columns n column.O) (eqb-true (column_place c) (column_place d) e) ∙ at_column d)
+    sym (at_column c) ∙ (ap (λ (n : ℕ). get_or the_columns n column.O) (eqb-true (index c) (index d) e) ∙ at_column d)
 
 same_row-eq : (a b : RibbonRow) → same_row a b ≡ true → a ≡ b
 same_row-eq (Cell c n s) (Cell d m t) e =

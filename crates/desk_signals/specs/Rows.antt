@@ -4,6 +4,7 @@ use Rattle.std.specs.List.{filter, list_any}
 use Rattle.std.specs.List.Sorted.{IsPermutation}
 use Rattle.desk_signals.specs.declared.Column.{Column}
 use Rattle.desk_signals.specs.declared.Column.TheVariants as column
+use Rattle.desk_signals.specs.Columns.{index}
 use Rattle.desk_signals.specs.declared.Signal.{Signal}
 use Rattle.desk_signals.specs.declared.Signal.TheVariants as signal
 use Rattle.desk_signals.specs.declared.BadRow.{BadRow}
@@ -15,27 +16,16 @@ abbrev pub listed : Option Signal → List Signal
 listed None = []
 listed (Some signal) = signal ∷ []
 
--- the signals of a column: its letter, and none for O
-abbrev pub letters_of : Column → List Signal
-letters_of column.A = signal.A ∷ []
-letters_of column.B = signal.B ∷ []
-letters_of column.C = signal.C ∷ []
-letters_of column.D = signal.D ∷ []
-letters_of column.E = signal.E ∷ []
-letters_of column.F = signal.F ∷ []
-letters_of column.G = signal.G ∷ []
-letters_of column.H = signal.H ∷ []
-letters_of column.I = signal.I ∷ []
-letters_of column.J = signal.J ∷ []
-letters_of column.K = signal.K ∷ []
-letters_of column.L = signal.L ∷ []
-letters_of column.M = signal.M ∷ []
-letters_of column.N = signal.N ∷ []
-letters_of column.O = []
-
 -- the 31 signals, in signal order
 abbrev pub the_signals : List Signal
 the_signals = signal.A ∷ signal.B ∷ signal.C ∷ signal.D ∷ signal.E ∷ signal.F ∷ signal.G ∷ signal.H ∷ signal.I ∷ signal.J ∷ signal.K ∷ signal.L ∷ signal.M ∷ signal.N ∷ signal.One ∷ signal.Two ∷ signal.Three ∷ signal.Four ∷ signal.Five ∷ signal.Six ∷ signal.Seven ∷ signal.Eight ∷ signal.Nine ∷ signal.Ten ∷ signal.Eleven ∷ signal.Twelve ∷ signal.Thirteen ∷ signal.Fourteen ∷ signal.Fine ∷ signal.Coarse ∷ signal.S ∷ []
+
+-- the signals of a column: its letter, none for O, and two for each of the columns after it
+abbrev pub letters_of : Column → List Signal
+letters_of column.O = []
+letters_of column.NI = signal.I ∷ signal.N ∷ []
+letters_of column.NL = signal.L ∷ signal.N ∷ []
+letters_of c = take 1 (drop (index c) the_signals)
 
 -- the signals of a row or position from 1 to 15: its number, and none for 15
 abbrev pub number_of : ℕ → List Signal
@@ -111,6 +101,14 @@ is_number x = nat_le 14 (place x) && nat_lt (place x) 28
 abbrev pub numbers : List Signal → List Signal
 numbers signals = filter is_number signals
 
+-- exactly the letters N and I, or N and L
+abbrev pub is_pair : List Signal → Bool
+is_pair signals = length (letters signals) == 2 && has signals signal.N && (has signals signal.I || has signals signal.L)
+
+-- two or more letters that are not
+abbrev pub two_letters : List Signal → Bool
+two_letters signals = nat_lt 1 (length (letters signals)) && not (is_pair signals)
+
 -- the numbers of the causes
 abbrev pub cause_number : BadRow → ℕ
 cause_number TwoLetters = 1
@@ -129,7 +127,7 @@ abbrev pub repeats : List Signal → Bool
 repeats [] = false
 repeats (x ∷ signals) = has signals x || repeats signals
 
--- the first cause among signals with one letter and one number at most
+-- the first cause among signals with the letters of one column and one number at most
 abbrev pub wedge_fault : (fine coarse letter s : Bool) → Option BadRow
 wedge_fault fine coarse letter s =
     if fine && not coarse then Some FineAlone
@@ -141,6 +139,6 @@ wedge_fault fine coarse letter s =
 abbrev pub fault_of : List Signal → Option BadRow
 fault_of signals =
     if repeats signals then Some Repeated
-    else if nat_lt 1 (length (letters signals)) then Some TwoLetters
+    else if two_letters signals then Some TwoLetters
     else if nat_lt 1 (length (numbers signals)) then Some TwoNumbers
     else wedge_fault (has signals signal.Fine) (has signals signal.Coarse) (nat_lt 0 (length (letters signals))) (has signals signal.S)

@@ -1,20 +1,23 @@
 //! Rows of a controller ribbon and the signals of its 31 channels.
 //!
 //! The signals are those of the Lanston Monotype system: A to N and 1 to 14 for the columns and rows of the matrix case, S
-//! for a justifying space, 0005 and 0075 for the justification wedges. How they lie across the paper is left out.
+//! for a justifying space, 0005 and 0075 for the justification wedges. A column has one letter, the column O none, and the
+//! columns NI and NL two. How the signals lie across the paper is left out.
 #![tactic(auto)]
 
 ghost use Rattle.std.specs.Prelude.{◌≡◌, ℕ, ◌<◌, ◌≤◌, ◌↔◌, IsTrue, SomeIff, IfSome, IfNone, IfOk, MatchOption, false, true, length, [], ◌∷◌};
+ghost use Rattle.std.specs.List.Sorted.{IsPermutation};
 ghost use Rattle.std.specs.Result.{result_err};
 ghost use Rattle.desk_signals.specs.declared.RibbonRow.{RibbonRow};
-ghost use Rattle.desk_signals.specs.Rows.{IsRow, Spells, cause_number, fault_of, has, is_letter, is_number, letters, letters_of, listed, number_of, numbers, place, repeats, signals_of, wedge_fault};
+ghost use Rattle.desk_signals.specs.Columns.{column_at, index};
+ghost use Rattle.desk_signals.specs.Rows.{IsRow, Spells, cause_number, fault_of, has, is_letter, is_number, is_pair, letters, letters_of, listed, number_of, numbers, place, repeats, signals_of, two_letters, wedge_fault};
 
 use arrayvec::ArrayVec;
 use std::marker::Model;
 
 pub mod laws;
 
-/// A column of the matrix case.
+/// A column of the matrix case. A case has the columns A to O, or these and NI and NL.
 #[derive(Clone, Copy, PartialEq, Eq, Debug)]
 pub enum Column {
     A,
@@ -32,6 +35,48 @@ pub enum Column {
     M,
     N,
     O,
+    /// The column of the letters N and I together.
+    NI,
+    /// The column of the letters N and L together.
+    NL,
+}
+
+/// The columns in their order.
+const COLUMNS: [Column; 17] = [
+    Column::A,
+    Column::B,
+    Column::C,
+    Column::D,
+    Column::E,
+    Column::F,
+    Column::G,
+    Column::H,
+    Column::I,
+    Column::J,
+    Column::K,
+    Column::L,
+    Column::M,
+    Column::N,
+    Column::O,
+    Column::NI,
+    Column::NL,
+];
+
+impl Column {
+    /// The column with an index, from 0 for A to 16 for NL, or none.
+    pub fn at(index: u8) -> Option<Column>
+        ensures { result ≡ column_at index }
+    {
+        COLUMNS.get(index as usize).copied()
+    }
+
+    /// Its index, from 0 for A to 16 for NL.
+    pub fn index(self) -> u8
+        ensures value { result ≡ index self }
+        ensures small { result < 17 }
+    {
+        self as u8
+    }
 }
 
 /// A row of the matrix case, 1 to 15.
@@ -175,6 +220,7 @@ pub enum RibbonRow {
 /// Why signals are no row.
 #[derive(Clone, Copy, PartialEq, Eq, Debug, thiserror::Error)]
 pub enum BadRow {
+    /// Two letters or more that are not exactly N and I, or N and L.
     #[error("two letters")]
     TwoLetters,
     #[error("two numbers")]
@@ -189,11 +235,12 @@ pub enum BadRow {
     Repeated,
 }
 
-/// The signals of a column, in signal order: its letter, and none for O.
+/// The signals of a column, in signal order: its letter, none for O, and two for NI and NL.
 fn column_signals(column: Column) -> ArrayVec<Signal, 4>
     ensures signals { result.items ≡ letters_of column }
-    ensures few { length result.items ≤ 1 }
+    ensures few { length result.items ≤ 2 }
 {
+    let mut found = ArrayVec::new();
     let letter = match column {
         Column::A => Signal::A,
         Column::B => Signal::B,
@@ -209,9 +256,16 @@ fn column_signals(column: Column) -> ArrayVec<Signal, 4>
         Column::L => Signal::L,
         Column::M => Signal::M,
         Column::N => Signal::N,
-        Column::O => return ArrayVec::new(),
+        Column::O => return found,
+        Column::NI => {
+            found.push(Signal::I);
+            Signal::N
+        }
+        Column::NL => {
+            found.push(Signal::L);
+            Signal::N
+        }
     };
-    let mut found = ArrayVec::new();
     found.push(letter);
     found
 }
@@ -321,23 +375,11 @@ fn column_of(signal: Signal) -> Option<Column>
     ensures letter { IfSome result (λ column. is_letter signal ≡ true) }
     ensures column { IfSome result (λ column. letters_of column ≡ signal ∷ []) }
 {
-    Some(match signal {
-        Signal::A => Column::A,
-        Signal::B => Column::B,
-        Signal::C => Column::C,
-        Signal::D => Column::D,
-        Signal::E => Column::E,
-        Signal::F => Column::F,
-        Signal::G => Column::G,
-        Signal::H => Column::H,
-        Signal::I => Column::I,
-        Signal::J => Column::J,
-        Signal::K => Column::K,
-        Signal::L => Column::L,
-        Signal::M => Column::M,
-        Signal::N => Column::N,
-        _ => return None,
-    })
+    if signal.is_letter() {
+        Column::at(signal.place())
+    } else {
+        None
+    }
 }
 
 /// The row or position of a number.
@@ -368,7 +410,7 @@ fn number_at(signal: Signal) -> Option<u8>
 }
 
 /// The column whose letters stand among signals with one letter at most.
-fn column_among(signals: &[Signal]) -> Column
+fn lone_column(signals: &[Signal]) -> Column
     requires { length (letters signals.now) ≤ 1 }
     ensures { letters signals.now ≡ letters_of result }
 {
@@ -378,6 +420,21 @@ fn column_among(signals: &[Signal]) -> Column
         }
     }
     Column::O
+}
+
+/// The column whose letters stand, in any order, among signals whose letters are those of one.
+fn column_among(signals: &[Signal]) -> Column
+    requires { two_letters signals.now ≡ false }
+    ensures { IsPermutation (letters_of result) (letters signals.now) }
+{
+    if count_letters(signals) <= 1 {
+        return lone_column(signals);
+    }
+    if has(signals, Signal::I) {
+        Column::NI
+    } else {
+        Column::NL
+    }
 }
 
 /// The row or position whose number stands among signals with one number at most.
@@ -407,6 +464,22 @@ fn count_numbers(signals: &[Signal]) -> usize
     signals.iter().filter(|signal| signal.is_number()).count()
 }
 
+/// Whether the letters are exactly N and I, or N and L.
+fn is_pair(signals: &[Signal]) -> bool
+    ensures { result ≡ is_pair signals.now }
+{
+    count_letters(signals) == 2
+        && has(signals, Signal::N)
+        && (has(signals, Signal::I) || has(signals, Signal::L))
+}
+
+/// Whether there are two letters or more that are not these.
+fn two_letters(signals: &[Signal]) -> bool
+    ensures { result ≡ two_letters signals.now }
+{
+    count_letters(signals) > 1 && !is_pair(signals)
+}
+
 /// The first cause that makes signals no row.
 fn fault(signals: &[Signal]) -> Option<BadRow>
     ensures { result ≡ fault_of signals.now }
@@ -414,8 +487,7 @@ fn fault(signals: &[Signal]) -> Option<BadRow>
     if repeats(signals) {
         return Some(BadRow::Repeated);
     }
-    let letters = count_letters(signals);
-    if letters > 1 {
+    if two_letters(signals) {
         return Some(BadRow::TwoLetters);
     }
     if count_numbers(signals) > 1 {
@@ -423,11 +495,12 @@ fn fault(signals: &[Signal]) -> Option<BadRow>
     }
     let fine = has(signals, Signal::Fine);
     let coarse = has(signals, Signal::Coarse);
+    let letter = count_letters(signals) > 0;
     let s = has(signals, Signal::S);
-    wedge_fault(fine, coarse, letters > 0, s)
+    wedge_fault(fine, coarse, letter, s)
 }
 
-/// The first cause among signals with one letter and one number at most.
+/// The first cause among signals with the letters of one column and one number at most.
 fn wedge_fault(fine: bool, coarse: bool, letter: bool, s: bool) -> Option<BadRow>
     ensures { result ≡ wedge_fault fine coarse letter s }
 {

@@ -1,6 +1,6 @@
 -- Symbols inserted one after another.
 use Rattle.std.proofs.Common.{◌≡◌, ℕ, suc, ◌+◌, ◌<◌, List, length, drop, get_or, sym, subst, arith, drop-cons, refl}
-use Rattle.std.specs.Prelude.{Option, Some, None, Result, Ok, Err, IfSome, MatchOption, option_map}
+use Rattle.std.specs.Prelude.{Option, Some, None, Result, Ok, Err, MatchOption}
 use Rattle.std.specs.FinMap as fin
 use Rattle.desk_ops.specs.declared.op.Op.{Op}
 use Rattle.desk_ops.specs.declared.op.Stamp.{Stamp}
@@ -30,20 +30,12 @@ made_at (Some set) old new n edit answer (next, h, is) = (h.0, h.1)
 pub insert_makes : (old new : Sites) (n place : ℕ) (symbol : Symbol) (answer : Answer) → Steps old (changes.Insert n place symbol) (Ok answer) new → (op : Op) × (answer ≡ answers.Made op)
 insert_makes old new n place symbol answer h = made_at (fin.get old n) old new n (kinds.Insert place symbol) answer h
 
-stopped : (old mid : Sites) (n place k : ℕ) (made : Option (Stamp × Stamp)) (copy : List Symbol) (i : ℕ) (d : Symbol) (why : StepRefusal) (o : Option Reply) → i < length copy
-    → Steps old (changes.Insert n (place + k) (get_or copy i d)) (Err why) mid → o ≡ option_map (after k) (event_reply (Err why))
-    → IfSome o (λ reply. Inserts old n place (drop i copy) k made reply mid)
-stopped old mid n place k made copy i d why None lt steps is = tt
-stopped old mid n place k made copy i d why (Some reply) lt steps is =
+-- the next symbol is refused
+pub stops_at : (old mid : Sites) (n place k : ℕ) (made : Option (Stamp × Stamp)) (copy : List Symbol) (i : ℕ) (d : Symbol) (why : StepRefusal) (reply : Reply) → i < length copy
+    → Steps old (changes.Insert n (place + k) (get_or copy i d)) (Err why) mid → reply ≡ after k (event_reply (Err why)) → Inserts old n place (drop i copy) k made reply mid
+stops_at old mid n place k made copy i d why reply lt steps is =
     let Q : List Symbol → Type 0 = λ ys. Inserts old n place ys k made reply mid in
     subst Q (sym (drop-cons copy i d lt)) (mid, Err why, steps, (sym is, refl))
-
--- the next symbol is refused
-pub stops_at : (old mid : Sites) (n place k : ℕ) (made : Option (Stamp × Stamp)) (copy : List Symbol) (i : ℕ) (d : Symbol) (why : StepRefusal) (o : Option Reply)
-    (P : Reply → Type 0) → i < length copy → Steps old (changes.Insert n (place + k) (get_or copy i d)) (Err why) mid → o ≡ option_map (after k) (event_reply (Err why))
-    → ((reply : Reply) → Inserts old n place (drop i copy) k made reply mid → P reply) → IfSome o P
-stops_at old mid n place k made copy i d why None P lt steps is then = tt
-stops_at old mid n place k made copy i d why (Some reply) P lt steps is then = then reply (stopped old mid n place k made copy i d why (Some reply) lt steps is)
 
 -- the next symbol is inserted, and then the others
 pub goes_on : (old mid new : Sites) (n place k : ℕ) (made : Option (Stamp × Stamp)) (copy : List Symbol) (i : ℕ) (d : Symbol) (op : Op) (reply : Reply) → i < length copy →

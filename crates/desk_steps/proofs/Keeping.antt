@@ -26,7 +26,7 @@ use Rattle.desk_steps.specs.Act.{Does, GivesPart, IsBrought, Jobs, Performs, Tak
 use Rattle.desk_steps.specs.Desk.{Desk, KeepsSites}
 use Rattle.desk_steps.specs.Event.{Happens, Says, set_of}
 use Rattle.desk_steps.specs.Insert.{Inserts, all_symbols, first_of, made_of}
-use Rattle.desk_steps.specs.Line.{Allows, Bytes, Line, Long}
+use Rattle.desk_steps.specs.Line.{Allows, IsAnswered, Bytes, Line, Long}
 
 pub keeps_same : (old new : Sites) → new ≡ old → KeepsSites old new
 keeps_same old new same n set there = (set, ap (λ (s : Sites). fin.get s n) same ∙ there)
@@ -44,11 +44,11 @@ keeps_insert old new n after is q set there =
     (got.0, ap (λ (s : Sites). fin.get s q) is ∙ (fin.get-insert nat_cmp_total old n after q ∙ got.1))
 
 -- whatever a look-up gives
-by_look_up : {A : Type 0} (o : Option A) (P : Type 0) (Q : A → Type 0) (R : Type 0) → (P → R) → ((x : A) → Q x → R) → MatchOption o P Q → R
+pub by_look_up : {A : Type 0} (o : Option A) (P : Type 0) (Q : A → Type 0) (R : Type 0) → (P → R) → ((x : A) → Q x → R) → MatchOption o P Q → R
 by_look_up None P Q R none some h = none h
 by_look_up (Some x) P Q R none some h = some x h
 
-by_test : (b : Bool) (P Q R : Type 0) → (P → R) → (Q → R) → MatchBool b P Q → R
+pub by_test : (b : Bool) (P Q R : Type 0) → (P → R) → (Q → R) → MatchBool b P Q → R
 by_test true P Q R first second h = first h
 by_test false P Q R first second h = second h
 
@@ -132,8 +132,12 @@ performs_keep old new (Settings n) reply h = does_keep old.sites new.sites (Sett
 performs_keep old new (Feed n) reply h = does_keep old.sites new.sites (Feed n) reply h.0
 performs_keep old new (Restart n) reply h = does_keep old.sites new.sites (Restart n) reply h.0
 
+answers_keep : (old new : Desk) (line : Line) (reply : Reply) → IsAnswered old line reply new → KeepsSites old.sites new.sites
+answers_keep old new Long reply h = keeps_same old.sites new.sites (ap (λ (d : Desk). d.sites) h.1)
+answers_keep old new (Bytes bytes) reply h =
+    by_look_up (command_of bytes) _ _ (KeepsSites old.sites new.sites) (λ r. keeps_same old.sites new.sites (ap (λ (d : Desk). d.sites) r.1)) (λ request. performs_keep old new request reply) h
+
 -- whatever a line is
 pub allows_keep : (old new : Desk) (line : Line) (reply : Reply) → Allows old line reply new → KeepsSites old.sites new.sites
-allows_keep old new Long reply h = keeps_same old.sites new.sites (ap (λ (d : Desk). d.sites) h.1)
-allows_keep old new (Bytes bytes) reply h =
-    by_look_up (command_of bytes) _ _ (KeepsSites old.sites new.sites) (λ r. keeps_same old.sites new.sites (ap (λ (d : Desk). d.sites) r.1)) (λ request. performs_keep old new request reply) h
+allows_keep old new line reply (inl h) = answers_keep old new line reply h
+allows_keep old new line reply (inr h) = keeps_same old.sites new.sites h.1

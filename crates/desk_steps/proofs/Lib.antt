@@ -1,3 +1,4 @@
 pub mod Inserting
 pub mod Keeping
 mod Parts
+pub mod Asking

@@ -4,7 +4,8 @@ use Rattle.desk_ops.specs.declared.op.Op.{Op}
 use Rattle.desk_ops.specs.OpSet.{OpSet, in_order}
 use Rattle.desk_ops.specs.Shown.{copy_of}
 use Rattle.desk_ops.specs.Faults.{faults_of}
-use Rattle.desk_codec.specs.Feed.{feed, IsFeed}
+use Rattle.desk_codec.specs.Feed.{IsFeed}
+use Rattle.desk_codec.specs.Runs.{set_feed}
 use Rattle.desk_codec.specs.Fault.{IsFirstFault}
 use Rattle.desk_codec.specs.declared.fault.FeedFault.{FeedFault}
 use Rattle.desk_replica.specs.declared.Count.{Count}
@@ -12,6 +13,7 @@ use Rattle.desk_replica.specs.JobSettings.{settings_of}
 use Rattle.desk_inputs.specs.Job.{IsJobByFiles}
 use Rattle.desk_inputs.specs.declared.job.Wanted.{Wanted}
 use Rattle.desk_inputs.specs.declared.job.Wanted.TheVariants as wants
+use Rattle.desk_files.specs.Files.{Stays}
 use Rattle.desk_answers.specs.NotDone.{event_reply}
 use Rattle.desk_answers.specs.declared.not_done.NotDone.{NotDone}
 use Rattle.desk_answers.specs.declared.not_done.NotDone.TheVariants as ends
@@ -30,7 +32,7 @@ use Rattle.desk_steps.specs.Insert.{Inserts, all_symbols}
 
 -- operations are brought to a site, wherever they come from, and the reply is that of the result
 abbrev pub IsBrought : Sites → ℕ → List Op → Reply → Sites → Type 0
-IsBrought old n ops reply new = (result : Result Count StepRefusal) × Brings old n ops result new × (event_reply (taken result) ≡ Some reply)
+IsBrought old n ops reply new = (result : Result Count StepRefusal) × Brings old n ops result new × (event_reply (taken result) ≡ reply)
 
 -- a feed's operations are brought to a site, or its first fault is the reply
 abbrev pub Takes : Sites → ℕ → List ℕ → Reply → Sites → Type 0
@@ -68,16 +70,28 @@ Does old (Merge to from) reply new = MatchOption (set_of old to) (Says (Refused 
     (λ other. MatchOption (set_of old from) (Says (Refused refusals.Site) old reply new)
     (λ set. Happens old (changes.Give to (in_order set)) reply new))
 Does old (Show n) reply new = MatchOption (set_of old n) (Says (Refused refusals.Site) old reply new) (λ set. Says (Copy (copy_of set)) old reply new)
-Does old (Feed n) reply new = MatchOption (set_of old n) (Says (Refused refusals.Site) old reply new) (λ set. Says (replies.Feed (feed (in_order set))) old reply new)
+Does old (Feed n) reply new = MatchOption (set_of old n) (Says (Refused refusals.Site) old reply new) (λ set. Says (replies.Feed (set_feed set)) old reply new)
 Does old (Restart n) reply new = MatchOption (set_of old n) (Says (Refused refusals.Site) old reply new) (λ set. Happens old (changes.Restart n) reply new)
 Does old (Faults n) reply new = MatchOption (set_of old n) (Says (Refused refusals.Site) old reply new) (λ set. Says (replies.Faults (faults_of set)) old reply new)
 Does old (Settings n) reply new = MatchOption (set_of old n) (Says (Refused refusals.Site) old reply new) (λ set. Says (replies.Settings (settings_of set)) old reply new)
 Does old (Ribbon n case wedge) reply new = ⊥
 Does old (Cast n case wedge) reply new = ⊥
 
+-- memory is refused, and no site has changed
+abbrev pub Lacks : Sites → Reply → Sites → Type 0
+Lacks old reply new = Says (Refused refusals.Memory) old reply new
+
+-- what a command that asks for no file answers and does, or memory is refused to it
+abbrev pub Tries : Sites → Request → Reply → Sites → Type 0
+Tries old request reply new = Does old request reply new ⊎ Lacks old reply new
+
 -- a line or a command is refused, and nothing changes
 abbrev pub Refuses : Desk → Refusal → Reply → Desk → Type 0
 Refuses old why reply new = (reply ≡ Refused why) × (new ≡ old)
+
+-- memory is refused, and neither a site nor a file has changed; a device may have failed before
+abbrev pub LacksMemory : Desk → Reply → Desk → Type 0
+LacksMemory old reply new = (reply ≡ Refused refusals.Memory) × (new.sites ≡ old.sites) × Stays old.shelf new.shelf
 
 -- A job at a site: the site is looked up, both files are read by their names, and no set changes.
 abbrev pub Jobs : Wanted → Desk → ℕ → List ℕ → List ℕ → Reply → Desk → Type 0
@@ -104,3 +118,7 @@ Performs old (Faults n) reply new = Keeps old (Faults n) reply new
 Performs old (Settings n) reply new = Keeps old (Settings n) reply new
 Performs old (Feed n) reply new = Keeps old (Feed n) reply new
 Performs old (Restart n) reply new = Keeps old (Restart n) reply new
+
+-- what a command answers and does, or memory is refused to it
+abbrev pub Attempts : Desk → Request → Reply → Desk → Type 0
+Attempts old request reply new = Performs old request reply new ⊎ LacksMemory old reply new

@@ -1,5 +1,5 @@
 -- The site that a command names, and what happens there.
-use Rattle.std.specs.Prelude.{◌≡◌, ℕ, nat_lt, Option, Some, None, Result, if◌then◌else◌}
+use Rattle.std.specs.Prelude.{◌≡◌, ℕ, nat_lt, Option, None, Result, if◌then◌else◌}
 use Rattle.std.specs.FinMap as fin
 use Rattle.desk_ops.specs.OpSet.{OpSet}
 use Rattle.desk_answers.specs.NotDone.{event_reply}
@@ -12,7 +12,7 @@ use Rattle.desk_world.specs.declared.world.StepRefusal.{StepRefusal}
 
 -- an event happens, and the reply is that of its result
 abbrev pub Happens : Sites → changes.Change → Reply → Sites → Type 0
-Happens old change reply new = (result : Result Answer StepRefusal) × Steps old change result new × (event_reply result ≡ Some reply)
+Happens old change reply new = (result : Result Answer StepRefusal) × Steps old change result new × (event_reply result ≡ reply)
 
 -- nothing changes
 abbrev pub Says : Reply → Sites → Reply → Sites → Type 0

@@ -1,10 +1,10 @@
 -- Symbols inserted one after another.
-use Rattle.std.specs.Prelude.{◌≡◌, ◌+◌, ◌&&◌, Bool, true, [], ◌∷◌, option_map, ℕ, ◌==◌, List, Option, Some, None, Result, Ok, Err, MatchOption, if◌then◌else◌}
+use Rattle.std.specs.Prelude.{◌≡◌, ◌+◌, ◌&&◌, Bool, true, [], ◌∷◌, ℕ, ◌==◌, List, Option, Some, None, Result, Ok, Err, MatchOption, if◌then◌else◌}
 use Rattle.desk_ops.specs.Op.{stamp_of, is_symbol}
 use Rattle.desk_ops.specs.declared.op.Op.{Op}
 use Rattle.desk_ops.specs.declared.op.Stamp.{Stamp}
 use Rattle.desk_ops.specs.declared.op.Symbol.{Symbol}
-use Rattle.desk_answers.specs.NotDone.{event_reply}
+use Rattle.desk_answers.specs.NotDone.{event_reply, stopped}
 use Rattle.desk_answers.specs.Reply.{Reply, Done, Made, MadeMany, Counted, Copy, Refused, Stopped}
 use Rattle.desk_answers.specs.Reply as replies
 use Rattle.desk_world.specs.Sites.{Sites}
@@ -22,7 +22,7 @@ all_symbols (y ∷ ys) = is_symbol y && all_symbols ys
 
 -- a refusal after k edits says that these stand
 abbrev pub after : ℕ → Reply → Reply
-after k (Refused why) = if k == 0 then Refused why else Stopped k why
+after k (Refused why) = stopped k why
 after k Done = Done
 after k (Made stamp) = Made stamp
 after k (MadeMany first last) = MadeMany first last
@@ -56,5 +56,5 @@ abbrev pub Inserts : Sites → ℕ → ℕ → List Symbol → ℕ → Option (S
 Inserts old n place [] k made reply new = Says (all_made k made) old reply new
 Inserts old n place (y ∷ ys) k made reply new =
     (mid : Sites) × (result : Result Answer StepRefusal) × Steps old (changes.Insert n (place + k) y) result mid
-    × MatchOption (made_of result) ((option_map (after k) (event_reply result) ≡ Some reply) × (new ≡ mid))
+    × MatchOption (made_of result) ((after k (event_reply result) ≡ reply) × (new ≡ mid))
     (λ op. Inserts mid n place ys (k + 1) (Some (first_of made (stamp_of op), stamp_of op)) reply new)

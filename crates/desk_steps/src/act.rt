@@ -1,14 +1,14 @@
 //! What each command does.
 
-ghost use Rattle.std.specs.Prelude.{◌≡◌, All, IfErr, IfOk, Some};
-ghost use Rattle.desk_answers.specs.NotDone.{IfReplied};
+ghost use Rattle.std.specs.Prelude.{◌≡◌, ◌⊎◌, All, IfErr, IfOk, Some};
+ghost use Rattle.desk_answers.specs.NotDone.{reply_to};
 ghost use Rattle.desk_commands.specs.Request as requests;
 ghost use Rattle.desk_commands.specs.Request.{request};
 ghost use Rattle.desk_files.specs.Files.{Stays};
 ghost use Rattle.desk_inputs.specs.Job.{IsJobByFiles};
 ghost use Rattle.desk_ops.specs.Op.{IsLawful};
 ghost use Rattle.desk_ops.specs.OpSet.{in_order};
-ghost use Rattle.desk_steps.specs.Act.{Does, IsBrought, IsNoPart, Jobs, Performs, Takes, sent};
+ghost use Rattle.desk_steps.specs.Act.{Attempts, Does, IsBrought, IsNoPart, Jobs, Lacks, LacksMemory, Takes, Tries, sent};
 ghost use Rattle.desk_steps.specs.Desk.{desk};
 
 use crate::event::{happen, number_of, replica_of};
@@ -25,7 +25,7 @@ use desk_world::{Answer, Event, World};
 use std::alloc::Allocator;
 
 fn add_site<A: Allocator + Copy>(world: &mut World<A>, site: u32) -> Result<Response<A>, NotDone>
-    ensures { IfReplied result (λ reply. Does world.old (requests.Site site) reply world.new) }
+    ensures { Does world.old (requests.Site site) (reply_to result) world.new }
 {
     let Ok(number) = u16::try_from(site) else {
         return Err(NotDone::Refused(Refusal::Number));
@@ -38,7 +38,7 @@ fn delete<A: Allocator + Copy>(
     site: u32,
     place: u32,
 ) -> Result<Response<A>, NotDone>
-    ensures { IfReplied result (λ reply. Does world.old (requests.Delete site place) reply world.new) }
+    ensures { Does world.old (requests.Delete site place) (reply_to result) world.new }
 {
     let site = number_of(world, site)?;
     let place = place as usize;
@@ -51,14 +51,14 @@ fn set<A: Allocator + Copy>(
     key: Key,
     value: u32,
 ) -> Result<Response<A>, NotDone>
-    ensures { IfReplied result (λ reply. Does world.old (requests.SetTo site key value) reply world.new) }
+    ensures { Does world.old (requests.SetTo site key value) (reply_to result) world.new }
 {
     let site = number_of(world, site)?;
     happen(world, &Event::Set { site, key, value })
 }
 
 fn restart<A: Allocator + Copy>(world: &mut World<A>, site: u32) -> Result<Response<A>, NotDone>
-    ensures { IfReplied result (λ reply. Does world.old (requests.Restart site) reply world.new) }
+    ensures { Does world.old (requests.Restart site) (reply_to result) world.new }
 {
     let site = number_of(world, site)?;
     happen(world, &Event::Restart(site))
@@ -71,7 +71,7 @@ fn bring<A: Allocator + Copy>(
     ops: &[Op],
 ) -> Result<Response<A>, NotDone>
     requires { All IsLawful ops.now }
-    ensures { IfReplied result (λ reply. IsBrought world.old site ops.now reply world.new) }
+    ensures { IsBrought world.old site ops.now (reply_to result) world.new }
 {
     let count = world.bring(site, ops)?;
     Ok(Response::from(Answer::Taken(count)))
@@ -84,7 +84,7 @@ fn take_feed<A: Allocator + Copy>(
     site: u16,
     feed: &[u8],
 ) -> Result<Response<A>, NotDone>
-    ensures { IfReplied result (λ reply. Takes world.old site feed.now reply world.new) }
+    ensures { Takes world.old site feed.now (reply_to result) world.new ⊎ Lacks world.old (reply_to result) world.new }
 {
     match read_feed(alloc, feed) {
         Ok(ops) => bring(world, site, &ops),
@@ -100,7 +100,7 @@ fn take<A: Allocator + Copy>(
     site: u32,
     feed: &[u8],
 ) -> Result<Response<A>, NotDone>
-    ensures { IfReplied result (λ reply. Does world.old (requests.Take site feed.now) reply world.new) }
+    ensures { Tries world.old (requests.Take site feed.now) (reply_to result) world.new }
 {
     let site = number_of(world, site)?;
     take_feed(alloc, world, site, feed)
@@ -131,7 +131,7 @@ fn send<A: Allocator + Copy>(
     to: u32,
     range: Option<(u32, u32)>,
 ) -> Result<Response<A>, NotDone>
-    ensures { IfReplied result (λ reply. Does world.old (requests.Send from to range) reply world.new) }
+    ensures { Tries world.old (requests.Send from to range) (reply_to result) world.new }
 {
     let replica = replica_of(world, from)?;
     let to = number_of(world, to)?;
@@ -144,7 +144,7 @@ fn merge<A: Allocator + Copy>(
     to: u32,
     from: u32,
 ) -> Result<Response<A>, NotDone>
-    ensures { IfReplied result (λ reply. Does world.old (requests.Merge to from) reply world.new) }
+    ensures { Tries world.old (requests.Merge to from) (reply_to result) world.new }
 {
     let to = number_of(world, to)?;
     let ops = replica_of(world, from)?.in_order()?;
@@ -152,28 +152,28 @@ fn merge<A: Allocator + Copy>(
 }
 
 fn show<A: Allocator + Copy>(world: &World<A>, site: u32) -> Result<Response<A>, NotDone>
-    ensures { IfReplied result (λ reply. Does world.now (requests.Show site) reply world.now) }
+    ensures { Tries world.now (requests.Show site) (reply_to result) world.now }
 {
     let copy = replica_of(world, site)?.copy()?;
     Ok(Response::Copy(copy))
 }
 
 fn faults<A: Allocator + Copy>(world: &World<A>, site: u32) -> Result<Response<A>, NotDone>
-    ensures { IfReplied result (λ reply. Does world.now (requests.Faults site) reply world.now) }
+    ensures { Tries world.now (requests.Faults site) (reply_to result) world.now }
 {
     let faults = replica_of(world, site)?.copy_faults()?;
     Ok(Response::Faults(faults))
 }
 
 fn settings<A: Allocator + Copy>(world: &World<A>, site: u32) -> Result<Response<A>, NotDone>
-    ensures { IfReplied result (λ reply. Does world.now (requests.Settings site) reply world.now) }
+    ensures { Tries world.now (requests.Settings site) (reply_to result) world.now }
 {
     let replica = replica_of(world, site)?;
     Ok(Response::Settings(replica.settings()))
 }
 
 fn feed<A: Allocator + Copy>(world: &World<A>, site: u32) -> Result<Response<A>, NotDone>
-    ensures { IfReplied result (λ reply. Does world.now (requests.Feed site) reply world.now) }
+    ensures { Tries world.now (requests.Feed site) (reply_to result) world.now }
 {
     let feed = replica_of(world, site)?.write_feed()?;
     Ok(Response::Feed(feed))
@@ -189,7 +189,8 @@ fn job_at<F: Files, A: Allocator + Copy>(
     wedge: &str,
     wanted: Wanted,
 ) -> Result<Response<A>, NotDone>
-    ensures made { IfReplied result (λ reply. Jobs wanted (desk world.now (F.shelf files.old)) site case.now wedge.now reply (desk world.now (F.shelf files.new))) }
+    ensures made { Jobs wanted (desk world.now (F.shelf files.old)) site case.now wedge.now (reply_to result) (desk world.now (F.shelf files.new))
+        ⊎ LacksMemory (desk world.now (F.shelf files.old)) (reply_to result) (desk world.now (F.shelf files.new)) }
     ensures stays { Stays (F.shelf files.old) (F.shelf files.new) }
 {
     let replica = replica_of(world, site)?;
@@ -203,7 +204,7 @@ pub fn act<F: Files, A: Allocator + Copy>(
     files: &mut F,
     command: Command<'_, A>,
 ) -> Result<Response<A>, NotDone>
-    ensures done { IfReplied result (λ reply. Performs (desk world.old (F.shelf files.old)) (request command.entry) reply (desk world.new (F.shelf files.new))) }
+    ensures done { Attempts (desk world.old (F.shelf files.old)) (request command.entry) (reply_to result) (desk world.new (F.shelf files.new)) }
     ensures stays { Stays (F.shelf files.old) (F.shelf files.new) }
 {
     match command {

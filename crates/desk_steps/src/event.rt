@@ -2,7 +2,7 @@
 
 ghost use Rattle.std.specs.Prelude.{◌≡◌, IfErr, IfOk, MatchResult, None, Some};
 ghost use Rattle.desk_ops.specs.OpSet.{OpSet};
-ghost use Rattle.desk_answers.specs.NotDone.{IfReplied};
+ghost use Rattle.desk_answers.specs.NotDone.{reply_to};
 ghost use Rattle.desk_steps.specs.Event.{Happens, set_of};
 ghost use Rattle.desk_world.specs.World.{IsSound, change};
 
@@ -46,7 +46,7 @@ pub fn happen<A: Allocator + Copy>(
     event: &Event<'_>,
 ) -> Result<Response<A>, NotDone>
     requires { IsSound (change event.now) }
-    ensures { IfReplied result (λ reply. Happens world.old (change event.now) reply world.new) }
+    ensures { Happens world.old (change event.now) (reply_to result) world.new }
 {
     let answer = world.step(event)?;
     Ok(Response::from(answer))

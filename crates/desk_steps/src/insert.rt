@@ -1,7 +1,7 @@
 //! Symbols inserted one after another.
 
-ghost use Rattle.std.specs.Prelude.{◌≡◌, ◌+◌, ◌<◌, ◌^◌, length, None, option_map};
-ghost use Rattle.desk_answers.specs.NotDone.{IfReplied, reply_of};
+ghost use Rattle.std.specs.Prelude.{◌≡◌, ◌+◌, ◌<◌, ◌^◌, length, None};
+ghost use Rattle.desk_answers.specs.NotDone.{reply_of, reply_to};
 ghost use Rattle.desk_answers.specs.Reply.{reply};
 ghost use Rattle.desk_commands.specs.Request as requests;
 ghost use Rattle.desk_ops.specs.Op.{stamp_of};
@@ -16,10 +16,11 @@ use std::alloc::Allocator;
 
 /// A refusal after that many edits says that these stand.
 fn after(count: usize, end: NotDone) -> NotDone
-    ensures { reply_of result ≡ option_map (after count) (reply_of end) }
+    ensures { reply_of result ≡ after count (reply_of end) }
 {
     match end {
         NotDone::Refused(why) if count > 0 => NotDone::Stopped(count, why),
+        NotDone::NoMemory if count > 0 => NotDone::Stopped(count, Refusal::Memory),
         other => other,
     }
 }
@@ -52,7 +53,7 @@ fn insert_all<A: Allocator + Copy>(
     copy: &[Symbol],
 ) -> Result<Response<A>, NotDone>
     requires { place + length copy.now < 2 ^ 64 }
-    ensures { IfReplied result (λ reply. Inserts world.old site place copy.now 0 None reply world.new) }
+    ensures { Inserts world.old site place copy.now 0 None (reply_to result) world.new }
 {
     let mut stamps = None;
     let mut count = 0;
@@ -94,7 +95,7 @@ pub fn insert<A: Allocator + Copy>(
     place: u32,
     copy: &[Symbol],
 ) -> Result<Response<A>, NotDone>
-    ensures { IfReplied result (λ reply. Does world.old (requests.Insert site place copy.now) reply world.new) }
+    ensures { Does world.old (requests.Insert site place copy.now) (reply_to result) world.new }
 {
     let replica = replica_of(world, site)?;
     let number = replica.site();

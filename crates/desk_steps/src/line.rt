@@ -1,8 +1,8 @@
 //! A line, carried out and answered.
 
-ghost use Rattle.std.specs.Prelude.{IfOk, OnOk};
-ghost use Rattle.desk_answers.specs.NotDone.{IfReplied};
-ghost use Rattle.desk_answers.specs.Reply.{reply};
+ghost use Rattle.std.specs.Prelude.{◌≡◌, true};
+ghost use Rattle.desk_answers.specs.NotDone.{reply_to};
+ghost use Rattle.desk_answers.specs.Reply.{is_long, reply};
 ghost use Rattle.desk_files.specs.Files.{Stays};
 ghost use Rattle.desk_steps.specs.Desk.{KeepsSites, desk};
 ghost use Rattle.desk_steps.specs.Line.{Allows, line_of};
@@ -12,7 +12,6 @@ use desk_answers::{NotDone, Refusal, Response};
 use desk_commands::parse;
 use desk_files::Files;
 use desk_inputs::Memory;
-use desk_ops::NoMemory;
 use desk_world::World;
 use std::alloc::Allocator;
 
@@ -26,7 +25,7 @@ fn do_line<F: Files, A: Allocator + Copy>(
     files: &mut F,
     line: &[u8],
 ) -> Result<Response<A>, NotDone>
-    ensures done { IfReplied result (λ reply. Allows (desk world.old (F.shelf files.old)) (line_of line.now) reply (desk world.new (F.shelf files.new))) }
+    ensures done { Allows (desk world.old (F.shelf files.old)) (line_of line.now) (reply_to result) (desk world.new (F.shelf files.new)) }
     ensures stays { Stays (F.shelf files.old) (F.shelf files.new) }
 {
     if line.len() > MAX_LINE {
@@ -36,21 +35,24 @@ fn do_line<F: Files, A: Allocator + Copy>(
     act(memory, world, files, command)
 }
 
-/// Does what a line says, and returns its answer. No line takes a site away.
+/// Does what a line says, and returns its answer. Where memory is refused before anything has changed the answer is that
+/// refusal, and after k operations that these stand. No line takes a site away, and where the answer may be long nothing
+/// has changed.
 pub fn answer<F: Files, A: Allocator + Copy>(
     memory: Memory<A>,
     world: &mut World<A>,
     files: &mut F,
     line: &[u8],
-) -> Result<Response<A>, NoMemory>
-    ensures answered { IfOk result (λ response. Allows (desk world.old (F.shelf files.old)) (line_of line.now) (reply response) (desk world.new (F.shelf files.new))) }
-    ensures sites { OnOk result (KeepsSites world.old world.new) }
+) -> Response<A>
+    ensures answered { Allows (desk world.old (F.shelf files.old)) (line_of line.now) (reply result) (desk world.new (F.shelf files.new)) }
+    ensures unchanged { is_long (reply result) ≡ true → world.new ≡ world.old }
+    ensures sites { KeepsSites world.old world.new }
     ensures stays { Stays (F.shelf files.old) (F.shelf files.new) }
 {
     match do_line(memory, world, files, line) {
-        Ok(response) => Ok(response),
-        Err(NotDone::Refused(why)) => Ok(Response::Refused(why)),
-        Err(NotDone::Stopped(taken, why)) => Ok(Response::Stopped(taken, why)),
-        Err(NotDone::NoMemory) => Err(NoMemory),
+        Ok(response) => response,
+        Err(NotDone::Refused(why)) => Response::Refused(why),
+        Err(NotDone::Stopped(taken, why)) => Response::Stopped(taken, why),
+        Err(NotDone::NoMemory) => Response::Refused(Refusal::Memory),
     }
 }

@@ -1,5 +1,5 @@
 -- What each event does to a world.
-use Rattle.std.specs.Prelude.{◌≡◌, ℕ, ◌<◌, ◌==◌, nat_le, List, Option, Some, None, Result, Ok, Err, MatchOption, MatchResult, ◌⊎◌, MatchBool, All, ⊤, if◌then◌else◌}
+use Rattle.std.specs.Prelude.{◌≡◌, ◌≤◌, ℕ, ◌<◌, ◌==◌, nat_le, List, Option, Some, None, Result, Ok, Err, MatchOption, MatchResult, ◌⊎◌, MatchBool, All, ⊤, if◌then◌else◌}
 use Rattle.std.specs.FinMap as fin
 use Rattle.desk_ops.specs.declared.op.Op.{Op}
 use Rattle.desk_ops.specs.Op.{IsLawful}
@@ -66,10 +66,10 @@ Adds old n result new = MatchResult result
     (λ a. (a ≡ answers.Done) × (new ≡ fin.insert old n no_ops))
     (λ e. (e ≡ refusals.NoMemory) × (new ≡ old))
 
--- a set gains the operations, or those up to one that is refused
+-- a set gains the operations, and is then no more than may be held, or it gains those up to one that is refused
 abbrev pub Gains : OpSet → List Op → Result Count StepRefusal → OpSet → Type 0
 Gains set ops result after = MatchResult result
-    (λ count. (after ≡ with_all set ops) × IsCounted set after ops count)
+    (λ count. (after ≡ with_all set ops) × IsCounted set after ops count × (size after ≤ max_ops))
     (λ e. (stop : Stopped) × (e ≡ refusals.Halted stop) × IsStopped set after ops stop)
 
 -- a site gains operations, wherever they come from; no other changes

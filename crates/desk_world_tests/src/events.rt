@@ -56,7 +56,7 @@ fn turned<A: Allocator + Copy>(
 }
 
 /// The feed of 9.9 `k` after the head.
-const STRANGERS_FEED: &[u8] = b"MFD1\x01\0\0\0\0\0\0\0\x09\0\x09\0\0\0\0\0\0\0\0\0\0\0\0\0\0k";
+const STRANGERS_FEED: &[u8] = b"MFD2\x01\0\0\0\0\0\0\0\x09\0\x09\0\0\0\0\0\0\0\0\0\0\0\0\0\0k";
 
 /// Whether a site's copy, copy faults, settings and feed are those of 9.9 `k` alone.
 fn answers_of_k<A: Allocator + Copy>(world: &World<A>, site: u16) -> Result<bool, NoMemory> {

@@ -1,6 +1,7 @@
 use Rattle.std.proofs.Common.{◌≡◌, ◌+◌, ◌*◌, ◌≤◌, length, drop}
 use Rattle.std.specs.List.{flat_map}
-use Rattle.desk_codec.specs.Feed.{spelling, feed}
+use Rattle.desk_codec.specs.Spelling.{spelling}
+use Rattle.desk_codec.specs.Feed.{feed}
 use Rattle.desk_codec.proofs.writing.feed_size.Given as goal
 
 -- what is counted, and what is left

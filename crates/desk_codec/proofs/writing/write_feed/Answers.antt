@@ -1,6 +1,6 @@
 use Rattle.std.specs.List.{AllByRecursion}
 use Rattle.std.proofs.lemmas.List.{append-nil, take_all, drop_all}
-use Rattle.desk_codec.specs.Feed.{IsValue}
+use Rattle.desk_codec.specs.Spelling.{IsValue}
 use Rattle.desk_codec.proofs.Grammar.{is_feed, one_list}
 use Rattle.desk_codec.proofs.writing.write_feed.Goals as goal
 

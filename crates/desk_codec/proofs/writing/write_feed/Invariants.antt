@@ -1,6 +1,7 @@
 use Rattle.std.proofs.Common.{◌≡◌, ◌++◌, drop, take}
 use Rattle.std.specs.List.{flat_map, AllByRecursion}
-use Rattle.desk_codec.specs.Feed.{spelling, feed, IsValue}
+use Rattle.desk_codec.specs.Spelling.{spelling, IsValue}
+use Rattle.desk_codec.specs.Feed.{feed}
 use Rattle.desk_codec.proofs.writing.write_feed.Given as goal
 
 -- what is written, and what is left

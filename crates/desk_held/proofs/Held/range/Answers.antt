@@ -9,5 +9,5 @@ loop-at-preserved g c =
     record {
       begun = omega (arith, c.loop-at.invariant.begun);
       within = omega (arith, c.min-many.ensures, c.loop-at.invariant.within);
-      copied = c.in_ok-extend_from_slice.ensures.items ∙ copied-more ops c.loop-at.list.items part c.args.from c.loop-at.at c.min-many.result c.loop-at.invariant.begun (omega (arith, c.min-many.ensures)) c.stretch-part.ensures.is c.loop-at.invariant.copied;
+      copied = c.in_ok-append.ensures ∙ copied-more ops c.loop-at.list.items part c.args.from c.loop-at.at c.min-many.result c.loop-at.invariant.begun (omega (arith, c.min-many.ensures)) c.stretch-part.ensures.is c.loop-at.invariant.copied;
     }

@@ -1,8 +1,9 @@
-use Rattle.std.proofs.Common.{◌≡◌, ◌∙◌, ap, inl, inr, refl, subst, sym}
+use Rattle.std.proofs.Common.{ap, inl, inr, refl}
 use Rattle.std.proofs.lemmas.Result.{err_from_is_err_and}
 use Rattle.std.specs.Prelude.{Err}
 use Rattle.desk_steps.specs.Desk.{desk}
-use Rattle.desk_script.specs.Stored.{IsStart, was_read}
+use Rattle.desk_stored.specs.Stored.{was_read}
+use Rattle.desk_script.specs.Stored.{IsStart}
 use Rattle.desk_script.proofs.Feeds.{counts_up, fails_from, fails_later, file_failed, is_there, no_line_fails, no_opening_fails, of_device}
 use Rattle.desk_script.proofs.feed_run.run_on_feed.Goals as goal
 
@@ -28,8 +29,8 @@ returns-in_err-old-clause-err g c =
 pub returns-in_err-old-clause-device : goal.returns-in_err-old-clause-device
 returns-in_err-old-clause-device g c is =
     let p = err_from_is_err_and c.from_residual-in_err-old.result c.from_residual-in_err-old.ensures.1 in
-    fails_from (g.F.Files.shelf c.args.files.now) (g.F.Files.shelf c.hold.new.self) (g.F.Files.shelf c.stored.new.files) c.in_ok-hold.ensures.taken.failures
-    (file_failed c.in_err-old.field-0.0 (g.F.Files.shelf c.hold.new.self) (g.F.Files.shelf c.stored.new.files) (of_device _ _ _ p.1 p.2 is) c.in_err-old.ensures.err.2)
+    fails_from (g.F.Files.shelf c.args.files.now) (g.F.Files.shelf c.hold.new.self) (g.F.Files.shelf c.stored_bytes.new.files) c.in_ok-hold.ensures.taken.failures
+    (file_failed c.in_err-old.field-0.0 (g.F.Files.shelf c.hold.new.self) (g.F.Files.shelf c.stored_bytes.new.files) (of_device _ _ _ p.1 p.2 is) c.in_err-old.ensures.err.2)
 
 -- ---- it was not opened
 
@@ -39,7 +40,7 @@ returns-in_err-world-clause-err g c =
     rw p.1 (inr (
       g.F.Files.shelf c.hold.new.self,
       c.in_ok-hold.ensures.taken,
-      inr (inl (refl, c.in_err-world.field-0.0, p.2, (was_read c.in_ok-old.old, c.in_ok-old.ensures.ok.0, c.in_ok-old.ensures.ok.1, c.stored.ensures.stays, c.in_err-world.ensures.err))),
+      inr (inl (refl, c.in_err-world.field-0.0, p.2, (was_read c.in_ok-old.old, c.in_ok-old.ensures.ok.0, c.in_ok-old.ensures.ok.1, c.stored_bytes.ensures.stays, c.in_err-world.ensures.err))),
     ))
 
 pub returns-in_err-world-clause-device : goal.returns-in_err-world-clause-device
@@ -51,8 +52,8 @@ returns-in_err-world-clause-device g c is =
 
 pub returns-in_err-answer_all-clause-err : goal.returns-in_err-answer_all-clause-err
 returns-in_err-answer_all-clause-err g c =
-    let start : IsStart c.args.name.now c.args.site (g.F.Files.shelf c.hold.new.self) (was_read c.in_ok-old.old) (desk c.in_ok-world.world (g.F.Files.shelf c.stored.new.files)) =
-    (c.in_ok-old.ensures.ok.0, c.in_ok-old.ensures.ok.1, c.in_ok-world.ensures.ok.0, c.in_ok-world.ensures.ok.1, c.in_ok-world.ensures.ok.2, c.stored.ensures.stays) in
+    let start : IsStart c.args.name.now c.args.site (g.F.Files.shelf c.hold.new.self) (was_read c.in_ok-old.old) (desk c.in_ok-world.world (g.F.Files.shelf c.stored_bytes.new.files)) =
+    (c.in_ok-old.ensures.ok.0, c.in_ok-old.ensures.ok.1, c.in_ok-world.ensures.ok.0, c.in_ok-world.ensures.ok.1, c.in_ok-world.ensures.ok.2, c.stored_bytes.ensures.stays) in
     let p = err_from_is_err_and c.from_residual-in_err-answer_all.result c.from_residual-in_err-answer_all.ensures.1 in
     rw p.1 (inr (
       g.F.Files.shelf c.hold.new.self,
@@ -60,7 +61,7 @@ returns-in_err-answer_all-clause-err g c =
       inr (inr (inl (
         c.in_err-answer_all.field-0.0,
         p.2,
-        (was_read c.in_ok-old.old, desk c.in_ok-world.world (g.F.Files.shelf c.stored.new.files), start, c.answer_all.ensures.stays, c.in_err-answer_all.ensures.err),
+        (was_read c.in_ok-old.old, desk c.in_ok-world.world (g.F.Files.shelf c.stored_bytes.new.files), start, c.answer_all.ensures.stays, c.in_err-answer_all.ensures.err),
       ))),
     ))
 
@@ -76,8 +77,8 @@ keep_feed-requires g c = is_there c.args.site c.in_ok-world.ensures.ok.0 c.in_ok
 
 pub returns-in_err-keep_feed-clause-err : goal.returns-in_err-keep_feed-clause-err
 returns-in_err-keep_feed-clause-err g c =
-    let start : IsStart c.args.name.now c.args.site (g.F.Files.shelf c.hold.new.self) (was_read c.in_ok-old.old) (desk c.in_ok-world.world (g.F.Files.shelf c.stored.new.files)) =
-    (c.in_ok-old.ensures.ok.0, c.in_ok-old.ensures.ok.1, c.in_ok-world.ensures.ok.0, c.in_ok-world.ensures.ok.1, c.in_ok-world.ensures.ok.2, c.stored.ensures.stays) in
+    let start : IsStart c.args.name.now c.args.site (g.F.Files.shelf c.hold.new.self) (was_read c.in_ok-old.old) (desk c.in_ok-world.world (g.F.Files.shelf c.stored_bytes.new.files)) =
+    (c.in_ok-old.ensures.ok.0, c.in_ok-old.ensures.ok.1, c.in_ok-world.ensures.ok.0, c.in_ok-world.ensures.ok.1, c.in_ok-world.ensures.ok.2, c.stored_bytes.ensures.stays) in
     let p = err_from_is_err_and c.from_residual-in_err-keep_feed.result c.from_residual-in_err-keep_feed.ensures.1 in
     rw p.1 (inr (
       g.F.Files.shelf c.hold.new.self,
@@ -87,7 +88,7 @@ returns-in_err-keep_feed-clause-err g c =
         p.2,
         (
           was_read c.in_ok-old.old,
-          desk c.in_ok-world.world (g.F.Files.shelf c.stored.new.files),
+          desk c.in_ok-world.world (g.F.Files.shelf c.stored_bytes.new.files),
           start,
           desk c.answer_all.new.world (g.F.Files.shelf c.answer_all.new.files),
           (c.answer_all.ensures.stays, c.in_ok-answer_all.ensures.ok),
@@ -102,17 +103,17 @@ returns-in_err-keep_feed-clause-device g c is =
     let device = of_device _ _ _ p.1 p.2 is in
     let mid = g.F.Files.shelf c.answer_all.new.files in
     let last = g.F.Files.shelf c.keep_feed.new.files in
-    fails_later (g.F.Files.shelf c.args.files.now).failures (g.F.Files.shelf c.hold.new.self).failures (g.F.Files.shelf c.stored.new.files).failures mid.failures last.failures c.in_ok-hold.ensures.taken.failures c.stored.ensures.stays.1 c.answer_all.ensures.stays.1
+    fails_later (g.F.Files.shelf c.args.files.now).failures (g.F.Files.shelf c.hold.new.self).failures (g.F.Files.shelf c.stored_bytes.new.files).failures mid.failures last.failures c.in_ok-hold.ensures.taken.failures c.stored_bytes.ensures.stays.1 c.answer_all.ensures.stays.1
     (file_failed c.in_err-keep_feed.field-0.0 mid last device c.in_err-keep_feed.ensures.err.3) (counts_up c.in_err-keep_feed.field-0.0 mid last c.in_err-keep_feed.ensures.err.3)
 
 pub returns-clause-ok : goal.returns-clause-ok
 returns-clause-ok g c =
-    let start : IsStart c.args.name.now c.args.site (g.F.Files.shelf c.hold.new.self) (was_read c.in_ok-old.old) (desk c.in_ok-world.world (g.F.Files.shelf c.stored.new.files)) =
-    (c.in_ok-old.ensures.ok.0, c.in_ok-old.ensures.ok.1, c.in_ok-world.ensures.ok.0, c.in_ok-world.ensures.ok.1, c.in_ok-world.ensures.ok.2, c.stored.ensures.stays) in (
+    let start : IsStart c.args.name.now c.args.site (g.F.Files.shelf c.hold.new.self) (was_read c.in_ok-old.old) (desk c.in_ok-world.world (g.F.Files.shelf c.stored_bytes.new.files)) =
+    (c.in_ok-old.ensures.ok.0, c.in_ok-old.ensures.ok.1, c.in_ok-world.ensures.ok.0, c.in_ok-world.ensures.ok.1, c.in_ok-world.ensures.ok.2, c.stored_bytes.ensures.stays) in (
       g.F.Files.shelf c.hold.new.self,
       c.in_ok-hold.ensures.taken,
       was_read c.in_ok-old.old,
-      desk c.in_ok-world.world (g.F.Files.shelf c.stored.new.files),
+      desk c.in_ok-world.world (g.F.Files.shelf c.stored_bytes.new.files),
       start,
       desk c.answer_all.new.world (g.F.Files.shelf c.answer_all.new.files),
       (c.answer_all.ensures.stays, c.in_ok-answer_all.ensures.ok),

@@ -1,4 +1,4 @@
-use Rattle.std.proofs.Common.{◌++◌, sym, subst}
+use Rattle.std.proofs.Common.{sym, subst}
 use Rattle.desk_files.proofs.Shelves.{stays_same}
 use Rattle.desk_steps.specs.Desk.{desk}
 use Rattle.desk_script.specs.Script.{Fronts}

@@ -1,5 +1,5 @@
 use Rattle.std.proofs.Common.{◌+◌, ◌∙◌, ap, drop, subst}
-use Rattle.std.specs.Prelude.{Some, option_map}
+use Rattle.std.specs.Prelude.{Some}
 use Rattle.desk_ops.specs.declared.op.Stamp.{Stamp}
 use Rattle.desk_ops.specs.declared.op.Style.TheVariants.{Roman}
 use Rattle.desk_answers.specs.NotDone.{reply_of}
@@ -9,8 +9,9 @@ use Rattle.desk_steps.proofs.insert.insert_all.Goals as goal
 
 pub returns-in-Err : goal.returns-in-Err
 returns-in-Err g c =
-    stops_at c.loop-symbol.world c.step.new.self c.args.site c.args.place c.loop-symbol.count c.loop-symbol.stamps c.args.copy.now c.loop-symbol.symbol-index (record { style = Roman; ch = 0 }) c.in-Err.why (reply_of c.after.result) _
-    c.loop-symbol-test.true c.in-Err.ensures.steps (c.after.ensures ∙ ap (option_map (after c.loop-symbol.count)) c.from.ensures) (λ reply. c.loop-symbol.invariant.goes_on reply c.step.new.self)
+    c.loop-symbol.invariant.goes_on (reply_of c.after.result) c.step.new.self
+    (stops_at c.loop-symbol.world c.step.new.self c.args.site c.args.place c.loop-symbol.count c.loop-symbol.stamps c.args.copy.now c.loop-symbol.symbol-index (record { style = Roman; ch = 0 }) c.in-Err.why (reply_of c.after.result)
+    c.loop-symbol-test.true c.in-Err.ensures.steps (c.after.ensures ∙ ap (after c.loop-symbol.count) c.from.ensures))
 
 pub loop-symbol-preserved : goal.loop-symbol-preserved
 loop-symbol-preserved g c = record {

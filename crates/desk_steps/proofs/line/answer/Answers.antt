@@ -1,6 +1,8 @@
 use Rattle.desk_answers.specs.Reply.{Refused, Stopped, reply}
+use Rattle.desk_answers.specs.declared.text.Refusal.TheVariants as refusals
 use Rattle.desk_steps.specs.Desk.{desk}
 use Rattle.desk_steps.specs.Line.{line_of}
+use Rattle.desk_steps.proofs.Asking.{allows_same}
 use Rattle.desk_steps.proofs.Keeping.{allows_keep}
 use Rattle.desk_steps.proofs.line.answer.Goals as goal
 
@@ -17,3 +19,12 @@ pub returns-in-Err-Stopped-clause-sites : goal.returns-in-Err-Stopped-clause-sit
 returns-in-Err-Stopped-clause-sites g c =
     allows_keep (desk c.args.world.now (g.F.Files.shelf c.args.files.now)) (desk c.do_line.new.world (g.F.Files.shelf c.do_line.new.files)) (line_of c.args.line.now) (Stopped c.in-Err-Stopped.taken c.in-Err-Stopped.why)
     (rw c.in-Err-Stopped.field-0-is at c.in-Err-Stopped.ensures.done)
+
+pub returns-in-Ok-clause-unchanged : goal.returns-in-Ok-clause-unchanged
+returns-in-Ok-clause-unchanged g c long =
+    allows_same (desk c.args.world.now (g.F.Files.shelf c.args.files.now)) (desk c.do_line.new.world (g.F.Files.shelf c.do_line.new.files)) (line_of c.args.line.now) (reply c.in-Ok.response) long c.in-Ok.ensures.done
+
+pub returns-in-Err-NoMemory-clause-sites : goal.returns-in-Err-NoMemory-clause-sites
+returns-in-Err-NoMemory-clause-sites g c =
+    allows_keep (desk c.args.world.now (g.F.Files.shelf c.args.files.now)) (desk c.do_line.new.world (g.F.Files.shelf c.do_line.new.files)) (line_of c.args.line.now) (Refused refusals.Memory)
+    (rw c.in-Err-NoMemory.field-0-is at c.in-Err-NoMemory.ensures.done)

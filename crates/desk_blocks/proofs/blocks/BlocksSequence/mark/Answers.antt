@@ -10,14 +10,14 @@ use Rattle.desk_blocks.proofs.blocks.BlocksSequence.mark.Goals as goal
 pub returns-clause-marked : goal.returns-clause-marked
 returns-clause-marked g c =
     let es = c.self.inside.pages.entries in
-    let e : Entry = c.entry-entry.result in
-    rw (← c.self.view_is) (c.set.ensures.set ∙ ap (λ (x : Entry). set es c.args.i (marked x)) c.entry-entry.ensures ∙ set-mark es c.args.i e)
+    let e : Entry = c.entry-slot.result in
+    rw (← c.self.view_is) (c.set.ensures.set ∙ ap (λ (x : Entry). set es c.args.i x) (c.marked.ensures ∙ ap (λ (x : Entry). marked x) c.entry-slot.ensures) ∙ set-mark es c.args.i e)
 
 pub invariant_of-self : goal.invariant_of-self
 invariant_of-self g c =
     let es = c.self.inside.pages.entries in
-    let e : Entry = c.entry-entry.result in
-    let is : c.set.new.self.entries ≡ with_mark es c.args.i = c.set.ensures.set ∙ ap (λ (x : Entry). set es c.args.i (marked x)) c.entry-entry.ensures ∙ set-mark es c.args.i e in (
+    let e : Entry = c.entry-slot.result in
+    let is : c.set.new.self.entries ≡ with_mark es c.args.i = c.set.ensures.set ∙ ap (λ (x : Entry). set es c.args.i x) (c.marked.ensures ∙ ap (λ (x : Entry). marked x) c.entry-slot.ensures) ∙ set-mark es c.args.i e in (
       subst AreDistinct (sym is) (distinct-mark es c.args.i c.self.invariant.0),
       subst (λ (ts : List Stamp). Knows c.self.inside.index.stamps ts) (sym (ap stamps_of is ∙ stamps-mark es c.args.i)) c.self.invariant.1,
     )

@@ -28,19 +28,19 @@ invariant_of-self g c =
     let es = c.self.inside.pages.entries in
     let absent : IsAbsent c.args.entry.stamp es = subst (λ (v : Listing). IsAbsent c.args.entry.stamp v.entries) (sym c.self.view_is) c.requires.absent in
     let within : c.args.i ≤ length es = subst (λ (v : Listing). c.args.i ≤ length v.entries) (sym c.self.view_is) c.requires.within in
-    both es c.insert-placed.new.self.entries c.self.inside.index.stamps c.put.new.self.stamps c.args.i c.args.entry c.self.invariant.0 c.self.invariant.1 absent within c.insert-placed.ensures.put c.put.ensures.put
+    both es c.insert-placed.new.self.entries c.self.inside.index.stamps c.put.new.self.stamps c.args.i c.args.entry c.self.invariant.0 c.self.invariant.1 absent within (c.insert-placed.ensures.put ∙ ap (λ (e : Entry). insert es c.args.i e) c.of.ensures) c.put.ensures.put
 
 pub invariant_of-self-else-from-len : goal.invariant_of-self-else-from-len
 invariant_of-self-else-from-len g c =
     let es = c.self.inside.pages.entries in
     let absent : IsAbsent c.args.entry.stamp es = subst (λ (v : Listing). IsAbsent c.args.entry.stamp v.entries) (sym c.self.view_is) c.requires.absent in
     let within : c.args.i ≤ length es = subst (λ (v : Listing). c.args.i ≤ length v.entries) (sym c.self.view_is) c.requires.within in
-    both es c.insert-placed.new.self.entries c.self.inside.index.stamps c.put.new.self.stamps c.args.i c.args.entry c.self.invariant.0 c.self.invariant.1 absent within c.insert-placed.ensures.put c.put.ensures.put
+    both es c.insert-placed.new.self.entries c.self.inside.index.stamps c.put.new.self.stamps c.args.i c.args.entry c.self.invariant.0 c.self.invariant.1 absent within (c.insert-placed.ensures.put ∙ ap (λ (e : Entry). insert es c.args.i e) c.of.ensures) c.put.ensures.put
 
 pub invariant_of-self-2 : goal.invariant_of-self-2
 invariant_of-self-2 g c =
     let es = c.self.inside.pages.entries in
     let absent : IsAbsent c.args.entry.stamp es = subst (λ (v : Listing). IsAbsent c.args.entry.stamp v.entries) (sym c.self.view_is) c.requires.absent in
     let within : c.args.i ≤ length es = subst (λ (v : Listing). c.args.i ≤ length v.entries) (sym c.self.view_is) c.requires.within in
-    let two = both es c.insert-placed.new.self.entries c.self.inside.index.stamps c.put.new.self.stamps c.args.i c.args.entry c.self.invariant.0 c.self.invariant.1 absent within c.insert-placed.ensures.put c.put.ensures.put in
+    let two = both es c.insert-placed.new.self.entries c.self.inside.index.stamps c.put.new.self.stamps c.args.i c.args.entry c.self.invariant.0 c.self.invariant.1 absent within (c.insert-placed.ensures.put ∙ ap (λ (e : Entry). insert es c.args.i e) c.of.ensures) c.put.ensures.put in
     (two.0, subst (λ (ts : List Stamp). Knows ts (stamps_of c.insert-placed.new.self.entries)) (sym c.renew_all.ensures.same) two.1)

@@ -1,9 +1,0 @@
-use Rattle.std.proofs.Common.{refl, arith}
-use Rattle.desk_blocks.proofs.Tallies.{tally-replace}
-use Rattle.desk_blocks.proofs.tally.TallySummaryEntry.replaced.Goals as goal
-
-pub returns-then-old : goal.returns-then-old
-returns-then-old c = λ xs i f w is h. tally-replace c.with-tally.result c.with-tally.result xs i c.args.new c.args.old w is (c.with-tally.ensures xs i f (omega arith) h) refl (rw c.if-old.true (omega arith))
-
-pub returns : goal.returns
-returns c = λ xs i f w is h. tally-replace c.with-tally.result (record { shown = c.saturating_sub.result; least = c.with-tally.result.least }) xs i c.args.new c.args.old w is (c.with-tally.ensures xs i f (omega arith) h) refl (rw c.if-old.false (omega (arith, c.saturating_sub.ensures)))

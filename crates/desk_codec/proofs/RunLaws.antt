@@ -1,0 +1,167 @@
+-- What reading a run gives.
+use Rattle.std.proofs.Common.{◌≡◌, ℕ, ◌+◌, ◌-◌, ◌*◌, ◌^◌, ◌<◌, ◌≤◌, List, [], ◌∷◌, ◌++◌, length, get_or, Result, Ok, Err, refl, sym, ap, subst, ◌∙◌, ◌⊎◌, inl, inr, append_assoc, length-append, arith}
+use Rattle.std.specs.Prelude.{IfOk, IfErr}
+use Rattle.std.specs.Int.{w32, to_be_bytes}
+use Rattle.std.specs.List.{flat_map}
+use Rattle.std.proofs.lemmas.List.Concat.{flat_map-cons}
+use Rattle.desk_ops.specs.declared.op.Stamp.{Stamp}
+use Rattle.desk_ops.specs.declared.op.Op.{Op}
+use Rattle.desk_ops.specs.declared.op.Op.TheVariants as ops
+use Rattle.desk_ops.specs.declared.op.Unlawful.{Unlawful}
+use Rattle.desk_codec.specs.declared.form.FeedForm.{FeedForm}
+use Rattle.desk_codec.specs.declared.form.FeedForm.TheVariants.{Singles, Runs}
+use Rattle.desk_codec.specs.declared.fault.FeedWhy.{FeedWhy}
+use Rattle.desk_codec.specs.declared.fault.FeedWhy.TheVariants as why
+use Rattle.desk_codec.specs.declared.fields.Fields.TheVariants.{Insert}
+use Rattle.desk_codec.specs.declared.items.ItemFault.{ItemFault}
+use Rattle.desk_codec.specs.declared.items.ItemFault.TheVariants.{Wrong, NoMemory}
+use Rattle.desk_codec.specs.Spelling.{spelling, IsHeld}
+use Rattle.desk_codec.specs.Item.{One, Run, next_stamp, run_ops, symbol_spelling}
+use Rattle.desk_codec.specs.Fault.{fields_of, cause, Mark, mark_bytes, ItemFields, OneOf, RunOf, MayStand, IsNoRun, IsCut, IsWrong}
+use Rattle.desk_codec.specs.ItemReading.{GivesItem, RefusesItem, RunFront, GivesInserts, HasUnlawful, RefusesInserts}
+use Rattle.desk_codec.proofs.Numbers.{IsBytes}
+use Rattle.desk_codec.proofs.HereLaws.{InsertOf, insert_of, cause_after, cause_first, marks_here, rest_bytes, begins, run_stands, run_there, run_unlawful}
+use Rattle.desk_codec.proofs.FaultLaws.{begins_length}
+
+-- ---- an insert before the others
+
+inserts_before : (stamp parent : Stamp) (count : ℕ) (bytes rest end : List ℕ) (style ch : ℕ) (op : Op) (before mid after : List Op) → (count ≡ 0 → ⊥) → IsHeld op → InsertOf op stamp parent style ch → bytes ≡ style ∷ to_be_bytes w32 ch ++ rest → mid ≡ before ++ op ∷ []
+    → GivesInserts (next_stamp stamp) stamp (count - 1) rest mid after end → GivesInserts stamp parent count bytes before after end
+inserts_before stamp parent count bytes rest end style ch op before mid after some held i e m f =
+    let first : symbol_spelling i.symbol ≡ style ∷ to_be_bytes w32 ch = ap mark_bytes i.mark in
+    let many = f.many in
+    record {
+      symbols = i.symbol ∷ f.symbols;
+      many = omega (arith, many, some);
+      each = (subst (λ (o : Op). IsHeld o) i.is held, f.each);
+      is = f.is ∙ ap (λ (l : List Op). l ++ run_ops (next_stamp stamp) stamp f.symbols) m ∙ append_assoc before (op ∷ []) (run_ops (next_stamp stamp) stamp f.symbols) ∙ ap (λ (o : Op). before ++ o ∷ run_ops (next_stamp stamp) stamp f.symbols) i.is;
+      front = e
+          ∙ ap (λ (l : List ℕ). l ++ rest) (sym first)
+          ∙ ap (λ (l : List ℕ). symbol_spelling i.symbol ++ l) f.front
+          ∙ sym (append_assoc (symbol_spelling i.symbol) (flat_map symbol_spelling f.symbols) end)
+          ∙ ap (λ (l : List ℕ). l ++ end) (sym (flat_map-cons symbol_spelling i.symbol f.symbols));
+    }
+
+pub inserts_more : {V : Type 0} (view : V → List ℕ) (r : Result V ItemFault) (stamp parent : Stamp) (count : ℕ) (bytes rest : List ℕ) (style ch : ℕ) (op : Op) (before mid after : List Op) → (count ≡ 0 → ⊥) → IsHeld op → fields_of op ≡ Insert stamp parent style ch
+    → bytes ≡ style ∷ to_be_bytes w32 ch ++ rest → mid ≡ before ++ op ∷ [] → IfOk r (λ v. GivesInserts (next_stamp stamp) stamp (count - 1) rest mid after (view v)) → IfOk r (λ v. GivesInserts stamp parent count bytes before after (view v))
+inserts_more view (Ok v) stamp parent count bytes rest style ch op before mid after some held is e m f = inserts_before stamp parent count bytes rest (view v) style ch op before mid after some held (insert_of op stamp parent style ch is) e m f
+inserts_more view (Err fault) stamp parent count bytes rest style ch op before mid after some held is e m f = tt
+
+mark_there : (mark : Mark) (marks : List Mark) (bytes rest end : List ℕ) → bytes ≡ mark_bytes mark ++ rest → rest ≡ flat_map mark_bytes marks ++ end → bytes ≡ flat_map mark_bytes (mark ∷ marks) ++ end
+mark_there mark marks bytes rest end e f = e ∙ ap (λ (l : List ℕ). mark_bytes mark ++ l) f ∙ sym (append_assoc (mark_bytes mark) (flat_map mark_bytes marks) end) ∙ ap (λ (l : List ℕ). l ++ end) (sym (flat_map-cons mark_bytes mark marks))
+
+unlawful_before : (stamp parent : Stamp) (count : ℕ) (bytes rest : List ℕ) (style ch : ℕ) (op : Op) (first : Unlawful) → (count ≡ 0 → ⊥) → style < 2 ^ 8 → ch < 2 ^ 32 → IsHeld op → fields_of op ≡ Insert stamp parent style ch → bytes ≡ style ∷ to_be_bytes w32 ch ++ rest
+    → HasUnlawful (next_stamp stamp) stamp (count - 1) rest first → HasUnlawful stamp parent count bytes first
+unlawful_before stamp parent count bytes rest style ch op first some s c held is e h =
+    let mark : Mark = record { style = style; ch = ch } in
+    let many = h.many in
+    record {
+      marks = mark ∷ h.marks;
+      many = omega (arith, many, some);
+      values = ((s, c), h.values);
+      rest = h.rest;
+      front = mark_there mark h.marks bytes rest h.rest e h.front;
+      is = cause_after stamp parent mark h.marks op first held is h.is;
+    }
+
+refused_before : (fault : ItemFault) (stamp parent : Stamp) (count : ℕ) (bytes rest : List ℕ) (style ch : ℕ) (op : Op) → (count ≡ 0 → ⊥) → style < 2 ^ 8 → ch < 2 ^ 32 → IsHeld op → fields_of op ≡ Insert stamp parent style ch → bytes ≡ style ∷ to_be_bytes w32 ch ++ rest
+    → RefusesInserts (next_stamp stamp) stamp (count - 1) rest fault → RefusesInserts stamp parent count bytes fault
+refused_before (Wrong why.Magic) stamp parent count bytes rest style ch op some s c held is e h = h
+refused_before (Wrong why.Kind) stamp parent count bytes rest style ch op some s c held is e h = h
+refused_before (Wrong (why.Unlawful first)) stamp parent count bytes rest style ch op some s c held is e h = unlawful_before stamp parent count bytes rest style ch op first some s c held is e h
+refused_before (Wrong why.Cut) stamp parent count bytes rest style ch op some s c held is e h = h
+refused_before (Wrong why.Run) stamp parent count bytes rest style ch op some s c held is e h = h
+refused_before NoMemory stamp parent count bytes rest style ch op some s c held is e h = tt
+
+pub refused_more : {V : Type 0} (r : Result V ItemFault) (stamp parent : Stamp) (count : ℕ) (bytes rest : List ℕ) (style ch : ℕ) (op : Op) → (count ≡ 0 → ⊥) → style < 2 ^ 8 → ch < 2 ^ 32 → IsHeld op → fields_of op ≡ Insert stamp parent style ch → bytes ≡ style ∷ to_be_bytes w32 ch ++ rest
+    → IfErr r (λ fault. RefusesInserts (next_stamp stamp) stamp (count - 1) rest fault) → IfErr r (λ fault. RefusesInserts stamp parent count bytes fault)
+refused_more (Ok v) stamp parent count bytes rest style ch op some s c held is e h = tt
+refused_more (Err fault) stamp parent count bytes rest style ch op some s c held is e h = refused_before fault stamp parent count bytes rest style ch op some s c held is e h
+
+-- the first insert is not lawful, whatever the others are
+pub refused_first : (stamp parent : Stamp) (count : ℕ) (bytes rest : List ℕ) (style ch : ℕ) (first : Unlawful) → (count ≡ 0 → ⊥) → style < 2 ^ 8 → ch < 2 ^ 32 → IsBytes bytes → 5 * count ≤ length bytes → bytes ≡ style ∷ to_be_bytes w32 ch ++ rest → cause (Insert stamp parent style ch) ≡ Err first
+    → HasUnlawful stamp parent count bytes first
+refused_first stamp parent count bytes rest style ch first some s c fits long e is =
+    let mark : Mark = record { style = style; ch = ch } in
+    let len : length bytes ≡ 5 + length rest = ap (λ (l : List ℕ). length l) e ∙ length-append (mark_bytes mark) rest in
+    let m = marks_here (count - 1) rest (rest_bytes bytes (mark_bytes mark) rest fits e) (omega (arith, long, len, some)) in
+    let many = m.many in
+    record { marks = mark ∷ m.marks; many = omega (arith, many, some); values = ((s, c), m.values); rest = m.rest; front = mark_there mark m.marks bytes rest m.rest e m.front; is = cause_first stamp parent mark m.marks first is }
+
+-- ---- a run
+
+pub miscounted : (bytes : List ℕ) (stamp parent : Stamp) (count : ℕ) (rest : List ℕ) → RunFront bytes stamp parent count rest → (count < 2) ⊎ ((2 ≤ count) × (64 < count)) → IsNoRun Runs bytes
+miscounted bytes stamp parent count rest h (inl few) = record { runs = tt; count = count; rest = rest; front = begins bytes stamp parent count rest h.front; out = λ within. let least = within.0 in omega (arith, few, least) }
+miscounted bytes stamp parent count rest h (inr many) = record { runs = tt; count = count; rest = rest; front = begins bytes stamp parent count rest h.front; out = λ within. let most = within.1 in let out = many.1 in omega (arith, out, most) }
+
+pub cut_symbols : (bytes : List ℕ) (stamp parent : Stamp) (count : ℕ) (rest : List ℕ) → RunFront bytes stamp parent count rest → 2 ≤ count → count ≤ 64 → length rest < 5 * count → IsCut Runs bytes
+cut_symbols bytes stamp parent count rest h least most short = inr (inr (record { runs = tt; count = count; rest = rest; front = begins bytes stamp parent count rest h.front; within = (least, most); short = short }))
+
+pub run_given : {V : Type 0} (view : V → List ℕ) (r : Result V ItemFault) (bytes : List ℕ) (stamp parent : Stamp) (count : ℕ) (rest : List ℕ) (before after : List Op) → RunFront bytes stamp parent count rest → 2 ≤ count → count ≤ 64
+    → IfOk r (λ v. GivesInserts stamp parent count rest before after (view v)) → IfOk r (λ v. GivesItem Runs bytes before after (view v))
+run_given view (Ok v) bytes stamp parent count rest before after h least most g =
+    record { item = Run stamp parent g.symbols; stands = run_stands Runs stamp parent count g.symbols tt (least, most) g.many g.each; is = g.is; front = run_there bytes stamp parent count rest (view v) g.symbols h.front g.many g.front }
+run_given view (Err fault) bytes stamp parent count rest before after h least most g = tt
+
+refused_at : (fault : ItemFault) (bytes : List ℕ) (stamp parent : Stamp) (count : ℕ) (rest : List ℕ) → RunFront bytes stamp parent count rest → 2 ≤ count → count ≤ 64 → RefusesInserts stamp parent count rest fault → RefusesItem Runs bytes fault
+refused_at (Wrong why.Magic) bytes stamp parent count rest h least most g = absurd g
+refused_at (Wrong why.Kind) bytes stamp parent count rest h least most g = absurd g
+refused_at (Wrong (why.Unlawful first)) bytes stamp parent count rest h least most g = run_unlawful Runs bytes stamp parent count rest g.rest g.marks first tt h.stamp_value h.parent_value h.front (least, most) g.many g.values g.front g.is
+refused_at (Wrong why.Cut) bytes stamp parent count rest h least most g = absurd g
+refused_at (Wrong why.Run) bytes stamp parent count rest h least most g = absurd g
+refused_at NoMemory bytes stamp parent count rest h least most g = let len = begins_length bytes count rest (begins bytes stamp parent count rest h.front) in omega (arith, len)
+
+pub run_refused : {V : Type 0} (r : Result V ItemFault) (bytes : List ℕ) (stamp parent : Stamp) (count : ℕ) (rest : List ℕ) → RunFront bytes stamp parent count rest → 2 ≤ count → count ≤ 64
+    → IfErr r (λ fault. RefusesInserts stamp parent count rest fault) → IfErr r (λ fault. RefusesItem Runs bytes fault)
+run_refused (Ok v) bytes stamp parent count rest h least most g = tt
+run_refused (Err fault) bytes stamp parent count rest h least most g = refused_at fault bytes stamp parent count rest h least most g
+
+-- ---- an item whose kind is no run's
+
+kind_here : (bytes : List ℕ) (kind : ℕ) (rest : List ℕ) → bytes ≡ kind ∷ rest → get_or bytes 0 0 ≡ kind
+kind_here bytes kind rest e = ap (λ (l : List ℕ). get_or l 0 0) e
+
+stand_on : (form : FeedForm) (fields : ItemFields) → MayStand Singles fields → MayStand form fields
+stand_on form (OneOf fields) h = tt
+stand_on form (RunOf stamp parent marks) h = absurd h.0
+
+cut_on : (form : FeedForm) (bytes : List ℕ) → IsCut Singles bytes → IsCut form bytes
+cut_on form bytes (inl h) = inl h
+cut_on form bytes (inr (inl h)) = absurd h.runs
+cut_on form bytes (inr (inr h)) = absurd h.runs
+
+pub other_wrong : (form : FeedForm) (bytes : List ℕ) (w : FeedWhy) → (get_or bytes 0 0 ≡ 4 → ⊥) → IsWrong Singles bytes w → IsWrong form bytes w
+other_wrong form bytes why.Magic n h = h
+other_wrong form bytes why.Kind n h = record { kind = h.kind; rest = h.rest; front = h.front; none = h.none; no_run = λ runs e. n (kind_here bytes h.kind h.rest h.front ∙ e) }
+other_wrong form bytes (why.Unlawful u) n h = record { fields = h.fields; values = h.values; stands = stand_on form h.fields h.stands; rest = h.rest; front = h.front; is = h.is }
+other_wrong form bytes why.Cut n h = cut_on form bytes h
+other_wrong form bytes why.Run n h = absurd h.runs
+
+pub op_given : (form : FeedForm) (bytes rest : List ℕ) (op : Op) (before after : List Op) → IsHeld op → bytes ≡ spelling op ++ rest → after ≡ before ++ op ∷ [] → GivesItem form bytes before after rest
+op_given form bytes rest op before after held e is = record { item = One op; stands = held; is = is; front = e }
+
+op_length : (op : Op) → 16 ≤ length (spelling op)
+op_length (ops.Insert s p y) = omega arith
+op_length (ops.Delete s t) = omega arith
+op_length (ops.Set s k v) = omega arith
+
+pub op_whole : (bytes rest : List ℕ) (op : Op) → bytes ≡ spelling op ++ rest → 16 ≤ length bytes
+op_whole bytes rest op e =
+    let len : length bytes ≡ length (spelling op) + length rest = ap (λ (l : List ℕ). length l) e ∙ length-append (spelling op) rest in
+    let some = op_length op in
+    omega (arith, len, some)
+
+four_here : (bytes : List ℕ) → 0 < length bytes → get_or bytes 0 0 ≡ 4 → (rest : List ℕ) × (bytes ≡ 4 ∷ rest)
+four_here [] some e = absurd (omega arith)
+four_here (k ∷ bytes) some e = (bytes, ap (λ (n : ℕ). n ∷ bytes) e)
+
+-- in a feed of single operations a run's kind is none
+pub no_kind : (bytes : List ℕ) → 0 < length bytes → get_or bytes 0 0 ≡ 4 → IsWrong Singles bytes why.Kind
+no_kind bytes some e = let h = four_here bytes some e in record { kind = 4; rest = h.0; front = h.1; none = refl; no_run = λ runs f. runs }
+
+pub cut_front : (bytes : List ℕ) → 0 < length bytes → get_or bytes 0 0 ≡ 4 → length bytes < 22 → IsCut Runs bytes
+cut_front bytes some e short = let h = four_here bytes some e in inr (inl (record { runs = tt; rest = h.0; front = h.1; short = short }))
+
+-- inserts are never told as cut
+pub never_cut : {V : Type 0} (r : Result V ItemFault) (stamp parent : Stamp) (count : ℕ) (rest : List ℕ) → IfErr r (λ fault. RefusesInserts stamp parent count rest fault) → r ≡ Err (Wrong why.Cut) → ⊥
+never_cut {V} r stamp parent count rest h e = subst (λ (x : Result V ItemFault). IfErr x (λ fault. RefusesInserts stamp parent count rest fault)) e h

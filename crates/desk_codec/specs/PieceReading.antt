@@ -1,0 +1,41 @@
+-- How a reader of pieces goes on.
+use Rattle.std.specs.Prelude.{◌≡◌, ◌≢◌, ℕ, ◌+◌, ◌≤◌, ◌<◌, List, ◌++◌, length, Option, Some, None}
+use Rattle.desk_codec.specs.declared.fault.FeedWhy.TheVariants as why
+use Rattle.desk_codec.specs.declared.fault.ReadFault.{ReadFault}
+use Rattle.desk_codec.specs.declared.fault.ReadFault.TheVariants.{Fault, Failed, NoMemory}
+use Rattle.desk_codec.specs.declared.form.FeedForm.{FeedForm}
+use Rattle.desk_codec.specs.Fault.{GoesWrong}
+use Rattle.desk_codec.specs.Pieces.{Reader, place_of, IsUnended, ShowsFirst, MayHoldMore}
+
+-- fewer than so many bytes more make nothing whole, and there is room for them
+pub record Lacks (form : FeedForm) (kept : List ℕ) (missing : ℕ) : Type 0 where
+  pub some : 0 < missing
+  pub room : missing + length kept ≤ 342
+  pub unended : (more : List ℕ) → length more < missing → IsUnended form (kept ++ more)
+
+-- what is kept of a magic, or of an item after it
+abbrev pub Keeps : Option FeedForm → ℕ → List ℕ → ℕ → Type 0
+Keeps None place kept missing = (place ≡ 0) × (0 < missing) × (missing + length kept ≡ 4)
+Keeps (Some form) place kept missing = (4 ≤ place) × Lacks form kept missing
+
+-- the bytes that a reader keeps are among those that it took
+pub record IsReader (r : Reader) (missing : ℕ) : Type 0 where
+  pub within : length r.kept ≤ r.taken
+  pub keeps : Keeps r.form (place_of r) r.kept missing
+
+-- a reader stands before its magic, or after it between two items or inside one
+abbrev pub Resumes : Option FeedForm → ℕ → List ℕ → Type 0
+Resumes None place kept = (place ≡ 0) × (length kept < 4)
+Resumes (Some form) place kept = (4 ≤ place) × IsUnended form kept
+
+-- why bytes at a place are not read
+abbrev pub Stops : Option FeedForm → ℕ → List ℕ → ReadFault → Type 0
+Stops form place bytes (Fault fault) = ShowsFirst form place bytes fault
+Stops form place bytes Failed = ⊥
+Stops form place bytes NoMemory = MayHoldMore form bytes
+
+-- why the items at a place are not read
+abbrev pub StopsOn : FeedForm → ℕ → List ℕ → ReadFault → Type 0
+StopsOn form place bytes (Fault fault) = GoesWrong form place bytes fault × (fault.why ≢ why.Cut)
+StopsOn form place bytes Failed = ⊥
+StopsOn form place bytes NoMemory = 16 ≤ length bytes

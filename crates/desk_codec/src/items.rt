@@ -1,0 +1,128 @@
+//! Reading the items of a feed: operations and runs.
+
+ghost use Rattle.std.specs.Prelude.{◌≡◌, ◌*◌, ◌≤◌, ◌<◌, length, get_or, IfOk, IfErr, Err};
+ghost use Rattle.desk_codec.specs.declared.form.FeedForm.TheVariants.{Runs};
+ghost use Rattle.desk_codec.specs.declared.items.ItemFault.TheVariants.{Wrong, NoMemory};
+ghost use Rattle.desk_codec.specs.declared.fault.FeedWhy.TheVariants as why;
+ghost use Rattle.desk_codec.specs.ItemReading.{GivesItem, GivesInserts, RefusesItem, RefusesInserts, RunFront};
+
+use crate::fault::FeedWhy;
+use crate::fields::{Fields, take_byte, take_stamp, take_u32};
+use crate::form::{FeedForm, LEAST_RUN, MOST_RUN, RUN_FRONT, RUN_KIND, SYMBOL_SIZE};
+use crate::reading::next_op;
+use desk_ops::{Op, Stamp};
+use std::alloc::{AllocFailed, Allocator};
+
+/// Why no item was read.
+#[derive(Clone, Copy)]
+pub enum ItemFault {
+    Wrong(FeedWhy),
+    /// A growth was refused.
+    NoMemory,
+}
+
+impl<T: Drop> From<AllocFailed<T>> for ItemFault {
+    ghost from_gives = { λ _ fault. fault ≡ NoMemory };
+
+    fn from(_error: AllocFailed<T>) -> ItemFault {
+        ItemFault::NoMemory
+    }
+}
+
+/// Appends the inserts of a run from the bytes of so many symbols, and gives the bytes after them; or tells the first cause of
+/// the first that is not lawful.
+fn take_inserts<'a, A: Allocator>(
+    stamp: Stamp,
+    parent: Stamp,
+    count: usize,
+    bytes: &'a [u8],
+    ops: &mut Vec<Op, A>,
+) -> Result<&'a [u8], ItemFault>
+    requires { 5 * count ≤ length bytes.now }
+    ensures inserts { IfOk result (λ rest. GivesInserts stamp parent count bytes.now ops.old.items ops.new.items rest.now) }
+    ensures refused { IfErr result (λ fault. RefusesInserts stamp parent count bytes.now fault) }
+{
+    if count == 0 {
+        return Ok(bytes);
+    }
+    let (style, rest) = take_byte(bytes);
+    let (ch, rest) = take_u32(rest);
+    let fields = Fields::Insert {
+        stamp,
+        parent,
+        style,
+        ch,
+    };
+    match fields.op() {
+        Ok(op) => {
+            ops.push(op)?;
+            let next = Stamp {
+                counter: stamp.counter + 1,
+                site: stamp.site,
+            };
+            take_inserts(next, stamp, count - 1, rest, ops)
+        }
+        Err(first) => Err(ItemFault::Wrong(FeedWhy::Unlawful(first))),
+    }
+}
+
+/// A run's first stamp, its parent and its count, and the bytes after them.
+fn take_front(bytes: &[u8]) -> (Stamp, Stamp, u8, &[u8])
+    requires kind { get_or bytes.now 0 0 ≡ 4 }
+    requires whole { 22 ≤ length bytes.now }
+    ensures front { RunFront bytes.now result.0 result.1 result.2 result.3.now }
+{
+    let (_, rest) = take_byte(bytes);
+    let (stamp, rest) = take_stamp(rest);
+    let (parent, rest) = take_stamp(rest);
+    let (count, rest) = take_byte(rest);
+    (stamp, parent, count, rest)
+}
+
+/// Appends the inserts of the run at the front of bytes, and gives the bytes after it; or tells what is wrong there.
+fn next_run<'a, A: Allocator>(bytes: &'a [u8], ops: &mut Vec<Op, A>) -> Result<&'a [u8], ItemFault>
+    requires kind { get_or bytes.now 0 0 ≡ 4 }
+    requires some { 0 < length bytes.now }
+    ensures item { IfOk result (λ rest. GivesItem Runs bytes.now ops.old.items ops.new.items rest.now) }
+    ensures refused { IfErr result (λ fault. RefusesItem Runs bytes.now fault) }
+    ensures cut { result ≡ Err (Wrong why.Cut) → ops.new.items ≡ ops.old.items }
+{
+    if bytes.len() < RUN_FRONT {
+        return Err(ItemFault::Wrong(FeedWhy::Cut));
+    }
+    let (stamp, parent, count, rest) = take_front(bytes);
+    let count = count as usize;
+    if count < LEAST_RUN || count > MOST_RUN {
+        return Err(ItemFault::Wrong(FeedWhy::Run));
+    }
+    if rest.len() < SYMBOL_SIZE * count {
+        return Err(ItemFault::Wrong(FeedWhy::Cut));
+    }
+    take_inserts(stamp, parent, count, rest, ops)
+}
+
+/// Appends the operations of the item at the front of bytes, and gives the bytes after it; or tells what is wrong there.
+pub fn next_item<'a, A: Allocator>(
+    form: FeedForm,
+    bytes: &'a [u8],
+    ops: &mut Vec<Op, A>,
+) -> Result<&'a [u8], ItemFault>
+    requires { 0 < length bytes.now }
+    ensures item { IfOk result (λ rest. GivesItem form bytes.now ops.old.items ops.new.items rest.now) }
+    ensures refused { IfErr result (λ fault. RefusesItem form bytes.now fault) }
+    ensures cut { result ≡ Err (Wrong why.Cut) → ops.new.items ≡ ops.old.items }
+{
+    if bytes[0] == RUN_KIND {
+        return match form {
+            FeedForm::Singles => Err(ItemFault::Wrong(FeedWhy::Kind)),
+            FeedForm::Runs => next_run(bytes, ops),
+        };
+    }
+    match next_op(bytes) {
+        Ok((op, rest)) => {
+            ops.push(op)?;
+            Ok(rest)
+        }
+        Err(why) => Err(ItemFault::Wrong(why)),
+    }
+}

@@ -1,0 +1,5 @@
+pub mod Numbered
+pub mod Lines
+pub mod Standing
+pub mod SetOut
+pub mod OfJob

@@ -1,0 +1,12 @@
+use Rattle.desk_job.specs.Answer.{by_key}
+use Rattle.desk_galley.proofs.OfJob.{job_is, stand_is}
+use Rattle.desk_galley.proofs.galley.make_galley.Goals as goal
+
+pub returns-clause-job : goal.returns-clause-job
+returns-clause-job g c =
+    job_is c.args.copy.now (by_key c.args.settings.now) c.args.case.now c.args.wedge.now c.in-Ok.values c.in-Ok-new.terms _ _ c.in-Ok.ensures c.in-Ok-new.ensures.ok
+    c.in-Ok-new.ensures.none c.in_ok-lacking.ensures c.in_ok-lines.ensures
+
+pub returns-clause-stands : goal.returns-clause-stands
+returns-clause-stands g c =
+    stand_is c.args.copy.now c.args.case.now c.args.wedge.now c.in-Ok.values c.in-Ok-new.terms _ c.in-Ok-new.ensures.ok c.in_ok-lines.ensures c.requires.copy

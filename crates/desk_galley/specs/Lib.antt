@@ -1,0 +1,5 @@
+pub mod Values
+pub mod Line
+pub mod Galley
+pub mod Answer
+pub mod Laws

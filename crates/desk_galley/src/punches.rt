@@ -1,0 +1,33 @@
+//! The matrices of a line.
+
+ghost use Rattle.std.specs.Prelude.{◌≡◌, ◌≤◌, All, IfOk, length};
+ghost use Rattle.desk_job.specs.Setting.{IsWord};
+ghost use Rattle.desk_galley.specs.Galley.{matrices_of};
+
+use crate::line::Line;
+use desk_case::MatrixCase;
+use desk_job::punch::{add_fills, add_space, add_words};
+use desk_ops::{NoMemory, Symbol};
+use desk_ribbon::Punch;
+use std::alloc::Allocator;
+
+/// The matrices of a line of a copy: its words with a space between each two, the added space, and the fills. For a line
+/// without a fault these are the ones that are punched.
+pub fn matrices<A: Allocator + Copy>(
+    alloc: A,
+    case: &MatrixCase,
+    copy: &[Symbol],
+    line: &Line<A>,
+) -> Result<Vec<Punch, A>, NoMemory>
+    requires words { All (IsWord copy.now) line.now.words }
+    requires fills { length line.now.fills ≤ length case.now.fill }
+    ensures { IfOk result (λ found. found.items ≡ matrices_of case.now copy.now line.now) }
+{
+    let mut found = Vec::new(alloc);
+    add_words(&mut found, case, copy, line.words())?;
+    if line.has_added() {
+        add_space(&mut found, case)?;
+    }
+    add_fills(&mut found, line.fills(), case.fill())?;
+    Ok(found)
+}

@@ -1,0 +1,140 @@
+-- Feeds of files, merged into a stored feed.
+use Rattle.std.specs.Prelude.{◌≡◌, ◌⊎◌, ℕ, ◌-◌, List, [], ◌∷◌, ◌++◌, Option, Result, Ok, Err, codes, length}
+use Rattle.std.specs.Io.KnownBytes.{Appends}
+use Rattle.desk_ops.specs.declared.op.Op.{Op}
+use Rattle.desk_ops.specs.OpSet.{OpSet, max_ops, size, with_all}
+use Rattle.desk_ops.specs.Faults.{faults_of}
+use Rattle.desk_codec.specs.Fault.{IsFirstFault}
+use Rattle.desk_codec.specs.Feed.{IsFeed}
+use Rattle.desk_codec.specs.Runs.{set_feed}
+use Rattle.desk_replica.specs.State.{IsStopped}
+use Rattle.desk_replica.specs.declared.Stopped.{Stopped}
+use Rattle.desk_answers.specs.Reply.{Counted, Faults}
+use Rattle.desk_answers.specs.Text.{text}
+use Rattle.desk_files.specs.Files.{IsCounted, IsNowHeld, Kept, Names, Reads, Shelf, Stays}
+use Rattle.desk_files.specs.declared.files.FileRefusal.{FileRefusal}
+use Rattle.desk_stored.specs.Faults.{IsNotStored, IsUnopened, IsUnread, IsUntaken}
+use Rattle.desk_stored.specs.Sending.{WritesFront}
+use Rattle.desk_stored.specs.Stored.{IsStoredAs, Opens}
+use Rattle.desk_stored.specs.declared.fault.OpenFault.{OpenFault}
+use Rattle.desk_hand.specs.Faults.{of_opening}
+use Rattle.desk_hand.specs.declared.fault.FeedTrouble.{FeedTrouble}
+use Rattle.desk_hand.specs.declared.fault.FeedTrouble.TheVariants as troubles
+use Rattle.desk_hand.specs.declared.fault.HandFault.{HandFault}
+use Rattle.desk_hand.specs.declared.fault.HandFault.TheVariants as faults
+
+-- ---- the feeds of other files
+
+-- a name stands for the feed of these operations
+abbrev pub IsFeedOf : Kept → List Op → Type 0
+IsFeedOf kept ops = (bytes : List ℕ) × Reads kept (Ok bytes) × IsFeed bytes ops
+
+-- each name stands for the feed of its list
+abbrev pub AreFeeds : Names → List (List ℕ) → List (List Op) → Type 0
+AreFeeds kept [] [] = Unit {0}
+AreFeeds kept (name ∷ names) (ops ∷ lists) = IsFeedOf (kept name) ops × AreFeeds kept names lists
+AreFeeds kept [] (ops ∷ lists) = ⊥
+AreFeeds kept (name ∷ names) [] = ⊥
+
+-- a set with the operations of lists, one list after the other
+abbrev pub with_lists : OpSet → List (List Op) → OpSet
+with_lists set [] = set
+with_lists set (ops ∷ lists) = with_lists (with_all set ops) lists
+
+-- ---- what is answered
+
+-- how many operations of a list are new to a set
+abbrev pub news : OpSet → List Op → ℕ
+news set ops = size (with_all set ops) - size set
+
+-- a line: the name of the file, and what of its feed was new and known
+abbrev pub counted_line : List ℕ → ℕ → ℕ → List ℕ
+counted_line name new known = name ++ codes " " ++ text (Counted new known) ++ 10 ∷ []
+
+abbrev pub line_of : List ℕ → OpSet → List Op → List ℕ
+line_of name set ops = counted_line name (news set ops) (length ops - news set ops)
+
+-- the lines of all
+abbrev pub lines_of : OpSet → List (List ℕ) → List (List Op) → List ℕ
+lines_of set [] lists = []
+lines_of set (name ∷ names) [] = []
+lines_of set (name ∷ names) (ops ∷ lists) = line_of name set ops ++ lines_of (with_all set ops) names lists
+
+-- the line of the faults of the copy
+abbrev pub faults_line : OpSet → List ℕ
+faults_line set = text (Faults (faults_of set)) ++ 10 ∷ []
+
+-- the set and the lines after the feed of a name, from those before
+abbrev pub Joins : Names → List ℕ → OpSet → OpSet → List ℕ → List ℕ → Type 0
+Joins kept name old after told_before told = (ops : List Op) × IsFeedOf (kept name) ops × (after ≡ with_all old ops) × (told ≡ told_before ++ line_of name old ops)
+
+-- the set and the lines after the feeds of all names
+abbrev pub IsJoined : Names → List (List ℕ) → OpSet → OpSet → List ℕ → Type 0
+IsJoined kept names old after told = (lists : List (List Op)) × AreFeeds kept names lists × (after ≡ with_lists old lists) × (told ≡ lines_of old names lists)
+
+-- ---- a merge
+
+-- the name was taken, and then a feed of this set was read under it, or no file was there
+abbrev pub IsOpened : List ℕ → Shelf → Shelf → Result (List ℕ) FileRefusal → OpSet → Type 0
+IsOpened name first held read set = IsNowHeld name first held × Reads (held.kept name) read × Opens read set
+
+-- the feeds of all names were joined to a set, the lines written, and the feed of the set stored
+abbrev pub IsMergedInto : List ℕ → List (List ℕ) → Shelf → Result (List ℕ) FileRefusal → OpSet → Shelf → Option (List ℕ) → Option (List ℕ) → Type 0
+IsMergedInto name others held read old last before after =
+    (set : OpSet) × (told : List ℕ) × IsJoined held.kept others old set told × Appends before after (told ++ faults_line set) × IsStoredAs name (set_feed set) read held last
+
+-- The set is that of the stored feed with the operations of all other feeds. Its feed stands under the name, and the lines were written.
+abbrev pub IsMerged : List ℕ → List (List ℕ) → Shelf → Shelf → Option (List ℕ) → Option (List ℕ) → Type 0
+IsMerged name others first last before after =
+    (held : Shelf) × (read : Result (List ℕ) FileRefusal) × (old : OpSet) × IsOpened name first held read old × IsMergedInto name others held read old last before after
+
+-- ---- why it stopped
+
+-- a set was full before all of a list was in it
+abbrev pub IsFull : OpSet → List Op → Type 0
+IsFull set ops = (after : OpSet) × (stop : Stopped) × IsStopped set after ops stop × (size after ≡ max_ops)
+
+-- why the feed of a file does not come into a set
+abbrev pub Refuses : OpSet → List ℕ → Shelf → Shelf → FeedTrouble → Type 0
+Refuses set name before after (troubles.File why) = Reads (before.kept name) (Err why) × IsCounted why before after
+Refuses set name before after (troubles.Feed fault) = (bytes : List ℕ) × Reads (before.kept name) (Ok bytes) × IsFirstFault bytes fault
+Refuses set name before after troubles.Full = (ops : List Op) × IsFeedOf (before.kept name) ops × IsFull set ops
+Refuses set name before after troubles.NoMemory = Unit {0}
+
+-- the feeds of the first names were joined, so many, and the next was refused
+abbrev pub StopsAt : List (List ℕ) → OpSet → Shelf → Shelf → ℕ → FeedTrouble → Type 0
+StopsAt names old before after at why =
+    (front tail : List (List ℕ)) × (name : List ℕ) × (names ≡ front ++ name ∷ tail) × (length front ≡ at) × (set : OpSet) × (told : List ℕ)
+    × IsJoined before.kept front old set told × (mid : Shelf) × Stays before mid × Refuses set name mid after why
+
+-- what was read of a stored feed was not opened
+abbrev pub IsShut : List ℕ → Shelf → Shelf → OpenFault → Type 0
+IsShut name held last fault = Stays held last × (read : Result (List ℕ) FileRefusal) × Reads (held.kept name) read × IsUnopened read fault
+
+-- why the stored feed does not come in: it was not read, or not opened
+abbrev pub IsBarredBy : List ℕ → Shelf → Shelf → FeedTrouble → Type 0
+IsBarredBy name held last why =
+    ((file : FileRefusal) × (why ≡ troubles.File file) × IsUnread name held last file) ⊎ ((fault : OpenFault) × (why ≡ of_opening fault) × IsShut name held last fault)
+
+-- the name was not taken, or the stored feed does not come in
+abbrev pub IsBarred : List ℕ → Shelf → Shelf → HandFault → Type 0
+IsBarred name first last fault =
+    ((why : FileRefusal) × (fault ≡ faults.Untaken why) × IsUntaken name first last why)
+    ⊎ ((why : FeedTrouble) × (fault ≡ faults.Feed why) × (held : Shelf) × IsNowHeld name first held × IsBarredBy name held last why)
+
+-- Why a merge into an open feed stopped, and what it left. Until all was joined nothing was written and no file has changed.
+abbrev pub IsCutShort : List ℕ → List (List ℕ) → Shelf → OpSet → Shelf → Option (List ℕ) → Option (List ℕ) → HandFault → Type 0
+IsCutShort name others held old last before after (faults.Untaken why) = ⊥
+IsCutShort name others held old last before after (faults.Feed why) = ⊥
+IsCutShort name others held old last before after (faults.Other at why) = (after ≡ before) × Stays held last × StopsAt others old held last at why
+IsCutShort name others held old last before after faults.Write =
+    Stays held last × (set : OpSet) × (told : List ℕ) × IsJoined held.kept others old set told × WritesFront before after (told ++ faults_line set)
+IsCutShort name others held old last before after (faults.Unstored why) =
+    (set : OpSet) × (told : List ℕ) × IsJoined held.kept others old set told × Appends before after (told ++ faults_line set) × IsNotStored name held last why
+IsCutShort name others held old last before after faults.NoMemory = (after ≡ before) × Stays held last
+
+-- why a merge stopped, and what it left
+abbrev pub IsUnmerged : List ℕ → List (List ℕ) → Shelf → Shelf → Option (List ℕ) → Option (List ℕ) → HandFault → Type 0
+IsUnmerged name others first last before after fault =
+    ((after ≡ before) × IsBarred name first last fault)
+    ⊎ ((held : Shelf) × (read : Result (List ℕ) FileRefusal) × (old : OpSet) × IsOpened name first held read old × IsCutShort name others held old last before after fault)

@@ -1,0 +1,5 @@
+//! The tests of desk_hand.
+#![tactic(auto)]
+
+#[cfg(test)]
+mod merging;

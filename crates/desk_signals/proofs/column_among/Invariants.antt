@@ -1,6 +1,0 @@
-use Rattle.std.proofs.Common.{◌≡◌, drop}
-use Rattle.desk_signals.specs.Rows.{letters}
-use Rattle.desk_signals.proofs.column_among.Given as goal
-
-abbrev pub invariant-loop-signal : goal.invariant-loop-signal
-invariant-loop-signal l = letters l.signals ≡ letters (drop l.signal-index l.signals)

@@ -1,0 +1,11 @@
+//! A feed that is stored in a file: read, opened as a replica, and stored anew where it changed; and bytes that are written
+//! whole or told as failed.
+#![tactic(auto)]
+
+mod fault;
+mod sending;
+mod stored;
+
+pub use fault::OpenFault;
+pub use sending::{Unsent, let_out, send};
+pub use stored::{keep_replica, open_replica, operations_in, stored_bytes};

@@ -1,0 +1,204 @@
+#!/usr/bin/env python3
+"""Forged feeds, the last counter and full sets: forged.py PROGRAM.
+
+Each set of operations is taken in every order, one operation a line: the copy, the faults and the settings are the same
+after each. A feed cut anywhere has the fault that the format says. The counter next to the last leaves room for one
+symbol. A full site tells each operation and each edit what is due. And the worst orders of a large feed: each is opened
+in at most ten times what an honest feed of its size takes, lists that fork stamps of their own are taken so too, and a
+script of a million refused commands is read at the speed of its bytes.
+"""
+import itertools
+import resource
+import subprocess
+import sys
+import time
+
+MAGIC = "4d464431"
+LIMIT = 1048576
+LARGE = 200000
+HEAD = (0, 0)
+
+
+def stamp(at):
+    return "%016x%04x" % at
+
+
+def insert(at, parent, letter):
+    return "01" + stamp(at) + stamp(parent) + "00" + "%08x" % ord(letter)
+
+
+def delete(at, target):
+    return "02" + stamp(at) + stamp(target)
+
+
+def setting(at, value):
+    return "03" + stamp(at) + "01" + "%08x" % value
+
+
+def answers(program, lines):
+    run = subprocess.run([program, "script"], input="".join(line + "\n" for line in lines), capture_output=True, text=True)
+    if run.returncode != 0 or run.stderr:
+        sys.exit(f"status {run.returncode}: {run.stderr}")
+    return run.stdout.splitlines()
+
+
+def check(name, found, due):
+    if found != due:
+        sys.exit(f"{name}: answered {found}, due is {due}")
+
+
+def in_every_order(program, name, ops, after, due):
+    """Each order at a site of its own run; the answers behind the takes are due."""
+    orders = list(itertools.permutations(ops))
+    for order in orders:
+        lines = ["site 7"] + [f"take 7 {MAGIC}{op}" for op in order] + [f"take 7 {MAGIC}{op}" for op in after]
+        lines += ["show 7", "faults 7", "settings 7"]
+        check(name, answers(program, lines)[-3:], due)
+    print(f"{name}: {len(orders)} orders")
+
+
+def none_set():
+    return "settings measure=- tight=- loose=- case=- wedge=-"
+
+
+def orders(program):
+    chain = [insert((1, 1), HEAD, "a"), insert((2, 1), (1, 1), "b"), delete((3, 1), (2, 1)), insert((4, 2), (3, 1), "c"), delete((5, 2), (4, 2))]
+    in_every_order(program, "void on a delete", chain, [], ['copy r"a"', "faults void 4.2, void 5.2", none_set()])
+    forked = [insert((1, 1), HEAD, "a"), insert((2, 1), (1, 1), "b"), insert((2, 1), (1, 1), "x"), insert((3, 2), (2, 1), "c")]
+    due = ['copy r"a"', "faults forked 2.1, void 3.2", none_set()]
+    in_every_order(program, "a forked stamp", forked, [], due)
+    in_every_order(program, "a third of a forked stamp", forked, [insert((2, 1), (1, 1), "y")], due)
+
+
+def void_on_a_setting(program):
+    lines = ["site 7", f"take 7 {MAGIC}{insert((3, 2), (2, 9), 'c')}", "faults 7"]
+    lines += [f"take 7 {MAGIC}{setting((2, 9), 144)}", "faults 7", "settings 7"]
+    lines += [f"take 7 {MAGIC}{setting((2, 9), 120)}", "faults 7", "settings 7", "show 7"]
+    due = ["ok", "ok new 1 known 0", "faults waiting 3.2", "ok new 1 known 0", "faults void 3.2"]
+    due += ["settings measure=144 tight=- loose=- case=- wedge=-", "ok new 1 known 0", "faults forked 2.9, void 3.2", none_set(), "copy"]
+    check("void on a setting", answers(program, lines), due)
+    print("void on a setting: each step")
+
+
+def last_counter(program):
+    q = insert(((1 << 62) - 1, 2), HEAD, "q")
+    lines = ["site 1", f"take 1 {MAGIC}{q}", 'insert 1 0 r"ab"', "show 1", "delete 1 0", "set 1 measure 11", "insert 1 9 r\"a\"", "insert 1 0 r\"a\""]
+    due = ["ok", "ok new 1 known 0", "stopped 1 clock", 'copy r"aq"', "refused clock", "refused value", "refused place", "refused clock"]
+    check("last counter", answers(program, lines), due)
+    print("last counter: each answer")
+
+
+def prefixes(program):
+    """Of a feed of two inserts: below four bytes the magic is lacking, and else the operation that is cut."""
+    feed = MAGIC + insert((1, 1), HEAD, "a") + insert((2, 2), (1, 1), "b")
+    lines, due = ["site 7"], ["ok"]
+    for k in range(len(feed) // 2):
+        # A command has one byte of a feed at least.
+        if k:
+            lines.append(f"take 7 {feed[:2 * k]}")
+            due.append("refused feed 0 magic" if k < 4 else "ok new 0 known 0" if k == 4 else "refused feed 4 cut" if k < 30 else "ok new 1 known 0" if k == 30 else "refused feed 30 cut")
+    check("prefixes", answers(program, lines), due)
+    print(f"prefixes of a feed: {len(lines) - 1}")
+
+
+def bytes_of(ops):
+    return bytes.fromhex(MAGIC + "".join(ops))
+
+
+def full_set(program, folder):
+    """A site that holds all that a site may."""
+    with open(f"{folder}/full.feed", "wb") as file:
+        file.write(b"MFD2" + b"".join(b"\x03" + n.to_bytes(8, "big") + b"\x00\x01\x01\x00\x00\x00\x90" for n in range(1, LIMIT + 1)))
+    one, two = setting((1, 1), 144), setting((1, 2), 144)
+    lines = [f"take 1 {MAGIC}{one}", f"take 1 {MAGIC}{two}", 'insert 1 0 r"a"', 'insert 1 1 r"a"', "delete 1 0", "set 1 measure 11", f"take 1 {MAGIC}{one}{two}", "set 1 measure 12"]
+    due = ["ok new 0 known 1", "refused full", "refused full", "refused place", "refused place", "refused value", "stopped 1 full", "refused full"]
+    run = subprocess.run([program, "desk", f"{folder}/full.feed", "--site", "1"], input="".join(line + "\n" for line in lines), capture_output=True, text=True)
+    check("full set", (run.returncode, run.stdout.splitlines()), (0, due))
+    print("full set: each answer")
+
+
+def seconds(program, folder, name, ops):
+    """The processor time to open a stored feed, in seconds, the lesser of two runs."""
+    path = f"{folder}/{name}.feed"
+    with open(path, "wb") as file:
+        file.write(bytes_of(ops))
+    times = []
+    for _ in range(2):
+        before = resource.getrusage(resource.RUSAGE_CHILDREN)
+        run = subprocess.run([program, "desk", path, "--site", "65535"], input="", capture_output=True, text=True)
+        after = resource.getrusage(resource.RUSAGE_CHILDREN)
+        check(name, (run.returncode, run.stdout), (0, ""))
+        times.append(after.ru_utime + after.ru_stime - before.ru_utime - before.ru_stime)
+    return min(times)
+
+
+def large_feeds(n):
+    """By name: an honest feed of n operations, and feeds in the orders that could cost most."""
+    yield "honest", [insert((k, 1), (k - 1, 1 if k > 1 else 0), "a") for k in range(1, n + 1)]
+    yield "falling chain", [insert((k, 1), (k - 1, 1 if k > 1 else 0), "a") for k in range(n, 0, -1)]
+    yield "each stamp forked", [insert((k, 1), HEAD, letter) for k in range(1, n // 2 + 1) for letter in "ab"]
+    yield "all wait for one", [insert((k, 1), (1, 9), "a") for k in range(2, n + 2)]
+    yield "all wait, and then it comes", [insert((k, 1), (1, 9), "a") for k in range(2, n + 1)] + [insert((1, 9), HEAD, "a")]
+    yield "siblings of one", [insert((k, 1), HEAD, "a") for k in range(1, n + 1)]
+    yield "siblings falling", [insert((k, 1), HEAD, "a") for k in range(n, 0, -1)]
+    yield "sites in turn", [insert((k, 1 + k % 2), (k - 1, 1 + (k - 1) % 2) if k > 1 else HEAD, "a") for k in range(1, n + 1)]
+    yield "each deleted first", [op for k in range(1, n // 2 + 1) for op in (delete((n + k, 2), (k, 1)), insert((k, 1), HEAD, "a"))]
+
+
+def hostile(program, folder, n):
+    honest = None
+    for name, ops in large_feeds(n):
+        used = seconds(program, folder, name.replace(" ", "-").replace(",", ""), ops)
+        honest = honest or used
+        print(f"{name}: {n} operations opened in {used:.2f} s, {used / honest:.1f} times an honest feed")
+        if used > 10 * honest + 0.05:
+            sys.exit(f"{name}: more than ten times an honest feed")
+
+
+def forks_in_lists(program, n, each):
+    """Lists in which one stamp in twenty forks, taken command by command: a pass over what is held for each command is
+    allowed, and not one for each fork."""
+    took = []
+    for forks in (False, True):
+        ops, parent = [], HEAD
+        for k in range(1, n + 1):
+            ops.append(insert((k, 1), parent, "a"))
+            if forks and k % 20 == 0:
+                ops.append(insert((k, 1), parent, "b"))
+            else:
+                parent = (k, 1)
+        lines = ["site 7"] + [f"take 7 {MAGIC}{''.join(ops[at:at + each])}" for at in range(0, len(ops), each)]
+        begun = resource.getrusage(resource.RUSAGE_CHILDREN).ru_utime
+        answers(program, lines)
+        took.append(resource.getrusage(resource.RUSAGE_CHILDREN).ru_utime - begun)
+    print(f"{n} operations in lists of {each}, one in twenty forked: {took[1]:.2f} s, {took[1] / max(took[0], 0.001):.1f} times honest ones")
+    if took[1] > 10 * took[0] + 0.2:
+        sys.exit("forks in lists: more than ten times honest lists")
+
+
+def refused_commands(program, n):
+    text = "insert 1 0 r\"a\"\n" * n
+    begun = time.monotonic()
+    run = subprocess.run([program, "script"], input=text, capture_output=True, text=True)
+    took = time.monotonic() - begun
+    check("refused commands", (run.returncode, run.stdout), (0, "refused site\n" * n))
+    print(f"{n} refused commands: {len(text) / took / 1e6:.0f} MB/s")
+    if took > 1 + n / 200000:
+        sys.exit("refused commands are slow")
+
+
+def main():
+    import tempfile
+    program = sys.argv[1]
+    orders(program)
+    void_on_a_setting(program)
+    last_counter(program)
+    prefixes(program)
+    with tempfile.TemporaryDirectory() as folder:
+        full_set(program, folder)
+        hostile(program, folder, int(sys.argv[2]) if len(sys.argv) > 2 else LARGE)
+    forks_in_lists(program, 40000, 1000)
+    refused_commands(program, 1000000)
+
+
+main()
