@@ -9,9 +9,11 @@ The parts are proofs (without tests), tests (the proof of a crate with its tests
 must refuse), builds (compilers) and runs (tests and programs). `from` and `to` are seconds since the command began, from
 the first process of a crate to its last. A process is looked at twice a second, so up to half a second of each is missed;
 the last line has the exact sum of all. The last line that the command wrote is kept, and `gate_times.py FILE` ends with it.
+Where the command failed, the lines that say why stand before that, since a log's end is what is read first.
 """
 import json
 import os
+import re
 import resource
 import subprocess
 import sys
@@ -20,6 +22,10 @@ import time
 
 PARTS = ["proofs", "tests", "edits", "builds", "runs"]
 TICK = os.sysconf("SC_CLK_TCK")
+# A line that says what failed: a goal, a test, a program, or a wrong body that is none.
+TROUBLE = re.compile(r"^error|: error|FAILED|BAD EDIT|NOT TRIED|not refused|panicked|^rt: .*(stopped|killed|differs)")
+AS_IT_MUST_BE = "refused, as it must be"
+MOST_TROUBLE = 80
 
 
 def read(pid, name):
@@ -101,16 +107,18 @@ def watched(file, command):
 
     looks = threading.Thread(target=look_on)
     looks.start()
-    last = ""
+    last, trouble = "", []
     for line in child.stdout:
         sys.stdout.buffer.write(line)
         sys.stdout.buffer.flush()
         last = line.decode(errors="replace").rstrip("\n")
+        if TROUBLE.search(last) and AS_IT_MUST_BE not in last and len(trouble) < MOST_TROUBLE:
+            trouble.append(last[:400])
     status = child.wait()
     ended.set()
     looks.join()
     used = resource.getrusage(resource.RUSAGE_CHILDREN)
-    told = {"wall": time.time() - watch.began, "processor": used.ru_utime + used.ru_stime, "last": last, "seen": list(watch.seen.values())}
+    told = {"wall": time.time() - watch.began, "processor": used.ru_utime + used.ru_stime, "last": last, "trouble": trouble if status else [], "seen": list(watch.seen.values())}
     with open(file, "w", encoding="utf-8") as out:
         json.dump(told, out)
     return status if status >= 0 else 128 - status
@@ -131,6 +139,8 @@ def table(told):
     print("%-22s" % "all" + "".join("%8.0f" % it for it in [*sums, sum(sums)]))
     minutes = told["processor"] / 60, told["wall"] / 60
     print("in all %.1f minutes of processor, in %.1f minutes" % minutes)
+    for line in told["trouble"]:
+        print(line)
     print(told["last"])
 
 
