@@ -1,5 +1,5 @@
 -- Runs on a stored feed.
-use Rattle.std.proofs.Common.{◌≡◌, ℕ, ◌≤◌, inl, inr, List, ap, cond, subst, sym, ◌∙◌, arith}
+use Rattle.std.proofs.Common.{refl, ◌≡◌, ℕ, ◌≤◌, inl, inr, List, ap, cond, subst, sym, ◌∙◌, arith}
 use Rattle.std.proofs.Math.Nat.{eq-or-lt_of_le}
 use Rattle.std.specs.Prelude.{Some, Result, Err}
 use Rattle.std.specs.Cmp.{nat_cmp_total}
