@@ -1,5 +1,5 @@
 -- Items read one after the other, from the bytes that were kept and a piece.
-use Rattle.std.proofs.Common.{◌≡◌, ◌≢◌, ℕ, ◌+◌, ◌-◌, ◌<◌, ◌≤◌, min, List, [], ◌∷◌, ◌++◌, length, get_or, drop, Some, None, Result, Ok, Err, refl, sym, ap, subst, ◌∙◌, ◌⊎◌, inl, inr, append_assoc, length-append, arith}
+use Rattle.std.proofs.Common.{◌≡◌, ◌≢◌, ℕ, ◌+◌, ◌-◌, ◌<◌, ◌≤◌, min, Bool, false, List, [], ◌∷◌, ◌++◌, length, get_or, drop, Option, Some, None, Result, Ok, Err, refl, sym, ap, subst, ◌∙◌, ◌⊎◌, inl, inr, append_assoc, length-append, arith}
 use Rattle.std.specs.Prelude.{IfOk, IfErr}
 use Rattle.std.proofs.lemmas.List.{append-nil, drop-append-le, nil_from_length}
 use Rattle.std.proofs.lemmas.List.Concat.{flat_map-cons}
@@ -22,7 +22,7 @@ use Rattle.desk_codec.specs.Feed.{magic_of, Stands, Spells, ops_in}
 use Rattle.desk_codec.specs.Fault.{IsCut, IsWrong, GoesWrong}
 use Rattle.desk_codec.specs.ItemReading.{GivesItem, GivesItems, GivesRest, RefusesItem}
 use Rattle.desk_codec.specs.Pieces.{IsUnended, Reads, ShowsFirst, MayHoldMore}
-use Rattle.desk_codec.specs.PieceReading.{Stops, StopsOn}
+use Rattle.desk_codec.specs.PieceReading.{Stops, StopsOn, kept_after}
 use Rattle.desk_codec.proofs.Grammar.{spells_append}
 use Rattle.desk_codec.proofs.ItemLaws.{item_length}
 use Rattle.desk_codec.proofs.FaultLaws.{item_not_wrong, begins_length}
@@ -155,6 +155,10 @@ cut_length form bytes (inr (inr h)) =
     let many = h.within.1 in
     omega (arith, len, short, many)
 
+pub unended_length : (form : FeedForm) (bytes : List ℕ) → IsUnended form bytes → length bytes ≤ 342
+unended_length form bytes (inl none) = let zero : length bytes ≡ 0 = ap (λ (l : List ℕ). length l) none in omega (arith, zero)
+unended_length form bytes (inr cut) = let short = cut_length form bytes cut in omega (arith, short)
+
 -- the rest of the joined bytes ends the piece
 rest_of_piece : (kept piece end beyond rest whole front : List ℕ) → piece ≡ end ++ beyond → whole ≡ kept ++ end → whole ≡ front ++ rest → length kept ≤ length front → kept ++ piece ≡ front ++ drop (length end - length rest) piece
 rest_of_piece kept piece end beyond rest whole front p w f le =
@@ -206,11 +210,23 @@ first_refused form kept piece end beyond whole item.NoMemory p e fits h =
 rest_reads : (form read : FeedForm) (bytes kept : List ℕ) (ops : List Op) → GivesRest form bytes [] read ops kept → Reads (Some form) bytes ops read kept
 rest_reads form read bytes kept ops h = subst (λ (g : FeedForm). Reads (Some form) bytes ops g kept) h.same (reads_given form bytes kept ops h.items h.unended)
 
+-- what is kept takes the place of what was
+in_place : (b : Bool) (before : Option FeedForm) (bytes kept rest : List ℕ) (ops : List Op) (form : FeedForm) → b ≡ false → Reads before bytes ops form rest → Reads before bytes ops form (kept_after b kept rest)
+in_place b before bytes kept rest ops form e h = subst (λ (t : Bool). Reads before bytes ops form (kept_after t kept rest)) (sym e) h
+
 -- nothing was kept
-pub all_read : {V : Type 0} (f : V → FeedForm) (o : V → List Op) (k : V → List ℕ) (r : Result V ReadFault) (form : FeedForm) (kept piece : List ℕ) → length kept ≡ 0 → IfOk r (λ v. GivesRest form piece [] (f v) (o v) (k v)) → IfOk r (λ v. Reads (Some form) (kept ++ piece) (o v) (f v) (k v))
-all_read f o k (Ok v) form [] piece none h = rest_reads form (f v) piece (k v) (o v) h
-all_read f o k (Ok v) form (b ∷ kept) piece none h = absurd cc
-all_read f o k (Err fault) form kept piece none h = tt
+pub all_read : {V : Type 0} (f : V → FeedForm) (o : V → List Op) (k : V → List ℕ) (b : V → Bool) (r : Result V ReadFault) (form : FeedForm) (kept piece : List ℕ) (before : List Op) → length kept ≡ 0 → before ≡ [] → IfOk r (λ v. GivesRest form piece before (f v) (o v) (k v) × (b v ≡ false))
+    → IfOk r (λ v. Reads (Some form) (kept ++ piece) (o v) (f v) (kept_after (b v) kept (k v)))
+all_read f o k b (Ok v) form [] piece before none nothing (h, e) =
+    in_place (b v) (Some form) piece [] (k v) (o v) (f v) e (rest_reads form (f v) piece (k v) (o v) (subst (λ (l : List Op). GivesRest form piece l (f v) (o v) (k v)) nothing h))
+all_read f o k b (Ok v) form (x ∷ kept) piece before none nothing h = absurd cc
+all_read f o k b (Err fault) form kept piece before none nothing h = tt
+
+-- what follows a magic
+pub magic_then : {V : Type 0} (f : V → FeedForm) (o : V → List Op) (k : V → List ℕ) (b : V → Bool) (r : Result V ReadFault) (form : FeedForm) (piece : List ℕ) (before : List Op) → before ≡ [] → IfOk r (λ v. GivesRest form piece before (f v) (o v) (k v) × (b v ≡ false))
+    → IfOk r (λ v. Reads (Some form) piece (o v) (f v) (k v) × (b v ≡ false))
+magic_then f o k b (Ok v) form piece before nothing (h, e) = (rest_reads form (f v) piece (k v) (o v) (subst (λ (l : List Op). GivesRest form piece l (f v) (o v) (k v)) nothing h), e)
+magic_then f o k b (Err fault) form piece before nothing h = tt
 
 stops_on : (fault : ReadFault) (form : FeedForm) (place : ℕ) (bytes : List ℕ) → StopsOn form place bytes fault → Stops (Some form) place bytes fault
 stops_on (Fault fault) form place bytes h = goes_astray form place bytes fault h.0 h.1
@@ -227,10 +243,11 @@ first_read : (form read : FeedForm) (bytes middle kept : List ℕ) (between afte
 first_read form read bytes middle kept between after g h =
     rest_reads form read bytes kept after (record { same = h.same; items = both_given form bytes middle kept [] between after (one_given form bytes middle [] between g) h.items; unended = h.unended })
 
-pub then_read : {V : Type 0} (f : V → FeedForm) (o : V → List Op) (k : V → List ℕ) (r : Result V ReadFault) (form : FeedForm) (bytes middle : List ℕ) (before between : List Op) → before ≡ [] → GivesItem form bytes before between middle → IfOk r (λ v. GivesRest form middle between (f v) (o v) (k v))
-    → IfOk r (λ v. Reads (Some form) bytes (o v) (f v) (k v))
-then_read f o k (Ok v) form bytes middle before between none g h = first_read form (f v) bytes middle (k v) between (o v) (subst (λ (l : List Op). GivesItem form bytes l between middle) none g) h
-then_read f o k (Err fault) form bytes middle before between none g h = tt
+pub then_read : {V : Type 0} (f : V → FeedForm) (o : V → List Op) (k : V → List ℕ) (b : V → Bool) (r : Result V ReadFault) (form : FeedForm) (kept bytes middle : List ℕ) (before between : List Op) → before ≡ [] → GivesItem form bytes before between middle
+    → IfOk r (λ v. GivesRest form middle between (f v) (o v) (k v) × (b v ≡ false)) → IfOk r (λ v. Reads (Some form) bytes (o v) (f v) (kept_after (b v) kept (k v)))
+then_read f o k b (Ok v) form kept bytes middle before between none g (h, e) =
+    in_place (b v) (Some form) bytes kept (k v) (o v) (f v) e (first_read form (f v) bytes middle (k v) between (o v) (subst (λ (l : List Op). GivesItem form bytes l between middle) none g) h)
+then_read f o k b (Err fault) form kept bytes middle before between none g h = tt
 
 stops_then : (fault : ReadFault) (form : FeedForm) (place there : ℕ) (bytes middle : List ℕ) (before between : List Op) → there ≡ place + (length bytes - length middle) → GivesItem form bytes before between middle → StopsOn form there middle fault → StopsOn form place bytes fault
 stops_then (Fault fault) form place there bytes middle before between e g h =
@@ -245,9 +262,10 @@ then_stops (Err fault) form place there bytes middle before between e g h = stop
 
 -- ---- the magic is made whole
 
-pub magic_read : {V : Type 0} (f : V → FeedForm) (o : V → List Op) (k : V → List ℕ) (r : Result V ReadFault) (form : FeedForm) (bytes rest : List ℕ) → bytes ≡ magic_of form ++ rest → IfOk r (λ v. Reads (Some form) rest (o v) (f v) (k v)) → IfOk r (λ v. Reads None bytes (o v) (f v) (k v))
-magic_read f o k (Ok v) form bytes rest e h = reads_magic form bytes rest (o v) (f v) (k v) e h
-magic_read f o k (Err fault) form bytes rest e h = tt
+pub magic_read : {V : Type 0} (f : V → FeedForm) (o : V → List Op) (k : V → List ℕ) (b : V → Bool) (r : Result V ReadFault) (form : FeedForm) (kept bytes rest : List ℕ) → bytes ≡ magic_of form ++ rest → IfOk r (λ v. Reads (Some form) rest (o v) (f v) (k v) × (b v ≡ false))
+    → IfOk r (λ v. Reads None bytes (o v) (f v) (kept_after (b v) kept (k v)))
+magic_read f o k b (Ok v) form kept bytes rest e (h, n) = in_place (b v) None bytes kept (k v) (o v) (f v) n (reads_magic form bytes rest (o v) (f v) (k v) e h)
+magic_read f o k b (Err fault) form kept bytes rest e h = tt
 
 stops_magic : (fault : ReadFault) (form : FeedForm) (place : ℕ) (bytes rest : List ℕ) → bytes ≡ magic_of form ++ rest → place ≡ 0 → Stops (Some form) 4 rest fault → Stops None place bytes fault
 stops_magic (Fault fault) form place bytes rest e zero h = astray_magic form place bytes rest fault e zero (magic_length form) h

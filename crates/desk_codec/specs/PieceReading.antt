@@ -1,10 +1,12 @@
 -- How a reader of pieces goes on.
-use Rattle.std.specs.Prelude.{◌≡◌, ◌≢◌, ℕ, ◌+◌, ◌≤◌, ◌<◌, List, ◌++◌, length, Option, Some, None}
+use Rattle.std.specs.Prelude.{◌≡◌, ◌≢◌, ℕ, ◌+◌, ◌≤◌, ◌<◌, Bool, true, false, List, ◌++◌, length, Option, Some, None}
 use Rattle.desk_codec.specs.declared.fault.FeedWhy.TheVariants as why
 use Rattle.desk_codec.specs.declared.fault.ReadFault.{ReadFault}
 use Rattle.desk_codec.specs.declared.fault.ReadFault.TheVariants.{Fault, Failed, NoMemory}
 use Rattle.desk_codec.specs.declared.form.FeedForm.{FeedForm}
+use Rattle.desk_ops.specs.declared.op.Op.{Op}
 use Rattle.desk_codec.specs.Fault.{GoesWrong}
+use Rattle.desk_codec.specs.ItemReading.{GivesItem}
 use Rattle.desk_codec.specs.Pieces.{Reader, place_of, IsUnended, ShowsFirst, MayHoldMore}
 
 -- fewer than so many bytes more make nothing whole, and there is room for them
@@ -39,3 +41,12 @@ abbrev pub StopsOn : FeedForm → ℕ → List ℕ → ReadFault → Type 0
 StopsOn form place bytes (Fault fault) = GoesWrong form place bytes fault × (fault.why ≢ why.Cut)
 StopsOn form place bytes Failed = ⊥
 StopsOn form place bytes NoMemory = 16 ≤ length bytes
+
+-- what is kept after a piece: the end of it, behind what was kept before or in place of that
+abbrev pub kept_after : Bool → List ℕ → List ℕ → List ℕ
+kept_after true kept rest = kept ++ rest
+kept_after false kept rest = rest
+
+-- an item stands at the front of bytes, and so many come after it
+abbrev pub LeavesSo : FeedForm → List ℕ → List Op → List Op → ℕ → Type 0
+LeavesSo form bytes before after n = (rest : List ℕ) × GivesItem form bytes before after rest × (length rest ≡ n)

@@ -1,12 +1,12 @@
 //! Reading a feed in pieces.
 
-ghost use Rattle.std.specs.Prelude.{◌≡◌, ◌≢◌, ℕ, ◌+◌, ◌*◌, ◌<◌, ◌≤◌, ◌^◌, List, ◌++◌, true, length, get_or, IfSome, IfOk, IfErr, Some, None, Err};
+ghost use Rattle.std.specs.Prelude.{◌≡◌, ◌≢◌, ℕ, ◌+◌, ◌*◌, ◌<◌, ◌≤◌, ◌^◌, List, ◌++◌, true, false, length, get_or, IfSome, IfOk, IfErr, Some, None, Err};
 ghost use Rattle.desk_codec.specs.declared.form.FeedForm.{FeedForm};
 ghost use Rattle.desk_codec.specs.Feed.{magic_of};
 ghost use Rattle.desk_codec.specs.Fault.{IsCut};
 ghost use Rattle.desk_codec.specs.ItemReading.{GivesItem, GivesItems, GivesRest, RefusesItem};
 ghost use Rattle.desk_codec.specs.Pieces.{fresh, ended, Takes, Refuses, IsWhole, RefusesEnd, IsUnended, Reads};
-ghost use Rattle.desk_codec.specs.PieceReading.{Lacks, Resumes, Stops, StopsOn};
+ghost use Rattle.desk_codec.specs.PieceReading.{Lacks, LeavesSo, Resumes, Stops, StopsOn, kept_after};
 ghost use Rattle.desk_codec.specs.declared.fault.FeedWhy.TheVariants as why;
 ghost use Rattle.desk_codec.specs.declared.fault.ReadFault.TheVariants as fault;
 ghost use Rattle.desk_codec.specs.declared.items.ItemFault.TheVariants.{Wrong};
@@ -43,11 +43,13 @@ impl Model for FeedReader {
     ghost invariant = { λ r. IsReader (record { form = r.form; taken = r.taken; kept = r.kept.items; failed = r.failed }) r.missing };
 }
 
-/// What was read of a piece: the form of the feed, the operations, and the bytes to be kept.
-struct PieceRead<A: Allocator> {
+/// What was read of a piece: the form of the feed, the operations, and the end of the piece that is to be kept, behind what was
+/// kept before it or in place of that.
+struct PieceRead<'a, A: Allocator> {
     form: FeedForm,
     ops: Vec<Op, A>,
-    kept: ArrayVec<u8, 342>,
+    rest: &'a [u8],
+    is_behind: bool,
 }
 
 impl FeedReader {
@@ -82,12 +84,31 @@ impl FeedReader {
             self.taken += piece.len() as u64;
             return Ok(Vec::new(alloc));
         }
+        self.feed_whole(alloc, piece)
+    }
+
+    /// The same for a piece that may make something whole.
+    #[inline(never)]
+    fn feed_whole<A: Allocator>(&mut self, alloc: A, piece: &[u8]) -> Result<Vec<Op, A>, ReadFault>
+        requires few { self.old.taken + length piece.now < 2 ^ 63 }
+        requires answers { self.old.failed ≡ false }
+        requires enough { self.old.form ≡ None → 4 ≤ length self.old.kept + length piece.now }
+        ensures taken { IfOk result (λ ops. Takes self.old piece.now ops.items self.new) }
+        ensures refused { IfErr result (λ fault. Refuses self.old piece.now fault self.new) }
+    {
         let place = self.taken - self.kept.len() as u64;
-        match read_piece(alloc, self.form, place, self.kept.as_slice(), piece) {
-            Ok(PieceRead { form, ops, kept }) => {
-                self.missing = missing_after(form, kept.as_slice());
+        match read_piece(alloc, self.form, place, &mut self.kept, piece) {
+            Ok(
+                PieceRead {
+                    form,
+                    ops,
+                    rest,
+                    is_behind,
+                },
+            ) => {
+                keep(&mut self.kept, is_behind, rest);
+                self.missing = missing_after(form, self.kept.as_slice());
                 self.form = Some(form);
-                self.kept = kept;
                 self.taken += piece.len() as u64;
                 Ok(ops)
             }
@@ -126,6 +147,17 @@ impl FeedReader {
     }
 }
 
+/// Keeps the end of a piece, behind what was kept before it or in place of that.
+fn keep(kept: &mut ArrayVec<u8, 342>, is_behind: bool, rest: &[u8])
+    requires { length (kept_after is_behind kept.old.items rest.now) ≤ 342 }
+    ensures { kept.new.items ≡ kept_after is_behind kept.old.items rest.now }
+{
+    if !is_behind {
+        kept.clear();
+    }
+    put(kept, rest);
+}
+
 /// How many bytes a run takes that begins with these bytes, or how many come before its symbols where its count is lacking.
 fn run_size(bytes: &[u8]) -> usize
     ensures front { length bytes.now < 22 → result ≡ 22 }
@@ -152,9 +184,9 @@ fn missing_after(form: FeedForm, bytes: &[u8]) -> usize
     }
 }
 
-/// The bytes one after the other.
-fn join(front: &[u8], end: &[u8]) -> ArrayVec<u8, 342>
-    requires { length front.now + length end.now ≤ 342 }
+/// The bytes of a magic one after the other.
+fn join(front: &[u8], end: &[u8]) -> ArrayVec<u8, 4>
+    requires { length front.now + length end.now ≤ 4 }
     ensures { result.items ≡ front.now ++ end.now }
 {
     let mut all = ArrayVec::new();
@@ -177,24 +209,45 @@ fn after_magic<'a>(kept: &[u8], piece: &'a [u8]) -> Option<(FeedForm, &'a [u8])>
     }
 }
 
+/// Appends the operations of the item at the front of these bytes, and tells how many bytes come after it; or what is wrong.
+fn item_in<A: Allocator>(
+    form: FeedForm,
+    bytes: &[u8],
+    ops: &mut Vec<Op, A>,
+) -> Result<usize, ItemFault>
+    requires { 0 < length bytes.now }
+    ensures item { IfOk result (λ n. LeavesSo form bytes.now ops.old.items ops.new.items n) }
+    ensures refused { IfErr result (λ fault. RefusesItem form bytes.now fault) }
+    ensures cut { result ≡ Err (Wrong why.Cut) → ops.new.items ≡ ops.old.items }
+{
+    match next_item(form, bytes, ops) {
+        Ok(rest) => Ok(rest.len()),
+        Err(fault) => Err(fault),
+    }
+}
+
 /// Appends the operations of the item whose front was kept and that the piece makes whole, and gives the rest of the piece; or
-/// tells what is wrong, `Cut` where it is not whole yet.
+/// tells what is wrong, `Cut` where it is not whole yet. What was kept stays.
 fn first_item<'a, A: Allocator>(
     form: FeedForm,
-    kept: &[u8],
+    kept: &mut ArrayVec<u8, 342>,
     piece: &'a [u8],
     ops: &mut Vec<Op, A>,
 ) -> Result<&'a [u8], ItemFault>
-    requires { IsCut form kept.now }
-    ensures item { IfOk result (λ rest. GivesItem form (kept.now ++ piece.now) ops.old.items ops.new.items rest.now) }
-    ensures refused { IfErr result (λ fault. RefusesItem form (kept.now ++ piece.now) fault) }
+    requires { IsCut form kept.old.items }
+    ensures item { IfOk result (λ rest. GivesItem form (kept.old.items ++ piece.now) ops.old.items ops.new.items rest.now) }
+    ensures refused { IfErr result (λ fault. RefusesItem form (kept.old.items ++ piece.now) fault) }
     ensures cut { result ≡ Err (Wrong why.Cut) → ops.new.items ≡ ops.old.items }
+    ensures same { kept.new.items ≡ kept.old.items }
 {
-    let size = piece.len().min(MOST_SIZE - kept.len());
+    let len = kept.len();
+    let size = piece.len().min(MOST_SIZE - len);
     let (end, beyond) = piece.split_at(size);
-    let joined = join(kept, end);
-    match next_item(form, joined.as_slice(), ops) {
-        Ok(rest) => Ok(&piece[size - rest.len()..]),
+    put(kept, end);
+    let read = item_in(form, kept.as_slice(), ops);
+    kept.truncate(len);
+    match read {
+        Ok(left) => Ok(&piece[size - left..]),
         Err(fault) => Err(fault),
     }
 }
@@ -228,82 +281,103 @@ fn read_whole<'a, A: Allocator>(
 }
 
 /// The operations given before and those of the items at the front of the bytes at a place, and the bytes to be kept after.
-fn read_rest<A: Allocator>(
+fn read_rest<'a, A: Allocator>(
     form: FeedForm,
     place: u64,
-    bytes: &[u8],
+    bytes: &'a [u8],
     ops: Vec<Op, A>,
-) -> Result<PieceRead<A>, ReadFault>
+) -> Result<PieceRead<'a, A>, ReadFault>
     requires { place + length bytes.now < 2 ^ 63 }
-    ensures read { IfOk result (λ read. GivesRest form bytes.now ops.items read.form read.ops.items read.kept.items) }
+    ensures read { IfOk result (λ read. GivesRest form bytes.now ops.items read.form read.ops.items read.rest.now × (read.is_behind ≡ false)) }
     ensures fault { IfErr result (λ fault. StopsOn form place bytes.now fault) }
 {
     let mut ops = ops;
     match read_whole(form, place, bytes, &mut ops) {
-        Ok(rest) => {
-            let kept = join(&[], rest);
-            Ok(PieceRead { form, ops, kept })
-        }
+        Ok(rest) => Ok(PieceRead {
+            form,
+            ops,
+            rest,
+            is_behind: false,
+        }),
         Err(fault) => Err(fault),
     }
 }
 
-/// The operations of the items that the bytes kept and the piece after them make whole, and the bytes to be kept after.
-fn read_items<A: Allocator>(
+/// The operations of the items that the bytes kept and the piece after them make whole, and what is to be kept after.
+fn read_items<'a, A: Allocator>(
     alloc: A,
     form: FeedForm,
     place: u64,
-    kept: &[u8],
-    piece: &[u8],
-) -> Result<PieceRead<A>, ReadFault>
-    requires unended { IsUnended form kept.now }
-    requires few { place + (length kept.now + length piece.now) < 2 ^ 63 }
-    ensures read { IfOk result (λ read. Reads (Some form) (kept.now ++ piece.now) read.ops.items read.form read.kept.items) }
-    ensures fault { IfErr result (λ fault. Stops (Some form) place (kept.now ++ piece.now) fault) }
+    kept: &mut ArrayVec<u8, 342>,
+    piece: &'a [u8],
+) -> Result<PieceRead<'a, A>, ReadFault>
+    requires unended { IsUnended form kept.old.items }
+    requires few { place + (length kept.old.items + length piece.now) < 2 ^ 63 }
+    ensures read { IfOk result (λ read. Reads (Some form) (kept.old.items ++ piece.now) read.ops.items read.form (kept_after read.is_behind kept.old.items read.rest.now)) }
+    ensures fault { IfErr result (λ fault. Stops (Some form) place (kept.old.items ++ piece.now) fault) }
+    ensures same { kept.new.items ≡ kept.old.items }
 {
     let most = form.most_ops(kept.len() + piece.len());
     let mut ops = Vec::with_capacity(alloc, most)?;
     if kept.is_empty() {
         return read_rest(form, place, piece, ops);
     }
+    let len = kept.len();
     match first_item(form, kept, piece, &mut ops) {
         Ok(after) => {
-            let at = place + (kept.len() + piece.len() - after.len()) as u64;
+            let at = place + (len + piece.len() - after.len()) as u64;
             read_rest(form, at, after, ops)
         }
         Err(ItemFault::NoMemory) => Err(ReadFault::NoMemory),
         Err(ItemFault::Wrong(why)) => match why {
-            FeedWhy::Cut => {
-                let kept = join(kept, piece);
-                Ok(PieceRead { form, ops, kept })
-            }
+            FeedWhy::Cut => Ok(PieceRead {
+                form,
+                ops,
+                rest: piece,
+                is_behind: true,
+            }),
             _ => Err(ReadFault::Fault(FeedFault { at: place, why })),
         },
     }
 }
 
-/// The operations of the bytes kept and a piece that makes the magic whole, or that follows it, and the bytes to be kept after.
-fn read_piece<A: Allocator>(
+/// The operations of the bytes kept and a piece that makes the magic whole, or that follows it, and what is to be kept after.
+fn read_piece<'a, A: Allocator>(
     alloc: A,
     form: Option<FeedForm>,
     place: u64,
-    kept: &[u8],
-    piece: &[u8],
-) -> Result<PieceRead<A>, ReadFault>
-    requires resumes { Resumes form place kept.now }
-    requires enough { form ≡ None → 4 ≤ length kept.now + length piece.now }
-    requires few { place + (length kept.now + length piece.now) < 2 ^ 63 }
-    ensures read { IfOk result (λ read. Reads form (kept.now ++ piece.now) read.ops.items read.form read.kept.items) }
-    ensures fault { IfErr result (λ fault. Stops form place (kept.now ++ piece.now) fault) }
+    kept: &mut ArrayVec<u8, 342>,
+    piece: &'a [u8],
+) -> Result<PieceRead<'a, A>, ReadFault>
+    requires resumes { Resumes form place kept.old.items }
+    requires enough { form ≡ None → 4 ≤ length kept.old.items + length piece.now }
+    requires few { place + (length kept.old.items + length piece.now) < 2 ^ 63 }
+    ensures read { IfOk result (λ read. Reads form (kept.old.items ++ piece.now) read.ops.items read.form (kept_after read.is_behind kept.old.items read.rest.now)) }
+    ensures fault { IfErr result (λ fault. Stops form place (kept.old.items ++ piece.now) fault) }
+    ensures same { kept.new.items ≡ kept.old.items }
 {
     if let Some(form) = form {
         return read_items(alloc, form, place, kept, piece);
     }
-    match after_magic(kept, piece) {
-        Some((form, rest)) => read_items(alloc, form, 4, &[], rest),
+    match after_magic(kept.as_slice(), piece) {
+        Some((form, rest)) => read_after_magic(alloc, form, rest),
         None => Err(ReadFault::Fault(FeedFault {
             at: 0,
             why: FeedWhy::Magic,
         })),
     }
+}
+
+/// The operations of the items behind a magic, and what is to be kept after.
+fn read_after_magic<'a, A: Allocator>(
+    alloc: A,
+    form: FeedForm,
+    piece: &'a [u8],
+) -> Result<PieceRead<'a, A>, ReadFault>
+    requires few { 4 + length piece.now < 2 ^ 63 }
+    ensures read { IfOk result (λ read. Reads (Some form) piece.now read.ops.items read.form read.rest.now × (read.is_behind ≡ false)) }
+    ensures fault { IfErr result (λ fault. Stops (Some form) 4 piece.now fault) }
+{
+    let ops = Vec::with_capacity(alloc, form.most_ops(piece.len()))?;
+    read_rest(form, 4, piece, ops)
 }

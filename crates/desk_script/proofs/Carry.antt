@@ -1,5 +1,5 @@
 -- A loop of reads over lines.
-use Rattle.std.proofs.Common.{◌≡◌, ℕ, ◌==◌, true, List, [], ◌∷◌, ◌++◌, sym, ap, ◌∙◌, subst, append_assoc}
+use Rattle.std.proofs.Common.{◌≡◌, ℕ, ◌==◌, true, false, List, [], ◌∷◌, ◌++◌, sym, ap, ◌∙◌, subst, append_assoc}
 use Rattle.std.specs.Prelude.{Option, Some, None, IfSome}
 use Rattle.std.specs.Io.KnownBytes.{Consumes, IsAtEnd}
 use Rattle.std.proofs.lemmas.List.{append-nil}
@@ -9,10 +9,10 @@ use Rattle.desk_answers.specs.Text.{output}
 use Rattle.desk_files.specs.Files.{Shelf, Stays}
 use Rattle.desk_world.specs.Sites.{Sites}
 use Rattle.desk_steps.specs.Desk.{Desk, desk}
-use Rattle.desk_script.specs.Script.{Turn, Fronts, Answers, AnswersFront}
+use Rattle.desk_script.specs.Script.{Turn, Fronts, StopsBefore, Answers, AnswersBefore, AnswersFront}
 use Rattle.desk_script.specs.Pending.{last_line, lines_from, Moves, Carries}
-use Rattle.desk_script.proofs.Turns.{turn_turn, turn_front}
-use Rattle.desk_script.proofs.Cutting.{from_end, lines-from}
+use Rattle.desk_script.proofs.Turns.{no_turn, turn_before, turn_turn, turn_front}
+use Rattle.desk_script.proofs.Cutting.{from_byte, from_end, line_to_come, lines-from}
 
 pub line_fronts : (old : Desk) (last : Shelf) (a b : Option (List ℕ)) (line pending more : List ℕ) (byte : ℕ) → (byte == 10) ≡ true → line ≡ without_cr pending
     → ((rest : List Line) → Fronts old last a b (line_of line ∷ rest)) → Fronts old last a b (lines_from pending (byte ∷ more))
@@ -37,6 +37,20 @@ carries_front w0 w1 last (Some input) (Some left) None a b c pending chunk h rea
 carries_front w0 w1 last (Some input) (Some left) (Some rest) a b c pending chunk h read turn =
     subst (Fronts w0 last a c) (sym (h.2 ∙ ap (λ l. h.0 ++ lines_from pending l) read) ∙ lines-from input)
     (turn_front w0 w1 last a b c h.0 (lines_from pending (chunk ++ rest)) h.1 (turn rest))
+
+-- a line that is not kept
+pub unkept : (w : Desk) (last : Shelf) (a : Option (List ℕ)) (pending more : List ℕ) (byte : ℕ) → Stays w.shelf last → (byte == 10) ≡ false → StopsBefore w last a a (lines_from pending (byte ∷ more))
+unkept w last a pending more byte still e =
+    let (next, tail, is) = line_to_come pending byte more in ([], tail, next, from_byte pending more byte e ∙ is, w, still, no_turn w a)
+
+pub carries_before : (w0 w1 : Desk) (last : Shelf) (i l m a b c : Option (List ℕ)) (pending chunk : List ℕ) → Carries w0 w1 i l a b pending → Consumes l m chunk → ((more : List ℕ) → StopsBefore w1 last b c (lines_from pending (chunk ++ more)))
+    → IfSome i (λ input. StopsBefore w0 last a c (lines input))
+carries_before w0 w1 last None l m a b c pending chunk h read turn = tt
+carries_before w0 w1 last (Some input) None m a b c pending chunk h read turn = absurd h
+carries_before w0 w1 last (Some input) (Some left) None a b c pending chunk h read turn = absurd read
+carries_before w0 w1 last (Some input) (Some left) (Some rest) a b c pending chunk h read turn =
+    subst (StopsBefore w0 last a c) (sym (h.2 ∙ ap (λ l. h.0 ++ lines_from pending l) read) ∙ lines-from input)
+    (turn_before w0 w1 last a b c h.0 (lines_from pending (chunk ++ rest)) h.1 (turn rest))
 
 -- the reader is at its end
 pub carries_end : (w0 w1 w2 : Desk) (i l m a b c : Option (List ℕ)) (pending : List ℕ) → Carries w0 w1 i l a b pending → Consumes l m [] → IsAtEnd m → Turn w1 w2 b c (last_line pending) → IfSome i (λ input. Turn w0 w2 a c (lines input))
@@ -70,3 +84,7 @@ run_whole w none new m n (Some input) a b e h = (new, subst (λ s. Answers (desk
 pub run_front : (w none : Sites) (m n : Shelf) (i a b : Option (List ℕ)) → w ≡ none → IfSome i (λ input. AnswersFront (desk w m) n input a b) → IfSome i (λ input. AnswersFront (desk none m) n input a b)
 run_front w none m n None a b e h = tt
 run_front w none m n (Some input) a b e h = subst (λ s. AnswersFront (desk s m) n input a b) e h
+
+pub run_before : (w none : Sites) (m n : Shelf) (i a b : Option (List ℕ)) → w ≡ none → IfSome i (λ input. AnswersBefore (desk w m) n input a b) → IfSome i (λ input. AnswersBefore (desk none m) n input a b)
+run_before w none m n None a b e h = tt
+run_before w none m n (Some input) a b e h = subst (λ s. AnswersBefore (desk s m) n input a b) e h

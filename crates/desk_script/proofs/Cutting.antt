@@ -53,6 +53,14 @@ lines-from input =
     let (first, rest, is) = some_pieces input in
     from_is [] input ∙ ap (λ p. cut (onto [] p)) is ∙ sym (ap cut is)
 
+-- of a byte that is kept a line comes
+pub line_to_come : (pending : List ℕ) (b : ℕ) (more : List ℕ) → (next : Line) × (tail : List Line) × (lines_from (pending ++ b ∷ []) more ≡ next ∷ tail)
+line_to_come [] b [] = (line_of (b ∷ []), [], refl)
+line_to_come (c ∷ pending) b [] = (line_of (c ∷ pending ++ b ∷ []), [], refl)
+line_to_come pending b (d ∷ more) =
+    by_cases (d == 10) (λ e. (line_of (without_cr (pending ++ b ∷ [])), lines_from [] more, from_end (pending ++ b ∷ []) more d e))
+    (λ e. let (next, tail, is) = line_to_come (pending ++ b ∷ []) d more in (next, tail, from_byte (pending ++ b ∷ []) more d e ∙ is))
+
 -- the end of a line
 never : (t : Bool) → (t && false) ≡ false
 never true = refl

@@ -1,5 +1,5 @@
 -- Runs on a stored feed.
-use Rattle.std.proofs.Common.{◌≡◌, ℕ, ◌≤◌, inl, inr, List, ap, cond, subst, sym, ◌∙◌, arith}
+use Rattle.std.proofs.Common.{refl, ◌≡◌, ℕ, ◌≤◌, inl, inr, List, ap, cond, subst, sym, ◌∙◌, arith}
 use Rattle.std.proofs.Math.Nat.{eq-or-lt_of_le}
 use Rattle.std.specs.Prelude.{Some, Result, Err}
 use Rattle.std.specs.Cmp.{nat_cmp_total}
@@ -27,10 +27,7 @@ is_there n ops start later is keeps =
     let got : fin.get (one_site n ops) n ≡ Some (with_all no_ops ops) = fin.get-insert nat_cmp_total no_sites n (with_all no_ops ops) n ∙ ap (λ b. cond b (Some (with_all no_ops ops)) (fin.get no_sites n)) ((eq_by_cmp_equiv nat_cmp_total).refl n) in
     keeps n (with_all no_ops ops) (subst (λ (s : Sites). fin.get s n ≡ Some (with_all no_ops ops)) (sym is) got)
 
--- the fault of a call that failed
-pub of_device : {V : Type 0} (result : Result V RunFault) (fault given : RunFault) → result ≡ Err fault → fault ≡ given → result ≡ Err (faults.File refusals.Device) → given ≡ faults.File refusals.Device
-of_device result fault given failed same is = let e : Err fault ≡ Err (faults.File refusals.Device) = sym failed ∙ is in cc
-
+-- how often the device failed, by a refusal
 pub counts_up : (why : FileRefusal) (before after : Shelf) → IsCounted why before after → before.failures ≤ after.failures
 counts_up refusals.Missing before after counted = omega arith
 counts_up refusals.Device before after counted = counted.1
@@ -51,6 +48,12 @@ pub no_opening_fails : (why : OpenFault) → of_opening why ≡ faults.File refu
 no_opening_fails (openings.Feed fault) is = cc
 no_opening_fails (openings.Opening stop) is = cc
 no_opening_fails openings.NoMemory is = cc
+
+pub line_memory : (why : LineFault) → of_lines why ≡ faults.NoMemory → why ≡ lines.NoMemory
+line_memory lines.Read is = absurd (cc)
+line_memory lines.Write is = absurd (cc)
+line_memory lines.TooLong is = absurd (cc)
+line_memory lines.NoMemory is = refl
 
 pub no_line_fails : (why : LineFault) → of_lines why ≡ faults.File refusals.Device → ⊥
 no_line_fails lines.Read is = cc

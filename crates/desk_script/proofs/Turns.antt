@@ -10,7 +10,7 @@ use Rattle.desk_steps.specs.Desk.{Desk}
 use Rattle.desk_steps.specs.Line.{Line}
 use Rattle.desk_steps.specs.Line.{Allows}
 use Rattle.desk_stored.specs.Sending.{WritesFront}
-use Rattle.desk_script.specs.Script.{Script, Turn, Fronts, IsTold}
+use Rattle.desk_script.specs.Script.{Script, Turn, Fronts, StopsBefore, IsTold}
 
 pub appends_none : (a : Option (List ℕ)) → Appends a a []
 appends_none None = tt
@@ -59,6 +59,10 @@ turn_front old mid last a b c ls ms (rs, first, written) (front, tail, split, ne
   script-append old mid new ls front rs ss first second,
   (output rs ++ done, rest, Appends-trans a b c _ _ written more, output-append rs ss ∙ ap (λ l. output rs ++ l) cut ∙ sym (append_assoc (output rs) done rest)),
 )
+
+pub turn_before : (old mid : Desk) (last : Shelf) (a b c : Option (List ℕ)) (ls ms : List Line) → Turn old mid a b ls → StopsBefore mid last b c ms → StopsBefore old last a c (ls ++ ms)
+turn_before old mid last a b c ls ms turn (front, tail, next, split, new, still, more) =
+    (ls ++ front, tail, next, ap (λ l. ls ++ l) split ∙ sym (append_assoc ls front (next ∷ tail)), new, still, turn_turn old mid new a b c ls front turn more)
 
 -- ---- a writer that lets out what it held back
 

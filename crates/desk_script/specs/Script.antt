@@ -32,9 +32,18 @@ Fronts old last before after lines =
     (front tail : List Line) × (lines ≡ front ++ tail) × (new : Desk) × Stays new.shelf last × (replies : List Reply) × Script old front replies new
     × WritesFront before after (output replies)
 
+-- the first lines were answered and each answer was written, no file has changed since, and a line comes after them
+abbrev pub StopsBefore : Desk → Shelf → Option (List ℕ) → Option (List ℕ) → List Line → Type 0
+StopsBefore old last before after lines =
+    (front tail : List Line) × (next : Line) × (lines ≡ front ++ next ∷ tail) × (new : Desk) × Stays new.shelf last × Turn old new before after front
+
 -- a whole run over these bytes
 abbrev pub Answers : Desk → Desk → List ℕ → Option (List ℕ) → Option (List ℕ) → Type 0
 Answers old new input before after = Turn old new before after (lines input)
+
+-- a run over these bytes that stopped before a line, and left the files so
+abbrev pub AnswersBefore : Desk → Shelf → List ℕ → Option (List ℕ) → Option (List ℕ) → Type 0
+AnswersBefore old last input before after = StopsBefore old last before after (lines input)
 
 -- a run over these bytes that stopped, and left the files so
 abbrev pub AnswersFront : Desk → Shelf → List ℕ → Option (List ℕ) → Option (List ℕ) → Type 0

@@ -1,8 +1,8 @@
 -- A script on a stored feed.
-use Rattle.std.specs.Prelude.{◌≡◌, ◌⊎◌, ℕ, List, Option, Some, IfSome, Result}
+use Rattle.std.specs.Prelude.{◌≡◌, ◌≤◌, ◌⊎◌, ℕ, List, Option, Some, IfSome, Result}
 use Rattle.std.specs.FinMap as fin
 use Rattle.desk_ops.specs.declared.op.Op.{Op}
-use Rattle.desk_ops.specs.OpSet.{OpSet, no_ops, with_all}
+use Rattle.desk_ops.specs.OpSet.{OpSet, max_ops, no_ops, size, with_all}
 use Rattle.desk_codec.specs.Runs.{set_feed}
 use Rattle.desk_files.specs.Files.{Counts, IsNowHeld, Reads, Shelf, Stays}
 use Rattle.desk_script.specs.Faults.{of_file, of_lines, of_opening}
@@ -10,21 +10,23 @@ use Rattle.desk_stored.specs.Faults.{IsNotStored, IsUnopened, IsUnread, IsUntake
 use Rattle.desk_stored.specs.Stored.{IsStoredAs, Stores}
 use Rattle.desk_stored.specs.declared.fault.OpenFault.{OpenFault}
 use Rattle.desk_script.specs.declared.fault.LineFault.{LineFault}
+use Rattle.desk_script.specs.declared.fault.LineFault.TheVariants as faults
 use Rattle.desk_script.specs.declared.fault.RunFault.{RunFault}
 use Rattle.desk_files.specs.declared.files.FileRefusal.{FileRefusal}
 use Rattle.desk_script.specs.Lines.{lines}
 use Rattle.desk_world.specs.Sites.{Sites, no_sites}
 use Rattle.desk_steps.specs.Desk.{Desk}
-use Rattle.desk_script.specs.Script.{Turn, Fronts}
+use Rattle.desk_script.specs.Script.{Turn, Fronts, StopsBefore}
 
 -- a world of one site, which holds these operations
 abbrev pub one_site : ℕ → List Op → Sites
 one_site n ops = fin.insert no_sites n (with_all no_ops ops)
 
--- the desk of the site with the stored operations, by what was read under the name while it was held
+-- the desk of the site with the stored operations, which a replica can hold, by what was read under the name while it was held
 abbrev pub IsStart : List ℕ → ℕ → Shelf → Result (List ℕ) FileRefusal → Desk → Type 0
 IsStart name n held read start =
-    Reads (held.kept name) read × Counts read held start.shelf × (ops : List Op) × Stores read ops × (start.sites ≡ one_site n ops) × Stays held start.shelf
+    Reads (held.kept name) read × Counts read held start.shelf × (ops : List Op) × Stores read ops × (size (with_all no_ops ops) ≤ max_ops) × (start.sites ≡ one_site n ops)
+    × Stays held start.shelf
 
 -- all lines were answered, where the bytes are known, and no file has changed
 abbrev pub AnswersAll : Desk → Desk → Option (List ℕ) → Option (List ℕ) → Option (List ℕ) → Type 0
@@ -40,10 +42,11 @@ AnswersStored name n first last input before after =
     (held : Shelf) × IsNowHeld name first held × (read : Result (List ℕ) FileRefusal) × (start : Desk) × IsStart name n held read start
     × (new : Desk) × AnswersAll start new input before after × IsStored name n new read last
 
--- a run that stopped among the lines: a prefix of the answers was written, and no file has changed
-abbrev pub IsBroken : List ℕ → ℕ → Shelf → Shelf → Option (List ℕ) → Option (List ℕ) → Option (List ℕ) → Type 0
-IsBroken name n held last input before after =
+-- a run that stopped among the lines: a prefix of the answers was written, and no file has changed; where a line was not kept, all answers before it were written
+abbrev pub IsBroken : List ℕ → ℕ → Shelf → Shelf → Option (List ℕ) → Option (List ℕ) → Option (List ℕ) → LineFault → Type 0
+IsBroken name n held last input before after why =
     (read : Result (List ℕ) FileRefusal) × (start : Desk) × IsStart name n held read start × Stays start.shelf last × IfSome input (λ bytes. Fronts start last before after (lines bytes))
+    × (why ≡ faults.NoMemory → IfSome input (λ bytes. StopsBefore start last before after (lines bytes)))
 
 -- a whole run, after which the feed was not stored
 abbrev pub IsUnstored : List ℕ → ℕ → Shelf → Shelf → Option (List ℕ) → Option (List ℕ) → Option (List ℕ) → FileRefusal → Type 0
@@ -60,7 +63,7 @@ abbrev pub IsHaltedOnFeed : List ℕ → ℕ → Shelf → Shelf → Option (Lis
 IsHaltedOnFeed name n held last input before after fault =
     ((after ≡ before) × (why : FileRefusal) × (fault ≡ of_file why) × IsUnread name held last why)
     ⊎ ((after ≡ before) × (why : OpenFault) × (fault ≡ of_opening why) × IsClosed name held last why)
-    ⊎ ((why : LineFault) × (fault ≡ of_lines why) × IsBroken name n held last input before after)
+    ⊎ ((why : LineFault) × (fault ≡ of_lines why) × IsBroken name n held last input before after why)
     ⊎ ((why : FileRefusal) × (fault ≡ of_file why) × IsUnstored name n held last input before after why)
 
 -- why a run on a stored feed stopped, and what it left: the name was not taken and nothing was done, or it was, and then the run stopped

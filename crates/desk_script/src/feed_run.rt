@@ -3,7 +3,7 @@
 ghost use Rattle.std.specs.Prelude.{◌≡◌, ◌≤◌, ◌⊎◌, IfErr, IfOk, IsErrOf, List, OnOk, Some};
 ghost use Rattle.std.specs.FinMap as fin;
 ghost use Rattle.desk_ops.specs.declared.op.Op.{Op};
-ghost use Rattle.desk_ops.specs.OpSet.{OpSet};
+ghost use Rattle.desk_ops.specs.OpSet.{OpSet, max_ops, no_ops, size, with_all};
 ghost use Rattle.desk_stored.specs.Faults.{IsNotStored, IsUnopened};
 ghost use Rattle.desk_files.specs.Files.{HasFailed, IsHeldAlone, Stays};
 ghost use Rattle.desk_steps.specs.Desk.{desk};
@@ -26,7 +26,7 @@ fn opened<A: Allocator + Copy>(
     site: u16,
 ) -> Result<World<A>, OpenFault>
     requires { 1 ≤ site }
-    ensures ok { IfOk result (λ w. (ops : List Op) × Stores (was_read old.now) ops × (w ≡ one_site site ops)) }
+    ensures ok { IfOk result (λ w. (ops : List Op) × Stores (was_read old.now) ops × (size (with_all no_ops ops) ≤ max_ops) × (w ≡ one_site site ops)) }
     ensures err { IfErr result (IsUnopened (was_read old.now)) }
 {
     let replica = open_replica(alloc, old, site)?;

@@ -1,6 +1,6 @@
 //! Scripts, read and answered line by line.
 
-ghost use Rattle.std.specs.Prelude.{◌≡◌, ◌≢◌, ℕ, ◌≤◌, ◌++◌, ◌∷◌, [], List, OnOk, OnErr, IfErr, IfOk, IfSome, length, string_bytes};
+ghost use Rattle.std.specs.Prelude.{◌≡◌, ◌≢◌, ℕ, ◌≤◌, ◌++◌, ◌∷◌, [], List, OnOk, OnErr, IfErr, IfOk, IfSome, IsErrOf, length, string_bytes};
 ghost use Rattle.std.specs.Io.KnownBytes.{Appends, IsAtEnd, Keeps};
 ghost use Rattle.desk_steps.specs.Line.{Line, line_of};
 ghost use Rattle.desk_script.specs.Lines.{without_cr};
@@ -10,7 +10,7 @@ ghost use Rattle.desk_world.specs.Sites.{Sites, no_sites};
 ghost use Rattle.desk_steps.specs.Desk.{KeepsSites, desk};
 ghost use Rattle.desk_files.specs.Files.{Stays};
 ghost use Rattle.desk_steps.specs.Line.{Allows};
-ghost use Rattle.desk_script.specs.Script.{Turn, Fronts, Answers, AnswersFront, IsTold};
+ghost use Rattle.desk_script.specs.Script.{Turn, Fronts, StopsBefore, Answers, AnswersBefore, AnswersFront, IsTold};
 ghost use Rattle.desk_stored.specs.Sending.{WritesFront};
 ghost use Rattle.desk_script.specs.Faults.{IsOfLines};
 ghost use Rattle.desk_script.specs.Pending.{Moves, lines_from, last_line};
@@ -52,7 +52,8 @@ fn send<W: Write>(writer: &mut W, bytes: &[u8]) -> Result<(), LineFault>
 
 /// Lets out what the writer holds back.
 fn flush<W: Write>(writer: &mut W) -> Result<(), LineFault>
-    ensures { Keeps (W.contents writer.old) (W.contents writer.new) }
+    ensures kept { Keeps (W.contents writer.old) (W.contents writer.new) }
+    ensures fault { IfErr result (λ fault. fault ≡ LineFault.Write) }
 {
     Ok(let_out(writer)?)
 }
@@ -147,6 +148,7 @@ fn take_byte<W: Write, F: Files, A: Allocator + Copy>(
     ensures kept { length line.new.items ≤ PENDING_LIMIT }
     ensures ok { OnOk result (Moves (desk world.old (F.shelf files.old)) (desk world.new (F.shelf files.new)) (W.contents writer.old) (W.contents writer.new) line.old.items (byte ∷ []) line.new.items) }
     ensures err { OnErr result ((more : List ℕ) → Fronts (desk world.old (F.shelf files.old)) (F.shelf files.new) (W.contents writer.old) (W.contents writer.new) (lines_from line.old.items (byte ∷ more))) }
+    ensures memory { IsErrOf result LineFault.NoMemory → (more : List ℕ) → StopsBefore (desk world.old (F.shelf files.old)) (F.shelf files.new) (W.contents writer.old) (W.contents writer.new) (lines_from line.old.items (byte ∷ more)) }
     ensures sites { OnOk result (KeepsSites world.old world.new) }
     ensures stays { Stays (F.shelf files.old) (F.shelf files.new) }
 {
@@ -171,6 +173,7 @@ fn take_each<W: Write, F: Files, A: Allocator + Copy>(
     ensures kept { length line.new.items ≤ PENDING_LIMIT }
     ensures ok { OnOk result (Moves (desk world.old (F.shelf files.old)) (desk world.new (F.shelf files.new)) (W.contents writer.old) (W.contents writer.new) line.old.items bytes.now line.new.items) }
     ensures err { OnErr result ((more : List ℕ) → Fronts (desk world.old (F.shelf files.old)) (F.shelf files.new) (W.contents writer.old) (W.contents writer.new) (lines_from line.old.items (bytes.now ++ more))) }
+    ensures memory { IsErrOf result LineFault.NoMemory → (more : List ℕ) → StopsBefore (desk world.old (F.shelf files.old)) (F.shelf files.new) (W.contents writer.old) (W.contents writer.new) (lines_from line.old.items (bytes.now ++ more)) }
     ensures sites { OnOk result (KeepsSites world.old world.new) }
     ensures stays { Stays (F.shelf files.old) (F.shelf files.new) }
 {
@@ -193,6 +196,7 @@ fn take_bytes<W: Write, F: Files, A: Allocator + Copy>(
     ensures kept { length line.new.items ≤ PENDING_LIMIT }
     ensures ok { OnOk result (Moves (desk world.old (F.shelf files.old)) (desk world.new (F.shelf files.new)) (W.contents writer.old) (W.contents writer.new) line.old.items bytes.now line.new.items) }
     ensures err { OnErr result ((more : List ℕ) → Fronts (desk world.old (F.shelf files.old)) (F.shelf files.new) (W.contents writer.old) (W.contents writer.new) (lines_from line.old.items (bytes.now ++ more))) }
+    ensures memory { IsErrOf result LineFault.NoMemory → (more : List ℕ) → StopsBefore (desk world.old (F.shelf files.old)) (F.shelf files.new) (W.contents writer.old) (W.contents writer.new) (lines_from line.old.items (bytes.now ++ more)) }
     ensures sites { OnOk result (KeepsSites world.old world.new) }
     ensures stays { Stays (F.shelf files.old) (F.shelf files.new) }
 {
@@ -210,6 +214,7 @@ fn take_last<W: Write, F: Files, A: Allocator + Copy>(
 ) -> Result<(), LineFault>
     ensures ok { OnOk result (Turn (desk world.old (F.shelf files.old)) (desk world.new (F.shelf files.new)) (W.contents writer.old) (W.contents writer.new) (line_of line.now ∷ [])) }
     ensures err { OnErr result ((more : List Line) → Fronts (desk world.old (F.shelf files.old)) (F.shelf files.new) (W.contents writer.old) (W.contents writer.new) (line_of line.now ∷ more)) }
+    ensures fault { IfErr result (λ fault. fault ≡ LineFault.Write) }
     ensures sites { OnOk result (KeepsSites world.old world.new) }
     ensures stays { Stays (F.shelf files.old) (F.shelf files.new) }
 {
@@ -227,6 +232,7 @@ fn finish<W: Write, F: Files, A: Allocator + Copy>(
 ) -> Result<(), LineFault>
     ensures ok { OnOk result (Turn (desk world.old (F.shelf files.old)) (desk world.new (F.shelf files.new)) (W.contents writer.old) (W.contents writer.new) (last_line line.now)) }
     ensures err { OnErr result (Fronts (desk world.old (F.shelf files.old)) (F.shelf files.new) (W.contents writer.old) (W.contents writer.new) (last_line line.now)) }
+    ensures fault { IfErr result (λ fault. fault ≡ LineFault.Write) }
     ensures sites { OnOk result (KeepsSites world.old world.new) }
     ensures stays { Stays (F.shelf files.old) (F.shelf files.new) }
 {
@@ -238,7 +244,8 @@ fn finish<W: Write, F: Files, A: Allocator + Copy>(
 
 /// Reads commands to their end, and writes the line of each one's answer. A writer may hold them back: it is flushed
 /// before each read, and at the end. Memory that is refused to a command is an answer, and the run goes on: `NoMemory`
-/// comes only where a line cannot be kept. After an `Err` what was written is a prefix of such lines.
+/// comes only where a line cannot be kept, and then every answer before it was written. After any other `Err` what was
+/// written is a prefix of such lines.
 pub fn answer_all<R: Read, W: Write, F: Files, A: Allocator + Copy>(
     memory: Memory<A>,
     world: &mut World<A>,
@@ -248,6 +255,7 @@ pub fn answer_all<R: Read, W: Write, F: Files, A: Allocator + Copy>(
 ) -> Result<(), LineFault>
     ensures ok { OnOk result (IfSome (R.remaining reader.old) (λ input. Answers (desk world.old (F.shelf files.old)) (desk world.new (F.shelf files.new)) input (W.contents writer.old) (W.contents writer.new))) }
     ensures err { OnErr result (IfSome (R.remaining reader.old) (λ input. AnswersFront (desk world.old (F.shelf files.old)) (F.shelf files.new) input (W.contents writer.old) (W.contents writer.new))) }
+    ensures memory { IsErrOf result LineFault.NoMemory → IfSome (R.remaining reader.old) (λ input. AnswersBefore (desk world.old (F.shelf files.old)) (F.shelf files.new) input (W.contents writer.old) (W.contents writer.new)) }
     ensures sites { OnOk result (KeepsSites world.old world.new) }
     ensures stays { Stays (F.shelf files.old) (F.shelf files.new) }
     ensures end { OnOk result (IsAtEnd (R.remaining reader.new)) }
@@ -265,8 +273,8 @@ pub fn answer_all<R: Read, W: Write, F: Files, A: Allocator + Copy>(
 }
 
 /// Reads commands to their end, on a world that has no site yet, and writes the line of each one's answer. Memory that is
-/// refused to a command is an answer: `NoMemory` comes only where a line cannot be kept. After an `Err` what was written
-/// is a prefix of such lines. The reading of a case or a wedge takes the global allocator alone.
+/// refused to a command is an answer: `NoMemory` comes only where a line cannot be kept, and then every answer before it
+/// was written. After any other `Err` what was written is a prefix of such lines. The reading of a case or a wedge takes the global allocator alone.
 pub fn run<R: Read, W: Write, F: Files, A: Allocator + Copy>(
     alloc: A,
     global: Global,
@@ -276,6 +284,7 @@ pub fn run<R: Read, W: Write, F: Files, A: Allocator + Copy>(
 ) -> Result<(), RunFault>
     ensures ok { OnOk result (IfSome (R.remaining reader.old) (λ input. (new : Sites) × Answers (desk no_sites (F.shelf files.old)) (desk new (F.shelf files.new)) input (W.contents writer.old) (W.contents writer.new))) }
     ensures err { OnErr result (IfSome (R.remaining reader.old) (λ input. AnswersFront (desk no_sites (F.shelf files.old)) (F.shelf files.new) input (W.contents writer.old) (W.contents writer.new))) }
+    ensures memory { IsErrOf result RunFault.NoMemory → IfSome (R.remaining reader.old) (λ input. AnswersBefore (desk no_sites (F.shelf files.old)) (F.shelf files.new) input (W.contents writer.old) (W.contents writer.new)) }
     ensures stays { Stays (F.shelf files.old) (F.shelf files.new) }
     ensures own { IfErr result IsOfLines }
     ensures end { OnOk result (IsAtEnd (R.remaining reader.new)) }

@@ -14,7 +14,8 @@ const HEAP: usize = 1_048_576;
 /// Gives three parts, one in each call. While the second is answered all that a heap has left is taken.
 #[derive(Drop)]
 struct Pinch<'a, 'h> {
-    parts: &'a [&'a [u8]],
+    parts: [&'a [u8]; 3],
+    calls: usize,
     heap: &'h LocalHeap,
     taken: Vec<Vec<u8, &'h LocalHeap>>,
 }
@@ -35,14 +36,16 @@ impl<'a, 'h> Pinch<'a, 'h> {
 
 impl<'a, 'h> Read for Pinch<'a, 'h> {
     fn read(&mut self, buf: &mut [u8]) -> io::Result<usize> {
-        let Some((part, later)) = self.parts.split_first() else {
+        let call = self.calls;
+        if call >= 3 {
             return Ok(0);
-        };
-        self.parts = later;
+        }
+        self.calls = call + 1;
         self.taken.clear();
-        if later.len() == 1 {
+        if call == 1 {
             self.take_all();
         }
+        let part = self.parts[call];
         let n = part.len().min(buf.len());
         buf[..n].copy_from_slice(&part[..n]);
         Ok(n)
@@ -74,7 +77,8 @@ fn refused_memory(rt: HostRuntime) -> Result<(), Fail> {
     let alloc: Global = rt.alloc();
     let heap = LocalHeap::new(alloc, HEAP)?;
     let mut reader = Pinch {
-        parts: &[BEFORE, PINCHED, AFTER],
+        parts: [BEFORE, PINCHED, AFTER],
+        calls: 0,
         heap: &heap,
         taken: Vec::new(alloc),
     };

@@ -3,6 +3,7 @@
 ghost use Rattle.std.specs.Prelude.{◌≡◌, ◌↔◌, ◌≤◌, All, IfErr, IfOk, IsTrue, Ok, OnOk};
 ghost use Rattle.desk_codec.specs.Runs.{set_feed};
 ghost use Rattle.desk_ops.specs.Op.{IsLawful};
+ghost use Rattle.desk_ops.specs.OpSet.{max_ops, size};
 ghost use Rattle.desk_files.specs.Files.{Counts, Reads, Stays};
 ghost use Rattle.desk_stored.specs.Faults.{IsNotStored, IsUnopened, IsUnread};
 ghost use Rattle.desk_stored.specs.Stored.{IsStoredAs, Opens, Stores, was_read};
@@ -64,10 +65,13 @@ pub fn open_replica<A: Allocator + Copy>(
     requires { 1 ≤ site }
     ensures site { IfOk result (λ r. r.site ≡ site) }
     ensures ok { IfOk result (λ r. Opens (was_read old.now) r.ops) }
+    ensures limit { IfOk result (λ r. size r.ops ≤ max_ops) }
     ensures err { IfErr result (IsUnopened (was_read old.now)) }
 {
     let ops = operations_in(alloc, old)?;
-    Ok(Replica::open(alloc, site, &ops)?)
+    let replica = Replica::open(alloc, site, &ops)?;
+    let _held = replica.len();
+    Ok(replica)
 }
 
 /// Whether a feed is what was stored.

@@ -1,13 +1,15 @@
 use Rattle.desk_files.proofs.Shelves.{stays_same, stays_trans}
 use Rattle.std.proofs.Common.{rules, ◌<◌, length, refl, take, subst}
 use Rattle.std.specs.Io.KnownBytes.{Consumes}
-use Rattle.std.proofs.lemmas.Result.{on_err_weaker, on_ok_weaker}
+use Rattle.std.proofs.lemmas.Result.{err_from_is_err_and, on_err_weaker, on_ok_weaker}
+use Rattle.std.proofs.Common.{ap}
+use Rattle.std.specs.Prelude.{Err}
 use Rattle.desk_steps.specs.Desk.{desk}
 use Rattle.desk_script.specs.Script.{Turn, Fronts}
 use Rattle.desk_script.specs.Pending.{last_line}
 use Rattle.desk_steps.proofs.Keeping.{keeps_same, keeps_trans}
-use Rattle.desk_script.proofs.Bytes.{on_err}
-use Rattle.desk_script.proofs.Carry.{carries_more, carries_front, carries_end, carries_end_front, carries_stop}
+use Rattle.desk_script.proofs.Bytes.{on_err, told_fault}
+use Rattle.desk_script.proofs.Carry.{carries_before, carries_more, carries_front, carries_end, carries_end_front, carries_stop}
 use Rattle.desk_script.proofs.stream.answer_all.Goals as goal
 
 pub reads-init : goal.reads-init
@@ -36,6 +38,12 @@ pub returns-in_err-take_bytes-in-Ok-clause-err : goal.returns-in_err-take_bytes-
 returns-in_err-take_bytes-in-Ok-clause-err g c =
     on_err c.from_residual.result
     (carries_front (desk c.args.world.now (g.F.Files.shelf c.args.files.now)) (desk c.reads.world (g.F.Files.shelf c.reads.files)) (g.F.Files.shelf c.take_bytes.new.files) _ _ _ _ (g.W.Write.contents c.reads.writer) _ c.reads.line.items (take c.in-Ok.n c.read.new.buf) c.reads.invariant.carries c.in-Ok.ensures.bytes.0 c.in_err-take_bytes-in-Ok.ensures.err)
+
+pub returns-in_err-take_bytes-in-Ok-clause-memory : goal.returns-in_err-take_bytes-in-Ok-clause-memory
+returns-in_err-take_bytes-in-Ok-clause-memory g c is =
+    let p = err_from_is_err_and c.from_residual.result c.from_residual.ensures.1 in
+    carries_before (desk c.args.world.now (g.F.Files.shelf c.args.files.now)) (desk c.reads.world (g.F.Files.shelf c.reads.files)) (g.F.Files.shelf c.take_bytes.new.files) _ _ _ _ (g.W.Write.contents c.reads.writer) _ c.reads.line.items (take c.in-Ok.n c.read.new.buf) c.reads.invariant.carries c.in-Ok.ensures.bytes.0
+    (c.in_err-take_bytes-in-Ok.ensures.memory (ap Err (told_fault _ _ _ _ p.1 p.2 is)))
 
 pub reads-preserved : goal.reads-preserved
 reads-preserved g c = record {

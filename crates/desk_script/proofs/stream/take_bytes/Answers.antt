@@ -12,7 +12,7 @@ returns-clause-ok g c =
     let moved = c.in_ok-take_each.ensures.ok in
     on_ok c.flush.result (
       moved.0,
-      turn_kept (desk c.args.world.now (g.F.Files.shelf c.args.files.now)) (desk c.take_each.new.world (g.F.Files.shelf c.take_each.new.files)) (g.W.Write.contents c.args.writer.now) (g.W.Write.contents c.take_each.new.writer) (g.W.Write.contents c.flush.new.writer) moved.0 moved.1 c.flush.ensures,
+      turn_kept (desk c.args.world.now (g.F.Files.shelf c.args.files.now)) (desk c.take_each.new.world (g.F.Files.shelf c.take_each.new.files)) (g.W.Write.contents c.args.writer.now) (g.W.Write.contents c.take_each.new.writer) (g.W.Write.contents c.flush.new.writer) moved.0 moved.1 c.flush.ensures.kept,
       moved.2,
     )
 
@@ -23,4 +23,4 @@ returns-clause-err g c =
     (λ more. subst (Fronts (desk c.args.world.now (g.F.Files.shelf c.args.files.now)) (g.F.Files.shelf c.take_each.new.files) (g.W.Write.contents c.args.writer.now) (g.W.Write.contents c.flush.new.writer))
     (sym (moved.2 more))
     (turn_stops (desk c.args.world.now (g.F.Files.shelf c.args.files.now)) (desk c.take_each.new.world (g.F.Files.shelf c.take_each.new.files)) (g.F.Files.shelf c.take_each.new.files) (g.W.Write.contents c.args.writer.now) (g.W.Write.contents c.flush.new.writer) moved.0 (lines_from c.take_each.new.line.items more) (stays_same _)
-    (turn_kept (desk c.args.world.now (g.F.Files.shelf c.args.files.now)) (desk c.take_each.new.world (g.F.Files.shelf c.take_each.new.files)) (g.W.Write.contents c.args.writer.now) (g.W.Write.contents c.take_each.new.writer) (g.W.Write.contents c.flush.new.writer) moved.0 moved.1 c.flush.ensures)))
+    (turn_kept (desk c.args.world.now (g.F.Files.shelf c.args.files.now)) (desk c.take_each.new.world (g.F.Files.shelf c.take_each.new.files)) (g.W.Write.contents c.args.writer.now) (g.W.Write.contents c.take_each.new.writer) (g.W.Write.contents c.flush.new.writer) moved.0 moved.1 c.flush.ensures.kept)))
