@@ -9,7 +9,7 @@ The parts are proofs (without tests), tests (the proof of a crate with its tests
 must refuse), builds (compilers) and runs (tests and programs). `from` and `to` are seconds since the command began, from
 the first process of a crate to its last. A process is looked at twice a second, so up to half a second of each is missed;
 the last line has the exact sum of all. The last line that the command wrote is kept, and `gate_times.py FILE` ends with it.
-Where the command failed, the lines that say why stand before that, since a log's end is what is read first.
+The lines that say what failed, or which wrong body is none, stand before that, since a log's end is what is read first.
 """
 import json
 import os
@@ -118,7 +118,7 @@ def watched(file, command):
     ended.set()
     looks.join()
     used = resource.getrusage(resource.RUSAGE_CHILDREN)
-    told = {"wall": time.time() - watch.began, "processor": used.ru_utime + used.ru_stime, "last": last, "trouble": trouble if status else [], "seen": list(watch.seen.values())}
+    told = {"wall": time.time() - watch.began, "processor": used.ru_utime + used.ru_stime, "last": last, "trouble": trouble, "seen": list(watch.seen.values())}
     with open(file, "w", encoding="utf-8") as out:
         json.dump(told, out)
     return status if status >= 0 else 128 - status
