@@ -186,8 +186,9 @@ fn read_up_to(alloc: Global, failing_call: usize) -> Result<(), Fail> {
     }
     let read = calls.saturating_sub(1).min(TWO_SITES.len());
     let lines = ended(&TWO_SITES[..read]);
-    let told = front(TWO_SITES_ANSWERS, lines).min(TWO_SITES_ANSWERS.len());
-    same(&written, &TWO_SITES_ANSWERS[..told])
+    let answers = TWO_SITES_ANSWERS;
+    let told = front(answers, lines).min(answers.len());
+    same(&written, &answers[..told])
 }
 
 #[test]
