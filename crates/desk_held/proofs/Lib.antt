@@ -2,3 +2,4 @@ pub mod Joins
 mod Edges
 mod Pairs
 pub mod Ranges
+pub mod Stamped

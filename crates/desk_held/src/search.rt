@@ -15,6 +15,17 @@ fn is_earlier(a: &Op, b: &Op) -> bool
     a < b
 }
 
+/// The same of a held one. Their stamps tell it, but where these are one.
+fn comes_before(x: Slot, op: &Op) -> bool
+    ensures { result ≡ is_lt (op_cmp x op.now) }
+{
+    let (its, stamp) = (x.stamp(), op.stamp());
+    if !its.is_same(stamp) {
+        return its.is_before(stamp);
+    }
+    is_earlier(&x.op(), op)
+}
+
 /// Picks what comes before an operation.
 #[derive(Clone, Copy)]
 pub struct Earlier {
@@ -28,7 +39,7 @@ impl Pick<Slot, ()> for Earlier {
     ghost picked = { λ s x. is_lt (op_cmp x s.op) };
 
     fn picks(&self, x: Slot) -> bool {
-        is_earlier(&x.op(), &self.op)
+        comes_before(x, &self.op)
     }
 }
 

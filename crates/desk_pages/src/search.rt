@@ -244,7 +244,7 @@ pub fn edge_in<T: Copy, S: Summary<T>, P: Pick<T, S>>(
 }
 
 /// The first page whose last entry is not picked, as far as the one before it tells. What is newest stands last in most
-/// lists, so the last page is looked at first.
+/// lists, so the last page is looked at first; and then the first one, where what comes in falling order belongs.
 fn edge_page<T: Copy, S: Summary<T>, A: Allocator, P: Pick<T, S>>(
     pages: &[Page<T, S, A>],
     pick: &P,
@@ -255,6 +255,9 @@ fn edge_page<T: Copy, S: Summary<T>, A: Allocator, P: Pick<T, S>>(
     let count = pages.len();
     if count > 0 && pick.picks(pages[count - 1].last()) {
         return count;
+    }
+    if count > 0 && !pick.picks(pages[0].last()) {
+        return 0;
     }
     edge_by_halves(pages, pick)
 }
@@ -297,7 +300,7 @@ pub fn edge<T: Copy, S: Summary<T>, A: Allocator, P: Pick<T, S>>(
     (p, edge_in(pages[p].items(), pick, guess))
 }
 
-/// Where in a page those that are picked may end: a hint.
+/// Where in a page those that are picked may end: a hint. In the first page that is its front.
 fn guess_in<T: Copy, S: Summary<T>, A: Allocator, P: Pick<T, S>>(
     pages: &[Page<T, S, A>],
     p: usize,
@@ -307,7 +310,7 @@ fn guess_in<T: Copy, S: Summary<T>, A: Allocator, P: Pick<T, S>>(
     requires within { p < length pages.now }
 {
     if p == 0 {
-        return None;
+        return Some(0);
     }
     pick.guess(pages[p - 1].last(), pages[p].last(), pages[p].len())
 }
