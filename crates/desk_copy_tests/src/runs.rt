@@ -1,10 +1,11 @@
 use desk_codec::{read_feed, write_runs};
+use desk_held::Held;
 use desk_ops::{Key, NoMemory, Op, Stamp, Style, Symbol};
 use linked_list_allocator::LocalHeap;
 use std::alloc::{AllocError, Allocator, Global};
 use std::test::Fail;
 
-const fn at(counter: u64, site: u16) -> Stamp {
+fn at(counter: u64, site: u16) -> Stamp {
     Stamp { counter, site }
 }
 
@@ -19,6 +20,23 @@ fn typed(stamp: Stamp, parent: Stamp, ch: char) -> Op {
     }
 }
 
+/// Lawful operations as a replica holds them.
+fn held_of(alloc: Global, ops: &[Op]) -> Result<Held<Global>, Fail> {
+    let mut held = Held::new(alloc);
+    for op in ops {
+        if op.check().is_err() || held.add(*op).is_err() {
+            return Err(Fail::new("an operation is refused"));
+        }
+    }
+    Ok(held)
+}
+
+/// The feed of runs of what is held, in its order.
+fn feed_of<A: Allocator + Copy>(alloc: A, held: &Held<Global>) -> Result<Vec<u8, A>, NoMemory> {
+    let ops = held.in_order()?;
+    write_runs(alloc, &ops)
+}
+
 /// So many symbols that the sites type in turn, each site after what it typed itself.
 fn typed_in_turn(alloc: Global, many: u64, sites: u16) -> Result<Vec<Op>, AllocError> {
     let mut ops = Vec::new(alloc);
@@ -27,7 +45,7 @@ fn typed_in_turn(alloc: Global, many: u64, sites: u16) -> Result<Vec<Op>, AllocE
             let parent = if counter == 1 {
                 Stamp::HEAD
             } else {
-                at(counter - 1, site)
+                at(counter.saturating_sub(1), site)
             };
             ops.push(typed(at(counter, site), parent, 'a'))?;
         }
@@ -35,26 +53,36 @@ fn typed_in_turn(alloc: Global, many: u64, sites: u16) -> Result<Vec<Op>, AllocE
     Ok(ops)
 }
 
+/// Whether the feed of so many symbols by so many sites has this size.
+fn is_of_size(alloc: Global, many: u64, sites: u16, size: usize) -> Result<bool, Fail> {
+    let ops = typed_in_turn(alloc, many, sites)?;
+    let held = held_of(alloc, &ops)?;
+    Ok(feed_of(alloc, &held)?.len() == size)
+}
+
+/// How many symbols, by how many sites, and the size of their feed.
+const SIZES: [(u64, u16, usize); 11] = [
+    (0, 1, 4),
+    (1, 1, 30),
+    (2, 1, 36),
+    (63, 1, 341),
+    (64, 1, 346),
+    (65, 1, 372),
+    (66, 1, 378),
+    (129, 1, 714),
+    (64, 2, 688),
+    (65, 2, 740),
+    (65, 3, 1108),
+];
+
 /// A run has 2 to 64 symbols, and takes 22 bytes and 5 for each; one symbol alone takes 26.
 #[test]
 fn sizes_of_runs(rt: HostRuntime) -> Result<(), Fail> {
-    let alloc = rt.alloc();
-    let sizes = [
-        (0, 1, 4),
-        (1, 1, 30),
-        (2, 1, 36),
-        (63, 1, 341),
-        (64, 1, 346),
-        (65, 1, 372),
-        (66, 1, 378),
-        (129, 1, 714),
-        (64, 2, 688),
-        (65, 2, 740),
-        (65, 3, 1108),
-    ];
-    for (many, sites, size) in sizes {
-        let ops = typed_in_turn(alloc, many, sites)?;
-        assert_eq!(rt; write_runs(alloc, &ops)?.len(), size, "{many} by {sites}");
+    for &(many, sites, size) in &SIZES {
+        assert!(rt;
+            is_of_size(rt.alloc(), many, sites, size)?,
+            "{many} by {sites}"
+        );
     }
     Ok(())
 }
@@ -66,62 +94,154 @@ const FEED_OF_RUN: [u8; 67] = *b"MFD2\
 
 /// Whether the feed has the size and is read as the other list.
 fn is_read_as(alloc: Global, ops: &[Op], read: &[Op], size: usize) -> Result<bool, Fail> {
-    let bytes = write_runs(alloc, ops)?;
+    let held = held_of(alloc, ops)?;
+    let bytes = feed_of(alloc, &held)?;
     Ok(bytes.len() == size && read_feed(alloc, &bytes)?.as_slice() == read)
 }
 
+const ONE_1: Stamp = Stamp {
+    counter: 1,
+    site: 1,
+};
+
+const TWO_1: Stamp = Stamp {
+    counter: 2,
+    site: 1,
+};
+
+const TWO_2: Stamp = Stamp {
+    counter: 2,
+    site: 2,
+};
+
+const THREE_1: Stamp = Stamp {
+    counter: 3,
+    site: 1,
+};
+
+const ROMAN_A: Symbol = Symbol {
+    style: Style::Roman,
+    ch: 'a',
+};
+
+const ROMAN_B: Symbol = Symbol {
+    style: Style::Roman,
+    ch: 'b',
+};
+
+const ROMAN_C: Symbol = Symbol {
+    style: Style::Roman,
+    ch: 'c',
+};
+
+const ROMAN_X: Symbol = Symbol {
+    style: Style::Roman,
+    ch: 'x',
+};
+
+const A: Op = Op::Insert {
+    stamp: ONE_1,
+    parent: Stamp::HEAD,
+    symbol: ROMAN_A,
+};
+
+const B: Op = Op::Insert {
+    stamp: TWO_1,
+    parent: ONE_1,
+    symbol: ROMAN_B,
+};
+
+const C: Op = Op::Insert {
+    stamp: THREE_1,
+    parent: TWO_1,
+    symbol: ROMAN_C,
+};
+
+const X: Op = Op::Insert {
+    stamp: TWO_2,
+    parent: ONE_1,
+    symbol: ROMAN_X,
+};
+
+const FORK: Op = Op::Insert {
+    stamp: TWO_1,
+    parent: ONE_1,
+    symbol: ROMAN_X,
+};
+
+const LATE: Op = Op::Insert {
+    stamp: THREE_1,
+    parent: ONE_1,
+    symbol: ROMAN_C,
+};
+
+const OTHER: Op = Op::Insert {
+    stamp: TWO_1,
+    parent: Stamp::HEAD,
+    symbol: ROMAN_B,
+};
+
+const DELETE: Op = Op::Delete {
+    stamp: TWO_1,
+    target: ONE_1,
+};
+
+const SET: Op = Op::Set {
+    stamp: THREE_1,
+    key: Key::Measure,
+    value: 144,
+};
+
+/// Operations, how their feed is read, and its size.
+const FEEDS: [(&[Op], &[Op], usize); 6] = [
+    (&[A, B, X, C], &[A, B, C, X], 67),
+    // A forked stamp is in no run, and what follows it stands alone.
+    (&[A, B, FORK, C], &[A, B, FORK, C], 108),
+    (&[A, LATE], &[A, LATE], 56),
+    (&[A, OTHER], &[A, OTHER], 56),
+    (&[A, DELETE, SET], &[A, DELETE, SET], 67),
+    (&[A, DELETE, LATE], &[A, DELETE, LATE], 77),
+];
+
 #[test]
 fn worked_runs(rt: HostRuntime) -> Result<(), Fail> {
-    let alloc = rt.alloc();
-    let a = typed(at(1, 1), Stamp::HEAD, 'a');
-    let b = typed(at(2, 1), at(1, 1), 'b');
-    let c = typed(at(3, 1), at(2, 1), 'c');
-    let x = typed(at(2, 2), at(1, 1), 'x');
-    assert!(rt; write_runs(alloc, &[a, b, x, c])?.as_slice() == FEED_OF_RUN.as_slice());
-    let fork = typed(at(2, 1), at(1, 1), 'x');
-    let late = typed(at(3, 1), at(1, 1), 'c');
-    let other = typed(at(2, 1), Stamp::HEAD, 'b');
-    let delete = Op::Delete {
-        stamp: at(2, 1),
-        target: at(1, 1),
-    };
-    let set = Op::Set {
-        stamp: at(3, 1),
-        key: Key::Measure,
-        value: 144,
-    };
-    let cases: [(&[Op], &[Op], usize); 6] = [
-        (&[a, b, x, c], &[a, b, c, x], 67),
-        // A forked stamp is in no run, and what follows it stands alone.
-        (&[a, b, fork, c], &[a, b, fork, c], 108),
-        (&[a, late], &[a, late], 56),
-        (&[a, other], &[a, other], 56),
-        (&[a, delete, set], &[a, delete, set], 67),
-        (&[a, delete, late], &[a, delete, late], 77),
-    ];
-    for (ops, read, size) in cases {
-        assert!(rt; is_read_as(alloc, ops, read, size)?, "{size} bytes");
+    let held = held_of(rt.alloc(), &[A, B, X, C])?;
+    assert!(rt; feed_of(rt.alloc(), &held)?.as_slice() == FEED_OF_RUN.as_slice());
+    for &(ops, read, size) in &FEEDS {
+        assert!(rt; is_read_as(rt.alloc(), ops, read, size)?, "{size} bytes");
     }
     Ok(())
+}
+
+/// Whether writing in a heap of which a part is taken is refused; none where the feed has another size, then or with the
+/// part given back.
+fn is_refused(alloc: Global, held: &Held<Global>, taken: usize) -> Result<Option<bool>, Fail> {
+    let heap = LocalHeap::new(alloc, 1024)?;
+    let ballast: Result<Vec<u8, &LocalHeap>, AllocError> = Vec::with_capacity(&heap, taken);
+    let refused = match feed_of(&heap, held) {
+        Ok(bytes) if bytes.len() == 41 => false,
+        Ok(_) => return Ok(None),
+        Err(NoMemory) => true,
+    };
+    drop(ballast);
+    Ok(if feed_of(&heap, held)?.len() == 41 {
+        Some(refused)
+    } else {
+        None
+    })
 }
 
 /// A refused growth is out of memory, and with memory the feed is written.
 #[test]
 fn growth_refused_for_runs(rt: HostRuntime) -> Result<(), Fail> {
     let ops = typed_in_turn(rt.alloc(), 3, 1)?;
+    let held = held_of(rt.alloc(), &ops)?;
     let mut refused = 0u32;
     for cut in 0..64usize {
-        let heap = LocalHeap::new(rt.alloc(), 1024)?;
-        let ballast: Result<Vec<u8, &LocalHeap>, AllocError> = Vec::with_capacity(
-            &heap,
-            cut.saturating_mul(16),
-        );
-        match write_runs(&heap, &ops) {
-            Ok(bytes) => assert_eq!(rt; bytes.len(), 41),
-            Err(NoMemory) => refused = refused.saturating_add(1),
+        match is_refused(rt.alloc(), &held, cut.saturating_mul(16))? {
+            Some(true) => refused = refused.saturating_add(1),
+            told => assert!(rt; told == Some(false), "{cut}"),
         }
-        drop(ballast);
-        assert_eq!(rt; write_runs(&heap, &ops)?.len(), 41);
     }
     assert!(rt; 30 <= refused && refused <= 50, "refused {refused} times");
     Ok(())
