@@ -1,6 +1,7 @@
 //! Reading a feed in pieces.
 
 ghost use Rattle.std.specs.Prelude.{◌≡◌, ◌≢◌, ℕ, ◌+◌, ◌*◌, ◌<◌, ◌≤◌, ◌^◌, List, ◌++◌, true, false, length, get_or, IfSome, IfOk, IfErr, Some, None, Err};
+ghost use Rattle.arrayvec.specs.ArrayVec.{array_vec_len};
 ghost use Rattle.desk_codec.specs.declared.form.FeedForm.{FeedForm};
 ghost use Rattle.desk_codec.specs.Feed.{magic_of};
 ghost use Rattle.desk_codec.specs.Fault.{IsCut};
@@ -79,7 +80,7 @@ impl FeedReader {
             return Err(ReadFault::Failed);
         }
         if piece.len() < self.missing {
-            put(&mut self.kept, piece);
+            keep_more(&mut self.kept, piece);
             self.missing -= piece.len();
             self.taken += piece.len() as u64;
             return Ok(Vec::new(alloc));
@@ -144,6 +145,17 @@ impl FeedReader {
             }));
         }
         Ok(())
+    }
+}
+
+/// Keeps a piece, behind what was kept before it. One byte needs no copy.
+fn keep_more(kept: &mut ArrayVec<u8, 342>, piece: &[u8])
+    requires { array_vec_len kept.old + length piece.now ≤ 342 }
+    ensures { kept.new.items ≡ kept.old.items ++ piece.now }
+{
+    match piece {
+        [byte] => kept.push(*byte),
+        _ => put(kept, piece),
     }
 }
 

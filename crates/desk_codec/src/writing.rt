@@ -20,10 +20,7 @@ pub fn put<const N: usize>(out: &mut ArrayVec<u8, N>, bytes: &[u8])
     ensures items { out.new.items ≡ out.old.items ++ bytes.now }
     ensures len { array_vec_len out.new ≡ array_vec_len out.old + length bytes.now }
 {
-    match bytes {
-        [byte] => out.push(*byte),
-        _ => out.try_extend_from_slice(bytes).unwrap(),
-    }
+    out.try_extend_from_slice(bytes).unwrap()
 }
 
 fn put_stamp(out: &mut ArrayVec<u8, 26>, stamp: &Stamp)
