@@ -1,2 +1,5 @@
 pub mod Joining
 pub mod Shelves
+pub mod Sites
+pub mod Changing
+pub mod Reading

@@ -100,12 +100,12 @@ fn closed_output_of_an_export(rt: HostRuntime) -> Result<(), Fail> {
 }
 
 /// The bytes of the heap of the next test.
-const HEAP: usize = 16_384;
+const HEAP: usize = 1_048_576;
 
 /// Whether an export in a cut heap is out of memory; any other end is the text, and with memory each is.
 fn is_refused(alloc: Global, cut: usize) -> Result<bool, Fail> {
     let heap = LocalHeap::new(alloc, HEAP)?;
-    let kept = HEAP.saturating_sub(cut.saturating_mul(32));
+    let kept = HEAP.saturating_sub(cut.saturating_mul(512));
     let ballast: Option<Vec<u8, &LocalHeap>> = Vec::with_capacity(&heap, kept).ok();
     let mut files = rooms(alloc, 0)?;
     let mut written = Vec::new(alloc);

@@ -289,24 +289,36 @@ fn long_text_is_imported(rt: HostRuntime) -> Result<(), Fail> {
     Ok(())
 }
 
-/// A copy may have 1,048,576 operations and no more.
+/// The feed of so many settings of the measure, of counters from 1 on by site 3.
+fn settings(alloc: Global, count: u64) -> Result<Vec<u8>, AllocError> {
+    let mut feed = Vec::from_slice(alloc, b"MFD2")?;
+    for before in 0..count {
+        feed.push(3)?;
+        feed.extend_from_slice(&before.saturating_add(1).to_be_bytes())?;
+        feed.extend_from_slice(b"\0\x03\x01\0\0\0\x0c")?;
+    }
+    Ok(feed)
+}
+
+/// A replica holds 1,048,576 operations: of two symbols the second finds no room, and none is stored.
 #[test]
-fn text_of_too_many_symbols(rt: HostRuntime) -> Result<(), Fail> {
-    let text = long_text(rt.alloc(), 1_048_577)?;
+fn text_that_fills_a_feed(rt: HostRuntime) -> Result<(), Fail> {
+    let feed = settings(rt.alloc(), 1_048_575)?;
     let mut files = rooms(rt.alloc(), 0)?;
-    let full = stop_of(rt.alloc(), &mut files, "many.feed", &text)?;
+    files.put("many.feed", &feed)?;
+    let full = stop_of(rt.alloc(), &mut files, "many.feed", b"xz")?;
     assert_eq!(rt; full, Some(HandFault::Refused(Refusal::Full)));
-    assert!(rt; files.bytes_of("many.feed").is_none());
+    assert!(rt; holds(&files, "many.feed", &feed));
     Ok(())
 }
 
 /// The bytes of the heap of the next test.
-const HEAP: usize = 32_768;
+const HEAP: usize = 1_048_576;
 
 /// Whether an import in a cut heap is out of memory, and leaves the feed; any other end is the wanted one.
 fn is_refused(alloc: Global, cut: usize) -> Result<bool, Fail> {
     let heap = LocalHeap::new(alloc, HEAP)?;
-    let kept = HEAP.saturating_sub(cut.saturating_mul(64));
+    let kept = HEAP.saturating_sub(cut.saturating_mul(512));
     let ballast: Option<Vec<u8, &LocalHeap>> = Vec::with_capacity(&heap, kept).ok();
     let mut files = rooms(alloc, 0)?;
     let mut reader = TrialReader::new(b"xz");
