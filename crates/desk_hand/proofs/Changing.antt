@@ -1,5 +1,5 @@
 -- Changes of a copy, made one after the other.
-use Rattle.std.proofs.Common.{◌≡◌, ◌⊎◌, inl, inr, ℕ, ◌+◌, ◌<◌, Bool, true, false, cond, List, [], ◌∷◌, ◌++◌, Option, Some, None, length, map, take, drop, get_or, refl, sym, ap, ap₂, ◌∙◌, subst, arith, length-append, take-append-drop, add-one, drop-cons}
+use Rattle.std.proofs.Common.{◌≡◌, ◌⊎◌, inl, inr, ℕ, suc, ◌+◌, ◌<◌, Bool, true, false, cond, List, [], ◌∷◌, ◌++◌, Option, Some, None, length, map, take, drop, get_or, refl, sym, ap, ap₂, ◌∙◌, subst, arith, length-append, take-append-drop, add-one, drop-cons}
 use Rattle.std.specs.Prelude.{◌==◌, not, nat_le, nat_lt}
 use Rattle.std.proofs.lemmas.List.{drop-map, length-map, map-append, take-map, take_more}
 use Rattle.desk_ops.specs.declared.op.Op.{Op}
@@ -26,9 +26,6 @@ there : (set : OpSet) (is_there is_value : Bool) → edit_refusal set is_there i
 there set true is_value none = refl
 there set false is_value none = absurd (let e : Some refusals.Place ≡ None = none in cc)
 
-symbol_of : Insertion → Symbol
-symbol_of x = x.symbol
-
 length-copy : (set : OpSet) → length (copy_of set) ≡ length (shown_of set)
 length-copy set = length-map (shown_of set) (λ x. x.symbol)
 
@@ -42,9 +39,6 @@ made_insert old now place symbol op allowed is = record {
   copy = rw fits (ap Some (sym copy));
 }
   where
-    xs : List Insertion
-    xs = shown_of old.ops
-
     fits : nat_le place (length (copy_of old.ops)) ≡ true
     fits = ap (nat_le place) (length-copy old.ops) ∙ there old.ops (nat_le place (length (shown_of old.ops))) (is_symbol symbol) allowed
 
@@ -70,8 +64,9 @@ made_delete old now place op allowed is = record {
     copy : copy_of now.ops ≡ take place (copy_of old.ops) ++ drop (place + 1) (copy_of old.ops)
     copy =
         ap (map (λ (x : Insertion). x.symbol)) is.shows
-        ∙ map-append (λ (x : Insertion). x.symbol) (take place (shown_of old.ops)) (drop (place + 1) (shown_of old.ops))
-        ∙ ap₂ (λ a b. a ++ b) (sym (take-map (λ (x : Insertion). x.symbol) place (shown_of old.ops))) (sym (drop-map (λ (x : Insertion). x.symbol) (place + 1) (shown_of old.ops)))
+        ∙ map-append (λ (x : Insertion). x.symbol) (take place (shown_of old.ops)) (drop (suc place) (shown_of old.ops))
+        ∙ ap₂ (λ a b. a ++ b) (sym (take-map (λ (x : Insertion). x.symbol) place (shown_of old.ops))) (sym (drop-map (λ (x : Insertion). x.symbol) (suc place) (shown_of old.ops)))
+        ∙ ap (λ n. take place (copy_of old.ops) ++ drop n (copy_of old.ops)) (sym (add-one place))
 
 -- ---- one change more
 

@@ -1,10 +1,12 @@
 -- Operations of one site, one more at the end.
-use Rattle.std.proofs.Common.{◌≡◌, ◌⊎◌, inl, inr, ℕ, ◌+◌, true, List, [], ◌∷◌, ◌++◌, length, refl, sym, ap, ◌∙◌, subst, arith, length-append}
+use Rattle.std.proofs.Common.{◌≡◌, ◌⊎◌, inl, inr, ℕ, ◌+◌, true, List, [], ◌∷◌, ◌++◌, length, refl, sym, ap, ◌∙◌, subst, arith, get_or, take, ◌<◌}
+use Rattle.std.proofs.lemmas.List.{take_more}
 use Rattle.desk_ops.specs.declared.op.Op.{Op}
 use Rattle.desk_ops.specs.Op.{stamp_of}
 use Rattle.desk_ops.specs.OpSet.{OpSet, has_op, in_order, with_all, with_op}
 use Rattle.desk_ops.specs.Lists.{Among}
-use Rattle.desk_ops.proofs.Arrive.{among_held, among-with_op, held_among}
+use Rattle.desk_ops.proofs.Arrive.{among-with_op}
+use Rattle.desk_ops.proofs.Ends.{among_held, held_among}
 use Rattle.desk_ops.proofs.Joined.{within-with_op}
 use Rattle.desk_ops.proofs.Unions.{with_all-append}
 use Rattle.desk_changes.specs.declared.making.Change.{Change}
@@ -63,3 +65,11 @@ pub all_counted : (made : List Change) → inserts_of made + deletes_of made ≡
 all_counted [] = refl
 all_counted (changes.Insert place symbol ∷ made) = let rest = all_counted made in omega (arith, rest)
 all_counted (changes.Delete place ∷ made) = let rest = all_counted made in omega (arith, rest)
+
+-- one change more of a list
+module _ (made : List Change) (at : ℕ) (d : Change) (lt : at < length made) where
+  pub inserts_next : (change : Change) → get_or made at d ≡ change → inserts_of (take (at + 1) made) ≡ inserts_of (take at made) + insert_count_of change
+  inserts_next change is = ap inserts_of (take_more made at d lt) ∙ inserts_of_more (take at made) (get_or made at d) ∙ ap (λ c. inserts_of (take at made) + insert_count_of c) is
+
+  pub deletes_next : (change : Change) → get_or made at d ≡ change → deletes_of (take (at + 1) made) ≡ deletes_of (take at made) + delete_count_of change
+  deletes_next change is = ap deletes_of (take_more made at d lt) ∙ deletes_of_more (take at made) (get_or made at d) ∙ ap (λ c. deletes_of (take at made) + delete_count_of c) is

@@ -27,13 +27,15 @@ fn put_edit<A: Allocator + Copy>(
     ensures made { OnOk result ((op : Op) × IsMade replica.old.site replica.old.ops replica.new.ops change.now op) }
     ensures refused { IfErr result (λ e. (e ≡ Refusal.NoMemory) ⊎ (change_refusal replica.old.ops change.now ≡ Some e)) }
 {
-    let made = match *change {
-        Change::Insert { place, symbol } => replica.insert_at(place, symbol),
-        Change::Delete { place } => replica.delete_at(place),
-    };
-    match made {
-        Ok(_) => Ok(()),
-        Err(why) => Err(why),
+    match *change {
+        Change::Insert { place, symbol } => match replica.insert_at(place, symbol) {
+            Ok(_) => Ok(()),
+            Err(why) => Err(why),
+        },
+        Change::Delete { place } => match replica.delete_at(place) {
+            Ok(_) => Ok(()),
+            Err(why) => Err(why),
+        },
     }
 }
 
@@ -47,7 +49,9 @@ fn put_edits<A: Allocator + Copy>(
     ensures refused { IfErr result (λ e. (e ≡ Refusal.NoMemory) ⊎ IsRefusedAmong replica.old.site replica.old.ops made.now e) }
 {
     for change in made {
-        put_edit(replica, change)?;
+        if let Err(why) = put_edit(replica, change) {
+            return Err(why);
+        }
     }
     Ok(())
 }
@@ -79,6 +83,8 @@ pub fn revise<A: Allocator + Copy>(
 {
     let copy = replica.copy()?;
     let made = changes(alloc, &copy, text)?;
-    put_edits(replica, &made)?;
+    if let Err(why) = put_edits(replica, &made) {
+        return Err(HandFault::from(why));
+    }
     Ok(tally_of(&made))
 }

@@ -36,7 +36,7 @@ fn read_whole<R: Read, A: Allocator + Copy>(
 {
     let mut bytes = Vec::new(alloc);
     let mut chunk = [0u8; CHUNK];
-    loop {
+    'reads: loop {
         match reader.read(&mut chunk) {
             Ok(0) => return Ok(bytes),
             Ok(n) => {

@@ -274,41 +274,18 @@ fn long_text(alloc: Global, count: usize) -> Result<Vec<u8>, AllocError> {
 
 #[test]
 fn long_text_is_imported(rt: HostRuntime) -> Result<(), Fail> {
-    let mut text = long_text(rt.alloc(), 100_000)?;
+    let mut text = long_text(rt.alloc(), 20_000)?;
     let mut files = rooms(rt.alloc(), 0)?;
     let line = imported(rt.alloc(), &mut files, "long.feed", &text, false)?;
-    assert!(rt; line.as_slice() == b"ok inserted 100000 deleted 0\n".as_slice());
+    assert!(rt; line.as_slice() == b"ok inserted 20000 deleted 0\n".as_slice());
     assert!(rt; exports(rt.alloc(), &mut files, "long.feed", &text)?);
-    if let Some(letter) = text.get_mut(50_000) {
+    if let Some(letter) = text.get_mut(10_000) {
         *letter = b'e';
     }
     let mut files = files.for_next_run();
     let line = imported(rt.alloc(), &mut files, "long.feed", &text, false)?;
     assert!(rt; line.as_slice() == b"ok inserted 1 deleted 1\n".as_slice());
     assert!(rt; exports(rt.alloc(), &mut files, "long.feed", &text)?);
-    Ok(())
-}
-
-/// The feed of so many settings of the measure, of counters from 1 on by site 3.
-fn settings(alloc: Global, count: u64) -> Result<Vec<u8>, AllocError> {
-    let mut feed = Vec::from_slice(alloc, b"MFD2")?;
-    for before in 0..count {
-        feed.push(3)?;
-        feed.extend_from_slice(&before.saturating_add(1).to_be_bytes())?;
-        feed.extend_from_slice(b"\0\x03\x01\0\0\0\x0c")?;
-    }
-    Ok(feed)
-}
-
-/// A replica holds 1,048,576 operations: of two symbols the second finds no room, and none is stored.
-#[test]
-fn text_that_fills_a_feed(rt: HostRuntime) -> Result<(), Fail> {
-    let feed = settings(rt.alloc(), 1_048_575)?;
-    let mut files = rooms(rt.alloc(), 0)?;
-    files.put("many.feed", &feed)?;
-    let full = stop_of(rt.alloc(), &mut files, "many.feed", b"xz")?;
-    assert_eq!(rt; full, Some(HandFault::Refused(Refusal::Full)));
-    assert!(rt; holds(&files, "many.feed", &feed));
     Ok(())
 }
 
