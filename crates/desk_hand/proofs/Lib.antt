@@ -3,3 +3,4 @@ pub mod Shelves
 pub mod Sites
 pub mod Changing
 pub mod Reading
+pub mod Opening

@@ -27,7 +27,10 @@ fn open_feed<F: Files, A: Allocator + Copy>(
     ensures err { IfErr result (IsClosedBy name.now (F.shelf files.old) (F.shelf files.new)) }
     ensures stays { Stays (F.shelf files.old) (F.shelf files.new) }
 {
-    let ops = operations_of(alloc, files, name)?;
+    let ops = match operations_of(alloc, files, name) {
+        Ok(ops) => ops,
+        Err(why) => return Err(why),
+    };
     match Replica::open(alloc, ANY_SITE, &ops) {
         Ok(replica) => Ok(replica),
         Err(stop) => Err(FeedTrouble::from(stop.why)),
@@ -64,5 +67,8 @@ pub fn export_feed<W: Write, F: Files, A: Allocator + Copy>(
         Err(why) => return Err(HandFault::Feed(why)),
     };
     let text = text_of(alloc, &replica)?;
-    Ok(write_out(writer, &text)?)
+    match write_out(writer, &text) {
+        Ok(()) => Ok(()),
+        Err(_) => Err(HandFault::Write),
+    }
 }

@@ -61,8 +61,14 @@ fn text_from<R: Read, A: Allocator + Copy>(
     ensures ok { IfOk result (λ v. IsReadAs plain (R.remaining reader.old) v.items) }
     ensures err { IfErr result (IsNoText plain (R.remaining reader.old)) }
 {
-    let bytes = read_whole(alloc, reader)?;
-    Ok(read_text(alloc, &bytes, plain)?)
+    let bytes = match read_whole(alloc, reader) {
+        Ok(bytes) => bytes,
+        Err(why) => return Err(why),
+    };
+    match read_text(alloc, &bytes, plain) {
+        Ok(text) => Ok(text),
+        Err(why) => Err(HandFault::from(why)),
+    }
 }
 
 /// Makes the copy of a replica the text that a reader has left.
@@ -75,7 +81,10 @@ fn take_text<R: Read, A: Allocator + Copy>(
     ensures ok { IfOk result (λ t. TakesText replica.old.site plain (R.remaining reader.old) replica.old.ops replica.new.ops t.inserted t.deleted) }
     ensures err { IfErr result (TakesNone replica.old.site plain (R.remaining reader.old) replica.old.ops) }
 {
-    let text = text_from(alloc, reader, plain)?;
+    let text = match text_from(alloc, reader, plain) {
+        Ok(text) => text,
+        Err(why) => return Err(why),
+    };
     revise(alloc, replica, &text)
 }
 
