@@ -25,7 +25,7 @@ pub const MAX_TEXT: usize = 8_388_608;
 /// So much is read at a time.
 const CHUNK: usize = 8192;
 
-/// All that a reader has left. Of a text that is too long no more is read than was asked for when that was seen.
+/// All that a reader has left. Where that is too long the rest is left unread.
 fn read_whole<R: Read, A: Allocator + Copy>(
     alloc: A,
     reader: &mut R,
