@@ -98,10 +98,11 @@ made_more site old mid now made ops change op all one = record {
 module _ (made : List Change) (at : ℕ) (d : Change) (lt : at < length made) where
   pub made_next : (site there : ℕ) (old mid now : OpSet) (ops : List Op) (op : Op) → there ≡ site → AreMade site old mid (take at made) ops → IsMade there mid now (get_or made at d) op
       → (more : List Op) × AreMade site old now (take (at + 1) made) more
-  made_next site there old mid now ops op same all one =
-      (ops ++ op ∷ [],
-      subst (λ (cs : List Change). AreMade site old now cs (ops ++ op ∷ [])) (sym (take_more made at d lt))
-      (made_more site old mid now (take at made) ops (get_or made at d) op all (subst (λ n. IsMade n mid now (get_or made at d) op) same one)))
+  made_next site there old mid now ops op same all one = (
+    ops ++ op ∷ [],
+    subst (λ (cs : List Change). AreMade site old now cs (ops ++ op ∷ [])) (sym (take_more made at d lt))
+        (made_more site old mid now (take at made) ops (get_or made at d) op all (subst (λ n. IsMade n mid now (get_or made at d) op) same one)),
+  )
 
   pub refused_next : (site : ℕ) (old mid : OpSet) (ops : List Op) (why : Refusal) → AreMade site old mid (take at made) ops → (why ≡ refusals.NoMemory) ⊎ (change_refusal mid (get_or made at d) ≡ Some why)
       → (why ≡ refusals.NoMemory) ⊎ IsRefusedAmong site old made why

@@ -318,7 +318,11 @@ fn is_refused(alloc: Global, cut: usize) -> Result<bool, Fail> {
         Err(HandFault::Unstored(FileRefusal::NoMemory)) => (true, true),
         Err(_) => return Err(Fail::new("another fault")),
     };
-    let line: &[u8] = if is_told { b"ok inserted 1 deleted 0\n" } else { b"" };
+    let line: &[u8] = if is_told {
+        b"ok inserted 1 deleted 0\n"
+    } else {
+        b""
+    };
     let feed = if is_refused { X } else { XZ };
     if written.as_slice() != line || !holds(&files, "x.feed", feed) {
         return Err(Fail::new("another line or another feed"));
