@@ -1,12 +1,12 @@
 -- Changes of a copy, made one after the other.
-use Rattle.std.proofs.Common.{◌≡◌, ◌⊎◌, inl, inr, ℕ, suc, ◌+◌, ◌<◌, Bool, true, false, cond, List, [], ◌∷◌, ◌++◌, Option, Some, None, length, map, take, drop, get_or, refl, sym, ap, ap₂, ◌∙◌, subst, arith, length-append, take-append-drop, add-one, drop-cons}
+use Rattle.std.proofs.Common.{◌≡◌, ◌⊎◌, inl, inr, ℕ, suc, ◌+◌, ◌<◌, Bool, true, false, cond, List, [], ◌∷◌, ◌++◌, Option, Some, None, length, map, take, drop, get_or, refl, sym, ap, ap₂, ◌∙◌, subst, length-append, take-append-drop, add-one, drop-cons}
 use Rattle.std.specs.Prelude.{◌==◌, not, nat_le, nat_lt}
 use Rattle.std.proofs.lemmas.List.{drop-map, length-map, map-append, take-map, take_more}
 use Rattle.desk_ops.specs.declared.op.Op.{Op}
 use Rattle.desk_ops.specs.declared.op.Symbol.{Symbol}
 use Rattle.desk_ops.specs.Stamp.{max_counter}
 use Rattle.desk_ops.specs.Op.{Insertion, is_symbol, stamp_of}
-use Rattle.desk_ops.specs.OpSet.{OpSet, max_ops, size, with_all, with_op}
+use Rattle.desk_ops.specs.OpSet.{OpSet, max_ops, size, with_op}
 use Rattle.desk_ops.specs.Held.{greatest_counter_of}
 use Rattle.desk_ops.specs.Shown.{copy_of, shown_of}
 use Rattle.desk_changes.specs.Changes.{all_changed, and_then, changed}

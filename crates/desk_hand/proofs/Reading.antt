@@ -1,9 +1,8 @@
 -- What a reader gives, chunk by chunk.
-use Rattle.std.proofs.Common.{◌≡◌, ℕ, ◌+◌, ◌<◌, Bool, List, [], ◌++◌, length, refl, sym, ap, ◌∙◌, arith, append_assoc, length-append}
-use Rattle.std.specs.Prelude.{Option, Some, None, IfSome, Result, Ok, Err}
+use Rattle.std.proofs.Common.{◌≡◌, ℕ, ◌+◌, ◌<◌, Bool, List, [], ◌++◌, length, sym, ap, ◌∙◌, arith, append_assoc, length-append}
+use Rattle.std.specs.Prelude.{Option, Some, None, IfSome}
 use Rattle.std.specs.Io.KnownBytes.{Consumes, IsAtEnd}
 use Rattle.std.proofs.lemmas.List.{append-nil}
-use Rattle.desk_ops.specs.declared.op.Symbol.{Symbol}
 use Rattle.desk_text.specs.Reading.{Fails, reading}
 use Rattle.desk_text.specs.declared.fault.TextFault.{TextFault}
 use Rattle.desk_text.specs.declared.fault.TextFault.TheVariants as texts
