@@ -1,6 +1,6 @@
 -- Files that are as they were.
 use Rattle.std.proofs.Common.{◌≡◌, ℕ, ap, ap₂, ◌∙◌}
-use Rattle.std.specs.Prelude.{IfErr, Option, None, Some, Result, Ok, Err, Vec}
+use Rattle.std.specs.Prelude.{IfErr, IfOk, Option, None, Some, Result, Ok, Err, Vec}
 use Rattle.desk_files.specs.Files.{Counts, Shelf, Stays, shelf}
 use Rattle.desk_stored.specs.Stored.{was_read}
 
@@ -15,3 +15,7 @@ read_counts None before after counts = counts
 pub err_weaker : {V E : Type 0} (r : Result V E) (P Q : E → Type 0) → ((e : E) → P e → Q e) → IfErr r P → IfErr r Q
 err_weaker (Ok v) P Q weaker p = tt
 err_weaker (Err e) P Q weaker p = weaker e p
+
+pub ok_weaker : {V E : Type 0} (r : Result V E) (P Q : V → Type 0) → ((v : V) → P v → Q v) → IfOk r P → IfOk r Q
+ok_weaker (Ok v) P Q weaker p = weaker v p
+ok_weaker (Err e) P Q weaker p = tt

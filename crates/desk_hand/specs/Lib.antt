@@ -1,2 +1,5 @@
 pub mod Merging
+pub mod Exporting
+pub mod Editing
+pub mod Importing
 pub mod Faults

@@ -126,6 +126,10 @@ IsBarred name first last fault =
 abbrev pub IsCutShort : List ℕ → List (List ℕ) → Shelf → OpSet → Shelf → Option (List ℕ) → Option (List ℕ) → HandFault → Type 0
 IsCutShort name others held old last before after (faults.Untaken why) = ⊥
 IsCutShort name others held old last before after (faults.Feed why) = ⊥
+IsCutShort name others held old last before after faults.Read = ⊥
+IsCutShort name others held old last before after faults.TooLong = ⊥
+IsCutShort name others held old last before after (faults.Text why) = ⊥
+IsCutShort name others held old last before after (faults.Refused why) = ⊥
 IsCutShort name others held old last before after (faults.Other at why) = (after ≡ before) × Stays held last × StopsAt others old held last at why
 IsCutShort name others held old last before after faults.Write =
     Stays held last × (set : OpSet) × (told : List ℕ) × IsJoined held.kept others old set told × WritesFront before after (told ++ faults_line set)

@@ -1,6 +1,6 @@
 //! The feeds of other files, merged into a stored feed.
 
-ghost use Rattle.std.specs.Prelude.{◌≡◌, ◌≤◌, ◌⊎◌, ◌++◌, ◌∷◌, [], All, IfErr, IfOk, OnErr, OnOk, codes, map, string_bytes};
+ghost use Rattle.std.specs.Prelude.{◌≡◌, ◌≢◌, ◌≤◌, ◌⊎◌, ◌++◌, ◌∷◌, [], All, IfErr, IfOk, OnErr, OnOk, codes, map, string_bytes};
 ghost use Rattle.std.specs.Io.KnownBytes.{Appends};
 ghost use Rattle.desk_ops.specs.Op.{IsLawful};
 ghost use Rattle.desk_ops.specs.OpSet.{OpSet};
@@ -24,10 +24,10 @@ use std::alloc::Allocator;
 use std::io::Write;
 
 /// A replica has a number, and where nothing is edited any will do.
-const ANY_SITE: u16 = 1;
+pub const ANY_SITE: u16 = 1;
 
 /// The operations of the feed of a file, which must be there.
-fn operations_of<F: Files, A: Allocator + Copy>(
+pub fn operations_of<F: Files, A: Allocator + Copy>(
     alloc: A,
     files: &mut F,
     name: &str,
@@ -35,6 +35,7 @@ fn operations_of<F: Files, A: Allocator + Copy>(
     ensures ok { IfOk result (λ v. IsFeedOf ((F.shelf files.old).kept name.now) v.items × ((F.shelf files.new).failures ≡ (F.shelf files.old).failures)) }
     ensures lawful { IfOk result (λ v. All IsLawful v.items) }
     ensures err { IfErr result (λ e. (set : OpSet) → Refuses set name.now (F.shelf files.old) (F.shelf files.new) e) }
+    ensures never_full { IfErr result (λ e. e ≢ FeedTrouble.Full) }
     ensures stays { Stays (F.shelf files.old) (F.shelf files.new) }
 {
     let bytes = match files.read(alloc, name) {

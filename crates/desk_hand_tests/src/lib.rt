@@ -2,4 +2,8 @@
 #![tactic(auto)]
 
 #[cfg(test)]
+mod exporting;
+#[cfg(test)]
+mod importing;
+#[cfg(test)]
 mod merging;

@@ -2,7 +2,6 @@ use Rattle.std.proofs.Common.{◌∙◌, subst}
 use Rattle.std.specs.Io.KnownBytes.{Appends}
 use Rattle.std.specs.Prelude.{string_bytes}
 use Rattle.std.proofs.lemmas.Result.{err_from_is_err_and}
-use Rattle.desk_ops.specs.OpSet.{in_order}
 use Rattle.desk_codec.specs.Runs.{set_feed}
 use Rattle.desk_files.specs.Files.{Shelf}
 use Rattle.desk_stored.specs.Faults.{IsNotStored}

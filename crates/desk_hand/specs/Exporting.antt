@@ -1,0 +1,43 @@
+-- The copy of a stored feed, written as text.
+use Rattle.std.specs.Prelude.{◌≡◌, ◌<◌, ℕ, List, Option, Ok, Err}
+use Rattle.std.specs.Io.KnownBytes.{Appends}
+use Rattle.desk_ops.specs.declared.op.Op.{Op}
+use Rattle.desk_ops.specs.OpSet.{OpSet, max_ops, no_ops, size, with_all}
+use Rattle.desk_ops.specs.Shown.{copy_of}
+use Rattle.desk_codec.specs.Fault.{IsFirstFault}
+use Rattle.desk_text.specs.Writing.{text_bytes}
+use Rattle.desk_files.specs.Files.{IsCounted, Reads, Shelf}
+use Rattle.desk_stored.specs.Sending.{WritesFront}
+use Rattle.desk_hand.specs.Merging.{IsFeedOf}
+use Rattle.desk_hand.specs.declared.fault.FeedTrouble.{FeedTrouble}
+use Rattle.desk_hand.specs.declared.fault.FeedTrouble.TheVariants as troubles
+use Rattle.desk_hand.specs.declared.fault.HandFault.{HandFault}
+use Rattle.desk_hand.specs.declared.fault.HandFault.TheVariants as faults
+
+-- the name stands for a feed of the operations of this set
+abbrev pub IsSetOf : List ℕ → Shelf → OpSet → Type 0
+IsSetOf name shelf set = (ops : List Op) × IsFeedOf (shelf.kept name) ops × (set ≡ with_all no_ops ops)
+
+-- what was written is the text of the copy of the set that the name stands for
+abbrev pub IsExported : List ℕ → Shelf → Option (List ℕ) → Option (List ℕ) → Type 0
+IsExported name first before after = (set : OpSet) × IsSetOf name first set × Appends before after (text_bytes (copy_of set))
+
+-- why the feed of a file is not opened: it is missing or was not read; it is no feed; or it has more operations than a replica holds
+abbrev pub IsClosedBy : List ℕ → Shelf → Shelf → FeedTrouble → Type 0
+IsClosedBy name before after (troubles.File why) = Reads (before.kept name) (Err why) × IsCounted why before after
+IsClosedBy name before after (troubles.Feed fault) = (bytes : List ℕ) × Reads (before.kept name) (Ok bytes) × IsFirstFault bytes fault
+IsClosedBy name before after troubles.Full = (ops : List Op) × IsFeedOf (before.kept name) ops × (max_ops < size (with_all no_ops ops))
+IsClosedBy name before after troubles.NoMemory = Unit {0}
+
+-- why not all of the text was written, and what was: nothing, or under Write a prefix
+abbrev pub IsUnexported : List ℕ → Shelf → Shelf → Option (List ℕ) → Option (List ℕ) → HandFault → Type 0
+IsUnexported name first last before after (faults.Untaken why) = ⊥
+IsUnexported name first last before after (faults.Feed why) = (after ≡ before) × IsClosedBy name first last why
+IsUnexported name first last before after (faults.Other at why) = ⊥
+IsUnexported name first last before after faults.Read = ⊥
+IsUnexported name first last before after faults.TooLong = ⊥
+IsUnexported name first last before after (faults.Text why) = ⊥
+IsUnexported name first last before after (faults.Refused why) = ⊥
+IsUnexported name first last before after faults.Write = (set : OpSet) × IsSetOf name first set × WritesFront before after (text_bytes (copy_of set))
+IsUnexported name first last before after (faults.Unstored why) = ⊥
+IsUnexported name first last before after faults.NoMemory = after ≡ before
