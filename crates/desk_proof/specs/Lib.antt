@@ -1,0 +1,4 @@
+pub mod Parts
+pub mod Rows
+pub mod Faults
+pub mod Proof

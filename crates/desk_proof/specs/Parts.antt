@@ -1,0 +1,95 @@
+-- Parts of a proof's text: columns, characters of the copy, widths in points.
+use Rattle.std.specs.Prelude.{ℕ, ◌+◌, ◌-◌, ◌*◌, ◌/◌, ◌%◌, Bool, true, false, ◌||◌, ◌==◌, nat_lt, List, [], ◌∷◌, ◌++◌, length, replicate, codes, if◌then◌else◌}
+use Rattle.std.specs.Char.{encode_utf8}
+use Rattle.std.specs.Fmt.{decimal}
+use Rattle.std.specs.Str.{encode_utf8_all}
+use Rattle.desk_ops.specs.declared.op.Symbol.{Symbol}
+use Rattle.desk_lines.specs.declared.words.Word.{Word}
+use Rattle.desk_lines.specs.Words.{spelled}
+use Rattle.desk_units.specs.declared.Pica.{Pica}
+use Rattle.desk_units.specs.Widths.{measure_width}
+
+-- ---- columns
+
+-- a character so many times
+abbrev pub many : ℕ → ℕ → List ℕ
+many count ch = encode_utf8_all (replicate count ch)
+
+-- at the right of a column of so many places
+abbrev pub right : ℕ → List ℕ → List ℕ
+right width text = many (width - length text) 32 ++ text
+
+-- at its left
+abbrev pub left : ℕ → List ℕ → List ℕ
+left width text = text ++ many (width - length text) 32
+
+-- ---- the copy
+
+-- a line feed is shown as a space
+abbrev pub shown : ℕ → ℕ
+shown ch = if ch == 10 then 32 else ch
+
+-- symbols by their characters, without their styles
+abbrev pub symbols_text : List Symbol → List ℕ
+symbols_text [] = []
+symbols_text (s ∷ symbols) = encode_utf8 (shown s.ch) ++ symbols_text symbols
+
+abbrev pub word_text : List Symbol → Word → List ℕ
+word_text copy word = symbols_text (spelled copy word)
+
+-- nothing stands before the first of a list, and a space before each other
+abbrev pub gap : Bool → List ℕ
+gap true = []
+gap false = codes " "
+
+-- words with a space between each two, where the next is the first or not
+abbrev pub words_from : List Symbol → Bool → List Word → List ℕ
+words_from copy is_first [] = []
+words_from copy is_first (word ∷ words) = gap is_first ++ word_text copy word ++ words_from copy false words
+
+abbrev pub words_text : List Symbol → List Word → List ℕ
+words_text copy words = words_from copy true words
+
+-- a middle dot for each fill
+abbrev pub dots_text : List ℕ → List ℕ
+dots_text [] = []
+dots_text (count ∷ counts) = many count 183 ++ dots_text counts
+
+abbrev pub has_fills : List ℕ → Bool
+has_fills [] = false
+has_fills (count ∷ counts) = nat_lt 0 count || has_fills counts
+
+-- the same behind a space, if there are any
+abbrev pub fills_text : List ℕ → List ℕ
+fills_text counts = if has_fills counts then codes " " ++ dots_text counts else []
+
+-- the place where words begin
+abbrev pub begin_of : List Word → ℕ
+begin_of [] = 0
+begin_of (word ∷ words) = word.from
+
+-- the place behind the last of words, or this one where there is none
+abbrev pub end_from : ℕ → List Word → ℕ
+end_from here [] = here
+end_from here (word ∷ words) = end_from word.to words
+
+abbrev pub end_of : List Word → ℕ
+end_of words = end_from 0 words
+
+-- ---- widths
+
+-- the atoms of a point
+abbrev pub point : Pica → ℕ
+point pica = measure_width 1 pica
+
+-- tenths as a number with one decimal
+abbrev pub tenths_text : ℕ → List ℕ
+tenths_text tenths = decimal (tenths / 10) ++ codes "." ++ decimal (tenths % 10)
+
+-- atoms in points, rounded down to a tenth
+abbrev pub points_down : Pica → ℕ → List ℕ
+points_down pica atoms = tenths_text (atoms * 10 / point pica)
+
+-- atoms in points, rounded up to a tenth
+abbrev pub points_up : Pica → ℕ → List ℕ
+points_up pica atoms = tenths_text ((atoms * 10 + (point pica - 1)) / point pica)

@@ -1,0 +1,54 @@
+-- A galley as text.
+use Rattle.std.specs.Prelude.{ℕ, ◌+◌, List, [], ◌∷◌, ◌++◌, length, codes, if◌then◌else◌}
+use Rattle.std.specs.Fmt.{decimal}
+use Rattle.desk_ops.specs.declared.op.Symbol.{Symbol}
+use Rattle.desk_ops.specs.declared.fault.CopyFault.{CopyFault}
+use Rattle.desk_job.specs.declared.JobFault.{JobFault}
+use Rattle.desk_job.specs.declared.terms.Values.{Values}
+use Rattle.desk_galley.specs.Values.{GalleyValues, LineValues}
+use Rattle.desk_galley.specs.Galley.{is_faulty}
+use Rattle.desk_proof.specs.declared.proof.Extent.{Extent}
+use Rattle.desk_proof.specs.declared.proof.Extent.TheVariants as extents
+use Rattle.desk_proof.specs.declared.scale.Scale.{Scale}
+use Rattle.desk_proof.specs.Rows.{columns_text, rows_text}
+use Rattle.desk_proof.specs.Faults.{cause_text, copy_faults_text, lacking_text, line_faults_text}
+
+-- what the figures of a galley are told by
+abbrev pub scale_of : GalleyValues → Scale
+scale_of galley = record { pica = (galley.wedge).pica; tight = (galley.values).tight; loose = (galley.values).loose }
+
+-- how many lines have a fault
+abbrev pub faulty_lines : List LineValues → ℕ
+faulty_lines [] = 0
+faulty_lines (line ∷ lines) = (if is_faulty line then 1 else 0) + faulty_lines lines
+
+-- how many lines there are, and how many are at fault
+abbrev pub counts_text : List LineValues → List ℕ
+counts_text lines = codes "GALLEY " ++ decimal (length lines) ++ codes " lines, " ++ decimal (faulty_lines lines) ++ codes " at fault, "
+
+-- what the lines are set by
+abbrev pub values_text : Values → List ℕ
+values_text values =
+    codes "measure " ++ decimal values.measure ++ codes " points, tight " ++ decimal values.tight ++ codes ", loose " ++ decimal values.loose ++ codes "\n"
+
+abbrev pub head_text : GalleyValues → List ℕ
+head_text galley = counts_text galley.lines ++ values_text galley.values
+
+-- the rows, under the names of their columns
+abbrev pub whole_text : List Symbol → Scale → List LineValues → List ℕ
+whole_text copy scale lines = columns_text ++ rows_text copy scale lines
+
+-- the rows, where they are wanted
+abbrev pub body_text : List Symbol → GalleyValues → Extent → List ℕ
+body_text copy galley extents.Whole = whole_text copy (scale_of galley) galley.lines
+body_text copy galley extents.Faults = []
+
+-- the faults of the copy above all, the head, the symbols that the case lacks, the rows, and the faults of lines
+abbrev pub proof_text : List Symbol → List CopyFault → GalleyValues → Extent → List ℕ
+proof_text copy faults galley extent =
+    copy_faults_text faults ++ head_text galley ++ lacking_text copy galley.lacking ++ body_text copy galley extent
+    ++ line_faults_text copy (scale_of galley) galley.lines
+
+-- where there is no galley: the faults of the copy, and why
+abbrev pub no_galley_text : List CopyFault → JobFault → List ℕ
+no_galley_text faults why = copy_faults_text faults ++ codes "no galley: " ++ cause_text why ++ codes "\n"

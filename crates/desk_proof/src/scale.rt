@@ -1,0 +1,11 @@
+//! What the figures of a proof are told by.
+
+use desk_units::Pica;
+
+/// The pica, by which widths are told in points, and the limits of a wedge sum.
+#[derive(Clone, Copy, PartialEq, Eq, Debug)]
+pub struct Scale {
+    pub pica: Pica,
+    pub tight: u32,
+    pub loose: u32,
+}
