@@ -28,7 +28,67 @@ expect 0 "" script
 expect 0 "" desk a.feed --site 65535
 [ "$(head -c 4 a.feed)" = MFD2 ] && [ "$(wc -c < a.feed)" = 4 ]
 
+# Two feeds are merged, the copy goes out as text and comes in.
+expect 0 "" import b.feed --site 2 --plain
+expect 2 error: merge a.feed
+expect 2 error: export
+expect 2 error: import a.feed --site 0
+expect 2 error: import a.feed
+expect 1 "copydesk: file fault
+none.feed: it cannot be read" merge a.feed none.feed
+expect 1 "copydesk: file fault
+none.feed: it cannot be read" export none.feed
+[ ! -e none.feed ]
+printf 'One _two_ ^three^\r\n' | "$program" import b.feed --site 2 > written
+[ "$(cat written)" = "ok inserted 14 deleted 0" ]
+"$program" merge a.feed b.feed b.feed > written
+[ "$(cat written)" = "b.feed ok new 14 known 0
+b.feed ok new 0 known 14
+faults none" ]
+[ "$("$program" export a.feed)" = 'One _two_ ^three^' ]
+cmp a.feed b.feed
+printf 'ab\n\tc' > text
+got=0
+"$program" import a.feed --site 1 < text > written 2> faults || got=$?
+[ "$got" = 1 ] && [ ! -s written ] && [ "$(cat faults)" = "copydesk: line 2, column 1: no symbol of a copy" ]
+cmp a.feed b.feed
+printf 'MFD2\x09' > bad.feed
+expect 1 "copydesk: feed refused
+bad.feed: byte 4: no such kind of operation" merge a.feed b.feed bad.feed
+expect 1 "copydesk: feed refused
+bad.feed: byte 4: no such kind of operation" export bad.feed
+got=0
+"$program" export a.feed 2> faults > /dev/full || got=$?
+[ "$got" = 1 ] && [ "$(head -1 faults)" = "copydesk: write fault" ]
+got=0
+"$program" merge a.feed b.feed 2> faults > /dev/full || got=$?
+[ "$got" = 1 ] && [ "$(head -1 faults)" = "copydesk: write fault" ]
+cmp a.feed b.feed
+chmod a-w a.feed
+if [ "$(id -u)" != 0 ]; then
+  expect 1 "copydesk: file fault
+a.feed: it cannot be stored anew" merge a.feed b.feed
+fi
+chmod u+w a.feed
+exec 3> a.feed.lock
+flock 3
+expect 1 "copydesk: file fault
+a.feed: another desk has it open" merge a.feed b.feed
+expect 1 "copydesk: file fault
+a.feed: another desk has it open" import a.feed --site 1
+expect 0 "" export a.feed
+exec 3>&-
+expect 0 "" merge a.feed b.feed
+
 # Help names the program, the words and every command.
+[ "$("$program" --version)" = "copydesk 0.2.0" ]
+told=$("$program" --help)
+for command in script desk merge export import; do
+  if [[ "$told" != *"copydesk $command"* ]] || [[ "$("$program" "$command" --help)" != *"As in: copydesk $command "*"Status: 0"* && $command != script ]]; then
+    echo "the help does not name $command" >&2
+    exit 1
+  fi
+done
 told=$("$program" desk --help)
 [[ "$told" == *"copydesk desk one.feed --site 1 < commands"*"FEED.lock"* ]]
 told=$("$program" script --help)

@@ -1,4 +1,2 @@
-pub mod Words
 pub mod Runs
 pub mod Host
-pub mod Examples

@@ -1,22 +1,40 @@
 -- What the program has done, by its status and by the files before and after.
-use Rattle.std.specs.Prelude.{◌⊎◌, ℕ, List, Option, IfSome}
+use Rattle.std.specs.Prelude.{ℕ, List, Option, IfSome}
 use Rattle.clap.specs.Words.{Text}
 use Rattle.desk_script.specs.declared.fault.RunFault.{RunFault}
 use Rattle.desk_files.specs.Files.{Shelf, Stays}
+use Rattle.desk_hand.specs.Exporting.{IsExported, IsUnexported}
+use Rattle.desk_hand.specs.Importing.{IsImported, IsUnimported}
+use Rattle.desk_hand.specs.Merging.{IsMerged, IsUnmerged}
+use Rattle.desk_hand.specs.declared.fault.HandFault.{HandFault}
 use Rattle.desk_world.specs.Sites.{Sites, no_sites}
 use Rattle.desk_script.specs.Desk.{desk}
 use Rattle.desk_script.specs.Script.{Answers, AnswersFront}
 use Rattle.desk_script.specs.Stored.{AnswersStored, IsHalted}
-use Rattle.copydesk.specs.Words.{AsksDesk, AsksScript}
+use Rattle.desk_words.specs.Words.{AsksFor, texts_of}
+use Rattle.desk_words.specs.declared.wishes.Wish.{Wish}
+use Rattle.desk_words.specs.declared.wishes.Wish.TheVariants as wishes
 
--- the script or the desk that the words ask for was run to its end; a script changes no file
+-- what is asked for was done; a script and an export change no file
+abbrev pub Does : Wish → Shelf → Shelf → Option (List ℕ) → Option (List ℕ) → Option (List ℕ) → Type 0
+Does wishes.Script first last input before after = Stays first last × IfSome input (λ bytes. (new : Sites) × Answers (desk no_sites first) (desk new last) bytes before after)
+Does (wishes.Desk feed site why) first last input before after = AnswersStored feed.now site first last input before after
+Does (wishes.Merge feed others) first last input before after = IsMerged feed.now (texts_of others.items) first last before after
+Does (wishes.Export feed) first last input before after = Stays first last × IsExported feed.now first before after
+Does (wishes.Import feed site plain) first last input before after = IsImported feed.now site plain first last input before after
+
+-- it was begun and stopped, and this is what it left
+abbrev pub Stops : Wish → Shelf → Shelf → Option (List ℕ) → Option (List ℕ) → Option (List ℕ) → Type 0
+Stops wishes.Script first last input before after = Stays first last × IfSome input (λ bytes. AnswersFront (desk no_sites first) last bytes before after)
+Stops (wishes.Desk feed site why) first last input before after = (fault : RunFault) × IsHalted feed.now site first last input before after fault
+Stops (wishes.Merge feed others) first last input before after = (fault : HandFault) × IsUnmerged feed.now (texts_of others.items) first last before after fault
+Stops (wishes.Export feed) first last input before after = Stays first last × (fault : HandFault) × IsUnexported feed.now first last before after fault
+Stops (wishes.Import feed site plain) first last input before after = (fault : HandFault) × IsUnimported feed.now site plain first last input before after fault
+
+-- what the words ask for was done
 abbrev pub IsRun : Shelf → Shelf → List Text → Option (List ℕ) → Option (List ℕ) → Option (List ℕ) → Type 0
-IsRun first last words input before after =
-    (AsksScript words × Stays first last × IfSome input (λ bytes. (new : Sites) × Answers (desk no_sites first) (desk new last) bytes before after))
-    ⊎ ((feed : Text) × (site : ℕ) × AsksDesk words feed site × AnswersStored feed site first last input before after)
+IsRun first last words input before after = (wish : Wish) × AsksFor words wish × Does wish first last input before after
 
 -- it was begun and stopped
 abbrev pub IsStopped : Shelf → Shelf → List Text → Option (List ℕ) → Option (List ℕ) → Option (List ℕ) → Type 0
-IsStopped first last words input before after =
-    (AsksScript words × Stays first last × IfSome input (λ bytes. AnswersFront (desk no_sites first) last bytes before after))
-    ⊎ ((feed : Text) × (site : ℕ) × AsksDesk words feed site × ((fault : RunFault) × IsHalted feed site first last input before after fault))
+IsStopped first last words input before after = (wish : Wish) × AsksFor words wish × Stops wish first last input before after

@@ -7,6 +7,7 @@ ghost use Rattle.std.specs.IoError.{error_kind};
 mod hold;
 mod host;
 mod program;
+mod telling;
 mod trouble;
 
 use desk_script::RunFault;

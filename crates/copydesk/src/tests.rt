@@ -110,6 +110,10 @@ fn refused_words(rt: HostRuntime) -> Result<(), Fail> {
     assert!(rt; is_refused(&tried(rt.alloc(), "desk a.feed --site 65536", TWO_SITES)?));
     assert!(rt; is_refused(&tried(rt.alloc(), "desk a.feed --site x", TWO_SITES)?));
     assert!(rt; is_refused(&tried(rt.alloc(), "desk a.feed --site 3 --site 3", TWO_SITES)?));
+    assert!(rt; is_refused(&tried(rt.alloc(), "merge a.feed", TWO_SITES)?));
+    assert!(rt; is_refused(&tried(rt.alloc(), "export", TWO_SITES)?));
+    assert!(rt; is_refused(&tried(rt.alloc(), "import a.feed", TWO_SITES)?));
+    assert!(rt; is_refused(&tried(rt.alloc(), "import a.feed --site 0", TWO_SITES)?));
     Ok(())
 }
 
@@ -124,6 +128,10 @@ fn help_is_written(rt: HostRuntime) -> Result<(), Fail> {
     assert!(rt; is_help(&tried(rt.alloc(), "--help", b"")?));
     assert!(rt; is_help(&tried(rt.alloc(), "script --help", b"")?));
     assert!(rt; is_help(&tried(rt.alloc(), "help desk", b"")?));
+    assert!(rt; is_help(&tried(rt.alloc(), "merge --help", b"")?));
+    let version = tried(rt.alloc(), "--version", b"")?;
+    assert!(rt; is_help(&version));
+    assert_eq!(rt; version.written.written(), b"copydesk 0.2.0\n".as_slice());
     Ok(())
 }
 
@@ -259,6 +267,113 @@ fn feed_stored_after_stopped_run(rt: HostRuntime) -> Result<(), Fail> {
     assert_eq!(rt; got.status, 1);
     assert_eq!(rt; got.written.written(), b"ok 2.".as_slice());
     assert_eq!(rt; got.faults.written(), b"copydesk: write fault\n".as_slice());
+    assert!(rt; holds(&files, "a.feed", ONE_INSERT));
+    Ok(())
+}
+
+/// One insert, 1.2: the symbol `y`.
+const ANOTHER_INSERT: &[u8] = b"MFD2\x01\0\0\0\0\0\0\0\x01\0\x02\0\0\0\0\0\0\0\0\0\0\0\0\0\0y";
+
+/// Both inserts: the newer of two that stand at one place comes first, and of one counter that of the greater site.
+const BOTH_INSERTS: &[u8] =
+    b"MFD2\x01\0\0\0\0\0\0\0\x01\0\x02\0\0\0\0\0\0\0\0\0\0\0\0\0\0y\x01\0\0\0\0\0\0\0\x01\0\x03\0\0\0\0\0\0\0\0\0\0\0\0\0\0x";
+
+#[test]
+fn feeds_are_merged(rt: HostRuntime) -> Result<(), Fail> {
+    let mut files = TrialFiles::new(rt.alloc());
+    files.put("a.feed", ONE_INSERT)?;
+    files.put("b.feed", ANOTHER_INSERT)?;
+    let got = tried_on(rt.alloc(), "merge a.feed b.feed a.feed", b"", &mut files)?;
+    assert_eq!(rt; got.status, 0);
+    assert_eq!(rt;
+        got.written.written(),
+        b"b.feed ok new 1 known 0\na.feed ok new 0 known 1\nfaults none\n".as_slice()
+    );
+    assert_eq!(rt; got.faults.written(), b"".as_slice());
+    assert!(rt; holds(&files, "a.feed", BOTH_INSERTS));
+    assert!(rt; holds(&files, "b.feed", ANOTHER_INSERT));
+    Ok(())
+}
+
+#[test]
+fn refused_merge(rt: HostRuntime) -> Result<(), Fail> {
+    let mut files = TrialFiles::new(rt.alloc());
+    files.put("a.feed", ONE_INSERT)?;
+    files.put("b.feed", b"MFD2\x09")?;
+    let got = tried_on(rt.alloc(), "merge a.feed a.feed b.feed", b"", &mut files)?;
+    assert_eq!(rt; got.status, 1);
+    assert_eq!(rt; got.written.written(), b"".as_slice());
+    assert_eq!(rt;
+        got.faults.written(),
+        b"copydesk: feed refused\nb.feed: byte 4: no such kind of operation\n".as_slice()
+    );
+    let mut files = files.for_next_run();
+    let got = tried_on(rt.alloc(), "merge a.feed c.feed", b"", &mut files)?;
+    assert_eq!(rt; got.status, 1);
+    assert_eq!(rt;
+        got.faults.written(),
+        b"copydesk: file fault\nc.feed: a call failed\n".as_slice()
+    );
+    assert!(rt; holds(&files, "a.feed", ONE_INSERT));
+    Ok(())
+}
+
+#[test]
+fn copy_is_exported(rt: HostRuntime) -> Result<(), Fail> {
+    let mut files = TrialFiles::new(rt.alloc());
+    files.put("a.feed", BOTH_INSERTS)?;
+    let got = tried_on(rt.alloc(), "export a.feed", b"", &mut files)?;
+    assert_eq!(rt; got.status, 0);
+    assert_eq!(rt; got.written.written(), b"xy".as_slice());
+    assert_eq!(rt; got.faults.written(), b"".as_slice());
+    let got = tried_on(rt.alloc(), "export b.feed", b"", &mut files)?;
+    assert_eq!(rt; got.status, 1);
+    assert_eq!(rt; got.written.written(), b"".as_slice());
+    Ok(())
+}
+
+#[test]
+fn text_is_imported(rt: HostRuntime) -> Result<(), Fail> {
+    let mut files = TrialFiles::new(rt.alloc());
+    files.put("a.feed", ONE_INSERT)?;
+    let got = tried_on(rt.alloc(), "import a.feed --site 3", b"_y_", &mut files)?;
+    assert_eq!(rt; got.status, 0);
+    assert_eq!(rt;
+        got.written.written(),
+        b"ok inserted 1 deleted 1\n".as_slice()
+    );
+    assert_eq!(rt; got.faults.written(), b"".as_slice());
+    let mut files = files.for_next_run();
+    let got = tried_on(rt.alloc(), "desk a.feed --site 3", b"show 3\n", &mut files)?;
+    assert_eq!(rt; got.written.written(), b"copy i\"y\"\n".as_slice());
+    let mut files = files.for_next_run();
+    let got = tried_on(
+        rt.alloc(),
+        "import a.feed --site 3 --plain",
+        b"_",
+        &mut files,
+    )?;
+    assert_eq!(rt;
+        got.written.written(),
+        b"ok inserted 1 deleted 1\n".as_slice()
+    );
+    let mut files = files.for_next_run();
+    let got = tried_on(rt.alloc(), "export a.feed", b"", &mut files)?;
+    assert_eq!(rt; got.written.written(), b"\\_".as_slice());
+    Ok(())
+}
+
+#[test]
+fn refused_text(rt: HostRuntime) -> Result<(), Fail> {
+    let mut files = TrialFiles::new(rt.alloc());
+    files.put("a.feed", ONE_INSERT)?;
+    let got = tried_on(rt.alloc(), "import a.feed --site 3", b"ab\n\\c", &mut files)?;
+    assert_eq!(rt; got.status, 1);
+    assert_eq!(rt; got.written.written(), b"".as_slice());
+    assert_eq!(rt;
+        got.faults.written(),
+        b"copydesk: line 2, column 1: a backslash that escapes nothing\n".as_slice()
+    );
     assert!(rt; holds(&files, "a.feed", ONE_INSERT));
     Ok(())
 }

@@ -3,8 +3,8 @@ use Rattle.std.specs.Prelude.{Some}
 use Rattle.std.specs.Str.Parse.{ParsesUnsigned, ExplainsUnsignedError, HasUnsignedDigitsIfOk}
 use Rattle.clap.specs.Words.{found_of, one_text, rows_of}
 use Rattle.clap.proofs.WalkLemmas.{one_text-rows}
-use Rattle.copydesk.proofs.Asked.{held_site, no_site, zero_site}
-use Rattle.copydesk.proofs.program.site_of.Goals as goal
+use Rattle.desk_words.proofs.Asked.{held_site, no_site, zero_site}
+use Rattle.desk_words.proofs.wishes.site_of.Goals as goal
 
 pub returns-then-site-eq0-clause-none : goal.returns-then-site-eq0-clause-none
 returns-then-site-eq0-clause-none c none =

@@ -1,13 +1,14 @@
 -- Words that ask for a script, a stored feed or help, and words with a fault.
 use Rattle.std.specs.Prelude.{◌≡◌, List, [], ◌∷◌, Option, Some, option_map, refl, codes}
-use Rattle.clap.specs.Words.{Row, Text, fault_of, first_of, one_of, subcommand_of}
+use Rattle.clap.specs.Words.{Row, Text, all_of, fault_of, first_of, one_of, subcommand_of}
 use Rattle.clap.specs.declared.error.kind.ErrorKind.TheVariants as kind
 use Rattle.clap.proofs.OnLiterals.{clap_on_literals}
-use Rattle.copydesk.specs.Words.{AsksScript, copydesk}
+use Rattle.desk_words.specs.Words.{AsksFor, copydesk}
+use Rattle.desk_words.specs.declared.wishes.Wish.TheVariants as wishes
 
-a_script : AsksScript (codes "script" ∷ [])
+a_script : AsksFor (codes "script" ∷ []) wishes.Script
 unfolding clap_on_literals
-a_script = (refl, [], refl)
+a_script = (refl, ([], refl, tt))
 
 a_desk : fault_of copydesk (codes "desk" ∷ codes "a.feed" ∷ codes "--site" ∷ codes "3" ∷ []) ≡ []
 unfolding clap_on_literals
@@ -19,6 +20,30 @@ found = option_map (λ p. (p.0, (first_of (codes "feed") p.1, one_of (codes "sit
 a_feed_and_a_site : found (subcommand_of copydesk (codes "desk" ∷ codes "a.feed" ∷ codes "--site" ∷ codes "3" ∷ [])) ≡ Some (codes "desk", (Some (codes "a.feed"), Some (codes "3")))
 unfolding clap_on_literals found
 a_feed_and_a_site = refl
+
+a_merge : fault_of copydesk (codes "merge" ∷ codes "a.feed" ∷ codes "b.feed" ∷ codes "c.feed" ∷ []) ≡ []
+unfolding clap_on_literals
+a_merge = refl
+
+merged : Option (Text × List Row) → Option (Text × (Option Text × Option (List Text)))
+merged = option_map (λ p. (p.0, (first_of (codes "feed") p.1, all_of (codes "other") p.1)))
+
+a_feed_and_two_others : merged (subcommand_of copydesk (codes "merge" ∷ codes "a.feed" ∷ codes "b.feed" ∷ codes "c.feed" ∷ []))
+    ≡ Some (codes "merge", (Some (codes "a.feed"), Some (codes "b.feed" ∷ codes "c.feed" ∷ [])))
+unfolding clap_on_literals merged
+a_feed_and_two_others = refl
+
+nothing_to_merge : fault_of copydesk (codes "merge" ∷ codes "a.feed" ∷ []) ≡ kind.MissingRequiredArgument ∷ []
+unfolding clap_on_literals
+nothing_to_merge = refl
+
+an_import : option_map (λ p. one_of (codes "plain") p.1) (subcommand_of copydesk (codes "import" ∷ codes "a.feed" ∷ codes "--plain" ∷ codes "--site" ∷ codes "3" ∷ [])) ≡ Some (Some (codes "true"))
+unfolding clap_on_literals
+an_import = refl
+
+two_exports : fault_of copydesk (codes "export" ∷ codes "a.feed" ∷ codes "b.feed" ∷ []) ≡ kind.UnknownArgument ∷ []
+unfolding clap_on_literals
+two_exports = refl
 
 site_zero : fault_of copydesk (codes "desk" ∷ codes "a.feed" ∷ codes "--site" ∷ codes "0" ∷ []) ≡ kind.ValueValidation ∷ []
 unfolding clap_on_literals
@@ -39,6 +64,10 @@ help = refl
 help_of_a_script : fault_of copydesk (codes "script" ∷ codes "-h" ∷ []) ≡ kind.DisplayHelp ∷ []
 unfolding clap_on_literals
 help_of_a_script = refl
+
+version : fault_of copydesk (codes "--version" ∷ []) ≡ kind.DisplayVersion ∷ []
+unfolding clap_on_literals
+version = refl
 
 no_words : fault_of copydesk [] ≡ kind.MissingSubcommand ∷ []
 unfolding clap_on_literals

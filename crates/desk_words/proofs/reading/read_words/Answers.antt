@@ -1,7 +1,8 @@
 use Rattle.std.proofs.Common.{◌≡◌, map, string_bytes, refl, ap, subst, ◌∙◌, true, []}
 use Rattle.clap.specs.Words.{App, app_of, fault_of, is_simple, is_simple_and_free, subcommand_of, subcommand_rows_of}
-use Rattle.copydesk.specs.Words.{Wishes, copydesk}
-use Rattle.copydesk.proofs.program.understood.Goals as goal
+use Rattle.desk_words.specs.Words.{IsWished, copydesk}
+use Rattle.desk_words.proofs.Asked.{asked}
+use Rattle.desk_words.proofs.reading.read_words.Goals as goal
 
 simple : is_simple copydesk ≡ true
 simple = refl
@@ -19,4 +20,5 @@ returns-clause-wish c =
     let is : app_of c.in_ok-command.command ≡ copydesk = c.in_ok-command.ensures in
     let met : subcommand_rows_of c.in_ok-matches.matches ≡ subcommand_of copydesk (map string_bytes c.args.words.now) =
     (c.in_ok-matches.ensures.matches (ap is_simple is ∙ simple)).1 ∙ ap (λ (a : App). subcommand_of a (map string_bytes c.args.words.now)) is in
-    (returns-clause-kinds c, subst (λ o. Wishes o c.wish_of.result) met c.wish_of.ensures)
+    asked (map string_bytes c.args.words.now) c.in_ok-wish_of.field-0 (returns-clause-kinds c)
+    (subst (λ o. IsWished o c.in_ok-wish_of.field-0) met c.in_ok-wish_of.ensures)

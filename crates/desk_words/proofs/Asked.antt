@@ -1,0 +1,95 @@
+-- What matches hold, by what their getters answered.
+use Rattle.std.proofs.Common.{◌≡◌, ◌<◌, ℕ, List, [], Option, Some, None, sym, subst, ap, ◌∙◌, codes, refl, arith}
+use Rattle.std.specs.Prelude.{◌≤◌, Ok, Err, Result, option_map}
+use Rattle.std.specs.Str.Parse.{ParsesUnsigned}
+use Rattle.std.specs.Borrow.{Bor}
+use Rattle.clap.specs.Matches.{ReadsOne}
+use Rattle.clap.specs.Words.{Row, Text, all_of, fault_of, first_value, one_of, rows_of, subcommand_of}
+use Rattle.clap.specs.declared.parser.matches.Found.{Found}
+use Rattle.clap.proofs.WalkLemmas.{first_value-rows}
+use Rattle.desk_words.specs.Words.{HasSite, IsAsked, IsWished, NamesDesk, NamesFeed, Tells, copydesk, task_of}
+use Rattle.desk_words.specs.declared.wishes.Task.{Task}
+use Rattle.desk_words.specs.declared.wishes.Task.TheVariants as tasks
+use Rattle.desk_words.specs.declared.wishes.Wish.{Wish}
+use Rattle.desk_words.specs.declared.wishes.Wish.TheVariants as wishes
+
+abbrev pub Reads : {E : Type 0} → (Text → Result ℕ E → Type 0) → Type 0
+Reads G = (t : _) (r : _) → G t r → ParsesUnsigned 16 10 t r
+
+-- the number that a getter answered
+pub held_site : (E : Type 0) (G : Text → Result ℕ E → Type 0) (only : Reads G) (rows : List Row) (asked : Option Text) (n : ℕ) (r : Option ℕ) → r ≡ Some n
+    → asked ≡ one_of (codes "site") rows → (asked ≡ None → r ≡ None) → ((t : Text) → asked ≡ Some t → ReadsOne G t r) → 1 ≤ n → n < 65536 → HasSite rows n
+held_site E G only rows None n r is same none value least most =
+    let bad : Some n ≡ None = sym is ∙ none refl in
+    cc
+held_site E G only rows (Some t) n r is same none value least most =
+    let parsed = only t (Ok n) (subst (λ o. ReadsOne G t o) is (value t refl)) in
+    (t, sym same, (parsed.0.0, sym parsed.1), least, most)
+
+-- no number
+pub no_site : (E : Type 0) (G : Text → Result ℕ E → Type 0) (only : Reads G) (rows : List Row) (asked : Option Text) (r : Option ℕ) → r ≡ None
+    → asked ≡ one_of (codes "site") rows → ((t : Text) → asked ≡ Some t → ReadsOne G t r) → (n : ℕ) → HasSite rows n → ⊥
+no_site E G only rows asked r is same value n (text, found, (numeral, number), least, most) =
+    let read : ReadsOne G text None = subst (λ o. ReadsOne G text o) is (value text (same ∙ found)) in
+    only text (Err read.0) read.1 (numeral, subst (λ k. k < 65536) (sym number) most)
+
+-- the number 0
+pub zero_site : (E : Type 0) (G : Text → Result ℕ E → Type 0) (only : Reads G) (rows : List Row) (asked : Option Text) (r : Option ℕ) → r ≡ Some 0
+    → asked ≡ one_of (codes "site") rows → ((t : Text) → asked ≡ Some t → ReadsOne G t r) → (n : ℕ) → HasSite rows n → ⊥
+zero_site E G only rows asked r is same value n (text, found, (numeral, number), least, most) =
+    let parsed = only text (Ok 0) (subst (λ o. ReadsOne G text o) is (value text (same ∙ found))) in
+    let none : n ≡ 0 = sym number ∙ sym parsed.1 in
+    let bad : 1 ≤ 0 = subst (λ k. 1 ≤ k) none least in
+    absurd (omega arith)
+
+-- ---- the name of a feed
+
+pub named_feed : (f : Found) (r : Option (Bor Text)) (feed : Bor Text) → option_map (λ s. s.now) r ≡ first_value f (codes "feed") → r ≡ Some feed → NamesFeed (rows_of f) feed.now
+named_feed f r feed got is = sym (first_value-rows f (codes "feed")) ∙ sym got ∙ ap (option_map (λ s. s.now)) is
+
+pub unnamed_feed : (f : Found) (r : Option (Bor Text)) → option_map (λ s. s.now) r ≡ first_value f (codes "feed") → r ≡ None → (feed : Text) → NamesFeed (rows_of f) feed → ⊥
+unnamed_feed f r got is feed names =
+    let empty : None ≡ Some feed = sym (ap (option_map (λ s. s.now)) is) ∙ got ∙ first_value-rows f (codes "feed") ∙ names in
+    cc
+
+-- ---- what is lacking
+
+-- without a feed's name nothing but a script is told
+pub no_feed : (rows : List Row) (task : Task) → ((feed : Text) → NamesFeed rows feed → ⊥) → (task ≡ tasks.Script → ⊥) → (wish : Wish) → task_of wish ≡ task → Tells rows wish → ⊥
+no_feed rows task none other wishes.Script is tells = other (sym is)
+no_feed rows task none other (wishes.Desk feed site why) is tells = none feed.now tells.0.0
+no_feed rows task none other (wishes.Merge feed others) is tells = none feed.now tells.0
+no_feed rows task none other (wishes.Export feed) is tells = none feed.now tells
+no_feed rows task none other (wishes.Import feed site plain) is tells = none feed.now tells.0.0
+
+-- without a feed's name and a site no desk is told
+pub no_desk : (rows : List Row) → ((feed : Text) (site : ℕ) → NamesDesk rows feed site → ⊥) → (wish : Wish) → task_of wish ≡ tasks.Desk → Tells rows wish → ⊥
+no_desk rows none wishes.Script is tells = cc
+no_desk rows none (wishes.Desk feed site why) is tells = none feed.now site tells.0
+no_desk rows none (wishes.Merge feed others) is tells = cc
+no_desk rows none (wishes.Export feed) is tells = cc
+no_desk rows none (wishes.Import feed site plain) is tells = cc
+
+-- and no import
+pub no_import : (rows : List Row) → ((feed : Text) (site : ℕ) → NamesDesk rows feed site → ⊥) → (wish : Wish) → task_of wish ≡ tasks.Import → Tells rows wish → ⊥
+no_import rows none wishes.Script is tells = cc
+no_import rows none (wishes.Desk feed site why) is tells = cc
+no_import rows none (wishes.Merge feed others) is tells = cc
+no_import rows none (wishes.Export feed) is tells = cc
+no_import rows none (wishes.Import feed site plain) is tells = none feed.now site tells.0
+
+-- without other names no merge is told
+pub no_merge : (rows : List Row) → all_of (codes "other") rows ≡ None → (wish : Wish) → task_of wish ≡ tasks.Merge → Tells rows wish → ⊥
+no_merge rows none wishes.Script is tells = cc
+no_merge rows none (wishes.Desk feed site why) is tells = cc
+no_merge rows none (wishes.Merge feed others) is tells =
+    let bad = sym none ∙ tells.1 in
+    cc
+no_merge rows none (wishes.Export feed) is tells = cc
+no_merge rows none (wishes.Import feed site plain) is tells = cc
+
+-- ---- words without a fault
+
+pub asked : (words : List Text) (o : Option Wish) → fault_of copydesk words ≡ [] → IsWished (subcommand_of copydesk words) o → IsAsked words o
+asked words None sound wished = λ wish asks. wished wish asks.1
+asked words (Some wish) sound wished = (sound, wished)

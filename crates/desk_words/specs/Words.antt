@@ -1,0 +1,159 @@
+-- What the words of the command line ask for, as `clap` reads them.
+use Rattle.std.specs.Prelude.{◌≡◌, ◌≢◌, ◌≤◌, ◌<◌, ◌⊎◌, ℕ, Bool, List, [], Option, Some, None, Vec, true, false, map, pos, codes}
+use Rattle.std.specs.Borrow.{Bor}
+use Rattle.std.specs.Str.Parse.{IsNumeral, digits_value, without_leading_plus}
+use Rattle.std.specs.declared.alloc.Global.{Global}
+use Rattle.clap.specs.Words.{App, IsAmong, Row, Rule, Text, all_of, fault_of, first_of, new_app, new_rule, one_of, subcommand_of, with_rule, with_subcommand}
+use Rattle.clap.specs.declared.builder.action.ArgAction.TheVariants.{Append, SetTrue}
+use Rattle.clap.specs.declared.builder.value_parser.ValueParser.TheVariants as parsers
+use Rattle.clap.specs.declared.error.kind.ErrorKind.{ErrorKind}
+use Rattle.clap.specs.declared.error.kind.ErrorKind.TheVariants as kind
+use Rattle.desk_words.specs.declared.wishes.Task.{Task}
+use Rattle.desk_words.specs.declared.wishes.Task.TheVariants as tasks
+use Rattle.desk_words.specs.declared.wishes.Wish.{Wish}
+use Rattle.desk_words.specs.declared.wishes.Wish.TheVariants as wishes
+
+-- ---- the program's command
+
+abbrev pub feed_rule : Rule
+feed_rule = record (new_rule (codes "feed")) { required = true }
+
+abbrev pub site_rule : Rule
+site_rule = record (new_rule (codes "site")) {
+  long = Some (codes "site");
+  parser = Some (parsers.Signed (pos 1) (pos 65535));
+  required = true;
+}
+
+-- one name or more
+abbrev pub others_rule : Rule
+others_rule = record (new_rule (codes "other")) { action = Some Append; required = true }
+
+abbrev pub flag_rule : Text → Rule
+flag_rule name = record (new_rule name) { long = Some name; action = Some SetTrue }
+
+abbrev pub desk_app : App
+desk_app = with_rule (with_rule (with_rule (new_app (codes "desk")) feed_rule) site_rule) (flag_rule (codes "why"))
+
+abbrev pub merge_app : App
+merge_app = with_rule (with_rule (new_app (codes "merge")) feed_rule) others_rule
+
+abbrev pub export_app : App
+export_app = with_rule (new_app (codes "export")) feed_rule
+
+abbrev pub import_app : App
+import_app = with_rule (with_rule (with_rule (new_app (codes "import")) feed_rule) site_rule) (flag_rule (codes "plain"))
+
+abbrev pub no_subcommand : App
+no_subcommand = record {
+  top = record (new_app (codes "copydesk")).top { no_binary_name = true; subcommand_required = true; has_version = true };
+  subs = [];
+}
+
+-- the program with its subcommands
+abbrev pub copydesk : App
+copydesk = with_subcommand (with_subcommand (with_subcommand (with_subcommand (with_subcommand no_subcommand
+    (new_app (codes "script")).top) desk_app.top) merge_app.top) export_app.top) import_app.top
+
+-- ---- what a subcommand's matches hold
+
+-- the text is a whole number in digits, where a plus may stand first
+abbrev pub IsNumber : Text → ℕ → Type 0
+IsNumber text n = IsNumeral 10 (without_leading_plus text) × (digits_value 10 (without_leading_plus text) ≡ n)
+
+-- the number of a site
+abbrev pub HasSite : List Row → ℕ → Type 0
+HasSite rows site = (text : Text) × (one_of (codes "site") rows ≡ Some text) × IsNumber text site × (1 ≤ site) × (site < 65536)
+
+-- the name of a feed
+abbrev pub NamesFeed : List Row → Text → Type 0
+NamesFeed rows feed = first_of (codes "feed") rows ≡ Some feed
+
+-- both
+abbrev pub NamesDesk : List Row → Text → ℕ → Type 0
+NamesDesk rows feed site = NamesFeed rows feed × HasSite rows site
+
+-- the texts behind names
+abbrev pub texts_of : List (Bor Text) → List Text
+texts_of = map (λ name. name.now)
+
+-- the flag is set or not
+abbrev pub HasFlag : Text → List Row → Bool → Type 0
+HasFlag name rows flag =
+    (one_of name rows ≡ None → flag ≡ false) × (one_of name rows ≡ Some (codes "false") → flag ≡ false) × (one_of name rows ≡ Some (codes "true") → flag ≡ true)
+
+-- ---- what is asked for
+
+-- the name of a subcommand
+abbrev pub name_of : Task → Text
+name_of tasks.Script = codes "script"
+name_of tasks.Desk = codes "desk"
+name_of tasks.Merge = codes "merge"
+name_of tasks.Export = codes "export"
+name_of tasks.Import = codes "import"
+
+-- the subcommand of a wish
+abbrev pub task_of : Wish → Task
+task_of wishes.Script = tasks.Script
+task_of (wishes.Desk feed site why) = tasks.Desk
+task_of (wishes.Merge feed others) = tasks.Merge
+task_of (wishes.Export feed) = tasks.Export
+task_of (wishes.Import feed site plain) = tasks.Import
+
+-- its matches hold what the wish says
+abbrev pub Tells : List Row → Wish → Type 0
+Tells rows wishes.Script = Unit {0}
+Tells rows (wishes.Desk feed site why) = NamesDesk rows feed.now site × HasFlag (codes "why") rows why
+Tells rows (wishes.Merge feed others) = NamesFeed rows feed.now × (all_of (codes "other") rows ≡ Some (texts_of others.items))
+Tells rows (wishes.Export feed) = NamesFeed rows feed.now
+Tells rows (wishes.Import feed site plain) = NamesDesk rows feed.now site × HasFlag (codes "plain") rows plain
+
+-- a subcommand with its matches asks for this
+abbrev pub Wishes : Option (Text × List Row) → Wish → Type 0
+Wishes asked wish = (rows : List Row) × (asked ≡ Some (name_of (task_of wish), rows)) × Tells rows wish
+
+-- the words have no fault, and ask for this
+abbrev pub AsksFor : List Text → Wish → Type 0
+AsksFor words wish = (fault_of copydesk words ≡ []) × Wishes (subcommand_of copydesk words) wish
+
+-- the words ask for help, or for the program's version
+abbrev pub AsksHelp : List Text → Type 0
+AsksHelp words = IsAmong kind.DisplayHelp (fault_of copydesk words) ⊎ IsAmong kind.DisplayVersion (fault_of copydesk words)
+
+-- the words have a fault
+abbrev pub HasFault : List Text → Type 0
+HasFault words = (k : ErrorKind) × IsAmong k (fault_of copydesk words) × (k ≢ kind.DisplayHelp) × (k ≢ kind.DisplayVersion)
+
+-- the words have a fault, or ask for nothing that can be done
+abbrev pub AsksNothing : List Text → Type 0
+AsksNothing words = HasFault words ⊎ ((wish : Wish) → AsksFor words wish → ⊥)
+
+-- ---- what is made of the matches
+
+-- the names, or that there are none
+abbrev pub AreOthers : Option (List Text) → Option (Vec (Bor Text) Global) → Type 0
+AreOthers asked (Some names) = asked ≡ Some (texts_of names.items)
+AreOthers asked None = asked ≡ None
+
+-- what the matches of a subcommand hold, or that they hold nothing that can be done
+abbrev pub IsTold : List Row → Task → Option Wish → Type 0
+IsTold rows task (Some wish) = (task_of wish ≡ task) × Tells rows wish
+IsTold rows task None = (wish : Wish) → task_of wish ≡ task → Tells rows wish → ⊥
+
+-- what a subcommand with its matches asks for, or that it asks for nothing that can be done
+abbrev pub IsWished : Option (Text × List Row) → Option Wish → Type 0
+IsWished asked (Some wish) = Wishes asked wish
+IsWished asked None = (wish : Wish) → Wishes asked wish → ⊥
+
+-- what the words ask for, or that they ask for nothing that can be done
+abbrev pub IsAsked : List Text → Option Wish → Type 0
+IsAsked words (Some wish) = AsksFor words wish
+IsAsked words None = (wish : Wish) → AsksFor words wish → ⊥
+
+-- the number of its site may be one
+abbrev pub IsLawful : Wish → Type 0
+IsLawful wishes.Script = Unit {0}
+IsLawful (wishes.Desk feed site why) = 1 ≤ site
+IsLawful (wishes.Merge feed others) = Unit {0}
+IsLawful (wishes.Export feed) = Unit {0}
+IsLawful (wishes.Import feed site plain) = 1 ≤ site

@@ -1,0 +1,11 @@
+//! The words of the command line: the subcommands, and what the words ask for.
+#![tactic(auto)]
+
+mod commands;
+mod help;
+mod reading;
+mod wishes;
+
+pub use help::VERSION;
+pub use reading::read_words;
+pub use wishes::{Task, Wish};

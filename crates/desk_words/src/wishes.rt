@@ -1,0 +1,196 @@
+//! What the matches of the command line hold.
+
+ghost use Rattle.std.specs.Prelude.{◌≡◌, ◌≢◌, ℕ, IfOk, IfSome, IsNone, codes};
+ghost use Rattle.clap.specs.Words.{Text, all_of, found_of, rows_of, subcommand_rows_of};
+ghost use Rattle.desk_words.specs.Words.{AreOthers, HasFlag, HasSite, IsTold, IsWished, NamesDesk, name_of};
+
+use clap::ArgMatches;
+use std::alloc::{AllocError, Global};
+
+/// The subcommands.
+#[derive(Clone, Copy, Debug, PartialEq, Eq)]
+pub enum Task {
+    Script,
+    Desk,
+    Merge,
+    Export,
+    Import,
+}
+
+/// What the words ask for.
+#[derive(Drop)]
+pub enum Wish<'a> {
+    /// A script.
+    Script,
+    /// A script on a stored feed, for a site, and whether a line is to say why a run stopped.
+    Desk {
+        feed: &'a str,
+        site: u16,
+        why: bool,
+    },
+    /// The feeds of other files, merged into a stored one.
+    Merge {
+        feed: &'a str,
+        others: Vec<&'a str>,
+    },
+    /// The copy of a stored feed as text.
+    Export {
+        feed: &'a str,
+    },
+    /// A text, made the copy of a stored feed by operations of a site, and whether all of it is Roman.
+    Import {
+        feed: &'a str,
+        site: u16,
+        plain: bool,
+    },
+}
+
+/// The subcommand of a name.
+fn task_named(name: &str) -> Option<Task>
+    ensures some { IfSome result (λ task. name.now ≡ name_of task) }
+    ensures none { IsNone result → (task : _) → name.now ≢ name_of task }
+{
+    if name == "script" {
+        return Some(Task::Script);
+    }
+    if name == "desk" {
+        return Some(Task::Desk);
+    }
+    if name == "merge" {
+        return Some(Task::Merge);
+    }
+    if name == "export" {
+        return Some(Task::Export);
+    }
+    if name == "import" {
+        return Some(Task::Import);
+    }
+    None
+}
+
+/// The site's number that a subcommand's matches hold.
+fn site_of(matches: &ArgMatches<'_>) -> Option<u16>
+    ensures some { IfSome result (HasSite (rows_of (found_of matches.now))) }
+    ensures none { IsNone result → (site : ℕ) → HasSite (rows_of (found_of matches.now)) site → ⊥ }
+{
+    match matches.get_one::<u16>("site") {
+        Some(site) => {
+            if site == 0 {
+                return None;
+            }
+            Some(site)
+        }
+        None => None,
+    }
+}
+
+/// Whether a flag is set.
+fn flag_of(matches: &ArgMatches<'_>, name: &str) -> bool
+    ensures { HasFlag name.now (rows_of (found_of matches.now)) result }
+{
+    matches.get_flag(name)
+}
+
+/// The feed's name and the site's number that a subcommand's matches hold.
+fn feed_and_site<'a>(matches: &ArgMatches<'a>) -> Option<(&'a str, u16)>
+    ensures some { IfSome result (λ p. NamesDesk (rows_of (found_of matches.now)) p.0.now p.1) }
+    ensures none { IsNone result → (feed : Text) (site : ℕ) → NamesDesk (rows_of (found_of matches.now)) feed site → ⊥ }
+{
+    match matches.get_str("feed") {
+        Some(feed) => match site_of(matches) {
+            Some(site) => Some((feed, site)),
+            None => None,
+        },
+        None => None,
+    }
+}
+
+fn desk_wish<'a>(matches: &ArgMatches<'a>) -> Option<Wish<'a>>
+    ensures { IsTold (rows_of (found_of matches.now)) Task.Desk result }
+{
+    match feed_and_site(matches) {
+        Some((feed, site)) => Some(Wish::Desk {
+            feed,
+            site,
+            why: flag_of(matches, "why"),
+        }),
+        None => None,
+    }
+}
+
+/// The names of the other feeds that a subcommand's matches hold.
+fn others_of<'a>(
+    alloc: Global,
+    matches: &ArgMatches<'a>,
+) -> Result<Option<Vec<&'a str>>, AllocError>
+    ensures { IfOk result (AreOthers (all_of (codes "other") (rows_of (found_of matches.now)))) }
+{
+    match matches.get_strs("other") {
+        Some(names) => Ok(Some(Vec::from_slice(alloc, names)?)),
+        None => Ok(None),
+    }
+}
+
+fn merge_wish<'a>(alloc: Global, matches: &ArgMatches<'a>) -> Result<Option<Wish<'a>>, AllocError>
+    ensures { IfOk result (IsTold (rows_of (found_of matches.now)) Task.Merge) }
+{
+    let Some(feed) = matches.get_str("feed") else {
+        return Ok(None);
+    };
+    match others_of(alloc, matches)? {
+        Some(others) => Ok(Some(Wish::Merge { feed, others })),
+        None => Ok(None),
+    }
+}
+
+fn export_wish<'a>(matches: &ArgMatches<'a>) -> Option<Wish<'a>>
+    ensures { IsTold (rows_of (found_of matches.now)) Task.Export result }
+{
+    match matches.get_str("feed") {
+        Some(feed) => Some(Wish::Export { feed }),
+        None => None,
+    }
+}
+
+fn import_wish<'a>(matches: &ArgMatches<'a>) -> Option<Wish<'a>>
+    ensures { IsTold (rows_of (found_of matches.now)) Task.Import result }
+{
+    match feed_and_site(matches) {
+        Some((feed, site)) => Some(Wish::Import {
+            feed,
+            site,
+            plain: flag_of(matches, "plain"),
+        }),
+        None => None,
+    }
+}
+
+/// What the matches of a subcommand hold.
+fn told<'a>(
+    alloc: Global,
+    task: Task,
+    matches: &ArgMatches<'a>,
+) -> Result<Option<Wish<'a>>, AllocError>
+    ensures { IfOk result (IsTold (rows_of (found_of matches.now)) task) }
+{
+    match task {
+        Task::Script => Ok(Some(Wish::Script)),
+        Task::Desk => Ok(desk_wish(matches)),
+        Task::Merge => merge_wish(alloc, matches),
+        Task::Export => Ok(export_wish(matches)),
+        Task::Import => Ok(import_wish(matches)),
+    }
+}
+
+/// What the matches ask for.
+pub fn wish_of<'a>(alloc: Global, matches: &ArgMatches<'a>) -> Result<Option<Wish<'a>>, AllocError>
+    ensures { IfOk result (IsWished (subcommand_rows_of matches.now)) }
+{
+    let Some((name, inner)) = matches.subcommand() else {
+        return Ok(None);
+    };
+    match task_named(name) {
+        Some(task) => told(alloc, task, inner),
+        None => Ok(None),
+    }
+}
