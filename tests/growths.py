@@ -9,7 +9,8 @@ where the next line is longer than all before it, so that there was no memory to
 lines. Then all growths from one on are refused, for each twentieth, and the same holds. No want of memory is told as another
 refusal, of the wedge or the case file too, whose text `toml` reads with the global allocator. On a stored feed a run may end
 so also at its end, where it stores; the file holds the old feed then, and the followed one after an end with status 0. Words
-that are refused or ask for help keep their status, or end in that way too.
+that are refused or ask for help keep their status, or end in that way too. A merge, an export and an import are done as with
+all memory, or end so with the stored feed as it was.
 """
 import functools
 import os
@@ -316,6 +317,36 @@ def words(program, folder, library):
     return sweep
 
 
+def by_hand(program, folder, library):
+    """A merge, an export and an import: done as undisturbed, or ended for want of memory with the stored feed as it was."""
+    path = os.path.join(folder, "hand.feed")
+    for name, text in (("hand.feed", "Send _word_\nby noon.\n"), ("other.feed", "Word was sent.\n")):
+        site = "1" if name == "hand.feed" else "2"
+        subprocess.run([program, "import", name, "--site", site], input=text.encode(), cwd=folder, capture_output=True, check=True)
+    with open(path, "rb") as file:
+        old = file.read()
+
+    def once(runs, number, always):
+        with open(path, "wb") as file:
+            file.write(old)
+        status, written, told = runs.run(number, always)
+        with open(path, "rb") as file:
+            return status, written, told, file.read()
+
+    sweep = Sweep(Runs(program, [], "", folder, library))
+    for words, text in (("merge hand.feed other.feed other.feed", ""), ("export hand.feed", ""), ("import hand.feed --site 1", "Sent _word_ by ^noon^.\n")):
+        runs = Runs(program, words.split(), text, folder, library)
+        whole = once(runs, 0, False)
+        sweep.note(words, None if whole[0] == 0 and not whole[2] else "ended with %d and %r" % (whole[0], whole[2]))
+        growths = runs.count()
+        for number, always in [(k, False) for k in range(1, growths + 1)] + [(k, True) for k in range(1, growths + 1, 20)]:
+            got = once(runs, number, always)
+            ended = got[0] == 1 and got[2].startswith(b"copydesk: no memory\n") and whole[1].startswith(got[1]) and got[3] == old
+            sweep.early += ended
+            sweep.note("%s, growth %d" % (words, number), None if ended or got == whole else "ended with %d, %r and %r" % got[:3])
+    return sweep
+
+
 # the commands that a run of the script was seen to refuse for want of memory, and those that it stopped
 LACKING = {(name, False) for name in ("site", "insert", "take", "send", "merge", "show", "faults", "settings", "feed", "ribbon", "cast", "restart")}
 
@@ -325,7 +356,7 @@ def main():
     with tempfile.TemporaryDirectory() as folder:
         library, failed, lacked = shim(folder), False, set()
         files(folder)
-        for name, part in (("first script", first), ("script", script), ("bad files", bad_files), ("words", words), ("stored feed", stored)):
+        for name, part in (("first script", first), ("script", script), ("bad files", bad_files), ("words", words), ("stored feed", stored), ("by hand", by_hand)):
             sweep = part(program, folder, library)
             for fault in sweep.faults[:20]:
                 print(fault)

@@ -4,7 +4,7 @@ ghost use Rattle.std.specs.Prelude.{◌≡◌, MatchResult};
 
 use crate::trouble::Explains;
 use desk_hand::{FeedTrouble, HandFault, MAX_TEXT};
-use desk_script::RunFault;
+use desk_script::{FileRefusal, RunFault};
 use std::io::{self, Write};
 
 /// Writes what stopped a run, and gives the status of it.
@@ -77,6 +77,9 @@ fn explain_feed<E: Write, F: Explains>(
     why: FeedTrouble,
 ) -> io::Result<()> {
     match why {
+        FeedTrouble::File(FileRefusal::NoMemory) | FeedTrouble::NoMemory => {
+            writeln!(faults, "{feed}: out of memory")
+        }
         FeedTrouble::File(_) => files.explain(feed, faults),
         FeedTrouble::Feed(fault) => {
             let (at, why) = (fault.at, fault.why);
@@ -88,7 +91,6 @@ fn explain_feed<E: Write, F: Explains>(
                 "{feed}: with its operations there would be more than a desk can hold"
             )
         }
-        FeedTrouble::NoMemory => writeln!(faults, "{feed}: out of memory"),
     }
 }
 
@@ -102,6 +104,9 @@ fn explain_hand<E: Write, F: Explains>(
     fault: HandFault,
 ) -> io::Result<()> {
     match fault {
+        HandFault::Untaken(FileRefusal::NoMemory)
+        | HandFault::Unstored(FileRefusal::NoMemory)
+        | HandFault::NoMemory => writeln!(faults, "{feed}: out of memory"),
         HandFault::Untaken(_) | HandFault::Unstored(_) => files.explain(feed, faults),
         HandFault::Feed(why) => explain_feed(faults, files, feed, why),
         HandFault::Other { at, why } => match others.get(at) {
@@ -113,8 +118,27 @@ fn explain_hand<E: Write, F: Explains>(
         HandFault::Text(_) => Ok(()),
         HandFault::Refused(_) => writeln!(faults, "{feed}: the text does not fit into it"),
         HandFault::Write => writeln!(faults, "standard output: it cannot be written"),
-        HandFault::NoMemory => writeln!(faults, "{feed}: out of memory"),
     }
+}
+
+/// Whether a file was refused for want of memory.
+fn lacks_memory(fault: HandFault) -> bool {
+    match fault {
+        HandFault::Untaken(why) | HandFault::Unstored(why) => why == FileRefusal::NoMemory,
+        HandFault::Feed(why) | HandFault::Other { why, .. } => {
+            why == FeedTrouble::File(FileRefusal::NoMemory)
+        }
+        _ => false,
+    }
+}
+
+/// Writes what stopped what was done by hand: want of memory as such, whatever it was wanted for.
+fn tell_hand<E: Write>(faults: &mut E, fault: HandFault) {
+    let _ = if lacks_memory(fault) {
+        writeln!(faults, "copydesk: {}", RunFault::NoMemory)
+    } else {
+        writeln!(faults, "copydesk: {fault}")
+    };
 }
 
 /// The status of what was done by hand with a stored feed. Where it was not done two lines say why.
@@ -130,7 +154,7 @@ pub fn hand_status<E: Write, F: Explains>(
     match outcome {
         Ok(()) => 0,
         Err(fault) => {
-            let _ = writeln!(faults, "copydesk: {fault}");
+            tell_hand(faults, fault);
             let _ = explain_hand(faults, files, feed, others, fault);
             1
         }
