@@ -158,15 +158,37 @@ fn made_of<Q: Sequence, R: Sequence, A: Allocator>(
     R::from_entries(memory, list.as_slice())
 }
 
+/// Whether a sequence that is made of the entries of another is like it, and answers 4,000 random calls alike.
+fn goes_on_alike<Q: Sequence, R: Sequence>(
+    one: &mut Q,
+    alloc: Global,
+    memory: R::Memory,
+) -> Result<bool, AllocError> {
+    let mut made: R = made_of(one, alloc, memory)?;
+    Ok(are_alike(one, &made) && run(one, &mut made, 2, 4_000)?)
+}
+
+/// Whether both kinds answer 20,000 random calls alike, which leave more than 5,000 entries, and so do a sequence made of
+/// these and the first.
+fn are_calls_alike<Q: Sequence, R: Sequence>(
+    alloc: Global,
+    memory: Q::Memory,
+    more: R::Memory,
+) -> Result<bool, AllocError> {
+    let mut one = Q::empty(memory);
+    let mut other = R::empty(more);
+    Ok(
+        run(&mut one, &mut other, 1, 20_000)?
+            && one.len() > 5_000
+            && goes_on_alike::<Q, R>(&mut one, alloc, more)?,
+    )
+}
+
 #[test]
 fn random_calls_answer_alike(rt: HostRuntime) -> Result<(), Fail> {
-    let mut flat = Flat::empty(rt.alloc());
-    let mut blocks = Blocks::empty(rt.alloc());
-    assert!(rt; run(&mut flat, &mut blocks, 1, 20_000)?);
-    assert!(rt; flat.len() > 5_000);
-    let mut made: Blocks<Global> = made_of(&flat, rt.alloc(), rt.alloc())?;
-    assert!(rt; are_alike(&flat, &made));
-    assert!(rt; run(&mut flat, &mut made, 2, 4_000)?);
+    assert!(rt;
+        are_calls_alike::<Flat<Global>, Blocks<Global>>(rt.alloc(), rt.alloc(), rt.alloc())?
+    );
     Ok(())
 }
 
@@ -331,17 +353,24 @@ fn falls<Q: Sequence>(sequence: &Q) -> bool {
     sequence.len() == 2_000
 }
 
+/// Whether the latest stands first in both kinds.
+fn fall_alike<Q: Sequence, R: Sequence>(
+    memory: Q::Memory,
+    more: R::Memory,
+    falling: bool,
+) -> Result<bool, AllocError> {
+    let mut one = Q::empty(memory);
+    let mut other = R::empty(more);
+    arrived(&mut one, falling)?;
+    arrived(&mut other, falling)?;
+    Ok(falls(&one) && falls(&other) && are_alike(&one, &other))
+}
+
 /// In whichever order they arrive, the latest stands first.
 #[test]
 fn two_thousand_inserts(rt: HostRuntime) -> Result<(), Fail> {
     for falling in [false, true] {
-        let mut flat = Flat::empty(rt.alloc());
-        let mut blocks = Blocks::empty(rt.alloc());
-        arrived(&mut flat, falling)?;
-        arrived(&mut blocks, falling)?;
-        assert!(rt; falls(&flat));
-        assert!(rt; falls(&blocks));
-        assert!(rt; are_alike(&flat, &blocks));
+        assert!(rt; fall_alike::<Flat<Global>, Blocks<Global>>(rt.alloc(), rt.alloc(), falling)?);
     }
     Ok(())
 }
