@@ -158,15 +158,37 @@ fn made_of<Q: Sequence, R: Sequence, A: Allocator>(
     R::from_entries(memory, list.as_slice())
 }
 
+/// Whether a sequence that is made of the entries of another is like it, and answers 4,000 random calls alike.
+fn goes_on_alike<Q: Sequence, R: Sequence>(
+    one: &mut Q,
+    alloc: Global,
+    memory: R::Memory,
+) -> Result<bool, AllocError> {
+    let mut made: R = made_of(one, alloc, memory)?;
+    Ok(are_alike(one, &made) && run(one, &mut made, 2, 4_000)?)
+}
+
+/// Whether both kinds answer 20,000 random calls alike, which leave more than 5,000 entries, and so do a sequence made of
+/// these and the first.
+fn are_calls_alike<Q: Sequence, R: Sequence>(
+    alloc: Global,
+    memory: Q::Memory,
+    more: R::Memory,
+) -> Result<bool, AllocError> {
+    let mut one = Q::empty(memory);
+    let mut other = R::empty(more);
+    Ok(
+        run(&mut one, &mut other, 1, 20_000)?
+            && one.len() > 5_000
+            && goes_on_alike::<Q, R>(&mut one, alloc, more)?,
+    )
+}
+
 #[test]
 fn random_calls_answer_alike(rt: HostRuntime) -> Result<(), Fail> {
-    let mut flat = Flat::empty(rt.alloc());
-    let mut blocks = Blocks::empty(rt.alloc());
-    assert!(rt; run(&mut flat, &mut blocks, 1, 20_000)?);
-    assert!(rt; flat.len() > 5_000);
-    let mut made: Blocks<Global> = made_of(&flat, rt.alloc(), rt.alloc())?;
-    assert!(rt; are_alike(&flat, &made));
-    assert!(rt; run(&mut flat, &mut made, 2, 4_000)?);
+    assert!(rt;
+        are_calls_alike::<Flat<Global>, Blocks<Global>>(rt.alloc(), rt.alloc(), rt.alloc())?
+    );
     Ok(())
 }
 
@@ -181,28 +203,82 @@ fn scatter<Q: Sequence>(sequence: &mut Q, number: u64) -> Result<(), AllocError>
     Ok(())
 }
 
-/// 3,000 steps, and both compared in parts.
+/// Whether both list the same symbols.
+fn are_listed_alike<Q: Sequence, R: Sequence>(
+    one: &Q,
+    other: &R,
+    memory: Q::Memory,
+    more: R::Memory,
+) -> Result<bool, AllocError> {
+    let symbols = one.symbols(memory)?;
+    let others = other.symbols(more)?;
+    Ok(symbols.as_slice() == others.as_slice())
+}
+
+/// 3,000 steps, and both compared in parts and by their symbols.
 fn run_long<Q: Sequence, R: Sequence>(
     one: &mut Q,
     other: &mut R,
     first: u64,
+    memory: Q::Memory,
+    more: R::Memory,
 ) -> Result<bool, AllocError> {
     let is_alike = run(one, other, first, 3_000)?;
-    Ok(is_alike && are_alike_in_parts(one, other, 2_000))
+    Ok(
+        is_alike
+            && are_alike_in_parts(one, other, 2_000)
+            && are_listed_alike(one, other, memory, more)?,
+    )
+}
+
+/// 70,000 entries at random places.
+fn scattered<Q: Sequence>(memory: Q::Memory) -> Result<Q, AllocError> {
+    let mut sequence = Q::empty(memory);
+    scatter(&mut sequence, 70_000)?;
+    Ok(sequence)
+}
+
+/// Whether 70,000 entries, cut at random places, answer alike in both.
+fn is_cut_alike<Q: Sequence, R: Sequence>(
+    one: &mut Q,
+    other: &mut R,
+    memory: Q::Memory,
+    more: R::Memory,
+) -> Result<bool, AllocError> {
+    Ok(one.len() == 70_000 && run_long(one, other, 1, memory, more)?)
+}
+
+/// Whether a sequence that is made of the entries of another answers alike.
+fn is_made_alike<Q: Sequence, R: Sequence>(
+    one: &mut Q,
+    alloc: Global,
+    memory: Q::Memory,
+    more: R::Memory,
+) -> Result<bool, AllocError> {
+    let mut made: R = made_of(one, alloc, more)?;
+    run_long(one, &mut made, 2, memory, more)
+}
+
+/// Whether both kinds answer alike of many pages, cut at random places and then laid out in full pages.
+fn are_pages_alike<Q: Sequence, R: Sequence>(
+    alloc: Global,
+    memory: Q::Memory,
+    more: R::Memory,
+) -> Result<bool, AllocError> {
+    let mut cut: R = scattered(more)?;
+    let mut flat: Q = made_of(&cut, alloc, memory)?;
+    if !is_cut_alike(&mut flat, &mut cut, memory, more)? {
+        return Ok(false);
+    }
+    is_made_alike::<Q, R>(&mut flat, alloc, memory, more)
 }
 
 /// Over more than two groups of 64 pages, cut at random places or laid out in full pages.
 #[test]
 fn many_pages_answer_alike(rt: HostRuntime) -> Result<(), Fail> {
-    let mut blocks = Blocks::empty(rt.alloc());
-    scatter(&mut blocks, 70_000)?;
-    let mut flat: Flat<Global> = made_of(&blocks, rt.alloc(), rt.alloc())?;
-    assert_eq!(rt; flat.len(), 70_000);
-    assert!(rt; run_long(&mut flat, &mut blocks, 1)?);
-    assert!(rt; flat.symbols(rt.alloc())? == blocks.symbols(rt.alloc())?);
-    let mut made: Blocks<Global> = made_of(&flat, rt.alloc(), rt.alloc())?;
-    assert!(rt; run_long(&mut flat, &mut made, 2)?);
-    assert!(rt; flat.symbols(rt.alloc())? == made.symbols(rt.alloc())?);
+    assert!(rt;
+        are_pages_alike::<Flat<Global>, Blocks<Global>>(rt.alloc(), rt.alloc(), rt.alloc())?
+    );
     Ok(())
 }
 
@@ -277,17 +353,24 @@ fn falls<Q: Sequence>(sequence: &Q) -> bool {
     sequence.len() == 2_000
 }
 
+/// Whether the latest stands first in both kinds.
+fn fall_alike<Q: Sequence, R: Sequence>(
+    memory: Q::Memory,
+    more: R::Memory,
+    falling: bool,
+) -> Result<bool, AllocError> {
+    let mut one = Q::empty(memory);
+    let mut other = R::empty(more);
+    arrived(&mut one, falling)?;
+    arrived(&mut other, falling)?;
+    Ok(falls(&one) && falls(&other) && are_alike(&one, &other))
+}
+
 /// In whichever order they arrive, the latest stands first.
 #[test]
 fn two_thousand_inserts(rt: HostRuntime) -> Result<(), Fail> {
     for falling in [false, true] {
-        let mut flat = Flat::empty(rt.alloc());
-        let mut blocks = Blocks::empty(rt.alloc());
-        arrived(&mut flat, falling)?;
-        arrived(&mut blocks, falling)?;
-        assert!(rt; falls(&flat));
-        assert!(rt; falls(&blocks));
-        assert!(rt; are_alike(&flat, &blocks));
+        assert!(rt; fall_alike::<Flat<Global>, Blocks<Global>>(rt.alloc(), rt.alloc(), falling)?);
     }
     Ok(())
 }

@@ -1,6 +1,6 @@
 //! What waits in a room, and comes out by stamp.
 
-ghost use Rattle.std.specs.Prelude.{IfOk, All};
+ghost use Rattle.std.specs.Prelude.{◌≡◌, true, IfOk, All};
 ghost use Rattle.desk_ops.specs.Op.{IsLawful};
 ghost use Rattle.desk_room.specs.Waiting.{HasTarget};
 
@@ -105,6 +105,14 @@ fn many_wait(rt: HostRuntime) {
     assert!(rt; room.is_empty());
 }
 
+/// Whether an operation may wait in a room.
+fn may_wait(op: &Op) -> bool
+    ensures lawful { result ≡ true → IsLawful op.now }
+    ensures target { result ≡ true → HasTarget op.now }
+{
+    op.check().is_ok() && op.target().is_some()
+}
+
 /// Operations of these counters that wait for one target.
 fn some_ops<'a>(heap: &'a LocalHeap, counters: [u64; 4]) -> Result<Vec<Op, &'a LocalHeap>, Fail>
     ensures lawful { IfOk result (λ v. All IsLawful v.items) }
@@ -113,7 +121,7 @@ fn some_ops<'a>(heap: &'a LocalHeap, counters: [u64; 4]) -> Result<Vec<Op, &'a L
     let mut ops = Vec::new(heap);
     for counter in counters {
         let op = insert(at(counter, 1), at(1, 1));
-        if op.check().is_ok() && op.target().is_some() {
+        if may_wait(&op) {
             ops.push(op)?;
         }
     }
