@@ -3,8 +3,10 @@
 #![tactic(auto)]
 
 mod fault;
+mod proofing;
 mod punching;
 mod sources;
 
 pub use fault::PreviewFault;
+pub use proofing::proof_feed;
 pub use punching::punch_feed;
