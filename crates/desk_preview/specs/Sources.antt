@@ -1,9 +1,9 @@
 -- What a preview is made of: a stored feed, a case and a wedge.
-use Rattle.std.specs.Prelude.{◌≡◌, ℕ, List, Option, Ok, Err}
+use Rattle.std.specs.Prelude.{ℕ, List, Ok, Err}
 use Rattle.desk_ops.specs.OpSet.{OpSet}
 use Rattle.desk_case.specs.Case.{CaseValues}
 use Rattle.desk_wedge.specs.Wedge.{WedgeValues}
-use Rattle.desk_files.specs.Files.{Shelf, Stays}
+use Rattle.desk_files.specs.Files.{Shelf}
 use Rattle.desk_hand.specs.Exporting.{IsClosedBy, IsSetOf}
 use Rattle.desk_inputs.specs.Inputs.{BothGive}
 use Rattle.desk_preview.specs.declared.fault.PreviewFault.{PreviewFault}
