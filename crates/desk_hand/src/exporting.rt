@@ -16,8 +16,9 @@ use desk_text::write_text;
 use std::alloc::Allocator;
 use std::io::Write;
 
-/// Opens the feed of a file, which must be there, to be read alone.
-fn open_feed<F: Files, A: Allocator + Copy>(
+/// Opens the feed of a file, which must be there, to be read alone: its name is not taken, and no file changes. Nothing is to
+/// be edited in the replica, which has a number of no meaning.
+pub fn open_feed<F: Files, A: Allocator + Copy>(
     alloc: A,
     files: &mut F,
     name: &str,

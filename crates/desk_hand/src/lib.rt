@@ -8,7 +8,7 @@ mod fault;
 mod importing;
 mod merging;
 
-pub use exporting::export_feed;
+pub use exporting::{export_feed, open_feed};
 pub use fault::{FeedTrouble, HandFault};
 pub use importing::{MAX_TEXT, import_text};
-pub use merging::merge_feeds;
+pub use merging::{merge_feeds, write_out};

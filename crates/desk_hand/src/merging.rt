@@ -153,7 +153,7 @@ fn put_faults<A: Allocator + Copy>(
     Ok(out.push_str("\n")?)
 }
 
-/// Writes a text, and lets it out.
+/// Writes a text whole, and lets it out. After an `Err` a prefix of it was written.
 pub fn write_out<W: Write>(writer: &mut W, text: &[u8]) -> Result<(), Unsent>
     ensures ok { OnOk result (Appends (W.contents writer.old) (W.contents writer.new) text.now) }
     ensures err { OnErr result (WritesFront (W.contents writer.old) (W.contents writer.new) text.now) }

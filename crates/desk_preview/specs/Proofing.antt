@@ -1,0 +1,63 @@
+-- The proof of a stored feed, written as text.
+use Rattle.std.specs.Prelude.{◌≡◌, ◌⊎◌, ◌&&◌, ◌==◌, ℕ, Bool, true, false, not, List, [], ◌∷◌, Option, Err, length}
+use Rattle.std.specs.Io.KnownBytes.{Appends}
+use Rattle.desk_ops.specs.OpSet.{OpSet}
+use Rattle.desk_ops.specs.Shown.{copy_of}
+use Rattle.desk_ops.specs.Settings.{setting_of}
+use Rattle.desk_ops.specs.Faults.{faults_of}
+use Rattle.desk_ops.specs.declared.fault.CopyFault.{CopyFault}
+use Rattle.desk_case.specs.Case.{CaseValues}
+use Rattle.desk_wedge.specs.Wedge.{WedgeValues}
+use Rattle.desk_job.specs.declared.JobFault.{JobFault}
+use Rattle.desk_galley.specs.Values.{GalleyValues, LineValues}
+use Rattle.desk_galley.specs.Galley.{IsGalley, is_faulty}
+use Rattle.desk_proof.specs.Proof.{no_galley_text, proof_text}
+use Rattle.desk_proof.specs.declared.proof.Extent.{Extent}
+use Rattle.desk_files.specs.Files.{Shelf}
+use Rattle.desk_stored.specs.Sending.{WritesFront}
+use Rattle.desk_inputs.specs.Job.{job_of}
+use Rattle.desk_preview.specs.Sources.{AreRefused, Give, Sources}
+use Rattle.desk_preview.specs.declared.fault.PreviewFault.{PreviewFault}
+use Rattle.desk_preview.specs.declared.fault.PreviewFault.TheVariants as faults
+
+-- none of the lines has a fault
+abbrev pub are_set : List LineValues → Bool
+are_set [] = true
+are_set (line ∷ lines) = not (is_faulty line) && are_set lines
+
+-- no fault stands at all: every correction is shown, the case lacks no symbol, and each line is set
+abbrev pub is_clean : List CopyFault → GalleyValues → Bool
+is_clean faults galley = (length faults == 0) && ((length galley.lacking == 0) && are_set galley.lines)
+
+-- the proof of a galley of the set, and whether it is clean
+abbrev pub HasProof : OpSet → CaseValues → WedgeValues → Extent → List ℕ → Bool → Type 0
+HasProof set case wedge extent told clean =
+    (galley : GalleyValues) × IsGalley (copy_of set) (setting_of set) case wedge galley
+    × (told ≡ proof_text (copy_of set) (faults_of set) galley extent) × (clean ≡ is_clean (faults_of set) galley)
+
+-- there is no galley, for the one fault that the job has
+abbrev pub HasNoGalley : OpSet → CaseValues → WedgeValues → List ℕ → Bool → Type 0
+HasNoGalley set case wedge told clean =
+    (why : JobFault) × (job_of set case wedge ≡ Err (why ∷ [])) × (told ≡ no_galley_text (faults_of set) why) × (clean ≡ false)
+
+-- what is told of a set by a case and a wedge
+abbrev pub IsTold : OpSet → CaseValues → WedgeValues → Extent → List ℕ → Bool → Type 0
+IsTold set case wedge extent told clean = HasProof set case wedge extent told clean ⊎ HasNoGalley set case wedge told clean
+
+-- what is told of what the sources give
+abbrev pub IsProofOf : Sources → Shelf → Extent → List ℕ → Bool → Type 0
+IsProofOf from shelf extent told clean = (set : OpSet) × (case : CaseValues) × (wedge : WedgeValues) × Give from shelf set case wedge × IsTold set case wedge extent told clean
+
+-- it was written
+abbrev pub IsProofed : Sources → Extent → Shelf → Option (List ℕ) → Option (List ℕ) → Bool → Type 0
+IsProofed from extent shelf before after clean = (told : List ℕ) × IsProofOf from shelf extent told clean × Appends before after told
+
+-- why not all of it was written, and what was: nothing, or under Write a prefix
+abbrev pub IsUnproofed : Sources → Extent → Shelf → Shelf → Option (List ℕ) → Option (List ℕ) → PreviewFault → Type 0
+IsUnproofed from extent first last before after (faults.Feed why) = (after ≡ before) × AreRefused from first last (faults.Feed why)
+IsUnproofed from extent first last before after (faults.Input why) = (after ≡ before) × AreRefused from first last (faults.Input why)
+IsUnproofed from extent first last before after faults.Faulty = ⊥
+IsUnproofed from extent first last before after faults.Write =
+    (told : List ℕ) × (clean : Bool) × IsProofOf from first extent told clean × WritesFront before after told
+IsUnproofed from extent first last before after (faults.Unstored why) = ⊥
+IsUnproofed from extent first last before after faults.NoMemory = after ≡ before

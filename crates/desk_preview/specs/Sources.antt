@@ -1,0 +1,32 @@
+-- What a preview is made of: a stored feed, a case and a wedge.
+use Rattle.std.specs.Prelude.{ℕ, List, Ok, Err}
+use Rattle.desk_ops.specs.OpSet.{OpSet}
+use Rattle.desk_case.specs.Case.{CaseValues}
+use Rattle.desk_wedge.specs.Wedge.{WedgeValues}
+use Rattle.desk_files.specs.Files.{Shelf}
+use Rattle.desk_hand.specs.Exporting.{IsClosedBy, IsSetOf}
+use Rattle.desk_inputs.specs.Inputs.{BothGive}
+use Rattle.desk_preview.specs.declared.fault.PreviewFault.{PreviewFault}
+use Rattle.desk_preview.specs.declared.fault.PreviewFault.TheVariants as faults
+
+-- the names of a stored feed, of a case file and of a wedge file
+pub record Sources : Type 0 where
+  pub feed : List ℕ
+  pub case : List ℕ
+  pub wedge : List ℕ
+
+abbrev pub sources : (feed case wedge : List ℕ) → Sources
+sources feed case wedge = record { feed = feed; case = case; wedge = wedge }
+
+-- the feed's name stands for this set, and the two files give this case and this wedge
+abbrev pub Give : Sources → Shelf → OpSet → CaseValues → WedgeValues → Type 0
+Give from shelf set case wedge = IsSetOf from.feed shelf set × BothGive from.case from.wedge shelf (Ok (case, wedge)) shelf
+
+-- why they give nothing: the feed is not opened, or it is, and then the case or the wedge is refused; or memory ran out
+abbrev pub AreRefused : Sources → Shelf → Shelf → PreviewFault → Type 0
+AreRefused from before after (faults.Feed why) = IsClosedBy from.feed before after why
+AreRefused from before after (faults.Input why) = (set : OpSet) × IsSetOf from.feed before set × BothGive from.case from.wedge before (Err why) after
+AreRefused from before after faults.Faulty = ⊥
+AreRefused from before after faults.Write = ⊥
+AreRefused from before after (faults.Unstored why) = ⊥
+AreRefused from before after faults.NoMemory = Unit {0}
