@@ -6,7 +6,8 @@ ghost use Rattle.clap.specs.declared.builder.command.Command.TheViews.{out-Comma
 ghost use Rattle.desk_words.specs.Words.{copydesk, desk_app, export_app, feed_rule, file_rule, flag_rule, import_app, merge_app, others_rule, proof_app, punch_app, site_rule, sources_app, target_rule};
 
 use crate::help::{
-    COMMANDS, ON_A_FEED, ON_EXPORT, ON_IMPORT, ON_MERGE, ON_PROOF, ON_PUNCH, ON_SUBCOMMANDS, VERSION,
+    COMMANDS, ON_A_FEED, ON_EXPORT, ON_IMPORT, ON_MERGE, ON_PROOF, ON_PUNCH, ON_SUBCOMMANDS,
+    VERSION,
 };
 use clap::{Arg, ArgAction, Command, value_parser};
 use std::alloc::{AllocError, Global};
