@@ -1,6 +1,6 @@
 //! A stored feed seen before it is cast: its galley as text, and its ribbon in a file.
 
-ghost use Rattle.std.specs.Prelude.{◌≡◌, MatchResult, false, true};
+ghost use Rattle.std.specs.Prelude.{◌≡◌, ◌≤◌, MatchResult, false, true};
 ghost use Rattle.copydesk.specs.Previews.{IsInFile, IsInNoFile, IsSeen, IsUnseen, extent_of};
 
 use crate::telling::explain_feed;
