@@ -10,18 +10,18 @@ pub returns-clause-done : goal.returns-clause-done
 returns-clause-done g c zero = (
   c.proof_feed-outcome.ensures.stays,
   yes_of c.proof_feed-outcome.result (λ clean. IsProofed (sources c.args.from.now.feed.now c.args.from.now.case.now c.args.from.now.wedge.now) (extent_of c.args.alone) (g.F.Files.shelf c.args.files.now) (g.W.Write.contents c.args.writer.now) (g.W.Write.contents c.proof_feed-outcome.new.writer) clean)
-  c.proof_status.result c.proof_status.ensures
-  (subst (λ e. IfOk c.proof_feed-outcome.result (λ clean. IsProofed (sources c.args.from.now.feed.now c.args.from.now.case.now c.args.from.now.wedge.now) e (g.F.Files.shelf c.args.files.now) (g.W.Write.contents c.args.writer.now) (g.W.Write.contents c.proof_feed-outcome.new.writer) clean)) c.extent_of.ensures c.proof_feed-outcome.ensures.ok)
-  zero,
+      c.proof_status.result c.proof_status.ensures
+      (subst (λ e. IfOk c.proof_feed-outcome.result (λ clean. IsProofed (sources c.args.from.now.feed.now c.args.from.now.case.now c.args.from.now.wedge.now) e (g.F.Files.shelf c.args.files.now) (g.W.Write.contents c.args.writer.now) (g.W.Write.contents c.proof_feed-outcome.new.writer) clean)) c.extent_of.ensures c.proof_feed-outcome.ensures.ok)
+      zero,
 )
 
 pub returns-clause-stopped : goal.returns-clause-stopped
 returns-clause-stopped g c one = elim (no_of c.proof_feed-outcome.result (λ clean. IsProofed (sources c.args.from.now.feed.now c.args.from.now.case.now c.args.from.now.wedge.now) (extent_of c.args.alone) (g.F.Files.shelf c.args.files.now) (g.W.Write.contents c.args.writer.now) (g.W.Write.contents c.proof_feed-outcome.new.writer) clean)
-  (λ why. IsUnproofed (sources c.args.from.now.feed.now c.args.from.now.case.now c.args.from.now.wedge.now) (extent_of c.args.alone) (g.F.Files.shelf c.args.files.now) (g.F.Files.shelf c.proof_feed-outcome.new.files) (g.W.Write.contents c.args.writer.now) (g.W.Write.contents c.proof_feed-outcome.new.writer) why)
-  c.proof_status.result c.proof_status.ensures
-  (subst (λ e. IfOk c.proof_feed-outcome.result (λ clean. IsProofed (sources c.args.from.now.feed.now c.args.from.now.case.now c.args.from.now.wedge.now) e (g.F.Files.shelf c.args.files.now) (g.W.Write.contents c.args.writer.now) (g.W.Write.contents c.proof_feed-outcome.new.writer) clean)) c.extent_of.ensures c.proof_feed-outcome.ensures.ok)
-  (subst (λ e. IfErr c.proof_feed-outcome.result (λ why. IsUnproofed (sources c.args.from.now.feed.now c.args.from.now.case.now c.args.from.now.wedge.now) e (g.F.Files.shelf c.args.files.now) (g.F.Files.shelf c.proof_feed-outcome.new.files) (g.W.Write.contents c.args.writer.now) (g.W.Write.contents c.proof_feed-outcome.new.writer) why)) c.extent_of.ensures c.proof_feed-outcome.ensures.err)
-  one) [
-  inl shown ↦ inl (c.proof_feed-outcome.ensures.stays, shown)
-  | inr unshown ↦ inr (c.proof_feed-outcome.ensures.stays, unshown.0, unshown.1)
-]
+    (λ why. IsUnproofed (sources c.args.from.now.feed.now c.args.from.now.case.now c.args.from.now.wedge.now) (extent_of c.args.alone) (g.F.Files.shelf c.args.files.now) (g.F.Files.shelf c.proof_feed-outcome.new.files) (g.W.Write.contents c.args.writer.now) (g.W.Write.contents c.proof_feed-outcome.new.writer) why)
+    c.proof_status.result c.proof_status.ensures
+    (subst (λ e. IfOk c.proof_feed-outcome.result (λ clean. IsProofed (sources c.args.from.now.feed.now c.args.from.now.case.now c.args.from.now.wedge.now) e (g.F.Files.shelf c.args.files.now) (g.W.Write.contents c.args.writer.now) (g.W.Write.contents c.proof_feed-outcome.new.writer) clean)) c.extent_of.ensures c.proof_feed-outcome.ensures.ok)
+    (subst (λ e. IfErr c.proof_feed-outcome.result (λ why. IsUnproofed (sources c.args.from.now.feed.now c.args.from.now.case.now c.args.from.now.wedge.now) e (g.F.Files.shelf c.args.files.now) (g.F.Files.shelf c.proof_feed-outcome.new.files) (g.W.Write.contents c.args.writer.now) (g.W.Write.contents c.proof_feed-outcome.new.writer) why)) c.extent_of.ensures c.proof_feed-outcome.ensures.err)
+    one) [
+      | inl shown ↦ inl (c.proof_feed-outcome.ensures.stays, shown)
+      | inr unshown ↦ inr (c.proof_feed-outcome.ensures.stays, unshown.0, unshown.1)
+    ]
