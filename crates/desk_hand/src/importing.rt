@@ -103,7 +103,7 @@ fn edited_line<A: Allocator + Copy>(alloc: A, tally: Tally) -> Result<String<A>,
 }
 
 /// Writes the line, and stores the feed of a replica.
-fn tell_and_keep<W: Write, F: Files, A: Allocator + Copy>(
+pub fn tell_and_keep<W: Write, F: Files, A: Allocator + Copy>(
     alloc: A,
     replica: &Replica<Blocks<A>>,
     tally: Tally,

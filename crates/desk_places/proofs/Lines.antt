@@ -1,0 +1,16 @@
+-- What is told of several places.
+use Rattle.std.proofs.Common.{◌≡◌, ℕ, ◌-◌, false, List, [], ◌∷◌, ◌++◌, length, take, min, sym, ap, ap₂, ◌∙◌}
+use Rattle.std.specs.Prelude.{◌==◌}
+use Rattle.std.proofs.lemmas.Bool.{true≢false}
+use Rattle.std.proofs.lemmas.List.{take_min}
+use Rattle.desk_ops.specs.declared.op.Symbol.{Symbol}
+use Rattle.desk_places.specs.Telling.{more_line, place_lines, told_places}
+
+-- the lines of the first, and how many more there are
+pub told_some : (count : ℕ) (copy : List Symbol) (places none lines told : List ℕ) (first more : ℕ)
+    → false ≡ (length places == 0) → first ≡ min 100 (length places) → more ≡ length places - 100 → none ≡ [] → lines ≡ none ++ place_lines count copy (take first places) → told ≡ lines ++ more_line more
+    → told ≡ told_places count copy places
+told_some count copy [] none lines told first more some is rest empty all is_told = absurd (true≢false (sym some))
+told_some count copy (place ∷ places) none lines told first more some is rest empty all is_told =
+    let begin : take first (place ∷ places) ≡ take 100 (place ∷ places) = ap (λ k. take k (place ∷ places)) is ∙ take_min 100 (place ∷ places) in
+    is_told ∙ ap₂ (λ l m. l ++ more_line m) (all ∙ ap₂ (λ l k. l ++ place_lines count copy k) empty begin) rest

@@ -1,0 +1,3 @@
+pub mod Places
+pub mod Telling
+pub mod Laws

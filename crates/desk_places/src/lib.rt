@@ -1,0 +1,10 @@
+//! The places of a copy at which a text stands, found and told.
+#![tactic(auto)]
+
+mod laws;
+mod search;
+mod telling;
+
+pub use laws::law_of_places;
+pub use search::places_of;
+pub use telling::told_places;

@@ -1,0 +1,11 @@
+//! A text in the copy of a stored feed, made another at the one place where it stands.
+#![tactic(auto)]
+
+mod fault;
+mod replacing;
+mod telling;
+mod texts;
+
+pub use fault::ReplaceFault;
+pub use replacing::replace_text;
+pub use texts::Exchange;

@@ -1,0 +1,119 @@
+//! A text in the copy of a stored feed, made another.
+
+ghost use Rattle.std.specs.Prelude.{◌≡◌, ◌≤◌, ◌+◌, ◌⊎◌, length, IfErr, IfOk, OnOk};
+ghost use Rattle.desk_files.specs.Files.{IsHeldAlone, Stays};
+ghost use Rattle.desk_hand.specs.Editing.{IsRevised, IsUnrevised};
+ghost use Rattle.desk_replace.specs.Replacing.{IsReplaced, IsUnreplaced, Replaces, ReplacesNothing, replaced};
+
+use crate::fault::ReplaceFault;
+use crate::telling::only_place;
+use crate::texts::{Exchange, read_both};
+use desk_blocks::Blocks;
+use desk_files::Files;
+use desk_hand::{HandFault, Tally, revise, take_feed, tell_and_keep};
+use desk_memory::NoMemory;
+use desk_ops::Symbol;
+use desk_replica::Replica;
+use std::alloc::Allocator;
+use std::io::Write;
+
+/// A copy with a text in place of so many symbols from a place on.
+fn replaced<A: Allocator + Copy>(
+    alloc: A,
+    copy: &[Symbol],
+    place: usize,
+    count: usize,
+    new: &[Symbol],
+) -> Result<Vec<Symbol, A>, NoMemory>
+    requires { place + count ≤ length copy.now }
+    ensures { IfOk result (λ v. v.items ≡ replaced place count new.now copy.now) }
+{
+    let mut text = Vec::new(alloc);
+    text.extend_from_slice(&copy[..place])?;
+    text.extend_from_slice(new)?;
+    text.extend_from_slice(&copy[place + count..])?;
+    Ok(text)
+}
+
+/// Makes the copy of a replica that with a text in place of so many symbols from a place on.
+fn put_at<A: Allocator + Copy>(
+    alloc: A,
+    replica: &mut Replica<Blocks<A>>,
+    copy: &[Symbol],
+    place: usize,
+    count: usize,
+    new: &[Symbol],
+) -> Result<Tally, HandFault>
+    requires { place + count ≤ length copy.now }
+    ensures ok { IfOk result (λ t. IsRevised replica.old.site replica.old.ops replica.new.ops (replaced place count new.now copy.now) t.inserted t.deleted) }
+    ensures err { IfErr result (IsUnrevised replica.old.site replica.old.ops (replaced place count new.now copy.now)) }
+{
+    let text = replaced(alloc, copy, place, count, new)?;
+    revise(alloc, replica, &text)
+}
+
+/// Makes a text another at the one place of the copy of a replica at which it stands. Where there is none, or more than
+/// one, they are told.
+fn put_in<W: Write, A: Allocator + Copy>(
+    alloc: A,
+    replica: &mut Replica<Blocks<A>>,
+    writer: &mut W,
+    old: &[Symbol],
+    new: &[Symbol],
+) -> Result<Tally, ReplaceFault>
+    ensures ok { IfOk result (λ t. Replaces replica.old.site old.now new.now replica.old.ops replica.new.ops t.inserted t.deleted) }
+    ensures silent { OnOk result (writer.new ≡ writer.old) }
+    ensures err { IfErr result (ReplacesNothing replica.old.site old.now new.now replica.old.ops (W.contents writer.old) (W.contents writer.new)) }
+{
+    let copy = match replica.copy() {
+        Ok(copy) => copy,
+        Err(_) => return Err(ReplaceFault::Hand(HandFault::NoMemory)),
+    };
+    let place = match only_place(alloc, writer, old, &copy) {
+        Ok(place) => place,
+        Err(why) => return Err(why),
+    };
+    match put_at(alloc, replica, &copy, place, old.len(), new) {
+        Ok(tally) => Ok(tally),
+        Err(why) => Err(ReplaceFault::Hand(why)),
+    }
+}
+
+/// Makes a text another in the copy of a stored feed, at the one place where it stands, by few inserts and deletes of the
+/// site; no other operation is made, and nothing that the feed held is lost. Both texts are read as `desk_text` reads them,
+/// with marks for their styles or plain, before anything is begun; `Old` and `New` tell the first fault of one. The name of
+/// the feed is then taken, for this run alone; a missing one holds nothing. The line `ok inserted 4 deleted 4` is written,
+/// and the feed is stored, unless the file has these bytes. Where the text stands at no place the line `no place` is
+/// written, and where it stands at several a line for each of the first 100, as `place 17: by noon`; then nothing is
+/// stored. Places that overlap count each, and an empty text stands at each place. Until the line is written no file has
+/// changed, and where the feed is not stored none but `name.new`.
+pub fn replace_text<W: Write, F: Files, A: Allocator + Copy>(
+    alloc: A,
+    writer: &mut W,
+    files: &mut F,
+    name: &str,
+    site: u16,
+    exchange: &Exchange<'_>,
+) -> Result<(), ReplaceFault>
+    requires { 1 ≤ site }
+    ensures ok { OnOk result (IsReplaced name.now site exchange.now (F.shelf files.old) (F.shelf files.new) (W.contents writer.old) (W.contents writer.new)) }
+    ensures err { IfErr result (IsUnreplaced name.now site exchange.now (F.shelf files.old) (F.shelf files.new) (W.contents writer.old) (W.contents writer.new)) }
+    ensures held { IsHeldAlone name.now (F.shelf files.old) (F.shelf files.new) ⊎ ((writer.new ≡ writer.old) × Stays (F.shelf files.old) (F.shelf files.new)) }
+{
+    let (old, new) = match read_both(alloc, exchange) {
+        Ok(texts) => texts,
+        Err(why) => return Err(why),
+    };
+    let (stored, mut replica) = match take_feed(alloc, files, name, site) {
+        Ok(taken) => taken,
+        Err(why) => return Err(ReplaceFault::Hand(why)),
+    };
+    let tally = match put_in(alloc, &mut replica, writer, &old, &new) {
+        Ok(tally) => tally,
+        Err(why) => return Err(why),
+    };
+    match tell_and_keep(alloc, &replica, tally, writer, files, name, &stored) {
+        Ok(()) => Ok(()),
+        Err(why) => Err(ReplaceFault::Hand(why)),
+    }
+}

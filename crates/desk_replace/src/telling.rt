@@ -1,0 +1,59 @@
+//! The one place of a text, or what is told where there is none or more than one.
+
+ghost use Rattle.std.specs.Prelude.{◌≡◌, ◌≢◌, ◌∷◌, [], length, IfErr, IfOk, OnOk};
+ghost use Rattle.desk_places.specs.Places.{places_of};
+ghost use Rattle.desk_replace.specs.Telling.{IsTold};
+
+use crate::fault::ReplaceFault;
+use desk_hand::{HandFault, write_out};
+use desk_ops::Symbol;
+use desk_places::{places_of, told_places};
+use std::alloc::Allocator;
+use std::io::Write;
+
+/// Tells the places of a text, which are not exactly one.
+fn tell<W: Write, A: Allocator + Copy>(
+    alloc: A,
+    writer: &mut W,
+    old: &[Symbol],
+    copy: &[Symbol],
+    places: &[usize],
+) -> ReplaceFault
+    requires all { places.now ≡ places_of old.now copy.now }
+    requires several { length places.now ≢ 1 }
+    ensures { IsTold old.now copy.now (W.contents writer.old) (W.contents writer.new) result }
+{
+    let text = match told_places(alloc, old.len(), copy, places) {
+        Ok(text) => text,
+        Err(_) => return ReplaceFault::Hand(HandFault::NoMemory),
+    };
+    if write_out(writer, &text).is_err() {
+        return ReplaceFault::Hand(HandFault::Write);
+    }
+    if places.is_empty() {
+        ReplaceFault::NoPlace
+    } else {
+        ReplaceFault::ManyPlaces(places.len())
+    }
+}
+
+/// The one place of a copy at which a text stands. Where there is none, or more than one, they are told.
+pub fn only_place<W: Write, A: Allocator + Copy>(
+    alloc: A,
+    writer: &mut W,
+    old: &[Symbol],
+    copy: &[Symbol],
+) -> Result<usize, ReplaceFault>
+    ensures ok { IfOk result (λ p. places_of old.now copy.now ≡ p ∷ []) }
+    ensures silent { OnOk result (writer.new ≡ writer.old) }
+    ensures err { IfErr result (IsTold old.now copy.now (W.contents writer.old) (W.contents writer.new)) }
+{
+    let places = match places_of(alloc, old, copy) {
+        Ok(places) => places,
+        Err(_) => return Err(ReplaceFault::Hand(HandFault::NoMemory)),
+    };
+    if places.len() == 1 {
+        return Ok(places[0]);
+    }
+    Err(tell(alloc, writer, old, copy, &places))
+}

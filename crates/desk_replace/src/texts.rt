@@ -1,0 +1,39 @@
+//! The text that is to be replaced, and the one that is to take its place.
+
+ghost use Rattle.std.specs.Prelude.{IfErr, IfOk};
+ghost use Rattle.desk_replace.specs.Replacing.{AreRead, AreUnread};
+
+use crate::fault::ReplaceFault;
+use desk_hand::HandFault;
+use desk_ops::Symbol;
+use desk_text::{TextFault, read_text};
+use std::alloc::Allocator;
+
+/// A text that is to be replaced, and one that is to take its place. Both have marks for their styles, as `desk_text`
+/// reads them, or both are plain.
+#[derive(Clone, Copy)]
+pub struct Exchange<'a> {
+    pub from: &'a str,
+    pub to: &'a str,
+    pub plain: bool,
+}
+
+/// The symbols of both.
+pub fn read_both<A: Allocator + Copy>(
+    alloc: A,
+    exchange: &Exchange<'_>,
+) -> Result<(Vec<Symbol, A>, Vec<Symbol, A>), ReplaceFault>
+    ensures ok { IfOk result (λ t. AreRead exchange.now t.0.items t.1.items) }
+    ensures err { IfErr result (AreUnread exchange.now) }
+{
+    let old = match read_text(alloc, exchange.from.as_bytes(), exchange.plain) {
+        Ok(old) => old,
+        Err(TextFault::NoMemory) => return Err(ReplaceFault::Hand(HandFault::NoMemory)),
+        Err(why) => return Err(ReplaceFault::Old(why)),
+    };
+    match read_text(alloc, exchange.to.as_bytes(), exchange.plain) {
+        Ok(new) => Ok((old, new)),
+        Err(TextFault::NoMemory) => Err(ReplaceFault::Hand(HandFault::NoMemory)),
+        Err(why) => Err(ReplaceFault::New(why)),
+    }
+}
