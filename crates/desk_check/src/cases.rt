@@ -1,0 +1,141 @@
+//! What is said of the bytes of a case file.
+
+ghost use Rattle.std.specs.Prelude.{◌≡◌, ◌++◌, IfOk, OnOk, Ok, string_bytes};
+ghost use Rattle.desk_case.specs.Names.{column_name};
+ghost use Rattle.desk_check.specs.Lines.{SaysCase};
+ghost use Rattle.desk_check.specs.Words.{case_fault_words, case_words, cell_words, sorts, style_words, symbol_words};
+
+use crate::told::Told;
+use desk_case::names::cell_of_place;
+use desk_case::{COLUMNS, CaseFault, MatrixCase, ROWS};
+use desk_memory::NoMemory;
+use desk_ops::{Style, Symbol};
+use desk_signals::{Cell, Column};
+use std::alloc::{AllocError, Allocator, Global};
+
+fn column_name(column: Column) -> &'static str
+    ensures { result.now ≡ column_name column }
+{
+    match column {
+        Column::A => "A",
+        Column::B => "B",
+        Column::C => "C",
+        Column::D => "D",
+        Column::E => "E",
+        Column::F => "F",
+        Column::G => "G",
+        Column::H => "H",
+        Column::I => "I",
+        Column::J => "J",
+        Column::K => "K",
+        Column::L => "L",
+        Column::M => "M",
+        Column::N => "N",
+        Column::O => "O",
+        Column::NI => "NI",
+        Column::NL => "NL",
+    }
+}
+
+/// Writes a cell's name.
+fn put_cell<A: Allocator + Copy>(out: &mut String<A>, cell: Cell) -> Result<(), AllocError>
+    ensures { OnOk result (string_bytes out.new ≡ string_bytes out.old ++ cell_words cell) }
+{
+    write!(out, "{}{}", column_name(cell.column), cell.row.get())
+}
+
+fn style_words(style: Style) -> &'static str
+    ensures { result.now ≡ style_words style }
+{
+    match style {
+        Style::Roman => "roman ",
+        Style::Italic => "italic ",
+        Style::SmallCap => "small capital ",
+    }
+}
+
+/// Writes a symbol by its style and its character.
+fn put_symbol<A: Allocator + Copy>(out: &mut String<A>, symbol: Symbol) -> Result<(), AllocError>
+    ensures { OnOk result (string_bytes out.new ≡ string_bytes out.old ++ symbol_words symbol) }
+{
+    out.push_str(style_words(symbol.style))?;
+    out.push(symbol.ch)
+}
+
+/// How many cells of a case hold a symbol.
+fn sorts(case: &MatrixCase) -> usize
+    ensures { result ≡ sorts (case.now).grid }
+{
+    let _lawful = case.fill();
+    let mut count: usize = 0;
+    for place in 0..ROWS * COLUMNS {
+        if case.symbol_at(cell_of_place(place)).is_some() {
+            count += 1;
+        }
+    }
+    count
+}
+
+/// Writes what a case is.
+fn put_case<A: Allocator + Copy>(out: &mut String<A>, case: &MatrixCase) -> Result<(), AllocError>
+    ensures { OnOk result (string_bytes out.new ≡ string_bytes out.old ++ case_words (Ok case.now)) }
+{
+    write!(out, "ok: case {}, {} sorts", case.number(), sorts(case))
+}
+
+/// Writes the first fault of a case file, with its key, its cell or its symbol.
+fn put_case_fault<A: Allocator + Copy>(
+    out: &mut String<A>,
+    fault: CaseFault,
+) -> Result<(), AllocError>
+    ensures { OnOk result (string_bytes out.new ≡ string_bytes out.old ++ case_fault_words fault) }
+{
+    match fault {
+        CaseFault::NotToml => out.push_str("it is not TOML"),
+        CaseFault::Missing(key) => write!(out, "`{}` is missing", key.name()),
+        CaseFault::Shape(key) => write!(
+            out,
+            "`{}` is of another type, number, length or name",
+            key.name()
+        ),
+        CaseFault::BadText(cell) => {
+            out.push_str("the text of cell ")?;
+            put_cell(out, cell)?;
+            out.push_str(" is no symbol")
+        }
+        CaseFault::Doubled(symbol) => {
+            put_symbol(out, symbol)?;
+            out.push_str(" stands in two cells")
+        }
+        CaseFault::NotBlank(cell) => {
+            out.push_str("cell ")?;
+            put_cell(out, cell)?;
+            out.push_str(", the space or a fill, holds a symbol")
+        }
+        CaseFault::FillOrder => out.push_str("the units of the fills do not descend"),
+        CaseFault::NoMemory => out.push_str("no memory"),
+    }
+}
+
+/// What is said of a case file: what it gives, or its first fault.
+pub fn case_told<A: Allocator + Copy>(
+    alloc: A,
+    global: Global,
+    bytes: &[u8],
+) -> Result<Told<A>, NoMemory>
+    ensures { IfOk result (λ t. SaysCase bytes.now (string_bytes t.text) t.well) }
+{
+    let mut text = String::new(alloc);
+    match MatrixCase::read(global, bytes) {
+        Ok(case) => {
+            put_case(&mut text, &case)?;
+            Ok(Told { text, well: true })
+        }
+        Err(CaseFault::NoMemory) => Err(NoMemory),
+        Err(fault) => {
+            text.push_str("case refused: ")?;
+            put_case_fault(&mut text, fault)?;
+            Ok(Told { text, well: false })
+        }
+    }
+}

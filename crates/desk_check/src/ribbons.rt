@@ -1,0 +1,71 @@
+//! What is said of the bytes of a ribbon.
+
+ghost use Rattle.std.specs.Prelude.{◌≡◌, ◌++◌, IfOk, OnOk, string_bytes};
+ghost use Rattle.desk_check.specs.Lines.{SaysRibbon};
+ghost use Rattle.desk_check.specs.Words.{image_words, ribbon_fault_words, row_words};
+
+use crate::told::Told;
+use desk_caster::{RibbonFault, read_ribbon};
+use desk_image::BadImage;
+use desk_memory::NoMemory;
+use desk_signals::BadRow;
+use std::alloc::{AllocError, Allocator};
+
+fn row_words(why: BadRow) -> &'static str
+    ensures { result.now ≡ row_words why }
+{
+    match why {
+        BadRow::TwoLetters => "two letters",
+        BadRow::TwoNumbers => "two numbers",
+        BadRow::FineAlone => "0005 without 0075",
+        BadRow::WedgeWithLetter => "0075 with a letter",
+        BadRow::WedgeWithS => "0075 with S",
+        BadRow::Repeated => "a signal stands twice",
+    }
+}
+
+fn image_words(why: BadImage) -> &'static str
+    ensures { result.now ≡ image_words why }
+{
+    match why {
+        BadImage::HighBit => "bit 31 is set",
+        BadImage::Row(why) => row_words(why),
+    }
+}
+
+/// Writes the first fault of a ribbon, with the place of its row.
+fn put_ribbon_fault<A: Allocator + Copy>(
+    out: &mut String<A>,
+    fault: RibbonFault,
+) -> Result<(), AllocError>
+    ensures { OnOk result (string_bytes out.new ≡ string_bytes out.old ++ ribbon_fault_words fault) }
+{
+    match fault {
+        RibbonFault::Magic => out.push_str("no ribbon begins so"),
+        RibbonFault::Count => out.push_str("it has not as many rows as it says"),
+        RibbonFault::Row(place, why) => {
+            write!(out, "row {place}: ")?;
+            out.push_str(image_words(why))
+        }
+        RibbonFault::NoMemory => out.push_str("no memory"),
+    }
+}
+
+/// What is said of a ribbon: how many rows it has, or its first fault.
+pub fn ribbon_told<A: Allocator + Copy>(alloc: A, bytes: &[u8]) -> Result<Told<A>, NoMemory>
+    ensures { IfOk result (λ t. SaysRibbon bytes.now (string_bytes t.text) t.well) }
+{
+    let mut text = String::new(alloc);
+    match read_ribbon(alloc, bytes) {
+        Ok(rows) => {
+            write!(&mut text, "ok: {} rows", rows.len())?;
+            Ok(Told { text, well: true })
+        }
+        Err(RibbonFault::NoMemory) => Err(NoMemory),
+        Err(fault) => {
+            text.push_str("ribbon refused: ")?;
+            put_ribbon_fault(&mut text, fault)?;
+            Ok(Told { text, well: false })
+        }
+    }
+}
