@@ -10,12 +10,8 @@ use Rattle.desk_caster.specs.Reading.{IsRibbon}
 use Rattle.desk_caster.specs.Reading as castings
 use Rattle.desk_caster.specs.declared.RibbonFault.{RibbonFault}
 use Rattle.desk_caster.specs.declared.RibbonFault.TheVariants as ribbons
-use Rattle.desk_case.specs.Case.{CaseValues}
 use Rattle.desk_case.specs.File.{case_of}
-use Rattle.desk_case.specs.declared.CaseFault.{CaseFault}
-use Rattle.desk_wedge.specs.Wedge.{WedgeValues}
 use Rattle.desk_wedge.specs.File.{wedge_of}
-use Rattle.desk_wedge.specs.declared.WedgeFault.{WedgeFault}
 use Rattle.desk_check.specs.declared.kinds.Kind.{Kind}
 use Rattle.desk_check.specs.declared.kinds.Kind.TheVariants as kinds
 use Rattle.desk_check.specs.Kinds.{kind_of}

@@ -1,8 +1,7 @@
 -- What is said of a file, without its name.
-use Rattle.std.specs.Prelude.{ℕ, ◌+◌, ◌*◌, ◌/◌, ◌%◌, ◌==◌, if◌then◌else◌, List, [], ◌∷◌, ◌++◌, length, codes, Option, Some, None, Result, Ok, Err}
+use Rattle.std.specs.Prelude.{ℕ, ◌/◌, ◌%◌, ◌==◌, if◌then◌else◌, List, [], ◌++◌, length, codes, Result, Ok, Err}
 use Rattle.std.specs.Char.{encode_utf8}
 use Rattle.std.specs.Fmt.{decimal}
-use Rattle.toml.specs.Data.{Data, Items, no_items, item, Members, as_array, get_member}
 use Rattle.desk_ops.specs.declared.op.Style.{Style}
 use Rattle.desk_ops.specs.declared.op.Style.TheVariants as styles
 use Rattle.desk_ops.specs.declared.op.Symbol.{Symbol}
@@ -33,6 +32,7 @@ use Rattle.desk_case.specs.Case.{CaseValues}
 use Rattle.desk_case.specs.Names.{column_name}
 use Rattle.desk_case.specs.declared.CaseFault.{CaseFault}
 use Rattle.desk_case.specs.declared.CaseFault.TheVariants as cases
+use Rattle.desk_check.specs.Sorts.{sorts}
 use Rattle.desk_answers.specs.Reply.{Faults}
 use Rattle.desk_answers.specs.Text.{text}
 use Rattle.desk_files.specs.declared.files.FileRefusal.{FileRefusal}
@@ -45,9 +45,14 @@ pub data NoSet : Type 0 where
   Wrong : FeedFault → NoSet
   Crowded : NoSet
 
+abbrev pub operations_words : ℕ → List ℕ
+operations_words count = codes "ok: " ++ decimal count ++ codes " operations, "
+
+abbrev pub shown_words : ℕ → List ℕ
+shown_words count = decimal count ++ codes " symbols shown, "
+
 abbrev pub set_words : OpSet → List ℕ
-set_words set =
-    codes "ok: " ++ decimal (size set) ++ codes " operations, " ++ decimal (length (copy_of set)) ++ codes " symbols shown, " ++ text (Faults (faults_of set))
+set_words set = operations_words (size set) ++ shown_words (length (copy_of set)) ++ text (Faults (faults_of set))
 
 abbrev pub cause_words : Unlawful → List ℕ
 cause_words causes.Counter = codes "the counter is out of range"
@@ -67,10 +72,13 @@ why_words whys.Run = codes "no run has so many"
 abbrev pub feed_fault_words : FeedFault → List ℕ
 feed_fault_words fault = codes "feed refused: byte " ++ decimal fault.at ++ codes ": " ++ why_words fault.why
 
+abbrev pub crowded_words : List ℕ
+crowded_words = codes "feed refused: more than 1048576 operations"
+
 abbrev pub feed_words : Result OpSet NoSet → List ℕ
 feed_words (Ok set) = set_words set
 feed_words (Err (Wrong fault)) = feed_fault_words fault
-feed_words (Err Crowded) = codes "feed refused: more than 1048576 operations"
+feed_words (Err Crowded) = crowded_words
 
 -- ---- ribbons
 
@@ -106,9 +114,16 @@ abbrev pub pica_word : Pica → List ℕ
 pica_word picas.Sixth = codes "sixth"
 pica_word picas.American = codes "american"
 
+-- quarter points in points
+abbrev pub points_words : ℕ → List ℕ
+points_words q = decimal (q / 4) ++ quarter_words (q % 4)
+
+abbrev pub count_words : ℕ → List ℕ
+count_words q = codes " (" ++ decimal q ++ codes " quarter points)"
+
 -- a set in points and in quarter points
 abbrev pub set_q_words : ℕ → List ℕ
-set_q_words q = decimal (q / 4) ++ quarter_words (q % 4) ++ codes " (" ++ decimal q ++ codes " quarter points)"
+set_q_words q = points_words q ++ count_words q
 
 abbrev pub wedge_fault_words : WedgeFault → List ℕ
 wedge_fault_words wedges.NotToml = codes "it is not TOML"
@@ -123,12 +138,6 @@ wedge_words (Err fault) = codes "wedge refused: " ++ wedge_fault_words fault
 
 -- ---- cases
 
--- how many cells of a grid hold a symbol
-abbrev pub sorts : List (Option Symbol) → ℕ
-sorts [] = 0
-sorts (None ∷ grid) = sorts grid
-sorts (Some symbol ∷ grid) = 1 + sorts grid
-
 abbrev pub cell_words : Cell → List ℕ
 cell_words cell = column_name cell.column ++ decimal cell.row
 
@@ -140,13 +149,16 @@ style_words styles.SmallCap = codes "small capital "
 abbrev pub symbol_words : Symbol → List ℕ
 symbol_words symbol = style_words symbol.style ++ encode_utf8 symbol.ch
 
+abbrev pub cell_fault_words : Cell → List ℕ → List ℕ
+cell_fault_words cell what = codes "cell " ++ cell_words cell ++ what
+
 abbrev pub case_fault_words : CaseFault → List ℕ
 case_fault_words cases.NotToml = codes "it is not TOML"
 case_fault_words (cases.Missing key) = codes "`" ++ case_files.key_name key ++ codes "` is missing"
 case_fault_words (cases.Shape key) = codes "`" ++ case_files.key_name key ++ codes "` is of another type, number, length or name"
-case_fault_words (cases.BadText cell) = codes "the text of cell " ++ cell_words cell ++ codes " is no symbol"
+case_fault_words (cases.BadText cell) = cell_fault_words cell (codes " has a text that is no symbol")
 case_fault_words (cases.Doubled symbol) = symbol_words symbol ++ codes " stands in two cells"
-case_fault_words (cases.NotBlank cell) = codes "cell " ++ cell_words cell ++ codes ", the space or a fill, holds a symbol"
+case_fault_words (cases.NotBlank cell) = cell_fault_words cell (codes ", the space or a fill, holds a symbol")
 case_fault_words cases.FillOrder = codes "the units of the fills do not descend"
 case_fault_words cases.NoMemory = codes "no memory"
 

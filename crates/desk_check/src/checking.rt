@@ -1,6 +1,6 @@
 //! Files that are checked by their names.
 
-ghost use Rattle.std.specs.Prelude.{◌≡◌, ◌++◌, false, IfErr, IfOk, OnOk, map, string_bytes};
+ghost use Rattle.std.specs.Prelude.{◌≡◌, ◌&&◌, false, IfErr, IfOk, map, string_bytes};
 ghost use Rattle.desk_files.specs.Files.{Stays};
 ghost use Rattle.desk_check.specs.Checking.{IsChecked, IsLine, IsUnchecked, IsUnsaid, SaysLine};
 ghost use Rattle.desk_check.specs.Lines.{line_of};
@@ -76,9 +76,21 @@ fn check_file<W: Write, F: Files, A: Allocator + Copy>(
     ensures err { IfErr result (IsUnsaid name.now (F.shelf files.old) (F.shelf files.new) (W.contents writer.old) (W.contents writer.new)) }
     ensures stays { Stays (F.shelf files.old) (F.shelf files.new) }
 {
-    let (line, well) = look(memory, files, name)?;
-    write_out(writer, line.as_bytes())?;
-    Ok(well)
+    let (line, well) = match look(memory, files, name) {
+        Ok(seen) => seen,
+        Err(_) => return Err(CheckFault::NoMemory),
+    };
+    match write_out(writer, line.as_bytes()) {
+        Ok(()) => Ok(well),
+        Err(_) => Err(CheckFault::Write),
+    }
+}
+
+/// Whether the files before are in order, and one more.
+fn both(before: bool, one: bool) -> bool
+    ensures { result ≡ before && one }
+{
+    before && one
 }
 
 /// Checks files by their names, in their order. Each is told by its content as a feed, a ribbon, a case or a wedge, and has
@@ -96,8 +108,10 @@ pub fn check_files<W: Write, F: Files, A: Allocator + Copy>(
 {
     let mut all = true;
     for at in 0..names.len() {
-        let well = check_file(memory, writer, files, names[at])?;
-        all = all && well;
+        match check_file(memory, writer, files, names[at]) {
+            Ok(well) => all = both(all, well),
+            Err(why) => return Err(why),
+        }
     }
     Ok(all)
 }

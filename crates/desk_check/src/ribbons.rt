@@ -1,14 +1,14 @@
 //! What is said of the bytes of a ribbon.
 
-ghost use Rattle.std.specs.Prelude.{◌≡◌, ◌++◌, IfOk, OnOk, string_bytes};
+ghost use Rattle.std.specs.Prelude.{◌≡◌, ◌++◌, Err, IfOk, Ok, OnOk, false, string_bytes, true};
 ghost use Rattle.desk_check.specs.Lines.{SaysRibbon};
-ghost use Rattle.desk_check.specs.Words.{image_words, ribbon_fault_words, row_words};
+ghost use Rattle.desk_check.specs.Words.{image_words, ribbon_fault_words, ribbon_words, row_words};
 
 use crate::told::Told;
 use desk_caster::{RibbonFault, read_ribbon};
 use desk_image::BadImage;
 use desk_memory::NoMemory;
-use desk_signals::BadRow;
+use desk_signals::{BadRow, RibbonRow};
 use std::alloc::{AllocError, Allocator};
 
 fn row_words(why: BadRow) -> &'static str
@@ -51,21 +51,36 @@ fn put_ribbon_fault<A: Allocator + Copy>(
     }
 }
 
+/// What is said of the rows of a ribbon.
+fn rows_told<A: Allocator + Copy>(alloc: A, rows: &[RibbonRow]) -> Result<Told<A>, NoMemory>
+    ensures text { IfOk result (λ t. string_bytes t.text ≡ ribbon_words (Ok rows.now)) }
+    ensures well { IfOk result (λ t. t.well ≡ true) }
+{
+    let mut text = String::new(alloc);
+    write!(&mut text, "ok: {} rows", rows.len())?;
+    Ok(Told { text, well: true })
+}
+
+/// What is said of a ribbon that has a fault.
+fn refused_told<A: Allocator + Copy>(alloc: A, fault: RibbonFault) -> Result<Told<A>, NoMemory>
+    ensures text { IfOk result (λ t. string_bytes t.text ≡ ribbon_words (Err fault)) }
+    ensures well { IfOk result (λ t. t.well ≡ false) }
+{
+    let mut text = String::new(alloc);
+    text.push_str("ribbon refused: ")?;
+    put_ribbon_fault(&mut text, fault)?;
+    Ok(Told { text, well: false })
+}
+
 /// What is said of a ribbon: how many rows it has, or its first fault.
 pub fn ribbon_told<A: Allocator + Copy>(alloc: A, bytes: &[u8]) -> Result<Told<A>, NoMemory>
     ensures { IfOk result (λ t. SaysRibbon bytes.now (string_bytes t.text) t.well) }
 {
-    let mut text = String::new(alloc);
     match read_ribbon(alloc, bytes) {
-        Ok(rows) => {
-            write!(&mut text, "ok: {} rows", rows.len())?;
-            Ok(Told { text, well: true })
-        }
+        Ok(rows) => rows_told(alloc, &rows),
+        Err(RibbonFault::Magic) => refused_told(alloc, RibbonFault::Magic),
+        Err(RibbonFault::Count) => refused_told(alloc, RibbonFault::Count),
+        Err(RibbonFault::Row(place, why)) => refused_told(alloc, RibbonFault::Row(place, why)),
         Err(RibbonFault::NoMemory) => Err(NoMemory),
-        Err(fault) => {
-            text.push_str("ribbon refused: ")?;
-            put_ribbon_fault(&mut text, fault)?;
-            Ok(Told { text, well: false })
-        }
     }
 }
