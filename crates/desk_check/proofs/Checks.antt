@@ -1,0 +1,58 @@
+-- Lines, one after the other.
+use Rattle.std.proofs.Common.{◌≡◌, ◌∙◌, ℕ, ◌+◌, ◌<◌, Bool, true, false, ◌&&◌, List, [], ◌∷◌, ◌++◌, length, map, take, drop, get_or, refl, sym, ap, subst, append_assoc, append-nil, take-append-drop, add-one, drop-cons}
+use Rattle.std.specs.Prelude.{Option}
+use Rattle.std.proofs.KnownBytes.{Appends-nil, Appends-trans}
+use Rattle.std.proofs.lemmas.List.{map-append, map_more}
+use Rattle.desk_files.specs.Files.{Shelf}
+use Rattle.desk_check.specs.Checking.{AreLines, IsChecked, IsLine, IsUnchecked, IsUnsaid, SaysLine}
+use Rattle.desk_check.specs.declared.fault.CheckFault.{CheckFault}
+
+and_more : (a b c : Bool) → a && (b && c) ≡ (a && b) && c
+and_more true b c = refl
+and_more false b c = refl
+
+and_true : (a : Bool) → a && true ≡ a
+and_true true = refl
+and_true false = refl
+
+-- the lines of some names, and of one more
+pub lines_more : (names : List (List ℕ)) (name : List ℕ) (first mid last : Shelf) (lines line : List ℕ) (well one : Bool) → AreLines names first mid lines well → IsLine name mid last line one
+    → AreLines (names ++ name ∷ []) first last (lines ++ line) (well && one)
+lines_more [] name first mid last lines line well one (same, empty, all) is =
+    (last, line, [], one, true, subst (λ (s : Shelf). IsLine name s last line one) same is, (refl, refl, refl), ap (λ l. l ++ line) empty ∙ sym (append-nil line), ap (λ b. b && one) all ∙ sym (and_true one))
+lines_more (n ∷ names) name first mid last lines line well one (between, l, rest, head, others, is_head, are, joined, both) is = (
+  between,
+  l,
+  rest ++ line,
+  head,
+  others && one,
+  is_head,
+  lines_more names name between mid last rest line others one are is,
+  ap (λ k. k ++ line) joined ∙ append_assoc l rest line,
+  ap (λ b. b && one) both ∙ sym (and_more head others one),
+)
+
+pub none_checked : (shelf : Shelf) (known : Option (List ℕ)) → IsChecked [] shelf shelf known known true
+none_checked shelf known = ([], (refl, refl, refl), Appends-nil known)
+
+pub checked_more : (names : List (List ℕ)) (name : List ℕ) (first mid last : Shelf) (before between after : Option (List ℕ)) (well one : Bool) → IsChecked names first mid before between well
+    → SaysLine name mid last between after one → IsChecked (names ++ name ∷ []) first last before after (well && one)
+checked_more names name first mid last before between after well one (lines, are, written) (line, is, more) =
+    (lines ++ line, lines_more names name first mid last lines line well one are is, Appends-trans before between after lines line written more)
+
+module _ {X : Type 0} (f : X → List ℕ) (xs : List X) (at : ℕ) (d : X) (lt : at < length xs) where
+  pub more_checked : (first mid last : Shelf) (before between after : Option (List ℕ)) (well one : Bool) → IsChecked (map f (take at xs)) first mid before between well
+      → SaysLine (f (get_or xs at d)) mid last between after one → IsChecked (map f (take (at + 1) xs)) first last before after (well && one)
+  more_checked first mid last before between after well one checked says =
+      subst (λ ns. IsChecked ns first last before after (well && one)) (sym (map_more f xs at d lt))
+      (checked_more (map f (take at xs)) (f (get_or xs at d)) first mid last before between after well one checked says)
+
+  place : map f xs ≡ map f (take at xs) ++ f (get_or xs at d) ∷ map f (drop (at + 1) xs)
+  place =
+      let cut : drop at xs ≡ get_or xs at d ∷ drop (at + 1) xs = rw (add-one, drop-cons xs at d) refl in
+      ap (map f) (sym (take-append-drop at xs)) ∙ map-append f (take at xs) (drop at xs) ∙ ap (λ l. map f (take at xs) ++ map f l) cut
+
+  pub stops_at : (first mid last : Shelf) (before between after : Option (List ℕ)) (well : Bool) (fault : CheckFault) → IsChecked (map f (take at xs)) first mid before between well
+      → IsUnsaid (f (get_or xs at d)) mid last between after fault → IsUnchecked (map f xs) first last before after fault
+  stops_at first mid last before between after well fault checked unsaid =
+      (map f (take at xs), map f (drop (at + 1) xs), f (get_or xs at d), place, mid, between, well, checked, unsaid)

@@ -1,0 +1,3 @@
+pub mod Said
+pub mod Sorts
+pub mod Checks

@@ -1,0 +1,28 @@
+-- What is said of bytes, by what they mean.
+use Rattle.std.proofs.Common.{◌≡◌, ℕ, ◌<◌, Bool, List, sym, subst}
+use Rattle.std.specs.Prelude.{IfOk, Result, Ok, Err, string_bytes}
+use Rattle.desk_ops.specs.declared.op.Op.{Op}
+use Rattle.desk_ops.specs.OpSet.{max_ops, no_ops, size, with_all}
+use Rattle.desk_codec.specs.Fault.{IsFirstFault}
+use Rattle.desk_codec.specs.Feed.{IsFeed}
+use Rattle.desk_codec.specs.declared.fault.FeedFault.{FeedFault}
+use Rattle.desk_replica.specs.declared.Stopped.{Stopped}
+use Rattle.desk_stored.specs.Faults.{IsUnopened}
+use Rattle.desk_stored.specs.declared.fault.OpenFault.TheVariants as openings
+use Rattle.desk_check.specs.declared.told.Told.{Told}
+
+-- it holds of what is told, where it holds of the words
+pub said : {A E : Type 0} (r : Result (Told A) E) (words : List ℕ) (well : Bool) (Q : List ℕ → Bool → Type 0) → Q words well → IfOk r (λ t. string_bytes t.text ≡ words) → IfOk r (λ t. t.well ≡ well)
+    → IfOk r (λ t. Q (string_bytes t.text) t.well)
+said (Ok t) words well Q q text is = subst (λ b. Q (string_bytes t.text) b) (sym is) (subst (λ l. Q l well) (sym text) q)
+said (Err e) words well Q q text is = tt
+
+pub first_fault : (bytes : List ℕ) (fault : FeedFault) → IsUnopened (Ok bytes) (openings.Feed fault) → IsFirstFault bytes fault
+first_fault bytes fault (other, is, first) =
+    let same : other ≡ bytes = cc in
+    subst (λ l. IsFirstFault l fault) same first
+
+pub crowded : (bytes : List ℕ) (stop : Stopped) → IsUnopened (Ok bytes) (openings.Opening stop) → (ops : List Op) × IsFeed bytes ops × (max_ops < size (with_all no_ops ops))
+crowded bytes stop (other, is, ops, feed, many) =
+    let same : other ≡ bytes = cc in
+    (ops, subst (λ l. IsFeed l ops) same feed, many.0)

@@ -1,0 +1,179 @@
+-- What is said of a file, without its name.
+use Rattle.std.specs.Prelude.{ℕ, ◌/◌, ◌%◌, ◌==◌, if◌then◌else◌, List, [], ◌++◌, length, codes, Result, Ok, Err}
+use Rattle.std.specs.Char.{encode_utf8}
+use Rattle.std.specs.Fmt.{decimal}
+use Rattle.desk_ops.specs.declared.op.Style.{Style}
+use Rattle.desk_ops.specs.declared.op.Style.TheVariants as styles
+use Rattle.desk_ops.specs.declared.op.Symbol.{Symbol}
+use Rattle.desk_ops.specs.declared.op.Unlawful.{Unlawful}
+use Rattle.desk_ops.specs.declared.op.Unlawful.TheVariants as causes
+use Rattle.desk_ops.specs.OpSet.{OpSet, size}
+use Rattle.desk_ops.specs.Shown.{copy_of}
+use Rattle.desk_ops.specs.Faults.{faults_of}
+use Rattle.desk_codec.specs.declared.fault.FeedFault.{FeedFault}
+use Rattle.desk_codec.specs.declared.fault.FeedWhy.{FeedWhy}
+use Rattle.desk_codec.specs.declared.fault.FeedWhy.TheVariants as whys
+use Rattle.desk_signals.specs.declared.BadRow.{BadRow}
+use Rattle.desk_signals.specs.declared.BadRow.TheVariants as rows
+use Rattle.desk_signals.specs.declared.Cell.{Cell}
+use Rattle.desk_signals.specs.declared.RibbonRow.{RibbonRow}
+use Rattle.desk_image.specs.declared.BadImage.{BadImage}
+use Rattle.desk_image.specs.declared.BadImage.TheVariants as images
+use Rattle.desk_caster.specs.declared.RibbonFault.{RibbonFault}
+use Rattle.desk_caster.specs.declared.RibbonFault.TheVariants as ribbons
+use Rattle.desk_units.specs.declared.Pica.{Pica}
+use Rattle.desk_units.specs.declared.Pica.TheVariants as picas
+use Rattle.desk_wedge.specs.File as wedge_files
+use Rattle.desk_wedge.specs.Wedge.{WedgeValues}
+use Rattle.desk_wedge.specs.declared.WedgeFault.{WedgeFault}
+use Rattle.desk_wedge.specs.declared.WedgeFault.TheVariants as wedges
+use Rattle.desk_case.specs.File as case_files
+use Rattle.desk_case.specs.Case.{CaseValues}
+use Rattle.desk_case.specs.Names.{column_name}
+use Rattle.desk_case.specs.declared.CaseFault.{CaseFault}
+use Rattle.desk_case.specs.declared.CaseFault.TheVariants as cases
+use Rattle.desk_check.specs.Sorts.{sorts}
+use Rattle.desk_answers.specs.Reply.{Faults}
+use Rattle.desk_answers.specs.Text.{text}
+use Rattle.desk_files.specs.declared.files.FileRefusal.{FileRefusal}
+use Rattle.desk_files.specs.declared.files.FileRefusal.TheVariants as refusals
+
+-- ---- feeds
+
+-- why no set comes of a feed's bytes: their first fault, or that a replica holds fewer operations
+pub data NoSet : Type 0 where
+  Wrong : FeedFault → NoSet
+  Crowded : NoSet
+
+abbrev pub operations_words : ℕ → List ℕ
+operations_words count = codes "ok: " ++ decimal count ++ codes " operations, "
+
+abbrev pub shown_words : ℕ → List ℕ
+shown_words count = decimal count ++ codes " symbols shown, "
+
+abbrev pub set_words : OpSet → List ℕ
+set_words set = operations_words (size set) ++ shown_words (length (copy_of set)) ++ text (Faults (faults_of set))
+
+abbrev pub cause_words : Unlawful → List ℕ
+cause_words causes.Counter = codes "the counter is out of range"
+cause_words causes.Site = codes "no site has the number 0"
+cause_words causes.Target = codes "the target is not an earlier stamp"
+cause_words causes.Symbol = codes "no such symbol"
+cause_words causes.Key = codes "no such key"
+cause_words causes.Value = codes "the value is out of the key's range"
+
+abbrev pub why_words : FeedWhy → List ℕ
+why_words whys.Magic = codes "no feed begins so"
+why_words whys.Kind = codes "no such kind of operation"
+why_words (whys.Unlawful cause) = codes "unlawful: " ++ cause_words cause
+why_words whys.Cut = codes "cut off"
+why_words whys.Run = codes "no run has so many"
+
+abbrev pub feed_fault_words : FeedFault → List ℕ
+feed_fault_words fault = codes "feed refused: byte " ++ decimal fault.at ++ codes ": " ++ why_words fault.why
+
+abbrev pub crowded_words : List ℕ
+crowded_words = codes "feed refused: more than 1048576 operations"
+
+abbrev pub feed_words : Result OpSet NoSet → List ℕ
+feed_words (Ok set) = set_words set
+feed_words (Err (Wrong fault)) = feed_fault_words fault
+feed_words (Err Crowded) = crowded_words
+
+-- ---- ribbons
+
+abbrev pub row_words : BadRow → List ℕ
+row_words rows.TwoLetters = codes "two letters"
+row_words rows.TwoNumbers = codes "two numbers"
+row_words rows.FineAlone = codes "0005 without 0075"
+row_words rows.WedgeWithLetter = codes "0075 with a letter"
+row_words rows.WedgeWithS = codes "0075 with S"
+row_words rows.Repeated = codes "a signal stands twice"
+
+abbrev pub image_words : BadImage → List ℕ
+image_words images.HighBit = codes "bit 31 is set"
+image_words (images.Row why) = row_words why
+
+abbrev pub ribbon_fault_words : RibbonFault → List ℕ
+ribbon_fault_words ribbons.Magic = codes "no ribbon begins so"
+ribbon_fault_words ribbons.Count = codes "it has not as many rows as it says"
+ribbon_fault_words (ribbons.Row place why) = codes "row " ++ decimal place ++ codes ": " ++ image_words why
+ribbon_fault_words ribbons.NoMemory = codes "no memory"
+
+abbrev pub ribbon_words : Result (List RibbonRow) RibbonFault → List ℕ
+ribbon_words (Ok rows) = codes "ok: " ++ decimal (length rows) ++ codes " rows"
+ribbon_words (Err fault) = codes "ribbon refused: " ++ ribbon_fault_words fault
+
+-- ---- wedges
+
+-- the quarters that a number has over a whole
+abbrev pub quarter_words : ℕ → List ℕ
+quarter_words n = if n == 0 then [] else if n == 1 then codes ".25" else if n == 2 then codes ".5" else codes ".75"
+
+abbrev pub pica_word : Pica → List ℕ
+pica_word picas.Sixth = codes "sixth"
+pica_word picas.American = codes "american"
+
+-- quarter points in points
+abbrev pub points_words : ℕ → List ℕ
+points_words q = decimal (q / 4) ++ quarter_words (q % 4)
+
+abbrev pub count_words : ℕ → List ℕ
+count_words q = codes " (" ++ decimal q ++ codes " quarter points)"
+
+-- a set in points and in quarter points
+abbrev pub set_q_words : ℕ → List ℕ
+set_q_words q = points_words q ++ count_words q
+
+abbrev pub wedge_fault_words : WedgeFault → List ℕ
+wedge_fault_words wedges.NotToml = codes "it is not TOML"
+wedge_fault_words (wedges.Missing key) = codes "`" ++ wedge_files.key_name key ++ codes "` is missing"
+wedge_fault_words (wedges.Range key) = codes "`" ++ wedge_files.key_name key ++ codes "` is of another type, length or value"
+wedge_fault_words (wedges.Descending row) = codes "row " ++ decimal row ++ codes " has fewer units than the row before"
+wedge_fault_words wedges.NoMemory = codes "no memory"
+
+abbrev pub wedge_words : Result WedgeValues WedgeFault → List ℕ
+wedge_words (Ok wedge) = codes "ok: wedge " ++ decimal wedge.number ++ codes ", set " ++ set_q_words wedge.set_q ++ codes ", pica " ++ pica_word wedge.pica
+wedge_words (Err fault) = codes "wedge refused: " ++ wedge_fault_words fault
+
+-- ---- cases
+
+abbrev pub cell_words : Cell → List ℕ
+cell_words cell = column_name cell.column ++ decimal cell.row
+
+abbrev pub style_words : Style → List ℕ
+style_words styles.Roman = codes "roman "
+style_words styles.Italic = codes "italic "
+style_words styles.SmallCap = codes "small capital "
+
+abbrev pub symbol_words : Symbol → List ℕ
+symbol_words symbol = style_words symbol.style ++ encode_utf8 symbol.ch
+
+abbrev pub cell_fault_words : Cell → List ℕ → List ℕ
+cell_fault_words cell what = codes "cell " ++ cell_words cell ++ what
+
+abbrev pub case_fault_words : CaseFault → List ℕ
+case_fault_words cases.NotToml = codes "it is not TOML"
+case_fault_words (cases.Missing key) = codes "`" ++ case_files.key_name key ++ codes "` is missing"
+case_fault_words (cases.Shape key) = codes "`" ++ case_files.key_name key ++ codes "` is of another type, number, length or name"
+case_fault_words (cases.BadText cell) = cell_fault_words cell (codes " has a text that is no symbol")
+case_fault_words (cases.Doubled symbol) = symbol_words symbol ++ codes " stands in two cells"
+case_fault_words (cases.NotBlank cell) = cell_fault_words cell (codes ", the space or a fill, holds a symbol")
+case_fault_words cases.FillOrder = codes "the units of the fills do not descend"
+case_fault_words cases.NoMemory = codes "no memory"
+
+abbrev pub case_words : Result CaseValues CaseFault → List ℕ
+case_words (Ok case) = codes "ok: case " ++ decimal case.number ++ codes ", " ++ decimal (sorts case.grid) ++ codes " sorts"
+case_words (Err fault) = codes "case refused: " ++ case_fault_words fault
+
+-- ---- others
+
+abbrev pub strange_words : List ℕ
+strange_words = codes "neither a feed, a ribbon, a case nor a wedge"
+
+-- a file that was not read
+abbrev pub refusal_words : FileRefusal → List ℕ
+refusal_words refusals.Missing = codes "no file"
+refusal_words refusals.Device = codes "file fault"
+refusal_words refusals.Large = codes "too large"
+refusal_words refusals.NoMemory = codes "no memory"

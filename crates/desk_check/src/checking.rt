@@ -1,0 +1,117 @@
+//! Files that are checked by their names.
+
+ghost use Rattle.std.specs.Prelude.{◌≡◌, ◌&&◌, false, IfErr, IfOk, map, string_bytes};
+ghost use Rattle.desk_files.specs.Files.{Stays};
+ghost use Rattle.desk_check.specs.Checking.{IsChecked, IsLine, IsUnchecked, IsUnsaid, SaysLine};
+ghost use Rattle.desk_check.specs.Lines.{line_of};
+ghost use Rattle.desk_check.specs.Words.{refusal_words};
+
+use crate::fault::CheckFault;
+use crate::told::{Told, told_of};
+use desk_files::{FileRefusal, Files};
+use desk_hand::write_out;
+use desk_inputs::Memory;
+use desk_memory::NoMemory;
+use std::alloc::Allocator;
+use std::io::Write;
+
+/// Why a file was not read.
+fn refusal_words(why: FileRefusal) -> &'static str
+    ensures { result.now ≡ refusal_words why }
+{
+    match why {
+        FileRefusal::Missing => "no file",
+        FileRefusal::Device => "file fault",
+        FileRefusal::Large => "too large",
+        FileRefusal::NoMemory => "no memory",
+    }
+}
+
+/// That a file was not read.
+fn unread<A: Allocator + Copy>(alloc: A, why: FileRefusal) -> Result<Told<A>, NoMemory>
+    ensures text { IfOk result (λ t. string_bytes t.text ≡ refusal_words why) }
+    ensures well { IfOk result (λ t. t.well ≡ false) }
+{
+    let text = String::from_str(alloc, refusal_words(why))?;
+    Ok(Told { text, well: false })
+}
+
+/// The line of a file.
+fn line_of<A: Allocator + Copy>(alloc: A, name: &str, said: &str) -> Result<String<A>, NoMemory>
+    ensures { IfOk result (λ s. string_bytes s ≡ line_of name.now said.now) }
+{
+    let mut line = String::new(alloc);
+    line.push_str(name)?;
+    line.push_str(" ")?;
+    line.push_str(said)?;
+    line.push_str("\n")?;
+    Ok(line)
+}
+
+/// Reads a file by its name: its line, and whether it is in order.
+fn look<F: Files, A: Allocator + Copy>(
+    memory: Memory<A>,
+    files: &mut F,
+    name: &str,
+) -> Result<(String<A>, bool), NoMemory>
+    ensures ok { IfOk result (λ l. IsLine name.now (F.shelf files.old) (F.shelf files.new) (string_bytes l.0) l.1) }
+    ensures stays { Stays (F.shelf files.old) (F.shelf files.new) }
+{
+    let told = match files.read(memory.own, name) {
+        Ok(bytes) => told_of(memory, bytes)?,
+        Err(FileRefusal::NoMemory) => return Err(NoMemory),
+        Err(why) => unread(memory.own, why)?,
+    };
+    Ok((line_of(memory.own, name, told.text.as_str())?, told.well))
+}
+
+/// Writes the line of a file, and answers whether it is in order.
+fn check_file<W: Write, F: Files, A: Allocator + Copy>(
+    memory: Memory<A>,
+    writer: &mut W,
+    files: &mut F,
+    name: &str,
+) -> Result<bool, CheckFault>
+    ensures ok { IfOk result (λ well. SaysLine name.now (F.shelf files.old) (F.shelf files.new) (W.contents writer.old) (W.contents writer.new) well) }
+    ensures err { IfErr result (IsUnsaid name.now (F.shelf files.old) (F.shelf files.new) (W.contents writer.old) (W.contents writer.new)) }
+    ensures stays { Stays (F.shelf files.old) (F.shelf files.new) }
+{
+    let (line, well) = match look(memory, files, name) {
+        Ok(seen) => seen,
+        Err(_) => return Err(CheckFault::NoMemory),
+    };
+    match write_out(writer, line.as_bytes()) {
+        Ok(()) => Ok(well),
+        Err(_) => Err(CheckFault::Write),
+    }
+}
+
+/// Whether the files before are in order, and one more.
+fn both(before: bool, one: bool) -> bool
+    ensures { result ≡ before && one }
+{
+    before && one
+}
+
+/// Checks files by their names, in their order. Each is told by its content as a feed, a ribbon, a case or a wedge, and has
+/// one line, written before the next file is read: what is in it, or its first fault with its place, or why it was not read.
+/// It is true exactly where every file is in order. No name is taken, and no file changes.
+pub fn check_files<W: Write, F: Files, A: Allocator + Copy>(
+    memory: Memory<A>,
+    writer: &mut W,
+    files: &mut F,
+    names: &[&str],
+) -> Result<bool, CheckFault>
+    ensures ok { IfOk result (IsChecked (map (λ n. n.now) names.now) (F.shelf files.old) (F.shelf files.new) (W.contents writer.old) (W.contents writer.new)) }
+    ensures err { IfErr result (IsUnchecked (map (λ n. n.now) names.now) (F.shelf files.old) (F.shelf files.new) (W.contents writer.old) (W.contents writer.new)) }
+    ensures stays { Stays (F.shelf files.old) (F.shelf files.new) }
+{
+    let mut all = true;
+    for at in 0..names.len() {
+        match check_file(memory, writer, files, names[at]) {
+            Ok(well) => all = both(all, well),
+            Err(why) => return Err(why),
+        }
+    }
+    Ok(all)
+}

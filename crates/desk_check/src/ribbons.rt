@@ -1,0 +1,86 @@
+//! What is said of the bytes of a ribbon.
+
+ghost use Rattle.std.specs.Prelude.{◌≡◌, ◌++◌, Err, IfOk, Ok, OnOk, false, string_bytes, true};
+ghost use Rattle.desk_check.specs.Lines.{SaysRibbon};
+ghost use Rattle.desk_check.specs.Words.{image_words, ribbon_fault_words, ribbon_words, row_words};
+
+use crate::told::Told;
+use desk_caster::{RibbonFault, read_ribbon};
+use desk_image::BadImage;
+use desk_memory::NoMemory;
+use desk_signals::{BadRow, RibbonRow};
+use std::alloc::{AllocError, Allocator};
+
+fn row_words(why: BadRow) -> &'static str
+    ensures { result.now ≡ row_words why }
+{
+    match why {
+        BadRow::TwoLetters => "two letters",
+        BadRow::TwoNumbers => "two numbers",
+        BadRow::FineAlone => "0005 without 0075",
+        BadRow::WedgeWithLetter => "0075 with a letter",
+        BadRow::WedgeWithS => "0075 with S",
+        BadRow::Repeated => "a signal stands twice",
+    }
+}
+
+fn image_words(why: BadImage) -> &'static str
+    ensures { result.now ≡ image_words why }
+{
+    match why {
+        BadImage::HighBit => "bit 31 is set",
+        BadImage::Row(why) => row_words(why),
+    }
+}
+
+/// Writes the first fault of a ribbon, with the place of its row.
+fn put_ribbon_fault<A: Allocator + Copy>(
+    out: &mut String<A>,
+    fault: RibbonFault,
+) -> Result<(), AllocError>
+    ensures { OnOk result (string_bytes out.new ≡ string_bytes out.old ++ ribbon_fault_words fault) }
+{
+    match fault {
+        RibbonFault::Magic => out.push_str("no ribbon begins so"),
+        RibbonFault::Count => out.push_str("it has not as many rows as it says"),
+        RibbonFault::Row(place, why) => {
+            write!(out, "row {place}: ")?;
+            out.push_str(image_words(why))
+        }
+        RibbonFault::NoMemory => out.push_str("no memory"),
+    }
+}
+
+/// What is said of the rows of a ribbon.
+fn rows_told<A: Allocator + Copy>(alloc: A, rows: &[RibbonRow]) -> Result<Told<A>, NoMemory>
+    ensures text { IfOk result (λ t. string_bytes t.text ≡ ribbon_words (Ok rows.now)) }
+    ensures well { IfOk result (λ t. t.well ≡ true) }
+{
+    let mut text = String::new(alloc);
+    write!(&mut text, "ok: {} rows", rows.len())?;
+    Ok(Told { text, well: true })
+}
+
+/// What is said of a ribbon that has a fault.
+fn refused_told<A: Allocator + Copy>(alloc: A, fault: RibbonFault) -> Result<Told<A>, NoMemory>
+    ensures text { IfOk result (λ t. string_bytes t.text ≡ ribbon_words (Err fault)) }
+    ensures well { IfOk result (λ t. t.well ≡ false) }
+{
+    let mut text = String::new(alloc);
+    text.push_str("ribbon refused: ")?;
+    put_ribbon_fault(&mut text, fault)?;
+    Ok(Told { text, well: false })
+}
+
+/// What is said of a ribbon: how many rows it has, or its first fault.
+pub fn ribbon_told<A: Allocator + Copy>(alloc: A, bytes: &[u8]) -> Result<Told<A>, NoMemory>
+    ensures { IfOk result (λ t. SaysRibbon bytes.now (string_bytes t.text) t.well) }
+{
+    match read_ribbon(alloc, bytes) {
+        Ok(rows) => rows_told(alloc, &rows),
+        Err(RibbonFault::Magic) => refused_told(alloc, RibbonFault::Magic),
+        Err(RibbonFault::Count) => refused_told(alloc, RibbonFault::Count),
+        Err(RibbonFault::Row(place, why)) => refused_told(alloc, RibbonFault::Row(place, why)),
+        Err(RibbonFault::NoMemory) => Err(NoMemory),
+    }
+}
