@@ -1,3 +1,4 @@
 pub mod Previews
+pub mod Texts
 pub mod Runs
 pub mod Host

@@ -9,6 +9,7 @@ mod host;
 mod previews;
 mod program;
 mod telling;
+mod texts;
 mod trouble;
 
 use desk_script::RunFault;

@@ -7,10 +7,12 @@ ghost use Rattle.desk_words.specs.Words.{AsksHelp, AsksNothing, IsLawful};
 
 use crate::previews::{proofed, punched};
 use crate::telling::{hand_status, status_of, status_on, stopped};
+use crate::texts::{checked, replaced};
 use crate::trouble::Explains;
 use clap::Error;
 use clap::error::ErrorKind;
 use desk_hand::{export_feed, import_text, merge_feeds};
+use desk_replace::Exchange;
 use desk_script::{Files, RunFault, run, run_on_feed};
 use desk_words::{Wish, read_words};
 use std::alloc::Global;
@@ -51,6 +53,21 @@ fn fulfilled<R: Read, W: Write, E: Write, F: Files + Explains>(
             let outcome = import_text(alloc, reader, writer, files, feed, *site, *plain);
             hand_status(faults, files, feed, &[], outcome)
         }
+        Wish::Replace {
+            feed,
+            site,
+            old,
+            new,
+            plain,
+        } => {
+            let exchange = Exchange {
+                from: old,
+                to: new,
+                plain: *plain,
+            };
+            replaced(alloc, feed, *site, &exchange, writer, faults, files)
+        }
+        Wish::Check { files: names } => checked(alloc, names, writer, faults, files),
         Wish::Proof {
             from,
             faults: alone,

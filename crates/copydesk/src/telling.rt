@@ -141,6 +141,21 @@ fn tell_hand<E: Write>(faults: &mut E, fault: HandFault) {
     };
 }
 
+/// Writes two lines on why something was not done by hand, and gives the status of it.
+pub fn hand_told<E: Write, F: Explains>(
+    faults: &mut E,
+    files: &F,
+    feed: &str,
+    others: &[&str],
+    fault: HandFault,
+) -> u8
+    ensures { result ≡ 1 }
+{
+    tell_hand(faults, fault);
+    let _ = explain_hand(faults, files, feed, others, fault);
+    1
+}
+
 /// The status of what was done by hand with a stored feed. Where it was not done two lines say why.
 pub fn hand_status<E: Write, F: Explains>(
     faults: &mut E,
@@ -153,10 +168,6 @@ pub fn hand_status<E: Write, F: Explains>(
 {
     match outcome {
         Ok(()) => 0,
-        Err(fault) => {
-            tell_hand(faults, fault);
-            let _ = explain_hand(faults, files, feed, others, fault);
-            1
-        }
+        Err(fault) => hand_told(faults, files, feed, others, fault),
     }
 }

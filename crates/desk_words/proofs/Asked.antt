@@ -1,13 +1,14 @@
 -- What matches hold, by what their getters answered.
 use Rattle.std.proofs.Common.{◌≡◌, ◌<◌, ℕ, List, [], Option, Some, None, sym, subst, ap, ◌∙◌, codes, refl, arith}
-use Rattle.std.specs.Prelude.{◌≤◌, Ok, Err, Result, option_map}
+use Rattle.std.specs.Prelude.{◌≤◌, Ok, Err, Result, if◌then◌else◌, option_map}
+use Rattle.std.specs.Str.{bytes_eq}
 use Rattle.std.specs.Str.Parse.{ParsesUnsigned}
 use Rattle.std.specs.Borrow.{Bor}
 use Rattle.clap.specs.Matches.{ReadsOne}
 use Rattle.clap.specs.Words.{Row, Text, all_of, fault_of, first_value, one_of, rows_of, subcommand_of}
 use Rattle.clap.specs.declared.parser.matches.Found.{Found}
 use Rattle.clap.proofs.WalkLemmas.{first_value-rows}
-use Rattle.desk_words.specs.Words.{HasSite, IsAsked, IsWished, Names, NamesDesk, NamesFeed, NamesSources, Tells, copydesk, task_of}
+use Rattle.desk_words.specs.Words.{HasSite, IsAsked, IsTold, IsWished, Names, NamesDesk, NamesFeed, NamesSources, Tells, copydesk, name_of, task_of}
 use Rattle.desk_words.specs.declared.wishes.Sources.{Sources}
 use Rattle.desk_words.specs.declared.wishes.Task.{Task}
 use Rattle.desk_words.specs.declared.wishes.Task.TheVariants as tasks
@@ -55,15 +56,17 @@ unnamed argument f r got is name names =
 
 -- ---- what is lacking
 
--- without a feed's name nothing but a script is told
-pub no_feed : (rows : List Row) (task : Task) → ((feed : Text) → NamesFeed rows feed → ⊥) → (task ≡ tasks.Script → ⊥) → (wish : Wish) → task_of wish ≡ task → Tells rows wish → ⊥
-no_feed rows task none other wishes.Script is tells = other (sym is)
-no_feed rows task none other (wishes.Desk feed site why) is tells = none feed.now tells.0.0
-no_feed rows task none other (wishes.Merge feed others) is tells = none feed.now tells.0
-no_feed rows task none other (wishes.Export feed) is tells = none feed.now tells
-no_feed rows task none other (wishes.Import feed site plain) is tells = none feed.now tells.0.0
-no_feed rows task none other (wishes.Proof from faults) is tells = none from.feed.now tells.0.0
-no_feed rows task none other (wishes.Punch from target) is tells = none from.feed.now tells.0.0
+-- without a feed's name nothing but a script and a check is told
+pub no_feed : (rows : List Row) (task : Task) → ((feed : Text) → NamesFeed rows feed → ⊥) → (task ≡ tasks.Script → ⊥) → (task ≡ tasks.Check → ⊥) → (wish : Wish) → task_of wish ≡ task → Tells rows wish → ⊥
+no_feed rows task none other check wishes.Script is tells = other (sym is)
+no_feed rows task none other check (wishes.Desk feed site why) is tells = none feed.now tells.0.0
+no_feed rows task none other check (wishes.Merge feed others) is tells = none feed.now tells.0
+no_feed rows task none other check (wishes.Export feed) is tells = none feed.now tells
+no_feed rows task none other check (wishes.Import feed site plain) is tells = none feed.now tells.0.0
+no_feed rows task none other check (wishes.Replace feed site old new plain) is tells = none feed.now tells.0.0
+no_feed rows task none other check (wishes.Check files) is tells = check (sym is)
+no_feed rows task none other check (wishes.Proof from faults) is tells = none from.feed.now tells.0.0
+no_feed rows task none other check (wishes.Punch from target) is tells = none from.feed.now tells.0.0
 
 -- without a feed's name and a site no desk is told
 pub no_desk : (rows : List Row) → ((feed : Text) (site : ℕ) → NamesDesk rows feed site → ⊥) → (wish : Wish) → task_of wish ≡ tasks.Desk → Tells rows wish → ⊥
@@ -72,6 +75,8 @@ no_desk rows none (wishes.Desk feed site why) is tells = none feed.now site tell
 no_desk rows none (wishes.Merge feed others) is tells = cc
 no_desk rows none (wishes.Export feed) is tells = cc
 no_desk rows none (wishes.Import feed site plain) is tells = cc
+no_desk rows none (wishes.Replace feed site old new plain) is tells = cc
+no_desk rows none (wishes.Check files) is tells = cc
 no_desk rows none (wishes.Proof from faults) is tells = cc
 no_desk rows none (wishes.Punch from target) is tells = cc
 
@@ -82,6 +87,8 @@ no_import rows none (wishes.Desk feed site why) is tells = cc
 no_import rows none (wishes.Merge feed others) is tells = cc
 no_import rows none (wishes.Export feed) is tells = cc
 no_import rows none (wishes.Import feed site plain) is tells = none feed.now site tells.0
+no_import rows none (wishes.Replace feed site old new plain) is tells = cc
+no_import rows none (wishes.Check files) is tells = cc
 no_import rows none (wishes.Proof from faults) is tells = cc
 no_import rows none (wishes.Punch from target) is tells = cc
 
@@ -94,6 +101,8 @@ no_merge rows none (wishes.Merge feed others) is tells =
     cc
 no_merge rows none (wishes.Export feed) is tells = cc
 no_merge rows none (wishes.Import feed site plain) is tells = cc
+no_merge rows none (wishes.Replace feed site old new plain) is tells = cc
+no_merge rows none (wishes.Check files) is tells = cc
 no_merge rows none (wishes.Proof from faults) is tells = cc
 no_merge rows none (wishes.Punch from target) is tells = cc
 
@@ -104,6 +113,8 @@ no_proof rows none (wishes.Desk feed site why) is tells = cc
 no_proof rows none (wishes.Merge feed others) is tells = cc
 no_proof rows none (wishes.Export feed) is tells = cc
 no_proof rows none (wishes.Import feed site plain) is tells = cc
+no_proof rows none (wishes.Replace feed site old new plain) is tells = cc
+no_proof rows none (wishes.Check files) is tells = cc
 no_proof rows none (wishes.Proof from faults) is tells = none from tells.0
 no_proof rows none (wishes.Punch from target) is tells = cc
 
@@ -114,8 +125,84 @@ no_punch rows none (wishes.Desk feed site why) is tells = cc
 no_punch rows none (wishes.Merge feed others) is tells = cc
 no_punch rows none (wishes.Export feed) is tells = cc
 no_punch rows none (wishes.Import feed site plain) is tells = cc
+no_punch rows none (wishes.Replace feed site old new plain) is tells = cc
+no_punch rows none (wishes.Check files) is tells = cc
 no_punch rows none (wishes.Proof from faults) is tells = cc
 no_punch rows none (wishes.Punch from target) is tells = none from target.now tells.0 tells.1
+
+-- without a feed's name, a site and both texts no replacement is told
+pub no_replace : (rows : List Row) → ((feed : Text) (site : ℕ) (old new : Text) → NamesDesk rows feed site → Names (codes "old") rows old → Names (codes "new") rows new → ⊥) → (wish : Wish) → task_of wish ≡ tasks.Replace → Tells rows wish → ⊥
+no_replace rows none wishes.Script is tells = cc
+no_replace rows none (wishes.Desk feed site why) is tells = cc
+no_replace rows none (wishes.Merge feed others) is tells = cc
+no_replace rows none (wishes.Export feed) is tells = cc
+no_replace rows none (wishes.Import feed site plain) is tells = cc
+no_replace rows none (wishes.Replace feed site old new plain) is tells = none feed.now site old.now new.now tells.0 tells.1 tells.2
+no_replace rows none (wishes.Check files) is tells = cc
+no_replace rows none (wishes.Proof from faults) is tells = cc
+no_replace rows none (wishes.Punch from target) is tells = cc
+
+-- without names of files no check
+pub no_check : (rows : List Row) → all_of (codes "file") rows ≡ None → (wish : Wish) → task_of wish ≡ tasks.Check → Tells rows wish → ⊥
+no_check rows none wishes.Script is tells = cc
+no_check rows none (wishes.Desk feed site why) is tells = cc
+no_check rows none (wishes.Merge feed others) is tells = cc
+no_check rows none (wishes.Export feed) is tells = cc
+no_check rows none (wishes.Import feed site plain) is tells = cc
+no_check rows none (wishes.Replace feed site old new plain) is tells = cc
+no_check rows none (wishes.Check files) is tells =
+    let bad = sym none ∙ tells in
+    cc
+no_check rows none (wishes.Proof from faults) is tells = cc
+no_check rows none (wishes.Punch from target) is tells = cc
+
+-- ---- the name of a subcommand
+
+-- the subcommand that a name calls
+called : Text → Task
+called name =
+    if bytes_eq name (codes "desk") then tasks.Desk else
+    if bytes_eq name (codes "merge") then tasks.Merge else
+    if bytes_eq name (codes "export") then tasks.Export else
+    if bytes_eq name (codes "import") then tasks.Import else
+    if bytes_eq name (codes "replace") then tasks.Replace else
+    if bytes_eq name (codes "check") then tasks.Check else
+    if bytes_eq name (codes "proof") then tasks.Proof else
+    if bytes_eq name (codes "punch") then tasks.Punch else
+    tasks.Script
+
+called_of : (task : Task) → called (name_of task) ≡ task
+unfolding called
+called_of tasks.Script = refl
+called_of tasks.Desk = refl
+called_of tasks.Merge = refl
+called_of tasks.Export = refl
+called_of tasks.Import = refl
+called_of tasks.Replace = refl
+called_of tasks.Check = refl
+called_of tasks.Proof = refl
+called_of tasks.Punch = refl
+
+-- two subcommands have two names
+pub same_task : (task other : Task) → name_of task ≡ name_of other → task ≡ other
+same_task task other same = sym (called_of task) ∙ ap called same ∙ called_of other
+
+abbrev name_in : Option (Text × List Row) → Text
+name_in None = []
+name_in (Some asked) = asked.0
+
+abbrev rows_in : Option (Text × List Row) → List Row
+rows_in None = []
+rows_in (Some asked) = asked.1
+
+-- what the matches of a subcommand hold is what is wished
+pub wished : (asked : Option (Text × List Row)) (task : Task) (rows : List Row) (o : Option Wish) → asked ≡ Some (name_of task, rows) → IsTold rows task o → IsWished asked o
+wished asked task rows (Some wish) is told = (rows, is ∙ ap (λ t. Some (name_of t, rows)) (sym told.0), told.1)
+wished asked task rows None is none = λ wish wishes.
+    let same : Some (name_of task, rows) ≡ Some (name_of (task_of wish), wishes.0) = sym is ∙ wishes.1 in
+    let names : name_of task ≡ name_of (task_of wish) = ap name_in same in
+    let held : wishes.0 ≡ rows = sym (ap rows_in same) in
+    none wish (sym (same_task task (task_of wish) names)) (subst (λ (rs : List Row). Tells rs wish) held wishes.2)
 
 -- ---- words without a fault
 

@@ -96,3 +96,18 @@ a_punch = refl
 a_punch_without_a_target : fault_of copydesk (codes "punch" ∷ codes "a.feed" ∷ codes "--case" ∷ codes "c.toml" ∷ codes "--wedge" ∷ codes "w.toml" ∷ []) ≡ kind.MissingRequiredArgument ∷ []
 unfolding clap_on_literals
 a_punch_without_a_target = refl
+
+replaced : Option (Text × List Row) → Option (Text × (Option Text × (Option Text × Option Text)))
+replaced = option_map (λ p. (p.0, (first_of (codes "feed") p.1, (first_of (codes "old") p.1, first_of (codes "new") p.1))))
+
+a_replacement : replaced (subcommand_of copydesk (codes "replace" ∷ codes "a.feed" ∷ codes "--site" ∷ codes "3" ∷ codes "--" ∷ codes "-x" ∷ codes "y" ∷ []))
+    ≡ Some (codes "replace", (Some (codes "a.feed"), (Some (codes "-x"), Some (codes "y"))))
+unfolding clap_on_literals replaced
+a_replacement = refl
+
+checked : Option (Text × List Row) → Option (Text × Option (List Text))
+checked = option_map (λ p. (p.0, all_of (codes "file") p.1))
+
+a_check : checked (subcommand_of copydesk (codes "check" ∷ codes "a.feed" ∷ codes "c.toml" ∷ [])) ≡ Some (codes "check", Some (codes "a.feed" ∷ codes "c.toml" ∷ []))
+unfolding clap_on_literals checked
+a_check = refl

@@ -27,8 +27,14 @@ site_rule = record (new_rule (codes "site")) {
 }
 
 -- one name or more
+abbrev pub names_rule : Text → Rule
+names_rule name = record (new_rule name) { action = Some Append; required = true }
+
 abbrev pub others_rule : Rule
-others_rule = record (new_rule (codes "other")) { action = Some Append; required = true }
+others_rule = names_rule (codes "other")
+
+abbrev pub files_rule : Rule
+files_rule = names_rule (codes "file")
 
 abbrev pub flag_rule : Text → Rule
 flag_rule name = record (new_rule name) { long = Some name; action = Some SetTrue }
@@ -63,6 +69,16 @@ proof_app = with_rule (sources_app (codes "proof")) (flag_rule (codes "faults"))
 abbrev pub punch_app : App
 punch_app = with_rule (sources_app (codes "punch")) target_rule
 
+-- one text, as the name of a file or what stands in a copy
+abbrev pub text_rule : Text → Rule
+text_rule name = record (new_rule name) { required = true }
+
+abbrev pub replace_app : App
+replace_app = with_rule (with_rule (with_rule (with_rule (with_rule (new_app (codes "replace")) feed_rule) site_rule) (flag_rule (codes "plain"))) (text_rule (codes "old"))) (text_rule (codes "new"))
+
+abbrev pub check_app : App
+check_app = with_rule (new_app (codes "check")) files_rule
+
 abbrev pub no_subcommand : App
 no_subcommand = record {
   top = record (new_app (codes "copydesk")).top { no_binary_name = true; subcommand_required = true; has_version = true };
@@ -71,8 +87,8 @@ no_subcommand = record {
 
 -- the program with its subcommands
 abbrev pub copydesk : App
-copydesk = with_subcommand (with_subcommand (with_subcommand (with_subcommand (with_subcommand (with_subcommand (with_subcommand no_subcommand
-    (new_app (codes "script")).top) desk_app.top) merge_app.top) export_app.top) import_app.top) proof_app.top) punch_app.top
+copydesk = with_subcommand (with_subcommand (with_subcommand (with_subcommand (with_subcommand (with_subcommand (with_subcommand (with_subcommand (with_subcommand no_subcommand
+    (new_app (codes "script")).top) desk_app.top) merge_app.top) export_app.top) import_app.top) replace_app.top) check_app.top) proof_app.top) punch_app.top
 
 -- ---- what a subcommand's matches hold
 
@@ -118,6 +134,8 @@ name_of tasks.Desk = codes "desk"
 name_of tasks.Merge = codes "merge"
 name_of tasks.Export = codes "export"
 name_of tasks.Import = codes "import"
+name_of tasks.Replace = codes "replace"
+name_of tasks.Check = codes "check"
 name_of tasks.Proof = codes "proof"
 name_of tasks.Punch = codes "punch"
 
@@ -128,6 +146,8 @@ task_of (wishes.Desk feed site why) = tasks.Desk
 task_of (wishes.Merge feed others) = tasks.Merge
 task_of (wishes.Export feed) = tasks.Export
 task_of (wishes.Import feed site plain) = tasks.Import
+task_of (wishes.Replace feed site old new plain) = tasks.Replace
+task_of (wishes.Check files) = tasks.Check
 task_of (wishes.Proof from faults) = tasks.Proof
 task_of (wishes.Punch from target) = tasks.Punch
 
@@ -138,6 +158,9 @@ Tells rows (wishes.Desk feed site why) = NamesDesk rows feed.now site × HasFlag
 Tells rows (wishes.Merge feed others) = NamesFeed rows feed.now × (all_of (codes "other") rows ≡ Some (texts_of others.items))
 Tells rows (wishes.Export feed) = NamesFeed rows feed.now
 Tells rows (wishes.Import feed site plain) = NamesDesk rows feed.now site × HasFlag (codes "plain") rows plain
+Tells rows (wishes.Replace feed site old new plain) =
+    NamesDesk rows feed.now site × Names (codes "old") rows old.now × Names (codes "new") rows new.now × HasFlag (codes "plain") rows plain
+Tells rows (wishes.Check files) = all_of (codes "file") rows ≡ Some (texts_of files.items)
 Tells rows (wishes.Proof from faults) = NamesSources rows from × HasFlag (codes "faults") rows faults
 Tells rows (wishes.Punch from target) = NamesSources rows from × Names (codes "output") rows target.now
 
@@ -164,9 +187,9 @@ AsksNothing words = HasFault words ⊎ ((wish : Wish) → AsksFor words wish →
 -- ---- what is made of the matches
 
 -- the names, or that there are none
-abbrev pub AreOthers : Option (List Text) → Option (Vec (Bor Text) Global) → Type 0
-AreOthers asked (Some names) = asked ≡ Some (texts_of names.items)
-AreOthers asked None = asked ≡ None
+abbrev pub AreNames : Option (List Text) → Option (Vec (Bor Text) Global) → Type 0
+AreNames asked (Some names) = asked ≡ Some (texts_of names.items)
+AreNames asked None = asked ≡ None
 
 -- the names of a feed, a case and a wedge, or that they are not all there
 abbrev pub AreSources : List Row → Option Sources → Type 0
@@ -195,5 +218,7 @@ IsLawful (wishes.Desk feed site why) = 1 ≤ site
 IsLawful (wishes.Merge feed others) = Unit {0}
 IsLawful (wishes.Export feed) = Unit {0}
 IsLawful (wishes.Import feed site plain) = 1 ≤ site
+IsLawful (wishes.Replace feed site old new plain) = 1 ≤ site
+IsLawful (wishes.Check files) = Unit {0}
 IsLawful (wishes.Proof from faults) = Unit {0}
 IsLawful (wishes.Punch from target) = Unit {0}

@@ -3,11 +3,11 @@
 ghost use Rattle.std.specs.Prelude.{◌≡◌, IfOk, codes, false};
 ghost use Rattle.clap.specs.Words.{app_of, new_app, rule_of, with_rule};
 ghost use Rattle.clap.specs.declared.builder.command.Command.TheViews.{out-Command};
-ghost use Rattle.desk_words.specs.Words.{copydesk, desk_app, export_app, feed_rule, file_rule, flag_rule, import_app, merge_app, others_rule, proof_app, punch_app, site_rule, sources_app, target_rule};
+ghost use Rattle.desk_words.specs.Words.{check_app, copydesk, desk_app, export_app, feed_rule, file_rule, flag_rule, import_app, merge_app, names_rule, no_subcommand, proof_app, punch_app, replace_app, site_rule, sources_app, target_rule, text_rule};
 
 use crate::help::{
-    COMMANDS, ON_A_FEED, ON_EXPORT, ON_IMPORT, ON_MERGE, ON_PROOF, ON_PUNCH, ON_SUBCOMMANDS,
-    VERSION,
+    COMMANDS, ON_A_FEED, ON_CHECK, ON_EXPORT, ON_IMPORT, ON_MERGE, ON_PROOF, ON_PUNCH, ON_REPLACE,
+    ON_SUBCOMMANDS, VERSION,
 };
 use clap::{Arg, ArgAction, Command, value_parser};
 use std::alloc::{AllocError, Global};
@@ -32,14 +32,23 @@ fn site_arg<'a>(alloc: Global) -> Arg<'a>
         .help("The number of the site whose feed it is, from 1 to 65535.")
 }
 
-fn others_arg<'a>(alloc: Global) -> Arg<'a>
-    ensures rule { rule_of result ≡ others_rule }
+/// One name or more.
+fn names_arg<'a>(alloc: Global, name: &'a str, help: &'a str) -> Arg<'a>
+    ensures rule { rule_of result ≡ names_rule name.now }
     ensures local { result.global ≡ false }
 {
-    Arg::new(alloc, "other")
+    Arg::new(alloc, name)
         .required(true)
         .action(ArgAction::Append)
-        .help("The names of the files whose feeds are merged into it, in this order.")
+        .help(help)
+}
+
+/// One text.
+fn text_arg<'a>(alloc: Global, name: &'a str, help: &'a str) -> Arg<'a>
+    ensures rule { rule_of result ≡ text_rule name.now }
+    ensures local { result.global ≡ false }
+{
+    Arg::new(alloc, name).required(true).help(help)
 }
 
 /// A flag without a value.
@@ -121,7 +130,11 @@ fn merge_command<'a>(alloc: Global) -> Result<Command<'a>, AllocError>
         "Merges the feeds of other files into a stored feed.",
         ON_MERGE,
     )?
-    .arg(others_arg(alloc))
+    .arg(names_arg(
+        alloc,
+        "other",
+        "The names of the files whose feeds are merged into it, in this order.",
+    ))
 }
 
 fn export_command<'a>(alloc: Global) -> Result<Command<'a>, AllocError>
@@ -152,6 +165,44 @@ fn import_command<'a>(alloc: Global) -> Result<Command<'a>, AllocError>
         "plain",
         "Takes every character as Roman: the text has no marks.",
     ))
+}
+
+fn replace_command<'a>(alloc: Global) -> Result<Command<'a>, AllocError>
+    ensures app { IfOk result (λ c. app_of c ≡ replace_app) }
+    ensures local { IfOk result (λ c. (out-Command c).has_globals ≡ false) }
+{
+    on_feed(
+        alloc,
+        "replace",
+        "Makes a text of the copy of a stored feed another, where it stands once.",
+        ON_REPLACE,
+    )?
+    .arg(site_arg(alloc))?
+    .arg(flag_arg(
+        alloc,
+        "plain",
+        "Takes every character of both texts as Roman: they have no marks.",
+    ))?
+    .arg(text_arg(
+        alloc,
+        "old",
+        "The text that stands in the copy, with marks.",
+    ))?
+    .arg(text_arg(alloc, "new", "The text that takes its place, with marks."))
+}
+
+fn check_command<'a>(alloc: Global) -> Result<Command<'a>, AllocError>
+    ensures app { IfOk result (λ c. app_of c ≡ check_app) }
+    ensures local { IfOk result (λ c. (out-Command c).has_globals ≡ false) }
+{
+    Command::new(alloc, "check")
+        .about("Says of files what they are, and what is wrong in them.")
+        .after_help(ON_CHECK)
+        .arg(names_arg(
+            alloc,
+            "file",
+            "The names of feeds, ribbons, cases and wedges.",
+        ))
 }
 
 /// A subcommand with a feed, a case and a wedge.
@@ -195,6 +246,18 @@ fn punch_command<'a>(alloc: Global) -> Result<Command<'a>, AllocError>
     .arg(target_arg(alloc))
 }
 
+/// The program's command without its subcommands.
+fn bare_command<'a>(alloc: Global) -> Command<'a>
+    ensures { app_of result ≡ no_subcommand }
+{
+    Command::new(alloc, "copydesk")
+        .about("A copy desk for Monotype composition.")
+        .after_help(ON_SUBCOMMANDS)
+        .version(VERSION)
+        .no_binary_name(true)
+        .subcommand_required(true)
+}
+
 /// The program's command, with its subcommands.
 pub fn command<'a>(alloc: Global) -> Result<Command<'a>, AllocError>
     ensures { IfOk result (λ c. app_of c ≡ copydesk) }
@@ -204,19 +267,18 @@ pub fn command<'a>(alloc: Global) -> Result<Command<'a>, AllocError>
     let merge = merge_command(alloc)?;
     let export = export_command(alloc)?;
     let import = import_command(alloc)?;
+    let replace = replace_command(alloc)?;
+    let check = check_command(alloc)?;
     let proof = proof_command(alloc)?;
     let punch = punch_command(alloc)?;
-    Command::new(alloc, "copydesk")
-        .about("A copy desk for Monotype composition.")
-        .after_help(ON_SUBCOMMANDS)
-        .version(VERSION)
-        .no_binary_name(true)
-        .subcommand_required(true)
+    bare_command(alloc)
         .subcommand(script)?
         .subcommand(desk)?
         .subcommand(merge)?
         .subcommand(export)?
         .subcommand(import)?
+        .subcommand(replace)?
+        .subcommand(check)?
         .subcommand(proof)?
         .subcommand(punch)
 }

@@ -12,6 +12,10 @@ As in:
   copydesk export one.feed > one.txt        the copy as text
   copydesk import one.feed --site 1 < one.txt
                                             makes that text the copy
+  copydesk replace one.feed --site 1 Tuesday Thursday
+                                            one text for another, where it stands once
+  copydesk check one.feed case12.toml wedge5.toml one.rib
+                                            what files are, and what is wrong in them
   copydesk proof one.feed --case case12.toml --wedge wedge5.toml
                                             its lines as they are cast, and each fault at its text
   copydesk punch one.feed --case case12.toml --wedge wedge5.toml -o one.rib
@@ -79,6 +83,27 @@ A missing feed is made. A carriage return before a line feed is dropped.
 
 Status: 0 the feed is stored; 1 it is not, and nothing has changed: standard error has the cause, of a text
 that is refused by line and column; 2 the words were refused.";
+
+/// What a replacement is.
+pub const ON_REPLACE: &str = "\
+As in: copydesk replace one.feed --site 1 'on Tuesday' 'on _Thursday_'
+
+Both are texts with the marks of `copydesk export`. Where OLD stands once in the copy NEW takes its place, and the
+answer is `ok inserted 8 deleted 2`. Where it stands nowhere, or more than once, nothing is done, and its places stand
+on standard output with what is around them: `place 17: sent out on Tuesday by the`.
+An OLD or a NEW that begins with `-` comes after `--`.
+
+Status: 0 the feed is stored; 1 it is not, and nothing has changed: standard error says why; 2 the words were refused.";
+
+/// What a check is.
+pub const ON_CHECK: &str = "\
+As in: copydesk check one.feed case12.toml wedge5.toml one.rib
+
+Each file is told by its content as a feed, a ribbon, a case or a wedge, and has a line: what is in it, or its
+first fault with its place. Nothing changes.
+
+Status: 0 all files are in order; 1 one is not, or a line was not written, and standard error says why; 2 the words
+were refused.";
 
 /// What a proof is.
 pub const ON_PROOF: &str = "\

@@ -2,7 +2,7 @@
 
 ghost use Rattle.std.specs.Prelude.{◌≡◌, ◌≢◌, ℕ, IfOk, IfSome, IsNone, codes};
 ghost use Rattle.clap.specs.Words.{Text, all_of, found_of, rows_of, subcommand_rows_of};
-ghost use Rattle.desk_words.specs.Words.{AreOthers, AreSources, HasFlag, HasSite, IsTold, IsWished, NamesDesk, name_of};
+ghost use Rattle.desk_words.specs.Words.{AreNames, AreSources, HasFlag, HasSite, IsTold, IsWished, NamesDesk, name_of};
 
 use clap::ArgMatches;
 use std::alloc::{AllocError, Global};
@@ -15,6 +15,8 @@ pub enum Task {
     Merge,
     Export,
     Import,
+    Replace,
+    Check,
     Proof,
     Punch,
 }
@@ -53,6 +55,18 @@ pub enum Wish<'a> {
         site: u16,
         plain: bool,
     },
+    /// A text in the copy of a stored feed, made another by operations of a site, and whether all of both is Roman.
+    Replace {
+        feed: &'a str,
+        site: u16,
+        old: &'a str,
+        new: &'a str,
+        plain: bool,
+    },
+    /// Files, told by their content.
+    Check {
+        files: Vec<&'a str>,
+    },
     /// The galley of a stored feed by a case and a wedge, and whether its faults alone are wanted.
     Proof {
         from: Sources<'a>,
@@ -84,6 +98,12 @@ fn task_named(name: &str) -> Option<Task>
     }
     if name == "import" {
         return Some(Task::Import);
+    }
+    if name == "replace" {
+        return Some(Task::Replace);
+    }
+    if name == "check" {
+        return Some(Task::Check);
     }
     if name == "proof" {
         return Some(Task::Proof);
@@ -144,14 +164,15 @@ fn desk_wish<'a>(matches: &ArgMatches<'a>) -> Option<Wish<'a>>
     }
 }
 
-/// The names of the other feeds that a subcommand's matches hold.
-fn others_of<'a>(
+/// All the names that an argument of a subcommand's matches has.
+fn names_of<'a>(
     alloc: Global,
     matches: &ArgMatches<'a>,
+    argument: &str,
 ) -> Result<Option<Vec<&'a str>>, AllocError>
-    ensures { IfOk result (AreOthers (all_of (codes "other") (rows_of (found_of matches.now)))) }
+    ensures { IfOk result (AreNames (all_of argument.now (rows_of (found_of matches.now)))) }
 {
-    match matches.get_strs("other") {
+    match matches.get_strs(argument) {
         Some(names) => Ok(Some(Vec::from_slice(alloc, names)?)),
         None => Ok(None),
     }
@@ -163,7 +184,7 @@ fn merge_wish<'a>(alloc: Global, matches: &ArgMatches<'a>) -> Result<Option<Wish
     let Some(feed) = matches.get_str("feed") else {
         return Ok(None);
     };
-    match others_of(alloc, matches)? {
+    match names_of(alloc, matches, "other")? {
         Some(others) => Ok(Some(Wish::Merge { feed, others })),
         None => Ok(None),
     }
@@ -188,6 +209,39 @@ fn import_wish<'a>(matches: &ArgMatches<'a>) -> Option<Wish<'a>>
             plain: flag_of(matches, "plain"),
         }),
         None => None,
+    }
+}
+
+fn replace_wish<'a>(matches: &ArgMatches<'a>) -> Option<Wish<'a>>
+    ensures { IsTold (rows_of (found_of matches.now)) Task.Replace result }
+{
+    let Some((feed, site)) = feed_and_site(matches) else {
+        return None;
+    };
+    let Some(old) = matches.get_str("old") else {
+        return None;
+    };
+    match matches.get_str("new") {
+        Some(new) => {
+            let plain = flag_of(matches, "plain");
+            Some(Wish::Replace {
+                feed,
+                site,
+                old,
+                new,
+                plain,
+            })
+        }
+        None => None,
+    }
+}
+
+fn check_wish<'a>(alloc: Global, matches: &ArgMatches<'a>) -> Result<Option<Wish<'a>>, AllocError>
+    ensures { IfOk result (IsTold (rows_of (found_of matches.now)) Task.Check) }
+{
+    match names_of(alloc, matches, "file")? {
+        Some(files) => Ok(Some(Wish::Check { files })),
+        None => Ok(None),
     }
 }
 
@@ -245,6 +299,8 @@ fn told<'a>(
         Task::Merge => merge_wish(alloc, matches),
         Task::Export => Ok(export_wish(matches)),
         Task::Import => Ok(import_wish(matches)),
+        Task::Replace => Ok(replace_wish(matches)),
+        Task::Check => check_wish(alloc, matches),
         Task::Proof => Ok(proof_wish(matches)),
         Task::Punch => Ok(punch_wish(matches)),
     }

@@ -5,6 +5,7 @@ use Rattle.desk_hand.specs.Merging.{IsMerged, IsUnmerged}
 use Rattle.desk_hand.specs.declared.fault.HandFault.{HandFault}
 use Rattle.desk_words.specs.Words.{texts_of}
 use Rattle.copydesk.specs.Runs.{Does, Stops}
+use Rattle.copydesk.specs.Texts.{AreFound, AreNotInOrder}
 use Rattle.copydesk.proofs.Statuses.{done_of, halt_of}
 use Rattle.copydesk.proofs.program.fulfilled.Goals as goal
 
@@ -59,3 +60,25 @@ pub returns-in-Punch-clause-stopped : goal.returns-in-Punch-clause-stopped
 returns-in-Punch-clause-stopped g c one =
     subst (λ w. Stops w (g.F.Files.shelf c.args.files.now) (g.F.Files.shelf c.punched.new.files) (g.R.Read.remaining c.args.reader.now) (g.W.Write.contents c.args.writer.now) (g.W.Write.contents c.punched.new.writer)) (sym c.in-Punch.is)
     (c.punched.ensures.stopped one)
+
+pub returns-in-Replace-clause-done : goal.returns-in-Replace-clause-done
+returns-in-Replace-clause-done g c zero =
+    subst (λ w. Does w (g.F.Files.shelf c.args.files.now) (g.F.Files.shelf c.replaced.new.files) (g.R.Read.remaining c.args.reader.now) (g.W.Write.contents c.args.writer.now) (g.W.Write.contents c.replaced.new.writer)) (sym c.in-Replace.is)
+    (c.replaced.ensures.done zero)
+
+pub returns-in-Replace-clause-stopped : goal.returns-in-Replace-clause-stopped
+returns-in-Replace-clause-stopped g c one =
+    subst (λ w. Stops w (g.F.Files.shelf c.args.files.now) (g.F.Files.shelf c.replaced.new.files) (g.R.Read.remaining c.args.reader.now) (g.W.Write.contents c.args.writer.now) (g.W.Write.contents c.replaced.new.writer)) (sym c.in-Replace.is)
+    (c.replaced.ensures.stopped one)
+
+pub returns-in-Check-clause-done : goal.returns-in-Check-clause-done
+returns-in-Check-clause-done g c zero =
+    subst (λ w. Does w (g.F.Files.shelf c.args.files.now) (g.F.Files.shelf c.checked.new.files) (g.R.Read.remaining c.args.reader.now) (g.W.Write.contents c.args.writer.now) (g.W.Write.contents c.checked.new.writer)) (sym c.in-Check.is)
+    (subst (λ (l : List (Bor Text)). AreFound (texts_of l) (g.F.Files.shelf c.args.files.now) (g.F.Files.shelf c.checked.new.files) (g.W.Write.contents c.args.writer.now) (g.W.Write.contents c.checked.new.writer)) c.deref-in-Check.ensures.value
+    (c.checked.ensures.done zero))
+
+pub returns-in-Check-clause-stopped : goal.returns-in-Check-clause-stopped
+returns-in-Check-clause-stopped g c one =
+    subst (λ w. Stops w (g.F.Files.shelf c.args.files.now) (g.F.Files.shelf c.checked.new.files) (g.R.Read.remaining c.args.reader.now) (g.W.Write.contents c.args.writer.now) (g.W.Write.contents c.checked.new.writer)) (sym c.in-Check.is)
+    (subst (λ (l : List (Bor Text)). AreNotInOrder (texts_of l) (g.F.Files.shelf c.args.files.now) (g.F.Files.shelf c.checked.new.files) (g.W.Write.contents c.args.writer.now) (g.W.Write.contents c.checked.new.writer)) c.deref-in-Check.ensures.value
+    (c.checked.ensures.stopped one))

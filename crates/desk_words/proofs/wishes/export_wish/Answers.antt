@@ -8,4 +8,4 @@ pub returns-in-Some : goal.returns-in-Some
 returns-in-Some c = (refl, named (codes "feed") (found_of c.args.matches.now) c.get_str.result c.in-Some.feed c.get_str.ensures c.in-Some.is)
 
 pub returns-in-None : goal.returns-in-None
-returns-in-None c = no_feed (rows_of (found_of c.args.matches.now)) tasks.Export (unnamed (codes "feed") (found_of c.args.matches.now) c.get_str.result c.get_str.ensures c.in-None.is) (λ e. cc)
+returns-in-None c = no_feed (rows_of (found_of c.args.matches.now)) tasks.Export (unnamed (codes "feed") (found_of c.args.matches.now) c.get_str.result c.get_str.ensures c.in-None.is) (λ e. cc) (λ e. cc)
