@@ -10,7 +10,7 @@ lines. Then all growths from one on are refused, for each twentieth, and the sam
 refusal, of the wedge or the case file too, whose text `toml` reads with the global allocator. On a stored feed a run may end
 so also at its end, where it stores; the file holds the old feed then, and the followed one after an end with status 0. Words
 that are refused or ask for help keep their status, or end in that way too. A merge, an export and an import are done as with
-all memory, or end so with the stored feed as it was.
+all memory, or end so with the stored feed as it was; a proof and a punch too, with no ribbon.
 """
 import functools
 import os
@@ -347,6 +347,44 @@ def by_hand(program, folder, library):
     return sweep
 
 
+SETTINGS = """set 1 measure 120
+set 1 tight 40
+set 1 loose 200
+set 1 case 12
+set 1 wedge 5
+insert 1 0 r"Send word by noon at the latest."
+"""
+
+
+def previews(program, folder, library):
+    """A proof and a punch: done as undisturbed, or ended for want of memory, and then no ribbon is there."""
+    ribbon = os.path.join(folder, "preview.rib")
+    subprocess.run([program, "desk", "preview.feed", "--site", "1"], input=SETTINGS.encode(), cwd=folder, capture_output=True, check=True)
+
+    def once(runs, number, always):
+        if os.path.exists(ribbon):
+            os.remove(ribbon)
+        got = runs.run(number, always)
+        if not os.path.exists(ribbon):
+            return got[0], got[1], got[2], None
+        with open(ribbon, "rb") as file:
+            return got[0], got[1], got[2], file.read()
+
+    sweep = Sweep(Runs(program, [], "", folder, library))
+    metal = "preview.feed --case case12.toml --wedge wedge5.toml"
+    for words in ("proof " + metal, "proof --faults " + metal, "punch -o preview.rib " + metal):
+        runs = Runs(program, words.split(), "", folder, library)
+        whole = once(runs, 0, False)
+        sweep.note(words, None if whole[0] == 0 and not whole[2] else "ended with %d and %r" % (whole[0], whole[2]))
+        growths = runs.count()
+        for number, always in [(k, False) for k in range(1, growths + 1)] + [(k, True) for k in range(1, growths + 1, 20)]:
+            got = once(runs, number, always)
+            ended = got[0] == 1 and got[2].startswith(b"copydesk: no memory\n") and whole[1].startswith(got[1]) and got[3] is None
+            sweep.early += ended
+            sweep.note("%s, growth %d" % (words, number), None if ended or got == whole else "ended with %d, %r and %r" % got[:3])
+    return sweep
+
+
 # the commands that a run of the script was seen to refuse for want of memory, and those that it stopped
 LACKING = {(name, False) for name in ("site", "insert", "take", "send", "merge", "show", "faults", "settings", "feed", "ribbon", "cast", "restart")}
 
@@ -356,7 +394,7 @@ def main():
     with tempfile.TemporaryDirectory() as folder:
         library, failed, lacked = shim(folder), False, set()
         files(folder)
-        for name, part in (("first script", first), ("script", script), ("bad files", bad_files), ("words", words), ("stored feed", stored), ("by hand", by_hand)):
+        for name, part in (("first script", first), ("script", script), ("bad files", bad_files), ("words", words), ("stored feed", stored), ("by hand", by_hand), ("previews", previews)):
             sweep = part(program, folder, library)
             for fault in sweep.faults[:20]:
                 print(fault)

@@ -2,6 +2,7 @@
 # The words of the command line, of the program as built: words.sh [PROGRAM].
 set -euo pipefail
 program=$(realpath "${1:-$(dirname "$0")/../crates/copydesk/out/copydesk}")
+examples=$(realpath "$(dirname "$0")/../examples")
 folder=$(mktemp -d)
 trap 'rm -rf "$folder"' EXIT
 cd "$folder"
@@ -80,10 +81,62 @@ expect 0 "" export a.feed
 exec 3>&-
 expect 0 "" merge a.feed b.feed
 
+# A galley is shown, and its ribbon stored: the bytes are those that the command `ribbon` answers.
+cp "$examples/case12.toml" "$examples/wedge5.toml" .
+metal=(--case case12.toml --wedge wedge5.toml)
+expect 2 error: proof c.feed --case case12.toml
+expect 2 error: punch c.feed "${metal[@]}"
+expect 1 "copydesk: file fault
+c.feed: it cannot be read" proof c.feed "${metal[@]}"
+expect 0 "" import c.feed --site 1
+expect 1 "" proof c.feed "${metal[@]}"
+[ "$(cat written)" = "no galley: the setting measure has no value" ]
+expect 1 "copydesk: no ribbon" punch c.feed "${metal[@]}" -o c.rib
+[ "$(cat written)" = "no ribbon: missing measure" ]
+[ ! -e c.rib ]
+cat > commands <<'END'
+set 1 measure 150
+set 1 tight 40
+set 1 loose 200
+set 1 case 12
+set 1 wedge 5
+insert 1 0 r"The last sheets are in the galleys again. Send word by noon at latest."
+END
+"$program" desk c.feed --site 1 < commands > written
+cp c.feed before.feed
+expect 0 "" proof c.feed "${metal[@]}"
+[[ "$(head -1 written)" = "GALLEY 3 lines, 0 at fault, measure 150 points, tight 40, loose 200" ]]
+grep -q 'The last sheets are in the' written
+expect 0 "" proof c.feed --faults "${metal[@]}"
+[ "$(wc -l < written)" = 1 ]
+expect 0 "" punch c.feed "${metal[@]}" -o c.rib
+[ ! -s written ] && [ ! -e c.rib.new ]
+echo 'ribbon 1 case12.toml wedge5.toml' | "$program" desk c.feed --site 1 > written
+[ "$(cat written)" = "ribbon $(od -An -v -tx1 c.rib | tr -d ' \n')" ]
+cmp c.feed before.feed
+echo 'set 1 loose 50' | "$program" desk c.feed --site 1 > written
+cp c.rib before.rib
+expect 1 "copydesk: no ribbon" punch c.feed "${metal[@]}" --output c.rib
+cmp c.rib before.rib
+expect 1 "" proof c.feed "${metal[@]}" --faults
+grep -q '^line 1: too loose (wedge sum [0-9]*, limit 50), places 0\.\.26$' written
+expect 1 "copydesk: input refused
+wedge5.toml: a key of a case is missing" proof c.feed --case wedge5.toml --wedge wedge5.toml
+expect 1 "copydesk: input refused
+case12.toml: a key of a wedge is missing" punch c.feed --case case12.toml --wedge case12.toml -o c.rib
+expect 1 "copydesk: input refused
+case13.toml or wedge5.toml: it cannot be read" punch c.feed --case case13.toml --wedge wedge5.toml -o c.rib
+echo 'set 1 loose 200' | "$program" desk c.feed --site 1 > written
+expect 1 "copydesk: file fault
+none/c.rib" punch c.feed "${metal[@]}" -o none/c.rib
+got=0
+"$program" proof c.feed "${metal[@]}" 2> faults > /dev/full || got=$?
+[ "$got" = 1 ] && [ "$(head -1 faults)" = "copydesk: write fault" ]
+
 # Help names the program, the words and every command.
 [ "$("$program" --version)" = "copydesk 0.2.0" ]
 told=$("$program" --help)
-for command in script desk merge export import; do
+for command in script desk merge export import proof punch; do
   if [[ "$told" != *"copydesk $command"* ]] || [[ "$("$program" "$command" --help)" != *"As in: copydesk $command "*"Status: 0"* && $command != script ]]; then
     echo "the help does not name $command" >&2
     exit 1

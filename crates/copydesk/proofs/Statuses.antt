@@ -1,6 +1,6 @@
 -- What a status says of a run.
-use Rattle.std.proofs.Common.{◌≡◌, ℕ, sym, ◌∙◌, arith}
-use Rattle.std.specs.Prelude.{Result, Ok, Err, MatchResult, IfErr, OnOk}
+use Rattle.std.proofs.Common.{◌≡◌, ◌⊎◌, inl, inr, ℕ, Bool, true, false, refl, sym, ◌∙◌, arith}
+use Rattle.std.specs.Prelude.{Result, Ok, Err, MatchResult, IfErr, IfOk, OnOk}
 
 -- the status 0
 pub done_of : {A E X : Type 0} (r : Result A E) (status : ℕ) → MatchResult r (λ _. status ≡ 0) (λ _. status ≡ 1) → OnOk r X → status ≡ 0 → X
@@ -17,3 +17,28 @@ halt_of (Ok a) Why status told why one =
     let bad : 0 ≡ 1 = sym none ∙ one in
     absurd (omega arith)
 halt_of (Err e) Why status told why one = (e, why)
+
+-- the status of an answer that is yes or no
+abbrev pub TellsOf : {E : Type 0} → Result Bool E → ℕ → Type 0
+TellsOf r status = MatchResult r (λ (yes : Bool). (yes ≡ true → status ≡ 0) × (yes ≡ false → status ≡ 1)) (λ _. status ≡ 1)
+
+-- the status 0: yes
+pub yes_of : {E : Type 0} (r : Result Bool E) (X : Bool → Type 0) (status : ℕ) → TellsOf r status → IfOk r X → status ≡ 0 → X true
+yes_of (Ok true) X status told x zero = x
+yes_of (Ok false) X status told x zero =
+    let one : status ≡ 1 = told.1 refl in
+    let bad : 1 ≡ 0 = sym one ∙ zero in
+    absurd (omega arith)
+yes_of (Err e) X status told x zero =
+    let one : status ≡ 1 = told in
+    let bad : 1 ≡ 0 = sym one ∙ zero in
+    absurd (omega arith)
+
+-- the status 1: no, or a fault
+pub no_of : {E : Type 0} (r : Result Bool E) (X : Bool → Type 0) (Why : E → Type 0) (status : ℕ) → TellsOf r status → IfOk r X → IfErr r Why → status ≡ 1 → X false ⊎ ((e : E) × Why e)
+no_of (Ok true) X Why status told x why one =
+    let none : status ≡ 0 = told.0 refl in
+    let bad : 0 ≡ 1 = sym none ∙ one in
+    absurd (omega arith)
+no_of (Ok false) X Why status told x why one = inl x
+no_of (Err e) X Why status told x why one = inr (e, why)

@@ -1,2 +1,3 @@
+pub mod Previews
 pub mod Runs
 pub mod Host

@@ -12,16 +12,19 @@ use Rattle.desk_script.specs.Desk.{desk}
 use Rattle.desk_script.specs.Script.{Answers, AnswersFront}
 use Rattle.desk_script.specs.Stored.{AnswersStored, IsHalted}
 use Rattle.desk_words.specs.Words.{AsksFor, texts_of}
+use Rattle.copydesk.specs.Previews.{IsInFile, IsInNoFile, IsSeen, IsUnseen}
 use Rattle.desk_words.specs.declared.wishes.Wish.{Wish}
 use Rattle.desk_words.specs.declared.wishes.Wish.TheVariants as wishes
 
--- what is asked for was done; a script and an export change no file
+-- what is asked for was done; a script, an export and a proof change no file
 abbrev pub Does : Wish → Shelf → Shelf → Option (List ℕ) → Option (List ℕ) → Option (List ℕ) → Type 0
 Does wishes.Script first last input before after = Stays first last × IfSome input (λ bytes. (new : Sites) × Answers (desk no_sites first) (desk new last) bytes before after)
 Does (wishes.Desk feed site why) first last input before after = AnswersStored feed.now site first last input before after
 Does (wishes.Merge feed others) first last input before after = IsMerged feed.now (texts_of others.items) first last before after
 Does (wishes.Export feed) first last input before after = Stays first last × IsExported feed.now first before after
 Does (wishes.Import feed site plain) first last input before after = IsImported feed.now site plain first last input before after
+Does (wishes.Proof from faults) first last input before after = IsSeen from faults first last before after
+Does (wishes.Punch from target) first last input before after = IsInFile from target.now first last before after
 
 -- it was begun and stopped, and this is what it left
 abbrev pub Stops : Wish → Shelf → Shelf → Option (List ℕ) → Option (List ℕ) → Option (List ℕ) → Type 0
@@ -30,6 +33,8 @@ Stops (wishes.Desk feed site why) first last input before after = (fault : RunFa
 Stops (wishes.Merge feed others) first last input before after = (fault : HandFault) × IsUnmerged feed.now (texts_of others.items) first last before after fault
 Stops (wishes.Export feed) first last input before after = Stays first last × (fault : HandFault) × IsUnexported feed.now first last before after fault
 Stops (wishes.Import feed site plain) first last input before after = (fault : HandFault) × IsUnimported feed.now site plain first last input before after fault
+Stops (wishes.Proof from faults) first last input before after = IsUnseen from faults first last before after
+Stops (wishes.Punch from target) first last input before after = IsInNoFile from target.now first last before after
 
 -- what the words ask for was done
 abbrev pub IsRun : Shelf → Shelf → List Text → Option (List ℕ) → Option (List ℕ) → Option (List ℕ) → Type 0

@@ -6,6 +6,7 @@ ghost use Rattle.std.specs.IoError.{error_kind};
 
 mod hold;
 mod host;
+mod previews;
 mod program;
 mod telling;
 mod trouble;

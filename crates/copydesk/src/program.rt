@@ -5,6 +5,7 @@ ghost use Rattle.clap.specs.Words.{kind_of};
 ghost use Rattle.copydesk.specs.Runs.{Does, IsRun, IsStopped, Stops};
 ghost use Rattle.desk_words.specs.Words.{AsksHelp, AsksNothing, IsLawful};
 
+use crate::previews::{proofed, punched};
 use crate::telling::{hand_status, status_of, status_on, stopped};
 use crate::trouble::Explains;
 use clap::Error;
@@ -50,6 +51,11 @@ fn fulfilled<R: Read, W: Write, E: Write, F: Files + Explains>(
             let outcome = import_text(alloc, reader, writer, files, feed, *site, *plain);
             hand_status(faults, files, feed, &[], outcome)
         }
+        Wish::Proof {
+            from,
+            faults: alone,
+        } => proofed(alloc, from, *alone, writer, faults, files),
+        Wish::Punch { from, target } => punched(alloc, from, target, writer, faults, files),
     }
 }
 

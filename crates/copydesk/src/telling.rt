@@ -70,7 +70,7 @@ pub fn status_on<E: Write, F: Explains>(
 }
 
 /// Writes a line on why the feed of a file does not come in: the file, and the cause.
-fn explain_feed<E: Write, F: Explains>(
+pub fn explain_feed<E: Write, F: Explains>(
     faults: &mut E,
     files: &F,
     feed: &str,

@@ -114,6 +114,8 @@ fn refused_words(rt: HostRuntime) -> Result<(), Fail> {
     assert!(rt; is_refused(&tried(rt.alloc(), "export", TWO_SITES)?));
     assert!(rt; is_refused(&tried(rt.alloc(), "import a.feed", TWO_SITES)?));
     assert!(rt; is_refused(&tried(rt.alloc(), "import a.feed --site 0", TWO_SITES)?));
+    assert!(rt; is_refused(&tried(rt.alloc(), "proof a.feed --case c", TWO_SITES)?));
+    assert!(rt; is_refused(&tried(rt.alloc(), "punch a.feed --case c --wedge w", TWO_SITES)?));
     Ok(())
 }
 
@@ -375,5 +377,121 @@ fn refused_text(rt: HostRuntime) -> Result<(), Fail> {
         b"copydesk: line 2, column 1: a backslash that escapes nothing\n".as_slice()
     );
     assert!(rt; holds(&files, "a.feed", ONE_INSERT));
+    Ok(())
+}
+
+const BLANK_ROW: &[u8] =
+    b"[\"\",\"\",\"\",\"\",\"\",\"\",\"\",\"\",\"\",\"\",\"\",\"\",\"\",\"\",\"\"],";
+
+const WEDGE: &[u8] =
+    b"wedge = 5\nset_q = 48\npica = \"sixth\"\nunits = [5, 6, 7, 8, 9, 9, 9, 10, 10, 11, 12, 13, 14, 15, 18]\n";
+
+/// A case without symbols, a wedge, and a feed without settings.
+fn metal(alloc: Global) -> Result<TrialFiles<Global>, AllocError> {
+    let mut case = Vec::new(alloc);
+    case.extend_from_slice(b"case = 1\nspace = \"G1\"\nfill = [\"O15\", \"A5\"]\nrows = [")?;
+    for _ in 0..15 {
+        case.extend_from_slice(BLANK_ROW)?;
+    }
+    case.extend_from_slice(b"]\n")?;
+    let mut files = TrialFiles::new(alloc);
+    files.put("a.feed", b"MFD2")?;
+    files.put("c", &case)?;
+    files.put("w", WEDGE)?;
+    files.put("b", b"wedge =")?;
+    Ok(files)
+}
+
+/// Gives the feed its settings, and a copy of one empty paragraph.
+fn set(alloc: Global, files: &mut TrialFiles<Global>) -> Result<bool, AllocError> {
+    let commands =
+        b"set 1 measure 120\nset 1 tight 38\nset 1 loose 150\nset 1 case 1\nset 1 wedge 5\ninsert 1 0 r\"\\n\"\n";
+    let got = tried_on(alloc, "desk a.feed --site 1", commands, files)?;
+    Ok(got.status == 0)
+}
+
+/// Whether a run ended with this status, and this was written and told.
+fn ended(got: &Outcome, status: u8, written: &[u8], told: &[u8]) -> bool {
+    got.status == status && got.written.written() == written && got.faults.written() == told
+}
+
+#[test]
+fn galley_is_proofed(rt: HostRuntime) -> Result<(), Fail> {
+    let mut files = metal(rt.alloc())?;
+    let got = tried_on(
+        rt.alloc(),
+        "proof a.feed --case c --wedge w",
+        b"",
+        &mut files,
+    )?;
+    let none = b"no galley: the setting measure has no value\n";
+    assert!(rt; ended(&got, 1, none, b""));
+    assert!(rt; set(rt.alloc(), &mut files)?);
+    let mut files = files.for_next_run();
+    let line = "proof a.feed --faults --wedge w --case c";
+    let got = tried_on(rt.alloc(), line, b"", &mut files)?;
+    let clean = b"GALLEY 1 lines, 0 at fault, measure 120 points, tight 38, loose 150\n";
+    assert!(rt; ended(&got, 0, clean, b""));
+    let got = tried_on(
+        rt.alloc(),
+        "proof a.feed --case c --wedge b",
+        b"",
+        &mut files,
+    )?;
+    assert!(rt;
+        ended(
+            &got,
+            1,
+            b"",
+            b"copydesk: input refused\nb: it is not TOML\n"
+        )
+    );
+    let got = tried_on(
+        rt.alloc(),
+        "proof a.feed --case d --wedge w",
+        b"",
+        &mut files,
+    )?;
+    assert!(rt;
+        ended(
+            &got,
+            1,
+            b"",
+            b"copydesk: input refused\nd or w: a call failed\n"
+        )
+    );
+    Ok(())
+}
+
+#[test]
+fn ribbon_is_punched(rt: HostRuntime) -> Result<(), Fail> {
+    let mut files = metal(rt.alloc())?;
+    let line = "punch a.feed --case c --wedge w -o a.rib";
+    let got = tried_on(rt.alloc(), line, b"", &mut files)?;
+    let none = b"no ribbon: missing measure\n";
+    assert!(rt; ended(&got, 1, none, b"copydesk: no ribbon\n"));
+    assert!(rt; files.bytes_of("a.rib").is_none());
+    assert!(rt; set(rt.alloc(), &mut files)?);
+    let mut files = files.for_next_run();
+    let got = tried_on(rt.alloc(), line, b"", &mut files)?;
+    assert!(rt; ended(&got, 0, b"", b""));
+    match files.bytes_of("a.rib") {
+        Some(kept) => assert!(rt; kept.starts_with(b"MRB1")),
+        None => return Err(Fail::new("no ribbon")),
+    }
+    let got = tried_on(
+        rt.alloc(),
+        "punch b.feed --case c --wedge w --output a.rib",
+        b"",
+        &mut files,
+    )?;
+    assert!(rt;
+        ended(
+            &got,
+            1,
+            b"",
+            b"copydesk: file fault\nb.feed: a call failed\n"
+        )
+    );
     Ok(())
 }

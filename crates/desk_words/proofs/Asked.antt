@@ -7,7 +7,8 @@ use Rattle.clap.specs.Matches.{ReadsOne}
 use Rattle.clap.specs.Words.{Row, Text, all_of, fault_of, first_value, one_of, rows_of, subcommand_of}
 use Rattle.clap.specs.declared.parser.matches.Found.{Found}
 use Rattle.clap.proofs.WalkLemmas.{first_value-rows}
-use Rattle.desk_words.specs.Words.{HasSite, IsAsked, IsWished, NamesDesk, NamesFeed, Tells, copydesk, task_of}
+use Rattle.desk_words.specs.Words.{HasSite, IsAsked, IsWished, Names, NamesDesk, NamesFeed, NamesSources, Tells, copydesk, task_of}
+use Rattle.desk_words.specs.declared.wishes.Sources.{Sources}
 use Rattle.desk_words.specs.declared.wishes.Task.{Task}
 use Rattle.desk_words.specs.declared.wishes.Task.TheVariants as tasks
 use Rattle.desk_words.specs.declared.wishes.Wish.{Wish}
@@ -42,14 +43,14 @@ zero_site E G only rows asked r is same value n (text, found, (numeral, number),
     let bad : 1 ≤ 0 = subst (λ k. 1 ≤ k) none least in
     absurd (omega arith)
 
--- ---- the name of a feed
+-- ---- the name that an argument gives
 
-pub named_feed : (f : Found) (r : Option (Bor Text)) (feed : Bor Text) → option_map (λ s. s.now) r ≡ first_value f (codes "feed") → r ≡ Some feed → NamesFeed (rows_of f) feed.now
-named_feed f r feed got is = sym (first_value-rows f (codes "feed")) ∙ sym got ∙ ap (option_map (λ s. s.now)) is
+pub named : (argument : Text) (f : Found) (r : Option (Bor Text)) (name : Bor Text) → option_map (λ s. s.now) r ≡ first_value f argument → r ≡ Some name → Names argument (rows_of f) name.now
+named argument f r name got is = sym (first_value-rows f argument) ∙ sym got ∙ ap (option_map (λ s. s.now)) is
 
-pub unnamed_feed : (f : Found) (r : Option (Bor Text)) → option_map (λ s. s.now) r ≡ first_value f (codes "feed") → r ≡ None → (feed : Text) → NamesFeed (rows_of f) feed → ⊥
-unnamed_feed f r got is feed names =
-    let empty : None ≡ Some feed = sym (ap (option_map (λ s. s.now)) is) ∙ got ∙ first_value-rows f (codes "feed") ∙ names in
+pub unnamed : (argument : Text) (f : Found) (r : Option (Bor Text)) → option_map (λ s. s.now) r ≡ first_value f argument → r ≡ None → (name : Text) → Names argument (rows_of f) name → ⊥
+unnamed argument f r got is name names =
+    let empty : None ≡ Some name = sym (ap (option_map (λ s. s.now)) is) ∙ got ∙ first_value-rows f argument ∙ names in
     cc
 
 -- ---- what is lacking
@@ -61,6 +62,8 @@ no_feed rows task none other (wishes.Desk feed site why) is tells = none feed.no
 no_feed rows task none other (wishes.Merge feed others) is tells = none feed.now tells.0
 no_feed rows task none other (wishes.Export feed) is tells = none feed.now tells
 no_feed rows task none other (wishes.Import feed site plain) is tells = none feed.now tells.0.0
+no_feed rows task none other (wishes.Proof from faults) is tells = none from.feed.now tells.0.0
+no_feed rows task none other (wishes.Punch from target) is tells = none from.feed.now tells.0.0
 
 -- without a feed's name and a site no desk is told
 pub no_desk : (rows : List Row) → ((feed : Text) (site : ℕ) → NamesDesk rows feed site → ⊥) → (wish : Wish) → task_of wish ≡ tasks.Desk → Tells rows wish → ⊥
@@ -69,6 +72,8 @@ no_desk rows none (wishes.Desk feed site why) is tells = none feed.now site tell
 no_desk rows none (wishes.Merge feed others) is tells = cc
 no_desk rows none (wishes.Export feed) is tells = cc
 no_desk rows none (wishes.Import feed site plain) is tells = cc
+no_desk rows none (wishes.Proof from faults) is tells = cc
+no_desk rows none (wishes.Punch from target) is tells = cc
 
 -- and no import
 pub no_import : (rows : List Row) → ((feed : Text) (site : ℕ) → NamesDesk rows feed site → ⊥) → (wish : Wish) → task_of wish ≡ tasks.Import → Tells rows wish → ⊥
@@ -77,6 +82,8 @@ no_import rows none (wishes.Desk feed site why) is tells = cc
 no_import rows none (wishes.Merge feed others) is tells = cc
 no_import rows none (wishes.Export feed) is tells = cc
 no_import rows none (wishes.Import feed site plain) is tells = none feed.now site tells.0
+no_import rows none (wishes.Proof from faults) is tells = cc
+no_import rows none (wishes.Punch from target) is tells = cc
 
 -- without other names no merge is told
 pub no_merge : (rows : List Row) → all_of (codes "other") rows ≡ None → (wish : Wish) → task_of wish ≡ tasks.Merge → Tells rows wish → ⊥
@@ -87,6 +94,28 @@ no_merge rows none (wishes.Merge feed others) is tells =
     cc
 no_merge rows none (wishes.Export feed) is tells = cc
 no_merge rows none (wishes.Import feed site plain) is tells = cc
+no_merge rows none (wishes.Proof from faults) is tells = cc
+no_merge rows none (wishes.Punch from target) is tells = cc
+
+-- without the names of a feed, a case and a wedge no proof is told
+pub no_proof : (rows : List Row) → ((from : Sources) → NamesSources rows from → ⊥) → (wish : Wish) → task_of wish ≡ tasks.Proof → Tells rows wish → ⊥
+no_proof rows none wishes.Script is tells = cc
+no_proof rows none (wishes.Desk feed site why) is tells = cc
+no_proof rows none (wishes.Merge feed others) is tells = cc
+no_proof rows none (wishes.Export feed) is tells = cc
+no_proof rows none (wishes.Import feed site plain) is tells = cc
+no_proof rows none (wishes.Proof from faults) is tells = none from tells.0
+no_proof rows none (wishes.Punch from target) is tells = cc
+
+-- and without them and a target's no punch
+pub no_punch : (rows : List Row) → ((from : Sources) (target : Text) → NamesSources rows from → Names (codes "output") rows target → ⊥) → (wish : Wish) → task_of wish ≡ tasks.Punch → Tells rows wish → ⊥
+no_punch rows none wishes.Script is tells = cc
+no_punch rows none (wishes.Desk feed site why) is tells = cc
+no_punch rows none (wishes.Merge feed others) is tells = cc
+no_punch rows none (wishes.Export feed) is tells = cc
+no_punch rows none (wishes.Import feed site plain) is tells = cc
+no_punch rows none (wishes.Proof from faults) is tells = cc
+no_punch rows none (wishes.Punch from target) is tells = none from target.now tells.0 tells.1
 
 -- ---- words without a fault
 

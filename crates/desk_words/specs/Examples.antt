@@ -76,3 +76,23 @@ no_words = refl
 one_word_more : fault_of copydesk (codes "script" ∷ codes "now" ∷ []) ≡ kind.UnknownArgument ∷ []
 unfolding clap_on_literals
 one_word_more = refl
+
+proofed : Option (Text × List Row) → Option (Text × (Option Text × (Option Text × Option Text)))
+proofed = option_map (λ p. (p.0, (first_of (codes "case") p.1, (first_of (codes "wedge") p.1, one_of (codes "faults") p.1))))
+
+a_proof : proofed (subcommand_of copydesk (codes "proof" ∷ codes "a.feed" ∷ codes "--case" ∷ codes "c.toml" ∷ codes "--faults" ∷ codes "--wedge=w.toml" ∷ []))
+    ≡ Some (codes "proof", (Some (codes "c.toml"), (Some (codes "w.toml"), Some (codes "true"))))
+unfolding clap_on_literals proofed
+a_proof = refl
+
+punched : Option (Text × List Row) → Option (Text × (Option Text × (Option Text × Option Text)))
+punched = option_map (λ p. (p.0, (first_of (codes "case") p.1, (first_of (codes "wedge") p.1, first_of (codes "output") p.1))))
+
+a_punch : punched (subcommand_of copydesk (codes "punch" ∷ codes "a.feed" ∷ codes "--case" ∷ codes "c.toml" ∷ codes "--wedge" ∷ codes "w.toml" ∷ codes "-o" ∷ codes "a.rib" ∷ []))
+    ≡ Some (codes "punch", (Some (codes "c.toml"), (Some (codes "w.toml"), Some (codes "a.rib"))))
+unfolding clap_on_literals punched
+a_punch = refl
+
+a_punch_without_a_target : fault_of copydesk (codes "punch" ∷ codes "a.feed" ∷ codes "--case" ∷ codes "c.toml" ∷ codes "--wedge" ∷ codes "w.toml" ∷ []) ≡ kind.MissingRequiredArgument ∷ []
+unfolding clap_on_literals
+a_punch_without_a_target = refl

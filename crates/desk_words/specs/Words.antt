@@ -8,6 +8,7 @@ use Rattle.clap.specs.declared.builder.action.ArgAction.TheVariants.{Append, Set
 use Rattle.clap.specs.declared.builder.value_parser.ValueParser.TheVariants as parsers
 use Rattle.clap.specs.declared.error.kind.ErrorKind.{ErrorKind}
 use Rattle.clap.specs.declared.error.kind.ErrorKind.TheVariants as kind
+use Rattle.desk_words.specs.declared.wishes.Sources.{Sources}
 use Rattle.desk_words.specs.declared.wishes.Task.{Task}
 use Rattle.desk_words.specs.declared.wishes.Task.TheVariants as tasks
 use Rattle.desk_words.specs.declared.wishes.Wish.{Wish}
@@ -32,6 +33,14 @@ others_rule = record (new_rule (codes "other")) { action = Some Append; required
 abbrev pub flag_rule : Text → Rule
 flag_rule name = record (new_rule name) { long = Some name; action = Some SetTrue }
 
+-- an option with the name of a file
+abbrev pub file_rule : Text → Rule
+file_rule name = record (new_rule name) { long = Some name; required = true }
+
+-- `--output` or `-o`
+abbrev pub target_rule : Rule
+target_rule = record (file_rule (codes "output")) { short = Some 111 }
+
 abbrev pub desk_app : App
 desk_app = with_rule (with_rule (with_rule (new_app (codes "desk")) feed_rule) site_rule) (flag_rule (codes "why"))
 
@@ -44,6 +53,16 @@ export_app = with_rule (new_app (codes "export")) feed_rule
 abbrev pub import_app : App
 import_app = with_rule (with_rule (with_rule (new_app (codes "import")) feed_rule) site_rule) (flag_rule (codes "plain"))
 
+-- a feed, a case and a wedge
+abbrev pub sources_app : Text → App
+sources_app name = with_rule (with_rule (with_rule (new_app name) feed_rule) (file_rule (codes "case"))) (file_rule (codes "wedge"))
+
+abbrev pub proof_app : App
+proof_app = with_rule (sources_app (codes "proof")) (flag_rule (codes "faults"))
+
+abbrev pub punch_app : App
+punch_app = with_rule (sources_app (codes "punch")) target_rule
+
 abbrev pub no_subcommand : App
 no_subcommand = record {
   top = record (new_app (codes "copydesk")).top { no_binary_name = true; subcommand_required = true; has_version = true };
@@ -52,8 +71,8 @@ no_subcommand = record {
 
 -- the program with its subcommands
 abbrev pub copydesk : App
-copydesk = with_subcommand (with_subcommand (with_subcommand (with_subcommand (with_subcommand no_subcommand
-    (new_app (codes "script")).top) desk_app.top) merge_app.top) export_app.top) import_app.top
+copydesk = with_subcommand (with_subcommand (with_subcommand (with_subcommand (with_subcommand (with_subcommand (with_subcommand no_subcommand
+    (new_app (codes "script")).top) desk_app.top) merge_app.top) export_app.top) import_app.top) proof_app.top) punch_app.top
 
 -- ---- what a subcommand's matches hold
 
@@ -65,9 +84,17 @@ IsNumber text n = IsNumeral 10 (without_leading_plus text) × (digits_value 10 (
 abbrev pub HasSite : List Row → ℕ → Type 0
 HasSite rows site = (text : Text) × (one_of (codes "site") rows ≡ Some text) × IsNumber text site × (1 ≤ site) × (site < 65536)
 
+-- the name that an argument gives
+abbrev pub Names : Text → List Row → Text → Type 0
+Names argument rows name = first_of argument rows ≡ Some name
+
 -- the name of a feed
 abbrev pub NamesFeed : List Row → Text → Type 0
-NamesFeed rows feed = first_of (codes "feed") rows ≡ Some feed
+NamesFeed = Names (codes "feed")
+
+-- the names of a feed, a case and a wedge
+abbrev pub NamesSources : List Row → Sources → Type 0
+NamesSources rows from = NamesFeed rows from.feed.now × Names (codes "case") rows from.case.now × Names (codes "wedge") rows from.wedge.now
 
 -- both
 abbrev pub NamesDesk : List Row → Text → ℕ → Type 0
@@ -91,6 +118,8 @@ name_of tasks.Desk = codes "desk"
 name_of tasks.Merge = codes "merge"
 name_of tasks.Export = codes "export"
 name_of tasks.Import = codes "import"
+name_of tasks.Proof = codes "proof"
+name_of tasks.Punch = codes "punch"
 
 -- the subcommand of a wish
 abbrev pub task_of : Wish → Task
@@ -99,6 +128,8 @@ task_of (wishes.Desk feed site why) = tasks.Desk
 task_of (wishes.Merge feed others) = tasks.Merge
 task_of (wishes.Export feed) = tasks.Export
 task_of (wishes.Import feed site plain) = tasks.Import
+task_of (wishes.Proof from faults) = tasks.Proof
+task_of (wishes.Punch from target) = tasks.Punch
 
 -- its matches hold what the wish says
 abbrev pub Tells : List Row → Wish → Type 0
@@ -107,6 +138,8 @@ Tells rows (wishes.Desk feed site why) = NamesDesk rows feed.now site × HasFlag
 Tells rows (wishes.Merge feed others) = NamesFeed rows feed.now × (all_of (codes "other") rows ≡ Some (texts_of others.items))
 Tells rows (wishes.Export feed) = NamesFeed rows feed.now
 Tells rows (wishes.Import feed site plain) = NamesDesk rows feed.now site × HasFlag (codes "plain") rows plain
+Tells rows (wishes.Proof from faults) = NamesSources rows from × HasFlag (codes "faults") rows faults
+Tells rows (wishes.Punch from target) = NamesSources rows from × Names (codes "output") rows target.now
 
 -- a subcommand with its matches asks for this
 abbrev pub Wishes : Option (Text × List Row) → Wish → Type 0
@@ -135,6 +168,11 @@ abbrev pub AreOthers : Option (List Text) → Option (Vec (Bor Text) Global) →
 AreOthers asked (Some names) = asked ≡ Some (texts_of names.items)
 AreOthers asked None = asked ≡ None
 
+-- the names of a feed, a case and a wedge, or that they are not all there
+abbrev pub AreSources : List Row → Option Sources → Type 0
+AreSources rows (Some from) = NamesSources rows from
+AreSources rows None = (from : Sources) → NamesSources rows from → ⊥
+
 -- what the matches of a subcommand hold, or that they hold nothing that can be done
 abbrev pub IsTold : List Row → Task → Option Wish → Type 0
 IsTold rows task (Some wish) = (task_of wish ≡ task) × Tells rows wish
@@ -157,3 +195,5 @@ IsLawful (wishes.Desk feed site why) = 1 ≤ site
 IsLawful (wishes.Merge feed others) = Unit {0}
 IsLawful (wishes.Export feed) = Unit {0}
 IsLawful (wishes.Import feed site plain) = 1 ≤ site
+IsLawful (wishes.Proof from faults) = Unit {0}
+IsLawful (wishes.Punch from target) = Unit {0}

@@ -3,9 +3,12 @@
 ghost use Rattle.std.specs.Prelude.{◌≡◌, IfOk, codes, false};
 ghost use Rattle.clap.specs.Words.{app_of, new_app, rule_of, with_rule};
 ghost use Rattle.clap.specs.declared.builder.command.Command.TheViews.{out-Command};
-ghost use Rattle.desk_words.specs.Words.{copydesk, desk_app, export_app, feed_rule, flag_rule, import_app, merge_app, others_rule, site_rule};
+ghost use Rattle.desk_words.specs.Words.{copydesk, desk_app, export_app, feed_rule, file_rule, flag_rule, import_app, merge_app, others_rule, proof_app, punch_app, site_rule, sources_app, target_rule};
 
-use crate::help::{COMMANDS, ON_A_FEED, ON_EXPORT, ON_IMPORT, ON_MERGE, ON_SUBCOMMANDS, VERSION};
+use crate::help::{
+    COMMANDS, ON_A_FEED, ON_EXPORT, ON_IMPORT, ON_MERGE, ON_PROOF, ON_PUNCH, ON_SUBCOMMANDS,
+    VERSION,
+};
 use clap::{Arg, ArgAction, Command, value_parser};
 use std::alloc::{AllocError, Global};
 
@@ -48,6 +51,25 @@ fn flag_arg<'a>(alloc: Global, name: &'a str, help: &'a str) -> Arg<'a>
         .long(name)
         .action(ArgAction::SetTrue)
         .help(help)
+}
+
+/// An option with the name of a file.
+fn file_arg<'a>(alloc: Global, name: &'a str, help: &'a str) -> Arg<'a>
+    ensures rule { rule_of result ≡ file_rule name.now }
+    ensures local { result.global ≡ false }
+{
+    Arg::new(alloc, name).long(name).required(true).help(help)
+}
+
+fn target_arg<'a>(alloc: Global) -> Arg<'a>
+    ensures rule { rule_of result ≡ target_rule }
+    ensures local { result.global ≡ false }
+{
+    Arg::new(alloc, "output")
+        .long("output")
+        .short('o')
+        .required(true)
+        .help("The name of the file that the ribbon is stored in.")
 }
 
 /// A subcommand with a feed.
@@ -132,6 +154,47 @@ fn import_command<'a>(alloc: Global) -> Result<Command<'a>, AllocError>
     ))
 }
 
+/// A subcommand with a feed, a case and a wedge.
+fn on_sources<'a>(
+    alloc: Global,
+    name: &'a str,
+    about: &'a str,
+    help: &'a str,
+) -> Result<Command<'a>, AllocError>
+    ensures app { IfOk result (λ c. app_of c ≡ sources_app name.now) }
+    ensures local { IfOk result (λ c. (out-Command c).has_globals ≡ false) }
+{
+    on_feed(alloc, name, about, help)?
+        .arg(file_arg(alloc, "case", "The name of the case file."))?
+        .arg(file_arg(alloc, "wedge", "The name of the wedge file."))
+}
+
+fn proof_command<'a>(alloc: Global) -> Result<Command<'a>, AllocError>
+    ensures app { IfOk result (λ c. app_of c ≡ proof_app) }
+    ensures local { IfOk result (λ c. (out-Command c).has_globals ≡ false) }
+{
+    on_sources(
+        alloc,
+        "proof",
+        "Writes the galley of a stored feed, and each fault at its text.",
+        ON_PROOF,
+    )?
+    .arg(flag_arg(alloc, "faults", "Writes the faults alone."))
+}
+
+fn punch_command<'a>(alloc: Global) -> Result<Command<'a>, AllocError>
+    ensures app { IfOk result (λ c. app_of c ≡ punch_app) }
+    ensures local { IfOk result (λ c. (out-Command c).has_globals ≡ false) }
+{
+    on_sources(
+        alloc,
+        "punch",
+        "Stores the ribbon of a stored feed in a file.",
+        ON_PUNCH,
+    )?
+    .arg(target_arg(alloc))
+}
+
 /// The program's command, with its subcommands.
 pub fn command<'a>(alloc: Global) -> Result<Command<'a>, AllocError>
     ensures { IfOk result (λ c. app_of c ≡ copydesk) }
@@ -141,6 +204,8 @@ pub fn command<'a>(alloc: Global) -> Result<Command<'a>, AllocError>
     let merge = merge_command(alloc)?;
     let export = export_command(alloc)?;
     let import = import_command(alloc)?;
+    let proof = proof_command(alloc)?;
+    let punch = punch_command(alloc)?;
     Command::new(alloc, "copydesk")
         .about("A copy desk for Monotype composition.")
         .after_help(ON_SUBCOMMANDS)
@@ -151,5 +216,7 @@ pub fn command<'a>(alloc: Global) -> Result<Command<'a>, AllocError>
         .subcommand(desk)?
         .subcommand(merge)?
         .subcommand(export)?
-        .subcommand(import)
+        .subcommand(import)?
+        .subcommand(proof)?
+        .subcommand(punch)
 }

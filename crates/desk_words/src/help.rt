@@ -12,6 +12,10 @@ As in:
   copydesk export one.feed > one.txt        the copy as text
   copydesk import one.feed --site 1 < one.txt
                                             makes that text the copy
+  copydesk proof one.feed --case case12.toml --wedge wedge5.toml
+                                            its lines as they are cast, and each fault at its text
+  copydesk punch one.feed --case case12.toml --wedge wedge5.toml -o one.rib
+                                            the ribbon, in a file
 
 Status: 0 done; 1 it stopped, with a line on standard error; 2 the words were refused.
 `copydesk SUBCOMMAND --help` tells more; `copydesk script --help` tells the commands.";
@@ -75,3 +79,24 @@ A missing feed is made. A carriage return before a line feed is dropped.
 
 Status: 0 the feed is stored; 1 it is not, and nothing has changed: standard error has the cause, of a text
 that is refused by line and column; 2 the words were refused.";
+
+/// What a proof is.
+pub const ON_PROOF: &str = "\
+As in: copydesk proof one.feed --case case12.toml --wedge wedge5.toml
+
+First stand the faults of the copy: each is a correction that is not shown. Then each line has its number, its
+places in the copy, its wedge pair with a gauge between tight and loose, its words, and its fills; at the end
+each fault stands at its text, with the way out in figures. With `--faults` the faults stand alone. Nothing changes.
+
+Status: 0 no fault stands; 1 a fault stands, or the proof was not written, and standard error says so; 2 the
+words were refused.";
+
+/// What a punch is.
+pub const ON_PUNCH: &str = "\
+As in: copydesk punch one.feed --case case12.toml --wedge wedge5.toml -o one.rib
+
+The ribbon of the feed's copy is stored as a feed is: written whole beside the name, and then renamed. Where the
+job has faults nothing is stored, and they stand in one line on standard output; `copydesk proof` shows them
+at their text.
+
+Status: 0 the ribbon is stored; 1 it is not, and standard error says why; 2 the words were refused.";

@@ -8,4 +8,4 @@ mod wishes;
 
 pub use help::VERSION;
 pub use reading::read_words;
-pub use wishes::{Task, Wish};
+pub use wishes::{Sources, Task, Wish};

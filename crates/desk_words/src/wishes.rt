@@ -2,7 +2,7 @@
 
 ghost use Rattle.std.specs.Prelude.{◌≡◌, ◌≢◌, ℕ, IfOk, IfSome, IsNone, codes};
 ghost use Rattle.clap.specs.Words.{Text, all_of, found_of, rows_of, subcommand_rows_of};
-ghost use Rattle.desk_words.specs.Words.{AreOthers, HasFlag, HasSite, IsTold, IsWished, NamesDesk, name_of};
+ghost use Rattle.desk_words.specs.Words.{AreOthers, AreSources, HasFlag, HasSite, IsTold, IsWished, NamesDesk, name_of};
 
 use clap::ArgMatches;
 use std::alloc::{AllocError, Global};
@@ -15,6 +15,16 @@ pub enum Task {
     Merge,
     Export,
     Import,
+    Proof,
+    Punch,
+}
+
+/// The names of a stored feed, of a case file and of a wedge file.
+#[derive(Clone, Copy, Debug, PartialEq, Eq)]
+pub struct Sources<'a> {
+    pub feed: &'a str,
+    pub case: &'a str,
+    pub wedge: &'a str,
 }
 
 /// What the words ask for.
@@ -43,6 +53,16 @@ pub enum Wish<'a> {
         site: u16,
         plain: bool,
     },
+    /// The galley of a stored feed by a case and a wedge, and whether its faults alone are wanted.
+    Proof {
+        from: Sources<'a>,
+        faults: bool,
+    },
+    /// The ribbon of a stored feed by a case and a wedge, stored under the name of a target.
+    Punch {
+        from: Sources<'a>,
+        target: &'a str,
+    },
 }
 
 /// The subcommand of a name.
@@ -64,6 +84,12 @@ fn task_named(name: &str) -> Option<Task>
     }
     if name == "import" {
         return Some(Task::Import);
+    }
+    if name == "proof" {
+        return Some(Task::Proof);
+    }
+    if name == "punch" {
+        return Some(Task::Punch);
     }
     None
 }
@@ -165,6 +191,46 @@ fn import_wish<'a>(matches: &ArgMatches<'a>) -> Option<Wish<'a>>
     }
 }
 
+/// The names of a feed, a case and a wedge that a subcommand's matches hold.
+fn sources_of<'a>(matches: &ArgMatches<'a>) -> Option<Sources<'a>>
+    ensures { AreSources (rows_of (found_of matches.now)) result }
+{
+    let Some(feed) = matches.get_str("feed") else {
+        return None;
+    };
+    let Some(case) = matches.get_str("case") else {
+        return None;
+    };
+    match matches.get_str("wedge") {
+        Some(wedge) => Some(Sources { feed, case, wedge }),
+        None => None,
+    }
+}
+
+fn proof_wish<'a>(matches: &ArgMatches<'a>) -> Option<Wish<'a>>
+    ensures { IsTold (rows_of (found_of matches.now)) Task.Proof result }
+{
+    match sources_of(matches) {
+        Some(from) => Some(Wish::Proof {
+            from,
+            faults: flag_of(matches, "faults"),
+        }),
+        None => None,
+    }
+}
+
+fn punch_wish<'a>(matches: &ArgMatches<'a>) -> Option<Wish<'a>>
+    ensures { IsTold (rows_of (found_of matches.now)) Task.Punch result }
+{
+    match sources_of(matches) {
+        Some(from) => match matches.get_str("output") {
+            Some(target) => Some(Wish::Punch { from, target }),
+            None => None,
+        },
+        None => None,
+    }
+}
+
 /// What the matches of a subcommand hold.
 fn told<'a>(
     alloc: Global,
@@ -179,6 +245,8 @@ fn told<'a>(
         Task::Merge => merge_wish(alloc, matches),
         Task::Export => Ok(export_wish(matches)),
         Task::Import => Ok(import_wish(matches)),
+        Task::Proof => Ok(proof_wish(matches)),
+        Task::Punch => Ok(punch_wish(matches)),
     }
 }
 

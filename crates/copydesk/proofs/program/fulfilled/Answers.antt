@@ -39,3 +39,23 @@ pub returns-in-Import-clause-stopped : goal.returns-in-Import-clause-stopped
 returns-in-Import-clause-stopped g c one =
     subst (λ w. Stops w (g.F.Files.shelf c.args.files.now) (g.F.Files.shelf c.import_text-outcome.new.files) (g.R.Read.remaining c.args.reader.now) (g.W.Write.contents c.args.writer.now) (g.W.Write.contents c.import_text-outcome.new.writer)) (sym c.in-Import.is)
     (halt_of c.import_text-outcome.result _ c.hand_status-in-Import.result c.hand_status-in-Import.ensures c.import_text-outcome.ensures.err one)
+
+pub returns-in-Proof-clause-done : goal.returns-in-Proof-clause-done
+returns-in-Proof-clause-done g c zero =
+    subst (λ w. Does w (g.F.Files.shelf c.args.files.now) (g.F.Files.shelf c.proofed.new.files) (g.R.Read.remaining c.args.reader.now) (g.W.Write.contents c.args.writer.now) (g.W.Write.contents c.proofed.new.writer)) (sym c.in-Proof.is)
+    (c.proofed.ensures.done zero)
+
+pub returns-in-Proof-clause-stopped : goal.returns-in-Proof-clause-stopped
+returns-in-Proof-clause-stopped g c one =
+    subst (λ w. Stops w (g.F.Files.shelf c.args.files.now) (g.F.Files.shelf c.proofed.new.files) (g.R.Read.remaining c.args.reader.now) (g.W.Write.contents c.args.writer.now) (g.W.Write.contents c.proofed.new.writer)) (sym c.in-Proof.is)
+    (c.proofed.ensures.stopped one)
+
+pub returns-in-Punch-clause-done : goal.returns-in-Punch-clause-done
+returns-in-Punch-clause-done g c zero =
+    subst (λ w. Does w (g.F.Files.shelf c.args.files.now) (g.F.Files.shelf c.punched.new.files) (g.R.Read.remaining c.args.reader.now) (g.W.Write.contents c.args.writer.now) (g.W.Write.contents c.punched.new.writer)) (sym c.in-Punch.is)
+    (c.punched.ensures.done zero)
+
+pub returns-in-Punch-clause-stopped : goal.returns-in-Punch-clause-stopped
+returns-in-Punch-clause-stopped g c one =
+    subst (λ w. Stops w (g.F.Files.shelf c.args.files.now) (g.F.Files.shelf c.punched.new.files) (g.R.Read.remaining c.args.reader.now) (g.W.Write.contents c.args.writer.now) (g.W.Write.contents c.punched.new.writer)) (sym c.in-Punch.is)
+    (c.punched.ensures.stopped one)

@@ -14,4 +14,6 @@ returns c =
     let two = c.in_ok-subcommand-2.ensures.shape c.in_ok-desk.ensures.local ∙ ap₂ with_subcommand one (ap top_of c.in_ok-desk.ensures.app) in
     let three = c.in_ok-subcommand-3.ensures.shape c.in_ok-merge.ensures.local ∙ ap₂ with_subcommand two (ap top_of c.in_ok-merge.ensures.app) in
     let four = c.in_ok-subcommand-4.ensures.shape c.in_ok-export.ensures.local ∙ ap₂ with_subcommand three (ap top_of c.in_ok-export.ensures.app) in
-    IfOk-weaker c.subcommand-5.result _ _ (λ m h. h.shape c.in_ok-import.ensures.local ∙ ap₂ with_subcommand four (ap top_of c.in_ok-import.ensures.app)) c.subcommand-5.ensures
+    let five = c.in_ok-subcommand-5.ensures.shape c.in_ok-import.ensures.local ∙ ap₂ with_subcommand four (ap top_of c.in_ok-import.ensures.app) in
+    let six = c.in_ok-subcommand-6.ensures.shape c.in_ok-proof.ensures.local ∙ ap₂ with_subcommand five (ap top_of c.in_ok-proof.ensures.app) in
+    IfOk-weaker c.subcommand-7.result _ _ (λ m h. h.shape c.in_ok-punch.ensures.local ∙ ap₂ with_subcommand six (ap top_of c.in_ok-punch.ensures.app)) c.subcommand-7.ensures

@@ -1,5 +1,5 @@
-use Rattle.std.proofs.Common.{◌≡◌, List, sym, ap, ◌∙◌, codes}
-use Rattle.std.specs.Prelude.{Option, Some, option_map}
+use Rattle.std.proofs.Common.{List, sym, ap, ◌∙◌, codes}
+use Rattle.std.specs.Prelude.{Some, option_map}
 use Rattle.std.specs.Borrow.{Bor}
 use Rattle.clap.specs.Words.{Text, found_of}
 use Rattle.clap.proofs.WalkLemmas.{raw_values-rows}
