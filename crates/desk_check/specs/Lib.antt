@@ -1,5 +1,6 @@
 pub mod Kinds
 pub mod Sorts
+pub mod Texts
 pub mod Words
 pub mod Lines
 pub mod Checking
