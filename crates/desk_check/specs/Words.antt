@@ -202,9 +202,6 @@ case_words cells holders (Err fault) = codes "case refused: " ++ case_fault_word
 
 -- ---- others
 
-abbrev pub strange_words : List ℕ
-strange_words = codes "neither a feed, a ribbon, a case nor a wedge"
-
 -- a file that was not read
 abbrev pub refusal_words : FileRefusal → List ℕ
 refusal_words refusals.Missing = codes "no file"

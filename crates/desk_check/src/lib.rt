@@ -8,6 +8,7 @@ mod fault;
 mod feeds;
 mod kinds;
 mod ribbons;
+mod strange;
 mod texts;
 mod told;
 mod wedges;
