@@ -15,7 +15,9 @@ use Rattle.desk_wedge.specs.File.{wedge_of}
 use Rattle.desk_check.specs.declared.kinds.Kind.{Kind}
 use Rattle.desk_check.specs.declared.kinds.Kind.TheVariants as kinds
 use Rattle.desk_check.specs.Kinds.{kind_of}
-use Rattle.desk_check.specs.Words.{NoSet, Wrong, Crowded, case_words, feed_words, ribbon_words, strange_words, wedge_words}
+use Rattle.desk_check.specs.Strange.{SaysStrange}
+use Rattle.desk_check.specs.Texts.{cells_in, fault_holders}
+use Rattle.desk_check.specs.Words.{NoSet, Wrong, Crowded, case_words, feed_words, ribbon_words, wedge_words}
 
 -- what bytes mean as a feed
 abbrev pub IsSet : List ℕ → Result OpSet NoSet → Type 0
@@ -39,7 +41,7 @@ abbrev pub SaysRibbon : List ℕ → List ℕ → Bool → Type 0
 SaysRibbon = Says AreRows ribbon_words
 
 abbrev pub SaysCase : List ℕ → List ℕ → Bool → Type 0
-SaysCase = Says (λ bytes found. found ≡ case_of bytes) case_words
+SaysCase bytes said well = Says (λ l found. found ≡ case_of l) (case_words (cells_in bytes) (fault_holders bytes)) bytes said well
 
 abbrev pub SaysWedge : List ℕ → List ℕ → Bool → Type 0
 SaysWedge = Says (λ bytes found. found ≡ wedge_of bytes) wedge_words
@@ -50,7 +52,7 @@ SaysAs kinds.Feed bytes said well = SaysFeed bytes said well
 SaysAs kinds.Ribbon bytes said well = SaysRibbon bytes said well
 SaysAs kinds.Case bytes said well = SaysCase bytes said well
 SaysAs kinds.Wedge bytes said well = SaysWedge bytes said well
-SaysAs kinds.Strange bytes said well = (said ≡ strange_words) × (well ≡ false)
+SaysAs kinds.Strange bytes said well = SaysStrange bytes said × (well ≡ false)
 
 abbrev pub SaysBytes : List ℕ → List ℕ → Bool → Type 0
 SaysBytes bytes said well = SaysAs (kind_of bytes) bytes said well

@@ -1,5 +1,5 @@
 -- What is said of a file, without its name.
-use Rattle.std.specs.Prelude.{ℕ, ◌/◌, ◌%◌, ◌==◌, if◌then◌else◌, List, [], ◌++◌, length, codes, Result, Ok, Err}
+use Rattle.std.specs.Prelude.{ℕ, ◌/◌, ◌%◌, ◌==◌, if◌then◌else◌, List, [], ◌∷◌, ◌++◌, length, codes, Result, Ok, Err}
 use Rattle.std.specs.Char.{encode_utf8}
 use Rattle.std.specs.Fmt.{decimal}
 use Rattle.desk_ops.specs.declared.op.Style.{Style}
@@ -152,24 +152,55 @@ symbol_words symbol = style_words symbol.style ++ encode_utf8 symbol.ch
 abbrev pub cell_fault_words : Cell → List ℕ → List ℕ
 cell_fault_words cell what = codes "cell " ++ cell_words cell ++ what
 
-abbrev pub case_fault_words : CaseFault → List ℕ
-case_fault_words cases.NotToml = codes "it is not TOML"
-case_fault_words (cases.Missing key) = codes "`" ++ case_files.key_name key ++ codes "` is missing"
-case_fault_words (cases.Shape key) = codes "`" ++ case_files.key_name key ++ codes "` is of another type, number, length or name"
-case_fault_words (cases.BadText cell) = cell_fault_words cell (codes " has a text that is no symbol")
-case_fault_words (cases.Doubled symbol) = symbol_words symbol ++ codes " stands in two cells"
-case_fault_words (cases.NotBlank cell) = cell_fault_words cell (codes ", the space or a fill, holds a symbol")
-case_fault_words cases.FillOrder = codes "the units of the fills do not descend"
-case_fault_words cases.NoMemory = codes "no memory"
+-- a cell and the symbol that it holds
+abbrev pub held_words : Cell → Symbol → List ℕ
+held_words cell symbol = codes "cell " ++ cell_words cell ++ codes " holds " ++ symbol_words symbol
 
-abbrev pub case_words : Result CaseValues CaseFault → List ℕ
-case_words (Ok case) = codes "ok: case " ++ decimal case.number ++ codes ", " ++ decimal (sorts case.grid) ++ codes " sorts"
-case_words (Err fault) = codes "case refused: " ++ case_fault_words fault
+-- a cell between two texts
+abbrev pub around_words : List ℕ → Cell → List ℕ → List ℕ
+around_words before cell after = before ++ cell_words cell ++ after
+
+abbrev pub other_words : Cell → List ℕ
+other_words cell = around_words (codes ", which stands in ") cell (codes " too")
+
+abbrev pub twice_words : Symbol → List ℕ
+twice_words symbol = symbol_words symbol ++ codes " stands in two cells"
+
+abbrev pub doubled_from : Cell → List Cell → Symbol → List ℕ
+doubled_from first [] symbol = twice_words symbol
+doubled_from first (second ∷ more) symbol = held_words second symbol ++ other_words first
+
+-- a symbol that stands in two cells, with the first two of those that hold it
+abbrev pub doubled_words : List Cell → Symbol → List ℕ
+doubled_words [] symbol = twice_words symbol
+doubled_words (first ∷ rest) symbol = doubled_from first rest symbol
+
+-- the fault of a case file, with the cells that hold its symbol
+abbrev pub case_fault_words : List Cell → CaseFault → List ℕ
+case_fault_words holders cases.NotToml = codes "it is not TOML"
+case_fault_words holders (cases.Missing key) = codes "`" ++ case_files.key_name key ++ codes "` is missing"
+case_fault_words holders (cases.Shape key) = codes "`" ++ case_files.key_name key ++ codes "` is of another type, number, length or name"
+case_fault_words holders (cases.BadText cell) = cell_fault_words cell (codes " has a text that is no symbol")
+case_fault_words holders (cases.Doubled symbol) = doubled_words holders symbol
+case_fault_words holders (cases.NotBlank cell) = cell_fault_words cell (codes ", the space or a fill, holds a symbol")
+case_fault_words holders cases.FillOrder = codes "the units of the fills do not descend"
+case_fault_words holders cases.NoMemory = codes "no memory"
+
+abbrev pub number_words : ℕ → List ℕ
+number_words number = codes "ok: case " ++ decimal number
+
+abbrev pub cells_words : ℕ → List ℕ
+cells_words cells = codes ", " ++ decimal cells ++ codes " cells"
+
+abbrev pub sorts_words : ℕ → List ℕ
+sorts_words sorts = codes ", " ++ decimal sorts ++ codes " sorts"
+
+-- what a case file gives, with how many cells it has texts for; or its fault, with the cells that hold its symbol
+abbrev pub case_words : ℕ → (CaseFault → List Cell) → Result CaseValues CaseFault → List ℕ
+case_words cells holders (Ok case) = number_words case.number ++ cells_words cells ++ sorts_words (sorts case.grid)
+case_words cells holders (Err fault) = codes "case refused: " ++ case_fault_words (holders fault) fault
 
 -- ---- others
-
-abbrev pub strange_words : List ℕ
-strange_words = codes "neither a feed, a ribbon, a case nor a wedge"
 
 -- a file that was not read
 abbrev pub refusal_words : FileRefusal → List ℕ

@@ -4,8 +4,10 @@ ghost use Rattle.std.specs.Prelude.{◌≡◌, ◌≤◌, ◌<◌, ◌*◌, ◌+
 ghost use Rattle.desk_case.specs.Names.{column_name};
 ghost use Rattle.desk_check.specs.Lines.{SaysCase};
 ghost use Rattle.desk_check.specs.Sorts.{sort_at, sorts};
-ghost use Rattle.desk_check.specs.Words.{case_fault_words, case_words, cell_fault_words, cell_words, style_words, symbol_words};
+ghost use Rattle.desk_check.specs.Texts.{cells_in, fault_holders};
+ghost use Rattle.desk_check.specs.Words.{around_words, case_fault_words, case_words, cell_fault_words, cell_words, cells_words, doubled_from, doubled_words, held_words, number_words, other_words, sorts_words, style_words, symbol_words, twice_words};
 
+use crate::texts::{cells_in, fault_holders};
 use crate::told::Told;
 use desk_case::names::cell_of_place;
 use desk_case::{COLUMNS, CaseFault, MatrixCase, ROWS};
@@ -88,11 +90,35 @@ fn sorts(case: &MatrixCase) -> usize
     count
 }
 
-/// Writes what a case is.
-fn put_case<A: Allocator + Copy>(out: &mut String<A>, case: &MatrixCase) -> Result<(), AllocError>
-    ensures { OnOk result (string_bytes out.new ≡ string_bytes out.old ++ case_words (Ok case.now)) }
+fn put_case_number<A: Allocator + Copy>(out: &mut String<A>, number: u16) -> Result<(), AllocError>
+    ensures { OnOk result (string_bytes out.new ≡ string_bytes out.old ++ number_words number) }
 {
-    write!(out, "ok: case {}, {} sorts", case.number(), sorts(case))
+    write!(out, "ok: case {number}")
+}
+
+fn put_cells<A: Allocator + Copy>(out: &mut String<A>, cells: usize) -> Result<(), AllocError>
+    ensures { OnOk result (string_bytes out.new ≡ string_bytes out.old ++ cells_words cells) }
+{
+    write!(out, ", {cells} cells")
+}
+
+fn put_sorts<A: Allocator + Copy>(out: &mut String<A>, sorts: usize) -> Result<(), AllocError>
+    ensures { OnOk result (string_bytes out.new ≡ string_bytes out.old ++ sorts_words sorts) }
+{
+    write!(out, ", {sorts} sorts")
+}
+
+/// Writes what a case is, with how many cells its file has texts for.
+fn put_case<A: Allocator + Copy>(
+    out: &mut String<A>,
+    case: &MatrixCase,
+    cells: usize,
+) -> Result<(), AllocError>
+    ensures { OnOk result (string_bytes out.new ≡ string_bytes out.old ++ number_words (case.now).number ++ cells_words cells ++ sorts_words (sorts (case.now).grid)) }
+{
+    put_case_number(out, case.number())?;
+    put_cells(out, cells)?;
+    put_sorts(out, sorts(case))
 }
 
 /// Writes what is wrong with a cell.
@@ -108,12 +134,86 @@ fn put_cell_fault<A: Allocator + Copy>(
     out.push_str(what)
 }
 
-/// Writes the first fault of a case file, with its key, its cell or its symbol.
+/// Writes a cell and the symbol that it holds.
+fn put_held<A: Allocator + Copy>(
+    out: &mut String<A>,
+    cell: Cell,
+    symbol: Symbol,
+) -> Result<(), AllocError>
+    ensures { OnOk result (string_bytes out.new ≡ string_bytes out.old ++ held_words cell symbol) }
+{
+    out.push_str("cell ")?;
+    put_cell(out, cell)?;
+    out.push_str(" holds ")?;
+    put_symbol(out, symbol)
+}
+
+/// Writes a cell between two texts.
+fn put_around<A: Allocator + Copy>(
+    out: &mut String<A>,
+    before: &str,
+    cell: Cell,
+    after: &str,
+) -> Result<(), AllocError>
+    ensures { OnOk result (string_bytes out.new ≡ string_bytes out.old ++ around_words before.now cell after.now) }
+{
+    out.push_str(before)?;
+    put_cell(out, cell)?;
+    out.push_str(after)
+}
+
+/// Writes another cell that holds it.
+fn put_other<A: Allocator + Copy>(out: &mut String<A>, cell: Cell) -> Result<(), AllocError>
+    ensures { OnOk result (string_bytes out.new ≡ string_bytes out.old ++ other_words cell) }
+{
+    put_around(out, ", which stands in ", cell, " too")
+}
+
+/// Writes that a symbol stands in two cells.
+fn put_twice<A: Allocator + Copy>(out: &mut String<A>, symbol: Symbol) -> Result<(), AllocError>
+    ensures { OnOk result (string_bytes out.new ≡ string_bytes out.old ++ twice_words symbol) }
+{
+    put_symbol(out, symbol)?;
+    out.push_str(" stands in two cells")
+}
+
+/// Writes that a symbol stands in two cells, with the first that holds it and the second, if that is known.
+fn put_doubled_from<A: Allocator + Copy>(
+    out: &mut String<A>,
+    symbol: Symbol,
+    first: Cell,
+    rest: &[Cell],
+) -> Result<(), AllocError>
+    ensures { OnOk result (string_bytes out.new ≡ string_bytes out.old ++ doubled_from first rest.now symbol) }
+{
+    let [second, _more @ ..] = rest else {
+        return put_twice(out, symbol);
+    };
+    put_held(out, *second, symbol)?;
+    put_other(out, first)
+}
+
+/// Writes that a symbol stands in two cells, with the first two that hold it.
+fn put_doubled<A: Allocator + Copy>(
+    out: &mut String<A>,
+    symbol: Symbol,
+    holders: &[Cell],
+) -> Result<(), AllocError>
+    ensures { OnOk result (string_bytes out.new ≡ string_bytes out.old ++ doubled_words holders.now symbol) }
+{
+    let [first, rest @ ..] = holders else {
+        return put_twice(out, symbol);
+    };
+    put_doubled_from(out, symbol, *first, rest)
+}
+
+/// Writes the first fault of a case file, with its key, its cell, or its symbol and the cells that hold it.
 fn put_case_fault<A: Allocator + Copy>(
     out: &mut String<A>,
     fault: CaseFault,
+    holders: &[Cell],
 ) -> Result<(), AllocError>
-    ensures { OnOk result (string_bytes out.new ≡ string_bytes out.old ++ case_fault_words fault) }
+    ensures { OnOk result (string_bytes out.new ≡ string_bytes out.old ++ case_fault_words holders.now fault) }
 {
     match fault {
         CaseFault::NotToml => out.push_str("it is not TOML"),
@@ -124,10 +224,7 @@ fn put_case_fault<A: Allocator + Copy>(
             key.name()
         ),
         CaseFault::BadText(cell) => put_cell_fault(out, cell, " has a text that is no symbol"),
-        CaseFault::Doubled(symbol) => {
-            put_symbol(out, symbol)?;
-            out.push_str(" stands in two cells")
-        }
+        CaseFault::Doubled(symbol) => put_doubled(out, symbol, holders),
         CaseFault::NotBlank(cell) => {
             put_cell_fault(out, cell, ", the space or a fill, holds a symbol")
         }
@@ -136,24 +233,36 @@ fn put_case_fault<A: Allocator + Copy>(
     }
 }
 
-/// What is said of a case.
-fn case_values_told<A: Allocator + Copy>(alloc: A, case: &MatrixCase) -> Result<Told<A>, NoMemory>
-    ensures text { IfOk result (λ t. string_bytes t.text ≡ case_words (Ok case.now)) }
+/// What is said of a case, with how many cells its file has texts for.
+fn case_in_order<A: Allocator + Copy>(
+    alloc: A,
+    global: Global,
+    bytes: &[u8],
+    case: &MatrixCase,
+) -> Result<Told<A>, NoMemory>
+    ensures text { IfOk result (λ t. string_bytes t.text ≡ case_words (cells_in bytes.now) (fault_holders bytes.now) (Ok case.now)) }
     ensures well { IfOk result (λ t. t.well ≡ true) }
 {
     let mut text = String::new(alloc);
-    put_case(&mut text, case)?;
+    let cells = cells_in(global, bytes)?;
+    put_case(&mut text, case, cells)?;
     Ok(Told { text, well: true })
 }
 
 /// What is said of a case file that has a fault.
-fn refused_told<A: Allocator + Copy>(alloc: A, fault: CaseFault) -> Result<Told<A>, NoMemory>
-    ensures text { IfOk result (λ t. string_bytes t.text ≡ case_words (Err fault)) }
+fn case_refused<A: Allocator + Copy>(
+    alloc: A,
+    global: Global,
+    bytes: &[u8],
+    fault: CaseFault,
+) -> Result<Told<A>, NoMemory>
+    ensures text { IfOk result (λ t. string_bytes t.text ≡ case_words (cells_in bytes.now) (fault_holders bytes.now) (Err fault)) }
     ensures well { IfOk result (λ t. t.well ≡ false) }
 {
     let mut text = String::new(alloc);
+    let holders = fault_holders(alloc, global, bytes, &fault)?;
     text.push_str("case refused: ")?;
-    put_case_fault(&mut text, fault)?;
+    put_case_fault(&mut text, fault, &holders)?;
     Ok(Told { text, well: false })
 }
 
@@ -166,8 +275,8 @@ pub fn case_told<A: Allocator + Copy>(
     ensures { IfOk result (λ t. SaysCase bytes.now (string_bytes t.text) t.well) }
 {
     match MatrixCase::read(global, bytes) {
-        Ok(case) => case_values_told(alloc, &case),
+        Ok(case) => case_in_order(alloc, global, bytes, &case),
         Err(CaseFault::NoMemory) => Err(NoMemory),
-        Err(fault) => refused_told(alloc, fault),
+        Err(fault) => case_refused(alloc, global, bytes, fault),
     }
 }

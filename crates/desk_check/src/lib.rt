@@ -8,6 +8,8 @@ mod fault;
 mod feeds;
 mod kinds;
 mod ribbons;
+mod strange;
+mod texts;
 mod told;
 mod wedges;
 

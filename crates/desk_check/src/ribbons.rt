@@ -62,7 +62,7 @@ fn rows_told<A: Allocator + Copy>(alloc: A, rows: &[RibbonRow]) -> Result<Told<A
 }
 
 /// What is said of a ribbon that has a fault.
-fn refused_told<A: Allocator + Copy>(alloc: A, fault: RibbonFault) -> Result<Told<A>, NoMemory>
+fn ribbon_refused<A: Allocator + Copy>(alloc: A, fault: RibbonFault) -> Result<Told<A>, NoMemory>
     ensures text { IfOk result (λ t. string_bytes t.text ≡ ribbon_words (Err fault)) }
     ensures well { IfOk result (λ t. t.well ≡ false) }
 {
@@ -78,9 +78,9 @@ pub fn ribbon_told<A: Allocator + Copy>(alloc: A, bytes: &[u8]) -> Result<Told<A
 {
     match read_ribbon(alloc, bytes) {
         Ok(rows) => rows_told(alloc, &rows),
-        Err(RibbonFault::Magic) => refused_told(alloc, RibbonFault::Magic),
-        Err(RibbonFault::Count) => refused_told(alloc, RibbonFault::Count),
-        Err(RibbonFault::Row(place, why)) => refused_told(alloc, RibbonFault::Row(place, why)),
+        Err(RibbonFault::Magic) => ribbon_refused(alloc, RibbonFault::Magic),
+        Err(RibbonFault::Count) => ribbon_refused(alloc, RibbonFault::Count),
+        Err(RibbonFault::Row(place, why)) => ribbon_refused(alloc, RibbonFault::Row(place, why)),
         Err(RibbonFault::NoMemory) => Err(NoMemory),
     }
 }

@@ -1,13 +1,13 @@
 //! What is said of the bytes of a file.
 
-ghost use Rattle.std.specs.Prelude.{◌≡◌, IfOk, false, string_bytes};
+ghost use Rattle.std.specs.Prelude.{IfOk, string_bytes};
 ghost use Rattle.desk_check.specs.Lines.{SaysBytes};
-ghost use Rattle.desk_check.specs.Words.{strange_words};
 
 use crate::cases::case_told;
 use crate::feeds::feed_told;
 use crate::kinds::{Kind, kind_of};
 use crate::ribbons::ribbon_told;
+use crate::strange::strange_told;
 use crate::wedges::wedge_told;
 use desk_inputs::Memory;
 use desk_memory::NoMemory;
@@ -18,15 +18,6 @@ use std::alloc::Allocator;
 pub struct Told<A: Allocator + Copy> {
     pub text: String<A>,
     pub well: bool,
-}
-
-/// That bytes are of no kind.
-fn strange_told<A: Allocator + Copy>(alloc: A) -> Result<Told<A>, NoMemory>
-    ensures text { IfOk result (λ t. string_bytes t.text ≡ strange_words) }
-    ensures well { IfOk result (λ t. t.well ≡ false) }
-{
-    let text = String::from_str(alloc, "neither a feed, a ribbon, a case nor a wedge")?;
-    Ok(Told { text, well: false })
 }
 
 /// What is said of bytes by their kind.
@@ -41,6 +32,6 @@ pub fn told_of<A: Allocator + Copy>(
         Kind::Ribbon => ribbon_told(memory.own, &bytes),
         Kind::Case => case_told(memory.own, memory.global, &bytes),
         Kind::Wedge => wedge_told(memory.own, memory.global, &bytes),
-        Kind::Strange => strange_told(memory.own),
+        Kind::Strange => strange_told(memory.own, memory.global, &bytes),
     }
 }

@@ -93,7 +93,7 @@ fn put_wedge_fault<A: Allocator + Copy>(
 }
 
 /// What is said of a wedge.
-fn wedge_values_told<A: Allocator + Copy>(alloc: A, wedge: &Wedge) -> Result<Told<A>, NoMemory>
+fn wedge_in_order<A: Allocator + Copy>(alloc: A, wedge: &Wedge) -> Result<Told<A>, NoMemory>
     ensures text { IfOk result (λ t. string_bytes t.text ≡ wedge_words (Ok wedge.now)) }
     ensures well { IfOk result (λ t. t.well ≡ true) }
 {
@@ -103,7 +103,7 @@ fn wedge_values_told<A: Allocator + Copy>(alloc: A, wedge: &Wedge) -> Result<Tol
 }
 
 /// What is said of a wedge file that has a fault.
-fn refused_told<A: Allocator + Copy>(alloc: A, fault: WedgeFault) -> Result<Told<A>, NoMemory>
+fn wedge_refused<A: Allocator + Copy>(alloc: A, fault: WedgeFault) -> Result<Told<A>, NoMemory>
     ensures text { IfOk result (λ t. string_bytes t.text ≡ wedge_words (Err fault)) }
     ensures well { IfOk result (λ t. t.well ≡ false) }
 {
@@ -122,8 +122,8 @@ pub fn wedge_told<A: Allocator + Copy>(
     ensures { IfOk result (λ t. SaysWedge bytes.now (string_bytes t.text) t.well) }
 {
     match Wedge::read(global, bytes) {
-        Ok(wedge) => wedge_values_told(alloc, &wedge),
+        Ok(wedge) => wedge_in_order(alloc, &wedge),
         Err(WedgeFault::NoMemory) => Err(NoMemory),
-        Err(fault) => refused_told(alloc, fault),
+        Err(fault) => wedge_refused(alloc, fault),
     }
 }

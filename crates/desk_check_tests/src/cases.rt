@@ -47,9 +47,25 @@ fn says_of(
 #[test]
 fn cases_in_order(rt: HostRuntime) -> Result<(), Fail> {
     let texts: Texts<'_> = &[(0, 0, "."), (3, 0, "t"), (4, 1, "i:a"), (14, 1, "s:M")];
-    assert!(rt; says_of(rt.alloc(), 15, texts, "f ok: case 21, 4 sorts\n", true)?);
+    assert!(rt;
+        says_of(
+            rt.alloc(),
+            15,
+            texts,
+            "f ok: case 21, 225 cells, 4 sorts\n",
+            true
+        )?
+    );
     let wide: Texts<'_> = &[(0, 0, "."), (3, 15, "t"), (4, 16, "i:a")];
-    assert!(rt; says_of(rt.alloc(), 17, wide, "f ok: case 21, 3 sorts\n", true)?);
+    assert!(rt;
+        says_of(
+            rt.alloc(),
+            17,
+            wide,
+            "f ok: case 21, 255 cells, 3 sorts\n",
+            true
+        )?
+    );
     Ok(())
 }
 
@@ -77,15 +93,15 @@ fn cells_with_a_fault(rt: HostRuntime) -> Result<(), Fail> {
         ),
         (
             &[(1, 0, "x"), (1, 1, "x")],
-            "f case refused: roman x stands in two cells\n",
+            "f case refused: cell B2 holds roman x, which stands in A2 too\n",
         ),
         (
             &[(1, 0, "i:x"), (1, 1, "x"), (9, 9, "i:x")],
-            "f case refused: italic x stands in two cells\n",
+            "f case refused: cell J10 holds italic x, which stands in A2 too\n",
         ),
         (
             &[(1, 0, "s:x"), (1, 1, "x"), (9, 9, "s:x")],
-            "f case refused: small capital x stands in two cells\n",
+            "f case refused: cell J10 holds small capital x, which stands in A2 too\n",
         ),
         (
             &[(0, 6, "x")],

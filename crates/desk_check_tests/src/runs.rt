@@ -52,12 +52,23 @@ fn files_that_are_not_read(rt: HostRuntime) -> Result<(), Fail> {
 #[test]
 fn files_of_no_kind(rt: HostRuntime) -> Result<(), Fail> {
     let line = "f neither a feed, a ribbon, a case nor a wedge\n";
-    let rows: &[&[u8]] = &[
-        b"", b"MFD3", b"MFD", b"MRB", b"x = 1", b"case =", b"wedge", b"\xff",
-    ];
+    let rows: &[&[u8]] = &[b"", b"x = 1", b"# case = 1\n\n"];
     for bytes in rows {
         assert!(rt; says(rt.alloc(), bytes, line, false)?);
     }
+    Ok(())
+}
+
+#[test]
+fn files_that_are_no_document(rt: HostRuntime) -> Result<(), Fail> {
+    let first = "f neither a feed, a ribbon, a case nor a wedge: no TOML at line 1\n";
+    let rows: &[&[u8]] = &[b"MFD3", b"MFD", b"MRB", b"case =", b"wedge", b"\xff"];
+    for bytes in rows {
+        assert!(rt; says(rt.alloc(), bytes, first, false)?);
+    }
+    let third = "f neither a feed, a ribbon, a case nor a wedge: no TOML at line 3\n";
+    assert!(rt; says(rt.alloc(), b"case = 1\nrows = []\nfill = ]\n", third, false)?);
+    assert!(rt; says(rt.alloc(), b"wedge = 1\n\n\xff", third, false)?);
     Ok(())
 }
 

@@ -1,0 +1,79 @@
+-- The texts of a case file's cells.
+use Rattle.std.specs.Prelude.{ℕ, zero, suc, ◌+◌, ◌/◌, ◌%◌, Bool, false, if◌then◌else◌, List, [], ◌∷◌, ◌++◌, codes, Option, Some, None, is_some, option_and_then}
+use Rattle.std.specs.Char.{encode_utf8}
+use Rattle.std.specs.Str.{bytes_eq}
+use Rattle.toml.specs.Data.{Data, as_str, at, get_member}
+use Rattle.desk_keys.specs.Keys.{document}
+use Rattle.desk_signals.specs.declared.Cell.{Cell}
+use Rattle.desk_ops.specs.declared.op.Style.{Style}
+use Rattle.desk_ops.specs.declared.op.Style.TheVariants as styles
+use Rattle.desk_ops.specs.declared.op.Symbol.{Symbol}
+use Rattle.desk_case.specs.Names.{cell_of_place}
+use Rattle.desk_case.specs.declared.CaseFault.{CaseFault}
+use Rattle.desk_case.specs.declared.CaseFault.TheVariants as cases
+
+-- the text at a place of rows, counted row by row, 17 places for each
+abbrev pub text_at : Data → ℕ → Option (List ℕ)
+text_at rows place = option_and_then as_str (option_and_then (at (place % 17)) (at (place / 17) rows))
+
+-- ---- how many there are
+
+abbrev pub one_text : Data → ℕ → ℕ
+one_text rows place = if is_some (text_at rows place) then 1 else 0
+
+-- how many places below one have a text
+unfoldable pub texts : Data → ℕ → ℕ
+texts rows zero = 0
+texts rows (suc place) = texts rows place + one_text rows place
+
+abbrev pub cells_of : Option Data → ℕ
+cells_of None = 0
+cells_of (Some rows) = texts rows 255
+
+-- ---- the cells that have one text
+
+abbrev pub is_text : List ℕ → Option (List ℕ) → Bool
+is_text text None = false
+is_text text (Some found) = bytes_eq found text
+
+abbrev pub holder : Data → List ℕ → ℕ → List Cell
+holder rows text place = if is_text text (text_at rows place) then cell_of_place place ∷ [] else []
+
+-- the cells at the places below one that have this text
+unfoldable pub holders : Data → List ℕ → ℕ → List Cell
+holders rows text zero = []
+holders rows text (suc place) = holders rows text place ++ holder rows text place
+
+abbrev pub holders_of : List ℕ → Option Data → List Cell
+holders_of text None = []
+holders_of text (Some rows) = holders rows text 255
+
+-- the text that stands for a symbol
+abbrev pub style_mark : Style → List ℕ
+style_mark styles.Roman = []
+style_mark styles.Italic = codes "i:"
+style_mark styles.SmallCap = codes "s:"
+
+abbrev pub symbol_text : Symbol → List ℕ
+symbol_text symbol = style_mark symbol.style ++ encode_utf8 symbol.ch
+
+-- ---- of a file
+
+-- what the key `rows` of a file holds
+abbrev pub rows_in : List ℕ → Option Data
+rows_in bytes = option_and_then (get_member (codes "rows")) (document bytes)
+
+-- how many cells a file has texts for
+abbrev pub cells_in : List ℕ → ℕ
+cells_in bytes = cells_of (rows_in bytes)
+
+-- the cells that hold the symbol of a fault
+abbrev pub fault_holders : List ℕ → CaseFault → List Cell
+fault_holders bytes cases.NotToml = []
+fault_holders bytes (cases.Missing key) = []
+fault_holders bytes (cases.Shape key) = []
+fault_holders bytes (cases.BadText cell) = []
+fault_holders bytes (cases.Doubled symbol) = holders_of (symbol_text symbol) (rows_in bytes)
+fault_holders bytes (cases.NotBlank cell) = []
+fault_holders bytes cases.FillOrder = []
+fault_holders bytes cases.NoMemory = []
