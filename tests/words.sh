@@ -133,10 +133,41 @@ got=0
 "$program" proof c.feed "${metal[@]}" 2> faults > /dev/full || got=$?
 [ "$got" = 1 ] && [ "$(head -1 faults)" = "copydesk: write fault" ]
 
+# A text is replaced where it stands once, and files are checked.
+expect 2 error: replace c.feed --site 1 last
+expect 2 error: replace c.feed --site 0 last first
+expect 0 "" replace c.feed --site 1 'last sheets' 'last _proof_ sheets'
+[ "$(cat written)" = "ok inserted 6 deleted 0" ]
+cp c.feed before.feed
+expect 1 "copydesk: no place" replace c.feed --site 1 'last sheets' sheets
+[ "$(cat written)" = "no place" ]
+expect 1 "copydesk: 2 places" replace c.feed --site 1 ' at ' ' in '
+expect 1 "copydesk: OLD, line 1, column 1: " replace c.feed --site 1 '\q' sheets
+expect 1 "copydesk: NEW, line 1, column 2: " replace c.feed --site 1 sheets 'a\q'
+expect 1 "copydesk: file fault
+none/c.feed" replace none/c.feed --site 1 sheets sheet
+cmp c.feed before.feed
+expect 0 "" replace c.feed --site 1 --plain -- galleys -
+[[ "$("$program" export c.feed)" == "The last _proof_ sheets are in the - again."* ]]
+expect 2 error: check
+expect 0 "" check c.feed case12.toml wedge5.toml c.rib
+[[ "$(sed -n 1p written)" == "c.feed ok: "*" symbols shown, faults none" ]]
+[[ "$(sed -n 2p written)" == "case12.toml ok: case 12, 225 cells, "*" sorts" ]]
+[ "$(sed -n 3p written)" = "wedge5.toml ok: wedge 5, set 12 (48 quarter points), pica sixth" ]
+[[ "$(sed -n 4p written)" == "c.rib ok: "*" rows" ]]
+expect 1 "" check bad.feed none.toml words.toml wedge5.toml
+[ "$(cat written)" = "bad.feed feed refused: byte 4: no such kind of operation
+none.toml no file
+words.toml no file
+wedge5.toml ok: wedge 5, set 12 (48 quarter points), pica sixth" ]
+got=0
+"$program" check wedge5.toml 2> faults > /dev/full || got=$?
+[ "$got" = 1 ] && [ "$(head -1 faults)" = "copydesk: write fault" ]
+
 # Help names the program, the words and every command.
 [ "$("$program" --version)" = "copydesk 0.2.0" ]
 told=$("$program" --help)
-for command in script desk merge export import proof punch; do
+for command in script desk merge export import replace check proof punch; do
   if [[ "$told" != *"copydesk $command"* ]] || [[ "$("$program" "$command" --help)" != *"As in: copydesk $command "*"Status: 0"* && $command != script ]]; then
     echo "the help does not name $command" >&2
     exit 1

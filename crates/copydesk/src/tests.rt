@@ -115,6 +115,8 @@ fn refused_words(rt: HostRuntime) -> Result<(), Fail> {
     assert!(rt; is_refused(&tried(rt.alloc(), "import a.feed", TWO_SITES)?));
     assert!(rt; is_refused(&tried(rt.alloc(), "import a.feed --site 0", TWO_SITES)?));
     assert!(rt; is_refused(&tried(rt.alloc(), "proof a.feed --case c", TWO_SITES)?));
+    assert!(rt; is_refused(&tried(rt.alloc(), "replace a.feed --site 1 old", TWO_SITES)?));
+    assert!(rt; is_refused(&tried(rt.alloc(), "check", TWO_SITES)?));
     assert!(rt; is_refused(&tried(rt.alloc(), "punch a.feed --case c --wedge w", TWO_SITES)?));
     Ok(())
 }
@@ -493,5 +495,37 @@ fn ribbon_is_punched(rt: HostRuntime) -> Result<(), Fail> {
             b"copydesk: file fault\nb.feed: a call failed\n"
         )
     );
+    Ok(())
+}
+
+#[test]
+fn text_is_replaced(rt: HostRuntime) -> Result<(), Fail> {
+    let mut files = TrialFiles::new(rt.alloc());
+    files.put("a.feed", BOTH_INSERTS)?;
+    let got = tried_on(rt.alloc(), "replace a.feed --site 3 y _z_", b"", &mut files)?;
+    assert!(rt; ended(&got, 0, b"ok inserted 1 deleted 1\n", b""));
+    let mut files = files.for_next_run();
+    let got = tried_on(rt.alloc(), "export a.feed", b"", &mut files)?;
+    assert!(rt; ended(&got, 0, b"x_z_", b""));
+    let mut files = files.for_next_run();
+    let got = tried_on(rt.alloc(), "replace a.feed --site 3 y x", b"", &mut files)?;
+    assert!(rt; ended(&got, 1, b"no place\n", b"copydesk: no place\n"));
+    let mut files = files.for_next_run();
+    let got = tried_on(rt.alloc(), "replace a.feed --site 3 x \\q", b"", &mut files)?;
+    let told = b"copydesk: NEW, line 1, column 1: a backslash that escapes nothing\n";
+    assert!(rt; ended(&got, 1, b"", told));
+    Ok(())
+}
+
+#[test]
+fn files_are_checked(rt: HostRuntime) -> Result<(), Fail> {
+    let mut files = metal(rt.alloc())?;
+    let got = tried_on(rt.alloc(), "check a.feed w", b"", &mut files)?;
+    let lines =
+        b"a.feed ok: 0 operations, 0 symbols shown, faults none\nw ok: wedge 5, set 12 (48 quarter points), pica sixth\n";
+    assert!(rt; ended(&got, 0, lines, b""));
+    let got = tried_on(rt.alloc(), "check none w", b"", &mut files)?;
+    let lines = b"none no file\nw ok: wedge 5, set 12 (48 quarter points), pica sixth\n";
+    assert!(rt; ended(&got, 1, lines, b""));
     Ok(())
 }
