@@ -141,7 +141,7 @@ expect 0 "" replace c.feed --site 1 'last sheets' 'last _proof_ sheets'
 cp c.feed before.feed
 expect 1 "copydesk: no place" replace c.feed --site 1 'last sheets' sheets
 [ "$(cat written)" = "no place" ]
-expect 1 "copydesk: 2 places" replace c.feed --site 1 ' at ' ' in '
+expect 1 "copydesk: 2 places" replace c.feed --site 1 in at
 expect 1 "copydesk: OLD, line 1, column 1: " replace c.feed --site 1 '\q' sheets
 expect 1 "copydesk: NEW, line 1, column 2: " replace c.feed --site 1 sheets 'a\q'
 expect 1 "copydesk: file fault
