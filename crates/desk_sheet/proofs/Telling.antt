@@ -1,0 +1,47 @@
+-- Lines told one after another.
+use Rattle.std.proofs.Common.{◌≡◌, ℕ, ◌+◌, List, [], ◌∷◌, ◌++◌, length, length-append, append_assoc, refl, sym, ap, ◌∙◌, subst, arith}
+use Rattle.std.proofs.lemmas.List.{append-nil}
+use Rattle.desk_steps.specs.Desk.{Desk}
+use Rattle.desk_steps.specs.Line.{Line}
+use Rattle.desk_sheet.specs.Sheet.{Stops, StopsAt, Tells, Told}
+use Rattle.desk_sheet.specs.declared.sheet.Mode.{Mode}
+
+-- one line more
+told_more : (mode : Mode) (n k : ℕ) (old mid new : Desk) (before told after : List ℕ) (done : List Line) (line : Line) → k ≡ n + length done → Told mode n old before done mid told → Tells mode k mid told line new after
+    → Told mode n old before (done ++ line ∷ []) new after
+told_more mode n k old mid new before told after [] line is (same, text) step =
+    let at : k ≡ n = omega (arith, is) in
+    let first : Tells mode n mid told line new after = subst (λ m. Tells mode m mid told line new after) at step in
+    let second : Tells mode n old told line new after = subst (λ (d : Desk). Tells mode n d told line new after) same first in (
+      new,
+      after,
+      subst (λ t. Tells mode n old t line new after) text second,
+      (refl, refl),
+    )
+told_more mode n k old mid new before told after (next ∷ done) line is (one, text, first, rest) step =
+    (one, text, first, told_more mode (n + 1) k one mid new text told after done line (omega (arith, is)) rest step)
+
+-- so many lines of all are told, and the rest is left
+abbrev pub Reaches : Mode → Desk → Desk → List ℕ → List ℕ → List Line → List Line → ℕ → Type 0
+Reaches mode old new before after all rest n = (done : List Line) × (length done ≡ n) × (all ≡ done ++ rest) × Told mode 1 old before done new after
+
+pub reaches_none : (mode : Mode) (old : Desk) (before : List ℕ) (all : List Line) → Reaches mode old old before before all all 0
+reaches_none mode old before all = ([], refl, refl, (refl, refl))
+
+pub reaches_more : (mode : Mode) (old mid new : Desk) (before told after : List ℕ) (all rest more : List Line) (line : Line) (n : ℕ) → Reaches mode old mid before told all rest n → rest ≡ line ∷ more → Tells mode (n + 1) mid told line new after
+    → Reaches mode old new before after all more (n + 1)
+reaches_more mode old mid new before told after all rest more line n (done, many, split, so_far) next step = (
+  done ++ line ∷ [],
+  length-append done (line ∷ []) ∙ ap (λ m. m + 1) many,
+  split ∙ ap (λ l. done ++ l) next ∙ sym (append_assoc done (line ∷ []) more),
+  told_more mode 1 (n + 1) old mid new before told after done line (omega (arith, many)) so_far step,
+)
+
+pub reaches_stop : (mode : Mode) (old mid new : Desk) (before told after : List ℕ) (all rest more : List Line) (line : Line) (n : ℕ) → Reaches mode old mid before told all rest n → rest ≡ line ∷ more → Stops mode (n + 1) mid told line new after
+    → StopsAt mode old before all (n + 1) new after
+reaches_stop mode old mid new before told after all rest more line n (done, many, split, so_far) next stop =
+    (done, more, line, split ∙ ap (λ l. done ++ l) next, ap (λ m. m + 1) (sym many), mid, told, so_far, stop)
+
+pub reaches_all : (mode : Mode) (old new : Desk) (before after : List ℕ) (all rest : List Line) (n : ℕ) → Reaches mode old new before after all rest n → rest ≡ [] → Told mode 1 old before all new after
+reaches_all mode old new before after all rest n (done, many, split, so_far) empty =
+    subst (λ l. Told mode 1 old before l new after) (sym (split ∙ ap (λ l. done ++ l) empty ∙ append-nil done)) so_far

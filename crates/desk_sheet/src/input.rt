@@ -1,0 +1,72 @@
+//! A sheet, read whole, and its lines.
+
+ghost use Rattle.std.specs.Prelude.{◌≡◌, ◌<◌, ◌≤◌, ◌∷◌, [], IfErr, IfOk, IfSome, MatchOption, length};
+ghost use Rattle.desk_steps.specs.Line.{line_of};
+ghost use Rattle.desk_script.specs.Lines.{lines, without_cr};
+ghost use Rattle.desk_sheet.specs.Sheet.{IsInput, IsUnread};
+
+use crate::fault::SheetFault;
+use desk_script::RunFault;
+use std::alloc::Allocator;
+use std::io::Read;
+
+/// The most bytes of a sheet.
+pub const MAX_SHEET: usize = 67_108_864;
+
+/// So much is read at a time.
+const CHUNK: usize = 8192;
+
+/// All that a reader has left. Where that is too long the rest is left unread.
+pub fn read_whole<R: Read, A: Allocator + Copy>(
+    alloc: A,
+    reader: &mut R,
+) -> Result<Vec<u8, A>, SheetFault>
+    ensures ok { IfOk result (λ v. IsInput (R.remaining reader.old) v.items) }
+    ensures within { IfOk result (λ v. length v.items ≤ MAX_SHEET) }
+    ensures err { IfErr result (IsUnread (R.remaining reader.old)) }
+{
+    let mut bytes = Vec::new(alloc);
+    let mut chunk = [0u8; CHUNK];
+    'reads: loop {
+        match reader.read(&mut chunk) {
+            Ok(0) => return Ok(bytes),
+            Ok(n) => {
+                if n > MAX_SHEET - bytes.len() {
+                    return Err(SheetFault::Run(RunFault::TooLong));
+                }
+                let Ok(()) = bytes.extend_from_slice(&chunk[..n]) else {
+                    return Err(SheetFault::Run(RunFault::NoMemory));
+                };
+            }
+            Err(_) => return Err(SheetFault::Run(RunFault::Read)),
+        }
+    }
+}
+
+/// The line without a carriage return at its end.
+fn without_cr(line: &[u8]) -> &[u8]
+    ensures { result.now ≡ without_cr line.now }
+{
+    if let Some((last, front)) = line.split_last() {
+        if *last == b'\r' {
+            return front;
+        }
+    }
+    line
+}
+
+/// The first line without its end, and what follows that end; none where no byte is left.
+pub fn next_line(bytes: &[u8]) -> Option<(&[u8], &[u8])>
+    ensures first { MatchOption result (bytes.now ≡ []) (λ p. lines bytes.now ≡ line_of p.0.now ∷ lines p.1.now) }
+    ensures shorter { IfSome result (λ p. length p.1.now < length bytes.now) }
+{
+    for (at, byte) in bytes.iter().enumerate() {
+        if *byte == b'\n' {
+            return Some((without_cr(&bytes[..at]), &bytes[at + 1..]));
+        }
+    }
+    if bytes.is_empty() {
+        return None;
+    }
+    Some((bytes, &bytes[bytes.len()..]))
+}

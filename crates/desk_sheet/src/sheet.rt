@@ -1,0 +1,187 @@
+//! A sheet on a world of sites.
+
+ghost use Rattle.std.specs.Prelude.{◌≡◌, ◌++◌, Bool, IfErr, IfOk, MatchBool, OnErr, OnOk, string_bytes};
+ghost use Rattle.std.specs.Io.KnownBytes.{Appends};
+ghost use Rattle.desk_answers.specs.Reply.{reply};
+ghost use Rattle.desk_files.specs.Files.{Stays};
+ghost use Rattle.desk_script.specs.Lines.{lines};
+ghost use Rattle.desk_steps.specs.Desk.{KeepsSites, desk};
+ghost use Rattle.desk_steps.specs.Line.{line_of};
+ghost use Rattle.desk_stored.specs.Sending.{WritesFront};
+ghost use Rattle.desk_world.specs.Sites.{Sites, no_sites};
+ghost use Rattle.desk_sheet.specs.Sheet.{Ends, IsDone, IsStopped, Stops, Tells, answer_line, head, is_passed_over, is_refusal};
+
+use crate::fault::SheetFault;
+use crate::input::{next_line, read_whole};
+use desk_answers::{Response, put};
+use desk_files::Files;
+use desk_inputs::Memory;
+use desk_ops::NoMemory;
+use desk_steps::answer;
+use desk_stored::{Unsent, let_out, send};
+use desk_world::World;
+use std::alloc::{AllocError, Allocator, Global};
+use std::io::{Read, Write};
+
+/// A longer line is no command, and none that is passed over.
+const MAX_LINE: usize = 65_536;
+
+/// How a sheet is carried out and told.
+#[derive(Clone, Copy, Debug, PartialEq, Eq)]
+pub struct Mode {
+    /// The run ends at the first line that is answered by a refusal or by `stopped`; empty lines and those that begin with
+    /// `#` are passed over. Without it each line is answered, and the run goes on.
+    pub strict: bool,
+    /// The number of its line and a space stand before each answer. Lines are counted from 1, passed ones too.
+    pub number: bool,
+}
+
+/// Whether a line is empty, or begins with `#`.
+fn is_passed_over(line: &[u8]) -> bool
+    ensures { result ≡ is_passed_over (line_of line.now) }
+{
+    match line.first() {
+        None => true,
+        Some(first) => *first == b'#' && line.len() <= MAX_LINE,
+    }
+}
+
+/// Whether an answer stops a strict run.
+fn is_refusal<A: Allocator + Copy>(response: &Response<A>) -> bool
+    ensures { result ≡ is_refusal (reply response.now) }
+{
+    matches!(response, Response::Refused(_) | Response::Stopped(_, _))
+}
+
+/// Writes what stands before the answer of a line.
+fn put_head<A: Allocator + Copy>(
+    told: &mut String<A>,
+    mode: Mode,
+    number: u64,
+) -> Result<(), AllocError>
+    ensures { OnOk result (string_bytes told.new ≡ string_bytes told.old ++ head mode number) }
+{
+    if mode.number {
+        write!(told, "{number} ")?;
+    }
+    Ok(())
+}
+
+/// Writes the answer of a line at the end.
+fn put_answer<A: Allocator + Copy>(
+    told: &mut String<A>,
+    mode: Mode,
+    number: u64,
+    response: &Response<A>,
+) -> Result<(), AllocError>
+    ensures { OnOk result (string_bytes told.new ≡ string_bytes told.old ++ answer_line mode number (reply response.now)) }
+{
+    put_head(told, mode, number)?;
+    put(told, response)?;
+    told.push_str("\n")
+}
+
+/// Answers a line, or passes over it, and writes the answer at the end. Returns whether the run goes on.
+fn tell_line<F: Files, A: Allocator + Copy>(
+    memory: Memory<A>,
+    mode: Mode,
+    world: &mut World<A>,
+    files: &mut F,
+    told: &mut String<A>,
+    number: u64,
+    line: &[u8],
+) -> Result<bool, NoMemory>
+    ensures ok { IfOk result (λ (goes_on : Bool). MatchBool goes_on
+        (Tells mode number (desk world.old (F.shelf files.old)) (string_bytes told.old) (line_of line.now) (desk world.new (F.shelf files.new)) (string_bytes told.new))
+        (Stops mode number (desk world.old (F.shelf files.old)) (string_bytes told.old) (line_of line.now) (desk world.new (F.shelf files.new)) (string_bytes told.new))) }
+    ensures sites { KeepsSites world.old world.new }
+    ensures stays { Stays (F.shelf files.old) (F.shelf files.new) }
+{
+    if mode.strict && is_passed_over(line) {
+        return Ok(true);
+    }
+    let response = answer(memory, world, files, line);
+    put_answer(told, mode, number, &response)?;
+    Ok(!(mode.strict && is_refusal(&response)))
+}
+
+/// Answers lines up to the end, or to the one that stops the run, whose number is returned.
+fn tell_lines<F: Files, A: Allocator + Copy>(
+    memory: Memory<A>,
+    mode: Mode,
+    world: &mut World<A>,
+    files: &mut F,
+    told: &mut String<A>,
+    input: &[u8],
+) -> Result<Option<u64>, NoMemory>
+    ensures ok { IfOk result (λ end. Ends mode (desk world.old (F.shelf files.old)) (string_bytes told.old) (lines input.now) end (desk world.new (F.shelf files.new)) (string_bytes told.new)) }
+    ensures sites { KeepsSites world.old world.new }
+    ensures stays { Stays (F.shelf files.old) (F.shelf files.new) }
+{
+    let mut rest = input;
+    let mut number = 0;
+    'lines: while let Some((line, more)) = next_line(rest) {
+        number += 1;
+        if !tell_line(memory, mode, world, files, told, number, line)? {
+            return Ok(Some(number));
+        }
+        rest = more;
+    }
+    Ok(None)
+}
+
+/// Writes a text whole, and lets it out. After an `Err` a prefix of it was written.
+fn write_out<W: Write>(writer: &mut W, text: &[u8]) -> Result<(), Unsent>
+    ensures ok { OnOk result (Appends (W.contents writer.old) (W.contents writer.new) text.now) }
+    ensures err { OnErr result (WritesFront (W.contents writer.old) (W.contents writer.new) text.now) }
+{
+    send(writer, text)?;
+    let_out(writer)
+}
+
+/// Carries out what a reader has left on a world, and writes the answers once all are there.
+pub fn answer_sheet<R: Read, W: Write, F: Files, A: Allocator + Copy>(
+    memory: Memory<A>,
+    mode: Mode,
+    world: &mut World<A>,
+    reader: &mut R,
+    writer: &mut W,
+    files: &mut F,
+) -> Result<(), SheetFault>
+    ensures ok { OnOk result (IsDone mode (desk world.old (F.shelf files.old)) (desk world.new (F.shelf files.new)) (R.remaining reader.old) (W.contents writer.old) (W.contents writer.new)) }
+    ensures err { IfErr result (IsStopped mode (desk world.old (F.shelf files.old)) (desk world.new (F.shelf files.new)) (R.remaining reader.old) (W.contents writer.old) (W.contents writer.new)) }
+    ensures sites { KeepsSites world.old world.new }
+    ensures stays { Stays (F.shelf files.old) (F.shelf files.new) }
+{
+    let input = read_whole(memory.own, reader)?;
+    let mut told = String::new(memory.own);
+    let end = tell_lines(memory, mode, world, files, &mut told, &input)?;
+    write_out(writer, told.as_bytes())?;
+    match end {
+        Some(number) => Err(SheetFault::Line(number)),
+        None => Ok(()),
+    }
+}
+
+/// Carries out a sheet on a world that has no site yet. All that the reader has left is read first, `MAX_SHEET` bytes at
+/// most; its lines are those of a script. Each is answered as in a script, or, where the run is strict, passed over. The
+/// answers are written once all are there: up to the end, or to the line that stops the run, which `Line` then tells. No
+/// file changes, and nothing is written under `Read`, `TooLong` and `NoMemory`. Memory that is refused to a command is an
+/// answer; `NoMemory` tells that the sheet or its answers were not kept. The reading of a case or a wedge takes the global
+/// allocator alone.
+pub fn run_sheet<R: Read, W: Write, F: Files, A: Allocator + Copy>(
+    alloc: A,
+    global: Global,
+    mode: Mode,
+    reader: &mut R,
+    writer: &mut W,
+    files: &mut F,
+) -> Result<(), SheetFault>
+    ensures ok { OnOk result ((new : Sites) × IsDone mode (desk no_sites (F.shelf files.old)) (desk new (F.shelf files.new)) (R.remaining reader.old) (W.contents writer.old) (W.contents writer.new)) }
+    ensures err { IfErr result (λ fault. (new : Sites) × IsStopped mode (desk no_sites (F.shelf files.old)) (desk new (F.shelf files.new)) (R.remaining reader.old) (W.contents writer.old) (W.contents writer.new) fault) }
+    ensures stays { Stays (F.shelf files.old) (F.shelf files.new) }
+{
+    let mut world = World::new(alloc);
+    let memory = Memory { own: alloc, global };
+    answer_sheet(memory, mode, &mut world, reader, writer, files)
+}

@@ -1,0 +1,86 @@
+//! A sheet on the feed of a file.
+
+ghost use Rattle.std.specs.Prelude.{◌≡◌, ◌≤◌, ◌⊎◌, IfErr, IfOk, OnOk, Some};
+ghost use Rattle.std.specs.FinMap as fin;
+ghost use Rattle.desk_ops.specs.OpSet.{OpSet};
+ghost use Rattle.desk_files.specs.Files.{IsHeldAlone, Stays};
+ghost use Rattle.desk_script.specs.Stored.{IsStored};
+ghost use Rattle.desk_steps.specs.Desk.{desk};
+ghost use Rattle.desk_stored.specs.Faults.{IsNotStored};
+ghost use Rattle.desk_stored.specs.Stored.{was_read};
+ghost use Rattle.desk_sheet.specs.StoredSheet.{IsBarred, IsHalted, IsOpened, IsStoredSheet};
+
+use crate::fault::SheetFault;
+use crate::sheet::{Mode, answer_sheet};
+use desk_files::{FileRefusal, Files};
+use desk_inputs::Memory;
+use desk_stored::{keep_replica, open_replica, stored_bytes};
+use desk_world::World;
+use std::alloc::{Allocator, Global};
+use std::io::{Read, Write};
+
+/// Takes a name for this run alone, and opens a world of one site, which holds the operations of the feed that is stored
+/// under it; with it the bytes that were read. Where no file is there it holds none.
+fn take_feed<F: Files, A: Allocator + Copy>(
+    alloc: A,
+    files: &mut F,
+    name: &str,
+    site: u16,
+) -> Result<(Option<Vec<u8, A>>, World<A>), SheetFault>
+    requires { 1 ≤ site }
+    ensures ok { IfOk result (λ p. IsOpened name.now site (F.shelf files.old) (was_read p.0) (desk p.1 (F.shelf files.new))) }
+    ensures err { IfErr result (IsBarred name.now (F.shelf files.old) (F.shelf files.new)) }
+    ensures held { IsHeldAlone name.now (F.shelf files.old) (F.shelf files.new) ⊎ Stays (F.shelf files.old) (F.shelf files.new) }
+{
+    files.hold(name)?;
+    let old = stored_bytes(alloc, files, name)?;
+    let replica = open_replica(alloc, &old, site)?;
+    let world = World::with_site(alloc, replica)?;
+    Ok((old, world))
+}
+
+/// Stores the feed of a site that is there, if it is not what was stored.
+fn keep_feed<F: Files, A: Allocator + Copy>(
+    alloc: A,
+    world: &World<A>,
+    files: &mut F,
+    name: &str,
+    site: u16,
+    old: &Option<Vec<u8, A>>,
+) -> Result<(), FileRefusal>
+    requires { (set : OpSet) × (fin.get world.now site ≡ Some set) }
+    ensures ok { OnOk result (IsStored name.now site (desk world.now (F.shelf files.old)) (was_read old.now) (F.shelf files.new)) }
+    ensures err { IfErr result (IsNotStored name.now (F.shelf files.old) (F.shelf files.new)) }
+    ensures held { (F.shelf files.new).held ≡ (F.shelf files.old).held }
+{
+    let Some(replica) = world.replica(site) else {
+        unreachable!()
+    };
+    keep_replica(alloc, replica, files, name, old)
+}
+
+/// Carries out a sheet on a stored feed, whose name it takes first, and for itself alone. Then the site holds the operations
+/// of the named file, or none where that is not there; and the sheet is carried out as by `run_sheet`. Once all was
+/// answered and written the feed of that site alone is stored under the name, unless the file has these bytes. Where a line
+/// stopped the run, or anything failed before that, nothing is stored and no file has changed; where the feed was not
+/// stored, none but `name.new`. The name stays taken until the files end.
+pub fn run_sheet_on_feed<R: Read, W: Write, F: Files, A: Allocator + Copy>(
+    alloc: A,
+    global: Global,
+    mode: Mode,
+    reader: &mut R,
+    writer: &mut W,
+    files: &mut F,
+    name: &str,
+    site: u16,
+) -> Result<(), SheetFault>
+    requires { 1 ≤ site }
+    ensures ok { OnOk result (IsStoredSheet mode name.now site (F.shelf files.old) (F.shelf files.new) (R.remaining reader.old) (W.contents writer.old) (W.contents writer.new)) }
+    ensures err { IfErr result (IsHalted mode name.now site (F.shelf files.old) (F.shelf files.new) (R.remaining reader.old) (W.contents writer.old) (W.contents writer.new)) }
+    ensures held { IsHeldAlone name.now (F.shelf files.old) (F.shelf files.new) ⊎ ((reader.new ≡ reader.old) × (writer.new ≡ writer.old) × Stays (F.shelf files.old) (F.shelf files.new)) }
+{
+    let (old, mut world) = take_feed(alloc, files, name, site)?;
+    let memory = Memory { own: alloc, global };
+    answer_sheet(memory, mode, &mut world, reader, writer, files)?;
+    Ok(keep_feed(alloc, &world, files, name, site, &old)?)
+}
