@@ -318,7 +318,7 @@ def words(program, folder, library):
 
 
 def by_hand(program, folder, library):
-    """A merge, an export and an import: done as undisturbed, or ended for want of memory with the stored feed as it was."""
+    """What is done by hand and a strict sheet: done as undisturbed, or ended for want of memory with the stored feed as it was."""
     path = os.path.join(folder, "hand.feed")
     for name, text in (("hand.feed", "Send _word_\nby noon.\n"), ("other.feed", "Word was sent.\n")):
         site = "1" if name == "hand.feed" else "2"
@@ -334,7 +334,16 @@ def by_hand(program, folder, library):
             return status, written, told, file.read()
 
     sweep = Sweep(Runs(program, [], "", folder, library))
-    for words, text in (("merge hand.feed other.feed other.feed", ""), ("export hand.feed", ""), ("import hand.feed --site 1", "Sent _word_ by ^noon^.\n")):
+    asked = (
+        ("merge hand.feed other.feed other.feed", ""),
+        ("export hand.feed", ""),
+        ("diff hand.feed hand.feed", ""),
+        ("import hand.feed --site 1", "Sent _word_ by ^noon^.\n"),
+        ("replace hand.feed --site 1 noon ^noon^", ""),
+        ("check hand.feed other.feed case12.toml wedge5.toml", ""),
+        ("desk hand.feed --site 1 --strict --number", "# a note\ninsert 1 4 r\" a\"\n\ninsert 1 6 i\"b\"\n"),
+    )
+    for words, text in asked:
         runs = Runs(program, words.split(), text, folder, library)
         whole = once(runs, 0, False)
         sweep.note(words, None if whole[0] == 0 and not whole[2] else "ended with %d and %r" % (whole[0], whole[2]))
@@ -342,8 +351,9 @@ def by_hand(program, folder, library):
         for number, always in [(k, False) for k in range(1, growths + 1)] + [(k, True) for k in range(1, growths + 1, 20)]:
             got = once(runs, number, always)
             ended = got[0] == 1 and got[2].startswith(b"copydesk: no memory\n") and whole[1].startswith(got[1]) and got[3] == old
-            sweep.early += ended
-            sweep.note("%s, growth %d" % (words, number), None if ended or got == whole else "ended with %d, %r and %r" % got[:3])
+            stopped = got[0] == 1 and got[2].startswith(b"copydesk: line ") and got[1].endswith(b" refused memory\n") and got[3] == old
+            sweep.early += ended or stopped
+            sweep.note("%s, growth %d" % (words, number), None if ended or stopped or got == whole else "ended with %d, %r and %r" % got[:3])
     return sweep
 
 

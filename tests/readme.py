@@ -8,6 +8,7 @@ What is checked is named by the words behind a block's back quotes:
   text script  commands, and beside each, two spaces or more away, its answer
   text letter  the same, of commands and answers that stand in examples/letter.script and letter.answers, in their order
   text day     lines that stand in examples/day.answers, one after the other
+  rust NAME    lines that stand in the program crates/NAME, one after the other
   sh           in README.md the two commands that do all the setting up: the main job and the tests
 
 In what is written a line may end in `..`, where more follows, and a line `..` stands for any lines. Links to files of
@@ -119,7 +120,17 @@ def day(lines):
     return None
 
 
+def library(lines, name):
+    with open(os.path.join(ROOT, "crates", name, "src", "main.rt"), encoding="utf-8") as file:
+        real = file.read().split("\n")
+    if not any(lines == real[k:k + len(lines)] for k in range(len(real))):
+        return "these lines do not stand in %s" % name
+    return None
+
+
 def fault_of(kind, lines, folder, program):
+    if kind.startswith("rust "):
+        return library(lines, kind[5:])
     if kind == "console":
         return session(lines, folder, program)
     if kind == "text script":
@@ -143,7 +154,7 @@ def main():
         with tempfile.TemporaryDirectory() as folder:
             shutil.copytree(os.path.join(ROOT, "examples"), folder, dirs_exist_ok=True)
             for kind, number, lines in blocks(text):
-                if kind in KINDS and kind != "sh":
+                if kind.startswith("rust ") or kind in KINDS and kind != "sh":
                     fault = fault_of(kind, lines, folder, program)
                     faults += ["%s:%d: %s" % (page, number, fault)] if fault else []
                     checked += 1

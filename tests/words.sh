@@ -126,6 +126,12 @@ expect 1 "copydesk: input refused
 case12.toml: a key of a wedge is missing" punch c.feed --case case12.toml --wedge case12.toml -o c.rib
 expect 1 "copydesk: input refused
 case13.toml or wedge5.toml: it cannot be read" punch c.feed --case case13.toml --wedge wedge5.toml -o c.rib
+cp c.feed before.feed
+expect 1 "copydesk: file fault
+c.feed: the ribbon would take its place" punch c.feed "${metal[@]}" -o c.feed
+expect 1 "copydesk: file fault
+case12.toml: the ribbon would take its place" punch c.feed "${metal[@]}" -o case12.toml
+cmp c.feed before.feed
 echo 'set 1 loose 200' | "$program" desk c.feed --site 1 > written
 expect 1 "copydesk: file fault
 none/c.rib" punch c.feed "${metal[@]}" -o none/c.rib
@@ -164,10 +170,87 @@ got=0
 "$program" check wedge5.toml 2> faults > /dev/full || got=$?
 [ "$got" = 1 ] && [ "$(head -1 faults)" = "copydesk: write fault" ]
 
+# Two feeds are told apart.
+expect 2 error: diff c.feed
+cp c.feed d.feed
+expect 0 "" diff c.feed d.feed
+[ "$(cat written)" = "c.feed alone none
+d.feed alone none" ]
+"$program" replace d.feed --site 9 _proof_ '_page proof_' > /dev/null
+expect 1 "" diff c.feed d.feed
+[[ "$(cat written)" == "c.feed alone none
+d.feed alone 9: "*"
+- 9 _proof_
++ 9 _page proof_" ]]
+expect 1 "copydesk: file fault
+none.feed: it cannot be read" diff c.feed none.feed
+expect 1 "copydesk: feed refused
+bad.feed: byte 4: no such kind of operation" diff bad.feed c.feed
+got=0
+"$program" diff c.feed d.feed 2> faults > /dev/full || got=$?
+[ "$got" = 1 ] && [ "$(head -1 faults)" = "copydesk: write fault" ]
+
+# A sheet is carried out whole, or the first line that is refused stops it and nothing is stored.
+cp c.feed before.feed
+printf '# a note\n\ninsert 1 0 r"A "\ndelete 1 99999\nshow 1\n' > sheet
+got=0
+"$program" desk c.feed --site 1 --strict --number < sheet > written 2> faults || got=$?
+[ "$got" = 1 ] && [ "$(cat faults)" = "copydesk: line 4 refused" ]
+[[ "$(cat written)" == "3 ok "*"
+4 refused place" ]]
+cmp c.feed before.feed
+got=0
+"$program" script --strict < sheet > written 2> faults || got=$?
+[ "$got" = 1 ] && [ "$(cat faults)" = "copydesk: line 3 refused" ] && [ "$(cat written)" = "refused site" ]
+[ "$(printf 'site 1\nshow 2\n' | "$program" script --number)" = "1 ok
+2 refused site" ]
+printf '# a note\n\ninsert 1 0 r"A "\n' | "$program" desk c.feed --site 1 --strict > written
+[[ "$(cat written)" == "ok "* ]] && [[ "$("$program" export c.feed)" == "A The last "* ]]
+got=0
+"$program" script --number < sheet 2> faults > /dev/full || got=$?
+[ "$got" = 1 ] && [ "$(cat faults)" = "copydesk: write fault" ]
+expect 1 "copydesk: file fault" desk none/c.feed --site 1 --strict
+expect 2 error: script --strict now
+expect 2 error: merge c.feed a.feed --strict
+
+# A folder is no feed, output that is closed stores nothing, and while a desk has a feed nothing else takes it.
+cp c.feed before.feed
+mkdir folder.feed
+for words in "export folder.feed" "merge c.feed folder.feed" "import folder.feed --site 1" "replace folder.feed --site 1 A B" \
+  "desk folder.feed --site 1 --strict --why" "proof folder.feed ${metal[*]}" "punch folder.feed ${metal[*]} -o c.rib"; do
+  # shellcheck disable=SC2086
+  expect 1 "copydesk: file fault
+folder.feed: it cannot be" $words
+done
+expect 1 "" check folder.feed
+[ "$(cat written)" = "folder.feed file fault" ]
+for words in "export c.feed" "merge c.feed b.feed" "import c.feed --site 1" "replace c.feed --site 1 sheets sheet" "desk c.feed --site 1 --strict"; do
+  got=0
+  # shellcheck disable=SC2086
+  printf 'insert 1 0 r"A"\n' | "$program" $words 2> faults > /dev/full || got=$?
+  if [ "$got" != 1 ] || [ "$(head -1 faults)" != "copydesk: write fault" ]; then
+    echo "copydesk $words with a full output: status $got, $(head -c 200 faults)" >&2
+    exit 1
+  fi
+done
+cmp c.feed before.feed
+mkfifo keyed
+"$program" desk c.feed --site 1 < keyed > /dev/null &
+exec 3> keyed
+until [ -e c.feed.lock ] && ! flock -n c.feed.lock true; do sleep 0.05; done
+for words in "merge c.feed b.feed" "import c.feed --site 1" "replace c.feed --site 1 sheets sheet" "desk c.feed --site 1 --strict"; do
+  # shellcheck disable=SC2086
+  expect 1 "copydesk: file fault" $words
+done
+expect 0 "" export c.feed
+exec 3>&-
+wait
+cmp c.feed before.feed
+
 # Help names the program, the words and every command.
 [ "$("$program" --version)" = "copydesk 0.2.0" ]
 told=$("$program" --help)
-for command in script desk merge export import replace check proof punch; do
+for command in script desk merge diff export import replace check proof punch; do
   if [[ "$told" != *"copydesk $command"* ]] || [[ "$("$program" "$command" --help)" != *"As in: copydesk $command "*"Status: 0"* && $command != script ]]; then
     echo "the help does not name $command" >&2
     exit 1

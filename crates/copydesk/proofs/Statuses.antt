@@ -1,6 +1,6 @@
 -- What a status says of a run.
 use Rattle.std.proofs.Common.{◌≡◌, ◌⊎◌, inl, inr, ℕ, Bool, true, false, refl, sym, ◌∙◌, arith}
-use Rattle.std.specs.Prelude.{Result, Ok, Err, MatchResult, IfErr, IfOk, OnOk}
+use Rattle.std.specs.Prelude.{Result, Ok, Err, MatchBool, MatchResult, IfErr, IfOk, OnErr, OnOk}
 
 -- the status 0
 pub done_of : {A E X : Type 0} (r : Result A E) (status : ℕ) → MatchResult r (λ _. status ≡ 0) (λ _. status ≡ 1) → OnOk r X → status ≡ 0 → X
@@ -17,6 +17,14 @@ halt_of (Ok a) Why status told why one =
     let bad : 0 ≡ 1 = sym none ∙ one in
     absurd (omega arith)
 halt_of (Err e) Why status told why one = (e, why)
+
+-- the same, where what is left does not go by the fault
+pub left_of : {A E X : Type 0} (r : Result A E) (status : ℕ) → MatchResult r (λ _. status ≡ 0) (λ _. status ≡ 1) → OnErr r X → status ≡ 1 → X
+left_of (Ok a) status told x one =
+    let none : status ≡ 0 = told in
+    let bad : 0 ≡ 1 = sym none ∙ one in
+    absurd (omega arith)
+left_of (Err e) status told x one = x
 
 -- the status of an answer that is yes or no
 abbrev pub TellsOf : {E : Type 0} → Result Bool E → ℕ → Type 0
@@ -42,3 +50,12 @@ no_of (Ok true) X Why status told x why one =
     absurd (omega arith)
 no_of (Ok false) X Why status told x why one = inl x
 no_of (Err e) X Why status told x why one = inr (e, why)
+
+-- what holds of a yes, and what of a no
+pub when_so : (A B : Type 0) (b : Bool) → b ≡ true → A → MatchBool b A B
+when_so A B true so a = a
+when_so A B false so a = absurd (let f : false ≡ true = so in cc)
+
+pub when_not : (A B : Type 0) (b : Bool) → b ≡ false → B → MatchBool b A B
+when_not A B true isnt b = absurd (let f : true ≡ false = isnt in cc)
+when_not A B false isnt b = b

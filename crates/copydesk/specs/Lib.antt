@@ -2,3 +2,5 @@ pub mod Previews
 pub mod Texts
 pub mod Runs
 pub mod Host
+pub mod Sheets
+pub mod Compared

@@ -33,7 +33,12 @@ IsUnseen from alone first last before after =
 abbrev pub IsInFile : Sources → List ℕ → Shelf → Shelf → Option (List ℕ) → Option (List ℕ) → Type 0
 IsInFile from target first last before after = (after ≡ before) × IsPunched (sources from.feed.now from.case.now from.wedge.now) target first last
 
--- why there is no ribbon, and what was left
+-- the name is that of what the ribbon is made of
+abbrev pub IsSource : Sources → List ℕ → Type 0
+IsSource from target = (target ≡ from.feed.now) ⊎ (target ≡ from.case.now) ⊎ (target ≡ from.wedge.now)
+
+-- why there is no ribbon, and what was left: it would take the place of what it is made of, and nothing was begun; or it was not made, or not stored
 abbrev pub IsInNoFile : Sources → List ℕ → Shelf → Shelf → Option (List ℕ) → Option (List ℕ) → Type 0
 IsInNoFile from target first last before after =
-    (fault : PreviewFault) × IsUnpunched (sources from.feed.now from.case.now from.wedge.now) target first last before after fault
+    (IsSource from target × (last ≡ first) × (after ≡ before))
+    ⊎ ((fault : PreviewFault) × IsUnpunched (sources from.feed.now from.case.now from.wedge.now) target first last before after fault)

@@ -1,39 +1,39 @@
 -- What the program has done, by its status and by the files before and after.
-use Rattle.std.specs.Prelude.{ℕ, List, Option, IfSome}
+use Rattle.std.specs.Prelude.{ℕ, List, Option}
 use Rattle.clap.specs.Words.{Text}
-use Rattle.desk_script.specs.declared.fault.RunFault.{RunFault}
 use Rattle.desk_files.specs.Files.{Shelf, Stays}
 use Rattle.desk_hand.specs.Exporting.{IsExported, IsUnexported}
 use Rattle.desk_hand.specs.Importing.{IsImported, IsUnimported}
 use Rattle.desk_hand.specs.Merging.{IsMerged, IsUnmerged}
 use Rattle.desk_hand.specs.declared.fault.HandFault.{HandFault}
-use Rattle.desk_world.specs.Sites.{Sites, no_sites}
-use Rattle.desk_script.specs.Desk.{desk}
-use Rattle.desk_script.specs.Script.{Answers, AnswersFront}
-use Rattle.desk_script.specs.Stored.{AnswersStored, IsHalted}
 use Rattle.desk_words.specs.Words.{AsksFor, texts_of}
+use Rattle.copydesk.specs.Compared.{AreNotOne, AreOne}
+use Rattle.copydesk.specs.Sheets.{IsOffDesk, IsOnDesk, IsScripted, IsUnscripted}
 use Rattle.copydesk.specs.Previews.{IsInFile, IsInNoFile, IsSeen, IsUnseen}
-use Rattle.copydesk.specs.Texts.{AreFound, AreNotInOrder, IsChanged, IsUnchanged, exchange}
+use Rattle.desk_replace.specs.Replacing.{IsReplaced}
+use Rattle.copydesk.specs.Texts.{AreFound, AreNotInOrder, IsUnchanged, exchange}
 use Rattle.desk_words.specs.declared.wishes.Wish.{Wish}
 use Rattle.desk_words.specs.declared.wishes.Wish.TheVariants as wishes
 
 -- what is asked for was done; a script, an export, a check and a proof change no file
 abbrev pub Does : Wish → Shelf → Shelf → Option (List ℕ) → Option (List ℕ) → Option (List ℕ) → Type 0
-Does wishes.Script first last input before after = Stays first last × IfSome input (λ bytes. (new : Sites) × Answers (desk no_sites first) (desk new last) bytes before after)
-Does (wishes.Desk feed site why) first last input before after = AnswersStored feed.now site first last input before after
+Does (wishes.Script manner) first last input before after = IsScripted manner first last input before after
+Does (wishes.Desk feed site why manner) first last input before after = IsOnDesk manner feed.now site first last input before after
 Does (wishes.Merge feed others) first last input before after = IsMerged feed.now (texts_of others.items) first last before after
+Does (wishes.Diff one other) first last input before after = AreOne one.now other.now first last before after
 Does (wishes.Export feed) first last input before after = Stays first last × IsExported feed.now first before after
 Does (wishes.Import feed site plain) first last input before after = IsImported feed.now site plain first last input before after
-Does (wishes.Replace feed site old new plain) first last input before after = IsChanged feed.now site (exchange old new plain) first last before after
+Does (wishes.Replace feed site old new plain) first last input before after = IsReplaced feed.now site (exchange old new plain) first last before after
 Does (wishes.Check files) first last input before after = AreFound (texts_of files.items) first last before after
 Does (wishes.Proof from faults) first last input before after = IsSeen from faults first last before after
 Does (wishes.Punch from target) first last input before after = IsInFile from target.now first last before after
 
 -- it was begun and stopped, and this is what it left
 abbrev pub Stops : Wish → Shelf → Shelf → Option (List ℕ) → Option (List ℕ) → Option (List ℕ) → Type 0
-Stops wishes.Script first last input before after = Stays first last × IfSome input (λ bytes. AnswersFront (desk no_sites first) last bytes before after)
-Stops (wishes.Desk feed site why) first last input before after = (fault : RunFault) × IsHalted feed.now site first last input before after fault
+Stops (wishes.Script manner) first last input before after = IsUnscripted manner first last input before after
+Stops (wishes.Desk feed site why manner) first last input before after = IsOffDesk manner feed.now site first last input before after
 Stops (wishes.Merge feed others) first last input before after = (fault : HandFault) × IsUnmerged feed.now (texts_of others.items) first last before after fault
+Stops (wishes.Diff one other) first last input before after = AreNotOne one.now other.now first last before after
 Stops (wishes.Export feed) first last input before after = Stays first last × (fault : HandFault) × IsUnexported feed.now first last before after fault
 Stops (wishes.Import feed site plain) first last input before after = (fault : HandFault) × IsUnimported feed.now site plain first last input before after fault
 Stops (wishes.Replace feed site old new plain) first last input before after = IsUnchanged feed.now site (exchange old new plain) first last before after

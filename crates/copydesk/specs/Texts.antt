@@ -5,7 +5,7 @@ use Rattle.clap.specs.Words.{Text}
 use Rattle.desk_files.specs.Files.{Shelf, Stays}
 use Rattle.desk_check.specs.Checking.{IsChecked, IsUnchecked}
 use Rattle.desk_check.specs.declared.fault.CheckFault.{CheckFault}
-use Rattle.desk_replace.specs.Replacing.{IsReplaced, IsUnreplaced}
+use Rattle.desk_replace.specs.Replacing.{IsUnreplaced}
 use Rattle.desk_replace.specs.declared.fault.ReplaceFault.{ReplaceFault}
 use Rattle.desk_replace.specs.declared.texts.Exchange.{Exchange}
 
@@ -13,11 +13,7 @@ use Rattle.desk_replace.specs.declared.texts.Exchange.{Exchange}
 abbrev pub exchange : Bor Text → Bor Text → Bool → Exchange
 exchange old new plain = record { from = old; to = new; plain = plain }
 
--- the one text is the other where it stood once, and the feed is stored
-abbrev pub IsChanged : Text → ℕ → Exchange → Shelf → Shelf → Option (List ℕ) → Option (List ℕ) → Type 0
-IsChanged feed site exchange first last before after = IsReplaced feed site exchange first last before after
-
--- why not, and what was left
+-- why the one text was not made the other, and what was left
 abbrev pub IsUnchanged : Text → ℕ → Exchange → Shelf → Shelf → Option (List ℕ) → Option (List ℕ) → Type 0
 IsUnchanged feed site exchange first last before after = (fault : ReplaceFault) × IsUnreplaced feed site exchange first last before after fault
 

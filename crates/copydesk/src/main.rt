@@ -4,10 +4,13 @@
 ghost use Rattle.std.specs.Prelude.{◌≡◌, ◌↔◌, ◌⊎◌};
 ghost use Rattle.std.specs.IoError.{error_kind};
 
+mod compared;
 mod hold;
 mod host;
 mod previews;
 mod program;
+mod progress;
+mod sheets;
 mod telling;
 mod texts;
 mod trouble;
@@ -15,6 +18,7 @@ mod trouble;
 use desk_script::RunFault;
 use host::HostFiles;
 use program::program;
+use progress::Watched;
 use std::alloc::Global;
 use std::io::{BufWriter, ErrorKind, IsTerminal, Write};
 use std::process::ExitCode;
@@ -35,7 +39,7 @@ fn on_streams(rt: &HostRuntime) -> io::Result<u8> {
     Ok(program(
         rt.alloc(),
         &words,
-        &mut rt.reader(),
+        &mut Watched::new(rt, rt.reader()),
         &mut writer,
         &mut rt.stderr(),
         &mut HostFiles::new(rt),

@@ -1,7 +1,7 @@
 //! A stored feed seen before it is cast: its galley as text, and its ribbon in a file.
 
-ghost use Rattle.std.specs.Prelude.{◌≡◌, ◌≤◌, MatchResult, false, true};
-ghost use Rattle.copydesk.specs.Previews.{IsInFile, IsInNoFile, IsSeen, IsUnseen, extent_of};
+ghost use Rattle.std.specs.Prelude.{◌≡◌, ◌≤◌, ◌↔◌, MatchResult, false, true};
+ghost use Rattle.copydesk.specs.Previews.{IsInFile, IsInNoFile, IsSeen, IsSource, IsUnseen, extent_of};
 
 use crate::telling::explain_feed;
 use crate::trouble::Explains;
@@ -176,7 +176,15 @@ pub fn proofed<W: Write, E: Write, F: Files + Explains>(
     proof_status(faults, files, from, outcome)
 }
 
-/// Stores the ribbon of a stored feed under the name of a target, and gives the status.
+/// Whether a name is that of what a ribbon is made of.
+fn is_source(from: &Sources<'_>, target: &str) -> bool
+    ensures { result ≡ true ↔ IsSource from.now target.now }
+{
+    target == from.feed || target == from.case || target == from.wedge
+}
+
+/// Stores the ribbon of a stored feed under the name of a target, and gives the status. The names of the feed, the case and
+/// the wedge are no target.
 pub fn punched<W: Write, E: Write, F: Files + Explains>(
     alloc: Global,
     from: &Sources<'_>,
@@ -189,6 +197,11 @@ pub fn punched<W: Write, E: Write, F: Files + Explains>(
     ensures done { result ≡ 0 → IsInFile from.now target.now (F.shelf files.old) (F.shelf files.new) (W.contents writer.old) (W.contents writer.new) }
     ensures stopped { result ≡ 1 → IsInNoFile from.now target.now (F.shelf files.old) (F.shelf files.new) (W.contents writer.old) (W.contents writer.new) }
 {
+    if is_source(from, target) {
+        let _ = writeln!(faults, "copydesk: {}", RunFault::File(FileRefusal::Device));
+        let _ = writeln!(faults, "{target}: the ribbon would take its place");
+        return 1;
+    }
     let memory = Memory {
         own: alloc,
         global: alloc,

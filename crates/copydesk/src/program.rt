@@ -5,15 +5,17 @@ ghost use Rattle.clap.specs.Words.{kind_of};
 ghost use Rattle.copydesk.specs.Runs.{Does, IsRun, IsStopped, Stops};
 ghost use Rattle.desk_words.specs.Words.{AsksHelp, AsksNothing, IsLawful};
 
+use crate::compared::compared;
 use crate::previews::{proofed, punched};
-use crate::telling::{hand_status, status_of, status_on, stopped};
+use crate::sheets::{on_desk, scripted};
+use crate::telling::{hand_status, stopped};
 use crate::texts::{checked, replaced};
 use crate::trouble::Explains;
 use clap::Error;
 use clap::error::ErrorKind;
 use desk_hand::{export_feed, import_text, merge_feeds};
 use desk_replace::Exchange;
-use desk_script::{Files, RunFault, run, run_on_feed};
+use desk_script::{Files, RunFault};
 use desk_words::{Wish, read_words};
 use std::alloc::Global;
 use std::io::{Read, Write};
@@ -33,18 +35,20 @@ fn fulfilled<R: Read, W: Write, E: Write, F: Files + Explains>(
     ensures stopped { result ≡ 1 → Stops wish.now (F.shelf files.old) (F.shelf files.new) (R.remaining reader.old) (W.contents writer.old) (W.contents writer.new) }
 {
     match wish {
-        Wish::Script => {
-            let outcome = run(alloc, alloc, reader, writer, files);
-            status_of(faults, outcome)
-        }
-        Wish::Desk { feed, site, why } => {
-            let outcome = run_on_feed(alloc, alloc, reader, writer, files, feed, *site);
-            status_on(faults, files, feed, *why, outcome)
-        }
+        Wish::Script { manner } => scripted(alloc, *manner, reader, writer, faults, files),
+        Wish::Desk {
+            feed,
+            site,
+            why,
+            manner,
+        } => on_desk(
+            alloc, *manner, feed, *site, *why, reader, writer, faults, files,
+        ),
         Wish::Merge { feed, others } => {
             let outcome = merge_feeds(alloc, writer, files, feed, others);
             hand_status(faults, files, feed, others, outcome)
         }
+        Wish::Diff { one, other } => compared(alloc, one, other, writer, faults, files),
         Wish::Export { feed } => {
             let outcome = export_feed(alloc, writer, files, feed);
             hand_status(faults, files, feed, &[], outcome)

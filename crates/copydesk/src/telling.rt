@@ -26,7 +26,7 @@ pub fn status_of<E: Write>(faults: &mut E, outcome: Result<(), RunFault>) -> u8
 }
 
 /// Writes a second line on what stopped a run on a feed: which file, what was asked of it, and the cause.
-fn explain<E: Write, F: Explains>(
+pub fn explain<E: Write, F: Explains>(
     faults: &mut E,
     files: &F,
     feed: &str,
@@ -122,7 +122,7 @@ fn explain_hand<E: Write, F: Explains>(
 }
 
 /// Whether a file was refused for want of memory.
-fn lacks_memory(fault: HandFault) -> bool {
+pub fn lacks_memory(fault: HandFault) -> bool {
     match fault {
         HandFault::Untaken(why) | HandFault::Unstored(why) => why == FileRefusal::NoMemory,
         HandFault::Feed(why) | HandFault::Other { why, .. } => {

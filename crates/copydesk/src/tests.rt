@@ -117,6 +117,7 @@ fn refused_words(rt: HostRuntime) -> Result<(), Fail> {
     assert!(rt; is_refused(&tried(rt.alloc(), "proof a.feed --case c", TWO_SITES)?));
     assert!(rt; is_refused(&tried(rt.alloc(), "replace a.feed --site 1 old", TWO_SITES)?));
     assert!(rt; is_refused(&tried(rt.alloc(), "check", TWO_SITES)?));
+    assert!(rt; is_refused(&tried(rt.alloc(), "diff a.feed", TWO_SITES)?));
     assert!(rt; is_refused(&tried(rt.alloc(), "punch a.feed --case c --wedge w", TWO_SITES)?));
     Ok(())
 }
@@ -165,6 +166,32 @@ fn failing_reader(rt: HostRuntime) -> Result<(), Fail> {
     Ok(())
 }
 
+#[test]
+fn feeds_are_compared(rt: HostRuntime) -> Result<(), Fail> {
+    let mut files = TrialFiles::new(rt.alloc());
+    files.put("a.feed", ONE_INSERT)?;
+    files.put("b.feed", ONE_INSERT)?;
+    let got = tried_on(rt.alloc(), "diff a.feed b.feed", b"", &mut files)?;
+    assert_eq!(rt; got.status, 0);
+    assert_eq!(rt;
+        got.written.written(),
+        b"a.feed alone none\nb.feed alone none\n".as_slice()
+    );
+    files.put("b.feed", b"MFD2")?;
+    let got = tried_on(rt.alloc(), "diff a.feed b.feed", b"", &mut files)?;
+    assert_eq!(rt; got.status, 1);
+    assert_eq!(rt;
+        got.written.written(),
+        b"a.feed alone 3: 1\nb.feed alone none\n- 0 x\n+ 0\n".as_slice()
+    );
+    assert_eq!(rt; got.faults.written(), b"".as_slice());
+    let got = tried_on(rt.alloc(), "diff a.feed none.feed", b"", &mut files)?;
+    assert_eq!(rt; got.status, 1);
+    assert_eq!(rt; got.written.written(), b"".as_slice());
+    assert!(rt; got.faults.written().starts_with(b"copydesk: file fault\n"));
+    Ok(())
+}
+
 /// One insert, 1.3.
 const ONE_INSERT: &[u8] = b"MFD2\x01\0\0\0\0\0\0\0\x01\0\x03\0\0\0\0\0\0\0\0\0\0\0\0\0\0x";
 
@@ -174,6 +201,68 @@ fn holds(files: &TrialFiles<Global>, name: &str, bytes: &[u8]) -> bool {
         Some(kept) => kept == bytes,
         None => false,
     }
+}
+
+/// A sheet whose fourth line is refused, and one that is not.
+const REFUSED_SHEET: &[u8] = b"site 1\n\n# a note\ninsert 1 9 r\"a\"\nshow 1\n";
+
+const SHEET: &[u8] = b"# a note\ninsert 3 0 r\"x\"\nshow 3\n";
+
+#[test]
+fn sheets_are_strict(rt: HostRuntime) -> Result<(), Fail> {
+    let got = tried(rt.alloc(), "script --strict", REFUSED_SHEET)?;
+    assert_eq!(rt; got.status, 1);
+    assert_eq!(rt; got.written.written(), b"ok\nrefused place\n".as_slice());
+    assert_eq!(rt;
+        got.faults.written(),
+        b"copydesk: line 4 refused\n".as_slice()
+    );
+
+    let got = tried(rt.alloc(), "script --number", b"site 1\nshow 2\nshow 1\n")?;
+    assert_eq!(rt; got.status, 0);
+    assert_eq!(rt;
+        got.written.written(),
+        b"1 ok\n2 refused site\n3 copy\n".as_slice()
+    );
+
+    let mut files = TrialFiles::new(rt.alloc());
+    let got = tried_on(
+        rt.alloc(),
+        "desk a.feed --site 3 --strict --number",
+        SHEET,
+        &mut files,
+    )?;
+    assert_eq!(rt; got.status, 0);
+    assert_eq!(rt;
+        got.written.written(),
+        b"2 ok 1.3\n3 copy r\"x\"\n".as_slice()
+    );
+    assert!(rt; holds(&files, "a.feed", ONE_INSERT));
+    Ok(())
+}
+
+#[test]
+fn stopped_sheets_store_nothing(rt: HostRuntime) -> Result<(), Fail> {
+    let mut files = TrialFiles::new(rt.alloc());
+    files.put("a.feed", ONE_INSERT)?;
+    let sheet = b"insert 3 1 r\"y\"\ndelete 3 7\n";
+    let got = tried_on(
+        rt.alloc(),
+        "desk a.feed --site 3 --strict --why",
+        sheet,
+        &mut files,
+    )?;
+    assert_eq!(rt; got.status, 1);
+    assert_eq!(rt;
+        got.written.written(),
+        b"ok 2.3\nrefused place\n".as_slice()
+    );
+    assert_eq!(rt;
+        got.faults.written(),
+        b"copydesk: line 2 refused\nstandard input: the answer to line 2 says why; a.feed is as it was\n".as_slice()
+    );
+    assert!(rt; holds(&files, "a.feed", ONE_INSERT));
+    Ok(())
 }
 
 #[test]

@@ -2,7 +2,8 @@
 
 ghost use Rattle.std.specs.Prelude.{◌≡◌, ◌≤◌, MatchResult, false, true};
 ghost use Rattle.desk_words.specs.Words.{texts_of};
-ghost use Rattle.copydesk.specs.Texts.{AreFound, AreNotInOrder, IsChanged, IsUnchanged, exchange};
+ghost use Rattle.desk_replace.specs.Replacing.{IsReplaced};
+ghost use Rattle.copydesk.specs.Texts.{AreFound, AreNotInOrder, IsUnchanged, exchange};
 
 use crate::telling::{hand_told, stopped};
 use crate::trouble::Explains;
@@ -45,7 +46,7 @@ pub fn replaced<W: Write, E: Write, F: Files + Explains>(
 ) -> u8
     requires { 1 ≤ site }
     ensures within { result ≤ 1 }
-    ensures done { result ≡ 0 → IsChanged feed.now site exchange.now (F.shelf files.old) (F.shelf files.new) (W.contents writer.old) (W.contents writer.new) }
+    ensures done { result ≡ 0 → IsReplaced feed.now site exchange.now (F.shelf files.old) (F.shelf files.new) (W.contents writer.old) (W.contents writer.new) }
     ensures stopped { result ≡ 1 → IsUnchanged feed.now site exchange.now (F.shelf files.old) (F.shelf files.new) (W.contents writer.old) (W.contents writer.new) }
 {
     let outcome = replace_text(alloc, writer, files, feed, site, exchange);

@@ -2,27 +2,19 @@
 use Rattle.std.specs.Prelude.{ℕ, ℤ, length, ◌+◌, ◌/◌, ◌%◌, nat_lt, Bool, true, false, ◌==◌, List, [], ◌∷◌, ◌++◌, Option, Some, None, codes, if◌then◌else◌}
 use Rattle.std.specs.Fmt.{decimal, signed_decimal}
 use Rattle.desk_commands.specs.Writing.{copy_text}
-use Rattle.desk_ops.specs.declared.op.Stamp.{Stamp}
 use Rattle.desk_ops.specs.declared.op.Symbol.{Symbol}
+use Rattle.desk_ops.specs.Words.{stamp_words, kind_words, key_words}
 use Rattle.desk_ops.specs.declared.op.Unlawful.{Unlawful}
 use Rattle.desk_ops.specs.declared.op.Unlawful.TheVariants as causes
 use Rattle.desk_codec.specs.declared.fault.FeedWhy.{FeedWhy}
 use Rattle.desk_codec.specs.declared.fault.FeedWhy.TheVariants as faults
-use Rattle.desk_ops.specs.declared.fault.FaultKind.{FaultKind}
-use Rattle.desk_ops.specs.declared.fault.FaultKind.TheVariants as kinds
 use Rattle.desk_ops.specs.declared.fault.CopyFault.{CopyFault}
 use Rattle.desk_replica.specs.declared.settings.Settings.{Settings as JobSettings}
-use Rattle.desk_ops.specs.declared.op.Key.{Key}
-use Rattle.desk_ops.specs.declared.op.Key.TheVariants as keys
 use Rattle.desk_job.specs.declared.JobFault.{JobFault}
 use Rattle.desk_job.specs.declared.JobFault.TheVariants as jobs
 use Rattle.desk_answers.specs.Reply.{Reply, Done, Made, MadeMany, Counted, Copy, Feed, Faults, Settings, Ribbon, NoRibbon, Lines, Refused, Stopped}
 use Rattle.desk_answers.specs.declared.text.Refusal.{Refusal}
 use Rattle.desk_answers.specs.declared.text.Refusal.TheVariants as refusals
-
--- `counter.site`
-abbrev pub stamp_text : Stamp → List ℕ
-stamp_text s = decimal s.counter ++ codes "." ++ decimal s.site
 
 -- the number of the cause why an operation is not lawful
 abbrev pub cause_number : Unlawful → ℕ
@@ -73,11 +65,6 @@ abbrev pub hex_text : List ℕ → List ℕ
 hex_text [] = []
 hex_text (b ∷ bytes) = hex_digit (b / 16) ∷ hex_digit (b % 16) ∷ hex_text bytes
 
-abbrev pub kind_text : FaultKind → List ℕ
-kind_text kinds.Forked = codes "forked"
-kind_text kinds.Void = codes "void"
-kind_text kinds.Waiting = codes "waiting"
-
 -- before the first of a list, and before each other
 abbrev pub separator : Bool → List ℕ
 separator true = codes " "
@@ -86,7 +73,7 @@ separator false = codes ", "
 -- `KIND STAMP` of each, where the next is the first or not
 abbrev pub entries_text : Bool → List CopyFault → List ℕ
 entries_text is_first [] = []
-entries_text is_first (f ∷ faults) = separator is_first ++ kind_text f.kind ++ codes " " ++ stamp_text f.stamp ++ entries_text false faults
+entries_text is_first (f ∷ faults) = separator is_first ++ kind_words f.kind ++ codes " " ++ stamp_words f.stamp ++ entries_text false faults
 
 abbrev pub faults_text : List CopyFault → List ℕ
 faults_text [] = codes "faults none"
@@ -101,15 +88,8 @@ settings_text s =
     codes "measure=" ++ value_text s.measure ++ codes " tight=" ++ value_text s.tight ++ codes " loose=" ++ value_text s.loose
     ++ codes " case=" ++ value_text s.case ++ codes " wedge=" ++ value_text s.wedge
 
-abbrev pub key_text : Key → List ℕ
-key_text keys.Measure = codes "measure"
-key_text keys.Tight = codes "tight"
-key_text keys.Loose = codes "loose"
-key_text keys.Case = codes "case"
-key_text keys.Wedge = codes "wedge"
-
 abbrev pub job_fault_text : JobFault → List ℕ
-job_fault_text (jobs.MissingSetting key) = codes "missing " ++ key_text key
+job_fault_text (jobs.MissingSetting key) = codes "missing " ++ key_words key
 job_fault_text jobs.OtherCase = codes "other case"
 job_fault_text jobs.OtherWedge = codes "other wedge"
 job_fault_text jobs.Crossed = codes "crossed"
@@ -132,8 +112,8 @@ lines_text (l ∷ lines) = codes " " ++ decimal l.0 ++ codes "/" ++ signed_decim
 -- an answer without its end of line
 abbrev pub text : Reply → List ℕ
 text Done = codes "ok"
-text (Made stamp) = codes "ok " ++ stamp_text stamp
-text (MadeMany first last) = codes "ok " ++ stamp_text first ++ codes ".." ++ stamp_text last
+text (Made stamp) = codes "ok " ++ stamp_words stamp
+text (MadeMany first last) = codes "ok " ++ stamp_words first ++ codes ".." ++ stamp_words last
 text (Counted new known) = codes "ok new " ++ decimal new ++ codes " known " ++ decimal known
 text (Copy copy) = codes "copy" ++ shown_text copy
 text (Feed feed) = codes "feed " ++ hex_text feed

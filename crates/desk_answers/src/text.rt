@@ -3,16 +3,17 @@
 ghost use Rattle.std.specs.Prelude.{◌≡◌, ◌+◌, ◌<◌, ◌≤◌, ◌++◌, ◌∷◌, [], true, false, length, List, IfSome, OnOk, codes, is_some, string_bytes};
 ghost use Rattle.std.specs.Fmt.{decimal, signed_decimal};
 ghost use Rattle.arrayvec.specs.ArrayString.{array_string_len};
+ghost use Rattle.desk_ops.specs.Words.{stamp_words};
 ghost use Rattle.desk_answers.specs.Reply.{is_long, reply, lines_told};
 ghost use Rattle.desk_answers.specs.Reply as replies;
-ghost use Rattle.desk_answers.specs.Text.{stamp_text, hex_digit, hex_text, refusal_text, cause_number, fault_text, kind_text, separator, entries_text, faults_text, value_text, settings_text, key_text, job_fault_text, job_faults_text, lines_text, text};
+ghost use Rattle.desk_answers.specs.Text.{hex_digit, hex_text, refusal_text, cause_number, fault_text, separator, entries_text, faults_text, value_text, settings_text, job_fault_text, job_faults_text, lines_text, text};
 
 use arrayvec::ArrayString;
 use desk_caster::CastLine;
 use desk_codec::{FeedFault, FeedWhy};
 use desk_commands::put_copy;
 use desk_job::{JobFault, JobFaults};
-use desk_ops::{CopyFault, FaultKind, Key, Stamp, Symbol, Unlawful};
+use desk_ops::{CopyFault, Stamp, Symbol, Unlawful};
 use desk_replica::Settings;
 use itoa::Buffer;
 use std::alloc::{AllocError, Allocator};
@@ -213,7 +214,7 @@ fn put_hex<A: Allocator + Copy>(out: &mut String<A>, bytes: &[u8]) -> Result<(),
 
 fn put_stamp(out: &mut Short, stamp: Stamp)
     requires { array_string_len out.old + 41 ≤ SHORT }
-    ensures text { out.new.bytes ≡ out.old.bytes ++ stamp_text stamp }
+    ensures text { out.new.bytes ≡ out.old.bytes ++ stamp_words stamp }
     ensures len { array_string_len out.new ≤ array_string_len out.old + 41 }
 {
     put_number(out, stamp.counter);
@@ -221,21 +222,11 @@ fn put_stamp(out: &mut Short, stamp: Stamp)
 }
 
 fn stamp_of(stamp: Stamp) -> Short
-    ensures { result.bytes ≡ stamp_text stamp }
+    ensures { result.bytes ≡ stamp_words stamp }
 {
     let mut out = Short::new();
     put_stamp(&mut out, stamp);
     out
-}
-
-fn kind_of(kind: FaultKind) -> &'static str
-    ensures { result.now ≡ kind_text kind }
-{
-    match kind {
-        FaultKind::Forked => "forked",
-        FaultKind::Void => "void",
-        FaultKind::Waiting => "waiting",
-    }
 }
 
 /// Writes the faults of a copy at the end, or that there are none.
@@ -269,7 +260,7 @@ fn put_entries<A: Allocator + Copy>(
     let mut is_first = true;
     for fault in faults {
         out.push_str(separator(is_first))?;
-        out.push_str(kind_of(fault.kind))?;
+        out.push_str(fault.kind.name())?;
         out.push_str(" ")?;
         out.push_str(stamp_of(fault.stamp).as_str())?;
         is_first = false;
@@ -306,18 +297,6 @@ fn put_settings<A: Allocator + Copy>(
     put_value(out, settings.wedge)
 }
 
-fn word_of(key: Key) -> &'static str
-    ensures { result.now ≡ key_text key }
-{
-    match key {
-        Key::Measure => "measure",
-        Key::Tight => "tight",
-        Key::Loose => "loose",
-        Key::Case => "case",
-        Key::Wedge => "wedge",
-    }
-}
-
 fn put_job_fault<A: Allocator + Copy>(
     out: &mut String<A>,
     fault: JobFault,
@@ -327,7 +306,7 @@ fn put_job_fault<A: Allocator + Copy>(
     match fault {
         JobFault::MissingSetting(key) => {
             out.push_str("missing ")?;
-            out.push_str(word_of(key))
+            out.push_str(key.name())
         }
         JobFault::OtherCase => out.push_str("other case"),
         JobFault::OtherWedge => out.push_str("other wedge"),

@@ -8,7 +8,8 @@ use Rattle.desk_signals.specs.declared.Column.{Column}
 use Rattle.desk_signals.specs.declared.Column.TheVariants as column
 use Rattle.desk_signals.specs.declared.Cell.{Cell}
 use Rattle.desk_signals.specs.Columns.{index, column_at}
-use Rattle.desk_case.specs.Names.{column_name, column_of_letter, digits, row_of_digits, name_of, cell_at, cell_named, IsCell, place, cell_of_place}
+use Rattle.desk_signals.specs.Words.{column_name}
+use Rattle.desk_case.specs.Names.{column_of_letter, digits, row_of_digits, name_of, cell_at, cell_named, IsCell, place, cell_of_place}
 use Rattle.desk_case.specs.Laws.{NamesAreOneToOne}
 use Rattle.desk_case.proofs.Columns.{index_small, column_back, column_there, index_back}
 

@@ -5,13 +5,8 @@ use Rattle.desk_signals.specs.declared.Column.{Column}
 use Rattle.desk_signals.specs.declared.Column.TheVariants as column
 use Rattle.desk_signals.specs.declared.Cell.{Cell}
 use Rattle.desk_signals.specs.Columns.{index, column_at}
+use Rattle.desk_signals.specs.Words.{column_name}
 use Rattle.desk_case.specs.declared.TheConstants.{COLUMNS, ROWS}
-
--- a column's name: its letter, or its two
-abbrev pub column_name : Column → List ℕ
-column_name column.NI = codes "NI"
-column_name column.NL = codes "NL"
-column_name c = (index c + 65) ∷ []
 
 -- the column of a letter, A to O
 abbrev pub column_of_letter : ℕ → Option Column

@@ -65,11 +65,11 @@ pub enum CaseFault {
     Missing(CaseKey),
     #[error("`{}` is of another type, number, length or name", .0.name())]
     Shape(CaseKey),
-    #[error("the text of a cell is no symbol")]
+    #[error("cell {0} has a text that is no symbol")]
     BadText(Cell),
-    #[error("a symbol stands in two cells")]
+    #[error("{0} stands in two cells")]
     Doubled(Symbol),
-    #[error("the space or a fill holds a symbol")]
+    #[error("cell {0}, the space or a fill, holds a symbol")]
     NotBlank(Cell),
     #[error("the units of the fills do not descend")]
     FillOrder,

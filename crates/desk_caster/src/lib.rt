@@ -37,7 +37,7 @@ pub enum RibbonFault {
     #[error("the ribbon has not as many rows as it says")]
     Count,
     /// The row at this place, from 0, has no meaning.
-    #[error("a row has no meaning")]
+    #[error("row {0}: {1}")]
     Row(u32, BadImage),
     #[error("no memory")]
     NoMemory,
@@ -47,13 +47,13 @@ pub enum RibbonFault {
 #[derive(Clone, Copy, PartialEq, Eq, Debug, Error)]
 pub enum CastFault {
     /// The row met needs positions of the wedges that are not there.
-    #[error("the wedges are not set")]
+    #[error("row {0} needs wedges that are not set")]
     NoWedges(u32),
     /// The case has nothing where the row met points.
-    #[error("the case has no matrix there")]
+    #[error("row {0}: the case has no matrix there")]
     NoMatrix(u32),
     /// The line that this Coarse row started was not sent out.
-    #[error("a line was not sent out")]
+    #[error("the line that row {0} started was not sent out")]
     NotSentOut(u32),
     #[error("no memory")]
     NoMemory,

@@ -1,9 +1,6 @@
 -- What is said of a file, without its name.
 use Rattle.std.specs.Prelude.{ℕ, ◌/◌, ◌%◌, ◌==◌, if◌then◌else◌, List, [], ◌∷◌, ◌++◌, length, codes, Result, Ok, Err}
-use Rattle.std.specs.Char.{encode_utf8}
 use Rattle.std.specs.Fmt.{decimal}
-use Rattle.desk_ops.specs.declared.op.Style.{Style}
-use Rattle.desk_ops.specs.declared.op.Style.TheVariants as styles
 use Rattle.desk_ops.specs.declared.op.Symbol.{Symbol}
 use Rattle.desk_ops.specs.declared.op.Unlawful.{Unlawful}
 use Rattle.desk_ops.specs.declared.op.Unlawful.TheVariants as causes
@@ -29,7 +26,8 @@ use Rattle.desk_wedge.specs.declared.WedgeFault.{WedgeFault}
 use Rattle.desk_wedge.specs.declared.WedgeFault.TheVariants as wedges
 use Rattle.desk_case.specs.File as case_files
 use Rattle.desk_case.specs.Case.{CaseValues}
-use Rattle.desk_case.specs.Names.{column_name}
+use Rattle.desk_signals.specs.Words.{cell_words}
+use Rattle.desk_ops.specs.Words.{symbol_words}
 use Rattle.desk_case.specs.declared.CaseFault.{CaseFault}
 use Rattle.desk_case.specs.declared.CaseFault.TheVariants as cases
 use Rattle.desk_check.specs.Sorts.{sorts}
@@ -137,17 +135,6 @@ wedge_words (Ok wedge) = codes "ok: wedge " ++ decimal wedge.number ++ codes ", 
 wedge_words (Err fault) = codes "wedge refused: " ++ wedge_fault_words fault
 
 -- ---- cases
-
-abbrev pub cell_words : Cell → List ℕ
-cell_words cell = column_name cell.column ++ decimal cell.row
-
-abbrev pub style_words : Style → List ℕ
-style_words styles.Roman = codes "roman "
-style_words styles.Italic = codes "italic "
-style_words styles.SmallCap = codes "small capital "
-
-abbrev pub symbol_words : Symbol → List ℕ
-symbol_words symbol = style_words symbol.style ++ encode_utf8 symbol.ch
 
 abbrev pub cell_fault_words : Cell → List ℕ → List ℕ
 cell_fault_words cell what = codes "cell " ++ cell_words cell ++ what

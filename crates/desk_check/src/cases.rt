@@ -1,69 +1,19 @@
 //! What is said of the bytes of a case file.
 
 ghost use Rattle.std.specs.Prelude.{◌≡◌, ◌≤◌, ◌<◌, ◌*◌, ◌++◌, Err, IfOk, Ok, OnOk, false, string_bytes, true};
-ghost use Rattle.desk_case.specs.Names.{column_name};
 ghost use Rattle.desk_check.specs.Lines.{SaysCase};
 ghost use Rattle.desk_check.specs.Sorts.{sort_at, sorts};
 ghost use Rattle.desk_check.specs.Texts.{cells_in, fault_holders};
-ghost use Rattle.desk_check.specs.Words.{around_words, case_fault_words, case_words, cell_fault_words, cell_words, cells_words, doubled_from, doubled_words, held_words, number_words, other_words, sorts_words, style_words, symbol_words, twice_words};
+ghost use Rattle.desk_check.specs.Words.{around_words, case_fault_words, case_words, cell_fault_words, cells_words, doubled_from, doubled_words, held_words, number_words, other_words, sorts_words, twice_words};
 
 use crate::texts::{cells_in, fault_holders};
 use crate::told::Told;
 use desk_case::names::cell_of_place;
 use desk_case::{COLUMNS, CaseFault, MatrixCase, ROWS};
 use desk_memory::NoMemory;
-use desk_ops::{Style, Symbol};
-use desk_signals::{Cell, Column};
+use desk_ops::Symbol;
+use desk_signals::Cell;
 use std::alloc::{AllocError, Allocator, Global};
-
-fn column_name(column: Column) -> &'static str
-    ensures { result.now ≡ column_name column }
-{
-    match column {
-        Column::A => "A",
-        Column::B => "B",
-        Column::C => "C",
-        Column::D => "D",
-        Column::E => "E",
-        Column::F => "F",
-        Column::G => "G",
-        Column::H => "H",
-        Column::I => "I",
-        Column::J => "J",
-        Column::K => "K",
-        Column::L => "L",
-        Column::M => "M",
-        Column::N => "N",
-        Column::O => "O",
-        Column::NI => "NI",
-        Column::NL => "NL",
-    }
-}
-
-/// Writes a cell's name.
-fn put_cell<A: Allocator + Copy>(out: &mut String<A>, cell: Cell) -> Result<(), AllocError>
-    ensures { OnOk result (string_bytes out.new ≡ string_bytes out.old ++ cell_words cell) }
-{
-    write!(out, "{}{}", column_name(cell.column), cell.row.get())
-}
-
-fn style_words(style: Style) -> &'static str
-    ensures { result.now ≡ style_words style }
-{
-    match style {
-        Style::Roman => "roman ",
-        Style::Italic => "italic ",
-        Style::SmallCap => "small capital ",
-    }
-}
-
-/// Writes a symbol by its style and its character.
-fn put_symbol<A: Allocator + Copy>(out: &mut String<A>, symbol: Symbol) -> Result<(), AllocError>
-    ensures { OnOk result (string_bytes out.new ≡ string_bytes out.old ++ symbol_words symbol) }
-{
-    out.push_str(style_words(symbol.style))?;
-    out.push(symbol.ch)
-}
 
 /// One where the cell at a place holds a symbol, else none.
 fn sort_at(case: &MatrixCase, place: usize) -> usize
@@ -129,9 +79,7 @@ fn put_cell_fault<A: Allocator + Copy>(
 ) -> Result<(), AllocError>
     ensures { OnOk result (string_bytes out.new ≡ string_bytes out.old ++ cell_fault_words cell what.now) }
 {
-    out.push_str("cell ")?;
-    put_cell(out, cell)?;
-    out.push_str(what)
+    write!(out, "cell {cell}{what}")
 }
 
 /// Writes a cell and the symbol that it holds.
@@ -142,10 +90,7 @@ fn put_held<A: Allocator + Copy>(
 ) -> Result<(), AllocError>
     ensures { OnOk result (string_bytes out.new ≡ string_bytes out.old ++ held_words cell symbol) }
 {
-    out.push_str("cell ")?;
-    put_cell(out, cell)?;
-    out.push_str(" holds ")?;
-    put_symbol(out, symbol)
+    write!(out, "cell {cell} holds {symbol}")
 }
 
 /// Writes a cell between two texts.
@@ -157,9 +102,7 @@ fn put_around<A: Allocator + Copy>(
 ) -> Result<(), AllocError>
     ensures { OnOk result (string_bytes out.new ≡ string_bytes out.old ++ around_words before.now cell after.now) }
 {
-    out.push_str(before)?;
-    put_cell(out, cell)?;
-    out.push_str(after)
+    write!(out, "{before}{cell}{after}")
 }
 
 /// Writes another cell that holds it.
@@ -173,8 +116,7 @@ fn put_other<A: Allocator + Copy>(out: &mut String<A>, cell: Cell) -> Result<(),
 fn put_twice<A: Allocator + Copy>(out: &mut String<A>, symbol: Symbol) -> Result<(), AllocError>
     ensures { OnOk result (string_bytes out.new ≡ string_bytes out.old ++ twice_words symbol) }
 {
-    put_symbol(out, symbol)?;
-    out.push_str(" stands in two cells")
+    write!(out, "{symbol} stands in two cells")
 }
 
 /// Writes that a symbol stands in two cells, with the first that holds it and the second, if that is known.

@@ -1,5 +1,5 @@
 use desk_ops::op::MAX_COUNTER;
-use desk_ops::{Key, NoMemory, Op, Stamp, Style, Symbol, Unlawful};
+use desk_ops::{CopyFault, FaultKind, Key, NoMemory, Op, Stamp, Style, Symbol, Unlawful};
 use std::test::Fail;
 
 fn at(counter: u64, site: u16) -> Stamp {
@@ -128,6 +128,46 @@ fn stamps_and_targets(rt: HostRuntime) {
     for (value, takes) in [(15, false), (16, true), (240, true), (241, false)] {
         assert!(rt; Key::Loose.takes(value) == takes, "{value}");
     }
+}
+
+/// Stamps, styles, symbols, settings and faults of the copy, in words.
+#[test]
+fn values_in_words(rt: HostRuntime) -> Result<(), Fail> {
+    let alloc = rt.alloc();
+    let (most, first) = (at(MAX_COUNTER, 65535), at(10, 1));
+    assert!(rt; format!(in alloc; "{first} {most}")?.as_str() == "10.1 4611686018427387904.65535");
+    for (style, ch, text) in [
+        (Style::Roman, 'a', "roman a"),
+        (Style::Italic, '\u{e9}', "italic \u{e9}"),
+        (Style::SmallCap, 'Z', "small capital Z"),
+    ] {
+        let symbol = Symbol { style, ch };
+        assert!(rt; format!(in alloc; "{symbol}")?.as_str() == text, "{text}");
+        let name = style.name();
+        assert!(rt; format!(in alloc; "{style}")?.as_str() == name, "{name}");
+    }
+    for (key, text) in [
+        (Key::Measure, "measure"),
+        (Key::Tight, "tight"),
+        (Key::Loose, "loose"),
+        (Key::Case, "case"),
+        (Key::Wedge, "wedge"),
+    ] {
+        assert!(rt;
+            key.name() == text && format!(in alloc; "{key}")?.as_str() == text,
+            "{text}"
+        );
+    }
+    for (kind, text) in [
+        (FaultKind::Forked, "forked 10.1"),
+        (FaultKind::Void, "void 10.1"),
+        (FaultKind::Waiting, "waiting 10.1"),
+    ] {
+        let fault = CopyFault { stamp: first, kind };
+        assert!(rt; format!(in alloc; "{fault}")?.as_str() == text, "{text}");
+        assert!(rt; text.starts_with(kind.name()), "{kind}");
+    }
+    Ok(())
 }
 
 #[test]

@@ -7,11 +7,12 @@ ghost use Rattle.desk_files.specs.Files.{Stays};
 ghost use Rattle.desk_hand.specs.Exporting.{IsClosedBy, IsExported, IsSetOf, IsUnexported};
 
 use crate::fault::{FeedTrouble, HandFault};
-use crate::merging::{ANY_SITE, operations_of, write_out};
+use crate::merging::{ANY_SITE, operations_of};
 use desk_blocks::Blocks;
 use desk_files::Files;
 use desk_memory::NoMemory;
 use desk_replica::Replica;
+use desk_stored::write_out;
 use desk_text::write_text;
 use std::alloc::Allocator;
 use std::io::Write;

@@ -7,13 +7,13 @@ ghost use Rattle.desk_hand.specs.Importing.{IsImported, IsInput, IsKept, IsNoTex
 
 use crate::editing::{Tally, revise};
 use crate::fault::HandFault;
-use crate::merging::{take_feed, write_out};
+use crate::merging::take_feed;
 use desk_blocks::Blocks;
 use desk_files::Files;
 use desk_memory::NoMemory;
 use desk_ops::Symbol;
 use desk_replica::Replica;
-use desk_stored::keep_replica;
+use desk_stored::{keep_replica, write_out};
 use desk_text::read_text;
 use std::alloc::Allocator;
 use std::io::{Read, Write};

@@ -1,13 +1,11 @@
 //! The feeds of other files, merged into a stored feed.
 
-ghost use Rattle.std.specs.Prelude.{◌≡◌, ◌≢◌, ◌≤◌, ◌⊎◌, ◌++◌, ◌∷◌, [], All, IfErr, IfOk, OnErr, OnOk, codes, map, string_bytes};
-ghost use Rattle.std.specs.Io.KnownBytes.{Appends};
+ghost use Rattle.std.specs.Prelude.{◌≡◌, ◌≢◌, ◌≤◌, ◌⊎◌, ◌++◌, ◌∷◌, [], All, IfErr, IfOk, OnOk, codes, map, string_bytes};
 ghost use Rattle.desk_ops.specs.Op.{IsLawful};
 ghost use Rattle.desk_ops.specs.OpSet.{OpSet};
 ghost use Rattle.desk_answers.specs.Reply.{reply};
 ghost use Rattle.desk_answers.specs.Text.{text};
 ghost use Rattle.desk_files.specs.Files.{IsHeldAlone, Stays};
-ghost use Rattle.desk_stored.specs.Sending.{WritesFront};
 ghost use Rattle.desk_stored.specs.Stored.{was_read};
 ghost use Rattle.desk_hand.specs.Merging.{IsBarred, IsCutShort, IsFeedOf, IsJoined, IsMerged, IsMergedInto, IsOpened, IsUnmerged, Joins, Refuses, StopsAt, faults_line};
 
@@ -19,7 +17,7 @@ use desk_files::Files;
 use desk_memory::NoMemory;
 use desk_ops::Op;
 use desk_replica::Replica;
-use desk_stored::{Unsent, keep_replica, let_out, open_replica, send, stored_bytes};
+use desk_stored::{keep_replica, open_replica, stored_bytes, write_out};
 use std::alloc::Allocator;
 use std::io::Write;
 
@@ -151,15 +149,6 @@ fn put_faults<A: Allocator + Copy>(
     let faults = Response::Faults(replica.copy_faults()?);
     put(out, &faults)?;
     Ok(out.push_str("\n")?)
-}
-
-/// Writes a text whole, and lets it out. After an `Err` a prefix of it was written.
-pub fn write_out<W: Write>(writer: &mut W, text: &[u8]) -> Result<(), Unsent>
-    ensures ok { OnOk result (Appends (W.contents writer.old) (W.contents writer.new) text.now) }
-    ensures err { OnErr result (WritesFront (W.contents writer.old) (W.contents writer.new) text.now) }
-{
-    send(writer, text)?;
-    let_out(writer)
 }
 
 /// Joins feeds to an open one, writes the lines, and stores it.

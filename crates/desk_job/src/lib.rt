@@ -17,7 +17,7 @@ use thiserror::Error;
 #[derive(Clone, Copy, PartialEq, Eq, Debug, Error)]
 pub enum JobFault {
     /// The least key without a value.
-    #[error("a setting has no value")]
+    #[error("{0} has no value")]
     MissingSetting(Key),
     /// The case set is not the file's.
     #[error("the setting names another case")]

@@ -298,9 +298,18 @@ fn refused_growths_of_reading(rt: HostRuntime) -> Result<(), Fail> {
 #[test]
 fn names_its_faults(rt: HostRuntime) -> Result<(), Fail> {
     for (fault, text) in [
-        (CastFault::NoWedges(3), "the wedges are not set"),
-        (CastFault::NoMatrix(3), "the case has no matrix there"),
-        (CastFault::NotSentOut(3), "a line was not sent out"),
+        (
+            CastFault::NoWedges(3),
+            "row 3 needs wedges that are not set",
+        ),
+        (
+            CastFault::NoMatrix(3),
+            "row 3: the case has no matrix there",
+        ),
+        (
+            CastFault::NotSentOut(3),
+            "the line that row 3 started was not sent out",
+        ),
         (CastFault::NoMemory, "no memory"),
     ] {
         assert!(rt;
@@ -316,7 +325,7 @@ fn names_its_faults(rt: HostRuntime) -> Result<(), Fail> {
         ),
         (
             RibbonFault::Row(3, BadImage::HighBit),
-            "a row has no meaning",
+            "row 3: bit 31 is set",
         ),
         (RibbonFault::NoMemory, "no memory"),
     ] {

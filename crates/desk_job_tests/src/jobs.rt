@@ -229,10 +229,7 @@ fn space_vanishes(rt: HostRuntime) -> Result<(), Fail> {
 #[test]
 fn names_its_faults(rt: HostRuntime) -> Result<(), Fail> {
     for (fault, text) in [
-        (
-            JobFault::MissingSetting(Key::Case),
-            "a setting has no value",
-        ),
+        (JobFault::MissingSetting(Key::Case), "case has no value"),
         (JobFault::OtherCase, "the setting names another case"),
         (JobFault::OtherWedge, "the setting names another wedge"),
         (JobFault::Crossed, "tight is above loose"),

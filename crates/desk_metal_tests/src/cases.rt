@@ -565,6 +565,25 @@ fn cell_of_64_mib(rt: HostRuntime) -> Result<(), Fail> {
     Ok(())
 }
 
+/// Columns and cells, in words.
+#[test]
+fn cells_in_words(rt: HostRuntime) -> Result<(), Fail> {
+    for (cell, text) in [
+        (at(Column::A, 1), "A1"),
+        (at(Column::O, 15), "O15"),
+        (at(Column::NI, 10), "NI10"),
+        (at(Column::NL, 9), "NL9"),
+    ] {
+        let column = cell.column;
+        assert!(rt;
+            format!(in rt.alloc(); "{cell}")?.as_str() == text,
+            "{text}"
+        );
+        assert!(rt; text.starts_with(column.name()), "{column}");
+    }
+    Ok(())
+}
+
 #[test]
 fn names_its_faults(rt: HostRuntime) -> Result<(), Fail> {
     let faults = [
@@ -582,17 +601,17 @@ fn names_its_faults(rt: HostRuntime) -> Result<(), Fail> {
         (
             CaseFault::BadText(at(Column::A, 1)),
             Some(4),
-            "the text of a cell is no symbol",
+            "cell A1 has a text that is no symbol",
         ),
         (
             CaseFault::Doubled(symbol(Style::Roman, 'n')),
             Some(5),
-            "a symbol stands in two cells",
+            "roman n stands in two cells",
         ),
         (
             CaseFault::NotBlank(at(Column::A, 1)),
             Some(6),
-            "the space or a fill holds a symbol",
+            "cell A1, the space or a fill, holds a symbol",
         ),
         (
             CaseFault::FillOrder,

@@ -7,4 +7,4 @@ mod telling;
 
 pub use laws::law_of_places;
 pub use search::places_of;
-pub use telling::told_places;
+pub use telling::{all_shown, told_places};

@@ -36,7 +36,7 @@ fn window(count: usize, copy: &[Symbol], place: usize) -> &[Symbol]
 }
 
 /// The symbols as they are shown.
-fn all_shown<A: Allocator + Copy>(
+pub fn all_shown<A: Allocator + Copy>(
     alloc: A,
     symbols: &[Symbol],
 ) -> Result<Vec<Symbol, A>, AllocError>

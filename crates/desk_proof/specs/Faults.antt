@@ -7,6 +7,7 @@ use Rattle.desk_ops.specs.declared.op.Key.TheVariants as keys
 use Rattle.desk_ops.specs.declared.op.Style.{Style}
 use Rattle.desk_ops.specs.declared.op.Style.TheVariants.{Roman, Italic, SmallCap}
 use Rattle.desk_ops.specs.declared.op.Symbol.{Symbol}
+use Rattle.desk_ops.specs.Words.{copy_fault_words}
 use Rattle.desk_ops.specs.declared.fault.CopyFault.{CopyFault}
 use Rattle.desk_ops.specs.declared.fault.FaultKind.{FaultKind}
 use Rattle.desk_ops.specs.declared.fault.FaultKind.TheVariants as kinds
@@ -197,19 +198,13 @@ lacking_text copy (fault ∷ faults) = lacking_fault_text copy fault ++ lacking_
 
 -- ---- faults of the copy
 
-abbrev pub kind_text : FaultKind → List ℕ
-kind_text kinds.Forked = codes "forked "
-kind_text kinds.Void = codes "void "
-kind_text kinds.Waiting = codes "waiting "
-
 abbrev pub meaning_text : FaultKind → List ℕ
 meaning_text kinds.Forked = codes ": more than one operation has this stamp\n"
 meaning_text kinds.Void = codes ": what it hangs on cannot act\n"
 meaning_text kinds.Waiting = codes ": what it hangs on has not come\n"
 
 abbrev pub copy_fault_text : CopyFault → List ℕ
-copy_fault_text fault =
-    kind_text fault.kind ++ decimal (fault.stamp).counter ++ codes "." ++ decimal (fault.stamp).site ++ meaning_text fault.kind
+copy_fault_text fault = copy_fault_words fault ++ meaning_text fault.kind
 
 abbrev pub copy_faults_text : List CopyFault → List ℕ
 copy_faults_text [] = []

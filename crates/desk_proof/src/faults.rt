@@ -5,7 +5,7 @@ ghost use Rattle.std.specs.Fmt.{decimal};
 ghost use Rattle.desk_job.specs.Setting.{IsWord};
 ghost use Rattle.desk_proof.specs.Parts.{points_down, points_up};
 ghost use Rattle.desk_proof.specs.Rows.{HasWords};
-ghost use Rattle.desk_proof.specs.Faults.{cause_text, copy_fault_text, copy_faults_text, fault_if_any, fault_text, free_text, is_loose, kind_text, lead_text, limit_text, limits_text, line_faults_text, meaning_text, missing_text, next_text, next_word_text, over_text, places_text, rest_text, shorter_text, shown_text, spaces_text, title_text, told_cause, way_line, way_text, wider_text};
+ghost use Rattle.desk_proof.specs.Faults.{cause_text, copy_fault_text, copy_faults_text, fault_if_any, fault_text, free_text, is_loose, lead_text, limit_text, limits_text, line_faults_text, meaning_text, missing_text, next_text, next_word_text, over_text, places_text, rest_text, shorter_text, shown_text, spaces_text, title_text, told_cause, way_line, way_text, wider_text};
 
 use crate::parts::{begin_of, end_of, put_points_down, put_points_up, put_word};
 use crate::rows::{put_set, put_sum};
@@ -387,16 +387,6 @@ pub fn put_line_faults<A: Allocator + Copy>(
     Ok(())
 }
 
-fn kind_word(kind: FaultKind) -> &'static str
-    ensures { result.now ≡ kind_text kind }
-{
-    match kind {
-        FaultKind::Forked => "forked ",
-        FaultKind::Void => "void ",
-        FaultKind::Waiting => "waiting ",
-    }
-}
-
 fn meaning(kind: FaultKind) -> &'static str
     ensures { result.now ≡ meaning_text kind }
 {
@@ -413,9 +403,7 @@ fn put_copy_fault<A: Allocator + Copy>(
 ) -> Result<(), AllocError>
     ensures { OnOk result (string_bytes out.new ≡ string_bytes out.old ++ copy_fault_text fault) }
 {
-    out.push_str(kind_word(fault.kind))?;
-    write!(out, "{}.{}", fault.stamp.counter, fault.stamp.site)?;
-    out.push_str(meaning(fault.kind))
+    write!(out, "{fault}{}", meaning(fault.kind))
 }
 
 /// Writes the faults of a copy, each of which means that a correction is not shown.

@@ -34,7 +34,7 @@ fn opened<A: Allocator + Copy>(
 }
 
 /// Stores the feed of a site that is there, if it is not what was stored.
-fn keep_feed<F: Files, A: Allocator + Copy>(
+pub fn keep_feed<F: Files, A: Allocator + Copy>(
     alloc: A,
     world: &World<A>,
     files: &mut F,

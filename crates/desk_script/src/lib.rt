@@ -12,5 +12,5 @@ pub use desk_commands::{
 pub use desk_files::{FileRefusal, Files, MAX_FILE, NoFiles, store, trial};
 pub use desk_world::{Answer, Event, MAX_SITES, StepRefusal, World};
 pub use fault::RunFault;
-pub use feed_run::run_on_feed;
-pub use stream::{MAX_READS, run};
+pub use feed_run::{keep_feed, run_on_feed};
+pub use stream::{MAX_READS, run, without_cr};

@@ -108,7 +108,7 @@ fn take_line<W: Write, F: Files, A: Allocator + Copy>(
 }
 
 /// The line without a carriage return at its end.
-fn without_cr(line: &[u8]) -> &[u8]
+pub fn without_cr(line: &[u8]) -> &[u8]
     ensures { result.now ≡ without_cr line.now }
 {
     if let Some((last, front)) = line.split_last() {

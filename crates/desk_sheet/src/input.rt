@@ -2,11 +2,11 @@
 
 ghost use Rattle.std.specs.Prelude.{◌≡◌, ◌<◌, ◌≤◌, ◌∷◌, [], IfErr, IfOk, IfSome, MatchOption, length};
 ghost use Rattle.desk_steps.specs.Line.{line_of};
-ghost use Rattle.desk_script.specs.Lines.{lines, without_cr};
+ghost use Rattle.desk_script.specs.Lines.{lines};
 ghost use Rattle.desk_sheet.specs.Sheet.{IsInput, IsUnread};
 
 use crate::fault::SheetFault;
-use desk_script::RunFault;
+use desk_script::{RunFault, without_cr};
 use std::alloc::Allocator;
 use std::io::Read;
 
@@ -41,18 +41,6 @@ pub fn read_whole<R: Read, A: Allocator + Copy>(
             Err(_) => return Err(SheetFault::Run(RunFault::Read)),
         }
     }
-}
-
-/// The line without a carriage return at its end.
-fn without_cr(line: &[u8]) -> &[u8]
-    ensures { result.now ≡ without_cr line.now }
-{
-    if let Some((last, front)) = line.split_last() {
-        if *last == b'\r' {
-            return front;
-        }
-    }
-    line
 }
 
 /// The first line without its end, and what follows that end; none where no byte is left.

@@ -1,13 +1,11 @@
 //! A sheet on a world of sites.
 
-ghost use Rattle.std.specs.Prelude.{◌≡◌, ◌++◌, Bool, IfErr, IfOk, MatchBool, OnErr, OnOk, string_bytes};
-ghost use Rattle.std.specs.Io.KnownBytes.{Appends};
+ghost use Rattle.std.specs.Prelude.{◌≡◌, ◌++◌, Bool, IfErr, IfOk, MatchBool, OnOk, string_bytes};
 ghost use Rattle.desk_answers.specs.Reply.{reply};
 ghost use Rattle.desk_files.specs.Files.{Stays};
 ghost use Rattle.desk_script.specs.Lines.{lines};
 ghost use Rattle.desk_steps.specs.Desk.{KeepsSites, desk};
 ghost use Rattle.desk_steps.specs.Line.{line_of};
-ghost use Rattle.desk_stored.specs.Sending.{WritesFront};
 ghost use Rattle.desk_world.specs.Sites.{Sites, no_sites};
 ghost use Rattle.desk_sheet.specs.Sheet.{Ends, IsDone, IsStopped, Stops, Tells, answer_line, head, is_passed_over, is_refusal};
 
@@ -18,7 +16,7 @@ use desk_files::Files;
 use desk_inputs::Memory;
 use desk_ops::NoMemory;
 use desk_steps::answer;
-use desk_stored::{Unsent, let_out, send};
+use desk_stored::write_out;
 use desk_world::World;
 use std::alloc::{AllocError, Allocator, Global};
 use std::io::{Read, Write};
@@ -128,15 +126,6 @@ fn tell_lines<F: Files, A: Allocator + Copy>(
         rest = more;
     }
     Ok(None)
-}
-
-/// Writes a text whole, and lets it out. After an `Err` a prefix of it was written.
-fn write_out<W: Write>(writer: &mut W, text: &[u8]) -> Result<(), Unsent>
-    ensures ok { OnOk result (Appends (W.contents writer.old) (W.contents writer.new) text.now) }
-    ensures err { OnErr result (WritesFront (W.contents writer.old) (W.contents writer.new) text.now) }
-{
-    send(writer, text)?;
-    let_out(writer)
 }
 
 /// Carries out what a reader has left on a world, and writes the answers once all are there.

@@ -1,20 +1,17 @@
 //! A sheet on the feed of a file.
 
-ghost use Rattle.std.specs.Prelude.{◌≡◌, ◌≤◌, ◌⊎◌, IfErr, IfOk, OnOk, Some};
-ghost use Rattle.std.specs.FinMap as fin;
-ghost use Rattle.desk_ops.specs.OpSet.{OpSet};
+ghost use Rattle.std.specs.Prelude.{◌≡◌, ◌≤◌, ◌⊎◌, IfErr, IfOk, OnOk};
 ghost use Rattle.desk_files.specs.Files.{IsHeldAlone, Stays};
-ghost use Rattle.desk_script.specs.Stored.{IsStored};
 ghost use Rattle.desk_steps.specs.Desk.{desk};
-ghost use Rattle.desk_stored.specs.Faults.{IsNotStored};
 ghost use Rattle.desk_stored.specs.Stored.{was_read};
 ghost use Rattle.desk_sheet.specs.StoredSheet.{IsBarred, IsHalted, IsOpened, IsStoredSheet};
 
 use crate::fault::SheetFault;
 use crate::sheet::{Mode, answer_sheet};
-use desk_files::{FileRefusal, Files};
+use desk_files::Files;
 use desk_inputs::Memory;
-use desk_stored::{keep_replica, open_replica, stored_bytes};
+use desk_script::keep_feed;
+use desk_stored::{open_replica, stored_bytes};
 use desk_world::World;
 use std::alloc::{Allocator, Global};
 use std::io::{Read, Write};
@@ -37,26 +34,6 @@ fn take_feed<F: Files, A: Allocator + Copy>(
     let replica = open_replica(alloc, &old, site)?;
     let world = World::with_site(alloc, replica)?;
     Ok((old, world))
-}
-
-/// Stores the feed of a site that is there, if it is not what was stored.
-fn keep_feed<F: Files, A: Allocator + Copy>(
-    alloc: A,
-    world: &World<A>,
-    files: &mut F,
-    name: &str,
-    site: u16,
-    old: &Option<Vec<u8, A>>,
-) -> Result<(), FileRefusal>
-    requires { (set : OpSet) × (fin.get world.now site ≡ Some set) }
-    ensures ok { OnOk result (IsStored name.now site (desk world.now (F.shelf files.old)) (was_read old.now) (F.shelf files.new)) }
-    ensures err { IfErr result (IsNotStored name.now (F.shelf files.old) (F.shelf files.new)) }
-    ensures held { (F.shelf files.new).held ≡ (F.shelf files.old).held }
-{
-    let Some(replica) = world.replica(site) else {
-        unreachable!()
-    };
-    keep_replica(alloc, replica, files, name, old)
 }
 
 /// Carries out a sheet on a stored feed, whose name it takes first, and for itself alone. Then the site holds the operations

@@ -16,6 +16,7 @@ use arrayvec::ArrayVec;
 use std::marker::Model;
 
 pub mod laws;
+pub mod words;
 
 /// A column of the matrix case. A case has the columns A to O, or these and NI and NL.
 #[derive(Clone, Copy, PartialEq, Eq, Debug)]

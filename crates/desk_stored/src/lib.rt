@@ -7,5 +7,5 @@ mod sending;
 mod stored;
 
 pub use fault::OpenFault;
-pub use sending::{Unsent, let_out, send};
+pub use sending::{Unsent, let_out, send, write_out};
 pub use stored::{keep_replica, open_replica, operations_in, stored_bytes};

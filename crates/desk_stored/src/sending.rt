@@ -37,3 +37,12 @@ pub fn let_out<W: Write>(writer: &mut W) -> Result<(), Unsent>
         Err(_) => Err(Unsent),
     }
 }
+
+/// Writes a text whole, and lets it out. After an `Err` a prefix of it was written.
+pub fn write_out<W: Write>(writer: &mut W, text: &[u8]) -> Result<(), Unsent>
+    ensures ok { OnOk result (Appends (W.contents writer.old) (W.contents writer.new) text.now) }
+    ensures err { OnErr result (WritesFront (W.contents writer.old) (W.contents writer.new) text.now) }
+{
+    send(writer, text)?;
+    let_out(writer)
+}

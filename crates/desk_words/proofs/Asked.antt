@@ -8,7 +8,7 @@ use Rattle.clap.specs.Matches.{ReadsOne}
 use Rattle.clap.specs.Words.{Row, Text, all_of, fault_of, first_value, one_of, rows_of, subcommand_of}
 use Rattle.clap.specs.declared.parser.matches.Found.{Found}
 use Rattle.clap.proofs.WalkLemmas.{first_value-rows}
-use Rattle.desk_words.specs.Words.{HasSite, IsAsked, IsTold, IsWished, Names, NamesDesk, NamesFeed, NamesSources, Tells, copydesk, name_of, task_of}
+use Rattle.desk_words.specs.Words.{HasSite, IsAsked, IsTold, IsWished, Names, NamesDesk, NamesFeed, NamesSources, Tells, copydesk, name_of, task_of, texts_of}
 use Rattle.desk_words.specs.declared.wishes.Sources.{Sources}
 use Rattle.desk_words.specs.declared.wishes.Task.{Task}
 use Rattle.desk_words.specs.declared.wishes.Task.TheVariants as tasks
@@ -56,23 +56,12 @@ unnamed argument f r got is name names =
 
 -- ---- what is lacking
 
--- without a feed's name nothing but a script and a check is told
-pub no_feed : (rows : List Row) (task : Task) → ((feed : Text) → NamesFeed rows feed → ⊥) → (task ≡ tasks.Script → ⊥) → (task ≡ tasks.Check → ⊥) → (wish : Wish) → task_of wish ≡ task → Tells rows wish → ⊥
-no_feed rows task none other check wishes.Script is tells = other (sym is)
-no_feed rows task none other check (wishes.Desk feed site why) is tells = none feed.now tells.0.0
-no_feed rows task none other check (wishes.Merge feed others) is tells = none feed.now tells.0
-no_feed rows task none other check (wishes.Export feed) is tells = none feed.now tells
-no_feed rows task none other check (wishes.Import feed site plain) is tells = none feed.now tells.0.0
-no_feed rows task none other check (wishes.Replace feed site old new plain) is tells = none feed.now tells.0.0
-no_feed rows task none other check (wishes.Check files) is tells = check (sym is)
-no_feed rows task none other check (wishes.Proof from faults) is tells = none from.feed.now tells.0.0
-no_feed rows task none other check (wishes.Punch from target) is tells = none from.feed.now tells.0.0
-
 -- without a feed's name and a site no desk is told
 pub no_desk : (rows : List Row) → ((feed : Text) (site : ℕ) → NamesDesk rows feed site → ⊥) → (wish : Wish) → task_of wish ≡ tasks.Desk → Tells rows wish → ⊥
-no_desk rows none wishes.Script is tells = cc
-no_desk rows none (wishes.Desk feed site why) is tells = none feed.now site tells.0
+no_desk rows none (wishes.Script manner) is tells = cc
+no_desk rows none (wishes.Desk feed site why manner) is tells = none feed.now site tells.0
 no_desk rows none (wishes.Merge feed others) is tells = cc
+no_desk rows none (wishes.Diff one other) is tells = cc
 no_desk rows none (wishes.Export feed) is tells = cc
 no_desk rows none (wishes.Import feed site plain) is tells = cc
 no_desk rows none (wishes.Replace feed site old new plain) is tells = cc
@@ -82,9 +71,10 @@ no_desk rows none (wishes.Punch from target) is tells = cc
 
 -- and no import
 pub no_import : (rows : List Row) → ((feed : Text) (site : ℕ) → NamesDesk rows feed site → ⊥) → (wish : Wish) → task_of wish ≡ tasks.Import → Tells rows wish → ⊥
-no_import rows none wishes.Script is tells = cc
-no_import rows none (wishes.Desk feed site why) is tells = cc
+no_import rows none (wishes.Script manner) is tells = cc
+no_import rows none (wishes.Desk feed site why manner) is tells = cc
 no_import rows none (wishes.Merge feed others) is tells = cc
+no_import rows none (wishes.Diff one other) is tells = cc
 no_import rows none (wishes.Export feed) is tells = cc
 no_import rows none (wishes.Import feed site plain) is tells = none feed.now site tells.0
 no_import rows none (wishes.Replace feed site old new plain) is tells = cc
@@ -92,13 +82,12 @@ no_import rows none (wishes.Check files) is tells = cc
 no_import rows none (wishes.Proof from faults) is tells = cc
 no_import rows none (wishes.Punch from target) is tells = cc
 
--- without other names no merge is told
-pub no_merge : (rows : List Row) → all_of (codes "other") rows ≡ None → (wish : Wish) → task_of wish ≡ tasks.Merge → Tells rows wish → ⊥
-no_merge rows none wishes.Script is tells = cc
-no_merge rows none (wishes.Desk feed site why) is tells = cc
-no_merge rows none (wishes.Merge feed others) is tells =
-    let bad = sym none ∙ tells.1 in
-    cc
+-- without the names of a feed and of others no merge is told
+pub no_merge : (rows : List Row) → ((feed : Text) (others : List Text) → NamesFeed rows feed → all_of (codes "other") rows ≡ Some others → ⊥) → (wish : Wish) → task_of wish ≡ tasks.Merge → Tells rows wish → ⊥
+no_merge rows none (wishes.Script manner) is tells = cc
+no_merge rows none (wishes.Desk feed site why manner) is tells = cc
+no_merge rows none (wishes.Merge feed others) is tells = none feed.now (texts_of others.items) tells.0 tells.1
+no_merge rows none (wishes.Diff one other) is tells = cc
 no_merge rows none (wishes.Export feed) is tells = cc
 no_merge rows none (wishes.Import feed site plain) is tells = cc
 no_merge rows none (wishes.Replace feed site old new plain) is tells = cc
@@ -106,35 +95,38 @@ no_merge rows none (wishes.Check files) is tells = cc
 no_merge rows none (wishes.Proof from faults) is tells = cc
 no_merge rows none (wishes.Punch from target) is tells = cc
 
--- without the names of a feed, a case and a wedge no proof is told
-pub no_proof : (rows : List Row) → ((from : Sources) → NamesSources rows from → ⊥) → (wish : Wish) → task_of wish ≡ tasks.Proof → Tells rows wish → ⊥
-no_proof rows none wishes.Script is tells = cc
-no_proof rows none (wishes.Desk feed site why) is tells = cc
-no_proof rows none (wishes.Merge feed others) is tells = cc
-no_proof rows none (wishes.Export feed) is tells = cc
-no_proof rows none (wishes.Import feed site plain) is tells = cc
-no_proof rows none (wishes.Replace feed site old new plain) is tells = cc
-no_proof rows none (wishes.Check files) is tells = cc
-no_proof rows none (wishes.Proof from faults) is tells = none from tells.0
-no_proof rows none (wishes.Punch from target) is tells = cc
+-- without two feeds' names no difference is told
+pub no_diff : (rows : List Row) → ((feed other : Text) → NamesFeed rows feed → Names (codes "other") rows other → ⊥) → (wish : Wish) → task_of wish ≡ tasks.Diff → Tells rows wish → ⊥
+no_diff rows none (wishes.Script manner) is tells = cc
+no_diff rows none (wishes.Desk feed site why manner) is tells = cc
+no_diff rows none (wishes.Merge feed others) is tells = cc
+no_diff rows none (wishes.Diff one other) is tells = none one.now other.now tells.0 tells.1
+no_diff rows none (wishes.Export feed) is tells = cc
+no_diff rows none (wishes.Import feed site plain) is tells = cc
+no_diff rows none (wishes.Replace feed site old new plain) is tells = cc
+no_diff rows none (wishes.Check files) is tells = cc
+no_diff rows none (wishes.Proof from faults) is tells = cc
+no_diff rows none (wishes.Punch from target) is tells = cc
 
--- and without them and a target's no punch
-pub no_punch : (rows : List Row) → ((from : Sources) (target : Text) → NamesSources rows from → Names (codes "output") rows target → ⊥) → (wish : Wish) → task_of wish ≡ tasks.Punch → Tells rows wish → ⊥
-no_punch rows none wishes.Script is tells = cc
-no_punch rows none (wishes.Desk feed site why) is tells = cc
-no_punch rows none (wishes.Merge feed others) is tells = cc
-no_punch rows none (wishes.Export feed) is tells = cc
-no_punch rows none (wishes.Import feed site plain) is tells = cc
-no_punch rows none (wishes.Replace feed site old new plain) is tells = cc
-no_punch rows none (wishes.Check files) is tells = cc
-no_punch rows none (wishes.Proof from faults) is tells = cc
-no_punch rows none (wishes.Punch from target) is tells = none from target.now tells.0 tells.1
+-- without a feed's name no export
+pub no_export : (rows : List Row) → ((feed : Text) → NamesFeed rows feed → ⊥) → (wish : Wish) → task_of wish ≡ tasks.Export → Tells rows wish → ⊥
+no_export rows none (wishes.Script manner) is tells = cc
+no_export rows none (wishes.Desk feed site why manner) is tells = cc
+no_export rows none (wishes.Merge feed others) is tells = cc
+no_export rows none (wishes.Diff one other) is tells = cc
+no_export rows none (wishes.Export feed) is tells = none feed.now tells
+no_export rows none (wishes.Import feed site plain) is tells = cc
+no_export rows none (wishes.Replace feed site old new plain) is tells = cc
+no_export rows none (wishes.Check files) is tells = cc
+no_export rows none (wishes.Proof from faults) is tells = cc
+no_export rows none (wishes.Punch from target) is tells = cc
 
 -- without a feed's name, a site and both texts no replacement is told
 pub no_replace : (rows : List Row) → ((feed : Text) (site : ℕ) (old new : Text) → NamesDesk rows feed site → Names (codes "old") rows old → Names (codes "new") rows new → ⊥) → (wish : Wish) → task_of wish ≡ tasks.Replace → Tells rows wish → ⊥
-no_replace rows none wishes.Script is tells = cc
-no_replace rows none (wishes.Desk feed site why) is tells = cc
+no_replace rows none (wishes.Script manner) is tells = cc
+no_replace rows none (wishes.Desk feed site why manner) is tells = cc
 no_replace rows none (wishes.Merge feed others) is tells = cc
+no_replace rows none (wishes.Diff one other) is tells = cc
 no_replace rows none (wishes.Export feed) is tells = cc
 no_replace rows none (wishes.Import feed site plain) is tells = cc
 no_replace rows none (wishes.Replace feed site old new plain) is tells = none feed.now site old.now new.now tells.0 tells.1 tells.2
@@ -144,9 +136,10 @@ no_replace rows none (wishes.Punch from target) is tells = cc
 
 -- without names of files no check
 pub no_check : (rows : List Row) → all_of (codes "file") rows ≡ None → (wish : Wish) → task_of wish ≡ tasks.Check → Tells rows wish → ⊥
-no_check rows none wishes.Script is tells = cc
-no_check rows none (wishes.Desk feed site why) is tells = cc
+no_check rows none (wishes.Script manner) is tells = cc
+no_check rows none (wishes.Desk feed site why manner) is tells = cc
 no_check rows none (wishes.Merge feed others) is tells = cc
+no_check rows none (wishes.Diff one other) is tells = cc
 no_check rows none (wishes.Export feed) is tells = cc
 no_check rows none (wishes.Import feed site plain) is tells = cc
 no_check rows none (wishes.Replace feed site old new plain) is tells = cc
@@ -156,6 +149,32 @@ no_check rows none (wishes.Check files) is tells =
 no_check rows none (wishes.Proof from faults) is tells = cc
 no_check rows none (wishes.Punch from target) is tells = cc
 
+-- without the names of a feed, a case and a wedge no proof is told
+pub no_proof : (rows : List Row) → ((from : Sources) → NamesSources rows from → ⊥) → (wish : Wish) → task_of wish ≡ tasks.Proof → Tells rows wish → ⊥
+no_proof rows none (wishes.Script manner) is tells = cc
+no_proof rows none (wishes.Desk feed site why manner) is tells = cc
+no_proof rows none (wishes.Merge feed others) is tells = cc
+no_proof rows none (wishes.Diff one other) is tells = cc
+no_proof rows none (wishes.Export feed) is tells = cc
+no_proof rows none (wishes.Import feed site plain) is tells = cc
+no_proof rows none (wishes.Replace feed site old new plain) is tells = cc
+no_proof rows none (wishes.Check files) is tells = cc
+no_proof rows none (wishes.Proof from faults) is tells = none from tells.0
+no_proof rows none (wishes.Punch from target) is tells = cc
+
+-- and without them and a target's no punch
+pub no_punch : (rows : List Row) → ((from : Sources) (target : Text) → NamesSources rows from → Names (codes "output") rows target → ⊥) → (wish : Wish) → task_of wish ≡ tasks.Punch → Tells rows wish → ⊥
+no_punch rows none (wishes.Script manner) is tells = cc
+no_punch rows none (wishes.Desk feed site why manner) is tells = cc
+no_punch rows none (wishes.Merge feed others) is tells = cc
+no_punch rows none (wishes.Diff one other) is tells = cc
+no_punch rows none (wishes.Export feed) is tells = cc
+no_punch rows none (wishes.Import feed site plain) is tells = cc
+no_punch rows none (wishes.Replace feed site old new plain) is tells = cc
+no_punch rows none (wishes.Check files) is tells = cc
+no_punch rows none (wishes.Proof from faults) is tells = cc
+no_punch rows none (wishes.Punch from target) is tells = none from target.now tells.0 tells.1
+
 -- ---- the name of a subcommand
 
 -- the subcommand that a name calls
@@ -163,6 +182,7 @@ called : Text → Task
 called name =
     if bytes_eq name (codes "desk") then tasks.Desk else
     if bytes_eq name (codes "merge") then tasks.Merge else
+    if bytes_eq name (codes "diff") then tasks.Diff else
     if bytes_eq name (codes "export") then tasks.Export else
     if bytes_eq name (codes "import") then tasks.Import else
     if bytes_eq name (codes "replace") then tasks.Replace else
@@ -176,6 +196,7 @@ unfolding called
 called_of tasks.Script = refl
 called_of tasks.Desk = refl
 called_of tasks.Merge = refl
+called_of tasks.Diff = refl
 called_of tasks.Export = refl
 called_of tasks.Import = refl
 called_of tasks.Replace = refl

@@ -3,12 +3,19 @@ use Rattle.std.specs.Prelude.{◌≡◌, List, [], ◌∷◌, Option, Some, opti
 use Rattle.clap.specs.Words.{Row, Text, all_of, fault_of, first_of, one_of, subcommand_of}
 use Rattle.clap.specs.declared.error.kind.ErrorKind.TheVariants as kind
 use Rattle.clap.proofs.OnLiterals.{clap_on_literals}
-use Rattle.desk_words.specs.Words.{AsksFor, copydesk}
-use Rattle.desk_words.specs.declared.wishes.Wish.TheVariants as wishes
+use Rattle.desk_words.specs.Words.{copydesk}
 
-a_script : AsksFor (codes "script" ∷ []) wishes.Script
+a_script : fault_of copydesk (codes "script" ∷ []) ≡ []
 unfolding clap_on_literals
-a_script = (refl, ([], refl, tt))
+a_script = refl
+
+a_strict_script : option_map (λ p. one_of (codes "strict") p.1) (subcommand_of copydesk (codes "script" ∷ codes "--strict" ∷ [])) ≡ Some (Some (codes "true"))
+unfolding clap_on_literals
+a_strict_script = refl
+
+numbers_of_a_desk : option_map (λ p. one_of (codes "number") p.1) (subcommand_of copydesk (codes "desk" ∷ codes "a.feed" ∷ codes "--site" ∷ codes "3" ∷ codes "--number" ∷ [])) ≡ Some (Some (codes "true"))
+unfolding clap_on_literals
+numbers_of_a_desk = refl
 
 a_desk : fault_of copydesk (codes "desk" ∷ codes "a.feed" ∷ codes "--site" ∷ codes "3" ∷ []) ≡ []
 unfolding clap_on_literals

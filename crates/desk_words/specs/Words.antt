@@ -8,6 +8,7 @@ use Rattle.clap.specs.declared.builder.action.ArgAction.TheVariants.{Append, Set
 use Rattle.clap.specs.declared.builder.value_parser.ValueParser.TheVariants as parsers
 use Rattle.clap.specs.declared.error.kind.ErrorKind.{ErrorKind}
 use Rattle.clap.specs.declared.error.kind.ErrorKind.TheVariants as kind
+use Rattle.desk_words.specs.declared.wishes.Manner.{Manner}
 use Rattle.desk_words.specs.declared.wishes.Sources.{Sources}
 use Rattle.desk_words.specs.declared.wishes.Task.{Task}
 use Rattle.desk_words.specs.declared.wishes.Task.TheVariants as tasks
@@ -47,11 +48,25 @@ file_rule name = record (new_rule name) { long = Some name; required = true }
 abbrev pub target_rule : Rule
 target_rule = record (file_rule (codes "output")) { short = Some 111 }
 
+-- with the two flags of how commands are carried out
+abbrev pub with_manner : App → App
+with_manner app = with_rule (with_rule app (flag_rule (codes "strict"))) (flag_rule (codes "number"))
+
+abbrev pub script_app : App
+script_app = with_manner (new_app (codes "script"))
+
+-- one text, as the name of a file or what stands in a copy
+abbrev pub text_rule : Text → Rule
+text_rule name = record (new_rule name) { required = true }
+
 abbrev pub desk_app : App
-desk_app = with_rule (with_rule (with_rule (new_app (codes "desk")) feed_rule) site_rule) (flag_rule (codes "why"))
+desk_app = with_manner (with_rule (with_rule (with_rule (new_app (codes "desk")) feed_rule) site_rule) (flag_rule (codes "why")))
 
 abbrev pub merge_app : App
 merge_app = with_rule (with_rule (new_app (codes "merge")) feed_rule) others_rule
+
+abbrev pub diff_app : App
+diff_app = with_rule (with_rule (new_app (codes "diff")) feed_rule) (text_rule (codes "other"))
 
 abbrev pub export_app : App
 export_app = with_rule (new_app (codes "export")) feed_rule
@@ -69,10 +84,6 @@ proof_app = with_rule (sources_app (codes "proof")) (flag_rule (codes "faults"))
 abbrev pub punch_app : App
 punch_app = with_rule (sources_app (codes "punch")) target_rule
 
--- one text, as the name of a file or what stands in a copy
-abbrev pub text_rule : Text → Rule
-text_rule name = record (new_rule name) { required = true }
-
 abbrev pub replace_app : App
 replace_app = with_rule (with_rule (with_rule (with_rule (with_rule (new_app (codes "replace")) feed_rule) site_rule) (flag_rule (codes "plain"))) (text_rule (codes "old"))) (text_rule (codes "new"))
 
@@ -85,10 +96,14 @@ no_subcommand = record {
   subs = [];
 }
 
--- the program with its subcommands
+-- with the subcommands that key and correct
+abbrev pub with_correcting : App
+with_correcting = with_subcommand (with_subcommand (with_subcommand (with_subcommand (with_subcommand (with_subcommand (with_subcommand no_subcommand
+    script_app.top) desk_app.top) merge_app.top) diff_app.top) export_app.top) import_app.top) replace_app.top
+
+-- the program with its subcommands: and with those that look at what will be cast
 abbrev pub copydesk : App
-copydesk = with_subcommand (with_subcommand (with_subcommand (with_subcommand (with_subcommand (with_subcommand (with_subcommand (with_subcommand (with_subcommand no_subcommand
-    (new_app (codes "script")).top) desk_app.top) merge_app.top) export_app.top) import_app.top) replace_app.top) check_app.top) proof_app.top) punch_app.top
+copydesk = with_subcommand (with_subcommand (with_subcommand with_correcting check_app.top) proof_app.top) punch_app.top
 
 -- ---- what a subcommand's matches hold
 
@@ -125,6 +140,10 @@ abbrev pub HasFlag : Text → List Row → Bool → Type 0
 HasFlag name rows flag =
     (one_of name rows ≡ None → flag ≡ false) × (one_of name rows ≡ Some (codes "false") → flag ≡ false) × (one_of name rows ≡ Some (codes "true") → flag ≡ true)
 
+-- how commands are carried out
+abbrev pub HasManner : List Row → Manner → Type 0
+HasManner rows manner = HasFlag (codes "strict") rows manner.strict × HasFlag (codes "number") rows manner.number
+
 -- ---- what is asked for
 
 -- the name of a subcommand
@@ -132,6 +151,7 @@ abbrev pub name_of : Task → Text
 name_of tasks.Script = codes "script"
 name_of tasks.Desk = codes "desk"
 name_of tasks.Merge = codes "merge"
+name_of tasks.Diff = codes "diff"
 name_of tasks.Export = codes "export"
 name_of tasks.Import = codes "import"
 name_of tasks.Replace = codes "replace"
@@ -141,9 +161,10 @@ name_of tasks.Punch = codes "punch"
 
 -- the subcommand of a wish
 abbrev pub task_of : Wish → Task
-task_of wishes.Script = tasks.Script
-task_of (wishes.Desk feed site why) = tasks.Desk
+task_of (wishes.Script manner) = tasks.Script
+task_of (wishes.Desk feed site why manner) = tasks.Desk
 task_of (wishes.Merge feed others) = tasks.Merge
+task_of (wishes.Diff one other) = tasks.Diff
 task_of (wishes.Export feed) = tasks.Export
 task_of (wishes.Import feed site plain) = tasks.Import
 task_of (wishes.Replace feed site old new plain) = tasks.Replace
@@ -153,9 +174,10 @@ task_of (wishes.Punch from target) = tasks.Punch
 
 -- its matches hold what the wish says
 abbrev pub Tells : List Row → Wish → Type 0
-Tells rows wishes.Script = Unit {0}
-Tells rows (wishes.Desk feed site why) = NamesDesk rows feed.now site × HasFlag (codes "why") rows why
+Tells rows (wishes.Script manner) = HasManner rows manner
+Tells rows (wishes.Desk feed site why manner) = NamesDesk rows feed.now site × HasFlag (codes "why") rows why × HasManner rows manner
 Tells rows (wishes.Merge feed others) = NamesFeed rows feed.now × (all_of (codes "other") rows ≡ Some (texts_of others.items))
+Tells rows (wishes.Diff one other) = NamesFeed rows one.now × Names (codes "other") rows other.now
 Tells rows (wishes.Export feed) = NamesFeed rows feed.now
 Tells rows (wishes.Import feed site plain) = NamesDesk rows feed.now site × HasFlag (codes "plain") rows plain
 Tells rows (wishes.Replace feed site old new plain) =
@@ -213,9 +235,10 @@ IsAsked words None = (wish : Wish) → AsksFor words wish → ⊥
 
 -- the number of its site may be one
 abbrev pub IsLawful : Wish → Type 0
-IsLawful wishes.Script = Unit {0}
-IsLawful (wishes.Desk feed site why) = 1 ≤ site
+IsLawful (wishes.Script manner) = Unit {0}
+IsLawful (wishes.Desk feed site why manner) = 1 ≤ site
 IsLawful (wishes.Merge feed others) = Unit {0}
+IsLawful (wishes.Diff one other) = Unit {0}
 IsLawful (wishes.Export feed) = Unit {0}
 IsLawful (wishes.Import feed site plain) = 1 ≤ site
 IsLawful (wishes.Replace feed site old new plain) = 1 ≤ site

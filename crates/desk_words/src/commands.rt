@@ -3,11 +3,11 @@
 ghost use Rattle.std.specs.Prelude.{◌≡◌, IfOk, codes, false};
 ghost use Rattle.clap.specs.Words.{app_of, new_app, rule_of, with_rule};
 ghost use Rattle.clap.specs.declared.builder.command.Command.TheViews.{out-Command};
-ghost use Rattle.desk_words.specs.Words.{check_app, copydesk, desk_app, export_app, feed_rule, file_rule, flag_rule, import_app, merge_app, names_rule, no_subcommand, proof_app, punch_app, replace_app, site_rule, sources_app, target_rule, text_rule};
+ghost use Rattle.desk_words.specs.Words.{check_app, copydesk, desk_app, diff_app, export_app, feed_rule, file_rule, flag_rule, import_app, merge_app, names_rule, no_subcommand, proof_app, punch_app, replace_app, script_app, site_rule, sources_app, target_rule, text_rule, with_correcting};
 
 use crate::help::{
-    COMMANDS, ON_A_FEED, ON_CHECK, ON_EXPORT, ON_IMPORT, ON_MERGE, ON_PROOF, ON_PUNCH, ON_REPLACE,
-    ON_SUBCOMMANDS, VERSION,
+    COMMANDS, ON_A_FEED, ON_CHECK, ON_DIFF, ON_EXPORT, ON_IMPORT, ON_MERGE, ON_PROOF, ON_PUNCH,
+    ON_REPLACE, ON_SUBCOMMANDS, VERSION,
 };
 use clap::{Arg, ArgAction, Command, value_parser};
 use std::alloc::{AllocError, Global};
@@ -97,13 +97,37 @@ fn on_feed<'a>(
         .arg(feed_arg(alloc))
 }
 
-fn script_command<'a>(alloc: Global) -> Command<'a>
-    ensures app { app_of result ≡ new_app (codes "script") }
-    ensures local { (out-Command result).has_globals ≡ false }
+fn strict_arg<'a>(alloc: Global) -> Arg<'a>
+    ensures rule { rule_of result ≡ flag_rule (codes "strict") }
+    ensures local { result.global ≡ false }
+{
+    flag_arg(
+        alloc,
+        "strict",
+        "Ends at the first line that is refused; empty lines and lines that begin with # are passed over.",
+    )
+}
+
+fn number_arg<'a>(alloc: Global) -> Arg<'a>
+    ensures rule { rule_of result ≡ flag_rule (codes "number") }
+    ensures local { result.global ≡ false }
+{
+    flag_arg(
+        alloc,
+        "number",
+        "Writes the number of its line before each answer.",
+    )
+}
+
+fn script_command<'a>(alloc: Global) -> Result<Command<'a>, AllocError>
+    ensures app { IfOk result (λ c. app_of c ≡ script_app) }
+    ensures local { IfOk result (λ c. (out-Command c).has_globals ≡ false) }
 {
     Command::new(alloc, "script")
         .about("Runs commands from standard input to standard output.")
         .after_help(COMMANDS)
+        .arg(strict_arg(alloc))?
+        .arg(number_arg(alloc))
 }
 
 fn desk_command<'a>(alloc: Global) -> Result<Command<'a>, AllocError>
@@ -117,7 +141,9 @@ fn desk_command<'a>(alloc: Global) -> Result<Command<'a>, AllocError>
         ON_A_FEED,
     )?
     .arg(site_arg(alloc))?
-    .arg(flag_arg(alloc, "why", "Says in a second line why a run stopped."))
+    .arg(flag_arg(alloc, "why", "Says in a second line why a run stopped."))?
+    .arg(strict_arg(alloc))?
+    .arg(number_arg(alloc))
 }
 
 fn merge_command<'a>(alloc: Global) -> Result<Command<'a>, AllocError>
@@ -135,6 +161,19 @@ fn merge_command<'a>(alloc: Global) -> Result<Command<'a>, AllocError>
         "other",
         "The names of the files whose feeds are merged into it, in this order.",
     ))
+}
+
+fn diff_command<'a>(alloc: Global) -> Result<Command<'a>, AllocError>
+    ensures app { IfOk result (λ c. app_of c ≡ diff_app) }
+    ensures local { IfOk result (λ c. (out-Command c).has_globals ≡ false) }
+{
+    on_feed(
+        alloc,
+        "diff",
+        "Says what each of two stored feeds has alone, and which words of their copies differ.",
+        ON_DIFF,
+    )?
+    .arg(text_arg(alloc, "other", "The name of the other feed's file."))
 }
 
 fn export_command<'a>(alloc: Global) -> Result<Command<'a>, AllocError>
@@ -258,26 +297,36 @@ fn bare_command<'a>(alloc: Global) -> Command<'a>
         .subcommand_required(true)
 }
 
-/// The program's command, with its subcommands.
-pub fn command<'a>(alloc: Global) -> Result<Command<'a>, AllocError>
-    ensures { IfOk result (λ c. app_of c ≡ copydesk) }
+/// The program's command with the subcommands that key and correct.
+fn correcting<'a>(alloc: Global) -> Result<Command<'a>, AllocError>
+    ensures { IfOk result (λ c. app_of c ≡ with_correcting) }
 {
-    let script = script_command(alloc);
+    let script = script_command(alloc)?;
     let desk = desk_command(alloc)?;
     let merge = merge_command(alloc)?;
+    let diff = diff_command(alloc)?;
     let export = export_command(alloc)?;
     let import = import_command(alloc)?;
     let replace = replace_command(alloc)?;
-    let check = check_command(alloc)?;
-    let proof = proof_command(alloc)?;
-    let punch = punch_command(alloc)?;
     bare_command(alloc)
         .subcommand(script)?
         .subcommand(desk)?
         .subcommand(merge)?
+        .subcommand(diff)?
         .subcommand(export)?
         .subcommand(import)?
-        .subcommand(replace)?
+        .subcommand(replace)
+}
+
+/// The program's command, with its subcommands.
+pub fn command<'a>(alloc: Global) -> Result<Command<'a>, AllocError>
+    ensures { IfOk result (λ c. app_of c ≡ copydesk) }
+{
+    let correcting = correcting(alloc)?;
+    let check = check_command(alloc)?;
+    let proof = proof_command(alloc)?;
+    let punch = punch_command(alloc)?;
+    correcting
         .subcommand(check)?
         .subcommand(proof)?
         .subcommand(punch)

@@ -8,7 +8,10 @@ pub const ON_SUBCOMMANDS: &str = "\
 As in:
   copydesk script < letter.script           commands, and an answer to each
   copydesk desk one.feed --site 1           the same, on a stored feed
+  copydesk desk one.feed --site 1 --strict < sheet.txt
+                                            all of a sheet of commands, or nothing of it
   copydesk merge one.feed two.feed          takes what the feed of another site holds
+  copydesk diff one.feed two.feed           what each has alone
   copydesk export one.feed > one.txt        the copy as text
   copydesk import one.feed --site 1 < one.txt
                                             makes that text the copy
@@ -40,7 +43,11 @@ Each line is a command, and each has one line in answer:
   show S, faults S, settings S, feed S
                             the copy, its faults, the settings, the feed in hex
   ribbon S CASE WEDGE       the ribbon of the copy, in hex, by the two files
-  cast S CASE WEDGE         the lines that the ribbon casts";
+  cast S CASE WEDGE         the lines that the ribbon casts
+
+A line that cannot be carried out is answered `refused` or `stopped`, and the run goes on. With `--strict` it ends
+there: `copydesk: line 226 refused`, status 1. With `--strict` or `--number` the commands are read to their end
+first, and the answers written together.";
 
 /// What a run on a feed is.
 pub const ON_A_FEED: &str = "\
@@ -49,6 +56,8 @@ As in: copydesk desk one.feed --site 1 < commands
 The feed is stored once all commands were answered: an `ok` stands when the run has ended with status 0.
 While a run has a feed, no other can have it. FEED.lock, beside it, is the sign of that, and stays.
 A number belongs to one feed: go on with a copied or restored feed under a new number.
+With `--strict` a sheet of commands is stored as a whole or not at all: the first line that is refused ends the run,
+its number stands on standard error, and the feed is as it was.
 
 Status: 0 done; 1 the run stopped, with one line on standard error; 2 the words were refused.
 `copydesk script --help` tells the commands.";
@@ -63,6 +72,17 @@ The others do not change. Merging twice, or in another order, gives the same fee
 
 Status: 0 the feed is stored; 1 it is not, and nothing has changed: a second line on standard error names
 the file and the cause; 2 the words were refused.";
+
+/// What a difference is.
+pub const ON_DIFF: &str = "\
+As in: copydesk diff one.feed two.feed
+
+First stand the stamps of what each feed has alone, by site and counters: `one.feed alone 1: 20..25 31, 3: 7`. Then
+each stretch of words that differ, with its place in the one copy and in the other: `- 12 the quick` and
+`+ 12 the slow`. Nothing changes.
+
+Status: 0 the two hold the same; 1 they do not, or a feed cannot be read, or the text not be written, and then
+standard error says why; 2 the words were refused.";
 
 /// What an export is.
 pub const ON_EXPORT: &str = "\
@@ -122,6 +142,6 @@ As in: copydesk punch one.feed --case case12.toml --wedge wedge5.toml -o one.rib
 
 The ribbon of the feed's copy is stored as a feed is: written whole beside the name, and then renamed. Where the
 job has faults nothing is stored, and they stand in one line on standard output; `copydesk proof` shows them
-at their text.
+at their text. The names of the feed, the case and the wedge are no target.
 
 Status: 0 the ribbon is stored; 1 it is not, and standard error says why; 2 the words were refused.";

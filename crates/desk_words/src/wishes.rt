@@ -2,7 +2,7 @@
 
 ghost use Rattle.std.specs.Prelude.{◌≡◌, ◌≢◌, ℕ, IfOk, IfSome, IsNone, codes};
 ghost use Rattle.clap.specs.Words.{Text, all_of, found_of, rows_of, subcommand_rows_of};
-ghost use Rattle.desk_words.specs.Words.{AreNames, AreSources, HasFlag, HasSite, IsTold, IsWished, NamesDesk, name_of};
+ghost use Rattle.desk_words.specs.Words.{AreNames, AreSources, HasFlag, HasManner, HasSite, IsTold, IsWished, NamesDesk, name_of};
 
 use clap::ArgMatches;
 use std::alloc::{AllocError, Global};
@@ -13,6 +13,7 @@ pub enum Task {
     Script,
     Desk,
     Merge,
+    Diff,
     Export,
     Import,
     Replace,
@@ -29,21 +30,38 @@ pub struct Sources<'a> {
     pub wedge: &'a str,
 }
 
+/// How commands are carried out and told.
+#[derive(Clone, Copy, Debug, PartialEq, Eq)]
+pub struct Manner {
+    /// The run ends at the first line that is refused.
+    pub strict: bool,
+    /// The number of its line stands before each answer.
+    pub number: bool,
+}
+
 /// What the words ask for.
 #[derive(Drop)]
 pub enum Wish<'a> {
-    /// A script.
-    Script,
-    /// A script on a stored feed, for a site, and whether a line is to say why a run stopped.
+    /// A script, and how it is carried out.
+    Script {
+        manner: Manner,
+    },
+    /// A script on a stored feed, for a site, whether a line is to say why a run stopped, and how it is carried out.
     Desk {
         feed: &'a str,
         site: u16,
         why: bool,
+        manner: Manner,
     },
     /// The feeds of other files, merged into a stored one.
     Merge {
         feed: &'a str,
         others: Vec<&'a str>,
+    },
+    /// What each of two stored feeds has alone.
+    Diff {
+        one: &'a str,
+        other: &'a str,
     },
     /// The copy of a stored feed as text.
     Export {
@@ -92,6 +110,9 @@ fn task_named(name: &str) -> Option<Task>
     }
     if name == "merge" {
         return Some(Task::Merge);
+    }
+    if name == "diff" {
+        return Some(Task::Diff);
     }
     if name == "export" {
         return Some(Task::Export);
@@ -151,6 +172,16 @@ fn feed_and_site<'a>(matches: &ArgMatches<'a>) -> Option<(&'a str, u16)>
     }
 }
 
+/// How the commands of a subcommand's matches are carried out.
+fn manner_of(matches: &ArgMatches<'_>) -> Manner
+    ensures { HasManner (rows_of (found_of matches.now)) result }
+{
+    Manner {
+        strict: flag_of(matches, "strict"),
+        number: flag_of(matches, "number"),
+    }
+}
+
 fn desk_wish<'a>(matches: &ArgMatches<'a>) -> Option<Wish<'a>>
     ensures { IsTold (rows_of (found_of matches.now)) Task.Desk result }
 {
@@ -159,6 +190,7 @@ fn desk_wish<'a>(matches: &ArgMatches<'a>) -> Option<Wish<'a>>
             feed,
             site,
             why: flag_of(matches, "why"),
+            manner: manner_of(matches),
         }),
         None => None,
     }
@@ -187,6 +219,18 @@ fn merge_wish<'a>(alloc: Global, matches: &ArgMatches<'a>) -> Result<Option<Wish
     match names_of(alloc, matches, "other")? {
         Some(others) => Ok(Some(Wish::Merge { feed, others })),
         None => Ok(None),
+    }
+}
+
+fn diff_wish<'a>(matches: &ArgMatches<'a>) -> Option<Wish<'a>>
+    ensures { IsTold (rows_of (found_of matches.now)) Task.Diff result }
+{
+    let Some(one) = matches.get_str("feed") else {
+        return None;
+    };
+    match matches.get_str("other") {
+        Some(other) => Some(Wish::Diff { one, other }),
+        None => None,
     }
 }
 
@@ -294,9 +338,12 @@ fn told<'a>(
     ensures { IfOk result (IsTold (rows_of (found_of matches.now)) task) }
 {
     match task {
-        Task::Script => Ok(Some(Wish::Script)),
+        Task::Script => Ok(Some(Wish::Script {
+            manner: manner_of(matches),
+        })),
         Task::Desk => Ok(desk_wish(matches)),
         Task::Merge => merge_wish(alloc, matches),
+        Task::Diff => Ok(diff_wish(matches)),
         Task::Export => Ok(export_wish(matches)),
         Task::Import => Ok(import_wish(matches)),
         Task::Replace => Ok(replace_wish(matches)),

@@ -9,15 +9,25 @@ use Rattle.copydesk.specs.Texts.{AreFound, AreNotInOrder}
 use Rattle.copydesk.proofs.Statuses.{done_of, halt_of}
 use Rattle.copydesk.proofs.program.fulfilled.Goals as goal
 
+pub returns-in-Script-clause-done : goal.returns-in-Script-clause-done
+returns-in-Script-clause-done g c zero =
+    subst (λ w. Does w (g.F.Files.shelf c.args.files.now) (g.F.Files.shelf c.scripted.new.files) (g.R.Read.remaining c.args.reader.now) (g.W.Write.contents c.args.writer.now) (g.W.Write.contents c.scripted.new.writer)) (sym c.in-Script.is)
+    (c.scripted.ensures.done zero)
+
+pub returns-in-Script-clause-stopped : goal.returns-in-Script-clause-stopped
+returns-in-Script-clause-stopped g c one =
+    subst (λ w. Stops w (g.F.Files.shelf c.args.files.now) (g.F.Files.shelf c.scripted.new.files) (g.R.Read.remaining c.args.reader.now) (g.W.Write.contents c.args.writer.now) (g.W.Write.contents c.scripted.new.writer)) (sym c.in-Script.is)
+    (c.scripted.ensures.stopped one)
+
 pub returns-in-Desk-clause-done : goal.returns-in-Desk-clause-done
 returns-in-Desk-clause-done g c zero =
-    subst (λ w. Does w (g.F.Files.shelf c.args.files.now) (g.F.Files.shelf c.run_on_feed-outcome.new.files) (g.R.Read.remaining c.args.reader.now) (g.W.Write.contents c.args.writer.now) (g.W.Write.contents c.run_on_feed-outcome.new.writer)) (sym c.in-Desk.is)
-    (done_of c.run_on_feed-outcome.result c.status_on.result c.status_on.ensures c.run_on_feed-outcome.ensures.ok zero)
+    subst (λ w. Does w (g.F.Files.shelf c.args.files.now) (g.F.Files.shelf c.on_desk.new.files) (g.R.Read.remaining c.args.reader.now) (g.W.Write.contents c.args.writer.now) (g.W.Write.contents c.on_desk.new.writer)) (sym c.in-Desk.is)
+    (c.on_desk.ensures.done zero)
 
 pub returns-in-Desk-clause-stopped : goal.returns-in-Desk-clause-stopped
 returns-in-Desk-clause-stopped g c one =
-    subst (λ w. Stops w (g.F.Files.shelf c.args.files.now) (g.F.Files.shelf c.run_on_feed-outcome.new.files) (g.R.Read.remaining c.args.reader.now) (g.W.Write.contents c.args.writer.now) (g.W.Write.contents c.run_on_feed-outcome.new.writer)) (sym c.in-Desk.is)
-    (halt_of c.run_on_feed-outcome.result _ c.status_on.result c.status_on.ensures c.run_on_feed-outcome.ensures.err one)
+    subst (λ w. Stops w (g.F.Files.shelf c.args.files.now) (g.F.Files.shelf c.on_desk.new.files) (g.R.Read.remaining c.args.reader.now) (g.W.Write.contents c.args.writer.now) (g.W.Write.contents c.on_desk.new.writer)) (sym c.in-Desk.is)
+    (c.on_desk.ensures.stopped one)
 
 pub returns-in-Merge-clause-done : goal.returns-in-Merge-clause-done
 returns-in-Merge-clause-done g c zero =
@@ -82,3 +92,13 @@ returns-in-Check-clause-stopped g c one =
     subst (λ w. Stops w (g.F.Files.shelf c.args.files.now) (g.F.Files.shelf c.checked.new.files) (g.R.Read.remaining c.args.reader.now) (g.W.Write.contents c.args.writer.now) (g.W.Write.contents c.checked.new.writer)) (sym c.in-Check.is)
     (subst (λ (l : List (Bor Text)). AreNotInOrder (texts_of l) (g.F.Files.shelf c.args.files.now) (g.F.Files.shelf c.checked.new.files) (g.W.Write.contents c.args.writer.now) (g.W.Write.contents c.checked.new.writer)) c.deref-in-Check.ensures.value
     (c.checked.ensures.stopped one))
+
+pub returns-in-Diff-clause-done : goal.returns-in-Diff-clause-done
+returns-in-Diff-clause-done g c zero =
+    subst (λ w. Does w (g.F.Files.shelf c.args.files.now) (g.F.Files.shelf c.compared.new.files) (g.R.Read.remaining c.args.reader.now) (g.W.Write.contents c.args.writer.now) (g.W.Write.contents c.compared.new.writer)) (sym c.in-Diff.is)
+    (c.compared.ensures.done zero)
+
+pub returns-in-Diff-clause-stopped : goal.returns-in-Diff-clause-stopped
+returns-in-Diff-clause-stopped g c one =
+    subst (λ w. Stops w (g.F.Files.shelf c.args.files.now) (g.F.Files.shelf c.compared.new.files) (g.R.Read.remaining c.args.reader.now) (g.W.Write.contents c.args.writer.now) (g.W.Write.contents c.compared.new.writer)) (sym c.in-Diff.is)
+    (c.compared.ensures.stopped one)

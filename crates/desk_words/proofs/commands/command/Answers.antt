@@ -1,7 +1,7 @@
 use Rattle.std.proofs.Common.{◌≡◌, ap, ap₂, ◌∙◌}
 use Rattle.std.proofs.lemmas.Result.{IfOk-weaker}
 use Rattle.clap.specs.Words.{App, Shape, app_of, with_subcommand}
-use Rattle.desk_words.specs.Words.{no_subcommand}
+use Rattle.desk_words.specs.Words.{with_correcting}
 use Rattle.desk_words.proofs.commands.command.Goals as goal
 
 abbrev top_of : App → Shape
@@ -9,13 +9,7 @@ top_of a = a.top
 
 pub returns : goal.returns
 returns c =
-    let bare : app_of c.bare_command.result ≡ no_subcommand = c.bare_command.ensures in
-    let one = c.in_ok-subcommand.ensures.shape c.script_command-script.ensures.local ∙ ap₂ with_subcommand bare (ap top_of c.script_command-script.ensures.app) in
-    let two = c.in_ok-subcommand-2.ensures.shape c.in_ok-desk.ensures.local ∙ ap₂ with_subcommand one (ap top_of c.in_ok-desk.ensures.app) in
-    let three = c.in_ok-subcommand-3.ensures.shape c.in_ok-merge.ensures.local ∙ ap₂ with_subcommand two (ap top_of c.in_ok-merge.ensures.app) in
-    let four = c.in_ok-subcommand-4.ensures.shape c.in_ok-export.ensures.local ∙ ap₂ with_subcommand three (ap top_of c.in_ok-export.ensures.app) in
-    let five = c.in_ok-subcommand-5.ensures.shape c.in_ok-import.ensures.local ∙ ap₂ with_subcommand four (ap top_of c.in_ok-import.ensures.app) in
-    let six = c.in_ok-subcommand-6.ensures.shape c.in_ok-replace.ensures.local ∙ ap₂ with_subcommand five (ap top_of c.in_ok-replace.ensures.app) in
-    let seven = c.in_ok-subcommand-7.ensures.shape c.in_ok-check.ensures.local ∙ ap₂ with_subcommand six (ap top_of c.in_ok-check.ensures.app) in
-    let eight = c.in_ok-subcommand-8.ensures.shape c.in_ok-proof.ensures.local ∙ ap₂ with_subcommand seven (ap top_of c.in_ok-proof.ensures.app) in
-    IfOk-weaker c.subcommand-9.result _ _ (λ m h. h.shape c.in_ok-punch.ensures.local ∙ ap₂ with_subcommand eight (ap top_of c.in_ok-punch.ensures.app)) c.subcommand-9.ensures
+    let begun : app_of c.in_ok-correcting.correcting ≡ with_correcting = c.in_ok-correcting.ensures in
+    let one = c.in_ok-subcommand.ensures.shape c.in_ok-check.ensures.local ∙ ap₂ with_subcommand begun (ap top_of c.in_ok-check.ensures.app) in
+    let two = c.in_ok-subcommand-2.ensures.shape c.in_ok-proof.ensures.local ∙ ap₂ with_subcommand one (ap top_of c.in_ok-proof.ensures.app) in
+    IfOk-weaker c.subcommand-3.result _ _ (λ m h. h.shape c.in_ok-punch.ensures.local ∙ ap₂ with_subcommand two (ap top_of c.in_ok-punch.ensures.app)) c.subcommand-3.ensures

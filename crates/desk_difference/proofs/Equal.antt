@@ -1,0 +1,45 @@
+-- What is told of sets and of copies that are one.
+use Rattle.std.proofs.Common.{◌≡◌, ◌∙◌, ◌-◌, List, [], ◌∷◌, ◌++◌, length, refl, sym, ap, ap₂, subst, inl, arith}
+use Rattle.std.specs.List.{slice_range}
+use Rattle.std.proofs.lemmas.Bool.{true≢false}
+use Rattle.std.proofs.lemmas.List.{append-nil, take_all}
+use Rattle.desk_ops.specs.declared.op.Symbol.{Symbol}
+use Rattle.desk_ops.specs.OpSet.{OpSet}
+use Rattle.desk_ops.specs.Shown.{copy_of}
+use Rattle.desk_difference.specs.declared.alone.SiteStamp.{SiteStamp}
+use Rattle.desk_difference.specs.declared.stretch.Stretch.{Stretch}
+use Rattle.desk_difference.specs.Alone.{AreAlone}
+use Rattle.desk_difference.specs.Counters.{alone_line}
+use Rattle.desk_difference.specs.Stretches.{AreStretches}
+use Rattle.desk_difference.specs.Words.{stretches_lines}
+use Rattle.desk_difference.specs.Laws.{EqualCopiesHaveNoWords, EqualSetsAreToldSo}
+
+-- a set has nothing that it has not
+none_alone : (set : OpSet) (stamps : List SiteStamp) → AreAlone set set stamps → stamps ≡ []
+none_alone set [] alone = refl
+none_alone set (stamp ∷ stamps) alone = let held = (alone.all stamp).0 (inl refl) in absurd (true≢false (sym held.1 ∙ held.2))
+
+whole : (copy : List Symbol) → slice_range copy 0 (length copy) ≡ copy
+whole copy = let e : length copy - 0 ≡ length copy = omega arith in rw e (take_all (length copy) copy (omega arith))
+
+copies_one : (one other : List Symbol) → AreStretches one other [] → one ≡ other
+copies_one one other none = sym (whole one) ∙ none.differ.same ∙ whole other
+
+no_lines : (one other : List Symbol) (stretches : List Stretch) → stretches_lines one other stretches ≡ [] → stretches ≡ []
+no_lines one other [] e = refl
+no_lines one other (s ∷ stretches) e = cc
+
+pub equal_copies_told : EqualCopiesHaveNoWords
+equal_copies_told first second lines (stretches, told, is) = (
+  λ none. copies_one (copy_of first) (copy_of second) (subst (AreStretches (copy_of first) (copy_of second)) (no_lines (copy_of first) (copy_of second) stretches (sym is ∙ none)) told),
+  λ same. is ∙ ap (stretches_lines (copy_of first) (copy_of second)) (told.none same),
+)
+
+pub equal_sets_told : EqualSetsAreToldSo
+equal_sets_told one other set told same tells =
+    let t = tells.text in
+    let alone = t.2 in
+    let ones : alone.0 ≡ [] = none_alone set alone.0 alone.2 in
+    let others : alone.1 ≡ [] = none_alone set alone.1 alone.3 in
+    let words : t.1 ≡ [] = (equal_copies_told set set t.1 t.3).1 refl in
+    (tells.are_one.1 refl, t.4 ∙ ap₂ (λ l w. l ++ w) (alone.4 ∙ ap₂ (λ l m. alone_line one l ++ alone_line other m) ones others) words ∙ append-nil (alone_line one [] ++ alone_line other []))

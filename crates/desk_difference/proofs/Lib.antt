@@ -1,0 +1,5 @@
+pub mod Skipping
+pub mod Sorting
+pub mod Parts
+pub mod Equal
+pub mod Sets

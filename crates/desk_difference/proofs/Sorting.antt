@@ -1,0 +1,118 @@
+-- Stamps by site and then by counter, each once.
+use Rattle.std.proofs.Common.{◌≡◌, ◌∙◌, ℕ, zero, suc, ◌<◌, Bool, true, false, not, ◌&&◌, List, [], ◌∷◌, length, get_or, map, refl, sym, ap, subst, inl, inr, arith, IsPermutation}
+use Rattle.std.specs.Prelude.{◌↔◌, ◌==◌, T}
+use Rattle.std.specs.List.{Contains, dedup}
+use Rattle.std.specs.List.Sorted.{IsSorted, IsStrictlySortedBy}
+use Rattle.std.specs.Ordering.{eq_by_cmp, is_eq, nat_cmp, ordering_then}
+use Rattle.std.specs.Cmp.{IsTotalOrder, IsEquivalence, unsigned_tied}
+use Rattle.std.specs.declared.cmp.Ordering.{Ordering}
+use Rattle.std.specs.declared.cmp.Ordering.TheVariants.{Less, Equal, Greater}
+use Rattle.std.proofs.lemmas.Bool.Decides.{nat_tests}
+use Rattle.std.proofs.lemmas.Bool.{true≢false}
+use Rattle.std.proofs.lemmas.Cmp.{and_equiv, nat_cmp_total, nat_eq_equiv, on_equiv, on_total, then_total}
+use Rattle.std.proofs.lemmas.List.Kept.{Contains-dedup, Contains-from_dedup, IsStrictlySortedBy-dedup}
+use Rattle.std.proofs.lemmas.List.Sorted.{Contains-permutation, IsPermutation-sym}
+use Rattle.desk_ops.specs.declared.op.Op.{Op}
+use Rattle.desk_ops.specs.Lists.{Among}
+use Rattle.desk_ops.specs.OpSet.{from_rising, has_op, is_rising}
+use Rattle.desk_ops.proofs.Ends.{among_held, held_among}
+use Rattle.desk_ops.proofs.Lists.{among-filter, among-filter_from}
+use Rattle.desk_ops.proofs.OpSets.{has_op-from_rising, in_order-from_rising}
+use Rattle.desk_difference.specs.declared.alone.SiteStamp.{SiteStamp}
+use Rattle.desk_difference.specs.Alone.{AreAlone, IsAlone, alone, among, site_cmp, site_stamp}
+
+site_total : IsTotalOrder site_cmp
+site_total = then_total (on_total (λ (s : SiteStamp). s.site) nat_cmp_total) (on_total (λ (s : SiteStamp). s.counter) nat_cmp_total)
+
+-- whether two stamps are one
+abbrev pub same_stamp : SiteStamp → SiteStamp → Bool
+same_stamp a b = a.site == b.site && a.counter == b.counter
+
+then_tie : (r o : Ordering) → is_eq (ordering_then r o) ≡ (is_eq r && is_eq o)
+then_tie Less o = refl
+then_tie Equal o = refl
+then_tie Greater o = refl
+
+same_cmp : (a b : SiteStamp) → same_stamp a b ≡ eq_by_cmp site_cmp a b
+same_cmp a b =
+    sym (then_tie (nat_cmp a.site b.site) (nat_cmp a.counter b.counter) ∙ ap (λ t. t && is_eq (nat_cmp a.counter b.counter)) (unsigned_tied a.site b.site) ∙ ap (λ t. (a.site == b.site) && t) (unsigned_tied a.counter b.counter))
+
+same_exact : (a b : SiteStamp) → same_stamp a b ≡ true → a ≡ b
+same_exact a b e = grind (arith, nat_tests)
+
+same_equiv : IsEquivalence same_stamp
+same_equiv = and_equiv (on_equiv (λ (s : SiteStamp). s.site) nat_eq_equiv) (on_equiv (λ (s : SiteStamp). s.counter) nat_eq_equiv)
+
+-- ---- the two words for what is in a list
+
+at_among : {A : Type 0} (xs : List A) (x : A) (k : ℕ) → k < length xs → get_or xs k x ≡ x → Among x xs
+at_among [] x k lt e = absurd (omega arith)
+at_among (y ∷ ys) x zero lt e = inl e
+at_among (y ∷ ys) x (suc k) lt e = inr (at_among ys x k (omega arith) e)
+
+among_from : {A : Type 0} (xs : List A) (x : A) → Contains xs x → Among x xs
+among_from xs x held = at_among xs x held.0 held.1 held.2
+
+among_at : {A : Type 0} (xs : List A) (x : A) → Among x xs → Contains xs x
+among_at [] x m = absurd m
+among_at (y ∷ ys) x (inl e) = (0, omega arith, e)
+among_at (y ∷ ys) x (inr m) = let c = among_at ys x m in (suc c.0, omega (arith, c.1), c.2)
+
+-- ---- what is among the stamps of operations
+
+among_map : {A B : Type 0} (f : A → B) (xs : List A) (y : B) → Among y (map f xs) → (x : A) × Among x xs × (f x ≡ y)
+among_map f [] y m = absurd m
+among_map f (x ∷ xs) y (inl e) = (x, inl refl, e)
+among_map f (x ∷ xs) y (inr m) = let r = among_map f xs y m in (r.0, inr r.1, r.2)
+
+among_map_from : {A B : Type 0} (f : A → B) (xs : List A) (x : A) (y : B) → Among x xs → f x ≡ y → Among y (map f xs)
+among_map_from f [] x y m e = absurd m
+among_map_from f (z ∷ xs) x y (inl h) e = inl (ap f h ∙ e)
+among_map_from f (z ∷ xs) x y (inr m) e = inr (among_map_from f xs x y m e)
+
+falsely : (b : Bool) → not b ≡ true → b ≡ false
+falsely true e = absurd (true≢false (sym e))
+falsely false e = refl
+
+held_in : (ops : List Op) (op : Op) → T (is_rising ops) → Among op ops → has_op (from_rising ops) op ≡ true
+held_in ops op rising m = held_among (from_rising ops) op (subst (λ (l : List Op). Among op l) (sym (in_order-from_rising ops rising)) m)
+
+in_held : (ops : List Op) (op : Op) → T (is_rising ops) → has_op (from_rising ops) op ≡ true → Among op ops
+in_held ops op rising h = subst (λ (l : List Op). Among op l) (in_order-from_rising ops rising) (among_held (from_rising ops) op h)
+
+alone_told : (one other : List Op) (stamp : SiteStamp) → T (is_rising one) → T (is_rising other) → Among stamp (map site_stamp (alone one other)) ↔ IsAlone (from_rising one) (from_rising other) stamp
+alone_told one other stamp first second = (there, back)
+  where
+    there : Among stamp (map site_stamp (alone one other)) → IsAlone (from_rising one) (from_rising other) stamp
+    there m =
+        let r = among_map site_stamp (alone one other) stamp m in
+        let f = among-filter (λ (op : Op). not (among op other)) one r.0 r.1 in
+        (r.0, held_in one r.0 first f.0, has_op-from_rising other r.0 second ∙ falsely (among r.0 other) f.1, r.2)
+
+    back : IsAlone (from_rising one) (from_rising other) stamp → Among stamp (map site_stamp (alone one other))
+    back h =
+        among_map_from site_stamp (alone one other) h.0 stamp
+        (among-filter_from (λ (op : Op). not (among op other)) one h.0 (in_held one h.0 first h.1) (ap not (sym (has_op-from_rising other h.0 second) ∙ h.2))) h.3
+
+-- ---- sorted, and each once
+
+sorted_told : (stamps sorted : List SiteStamp) (stamp : SiteStamp) → IsPermutation stamps sorted → Among stamp (dedup same_stamp sorted) ↔ Among stamp stamps
+sorted_told stamps sorted stamp moved = (
+  λ m. among_from stamps stamp (Contains-permutation sorted stamps stamp (IsPermutation-sym stamps sorted moved) (Contains-from_dedup same_stamp sorted stamp (among_at _ stamp m))),
+  λ m. among_from _ stamp (Contains-dedup same_equiv same_exact sorted stamp (Contains-permutation stamps sorted stamp moved (among_at stamps stamp m))),
+)
+
+sorted_once : (sorted : List SiteStamp) → IsSorted site_cmp sorted → IsStrictlySortedBy site_cmp (dedup same_stamp sorted)
+sorted_once sorted up = IsStrictlySortedBy-dedup site_total same_cmp sorted up
+
+pub sorted_alone : (one other : List Op) (stamps sorted once : List SiteStamp) → T (is_rising one) → T (is_rising other) → stamps ≡ map site_stamp (alone one other) → IsPermutation stamps sorted → IsSorted site_cmp sorted
+    → once ≡ dedup same_stamp sorted → AreAlone (from_rising one) (from_rising other) once
+sorted_alone one other stamps sorted once first second is moved up made = record {
+  rise = subst (IsStrictlySortedBy site_cmp) (sym made) (sorted_once sorted up);
+  all = λ stamp.
+      let kept = sorted_told stamps sorted stamp moved in
+      let told = alone_told one other stamp first second in (
+        λ m. told.0 (subst (λ (l : List SiteStamp). Among stamp l) is (kept.0 (subst (λ (l : List SiteStamp). Among stamp l) made m))),
+        λ h. subst (λ (l : List SiteStamp). Among stamp l) (sym made) (kept.1 (subst (λ (l : List SiteStamp). Among stamp l) (sym is) (told.1 h))),
+      );
+}

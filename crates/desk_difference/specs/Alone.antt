@@ -1,0 +1,50 @@
+-- The operations that one set holds and another does not, by the stamps that they bear.
+use Rattle.std.specs.Prelude.{◌≡◌, ◌↔◌, Bool, true, false, not, if◌then◌else◌, List, [], ◌∷◌}
+use Rattle.std.specs.List.{filter, list_any}
+use Rattle.std.specs.List.Sorted.{IsStrictlySortedBy}
+use Rattle.std.specs.Ordering.{eq_by_cmp, is_lt, nat_cmp, ordering_then}
+use Rattle.std.specs.declared.cmp.Ordering.{Ordering}
+use Rattle.desk_ops.specs.declared.op.Op.{Op}
+use Rattle.desk_ops.specs.Lists.{Among}
+use Rattle.desk_ops.specs.Op.{stamp_of}
+use Rattle.desk_ops.specs.OpSet.{OpSet, has_op}
+use Rattle.desk_ops.specs.Order.{op_cmp}
+use Rattle.desk_difference.specs.declared.alone.SiteStamp.{SiteStamp}
+
+-- by site, and then by counter
+abbrev pub site_cmp : SiteStamp → SiteStamp → Ordering
+site_cmp a b = ordering_then (nat_cmp a.site b.site) (nat_cmp a.counter b.counter)
+
+abbrev pub site_stamp : Op → SiteStamp
+site_stamp op = record { site = (stamp_of op).site; counter = (stamp_of op).counter }
+
+-- an operation that the one set holds, and the other does not, bears the stamp
+abbrev pub IsAlone : OpSet → OpSet → SiteStamp → Type 0
+IsAlone one other stamp = (op : Op) × (has_op one op ≡ true) × (has_op other op ≡ false) × (site_stamp op ≡ stamp)
+
+-- the stamps of all such operations, by site and then by counter, each once
+pub record AreAlone (one other : OpSet) (stamps : List SiteStamp) : Type 0 where
+  pub rise : IsStrictlySortedBy site_cmp stamps
+  pub all : (stamp : SiteStamp) → Among stamp stamps ↔ IsAlone one other stamp
+
+-- ---- of lists
+
+abbrev pub among : Op → List Op → Bool
+among op ops = list_any (eq_by_cmp op_cmp op) ops
+
+-- the operations of one list that another has not
+abbrev pub alone : List Op → List Op → List Op
+alone one other = filter (λ op. not (among op other)) one
+
+-- the stamp of an operation, unless it is held
+abbrev pub alone_stamp : Op → Bool → List SiteStamp
+alone_stamp op held = if held then [] else site_stamp op ∷ []
+
+-- operations from the first on that does not come before one
+abbrev pub skip : Op → List Op → List Op
+skip op [] = []
+skip op (first ∷ ops) = if is_lt (op_cmp first op) then skip op ops else first ∷ ops
+
+abbrev pub begins : Op → List Op → Bool
+begins op [] = false
+begins op (first ∷ ops) = eq_by_cmp op_cmp op first

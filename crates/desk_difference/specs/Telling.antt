@@ -1,0 +1,27 @@
+-- The difference of two stored feeds, written as text.
+use Rattle.std.specs.Prelude.{◌≡◌, ℕ, Bool, List, Option}
+use Rattle.std.specs.Io.KnownBytes.{Appends}
+use Rattle.desk_ops.specs.OpSet.{OpSet}
+use Rattle.desk_files.specs.Files.{Shelf}
+use Rattle.desk_stored.specs.Sending.{WritesFront}
+use Rattle.desk_hand.specs.Exporting.{IsClosedBy, IsSetOf}
+use Rattle.desk_difference.specs.Told.{Tells}
+use Rattle.desk_difference.specs.declared.fault.DifferenceFault.{DifferenceFault}
+use Rattle.desk_difference.specs.declared.fault.DifferenceFault.TheVariants as faults
+
+-- what is told of the sets that two names stand for
+abbrev pub IsDifference : List ℕ → List ℕ → Shelf → List ℕ → Bool → Type 0
+IsDifference one other shelf told same =
+    (first second : OpSet) × IsSetOf one shelf first × IsSetOf other shelf second × Tells one other first second told same
+
+-- it was written
+abbrev pub IsTold : List ℕ → List ℕ → Shelf → Option (List ℕ) → Option (List ℕ) → Bool → Type 0
+IsTold one other shelf before after same = (told : List ℕ) × IsDifference one other shelf told same × Appends before after told
+
+-- why not all of it was written, and what was: nothing, or under Write a prefix
+abbrev pub IsUntold : List ℕ → List ℕ → Shelf → Shelf → Option (List ℕ) → Option (List ℕ) → DifferenceFault → Type 0
+IsUntold one other first last before after (faults.One why) = (after ≡ before) × IsClosedBy one first last why
+IsUntold one other first last before after (faults.Other why) =
+    (after ≡ before) × (set : OpSet) × IsSetOf one first set × IsClosedBy other first last why
+IsUntold one other first last before after faults.Write = (told : List ℕ) × (same : Bool) × IsDifference one other first told same × WritesFront before after told
+IsUntold one other first last before after faults.NoMemory = after ≡ before

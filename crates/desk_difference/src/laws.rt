@@ -1,0 +1,10 @@
+//! What holds of the differences that are told.
+
+ghost use Rattle.desk_difference.specs.Laws.{EqualSetsAreToldSo, EqualCopiesHaveNoWords};
+
+/// Of two sets that are one it is told that each has nothing alone, and nothing else; and there are lines of words exactly
+/// where the copies are not one.
+pub fn law_of_differences()
+    ensures sets { EqualSetsAreToldSo }
+    ensures copies { EqualCopiesHaveNoWords }
+{}

@@ -1,0 +1,16 @@
+//! What two stored feeds have that the other has not: the operations of each alone, and the words of their copies that differ.
+#![tactic(auto)]
+
+mod alone;
+mod counters;
+mod fault;
+mod laws;
+mod stretch;
+mod stretches;
+mod telling;
+mod told;
+mod words;
+
+pub use fault::DifferenceFault;
+pub use laws::law_of_differences;
+pub use telling::tell_difference;
