@@ -9,6 +9,7 @@ space continues the one before, and a label may stand more than once. The labels
   clauses  `function/clause`, or `function` where its contract has one clause or all are meant; `Type::function/clause`
            where several types have a function of that name, or a type and no type
   edits    wrong bodies that these clauses refuse: files must-fail/NAME.edit of the crate
+  apart    more of them, which the gate leaves out: files wrong-bodies/NAME.edit, tried by tests/wrong_bodies.py
   tests    test functions of the crate, or files of this repository (a name with a dot)
   note     what else a reader must know
   state    `proved`, `tested only` or `open`
@@ -24,7 +25,8 @@ import sys
 ROOT = os.path.dirname(os.path.dirname(os.path.abspath(__file__)))
 CRATES, FOLDER = os.path.join(ROOT, "crates"), os.path.join(ROOT, "docs", "claims")
 STATES = {"proved": "clauses", "tested only": "tests", "open": None}
-LABELS = ("promise", "calls", "clauses", "edits", "tests", "note", "state")
+LABELS = ("promise", "calls", "clauses", "edits", "apart", "tests", "note", "state")
+EDITS = {"edits": "must-fail", "apart": "wrong-bodies"}
 WIDEST, LONGEST = 120, 40
 SEEN = {}
 
@@ -85,8 +87,16 @@ def clause(crate, name):
 
 
 def edit(crate, name):
-    there = os.path.isfile(os.path.join(CRATES, crate, "must-fail", name + ".edit"))
-    return None if there else "no edit %s in %s" % (name, crate)
+    return an_edit(crate, name, "must-fail")
+
+
+def edit_apart(crate, name):
+    return an_edit(crate, name, "wrong-bodies")
+
+
+def an_edit(crate, name, folder):
+    there = os.path.isfile(os.path.join(CRATES, crate, folder, name + ".edit"))
+    return None if there else "no %s/%s in %s" % (folder, name, crate)
 
 
 def test(crate, name):
@@ -96,7 +106,7 @@ def test(crate, name):
     return None if any(re.search(word, text) for text in sources(crate)) else "no test %s in %s" % (name, crate)
 
 
-CHECKS = {"clauses": (clause, "::"), "edits": (edit, "/"), "tests": (test, "::")}
+CHECKS = {"clauses": (clause, "::"), "edits": (edit, "/"), "apart": (edit_apart, "/"), "tests": (test, "::")}
 
 
 def is_crate(name):
@@ -153,8 +163,8 @@ def judged(block, home, counts, named):
                 continue
             fault = check(crate, rest)
             faults += [fault] if fault else []
-            if label == "edits":
-                named.add((crate, rest))
+            if label in EDITS:
+                named.add((crate, EDITS[label], rest))
     return ["%s: %s" % (block["where"], fault) for fault in faults]
 
 
@@ -187,16 +197,18 @@ def main(words):
                 faults.append("%s: this promise stands twice" % block["where"])
             said.add(block.get("promise"))
     for crate in sorted(os.listdir(CRATES)):
-        folder = os.path.join(CRATES, crate, "must-fail")
-        for name in sorted(os.listdir(folder)) if os.path.isdir(folder) else []:
-            if name.endswith(".edit") and (crate, name[:-5]) not in named:
-                faults.append("the edit %s/%s stands in no promise" % (crate, name[:-5]))
+        for part in EDITS.values():
+            folder = os.path.join(CRATES, crate, part)
+            for name in sorted(os.listdir(folder)) if os.path.isdir(folder) else []:
+                if name.endswith(".edit") and (crate, part, name[:-5]) not in named:
+                    faults.append("the edit %s/%s/%s stands in no promise" % (crate, part, name[:-5]))
     for fault in faults:
         print(fault, file=sys.stderr)
     if words == ["--page"]:
         page(files)
     else:
-        print("%d promises: %d clauses, %d edits, %d tests named" % (len(said), counts["clauses"], counts["edits"], counts["tests"]))
+        told = len(said), counts["clauses"], counts["edits"], counts["apart"], counts["tests"]
+        print("%d promises: %d clauses, %d edits, %d edits apart, %d tests named" % told)
     return 1 if faults else 0
 
 

@@ -39,11 +39,16 @@ def badly_laid_out(crate):
     return ["%s/%s: not as rt fmt lays it out" % (crate.name, path) for path in before if before[path] != after.get(path)]
 
 
+def edits_of(crate):
+    """A crate's wrong bodies, those that the gate tries and those apart."""
+    return [edit for part in ["must-fail", "wrong-bodies"] for edit in sorted((crate / part).glob("*.edit"))]
+
+
 def unlike_their_files(crate):
     """What of a crate's wrong bodies cannot be applied."""
     found = []
-    for edit in sorted((crate / "must-fail").glob("*.edit")):
-        where = "%s/%s" % (crate.name, edit.name)
+    for edit in edits_of(crate):
+        where = "%s/%s/%s" % (crate.name, edit.parent.name, edit.name)
         path, texts, old, pairs = None, {}, None, 0
         for line in edit.read_text(encoding="utf-8").split("\n"):
             if line.startswith("file: "):
@@ -72,7 +77,7 @@ def main(names):
     found += [line for crate in crates for line in unlike_their_files(crate)]
     for line in found:
         print("layout: " + line)
-    print("%d crates laid out, %d wrong bodies: %d faults" % (len(crates), sum(len(list((it / "must-fail").glob("*.edit"))) for it in crates), len(found)))
+    print("%d crates laid out, %d wrong bodies: %d faults" % (len(crates), sum(len(edits_of(it)) for it in crates), len(found)))
     return 1 if found else 0
 
 

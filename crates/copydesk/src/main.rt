@@ -1,26 +1,13 @@
 //! The copy desk's command line.
 #![tactic(auto)]
 
-ghost use Rattle.std.specs.Prelude.{◌≡◌, ◌↔◌, ◌⊎◌};
-ghost use Rattle.std.specs.IoError.{error_kind};
-
-mod compared;
-mod hold;
-mod host;
-mod previews;
-mod program;
 mod progress;
-mod sheets;
-mod telling;
-mod texts;
-mod trouble;
 
-use desk_script::RunFault;
-use host::HostFiles;
-use program::program;
+use desk_host::HostFiles;
+use desk_program::{program, unread};
 use progress::Watched;
 use std::alloc::Global;
-use std::io::{BufWriter, ErrorKind, IsTerminal, Write};
+use std::io::{BufWriter, IsTerminal};
 use std::process::ExitCode;
 use std::{env, io};
 
@@ -69,22 +56,3 @@ fn ask_why(alloc: Global, words: &mut Vec<String>) -> io::Result<()> {
     }
     Ok(())
 }
-
-/// Tells why the words could not be read, and gives the status of it: 1 where memory ran out, as of a run, and else 2, as of
-/// words that `clap` refuses. A failure to write the line changes no status.
-fn unread<E: Write>(faults: &mut E, error: &io::Error) -> u8
-    ensures within { (result ≡ 1) ⊎ (result ≡ 2) }
-    ensures memory { (result ≡ 1) ↔ (error_kind error.now ≡ ErrorKind.OutOfMemory) }
-{
-    if error.kind() == ErrorKind::OutOfMemory {
-        let _ = writeln!(faults, "copydesk: {}", RunFault::NoMemory);
-        return 1;
-    }
-    let _ = writeln!(faults, "error: a word of the command line is not UTF-8");
-    2
-}
-
-#[cfg(test)]
-mod host_tests;
-#[cfg(test)]
-mod tests;

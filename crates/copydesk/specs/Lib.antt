@@ -1,6 +1,0 @@
-pub mod Previews
-pub mod Texts
-pub mod Runs
-pub mod Host
-pub mod Sheets
-pub mod Compared

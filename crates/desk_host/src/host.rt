@@ -1,0 +1,259 @@
+//! Files of the machine.
+
+ghost use Rattle.std.specs.Prelude.{◌≡◌, ◌<◌, ◌≤◌, IfOk, IfSome, IsNone, None, length, option_map, string_bytes};
+ghost use Rattle.std.specs.IoError.{error_kind};
+ghost use Rattle.desk_files.specs.Files.{IsCounted, Unknown, max_file, shelf};
+ghost use Rattle.desk_host.specs.Host.{IsToldOf};
+
+use crate::hold::Hold;
+use crate::trouble::{Asked, Explains, Trouble, write_trouble};
+use desk_files::{FileRefusal, Files, MAX_FILE};
+use std::alloc::Allocator;
+use std::fs::{self, File, OpenFile, OpenOptions};
+use std::io::{self, ErrorKind, Read, Write};
+use std::os::unix::fs::{OpenOptionsExt, PermissionsExt};
+use std::path::Path;
+
+/// Files of the machine, by their paths, with a count of the failures, the name that is held, and what failed last.
+#[derive(Drop)]
+pub struct HostFiles<'a> {
+    host: &'a HostRuntime,
+    failures: u64,
+    hold: Option<Hold>,
+    trouble: Option<Trouble>,
+}
+
+impl<'a> HostFiles<'a> {
+    /// Files of the machine, of which no call has failed yet.
+    pub fn new(host: &'a HostRuntime) -> Self
+        ensures failures { result.failures ≡ 0 }
+        ensures free { result.hold ≡ None }
+    {
+        HostFiles {
+            host,
+            failures: 0,
+            hold: None,
+            trouble: None,
+        }
+    }
+
+    /// Counts a failed call, if it was the device that failed, and keeps it to be told.
+    fn refused(&mut self, trouble: Trouble) -> FileRefusal
+        ensures told { IsToldOf (error_kind trouble.error) result }
+        ensures counted { IsCounted result (shelf (λ _. Unknown) self.old.failures None) (shelf (λ _. Unknown) self.new.failures None) }
+        ensures held { self.new.hold ≡ self.old.hold }
+    {
+        let why = refusal_of(&trouble.error);
+        if why == FileRefusal::Device {
+            self.failures = self.failures.saturating_add(1);
+        }
+        self.trouble = Some(trouble);
+        why
+    }
+
+    /// Where a name leads: that of the held feed and that of its writing past their links, any other as it is.
+    fn place<'b>(&'b self, name: &'b str) -> &'b str {
+        match &self.hold {
+            Some(hold) => hold.place_of(name),
+            None => name,
+        }
+    }
+
+    /// The mode that a file is written with: that of the held feed's file, where it will take its place.
+    fn mode_of(&self, name: &str) -> io::Result<Option<u32>> {
+        match &self.hold {
+            Some(hold) => {
+                if name != hold.new.as_str() {
+                    return Ok(None);
+                }
+                mode_at(self.host, hold.place.as_str())
+            }
+            None => Ok(None),
+        }
+    }
+
+    fn write_at(&self, name: &str, bytes: &[u8]) -> io::Result<()> {
+        let mode = self.mode_of(name)?;
+        write_file(self.host, self.place(name), mode, bytes)
+    }
+}
+
+/// The mode of a file, if one is there.
+fn mode_at(host: &HostRuntime, place: &str) -> io::Result<Option<u32>> {
+    match fs::metadata(host, place) {
+        Ok(found) => Ok(Some(found.permissions().mode())),
+        Err(error) => {
+            if error.kind() == ErrorKind::NotFound {
+                return Ok(None);
+            }
+            Err(error)
+        }
+    }
+}
+
+/// What a failed call tells: that something is not there, that memory ran out, or else that the device failed.
+fn refusal_of(error: &io::Error) -> FileRefusal
+    ensures { IsToldOf (error_kind error.now) result }
+{
+    match error.kind() {
+        ErrorKind::NotFound => FileRefusal::Missing,
+        ErrorKind::NotADirectory => FileRefusal::Missing,
+        ErrorKind::OutOfMemory => FileRefusal::NoMemory,
+        _ => FileRefusal::Device,
+    }
+}
+
+/// All that a reader has left, or none where it is more than the limit. No more is read than one byte above the limit.
+fn whole<R: Read + Drop, A: Allocator + Copy>(alloc: A, reader: R) -> io::Result<Option<Vec<u8, A>>>
+    ensures within { IfOk result (λ o. IfSome o (λ v. length v.items ≤ max_file)) }
+    ensures bytes { IfOk result (λ o. IfSome o (λ v. IfSome (R.remaining reader) (λ input. v.items ≡ input))) }
+    ensures large { IfOk result (λ o. IsNone o → IfSome (R.remaining reader) (λ input. max_file < length input)) }
+{
+    let mut bytes = Vec::new(alloc);
+    let mut front = reader.take(MAX_FILE as u64 + 1);
+    match front.read_to_end(&mut bytes) {
+        Ok(_) => {
+            if bytes.len() > MAX_FILE {
+                return Ok(None);
+            }
+            Ok(Some(bytes))
+        }
+        Err(error) => Err(error),
+    }
+}
+
+fn read_file<A: Allocator + Copy>(
+    host: &HostRuntime,
+    alloc: A,
+    name: &str,
+) -> io::Result<Option<Vec<u8, A>>>
+    ensures { IfOk result (λ o. IfSome o (λ v. length v.items ≤ max_file)) }
+{
+    match File::open(host, name) {
+        Ok(file) => whole(alloc, file),
+        Err(error) => Err(error),
+    }
+}
+
+/// Removes what has a name, a link and not what it leads to. Where nothing has it, that is fine.
+fn remove(host: &HostRuntime, name: &str) -> io::Result<()> {
+    match fs::remove_file(host, name) {
+        Ok(()) => Ok(()),
+        Err(error) => {
+            if error.kind() == ErrorKind::NotFound {
+                return Ok(());
+            }
+            Err(error)
+        }
+    }
+}
+
+/// Writes a file anew, in place of what has the name and never through it, and waits until the device has it.
+fn write_file(host: &HostRuntime, name: &str, mode: Option<u32>, bytes: &[u8]) -> io::Result<()> {
+    remove(host, name)?;
+    let mut how = OpenOptions::new();
+    how.write(true).create_new(true);
+    if let Some(mode) = mode {
+        how.mode(mode & 0o777);
+    }
+    let mut file = how.open(host, name)?;
+    if let Some(mode) = mode {
+        file.set_permissions(PermissionsExt::from_mode(mode))?;
+    }
+    file.write_all(bytes)?;
+    file.sync_all()
+}
+
+/// The folder that a file stands in, open, where the system lets it be opened.
+fn folder_of(host: &HostRuntime, name: &str) -> Option<File> {
+    let folder = match Path::new(name).parent() {
+        Some(parent) => parent.as_str(),
+        None => "",
+    };
+    if folder.is_empty() {
+        return File::open(host, ".").ok();
+    }
+    File::open(host, folder).ok()
+}
+
+/// Gives a file another name, and waits until the device has that, where the system lets it wait for the folder. A folder
+/// that was not synced is not told: the file has its name by then.
+fn rename_file(host: &HostRuntime, from: &str, to: &str) -> io::Result<()> {
+    let folder = folder_of(host, to);
+    fs::rename(host, from, to)?;
+    if let Some(folder) = folder {
+        let _ = folder.sync_all();
+    }
+    Ok(())
+}
+
+impl<'a> Files for HostFiles<'a> {
+    // what a file of the machine holds is not told by std
+    ghost shelf = { λ f. shelf (λ _. Unknown) f.failures (option_map (λ h. string_bytes h.name) f.hold) };
+
+    fn failures(&self) -> u64 {
+        self.failures
+    }
+
+    fn hold(&mut self, name: &str) -> Result<(), FileRefusal> {
+        if self.hold.is_some() {
+            let error = io::Error::from(ErrorKind::WouldBlock);
+            let asked = Asked::Hold;
+            return Err(self.refused(Trouble { asked, error }));
+        }
+        match Hold::take(self.host, name) {
+            Ok(hold) => {
+                self.hold = Some(hold);
+                Ok(())
+            }
+            Err(trouble) => Err(self.refused(trouble)),
+        }
+    }
+
+    fn read<A: Allocator + Copy>(
+        &mut self,
+        alloc: A,
+        name: &str,
+    ) -> Result<Vec<u8, A>, FileRefusal> {
+        match read_file(self.host, alloc, self.place(name)) {
+            Ok(Some(bytes)) => Ok(bytes),
+            Ok(None) => {
+                self.trouble = None;
+                Err(FileRefusal::Large)
+            }
+            Err(error) => {
+                let asked = Asked::Read;
+                Err(self.refused(Trouble { asked, error }))
+            }
+        }
+    }
+
+    fn write_new(&mut self, name: &str, bytes: &[u8]) -> Result<(), FileRefusal> {
+        match self.write_at(name, bytes) {
+            Ok(()) => Ok(()),
+            Err(error) => {
+                let asked = Asked::Write;
+                Err(self.refused(Trouble { asked, error }))
+            }
+        }
+    }
+
+    fn rename(&mut self, from: &str, to: &str) -> Result<(), FileRefusal> {
+        match rename_file(self.host, self.place(from), self.place(to)) {
+            Ok(()) => Ok(()),
+            Err(error) => {
+                let asked = Asked::Rename;
+                Err(self.refused(Trouble { asked, error }))
+            }
+        }
+    }
+}
+
+impl<'a> Explains for HostFiles<'a> {
+    fn explain<E: Write>(&self, feed: &str, faults: &mut E) -> io::Result<()> {
+        match &self.trouble {
+            Some(trouble) => write_trouble(feed, trouble, faults),
+            None => writeln!(faults, "{feed}: it has more than {MAX_FILE} bytes"),
+        }
+    }
+}

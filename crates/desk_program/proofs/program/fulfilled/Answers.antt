@@ -1,0 +1,104 @@
+use Rattle.std.proofs.Common.{List, sym, subst}
+use Rattle.std.specs.Borrow.{Bor}
+use Rattle.clap.specs.Words.{Text}
+use Rattle.desk_hand.specs.Merging.{IsMerged, IsUnmerged}
+use Rattle.desk_hand.specs.declared.fault.HandFault.{HandFault}
+use Rattle.desk_words.specs.Words.{texts_of}
+use Rattle.desk_program.specs.Runs.{Does, Stops}
+use Rattle.desk_program.specs.Texts.{AreFound, AreNotInOrder}
+use Rattle.desk_program.proofs.Statuses.{done_of, halt_of}
+use Rattle.desk_program.proofs.program.fulfilled.Goals as goal
+
+pub returns-in-Script-clause-done : goal.returns-in-Script-clause-done
+returns-in-Script-clause-done g c zero =
+    subst (λ w. Does w (g.F.Files.shelf c.args.files.now) (g.F.Files.shelf c.scripted.new.files) (g.R.Read.remaining c.args.reader.now) (g.W.Write.contents c.args.writer.now) (g.W.Write.contents c.scripted.new.writer)) (sym c.in-Script.is)
+    (c.scripted.ensures.done zero)
+
+pub returns-in-Script-clause-stopped : goal.returns-in-Script-clause-stopped
+returns-in-Script-clause-stopped g c one =
+    subst (λ w. Stops w (g.F.Files.shelf c.args.files.now) (g.F.Files.shelf c.scripted.new.files) (g.R.Read.remaining c.args.reader.now) (g.W.Write.contents c.args.writer.now) (g.W.Write.contents c.scripted.new.writer)) (sym c.in-Script.is)
+    (c.scripted.ensures.stopped one)
+
+pub returns-in-Desk-clause-done : goal.returns-in-Desk-clause-done
+returns-in-Desk-clause-done g c zero =
+    subst (λ w. Does w (g.F.Files.shelf c.args.files.now) (g.F.Files.shelf c.on_desk.new.files) (g.R.Read.remaining c.args.reader.now) (g.W.Write.contents c.args.writer.now) (g.W.Write.contents c.on_desk.new.writer)) (sym c.in-Desk.is)
+    (c.on_desk.ensures.done zero)
+
+pub returns-in-Desk-clause-stopped : goal.returns-in-Desk-clause-stopped
+returns-in-Desk-clause-stopped g c one =
+    subst (λ w. Stops w (g.F.Files.shelf c.args.files.now) (g.F.Files.shelf c.on_desk.new.files) (g.R.Read.remaining c.args.reader.now) (g.W.Write.contents c.args.writer.now) (g.W.Write.contents c.on_desk.new.writer)) (sym c.in-Desk.is)
+    (c.on_desk.ensures.stopped one)
+
+pub returns-in-Merge-clause-done : goal.returns-in-Merge-clause-done
+returns-in-Merge-clause-done g c zero =
+    subst (λ w. Does w (g.F.Files.shelf c.args.files.now) (g.F.Files.shelf c.merge_feeds-outcome.new.files) (g.R.Read.remaining c.args.reader.now) (g.W.Write.contents c.args.writer.now) (g.W.Write.contents c.merge_feeds-outcome.new.writer)) (sym c.in-Merge.is)
+    (subst (λ (l : List (Bor Text)). IsMerged c.in-Merge.feed.now (texts_of l) (g.F.Files.shelf c.args.files.now) (g.F.Files.shelf c.merge_feeds-outcome.new.files) (g.W.Write.contents c.args.writer.now) (g.W.Write.contents c.merge_feeds-outcome.new.writer)) c.deref.ensures.value
+    (done_of c.merge_feeds-outcome.result c.hand_status.result c.hand_status.ensures c.merge_feeds-outcome.ensures.ok zero))
+
+pub returns-in-Merge-clause-stopped : goal.returns-in-Merge-clause-stopped
+returns-in-Merge-clause-stopped g c one =
+    subst (λ w. Stops w (g.F.Files.shelf c.args.files.now) (g.F.Files.shelf c.merge_feeds-outcome.new.files) (g.R.Read.remaining c.args.reader.now) (g.W.Write.contents c.args.writer.now) (g.W.Write.contents c.merge_feeds-outcome.new.writer)) (sym c.in-Merge.is)
+    (subst (λ (l : List (Bor Text)). (fault : HandFault) × IsUnmerged c.in-Merge.feed.now (texts_of l) (g.F.Files.shelf c.args.files.now) (g.F.Files.shelf c.merge_feeds-outcome.new.files) (g.W.Write.contents c.args.writer.now) (g.W.Write.contents c.merge_feeds-outcome.new.writer) fault) c.deref.ensures.value
+    (halt_of c.merge_feeds-outcome.result _ c.hand_status.result c.hand_status.ensures c.merge_feeds-outcome.ensures.err one))
+
+pub returns-in-Import-clause-done : goal.returns-in-Import-clause-done
+returns-in-Import-clause-done g c zero =
+    subst (λ w. Does w (g.F.Files.shelf c.args.files.now) (g.F.Files.shelf c.import_text-outcome.new.files) (g.R.Read.remaining c.args.reader.now) (g.W.Write.contents c.args.writer.now) (g.W.Write.contents c.import_text-outcome.new.writer)) (sym c.in-Import.is)
+    (done_of c.import_text-outcome.result c.hand_status-in-Import.result c.hand_status-in-Import.ensures c.import_text-outcome.ensures.ok zero)
+
+pub returns-in-Import-clause-stopped : goal.returns-in-Import-clause-stopped
+returns-in-Import-clause-stopped g c one =
+    subst (λ w. Stops w (g.F.Files.shelf c.args.files.now) (g.F.Files.shelf c.import_text-outcome.new.files) (g.R.Read.remaining c.args.reader.now) (g.W.Write.contents c.args.writer.now) (g.W.Write.contents c.import_text-outcome.new.writer)) (sym c.in-Import.is)
+    (halt_of c.import_text-outcome.result _ c.hand_status-in-Import.result c.hand_status-in-Import.ensures c.import_text-outcome.ensures.err one)
+
+pub returns-in-Proof-clause-done : goal.returns-in-Proof-clause-done
+returns-in-Proof-clause-done g c zero =
+    subst (λ w. Does w (g.F.Files.shelf c.args.files.now) (g.F.Files.shelf c.proofed.new.files) (g.R.Read.remaining c.args.reader.now) (g.W.Write.contents c.args.writer.now) (g.W.Write.contents c.proofed.new.writer)) (sym c.in-Proof.is)
+    (c.proofed.ensures.done zero)
+
+pub returns-in-Proof-clause-stopped : goal.returns-in-Proof-clause-stopped
+returns-in-Proof-clause-stopped g c one =
+    subst (λ w. Stops w (g.F.Files.shelf c.args.files.now) (g.F.Files.shelf c.proofed.new.files) (g.R.Read.remaining c.args.reader.now) (g.W.Write.contents c.args.writer.now) (g.W.Write.contents c.proofed.new.writer)) (sym c.in-Proof.is)
+    (c.proofed.ensures.stopped one)
+
+pub returns-in-Punch-clause-done : goal.returns-in-Punch-clause-done
+returns-in-Punch-clause-done g c zero =
+    subst (λ w. Does w (g.F.Files.shelf c.args.files.now) (g.F.Files.shelf c.punched.new.files) (g.R.Read.remaining c.args.reader.now) (g.W.Write.contents c.args.writer.now) (g.W.Write.contents c.punched.new.writer)) (sym c.in-Punch.is)
+    (c.punched.ensures.done zero)
+
+pub returns-in-Punch-clause-stopped : goal.returns-in-Punch-clause-stopped
+returns-in-Punch-clause-stopped g c one =
+    subst (λ w. Stops w (g.F.Files.shelf c.args.files.now) (g.F.Files.shelf c.punched.new.files) (g.R.Read.remaining c.args.reader.now) (g.W.Write.contents c.args.writer.now) (g.W.Write.contents c.punched.new.writer)) (sym c.in-Punch.is)
+    (c.punched.ensures.stopped one)
+
+pub returns-in-Replace-clause-done : goal.returns-in-Replace-clause-done
+returns-in-Replace-clause-done g c zero =
+    subst (λ w. Does w (g.F.Files.shelf c.args.files.now) (g.F.Files.shelf c.replaced.new.files) (g.R.Read.remaining c.args.reader.now) (g.W.Write.contents c.args.writer.now) (g.W.Write.contents c.replaced.new.writer)) (sym c.in-Replace.is)
+    (c.replaced.ensures.done zero)
+
+pub returns-in-Replace-clause-stopped : goal.returns-in-Replace-clause-stopped
+returns-in-Replace-clause-stopped g c one =
+    subst (λ w. Stops w (g.F.Files.shelf c.args.files.now) (g.F.Files.shelf c.replaced.new.files) (g.R.Read.remaining c.args.reader.now) (g.W.Write.contents c.args.writer.now) (g.W.Write.contents c.replaced.new.writer)) (sym c.in-Replace.is)
+    (c.replaced.ensures.stopped one)
+
+pub returns-in-Check-clause-done : goal.returns-in-Check-clause-done
+returns-in-Check-clause-done g c zero =
+    subst (λ w. Does w (g.F.Files.shelf c.args.files.now) (g.F.Files.shelf c.checked.new.files) (g.R.Read.remaining c.args.reader.now) (g.W.Write.contents c.args.writer.now) (g.W.Write.contents c.checked.new.writer)) (sym c.in-Check.is)
+    (subst (λ (l : List (Bor Text)). AreFound (texts_of l) (g.F.Files.shelf c.args.files.now) (g.F.Files.shelf c.checked.new.files) (g.W.Write.contents c.args.writer.now) (g.W.Write.contents c.checked.new.writer)) c.deref-in-Check.ensures.value
+    (c.checked.ensures.done zero))
+
+pub returns-in-Check-clause-stopped : goal.returns-in-Check-clause-stopped
+returns-in-Check-clause-stopped g c one =
+    subst (λ w. Stops w (g.F.Files.shelf c.args.files.now) (g.F.Files.shelf c.checked.new.files) (g.R.Read.remaining c.args.reader.now) (g.W.Write.contents c.args.writer.now) (g.W.Write.contents c.checked.new.writer)) (sym c.in-Check.is)
+    (subst (λ (l : List (Bor Text)). AreNotInOrder (texts_of l) (g.F.Files.shelf c.args.files.now) (g.F.Files.shelf c.checked.new.files) (g.W.Write.contents c.args.writer.now) (g.W.Write.contents c.checked.new.writer)) c.deref-in-Check.ensures.value
+    (c.checked.ensures.stopped one))
+
+pub returns-in-Diff-clause-done : goal.returns-in-Diff-clause-done
+returns-in-Diff-clause-done g c zero =
+    subst (λ w. Does w (g.F.Files.shelf c.args.files.now) (g.F.Files.shelf c.compared.new.files) (g.R.Read.remaining c.args.reader.now) (g.W.Write.contents c.args.writer.now) (g.W.Write.contents c.compared.new.writer)) (sym c.in-Diff.is)
+    (c.compared.ensures.done zero)
+
+pub returns-in-Diff-clause-stopped : goal.returns-in-Diff-clause-stopped
+returns-in-Diff-clause-stopped g c one =
+    subst (λ w. Stops w (g.F.Files.shelf c.args.files.now) (g.F.Files.shelf c.compared.new.files) (g.R.Read.remaining c.args.reader.now) (g.W.Write.contents c.args.writer.now) (g.W.Write.contents c.compared.new.writer)) (sym c.in-Diff.is)
+    (c.compared.ensures.stopped one)

@@ -1,0 +1,5 @@
+pub mod Previews
+pub mod Texts
+pub mod Runs
+pub mod Sheets
+pub mod Compared

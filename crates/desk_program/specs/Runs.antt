@@ -1,0 +1,50 @@
+-- What the program has done, by its status and by the files before and after.
+use Rattle.std.specs.Prelude.{ℕ, List, Option}
+use Rattle.clap.specs.Words.{Text}
+use Rattle.desk_files.specs.Files.{Shelf, Stays}
+use Rattle.desk_hand.specs.Exporting.{IsExported, IsUnexported}
+use Rattle.desk_hand.specs.Importing.{IsImported, IsUnimported}
+use Rattle.desk_hand.specs.Merging.{IsMerged, IsUnmerged}
+use Rattle.desk_hand.specs.declared.fault.HandFault.{HandFault}
+use Rattle.desk_words.specs.Words.{AsksFor, texts_of}
+use Rattle.desk_program.specs.Compared.{AreNotOne, AreOne}
+use Rattle.desk_program.specs.Sheets.{IsOffDesk, IsOnDesk, IsScripted, IsUnscripted}
+use Rattle.desk_program.specs.Previews.{IsInFile, IsInNoFile, IsSeen, IsUnseen}
+use Rattle.desk_replace.specs.Replacing.{IsReplaced}
+use Rattle.desk_program.specs.Texts.{AreFound, AreNotInOrder, IsUnchanged, exchange}
+use Rattle.desk_words.specs.declared.wishes.Wish.{Wish}
+use Rattle.desk_words.specs.declared.wishes.Wish.TheVariants as wishes
+
+-- what is asked for was done; a script, an export, a check and a proof change no file
+abbrev pub Does : Wish → Shelf → Shelf → Option (List ℕ) → Option (List ℕ) → Option (List ℕ) → Type 0
+Does (wishes.Script manner) first last input before after = IsScripted manner first last input before after
+Does (wishes.Desk feed site why manner) first last input before after = IsOnDesk manner feed.now site first last input before after
+Does (wishes.Merge feed others) first last input before after = IsMerged feed.now (texts_of others.items) first last before after
+Does (wishes.Diff one other) first last input before after = AreOne one.now other.now first last before after
+Does (wishes.Export feed) first last input before after = Stays first last × IsExported feed.now first before after
+Does (wishes.Import feed site plain) first last input before after = IsImported feed.now site plain first last input before after
+Does (wishes.Replace feed site old new plain) first last input before after = IsReplaced feed.now site (exchange old new plain) first last before after
+Does (wishes.Check files) first last input before after = AreFound (texts_of files.items) first last before after
+Does (wishes.Proof from faults) first last input before after = IsSeen from faults first last before after
+Does (wishes.Punch from target) first last input before after = IsInFile from target.now first last before after
+
+-- it was begun and stopped, and this is what it left
+abbrev pub Stops : Wish → Shelf → Shelf → Option (List ℕ) → Option (List ℕ) → Option (List ℕ) → Type 0
+Stops (wishes.Script manner) first last input before after = IsUnscripted manner first last input before after
+Stops (wishes.Desk feed site why manner) first last input before after = IsOffDesk manner feed.now site first last input before after
+Stops (wishes.Merge feed others) first last input before after = (fault : HandFault) × IsUnmerged feed.now (texts_of others.items) first last before after fault
+Stops (wishes.Diff one other) first last input before after = AreNotOne one.now other.now first last before after
+Stops (wishes.Export feed) first last input before after = Stays first last × (fault : HandFault) × IsUnexported feed.now first last before after fault
+Stops (wishes.Import feed site plain) first last input before after = (fault : HandFault) × IsUnimported feed.now site plain first last input before after fault
+Stops (wishes.Replace feed site old new plain) first last input before after = IsUnchanged feed.now site (exchange old new plain) first last before after
+Stops (wishes.Check files) first last input before after = AreNotInOrder (texts_of files.items) first last before after
+Stops (wishes.Proof from faults) first last input before after = IsUnseen from faults first last before after
+Stops (wishes.Punch from target) first last input before after = IsInNoFile from target.now first last before after
+
+-- what the words ask for was done
+abbrev pub IsRun : Shelf → Shelf → List Text → Option (List ℕ) → Option (List ℕ) → Option (List ℕ) → Type 0
+IsRun first last words input before after = (wish : Wish) × AsksFor words wish × Does wish first last input before after
+
+-- it was begun and stopped
+abbrev pub IsStopped : Shelf → Shelf → List Text → Option (List ℕ) → Option (List ℕ) → Option (List ℕ) → Type 0
+IsStopped first last words input before after = (wish : Wish) × AsksFor words wish × Stops wish first last input before after

@@ -1,0 +1,125 @@
+//! What the words of the command line ask for, done.
+
+ghost use Rattle.std.specs.Prelude.{◌≡◌, ◌≢◌, ◌≤◌, ◌⊎◌, map, string_bytes};
+ghost use Rattle.clap.specs.Words.{kind_of};
+ghost use Rattle.desk_program.specs.Runs.{Does, IsRun, IsStopped, Stops};
+ghost use Rattle.desk_words.specs.Words.{AsksHelp, AsksNothing, IsLawful};
+
+use crate::compared::compared;
+use crate::previews::{proofed, punched};
+use crate::sheets::{on_desk, scripted};
+use crate::telling::{hand_status, stopped};
+use crate::texts::{checked, replaced};
+use clap::Error;
+use clap::error::ErrorKind;
+use desk_hand::{export_feed, import_text, merge_feeds};
+use desk_host::Explains;
+use desk_replace::Exchange;
+use desk_script::{Files, RunFault};
+use desk_words::{Wish, read_words};
+use std::alloc::Global;
+use std::io::{Read, Write};
+
+/// Does what is asked for, and gives the status.
+fn fulfilled<R: Read, W: Write, E: Write, F: Files + Explains>(
+    alloc: Global,
+    wish: &Wish<'_>,
+    reader: &mut R,
+    writer: &mut W,
+    faults: &mut E,
+    files: &mut F,
+) -> u8
+    requires { IsLawful wish.now }
+    ensures within { result ≤ 1 }
+    ensures done { result ≡ 0 → Does wish.now (F.shelf files.old) (F.shelf files.new) (R.remaining reader.old) (W.contents writer.old) (W.contents writer.new) }
+    ensures stopped { result ≡ 1 → Stops wish.now (F.shelf files.old) (F.shelf files.new) (R.remaining reader.old) (W.contents writer.old) (W.contents writer.new) }
+{
+    match wish {
+        Wish::Script { manner } => scripted(alloc, *manner, reader, writer, faults, files),
+        Wish::Desk {
+            feed,
+            site,
+            why,
+            manner,
+        } => on_desk(
+            alloc, *manner, feed, *site, *why, reader, writer, faults, files,
+        ),
+        Wish::Merge { feed, others } => {
+            let outcome = merge_feeds(alloc, writer, files, feed, others);
+            hand_status(faults, files, feed, others, outcome)
+        }
+        Wish::Diff { one, other } => compared(alloc, one, other, writer, faults, files),
+        Wish::Export { feed } => {
+            let outcome = export_feed(alloc, writer, files, feed);
+            hand_status(faults, files, feed, &[], outcome)
+        }
+        Wish::Import { feed, site, plain } => {
+            let outcome = import_text(alloc, reader, writer, files, feed, *site, *plain);
+            hand_status(faults, files, feed, &[], outcome)
+        }
+        Wish::Replace {
+            feed,
+            site,
+            old,
+            new,
+            plain,
+        } => {
+            let exchange = Exchange {
+                from: old,
+                to: new,
+                plain: *plain,
+            };
+            replaced(alloc, feed, *site, &exchange, writer, faults, files)
+        }
+        Wish::Check { files: names } => checked(alloc, names, writer, faults, files),
+        Wish::Proof {
+            from,
+            faults: alone,
+        } => proofed(alloc, from, *alone, writer, faults, files),
+        Wish::Punch { from, target } => punched(alloc, from, target, writer, faults, files),
+    }
+}
+
+/// What `clap` says of the words: its help and the version go to the writer, and a refusal to the faults.
+fn refused<W: Write, E: Write>(writer: &mut W, faults: &mut E, error: &Error) -> u8
+    ensures within { result ≤ 2 }
+    ensures help { result ≡ 0 → (kind_of error.now ≡ ErrorKind.DisplayHelp) ⊎ (kind_of error.now ≡ ErrorKind.DisplayVersion) }
+    ensures memory { result ≡ 1 → (kind_of error.now ≡ ErrorKind.OutOfMemory) × (writer.new ≡ writer.old) }
+    ensures told { result ≢ 1 → kind_of error.now ≢ ErrorKind.OutOfMemory }
+    ensures fault { result ≡ 2 → (kind_of error.now ≢ ErrorKind.DisplayHelp) × (kind_of error.now ≢ ErrorKind.DisplayVersion) × (writer.new ≡ writer.old) }
+{
+    let kind = error.kind();
+    if kind == ErrorKind::OutOfMemory {
+        return stopped(faults, RunFault::NoMemory);
+    }
+    if kind == ErrorKind::DisplayHelp || kind == ErrorKind::DisplayVersion {
+        let _ = write!(writer, "{error}");
+        return 0;
+    }
+    let _ = write!(faults, "{error}");
+    2
+}
+
+/// Does what the words ask for, and gives the status: 0 where it was done, or help or the version was asked
+/// for, 1 where it stopped, and 2 where the words were refused. A failure to write the help or a fault's line changes no status.
+pub fn program<R: Read, W: Write, E: Write, F: Files + Explains>(
+    alloc: Global,
+    words: &[String],
+    reader: &mut R,
+    writer: &mut W,
+    faults: &mut E,
+    files: &mut F,
+) -> u8
+    ensures status { result ≤ 2 }
+    ensures done { result ≡ 0 → IsRun (F.shelf files.old) (F.shelf files.new) (map string_bytes words.now) (R.remaining reader.old) (W.contents writer.old) (W.contents writer.new)
+        ⊎ (AsksHelp (map string_bytes words.now) × (reader.new ≡ reader.old) × (files.new ≡ files.old)) }
+    ensures stopped { result ≡ 1 → IsStopped (F.shelf files.old) (F.shelf files.new) (map string_bytes words.now) (R.remaining reader.old) (W.contents writer.old) (W.contents writer.new)
+        ⊎ ((reader.new ≡ reader.old) × (writer.new ≡ writer.old) × (files.new ≡ files.old)) }
+    ensures refused { result ≡ 2 → AsksNothing (map string_bytes words.now) × (reader.new ≡ reader.old) × (writer.new ≡ writer.old) × (files.new ≡ files.old) }
+{
+    match read_words(alloc, words) {
+        Ok(Some(wish)) => fulfilled(alloc, &wish, reader, writer, faults, files),
+        Ok(None) => 2,
+        Err(error) => refused(writer, faults, &error),
+    }
+}

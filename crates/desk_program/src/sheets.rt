@@ -1,0 +1,124 @@
+//! Commands carried out, each answered at once, or as a sheet.
+
+ghost use Rattle.std.specs.Prelude.{◌≡◌, ◌≤◌, MatchResult};
+ghost use Rattle.desk_program.specs.Sheets.{IsOffDesk, IsOnDesk, IsScripted, IsUnscripted, is_sheet};
+
+use crate::telling::{explain, status_of, status_on};
+use desk_host::Explains;
+use desk_script::{Files, run, run_on_feed};
+use desk_sheet::{Mode, SheetFault, run_sheet, run_sheet_on_feed};
+use desk_words::Manner;
+use std::alloc::Global;
+use std::io::{Read, Write};
+
+/// Whether the commands are read to their end before the first is carried out.
+fn is_sheet(manner: Manner) -> bool
+    ensures { result ≡ is_sheet manner }
+{
+    manner.strict || manner.number
+}
+
+/// The status of a sheet, with a line on what stopped it.
+fn sheet_status<E: Write>(faults: &mut E, outcome: Result<(), SheetFault>) -> u8
+    ensures { MatchResult outcome (λ _. result ≡ 0) (λ _. result ≡ 1) }
+{
+    match outcome {
+        Ok(()) => 0,
+        Err(fault) => {
+            let _ = writeln!(faults, "copydesk: {fault}");
+            1
+        }
+    }
+}
+
+/// Writes a second line on what stopped a sheet on a feed.
+fn explain_sheet<E: Write, F: Explains>(
+    faults: &mut E,
+    files: &F,
+    feed: &str,
+    outcome: Result<(), SheetFault>,
+) {
+    match outcome {
+        Ok(()) => {}
+        Err(SheetFault::Line(number)) => {
+            let _ = writeln!(
+                faults,
+                "standard input: the answer to line {number} says why; {feed} is as it was"
+            );
+        }
+        Err(SheetFault::Run(fault)) => explain(faults, files, feed, Err(fault)),
+    }
+}
+
+/// The status of a sheet on a feed. Where it is asked why, a second line says it.
+fn sheet_status_on<E: Write, F: Explains>(
+    faults: &mut E,
+    files: &F,
+    feed: &str,
+    why: bool,
+    outcome: Result<(), SheetFault>,
+) -> u8
+    ensures { MatchResult outcome (λ _. result ≡ 0) (λ _. result ≡ 1) }
+{
+    let status = sheet_status(faults, outcome);
+    if why {
+        explain_sheet(faults, files, feed, outcome);
+    }
+    status
+}
+
+/// Carries out a script, and gives the status.
+pub fn scripted<R: Read, W: Write, E: Write, F: Files + Explains>(
+    alloc: Global,
+    manner: Manner,
+    reader: &mut R,
+    writer: &mut W,
+    faults: &mut E,
+    files: &mut F,
+) -> u8
+    ensures within { result ≤ 1 }
+    ensures done { result ≡ 0 → IsScripted manner (F.shelf files.old) (F.shelf files.new) (R.remaining reader.old) (W.contents writer.old) (W.contents writer.new) }
+    ensures stopped { result ≡ 1 → IsUnscripted manner (F.shelf files.old) (F.shelf files.new) (R.remaining reader.old) (W.contents writer.old) (W.contents writer.new) }
+{
+    if is_sheet(manner) {
+        let mode = Mode {
+            strict: manner.strict,
+            number: manner.number,
+        };
+        let outcome = run_sheet(alloc, alloc, mode, reader, writer, files);
+        sheet_status(faults, outcome)
+    } else {
+        let outcome = run(alloc, alloc, reader, writer, files);
+        status_of(faults, outcome)
+    }
+}
+
+/// Carries out commands on a stored feed, and gives the status.
+pub fn on_desk<R: Read, W: Write, E: Write, F: Files + Explains>(
+    alloc: Global,
+    manner: Manner,
+    feed: &str,
+    site: u16,
+    why: bool,
+    reader: &mut R,
+    writer: &mut W,
+    faults: &mut E,
+    files: &mut F,
+) -> u8
+    requires { 1 ≤ site }
+    ensures within { result ≤ 1 }
+    ensures done { result ≡ 0 → IsOnDesk manner feed.now site (F.shelf files.old) (F.shelf files.new) (R.remaining reader.old) (W.contents writer.old) (W.contents writer.new) }
+    ensures stopped { result ≡ 1 → IsOffDesk manner feed.now site (F.shelf files.old) (F.shelf files.new) (R.remaining reader.old) (W.contents writer.old) (W.contents writer.new) }
+{
+    if is_sheet(manner) {
+        let mode = Mode {
+            strict: manner.strict,
+            number: manner.number,
+        };
+        let outcome = run_sheet_on_feed(alloc, alloc, mode, reader, writer, files, feed, site);
+        sheet_status_on(faults, files, feed, why, outcome)
+    } else {
+        let outcome = run_on_feed(alloc, alloc, reader, writer, files, feed, site);
+        status_on(faults, files, feed, why, outcome)
+    }
+}

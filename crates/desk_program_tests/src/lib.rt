@@ -1,0 +1,7 @@
+//! The tests of desk_host and desk_program.
+#![tactic(auto)]
+
+#[cfg(test)]
+mod host;
+#[cfg(test)]
+mod program;
