@@ -3,10 +3,10 @@
 
 mod compared;
 mod previews;
-mod program;
 mod sheets;
+mod tasks;
 mod telling;
 mod texts;
 
-pub use program::program;
+pub use tasks::program;
 pub use telling::unread;
