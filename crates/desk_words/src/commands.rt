@@ -302,20 +302,19 @@ fn correcting<'a>(alloc: Global) -> Result<Command<'a>, AllocError>
     ensures { IfOk result (λ c. app_of c ≡ with_correcting) }
 {
     let script = script_command(alloc)?;
+    let with_script = bare_command(alloc).subcommand(script)?;
     let desk = desk_command(alloc)?;
+    let with_desk = with_script.subcommand(desk)?;
     let merge = merge_command(alloc)?;
+    let with_merge = with_desk.subcommand(merge)?;
     let diff = diff_command(alloc)?;
+    let with_diff = with_merge.subcommand(diff)?;
     let export = export_command(alloc)?;
+    let with_export = with_diff.subcommand(export)?;
     let import = import_command(alloc)?;
+    let with_import = with_export.subcommand(import)?;
     let replace = replace_command(alloc)?;
-    bare_command(alloc)
-        .subcommand(script)?
-        .subcommand(desk)?
-        .subcommand(merge)?
-        .subcommand(diff)?
-        .subcommand(export)?
-        .subcommand(import)?
-        .subcommand(replace)
+    with_import.subcommand(replace)
 }
 
 /// The program's command, with its subcommands.
@@ -324,10 +323,9 @@ pub fn command<'a>(alloc: Global) -> Result<Command<'a>, AllocError>
 {
     let correcting = correcting(alloc)?;
     let check = check_command(alloc)?;
+    let with_check = correcting.subcommand(check)?;
     let proof = proof_command(alloc)?;
+    let with_proof = with_check.subcommand(proof)?;
     let punch = punch_command(alloc)?;
-    correcting
-        .subcommand(check)?
-        .subcommand(proof)?
-        .subcommand(punch)
+    with_proof.subcommand(punch)
 }

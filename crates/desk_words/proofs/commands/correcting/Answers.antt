@@ -10,10 +10,10 @@ top_of a = a.top
 pub returns : goal.returns
 returns c =
     let begun : app_of c.bare_command.result ≡ no_subcommand = c.bare_command.ensures in
-    let one = c.in_ok-subcommand.ensures.shape c.in_ok-script.ensures.local ∙ ap₂ with_subcommand begun (ap top_of c.in_ok-script.ensures.app) in
-    let two = c.in_ok-subcommand-2.ensures.shape c.in_ok-desk.ensures.local ∙ ap₂ with_subcommand one (ap top_of c.in_ok-desk.ensures.app) in
-    let three = c.in_ok-subcommand-3.ensures.shape c.in_ok-merge.ensures.local ∙ ap₂ with_subcommand two (ap top_of c.in_ok-merge.ensures.app) in
-    let four = c.in_ok-subcommand-4.ensures.shape c.in_ok-diff.ensures.local ∙ ap₂ with_subcommand three (ap top_of c.in_ok-diff.ensures.app) in
-    let five = c.in_ok-subcommand-5.ensures.shape c.in_ok-export.ensures.local ∙ ap₂ with_subcommand four (ap top_of c.in_ok-export.ensures.app) in
-    let six = c.in_ok-subcommand-6.ensures.shape c.in_ok-import.ensures.local ∙ ap₂ with_subcommand five (ap top_of c.in_ok-import.ensures.app) in
+    let one = c.in_ok-with_script.ensures.shape c.in_ok-script.ensures.local ∙ ap₂ with_subcommand begun (ap top_of c.in_ok-script.ensures.app) in
+    let two = c.in_ok-with_desk.ensures.shape c.in_ok-desk.ensures.local ∙ ap₂ with_subcommand one (ap top_of c.in_ok-desk.ensures.app) in
+    let three = c.in_ok-with_merge.ensures.shape c.in_ok-merge.ensures.local ∙ ap₂ with_subcommand two (ap top_of c.in_ok-merge.ensures.app) in
+    let four = c.in_ok-with_diff.ensures.shape c.in_ok-diff.ensures.local ∙ ap₂ with_subcommand three (ap top_of c.in_ok-diff.ensures.app) in
+    let five = c.in_ok-with_export.ensures.shape c.in_ok-export.ensures.local ∙ ap₂ with_subcommand four (ap top_of c.in_ok-export.ensures.app) in
+    let six = c.in_ok-with_import.ensures.shape c.in_ok-import.ensures.local ∙ ap₂ with_subcommand five (ap top_of c.in_ok-import.ensures.app) in
     IfOk-weaker c.subcommand-7.result _ _ (λ m h. h.shape c.in_ok-replace.ensures.local ∙ ap₂ with_subcommand six (ap top_of c.in_ok-replace.ensures.app)) c.subcommand-7.ensures
