@@ -1,3 +1,4 @@
+use crate::ops::is_told;
 use crate::read_runs::RUN_AB;
 use desk_codec::{FeedFault, FeedWhy, ReadFault, next_op, read_feed, write_feed, write_op};
 use desk_ops::{Key, NoMemory, Op, Stamp, Style, Symbol, Unlawful};
@@ -318,10 +319,7 @@ fn names_its_faults(rt: HostRuntime) -> Result<(), Fail> {
         (ReadFault::Failed, "the reading has ended"),
         (ReadFault::NoMemory, "no memory"),
     ] {
-        assert!(rt;
-            format!(in rt.alloc(); "{fault}")?.as_str() == text,
-            "{text}"
-        );
+        assert!(rt; is_told(rt.alloc(), &fault, text)?, "{text}");
     }
     Ok(())
 }

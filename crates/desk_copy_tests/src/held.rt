@@ -1,6 +1,7 @@
 ghost use Rattle.std.specs.Prelude.{IfOk, All};
 ghost use Rattle.desk_ops.specs.Op.{IsLawful};
 
+use crate::ops::is_told;
 use desk_held::{AddRefusal, Added, Halt, Held, LIMIT};
 use desk_ops::{Key, NoMemory, Op, Stamp, Style, Symbol};
 use linked_list_allocator::LocalHeap;
@@ -91,34 +92,54 @@ fn ballast(heap: &LocalHeap, bytes: usize, left: usize) -> Option<Vec<u8, &Local
     Vec::with_capacity(heap, bytes.saturating_sub(left)).ok()
 }
 
+/// Whether adding an operation answers so.
+fn is_added<A: Allocator + Copy>(held: &mut Held<A>, op: Op, want: Added) -> Result<bool, Fail> {
+    Ok(add(held, op)? == Ok(want))
+}
+
+/// Whether what is held is this list, in its order.
+fn lists<A: Allocator + Copy>(held: &Held<A>, row: &[Op]) -> Result<bool, Fail> {
+    Ok(held.in_order()?.as_slice() == row)
+}
+
+/// Whether three are held up to counter 2: the first two of these, and not the last.
+fn has_three<A: Allocator + Copy>(held: &Held<A>, one: Op, fork: Op, other: Op) -> bool {
+    held.len() == 3
+        && held.greatest_counter() == 2
+        && !held.is_empty()
+        && held.has(&one)
+        && held.has(&fork)
+        && !held.has(&other)
+}
+
+/// Whether the stamp of an operation is held, and this is the only operation held that has it.
+fn is_clear<A: Allocator + Copy>(held: &Held<A>, op: Op, holds: bool, clear: Option<Op>) -> bool {
+    let stamp = op.stamp();
+    held.holds(stamp) == holds
+        && held.clear_op(stamp) == clear
+        && held.is_clear(stamp) == clear.is_some()
+}
+
 #[test]
 fn holds_what_is_added(rt: HostRuntime) -> Result<(), Fail> {
     let mut held = Held::new(rt.alloc());
-    let one = insert(1);
+    let (one, two, three) = (insert(1), insert(2), insert(3));
     for (op, want) in [
         (one, Added::New),
         (one, Added::Known),
         (FORK, Added::Forks),
-        (insert(2), Added::New),
+        (two, Added::New),
     ] {
-        assert!(rt; add(&mut held, op)? == Ok(want), "{want:?}");
+        assert!(rt; is_added(&mut held, op, want)?, "{want:?}");
     }
-    let row = [one, FORK, insert(2)];
-    let row = row.as_slice();
-    assert!(rt; held.in_order()?.as_slice() == row);
-    assert!(rt; held.len() == 3 && held.greatest_counter() == 2 && !held.is_empty());
-    assert!(rt; held.has(&one) && held.has(&FORK) && !held.has(&insert(3)));
+    assert!(rt; lists(&held, &[one, FORK, two])?);
+    assert!(rt; has_three(&held, one, FORK, three));
     for (op, holds, clear) in [
         (one, true, None),
-        (row[2], true, Some(row[2])),
-        (insert(3), false, None),
+        (two, true, Some(two)),
+        (three, false, None),
     ] {
-        let stamp = op.stamp();
-        assert!(rt;
-            held.holds(stamp) == holds
-                && held.clear_op(stamp) == clear
-                && held.is_clear(stamp) == clear.is_some()
-        );
+        assert!(rt; is_clear(&held, op, holds, clear));
     }
     Ok(())
 }
@@ -131,8 +152,7 @@ fn put_needs_no_memory(rt: HostRuntime) -> Result<(), Fail> {
     let room = held.spare();
     assert!(rt; put(&mut held, insert(2)) && put(&mut held, FORK) && put(&mut held, insert(1)));
     assert!(rt; held.spare() >= room.saturating_sub(3) && !put(&mut held, FORK));
-    let row = [insert(1), FORK, insert(2)];
-    assert!(rt; held.in_order()?.as_slice() == row.as_slice());
+    assert!(rt; lists(&held, &[insert(1), FORK, insert(2)])?);
     Ok(())
 }
 
@@ -159,14 +179,41 @@ fn lists_that_fall_are_joined(rt: HostRuntime) -> Result<(), Fail> {
     Ok(())
 }
 
+/// Adds such a list where so many bytes are left of a heap.
+fn add_row_in<'a>(
+    alloc: Global,
+    heap: &'a LocalHeap,
+    held: &mut Held<&'a LocalHeap>,
+    left: usize,
+    falls: bool,
+) -> Result<Option<Halt>, Fail> {
+    let ballast = ballast(heap, 262_144, left);
+    let halt = add_row(alloc, held, 1, 600, falls);
+    drop(ballast);
+    halt
+}
+
 /// Whether a list of 600 is halted where so many bytes are left. It is added up to the refused growth, and with memory
 /// to its end.
 fn is_halted(alloc: Global, left: usize, falls: bool) -> Result<bool, Fail> {
     let heap = LocalHeap::new(alloc, 262_144)?;
-    let ballast = ballast(&heap, 262_144, left);
-    let mut held = Held::new(&heap);
-    let halt = add_row(alloc, &mut held, 1, 600, falls)?;
-    drop(ballast);
+    is_halted_in(alloc, &heap, left, falls)
+}
+
+fn is_halted_in(alloc: Global, heap: &LocalHeap, left: usize, falls: bool) -> Result<bool, Fail> {
+    let mut held = Held::new(heap);
+    let halt = add_row_in(alloc, heap, &mut held, left, falls)?;
+    if !is_halt(&held, halt, falls) {
+        return Err(Fail::new("another halt"));
+    }
+    if add_row(alloc, &mut held, 1, 600, falls)?.is_some() || !counts(&held, 2, 600) {
+        return Err(Fail::new("not all are held"));
+    }
+    Ok(halt.is_some())
+}
+
+/// Whether a halt, where there is one, is for memory, and so many are held as it tells, or all.
+fn is_halt<A: Allocator + Copy>(held: &Held<A>, halt: Option<Halt>, falls: bool) -> bool {
     let (added, is_right) = match halt {
         None => (600, true),
         Some(halt) => (
@@ -174,13 +221,7 @@ fn is_halted(alloc: Global, left: usize, falls: bool) -> Result<bool, Fail> {
             halt.added < 600 && halt.why == AddRefusal::NoMemory,
         ),
     };
-    if !is_right || held.len() != added || !(falls || counts(&held, 2, added)) {
-        return Err(Fail::new("another halt"));
-    }
-    if add_row(alloc, &mut held, 1, 600, falls)?.is_some() || !counts(&held, 2, 600) {
-        return Err(Fail::new("not all are held"));
-    }
-    Ok(halt.is_some())
+    is_right && held.len() == added && (falls || counts(held, 2, added))
 }
 
 #[test]
@@ -199,25 +240,55 @@ fn stopped_at_k(rt: HostRuntime) -> Result<(), Fail> {
     Ok(())
 }
 
+/// Adds the first of each second counter, so many.
+fn add_first<A: Allocator + Copy>(
+    alloc: Global,
+    held: &mut Held<A>,
+    number: u64,
+) -> Result<(), Fail> {
+    if add_row(alloc, held, 1, number, false)?.is_some() {
+        return Err(Fail::new("the first were refused"));
+    }
+    Ok(())
+}
+
+/// Adds an operation where so many bytes are left of a heap.
+fn add_in<'a>(
+    heap: &'a LocalHeap,
+    held: &mut Held<&'a LocalHeap>,
+    left: usize,
+    op: Op,
+) -> Result<Result<Added, AddRefusal>, Fail> {
+    let ballast = ballast(heap, 131_072, left);
+    let first = add(held, op);
+    drop(ballast);
+    first
+}
+
 /// Whether a growth was refused where so many bytes are left, four operations are held, and there is room for so many
 /// more. A refused addition leaves the set, and with memory it is made; a known operation takes no room.
 fn is_refused(alloc: Global, left: usize, op: Op, want: Added, spare: usize) -> Result<bool, Fail> {
     let heap = LocalHeap::new(alloc, 131_072)?;
     let mut held = Held::new(&heap);
     held.reserve(spare)?;
-    if add_row(alloc, &mut held, 1, 4, false)?.is_some() {
-        return Err(Fail::new("four were refused"));
-    }
-    let ballast = ballast(&heap, 131_072, left);
+    add_first(alloc, &mut held, 4)?;
+    is_refused_in(&heap, &mut held, left, op, want)
+}
+
+fn is_refused_in<'a>(
+    heap: &'a LocalHeap,
+    held: &mut Held<&'a LocalHeap>,
+    left: usize,
+    op: Op,
+    want: Added,
+) -> Result<bool, Fail> {
     let has_room = held.spare() > 0 || want == Added::Known;
-    let first = add(&mut held, op)?;
-    drop(ballast);
-    match first {
+    match add_in(heap, held, left, op)? {
         Ok(added) if added == want => return Ok(false),
-        Err(AddRefusal::NoMemory) if !has_room && counts(&held, 2, 4) => {}
+        Err(AddRefusal::NoMemory) if !has_room && counts(held, 2, 4) => {}
         _ => return Err(Fail::new("another answer")),
     }
-    if add(&mut held, op)? != Ok(want) {
+    if !is_added(held, op, want)? {
         return Err(Fail::new("not added with memory"));
     }
     Ok(true)
@@ -249,43 +320,66 @@ fn refused_growths_change_nothing(rt: HostRuntime) -> Result<(), Fail> {
     Ok(())
 }
 
+/// Whether room for so many is refused where so many bytes are left of a heap.
+fn is_reserve_refused_in<'a>(
+    heap: &'a LocalHeap,
+    held: &mut Held<&'a LocalHeap>,
+    left: usize,
+    number: usize,
+) -> bool {
+    let ballast = ballast(heap, 131_072, left);
+    let refused = held.reserve(number).is_err();
+    drop(ballast);
+    refused
+}
+
+/// Whether there is room for so many, once it is reserved.
+fn has_room<A: Allocator + Copy>(held: &mut Held<A>, number: usize) -> Result<bool, Fail> {
+    held.reserve(number)?;
+    Ok(held.spare() >= number)
+}
+
 /// Whether a reserve was refused where so many bytes are left: the set and its room are as before, and with memory the
 /// same call gives room.
 fn is_reserve_refused(alloc: Global, left: usize) -> Result<bool, Fail> {
     let heap = LocalHeap::new(alloc, 131_072)?;
     let mut held = Held::new(&heap);
-    if add_row(alloc, &mut held, 1, 4, false)?.is_some() {
-        return Err(Fail::new("four were refused"));
-    }
+    add_first(alloc, &mut held, 4)?;
     let spare = held.spare();
-    let ballast = ballast(&heap, 131_072, left);
-    let refused = held.reserve(20).is_err();
-    drop(ballast);
+    let refused = is_reserve_refused_in(&heap, &mut held, left, 20);
     if refused && held.spare() < spare || !counts(&held, 2, 4) {
         return Err(Fail::new("a refused reserve changed the set"));
     }
-    held.reserve(20)?;
-    if held.spare() < 20 {
+    if !has_room(&mut held, 20)? {
         return Err(Fail::new("no room"));
     }
     Ok(refused)
+}
+
+/// Whether this list of what is held was not made where so many bytes are left of a heap.
+fn is_list_refused_in<'a>(
+    heap: &'a LocalHeap,
+    held: &Held<&'a LocalHeap>,
+    left: usize,
+    want: &[Op],
+) -> bool {
+    let ballast = ballast(heap, 131_072, left);
+    let refused = match held.in_order() {
+        Ok(list) => list.as_slice() != want,
+        Err(NoMemory) => true,
+    };
+    drop(ballast);
+    refused
 }
 
 /// Whether no list of the operations was made where so many bytes are left; with memory one is.
 fn is_list_refused(alloc: Global, left: usize) -> Result<bool, Fail> {
     let heap = LocalHeap::new(alloc, 131_072)?;
     let mut held = Held::new(&heap);
-    if add_row(alloc, &mut held, 1, 40, false)?.is_some() {
-        return Err(Fail::new("forty were refused"));
-    }
+    add_first(alloc, &mut held, 40)?;
     let want = row_of(alloc, 1, 40)?;
-    let ballast = ballast(&heap, 131_072, left);
-    let refused = match held.in_order() {
-        Ok(list) => list.as_slice() != want.as_slice(),
-        Err(NoMemory) => true,
-    };
-    drop(ballast);
-    if held.in_order()?.as_slice() != want.as_slice() {
+    let refused = is_list_refused_in(&heap, &held, left, &want);
+    if !lists(&held, &want)? {
         return Err(Fail::new("another list"));
     }
     Ok(refused)
@@ -315,10 +409,7 @@ fn names_its_faults(rt: HostRuntime) -> Result<(), Fail> {
         (AddRefusal::Full, "as many operations are held as may be"),
         (AddRefusal::NoMemory, "no memory"),
     ] {
-        assert!(rt;
-            format!(in rt.alloc(); "{fault}")?.as_str() == text,
-            "{text}"
-        );
+        assert!(rt; is_told(rt.alloc(), &fault, text)?, "{text}");
     }
     Ok(())
 }

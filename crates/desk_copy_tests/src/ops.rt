@@ -1,5 +1,7 @@
 use desk_ops::op::MAX_COUNTER;
 use desk_ops::{CopyFault, FaultKind, Key, NoMemory, Op, Stamp, Style, Symbol, Unlawful};
+use std::alloc::Global;
+use std::fmt::Display;
 use std::test::Fail;
 
 fn at(counter: u64, site: u16) -> Stamp {
@@ -90,6 +92,11 @@ fn operations_stand_in_order(rt: HostRuntime) {
     }
 }
 
+/// Whether an operation has this stamp and this target.
+fn has(op: Op, stamp: Stamp, target: Option<Stamp>) -> bool {
+    op.stamp() == stamp && op.target() == target
+}
+
 #[test]
 fn stamps_and_targets(rt: HostRuntime) {
     for (op, stamp, target) in [
@@ -101,7 +108,7 @@ fn stamps_and_targets(rt: HostRuntime) {
         (delete(at(3, 1), at(2, 1)), at(3, 1), Some(at(2, 1))),
         (set(at(3, 1), Key::Case, 1), at(3, 1), None),
     ] {
-        assert!(rt; op.stamp() == stamp && op.target() == target, "{op:?}");
+        assert!(rt; has(op, stamp, target), "{op:?}");
     }
     for (stamp, head, lawful) in [
         (Stamp::HEAD, true, false),
@@ -130,21 +137,49 @@ fn stamps_and_targets(rt: HostRuntime) {
     }
 }
 
+/// Whether a value is told in these words.
+pub fn is_told<T: Display>(alloc: Global, value: &T, text: &str) -> Result<bool, Fail> {
+    Ok(format!(in alloc; "{value}")?.as_str() == text)
+}
+
+/// Whether 10.1 and the last stamp of all are told so.
+fn are_stamps_told(alloc: Global, text: &str) -> Result<bool, Fail> {
+    let (most, first) = (at(MAX_COUNTER, 65535), at(10, 1));
+    Ok(format!(in alloc; "{first} {most}")?.as_str() == text)
+}
+
+/// Whether a symbol is told so, and its style by its name.
+fn is_symbol_told(alloc: Global, symbol: Symbol, text: &str) -> Result<bool, Fail> {
+    let style = symbol.style;
+    Ok(is_told(alloc, &symbol, text)? && is_told(alloc, &style, style.name())?)
+}
+
+/// Whether the name of a key is this, and is told.
+fn is_key_told(alloc: Global, key: Key, text: &str) -> Result<bool, Fail> {
+    Ok(key.name() == text && is_told(alloc, &key, text)?)
+}
+
+/// Whether a fault of 10.1 is told so, and begins with the name of its kind.
+fn is_fault_told(alloc: Global, kind: FaultKind, text: &str) -> Result<bool, Fail> {
+    let stamp = at(10, 1);
+    let fault = CopyFault { stamp, kind };
+    Ok(is_told(alloc, &fault, text)? && text.starts_with(kind.name()))
+}
+
 /// Stamps, styles, symbols, settings and faults of the copy, in words.
 #[test]
 fn values_in_words(rt: HostRuntime) -> Result<(), Fail> {
     let alloc = rt.alloc();
-    let (most, first) = (at(MAX_COUNTER, 65535), at(10, 1));
-    assert!(rt; format!(in alloc; "{first} {most}")?.as_str() == "10.1 4611686018427387904.65535");
+    assert!(rt; are_stamps_told(alloc, "10.1 4611686018427387904.65535")?);
     for (style, ch, text) in [
         (Style::Roman, 'a', "roman a"),
         (Style::Italic, '\u{e9}', "italic \u{e9}"),
         (Style::SmallCap, 'Z', "small capital Z"),
     ] {
-        let symbol = Symbol { style, ch };
-        assert!(rt; format!(in alloc; "{symbol}")?.as_str() == text, "{text}");
-        let name = style.name();
-        assert!(rt; format!(in alloc; "{style}")?.as_str() == name, "{name}");
+        assert!(rt;
+            is_symbol_told(alloc, Symbol { style, ch }, text)?,
+            "{text}"
+        );
     }
     for (key, text) in [
         (Key::Measure, "measure"),
@@ -153,19 +188,14 @@ fn values_in_words(rt: HostRuntime) -> Result<(), Fail> {
         (Key::Case, "case"),
         (Key::Wedge, "wedge"),
     ] {
-        assert!(rt;
-            key.name() == text && format!(in alloc; "{key}")?.as_str() == text,
-            "{text}"
-        );
+        assert!(rt; is_key_told(alloc, key, text)?, "{text}");
     }
     for (kind, text) in [
         (FaultKind::Forked, "forked 10.1"),
         (FaultKind::Void, "void 10.1"),
         (FaultKind::Waiting, "waiting 10.1"),
     ] {
-        let fault = CopyFault { stamp: first, kind };
-        assert!(rt; format!(in alloc; "{fault}")?.as_str() == text, "{text}");
-        assert!(rt; text.starts_with(kind.name()), "{kind}");
+        assert!(rt; is_fault_told(alloc, kind, text)?, "{text}");
     }
     Ok(())
 }
@@ -180,12 +210,9 @@ fn names_its_faults(rt: HostRuntime) -> Result<(), Fail> {
         (Unlawful::Key, "no such key"),
         (Unlawful::Value, "the value is out of the key's range"),
     ] {
-        assert!(rt;
-            format!(in rt.alloc(); "{fault}")?.as_str() == text,
-            "{text}"
-        );
+        assert!(rt; is_told(rt.alloc(), &fault, text)?, "{text}");
     }
     let no_memory = NoMemory::from(std::alloc::AllocError);
-    assert!(rt; format!(in rt.alloc(); "{no_memory}")?.as_str() == "no memory");
+    assert!(rt; is_told(rt.alloc(), &no_memory, "no memory")?);
     Ok(())
 }
