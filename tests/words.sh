@@ -235,9 +235,12 @@ for words in "export c.feed" "merge c.feed b.feed" "import c.feed --site 1" "rep
 done
 cmp c.feed before.feed
 mkfifo keyed
-"$program" desk c.feed --site 1 < keyed > /dev/null &
+"$program" desk c.feed --site 1 < keyed > answered &
 exec 3> keyed
-until [ -e c.feed.lock ] && ! flock -n c.feed.lock true; do sleep 0.05; done
+# It holds the feed once it has answered. (A look at the lock would take it for a moment, and end the desk.)
+echo 'show 1' >&3
+for _ in $(seq 1200); do [ ! -s answered ] || break; sleep 0.05; done
+[ -s answered ]
 for words in "merge c.feed b.feed" "import c.feed --site 1" "replace c.feed --site 1 sheets sheet" "desk c.feed --site 1 --strict"; do
   # shellcheck disable=SC2086
   expect 1 "copydesk: file fault" $words

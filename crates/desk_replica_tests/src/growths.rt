@@ -9,7 +9,7 @@ use desk_ops::{NoMemory, Op, Stamp};
 use desk_replica::{Count, Refusal, Replica, Stopped, Took};
 use desk_seq::{Flat, Sequence};
 use linked_list_allocator::LocalHeap;
-use std::alloc::{Allocator, Global};
+use std::alloc::{AllocError, Allocator, Global};
 use std::test::Fail;
 
 /// The bytes of a heap: a page of what waits takes some 24,000, one of a copy in blocks 28,000, and where all is made anew
@@ -88,6 +88,17 @@ fn ask_in<Q: Sequence, A: Allocator>(
     answer
 }
 
+/// Whether a replica is as one that took in what is held and these operations.
+fn is_as_one<P: Sequence, Q: Sequence>(
+    ample: P::Memory,
+    replica: &Replica<Q>,
+    held: &[Op],
+    ops: &[Op],
+) -> bool {
+    let mut one = Replica::<P>::new(ample, 1);
+    takes(&mut one, held) && takes(&mut one, ops) && are_alike(&one, replica)
+}
+
 /// Whether a replica whose call was refused is as one that took in so many of the list, and gives its answer with memory.
 fn goes_on<P: Sequence, Q: Sequence>(
     ample: P::Memory,
@@ -97,10 +108,8 @@ fn goes_on<P: Sequence, Q: Sequence>(
     case: Case<'_>,
     taken: usize,
 ) -> bool {
-    let mut held = Replica::<P>::new(ample, 1);
-    takes(&mut held, case.held)
-        && takes(&mut held, case.call.list().get(..taken).unwrap_or(&[]))
-        && are_alike(&held, replica)
+    let ops = case.call.list().get(..taken).unwrap_or(&[]);
+    is_as_one::<P, Q>(ample, replica, case.held, ops)
         && ask(memory, replica, case.call, other) == after(case.answer, taken)
 }
 
@@ -117,14 +126,30 @@ fn is_refused<P: Sequence, Q: Sequence>(
 ) -> Option<bool> {
     let mut replica = Replica::<Q>::new(memory, 1);
     let mut other = Replica::<Q>::new(store, 9);
-    let held = takes(&mut replica, case.held) && takes(&mut other, case.call.list());
-    let first = ask_in(ample, memory, &mut replica, case.call, &other, heap, bytes);
+    if !takes(&mut other, case.call.list()) {
+        return None;
+    }
+    is_refused_of::<P, Q>(ample, memory, &mut replica, &other, heap, bytes, case)
+}
+
+/// The same of a new replica and of one that holds the list.
+fn is_refused_of<P: Sequence, Q: Sequence>(
+    ample: P::Memory,
+    memory: Q::Memory,
+    replica: &mut Replica<Q>,
+    other: &Replica<Q>,
+    heap: &LocalHeap,
+    bytes: usize,
+    case: Case<'_>,
+) -> Option<bool> {
+    let held = takes(replica, case.held);
+    let first = ask_in(ample, memory, replica, case.call, other, heap, bytes);
     let is_right = match taken(first) {
         _ if first == case.answer => true,
-        Some(taken) => goes_on::<P, Q>(ample, memory, &mut replica, &other, case, taken),
+        Some(taken) => goes_on::<P, Q>(ample, memory, replica, other, case, taken),
         None => false,
     };
-    if held && is_right && answers(&replica, case.after) {
+    if held && is_right && answers(replica, case.after) {
         Some(first != case.answer)
     } else {
         None
@@ -136,19 +161,27 @@ const HEAPS: usize = 1100;
 
 const PIECE: usize = 192;
 
+/// Whether the call was refused where so many bytes are left, over a plain list or over blocks.
+fn seen_in(
+    alloc: Global,
+    is_flat: bool,
+    bytes: usize,
+    case: Case<'_>,
+) -> Result<Option<bool>, AllocError> {
+    let heap = LocalHeap::new(alloc, HEAP)?;
+    let store = LocalHeap::new(alloc, HEAP)?;
+    Ok(if is_flat {
+        is_refused::<Flat<Global>, Flat<&LocalHeap>>(alloc, &heap, &store, &heap, bytes, case)
+    } else {
+        is_refused::<Flat<Global>, Blocks<&LocalHeap>>(alloc, &heap, &store, &heap, bytes, case)
+    })
+}
+
 /// Refuses each growth of the call in turn, over a plain list or over blocks. Answers in how many heaps one was refused.
 fn refuse_each(alloc: Global, is_flat: bool, case: Case<'_>) -> Result<usize, Fail> {
     let mut refused = 0usize;
     for pieces in 0..HEAPS {
-        let bytes = pieces.saturating_mul(PIECE);
-        let heap = LocalHeap::new(alloc, HEAP)?;
-        let store = LocalHeap::new(alloc, HEAP)?;
-        let seen = if is_flat {
-            is_refused::<Flat<Global>, Flat<&LocalHeap>>(alloc, &heap, &store, &heap, bytes, case)
-        } else {
-            is_refused::<Flat<Global>, Blocks<&LocalHeap>>(alloc, &heap, &store, &heap, bytes, case)
-        };
-        match seen {
+        match seen_in(alloc, is_flat, pieces.saturating_mul(PIECE), case)? {
             Some(is_one) => refused = refused.saturating_add(usize::from(is_one)),
             None => return Err(Fail::new("another answer")),
         }

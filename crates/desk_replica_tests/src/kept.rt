@@ -9,14 +9,26 @@ use desk_seq::{Flat, Sequence};
 use std::alloc::Global;
 use std::test::Fail;
 
+/// The stamp of the element at a place, where it is shown.
+fn shown_at<Q: Sequence>(sequence: &Q, place: usize) -> Option<Stamp> {
+    if place >= sequence.len() {
+        return None;
+    }
+    let entry = sequence.entry(place);
+    if entry.deleted {
+        None
+    } else {
+        Some(entry.stamp)
+    }
+}
+
 /// The stamps of the elements that are shown.
 fn shown<Q: Sequence>(alloc: Global, replica: &Replica<Q>) -> Result<Vec<Stamp>, NoMemory> {
     let sequence = replica.sequence();
     let mut stamps = Vec::new(alloc);
     for place in 0..sequence.len() {
-        let entry = sequence.entry(place);
-        if !entry.deleted {
-            stamps.push(entry.stamp)?;
+        if let Some(stamp) = shown_at(sequence, place) {
+            stamps.push(stamp)?;
         }
     }
     Ok(stamps)
@@ -124,7 +136,47 @@ fn pool(alloc: Global, seed: u64, forks: bool) -> Result<Vec<Op>, NoMemory> {
     Ok(pool)
 }
 
+/// Hands out operations at random: each to the one replica, to the other, or to both.
+fn hand_out<Q: Sequence>(one: &mut Replica<Q>, two: &mut Replica<Q>, ops: &[Op], seed: u64) {
+    let mut coin = seed;
+    for op in ops {
+        coin = next(coin);
+        let part = (coin >> 33) % 3;
+        if part != 1 {
+            take(one, *op);
+        }
+        if part != 0 {
+            take(two, *op);
+        }
+    }
+}
+
+/// Hands out a pool.
+fn hand_out_pool<Q: Sequence>(
+    alloc: Global,
+    one: &mut Replica<Q>,
+    two: &mut Replica<Q>,
+    seed: u64,
+    forks: bool,
+) -> Result<(), NoMemory> {
+    let pool = pool(alloc, seed, forks)?;
+    hand_out(one, two, &pool, seed);
+    Ok(())
+}
+
 /// Whether two replicas that took in parts of a pool keep its order, merged either way.
+fn merge_either_way<Q: Sequence>(
+    alloc: Global,
+    one: &mut Replica<Q>,
+    two: &mut Replica<Q>,
+    seed: u64,
+    forks: bool,
+) -> Result<bool, Fail> {
+    hand_out_pool(alloc, one, two, seed, forks)?;
+    Ok(keeps_order(alloc, one, two, forks)? && keeps_order(alloc, two, one, forks)?)
+}
+
+/// The same of two new replicas.
 fn merge_parts<Q: Sequence>(
     alloc: Global,
     memory: Q::Memory,
@@ -133,19 +185,7 @@ fn merge_parts<Q: Sequence>(
 ) -> Result<bool, Fail> {
     let mut one = Replica::<Q>::new(memory, 1);
     let mut two = Replica::<Q>::new(memory, 2);
-    let mut coin = seed;
-    for op in &pool(alloc, seed, forks)? {
-        coin = next(coin);
-        match (coin >> 33) % 3 {
-            0 => take(&mut one, *op),
-            1 => take(&mut two, *op),
-            _ => {
-                take(&mut one, *op);
-                take(&mut two, *op)
-            }
-        };
-    }
-    Ok(keeps_order(alloc, &mut one, &two, forks)? && keeps_order(alloc, &mut two, &one, forks)?)
+    merge_either_way(alloc, &mut one, &mut two, seed, forks)
 }
 
 /// Whether merges of so many pairs keep the order.
@@ -174,24 +214,70 @@ fn merges_keep_the_order(rt: HostRuntime) -> Result<(), Fail> {
     Ok(())
 }
 
+/// Whether a symbol can be typed at a place.
+fn types<Q: Sequence>(replica: &mut Replica<Q>, place: usize, ch: char) -> bool {
+    replica.insert_at(place, roman(ch)).is_ok()
+}
+
+fn merges<Q: Sequence>(one: &mut Replica<Q>, other: &Replica<Q>) -> bool {
+    one.merge(other).is_ok()
+}
+
+/// Whether two sites type after one element.
+fn both_type<Q: Sequence>(one: &mut Replica<Q>, two: &mut Replica<Q>) -> bool {
+    types(one, 0, 'a')
+        && merges(two, one)
+        && types(one, 1, 'b')
+        && types(two, 1, 'c')
+        && shows(one, "ab")
+        && shows(two, "ac")
+}
+
+/// The stamps of `acb`.
+const ACB: [Stamp; 3] = [
+    Stamp {
+        counter: 1,
+        site: 1,
+    },
+    Stamp {
+        counter: 2,
+        site: 2,
+    },
+    Stamp {
+        counter: 2,
+        site: 1,
+    },
+];
+
+/// Whether two replicas, each of which merges the other, show `acb`.
+fn both_merge<Q: Sequence>(one: &mut Replica<Q>, two: &mut Replica<Q>) -> bool {
+    merges(one, two) && shows(one, "acb") && merges(two, one) && shows(two, "acb")
+}
+
+/// Whether the elements that are shown have these stamps.
+fn has_stamps<Q: Sequence>(
+    alloc: Global,
+    replica: &Replica<Q>,
+    stamps: &[Stamp],
+) -> Result<bool, NoMemory> {
+    Ok(shown(alloc, replica)?.as_slice() == stamps)
+}
+
 /// Whether two sites that insert after one element show `acb` once each has merged the other.
+fn type_and_merge<Q: Sequence>(
+    alloc: Global,
+    one: &mut Replica<Q>,
+    two: &mut Replica<Q>,
+) -> Result<bool, Fail> {
+    let met = both_type(one, two) && both_merge(one, two);
+    Ok(met && has_stamps(alloc, two, &ACB)?)
+}
+
+/// The same of two new replicas.
 fn sites_meet<Q: Sequence>(alloc: Global, memory: Q::Memory) -> Result<bool, Fail> {
     let mut one = Replica::<Q>::new(memory, 1);
     let mut two = Replica::<Q>::new(memory, 2);
-    let typed = one.insert_at(0, roman('a')).is_ok()
-        && two.merge(&one).is_ok()
-        && one.insert_at(1, roman('b')).is_ok()
-        && two.insert_at(1, roman('c')).is_ok()
-        && shows(&one, "ab")
-        && shows(&two, "ac");
-    Ok(
-        typed
-            && one.merge(&two).is_ok()
-            && shows(&one, "acb")
-            && two.merge(&one).is_ok()
-            && shows(&two, "acb")
-            && shown(alloc, &two)?.as_slice() == [at(1, 1), at(2, 2), at(2, 1)].as_slice(),
-    )
+    type_and_merge(alloc, &mut one, &mut two)
 }
 
 #[test]
@@ -201,28 +287,43 @@ fn two_sites_show_acb(rt: HostRuntime) -> Result<(), Fail> {
     Ok(())
 }
 
+/// Takes in operations, whatever is answered.
+fn take_in<Q: Sequence>(replica: &mut Replica<Q>, ops: &[Op]) {
+    for op in ops {
+        take(replica, *op);
+    }
+}
+
 /// Whether a merge that forks the stamp of `b`, and hides what hangs on it, leaves the rest in order.
-fn fork_leaves_order<Q: Sequence>(alloc: Global, memory: Q::Memory) -> Result<bool, Fail> {
-    let mut one = Replica::<Q>::new(memory, 1);
-    let mut two = Replica::<Q>::new(memory, 2);
-    for op in [
-        typed(at(1, 1), Stamp::HEAD, 'a'),
+fn fork_between<Q: Sequence>(
+    alloc: Global,
+    one: &mut Replica<Q>,
+    two: &mut Replica<Q>,
+) -> Result<bool, Fail> {
+    let first = typed(at(1, 1), Stamp::HEAD, 'a');
+    let ops = [
+        first,
         typed(at(2, 1), at(1, 1), 'b'),
         typed(at(3, 2), at(2, 1), 'c'),
         typed(at(2, 3), at(1, 1), 'd'),
-    ] {
-        take(&mut one, op);
-    }
-    for op in [
-        typed(at(1, 1), Stamp::HEAD, 'a'),
+    ];
+    take_in(one, &ops);
+    let others = [
+        first,
         typed(at(2, 1), at(1, 1), 'x'),
         typed(at(4, 3), at(1, 1), 'e'),
         deleted(at(5, 3), at(4, 3)),
-    ] {
-        take(&mut two, op);
-    }
-    let apart = shows(&one, "adbc") && shows(&two, "ax");
-    Ok(apart && keeps_order(alloc, &mut one, &two, true)? && shows(&one, "ad"))
+    ];
+    take_in(two, &others);
+    let apart = shows(one, "adbc") && shows(two, "ax");
+    Ok(apart && keeps_order(alloc, one, two, true)? && shows(one, "ad"))
+}
+
+/// The same of two new replicas.
+fn fork_leaves_order<Q: Sequence>(alloc: Global, memory: Q::Memory) -> Result<bool, Fail> {
+    let mut one = Replica::<Q>::new(memory, 1);
+    let mut two = Replica::<Q>::new(memory, 2);
+    fork_between(alloc, &mut one, &mut two)
 }
 
 #[test]

@@ -78,6 +78,11 @@ fn takes_without_memory<Q: Sequence, A: Allocator>(
     is_full && takes
 }
 
+/// Whether there is room for so many, once it is reserved.
+fn has_room<Q: Sequence>(replica: &mut Replica<Q>, number: usize) -> bool {
+    number <= 1000 && replica.reserve(number).is_ok() && replica.spare() >= number
+}
+
 /// Whether each of the arrivals is put once, in this order, where room for them was reserved.
 fn are_put<Q: Sequence, A: Allocator>(
     alloc: A,
@@ -87,8 +92,7 @@ fn are_put<Q: Sequence, A: Allocator>(
     puts: &[Stamp],
 ) -> bool {
     let mut replica = Replica::<Listed<Q>>::new(memory, 1);
-    replica.reserve(5).is_ok()
-        && replica.spare() >= 5
+    has_room(&mut replica, 5)
         && takes_without_memory(alloc, &mut replica, heap, ops)
         && shows(&replica, "zaceb")
         && replica.sequence().puts.as_slice() == puts

@@ -54,16 +54,18 @@ fn comes_over<Q: Sequence>(memory: Q::Memory, typed: &Replica<Q>, ops: &[Op]) ->
         && takes_each(memory, typed, ops)
 }
 
+/// The same of all that it holds.
+fn all_comes_over<Q: Sequence>(memory: Q::Memory, typed: &Replica<Q>) -> bool {
+    match typed.in_order() {
+        Ok(ops) => comes_over(memory, typed, ops.as_slice()),
+        Err(NoMemory) => false,
+    }
+}
+
 /// Whether so many symbols can be typed, then some deleted, and all of it brought to other sites.
 fn is_long<Q: Sequence>(memory: Q::Memory, number: usize, some: usize) -> bool {
     let mut typed = Replica::<Q>::new(memory, 1);
-    if !types(&mut typed, number) || !deletes(&mut typed, some) {
-        return false;
-    }
-    match typed.in_order() {
-        Ok(ops) => comes_over(memory, &typed, ops.as_slice()),
-        Err(NoMemory) => false,
-    }
+    types(&mut typed, number) && deletes(&mut typed, some) && all_comes_over(memory, &typed)
 }
 
 #[test]

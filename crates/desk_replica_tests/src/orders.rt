@@ -40,7 +40,21 @@ struct Shown<'a> {
     entries: &'a [(Stamp, bool)],
 }
 
-/// Whether a list shows so in one order, and so after more operations.
+/// Whether a list shows so in both replicas, and so after more operations.
+fn both_arrive<P: Sequence, Q: Sequence>(
+    one: &mut Replica<P>,
+    two: &mut Replica<Q>,
+    ops: &[Op],
+    more: &[Op],
+    shown: Shown<'_>,
+) -> bool {
+    arrive(one, ops, more, shown.want)
+        && arrive(two, ops, more, shown.want)
+        && are_alike(one, two)
+        && stands(two.sequence(), shown.entries)
+}
+
+/// The same of two new replicas, in one order.
 fn in_one_order<P: Sequence, Q: Sequence>(
     first: P::Memory,
     second: Q::Memory,
@@ -50,10 +64,7 @@ fn in_one_order<P: Sequence, Q: Sequence>(
 ) -> bool {
     let mut one = Replica::<P>::new(first, 1);
     let mut two = Replica::<Q>::new(second, 2);
-    arrive(&mut one, ops, more, shown.want)
-        && arrive(&mut two, ops, more, shown.want)
-        && are_alike(&one, &two)
-        && stands(two.sequence(), shown.entries)
+    both_arrive(&mut one, &mut two, ops, more, shown)
 }
 
 /// Whether all orders of a list, so many, show so over both kinds of sequence, and so after more operations.
@@ -74,15 +85,20 @@ fn in_each_order(
     Ok(true)
 }
 
+/// Whether the entry at a place has this stamp and mark.
+fn is_entry<Q: Sequence>(sequence: &Q, place: usize, stamp: Stamp, deleted: bool) -> bool {
+    if place >= sequence.len() {
+        return false;
+    }
+    let entry = sequence.entry(place);
+    entry.stamp == stamp && entry.deleted == deleted
+}
+
 /// Whether the entries of a sequence have these stamps and marks.
 fn stands<Q: Sequence>(sequence: &Q, entries: &[(Stamp, bool)]) -> bool {
-    let len = sequence.len();
-    let mut right = len == entries.len();
+    let mut right = sequence.len() == entries.len();
     for (place, (stamp, deleted)) in entries.iter().enumerate() {
-        if place < len {
-            let entry = sequence.entry(place);
-            right = right && entry.stamp == *stamp && entry.deleted == *deleted;
-        }
+        right = right && is_entry(sequence, place, *stamp, *deleted);
     }
     right
 }
@@ -201,6 +217,13 @@ fn take_each<Q: Sequence>(replica: &mut Replica<Q>, ops: &[Op]) -> bool {
     true
 }
 
+/// Whether a replica that is opened with a list is like the other.
+fn opens_alike<P: Sequence, Q: Sequence>(memory: Q::Memory, one: &Replica<P>, ops: &[Op]) -> bool {
+    let mut all = Replica::<Q>::new(memory, 3);
+    open(memory, &mut all, ops);
+    are_alike(one, &all)
+}
+
 /// Whether replicas that take a list in three orders, one by one and all at once, are alike.
 fn agree<P: Sequence, Q: Sequence>(
     first: P::Memory,
@@ -210,13 +233,11 @@ fn agree<P: Sequence, Q: Sequence>(
 ) -> bool {
     let mut one = Replica::<P>::new(first, 1);
     let mut two = Replica::<Q>::new(second, 2);
-    let mut all = Replica::<Q>::new(second, 3);
     let each = take_each(&mut one, ops);
     reorder(ops, pick(seed, usize::MAX));
     let again = take_each(&mut two, ops);
     reorder(ops, pick(next(seed), usize::MAX));
-    open(second, &mut all, ops);
-    each && again && are_alike(&one, &two) && are_alike(&one, &all)
+    each && again && are_alike(&one, &two) && opens_alike::<P, Q>(second, &one, ops)
 }
 
 /// Whether so many random sets give the same answers in random orders over both kinds of sequence.
@@ -248,10 +269,15 @@ fn chain(alloc: Global, number: u64) -> Result<Vec<Op>, NoMemory> {
     Ok(ops)
 }
 
+/// Whether all that is held waits.
+fn all_waits<Q: Sequence>(replica: &Replica<Q>) -> bool {
+    replica.copy_len() == 0 && replica.room().len() == replica.len()
+}
+
 /// Whether nothing acts before the first operation comes, where a replica takes in a list from its end.
 fn fall<Q: Sequence>(replica: &mut Replica<Q>, ops: &[Op]) -> bool {
     for op in ops.iter().rev() {
-        if replica.copy_len() > 0 || replica.room().len() != replica.len() {
+        if !all_waits(replica) {
             return false;
         }
         take(replica, *op);
@@ -260,13 +286,22 @@ fn fall<Q: Sequence>(replica: &mut Replica<Q>, ops: &[Op]) -> bool {
 }
 
 /// Whether a chain that rises and one that falls are shown whole.
+fn rise_and_fall<Q: Sequence>(
+    rising: &mut Replica<Q>,
+    falling: &mut Replica<Q>,
+    ops: &[Op],
+) -> bool {
+    takes(rising, ops)
+        && fall(falling, ops)
+        && falling.copy_len() == ops.len()
+        && are_alike(rising, falling)
+}
+
+/// The same of two new replicas.
 fn chains<Q: Sequence>(memory: Q::Memory, ops: &[Op]) -> bool {
     let mut rising = Replica::<Q>::new(memory, 1);
     let mut falling = Replica::<Q>::new(memory, 1);
-    takes(&mut rising, ops)
-        && fall(&mut falling, ops)
-        && falling.copy_len() == ops.len()
-        && are_alike(&rising, &falling)
+    rise_and_fall(&mut rising, &mut falling, ops)
 }
 
 #[test]

@@ -14,13 +14,21 @@ use std::alloc::Global;
 /// A call, its answer, and what the replica answers after it.
 type Step<'a> = (Call<'a>, Answer, Want<'a>);
 
+/// Whether a call is answered so, and the other replica took in its list.
+fn is_asked<Q: Sequence>(
+    memory: Q::Memory,
+    replica: &mut Replica<Q>,
+    call: Call<'_>,
+    answer: Answer,
+) -> bool {
+    let mut other = Replica::<Q>::new(memory, 99);
+    takes(&mut other, call.list()) && ask(memory, replica, call, &other) == answer
+}
+
 /// Whether a replica goes a step.
 fn goes<Q: Sequence>(memory: Q::Memory, replica: &mut Replica<Q>, step: Step<'_>) -> bool {
     let (call, answer, want) = step;
-    let mut other = Replica::<Q>::new(memory, 99);
-    (call.list().is_empty() || takes(&mut other, call.list()))
-        && ask(memory, replica, call, &other) == answer
-        && answers(replica, want)
+    is_asked(memory, replica, call, answer) && answers(replica, want)
 }
 
 /// Whether a replica goes these steps.
@@ -84,17 +92,19 @@ const FEED_AB: [u8; 36] = [
     0, 0, 0x61, 0, 0, 0, 0, 0x62,
 ];
 
-/// Whether a replica of the two writes this feed, and answers its site and what it holds.
-fn is_of_both<Q: Sequence>(memory: Q::Memory) -> bool {
-    let mut replica = Replica::<Q>::new(memory, 7);
-    let ops = both();
-    replica.is_empty()
-        && takes(&mut replica, &ops)
-        && is_list(replica.write_feed(), &FEED_AB)
-        && replica.has(&ops[1])
+/// Whether a replica of the two at site 7 writes this feed, and answers its site and what it holds.
+fn is_like_both<Q: Sequence>(replica: &Replica<Q>) -> bool {
+    is_list(replica.write_feed(), &FEED_AB)
+        && replica.has(&both()[1])
         && replica.len() == 2
         && replica.site() == 7
         && !replica.is_empty()
+}
+
+/// Whether an empty replica is so once it took in the two.
+fn is_of_both<Q: Sequence>(memory: Q::Memory) -> bool {
+    let mut replica = Replica::<Q>::new(memory, 7);
+    replica.is_empty() && takes(&mut replica, &both()) && is_like_both(&replica)
 }
 
 #[test]
@@ -174,19 +184,32 @@ fn merges<Q: Sequence>(
     ask(memory, one, Call::Merge(&[]), other) == answer
 }
 
-/// Whether site 1 that deletes, and site 2 that inserts after what is deleted, are alike once each merged with the other.
-fn merge_both<Q: Sequence>(memory: Q::Memory) -> bool {
+/// Whether site 1 can delete, and site 2 insert after what is deleted.
+fn edit_apart<Q: Sequence>(one: &mut Replica<Q>, two: &mut Replica<Q>) -> bool {
     let first = [typed(at(1, 1), Stamp::HEAD, 'a')];
-    let mut one = Replica::<Q>::new(memory, 1);
-    let mut two = Replica::<Q>::new(memory, 2);
-    takes(&mut one, &first)
-        && takes(&mut two, &first)
+    takes(one, &first)
+        && takes(two, &first)
         && one.delete_at(0).is_ok()
         && two.insert_at(1, roman('b')).is_ok()
-        && merges(memory, &mut one, &two, counted(1, 1))
-        && merges(memory, &mut one, &two, counted(0, 2))
-        && merges(memory, &mut two, &one, counted(1, 2))
-        && are_alike(&one, &two)
+}
+
+/// Whether their merges count so, and leave them alike.
+fn merge_counted<Q: Sequence>(
+    memory: Q::Memory,
+    one: &mut Replica<Q>,
+    two: &mut Replica<Q>,
+) -> bool {
+    merges(memory, one, two, counted(1, 1))
+        && merges(memory, one, two, counted(0, 2))
+        && merges(memory, two, one, counted(1, 2))
+        && are_alike(one, two)
+}
+
+/// Whether site 1 that deletes, and site 2 that inserts after what is deleted, are alike once each merged with the other.
+fn merge_both<Q: Sequence>(memory: Q::Memory) -> bool {
+    let mut one = Replica::<Q>::new(memory, 1);
+    let mut two = Replica::<Q>::new(memory, 2);
+    edit_apart(&mut one, &mut two) && merge_counted(memory, &mut one, &mut two)
 }
 
 #[test]
