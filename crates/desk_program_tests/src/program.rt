@@ -82,30 +82,39 @@ fn is_refused(got: &Outcome) -> bool {
     got.status == 2 && got.written.written().is_empty() && !got.faults.written().is_empty()
 }
 
+/// Whether the words of a line are refused.
+fn refuses(alloc: Global, line: &str) -> Result<bool, AllocError> {
+    Ok(is_refused(&tried(alloc, line, TWO_SITES)?))
+}
+
 #[test]
 fn refused_words(rt: HostRuntime) -> Result<(), Fail> {
     let none = Vec::new(rt.alloc());
     let reader = TrialReader::new(TWO_SITES);
     let writer = TrialWriter::new(rt.alloc());
     assert!(rt; is_refused(&attempt(rt.alloc(), &none, reader, writer, &mut NoFiles)));
-    assert!(rt; is_refused(&tried(rt.alloc(), "jump", TWO_SITES)?));
-    assert!(rt; is_refused(&tried(rt.alloc(), "script script", TWO_SITES)?));
-    assert!(rt; is_refused(&tried(rt.alloc(), "Script", TWO_SITES)?));
-    assert!(rt; is_refused(&tried(rt.alloc(), "desk", TWO_SITES)?));
-    assert!(rt; is_refused(&tried(rt.alloc(), "desk a.feed", TWO_SITES)?));
-    assert!(rt; is_refused(&tried(rt.alloc(), "desk --site 3", TWO_SITES)?));
-    assert!(rt; is_refused(&tried(rt.alloc(), "desk a.feed --site 65536", TWO_SITES)?));
-    assert!(rt; is_refused(&tried(rt.alloc(), "desk a.feed --site x", TWO_SITES)?));
-    assert!(rt; is_refused(&tried(rt.alloc(), "desk a.feed --site 3 --site 3", TWO_SITES)?));
-    assert!(rt; is_refused(&tried(rt.alloc(), "merge a.feed", TWO_SITES)?));
-    assert!(rt; is_refused(&tried(rt.alloc(), "export", TWO_SITES)?));
-    assert!(rt; is_refused(&tried(rt.alloc(), "import a.feed", TWO_SITES)?));
-    assert!(rt; is_refused(&tried(rt.alloc(), "import a.feed --site 0", TWO_SITES)?));
-    assert!(rt; is_refused(&tried(rt.alloc(), "proof a.feed --case c", TWO_SITES)?));
-    assert!(rt; is_refused(&tried(rt.alloc(), "replace a.feed --site 1 old", TWO_SITES)?));
-    assert!(rt; is_refused(&tried(rt.alloc(), "check", TWO_SITES)?));
-    assert!(rt; is_refused(&tried(rt.alloc(), "diff a.feed", TWO_SITES)?));
-    assert!(rt; is_refused(&tried(rt.alloc(), "punch a.feed --case c --wedge w", TWO_SITES)?));
+    for &line in &[
+        "jump",
+        "script script",
+        "Script",
+        "desk",
+        "desk a.feed",
+        "desk --site 3",
+        "desk a.feed --site 65536",
+        "desk a.feed --site x",
+        "desk a.feed --site 3 --site 3",
+        "merge a.feed",
+        "export",
+        "import a.feed",
+        "import a.feed --site 0",
+        "proof a.feed --case c",
+        "replace a.feed --site 1 old",
+        "check",
+        "diff a.feed",
+        "punch a.feed --case c --wedge w",
+    ] {
+        assert!(rt; refuses(rt.alloc(), line)?, "{line}");
+    }
     Ok(())
 }
 
@@ -114,13 +123,22 @@ fn is_help(got: &Outcome) -> bool {
     got.status == 0 && !got.written.written().is_empty() && got.faults.written().is_empty()
 }
 
+/// Whether the words of a line get help.
+fn helps(alloc: Global, line: &str) -> Result<bool, AllocError> {
+    Ok(is_help(&tried(alloc, line, b"")?))
+}
+
 #[test]
 fn help_is_written(rt: HostRuntime) -> Result<(), Fail> {
-    assert!(rt; is_help(&tried(rt.alloc(), "help", b"")?));
-    assert!(rt; is_help(&tried(rt.alloc(), "--help", b"")?));
-    assert!(rt; is_help(&tried(rt.alloc(), "script --help", b"")?));
-    assert!(rt; is_help(&tried(rt.alloc(), "help desk", b"")?));
-    assert!(rt; is_help(&tried(rt.alloc(), "merge --help", b"")?));
+    for &line in &[
+        "help",
+        "--help",
+        "script --help",
+        "help desk",
+        "merge --help",
+    ] {
+        assert!(rt; helps(rt.alloc(), line)?, "{line}");
+    }
     let version = tried(rt.alloc(), "--version", b"")?;
     assert!(rt; is_help(&version));
     assert_eq!(rt; version.written.written(), b"copydesk 0.2.0\n".as_slice());
