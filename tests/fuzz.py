@@ -8,6 +8,8 @@ usage: fuzz.py PROGRAM                              the corpus, fuzz.jsonl: a re
                                                     and to KIND.new.jsonl.toml those of which only one says that they are TOML
        fuzz.py PROGRAM --least FILE..               a new corpus of the smallest inputs of each form, of the old one and files
 
+With --blocks an input that reaches a block of the built program which none reached before is one of a new form too (covered.py).
+
 The kinds, and what is asked of each, stand in fuzz_kinds.py.
 """
 import json
@@ -21,6 +23,7 @@ import time
 
 HERE = os.path.dirname(os.path.abspath(__file__))
 sys.path.insert(0, HERE)
+from covered import Covered
 from fuzz_kinds import KINDS
 
 CORPUS = os.path.join(HERE, "fuzz.jsonl")
@@ -74,20 +77,44 @@ def stop(*_):
     raise KeyboardInterrupt
 
 
-def fuzz(program, kind, seconds, seed, kept):
+def alone(program, kind, one, covered):
+    """What differs for one input, and its forms, of which the blocks that are sought and reached are some."""
+    if covered:
+        covered.reached()
+    fault, forms = kind.ask(program, [one], 1)[0]
+    return fault, forms | (covered.reached() if covered else set())
+
+
+def asked(program, kind, inputs, covered, left):
+    """The same for more inputs; where they reach blocks that were left, each is asked alone."""
+    found = kind.ask(program, inputs, 1)
+    new = covered.reached() & left if covered else set()
+    if not new:
+        return found
+    found = [alone(program, kind, one, covered) for one in inputs]
+    left -= new
+    covered.seek(left)
+    return found
+
+
+def fuzz(program, kind, seconds, seed, kept, covered):
     pick, faults, tried, odd = random.Random(seed), 0, 0, 0
-    known, pool = set(), corpus()[kind.name]
+    known, pool, left = set(), corpus()[kind.name], set(covered.blocks) if covered else set()
+    begun, shown = used(), time.time()
     for batch in batches(kind, pool):
         for _, forms in kind.ask(program, batch, len(batch)):
             known |= forms
-    fresh, begun, shown = kind.seeds(), used(), 0
+    if covered:
+        left -= covered.reached()
+        covered.seek(left)
+    fresh = kind.seeds()
     pool = pool or list(fresh)
     signal.signal(signal.SIGTERM, stop)
     try:
         while used() - begun < seconds:
             batch = [fresh.pop() if fresh else kind.changed(pick, pick.choice(pool), pick.choice(pool)) for _ in range(kind.batch)]
             tried += len(batch)
-            for one, (fault, forms) in zip(batch, kind.ask(program, batch, 1)):
+            for one, (fault, forms) in zip(batch, asked(program, kind, batch, covered, left)):
                 if fault and fault.startswith("TOML: "):
                     odd += 1
                     if kept:
@@ -95,7 +122,7 @@ def fuzz(program, kind, seconds, seed, kept):
                 elif fault:
                     faults += 1
                     print(fault)
-                    print(line_of(kind, one), end="")
+                    print(line_of(kind, one), end="", flush=True)
                 elif forms - known:
                     known |= forms | kind.ask(program, [one], 1)[0][1]
                     pool.append(one)
@@ -103,65 +130,71 @@ def fuzz(program, kind, seconds, seed, kept):
                         write(kept, line_of(kind, one))
             if time.time() - shown > 60:
                 shown = time.time()
-                print("%.0f seconds, %d inputs tried, %d forms" % (used() - begun, tried, len(known)), flush=True)
+                print("%.0f seconds, %d inputs tried, %d forms and blocks, %d blocks left" % (used() - begun, tried, len(known), len(left)), flush=True)
     except KeyboardInterrupt:
         pass
-    print("%s: %.0f seconds of processor time, %d inputs tried, %d forms of answers, %d inputs in the pool, %d not alike as TOML, %d faults"
+    print("%s: %.0f seconds of processor time, %d inputs tried, %d forms of answers and blocks, %d inputs in the pool, %d not alike as TOML, %d faults"
           % (kind.name, used() - begun, tried, len(known), len(pool), odd, faults))
     return 1 if faults else 0
 
 
-def smaller(program, kind, one, due):
-    """The input without parts that its forms do not need."""
-    parts = kind.parts(one)
+def smaller(program, kind, one, due, covered):
+    """The input without parts that its forms do not need, as far as so many trials find them."""
+    if covered:
+        covered.seek(due & covered.blocks)
+    parts, trials = kind.parts(one), 60
     size = max(1, len(parts) // 2)
-    while True:
+    while trials and len(parts) > 1:
         at = 0
-        while at < len(parts):
-            tried = kind.joined(one, parts[:at] + parts[at + size:])
-            fault, forms = kind.ask(program, [tried], 1)[0]
+        while at < len(parts) and trials:
+            tried, trials = kind.joined(one, parts[:at] + parts[at + size:]), trials - 1
+            fault, forms = alone(program, kind, tried, covered)
             if not fault and due <= forms:
                 del parts[at:at + size]
             else:
                 at += size
         if size == 1:
-            return kind.joined(one, parts)
-        size //= 2
+            break
+        size = max(1, size // 2)
+    if covered:
+        covered.seek(covered.blocks)
+    return kind.joined(one, parts)
 
 
-def least(program, files):
-    """The corpus anew: from the smallest input on, those that bring a form, made small; of each kind the first."""
+def least(program, files, covered):
+    """The corpus anew: from the smallest input on, those that bring a form or a block, made small; of each kind the first."""
     given, out = corpus(*files), []
     for name, kind in KINDS.items():
         known, kept = set(), 0
         for one in sorted(given[name], key=lambda one: (len(line_of(kind, one)), line_of(kind, one))):
-            fault, forms = kind.ask(program, [one], 1)[0]
+            fault, forms = alone(program, kind, one, covered)
             if fault or not forms - known or kept == LIMIT:
                 continue
-            one = smaller(program, kind, one, forms - known)
-            known |= kind.ask(program, [one], 1)[0][1]
+            one = smaller(program, kind, one, forms - known, covered)
+            known |= alone(program, kind, one, covered)[1]
             out.append(line_of(kind, one))
             kept += 1
-        print("%s: %d of %d inputs, %d forms" % (name, kept, len(given[name]), len(known)), flush=True)
+        print("%s: %d of %d inputs, %d forms and blocks" % (name, kept, len(given[name]), len(known)), flush=True)
     with open(CORPUS, "w", encoding="utf-8") as file:
         file.writelines(out)
     return 0
 
 
 def main():
-    words = [word for word in sys.argv[1:] if word != "--keep"]
+    words = [word for word in sys.argv[1:] if word not in ("--keep", "--blocks")]
     program, rest = os.path.abspath(words[0]), words[1:]
     files = [os.path.abspath(name) for name in rest[1:]]
     kept = os.path.abspath(rest[0] + ".new.jsonl") if "--keep" in sys.argv else None
-    with tempfile.TemporaryDirectory() as folder:
+    with tempfile.TemporaryDirectory() as folder, tempfile.TemporaryDirectory() as beside:
         os.chdir(folder)
+        covered = Covered(program, beside) if "--blocks" in sys.argv else None
         if not rest:
             return replay(program)
         if rest[0] == "--least":
-            return least(program, files)
+            return least(program, files, covered)
         seed = int(rest[2]) if len(rest) > 2 else random.randrange(1 << 30)
         print("seed %d" % seed)
-        return fuzz(program, KINDS[rest[0]], float(rest[1]), seed, kept)
+        return fuzz(program, KINDS[rest[0]], float(rest[1]), seed, kept, covered)
 
 
 if __name__ == "__main__":
