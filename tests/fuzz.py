@@ -162,19 +162,22 @@ def smaller(program, kind, one, due, covered):
 
 
 def least(program, files, covered):
-    """The corpus anew: from the smallest input on, those that bring a form or a block, made small; of each kind the first."""
+    """The corpus anew, made small: of each kind the smallest inputs that bring a block, and then those that bring a form."""
     given, out = corpus(*files), []
     for name, kind in KINDS.items():
-        known, kept = set(), 0
-        for one in sorted(given[name], key=lambda one: (len(line_of(kind, one)), line_of(kind, one))):
-            fault, forms = alone(program, kind, one, covered)
-            if fault or not forms - known or kept == LIMIT:
-                continue
-            one = smaller(program, kind, one, forms - known, covered)
-            known |= alone(program, kind, one, covered)[1]
-            out.append(line_of(kind, one))
-            kept += 1
-        print("%s: %d of %d inputs, %d forms and blocks" % (name, kept, len(given[name]), len(known)), flush=True)
+        inputs = sorted(given[name], key=lambda one: (len(line_of(kind, one)), line_of(kind, one)))
+        found = [alone(program, kind, one, covered) for one in inputs]
+        known, kept = set(), []
+        for sought in (lambda form: isinstance(form, int), lambda form: True):
+            for one, (fault, forms) in zip(inputs, found):
+                due = set(filter(sought, forms - known))
+                if fault or not due or len(kept) == LIMIT:
+                    continue
+                one = smaller(program, kind, one, due, covered)
+                known |= alone(program, kind, one, covered)[1]
+                kept.append(line_of(kind, one))
+        out += sorted(kept, key=len)
+        print("%s: %d of %d inputs, %d forms and blocks" % (name, len(kept), len(inputs), len(known)), flush=True)
     with open(CORPUS, "w", encoding="utf-8") as file:
         file.writelines(out)
     return 0

@@ -48,16 +48,17 @@ def ran(program, words, data=b""):
 
 
 def form(answer):
-    """An answer without its texts, bytes and numbers."""
-    return re.sub(rb"[0-9]+", b"#", re.sub(rb'"[^"]*"|[0-9a-f]{8,}|#/.*', b"", answer))[:60].decode("latin1")
+    """An answer without its texts, bytes and numbers; of like faults in a row one."""
+    bare = re.sub(rb"[0-9]+", b"#", re.sub(rb'"[^"]*"|[0-9a-f]{8,}|#/.*', b"", answer))
+    return re.sub(rb"([a-z]+ #[.#]*)(, \1)+", rb"\1", bare)[:60].decode("latin1")
 
 
-def scripted(program, lines):
-    """Lines of a script through both: what differs, or none, and the answers."""
-    world, due = oracle.World(), []
+def scripted(program, script):
+    """A script through both: what differs, or none, the answers due, and what then is held."""
+    world, due, lines = oracle.World(), [], list(oracle.lines(script))
     for line in lines:
         due.append(world.answer(line).encode("utf-8", "surrogatepass"))
-    status, got, why = ran(program, ["script"], b"\n".join(lines) + b"\n")
+    status, got, why = ran(program, ["script"], script)
     got = got.split(b"\n")[:-1]
     if status != 0 or why or len(got) != len(due):
         return "script: status %s, %d answers of %d, %r" % (status, len(got), len(due), why), due, world
@@ -134,7 +135,7 @@ class Scripts(Kind):
         (one,) = inputs
         write("c", one["case"].encode("utf-8"))
         write("w", one["wedge"].encode("utf-8"))
-        wrong, due, _ = scripted(program, list(oracle.lines(one["script"].encode("latin1"))))
+        wrong, due, _ = scripted(program, one["script"].encode("latin1"))
         return wrong, [{form(answer) for answer in due}]
 
 
@@ -280,7 +281,7 @@ class Feeds(Kind):
                 lines += [b"%s %d" % (word, site) for word in (b"show", b"faults", b"settings", b"feed")]
             lines += [b"restart %d" % a, b"feed %d" % a, b"send %d %d 0..2" % (b, a), b"merge %d %d" % (a, b)]
             lines += [b"%s %d" % (word, a) for word in (b"show", b"faults", b"settings", b"feed")]
-        wrong, due, _ = scripted(program, lines)
+        wrong, due, _ = scripted(program, b"\n".join(lines))
         if wrong:
             return wrong, []
         wrong, said = checked(program, names)
@@ -454,7 +455,7 @@ class Files(Kind):
                 return "TOML: check said %r of %r" % (line, data[:120]), []
             if told.differs(data, line):
                 return "check said %r and not %r" % (line, told.of(data)), []
-        wrong, due, world = scripted(program, lines)
+        wrong, due, world = scripted(program, b"\n".join(lines))
         if wrong:
             return wrong, []
         for k, one in enumerate(inputs, 1):
