@@ -162,22 +162,24 @@ def smaller(program, kind, one, due, covered):
 
 
 def least(program, files, covered):
-    """The corpus anew, made small: of each kind the smallest inputs that bring a block, and then those that bring a form."""
+    """The corpus anew: of each kind, one after another, the input that brings most blocks and forms for its length, made small."""
     given, out = corpus(*files), []
     for name, kind in KINDS.items():
-        inputs = sorted(given[name], key=lambda one: (len(line_of(kind, one)), line_of(kind, one)))
-        found = [alone(program, kind, one, covered) for one in inputs]
-        known, kept = set(), []
-        for sought in (lambda form: isinstance(form, int), lambda form: True):
-            for one, (fault, forms) in zip(inputs, found):
-                due = set(filter(sought, forms - known))
-                if fault or not due or len(kept) == LIMIT:
-                    continue
-                one = smaller(program, kind, one, due, covered)
-                known |= alone(program, kind, one, covered)[1]
-                kept.append(line_of(kind, one))
+        inputs, known, kept = [], set(), []
+        for one in given[name]:
+            fault, forms = alone(program, kind, one, covered)
+            if not fault:
+                inputs.append((200 + len(line_of(kind, one)), one, forms))
+        while inputs and len(kept) < LIMIT:
+            inputs = [(length, one, forms - known) for length, one, forms in inputs if forms - known]
+            _, one, due = max(inputs, key=lambda it: len(it[2]) / it[0], default=(0, None, None))
+            if one is None:
+                break
+            one = smaller(program, kind, one, due, covered)
+            known |= alone(program, kind, one, covered)[1] | due
+            kept.append(line_of(kind, one))
         out += sorted(kept, key=len)
-        print("%s: %d of %d inputs, %d forms and blocks" % (name, len(kept), len(inputs), len(known)), flush=True)
+        print("%s: %d of %d inputs, %d forms and blocks" % (name, len(kept), len(given[name]), len(known)), flush=True)
     with open(CORPUS, "w", encoding="utf-8") as file:
         file.writelines(out)
     return 0

@@ -20,7 +20,9 @@ import told
 oracle.spelling = functools.lru_cache(4096)(oracle.spelling)  # many commands go over the same operations
 
 LONGEST = 1500  # bytes of a script or a feed
-NUMBERS = [0, 1, 2, 3, 9, 11, 12, 15, 16, 17, 120, 144, 240, 241, 720, 721, 65535, 65536, 4294967295, 4294967296]
+NUMBERS = [0, 1, 2, 3, 9, 11, 12, 15, 16, 17, 19, 20, 24, 25, 96, 97, 120, 144, 240, 241, 720, 721, 65535, 65536, 4294967295, 4294967296]
+LIMITS = {0, 1, 2, 3, 4, 5, 6, 9, 10, 11, 12, 13, 14, 15, 16, 17, 18, 19, 20, 24, 25, 31, 32, 33, 63, 64, 65, 96, 97, 126, 127, 128, 158, 159, 160, 240, 241, 719, 720, 721, 65535, 65536,
+          0xD7FF, 0xD800, 0xDFFF, 0xE000, 0x10FFFF, 0x110000, (1 << 32) - 1, 1 << 32, (1 << 62) - 1, 1 << 62, (1 << 62) + 1, (1 << 64) - 1}
 HEX = ["00", "01", "02", "03", "04", "05", "40", "7f", "80", "ff", "d800", "0041", "4d464431", "4d464432", "0000000000000001", "4000000000000000"]
 PIECES = ['r"n"', 'i"a"', 's"M"', 'r"\\n"', 'r" "', 'r"\\""', 'r"\\\\"', 'r"nn mm tt"', 'r"\u20ac"', 'i" "', 'r"\\t"', "..", "0..1", "c", "w", "none"]
 SECONDS = 10  # a run that takes longer hangs
@@ -48,9 +50,9 @@ def ran(program, words, data=b""):
 
 
 def form(answer):
-    """An answer without its texts, bytes and numbers; of like faults in a row one."""
-    bare = re.sub(rb"[0-9]+", b"#", re.sub(rb'"[^"]*"|[0-9a-f]{8,}|#/.*', b"", answer))
-    return re.sub(rb"([a-z]+ #[.#]*)(, \1)+", rb"\1", bare)[:60].decode("latin1")
+    """An answer without its texts, bytes and numbers, where what is repeated stands once."""
+    bare = re.sub(rb"[0-9]+", b"#", re.sub(rb'"[^"]*"|[0-9a-f]{8,}|#/.*', b"", answer[:400]))
+    return re.sub(rb"(.{2,16}?)\1+", rb"\1", bare)[:12 if bare.startswith(b"copy") else 40].decode("latin1")
 
 
 def scripted(program, script):
@@ -78,6 +80,11 @@ def checked(program, names):
     if (status == 0) != all(line.startswith("ok: ") for line in said):
         return "check: status %s for %r" % (status, said), said
     return None, said
+
+
+def at_limits(name, *values):
+    """Forms of the values that stand at a limit of the formats."""
+    return {"%s %d" % (name, value) for value in values if type(value) is int and value in LIMITS}
 
 
 class Kind:
@@ -135,8 +142,16 @@ class Scripts(Kind):
         (one,) = inputs
         write("c", one["case"].encode("utf-8"))
         write("w", one["wedge"].encode("utf-8"))
-        wrong, due, _ = scripted(program, one["script"].encode("latin1"))
-        return wrong, [{form(answer) for answer in due}]
+        script = one["script"].encode("latin1")
+        wrong, due, _ = scripted(program, script)
+        forms = {form(answer) for answer in due}
+        for line, answer in zip(oracle.lines(script), due):
+            found = re.fullmatch(rb"set \d+ (\w+) (\d{1,10})|(site|show|delete \d+|insert \d+) (\d{1,10})( .*)?", line, re.DOTALL)
+            if found and answer != b"refused command":
+                name = found[1] or found[3].split(b" ")[0]
+                verdict = re.match(rb"refused \w+|\w+", answer)[0]
+                forms |= at_limits((name + b" " + verdict).decode("latin1"), int(found[2] or found[4]))
+        return wrong, [forms]
 
 
 def changed_line(pick, line):
@@ -256,7 +271,7 @@ class Feeds(Kind):
         if kind == 2:
             return piece[:1] + pick.choice([other[1:11], other[11:21]]) + piece[11:]
         if kind == 3:
-            return piece[:21] + pick.choice([0, 0, 1, 2, 3]).to_bytes(1, "big") + pick.choice([0, 9, 10, 32, 65, 95, 110, 127, 133, 0x20AC, 0xD800, 0xDFFF, 0xE000, 0x10FFFF, 0x110000]).to_bytes(4, "big") + piece[26:]
+            return piece[:21] + pick.choice([0, 0, 1, 2, 3]).to_bytes(1, "big") + pick.choice([0, 9, 10, 32, 33, 65, 92, 94, 95, 110, 126, 127, 159, 160, 0x20AC, 0xD7FF, 0xD800, 0xDFFF, 0xE000, 0x10FFFF, 0x110000]).to_bytes(4, "big") + piece[26:]
         if kind == 4:
             return bytes([pick.choice([1, 2, 3, 4, 0, 5])]) + piece[1:]
         if kind == 5:
@@ -295,7 +310,7 @@ class Feeds(Kind):
                 data, line = bytes.fromhex(one[key]), said[names.index(name)]
                 if told.differs(data, line):
                     return "check said %r and not %r" % (line, told.of(data)), []
-                forms[k].add("check " + form(line.encode()))
+                forms[k] |= {"check " + form(line.encode())} | operation_forms(data, line)
         for k, one in enumerate(inputs[:whole]):
             wrong, more = self.stored(program, one)
             if wrong:
@@ -325,7 +340,8 @@ class Feeds(Kind):
         due = None if theirs is None else told.exported(oracle.Meaning(theirs).copy).encode()
         if (status, out) != ((1, b"") if due is None else (0, due)) or (why == b"") != (due is not None):
             return "export: status %s, %r and not %r" % (status, out[:300], due), None
-        forms |= {"export " + mark for mark in "_^\\" if due and mark.encode() in due}
+        if due:
+            forms.add("export " + re.sub(r"(.)\1+", r"\1", re.sub(r"[^_^\\ \n]", "a", due.decode()))[:9])
         status, out, why = ran(program, ["merge", "one", "two"])
         if held is None or theirs is None:
             if status != 1 or out or read("one") != data:
@@ -351,6 +367,26 @@ class Feeds(Kind):
         return None, forms
 
 
+def operation_forms(data, line):
+    """Which fields of a feed's operations stand at a limit, up to the first fault."""
+    found, forms, at = re.search(r"byte (\d+)", line), set(), 4
+    last, end = int(found.group(1)) if found else len(data), "".join(re.findall("[a-z]+$", line)) if found else ""
+    while at <= last and at + 22 < len(data) and 1 <= data[at] <= 4:
+        name = "operation %d %s " % (data[at], end if at == last else "lawful")
+        counter, site, target = int.from_bytes(data[at + 1:at + 9], "big"), int.from_bytes(data[at + 9:at + 11], "big"), int.from_bytes(data[at + 11:at + 19], "big")
+        forms |= at_limits(name + "counter", counter) | at_limits(name + "site", site)
+        if data[at] != 3:
+            forms |= at_limits(name + "target", target) | ({name + "target %d before" % (counter - target)} if -2 < counter - target < 2 else set())
+        if data[at] == 1:
+            forms |= at_limits(name + "style", data[at + 21]) | at_limits(name + "character", int.from_bytes(data[at + 22:at + 26], "big"))
+        if data[at] == 3:
+            forms |= at_limits(name + "key %d value" % data[at + 11], int.from_bytes(data[at + 12:at + 16], "big"))
+        if data[at] == 4:
+            forms |= at_limits(name + "count", data[at + 21])
+        at += {1: 26, 2: 21, 3: 16}.get(data[at]) or 22 + 5 * data[at + 21]
+    return forms
+
+
 def shape(feed):
     """The kinds of a written feed, each as often as it stands in a row up to three."""
     kinds, at = "", 4
@@ -370,7 +406,7 @@ class Files(Kind):
     pieces = ['"', "'", '"""', "'''", "\\", "\\u0041", "\\U0001D510", "\\e", "\\x41", "\\q", "#", "\n", "\r\n", "\r", "\t", "=", ".", ",", "[", "]", "{", "}", "[[", "]]", "{}", "[]", " ",
               "0x5", "0o5", "0b1", "1_0", "_1", "+5", "-0", "05", "5.0", "5e0", "inf", "nan", "true", "1979-05-27", "07:32:00", "07:32", "1979-05-27T07:32:00Z", "9223372036854775807", "9223372036854775808",
               "case", "rows", "space", "fill", "wedge", "set_q", "pica", "units", '"case"', "a.b", "x = 1\n", "[t]\n", "[[t]]\n", "x = {a = 1, b = [1]}\n", "# \u20ac\n", "\ufeff", "\x00", "\x7f", "\u0085", "\u2028", "\xff", "n", "i:a", "s:M",
-              '"i:a"', '"s:M"', '"nn"', '""', '" "', '"\\n"', '"\\t"', '"\U0001D510"', '"e\u0301"', '"NI3"', '"O15"', '"G1"', '"A01"', "[" * 60, "[" * 130 + "]" * 130, "x = " + "[" * 3000, "x = " + "{a=" * 3000, "a." * 300 + "b = 1\n"]
+              '"i:a"', '"s:M"', '"nn"', '""', '" "', '"\\n"', '"\\t"', '"\U0001D510"', '"e\u0301"', '"NI3"', '"O15"', '"G1"', '"A01"', '"\\u007f"', '"\\u009f"', '"\\u00a0"', '"i: "', "[" * 60, "[" * 130 + "]" * 130, "x = " + "[" * 3000, "x = " + "{a=" * 3000, "a." * 300 + "b = 1\n"]
 
     def seeds(self):
         out, pick = [], random.Random(2)
@@ -461,6 +497,7 @@ class Files(Kind):
         for k, one in enumerate(inputs, 1):
             answers = due[9 * k - 9:9 * k]
             forms.append({form(answer) for answer in answers[7:]} | {"check " + re.sub(r"[0-9]+", "#", re.sub(r"cell .*? holds .*", "cell holds", line))[:60] for line in said[2 * k - 2:2 * k]})
+            forms[-1] |= value_forms(one["case"].encode("latin1"), said[2 * k - 2]) | value_forms(one["wedge"].encode("latin1"), said[2 * k - 1])
             if k <= whole:
                 wrong, more = self.previewed(program, k, world, answers[7])
                 if wrong:
@@ -488,6 +525,20 @@ class Files(Kind):
                 return "proof: status %s, %r %r, due %r" % (status, out[:300], why, answer[:300]), None
             forms |= {"proof " + form(line) for line in out.split(b"\n")[3:] if flag}
         return None, forms
+
+
+def value_forms(data, line):
+    """Which values of a case or a wedge stand at a limit."""
+    document, forms, verdict = told.toml(data) or {}, set(), line.split(":")[0].split(" ")[0] + " "
+    for key, value in document.items():
+        if isinstance(value, list):
+            forms |= at_limits(verdict + "length of " + key, len(value))
+            forms |= at_limits(verdict + "length in " + key, *[len(part) for part in value if isinstance(part, list)])
+            forms |= at_limits(verdict + "number in " + key, *value)
+            forms |= at_limits(verdict + "text in " + key, *[ord(text[-1]) for part in value if isinstance(part, list) for text in part if isinstance(text, str) and text])
+        elif key in ("case", "wedge", "set_q"):
+            forms |= at_limits(verdict + key, value)
+    return {form[:60] for form in forms}
 
 
 class Ribbons(Kind):
