@@ -1,183 +1,205 @@
 #!/usr/bin/env python3
 """Inputs made by changes of other inputs, through the program and through the independent one; the answers must be the same.
 
-usage: fuzz.py PROGRAM                 the corpus, fuzz.jsonl: a regression test of some seconds
-       fuzz.py PROGRAM SECONDS [SEED]  changes inputs of the corpus at random, and prints what differs; --keep adds to the
-                                       corpus those that bring an answer of a form that no input brought before
+usage: fuzz.py PROGRAM                              the corpus, fuzz.jsonl: a regression test of some seconds
+       fuzz.py PROGRAM KIND SECONDS [SEED] [--keep] changes inputs of the corpus at random for so many seconds of processor
+                                                    time, and prints what differs; a KIND is scripts, feeds, files or ribbons;
+                                                    --keep adds to KIND.new.jsonl those that bring an answer of a new form,
+                                                    and to KIND.new.jsonl.toml those of which only one says that they are TOML
+       fuzz.py PROGRAM --least FILE..               a new corpus of the smallest inputs of each form, of the old one and files
 
-An input is a script and a case and a wedge file that its `ribbon` and `cast` commands may name, all as bytes (in Latin 1). It is
-changed in its bytes, its words and its lines; in the two files only in values, since which text is TOML is the affair of `toml`.
+With --blocks an input that reaches a block of the built program which none reached before is one of a new form too (covered.py).
+
+The kinds, and what is asked of each, stand in fuzz_kinds.py.
 """
 import json
 import os
 import random
-import re
-import subprocess
+import resource
+import signal
 import sys
 import tempfile
+import time
 
 HERE = os.path.dirname(os.path.abspath(__file__))
 sys.path.insert(0, HERE)
-import differential
-import oracle
+from covered import Covered
+from fuzz_kinds import KINDS
 
 CORPUS = os.path.join(HERE, "fuzz.jsonl")
-LIMIT = 200  # inputs of the corpus
-LONGEST = 1500  # bytes of a script that is kept
-NUMBERS = [0, 1, 2, 3, 9, 11, 12, 15, 16, 17, 120, 144, 240, 241, 720, 721, 65535, 65536, 4294967295, 4294967296]
-HEX = ["00", "01", "02", "03", "04", "05", "40", "7f", "80", "ff", "d800", "0041", "4d464431", "4d464432", "0000000000000001", "4000000000000000"]
-PIECES = ['r"n"', 'i"a"', 's"M"', 'r"\\n"', 'r" "', 'r"\\""', 'r"\\\\"', 'r"nn mm tt"', 'r"\u20ac"', 'i" "', 'r"\\t"', "..", "0..1", "c", "w", "none"]
+LIMIT = 100  # inputs of the corpus, of each kind
 
 
-def text_of(name):
-    return differential.FILES[name]
-
-
-def seeds():
-    """Random scripts of the differential test, one for each pair of files."""
-    out = []
-    for k, case in enumerate(("c", "c2", "c_order", "c_four", "c_nofill", "c_held")):
-        for wedge in ("w", "w6", "w19", "w_falls"):
-            script = differential.random_script(k, len(out))
-            script = script.encode("utf-8", "surrogatepass") if isinstance(script, str) else script
-            out.append({"script": script[:LONGEST].decode("latin1"), "case": text_of(case), "wedge": text_of(wedge)})
+def corpus(*files):
+    out = {name: [] for name in KINDS}
+    for name in (CORPUS, *files):
+        if os.path.exists(name):
+            with open(name, encoding="utf-8") as file:
+                for line in file:
+                    one = json.loads(line)
+                    out[one.pop("kind")].append(one)
     return out
 
 
-def changed_line(pick, line):
-    words = line.split(b" ")
-    at = pick.randrange(len(words))
-    kind = pick.randrange(8)
-    if kind == 0:
-        words[at] = b"%d" % pick.choice(NUMBERS)
-    elif kind == 1:
-        words[at] = pick.choice(PIECES).encode()
-    elif kind == 2:
-        words.insert(at, pick.choice(PIECES).encode())
-    elif kind == 3:
-        del words[at]
-    elif kind == 4 and len(line) > 1:
-        place = pick.randrange(len(line))
-        return line[:place] + bytes([pick.randrange(256)]) + line[place + pick.randrange(2):]
-    elif kind == 5:
-        words[-1] = words[-1][:pick.randrange(len(words[-1]) + 1) & ~1] + pick.choice(HEX).encode() + words[-1][pick.randrange(len(words[-1]) + 1) & ~1:]
-    elif kind == 6:
-        words[0] = pick.choice([b"site", b"insert", b"delete", b"set", b"take", b"send", b"merge", b"show", b"faults", b"settings", b"feed", b"ribbon", b"cast", b"restart"])
-    else:
-        words[at] = words[at][::-1]
-    return b" ".join(words)
+def line_of(kind, one):
+    return json.dumps({"kind": kind.name, **one}) + "\n"
 
 
-def changed_file(pick, text):
-    """Another number, or another symbol in a cell: it stays TOML."""
-    numbers = list(re.finditer(r"(?<=[= \[,])\d+(?=[,\]\n])", text))
-    if numbers and pick.random() < 0.5:
-        found = pick.choice(numbers)
-        return text[:found.start()] + str(pick.choice(NUMBERS + [5, 6, 7, 8, 18, 48])) + text[found.end():]
-    cells = list(re.finditer(r'"[^"]*"', text))
-    found = pick.choice(cells)
-    new = pick.choice(["", "n", "m", "i:a", "s:M", "q", "nn", " ", "A1", "G1", "O15", "NI3", "P1", "O16", "sixth", "american", ":", "i:"])
-    return text[:found.start()] + '"%s"' % new + text[found.end():]
+def write(name, line):
+    with open(name, "a", encoding="utf-8") as file:
+        file.write(line)
 
 
-def changed(pick, one, other):
-    lines = one["script"].encode("latin1").split(b"\n")
-    for _ in range(pick.choice([1, 1, 2, 3, 5])):
-        at, kind = pick.randrange(len(lines)), pick.randrange(6)
-        if kind < 3:
-            lines[at] = changed_line(pick, lines[at]) if lines[at] else pick.choice(lines)
-        elif kind == 3:
-            lines.insert(at, pick.choice(lines))
-        elif kind == 4 and len(lines) > 2:
-            del lines[at]
-        else:
-            theirs = other["script"].encode("latin1").split(b"\n")
-            start = pick.randrange(len(theirs))
-            lines[at:at] = theirs[start:start + pick.randrange(1, 6)]
-    new = dict(one, script=b"\n".join(lines)[:LONGEST].decode("latin1"))
-    for name in ("case", "wedge"):
-        if pick.random() < 0.2:
-            new[name] = changed_file(pick, pick.choice((one, other))[name])
-    return new
+def batches(kind, inputs):
+    return [inputs[at:at + kind.batch] for at in range(0, len(inputs), kind.batch)]
 
 
-def answered(program, one, folder):
-    """The first line that the two answer otherwise, and the forms of the answers."""
-    for name, key in (("c", "case"), ("w", "wedge")):
-        with open(os.path.join(folder, name), "w", encoding="utf-8") as file:
-            file.write(one[key])
-    script = one["script"].encode("latin1")
-    done = subprocess.run([program, "script"], input=script, cwd=folder, capture_output=True, timeout=60)
-    world, want = oracle.World(), []
-    lines = list(oracle.lines(script))
-    for line in lines:
-        want.append(world.answer(line).encode("utf-8", "surrogatepass"))
-    got = done.stdout.split(b"\n")[:-1]
-    if done.returncode or done.stderr or len(got) != len(want):
-        return "ended with %d, %d answers of %d, %r" % (done.returncode, len(got), len(want), done.stderr), set()
-    for line, due, found in zip(lines, want, got):
-        if due != found:
-            return "%r was answered %r and not %r" % (line, found[:200], due[:200]), set()
-    return None, {re.sub(rb"[0-9]+", b"#", re.sub(rb'"[^"]*"|[0-9a-f]{8,}|#/.*', b"", a))[:60].decode("latin1") for a in want}
+def used():
+    """Seconds of processor time, of this program and of those that it ran."""
+    return sum(it.ru_utime + it.ru_stime for it in map(resource.getrusage, (resource.RUSAGE_SELF, resource.RUSAGE_CHILDREN)))
 
 
-def corpus():
-    if not os.path.exists(CORPUS):
-        return []
-    with open(CORPUS, encoding="utf-8") as file:
-        return [json.loads(line) for line in file]
+def replay(program):
+    count = faults = 0
+    for name, inputs in corpus().items():
+        kind = KINDS[name]
+        for batch in batches(kind, inputs):
+            for one, (fault, _) in zip(batch, kind.ask(program, batch, len(batch))):
+                count += 1
+                if fault:
+                    faults += 1
+                    print("%s: %s\n%s" % (name, fault, json.dumps(one)))
+    print("%d inputs, %d faults" % (count, faults))
+    return 1 if faults or not count else 0
 
 
-def replay(program, folder):
-    inputs, faults = corpus(), 0
-    for k, one in enumerate(inputs):
-        fault, _ = answered(program, one, folder)
-        if fault:
-            faults += 1
-            print("input %d: %s" % (k, fault))
-    print("%d inputs, %d faults" % (len(inputs), faults))
-    return 1 if faults or not inputs else 0
+def stop(*_):
+    raise KeyboardInterrupt
 
 
-def fuzz(program, folder, seconds, seed, keep):
-    import time
-    pick, faults, tried = random.Random(seed), 0, 0
-    known, pool = set(), corpus()
-    kept = len(pool)
-    for one in pool:
-        known |= answered(program, one, folder)[1]
-    pool += [one for one in seeds() if not kept]
-    end = time.time() + seconds
-    fresh = list(pool[kept:])
-    while time.time() < end:
-        one = fresh.pop() if fresh else changed(pick, pick.choice(pool), pick.choice(pool))
-        tried += 1
-        fault, forms = answered(program, one, folder)
-        if fault:
-            faults += 1
-            print(fault)
-            print(json.dumps(one))
-        elif forms - known:
+def alone(program, kind, one, covered):
+    """What differs for one input, and its forms, of which the blocks that are sought and reached are some."""
+    if covered:
+        covered.reached()
+    fault, forms = kind.ask(program, [one], 1)[0]
+    return fault, forms | (covered.reached() if covered else set())
+
+
+def asked(program, kind, inputs, covered, left):
+    """The same for more inputs; where they reach blocks that were left, each is asked alone."""
+    found = kind.ask(program, inputs, 1)
+    new = covered.reached() & left if covered else set()
+    if not new:
+        return found
+    found = [alone(program, kind, one, covered) for one in inputs]
+    left -= new
+    covered.seek(left)
+    return found
+
+
+def fuzz(program, kind, seconds, seed, kept, covered):
+    pick, faults, tried, odd = random.Random(seed), 0, 0, 0
+    known, pool, left = set(), corpus()[kind.name], set(covered.blocks) if covered else set()
+    begun, shown = used(), time.time()
+    for batch in batches(kind, pool):
+        for _, forms in kind.ask(program, batch, len(batch)):
             known |= forms
-            pool.append(one)
-            if keep and kept < LIMIT:
-                kept += 1
-                with open(CORPUS, "a", encoding="utf-8") as file:
-                    file.write(json.dumps(one) + "\n")
-    print("%d inputs tried, %d forms of answers, %d inputs kept, %d faults" % (tried, len(known), kept, faults))
+    if covered:
+        left -= covered.reached()
+        covered.seek(left)
+    fresh = kind.seeds()
+    pool = pool or list(fresh)
+    signal.signal(signal.SIGTERM, stop)
+    try:
+        while used() - begun < seconds:
+            batch = [fresh.pop() if fresh else kind.changed(pick, pick.choice(pool), pick.choice(pool)) for _ in range(kind.batch)]
+            tried += len(batch)
+            for one, (fault, forms) in zip(batch, asked(program, kind, batch, covered, left)):
+                if fault and fault.startswith("TOML: "):
+                    odd += 1
+                    if kept:
+                        write(kept + ".toml", line_of(kind, one))
+                elif fault:
+                    faults += 1
+                    print(fault)
+                    print(line_of(kind, one), end="", flush=True)
+                elif forms - known:
+                    known |= forms | kind.ask(program, [one], 1)[0][1]
+                    pool.append(one)
+                    if kept:
+                        write(kept, line_of(kind, one))
+            if time.time() - shown > 60:
+                shown = time.time()
+                print("%.0f seconds, %d inputs tried, %d forms and blocks, %d blocks left" % (used() - begun, tried, len(known), len(left)), flush=True)
+    except KeyboardInterrupt:
+        pass
+    print("%s: %.0f seconds of processor time, %d inputs tried, %d forms of answers and blocks, %d inputs in the pool, %d not alike as TOML, %d faults"
+          % (kind.name, used() - begun, tried, len(known), len(pool), odd, faults))
     return 1 if faults else 0
 
 
+def smaller(program, kind, one, due, covered):
+    """The input without parts that its forms do not need, as far as so many trials find them."""
+    if covered:
+        covered.seek(due & covered.blocks)
+    parts, trials = kind.parts(one), 60
+    size = max(1, len(parts) // 2)
+    while trials and len(parts) > 1:
+        at = 0
+        while at < len(parts) and trials:
+            tried, trials = kind.joined(one, parts[:at] + parts[at + size:]), trials - 1
+            fault, forms = alone(program, kind, tried, covered)
+            if not fault and due <= forms:
+                del parts[at:at + size]
+            else:
+                at += size
+        if size == 1:
+            break
+        size = max(1, size // 2)
+    if covered:
+        covered.seek(covered.blocks)
+    return kind.joined(one, parts)
+
+
+def least(program, files, covered):
+    """The corpus anew: of each kind, one after another, the input that brings most blocks and forms for its length, made small."""
+    given, out = corpus(*files), []
+    for name, kind in KINDS.items():
+        inputs, known, kept = [], set(), []
+        for one in given[name]:
+            fault, forms = alone(program, kind, one, covered)
+            if not fault:
+                inputs.append((200 + len(line_of(kind, one)), one, forms))
+        while inputs and len(kept) < LIMIT:
+            inputs = [(length, one, forms - known) for length, one, forms in inputs if forms - known]
+            _, one, due = max(inputs, key=lambda it: len(it[2]) / it[0], default=(0, None, None))
+            if one is None:
+                break
+            one = smaller(program, kind, one, due, covered)
+            known |= alone(program, kind, one, covered)[1] | due
+            kept.append(line_of(kind, one))
+        out += sorted(kept, key=len)
+        print("%s: %d of %d inputs, %d forms and blocks" % (name, len(kept), len(given[name]), len(known)), flush=True)
+    with open(CORPUS, "w", encoding="utf-8") as file:
+        file.writelines(out)
+    return 0
+
+
 def main():
-    words = [word for word in sys.argv[1:] if word != "--keep"]
-    program = os.path.abspath(words[0])
-    with tempfile.TemporaryDirectory() as folder:
+    words = [word for word in sys.argv[1:] if word not in ("--keep", "--blocks")]
+    program, rest = os.path.abspath(words[0]), words[1:]
+    files = [os.path.abspath(name) for name in rest[1:]]
+    kept = os.path.abspath(rest[0] + ".new.jsonl") if "--keep" in sys.argv else None
+    with tempfile.TemporaryDirectory() as folder, tempfile.TemporaryDirectory() as beside:
         os.chdir(folder)
-        if len(words) == 1:
-            return replay(program, folder)
-        seed = int(words[2]) if len(words) > 2 else random.randrange(1 << 30)
+        covered = Covered(program, beside) if "--blocks" in sys.argv else None
+        if not rest:
+            return replay(program)
+        if rest[0] == "--least":
+            return least(program, files, covered)
+        seed = int(rest[2]) if len(rest) > 2 else random.randrange(1 << 30)
         print("seed %d" % seed)
-        return fuzz(program, folder, float(words[1]), seed, "--keep" in sys.argv)
+        return fuzz(program, KINDS[rest[0]], float(rest[1]), seed, kept, covered)
 
 
 if __name__ == "__main__":
