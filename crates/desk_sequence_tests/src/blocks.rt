@@ -408,6 +408,16 @@ fn is_reserve_refused<Q: Sequence, R: Sequence>(
     Ok(refused)
 }
 
+/// The same of blocks in a heap of their own.
+fn is_reserve_refused_in_heap(
+    alloc: Global,
+    filled: &Flat<Global>,
+    bytes: usize,
+) -> Result<bool, Fail> {
+    let heap = LocalHeap::new(alloc, 524_288)?;
+    is_reserve_refused::<Flat<Global>, Blocks<&LocalHeap>>(filled, &heap, &heap, bytes)
+}
+
 /// Each growth of `reserve` refused, in heaps of which ever 32 bytes more are left.
 #[test]
 fn refused_reserves_change_nothing(rt: HostRuntime) -> Result<(), Fail> {
@@ -415,13 +425,7 @@ fn refused_reserves_change_nothing(rt: HostRuntime) -> Result<(), Fail> {
     fill(&mut flat)?;
     let mut refused = 0u32;
     for cut in 0..2_400usize {
-        let heap = LocalHeap::new(rt.alloc(), 524_288)?;
-        let is_one = is_reserve_refused::<Flat<Global>, Blocks<&LocalHeap>>(
-            &flat,
-            &heap,
-            &heap,
-            440_000 - cut * 32,
-        )?;
+        let is_one = is_reserve_refused_in_heap(rt.alloc(), &flat, 440_000 - cut * 32)?;
         refused = refused.saturating_add(u32::from(is_one));
     }
     assert!(rt; refused > 500 && refused < 2_000, "{refused} refused");
@@ -459,6 +463,16 @@ fn is_list_refused<Q: Sequence, R: Sequence>(
     Ok(refused)
 }
 
+/// The same of blocks in a heap of their own.
+fn is_list_refused_in_heap(
+    alloc: Global,
+    listed: &Flat<Global>,
+    left: usize,
+) -> Result<bool, Fail> {
+    let heap = LocalHeap::new(alloc, LIST_HEAP)?;
+    is_list_refused::<Flat<Global>, Blocks<&LocalHeap>>(listed, alloc, &heap, &heap, left)
+}
+
 /// Each growth of `from_entries` refused, in heaps of which ever 16 bytes more are left.
 #[test]
 fn refused_lists_are_not_made(rt: HostRuntime) -> Result<(), Fail> {
@@ -466,14 +480,7 @@ fn refused_lists_are_not_made(rt: HostRuntime) -> Result<(), Fail> {
     scatter(&mut flat, 600)?;
     let mut refused = 0u32;
     for cut in 0..3_200usize {
-        let heap = LocalHeap::new(rt.alloc(), LIST_HEAP)?;
-        let is_one = is_list_refused::<Flat<Global>, Blocks<&LocalHeap>>(
-            &flat,
-            rt.alloc(),
-            &heap,
-            &heap,
-            cut * 16,
-        )?;
+        let is_one = is_list_refused_in_heap(rt.alloc(), &flat, cut * 16)?;
         refused = refused.saturating_add(u32::from(is_one));
     }
     assert!(rt; refused > 2_000 && refused < 3_200, "{refused} refused");

@@ -34,6 +34,31 @@ fn is_list<A: Allocator + Copy>(pages: &Pages<u32, (), A>, list: &[u32]) -> bool
     at == list.len() && pages.len() == list.len()
 }
 
+/// Writes a number at a place of both, where there is one.
+fn write<A: Allocator + Copy>(pages: &mut Pages<u32, (), A>, list: &mut [u32], i: usize, x: u32) {
+    if i < list.len() && i < pages.len() {
+        list[i] = x;
+        pages.set(i, x);
+    }
+}
+
+/// Puts a number at a place of both, where there is one.
+fn insert<A: Allocator + Copy, B: Allocator>(
+    pages: &mut Pages<u32, (), A>,
+    list: &mut Vec<u32, B>,
+    i: usize,
+    x: u32,
+) -> Result<(), AllocError> {
+    if pages.spare() == 0 {
+        pages.reserve(1)?;
+    }
+    if i <= list.len() && i <= pages.len() {
+        list.insert(i, x)?;
+        pages.insert(i, x);
+    }
+    Ok(())
+}
+
 /// Puts a number at a place of both, or writes it there.
 fn put<A: Allocator + Copy, B: Allocator>(
     pages: &mut Pages<u32, (), A>,
@@ -43,18 +68,10 @@ fn put<A: Allocator + Copy, B: Allocator>(
     let i = pick(seed, list.len().saturating_add(1));
     let x = (seed >> 32) as u32;
     if seed % 8 == 0 && i < list.len() && i < pages.len() {
-        list[i] = x;
-        pages.set(i, x);
+        write(pages, list, i, x);
         return Ok(());
     }
-    if pages.spare() == 0 {
-        pages.reserve(1)?;
-    }
-    if i <= list.len() && i <= pages.len() {
-        list.insert(i, x)?;
-        pages.insert(i, x);
-    }
-    Ok(())
+    insert(pages, list, i, x)
 }
 
 /// Takes out what stands at a place of both; whether it was the same.
@@ -95,10 +112,8 @@ fn pages_are_the_list(rt: HostRuntime) -> Result<(), Fail> {
     Ok(())
 }
 
-/// Numbers put in order, found, written over and taken out by their size.
-#[test]
-fn pages_in_order(rt: HostRuntime) -> Result<(), Fail> {
-    let mut pages = Pages::new(rt.alloc());
+/// Puts the even numbers below 6,000 in order.
+fn fill_in_order<A: Allocator + Copy>(pages: &mut Pages<u32, (), A>) -> Result<(), AllocError> {
     pages.reserve(3_000)?;
     for k in 0..3_000u32 {
         let x = k * 7 % 3_000 * 2;
@@ -106,22 +121,67 @@ fn pages_in_order(rt: HostRuntime) -> Result<(), Fail> {
             pages.insert_in_order(&Under(x), x);
         }
     }
-    assert_eq!(rt; pages.len(), 3_000);
-    for k in 0..3_000u32 {
-        assert_eq!(rt; pages.seek(&Under(k * 2)), Some(k * 2));
-        assert_eq!(rt; pages.nth(0, &Under(k * 2), k as usize), Err(0));
-        assert_eq!(rt; pages.nth(k as usize, &Under(6_000), 0), Ok(k as usize));
-    }
-    assert_eq!(rt; pages.seek(&Under(6_000)), None);
-    assert_eq!(rt; pages.remove_in_order(&Under(6_000)), None);
-    assert!(rt; !pages.overwrite(&Under(5_998), &Under(5_998), 5_999));
-    assert!(rt; pages.overwrite(&Under(5_998), &Under(5_999), 5_999));
-    for k in 0..2_999u32 {
-        assert_eq!(rt; pages.remove_in_order(&Under(k)), Some(k * 2));
-    }
-    assert_eq!(rt; pages.remove_in_order(&Under(0)), Some(5_999));
-    assert_eq!(rt; pages.len(), 0);
     Ok(())
+}
+
+/// Whether the even number with so many below it is found by its size and by its place.
+fn is_found<A: Allocator + Copy>(pages: &Pages<u32, (), A>, k: u32) -> bool {
+    let x = k.wrapping_mul(2);
+    pages.seek(&Under(x)) == Some(x)
+        && pages.nth(0, &Under(x), k as usize) == Err(0)
+        && pages.nth(k as usize, &Under(6_000), 0) == Ok(k as usize)
+}
+
+/// Whether nothing is found above all, and the last number is written over where it is asked for.
+fn is_last_overwritten<A: Allocator + Copy>(pages: &mut Pages<u32, (), A>) -> bool {
+    pages.seek(&Under(6_000)) == None
+        && pages.remove_in_order(&Under(6_000)) == None
+        && !pages.overwrite(&Under(5_998), &Under(5_998), 5_999)
+        && pages.overwrite(&Under(5_998), &Under(5_999), 5_999)
+}
+
+/// Whether the first number that is not below this one is taken out, and is so great.
+fn is_taken<A: Allocator + Copy>(pages: &mut Pages<u32, (), A>, least: u32, x: u32) -> bool {
+    pages.remove_in_order(&Under(least)) == Some(x)
+}
+
+/// Numbers put in order, found, written over and taken out by their size.
+#[test]
+fn pages_in_order(rt: HostRuntime) -> Result<(), Fail> {
+    let mut pages = Pages::new(rt.alloc());
+    fill_in_order(&mut pages)?;
+    assert!(rt; pages.len() == 3_000);
+    for k in 0..3_000u32 {
+        assert!(rt; is_found(&pages, k));
+    }
+    assert!(rt; is_last_overwritten(&mut pages));
+    for k in 0..2_999u32 {
+        assert!(rt; is_taken(&mut pages, k, k * 2));
+    }
+    assert!(rt; is_taken(&mut pages, 0, 5_999));
+    assert!(rt; pages.len() == 0);
+    Ok(())
+}
+
+/// Whether a number is put under the number of the page that its place has, where there is room.
+fn is_placed<A: Allocator + Copy>(pages: &mut Pages<u32, (), A>, x: u32) -> bool {
+    let i = pages.len() / 3;
+    if pages.spare() == 0 {
+        return true;
+    }
+    let placed = pages.insert(i, x);
+    placed.page == pages.name_at(i)
+}
+
+/// Whether the place stands in the page of its number.
+fn is_in_page<A: Allocator + Copy>(pages: &Pages<u32, (), A>, i: usize) -> bool {
+    if i >= pages.len() {
+        return false;
+    }
+    match pages.named(pages.name_at(i)) {
+        Some((start, part)) => start <= i && i < start.saturating_add(part.len()),
+        None => false,
+    }
 }
 
 /// What stands under a page's number is there, after every cut.
@@ -130,17 +190,10 @@ fn pages_by_name(rt: HostRuntime) -> Result<(), Fail> {
     let mut pages: Pages<u32, (), Global> = Pages::new(rt.alloc());
     pages.reserve(4_000)?;
     for x in 0..4_000u32 {
-        let i = pages.len() / 3;
-        if pages.spare() > 0 {
-            let placed = pages.insert(i, x);
-            assert_eq!(rt; placed.page, pages.name_at(i));
-        }
+        assert!(rt; is_placed(&mut pages, x));
     }
     for i in 0..pages.len() {
-        match pages.named(pages.name_at(i)) {
-            Some((start, part)) => assert!(rt; start <= i && i < start.saturating_add(part.len())),
-            None => assert!(rt; false),
-        }
+        assert!(rt; is_in_page(&pages, i));
     }
     assert!(rt; pages.named(usize::MAX).is_none());
     Ok(())

@@ -1,13 +1,13 @@
 //! What waits in a room, and comes out by stamp.
 
-ghost use Rattle.std.specs.Prelude.{◌≡◌, true, IfOk, All};
+ghost use Rattle.std.specs.Prelude.{◌≡◌, true};
 ghost use Rattle.desk_ops.specs.Op.{IsLawful};
 ghost use Rattle.desk_room.specs.Waiting.{HasTarget};
 
-use desk_ops::{Key, Op, Stamp, Style, Symbol};
+use desk_ops::{Key, NoMemory, Op, Stamp, Style, Symbol};
 use desk_room::Room;
 use linked_list_allocator::LocalHeap;
-use std::alloc::Allocator;
+use std::alloc::{Allocator, Global};
 use std::test::Fail;
 
 fn at(counter: u64, site: u16) -> Stamp {
@@ -113,54 +113,119 @@ fn may_wait(op: &Op) -> bool
     op.check().is_ok() && op.target().is_some()
 }
 
-/// Operations of these counters that wait for one target.
-fn some_ops<'a>(heap: &'a LocalHeap, counters: [u64; 4]) -> Result<Vec<Op, &'a LocalHeap>, Fail>
-    ensures lawful { IfOk result (λ v. All IsLawful v.items) }
-    ensures targets { IfOk result (λ v. All HasTarget v.items) }
-{
-    let mut ops = Vec::new(heap);
-    for counter in counters {
-        let op = insert(at(counter, 1), at(1, 1));
-        if may_wait(&op) {
-            ops.push(op)?;
-        }
+/// An operation of this counter.
+fn op_of(counter: u64) -> Op {
+    insert(at(counter, 1), at(1, 1))
+}
+
+/// The room of four operations of these counters, which wait for one target.
+fn made<A: Allocator + Copy>(alloc: A, counters: [u64; 4]) -> Result<Room<A>, NoMemory> {
+    let [one, two, three, four] = counters;
+    let ops = [op_of(one), op_of(two), op_of(three), op_of(four)];
+    if may_wait(&ops[0]) && may_wait(&ops[1]) && may_wait(&ops[2]) && may_wait(&ops[3]) {
+        Room::from_ops(alloc, &ops)
+    } else {
+        Room::from_ops(alloc, &[])
     }
-    Ok(ops)
+}
+
+/// Whether a room of four is made, of which so many differ, and these come out by stamp.
+fn is_made<A: Allocator + Copy>(
+    alloc: A,
+    counters: [u64; 4],
+    number: usize,
+) -> Result<bool, NoMemory> {
+    let mut room = made(alloc, counters)?;
+    Ok(room.len() == number && come_out(&mut room, at(1, 1), number))
+}
+
+/// Whether a room has one operation, this one, and room for so many more.
+fn has_one<A: Allocator + Copy>(room: &Room<A>, op: &Op, spare: usize) -> bool {
+    room.spare() >= spare && room.len() == 1 && room.has(op)
+}
+
+/// Counters of which one comes twice.
+const TWICE: [u64; 4] = [4, 2, 3, 2];
+
+/// Counters that differ.
+const ONCE: [u64; 4] = [4, 2, 5, 3];
+
+/// Whether a reserve is refused: the room then has as much room as it had, and this operation alone.
+fn is_reserve_refused<A: Allocator + Copy>(room: &mut Room<A>, op: &Op) -> Result<bool, Fail> {
+    let spare = room.spare();
+    if room.reserve(600).is_ok() {
+        return Ok(false);
+    }
+    if has_one(room, op, spare) {
+        Ok(true)
+    } else {
+        Err(Fail::new("a refused reserve changed the room"))
+    }
+}
+
+/// Whether no room is made of four operations of these counters.
+fn is_unmade<A: Allocator + Copy>(alloc: A, counters: [u64; 4]) -> bool {
+    made(alloc, counters).is_err()
+}
+
+/// Whether a reserve is refused beside a ballast of so many bytes, and how many makings are.
+fn refused_beside<A: Allocator + Copy>(
+    alloc: A,
+    room: &mut Room<A>,
+    op: &Op,
+    bytes: usize,
+) -> Result<(u32, u32), Fail> {
+    let _ballast: Option<Vec<u8, A>> = Vec::with_capacity(alloc, bytes).ok();
+    let refused = is_reserve_refused(room, op)?;
+    let (twice, once) = (is_unmade(alloc, TWICE), is_unmade(alloc, ONCE));
+    Ok((
+        u32::from(refused),
+        u32::from(twice).saturating_add(u32::from(once)),
+    ))
+}
+
+/// Whether a room of one takes 600 more, gives out its one, and rooms are made beside it.
+fn goes_on<A: Allocator + Copy>(alloc: A, room: &mut Room<A>) -> Result<bool, NoMemory> {
+    room.reserve(600)?;
+    let is_right = room.spare() >= 600 && come_out(room, at(1, 1), 1);
+    Ok(is_right && is_made(alloc, TWICE, 3)? && is_made(alloc, ONCE, 4)?)
+}
+
+/// The refused reserves and the refused makings beside a ballast of so many bytes.
+fn refusals<A: Allocator + Copy>(alloc: A, bytes: usize) -> Result<(u32, u32), Fail> {
+    let op = op_of(2);
+    let mut room = Room::new(alloc);
+    if !wait(&mut room, op) {
+        return Err(Fail::new("the operation does not wait"));
+    }
+    let refused = refused_beside(alloc, &mut room, &op, bytes)?;
+    if goes_on(alloc, &mut room)? {
+        Ok(refused)
+    } else {
+        Err(Fail::new("another room"))
+    }
+}
+
+/// The same in a heap of its own.
+fn refusals_in_heap(alloc: Global, bytes: usize) -> Result<(u32, u32), Fail> {
+    let heap = LocalHeap::new(alloc, 262_144)?;
+    refusals(&heap, bytes)
 }
 
 /// Each growth of `reserve` and `from_ops` refused: the room is as it was, and the call repeated with memory does its work.
 #[test]
 fn refused_growths_of_room(rt: HostRuntime) -> Result<(), Fail> {
-    let ample = LocalHeap::new(rt.alloc(), 65536)?;
-    let twice = some_ops(&ample, [4, 2, 3, 2])?;
-    let once = some_ops(&ample, [4, 2, 5, 3])?;
-    let op = insert(at(2, 1), at(1, 1));
     let mut refused = 0u32;
     let mut unmade = 0u32;
     for cut in 0..128usize {
-        let heap = LocalHeap::new(rt.alloc(), 262_144)?;
-        let mut room = Room::new(&heap);
-        assert!(rt; wait(&mut room, op));
-        let spare = room.spare();
         let left = if cut < 80 {
             cut * 32
         } else {
             cut * 1024 - 79_000
         };
-        let ballast: Option<Vec<u8, &LocalHeap>> = Vec::with_capacity(&heap, 213_000 - left).ok();
-        if room.reserve(600).is_err() {
-            refused = refused.saturating_add(1);
-            assert!(rt; room.spare() >= spare && room.len() == 1 && room.has(&op));
-        }
-        unmade = unmade.saturating_add(u32::from(Room::from_ops(&heap, &twice).is_err()));
-        unmade = unmade.saturating_add(u32::from(Room::from_ops(&heap, &once).is_err()));
-        drop(ballast);
-        room.reserve(600)?;
-        assert!(rt; room.spare() >= 600 && come_out(&mut room, at(1, 1), 1));
-        let mut made = Room::from_ops(&heap, &twice)?;
-        assert!(rt; made.len() == 3 && come_out(&mut made, at(1, 1), 3));
-        made = Room::from_ops(&heap, &once)?;
-        assert!(rt; made.len() == 4 && come_out(&mut made, at(1, 1), 4));
+        let (one, more) = refusals_in_heap(rt.alloc(), 213_000 - left)?;
+        refused = refused.saturating_add(one);
+        unmade = unmade.saturating_add(more);
     }
     assert!(rt; refused > 40 && refused < 128 && unmade > 40 && unmade < 256);
     Ok(())
