@@ -27,7 +27,7 @@ fn put_code<A: Allocator + Copy>(out: &mut String<A>, ch: char) -> Result<(), Al
 }
 
 /// Writes a symbol by its style, its character and its code.
-fn put_name<A: Allocator + Copy>(out: &mut String<A>, symbol: Symbol) -> Result<(), AllocError>
+pub fn put_name<A: Allocator + Copy>(out: &mut String<A>, symbol: Symbol) -> Result<(), AllocError>
     ensures { OnOk result (string_bytes out.new ≡ string_bytes out.old ++ name_text symbol) }
 {
     out.push_str(style_word(symbol.style))?;
@@ -39,7 +39,7 @@ fn put_name<A: Allocator + Copy>(out: &mut String<A>, symbol: Symbol) -> Result<
 }
 
 /// Writes what surrounds a place: 24 symbols before it and after it.
-fn put_around<A: Allocator + Copy>(
+pub fn put_around<A: Allocator + Copy>(
     out: &mut String<A>,
     copy: &[Symbol],
     place: usize,
