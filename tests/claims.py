@@ -8,8 +8,8 @@ space continues the one before, and a label may stand more than once. The labels
   calls    on which calls
   clauses  `function/clause`, or `function` where its contract has one clause or all are meant; `Type::function/clause`
            where several types have a function of that name, or a type and no type
-  edits    wrong bodies that these clauses refuse: files must-fail/NAME.edit of the crate
-  apart    more of them, which the gate leaves out: files wrong-bodies/NAME.edit, tried by tests/wrong_bodies.py
+  edits    wrong bodies that these clauses refuse: files NAME.edit of the crate's must-fail, which `rt ci` tries, or of its
+           wrong-bodies, which tests/wrong_bodies.py tries
   tests    test functions of the crate, or files of this repository (a name with a dot)
   note     what else a reader must know
   state    `proved`, `tested only` or `open`
@@ -25,8 +25,8 @@ import sys
 ROOT = os.path.dirname(os.path.dirname(os.path.abspath(__file__)))
 CRATES, FOLDER = os.path.join(ROOT, "crates"), os.path.join(ROOT, "docs", "claims")
 STATES = {"proved": "clauses", "tested only": "tests", "open": None}
-LABELS = ("promise", "calls", "clauses", "edits", "apart", "tests", "note", "state")
-EDITS = {"edits": "must-fail", "apart": "wrong-bodies"}
+LABELS = ("promise", "calls", "clauses", "edits", "tests", "note", "state")
+EDITS = ("must-fail", "wrong-bodies")
 WIDEST, LONGEST = 120, 40
 SEEN = {}
 
@@ -86,17 +86,13 @@ def clause(crate, name):
     return None
 
 
+def folder_of(crate, name):
+    """The folder of a crate that has the edit, or none."""
+    return next((it for it in EDITS if os.path.isfile(os.path.join(CRATES, crate, it, name + ".edit"))), None)
+
+
 def edit(crate, name):
-    return an_edit(crate, name, "must-fail")
-
-
-def edit_apart(crate, name):
-    return an_edit(crate, name, "wrong-bodies")
-
-
-def an_edit(crate, name, folder):
-    there = os.path.isfile(os.path.join(CRATES, crate, folder, name + ".edit"))
-    return None if there else "no %s/%s in %s" % (folder, name, crate)
+    return None if folder_of(crate, name) else "no edit %s in %s" % (name, crate)
 
 
 def test(crate, name):
@@ -106,7 +102,7 @@ def test(crate, name):
     return None if any(re.search(word, text) for text in sources(crate)) else "no test %s in %s" % (name, crate)
 
 
-CHECKS = {"clauses": (clause, "::"), "edits": (edit, "/"), "apart": (edit_apart, "/"), "tests": (test, "::")}
+CHECKS = {"clauses": (clause, "::"), "edits": (edit, "/"), "tests": (test, "::")}
 
 
 def is_crate(name):
@@ -163,8 +159,8 @@ def judged(block, home, counts, named):
                 continue
             fault = check(crate, rest)
             faults += [fault] if fault else []
-            if label in EDITS:
-                named.add((crate, EDITS[label], rest))
+            if label == "edits":
+                named.add((crate, folder_of(crate, rest), rest))
     return ["%s: %s" % (block["where"], fault) for fault in faults]
 
 
@@ -197,7 +193,7 @@ def main(words):
                 faults.append("%s: this promise stands twice" % block["where"])
             said.add(block.get("promise"))
     for crate in sorted(os.listdir(CRATES)):
-        for part in EDITS.values():
+        for part in EDITS:
             folder = os.path.join(CRATES, crate, part)
             for name in sorted(os.listdir(folder)) if os.path.isdir(folder) else []:
                 if name.endswith(".edit") and (crate, part, name[:-5]) not in named:
@@ -207,8 +203,8 @@ def main(words):
     if words == ["--page"]:
         page(files)
     else:
-        told = len(said), counts["clauses"], counts["edits"], counts["apart"], counts["tests"]
-        print("%d promises: %d clauses, %d edits, %d edits apart, %d tests named" % told)
+        told = len(said), counts["clauses"], counts["edits"], counts["tests"]
+        print("%d promises: %d clauses, %d edits, %d tests named" % told)
     return 1 if faults else 0
 
 

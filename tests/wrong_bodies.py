@@ -1,40 +1,223 @@
 #!/usr/bin/env python3
-"""Tries the wrong bodies that the gate leaves out: each must be refused, as those of must-fail are.
+"""Tries wrong bodies, many in one check: the prover must refuse each at its own function.
 
-usage: wrong_bodies.py [CRATE ..]     of every crate that has some, or of those named
+usage: wrong_bodies.py [--built] [--named] [CRATE ..]    of every crate that has some, or of those named
 
-A wrong body costs the gate the time to read its crate anew and to search for a proof that there is not: one to three processor
-minutes in the upper crates. So `crates/NAME/must-fail` has of each promise and public function what says most, which the gate
-tries, and `crates/NAME/wrong-bodies` has the others. This puts them into the place of must-fail in a copy of the repository
-and runs `rt ci` of their crates there; what `rt ci` has proved on this machine it takes as proved. Run it after a change of
-such a crate. It ends with the status of `rt ci`.
+A wrong body is a bug written into a function on purpose, a file as of must-fail. A check reads a crate and all that it stands
+on before it looks at a goal, and a caller knows of a function what its contract says and no more. So wrong bodies of different
+functions are put into one copy of their crate, and only these functions are checked, with those that they call: each must have
+a goal of its own that is not proved, and not only a callee that is not. One that this does not show is tried again alone, the
+whole crate by the rule of `rt must-fail`: the prover reads the text, and does not prove it.
+
+`rt ci` tries those of `crates/NAME/must-fail`, and this those of `crates/NAME/wrong-bodies`; with --named both.
+With --built the libraries are those that `rt ci` has just proved in this tree, as in the gate; else those that are not built,
+or have changed since, are proved first. Lanes: RT_JOBS, or one for each processor as far as there are 4.5 GB for each.
+It ends with status 0 where each was refused, else with those that were not.
 """
+import concurrent.futures
+import importlib.machinery
+import importlib.util
+import os
 import pathlib
+import re
+import resource
 import shutil
 import subprocess
 import sys
 import tempfile
+import time
 
 ROOT = pathlib.Path(__file__).resolve().parent.parent
-FOLDER = "wrong-bodies"
+APART, NAMED = "wrong-bodies", "must-fail"
+FN = re.compile(r"^( *)(?:pub(?:\([^)]*\))? )?(?:const )?(?:unsafe )?fn (\w+)", re.M)
+OWNER = re.compile(r"^(?:impl|(?:pub )?trait)\b([^{;]*)", re.M)
+# A function's line where its own goals, and not only its callees, are what is lacking.
+OWN = re.compile(r"no proof: expected|not proved$")
+# What a text that the prover cannot read gives rise to.
+UNREAD = re.compile(r"is not in scope|has no field|is no name|operand is missing|expected the end|cannot continue")
 
 
-def main(names):
-    crates = sorted(it.parent.name for it in (ROOT / "crates").glob("*/" + FOLDER) if not names or it.parent.name in names)
-    if not crates:
-        print("no crate of these names has wrong bodies apart")
+def kit():
+    """The module of the kit that knows the crates and the words of a check."""
+    page = subprocess.run(["rt", "doc"], capture_output=True, text=True, check=True).stdout.strip()
+    sys.dont_write_bytecode = True
+    loader = importlib.machinery.SourceFileLoader("rtlib", os.path.dirname(page) + "/bin/rtlib.py")
+    made = importlib.util.module_from_spec(importlib.util.spec_from_loader("rtlib", loader))
+    sys.modules["rtlib"] = made
+    loader.exec_module(made)
+    return made
+
+
+def pairs_of(text):
+    """The (file, old, new) of a wrong body."""
+    out, file, old = [], None, None
+    for line in text.split("\n"):
+        if line.startswith("file: "):
+            file = line[len("file: "):].strip()
+        elif line.startswith("old: "):
+            old = line[len("old: "):]
+        elif line.startswith("new:"):
+            out.append((file, old, re.sub(r"\A ", "", line[len("new:"):])))
+    return out
+
+
+def ends(text, found):
+    """The place behind a function that begins there, as rustfmt lays it out."""
+    close = re.compile(r"^%s(?:\}|\{\}$)" % found[1], re.M)
+    end = close.search(text, found.end())
+    return end.end() if end else len(text)
+
+
+def function_at(file, text, place):
+    """The function that a place of a file is in: the path that `--only` takes, and how its line in a check begins; or none."""
+    found = [it for it in FN.finditer(text) if it.start() <= place < ends(text, it)]
+    module = file[len("src/"):-len(".rt")].replace("/", "::")
+    if not found or not file.startswith("src/"):
+        return None
+    name = found[-1][2]
+    if not found[-1][1]:
+        path = name if module == "lib" else module + "::" + name
+        return path, re.escape(path)
+    owner = [it for it in OWNER.finditer(text) if it.start() <= found[-1].start()]
+    if not owner or " for " in owner[-1][1] or owner[-1][0].lstrip().startswith(("trait", "pub trait")):
+        return None
+    plain = re.sub(r"<[^<>]*>", "", re.sub(r"<[^<>]*>", "", owner[-1][1])).strip().split("::")[-1].strip()
+    path = plain + "::" + name
+    return path, r"(?:\w+::)*" + re.escape(path)
+
+
+class Wrong:
+    """A wrong body of a crate: its texts, and the functions that it is in, none where it is not in functions alone."""
+
+    def __init__(self, crate, path):
+        self.name = "%s/%s" % (crate.name, path.stem)
+        self.pairs = pairs_of(path.read_text(encoding="utf-8"))
+        self.functions, self.bad = set(), None if self.pairs else "it has no 'old:' and 'new:' pair"
+        for file, old, _ in self.pairs:
+            text = pathlib.Path(crate.folder, file).read_text(encoding="utf-8")
+            if text.count(old) != 1:
+                self.bad = "its old text stands in %s %d times" % (file, text.count(old))
+                return
+            self.functions.add(function_at(file, text, text.find(old)))
+        if None in self.functions:
+            self.functions = set()
+
+    def is_refused(self, crate, lines):
+        """Whether one of its functions has a goal of its own that is not proved."""
+        for _, shape in self.functions:
+            told = [it for it in lines if re.match(r"fn %s::%s: " % (crate.name, shape), it)]
+            if len(told) == 1 and OWN.match(told[0].partition(": ")[2]):
+                return True
+        return False
+
+
+def groups_of(wrongs):
+    """The wrong bodies in as few groups as the first place gives, of which none has two of one function."""
+    out = []
+    for wrong in wrongs:
+        for group in out:
+            if not any(wrong.functions & it.functions for it in group):
+                group.append(wrong)
+                break
+        else:
+            out.append([wrong])
+    return out
+
+
+def checked(rtlib, crate, wrongs, kept, only):
+    """What a check of a copy of the crate with these wrong bodies says, and its status."""
+    with tempfile.TemporaryDirectory(prefix="rt-edit-") as room:
+        for part in rtlib.PARTS:
+            if os.path.isdir("%s/%s" % (crate.folder, part)):
+                shutil.copytree("%s/%s" % (crate.folder, part), "%s/%s" % (room, part))
+        for wrong in wrongs:
+            for file, old, new in wrong.pairs:
+                path = pathlib.Path(room, file)
+                path.write_text(path.read_text(encoding="utf-8").replace(old, new), encoding="utf-8")
+        words = [rtlib.RATTLE, "check", *crate.words(["--jobs", "1"], keeps=False), "--incremental", kept]
+        for it in sorted(only):
+            words += ["--only", it]
+        how = {"cwd": room, "stdin": subprocess.DEVNULL, "stdout": subprocess.PIPE, "stderr": subprocess.STDOUT, "errors": "replace"}
+        ran = subprocess.run([*rtlib.guarded(), *words], **how)
+        return ran.stdout.rstrip("\n").split("\n"), ran.returncode
+
+
+def refused_alone(rtlib, crate, wrong, kept):
+    """Whether the prover refuses the crate with this wrong body, by the rule of `rt must-fail`; and what it said."""
+    lines, status = checked(rtlib, crate, [wrong], kept, set())
+    for it in lines:
+        at = re.match(r"(?:\./)?(\S+?):\d+:\d+: error: (?:(`[^`]*`): )?(.*)", it)
+        if at and (at[1].startswith(("src/", "specs/"))) and (not at[2] or UNREAD.search(re.sub(r"`[^`]*`", "", at[3]))):
+            return False, "the prover cannot read it: " + it[:200]
+    if status == 1 and lines[-1].startswith("logic=not-proved"):
+        return True, ""
+    return False, "it is proved" if status == 0 else "it did not reach the prover: " + " / ".join(lines[-4:])[:400]
+
+
+def tried(rtlib, crate, wrongs):
+    """The wrong bodies that are not refused with what was said, and how many checks it took."""
+    faults, alone, checks = [(it.name, it.bad) for it in wrongs if it.bad], [], 0
+    wrongs = [it for it in wrongs if not it.bad]
+    with tempfile.TemporaryDirectory(prefix="rt-edits-") as kept:
+        for group in groups_of([it for it in wrongs if it.functions]):
+            lines, _ = checked(rtlib, crate, group, kept, {path for it in group for path, _ in it.functions})
+            checks += 1
+            alone += [it for it in group if not it.is_refused(crate, lines)]
+        for it in alone + [it for it in wrongs if not it.functions]:
+            is_refused, why = refused_alone(rtlib, crate, it, kept)
+            checks += 1
+            if not is_refused:
+                faults.append((it.name, why))
+    return faults, checks, len(alone)
+
+
+def lanes():
+    """How many checks run side by side."""
+    number = os.environ.get("RT_JOBS", "")
+    if number.isdigit() and int(number):
+        return int(number)
+    with open("/proc/meminfo", encoding="ascii") as file:
+        free = int(re.search(r"MemAvailable:\s+(\d+)", file.read())[1])
+    return max(1, min(os.cpu_count() or 1, free // 4_500_000))
+
+
+def main(words):
+    flags, names = {it for it in words if it.startswith("--")}, [it for it in words if not it.startswith("--")]
+    if flags - {"--built", "--named"}:
+        print(__doc__, file=sys.stderr)
         return 2
-    with tempfile.TemporaryDirectory(prefix="wrong-bodies-") as room:
-        copy = pathlib.Path(room) / "copy"
-        shutil.copytree(ROOT, copy, ignore=shutil.ignore_patterns("out"))
-        for it in (copy / "crates").iterdir():
-            shutil.rmtree(it / "must-fail", ignore_errors=True)
-        count = 0
-        for name in crates:
-            (copy / "crates" / name / FOLDER).rename(copy / "crates" / name / "must-fail")
-            count += len(list((copy / "crates" / name / "must-fail").glob("*.edit")))
-        print("%d wrong bodies of %s" % (count, " ".join(crates)), flush=True)
-        return subprocess.run(["rt", "ci", *crates], cwd=copy).returncode
+    os.chdir(ROOT)
+    rtlib = kit()
+    rtlib.guarded()
+    folders = [NAMED, APART] if "--named" in flags else [APART]
+    crates = [it for it in rtlib.crates_below(str(ROOT)) if not names or it.name in names]
+    work = []
+    for crate in crates:
+        paths = [it for folder in folders for it in sorted(pathlib.Path(crate.folder, folder).glob("*.edit"))]
+        if paths:
+            work.append((crate, [Wrong(crate, it) for it in paths]))
+    below = {dep.name: dep for crate, _ in work for dep in crate.below()}
+    has_stamps = any(os.path.exists("%s/out/rlib/stamp" % it.folder) for it in below.values())
+    if "--built" not in flags or has_stamps or not all(os.path.isdir(it.rlib) for it in below.values()):
+        for dep in sorted(below.values(), key=lambda it: len(it.below())):
+            if dep.build_rlib(["--jobs", "1"], anew=False):
+                print("wrong_bodies: %s is not proved" % dep.name)
+                return 1
+    began, count, faults = time.time(), 0, []
+    # (the dearest first, so that no lane is left alone with one at the end)
+    work.sort(key=lambda it: -it[0].count(rb"\n"))
+    with concurrent.futures.ThreadPoolExecutor(lanes()) as pool:
+        given = {pool.submit(tried, rtlib, crate, wrongs): (crate, wrongs) for crate, wrongs in work}
+        for it in concurrent.futures.as_completed(given):
+            crate, wrongs = given[it]
+            bad, checks, again = it.result()
+            count, faults = count + len(wrongs), faults + bad
+            print("%s: %d wrong bodies, %d refused, in %d checks (%d tried again alone)" % (crate.name, len(wrongs), len(wrongs) - len(bad), checks, again), flush=True)
+    used = resource.getrusage(resource.RUSAGE_CHILDREN)
+    print("%d wrong bodies, %d not refused, in %d seconds, %.1f minutes of processor" % (count, len(faults), time.time() - began, (used.ru_utime + used.ru_stime) / 60))
+    for name, why in faults:
+        print("wrong body not refused: %s: %s" % (name, why))
+    return 1 if faults else 0
 
 
 if __name__ == "__main__":
