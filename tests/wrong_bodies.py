@@ -31,7 +31,8 @@ ROOT = pathlib.Path(__file__).resolve().parent.parent
 APART, NAMED = "wrong-bodies", "must-fail"
 FN = re.compile(r"^( *)(?:pub(?:\([^)]*\))? )?(?:const )?(?:unsafe )?fn (\w+)", re.M)
 OWNER = re.compile(r"^(?:impl|(?:pub )?trait)\b([^{;]*)", re.M)
-# A function's line where its own goals, and not only its callees, are what is lacking.
+# What a check says of a function where its own goals, and not only its callees, are what is lacking: a goal that is not
+# proved, or an answer of its own that is refused (then an error stands in the folder of its proof).
 OWN = re.compile(r"no proof: expected|not proved$")
 # What a text that the prover cannot read gives rise to.
 UNREAD = re.compile(r"is not in scope|has no field|is no name|operand is missing|expected the end|cannot continue")
@@ -45,6 +46,9 @@ def kit():
     made = importlib.util.module_from_spec(importlib.util.spec_from_loader("rtlib", loader))
     sys.modules["rtlib"] = made
     loader.exec_module(made)
+    # (a crate's stamp is made of those of all below it, each of which is asked for again on every way down: here each once)
+    plain, known = made.Crate.stamp, {}
+    made.Crate.stamp = lambda crate: known[crate.folder] if crate.folder in known else known.setdefault(crate.folder, plain(crate))
     return made
 
 
@@ -79,11 +83,18 @@ def function_at(file, text, place):
         path = name if module == "lib" else module + "::" + name
         return path, re.escape(path)
     owner = [it for it in OWNER.finditer(text) if it.start() <= found[-1].start()]
-    if not owner or " for " in owner[-1][1] or owner[-1][0].lstrip().startswith(("trait", "pub trait")):
+    if not owner or re.match(r"(?:pub )?trait\b", owner[-1][0]):
         return None
-    plain = re.sub(r"<[^<>]*>", "", re.sub(r"<[^<>]*>", "", owner[-1][1])).strip().split("::")[-1].strip()
-    path = plain + "::" + name
-    return path, r"(?:\w+::)*" + re.escape(path)
+    said = re.sub(r"^\s*<[^<>]*(?:<[^<>]*>[^<>]*)*>", "", owner[-1][1])
+    trait, _, kind = said.rpartition(" for ")
+    kind = re.sub(r"<.*", "", kind, flags=re.S).strip().split("::")[-1].strip()
+    if not trait:
+        return kind + "::" + name, r"(?:\w+::)*%s::%s" % (re.escape(kind), re.escape(name))
+    # (rattle's name of an `impl Trait<A, ()> for Type` is TypeTraitAUnit)
+    plain, _, rest = trait.partition("<")
+    plain = plain.strip().split("::")[-1]
+    path = kind + plain + "".join(re.findall(r"\w+", rest.replace("()", "Unit"))) + "::" + name
+    return path, r"(?:\w+::)*%s%s\w*::%s" % (re.escape(kind), re.escape(plain), re.escape(name))
 
 
 class Wrong:
@@ -105,8 +116,12 @@ class Wrong:
     def is_refused(self, crate, lines):
         """Whether one of its functions has a goal of its own that is not proved."""
         for _, shape in self.functions:
-            told = [it for it in lines if re.match(r"fn %s::%s: " % (crate.name, shape), it)]
-            if len(told) == 1 and OWN.match(told[0].partition(": ")[2]):
+            told = [it for it in (re.match(r"fn %s::(%s): (.*)" % (crate.name, shape), line) for line in lines) if it]
+            if len(told) != 1:
+                continue
+            folder = "./proofs/%s/" % told[0][1].replace("::", "/")
+            has_error = any(it.startswith(folder) and ": error: " in it for it in lines)
+            if OWN.match(told[0][2]) or told[0][2].startswith("not proved; ") and has_error:
                 return True
         return False
 
@@ -159,9 +174,19 @@ def tried(rtlib, crate, wrongs):
     faults, alone, checks = [(it.name, it.bad) for it in wrongs if it.bad], [], 0
     wrongs = [it for it in wrongs if not it.bad]
     with tempfile.TemporaryDirectory(prefix="rt-edits-") as kept:
-        for group in groups_of([it for it in wrongs if it.functions]):
-            lines, _ = checked(rtlib, crate, group, kept, {path for it in group for path, _ in it.functions})
+        groups = groups_of([it for it in wrongs if it.functions])
+        while groups:
+            group = groups.pop(0)
+            lines, status = checked(rtlib, crate, group, kept, {path for it in group for path, _ in it.functions})
             checks += 1
+            if status == 2:
+                # (a path that fits no function, or several)
+                lines, _ = checked(rtlib, crate, group, kept, set())
+                checks += 1
+            if len(group) > 1 and not any(it.startswith("fn ") for it in lines):
+                # (one of them is none, and the text was not read)
+                groups += [group[: len(group) // 2], group[len(group) // 2 :]]
+                continue
             alone += [it for it in group if not it.is_refused(crate, lines)]
         for it in alone + [it for it in wrongs if not it.functions]:
             is_refused, why = refused_alone(rtlib, crate, it, kept)
