@@ -1,0 +1,5 @@
+pub mod Texts
+pub mod NextBox
+pub mod NextPlace
+pub mod NextLine
+pub mod Standing

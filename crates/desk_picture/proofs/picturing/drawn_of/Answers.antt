@@ -1,0 +1,54 @@
+use Rattle.std.proofs.Common.{◌≡◌, ◌∙◌, List, [], ◌∷◌, ap, ap₂, arith, inl, inr, length, rules, subst, sym}
+use Rattle.std.specs.Prelude.{Err}
+use Rattle.desk_ops.specs.Shown.{copy_of}
+use Rattle.desk_ops.specs.declared.op.Symbol.{Symbol}
+use Rattle.desk_replica.specs.declared.settings.Settings.{Settings}
+use Rattle.desk_job.specs.Answer.{AreValues, by_key}
+use Rattle.desk_job.specs.Job.{job}
+use Rattle.desk_job.proofs.Replicas.{copy_short, settings_in}
+use Rattle.desk_trial.specs.Trial.{tried_with}
+use Rattle.desk_preview.proofs.Galleys.{of_set}
+use Rattle.desk_picture.specs.Picture.{no_galley_picture, picture_text}
+use Rattle.desk_picture.proofs.Standing.{stand_in}
+use Rattle.desk_picture.proofs.picturing.drawn_of.Goals as goal
+
+pub make_galley-requires-clause-copy : goal.make_galley-requires-clause-copy
+make_galley-requires-clause-copy g c =
+    let short = copy_short c.args.replica.now.ops c.len-held.ensures.lawful in
+    let long = ap length (c.deref.ensures.value ∙ c.in_ok-copy.ensures) in
+    omega (arith, short, long, c.len-held.ensures.value, c.len-held.ensures.within)
+
+pub tried-settings-requires-clause-given : goal.tried-settings-requires-clause-given
+tried-settings-requires-clause-given g c = subst (λ (s : Settings). AreValues s) (sym c.settings-given.ensures) (settings_in c.args.replica.now.ops c.len-held.ensures.lawful)
+
+pub picture_of-requires-clause-copy : goal.picture_of-requires-clause-copy
+picture_of-requires-clause-copy g c =
+    let short = copy_short c.args.replica.now.ops c.len-held.ensures.lawful in
+    let long = ap length (c.deref-in-Ok.ensures.value ∙ c.in_ok-copy.ensures) in
+    omega (arith, short, long, c.len-held.ensures.value, c.len-held.ensures.within)
+
+pub picture_of-requires-clause-lines : goal.picture_of-requires-clause-lines
+picture_of-requires-clause-lines g c =
+    stand_in c.deref.result.now c.deref-in-Ok.result.now (by_key c.tried-settings.result) c.args.case.now c.args.wedge.now c.in-Ok.galley (c.deref.ensures.value ∙ sym c.deref-in-Ok.ensures.value) c.in-Ok.ensures.ok c.in-Ok.ensures.stands
+
+pub returns-in-Ok : goal.returns-in-Ok
+returns-in-Ok g c =
+    let galley = c.in-Ok.galley in
+    let copy = c.deref-in-Ok.ensures.value ∙ c.in_ok-copy.ensures in
+    let faults = c.deref-in-Ok-2.ensures.value ∙ c.in_ok-faults.ensures in
+    inl (
+      galley,
+      of_set c.args.replica.now.ops c.deref.result.now c.args.trial.now c.tried-settings.result c.args.case.now c.args.wedge.now galley (c.deref.ensures.value ∙ c.in_ok-copy.ensures) (c.tried-settings.ensures.value ∙ ap (tried_with c.args.trial.now) c.settings-given.ensures) c.in-Ok.ensures.ok,
+      c.in_ok-drawn-in-Ok.ensures ∙ ap₂ (λ l f. picture_text l f galley) copy faults,
+    )
+
+pub returns-in-Err-Fault : goal.returns-in-Err-Fault
+returns-in-Err-Fault g c =
+    let why = c.in-Err-Fault.why in
+    let copy = c.deref.ensures.value ∙ c.in_ok-copy.ensures in
+    let faults = c.deref-in-Err-Fault.ensures.value ∙ c.in_ok-faults.ensures in
+    let settings = c.tried-settings.ensures.value ∙ ap (tried_with c.args.trial.now) c.settings-given.ensures in
+    let refused : job c.deref.result.now (by_key c.tried-settings.result) c.args.case.now c.args.wedge.now ≡ Err (why ∷ []) = search rules in
+    let here = subst (λ (l : List Symbol). job l (by_key c.tried-settings.result) c.args.case.now c.args.wedge.now ≡ Err (why ∷ [])) copy refused in
+    let by_set = subst (λ (s : Settings). job (copy_of c.args.replica.now.ops) (by_key s) c.args.case.now c.args.wedge.now ≡ Err (why ∷ [])) settings here in
+    inr (why, by_set, c.in_ok-drawn-in-Err-Fault.ensures ∙ ap (λ f. no_galley_picture f why) faults)

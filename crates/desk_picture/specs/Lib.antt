@@ -1,0 +1,10 @@
+pub mod Sheet
+pub mod Widths
+pub mod Places
+pub mod Letters
+pub mod Words
+pub mod Boxes
+pub mod Lines
+pub mod Heads
+pub mod Picture
+pub mod Picturing

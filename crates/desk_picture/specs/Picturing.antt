@@ -1,0 +1,51 @@
+-- The picture of a stored feed's galley, stored under a name.
+use Rattle.std.specs.Prelude.{◌≡◌, ◌⊎◌, ℕ, List, [], ◌∷◌, Err}
+use Rattle.desk_ops.specs.OpSet.{OpSet}
+use Rattle.desk_ops.specs.Shown.{copy_of}
+use Rattle.desk_ops.specs.Faults.{faults_of}
+use Rattle.desk_case.specs.Case.{CaseValues}
+use Rattle.desk_wedge.specs.Wedge.{WedgeValues}
+use Rattle.desk_replica.specs.declared.settings.Settings.{Settings}
+use Rattle.desk_job.specs.Job.{job}
+use Rattle.desk_job.specs.declared.JobFault.{JobFault}
+use Rattle.desk_trial.specs.Trial.{tried}
+use Rattle.desk_galley.specs.Values.{GalleyValues}
+use Rattle.desk_galley.specs.Galley.{IsGalley}
+use Rattle.desk_files.specs.Files.{IsReplaced, Shelf, Stays}
+use Rattle.desk_stored.specs.Faults.{IsNotStored}
+use Rattle.desk_preview.specs.Sources.{AreRefused, Give, Sources}
+use Rattle.desk_preview.specs.declared.fault.PreviewFault.{PreviewFault}
+use Rattle.desk_preview.specs.declared.fault.PreviewFault.TheVariants as faults
+use Rattle.desk_picture.specs.Picture.{no_galley_picture, picture_text}
+
+-- the picture of a galley of the set, by its settings and those that are tried
+abbrev pub ShowsGalley : OpSet → CaseValues → WedgeValues → Settings → List ℕ → Type 0
+ShowsGalley set case wedge trial drawn =
+    (galley : GalleyValues) × IsGalley (copy_of set) (tried trial set) case wedge galley
+    × (drawn ≡ picture_text (copy_of set) (faults_of set) galley)
+
+-- there is no galley, for the one fault that the job by these settings has, and the picture says so
+abbrev pub ShowsNone : OpSet → CaseValues → WedgeValues → Settings → List ℕ → Type 0
+ShowsNone set case wedge trial drawn =
+    (why : JobFault) × (job (copy_of set) (tried trial set) case wedge ≡ Err (why ∷ [])) × (drawn ≡ no_galley_picture (faults_of set) why)
+
+-- what is drawn of a set by a case and a wedge
+abbrev pub IsDrawn : OpSet → CaseValues → WedgeValues → Settings → List ℕ → Type 0
+IsDrawn set case wedge trial drawn = ShowsGalley set case wedge trial drawn ⊎ ShowsNone set case wedge trial drawn
+
+-- what is drawn of what the sources give
+abbrev pub IsPictureOf : Sources → Shelf → Settings → List ℕ → Type 0
+IsPictureOf from shelf trial drawn = (set : OpSet) × (case : CaseValues) × (wedge : WedgeValues) × Give from shelf set case wedge × IsDrawn set case wedge trial drawn
+
+-- the target stands for that, and no other file has changed
+abbrev pub IsPictured : Sources → Settings → List ℕ → Shelf → Shelf → Type 0
+IsPictured from trial target before after = (drawn : List ℕ) × IsPictureOf from before trial drawn × IsReplaced target drawn before.kept after.kept
+
+-- Why no picture was stored. No file has changed but, where the picture was not stored, that of the writing.
+abbrev pub IsUnpictured : Sources → Settings → List ℕ → Shelf → Shelf → PreviewFault → Type 0
+IsUnpictured from trial target first last (faults.Feed why) = Stays first last × AreRefused from first last (faults.Feed why)
+IsUnpictured from trial target first last (faults.Input why) = Stays first last × AreRefused from first last (faults.Input why)
+IsUnpictured from trial target first last faults.Faulty = ⊥
+IsUnpictured from trial target first last faults.Write = ⊥
+IsUnpictured from trial target first last (faults.Unstored why) = (drawn : List ℕ) × IsPictureOf from first trial drawn × IsNotStored target first last why
+IsUnpictured from trial target first last faults.NoMemory = Stays first last

@@ -1,0 +1,212 @@
+//! A line of the galley.
+
+ghost use Rattle.std.specs.Prelude.{◌≡◌, ◌+◌, ◌++◌, ◌≤◌, ◌^◌, length, All, IfOk, OnOk, string_bytes};
+ghost use Rattle.std.specs.Fmt.{decimal};
+ghost use Rattle.desk_galley.specs.Galley.{Stands};
+ghost use Rattle.desk_picture.specs.Lines.{class_of, fault_text, line_at, line_boxes, line_text, line_words, lines_text, margin_text, number_text, text_at, text_end, words_at, words_end};
+
+use crate::boxes::put_fills;
+use crate::sheet::{Sheet, across, foot};
+use crate::widths::{drawn_space, frame_or};
+use crate::words::put_words;
+use desk_galley::Line;
+use desk_job::terms::Terms;
+use desk_ops::Symbol;
+use desk_proof::{begin_of, put_cause};
+use desk_svg::put_attribute;
+use itoa::Buffer;
+use std::alloc::{AllocError, Allocator};
+
+/// The end of a text.
+pub fn text_end() -> &'static str
+    ensures { result.now ≡ text_end }
+{
+    "</text>\n"
+}
+
+/// Writes the beginning of a text of a class that stands here.
+pub fn put_text_at<A: Allocator + Copy>(
+    out: &mut String<A>,
+    class: &str,
+    x: u128,
+    y: u128,
+) -> Result<(), AllocError>
+    ensures { OnOk result (string_bytes out.new ≡ string_bytes out.old ++ text_at class.now x y) }
+{
+    out.push_str("<text class=\"")?;
+    out.push_str(class)?;
+    out.push_str("\"")?;
+    put_attribute(out, "x", x)?;
+    put_attribute(out, "y", y)?;
+    out.push_str(">")
+}
+
+/// Writes a number.
+pub fn put_number<A: Allocator + Copy>(out: &mut String<A>, n: usize) -> Result<(), AllocError>
+    ensures { OnOk result (string_bytes out.new ≡ string_bytes out.old ++ decimal n) }
+{
+    let mut digits = Buffer::new();
+    out.push_str(digits.format(n))
+}
+
+/// Writes a number at the margin.
+fn put_margin_number<A: Allocator + Copy>(
+    out: &mut String<A>,
+    x: u128,
+    y: u128,
+    n: usize,
+) -> Result<(), AllocError>
+    ensures { OnOk result (string_bytes out.new ≡ string_bytes out.old ++ number_text x y n) }
+{
+    put_text_at(out, "n", x, y)?;
+    put_number(out, n)?;
+    out.push_str(text_end())
+}
+
+/// Writes the number of a line and its place.
+fn put_margin<A: Allocator + Copy>(
+    out: &mut String<A>,
+    y: u128,
+    line: &Line<A>,
+) -> Result<(), AllocError>
+    ensures { OnOk result (string_bytes out.new ≡ string_bytes out.old ++ margin_text y line.now) }
+{
+    put_margin_number(out, 4_000, y, line.number())?;
+    put_margin_number(out, 8_800, y, begin_of(line.words()))
+}
+
+fn class_of(is_faulty: bool) -> &'static str
+    ensures { result.now ≡ class_of is_faulty }
+{
+    if is_faulty { "w f" } else { "w" }
+}
+
+/// Writes the beginning of the text of a line.
+fn put_words_at<A: Allocator + Copy>(
+    out: &mut String<A>,
+    y: u128,
+    line: &Line<A>,
+) -> Result<(), AllocError>
+    ensures { OnOk result (string_bytes out.new ≡ string_bytes out.old ++ words_at y line.now) }
+{
+    out.push_str("<text class=\"")?;
+    out.push_str(class_of(line.is_faulty()))?;
+    out.push_str("\"")?;
+    put_attribute(out, "y", y)?;
+    out.push_str(">")
+}
+
+/// Writes the words of a line, and returns where they end, or the added space.
+fn put_line_words<A: Allocator + Copy>(
+    out: &mut String<A>,
+    terms: &Terms,
+    copy: &[Symbol],
+    sheet: Sheet,
+    y: u128,
+    line: &Line<A>,
+) -> Result<u128, AllocError>
+    requires copy { length copy.now ≤ 2 ^ 20 }
+    requires line { Stands copy.now terms.now.case line.now }
+    ensures text { OnOk result (string_bytes out.new ≡ string_bytes out.old ++ line_words terms.now copy.now sheet y line.now) }
+    ensures end { IfOk result (λ end. end ≡ words_end terms.now copy.now line.now) }
+    ensures limit { IfOk result (λ end. end ≤ 2 ^ 106) }
+{
+    let space = drawn_space(terms, line);
+    put_words_at(out, y, line)?;
+    let after = put_words(out, terms, copy, sheet.scale.pica, space, line.words())?;
+    out.push_str(text_end())?;
+    let beyond = if line.has_added() { 0 } else { space };
+    Ok(after.saturating_sub(beyond as u128))
+}
+
+/// Writes the boxes of the fills of a line, whose words end here.
+fn put_line_boxes<A: Allocator + Copy>(
+    out: &mut String<A>,
+    terms: &Terms,
+    copy: &[Symbol],
+    sheet: Sheet,
+    y: u128,
+    end: u128,
+    line: &Line<A>,
+) -> Result<(), AllocError>
+    requires end { end ≡ words_end terms.now copy.now line.now }
+    requires limit { end ≤ 2 ^ 106 }
+    requires fills { length line.now.fills ≤ length terms.now.case.fill }
+    ensures { OnOk result (string_bytes out.new ≡ string_bytes out.old ++ line_boxes terms.now copy.now sheet y line.now) }
+{
+    put_fills(out, sheet, y, end, line.fills(), terms.fill_widths())
+}
+
+/// Writes a fault beside its line.
+fn put_fault<A: Allocator + Copy>(
+    out: &mut String<A>,
+    terms: &Terms,
+    sheet: Sheet,
+    y: u128,
+    line: &Line<A>,
+) -> Result<(), AllocError>
+    ensures { OnOk result (string_bytes out.new ≡ string_bytes out.old ++ fault_text terms.now sheet y line.now line.now.faults) }
+{
+    let Some(fault) = line.fault() else {
+        return Ok(());
+    };
+    let x = across(sheet.scale.pica, frame_or(terms, line)) + 600;
+    put_text_at(out, "c", x, y)?;
+    put_cause(out, sheet.scale, line.wedge_sum(), fault)?;
+    out.push_str(text_end())
+}
+
+/// Writes a line that stands here.
+fn put_line_at<A: Allocator + Copy>(
+    out: &mut String<A>,
+    terms: &Terms,
+    copy: &[Symbol],
+    sheet: Sheet,
+    y: u128,
+    line: &Line<A>,
+) -> Result<(), AllocError>
+    requires copy { length copy.now ≤ 2 ^ 20 }
+    requires line { Stands copy.now terms.now.case line.now }
+    ensures { OnOk result (string_bytes out.new ≡ string_bytes out.old ++ line_at terms.now copy.now sheet y line.now) }
+{
+    put_margin(out, y, line)?;
+    let end = put_line_words(out, terms, copy, sheet, y, line)?;
+    put_line_boxes(out, terms, copy, sheet, y, end, line)?;
+    put_fault(out, terms, sheet, y, line)
+}
+
+/// Writes a line.
+fn put_line<A: Allocator + Copy>(
+    out: &mut String<A>,
+    terms: &Terms,
+    copy: &[Symbol],
+    sheet: Sheet,
+    line: &Line<A>,
+) -> Result<(), AllocError>
+    requires copy { length copy.now ≤ 2 ^ 20 }
+    requires top { sheet.top ≤ 2 ^ 100 }
+    requires line { Stands copy.now terms.now.case line.now }
+    ensures { OnOk result (string_bytes out.new ≡ string_bytes out.old ++ line_text terms.now copy.now sheet line.now) }
+{
+    let y = foot(sheet, line.number());
+    put_line_at(out, terms, copy, sheet, y, line)
+}
+
+/// Writes lines.
+pub fn put_lines<A: Allocator + Copy>(
+    out: &mut String<A>,
+    terms: &Terms,
+    copy: &[Symbol],
+    sheet: Sheet,
+    lines: &[Line<A>],
+) -> Result<(), AllocError>
+    requires copy { length copy.now ≤ 2 ^ 20 }
+    requires top { sheet.top ≤ 2 ^ 100 }
+    requires lines { All (Stands copy.now terms.now.case) lines.now }
+    ensures { OnOk result (string_bytes out.new ≡ string_bytes out.old ++ lines_text terms.now copy.now sheet lines.now) }
+{
+    for line in lines {
+        put_line(out, terms, copy, sheet, line)?;
+    }
+    Ok(())
+}

@@ -1,0 +1,264 @@
+//! A galley as a picture.
+
+ghost use Rattle.std.specs.Prelude.{◌≡◌, ◌+◌, ◌*◌, ◌++◌, ◌≤◌, ◌^◌, length, All, OnOk, string_bytes};
+ghost use Rattle.desk_galley.specs.Galley.{Stands};
+ghost use Rattle.desk_picture.specs.Picture.{begin_text, frame_height, frame_text, galley_frame, galley_height, group_text, looks_text, no_galley_picture, page_height, page_text, page_width, picture_on, picture_text, points_text, sheet_of, size_text, why_text, why_words};
+
+use crate::heads::{head_count, head_y, put_copy_faults, put_heads};
+use crate::lines::{put_lines, put_text_at, text_end};
+use crate::sheet::{EDGE, Sheet, across, leading};
+use crate::widths::widest;
+use desk_galley::Galley;
+use desk_job::JobFault;
+use desk_ops::{CopyFault, NoMemory, Symbol};
+use desk_proof::{cause, scale_of};
+use desk_svg::{put_attribute, put_hundredths};
+use std::alloc::{AllocError, Allocator};
+
+/// How the classes of texts and boxes look.
+fn looks() -> &'static str
+    ensures { result.now ≡ looks_text }
+{
+    "<style>text{font-family:Times New Roman,Liberation Serif,Times,serif;white-space:pre}.w{direction:ltr;unicode-bidi:bidi-override;font-variant-ligatures:none;font-kerning:none}.i{font-style:italic}.s{font-variant:small-caps;font-variant-caps:all-small-caps}.m{fill:#c00}.f,.c{fill:#b00}.c,.h,.n{font-family:sans-serif;font-size:8px}.n{fill:#777;text-anchor:end;user-select:none}.b{fill:#e4e9ef;stroke:#a9b4c0;stroke-width:.3}.frame{fill:#fff;stroke:#999;stroke-width:.5}</style>\n"
+}
+
+/// Writes the beginning of a picture, up to its size in points.
+fn put_size<A: Allocator + Copy>(
+    out: &mut String<A>,
+    width: u128,
+    height: u128,
+) -> Result<(), AllocError>
+    ensures { OnOk result (string_bytes out.new ≡ string_bytes out.old ++ size_text width height) }
+{
+    out.push_str(
+        "<svg xmlns=\"http://www.w3.org/2000/svg\" xml:space=\"preserve\" viewBox=\"0 0 ",
+    )?;
+    put_hundredths(out, width)?;
+    out.push_str(" ")?;
+    put_hundredths(out, height)?;
+    out.push_str("\" width=\"")
+}
+
+/// Writes the size of a picture in points.
+fn put_points<A: Allocator + Copy>(
+    out: &mut String<A>,
+    width: u128,
+    height: u128,
+) -> Result<(), AllocError>
+    ensures { OnOk result (string_bytes out.new ≡ string_bytes out.old ++ points_text width height) }
+{
+    put_hundredths(out, width)?;
+    out.push_str("pt\" height=\"")?;
+    put_hundredths(out, height)?;
+    out.push_str("pt\">\n")
+}
+
+/// Writes the beginning of a picture, its looks, and a sheet of paper.
+fn put_begin<A: Allocator + Copy>(
+    out: &mut String<A>,
+    width: u128,
+    height: u128,
+) -> Result<(), AllocError>
+    ensures { OnOk result (string_bytes out.new ≡ string_bytes out.old ++ begin_text width height) }
+{
+    put_size(out, width, height)?;
+    put_points(out, width, height)?;
+    out.push_str(looks())?;
+    out.push_str("<rect width=\"100%\" height=\"100%\" fill=\"#fbf9f2\"/>\n")
+}
+
+/// The sheet of a galley below so many heads.
+fn sheet_of<'a, A: Allocator>(galley: &Galley<'a, A>, heads: u128) -> Sheet
+    requires { heads ≤ 2 ^ 80 }
+    ensures value { result ≡ sheet_of galley.now heads }
+    ensures limit { result.top ≤ 2 ^ 96 }
+{
+    Sheet {
+        scale: scale_of(galley),
+        set: galley.wedge().set_q().get() as u32 * 25,
+        top: head_y(heads),
+    }
+}
+
+/// How high the frame of so many lines is.
+fn frame_height(sheet: Sheet, lines: usize) -> u128
+    ensures value { result ≡ frame_height sheet lines }
+    ensures limit { result ≤ 2 ^ 98 }
+{
+    leading(sheet) * lines as u128 + sheet.set as u128 / 2
+}
+
+/// Writes the frame of the measure.
+fn put_frame<A: Allocator + Copy>(
+    out: &mut String<A>,
+    sheet: Sheet,
+    width: u128,
+    high: u128,
+) -> Result<(), AllocError>
+    ensures { OnOk result (string_bytes out.new ≡ string_bytes out.old ++ frame_text sheet width high) }
+{
+    out.push_str("<rect class=\"frame\"")?;
+    put_attribute(out, "x", EDGE)?;
+    put_attribute(out, "y", sheet.top)?;
+    put_attribute(out, "width", width)?;
+    put_attribute(out, "height", high)?;
+    out.push_str("/>\n")
+}
+
+/// Writes the lines, in letters of the size of the set.
+fn put_group<'a, A: Allocator + Copy>(
+    out: &mut String<A>,
+    copy: &[Symbol],
+    sheet: Sheet,
+    galley: &Galley<'a, A>,
+) -> Result<(), AllocError>
+    requires copy { length copy.now ≤ 2 ^ 20 }
+    requires top { sheet.top ≤ 2 ^ 100 }
+    requires lines { All (Stands copy.now galley.now.terms.case) galley.now.lines }
+    ensures { OnOk result (string_bytes out.new ≡ string_bytes out.old ++ group_text copy.now sheet galley.now) }
+{
+    out.push_str("<g")?;
+    put_attribute(out, "font-size", sheet.set as u128)?;
+    out.push_str(">\n")?;
+    put_lines(out, galley.terms(), copy, sheet, galley.lines())?;
+    out.push_str("</g>\n")
+}
+
+/// How wide the picture of a galley is: 270 points beside the frame, or the widest line, are for the causes.
+fn page_width<'a, A: Allocator>(sheet: Sheet, galley: &Galley<'a, A>) -> u128
+    ensures { result ≡ page_width sheet galley.now }
+{
+    across(sheet.scale.pica, widest(galley.terms(), galley.lines())) + 27_000
+}
+
+/// How high the frame of a galley is.
+fn galley_height<'a, A: Allocator>(sheet: Sheet, galley: &Galley<'a, A>) -> u128
+    ensures value { result ≡ galley_height sheet galley.now }
+    ensures limit { result ≤ 2 ^ 98 }
+{
+    frame_height(sheet, galley.lines().len())
+}
+
+/// How high the picture of a galley is.
+fn page_height<'a, A: Allocator>(sheet: Sheet, galley: &Galley<'a, A>) -> u128
+    requires { sheet.top ≤ 2 ^ 100 }
+    ensures { result ≡ page_height sheet galley.now }
+{
+    sheet.top + (galley_height(sheet, galley) + 1_000)
+}
+
+/// Writes the beginning of the picture of a galley.
+fn put_page<'a, A: Allocator + Copy>(
+    out: &mut String<A>,
+    sheet: Sheet,
+    galley: &Galley<'a, A>,
+) -> Result<(), AllocError>
+    requires { sheet.top ≤ 2 ^ 100 }
+    ensures { OnOk result (string_bytes out.new ≡ string_bytes out.old ++ page_text sheet galley.now) }
+{
+    let width = page_width(sheet, galley);
+    let height = page_height(sheet, galley);
+    put_begin(out, width, height)
+}
+
+/// Writes the frame of a galley.
+fn put_galley_frame<'a, A: Allocator + Copy>(
+    out: &mut String<A>,
+    sheet: Sheet,
+    galley: &Galley<'a, A>,
+) -> Result<(), AllocError>
+    ensures { OnOk result (string_bytes out.new ≡ string_bytes out.old ++ galley_frame sheet galley.now) }
+{
+    let height = galley_height(sheet, galley);
+    let values = galley.values();
+    put_frame(out, sheet, values.measure as u128 * 100, height)
+}
+
+/// Writes a galley on a sheet.
+fn put_picture_on<'a, A: Allocator + Copy>(
+    out: &mut String<A>,
+    copy: &[Symbol],
+    faults: &[CopyFault],
+    galley: &Galley<'a, A>,
+    sheet: Sheet,
+) -> Result<(), AllocError>
+    requires copy { length copy.now ≤ 2 ^ 20 }
+    requires top { sheet.top ≤ 2 ^ 100 }
+    requires lines { All (Stands copy.now galley.now.terms.case) galley.now.lines }
+    ensures { OnOk result (string_bytes out.new ≡ string_bytes out.old ++ picture_on copy.now faults.now galley.now sheet) }
+{
+    put_page(out, sheet, galley)?;
+    put_heads(out, copy, faults, galley)?;
+    put_galley_frame(out, sheet, galley)?;
+    put_group(out, copy, sheet, galley)?;
+    out.push_str("</svg>\n")
+}
+
+/// Writes a galley of a copy of at most 1,048,576 symbols as a picture in the form SVG at the end, and the faults of the
+/// copy, which mean that a correction is not shown.
+pub fn put_picture<'a, A: Allocator + Copy>(
+    out: &mut String<A>,
+    copy: &[Symbol],
+    faults: &[CopyFault],
+    galley: &Galley<'a, A>,
+) -> Result<(), NoMemory>
+    requires copy { length copy.now ≤ 2 ^ 20 }
+    requires lines { All (Stands copy.now galley.now.terms.case) galley.now.lines }
+    ensures { OnOk result (string_bytes out.new ≡ string_bytes out.old ++ picture_text copy.now faults.now galley.now) }
+{
+    let sheet = sheet_of(galley, head_count(faults, galley));
+    put_picture_on(out, copy, faults, galley, sheet)?;
+    Ok(())
+}
+
+/// Writes why there is no galley, in words.
+fn put_why_words<A: Allocator + Copy>(out: &mut String<A>, why: JobFault) -> Result<(), AllocError>
+    ensures { OnOk result (string_bytes out.new ≡ string_bytes out.old ++ why_words why) }
+{
+    out.push_str("no galley: ")?;
+    out.push_str(cause(why))
+}
+
+/// Writes why there is no galley.
+fn put_why<A: Allocator + Copy>(
+    out: &mut String<A>,
+    y: u128,
+    why: JobFault,
+) -> Result<(), AllocError>
+    ensures { OnOk result (string_bytes out.new ≡ string_bytes out.old ++ why_text y why) }
+{
+    put_text_at(out, "c", 1_000, y)?;
+    put_why_words(out, why)?;
+    out.push_str(text_end())
+}
+
+/// Writes a picture that tells the faults of a copy, of which there are so many, and why it has no galley.
+fn put_none<A: Allocator + Copy>(
+    out: &mut String<A>,
+    faults: &[CopyFault],
+    why: JobFault,
+    count: u128,
+) -> Result<(), AllocError>
+    requires value { count ≡ length faults.now }
+    requires limit { count ≤ 2 ^ 64 }
+    ensures { OnOk result (string_bytes out.new ≡ string_bytes out.old ++ no_galley_picture faults.now why) }
+{
+    let height = head_y(count + 1);
+    let y = head_y(count);
+    put_begin(out, 50_000, height)?;
+    put_copy_faults(out, faults)?;
+    put_why(out, y, why)?;
+    out.push_str("</svg>\n")
+}
+
+/// Writes a picture at the end that tells the faults of a copy and why it has no galley.
+pub fn put_no_galley_picture<A: Allocator + Copy>(
+    out: &mut String<A>,
+    faults: &[CopyFault],
+    why: JobFault,
+) -> Result<(), NoMemory>
+    ensures { OnOk result (string_bytes out.new ≡ string_bytes out.old ++ no_galley_picture faults.now why) }
+{
+    put_none(out, faults, why, faults.len() as u128)?;
+    Ok(())
+}

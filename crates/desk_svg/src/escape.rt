@@ -1,0 +1,49 @@
+//! Characters as they are written in XML.
+
+ghost use Rattle.std.specs.Prelude.{◌≡◌, ◌++◌, OnOk, string_bytes};
+ghost use Rattle.std.specs.Str.{chars};
+ghost use Rattle.desk_svg.specs.Escape.{allowed, escaped, escaped_char, is_allowed};
+
+use std::alloc::{AllocError, Allocator};
+
+/// Whether XML 1.0 allows a character.
+fn is_allowed(ch: char) -> bool
+    ensures { result ≡ is_allowed ch }
+{
+    let code = ch as u32;
+    code == 9 || code == 10 || code == 13 || (code >= 32 && code != 0xFFFE && code != 0xFFFF)
+}
+
+/// A character, or U+FFFD in place of one that XML 1.0 does not allow.
+fn allowed(ch: char) -> char
+    ensures { result ≡ allowed ch }
+{
+    if is_allowed(ch) { ch } else { '\u{FFFD}' }
+}
+
+/// Writes a character at the end as it stands in a text of XML, or between the quotes of an attribute: `&`, `<`, `>` and `"`
+/// by their names, and U+FFFD in place of a character that XML 1.0 does not allow. It fails only for want of memory.
+pub fn put_escaped<A: Allocator + Copy>(out: &mut String<A>, ch: char) -> Result<(), AllocError>
+    ensures { OnOk result (string_bytes out.new ≡ string_bytes out.old ++ escaped_char ch) }
+{
+    match ch {
+        '&' => out.push_str("&amp;"),
+        '<' => out.push_str("&lt;"),
+        '>' => out.push_str("&gt;"),
+        '"' => out.push_str("&quot;"),
+        ch => out.push(allowed(ch)),
+    }
+}
+
+/// Writes the characters of a text at the end, each as `put_escaped` does.
+pub fn put_escaped_str<A: Allocator + Copy>(
+    out: &mut String<A>,
+    text: &str,
+) -> Result<(), AllocError>
+    ensures { OnOk result (string_bytes out.new ≡ string_bytes out.old ++ escaped (chars text.now)) }
+{
+    for ch in text.chars() {
+        put_escaped(out, ch)?;
+    }
+    Ok(())
+}

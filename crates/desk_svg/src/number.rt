@@ -1,0 +1,42 @@
+//! Numbers with two decimals.
+
+ghost use Rattle.std.specs.Prelude.{◌≡◌, ◌++◌, OnOk, string_bytes};
+ghost use Rattle.std.specs.Fmt.{decimal};
+ghost use Rattle.desk_svg.specs.Number.{attribute_text, hundredths_text};
+
+use itoa::Buffer;
+use std::alloc::{AllocError, Allocator};
+
+/// Writes a number at the end.
+fn put_number<A: Allocator + Copy>(out: &mut String<A>, n: u128) -> Result<(), AllocError>
+    ensures { OnOk result (string_bytes out.new ≡ string_bytes out.old ++ decimal n) }
+{
+    let mut digits = Buffer::new();
+    out.push_str(digits.format(n))
+}
+
+/// Writes so many hundredths at the end, as `12.34`. It fails only for want of memory.
+pub fn put_hundredths<A: Allocator + Copy>(out: &mut String<A>, n: u128) -> Result<(), AllocError>
+    ensures { OnOk result (string_bytes out.new ≡ string_bytes out.old ++ hundredths_text n) }
+{
+    put_number(out, n / 100)?;
+    out.push_str(".")?;
+    put_number(out, n / 10 % 10)?;
+    put_number(out, n % 10)
+}
+
+/// Writes an attribute of this name at the end, whose value is so many hundredths, behind a space: ` x="12.34"`. It fails
+/// only for want of memory.
+pub fn put_attribute<A: Allocator + Copy>(
+    out: &mut String<A>,
+    name: &str,
+    n: u128,
+) -> Result<(), AllocError>
+    ensures { OnOk result (string_bytes out.new ≡ string_bytes out.old ++ attribute_text name.now n) }
+{
+    out.push_str(" ")?;
+    out.push_str(name)?;
+    out.push_str("=\"")?;
+    put_hundredths(out, n)?;
+    out.push_str("\"")
+}
