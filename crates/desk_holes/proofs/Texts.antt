@@ -1,0 +1,8 @@
+-- A number between two texts.
+use Rattle.std.proofs.Common.{◌≡◌, ℕ, List, ◌++◌, subst}
+use Rattle.std.specs.Prelude.{OnOk, Result}
+use Rattle.desk_holes.specs.Parts.{between}
+
+-- the same number
+pub same_number : {E : Type 0} (r : Result (Unit {0}) E) (out after front back : List ℕ) (n m : ℕ) → n ≡ m → OnOk r (after ≡ out ++ between front n back) → OnOk r (after ≡ out ++ between front m back)
+same_number r out after front back n m same h = subst (λ (k : ℕ). OnOk r (after ≡ out ++ between front k back)) same h

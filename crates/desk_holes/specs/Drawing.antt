@@ -1,0 +1,41 @@
+-- The picture of a ribbon's file, stored under a name.
+use Rattle.std.specs.Prelude.{◌≡◌, ◌≢◌, ℕ, Bool, true, false, List}
+use Rattle.desk_signals.specs.declared.RibbonRow.{RibbonRow}
+use Rattle.desk_case.specs.Case.{CaseValues}
+use Rattle.desk_wedge.specs.Wedge.{WedgeValues}
+use Rattle.desk_caster.specs.Reading.{IsRibbon, Tells}
+use Rattle.desk_caster.specs.declared.RibbonFault.{RibbonFault}
+use Rattle.desk_caster.specs.declared.RibbonFault.TheVariants as ribbons
+use Rattle.desk_files.specs.Files.{IsReplaced, Shelf, Stays}
+use Rattle.desk_stored.specs.Faults.{IsNotStored}
+use Rattle.desk_reading.specs.Sources.{AreRefused, Give, Sources}
+use Rattle.desk_reading.specs.declared.fault.ReadingFault.{ReadingFault}
+use Rattle.desk_reading.specs.declared.fault.ReadingFault.TheVariants as faults
+use Rattle.desk_holes.specs.Picture.{picture_text}
+
+-- this is the picture of the rows whose ribbon the bytes are, by a case
+abbrev pub IsPicture : List ℕ → CaseValues → List ℕ → Type 0
+IsPicture bytes case picture = (rows : List RibbonRow) × IsRibbon bytes rows × (picture ≡ picture_text rows case)
+
+-- so it is of the bytes that the ribbon's name stands for, by the case that the one file gives
+abbrev pub IsPictureOf : Sources → Shelf → List ℕ → Type 0
+IsPictureOf from shelf picture = (bytes : List ℕ) × (case : CaseValues) × (wedge : WedgeValues) × Give from shelf bytes case wedge × IsPicture bytes case picture
+
+-- those bytes are no ribbon, for their first fault
+abbrev pub HasNoPicture : Sources → Shelf → Type 0
+HasNoPicture from shelf =
+    (bytes : List ℕ) × (case : CaseValues) × (wedge : WedgeValues) × Give from shelf bytes case wedge
+    × (why : RibbonFault) × Tells bytes why × (why ≢ ribbons.NoMemory)
+
+-- the target stands for the picture; or there is none, and no file has changed
+abbrev pub IsDrawn : Sources → List ℕ → Shelf → Shelf → Bool → Type 0
+IsDrawn from target before after true = (picture : List ℕ) × IsPictureOf from before picture × IsReplaced target picture before.kept after.kept
+IsDrawn from target before after false = HasNoPicture from before × (after ≡ before)
+
+-- Why no picture was stored. No file has changed but, where it was not stored, that of the writing.
+abbrev pub IsUndrawn : Sources → List ℕ → Shelf → Shelf → ReadingFault → Type 0
+IsUndrawn from target first last (faults.Ribbon why) = Stays first last × AreRefused from first last (faults.Ribbon why)
+IsUndrawn from target first last (faults.Input why) = Stays first last × AreRefused from first last (faults.Input why)
+IsUndrawn from target first last faults.Write = ⊥
+IsUndrawn from target first last (faults.Unstored why) = (picture : List ℕ) × IsPictureOf from first picture × IsNotStored target first last why
+IsUndrawn from target first last faults.NoMemory = Stays first last

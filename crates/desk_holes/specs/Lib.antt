@@ -1,0 +1,5 @@
+pub mod Parts
+pub mod Channels
+pub mod Rows
+pub mod Picture
+pub mod Drawing

@@ -1,0 +1,80 @@
+//! The picture of a ribbon's file, stored under a name.
+
+ghost use Rattle.std.specs.Prelude.{◌≡◌, IfErr, IfOk, OnOk, string_bytes};
+ghost use Rattle.desk_caster.specs.Reading.{Tells};
+ghost use Rattle.desk_caster.specs.declared.RibbonFault.TheVariants as fault;
+ghost use Rattle.desk_holes.specs.Drawing.{IsDrawn, IsPicture, IsUndrawn};
+ghost use Rattle.desk_holes.specs.Picture.{picture_text};
+ghost use Rattle.desk_reading.specs.Sources.{sources};
+
+use crate::picture::put_holes;
+use desk_case::MatrixCase;
+use desk_caster::{RibbonFault, read_ribbon};
+use desk_files::{Files, store};
+use desk_inputs::Memory;
+use desk_reading::{ReadingFault, take_in};
+use desk_signals::RibbonRow;
+use std::alloc::Allocator;
+
+/// The picture of rows.
+fn picture_of<A: Allocator + Copy>(
+    alloc: A,
+    rows: &[RibbonRow],
+    case: &MatrixCase,
+) -> Result<String<A>, RibbonFault>
+    ensures ok { IfOk result (λ s. string_bytes s ≡ picture_text rows.now case.now) }
+    ensures err { IfErr result (λ e. e ≡ fault.NoMemory) }
+{
+    let mut out = String::new(alloc);
+    match put_holes(&mut out, rows, case) {
+        Ok(()) => Ok(out),
+        Err(_) => Err(RibbonFault::NoMemory),
+    }
+}
+
+/// The picture of a ribbon's bytes, or their first fault.
+fn drawn<A: Allocator + Copy>(
+    alloc: A,
+    bytes: &[u8],
+    case: &MatrixCase,
+) -> Result<String<A>, RibbonFault>
+    ensures ok { IfOk result (λ s. IsPicture bytes.now case.now (string_bytes s)) }
+    ensures err { IfErr result (Tells bytes.now) }
+{
+    match read_ribbon(alloc, bytes) {
+        Ok(rows) => picture_of(alloc, &rows, case),
+        Err(why) => Err(why),
+    }
+}
+
+/// Draws a ribbon by a case as `put_holes` does, and stores the picture under the name of a target. It is true exactly where
+/// it did so, and false where the file's bytes are no ribbon: then no file changes, and `read_job` tells why. Rows that the
+/// caster would not cast are drawn too. The wedge is read, so that the refusals are those of `read_job`, and not used. No name
+/// is taken. A target that is the ribbon, the case or the wedge is replaced as any other; where the picture is not stored
+/// none but `name.new` may have changed.
+pub fn draw_ribbon<F: Files, A: Allocator + Copy>(
+    memory: Memory<A>,
+    files: &mut F,
+    ribbon: &str,
+    case: &str,
+    wedge: &str,
+    target: &str,
+) -> Result<bool, ReadingFault>
+    ensures ok { IfOk result (IsDrawn (sources ribbon.now case.now wedge.now) target.now (F.shelf files.old) (F.shelf files.new)) }
+    ensures counted { OnOk result ((F.shelf files.new).failures ≡ (F.shelf files.old).failures) }
+    ensures err { IfErr result (IsUndrawn (sources ribbon.now case.now wedge.now) target.now (F.shelf files.old) (F.shelf files.new)) }
+    ensures held { (F.shelf files.new).held ≡ (F.shelf files.old).held }
+{
+    let (bytes, case, _) = match take_in(memory, files, ribbon, case, wedge) {
+        Ok(taken) => taken,
+        Err(why) => return Err(why),
+    };
+    match drawn(memory.own, &bytes, &case) {
+        Ok(picture) => match store(memory.own, files, target, picture.as_bytes()) {
+            Ok(()) => Ok(true),
+            Err(why) => Err(ReadingFault::Unstored(why)),
+        },
+        Err(RibbonFault::NoMemory) => Err(ReadingFault::NoMemory),
+        Err(_) => Ok(false),
+    }
+}

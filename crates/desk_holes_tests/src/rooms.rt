@@ -1,0 +1,58 @@
+//! The files of the tests.
+
+use desk_files::trial::TrialFiles;
+use desk_inputs::Memory;
+use std::alloc::{AllocError, Global};
+
+const WEDGE: &[u8] =
+    b"wedge = 5\nset_q = 48\npica = \"sixth\"\nunits = [5, 6, 7, 8, 9, 9, 9, 10, 10, 11, 12, 13, 14, 15, 18]\n";
+
+const CASE: &[u8] = b"case = 1\nspace = \"G1\"\nfill = [\"O15\", \"A5\"]\n";
+
+#[rattlefmt::skip]
+const ROWS: &[u8] =
+    b"rows = [\n\
+ [\"<\",\"\",\"\",\"\",\"\",\"\",\"\",\"\",\"\",\"\",\"\",\"\",\"\",\"\",\"\"],\n\
+ [\"\",\"\",\"\",\"\",\"\",\"\",\"\",\"\",\"\",\"\",\"\",\"\",\"\",\"\",\"\"],\n\
+ [\"\",\"\",\"\",\"\",\"\",\"\",\"\",\"\",\"\",\"\",\"\",\"\",\"\",\"\",\"\"],\n\
+ [\"\",\"\",\"\",\"\",\"\",\"\",\"\",\"\",\"\",\"\",\"\",\"\",\"\",\"\",\"\"],\n\
+ [\"\",\"a\",\"i:a\",\"\",\"\",\"\",\"\",\"\",\"\",\"\",\"\",\"\",\"\",\"\",\"\"],\n\
+ [\"\",\"\",\"\",\"\",\"\",\"\",\"\",\"\",\"\",\"\",\"\",\"\",\"\",\"\",\"\"],\n\
+ [\"\",\"\",\"\",\"\",\"\",\"\",\"\",\"\",\"\",\"\",\"\",\"\",\"\",\"\",\"\"],\n\
+ [\"\",\"\",\"\",\"\",\"\",\"\",\"\",\"\",\"\",\"\",\"\",\"\",\"\",\"\",\"\"],\n\
+ [\"\",\"\",\"\",\"\",\"\",\"\",\"\",\"\",\"\",\"\",\"\",\"\",\"\",\"\",\"\"],\n\
+ [\"\",\"\",\"\",\"\",\"\",\"\",\"\",\"\",\"\",\"\",\"\",\"\",\"\",\"\",\"\"],\n\
+ [\"\",\"\",\"\",\"\",\"\",\"\",\"\",\"\",\"\",\"\",\"\",\"\",\"\",\"\",\"\"],\n\
+ [\"\",\"\",\"\",\"\",\"\",\"\",\"\",\"\",\"\",\"\",\"\",\"\",\"\",\"\",\"\"],\n\
+ [\"\",\"\",\"\",\"\",\"\",\"\",\"\",\"\",\"\",\"\",\"\",\"\",\"\",\"\",\"\"],\n\
+ [\"\",\"\",\"\",\"\",\"\",\"\",\"\",\"\",\"\",\"\",\"\",\"\",\"\",\"\",\"\"],\n\
+ [\"\",\"\",\"\",\"\",\"\",\"\",\"\",\"\",\"\",\"\",\"\",\"\",\"\",\"\",\"\"]\n]\n";
+
+/// The head, A1, C5, G1 with S, O15, B1, and the wedges at 3 and 10.
+const RIBBON: &[u8] =
+    b"MRB1\0\0\0\x08\0\0\x02\x06\x40\x01\0\0\x10\0\x10\0\x01\x01\0\x01\0\0\0\0\x20\x01\0\0\0\0\x40\x02\0\0\0\x86";
+
+/// What stands under the target before a picture is stored there.
+pub const OLD: &[u8] = b"old";
+
+/// Files of which the k-th call fails: a ribbon, bytes that are none, a case, a wedge, and what stands under the target.
+pub fn rooms(alloc: Global, k: u64) -> Result<TrialFiles<Global>, AllocError> {
+    let mut files = TrialFiles::new(alloc).failing_at_call(k);
+    files.put("ribbon", RIBBON)?;
+    files.put("cut", b"MRB1\0\0\0\x02\0\0\x02\x06")?;
+    let mut case = Vec::new(alloc);
+    case.extend_from_slice(CASE)?;
+    case.extend_from_slice(ROWS)?;
+    files.put("c", &case)?;
+    files.put("w", WEDGE)?;
+    files.put("a.svg", OLD)?;
+    Ok(files)
+}
+
+/// All memory is the global.
+pub fn memory(alloc: Global) -> Memory<Global> {
+    Memory {
+        own: alloc,
+        global: alloc,
+    }
+}

@@ -1,0 +1,49 @@
+-- The first fault of a ribbon, on one line.
+use Rattle.std.specs.Prelude.{ℕ, List, ◌++◌, codes}
+use Rattle.std.specs.Fmt.{decimal}
+use Rattle.desk_signals.specs.declared.BadRow.{BadRow}
+use Rattle.desk_signals.specs.declared.BadRow.TheVariants as rows
+use Rattle.desk_image.specs.declared.BadImage.{BadImage}
+use Rattle.desk_image.specs.declared.BadImage.TheVariants as images
+use Rattle.desk_caster.specs.declared.RibbonFault.{RibbonFault}
+use Rattle.desk_caster.specs.declared.RibbonFault.TheVariants as ribbons
+use Rattle.desk_caster.specs.declared.CastFault.{CastFault}
+use Rattle.desk_caster.specs.declared.CastFault.TheVariants as casts
+
+-- why signals are no row
+abbrev pub row_words : BadRow → List ℕ
+row_words rows.TwoLetters = codes "two letters that name no column"
+row_words rows.TwoNumbers = codes "two numbers"
+row_words rows.FineAlone = codes "0005 without 0075"
+row_words rows.WedgeWithLetter = codes "0075 with a letter"
+row_words rows.WedgeWithS = codes "0075 with S"
+row_words rows.Repeated = codes "a signal stands twice"
+
+-- why an image is no row
+abbrev pub image_words : BadImage → List ℕ
+image_words images.HighBit = codes "bit 31 is set, which is no channel"
+image_words (images.Row why) = row_words why
+
+-- a row by its place in punched order, from 0
+abbrev pub row_text : ℕ → List ℕ
+row_text place = codes "row " ++ decimal place ++ codes ": "
+
+-- why bytes are no ribbon
+abbrev pub ribbon_fault_words : RibbonFault → List ℕ
+ribbon_fault_words ribbons.Magic = codes "it does not begin with MRB1"
+ribbon_fault_words ribbons.Count = codes "it has not as many rows as it says"
+ribbon_fault_words (ribbons.Row place why) = row_text place ++ image_words why
+ribbon_fault_words ribbons.NoMemory = codes "out of memory"
+
+abbrev pub ribbon_fault_text : RibbonFault → List ℕ
+ribbon_fault_text fault = codes "no ribbon: " ++ (ribbon_fault_words fault ++ codes "\n")
+
+-- why the caster stops at a row
+abbrev pub cast_fault_words : CastFault → List ℕ
+cast_fault_words (casts.NoWedges place) = row_text place ++ codes "no wedges: the caster meets it before the wedges of a line are set"
+cast_fault_words (casts.NoMatrix place) = row_text place ++ codes "no matrix: the case has neither a symbol, its space nor a fill there"
+cast_fault_words (casts.NotSentOut place) = row_text place ++ codes "not sent out: nothing sends out the line that this row starts"
+cast_fault_words casts.NoMemory = codes "out of memory"
+
+abbrev pub cast_fault_text : CastFault → List ℕ
+cast_fault_text fault = cast_fault_words fault ++ codes "\n"

@@ -1,0 +1,5 @@
+pub mod Lines
+pub mod Faults
+pub mod Told
+pub mod Sources
+pub mod Reading

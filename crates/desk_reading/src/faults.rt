@@ -1,0 +1,110 @@
+//! The first fault of a ribbon, on one line.
+
+ghost use Rattle.std.specs.Prelude.{◌≡◌, ◌++◌, OnOk, string_bytes};
+ghost use Rattle.desk_reading.specs.Faults.{cast_fault_text, cast_fault_words, image_words, ribbon_fault_text, ribbon_fault_words, row_text, row_words};
+
+use desk_caster::{CastFault, RibbonFault};
+use desk_image::BadImage;
+use desk_signals::BadRow;
+use std::alloc::{AllocError, Allocator};
+
+/// Why signals are no row.
+fn row_words(why: BadRow) -> &'static str
+    ensures { result.now ≡ row_words why }
+{
+    match why {
+        BadRow::TwoLetters => "two letters that name no column",
+        BadRow::TwoNumbers => "two numbers",
+        BadRow::FineAlone => "0005 without 0075",
+        BadRow::WedgeWithLetter => "0075 with a letter",
+        BadRow::WedgeWithS => "0075 with S",
+        BadRow::Repeated => "a signal stands twice",
+    }
+}
+
+/// Why an image is no row.
+fn image_words(why: BadImage) -> &'static str
+    ensures { result.now ≡ image_words why }
+{
+    match why {
+        BadImage::HighBit => "bit 31 is set, which is no channel",
+        BadImage::Row(why) => row_words(why),
+    }
+}
+
+/// Writes a row's place, and these words.
+fn put_row<A: Allocator + Copy>(
+    out: &mut String<A>,
+    place: u32,
+    words: &str,
+) -> Result<(), AllocError>
+    ensures { OnOk result (string_bytes out.new ≡ string_bytes out.old ++ (row_text place ++ words.now)) }
+{
+    write!(out, "row {place}: ")?;
+    out.push_str(words)
+}
+
+fn put_ribbon_words<A: Allocator + Copy>(
+    out: &mut String<A>,
+    fault: RibbonFault,
+) -> Result<(), AllocError>
+    ensures { OnOk result (string_bytes out.new ≡ string_bytes out.old ++ ribbon_fault_words fault) }
+{
+    match fault {
+        RibbonFault::Magic => out.push_str("it does not begin with MRB1"),
+        RibbonFault::Count => out.push_str("it has not as many rows as it says"),
+        RibbonFault::Row(place, why) => put_row(out, place, image_words(why)),
+        RibbonFault::NoMemory => out.push_str("out of memory"),
+    }
+}
+
+/// Writes the line of the first fault of bytes that are no ribbon, as `no ribbon: row 12: two numbers`. The place of a row
+/// counts from 0 in punched order.
+pub fn put_ribbon_fault<A: Allocator + Copy>(
+    out: &mut String<A>,
+    fault: RibbonFault,
+) -> Result<(), AllocError>
+    ensures { OnOk result (string_bytes out.new ≡ string_bytes out.old ++ ribbon_fault_text fault) }
+{
+    out.push_str("no ribbon: ")?;
+    put_ribbon_words(out, fault)?;
+    out.push_str("\n")
+}
+
+fn put_cast_words<A: Allocator + Copy>(
+    out: &mut String<A>,
+    fault: CastFault,
+) -> Result<(), AllocError>
+    ensures { OnOk result (string_bytes out.new ≡ string_bytes out.old ++ cast_fault_words fault) }
+{
+    match fault {
+        CastFault::NoWedges(place) => put_row(
+            out,
+            place,
+            "no wedges: the caster meets it before the wedges of a line are set",
+        ),
+        CastFault::NoMatrix(place) => put_row(
+            out,
+            place,
+            "no matrix: the case has neither a symbol, its space nor a fill there",
+        ),
+        CastFault::NotSentOut(place) => put_row(
+            out,
+            place,
+            "not sent out: nothing sends out the line that this row starts",
+        ),
+        CastFault::NoMemory => out.push_str("out of memory"),
+    }
+}
+
+/// Writes the line of the first fault that the caster meets, as `row 12: no matrix: ..`. The place of a row counts from 0 in
+/// punched order, though the caster goes from the last row to the first.
+pub fn put_cast_fault<A: Allocator + Copy>(
+    out: &mut String<A>,
+    fault: CastFault,
+) -> Result<(), AllocError>
+    ensures { OnOk result (string_bytes out.new ≡ string_bytes out.old ++ cast_fault_text fault) }
+{
+    put_cast_words(out, fault)?;
+    out.push_str("\n")
+}

@@ -1,0 +1,7 @@
+//! The tests of desk_reading.
+#![tactic(auto)]
+
+#[cfg(test)]
+mod reading;
+#[cfg(test)]
+mod rooms;
