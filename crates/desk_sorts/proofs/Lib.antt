@@ -1,0 +1,4 @@
+pub mod Tallies
+pub mod Texts
+pub mod Within
+pub mod Gives

@@ -1,0 +1,85 @@
+-- The sorts of a copy as text, by a case.
+use Rattle.std.specs.Prelude.{ℕ, ◌+◌, ◌<◌, Bool, not, List, [], ◌∷◌, ◌++◌, length, codes, Option, Some, None, is_some, if◌then◌else◌}
+use Rattle.std.specs.Fmt.{decimal}
+use Rattle.desk_signals.specs.declared.Cell.{Cell}
+use Rattle.desk_signals.specs.Words.{column_name}
+use Rattle.desk_ops.specs.declared.op.Symbol.{Symbol}
+use Rattle.desk_ops.specs.Op.{is_line_feed, is_space}
+use Rattle.desk_case.specs.Case.{CaseValues, cell_of}
+use Rattle.desk_proof.specs.Parts.{left, right}
+use Rattle.desk_proof.specs.Faults.{around_text, name_text}
+use Rattle.desk_sorts.specs.declared.sorts.Sort.{Sort}
+
+-- ---- what a case has for a sort
+
+-- the cell that a symbol is cast from: that of the space for the space, and else the one that holds it
+abbrev pub cell_for : CaseValues → Symbol → Option Cell
+cell_for case symbol = if is_space symbol then Some case.space else cell_of case symbol
+
+-- no cell of the case holds it
+abbrev pub is_missing : CaseValues → Sort → Bool
+is_missing case sort = not (is_some (cell_for case sort.symbol))
+
+-- how many of the sorts are missing
+abbrev pub missing_of : CaseValues → List Sort → ℕ
+missing_of case [] = 0
+missing_of case (sort ∷ sorts) = (if is_missing case sort then 1 else 0) + missing_of case sorts
+
+-- how many matrices are cast for the symbols of a copy: each but the line feeds
+abbrev pub cast_of : List Symbol → ℕ
+cast_of [] = 0
+cast_of (symbol ∷ symbols) = (if is_line_feed symbol then 0 else 1) + cast_of symbols
+
+-- ---- the head
+
+-- how many sorts there are, how often they are wanted together, and how many the case lacks
+abbrev pub head_text : List Symbol → CaseValues → List Sort → List ℕ
+head_text copy case sorts =
+    codes "SORTS " ++ decimal (length sorts) ++ codes " kinds, " ++ decimal (cast_of copy) ++ codes " wanted, "
+    ++ decimal (missing_of case sorts) ++ codes " missing\n"
+
+-- ---- missing sorts
+
+-- a sort by the name of its symbol; the space has its own
+abbrev pub sort_name : Symbol → List ℕ
+sort_name symbol = if is_space symbol then codes "space" else name_text symbol
+
+abbrev pub places_text : Sort → List ℕ
+places_text sort = codes ", wanted " ++ decimal sort.wanted ++ codes ", first at place " ++ decimal sort.first ++ codes "\n  | "
+
+-- a missing sort, and what surrounds its first place
+abbrev pub missing_text : List Symbol → Sort → List ℕ
+missing_text copy sort = codes "missing " ++ (sort_name sort.symbol ++ (places_text sort ++ (around_text copy sort.first ++ codes "\n")))
+
+abbrev pub missing_lines : List Symbol → CaseValues → List Sort → List ℕ
+missing_lines copy case [] = []
+missing_lines copy case (sort ∷ sorts) = (if is_missing case sort then missing_text copy sort else []) ++ missing_lines copy case sorts
+
+-- the first place of a sort is one of the copy
+abbrev pub IsWithin : List Symbol → Sort → Type 0
+IsWithin copy sort = sort.first < length copy
+
+-- ---- the list
+
+-- what stands above the list
+abbrev pub columns_text : List ℕ
+columns_text = codes "\n  cell   wanted  sort\n"
+
+-- the column of a cell and its row, each to its side, or a dash where there is none
+abbrev pub cell_text : Option Cell → List ℕ
+cell_text None = codes "   -  "
+cell_text (Some cell) = right 4 (column_name cell.column) ++ left 2 (decimal cell.row)
+
+-- a sort by its cell, how often it is wanted, and its name
+abbrev pub row_text : CaseValues → Sort → List ℕ
+row_text case sort =
+    cell_text (cell_for case sort.symbol) ++ (right 9 (decimal sort.wanted) ++ (codes "  " ++ (sort_name sort.symbol ++ codes "\n")))
+
+abbrev pub rows_text : CaseValues → List Sort → List ℕ
+rows_text case [] = []
+rows_text case (sort ∷ sorts) = row_text case sort ++ rows_text case sorts
+
+-- the head, the missing sorts at their text, and all of them
+abbrev pub sorts_text : List Symbol → CaseValues → List Sort → List ℕ
+sorts_text copy case sorts =
+    head_text copy case sorts ++ (missing_lines copy case sorts ++ (columns_text ++ rows_text case sorts))

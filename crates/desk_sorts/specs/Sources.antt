@@ -1,0 +1,30 @@
+-- What is read for a list of sorts: a stored feed, and a case alone.
+use Rattle.std.specs.Prelude.{ℕ, List, Ok, Err}
+use Rattle.desk_ops.specs.OpSet.{OpSet}
+use Rattle.desk_case.specs.Case.{CaseValues}
+use Rattle.desk_case.specs.File.{case_of}
+use Rattle.desk_answers.specs.NotDone.{case_refused}
+use Rattle.desk_files.specs.Files.{Shelf}
+use Rattle.desk_hand.specs.Exporting.{IsClosedBy, IsSetOf}
+use Rattle.desk_inputs.specs.Inputs.{FileGives}
+use Rattle.desk_sorts.specs.declared.fault.SortsFault.{SortsFault}
+use Rattle.desk_sorts.specs.declared.fault.SortsFault.TheVariants as faults
+
+-- the names of a stored feed and of a case file
+pub record Sources : Type 0 where
+  pub feed : List ℕ
+  pub case : List ℕ
+
+abbrev pub sources : (feed case : List ℕ) → Sources
+sources feed case = record { feed = feed; case = case }
+
+-- the feed's name stands for this set, and the case file gives this case
+abbrev pub Give : Sources → Shelf → OpSet → CaseValues → Type 0
+Give from shelf set case = IsSetOf from.feed shelf set × FileGives case_of case_refused from.case shelf (Ok case) shelf
+
+-- why they give nothing: the feed is not opened, or it is, and then the case is refused; or memory ran out
+abbrev pub AreRefused : Sources → Shelf → Shelf → SortsFault → Type 0
+AreRefused from before after (faults.Feed why) = IsClosedBy from.feed before after why
+AreRefused from before after (faults.Input why) = (set : OpSet) × IsSetOf from.feed before set × FileGives case_of case_refused from.case before (Err why) after
+AreRefused from before after faults.Write = ⊥
+AreRefused from before after faults.NoMemory = Unit {0}

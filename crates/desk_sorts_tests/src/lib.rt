@@ -1,0 +1,9 @@
+//! The tests of desk_sorts.
+#![tactic(auto)]
+
+#[cfg(test)]
+mod rooms;
+#[cfg(test)]
+mod sorts;
+#[cfg(test)]
+mod telling;

@@ -1,0 +1,80 @@
+//! The files of the tests.
+
+use desk_files::trial::TrialFiles;
+use desk_inputs::Memory;
+use std::alloc::{AllocError, Global};
+
+const CASE: &[u8] = b"case = 1\nspace = \"G1\"\nfill = [\"O15\", \"A5\"]\n";
+
+#[rattlefmt::skip]
+const ROWS: &[u8] =
+    b"rows = [\n\
+ [\".\",\"\",\"\",\"\",\"\",\"\",\"\",\"\",\"\",\"\",\"\",\"\",\"\",\"\",\"\"],\n\
+ [\"\",\"\",\"\",\"\",\"\",\"\",\"\",\"\",\"\",\"\",\"\",\"\",\"\",\"\",\"\"],\n\
+ [\"\",\"\",\"\",\"\",\"\",\"\",\"\",\"\",\"\",\"\",\"\",\"\",\"\",\"\",\"\"],\n\
+ [\"t\",\"\",\"\",\"\",\"\",\"\",\"\",\"\",\"\",\"\",\"\",\"\",\"\",\"\",\"\"],\n\
+ [\"\",\"a\",\"i:a\",\"\",\"\",\"\",\"\",\"\",\"\",\"\",\"\",\"\",\"\",\"\",\"\"],\n\
+ [\"\",\"\",\"\",\"\",\"\",\"\",\"\",\"\",\"\",\"\",\"\",\"\",\"\",\"\",\"\"],\n\
+ [\"\",\"\",\"\",\"\",\"\",\"\",\"\",\"\",\"\",\"\",\"\",\"\",\"\",\"\",\"\"],\n\
+ [\"n\",\"\",\"\",\"\",\"\",\"\",\"\",\"\",\"\",\"\",\"\",\"\",\"\",\"\",\"\"],\n\
+ [\"\",\"\",\"\",\"\",\"\",\"\",\"\",\"\",\"\",\"\",\"\",\"\",\"\",\"\",\"\"],\n\
+ [\"\",\"\",\"\",\"\",\"\",\"\",\"\",\"\",\"\",\"\",\"\",\"\",\"\",\"\",\"\"],\n\
+ [\"\",\"\",\"\",\"\",\"\",\"\",\"\",\"\",\"\",\"\",\"\",\"\",\"\",\"\",\"\"],\n\
+ [\"\",\"\",\"\",\"\",\"\",\"\",\"\",\"\",\"\",\"\",\"\",\"\",\"\",\"\",\"\"],\n\
+ [\"\",\"\",\"\",\"\",\"\",\"\",\"\",\"\",\"\",\"\",\"\",\"\",\"\",\"\",\"\"],\n\
+ [\"m\",\"\",\"\",\"\",\"\",\"\",\"\",\"\",\"\",\"\",\"\",\"\",\"\",\"\",\"\"],\n\
+ [\"M\",\"s:M\",\"\",\"\",\"\",\"\",\"\",\"\",\"\",\"\",\"\",\"\",\"\",\"\",\"\"]\n]\n";
+
+/// Adds the inserts of symbols in one run from 6.1 on: of each its style, 0 to 2, and its character.
+fn put_copy(out: &mut Vec<u8, Global>, copy: &[(u8, u8)]) -> Result<(), AllocError> {
+    out.extend_from_slice(&[4, 0, 0, 0, 0, 0, 0, 0, 6, 0, 1])?;
+    out.extend_from_slice(&[0; 10])?;
+    out.push(u8::try_from(copy.len()).unwrap_or(0))?;
+    for (style, ch) in copy {
+        out.extend_from_slice(&[*style, 0, 0, 0, *ch])?;
+    }
+    Ok(())
+}
+
+/// A feed with a copy.
+fn feed(alloc: Global, copy: &[(u8, u8)]) -> Result<Vec<u8, Global>, AllocError> {
+    let mut out = Vec::new(alloc);
+    out.extend_from_slice(b"MFD2")?;
+    put_copy(&mut out, copy)?;
+    Ok(out)
+}
+
+/// `a n`, an italic `a`, `é`, a line feed, `né` and a small capital `M`; the case has no `é`.
+const LACKING: &[(u8, u8)] = &[
+    (0, b'a'),
+    (0, b' '),
+    (0, b'n'),
+    (1, b'a'),
+    (0, 0xe9),
+    (0, b'\n'),
+    (0, b'n'),
+    (0, 0xe9),
+    (2, b'M'),
+];
+
+/// Files of which the k-th call fails: feeds, a case, and a file that is no case.
+pub fn rooms(alloc: Global, k: u64) -> Result<TrialFiles<Global>, AllocError> {
+    let mut files = TrialFiles::new(alloc).failing_at_call(k);
+    files.put("lacking.feed", &feed(alloc, LACKING)?)?;
+    files.put("whole.feed", &feed(alloc, &[(0, b'n'), (0, b'n')])?)?;
+    files.put("none.feed", b"MFD2")?;
+    let mut case = Vec::new(alloc);
+    case.extend_from_slice(CASE)?;
+    case.extend_from_slice(ROWS)?;
+    files.put("c", &case)?;
+    files.put("broken", b"case =")?;
+    Ok(files)
+}
+
+/// All memory is the global.
+pub fn memory(alloc: Global) -> Memory<Global> {
+    Memory {
+        own: alloc,
+        global: alloc,
+    }
+}
