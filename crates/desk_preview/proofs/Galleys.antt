@@ -3,7 +3,6 @@ use Rattle.std.proofs.Common.{◌≡◌, List, subst}
 use Rattle.std.specs.List.{All}
 use Rattle.std.specs.Prelude.{slice_index_or}
 use Rattle.desk_ops.specs.OpSet.{OpSet}
-use Rattle.desk_ops.specs.Settings.{setting_of}
 use Rattle.desk_ops.specs.Shown.{copy_of}
 use Rattle.desk_ops.specs.declared.op.Symbol.{Symbol}
 use Rattle.desk_case.specs.Case.{CaseValues}
@@ -11,6 +10,7 @@ use Rattle.desk_wedge.specs.Wedge.{WedgeValues}
 use Rattle.desk_replica.specs.JobSettings.{settings_of}
 use Rattle.desk_replica.specs.declared.settings.Settings.{Settings}
 use Rattle.desk_job.specs.Answer.{by_key}
+use Rattle.desk_trial.specs.Trial.{tried, tried_with}
 use Rattle.desk_galley.specs.Galley.{IsGalley, Stands}
 use Rattle.desk_galley.specs.Values.{GalleyValues, LineValues}
 use Rattle.desk_proof.specs.Rows.{HasWords}
@@ -21,10 +21,9 @@ have_words copy other case lines same stand k d below =
     let s = subst (λ (l : List Symbol). Stands l case (slice_index_or lines k d)) same (stand k d below) in
     record { words = s.words; next = s.next }
 
--- the galley of what a replica shows, by its settings, is that of its set
-pub of_set : (set : OpSet) (copy : List Symbol) (settings : Settings) (case : CaseValues) (wedge : WedgeValues) (galley : GalleyValues)
-    → copy ≡ copy_of set → settings ≡ settings_of set → IsGalley copy (by_key settings) case wedge galley → IsGalley (copy_of set) (setting_of set) case wedge galley
-of_set set copy settings case wedge galley same is made =
+-- the galley of what a replica shows, by its settings and those that are tried, is that of its set
+pub of_set : (set : OpSet) (copy : List Symbol) (trial settings : Settings) (case : CaseValues) (wedge : WedgeValues) (galley : GalleyValues)
+    → copy ≡ copy_of set → settings ≡ tried_with trial (settings_of set) → IsGalley copy (by_key settings) case wedge galley → IsGalley (copy_of set) (tried trial set) case wedge galley
+of_set set copy trial settings case wedge galley same is made =
     let by_copy = subst (λ (l : List Symbol). IsGalley l (by_key settings) case wedge galley) same made in
-    let g = subst (λ (s : Settings). IsGalley (copy_of set) (by_key s) case wedge galley) is by_copy in
-    record { wedge_is = g.wedge_is; given = g.given; terms = g.terms; fits = g.fits; lacking = g.lacking; lines = g.lines }
+    subst (λ (s : Settings). IsGalley (copy_of set) (by_key s) case wedge galley) is by_copy

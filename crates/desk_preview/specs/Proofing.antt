@@ -3,7 +3,6 @@ use Rattle.std.specs.Prelude.{◌≡◌, ◌⊎◌, ◌&&◌, ◌==◌, ℕ, Boo
 use Rattle.std.specs.Io.KnownBytes.{Appends}
 use Rattle.desk_ops.specs.OpSet.{OpSet}
 use Rattle.desk_ops.specs.Shown.{copy_of}
-use Rattle.desk_ops.specs.Settings.{setting_of}
 use Rattle.desk_ops.specs.Faults.{faults_of}
 use Rattle.desk_ops.specs.declared.fault.CopyFault.{CopyFault}
 use Rattle.desk_case.specs.Case.{CaseValues}
@@ -15,7 +14,9 @@ use Rattle.desk_proof.specs.Proof.{no_galley_text, proof_text}
 use Rattle.desk_proof.specs.declared.proof.Extent.{Extent}
 use Rattle.desk_files.specs.Files.{Shelf}
 use Rattle.desk_stored.specs.Sending.{WritesFront}
-use Rattle.desk_inputs.specs.Job.{job_of}
+use Rattle.desk_replica.specs.declared.settings.Settings.{Settings}
+use Rattle.desk_job.specs.Job.{job}
+use Rattle.desk_trial.specs.Trial.{tried}
 use Rattle.desk_preview.specs.Sources.{AreRefused, Give, Sources}
 use Rattle.desk_preview.specs.declared.fault.PreviewFault.{PreviewFault}
 use Rattle.desk_preview.specs.declared.fault.PreviewFault.TheVariants as faults
@@ -29,35 +30,35 @@ are_set (line ∷ lines) = not (is_faulty line) && are_set lines
 abbrev pub is_clean : List CopyFault → GalleyValues → Bool
 is_clean faults galley = (length faults == 0) && ((length galley.lacking == 0) && are_set galley.lines)
 
--- the proof of a galley of the set, and whether it is clean
-abbrev pub HasProof : OpSet → CaseValues → WedgeValues → Extent → List ℕ → Bool → Type 0
-HasProof set case wedge extent told clean =
-    (galley : GalleyValues) × IsGalley (copy_of set) (setting_of set) case wedge galley
+-- the proof of a galley of the set by its settings and those that are tried, and whether it is clean
+abbrev pub HasProof : OpSet → CaseValues → WedgeValues → Settings → Extent → List ℕ → Bool → Type 0
+HasProof set case wedge trial extent told clean =
+    (galley : GalleyValues) × IsGalley (copy_of set) (tried trial set) case wedge galley
     × (told ≡ proof_text (copy_of set) (faults_of set) galley extent) × (clean ≡ is_clean (faults_of set) galley)
 
--- there is no galley, for the one fault that the job has
-abbrev pub HasNoGalley : OpSet → CaseValues → WedgeValues → List ℕ → Bool → Type 0
-HasNoGalley set case wedge told clean =
-    (why : JobFault) × (job_of set case wedge ≡ Err (why ∷ [])) × (told ≡ no_galley_text (faults_of set) why) × (clean ≡ false)
+-- there is no galley, for the one fault that the job by these settings has
+abbrev pub HasNoGalley : OpSet → CaseValues → WedgeValues → Settings → List ℕ → Bool → Type 0
+HasNoGalley set case wedge trial told clean =
+    (why : JobFault) × (job (copy_of set) (tried trial set) case wedge ≡ Err (why ∷ [])) × (told ≡ no_galley_text (faults_of set) why) × (clean ≡ false)
 
 -- what is told of a set by a case and a wedge
-abbrev pub IsTold : OpSet → CaseValues → WedgeValues → Extent → List ℕ → Bool → Type 0
-IsTold set case wedge extent told clean = HasProof set case wedge extent told clean ⊎ HasNoGalley set case wedge told clean
+abbrev pub IsTold : OpSet → CaseValues → WedgeValues → Settings → Extent → List ℕ → Bool → Type 0
+IsTold set case wedge trial extent told clean = HasProof set case wedge trial extent told clean ⊎ HasNoGalley set case wedge trial told clean
 
 -- what is told of what the sources give
-abbrev pub IsProofOf : Sources → Shelf → Extent → List ℕ → Bool → Type 0
-IsProofOf from shelf extent told clean = (set : OpSet) × (case : CaseValues) × (wedge : WedgeValues) × Give from shelf set case wedge × IsTold set case wedge extent told clean
+abbrev pub IsProofOf : Sources → Shelf → Settings → Extent → List ℕ → Bool → Type 0
+IsProofOf from shelf trial extent told clean = (set : OpSet) × (case : CaseValues) × (wedge : WedgeValues) × Give from shelf set case wedge × IsTold set case wedge trial extent told clean
 
 -- it was written
-abbrev pub IsProofed : Sources → Extent → Shelf → Option (List ℕ) → Option (List ℕ) → Bool → Type 0
-IsProofed from extent shelf before after clean = (told : List ℕ) × IsProofOf from shelf extent told clean × Appends before after told
+abbrev pub IsProofed : Sources → Settings → Extent → Shelf → Option (List ℕ) → Option (List ℕ) → Bool → Type 0
+IsProofed from trial extent shelf before after clean = (told : List ℕ) × IsProofOf from shelf trial extent told clean × Appends before after told
 
 -- why not all of it was written, and what was: nothing, or under Write a prefix
-abbrev pub IsUnproofed : Sources → Extent → Shelf → Shelf → Option (List ℕ) → Option (List ℕ) → PreviewFault → Type 0
-IsUnproofed from extent first last before after (faults.Feed why) = (after ≡ before) × AreRefused from first last (faults.Feed why)
-IsUnproofed from extent first last before after (faults.Input why) = (after ≡ before) × AreRefused from first last (faults.Input why)
-IsUnproofed from extent first last before after faults.Faulty = ⊥
-IsUnproofed from extent first last before after faults.Write =
-    (told : List ℕ) × (clean : Bool) × IsProofOf from first extent told clean × WritesFront before after told
-IsUnproofed from extent first last before after (faults.Unstored why) = ⊥
-IsUnproofed from extent first last before after faults.NoMemory = after ≡ before
+abbrev pub IsUnproofed : Sources → Settings → Extent → Shelf → Shelf → Option (List ℕ) → Option (List ℕ) → PreviewFault → Type 0
+IsUnproofed from trial extent first last before after (faults.Feed why) = (after ≡ before) × AreRefused from first last (faults.Feed why)
+IsUnproofed from trial extent first last before after (faults.Input why) = (after ≡ before) × AreRefused from first last (faults.Input why)
+IsUnproofed from trial extent first last before after faults.Faulty = ⊥
+IsUnproofed from trial extent first last before after faults.Write =
+    (told : List ℕ) × (clean : Bool) × IsProofOf from first trial extent told clean × WritesFront before after told
+IsUnproofed from trial extent first last before after (faults.Unstored why) = ⊥
+IsUnproofed from trial extent first last before after faults.NoMemory = after ≡ before

@@ -10,3 +10,4 @@ mod sources;
 pub use fault::PreviewFault;
 pub use proofing::proof_feed;
 pub use punching::punch_feed;
+pub use sources::take_in;

@@ -2,6 +2,7 @@
 
 ghost use Rattle.std.specs.Prelude.{◌≡◌, All, IfErr, IfOk, OnOk, string_bytes};
 ghost use Rattle.desk_files.specs.Files.{Stays};
+ghost use Rattle.desk_job.specs.Answer.{AreValues};
 ghost use Rattle.desk_proof.specs.Proof.{no_galley_text, proof_text};
 ghost use Rattle.desk_proof.specs.Rows.{HasWords};
 ghost use Rattle.desk_preview.specs.Proofing.{IsProofed, IsTold, IsUnproofed, are_set, is_clean};
@@ -19,7 +20,8 @@ use desk_job::JobFault;
 use desk_memory::NoMemory;
 use desk_ops::{CopyFault, Symbol};
 use desk_proof::{Extent, put_no_galley, put_proof};
-use desk_replica::Replica;
+use desk_replica::{Replica, Settings};
+use desk_trial::tried;
 use desk_wedge::Wedge;
 use std::alloc::Allocator;
 use std::io::Write;
@@ -78,14 +80,18 @@ fn told_of<A: Allocator + Copy>(
     replica: &Replica<Blocks<A>>,
     case: &MatrixCase,
     wedge: &Wedge,
+    trial: &Settings,
     extent: Extent,
 ) -> Result<(String<A>, bool), NoMemory>
-    ensures { IfOk result (λ t. IsTold replica.now.ops case.now wedge.now extent (string_bytes t.0) t.1) }
+    requires { AreValues trial.now }
+    ensures { IfOk result (λ t. IsTold replica.now.ops case.now wedge.now trial.now extent (string_bytes t.0) t.1) }
 {
     let _held = replica.len();
     let copy = replica.copy()?;
     let faults = replica.copy_faults()?;
-    match make_galley(alloc, &copy, &replica.settings(), case, wedge) {
+    let given = replica.settings();
+    let settings = tried(trial, &given);
+    match make_galley(alloc, &copy, &settings, case, wedge) {
         Ok(galley) => {
             let text = proof_of(alloc, &copy, &faults, &galley, extent)?;
             Ok((text, is_clean(&faults, &galley)))
@@ -100,7 +106,8 @@ fn told_of<A: Allocator + Copy>(
 
 /// Writes the proof of a stored feed by a case and a wedge: the faults of its copy, and its galley as text, as `desk_proof`
 /// writes it; or why there is no galley. It is true exactly where no fault stands at all: no correction is missing, the case
-/// has every symbol, and each line is set. No name is taken, and no file changes. A refusal of the feed, the case or the
+/// has every symbol, and each line is set. Settings that are tried count in place of the copy's, and are stored nowhere; where none is
+/// tried it is the galley that would be cast. No name is taken, and no file changes. A refusal of the feed, the case or the
 /// wedge, or of memory, comes before anything is written.
 pub fn proof_feed<W: Write, F: Files, A: Allocator + Copy>(
     memory: Memory<A>,
@@ -109,18 +116,20 @@ pub fn proof_feed<W: Write, F: Files, A: Allocator + Copy>(
     feed: &str,
     case: &str,
     wedge: &str,
+    trial: &Settings,
     extent: Extent,
 ) -> Result<bool, PreviewFault>
-    ensures ok { IfOk result (IsProofed (sources feed.now case.now wedge.now) extent (F.shelf files.old) (W.contents writer.old) (W.contents writer.new)) }
+    requires { AreValues trial.now }
+    ensures ok { IfOk result (IsProofed (sources feed.now case.now wedge.now) trial.now extent (F.shelf files.old) (W.contents writer.old) (W.contents writer.new)) }
     ensures counted { OnOk result ((F.shelf files.new).failures ≡ (F.shelf files.old).failures) }
-    ensures err { IfErr result (IsUnproofed (sources feed.now case.now wedge.now) extent (F.shelf files.old) (F.shelf files.new) (W.contents writer.old) (W.contents writer.new)) }
+    ensures err { IfErr result (IsUnproofed (sources feed.now case.now wedge.now) trial.now extent (F.shelf files.old) (F.shelf files.new) (W.contents writer.old) (W.contents writer.new)) }
     ensures stays { Stays (F.shelf files.old) (F.shelf files.new) }
 {
     let (replica, case, wedge) = match take_in(memory, files, feed, case, wedge) {
         Ok(taken) => taken,
         Err(why) => return Err(why),
     };
-    let (text, clean) = match told_of(memory.own, &replica, &case, &wedge, extent) {
+    let (text, clean) = match told_of(memory.own, &replica, &case, &wedge, trial, extent) {
         Ok(told) => told,
         Err(_) => return Err(PreviewFault::NoMemory),
     };

@@ -5,6 +5,7 @@ use desk_files::trial::{AtEnd, TrialWriter};
 use desk_hand::FeedTrouble;
 use desk_preview::{PreviewFault, proof_feed};
 use desk_proof::Extent;
+use desk_trial::{TrialFault, no_trial, trial_of};
 use std::alloc::Global;
 use std::test::Fail;
 
@@ -40,6 +41,7 @@ fn proofed(
         feed,
         case,
         wedge,
+        &no_trial(),
         extent,
     );
     if !holds(&files, "a.ribbon", OLD) || files.bytes_of("a.ribbon.new").is_some() {
@@ -126,9 +128,57 @@ fn closed_output_of_a_proof(rt: HostRuntime) -> Result<(), Fail> {
         "loose.feed",
         "c",
         "w",
+        &no_trial(),
         Extent::Faults,
     );
     assert_eq!(rt; ended, Err(PreviewFault::Write));
     assert!(rt; LOOSE.as_bytes().starts_with(writer.written()));
     Ok(())
+}
+
+/// A setting that is tried counts in place of the copy's, and the copy's stays.
+#[test]
+fn settings_are_tried(rt: HostRuntime) -> Result<(), Fail> {
+    let mut files = rooms(rt.alloc(), 0)?;
+    let mut written = Vec::new(rt.alloc());
+    let trial = match trial_of(rt.alloc(), &["loose=60", "loose=150"]) {
+        Ok(trial) => trial,
+        Err(_) => return Err(Fail::new("no trial")),
+    };
+    let ended = proof_feed(
+        memory(rt.alloc()),
+        &mut written,
+        &mut files,
+        "loose.feed",
+        "c",
+        "w",
+        &trial,
+        Extent::Faults,
+    );
+    assert_eq!(rt; ended, Ok(true));
+    assert!(rt; has_proof(rt.alloc(), "loose.feed", Extent::Faults, LOOSE, false)?);
+    Ok(())
+}
+
+/// A text that tries no setting refuses all, by its place.
+#[test]
+fn texts_that_try_nothing(rt: HostRuntime) {
+    assert_eq!(rt;
+        trial_of(rt.alloc(), &["loose=60", "loose"]),
+        Err(TrialFault::NoSetting(1))
+    );
+    for text in &[
+        "loose=241",
+        "loose=15",
+        "size=5",
+        "=5",
+        "loose =5",
+        "loose=5 5",
+        "loose=",
+    ] {
+        assert_eq!(rt;
+            trial_of(rt.alloc(), &[*text]),
+            Err(TrialFault::NoSetting(0))
+        );
+    }
 }

@@ -3,6 +3,7 @@ use Rattle.desk_replica.specs.declared.settings.Settings.{Settings}
 use Rattle.desk_job.specs.Answer.{AreValues}
 use Rattle.desk_job.proofs.Replicas.{copy_short, settings_in}
 use Rattle.desk_proof.specs.Proof.{proof_text}
+use Rattle.desk_trial.specs.Trial.{tried_with}
 use Rattle.desk_preview.specs.Proofing.{is_clean}
 use Rattle.desk_preview.proofs.Galleys.{have_words, of_set}
 use Rattle.desk_preview.proofs.proofing.told_of.Goals as goal
@@ -13,8 +14,8 @@ make_galley-requires-clause-copy g c =
     let long = ap length (c.deref.ensures.value ∙ c.in_ok-copy.ensures) in
     omega (arith, short, long, c.len-held.ensures.value, c.len-held.ensures.within)
 
-pub make_galley-requires-clause-settings : goal.make_galley-requires-clause-settings
-make_galley-requires-clause-settings g c = subst (λ (s : Settings). AreValues s) (sym c.settings.ensures) (settings_in c.args.replica.now.ops c.len-held.ensures.lawful)
+pub tried-settings-requires-clause-given : goal.tried-settings-requires-clause-given
+tried-settings-requires-clause-given g c = subst (λ (s : Settings). AreValues s) (sym c.settings-given.ensures) (settings_in c.args.replica.now.ops c.len-held.ensures.lawful)
 
 pub proof_of-requires : goal.proof_of-requires
 proof_of-requires g c = have_words c.deref.result.now c.deref-in-Ok.result.now c.args.case.now c.in-Ok.galley.lines (c.deref.ensures.value ∙ sym c.deref-in-Ok.ensures.value) c.in-Ok.ensures.stands
@@ -27,7 +28,7 @@ returns-in-Ok g c =
     let same = c.deref-in-Ok-3.ensures.value ∙ c.in_ok-faults.ensures in
     inl (
       galley,
-      of_set c.args.replica.now.ops c.deref.result.now c.settings.result c.args.case.now c.args.wedge.now galley (c.deref.ensures.value ∙ c.in_ok-copy.ensures) c.settings.ensures c.in-Ok.ensures.ok,
+      of_set c.args.replica.now.ops c.deref.result.now c.args.trial.now c.tried-settings.result c.args.case.now c.args.wedge.now galley (c.deref.ensures.value ∙ c.in_ok-copy.ensures) (c.tried-settings.ensures.value ∙ ap (tried_with c.args.trial.now) c.settings-given.ensures) c.in-Ok.ensures.ok,
       c.in_ok-text-in-Ok.ensures ∙ ap₂ (λ l f. proof_text l f galley c.args.extent) copy faults,
       c.is_clean.ensures ∙ ap (λ f. is_clean f galley) same,
     )
