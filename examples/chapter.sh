@@ -31,3 +31,10 @@ echo "-- mended"
 "$desk" proof chapter.feed --case case12.toml --wedge wedge5.toml
 "$desk" punch chapter.feed --case case12.toml --wedge wedge5.toml -o chapter.rib
 "$desk" check chapter.feed chapter.rib case12.toml wedge5.toml
+
+# What a caster would cast of it, the sorts that it takes, and pictures of both for a browser.
+echo "-- read"
+"$desk" read chapter.rib --case case12.toml --wedge wedge5.toml --svg ribbon.svg
+"$desk" sorts chapter.feed --case case12.toml --layout
+"$desk" proof chapter.feed --case case12.toml --wedge wedge5.toml --faults --svg galley.svg
+cksum ribbon.svg galley.svg

@@ -10,7 +10,7 @@ lines. Then all growths from one on are refused, for each twentieth, and the sam
 refusal, of the wedge or the case file too, whose text `toml` reads with the global allocator. On a stored feed a run may end
 so also at its end, where it stores; the file holds the old feed then, and the followed one after an end with status 0. Words
 that are refused or ask for help keep their status, or end in that way too. A merge, an export and an import are done as with
-all memory, or end so with the stored feed as it was; a proof and a punch too, with no ribbon.
+all memory, or end so with the stored feed as it was; a proof, a punch, a reading and a list of sorts too, with no ribbon and no picture.
 """
 import functools
 import os
@@ -367,7 +367,8 @@ insert 1 0 r"Send word by noon at the latest."
 
 
 def previews(program, folder, library):
-    """A proof and a punch: done as undisturbed, or ended for want of memory, and then no ribbon is there."""
+    """A proof, a punch, a reading and a list of sorts: done as undisturbed, or ended for want of memory, and then no ribbon or
+    picture is there."""
     ribbon = os.path.join(folder, "preview.rib")
     subprocess.run([program, "desk", "preview.feed", "--site", "1"], input=SETTINGS.encode(), cwd=folder, capture_output=True, check=True)
 
@@ -382,7 +383,11 @@ def previews(program, folder, library):
 
     sweep = Sweep(Runs(program, [], "", folder, library))
     metal = "preview.feed --case case12.toml --wedge wedge5.toml"
-    for words in ("proof " + metal, "proof --faults " + metal, "punch -o preview.rib " + metal):
+    of_ribbon = "read made.rib --case case12.toml --wedge wedge5.toml"
+    subprocess.run([program, *("punch -o made.rib " + metal).split()], cwd=folder, capture_output=True, check=True)
+    kinds = ("proof " + metal, "proof --faults " + metal, "punch -o preview.rib " + metal, "proof --set loose=150 --svg preview.rib " + metal,
+             of_ribbon, of_ribbon + " --svg preview.rib", "sorts preview.feed --case case12.toml --layout")
+    for words in kinds:
         runs = Runs(program, words.split(), "", folder, library)
         whole = once(runs, 0, False)
         sweep.note(words, None if whole[0] == 0 and not whole[2] else "ended with %d and %r" % (whole[0], whole[2]))

@@ -40,7 +40,7 @@ def badly_laid_out(crate):
 
 
 def edits_of(crate):
-    """A crate's wrong bodies, those that the gate tries and those apart."""
+    """A crate's wrong bodies, those with a name in the subject and the others."""
     return [edit for part in ["must-fail", "wrong-bodies"] for edit in sorted((crate / part).glob("*.edit"))]
 
 

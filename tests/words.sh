@@ -139,6 +139,76 @@ got=0
 "$program" proof c.feed "${metal[@]}" 2> faults > /dev/full || got=$?
 [ "$got" = 1 ] && [ "$(head -1 faults)" = "copydesk: write fault" ]
 
+# A picture is drawn beside the proof, settings are tried, a ribbon is read, and sorts are listed; the feed stays as it is.
+cp c.feed before.feed
+expect 0 "" punch c.feed "${metal[@]}" -o c.rib
+expect 2 error: proof c.feed "${metal[@]}" --svg
+expect 0 "" proof c.feed "${metal[@]}"
+cp written proof.txt
+expect 0 "" proof c.feed "${metal[@]}" --svg c.svg
+cmp written proof.txt
+[[ "$(head -c 5 c.svg)" = "<svg " ]] && [[ "$(tail -c 7 c.svg)" = "</svg>" ]] && [ ! -e c.svg.new ]
+expect 1 "" proof c.feed "${metal[@]}" --set loose=50 --faults --svg tried.svg
+grep -q '^line 1: too loose (wedge sum [0-9]*, limit 50), places 0\.\.26$' written
+grep -q 'too loose' tried.svg
+expect 0 "" proof c.feed "${metal[@]}" --set loose=50 --set loose=200
+expect 1 "" proof c.feed "${metal[@]}" --set case=13
+[ "$(cat written)" = "no galley: the setting case is not the number of the case" ]
+for text in loose=500 loose measure= =50 "loose =50" size=50 "loose=50 50" loose=0x50 loose=4294967346; do
+  expect 1 "copydesk: input refused
+--set $text: no setting, or no value that it may have" proof c.feed "${metal[@]}" --set "$text" --svg none.svg
+  [ ! -s written ] && [ ! -e none.svg ]
+done
+for name in c.feed case12.toml wedge5.toml; do
+  expect 1 "copydesk: file fault
+$name: the picture would take its place" proof c.feed "${metal[@]}" --svg $name
+  [ ! -s written ]
+done
+expect 1 "copydesk: file fault
+none/c.svg" proof c.feed "${metal[@]}" --svg none/c.svg
+cmp written proof.txt
+expect 1 "copydesk: file fault
+none.feed: it cannot be read" proof none.feed "${metal[@]}" --svg none.svg
+[ ! -e none.svg ]
+expect 2 error: read c.rib --case case12.toml
+expect 0 "" read c.rib "${metal[@]}"
+cp written read.txt
+grep -q 'The last sheets are in the$' written
+expect 0 "" read c.rib "${metal[@]}" --svg holes.svg
+cmp written read.txt
+[[ "$(head -c 5 holes.svg)" = "<svg " ]] && [[ "$(tail -c 7 holes.svg)" = "</svg>" ]] && [ ! -e holes.svg.new ]
+expect 1 "copydesk: file fault
+c.rib: the picture would take its place" read c.rib "${metal[@]}" --svg c.rib
+expect 1 "copydesk: file fault
+none.rib: it cannot be read" read none.rib "${metal[@]}"
+expect 1 "" read c.feed "${metal[@]}" --svg none.svg
+[[ "$(cat written)" = "no ribbon: "* ]] && [ ! -e none.svg ]
+expect 1 "copydesk: input refused
+wedge5.toml: a key of a case is missing" read c.rib --case wedge5.toml --wedge wedge5.toml
+head -c -4 c.rib > cut.rib
+expect 1 "" read cut.rib "${metal[@]}"
+[[ "$(cat written)" = "no ribbon: "* ]]
+expect 2 error: sorts c.feed
+expect 0 "" sorts c.feed --case case12.toml
+cp written sorts.txt
+expect 0 "" sorts c.feed --case case12.toml --layout
+[ "$(head -c "$(wc -c < sorts.txt)" written)" = "$(cat sorts.txt)" ]
+expect 1 "copydesk: file fault
+none.feed: it cannot be read" sorts none.feed --case case12.toml
+expect 1 "copydesk: input refused
+wedge5.toml: a key of a case is missing" sorts c.feed --case wedge5.toml
+cp c.feed short.feed
+echo 'insert 1 0 r"~"' | "$program" desk short.feed --site 1 > written
+expect 1 "" sorts short.feed --case case12.toml
+grep -q "^missing Roman '~' (U+007E)" written
+got=0
+"$program" sorts c.feed --case case12.toml 2> faults > /dev/full || got=$?
+[ "$got" = 1 ] && [ "$(head -1 faults)" = "copydesk: write fault" ]
+got=0
+"$program" read c.rib "${metal[@]}" 2> faults > /dev/full || got=$?
+[ "$got" = 1 ] && [ "$(head -1 faults)" = "copydesk: write fault" ]
+cmp c.feed before.feed
+
 # A text is replaced where it stands once, and files are checked.
 expect 2 error: replace c.feed --site 1 last
 expect 2 error: replace c.feed --site 0 last first
@@ -253,7 +323,7 @@ cmp c.feed before.feed
 # Help names the program, the words and every command.
 [ "$("$program" --version)" = "copydesk 0.2.0" ]
 told=$("$program" --help)
-for command in script desk merge diff export import replace check proof punch; do
+for command in script desk merge diff export import replace check proof punch read sorts; do
   if [[ "$told" != *"copydesk $command"* ]] || [[ "$("$program" "$command" --help)" != *"As in: copydesk $command "*"Status: 0"* && $command != script ]]; then
     echo "the help does not name $command" >&2
     exit 1

@@ -1,4 +1,5 @@
 pub mod Previews
+pub mod Readings
 pub mod Texts
 pub mod Runs
 pub mod Sheets

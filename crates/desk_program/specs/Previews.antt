@@ -1,10 +1,14 @@
 -- What a proof and a punch have done, and what they left.
-use Rattle.std.specs.Prelude.{◌≡◌, ◌⊎◌, ℕ, Bool, true, false, List, Option}
+use Rattle.std.specs.Prelude.{◌≡◌, ◌⊎◌, ℕ, Bool, true, false, List, Option, Some, None}
+use Rattle.std.specs.Borrow.{Bor}
 use Rattle.desk_files.specs.Files.{Shelf, Stays}
 use Rattle.desk_preview.specs.Sources.{sources}
 use Rattle.desk_preview.specs.Proofing.{IsProofed, IsUnproofed}
 use Rattle.desk_preview.specs.Punching.{IsPunched, IsUnpunched}
 use Rattle.desk_preview.specs.declared.fault.PreviewFault.{PreviewFault}
+use Rattle.desk_picture.specs.Picturing.{IsPictured, IsUnpictured}
+use Rattle.desk_replica.specs.declared.settings.Settings.{Settings}
+use Rattle.desk_trial.specs.Trial.{trial_of}
 use Rattle.desk_proof.specs.declared.proof.Extent.{Extent}
 use Rattle.desk_proof.specs.declared.proof.Extent.TheVariants as extents
 use Rattle.desk_words.specs.declared.wishes.Sources.{Sources}
@@ -14,20 +18,49 @@ abbrev pub extent_of : Bool → Extent
 extent_of true = extents.Faults
 extent_of false = extents.Whole
 
--- the proof was written, and it is clean or not; no file has changed
-abbrev pub IsShown : Sources → Bool → Shelf → Shelf → Option (List ℕ) → Option (List ℕ) → Bool → Type 0
-IsShown from alone first last before after clean =
-    Stays first last × IsProofed (sources from.feed.now from.case.now from.wedge.now) (extent_of alone) first before after clean
+-- the proof was written by the settings and those that are tried, and it is clean or not; no file has changed
+abbrev pub IsShown : Sources → Bool → Settings → Shelf → Shelf → Option (List ℕ) → Option (List ℕ) → Bool → Type 0
+IsShown from alone trial first last before after clean =
+    Stays first last × IsProofed (sources from.feed.now from.case.now from.wedge.now) trial (extent_of alone) first before after clean
 
--- it was written, and no fault stands
-abbrev pub IsSeen : Sources → Bool → Shelf → Shelf → Option (List ℕ) → Option (List ℕ) → Type 0
-IsSeen from alone first last before after = IsShown from alone first last before after true
+-- it was not written
+abbrev pub IsUnshown : Sources → Bool → Settings → Shelf → Shelf → Option (List ℕ) → Option (List ℕ) → Type 0
+IsUnshown from alone trial first last before after =
+    Stays first last × (fault : PreviewFault) × IsUnproofed (sources from.feed.now from.case.now from.wedge.now) trial (extent_of alone) first last before after fault
 
--- it was written, and a fault stands; or it was not written
-abbrev pub IsUnseen : Sources → Bool → Shelf → Shelf → Option (List ℕ) → Option (List ℕ) → Type 0
-IsUnseen from alone first last before after =
-    IsShown from alone first last before after false
-    ⊎ (Stays first last × (fault : PreviewFault) × IsUnproofed (sources from.feed.now from.case.now from.wedge.now) (extent_of alone) first last before after fault)
+-- the picture that is asked for stands under its name, if one is
+abbrev pub IsPictureThere : Sources → Settings → Option (List ℕ) → Shelf → Shelf → Type 0
+IsPictureThere from trial None first last = last ≡ first
+IsPictureThere from trial (Some target) first last = IsPictured (sources from.feed.now from.case.now from.wedge.now) trial target first last
+
+-- one is asked for, and it does not
+abbrev pub IsPictureAbsent : Sources → Settings → Option (List ℕ) → Shelf → Shelf → Type 0
+IsPictureAbsent from trial None first last = ⊥
+IsPictureAbsent from trial (Some target) first last =
+    (fault : PreviewFault) × IsUnpictured (sources from.feed.now from.case.now from.wedge.now) trial target first last fault
+
+-- the proof by these settings was written, no fault stands, and then the picture was stored, if one is asked for
+abbrev pub IsSeenBy : Sources → Bool → Settings → Option (List ℕ) → Shelf → Shelf → Option (List ℕ) → Option (List ℕ) → Type 0
+IsSeenBy from alone trial picture first last before after =
+    (middle : Shelf) × IsShown from alone trial first middle before after true × IsPictureThere from trial picture middle last
+
+-- it was not written; or it was, and the picture not stored; or both were, and a fault stands
+abbrev pub IsUnseenBy : Sources → Bool → Settings → Option (List ℕ) → Shelf → Shelf → Option (List ℕ) → Option (List ℕ) → Type 0
+IsUnseenBy from alone trial picture first last before after =
+    IsUnshown from alone trial first last before after
+    ⊎ ((middle : Shelf) × (clean : Bool) × IsShown from alone trial first middle before after clean × IsPictureAbsent from trial picture middle last)
+    ⊎ ((middle : Shelf) × IsShown from alone trial first middle before after false × IsPictureThere from trial picture middle last)
+
+-- so by what the texts try
+abbrev pub IsSeen : Sources → Bool → Option (List ℕ) → List (Bor (List ℕ)) → Shelf → Shelf → Option (List ℕ) → Option (List ℕ) → Type 0
+IsSeen from alone picture sets first last before after =
+    (trial : Settings) × (trial_of sets ≡ Some trial) × IsSeenBy from alone trial picture first last before after
+
+-- nothing was begun: a text tries no setting, the picture would take the place of what it is made of, or memory ran out
+abbrev pub IsUnseen : Sources → Bool → Option (List ℕ) → List (Bor (List ℕ)) → Shelf → Shelf → Option (List ℕ) → Option (List ℕ) → Type 0
+IsUnseen from alone picture sets first last before after =
+    ((last ≡ first) × (after ≡ before))
+    ⊎ ((trial : Settings) × (trial_of sets ≡ Some trial) × IsUnseenBy from alone trial picture first last before after)
 
 -- the ribbon stands under the name, and nothing was written
 abbrev pub IsInFile : Sources → List ℕ → Shelf → Shelf → Option (List ℕ) → Option (List ℕ) → Type 0
@@ -36,6 +69,11 @@ IsInFile from target first last before after = (after ≡ before) × IsPunched (
 -- the name is that of what the ribbon is made of
 abbrev pub IsSource : Sources → List ℕ → Type 0
 IsSource from target = (target ≡ from.feed.now) ⊎ (target ≡ from.case.now) ⊎ (target ≡ from.wedge.now)
+
+-- a picture is asked for, and its name is that
+abbrev pub TakesSource : Sources → Option (List ℕ) → Type 0
+TakesSource from None = ⊥
+TakesSource from (Some target) = IsSource from target
 
 -- why there is no ribbon, and what was left: it would take the place of what it is made of, and nothing was begun; or it was not made, or not stored
 abbrev pub IsInNoFile : Sources → List ℕ → Shelf → Shelf → Option (List ℕ) → Option (List ℕ) → Type 0

@@ -1,5 +1,6 @@
 -- What the program has done, by its status and by the files before and after.
-use Rattle.std.specs.Prelude.{ℕ, List, Option}
+use Rattle.std.specs.Prelude.{ℕ, true, List, Option}
+use Rattle.std.specs.Option.{option_copied}
 use Rattle.clap.specs.Words.{Text}
 use Rattle.desk_files.specs.Files.{Shelf, Stays}
 use Rattle.desk_hand.specs.Exporting.{IsExported, IsUnexported}
@@ -10,12 +11,15 @@ use Rattle.desk_words.specs.Words.{AsksFor, texts_of}
 use Rattle.desk_program.specs.Compared.{AreNotOne, AreOne}
 use Rattle.desk_program.specs.Sheets.{IsOffDesk, IsOnDesk, IsScripted, IsUnscripted}
 use Rattle.desk_program.specs.Previews.{IsInFile, IsInNoFile, IsSeen, IsUnseen}
+use Rattle.desk_program.specs.Readings.{IsListed, IsNotListed, IsNotReadWhole, IsReadWhole}
+use Rattle.desk_reading.specs.Sources.{sources}
+use Rattle.desk_sorts.specs.Sources as sorts
 use Rattle.desk_replace.specs.Replacing.{IsReplaced}
 use Rattle.desk_program.specs.Texts.{AreFound, AreNotInOrder, IsUnchanged, exchange}
 use Rattle.desk_words.specs.declared.wishes.Wish.{Wish}
 use Rattle.desk_words.specs.declared.wishes.Wish.TheVariants as wishes
 
--- what is asked for was done; a script, an export, a check and a proof change no file
+-- what is asked for was done; a script, an export, a check, a proof and a reading without a picture, and a list of sorts change no file
 abbrev pub Does : Wish → Shelf → Shelf → Option (List ℕ) → Option (List ℕ) → Option (List ℕ) → Type 0
 Does (wishes.Script manner) first last input before after = IsScripted manner first last input before after
 Does (wishes.Desk feed site why manner) first last input before after = IsOnDesk manner feed.now site first last input before after
@@ -25,8 +29,10 @@ Does (wishes.Export feed) first last input before after = Stays first last × Is
 Does (wishes.Import feed site plain) first last input before after = IsImported feed.now site plain first last input before after
 Does (wishes.Replace feed site old new plain) first last input before after = IsReplaced feed.now site (exchange old new plain) first last before after
 Does (wishes.Check files) first last input before after = AreFound (texts_of files.items) first last before after
-Does (wishes.Proof from faults) first last input before after = IsSeen from faults first last before after
+Does (wishes.Proof from faults picture sets) first last input before after = IsSeen from faults (option_copied picture) sets.items first last before after
 Does (wishes.Punch from target) first last input before after = IsInFile from target.now first last before after
+Does (wishes.Read ribbon case wedge picture) first last input before after = IsReadWhole (sources ribbon.now case.now wedge.now) (option_copied picture) first last before after
+Does (wishes.Sorts feed case layout) first last input before after = IsListed (sorts.sources feed.now case.now) layout first last before after true
 
 -- it was begun and stopped, and this is what it left
 abbrev pub Stops : Wish → Shelf → Shelf → Option (List ℕ) → Option (List ℕ) → Option (List ℕ) → Type 0
@@ -38,8 +44,10 @@ Stops (wishes.Export feed) first last input before after = Stays first last × (
 Stops (wishes.Import feed site plain) first last input before after = (fault : HandFault) × IsUnimported feed.now site plain first last input before after fault
 Stops (wishes.Replace feed site old new plain) first last input before after = IsUnchanged feed.now site (exchange old new plain) first last before after
 Stops (wishes.Check files) first last input before after = AreNotInOrder (texts_of files.items) first last before after
-Stops (wishes.Proof from faults) first last input before after = IsUnseen from faults first last before after
+Stops (wishes.Proof from faults picture sets) first last input before after = IsUnseen from faults (option_copied picture) sets.items first last before after
 Stops (wishes.Punch from target) first last input before after = IsInNoFile from target.now first last before after
+Stops (wishes.Read ribbon case wedge picture) first last input before after = IsNotReadWhole (sources ribbon.now case.now wedge.now) (option_copied picture) first last before after
+Stops (wishes.Sorts feed case layout) first last input before after = IsNotListed (sorts.sources feed.now case.now) layout first last before after
 
 -- what the words ask for was done
 abbrev pub IsRun : Shelf → Shelf → List Text → Option (List ℕ) → Option (List ℕ) → Option (List ℕ) → Type 0

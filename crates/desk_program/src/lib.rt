@@ -3,6 +3,7 @@
 
 mod compared;
 mod previews;
+mod readings;
 mod sheets;
 mod tasks;
 mod telling;

@@ -1,16 +1,21 @@
 //! A stored feed seen before it is cast: its galley as text, and its ribbon in a file.
 
-ghost use Rattle.std.specs.Prelude.{◌≡◌, ◌≤◌, ◌↔◌, MatchResult, false, true};
-ghost use Rattle.desk_program.specs.Previews.{IsInFile, IsInNoFile, IsSeen, IsSource, IsUnseen, extent_of};
+ghost use Rattle.std.specs.Option.{option_copied};
+ghost use Rattle.std.specs.Prelude.{◌≡◌, ◌≤◌, ◌↔◌, IfSome, IsNone, MatchResult, false, true};
+ghost use Rattle.desk_job.specs.Answer.{AreValues};
+ghost use Rattle.desk_program.specs.Previews.{IsInFile, IsInNoFile, IsPictureAbsent, IsPictureThere, IsSeen, IsSeenBy, IsShown, IsSource, IsUnseen, IsUnseenBy, IsUnshown, TakesSource, extent_of};
 
-use crate::telling::explain_feed;
+use crate::telling::{explain_feed, stopped};
 use desk_answers::Refusal;
 use desk_hand::FeedTrouble;
 use desk_host::Explains;
 use desk_inputs::Memory;
+use desk_picture::picture_feed;
 use desk_preview::{PreviewFault, proof_feed, punch_feed};
 use desk_proof::Extent;
+use desk_replica::Settings;
 use desk_script::{FileRefusal, Files, RunFault};
+use desk_trial::{TrialFault, trial_of};
 use desk_words::Sources;
 use std::alloc::Global;
 use std::io::{self, Write};
@@ -39,13 +44,13 @@ fn wedge_words(number: u8) -> &'static str {
 }
 
 /// Writes a line on why a case and a wedge do not come in: the file, and the cause.
-fn explain_input<E: Write, F: Explains>(
+pub fn explain_input<E: Write, F: Explains>(
     faults: &mut E,
     files: &F,
-    from: &Sources<'_>,
+    case: &str,
+    wedge: &str,
     why: Refusal,
 ) -> io::Result<()> {
-    let (case, wedge) = (from.case, from.wedge);
     match why {
         Refusal::Case(number) => writeln!(faults, "{case}: {}", case_words(number)),
         Refusal::Wedge(number) => writeln!(faults, "{wedge}: {}", wedge_words(number)),
@@ -68,7 +73,7 @@ fn explain_preview<E: Write, F: Explains>(
     let feed = from.feed;
     match fault {
         PreviewFault::Feed(why) => explain_feed(faults, files, feed, why),
-        PreviewFault::Input(why) => explain_input(faults, files, from, why),
+        PreviewFault::Input(why) => explain_input(faults, files, from.case, from.wedge, why),
         PreviewFault::Faulty => Ok(()),
         PreviewFault::Write => writeln!(faults, "standard output: it cannot be written"),
         PreviewFault::Unstored(_) => files.explain(target, faults),
@@ -108,22 +113,6 @@ fn unseen<E: Write, F: Explains>(
     1
 }
 
-/// The status of a proof: 1 also where it was written and a fault stands.
-fn proof_status<E: Write, F: Explains>(
-    faults: &mut E,
-    files: &F,
-    from: &Sources<'_>,
-    outcome: Result<bool, PreviewFault>,
-) -> u8
-    ensures { MatchResult outcome (λ clean. (clean ≡ true → result ≡ 0) × (clean ≡ false → result ≡ 1)) (λ _. result ≡ 1) }
-{
-    match outcome {
-        Ok(true) => 0,
-        Ok(false) => 1,
-        Err(fault) => unseen(faults, files, from, "", fault),
-    }
-}
-
 /// The status of a punch.
 fn punch_status<E: Write, F: Explains>(
     faults: &mut E,
@@ -140,6 +129,14 @@ fn punch_status<E: Write, F: Explains>(
     }
 }
 
+/// The memory of all that a preview is made of.
+pub fn memory_of(alloc: Global) -> Memory<Global> {
+    Memory {
+        own: alloc,
+        global: alloc,
+    }
+}
+
 /// How much of a proof is wanted.
 fn extent_of(alone: bool) -> Extent
     ensures { result ≡ extent_of alone }
@@ -147,40 +144,164 @@ fn extent_of(alone: bool) -> Extent
     if alone { Extent::Faults } else { Extent::Whole }
 }
 
-/// Writes the proof of a stored feed, and gives the status: 0 where no fault stands.
-pub fn proofed<W: Write, E: Write, F: Files + Explains>(
-    alloc: Global,
-    from: &Sources<'_>,
-    alone: bool,
-    writer: &mut W,
-    faults: &mut E,
-    files: &mut F,
-) -> u8
-    ensures within { result ≤ 1 }
-    ensures done { result ≡ 0 → IsSeen from.now alone (F.shelf files.old) (F.shelf files.new) (W.contents writer.old) (W.contents writer.new) }
-    ensures stopped { result ≡ 1 → IsUnseen from.now alone (F.shelf files.old) (F.shelf files.new) (W.contents writer.old) (W.contents writer.new) }
-{
-    let memory = Memory {
-        own: alloc,
-        global: alloc,
-    };
-    let outcome = proof_feed(
-        memory,
-        writer,
-        files,
-        from.feed,
-        from.case,
-        from.wedge,
-        extent_of(alone),
-    );
-    proof_status(faults, files, from, outcome)
-}
-
 /// Whether a name is that of what a ribbon is made of.
 fn is_source(from: &Sources<'_>, target: &str) -> bool
     ensures { result ≡ true ↔ IsSource from.now target.now }
 {
     target == from.feed || target == from.case || target == from.wedge
+}
+
+/// Writes the proof of a stored feed by its settings and those that are tried, and says whether it is clean; none where it was
+/// not written.
+fn shown<W: Write, E: Write, F: Files + Explains>(
+    alloc: Global,
+    from: &Sources<'_>,
+    alone: bool,
+    trial: &Settings,
+    writer: &mut W,
+    faults: &mut E,
+    files: &mut F,
+) -> Option<bool>
+    requires { AreValues trial.now }
+    ensures some { IfSome result (IsShown from.now alone trial.now (F.shelf files.old) (F.shelf files.new) (W.contents writer.old) (W.contents writer.new)) }
+    ensures none { IsNone result → IsUnshown from.now alone trial.now (F.shelf files.old) (F.shelf files.new) (W.contents writer.old) (W.contents writer.new) }
+{
+    let extent = extent_of(alone);
+    let outcome = proof_feed(
+        memory_of(alloc),
+        writer,
+        files,
+        from.feed,
+        from.case,
+        from.wedge,
+        trial,
+        extent,
+    );
+    match outcome {
+        Ok(clean) => Some(clean),
+        Err(fault) => {
+            let _ = unseen(faults, files, from, "", fault);
+            None
+        }
+    }
+}
+
+/// Stores the picture of a stored feed's galley, where one is asked for, and says whether it stands there.
+fn pictured<E: Write, F: Files + Explains>(
+    alloc: Global,
+    from: &Sources<'_>,
+    trial: &Settings,
+    picture: Option<&str>,
+    faults: &mut E,
+    files: &mut F,
+) -> bool
+    requires { AreValues trial.now }
+    ensures yes { result ≡ true → IsPictureThere from.now trial.now (option_copied picture.entry) (F.shelf files.old) (F.shelf files.new) }
+    ensures no { result ≡ false → IsPictureAbsent from.now trial.now (option_copied picture.entry) (F.shelf files.old) (F.shelf files.new) }
+{
+    let Some(target) = picture else {
+        return true;
+    };
+    let outcome = picture_feed(
+        memory_of(alloc),
+        files,
+        from.feed,
+        from.case,
+        from.wedge,
+        trial,
+        target,
+    );
+    match outcome {
+        Ok(()) => true,
+        Err(fault) => {
+            let _ = unseen(faults, files, from, target, fault);
+            false
+        }
+    }
+}
+
+/// Writes the proof of a stored feed, stores its picture where one is asked for, and gives the status.
+fn seen_by<W: Write, E: Write, F: Files + Explains>(
+    alloc: Global,
+    from: &Sources<'_>,
+    alone: bool,
+    trial: &Settings,
+    picture: Option<&str>,
+    writer: &mut W,
+    faults: &mut E,
+    files: &mut F,
+) -> u8
+    requires { AreValues trial.now }
+    ensures within { result ≤ 1 }
+    ensures done { result ≡ 0 → IsSeenBy from.now alone trial.now (option_copied picture.entry) (F.shelf files.old) (F.shelf files.new) (W.contents writer.old) (W.contents writer.new) }
+    ensures stopped { result ≡ 1 → IsUnseenBy from.now alone trial.now (option_copied picture.entry) (F.shelf files.old) (F.shelf files.new) (W.contents writer.old) (W.contents writer.new) }
+{
+    let Some(clean) = shown(alloc, from, alone, trial, writer, faults, files) else {
+        return 1;
+    };
+    if !pictured(alloc, from, trial, picture, faults, files) {
+        return 1;
+    }
+    if clean { 0 } else { 1 }
+}
+
+/// Writes two lines on why no settings are tried, and gives the status of it.
+fn untried<E: Write>(faults: &mut E, sets: &[&str], fault: TrialFault) -> u8
+    ensures { result ≡ 1 }
+{
+    match fault {
+        TrialFault::NoSetting(place) => {
+            let text = sets.get(place).copied().unwrap_or("");
+            let _ = writeln!(faults, "copydesk: input refused");
+            let _ = writeln!(
+                faults,
+                "--set {text}: no setting, or no value that it may have"
+            );
+            1
+        }
+        TrialFault::NoMemory => stopped(faults, RunFault::NoMemory),
+    }
+}
+
+/// Whether the picture would take the place of what it is made of; then two lines say so.
+fn takes_source<E: Write>(faults: &mut E, from: &Sources<'_>, picture: Option<&str>) -> bool
+    ensures { result ≡ true ↔ TakesSource from.now (option_copied picture.entry) }
+{
+    let Some(target) = picture else {
+        return false;
+    };
+    if !is_source(from, target) {
+        return false;
+    }
+    let _ = writeln!(faults, "copydesk: {}", RunFault::File(FileRefusal::Device));
+    let _ = writeln!(faults, "{target}: the picture would take its place");
+    true
+}
+
+/// Writes the proof of a stored feed by its settings and those that texts as `loose=200` try, stores its picture where one is
+/// asked for, and gives the status: 0 where no fault stands and all was written. The names of the feed, the case and the wedge
+/// are no target.
+pub fn proofed<W: Write, E: Write, F: Files + Explains>(
+    alloc: Global,
+    from: &Sources<'_>,
+    alone: bool,
+    picture: Option<&str>,
+    sets: &[&str],
+    writer: &mut W,
+    faults: &mut E,
+    files: &mut F,
+) -> u8
+    ensures within { result ≤ 1 }
+    ensures done { result ≡ 0 → IsSeen from.now alone (option_copied picture.entry) sets.now (F.shelf files.old) (F.shelf files.new) (W.contents writer.old) (W.contents writer.new) }
+    ensures stopped { result ≡ 1 → IsUnseen from.now alone (option_copied picture.entry) sets.now (F.shelf files.old) (F.shelf files.new) (W.contents writer.old) (W.contents writer.new) }
+{
+    if takes_source(faults, from, picture) {
+        return 1;
+    }
+    match trial_of(alloc, sets) {
+        Ok(trial) => seen_by(alloc, from, alone, &trial, picture, writer, faults, files),
+        Err(fault) => untried(faults, sets, fault),
+    }
 }
 
 /// Stores the ribbon of a stored feed under the name of a target, and gives the status. The names of the feed, the case and
@@ -202,12 +323,14 @@ pub fn punched<W: Write, E: Write, F: Files + Explains>(
         let _ = writeln!(faults, "{target}: the ribbon would take its place");
         return 1;
     }
-    let memory = Memory {
-        own: alloc,
-        global: alloc,
-    };
     let outcome = punch_feed(
-        memory, writer, files, from.feed, from.case, from.wedge, target,
+        memory_of(alloc),
+        writer,
+        files,
+        from.feed,
+        from.case,
+        from.wedge,
+        target,
     );
     punch_status(faults, files, from, target, outcome)
 }

@@ -7,6 +7,7 @@ ghost use Rattle.desk_words.specs.Words.{AsksHelp, AsksNothing, IsLawful};
 
 use crate::compared::compared;
 use crate::previews::{proofed, punched};
+use crate::readings::{listed, read_whole};
 use crate::sheets::{on_desk, scripted};
 use crate::telling::{hand_status, stopped};
 use crate::texts::{checked, replaced};
@@ -75,8 +76,19 @@ fn fulfilled<R: Read, W: Write, E: Write, F: Files + Explains>(
         Wish::Proof {
             from,
             faults: alone,
-        } => proofed(alloc, from, *alone, writer, faults, files),
+            picture,
+            sets,
+        } => proofed(alloc, from, *alone, *picture, sets, writer, faults, files),
         Wish::Punch { from, target } => punched(alloc, from, target, writer, faults, files),
+        Wish::Read {
+            ribbon,
+            case,
+            wedge,
+            picture,
+        } => read_whole(alloc, ribbon, case, wedge, *picture, writer, faults, files),
+        Wish::Sorts { feed, case, layout } => {
+            listed(alloc, feed, case, *layout, writer, faults, files)
+        }
     }
 }
 

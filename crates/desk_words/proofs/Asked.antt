@@ -8,7 +8,7 @@ use Rattle.clap.specs.Matches.{ReadsOne}
 use Rattle.clap.specs.Words.{Row, Text, all_of, fault_of, first_value, one_of, rows_of, subcommand_of}
 use Rattle.clap.specs.declared.parser.matches.Found.{Found}
 use Rattle.clap.proofs.WalkLemmas.{first_value-rows}
-use Rattle.desk_words.specs.Words.{HasSite, IsAsked, IsTold, IsWished, Names, NamesDesk, NamesFeed, NamesSources, Tells, copydesk, name_of, task_of, texts_of}
+use Rattle.desk_words.specs.Words.{HasSite, IsAsked, IsTold, IsWished, Names, NamesDesk, NamesFeed, NamesRibbon, NamesSources, Tells, copydesk, name_of, task_of, texts_of}
 use Rattle.desk_words.specs.declared.wishes.Sources.{Sources}
 use Rattle.desk_words.specs.declared.wishes.Task.{Task}
 use Rattle.desk_words.specs.declared.wishes.Task.TheVariants as tasks
@@ -56,124 +56,40 @@ unnamed argument f r got is name names =
 
 -- ---- what is lacking
 
--- without a feed's name and a site no desk is told
-pub no_desk : (rows : List Row) → ((feed : Text) (site : ℕ) → NamesDesk rows feed site → ⊥) → (wish : Wish) → task_of wish ≡ tasks.Desk → Tells rows wish → ⊥
-no_desk rows none (wishes.Script manner) is tells = cc
-no_desk rows none (wishes.Desk feed site why manner) is tells = none feed.now site tells.0
-no_desk rows none (wishes.Merge feed others) is tells = cc
-no_desk rows none (wishes.Diff one other) is tells = cc
-no_desk rows none (wishes.Export feed) is tells = cc
-no_desk rows none (wishes.Import feed site plain) is tells = cc
-no_desk rows none (wishes.Replace feed site old new plain) is tells = cc
-no_desk rows none (wishes.Check files) is tells = cc
-no_desk rows none (wishes.Proof from faults) is tells = cc
-no_desk rows none (wishes.Punch from target) is tells = cc
+-- what the matches of a subcommand lack, where they hold nothing that can be done
+abbrev pub Lacks : List Row → Task → Type 0
+Lacks rows tasks.Script = ⊥
+Lacks rows tasks.Desk = (feed : Text) (site : ℕ) → NamesDesk rows feed site → ⊥
+Lacks rows tasks.Merge = (feed : Text) (others : List Text) → NamesFeed rows feed → all_of (codes "other") rows ≡ Some others → ⊥
+Lacks rows tasks.Diff = (feed other : Text) → NamesFeed rows feed → Names (codes "other") rows other → ⊥
+Lacks rows tasks.Export = (feed : Text) → NamesFeed rows feed → ⊥
+Lacks rows tasks.Import = (feed : Text) (site : ℕ) → NamesDesk rows feed site → ⊥
+Lacks rows tasks.Replace = (feed : Text) (site : ℕ) (old new : Text) → NamesDesk rows feed site → Names (codes "old") rows old → Names (codes "new") rows new → ⊥
+Lacks rows tasks.Check = all_of (codes "file") rows ≡ None
+Lacks rows tasks.Proof = (from : Sources) → NamesSources rows from → ⊥
+Lacks rows tasks.Punch = (from : Sources) (target : Text) → NamesSources rows from → Names (codes "output") rows target → ⊥
+Lacks rows tasks.Read = (ribbon case wedge : Text) → NamesRibbon rows ribbon case wedge → ⊥
+Lacks rows tasks.Sorts = (feed case : Text) → NamesFeed rows feed → Names (codes "case") rows case → ⊥
 
--- and no import
-pub no_import : (rows : List Row) → ((feed : Text) (site : ℕ) → NamesDesk rows feed site → ⊥) → (wish : Wish) → task_of wish ≡ tasks.Import → Tells rows wish → ⊥
-no_import rows none (wishes.Script manner) is tells = cc
-no_import rows none (wishes.Desk feed site why manner) is tells = cc
-no_import rows none (wishes.Merge feed others) is tells = cc
-no_import rows none (wishes.Diff one other) is tells = cc
-no_import rows none (wishes.Export feed) is tells = cc
-no_import rows none (wishes.Import feed site plain) is tells = none feed.now site tells.0
-no_import rows none (wishes.Replace feed site old new plain) is tells = cc
-no_import rows none (wishes.Check files) is tells = cc
-no_import rows none (wishes.Proof from faults) is tells = cc
-no_import rows none (wishes.Punch from target) is tells = cc
-
--- without the names of a feed and of others no merge is told
-pub no_merge : (rows : List Row) → ((feed : Text) (others : List Text) → NamesFeed rows feed → all_of (codes "other") rows ≡ Some others → ⊥) → (wish : Wish) → task_of wish ≡ tasks.Merge → Tells rows wish → ⊥
-no_merge rows none (wishes.Script manner) is tells = cc
-no_merge rows none (wishes.Desk feed site why manner) is tells = cc
-no_merge rows none (wishes.Merge feed others) is tells = none feed.now (texts_of others.items) tells.0 tells.1
-no_merge rows none (wishes.Diff one other) is tells = cc
-no_merge rows none (wishes.Export feed) is tells = cc
-no_merge rows none (wishes.Import feed site plain) is tells = cc
-no_merge rows none (wishes.Replace feed site old new plain) is tells = cc
-no_merge rows none (wishes.Check files) is tells = cc
-no_merge rows none (wishes.Proof from faults) is tells = cc
-no_merge rows none (wishes.Punch from target) is tells = cc
-
--- without two feeds' names no difference is told
-pub no_diff : (rows : List Row) → ((feed other : Text) → NamesFeed rows feed → Names (codes "other") rows other → ⊥) → (wish : Wish) → task_of wish ≡ tasks.Diff → Tells rows wish → ⊥
-no_diff rows none (wishes.Script manner) is tells = cc
-no_diff rows none (wishes.Desk feed site why manner) is tells = cc
-no_diff rows none (wishes.Merge feed others) is tells = cc
-no_diff rows none (wishes.Diff one other) is tells = none one.now other.now tells.0 tells.1
-no_diff rows none (wishes.Export feed) is tells = cc
-no_diff rows none (wishes.Import feed site plain) is tells = cc
-no_diff rows none (wishes.Replace feed site old new plain) is tells = cc
-no_diff rows none (wishes.Check files) is tells = cc
-no_diff rows none (wishes.Proof from faults) is tells = cc
-no_diff rows none (wishes.Punch from target) is tells = cc
-
--- without a feed's name no export
-pub no_export : (rows : List Row) → ((feed : Text) → NamesFeed rows feed → ⊥) → (wish : Wish) → task_of wish ≡ tasks.Export → Tells rows wish → ⊥
-no_export rows none (wishes.Script manner) is tells = cc
-no_export rows none (wishes.Desk feed site why manner) is tells = cc
-no_export rows none (wishes.Merge feed others) is tells = cc
-no_export rows none (wishes.Diff one other) is tells = cc
-no_export rows none (wishes.Export feed) is tells = none feed.now tells
-no_export rows none (wishes.Import feed site plain) is tells = cc
-no_export rows none (wishes.Replace feed site old new plain) is tells = cc
-no_export rows none (wishes.Check files) is tells = cc
-no_export rows none (wishes.Proof from faults) is tells = cc
-no_export rows none (wishes.Punch from target) is tells = cc
-
--- without a feed's name, a site and both texts no replacement is told
-pub no_replace : (rows : List Row) → ((feed : Text) (site : ℕ) (old new : Text) → NamesDesk rows feed site → Names (codes "old") rows old → Names (codes "new") rows new → ⊥) → (wish : Wish) → task_of wish ≡ tasks.Replace → Tells rows wish → ⊥
-no_replace rows none (wishes.Script manner) is tells = cc
-no_replace rows none (wishes.Desk feed site why manner) is tells = cc
-no_replace rows none (wishes.Merge feed others) is tells = cc
-no_replace rows none (wishes.Diff one other) is tells = cc
-no_replace rows none (wishes.Export feed) is tells = cc
-no_replace rows none (wishes.Import feed site plain) is tells = cc
-no_replace rows none (wishes.Replace feed site old new plain) is tells = none feed.now site old.now new.now tells.0 tells.1 tells.2
-no_replace rows none (wishes.Check files) is tells = cc
-no_replace rows none (wishes.Proof from faults) is tells = cc
-no_replace rows none (wishes.Punch from target) is tells = cc
-
--- without names of files no check
-pub no_check : (rows : List Row) → all_of (codes "file") rows ≡ None → (wish : Wish) → task_of wish ≡ tasks.Check → Tells rows wish → ⊥
-no_check rows none (wishes.Script manner) is tells = cc
-no_check rows none (wishes.Desk feed site why manner) is tells = cc
-no_check rows none (wishes.Merge feed others) is tells = cc
-no_check rows none (wishes.Diff one other) is tells = cc
-no_check rows none (wishes.Export feed) is tells = cc
-no_check rows none (wishes.Import feed site plain) is tells = cc
-no_check rows none (wishes.Replace feed site old new plain) is tells = cc
-no_check rows none (wishes.Check files) is tells =
-    let bad = sym none ∙ tells in
+-- no wish is told by matches that lack what its subcommand wants
+none_told : (rows : List Row) (wish : Wish) → Lacks rows (task_of wish) → Tells rows wish → ⊥
+none_told rows (wishes.Script manner) lacks tells = lacks
+none_told rows (wishes.Desk feed site why manner) lacks tells = lacks feed.now site tells.0
+none_told rows (wishes.Merge feed others) lacks tells = lacks feed.now (texts_of others.items) tells.0 tells.1
+none_told rows (wishes.Diff one other) lacks tells = lacks one.now other.now tells.0 tells.1
+none_told rows (wishes.Export feed) lacks tells = lacks feed.now tells
+none_told rows (wishes.Import feed site plain) lacks tells = lacks feed.now site tells.0
+none_told rows (wishes.Replace feed site old new plain) lacks tells = lacks feed.now site old.now new.now tells.0 tells.1 tells.2
+none_told rows (wishes.Check files) lacks tells =
+    let bad = sym lacks ∙ tells in
     cc
-no_check rows none (wishes.Proof from faults) is tells = cc
-no_check rows none (wishes.Punch from target) is tells = cc
+none_told rows (wishes.Proof from faults picture sets) lacks tells = lacks from tells.0
+none_told rows (wishes.Punch from target) lacks tells = lacks from target.now tells.0 tells.1
+none_told rows (wishes.Read ribbon case wedge picture) lacks tells = lacks ribbon.now case.now wedge.now tells.0
+none_told rows (wishes.Sorts feed case layout) lacks tells = lacks feed.now case.now tells.0 tells.1
 
--- without the names of a feed, a case and a wedge no proof is told
-pub no_proof : (rows : List Row) → ((from : Sources) → NamesSources rows from → ⊥) → (wish : Wish) → task_of wish ≡ tasks.Proof → Tells rows wish → ⊥
-no_proof rows none (wishes.Script manner) is tells = cc
-no_proof rows none (wishes.Desk feed site why manner) is tells = cc
-no_proof rows none (wishes.Merge feed others) is tells = cc
-no_proof rows none (wishes.Diff one other) is tells = cc
-no_proof rows none (wishes.Export feed) is tells = cc
-no_proof rows none (wishes.Import feed site plain) is tells = cc
-no_proof rows none (wishes.Replace feed site old new plain) is tells = cc
-no_proof rows none (wishes.Check files) is tells = cc
-no_proof rows none (wishes.Proof from faults) is tells = none from tells.0
-no_proof rows none (wishes.Punch from target) is tells = cc
-
--- and without them and a target's no punch
-pub no_punch : (rows : List Row) → ((from : Sources) (target : Text) → NamesSources rows from → Names (codes "output") rows target → ⊥) → (wish : Wish) → task_of wish ≡ tasks.Punch → Tells rows wish → ⊥
-no_punch rows none (wishes.Script manner) is tells = cc
-no_punch rows none (wishes.Desk feed site why manner) is tells = cc
-no_punch rows none (wishes.Merge feed others) is tells = cc
-no_punch rows none (wishes.Diff one other) is tells = cc
-no_punch rows none (wishes.Export feed) is tells = cc
-no_punch rows none (wishes.Import feed site plain) is tells = cc
-no_punch rows none (wishes.Replace feed site old new plain) is tells = cc
-no_punch rows none (wishes.Check files) is tells = cc
-no_punch rows none (wishes.Proof from faults) is tells = cc
-no_punch rows none (wishes.Punch from target) is tells = none from target.now tells.0 tells.1
+pub no_wish : (rows : List Row) (task : Task) → Lacks rows task → (wish : Wish) → task_of wish ≡ task → Tells rows wish → ⊥
+no_wish rows task lacks wish is = none_told rows wish (subst (λ t. Lacks rows t) (sym is) lacks)
 
 -- ---- the name of a subcommand
 
@@ -189,6 +105,8 @@ called name =
     if bytes_eq name (codes "check") then tasks.Check else
     if bytes_eq name (codes "proof") then tasks.Proof else
     if bytes_eq name (codes "punch") then tasks.Punch else
+    if bytes_eq name (codes "read") then tasks.Read else
+    if bytes_eq name (codes "sorts") then tasks.Sorts else
     tasks.Script
 
 called_of : (task : Task) → called (name_of task) ≡ task
@@ -203,6 +121,8 @@ called_of tasks.Replace = refl
 called_of tasks.Check = refl
 called_of tasks.Proof = refl
 called_of tasks.Punch = refl
+called_of tasks.Read = refl
+called_of tasks.Sorts = refl
 
 -- two subcommands have two names
 pub same_task : (task other : Task) → name_of task ≡ name_of other → task ≡ other

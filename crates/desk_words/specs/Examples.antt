@@ -1,5 +1,5 @@
 -- Words that ask for a script, a stored feed or help, and words with a fault.
-use Rattle.std.specs.Prelude.{◌≡◌, List, [], ◌∷◌, Option, Some, option_map, refl, codes}
+use Rattle.std.specs.Prelude.{◌≡◌, List, [], ◌∷◌, Option, Some, None, option_map, refl, codes}
 use Rattle.clap.specs.Words.{Row, Text, all_of, fault_of, first_of, one_of, subcommand_of}
 use Rattle.clap.specs.declared.error.kind.ErrorKind.TheVariants as kind
 use Rattle.clap.proofs.OnLiterals.{clap_on_literals}
@@ -118,3 +118,32 @@ checked = option_map (λ p. (p.0, all_of (codes "file") p.1))
 a_check : checked (subcommand_of copydesk (codes "check" ∷ codes "a.feed" ∷ codes "c.toml" ∷ [])) ≡ Some (codes "check", Some (codes "a.feed" ∷ codes "c.toml" ∷ []))
 unfolding clap_on_literals checked
 a_check = refl
+
+seen : Option (Text × List Row) → Option (Text × (Option Text × Option (List Text)))
+seen = option_map (λ p. (p.0, (first_of (codes "svg") p.1, all_of (codes "set") p.1)))
+
+a_picture : seen (subcommand_of copydesk (codes "proof" ∷ codes "a.feed" ∷ codes "--case" ∷ codes "c.toml" ∷ codes "--wedge" ∷ codes "w.toml" ∷ codes "--svg" ∷ codes "a.svg" ∷ codes "--set" ∷ codes "loose=200" ∷ codes "--set=tight=20" ∷ []))
+    ≡ Some (codes "proof", (Some (codes "a.svg"), Some (codes "loose=200" ∷ codes "tight=20" ∷ [])))
+unfolding clap_on_literals seen
+a_picture = refl
+
+no_picture : seen (subcommand_of copydesk (codes "proof" ∷ codes "a.feed" ∷ codes "--case" ∷ codes "c.toml" ∷ codes "--wedge" ∷ codes "w.toml" ∷ []))
+    ≡ Some (codes "proof", (None, None))
+unfolding clap_on_literals seen
+no_picture = refl
+
+ribbon_read : Option (Text × List Row) → Option (Text × (Option Text × (Option Text × Option Text)))
+ribbon_read = option_map (λ p. (p.0, (first_of (codes "ribbon") p.1, (first_of (codes "case") p.1, first_of (codes "wedge") p.1))))
+
+a_reading : ribbon_read (subcommand_of copydesk (codes "read" ∷ codes "a.rib" ∷ codes "--case" ∷ codes "c.toml" ∷ codes "--wedge" ∷ codes "w.toml" ∷ []))
+    ≡ Some (codes "read", (Some (codes "a.rib"), (Some (codes "c.toml"), Some (codes "w.toml"))))
+unfolding clap_on_literals ribbon_read
+a_reading = refl
+
+sorted : Option (Text × List Row) → Option (Text × (Option Text × (Option Text × Option Text)))
+sorted = option_map (λ p. (p.0, (first_of (codes "feed") p.1, (first_of (codes "case") p.1, one_of (codes "layout") p.1))))
+
+some_sorts : sorted (subcommand_of copydesk (codes "sorts" ∷ codes "a.feed" ∷ codes "--case" ∷ codes "c.toml" ∷ codes "--layout" ∷ []))
+    ≡ Some (codes "sorts", (Some (codes "a.feed"), (Some (codes "c.toml"), Some (codes "true"))))
+unfolding clap_on_literals sorted
+some_sorts = refl

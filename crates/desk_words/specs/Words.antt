@@ -1,5 +1,5 @@
 -- What the words of the command line ask for, as `clap` reads them.
-use Rattle.std.specs.Prelude.{◌≡◌, ◌≢◌, ◌≤◌, ◌<◌, ◌⊎◌, ℕ, Bool, List, [], Option, Some, None, Vec, true, false, map, pos, codes}
+use Rattle.std.specs.Prelude.{◌≡◌, ◌≢◌, ◌≤◌, ◌<◌, ◌⊎◌, ℕ, Bool, List, [], Option, Some, None, Vec, true, false, map, option_map, pos, codes}
 use Rattle.std.specs.Borrow.{Bor}
 use Rattle.std.specs.Str.Parse.{IsNumeral, digits_value, without_leading_plus}
 use Rattle.std.specs.declared.alloc.Global.{Global}
@@ -44,6 +44,14 @@ flag_rule name = record (new_rule name) { long = Some name; action = Some SetTru
 abbrev pub file_rule : Text → Rule
 file_rule name = record (new_rule name) { long = Some name; required = true }
 
+-- an option with the name of a file, which may be left out
+abbrev pub choice_rule : Text → Rule
+choice_rule name = record (new_rule name) { long = Some name }
+
+-- an option that may stand more than once
+abbrev pub each_rule : Text → Rule
+each_rule name = record (new_rule name) { long = Some name; action = Some Append }
+
 -- `--output` or `-o`
 abbrev pub target_rule : Rule
 target_rule = record (file_rule (codes "output")) { short = Some 111 }
@@ -79,10 +87,20 @@ abbrev pub sources_app : Text → App
 sources_app name = with_rule (with_rule (with_rule (new_app name) feed_rule) (file_rule (codes "case"))) (file_rule (codes "wedge"))
 
 abbrev pub proof_app : App
-proof_app = with_rule (sources_app (codes "proof")) (flag_rule (codes "faults"))
+proof_app = with_rule (with_rule (with_rule (sources_app (codes "proof")) (flag_rule (codes "faults"))) (choice_rule (codes "svg"))) (each_rule (codes "set"))
 
 abbrev pub punch_app : App
 punch_app = with_rule (sources_app (codes "punch")) target_rule
+
+-- a ribbon, a case and a wedge
+abbrev pub ribbon_app : App
+ribbon_app = with_rule (with_rule (with_rule (new_app (codes "read")) (text_rule (codes "ribbon"))) (file_rule (codes "case"))) (file_rule (codes "wedge"))
+
+abbrev pub read_app : App
+read_app = with_rule ribbon_app (choice_rule (codes "svg"))
+
+abbrev pub sorts_app : App
+sorts_app = with_rule (with_rule (with_rule (new_app (codes "sorts")) feed_rule) (file_rule (codes "case"))) (flag_rule (codes "layout"))
 
 abbrev pub replace_app : App
 replace_app = with_rule (with_rule (with_rule (with_rule (with_rule (new_app (codes "replace")) feed_rule) site_rule) (flag_rule (codes "plain"))) (text_rule (codes "old"))) (text_rule (codes "new"))
@@ -103,7 +121,8 @@ with_correcting = with_subcommand (with_subcommand (with_subcommand (with_subcom
 
 -- the program with its subcommands: and with those that look at what will be cast
 abbrev pub copydesk : App
-copydesk = with_subcommand (with_subcommand (with_subcommand with_correcting check_app.top) proof_app.top) punch_app.top
+copydesk = with_subcommand (with_subcommand (with_subcommand (with_subcommand (with_subcommand with_correcting
+    check_app.top) proof_app.top) punch_app.top) read_app.top) sorts_app.top
 
 -- ---- what a subcommand's matches hold
 
@@ -131,9 +150,22 @@ NamesSources rows from = NamesFeed rows from.feed.now × Names (codes "case") ro
 abbrev pub NamesDesk : List Row → Text → ℕ → Type 0
 NamesDesk rows feed site = NamesFeed rows feed × HasSite rows site
 
+-- the names of a ribbon, a case and a wedge
+abbrev pub NamesRibbon : List Row → Text → Text → Text → Type 0
+NamesRibbon rows ribbon case wedge = Names (codes "ribbon") rows ribbon × Names (codes "case") rows case × Names (codes "wedge") rows wedge
+
+-- the name that an option gives, or that it was left out
+abbrev pub Chooses : Text → List Row → Option (Bor Text) → Type 0
+Chooses argument rows name = first_of argument rows ≡ option_map (λ n. n.now) name
+
 -- the texts behind names
 abbrev pub texts_of : List (Bor Text) → List Text
 texts_of = map (λ name. name.now)
+
+-- the texts that an option gives, none where it was left out
+abbrev pub all_given : Option (List Text) → List Text
+all_given (Some texts) = texts
+all_given None = []
 
 -- the flag is set or not
 abbrev pub HasFlag : Text → List Row → Bool → Type 0
@@ -158,6 +190,8 @@ name_of tasks.Replace = codes "replace"
 name_of tasks.Check = codes "check"
 name_of tasks.Proof = codes "proof"
 name_of tasks.Punch = codes "punch"
+name_of tasks.Read = codes "read"
+name_of tasks.Sorts = codes "sorts"
 
 -- the subcommand of a wish
 abbrev pub task_of : Wish → Task
@@ -169,8 +203,10 @@ task_of (wishes.Export feed) = tasks.Export
 task_of (wishes.Import feed site plain) = tasks.Import
 task_of (wishes.Replace feed site old new plain) = tasks.Replace
 task_of (wishes.Check files) = tasks.Check
-task_of (wishes.Proof from faults) = tasks.Proof
+task_of (wishes.Proof from faults picture sets) = tasks.Proof
 task_of (wishes.Punch from target) = tasks.Punch
+task_of (wishes.Read ribbon case wedge picture) = tasks.Read
+task_of (wishes.Sorts feed case layout) = tasks.Sorts
 
 -- its matches hold what the wish says
 abbrev pub Tells : List Row → Wish → Type 0
@@ -183,8 +219,11 @@ Tells rows (wishes.Import feed site plain) = NamesDesk rows feed.now site × Has
 Tells rows (wishes.Replace feed site old new plain) =
     NamesDesk rows feed.now site × Names (codes "old") rows old.now × Names (codes "new") rows new.now × HasFlag (codes "plain") rows plain
 Tells rows (wishes.Check files) = all_of (codes "file") rows ≡ Some (texts_of files.items)
-Tells rows (wishes.Proof from faults) = NamesSources rows from × HasFlag (codes "faults") rows faults
+Tells rows (wishes.Proof from faults picture sets) =
+    NamesSources rows from × HasFlag (codes "faults") rows faults × Chooses (codes "svg") rows picture × (texts_of sets.items ≡ all_given (all_of (codes "set") rows))
 Tells rows (wishes.Punch from target) = NamesSources rows from × Names (codes "output") rows target.now
+Tells rows (wishes.Read ribbon case wedge picture) = NamesRibbon rows ribbon.now case.now wedge.now × Chooses (codes "svg") rows picture
+Tells rows (wishes.Sorts feed case layout) = NamesFeed rows feed.now × Names (codes "case") rows case.now × HasFlag (codes "layout") rows layout
 
 -- a subcommand with its matches asks for this
 abbrev pub Wishes : Option (Text × List Row) → Wish → Type 0
@@ -243,5 +282,7 @@ IsLawful (wishes.Export feed) = Unit {0}
 IsLawful (wishes.Import feed site plain) = 1 ≤ site
 IsLawful (wishes.Replace feed site old new plain) = 1 ≤ site
 IsLawful (wishes.Check files) = Unit {0}
-IsLawful (wishes.Proof from faults) = Unit {0}
+IsLawful (wishes.Proof from faults picture sets) = Unit {0}
 IsLawful (wishes.Punch from target) = Unit {0}
+IsLawful (wishes.Read ribbon case wedge picture) = Unit {0}
+IsLawful (wishes.Sorts feed case layout) = Unit {0}

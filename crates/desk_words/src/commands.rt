@@ -3,11 +3,11 @@
 ghost use Rattle.std.specs.Prelude.{◌≡◌, IfOk, codes, false};
 ghost use Rattle.clap.specs.Words.{app_of, new_app, rule_of, with_rule};
 ghost use Rattle.clap.specs.declared.builder.command.Command.TheViews.{out-Command};
-ghost use Rattle.desk_words.specs.Words.{check_app, copydesk, desk_app, diff_app, export_app, feed_rule, file_rule, flag_rule, import_app, merge_app, names_rule, no_subcommand, proof_app, punch_app, replace_app, script_app, site_rule, sources_app, target_rule, text_rule, with_correcting};
+ghost use Rattle.desk_words.specs.Words.{check_app, choice_rule, copydesk, desk_app, diff_app, each_rule, export_app, feed_rule, file_rule, flag_rule, import_app, merge_app, names_rule, no_subcommand, proof_app, punch_app, read_app, replace_app, ribbon_app, script_app, site_rule, sorts_app, sources_app, target_rule, text_rule, with_correcting};
 
 use crate::help::{
     COMMANDS, ON_A_FEED, ON_CHECK, ON_DIFF, ON_EXPORT, ON_IMPORT, ON_MERGE, ON_PROOF, ON_PUNCH,
-    ON_REPLACE, ON_SUBCOMMANDS, VERSION,
+    ON_READ, ON_REPLACE, ON_SORTS, ON_SUBCOMMANDS, VERSION,
 };
 use clap::{Arg, ArgAction, Command, value_parser};
 use std::alloc::{AllocError, Global};
@@ -68,6 +68,23 @@ fn file_arg<'a>(alloc: Global, name: &'a str, help: &'a str) -> Arg<'a>
     ensures local { result.global ≡ false }
 {
     Arg::new(alloc, name).long(name).required(true).help(help)
+}
+
+/// An option with the name of a file, which may be left out.
+fn choice_arg<'a>(alloc: Global, name: &'a str, help: &'a str) -> Arg<'a>
+    ensures rule { rule_of result ≡ choice_rule name.now }
+    ensures local { result.global ≡ false }
+{
+    Arg::new(alloc, name).long(name).help(help)
+}
+
+/// An option that may stand more than once.
+fn each_arg<'a>(alloc: Global, name: &'a str, help: &'a str) -> Arg<'a>
+    ensures rule { rule_of result ≡ each_rule name.now }
+    ensures local { result.global ≡ false }
+{
+    let action = ArgAction::Append;
+    Arg::new(alloc, name).long(name).action(action).help(help)
 }
 
 fn target_arg<'a>(alloc: Global) -> Arg<'a>
@@ -269,7 +286,17 @@ fn proof_command<'a>(alloc: Global) -> Result<Command<'a>, AllocError>
         "Writes the galley of a stored feed, and each fault at its text.",
         ON_PROOF,
     )?
-    .arg(flag_arg(alloc, "faults", "Writes the faults alone."))
+    .arg(flag_arg(alloc, "faults", "Writes the faults alone."))?
+    .arg(choice_arg(
+        alloc,
+        "svg",
+        "Stores a picture of the galley in this file too.",
+    ))?
+    .arg(each_arg(
+        alloc,
+        "set",
+        "Tries a setting, as loose=200, in place of the copy's; nothing is stored.",
+    ))
 }
 
 fn punch_command<'a>(alloc: Global) -> Result<Command<'a>, AllocError>
@@ -283,6 +310,48 @@ fn punch_command<'a>(alloc: Global) -> Result<Command<'a>, AllocError>
         ON_PUNCH,
     )?
     .arg(target_arg(alloc))
+}
+
+/// The subcommand with a ribbon, a case and a wedge.
+fn on_ribbon<'a>(alloc: Global) -> Result<Command<'a>, AllocError>
+    ensures app { IfOk result (λ c. app_of c ≡ ribbon_app) }
+    ensures local { IfOk result (λ c. (out-Command c).has_globals ≡ false) }
+{
+    Command::new(alloc, "read")
+        .about("Writes what a caster would cast of a stored ribbon.")
+        .after_help(ON_READ)
+        .arg(text_arg(
+            alloc,
+            "ribbon",
+            "The name of the file that the ribbon is stored in.",
+        ))?
+        .arg(file_arg(alloc, "case", "The name of the case file."))?
+        .arg(file_arg(alloc, "wedge", "The name of the wedge file."))
+}
+
+fn read_command<'a>(alloc: Global) -> Result<Command<'a>, AllocError>
+    ensures app { IfOk result (λ c. app_of c ≡ read_app) }
+    ensures local { IfOk result (λ c. (out-Command c).has_globals ≡ false) }
+{
+    on_ribbon(alloc)?.arg(choice_arg(
+        alloc,
+        "svg",
+        "Stores a picture of the ribbon in this file too.",
+    ))
+}
+
+fn sorts_command<'a>(alloc: Global) -> Result<Command<'a>, AllocError>
+    ensures app { IfOk result (λ c. app_of c ≡ sorts_app) }
+    ensures local { IfOk result (λ c. (out-Command c).has_globals ≡ false) }
+{
+    on_feed(
+        alloc,
+        "sorts",
+        "Writes which sorts the copy of a stored feed wants, and which the case lacks.",
+        ON_SORTS,
+    )?
+    .arg(file_arg(alloc, "case", "The name of the case file."))?
+    .arg(flag_arg(alloc, "layout", "Writes the layout of the case too."))
 }
 
 /// The program's command without its subcommands.
@@ -327,5 +396,9 @@ pub fn command<'a>(alloc: Global) -> Result<Command<'a>, AllocError>
     let proof = proof_command(alloc)?;
     let with_proof = with_check.subcommand(proof)?;
     let punch = punch_command(alloc)?;
-    with_proof.subcommand(punch)
+    let with_punch = with_proof.subcommand(punch)?;
+    let read = read_command(alloc)?;
+    let with_read = with_punch.subcommand(read)?;
+    let sorts = sorts_command(alloc)?;
+    with_read.subcommand(sorts)
 }

@@ -23,6 +23,10 @@ As in:
                                             its lines as they are cast, and each fault at its text
   copydesk punch one.feed --case case12.toml --wedge wedge5.toml -o one.rib
                                             the ribbon, in a file
+  copydesk read one.rib --case case12.toml --wedge wedge5.toml
+                                            what a caster would cast of a ribbon
+  copydesk sorts one.feed --case case12.toml
+                                            the sorts that the copy wants, and those that are missing
 
 Status: 0 done; 1 it stopped, with a line on standard error; 2 the words were refused.
 `copydesk SUBCOMMAND --help` tells more; `copydesk script --help` tells the commands.";
@@ -131,7 +135,9 @@ As in: copydesk proof one.feed --case case12.toml --wedge wedge5.toml
 
 First stand the faults of the copy: each is a correction that is not shown. Then each line has its number, its
 places in the copy, its wedge pair with a gauge between tight and loose, its words, and its fills; at the end
-each fault stands at its text, with the way out in figures. With `--faults` the faults stand alone. Nothing changes.
+each fault stands at its text, with the way out in figures. With `--faults` the faults stand alone.
+`--svg one.svg` stores a picture of the galley too, for any browser. `--set loose=200` tries a setting in place of
+the copy's, and may stand more than once. The feed does not change.
 
 Status: 0 no fault stands; 1 a fault stands, or the proof was not written, and standard error says so; 2 the
 words were refused.";
@@ -145,3 +151,24 @@ job has faults nothing is stored, and they stand in one line on standard output;
 at their text. The names of the feed, the case and the wedge are no target.
 
 Status: 0 the ribbon is stored; 1 it is not, and standard error says why; 2 the words were refused.";
+
+/// What a reading is.
+pub const ON_READ: &str = "\
+As in: copydesk read one.rib --case case12.toml --wedge wedge5.toml
+
+Each line that a caster would cast has its number, its wedge pair, its width, how short of the longest it is, and
+its text as read; or the first fault stands there with its row. `--svg one.svg` stores a picture of the ribbon
+too: its rows as the caster meets them, with the meaning of each.
+
+Status: 0 the ribbon is cast whole; 1 it has a fault, or a file cannot be read, or the text not be written, and standard
+error says so; 2 the words were refused.";
+
+/// What the sorts are.
+pub const ON_SORTS: &str = "\
+As in: copydesk sorts one.feed --case case12.toml
+
+Each symbol of the copy has its cell in the case and how often it is wanted; those that the case lacks stand first,
+with their places. With `--layout` the case stands below as a table. Nothing changes.
+
+Status: 0 the case has every sort; 1 a sort is missing, or a file cannot be read, or the text not be written, and
+standard error says so; 2 the words were refused.";

@@ -2,7 +2,7 @@
 
 ghost use Rattle.std.specs.Prelude.{◌≡◌, ◌≢◌, ℕ, IfOk, IfSome, IsNone, codes};
 ghost use Rattle.clap.specs.Words.{Text, all_of, found_of, rows_of, subcommand_rows_of};
-ghost use Rattle.desk_words.specs.Words.{AreNames, AreSources, HasFlag, HasManner, HasSite, IsTold, IsWished, NamesDesk, name_of};
+ghost use Rattle.desk_words.specs.Words.{AreNames, AreSources, Chooses, HasFlag, HasManner, HasSite, IsTold, IsWished, NamesDesk, all_given, name_of, texts_of};
 
 use clap::ArgMatches;
 use std::alloc::{AllocError, Global};
@@ -20,6 +20,8 @@ pub enum Task {
     Check,
     Proof,
     Punch,
+    Read,
+    Sorts,
 }
 
 /// The names of a stored feed, of a case file and of a wedge file.
@@ -85,15 +87,31 @@ pub enum Wish<'a> {
     Check {
         files: Vec<&'a str>,
     },
-    /// The galley of a stored feed by a case and a wedge, and whether its faults alone are wanted.
+    /// The galley of a stored feed by a case and a wedge, whether its faults alone are wanted, the name of the file that its
+    /// picture is stored in, and the settings that are tried in place of the copy's.
     Proof {
         from: Sources<'a>,
         faults: bool,
+        picture: Option<&'a str>,
+        sets: Vec<&'a str>,
     },
     /// The ribbon of a stored feed by a case and a wedge, stored under the name of a target.
     Punch {
         from: Sources<'a>,
         target: &'a str,
+    },
+    /// What a caster would cast of a stored ribbon by a case and a wedge, and the name of the file that its picture is stored in.
+    Read {
+        ribbon: &'a str,
+        case: &'a str,
+        wedge: &'a str,
+        picture: Option<&'a str>,
+    },
+    /// The sorts that the copy of a stored feed wants of a case, and whether the case's layout is wanted too.
+    Sorts {
+        feed: &'a str,
+        case: &'a str,
+        layout: bool,
     },
 }
 
@@ -131,6 +149,12 @@ fn task_named(name: &str) -> Option<Task>
     }
     if name == "punch" {
         return Some(Task::Punch);
+    }
+    if name == "read" {
+        return Some(Task::Read);
+    }
+    if name == "sorts" {
+        return Some(Task::Sorts);
     }
     None
 }
@@ -305,14 +329,74 @@ fn sources_of<'a>(matches: &ArgMatches<'a>) -> Option<Sources<'a>>
     }
 }
 
-fn proof_wish<'a>(matches: &ArgMatches<'a>) -> Option<Wish<'a>>
-    ensures { IsTold (rows_of (found_of matches.now)) Task.Proof result }
+/// The name that an option gives.
+fn choice_of<'a>(matches: &ArgMatches<'a>, name: &str) -> Option<&'a str>
+    ensures { Chooses name.now (rows_of (found_of matches.now)) result }
 {
-    match sources_of(matches) {
-        Some(from) => Some(Wish::Proof {
-            from,
-            faults: flag_of(matches, "faults"),
-        }),
+    matches.get_str(name)
+}
+
+/// The texts of the option that sets values to be tried.
+fn sets_of<'a>(alloc: Global, matches: &ArgMatches<'a>) -> Result<Vec<&'a str>, AllocError>
+    ensures { IfOk result (λ v. texts_of v.items ≡ all_given (all_of (codes "set") (rows_of (found_of matches.now)))) }
+{
+    match names_of(alloc, matches, "set")? {
+        Some(sets) => Ok(sets),
+        None => Ok(Vec::new(alloc)),
+    }
+}
+
+fn proof_wish<'a>(alloc: Global, matches: &ArgMatches<'a>) -> Result<Option<Wish<'a>>, AllocError>
+    ensures { IfOk result (IsTold (rows_of (found_of matches.now)) Task.Proof) }
+{
+    let Some(from) = sources_of(matches) else {
+        return Ok(None);
+    };
+    let faults = flag_of(matches, "faults");
+    let picture = choice_of(matches, "svg");
+    let sets = sets_of(alloc, matches)?;
+    Ok(Some(Wish::Proof {
+        from,
+        faults,
+        picture,
+        sets,
+    }))
+}
+
+fn read_wish<'a>(matches: &ArgMatches<'a>) -> Option<Wish<'a>>
+    ensures { IsTold (rows_of (found_of matches.now)) Task.Read result }
+{
+    let Some(ribbon) = matches.get_str("ribbon") else {
+        return None;
+    };
+    let Some(case) = matches.get_str("case") else {
+        return None;
+    };
+    match matches.get_str("wedge") {
+        Some(wedge) => {
+            let picture = choice_of(matches, "svg");
+            Some(Wish::Read {
+                ribbon,
+                case,
+                wedge,
+                picture,
+            })
+        }
+        None => None,
+    }
+}
+
+fn sorts_wish<'a>(matches: &ArgMatches<'a>) -> Option<Wish<'a>>
+    ensures { IsTold (rows_of (found_of matches.now)) Task.Sorts result }
+{
+    let Some(feed) = matches.get_str("feed") else {
+        return None;
+    };
+    match matches.get_str("case") {
+        Some(case) => {
+            let layout = flag_of(matches, "layout");
+            Some(Wish::Sorts { feed, case, layout })
+        }
         None => None,
     }
 }
@@ -348,8 +432,10 @@ fn told<'a>(
         Task::Import => Ok(import_wish(matches)),
         Task::Replace => Ok(replace_wish(matches)),
         Task::Check => check_wish(alloc, matches),
-        Task::Proof => Ok(proof_wish(matches)),
+        Task::Proof => proof_wish(alloc, matches),
         Task::Punch => Ok(punch_wish(matches)),
+        Task::Read => Ok(read_wish(matches)),
+        Task::Sorts => Ok(sorts_wish(matches)),
     }
 }
 

@@ -1,9 +1,11 @@
 use Rattle.std.proofs.Common.{List, sym, subst}
 use Rattle.std.specs.Borrow.{Bor}
+use Rattle.std.specs.Option.{option_copied}
 use Rattle.clap.specs.Words.{Text}
 use Rattle.desk_hand.specs.Merging.{IsMerged, IsUnmerged}
 use Rattle.desk_hand.specs.declared.fault.HandFault.{HandFault}
 use Rattle.desk_words.specs.Words.{texts_of}
+use Rattle.desk_program.specs.Previews.{IsSeen, IsUnseen}
 use Rattle.desk_program.specs.Runs.{Does, Stops}
 use Rattle.desk_program.specs.Texts.{AreFound, AreNotInOrder}
 use Rattle.desk_program.proofs.Statuses.{done_of, halt_of}
@@ -54,12 +56,14 @@ returns-in-Import-clause-stopped g c one =
 pub returns-in-Proof-clause-done : goal.returns-in-Proof-clause-done
 returns-in-Proof-clause-done g c zero =
     subst (λ w. Does w (g.F.Files.shelf c.args.files.now) (g.F.Files.shelf c.proofed.new.files) (g.R.Read.remaining c.args.reader.now) (g.W.Write.contents c.args.writer.now) (g.W.Write.contents c.proofed.new.writer)) (sym c.in-Proof.is)
-    (c.proofed.ensures.done zero)
+    (subst (λ (l : List (Bor Text)). IsSeen c.in-Proof.from c.in-Proof.alone (option_copied c.in-Proof.picture) l (g.F.Files.shelf c.args.files.now) (g.F.Files.shelf c.proofed.new.files) (g.W.Write.contents c.args.writer.now) (g.W.Write.contents c.proofed.new.writer)) c.deref-in-Proof.ensures.value
+    (c.proofed.ensures.done zero))
 
 pub returns-in-Proof-clause-stopped : goal.returns-in-Proof-clause-stopped
 returns-in-Proof-clause-stopped g c one =
     subst (λ w. Stops w (g.F.Files.shelf c.args.files.now) (g.F.Files.shelf c.proofed.new.files) (g.R.Read.remaining c.args.reader.now) (g.W.Write.contents c.args.writer.now) (g.W.Write.contents c.proofed.new.writer)) (sym c.in-Proof.is)
-    (c.proofed.ensures.stopped one)
+    (subst (λ (l : List (Bor Text)). IsUnseen c.in-Proof.from c.in-Proof.alone (option_copied c.in-Proof.picture) l (g.F.Files.shelf c.args.files.now) (g.F.Files.shelf c.proofed.new.files) (g.W.Write.contents c.args.writer.now) (g.W.Write.contents c.proofed.new.writer)) c.deref-in-Proof.ensures.value
+    (c.proofed.ensures.stopped one))
 
 pub returns-in-Punch-clause-done : goal.returns-in-Punch-clause-done
 returns-in-Punch-clause-done g c zero =
@@ -102,3 +106,23 @@ pub returns-in-Diff-clause-stopped : goal.returns-in-Diff-clause-stopped
 returns-in-Diff-clause-stopped g c one =
     subst (λ w. Stops w (g.F.Files.shelf c.args.files.now) (g.F.Files.shelf c.compared.new.files) (g.R.Read.remaining c.args.reader.now) (g.W.Write.contents c.args.writer.now) (g.W.Write.contents c.compared.new.writer)) (sym c.in-Diff.is)
     (c.compared.ensures.stopped one)
+
+pub returns-in-Read-clause-done : goal.returns-in-Read-clause-done
+returns-in-Read-clause-done g c zero =
+    subst (λ w. Does w (g.F.Files.shelf c.args.files.now) (g.F.Files.shelf c.read_whole.new.files) (g.R.Read.remaining c.args.reader.now) (g.W.Write.contents c.args.writer.now) (g.W.Write.contents c.read_whole.new.writer)) (sym c.in-Read.is)
+    (c.read_whole.ensures.done zero)
+
+pub returns-in-Read-clause-stopped : goal.returns-in-Read-clause-stopped
+returns-in-Read-clause-stopped g c one =
+    subst (λ w. Stops w (g.F.Files.shelf c.args.files.now) (g.F.Files.shelf c.read_whole.new.files) (g.R.Read.remaining c.args.reader.now) (g.W.Write.contents c.args.writer.now) (g.W.Write.contents c.read_whole.new.writer)) (sym c.in-Read.is)
+    (c.read_whole.ensures.stopped one)
+
+pub returns-in-Sorts-clause-done : goal.returns-in-Sorts-clause-done
+returns-in-Sorts-clause-done g c zero =
+    subst (λ w. Does w (g.F.Files.shelf c.args.files.now) (g.F.Files.shelf c.listed.new.files) (g.R.Read.remaining c.args.reader.now) (g.W.Write.contents c.args.writer.now) (g.W.Write.contents c.listed.new.writer)) (sym c.in-Sorts.is)
+    (c.listed.ensures.done zero)
+
+pub returns-in-Sorts-clause-stopped : goal.returns-in-Sorts-clause-stopped
+returns-in-Sorts-clause-stopped g c one =
+    subst (λ w. Stops w (g.F.Files.shelf c.args.files.now) (g.F.Files.shelf c.listed.new.files) (g.R.Read.remaining c.args.reader.now) (g.W.Write.contents c.args.writer.now) (g.W.Write.contents c.listed.new.writer)) (sym c.in-Sorts.is)
+    (c.listed.ensures.stopped one)
