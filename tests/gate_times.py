@@ -3,13 +3,14 @@
 
 usage: gate_times.py --watch FILE COMMAND ..    runs the command, passes on what it writes, ends with its status, and
                                                 puts into FILE what each process below it has used
-       gate_times.py FILE                       prints FILE as a table, in seconds
+       gate_times.py FILE ..                    prints each FILE as a table, in seconds
 
 The parts are proofs (without tests), tests (the proof of a crate with its tests), edits (the wrong bodies that the prover
 must refuse), builds (compilers) and runs (tests and programs). `from` and `to` are seconds since the command began, from
 the first process of a crate to its last. A process is looked at twice a second, so up to half a second of each is missed;
-the last line has the exact sum of all. The last line that the command wrote is kept, and `gate_times.py FILE` ends with it.
-The lines that say what failed, or which wrong body is none, stand before that, since a log's end is what is read first.
+the last line has the exact sum of all. The last line that the command wrote is kept, and `gate_times.py FILE` ends with it; of
+several files whose last lines are all 'N passed, M failed' it ends with their sum. The lines that say what failed, or which
+wrong body is none, stand before that, since a log's end is what is read first.
 """
 import json
 import os
@@ -25,6 +26,7 @@ TICK = os.sysconf("SC_CLK_TCK")
 # A line that says what failed: a goal, a test, a program, or a wrong body that is none.
 TROUBLE = re.compile(r"^error|: error|FAILED|BAD EDIT|NOT TRIED|not refused|panicked|^rt: .*(stopped|killed|differs)")
 AS_IT_MUST_BE = "refused, as it must be"
+ENDED = re.compile(r"(\d+) passed, (\d+) failed$")
 MOST_TROUBLE = 80
 
 
@@ -141,15 +143,26 @@ def table(told):
     print("in all %.1f minutes of processor, in %.1f minutes" % minutes)
     for line in told["trouble"]:
         print(line)
-    print(told["last"])
+
+
+def last_of(tables):
+    """The line with which all ended: the sum of what passed and failed, where each says it."""
+    ends = [ENDED.match(told["last"]) for told in tables]
+    if all(ends):
+        return "%d passed, %d failed" % tuple(sum(int(it[number]) for it in ends) for number in (1, 2))
+    return "\n".join(told["last"] for told in tables)
 
 
 def main(words):
     if words[:1] == ["--watch"] and len(words) > 2:
         return watched(words[1], words[2:])
-    if len(words) == 1 and not words[0].startswith("-"):
-        with open(words[0], encoding="utf-8") as file:
-            table(json.load(file))
+    if words and not words[0].startswith("-"):
+        tables = []
+        for name in words:
+            with open(name, encoding="utf-8") as file:
+                tables.append(json.load(file))
+            table(tables[-1])
+        print(last_of(tables))
         return 0
     print(__doc__, file=sys.stderr)
     return 2

@@ -1,7 +1,7 @@
 #!/usr/bin/env python3
 """Tries wrong bodies, many in one check: the prover must refuse each at its own function.
 
-usage: wrong_bodies.py [--built] [--named] [CRATE ..]    of every crate that has some, or of those named
+usage: wrong_bodies.py [--built] [--named] [--anew] [CRATE ..]    of every crate that has some, or of those named
 
 A wrong body is a bug written into a function on purpose, a file as of must-fail. A check reads a crate and all that it stands
 on before it looks at a goal, and a caller knows of a function what its contract says and no more. So wrong bodies of different
@@ -12,9 +12,12 @@ whole crate by the rule of `rt must-fail`: the prover reads the text, and does n
 `rt ci` tries those of `crates/NAME/must-fail`, and this those of `crates/NAME/wrong-bodies`; with --named both.
 With --built the libraries are those that `rt ci` has just proved in this tree, as in the gate; else those that are not built,
 or have changed since, are proved first. Lanes: RT_JOBS, or one for each processor as far as there are 4.5 GB for each.
-It ends with status 0 where each was refused, else with those that were not.
+What was refused is kept beside the kit, on this machine alone, by the sum of all that the try read (the kit, the crate and
+those below it, the wrong body and this page), as `rt ci` keeps what it proved: a later run tries what changed. --anew tries all.
+It ends with status 0 where each was refused, else with those that were not. The last line is 'N passed, M failed'.
 """
 import concurrent.futures
+import hashlib
 import importlib.machinery
 import importlib.util
 import os
@@ -38,17 +41,23 @@ OWN = re.compile(r"no proof: expected|not proved$")
 UNREAD = re.compile(r"is not in scope|has no field|is no name|operand is missing|expected the end|cannot continue")
 
 
+def kit_folder():
+    """Where the kit stands."""
+    page = subprocess.run(["rt", "doc"], capture_output=True, text=True, check=True).stdout.strip()
+    return os.path.dirname(page)
+
+
 def kit():
     """The module of the kit that knows the crates and the words of a check."""
-    page = subprocess.run(["rt", "doc"], capture_output=True, text=True, check=True).stdout.strip()
     sys.dont_write_bytecode = True
-    loader = importlib.machinery.SourceFileLoader("rtlib", os.path.dirname(page) + "/bin/rtlib.py")
+    loader = importlib.machinery.SourceFileLoader("rtlib", kit_folder() + "/bin/rtlib.py")
     made = importlib.util.module_from_spec(importlib.util.spec_from_loader("rtlib", loader))
     sys.modules["rtlib"] = made
     loader.exec_module(made)
     # (a crate's stamp is made of those of all below it, each of which is asked for again on every way down: here each once)
     plain, known = made.Crate.stamp, {}
     made.Crate.stamp = lambda crate: known[crate.folder] if crate.folder in known else known.setdefault(crate.folder, plain(crate))
+    made.forget_stamps = known.clear
     return made
 
 
@@ -97,12 +106,56 @@ def function_at(file, text, place):
     return path, r"(?:\w+::)*%s%s\w*::%s" % (re.escape(kind), re.escape(plain), re.escape(name))
 
 
+class Refused:
+    """The wrong bodies that earlier runs on this machine saw refused, by the sums of all that these tries read."""
+
+    def __init__(self, folder, anew):
+        self.anew, self.at = anew, os.path.dirname(os.path.realpath(folder)) + "/copydesk-refused"
+        version = subprocess.run(["rt", "version"], capture_output=True, check=True).stdout
+        parts = ["%s/%s" % (folder, name) for name in ("KIT-ID", "WHAT", "bin/rattle", "bin/rtlib.py")]
+        self.tool = self.sum_of(version, pathlib.Path(__file__).read_bytes(), *[self.state_of(it) for it in parts])
+        try:
+            os.makedirs(self.at, 0o700, exist_ok=True)
+            found = os.lstat(self.at)
+            if found.st_uid != os.geteuid() or found.st_mode & 0o077 or not os.path.isdir(self.at):
+                self.at = None
+        except OSError:
+            self.at = None
+
+    @staticmethod
+    def state_of(path):
+        """The size and the time of a file of the kit."""
+        found = os.stat(path)
+        return repr((path, found.st_size, found.st_mtime_ns)).encode()
+
+    @staticmethod
+    def sum_of(*parts):
+        out = hashlib.sha256()
+        for part in parts:
+            out.update(hashlib.sha256(part).digest())
+        return out.hexdigest()
+
+    def key(self, crate, wrong):
+        return self.sum_of(self.tool.encode(), crate.stamp().encode(), wrong.name.encode(), wrong.text)
+
+    def has(self, key):
+        return bool(self.at) and not self.anew and os.path.isfile("%s/%s" % (self.at, key))
+
+    def keep(self, key):
+        if self.at:
+            try:
+                pathlib.Path(self.at, key).touch(0o600)
+            except OSError:
+                pass
+
+
 class Wrong:
     """A wrong body of a crate: its texts, and the functions that it is in, none where it is not in functions alone."""
 
     def __init__(self, crate, path):
         self.name = "%s/%s" % (crate.name, path.stem)
-        self.pairs = pairs_of(path.read_text(encoding="utf-8"))
+        self.text = path.read_bytes()
+        self.pairs = pairs_of(self.text.decode("utf-8"))
         self.functions, self.bad = set(), None if self.pairs else "it has no 'old:' and 'new:' pair"
         for file, old, _ in self.pairs:
             text = pathlib.Path(crate.folder, file).read_text(encoding="utf-8")
@@ -169,10 +222,11 @@ def refused_alone(rtlib, crate, wrong, kept):
     return False, "it is proved" if status == 0 else "it did not reach the prover: " + " / ".join(lines[-4:])[:400]
 
 
-def tried(rtlib, crate, wrongs):
+def tried(rtlib, crate, wrongs, refused):
     """The wrong bodies that are not refused with what was said, and how many checks it took."""
     faults, alone, checks = [(it.name, it.bad) for it in wrongs if it.bad], [], 0
-    wrongs = [it for it in wrongs if not it.bad]
+    keys = {it: refused.key(crate, it) for it in wrongs}
+    wrongs = [it for it in wrongs if not it.bad and not refused.has(keys[it])]
     with tempfile.TemporaryDirectory(prefix="rt-edits-") as kept:
         groups = groups_of([it for it in wrongs if it.functions])
         while groups:
@@ -193,7 +247,13 @@ def tried(rtlib, crate, wrongs):
             checks += 1
             if not is_refused:
                 faults.append((it.name, why))
-    return faults, checks, len(alone)
+    # (what was tried of files that have changed since is not kept)
+    rtlib.forget_stamps()
+    lost = {name for name, _ in faults}
+    for it in wrongs:
+        if it.name not in lost and refused.key(crate, it) == keys[it]:
+            refused.keep(keys[it])
+    return faults, checks, len(keys) - len(wrongs)
 
 
 def lanes():
@@ -208,12 +268,13 @@ def lanes():
 
 def main(words):
     flags, names = {it for it in words if it.startswith("--")}, [it for it in words if not it.startswith("--")]
-    if flags - {"--built", "--named"}:
+    if flags - {"--built", "--named", "--anew"}:
         print(__doc__, file=sys.stderr)
         return 2
     os.chdir(ROOT)
     rtlib = kit()
     rtlib.guarded()
+    refused = Refused(kit_folder(), "--anew" in flags)
     folders = [NAMED, APART] if "--named" in flags else [APART]
     crates = [it for it in rtlib.crates_below(str(ROOT)) if not names or it.name in names]
     work = []
@@ -226,22 +287,23 @@ def main(words):
     if "--built" not in flags or has_stamps or not all(os.path.isdir(it.rlib) for it in below.values()):
         for dep in sorted(below.values(), key=lambda it: len(it.below())):
             if dep.build_rlib(["--jobs", "1"], anew=False):
-                print("wrong_bodies: %s is not proved" % dep.name)
+                print("wrong_bodies: %s is not proved\n0 passed, 1 failed" % dep.name)
                 return 1
     began, count, faults = time.time(), 0, []
     # (the dearest first, so that no lane is left alone with one at the end)
     work.sort(key=lambda it: -it[0].count(rb"\n"))
     with concurrent.futures.ThreadPoolExecutor(lanes()) as pool:
-        given = {pool.submit(tried, rtlib, crate, wrongs): (crate, wrongs) for crate, wrongs in work}
+        given = {pool.submit(tried, rtlib, crate, wrongs, refused): (crate, wrongs) for crate, wrongs in work}
         for it in concurrent.futures.as_completed(given):
             crate, wrongs = given[it]
-            bad, checks, again = it.result()
+            bad, checks, known = it.result()
             count, faults = count + len(wrongs), faults + bad
-            print("%s: %d wrong bodies, %d refused, in %d checks (%d tried again alone)" % (crate.name, len(wrongs), len(wrongs) - len(bad), checks, again), flush=True)
+            print("%s: %d wrong bodies, %d refused, in %d checks (%d kept from earlier runs)" % (crate.name, len(wrongs), len(wrongs) - len(bad), checks, known), flush=True)
     used = resource.getrusage(resource.RUSAGE_CHILDREN)
     print("%d wrong bodies, %d not refused, in %d seconds, %.1f minutes of processor" % (count, len(faults), time.time() - began, (used.ru_utime + used.ru_stime) / 60))
     for name, why in faults:
         print("wrong body not refused: %s: %s" % (name, why))
+    print("%d passed, %d failed" % (count - len(faults), len(faults)))
     return 1 if faults else 0
 
 
