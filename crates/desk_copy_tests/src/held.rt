@@ -47,7 +47,7 @@ fn put<A: Allocator + Copy>(held: &mut Held<A>, op: Op) -> bool {
 }
 
 /// A list in order of so many operations from a counter on, of each second counter.
-fn row_of(alloc: Global, first: u64, number: u64) -> Result<Vec<Op>, Fail>
+pub fn row_of(alloc: Global, first: u64, number: u64) -> Result<Vec<Op>, Fail>
     ensures { IfOk result (λ v. All IsLawful v.items) }
 {
     let mut ops = Vec::new(alloc);
@@ -76,7 +76,7 @@ fn add_row<A: Allocator + Copy>(
 }
 
 /// Whether what is held are the operations of the counters from 1 on, each second or each, so many.
-fn counts<A: Allocator + Copy>(held: &Held<A>, step: u64, number: usize) -> bool {
+pub fn counts<A: Allocator + Copy>(held: &Held<A>, step: u64, number: usize) -> bool {
     let mut counter = 1u64;
     for i in 0..held.len() {
         if held.op(i) != insert(counter) {
@@ -88,7 +88,7 @@ fn counts<A: Allocator + Copy>(held: &Held<A>, step: u64, number: usize) -> bool
 }
 
 /// Takes what a heap of so many bytes can give, but for so many.
-fn ballast(heap: &LocalHeap, bytes: usize, left: usize) -> Option<Vec<u8, &LocalHeap>> {
+pub fn ballast(heap: &LocalHeap, bytes: usize, left: usize) -> Option<Vec<u8, &LocalHeap>> {
     Vec::with_capacity(heap, bytes.saturating_sub(left)).ok()
 }
 

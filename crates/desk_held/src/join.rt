@@ -1,15 +1,15 @@
 //! Lists of operations added at once.
-ghost use Rattle.std.specs.Prelude.{◌≡◌, ◌+◌, ◌≤◌, All, IfSome, IfErr, OnOk, length};
+ghost use Rattle.std.specs.Prelude.{◌≡◌, ◌+◌, ◌≤◌, ◌++◌, All, IfOk, IfSome, IfErr, OnOk, length, take};
 ghost use Rattle.desk_ops.specs.Op.{IsLawful};
 ghost use Rattle.desk_ops.specs.OpSet.{no_ops, size, with_all};
 ghost use Rattle.desk_held.specs.Joining.{IsHalted};
 
-use crate::search::is_rising;
-use crate::slot::slots_of;
+use crate::search::{are_rising, comes_before};
+use crate::slot::{Slot, add_ops, slots_of};
 use crate::{AddRefusal, Held, LIMIT};
 use desk_ops::Op;
 use desk_pages::Pages;
-use std::alloc::Allocator;
+use std::alloc::{AllocError, Allocator};
 
 /// A list was added up to an operation that was refused.
 #[derive(Clone, Copy, Debug, PartialEq, Eq)]
@@ -19,23 +19,96 @@ pub struct Halt {
     pub why: AddRefusal,
 }
 
+/// Adds the operations of a list, from its first on, that do not come after one that is held; how many.
+fn add_before<A: Allocator>(
+    slots: &mut Vec<Slot, A>,
+    ops: &[Op],
+    next: Slot,
+) -> Result<usize, AllocError>
+    ensures within { IfOk result (λ n. n ≤ length ops.now) }
+    ensures added { IfOk result (λ n. slots.new.items ≡ slots.old.items ++ take n ops.now) }
+{
+    let mut count = 0;
+    while count < ops.len() && !comes_before(next, &ops[count]) {
+        slots.push(Slot::of(ops[count]))?;
+        count += 1;
+    }
+    Ok(count)
+}
+
+/// Adds a stretch of what is held, and before each operation of it those of a list that come first; how many of the list.
+fn add_part<A: Allocator>(
+    slots: &mut Vec<Slot, A>,
+    part: &[Slot],
+    ops: &[Op],
+) -> Result<usize, AllocError>
+    ensures within { IfOk result (λ n. n ≤ length ops.now) }
+    ensures added { IfOk result (λ n. with_all no_ops slots.new.items ≡ with_all (with_all (with_all no_ops slots.old.items) part.now) (take n ops.now)) }
+{
+    let mut count = 0;
+    for at in 0..part.len() {
+        let next = part[at];
+        let more = add_before(slots, &ops[count..], next)?;
+        slots.push(next)?;
+        count += more;
+    }
+    Ok(count)
+}
+
 impl<A: Allocator + Copy> Held<A> {
-    /// The set of a list that rises, in full pages; none where it does not, where it is too long or memory does not
+    /// The set of operations that rise, in full pages; none where they do not, where they are too many or memory does not
     /// allow it.
+    fn of_slots(alloc: A, slots: &[Slot]) -> Option<Self>
+        requires { All IsLawful slots.now }
+        ensures { IfSome result (λ h. h.ops ≡ with_all no_ops slots.now) }
+    {
+        if slots.len() > LIMIT || !are_rising(slots) {
+            return None;
+        }
+        let Ok(ops) = Pages::from_slice(alloc, slots) else {
+            return None;
+        };
+        Some(Held { ops, alloc })
+    }
+
+    /// The set of a list that rises, in full pages; none where it does not, where it is too long or memory does not allow it.
     fn of_rising(alloc: A, ops: &[Op]) -> Option<Self>
         requires { All IsLawful ops.now }
         ensures { IfSome result (λ h. h.ops ≡ with_all no_ops ops.now) }
     {
-        if ops.len() > LIMIT || !is_rising(ops) {
-            return None;
-        }
         let Ok(slots) = slots_of(alloc, ops) else {
             return None;
         };
-        let Ok(ops) = Pages::from_slice(alloc, &slots) else {
+        Held::of_slots(alloc, &slots)
+    }
+
+    /// The operations that are held and those of a list that rises, in one order.
+    fn beside(&self, ops: &[Op]) -> Result<Vec<Slot, A>, AllocError>
+        ensures { IfOk result (λ v. with_all no_ops v.items ≡ with_all self.now.ops ops.now) }
+    {
+        let mut slots = Vec::with_capacity(self.alloc, self.len().saturating_add(ops.len()))?;
+        let mut at = 0;
+        let mut added = 0;
+        while at < self.ops.len() {
+            let part = self.ops.stretch(at);
+            let count = add_part(&mut slots, part, &ops[added..])?;
+            added += count;
+            at += part.len();
+        }
+        add_ops(&mut slots, &ops[added..])?;
+        Ok(slots)
+    }
+
+    /// The set with the operations of a list that rises and of which none is held, in full pages, by one pass over both; none
+    /// where the list is another, they are too many or memory does not allow it.
+    pub fn joined(&self, ops: &[Op]) -> Option<Self>
+        requires { All IsLawful ops.now }
+        ensures { IfSome result (λ h. h.ops ≡ with_all self.now.ops ops.now) }
+    {
+        let Ok(slots) = self.beside(ops) else {
             return None;
         };
-        Some(Held { ops, alloc })
+        Held::of_slots(self.alloc, &slots)
     }
 
     /// The set of a list, sorted once; none where it has an operation twice, is too long, or memory does not allow it.

@@ -18,6 +18,8 @@ use std::marker::Model;
 use thiserror::Error;
 
 mod join;
+mod missing;
+mod passing;
 mod search;
 mod slot;
 

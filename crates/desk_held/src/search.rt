@@ -8,15 +8,19 @@ use crate::slot::Slot;
 use desk_ops::{Op, Stamp};
 use desk_pages::Pick;
 
-/// Whether the first operation comes before the second.
+/// Whether the first operation comes before the second. Their stamps tell it, but where these are one.
 fn is_earlier(a: &Op, b: &Op) -> bool
     ensures { result ≡ is_lt (op_cmp a.now b.now) }
 {
+    let (its, stamp) = (a.stamp(), b.stamp());
+    if !its.is_same(stamp) {
+        return its.is_before(stamp);
+    }
     a < b
 }
 
-/// The same of a held one. Their stamps tell it, but where these are one.
-fn comes_before(x: Slot, op: &Op) -> bool
+/// The same of a held one.
+pub fn comes_before(x: Slot, op: &Op) -> bool
     ensures { result ≡ is_lt (op_cmp x op.now) }
 {
     let (its, stamp) = (x.stamp(), op.stamp());
@@ -85,6 +89,20 @@ pub fn is_rising(ops: &[Op]) -> bool
     let mut i = 1;
     while i < ops.len() {
         if !is_earlier(&ops[i - 1], &ops[i]) {
+            return false;
+        }
+        i += 1;
+    }
+    true
+}
+
+/// The same of held ones.
+pub fn are_rising(slots: &[Slot]) -> bool
+    ensures { IsTrue result → T (is_rising slots.now) }
+{
+    let mut i = 1;
+    while i < slots.len() {
+        if !comes_before(slots[i - 1], &slots[i].op()) {
             return false;
         }
         i += 1;

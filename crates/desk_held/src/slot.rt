@@ -163,10 +163,18 @@ pub fn slots_of<A: Allocator + Copy>(alloc: A, ops: &[Op]) -> Result<Vec<Slot, A
     ensures { IfOk result (λ slots. slots.items ≡ ops.now) }
 {
     let mut slots = Vec::with_capacity(alloc, ops.len())?;
+    add_ops(&mut slots, ops)?;
+    Ok(slots)
+}
+
+/// Adds operations at the end of a list, in the form in which they are kept.
+pub fn add_ops<A: Allocator>(slots: &mut Vec<Slot, A>, ops: &[Op]) -> Result<(), AllocError>
+    ensures { IfOk result (λ _. slots.new.items ≡ slots.old.items ++ ops.now) }
+{
     for op in ops {
         slots.push(Slot::of(*op))?;
     }
-    Ok(slots)
+    Ok(())
 }
 
 /// Adds the operations of some slots at the end of a list.

@@ -10,3 +10,4 @@ pub mod Ends
 pub mod Convergence
 pub mod Orders
 pub mod Merges
+mod Unforked

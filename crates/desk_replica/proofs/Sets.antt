@@ -98,7 +98,7 @@ unfolding is_full err_full
 halt-full Full h after o new same full = ((λ e. ap size same ∙ (full.0 refl).1), (λ e. refl))
 halt-full NoMemory h after o new same full = ((λ e. absurd (true≢false (sym (ap is_full e)))), (λ e. absurd (true≢false (sym (ap err_full (full.1 (new, sym (ap size same) ∙ e)))))))
 
-split-at : (ops : List Op) (i : ℕ) (o : Op) → i < length ops → o ≡ get_or ops i o → drop i ops ≡ o ∷ drop (i + 1) ops
+pub split-at : (ops : List Op) (i : ℕ) (o : Op) → i < length ops → o ≡ get_or ops i o → drop i ops ≡ o ∷ drop (i + 1) ops
 split-at [] i o lt at = absurd (omega arith)
 split-at (p ∷ ops) zero o lt at = ap (λ (q : Op). q ∷ ops) (sym at)
 split-at (p ∷ ops) (suc i) o lt at = let e : suc (i + 1) ≡ suc i + 1 = omega arith in split-at ops i o (omega arith) at ∙ ap (λ (n : ℕ). o ∷ drop n (p ∷ ops)) e
@@ -111,7 +111,7 @@ pub drop-none : (ops : List Op) → drop 0 ops ≡ ops
 drop-none [] = refl
 drop-none (o ∷ ops) = refl
 
-grows_by_one : (h : OpSet) (o : Op) → size (with_op h o) ≤ size h + 1
+pub grows_by_one : (h : OpSet) (o : Op) → size (with_op h o) ≤ size h + 1
 grows_by_one h o = by_cases (has_op h o)
     (λ e. let n : size (with_op h o) ≡ size h = size-with_op h o ∙ ap (λ b. cond b (size h) (size h + 1)) e in omega (arith, n))
     (λ e. let n : size (with_op h o) ≡ size h + 1 = size-with_op h o ∙ ap (λ b. cond b (size h) (size h + 1)) e in omega (arith, n))

@@ -1,8 +1,9 @@
 -- What a replica is: a site, and the operations that it holds.
-use Rattle.std.specs.Prelude.{◌≡◌, ℕ, ◌+◌, ◌≤◌, ◌⊎◌, true, false, cond, refl, List, [], ◌∷◌, length}
+use Rattle.std.specs.Prelude.{◌≡◌, ℕ, ◌+◌, ◌<◌, ◌≤◌, ◌⊎◌, true, false, cond, refl, List, [], ◌∷◌, length, slice_index_or}
 use Rattle.std.specs.Coded.{Coded, code_by, coded×, coded_ℕ}
 use Rattle.desk_ops.specs.declared.op.Op.{Op}
 use Rattle.desk_ops.specs.Op.{stamp_of}
+use Rattle.desk_ops.specs.Stamp.{before}
 use Rattle.desk_ops.specs.OpSet.{OpSet, op_set_code, has_op, with_op, size, AllLawful, max_ops}
 use Rattle.desk_ops.specs.Held.{is_borne_in}
 use Rattle.desk_held.specs.Joining.{IsHalted}
@@ -38,6 +39,15 @@ pub record IsCounted (old after : OpSet) (ops : List Op) (count : Count) : Type 
 abbrev pub ForksNone : OpSet → List Op → Type 0
 ForksNone ops [] = Unit {0}
 ForksNone ops (op ∷ rest) = ((has_op ops op ≡ true) ⊎ (is_borne_in ops (stamp_of op) ≡ false)) × ForksNone (with_op ops op) rest
+
+-- each operation's stamp is greater than that of the one before it
+abbrev pub RiseByStamp : List Op → Type 0
+RiseByStamp ops = (i : ℕ) (d : Op) → i + 1 < length ops → before (stamp_of (slice_index_or ops i d)) (stamp_of (slice_index_or ops (i + 1) d)) ≡ true
+
+-- no operation of the list bears a stamp that is borne, where they are taken in one after the other
+abbrev pub AreApart : OpSet → List Op → Type 0
+AreApart ops [] = Unit {0}
+AreApart ops (op ∷ rest) = (is_borne_in ops (stamp_of op) ≡ false) × AreApart (with_op ops op) rest
 
 -- all of the list can be held, there is room for as many with no new memory, and none forks a stamp
 pub record HasRoom (ops : OpSet) (room : ℕ) (list : List Op) : Type 0 where

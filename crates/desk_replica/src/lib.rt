@@ -6,6 +6,7 @@
 #![tactic(auto)]
 
 ghost use Rattle.std.specs.Prelude.{◌≡◌, ◌+◌, ◌-◌, ◌≤◌, ◌<◌, ◌↔◌, ◌⊎◌, ◌++◌, ◌^◌, drop, All, IfOk, IfErr, IfSome, IsNone, IsOk, OnOk, OnErr, IsErrOf, length, take, true, false};
+ghost use Rattle.std.specs.List.{list_all};
 ghost use Rattle.desk_ops.specs.Op.{IsLawful};
 ghost use Rattle.desk_ops.specs.OpSet.{no_ops, has_op, with_op, with_all, union, in_order, size, AllLawful};
 ghost use Rattle.desk_ops.specs.Op.{stamp_of};
@@ -21,6 +22,7 @@ ghost use Rattle.desk_walk.specs.Following.{entries_of, IsWaiting};
 ghost use Rattle.desk_replica.specs.Orders.{KeepsOrder, ShareOneOrder};
 ghost use Rattle.desk_replica.specs.Edits.{new_stamp, parent_at, stamp_at, edit_refusal, insert_refusal, delete_refusal, set_refusal, IsInserted, IsDeleted, IsSetTo};
 
+use apart::are_apart;
 use desk_codec::write_runs;
 use desk_held::{AddRefusal, Held, LIMIT};
 use desk_ops::op::MAX_COUNTER;
@@ -28,16 +30,15 @@ use desk_ops::{CopyFault, Key, NoMemory, Op, Stamp, Symbol};
 use desk_registers::Registers;
 use desk_room::Room;
 use desk_seq::{Entry, Sequence};
-use desk_walk::{enter, made_anew};
+use desk_walk::{enter, made_of};
 use faults::faults_of;
-use forks::forks_a_stamp;
 use settings::{keep, kept_in};
 use std::alloc::Allocator;
 use std::marker::Model;
 use thiserror::Error;
 
+mod apart;
 mod faults;
-mod forks;
 pub mod laws;
 mod settings;
 
@@ -47,7 +48,7 @@ pub use settings::Settings;
 const MANY: usize = 32;
 
 /// and from this part of what is held on: making anew costs a pass over all of it.
-const PART: usize = 16;
+const PART: usize = 6;
 
 /// What taking in an operation did.
 #[derive(Clone, Copy, Debug, PartialEq, Eq)]
@@ -149,7 +150,7 @@ fn is_known<A: Allocator + Copy>(held: &Held<A>, op: &Op, is_borne: bool) -> boo
 }
 
 impl<Q: Sequence> Replica<Q> {
-    ghost use Rattle.desk_replica.specs.State.{took_by, IsCounted, IsKept, IsStopped, HasRoom};
+    ghost use Rattle.desk_replica.specs.State.{took_by, IsCounted, IsKept, IsStopped, AreApart, HasRoom};
 
     /// A replica that holds nothing.
     pub fn new(alloc: Q::Memory, site: u16) -> Self
@@ -219,6 +220,14 @@ impl<Q: Sequence> Replica<Q> {
         self.held.has(op)
     }
 
+    /// Whether each operation of a list is held. A list that rises and is not short is passed beside what is held: one look at
+    /// each operation. No memory is taken.
+    pub fn has_all(&self, ops: &[Op]) -> bool
+        ensures { result ≡ list_all (has_op self.now.ops) ops.now }
+    {
+        self.held.has_all(ops)
+    }
+
     /// The sequence: the walk of the set, with exactly the targets of live deletes marked.
     pub fn sequence(&self) -> &Q
         ensures { Q.entries result.now ≡ entries_of self.now.ops }
@@ -271,26 +280,8 @@ impl<Q: Sequence> Replica<Q> {
         self.near = enter(&mut self.sequence, &mut self.room, op, near);
     }
 
-    /// The set with the operations of a list; none where memory or the limit does not allow it.
-    fn joined(&self, ops: &[Op]) -> Option<Held<Q::Memory>>
-        requires { All IsLawful ops.now }
-        ensures { IfSome result (λ h. h.ops ≡ with_all self.now.ops ops.now) }
-    {
-        let Ok(list) = self.held.in_order() else {
-            return None;
-        };
-        let mut held = Held::new(self.alloc);
-        let Ok(()) = held.add_all(&list) else {
-            return None;
-        };
-        let Ok(()) = held.add_all(ops) else {
-            return None;
-        };
-        Some(held)
-    }
-
-    /// Takes in the first operations of a list by making all anew, whole before it replaces the old; none where memory does
-    /// not allow it.
+    /// Takes in the operations of a list that rises and of which none is held by making all anew, whole before it replaces
+    /// the old; false where memory does not allow it.
     fn join(&mut self, ops: &[Op]) -> bool
         requires { All IsLawful ops.now }
         ensures site { self.new.site ≡ self.old.site }
@@ -298,13 +289,13 @@ impl<Q: Sequence> Replica<Q> {
         ensures none { result ≡ false → self.new.ops ≡ self.old.ops }
         ensures spare { result ≡ false → self.new.spare ≡ self.old.spare }
     {
-        let Some(held) = self.joined(ops) else {
-            return false;
-        };
-        let Ok((sequence, room)) = made_anew(self.alloc, &held) else {
+        let Some(held) = self.held.joined(ops) else {
             return false;
         };
         let Ok(list) = held.in_order() else {
+            return false;
+        };
+        let Ok((sequence, room)) = made_of(self.alloc, &held, &list) else {
             return false;
         };
         self.registers = kept_in(&held, &list);
@@ -376,32 +367,80 @@ impl<Q: Sequence> Replica<Q> {
         }
     }
 
-    /// Whether all is to be made anew for a list: it is long, or an operation of it forks a stamp of what is held, or it has
-    /// many operations and forks a stamp of its own. So a list of many costs one pass over what is held, however many of
-    /// them fork.
-    fn is_to_join(&self, ops: &[Op]) -> bool {
-        if ops.len() >= MANY && ops.len() >= self.held.len() / PART {
-            return true;
-        }
+    /// Takes in the operations of a list of which none bears a stamp that is borne, where there is room for them. No memory
+    /// is taken.
+    fn enter_all(&mut self, ops: &[Op])
+        requires lawful { All IsLawful ops.now }
+        requires apart { AreApart self.old.ops ops.now }
+        requires below { size self.old.ops + length ops.now ≤ LIMIT }
+        requires spare { length ops.now ≤ self.old.spare }
+        ensures site { self.new.site ≡ self.old.site }
+        ensures ops { self.new.ops ≡ with_all self.old.ops ops.now }
+    {
         for op in ops {
-            if self.held.holds(op.stamp()) && !self.held.has(op) {
-                return true;
-            }
+            self.enter(*op, None);
         }
-        ops.len() >= MANY && forks_a_stamp(self.alloc, ops)
     }
 
-    /// How many operations of a list, from its first on, were taken in by making all anew.
-    fn join_first(&mut self, ops: &[Op]) -> usize
+    /// Takes in the operations of a list that rises and of which none is held: where they are many, or one of them forks a
+    /// stamp, by making all anew; else one by one, once there is room for all. False where memory does not allow it: then the
+    /// set stays.
+    fn take_new(&mut self, ops: &[Op]) -> bool
+        requires lawful { All IsLawful ops.now }
+        requires below { size self.old.ops + length ops.now ≤ LIMIT }
+        ensures site { self.new.site ≡ self.old.site }
+        ensures taken { result ≡ true → self.new.ops ≡ with_all self.old.ops ops.now }
+        ensures none { result ≡ false → self.new.ops ≡ self.old.ops }
+        ensures spare { result ≡ false → self.old.spare ≤ self.new.spare }
+    {
+        let are_many = ops.len() >= MANY && ops.len() >= self.held.len() / PART;
+        if are_many || !are_apart(&self.held, ops) {
+            return self.join(ops);
+        }
+        let Ok(()) = self.reserve(ops.len()) else {
+            return false;
+        };
+        self.enter_all(ops);
+        true
+    }
+
+    /// Takes in a list by what is missing of it; false where memory or the limit does not allow it: then the set stays.
+    fn take_missing(&mut self, ops: &[Op]) -> bool
+        requires { All IsLawful ops.now }
+        ensures site { self.new.site ≡ self.old.site }
+        ensures taken { result ≡ true → self.new.ops ≡ with_all self.old.ops ops.now }
+        ensures none { result ≡ false → self.new.ops ≡ self.old.ops }
+        ensures spare { result ≡ false → self.old.spare ≤ self.new.spare }
+    {
+        // Where nothing is held all of a list is missing, and one that rises is laid out as it is.
+        if ops.len() >= MANY && self.held.is_empty() && self.join(ops) {
+            return true;
+        }
+        let Ok(missing) = self.held.missing(ops) else {
+            return false;
+        };
+        if missing.len() > LIMIT - self.held.len() {
+            return false;
+        }
+        self.take_new(&missing)
+    }
+
+    /// How many operations of a list, from its first on, were taken in at once: all, or as many as can be held in any case.
+    fn take_first(&mut self, ops: &[Op]) -> usize
         requires { All IsLawful ops.now }
         ensures site { self.new.site ≡ self.old.site }
         ensures within { result ≤ length ops.now }
         ensures joined { self.new.ops ≡ with_all self.old.ops (take result ops.now) }
         ensures whole { size self.old.ops + length ops.now ≤ LIMIT → (result ≡ length ops.now) ⊎ ((result ≡ 0) × (self.old.spare ≤ self.new.spare)) }
     {
-        let many = ops.len().min(LIMIT - self.held.len());
-        let first = &ops[..many];
-        if self.is_to_join(first) && self.join(first) {
+        if ops.len() == 1 {
+            return 0;
+        }
+        if self.take_missing(ops) {
+            return ops.len();
+        }
+        let many = LIMIT - self.held.len();
+        if many < ops.len() && self.take_missing(&ops[..many]) {
             return many;
         }
         0
@@ -415,8 +454,8 @@ impl<Q: Sequence> Replica<Q> {
         ensures stopped { IfErr result (λ s. IsStopped self.old.ops self.new.ops ops.now s) }
         ensures room { HasRoom self.old.ops self.old.spare ops.now → IsOk result }
     {
-        let joined = self.join_first(ops);
-        for taken in joined..ops.len() {
+        let first = self.take_first(ops);
+        for taken in first..ops.len() {
             if let Err(why) = self.put(ops[taken]) {
                 return Err(Stopped { taken, why });
             }

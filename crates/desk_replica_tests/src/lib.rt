@@ -14,6 +14,8 @@ mod kept;
 #[cfg(test)]
 mod listed;
 #[cfg(test)]
+mod lists;
+#[cfg(test)]
 mod long;
 #[cfg(test)]
 mod orders;

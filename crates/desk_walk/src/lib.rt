@@ -8,7 +8,7 @@ ghost use Rattle.std.specs.Prelude.{◌≡◌, ◌+◌, ◌<◌, ◌≤◌, ℕ,
 ghost use Rattle.std.specs.List.{insert};
 ghost use Rattle.desk_ops.specs.declared.op.Op.{Op};
 ghost use Rattle.desk_ops.specs.Op.{target_of};
-ghost use Rattle.desk_ops.specs.OpSet.{OpSet, has_op, with_op, size, AllLawful};
+ghost use Rattle.desk_ops.specs.OpSet.{OpSet, has_op, with_op, in_order, size, AllLawful};
 ghost use Rattle.desk_seq.specs.Entries.{stamps_of, AreDistinct, IsAbsent, IsFirstBelow};
 ghost use Rattle.desk_walk.specs.Following.{places, place_at, new_entry, IsActed, CanAct, IsDraining, IsSettled, IsArrival};
 
@@ -219,7 +219,22 @@ pub fn made_anew<Q: Sequence>(
     ensures few { IfOk result (λ r. size r.1.ops ≤ size held.now.ops) }
     ensures free { IfOk result (λ r. size r.1.ops ≤ Q.free r.0) }
 {
-    let (entries, waiting) = settled_lists(alloc, held)?;
+    let list = held.in_order()?;
+    made_of(alloc, held, &list)
+}
+
+/// The same, by the list of the set's operations in their order.
+pub fn made_of<Q: Sequence>(
+    alloc: Q::Memory,
+    held: &Held<Q::Memory>,
+    ops: &[Op],
+) -> Result<(Q, Room<Q::Memory>), NoMemory>
+    requires { ops.now ≡ in_order held.now.ops }
+    ensures settled { IfOk result (λ r. IsSettled held.now.ops (Q.entries r.0) r.1.ops) }
+    ensures few { IfOk result (λ r. size r.1.ops ≤ size held.now.ops) }
+    ensures free { IfOk result (λ r. size r.1.ops ≤ Q.free r.0) }
+{
+    let (entries, waiting) = settled_lists(alloc, held, ops)?;
     let mut sequence = Q::from_entries(alloc, &entries)?;
     let room = Room::from_ops(alloc, &waiting)?;
     sequence.reserve(room.len())?;

@@ -274,16 +274,16 @@ impl<A: Allocator + Copy> Tree<A> {
     }
 }
 
-/// The entries of a set's walk, and what waits.
+/// The entries of a set's walk, and what waits, by the list of the set.
 pub fn settled_lists<A: Allocator + Copy>(
     alloc: A,
     held: &Held<A>,
+    ops: &[Op],
 ) -> Result<(Vec<Entry, A>, Vec<Op, A>), NoMemory>
+    requires { ops.now ≡ in_order held.now.ops }
     ensures { IfOk result (λ r. AreSettled held.now.ops r.0.items r.1.items) }
 {
     let mut tree = Tree::new(alloc, held)?;
-    let list = held.in_order()?;
-    let ops = list.as_slice();
     for i in 0..ops.len() {
         tree.take(held, ops, i)?;
     }

@@ -1,7 +1,7 @@
 -- What some site holds, told by the entries.
-use Rattle.std.proofs.Common.{◌≡◌, ℕ, Bool, true, false, cond, ◌||◌, List, [], ◌∷◌, map, length, refl, sym, ap, ◌∙◌, nat_eq, arith}
+use Rattle.std.proofs.Common.{◌≡◌, ℕ, Bool, true, false, cond, ◌||◌, ◌&&◌, List, [], ◌∷◌, map, length, refl, sym, ap, ◌∙◌, nat_eq, arith}
 use Rattle.std.specs.Prelude.{Some, None, option_map}
-use Rattle.std.specs.List.{IsDistinct, AllByRecursion, list_any}
+use Rattle.std.specs.List.{IsDistinct, AllByRecursion, list_all, list_any}
 use Rattle.std.specs.Ordering.{nat_cmp, is_eq}
 use Rattle.std.specs.declared.cmp.Ordering.{Ordering}
 use Rattle.std.specs.declared.cmp.Ordering.TheVariants.{Less, Equal, Greater}
@@ -11,7 +11,9 @@ use Rattle.std.specs.Map.{lookup}
 use Rattle.desk_ops.specs.declared.op.Op.{Op}
 use Rattle.desk_ops.specs.OpSet.{OpSet, has_op}
 use Rattle.desk_replica.specs.State.{State}
-use Rattle.desk_world.specs.Sites.{Sites, sites_of, is_held}
+use Rattle.std.proofs.lemmas.Bool.{true≢false, and_from}
+use Rattle.desk_ops.proofs.Stamps.{by_cases}
+use Rattle.desk_world.specs.Sites.{Sites, sites_of, is_held, all_held}
 use Rattle.desk_world.proofs.Sites.{get-sites_of}
 
 abbrev by_order : {A : Type 0} → Ordering → A → A → A → A
@@ -57,3 +59,29 @@ held_is p (e ∷ es) h =
 
 pub held_at : (es : List (ℕ × State)) (s : Sites) (op : Op) (b : Bool) → IsDistinct nat_eq (map (λ e. e.0) es) → sites_of es ≡ s → b ≡ list_any (λ t. has_op t.ops op) (map (λ e. e.1) es) → b ≡ is_held s op
 held_at es s op b distinct view is = is ∙ held_is (λ set. has_op set op) es distinct ∙ ap (λ m. is_held m op) view
+
+-- ---- all of a list at one of them
+
+and_both : (a b : Bool) → (a && b) ≡ true → (a ≡ true) × (b ≡ true)
+and_both true b h = (refl, h)
+and_both false b h = absurd (true≢false (sym h))
+
+any-weaker : (p q : State → Bool) (xs : List State) → ((x : State) → p x ≡ true → q x ≡ true) → list_any p xs ≡ true → list_any q xs ≡ true
+any-weaker p q [] f h = absurd (true≢false (sym h))
+any-weaker p q (x ∷ xs) f h = by_cases (p x)
+    (λ e. ap (λ b. b || list_any q xs) (f x e))
+    (λ e. ap (λ b. q x || b) (any-weaker p q xs f (sym (ap (λ b. b || list_any p xs) e) ∙ h)) ∙ or-true (q x))
+  where
+    or-true : (a : Bool) → (a || true) ≡ true
+    or-true true = refl
+    or-true false = refl
+
+pub one-holds_all : (es : List (ℕ × State)) (s : Sites) (ops : List Op) (b : Bool) → IsDistinct nat_eq (map (λ e. e.0) es) → sites_of es ≡ s → b ≡ list_any (λ t. list_all (has_op t.ops) ops) (map (λ e. e.1) es) → b ≡ true → all_held s ops ≡ true
+one-holds_all es s ops b distinct view is all = go ops (sym is ∙ all)
+  where
+    go : (os : List Op) → list_any (λ t. list_all (has_op t.ops) os) (map (λ e. e.1) es) ≡ true → all_held s os ≡ true
+    go [] h = refl
+    go (o ∷ os) h = and_from (is_held s o) (all_held s os)
+        (sym (held_at es s o (list_any (λ t. has_op t.ops o) (map (λ e. e.1) es)) distinct view refl)
+        ∙ any-weaker (λ t. has_op t.ops o && list_all (has_op t.ops) os) (λ t. has_op t.ops o) (map (λ e. e.1) es) (λ t e. (and_both (has_op t.ops o) (list_all (has_op t.ops) os) e).0) h)
+        (go os (any-weaker (λ t. has_op t.ops o && list_all (has_op t.ops) os) (λ t. list_all (has_op t.ops) os) (map (λ e. e.1) es) (λ t e. (and_both (has_op t.ops o) (list_all (has_op t.ops) os) e).1) h))

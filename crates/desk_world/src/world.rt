@@ -2,7 +2,7 @@
 
 ghost use Rattle.std.specs.Prelude.{◌≡◌, true, All, Err, IfOk, IfSome, MatchOption, None, OnErr, option_map, map, nat_eq};
 ghost use Rattle.std.specs.FinMap as fin;
-ghost use Rattle.std.specs.List.{list_any};
+ghost use Rattle.std.specs.List.{list_all, list_any};
 ghost use Rattle.std.specs.Map.{lookup};
 ghost use Rattle.desk_ops.specs.Op.{IsLawful};
 ghost use Rattle.desk_ops.specs.OpSet.{has_op};
@@ -241,6 +241,13 @@ fn any_holds<A: Allocator + Copy>(sites: &SiteMap<A>, op: &Op) -> bool
     sites.values().any(|replica| replica.has(op))
 }
 
+/// Whether some site holds all of the operations.
+fn any_holds_all<A: Allocator + Copy>(sites: &SiteMap<A>, ops: &[Op]) -> bool
+    ensures { result ≡ list_any (λ s. list_all (has_op s.ops) ops.now) (map (λ e. e.1) sites.now.entries) }
+{
+    sites.values().any(|replica| replica.has_all(ops))
+}
+
 impl<A: Allocator + Copy> World<A> {
     /// A world with no site, which is honest.
     pub fn new(alloc: A) -> World<A>
@@ -303,10 +310,21 @@ impl<A: Allocator + Copy> World<A> {
         0
     }
 
-    /// Whether some site holds each of the operations. What is given comes mostly from one site, which is asked first.
+    /// Whether one site holds all of the operations.
+    fn one_holds_all(&self, ops: &[Op]) -> bool
+        ensures { result ≡ true → all_held self.now ops.now ≡ true }
+    {
+        any_holds_all(&self.sites, ops)
+    }
+
+    /// Whether some site holds each of the operations. What is given comes mostly from one site, so each is asked for all of
+    /// it first; and where none has all, an operation is asked of the site that had the one before it.
     fn all_held(&self, ops: &[Op]) -> bool
         ensures { result ≡ all_held self.now ops.now }
     {
+        if self.one_holds_all(ops) {
+            return true;
+        }
         let mut near = 0;
         for op in ops {
             if self.holds_at(near, op) {

@@ -13,9 +13,9 @@ loop-taken-preserved g c = record {
 
 pub loop-taken-init : goal.loop-taken-init
 loop-taken-init g c = record {
-  gained = c.join_first-joined.ensures.joined;
-  site = c.join_first-joined.ensures.site;
-  room = λ r. room-joined c.args.self.now.ops c.join_first-joined.new.self.ops c.args.self.now.spare c.join_first-joined.new.self.spare c.args.ops.now c.join_first-joined.result r c.join_first-joined.ensures.joined (c.join_first-joined.ensures.whole r.below);
+  gained = c.take_first-first.ensures.joined;
+  site = c.take_first-first.ensures.site;
+  room = λ r. room-joined c.args.self.now.ops c.take_first-first.new.self.ops c.args.self.now.spare c.take_first-first.new.self.spare c.args.ops.now c.take_first-first.result r c.take_first-first.ensures.joined (c.take_first-first.ensures.whole r.below);
 }
 
 pub returns-in-Err-clause-room : goal.returns-in-Err-clause-room

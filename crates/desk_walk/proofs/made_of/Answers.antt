@@ -1,7 +1,7 @@
 use Rattle.std.proofs.Common.{◌≡◌, ◌∙◌, ap, arith}
 use Rattle.desk_ops.specs.OpSet.{no_ops, with_all, size}
 use Rattle.desk_walk.proofs.Walking.{size-all}
-use Rattle.desk_walk.proofs.made_anew.Goals as goal
+use Rattle.desk_walk.proofs.made_of.Goals as goal
 
 pub returns-clause-few : goal.returns-clause-few
 returns-clause-few g c =

@@ -1,0 +1,144 @@
+//! What a set lacks of a list.
+ghost use Rattle.std.specs.Prelude.{◌≡◌, ◌++◌, ◌∷◌, [], if◌then◌else◌, T, All, IfOk, OnOk};
+ghost use Rattle.std.specs.List.{list_all};
+ghost use Rattle.desk_ops.specs.Op.{IsLawful};
+ghost use Rattle.desk_ops.specs.OpSet.{has_op, is_rising};
+ghost use Rattle.desk_held.specs.Passing.{missing_of, IsMissing, IsInTurn};
+
+use crate::Held;
+use crate::passing::look;
+use crate::search::is_rising;
+use crate::slot::Slot;
+use desk_ops::{NoMemory, Op};
+use std::alloc::Allocator;
+
+/// Below this part of what is held each operation of a list is searched: a pass beside the list would look at each page.
+const SPARSE: usize = 256;
+
+/// The operations of a list in order, each once. A list that falls is turned round.
+fn in_turn<A: Allocator + Copy>(alloc: A, ops: &[Op]) -> Result<Vec<Op, A>, NoMemory>
+    ensures { IfOk result (λ v. IsInTurn ops.now v.items) }
+{
+    let mut list = Vec::from_slice(alloc, ops)?;
+    list.reverse();
+    if is_rising(&list) {
+        return Ok(list);
+    }
+    list.sort_unstable();
+    list.dedup();
+    Ok(list)
+}
+
+/// Adds an operation to a list, unless it is held.
+fn add_missing<A: Allocator>(list: &mut Vec<Op, A>, op: Op, is_held: bool) -> Result<(), NoMemory>
+    ensures { OnOk result (list.new.items ≡ (if is_held then list.old.items else list.old.items ++ op ∷ [])) }
+{
+    if !is_held {
+        list.push(op)?;
+    }
+    Ok(())
+}
+
+impl<A: Allocator + Copy> Held<A> {
+    /// Whether a list is so short that a search for each of its operations costs less than a pass.
+    fn is_sparse(&self, ops: &[Op]) -> bool {
+        ops.len() < self.len() / SPARSE
+    }
+
+    /// Whether each operation of a list is held. A list that rises and is not short is passed beside what is held: one look at
+    /// each operation and each page. No memory is taken.
+    pub fn has_all(&self, ops: &[Op]) -> bool
+        ensures { result ≡ list_all (has_op self.now.ops) ops.now }
+    {
+        let len = ops.len();
+        if len > 0 && !self.has(&ops[len - 1]) {
+            return false;
+        }
+        if self.is_sparse(ops) || !is_rising(ops) {
+            return self.has_each(ops);
+        }
+        self.has_all_in_turn(ops)
+    }
+
+    /// The same, by a search for each.
+    fn has_each(&self, ops: &[Op]) -> bool
+        ensures { result ≡ list_all (has_op self.now.ops) ops.now }
+    {
+        for op in ops {
+            if !self.has(op) {
+                return false;
+            }
+        }
+        true
+    }
+
+    /// The same, by a pass.
+    fn has_all_in_turn(&self, ops: &[Op]) -> bool
+        requires { T (is_rising ops.now) }
+        ensures { result ≡ list_all (has_op self.now.ops) ops.now }
+    {
+        let mut start = 0;
+        let mut part: &[Slot] = &[];
+        let mut at = 0;
+        for op in ops {
+            let (begin, stretch, place, is_held) = look(&self.ops, start, part, at, op);
+            if !is_held {
+                return false;
+            }
+            start = begin;
+            part = stretch;
+            at = place;
+        }
+        true
+    }
+
+    /// The operations of a list that are not held, in order, each once. A list that rises and is not short is passed beside
+    /// what is held: one look at each operation and each page; another is sorted first, in memory of its own. Where none is
+    /// missing a list that rises takes no memory.
+    pub fn missing(&self, ops: &[Op]) -> Result<Vec<Op, A>, NoMemory>
+        ensures missing { IfOk result (λ v. IsMissing self.now.ops ops.now v.items) }
+        ensures lawful { All IsLawful ops.now → IfOk result (λ v. All IsLawful v.items) }
+    {
+        let _len = self.len();
+        if is_rising(ops) {
+            return self.missing_of_rising(ops);
+        }
+        let list = in_turn(self.alloc, ops)?;
+        self.missing_of_rising(&list)
+    }
+
+    /// Those of a list that rises.
+    fn missing_of_rising(&self, ops: &[Op]) -> Result<Vec<Op, A>, NoMemory>
+        requires { T (is_rising ops.now) }
+        ensures { IfOk result (λ v. v.items ≡ missing_of self.now.ops ops.now) }
+    {
+        if self.is_sparse(ops) {
+            return self.missing_of_few(ops);
+        }
+        let mut list = Vec::new(self.alloc);
+        let mut start = 0;
+        let mut part: &[Slot] = &[];
+        let mut at = 0;
+        for op in ops {
+            let (begin, stretch, place, is_held) = look(&self.ops, start, part, at, op);
+            start = begin;
+            part = stretch;
+            at = place;
+            add_missing(&mut list, *op, is_held)?;
+        }
+        Ok(list)
+    }
+
+    /// The same, by a search for each.
+    fn missing_of_few(&self, ops: &[Op]) -> Result<Vec<Op, A>, NoMemory>
+        ensures { IfOk result (λ v. v.items ≡ missing_of self.now.ops ops.now) }
+    {
+        let mut list = Vec::new(self.alloc);
+        for op in ops {
+            if !self.has(op) {
+                list.push(*op)?;
+            }
+        }
+        Ok(list)
+    }
+}
