@@ -1,4 +1,6 @@
 //! Events of a world, step by step.
+ghost use Rattle.std.specs.Prelude.{◌≡◌, true, All};
+ghost use Rattle.desk_ops.specs.Op.{IsLawful};
 
 use desk_ops::{NoMemory, Op, Stamp, Style, Symbol};
 use desk_replica::{Count, Settings};
@@ -117,5 +119,45 @@ fn strange_and_bring(rt: HostRuntime) -> Result<(), Fail> {
         assert_eq!(rt; held(&world, 2), *second);
     }
     assert!(rt; answers_of_k(&world, 1)?);
+    Ok(())
+}
+
+/// Whether each operation is lawful.
+fn are_lawful(ops: &[Op]) -> bool
+    ensures { result ≡ true → All IsLawful ops.now }
+{
+    ops.iter().all(|op| op.check().is_ok())
+}
+
+/// What a site answers that is given operations, where these are lawful.
+fn given<A: Allocator + Copy>(
+    world: &mut World<A>,
+    to: u16,
+    ops: &[Op],
+) -> Option<Result<Answer, StepRefusal>> {
+    if !are_lawful(ops) {
+        return None;
+    }
+    Some(world.step(&Event::Give { to, ops }))
+}
+
+/// Lists of what two sites hold, of what one of them does, and with an operation that none does.
+#[test]
+fn given_by_two_sites(rt: HostRuntime) -> Result<(), Fail> {
+    let mut world = World::new(rt.alloc());
+    let one = typed(at(1, 1), Stamp::HEAD, 'a');
+    let two = typed(at(1, 2), Stamp::HEAD, 'b');
+    let strange = typed(at(2, 2), at(1, 2), 'c');
+    for site in 1..4u16 {
+        let _ = turned(&mut world, Turn::Site(site), one);
+    }
+    let _ = turned(&mut world, Turn::Bring(1), one);
+    let _ = turned(&mut world, Turn::Bring(2), two);
+    for (ops, new, known) in [([one, two], 2, 0), ([two, one], 0, 2)] {
+        let counts = Answer::Taken(Count { new, known });
+        assert!(rt; given(&mut world, 3, &ops) == Some(Ok(counts)));
+    }
+    let refused = Some(Err(StepRefusal::Strange));
+    assert!(rt; given(&mut world, 1, &[one, strange]) == refused && held(&world, 1) == 1);
     Ok(())
 }

@@ -74,7 +74,13 @@ pub fn lawful_of(alloc: Global, all: &[Op]) -> Result<Vec<Op>, Fail>
     Ok(ops)
 }
 
-/// Site 1 with its list, which the next operation grows, site 2, which holds nothing, and site 3 with the arrivals.
+/// What site 2 holds before the call: a symbol of its own. So the fork among the arrivals has all of site 2 made anew, while
+/// the arrivals before it find room beside that symbol.
+fn own() -> Op {
+    typed(at(1, 2), Stamp::HEAD, 's')
+}
+
+/// Site 1 with its list, which the next operation grows, site 2 with its symbol, and site 3 with the arrivals.
 fn three_sites<A: Allocator + Copy>(
     alloc: A,
     list: &[Op],
@@ -88,6 +94,11 @@ fn three_sites<A: Allocator + Copy>(
     world.step(&Event::Site(2))?;
     world.step(&Event::Site(3))?;
     world.bring(1, list)?;
+    world.step(&Event::Insert {
+        site: 2,
+        place: 0,
+        symbol: roman('s'),
+    })?;
     world.bring(3, arrivals)?;
     Ok(world)
 }
@@ -199,7 +210,7 @@ fn holds<A: Allocator + Copy>(
     true
 }
 
-/// Whether site 1 has its list and what was made, and site 2 the first arrivals, so many.
+/// Whether site 1 has its list and what was made, and site 2 its symbol and the first arrivals, so many.
 fn is_so<A: Allocator + Copy>(
     world: &World<A>,
     list: &[Op],
@@ -208,7 +219,7 @@ fn is_so<A: Allocator + Copy>(
     first: usize,
 ) -> bool {
     holds(world, 1, list, list.len(), made)
-        && holds(world, 2, arrivals, first, None)
+        && holds(world, 2, arrivals, first, Some(own()))
         && holds(world, 3, arrivals, arrivals.len(), None)
 }
 
