@@ -1,11 +1,8 @@
 //! The copy desk's command line.
 #![tactic(auto)]
 
-mod progress;
-
-use desk_host::HostFiles;
+use desk_host::{HostFiles, Progress, Watched};
 use desk_program::{program, unread};
-use progress::Watched;
 use std::alloc::Global;
 use std::io::{BufWriter, IsTerminal};
 use std::process::ExitCode;
@@ -19,17 +16,18 @@ fn main(rt: HostRuntime) -> ExitCode {
 }
 
 /// Does what the words ask for, and gives the status. Answers are gathered in a buffer: it is let out before more
-/// commands are read, and at the end.
+/// commands are read, and at the end. How far the run is, is told each second where standard error is a terminal.
 fn on_streams(rt: &HostRuntime) -> io::Result<u8> {
+    let progress = Progress::new(rt);
     let words = words_of(rt)?;
-    let mut writer = BufWriter::new(rt.alloc(), io::writer(rt))?;
+    let mut writer = BufWriter::new(rt.alloc(), Watched::answer(&progress, io::writer(rt)))?;
     Ok(program(
         rt.alloc(),
         &words,
-        &mut Watched::new(rt, rt.reader()),
+        &mut Watched::input(&progress, rt.reader()),
         &mut writer,
         &mut rt.stderr(),
-        &mut HostFiles::new(rt),
+        &mut HostFiles::new(rt, &progress),
     ))
 }
 

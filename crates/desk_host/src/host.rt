@@ -6,6 +6,7 @@ ghost use Rattle.desk_files.specs.Files.{IsCounted, Unknown, max_file, shelf};
 ghost use Rattle.desk_host.specs.Host.{IsToldOf};
 
 use crate::hold::Hold;
+use crate::progress::{Progress, Step, Watched};
 use crate::trouble::{Asked, Explains, Trouble, write_trouble};
 use desk_files::{FileRefusal, Files, MAX_FILE};
 use std::alloc::Allocator;
@@ -14,10 +15,12 @@ use std::io::{self, ErrorKind, Read, Write};
 use std::os::unix::fs::{OpenOptionsExt, PermissionsExt};
 use std::path::Path;
 
-/// Files of the machine, by their paths, with a count of the failures, the name that is held, and what failed last.
+/// Files of the machine, by their paths, with a count of the failures, the name that is held, and what failed last. What is
+/// read of them and written is told as the run's progress.
 #[derive(Drop)]
 pub struct HostFiles<'a> {
     host: &'a HostRuntime,
+    progress: &'a Progress<'a>,
     failures: u64,
     hold: Option<Hold>,
     trouble: Option<Trouble>,
@@ -25,12 +28,13 @@ pub struct HostFiles<'a> {
 
 impl<'a> HostFiles<'a> {
     /// Files of the machine, of which no call has failed yet.
-    pub fn new(host: &'a HostRuntime) -> Self
+    pub fn new(host: &'a HostRuntime, progress: &'a Progress<'a>) -> Self
         ensures failures { result.failures ≡ 0 }
         ensures free { result.hold ≡ None }
     {
         HostFiles {
             host,
+            progress,
             failures: 0,
             hold: None,
             trouble: None,
@@ -74,7 +78,9 @@ impl<'a> HostFiles<'a> {
 
     fn write_at(&self, name: &str, bytes: &[u8]) -> io::Result<()> {
         let mode = self.mode_of(name)?;
-        write_file(self.host, self.place(name), mode, bytes)
+        let file = new_file(self.host, self.place(name), mode)?;
+        Watched::to(self.progress, name, &file).write_all(bytes)?;
+        file.sync_all()
     }
 }
 
@@ -122,15 +128,18 @@ fn whole<R: Read + Drop, A: Allocator + Copy>(alloc: A, reader: R) -> io::Result
     }
 }
 
+/// The bytes of the file at a place, told by its name.
 fn read_file<A: Allocator + Copy>(
     host: &HostRuntime,
+    progress: &Progress<'_>,
     alloc: A,
     name: &str,
+    place: &str,
 ) -> io::Result<Option<Vec<u8, A>>>
     ensures { IfOk result (λ o. IfSome o (λ v. length v.items ≤ max_file)) }
 {
-    match File::open(host, name) {
-        Ok(file) => whole(alloc, file),
+    match File::open(host, place) {
+        Ok(file) => whole(alloc, Watched::from(progress, name, file)),
         Err(error) => Err(error),
     }
 }
@@ -148,20 +157,19 @@ fn remove(host: &HostRuntime, name: &str) -> io::Result<()> {
     }
 }
 
-/// Writes a file anew, in place of what has the name and never through it, and waits until the device has it.
-fn write_file(host: &HostRuntime, name: &str, mode: Option<u32>, bytes: &[u8]) -> io::Result<()> {
+/// Makes a file anew, to be written, in place of what has the name and never through it.
+fn new_file(host: &HostRuntime, name: &str, mode: Option<u32>) -> io::Result<File> {
     remove(host, name)?;
     let mut how = OpenOptions::new();
     how.write(true).create_new(true);
     if let Some(mode) = mode {
         how.mode(mode & 0o777);
     }
-    let mut file = how.open(host, name)?;
+    let file = how.open(host, name)?;
     if let Some(mode) = mode {
         file.set_permissions(PermissionsExt::from_mode(mode))?;
     }
-    file.write_all(bytes)?;
-    file.sync_all()
+    Ok(file)
 }
 
 /// The folder that a file stands in, open, where the system lets it be opened.
@@ -215,7 +223,7 @@ impl<'a> Files for HostFiles<'a> {
         alloc: A,
         name: &str,
     ) -> Result<Vec<u8, A>, FileRefusal> {
-        match read_file(self.host, alloc, self.place(name)) {
+        match read_file(self.host, self.progress, alloc, name, self.place(name)) {
             Ok(Some(bytes)) => Ok(bytes),
             Ok(None) => {
                 self.trouble = None;
@@ -240,7 +248,10 @@ impl<'a> Files for HostFiles<'a> {
 
     fn rename(&mut self, from: &str, to: &str) -> Result<(), FileRefusal> {
         match rename_file(self.host, self.place(from), self.place(to)) {
-            Ok(()) => Ok(()),
+            Ok(()) => {
+                self.progress.tell(Step::Stored(to));
+                Ok(())
+            }
             Err(error) => {
                 let asked = Asked::Rename;
                 Err(self.refused(Trouble { asked, error }))

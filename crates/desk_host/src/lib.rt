@@ -1,9 +1,12 @@
-//! Files of the machine: a feed's name held for one run alone, files stored whole and durably, and why the system would not.
+//! Files of the machine: a feed's name held for one run alone, files stored whole and durably, and why the system would not;
+//! and how far a run is, told each second where standard error is a terminal.
 #![tactic(auto)]
 
 mod hold;
 mod host;
+mod progress;
 mod trouble;
 
 pub use host::HostFiles;
+pub use progress::{Progress, Step, Watched};
 pub use trouble::Explains;

@@ -1,5 +1,5 @@
 -- What a proof and a punch have done, and what they left.
-use Rattle.std.specs.Prelude.{◌≡◌, ◌⊎◌, ℕ, Bool, true, false, List, Option, Some, None}
+use Rattle.std.specs.Prelude.{◌≡◌, ◌⊎◌, ◌≤◌, length, ℕ, Bool, true, false, List, Option, Some, None}
 use Rattle.std.specs.Borrow.{Bor}
 use Rattle.desk_files.specs.Files.{Shelf, Stays}
 use Rattle.desk_preview.specs.Sources.{sources}
@@ -56,24 +56,25 @@ abbrev pub IsSeen : Sources → Bool → Option (List ℕ) → List (Bor (List �
 IsSeen from alone picture sets first last before after =
     (trial : Settings) × (trial_of sets ≡ Some trial) × IsSeenBy from alone trial picture first last before after
 
--- nothing was begun: a text tries no setting, the picture would take the place of what it is made of, or memory ran out
+-- the name is that of what a ribbon and a picture are made of
+abbrev pub IsSource : Sources → List ℕ → Type 0
+IsSource from target = (target ≡ from.feed.now) ⊎ (target ≡ from.case.now) ⊎ (target ≡ from.wedge.now)
+
+-- a picture is asked for, and its name is that of what it is made of
+abbrev pub TakesSource : Sources → Option (List ℕ) → Type 0
+TakesSource from None = ⊥
+TakesSource from (Some target) = IsSource from target
+
+-- nothing was begun: the picture would take the place of what it is made of, or of the texts that were given one tries no setting,
+-- or memory ran out for them
 abbrev pub IsUnseen : Sources → Bool → Option (List ℕ) → List (Bor (List ℕ)) → Shelf → Shelf → Option (List ℕ) → Option (List ℕ) → Type 0
 IsUnseen from alone picture sets first last before after =
-    ((last ≡ first) × (after ≡ before))
+    ((TakesSource from picture ⊎ (1 ≤ length sets)) × (last ≡ first) × (after ≡ before))
     ⊎ ((trial : Settings) × (trial_of sets ≡ Some trial) × IsUnseenBy from alone trial picture first last before after)
 
 -- the ribbon stands under the name, and nothing was written
 abbrev pub IsInFile : Sources → List ℕ → Shelf → Shelf → Option (List ℕ) → Option (List ℕ) → Type 0
 IsInFile from target first last before after = (after ≡ before) × IsPunched (sources from.feed.now from.case.now from.wedge.now) target first last
-
--- the name is that of what the ribbon is made of
-abbrev pub IsSource : Sources → List ℕ → Type 0
-IsSource from target = (target ≡ from.feed.now) ⊎ (target ≡ from.case.now) ⊎ (target ≡ from.wedge.now)
-
--- a picture is asked for, and its name is that
-abbrev pub TakesSource : Sources → Option (List ℕ) → Type 0
-TakesSource from None = ⊥
-TakesSource from (Some target) = IsSource from target
 
 -- why there is no ribbon, and what was left: it would take the place of what it is made of, and nothing was begun; or it was not made, or not stored
 abbrev pub IsInNoFile : Sources → List ℕ → Shelf → Shelf → Option (List ℕ) → Option (List ℕ) → Type 0

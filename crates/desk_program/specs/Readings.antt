@@ -34,11 +34,16 @@ abbrev pub IsReadWhole : Sources → Option (List ℕ) → Shelf → Shelf → O
 IsReadWhole from picture first last before after =
     (middle : Shelf) × IsReadOut from first middle before after true × AreHolesThere from picture middle last
 
+-- a picture is asked for, and its name is that of what it is made of
+abbrev pub TakesSource : Sources → Option (List ℕ) → Type 0
+TakesSource from None = ⊥
+TakesSource from (Some target) = (target ≡ from.ribbon) ⊎ (target ≡ from.case) ⊎ (target ≡ from.wedge)
+
 -- nothing was begun, since the picture would take the place of what it is made of; or the reading was not written; or it was, and
 -- the picture not stored; or both were, and the ribbon has a fault
 abbrev pub IsNotReadWhole : Sources → Option (List ℕ) → Shelf → Shelf → Option (List ℕ) → Option (List ℕ) → Type 0
 IsNotReadWhole from picture first last before after =
-    ((last ≡ first) × (after ≡ before))
+    (TakesSource from picture × (last ≡ first) × (after ≡ before))
     ⊎ IsNotReadOut from first last before after
     ⊎ ((middle : Shelf) × (whole : Bool) × IsReadOut from first middle before after whole × AreHolesAbsent from picture middle last)
     ⊎ ((middle : Shelf) × IsReadOut from first middle before after false × AreHolesThere from picture middle last)

@@ -1,8 +1,8 @@
 //! A stored ribbon read as the caster would, and the sorts of a stored feed.
 
 ghost use Rattle.std.specs.Option.{option_copied};
-ghost use Rattle.std.specs.Prelude.{◌≡◌, ◌≤◌, ◌⊎◌, IfSome, IsNone, MatchResult, false, true};
-ghost use Rattle.desk_program.specs.Readings.{AreHolesAbsent, AreHolesThere, IsListed, IsNotListed, IsNotReadOut, IsNotReadWhole, IsReadOut, IsReadWhole};
+ghost use Rattle.std.specs.Prelude.{◌≡◌, ◌≤◌, ◌↔◌, ◌⊎◌, IfSome, IsNone, MatchResult, false, true};
+ghost use Rattle.desk_program.specs.Readings.{AreHolesAbsent, AreHolesThere, IsListed, IsNotListed, IsNotReadOut, IsNotReadWhole, IsReadOut, IsReadWhole, TakesSource};
 ghost use Rattle.desk_reading.specs.Sources.{sources};
 ghost use Rattle.desk_sorts.specs.Sources as of_sorts;
 
@@ -123,6 +123,13 @@ fn drawn<E: Write, F: Files + Explains>(
     }
 }
 
+/// Whether a name is that of what a reading is made of.
+fn is_source(ribbon: &str, case: &str, wedge: &str, target: &str) -> bool
+    ensures { result ≡ true ↔ (target.now ≡ ribbon.now) ⊎ (target.now ≡ case.now) ⊎ (target.now ≡ wedge.now) }
+{
+    target == ribbon || target == case || target == wedge
+}
+
 /// Whether the picture would take the place of what it is made of; then two lines say so.
 fn takes_source<E: Write>(
     faults: &mut E,
@@ -130,11 +137,13 @@ fn takes_source<E: Write>(
     case: &str,
     wedge: &str,
     picture: Option<&str>,
-) -> bool {
+) -> bool
+    ensures { result ≡ true ↔ TakesSource (sources ribbon.now case.now wedge.now) (option_copied picture.entry) }
+{
     let Some(target) = picture else {
         return false;
     };
-    if target != ribbon && target != case && target != wedge {
+    if !is_source(ribbon, case, wedge, target) {
         return false;
     }
     let _ = writeln!(faults, "copydesk: {}", RunFault::File(FileRefusal::Device));

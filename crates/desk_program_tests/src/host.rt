@@ -1,4 +1,4 @@
-use desk_host::HostFiles;
+use desk_host::{HostFiles, Progress};
 use desk_script::{FileRefusal, Files, store};
 use std::alloc::{AllocError, Global};
 use std::fs::{self, File, OpenFile};
@@ -51,7 +51,8 @@ fn files_of_the_machine(rt: HostRuntime) -> Result<(), Fail> {
     let nowhere = path(rt.alloc(), folder.as_str(), "none/a")?;
     let below = path(rt.alloc(), folder.as_str(), "a/b")?;
     let nul = path(rt.alloc(), folder.as_str(), "a\0")?;
-    let mut files = HostFiles::new(&rt);
+    let progress = Progress::new(&rt);
+    let mut files = HostFiles::new(&rt, &progress);
 
     assert_eq!(rt;
         unread(rt.alloc(), &mut files, a.as_str()),
@@ -109,7 +110,7 @@ fn files_of_the_machine(rt: HostRuntime) -> Result<(), Fail> {
     assert_eq!(rt; unread(rt.alloc(), &mut files, a.as_str()), None);
     assert_eq!(rt; files.failures(), 3);
 
-    let mut others = HostFiles::new(&rt);
+    let mut others = HostFiles::new(&rt, &progress);
     assert_eq!(rt; files.hold(a.as_str()), Ok(()));
     assert_eq!(rt; others.hold(a.as_str()), Err(FileRefusal::Device));
     drop(files);

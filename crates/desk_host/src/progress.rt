@@ -1,0 +1,212 @@
+//! How far a run is, told each second on standard error.
+
+ghost use Rattle.std.specs.Prelude.{◌≡◌};
+
+use std::cell::Cell;
+use std::fmt::{self, Display, Formatter};
+use std::io::{self, IsTerminal, Read, Write};
+use std::time::{Duration, Instant};
+
+/// The most bytes that are handed to a writer at once, so that a slow one is told of on the way.
+const PIECE: usize = 65_536;
+
+/// When a line was told last, or else when the run began. None is told where standard error is no terminal, or while the
+/// clock fails.
+#[derive(Drop)]
+pub struct Progress<'a> {
+    host: &'a HostRuntime,
+    told: Cell<Option<Instant>>,
+}
+
+impl<'a> Progress<'a> {
+    /// A run that begins now.
+    pub fn new(host: &'a HostRuntime) -> Self {
+        let told = if host.stderr().is_terminal() {
+            Instant::now(host).ok()
+        } else {
+            None
+        };
+        Progress {
+            host,
+            told: Cell::new(told),
+        }
+    }
+
+    /// Begins anew: somebody has typed or seen something just now.
+    fn begin(&self) {
+        if self.told.get().is_some() {
+            self.told.set(Instant::now(self.host).ok());
+        }
+    }
+
+    /// Whether a second has passed since a line was told or the run began. Then a line is told now.
+    fn is_due(&self) -> bool {
+        let Some(told) = self.told.get() else {
+            return false;
+        };
+        let Some(now) = Instant::now(self.host).ok() else {
+            return false;
+        };
+        if now.saturating_duration_since(told) < Duration::from_secs(1) {
+            return false;
+        }
+        self.told.set(Some(now));
+        true
+    }
+
+    /// Tells how far the run is, where a second has passed. Whether the line can be written changes nothing.
+    pub fn tell(&self, step: Step<'_>) {
+        if self.is_due() {
+            let _ = writeln!(self.host.stderr(), "copydesk: {step}");
+        }
+    }
+}
+
+/// How far a run is.
+#[derive(Clone, Copy, Debug, PartialEq, Eq)]
+pub enum Step<'a> {
+    /// So many bytes of standard input are read.
+    Input(u64),
+    /// So many bytes of a file are read.
+    Read(&'a str, u64),
+    /// So many bytes of a file are written.
+    Written(&'a str, u64),
+    /// A file is stored under its name.
+    Stored(&'a str),
+    /// So many bytes of the answer are written.
+    Answer(u64),
+}
+
+impl<'a> Display for Step<'a> {
+    fn fmt<W: fmt::Write>(&self, f: &mut Formatter<W>) -> fmt::Result {
+        match self {
+            Step::Input(bytes) => write!(f, "{bytes} bytes are read"),
+            Step::Read(name, bytes) => write!(f, "{name}: {bytes} bytes are read"),
+            Step::Written(name, bytes) => write!(f, "{name}: {bytes} bytes are written"),
+            Step::Stored(name) => write!(f, "{name} is stored"),
+            Step::Answer(bytes) => write!(f, "{bytes} bytes of the answer are written"),
+        }
+    }
+}
+
+/// What the bytes of a stream are.
+#[derive(Clone, Copy, Debug, PartialEq, Eq)]
+enum Bytes<'a> {
+    Input,
+    Answer,
+    /// Those that are read of a file.
+    From(&'a str),
+    /// Those that are written to a file.
+    To(&'a str),
+    /// Those that somebody types, or sees as they are written.
+    Seen,
+}
+
+/// A reader or a writer of which it is told how many bytes went through.
+#[derive(Drop)]
+pub struct Watched<'a, S: Drop> {
+    progress: &'a Progress<'a>,
+    stream: S,
+    what: Bytes<'a>,
+    bytes: u64,
+}
+
+impl<'a, S: Drop> Watched<'a, S> {
+    fn new(progress: &'a Progress<'a>, stream: S, what: Bytes<'a>) -> Self
+        ensures { result.stream ≡ stream }
+    {
+        Watched {
+            progress,
+            stream,
+            what,
+            bytes: 0,
+        }
+    }
+
+    /// Standard input. What somebody types is not told.
+    pub fn input(progress: &'a Progress<'a>, reader: S) -> Self
+    where
+        S: Read + IsTerminal,
+        ensures { result.stream ≡ reader }
+    {
+        let what = if reader.is_terminal() {
+            Bytes::Seen
+        } else {
+            Bytes::Input
+        };
+        Watched::new(progress, reader, what)
+    }
+
+    /// Standard output. What somebody sees is not told.
+    pub fn answer(progress: &'a Progress<'a>, writer: S) -> Self
+        ensures { result.stream ≡ writer }
+    {
+        let what = if progress.host.stdout().is_terminal() {
+            Bytes::Seen
+        } else {
+            Bytes::Answer
+        };
+        Watched::new(progress, writer, what)
+    }
+
+    /// A file that is read.
+    pub fn from(progress: &'a Progress<'a>, name: &'a str, reader: S) -> Self
+        ensures { result.stream ≡ reader }
+    {
+        Watched::new(progress, reader, Bytes::From(name))
+    }
+
+    /// A file that is written.
+    pub fn to(progress: &'a Progress<'a>, name: &'a str, writer: S) -> Self
+        ensures { result.stream ≡ writer }
+    {
+        Watched::new(progress, writer, Bytes::To(name))
+    }
+
+    /// Counts the bytes of a call.
+    fn count(&mut self, bytes: usize)
+        ensures { self.new.stream ≡ self.old.stream }
+    {
+        self.bytes = self.bytes.saturating_add(bytes as u64);
+        match self.what {
+            Bytes::Input => self.progress.tell(Step::Input(self.bytes)),
+            Bytes::Answer => self.progress.tell(Step::Answer(self.bytes)),
+            Bytes::From(name) => self.progress.tell(Step::Read(name, self.bytes)),
+            Bytes::To(name) => self.progress.tell(Step::Written(name, self.bytes)),
+            Bytes::Seen => self.progress.begin(),
+        }
+    }
+}
+
+impl<'a, R: Read + Drop> Read for Watched<'a, R> {
+    ghost remaining = { λ w. R.remaining w.stream };
+
+    fn read(&mut self, buf: &mut [u8]) -> io::Result<usize> {
+        match self.stream.read(buf) {
+            Ok(count) => {
+                self.count(count);
+                Ok(count)
+            }
+            Err(error) => Err(error),
+        }
+    }
+}
+
+impl<'a, W: Write + Drop> Write for Watched<'a, W> {
+    ghost contents = { λ w. W.contents w.stream };
+
+    fn write(&mut self, buf: &[u8]) -> io::Result<usize> {
+        let most = buf.len().min(PIECE);
+        match self.stream.write(&buf[..most]) {
+            Ok(count) => {
+                self.count(count);
+                Ok(count)
+            }
+            Err(error) => Err(error),
+        }
+    }
+
+    fn flush(&mut self) -> io::Result<()> {
+        self.stream.flush()
+    }
+}
