@@ -1,4 +1,6 @@
 pub mod Tallies
+pub mod Finding
+pub mod Standing
 pub mod Texts
 pub mod Within
 pub mod Gives

@@ -24,11 +24,11 @@ one_stands : (copy : List Symbol) (place : ℕ) (s q : Symbol) → StandsAt copy
 one_stands copy place s q here there = let e : q ≡ s = cc in subst (λ (x : Symbol). same_symbol q x ≡ true) e (symbol_itself q)
 
 -- how often a symbol is wanted after one more place
-wanted_no : (copy : List Symbol) (n : ℕ) (s q : Symbol) → StandsAt copy s n → same_symbol q s ≡ false → wanted_of (take (n + 1) copy) q ≡ wanted_of (take n copy) q
+pub wanted_no : (copy : List Symbol) (n : ℕ) (s q : Symbol) → StandsAt copy s n → same_symbol q s ≡ false → wanted_of (take (n + 1) copy) q ≡ wanted_of (take n copy) q
 wanted_no copy n s q here other =
     count_by_more_no (same_symbol q) copy n s (slice_get_within copy n s here) (subst (λ (x : Symbol). same_symbol q x ≡ false) (sym (get_or_from_slice_get copy n s s here)) other)
 
-wanted_yes : (copy : List Symbol) (n : ℕ) (s : Symbol) → StandsAt copy s n → wanted_of (take (n + 1) copy) s ≡ wanted_of (take n copy) s + 1
+pub wanted_yes : (copy : List Symbol) (n : ℕ) (s : Symbol) → StandsAt copy s n → wanted_of (take (n + 1) copy) s ≡ wanted_of (take n copy) s + 1
 wanted_yes copy n s here =
     count_by_more_yes (same_symbol s) copy n s (slice_get_within copy n s here) (subst (λ (x : Symbol). same_symbol s x ≡ true) (sym (get_or_from_slice_get copy n s s here)) (symbol_itself s))
 
@@ -79,10 +79,10 @@ known_skipped copy n s q known here feed is = by (same_symbol q s) refl
     by false e = known_other copy n s q known here e is
 
 -- symbols that are equal by their order are one
-ordered_same : (s q : Symbol) → is_eq (symbol_cmp s q) ≡ same_symbol s q
+pub ordered_same : (s q : Symbol) → is_eq (symbol_cmp s q) ≡ same_symbol s q
 ordered_same s q = sym (matches_eq-law s q)
 
-other_too : (s q : Symbol) → is_eq (symbol_cmp s q) ≡ false → same_symbol q s ≡ false
+pub other_too : (s q : Symbol) → is_eq (symbol_cmp s q) ≡ false → same_symbol q s ≡ false
 other_too s q e = by (same_symbol q s) refl
   where
     by : (b : Bool) → same_symbol q s ≡ b → same_symbol q s ≡ false

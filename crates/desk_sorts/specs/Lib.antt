@@ -1,4 +1,6 @@
 pub mod Sorts
+pub mod Places
+pub mod Laws
 pub mod Counting
 pub mod Listing
 pub mod Layout

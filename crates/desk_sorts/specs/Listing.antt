@@ -1,24 +1,21 @@
 -- The sorts of a copy as text, by a case.
-use Rattle.std.specs.Prelude.{ℕ, ◌+◌, ◌<◌, Bool, not, List, [], ◌∷◌, ◌++◌, length, codes, Option, Some, None, is_some, if◌then◌else◌}
+use Rattle.std.specs.Prelude.{ℕ, ◌+◌, ◌%◌, ◌==◌, ◌<◌, Bool, List, [], ◌∷◌, ◌++◌, length, codes, Option, Some, None, if◌then◌else◌}
 use Rattle.std.specs.Fmt.{decimal}
 use Rattle.desk_signals.specs.declared.Cell.{Cell}
 use Rattle.desk_signals.specs.Words.{column_name}
 use Rattle.desk_ops.specs.declared.op.Symbol.{Symbol}
 use Rattle.desk_ops.specs.Op.{is_line_feed, is_space}
-use Rattle.desk_case.specs.Case.{CaseValues, cell_of}
+use Rattle.desk_case.specs.Case.{CaseValues}
 use Rattle.desk_proof.specs.Parts.{left, right}
 use Rattle.desk_proof.specs.Faults.{around_text, name_text}
 use Rattle.desk_sorts.specs.declared.sorts.Sort.{Sort}
+use Rattle.desk_sorts.specs.Places.{cell_for, lacks, places_of}
 
 -- ---- what a case has for a sort
 
--- the cell that a symbol is cast from: that of the space for the space, and else the one that holds it
-abbrev pub cell_for : CaseValues → Symbol → Option Cell
-cell_for case symbol = if is_space symbol then Some case.space else cell_of case symbol
-
--- no cell of the case holds it
+-- it can be cast from no cell of the case
 abbrev pub is_missing : CaseValues → Sort → Bool
-is_missing case sort = not (is_some (cell_for case sort.symbol))
+is_missing case sort = lacks case sort.symbol
 
 -- how many of the sorts are missing
 abbrev pub missing_of : CaseValues → List Sort → ℕ
@@ -44,12 +41,31 @@ head_text copy case sorts =
 abbrev pub sort_name : Symbol → List ℕ
 sort_name symbol = if is_space symbol then codes "space" else name_text symbol
 
-abbrev pub places_text : Sort → List ℕ
-places_text sort = codes ", wanted " ++ decimal sort.wanted ++ codes ", first at place " ++ decimal sort.first ++ codes "\n  | "
+-- how often a sort is wanted, and where first
+abbrev pub first_text : Sort → List ℕ
+first_text sort = codes ", wanted " ++ decimal sort.wanted ++ codes ", first at place " ++ decimal sort.first ++ codes "\n  | "
 
--- a missing sort, and what surrounds its first place
+-- a missing sort by its name, and that
+abbrev pub title_text : Sort → List ℕ
+title_text sort = codes "missing " ++ (sort_name sort.symbol ++ first_text sort)
+
+-- what stands before a place by its number among those of its sort, from 0: the first of each ten begins a row
+abbrev pub row_begin : ℕ → List ℕ
+row_begin number = if number % 10 == 0 then codes "\n  at" else []
+
+-- a place in its column
+abbrev pub place_text : (number place : ℕ) → List ℕ
+place_text number place = row_begin number ++ (codes " " ++ right 7 (decimal place))
+
+-- places, ten to a row, of which the first has this number
+abbrev pub place_rows : ℕ → List ℕ → List ℕ
+place_rows number [] = []
+place_rows number (place ∷ places) = place_text number place ++ place_rows (number + 1) places
+
+-- a missing sort, what surrounds its first place, and all its places
 abbrev pub missing_text : List Symbol → Sort → List ℕ
-missing_text copy sort = codes "missing " ++ (sort_name sort.symbol ++ (places_text sort ++ (around_text copy sort.first ++ codes "\n")))
+missing_text copy sort =
+    title_text sort ++ (around_text copy sort.first ++ (place_rows 0 (places_of copy sort.symbol) ++ codes "\n"))
 
 abbrev pub missing_lines : List Symbol → CaseValues → List Sort → List ℕ
 missing_lines copy case [] = []

@@ -2,15 +2,19 @@
 //! a stored feed.
 #![tactic(auto)]
 
+mod cells;
 mod fault;
+mod laws;
 mod layout;
 mod listing;
+mod places;
 mod sorts;
 mod sources;
 mod telling;
 mod told;
 
 pub use fault::SortsFault;
+pub use laws::law_of_places;
 pub use layout::put_case;
 pub use listing::{missing_of, put_sorts};
 pub use sorts::{Sort, sorts_of};

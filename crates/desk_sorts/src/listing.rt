@@ -1,8 +1,11 @@
 //! The sorts of a copy as text, by a case.
 
 ghost use Rattle.std.specs.Prelude.{◌≡◌, ◌++◌, ◌≤◌, All, OnOk, length, string_bytes};
-ghost use Rattle.desk_sorts.specs.Listing.{IsWithin, cast_of, cell_for, cell_text, columns_text, head_text, is_missing, missing_lines, missing_of, missing_text, places_text, row_text, rows_text, sort_name, sorts_text};
+ghost use Rattle.desk_sorts.specs.Listing.{IsWithin, cast_of, cell_text, columns_text, first_text, head_text, is_missing, missing_lines, missing_of, missing_text, place_rows, place_text, row_begin, row_text, rows_text, sort_name, sorts_text, title_text};
+ghost use Rattle.desk_sorts.specs.Places.{AreFound, places_of};
 
+use crate::cells::{cell_for, lacks};
+use crate::places::{Found, find, places_in};
 use crate::sorts::Sort;
 use desk_case::MatrixCase;
 use desk_ops::Symbol;
@@ -11,22 +14,11 @@ use desk_signals::Cell;
 use itoa::Buffer;
 use std::alloc::{AllocError, Allocator};
 
-/// The cell that a symbol is cast from.
-fn cell_for(case: &MatrixCase, symbol: Symbol) -> Option<Cell>
-    ensures { result ≡ cell_for case.now symbol }
-{
-    if symbol.is_space() {
-        Some(case.space())
-    } else {
-        case.cell_of(symbol)
-    }
-}
-
-/// Whether no cell of the case holds a sort.
+/// Whether a sort can be cast from no cell of the case.
 fn is_missing(case: &MatrixCase, sort: Sort) -> bool
     ensures { result ≡ is_missing case.now sort }
 {
-    cell_for(case, sort.symbol).is_none()
+    lacks(case, sort.symbol)
 }
 
 /// How many of the sorts the case lacks.
@@ -85,43 +77,88 @@ fn put_sort_name<A: Allocator + Copy>(out: &mut String<A>, symbol: Symbol) -> Re
 }
 
 /// Writes how often a sort is wanted, and where first.
-fn put_places<A: Allocator + Copy>(out: &mut String<A>, sort: Sort) -> Result<(), AllocError>
-    ensures { OnOk result (string_bytes out.new ≡ string_bytes out.old ++ places_text sort) }
+fn put_first<A: Allocator + Copy>(out: &mut String<A>, sort: Sort) -> Result<(), AllocError>
+    ensures { OnOk result (string_bytes out.new ≡ string_bytes out.old ++ first_text sort) }
 {
     let wanted = sort.wanted;
     let first = sort.first;
     write!(out, ", wanted {wanted}, first at place {first}\n  | ")
 }
 
-/// Writes a missing sort, and what surrounds its first place.
+/// Writes a missing sort by its name, how often it is wanted, and where first.
+fn put_title<A: Allocator + Copy>(out: &mut String<A>, sort: Sort) -> Result<(), AllocError>
+    ensures { OnOk result (string_bytes out.new ≡ string_bytes out.old ++ title_text sort) }
+{
+    out.push_str("missing ")?;
+    put_sort_name(out, sort.symbol)?;
+    put_first(out, sort)
+}
+
+/// What stands before a place by its number among those of its sort, from 0.
+fn row_begin(number: usize) -> &'static str
+    ensures { result.now ≡ row_begin number }
+{
+    if number % 10 == 0 { "\n  at" } else { "" }
+}
+
+/// Writes a place in its column.
+fn put_place<A: Allocator + Copy>(
+    out: &mut String<A>,
+    number: usize,
+    place: usize,
+) -> Result<(), AllocError>
+    ensures { OnOk result (string_bytes out.new ≡ string_bytes out.old ++ place_text number place) }
+{
+    out.push_str(row_begin(number))?;
+    out.push_str(" ")?;
+    put_number(out, 7, place as u64)
+}
+
+/// Writes places, ten to a row.
+fn put_place_rows<A: Allocator + Copy>(
+    out: &mut String<A>,
+    places: &[usize],
+) -> Result<(), AllocError>
+    ensures { OnOk result (string_bytes out.new ≡ string_bytes out.old ++ place_rows 0 places.now) }
+{
+    for (number, place) in places.iter().enumerate() {
+        put_place(out, number, *place)?;
+    }
+    Ok(())
+}
+
+/// Writes a missing sort, what surrounds its first place, and all its places.
 fn put_missing<A: Allocator + Copy>(
     out: &mut String<A>,
     copy: &[Symbol],
     sort: Sort,
+    places: &[usize],
 ) -> Result<(), AllocError>
-    requires { IsWithin copy.now sort }
+    requires within { IsWithin copy.now sort }
+    requires all { places.now ≡ places_of copy.now sort.symbol }
     ensures { OnOk result (string_bytes out.new ≡ string_bytes out.old ++ missing_text copy.now sort) }
 {
-    out.push_str("missing ")?;
-    put_sort_name(out, sort.symbol)?;
-    put_places(out, sort)?;
+    put_title(out, sort)?;
     put_around(out, copy, sort.first)?;
+    put_place_rows(out, places)?;
     out.push_str("\n")
 }
 
-/// Writes the sorts that the case lacks.
+/// Writes the sorts that the case lacks, by the places that were found of them.
 fn put_missing_lines<A: Allocator + Copy>(
     out: &mut String<A>,
     copy: &[Symbol],
     case: &MatrixCase,
     sorts: &[Sort],
+    found: &Found<A>,
 ) -> Result<(), AllocError>
-    requires { All (IsWithin copy.now) sorts.now }
+    requires within { All (IsWithin copy.now) sorts.now }
+    requires all { AreFound copy.now case.now found.now }
     ensures { OnOk result (string_bytes out.new ≡ string_bytes out.old ++ missing_lines copy.now case.now sorts.now) }
 {
     for sort in sorts {
         if is_missing(case, *sort) {
-            put_missing(out, copy, *sort)?;
+            put_missing(out, copy, *sort, places_in(found, sort.symbol))?;
         }
     }
     Ok(())
@@ -175,9 +212,11 @@ fn put_rows<A: Allocator + Copy>(
     Ok(())
 }
 
-/// Writes the sorts of a copy at the end: how many there are, those that the case lacks, each with its first place, and all
-/// of them with their cells. Fills are not counted: how many a line takes depends on the lines that are set.
+/// Writes the sorts of a copy at the end: how many there are, those that the case lacks, each with all its places, and all
+/// of them with their cells. Fills are not counted: how many a line takes depends on the lines that are set. Places take
+/// their memory from `alloc`.
 pub fn put_sorts<A: Allocator + Copy>(
+    alloc: A,
     out: &mut String<A>,
     copy: &[Symbol],
     case: &MatrixCase,
@@ -186,8 +225,9 @@ pub fn put_sorts<A: Allocator + Copy>(
     requires { All (IsWithin copy.now) sorts.now }
     ensures { OnOk result (string_bytes out.new ≡ string_bytes out.old ++ sorts_text copy.now case.now sorts.now) }
 {
+    let found = find(alloc, copy, case)?;
     put_head(out, copy, case, sorts)?;
-    put_missing_lines(out, copy, case, sorts)?;
+    put_missing_lines(out, copy, case, sorts, &found)?;
     out.push_str(columns())?;
     put_rows(out, case, sorts)
 }

@@ -34,7 +34,7 @@ fn told_of_replica<A: Allocator + Copy>(
 }
 
 /// Writes which sorts the copy of a stored feed needs by a case, as `sorts_of` has them: how many there are, and how many
-/// matrices are cast for them; those that the case lacks, each with its first place; and all with their cells. With `layout`
+/// matrices are cast for them; those that the case lacks, each with all its places; and all with their cells. With `layout`
 /// a table of what the case holds comes after. Fills are not counted: how many a line takes depends on the lines that are
 /// set. It is true exactly where the case lacks no sort. No name is taken, and no file changes. A refusal of the feed or of
 /// the case, or of memory, comes before anything is written.

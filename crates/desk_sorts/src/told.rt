@@ -35,7 +35,7 @@ fn text_of<A: Allocator + Copy>(
     ensures { IfOk result (λ s. string_bytes s ≡ told_text copy.now case.now sorts.now layout) }
 {
     let mut out = String::new(alloc);
-    put_sorts(&mut out, copy, case, sorts)?;
+    put_sorts(alloc, &mut out, copy, case, sorts)?;
     put_layout(&mut out, case, layout)?;
     Ok(out)
 }

@@ -57,10 +57,23 @@ const LACKING: &[(u8, u8)] = &[
     (2, b'M'),
 ];
 
+/// An `é` and a `q`, which the case has not.
+const PAIR: &[(u8, u8)] = &[(0, 0xe9), (0, b'q')];
+
+/// A feed with these two by turns, eleven times.
+fn many(alloc: Global) -> Result<Vec<u8, Global>, AllocError> {
+    let mut copy = Vec::new(alloc);
+    for _ in 0..11 {
+        copy.extend_from_slice(PAIR)?;
+    }
+    feed(alloc, &copy)
+}
+
 /// Files of which the k-th call fails: feeds, a case, and a file that is no case.
 pub fn rooms(alloc: Global, k: u64) -> Result<TrialFiles<Global>, AllocError> {
     let mut files = TrialFiles::new(alloc).failing_at_call(k);
     files.put("lacking.feed", &feed(alloc, LACKING)?)?;
+    files.put("many.feed", &many(alloc)?)?;
     files.put("whole.feed", &feed(alloc, &[(0, b'n'), (0, b'n')])?)?;
     files.put("none.feed", b"MFD2")?;
     let mut case = Vec::new(alloc);

@@ -3,7 +3,9 @@ use desk_answers::Refusal;
 use desk_files::FileRefusal;
 use desk_files::trial::{AtEnd, TrialWriter};
 use desk_hand::FeedTrouble;
+use desk_inputs::Memory;
 use desk_sorts::{SortsFault, tell_sorts};
+use linked_list_allocator::LocalHeap;
 use std::alloc::Global;
 use std::test::Fail;
 
@@ -11,6 +13,7 @@ use std::test::Fail;
 const LACKING: &str = "SORTS 6 kinds, 8 wanted, 1 missing\n\
 missing Roman 'é' (U+00E9), wanted 2, first at place 4\n\
 \x20 | a naé néM\n\
+\x20 at       4       7\n\
 \n  cell   wanted  sort\n\
 \x20  G1         1  space\n\
 \x20  B5         1  Roman 'a' (U+0061)\n\
@@ -18,6 +21,20 @@ missing Roman 'é' (U+00E9), wanted 2, first at place 4\n\
 \x20  -          2  Roman 'é' (U+00E9)\n\
 \x20  C5         1  italic 'a' (U+0061)\n\
 \x20  B15        1  small capital 'M' (U+004D)\n";
+
+/// `é` and `q` by turns, eleven times: neither is in the case, and each has ten places in its first row.
+const MANY: &str = "SORTS 2 kinds, 22 wanted, 2 missing\n\
+missing Roman 'q' (U+0071), wanted 11, first at place 1\n\
+\x20 | éqéqéqéqéqéqéqéqéqéqéq\n\
+\x20 at       1       3       5       7       9      11      13      15      17      19\n\
+\x20 at      21\n\
+missing Roman 'é' (U+00E9), wanted 11, first at place 0\n\
+\x20 | éqéqéqéqéqéqéqéqéqéqéq\n\
+\x20 at       0       2       4       6       8      10      12      14      16      18\n\
+\x20 at      20\n\
+\n  cell   wanted  sort\n\
+\x20  -         11  Roman 'q' (U+0071)\n\
+\x20  -         11  Roman 'é' (U+00E9)\n";
 
 /// Two symbols of one sort, and the case.
 const WHOLE: &str = "SORTS 1 kinds, 2 wanted, 0 missing\n\
@@ -79,6 +96,7 @@ fn has_list(
 #[test]
 fn sorts_are_told(rt: HostRuntime) -> Result<(), Fail> {
     assert!(rt; has_list(rt.alloc(), "lacking.feed", false, LACKING, false)?);
+    assert!(rt; has_list(rt.alloc(), "many.feed", false, MANY, false)?);
     assert!(rt; has_list(rt.alloc(), "whole.feed", true, WHOLE, true)?);
     assert!(rt; has_list(rt.alloc(), "none.feed", false, NONE, true)?);
     Ok(())
@@ -114,6 +132,37 @@ fn files_that_fail_under_a_list(rt: HostRuntime) -> Result<(), Fail> {
     let case = SortsFault::Input(Refusal::FileDevice);
     assert_eq!(rt; fault_of(rt.alloc(), 2, names)?, Some(case));
     assert_eq!(rt; fault_of(rt.alloc(), 3, names)?, None);
+    Ok(())
+}
+
+/// Whether a list is out of memory in a cut heap; where it is not, it is whole.
+fn is_refused(alloc: Global, cut: usize) -> Result<bool, Fail> {
+    let heap = LocalHeap::new(alloc, 1_048_576)?;
+    let kept = 1_048_576usize.saturating_sub(cut.saturating_mul(8192));
+    let ballast: Option<Vec<u8, &LocalHeap>> = Vec::with_capacity(&heap, kept).ok();
+    let mut files = rooms(alloc, 0)?;
+    let mut written = Vec::new(alloc);
+    let memory = Memory {
+        own: &heap,
+        global: alloc,
+    };
+    let ended = tell_sorts(memory, &mut written, &mut files, "many.feed", "c", false);
+    drop(ballast);
+    match ended {
+        Ok(_) if written.as_slice() != MANY.as_bytes() => Err(Fail::new("another list")),
+        Ok(_) => Ok(false),
+        Err(_) if !written.is_empty() => Err(Fail::new("bytes before a fault")),
+        Err(_) => Ok(true),
+    }
+}
+
+#[test]
+fn growths_of_a_list_refused(rt: HostRuntime) -> Result<(), Fail> {
+    let mut refused = 0u32;
+    for cut in 0..128usize {
+        refused = refused.saturating_add(u32::from(is_refused(rt.alloc(), cut)?));
+    }
+    assert!(rt; 2 <= refused && refused <= 126, "refused {refused} times");
     Ok(())
 }
 
