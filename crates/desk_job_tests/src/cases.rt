@@ -3,7 +3,7 @@
 use desk_case::MatrixCase;
 use desk_wedge::Wedge;
 use linked_list_allocator::LocalHeap;
-use std::alloc::Global;
+use std::alloc::{AllocError, Global};
 use std::test::Fail;
 
 pub const WEDGE: &str =
@@ -30,33 +30,48 @@ pub fn wide_case(alloc: Global) -> Result<MatrixCase, Fail> {
     case_ended(alloc, FILLS, ",'',''", ",'q',''")
 }
 
-/// The first case, with these fills, and with these ends of its rows and of its eighth row.
-fn case_ended(alloc: Global, fill: &str, end: &str, eighth: &str) -> Result<MatrixCase, Fail> {
+/// The rows of the first case by their first three cells.
+const ROWS: [&str; 15] = [
+    "'.','',''",
+    "'','',''",
+    "'','',''",
+    "'t','',''",
+    "'','a','i:a'",
+    "'','',''",
+    "'','',''",
+    "'n','',''",
+    "'','',''",
+    "'','',''",
+    "'','',''",
+    "'','',''",
+    "'','',''",
+    "'m','',''",
+    "'M','s:M',''",
+];
+
+/// Adds a row to a case file: its first three cells, twelve blank ones, and its end.
+fn push_row(text: &mut String, cells: &str, end: &str) -> Result<(), AllocError> {
+    text.push_str("[")?;
+    text.push_str(cells)?;
+    text.push_str(",'','','','','','','','','','','',''")?;
+    text.push_str(end)?;
+    text.push_str("],\n")
+}
+
+/// The file of the first case, with these fills, and with these ends of its rows and of its eighth row.
+fn file_ended(alloc: Global, fill: &str, end: &str, eighth: &str) -> Result<String, AllocError> {
     let mut text = format!(in alloc; "case = 1\nspace = 'G1'\nfill = [{fill}]\nrows = [\n")?;
-    for cells in [
-        "'.','',''",
-        "'','',''",
-        "'','',''",
-        "'t','',''",
-        "'','a','i:a'",
-        "'','',''",
-        "'','',''",
-        "'n','',''",
-        "'','',''",
-        "'','',''",
-        "'','',''",
-        "'','',''",
-        "'','',''",
-        "'m','',''",
-        "'M','s:M',''",
-    ] {
-        text.push_str("[")?;
-        text.push_str(cells)?;
-        text.push_str(",'','','','','','','','','','','',''")?;
-        text.push_str(if cells == "'n','',''" { eighth } else { end })?;
-        text.push_str("],\n")?;
+    for &cells in &ROWS {
+        let end = if cells == "'n','',''" { eighth } else { end };
+        push_row(&mut text, cells, end)?;
     }
     text.push_str("]\n")?;
+    Ok(text)
+}
+
+/// The case of that file.
+fn case_ended(alloc: Global, fill: &str, end: &str, eighth: &str) -> Result<MatrixCase, Fail> {
+    let text = file_ended(alloc, fill, end, eighth)?;
     Ok(MatrixCase::read(alloc, text.as_bytes())?)
 }
 

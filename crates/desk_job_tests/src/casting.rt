@@ -1,11 +1,11 @@
 ghost use Rattle.std.specs.Prelude.{◌≤◌};
 
 use crate::cases::{FILLS, WEDGE, ballast, case_with, wedge_of};
-use desk_caster::{CastFault, CastLine, RibbonFault, cast, read_ribbon};
+use desk_caster::{CastFault, CastLine, CastMatrix, RibbonFault, cast, read_ribbon};
 use desk_image::BadImage;
 use desk_signals::{Column, Position, RibbonRow, RowNo};
 use linked_list_allocator::LocalHeap;
-use std::alloc::{Allocator, Global};
+use std::alloc::{AllocError, Allocator, Global};
 use std::fmt::Write;
 use std::test::Fail;
 
@@ -45,21 +45,32 @@ fn empty_paragraph(alloc: Global) -> Result<Vec<RibbonRow>, Fail> {
     Ok(rows)
 }
 
-/// Lines as text, each ended by a semicolon: its positions, its total, and each matrix, which is its symbol, or `_`, or of
-/// a justified space the width.
+/// Adds a matrix to lines as text: its symbol, or `_`, or of a justified space the width.
+fn show_matrix(text: &mut String, matrix: &CastMatrix) -> Result<(), Fail> {
+    match matrix.symbol {
+        Some(symbol) => text.push(symbol.ch)?,
+        None if matrix.s => write!(text, "({})", matrix.width.get())?,
+        None => text.push('_')?,
+    }
+    Ok(())
+}
+
+/// Adds a line to lines as text: its positions, its total, each matrix, and a semicolon.
+fn show_line<A: Allocator>(text: &mut String, line: &CastLine<A>) -> Result<(), Fail> {
+    let (coarse, fine) = (line.coarse().get(), line.fine().get());
+    write!(text, "{coarse}/{fine} {} ", line.total().get())?;
+    for matrix in line.matrices() {
+        show_matrix(text, matrix)?;
+    }
+    text.push(';')?;
+    Ok(())
+}
+
+/// Lines as text.
 fn shown<A: Allocator>(alloc: Global, lines: &[CastLine<A>]) -> Result<String, Fail> {
     let mut text = String::new(alloc);
     for line in lines {
-        let (coarse, fine) = (line.coarse().get(), line.fine().get());
-        write!(text, "{coarse}/{fine} {} ", line.total().get())?;
-        for matrix in line.matrices() {
-            match matrix.symbol {
-                Some(symbol) => text.push(symbol.ch)?,
-                None if matrix.s => write!(text, "({})", matrix.width.get())?,
-                None => text.push('_')?,
-            }
-        }
-        text.push(';')?;
+        show_line(&mut text, line)?;
     }
     Ok(text)
 }
@@ -89,6 +100,27 @@ fn is_as(told: &Result<String, CastFault>, want: Result<&str, CastFault>) -> boo
     }
 }
 
+/// Whether the cast wanted memory where a heap has so much left, or none where its answer is another than the wanted one,
+/// then or with memory.
+fn is_refused(
+    alloc: Global,
+    rows: &[RibbonRow],
+    want: Result<&str, CastFault>,
+    cut: usize,
+) -> Result<Option<bool>, Fail> {
+    let heap = LocalHeap::new(alloc, 8192)?;
+    let ballast = ballast(&heap, 8192, cut);
+    let first = cast_in(alloc, &heap, rows)?;
+    drop(ballast);
+    let refused = is_as(&first, Err(CastFault::NoMemory));
+    let right = refused || is_as(&first, want);
+    Ok(if right && is_as(&cast_in(alloc, &heap, rows)?, want) {
+        Some(refused)
+    } else {
+        None
+    })
+}
+
 /// Of rows whose cast has each growth refused in turn: how often it wanted memory, and how often not. Its other answers
 /// are the wanted one, and so is the answer with memory.
 fn refusals(
@@ -99,19 +131,10 @@ fn refusals(
     let mut refused = 0u32;
     let mut others = 0u32;
     for cut in 0..256usize {
-        let heap = LocalHeap::new(alloc, 8192)?;
-        let ballast = ballast(&heap, 8192, cut);
-        let first = cast_in(alloc, &heap, rows)?;
-        drop(ballast);
-        if first == Err(CastFault::NoMemory) {
-            refused = refused.saturating_add(1);
-        } else if is_as(&first, want) {
-            others = others.saturating_add(1);
-        } else {
-            return Err(Fail::new("another answer"));
-        }
-        if !is_as(&cast_in(alloc, &heap, rows)?, want) {
-            return Err(Fail::new("another answer with memory"));
+        match is_refused(alloc, rows, want, cut)? {
+            Some(true) => refused = refused.saturating_add(1),
+            Some(false) => others = others.saturating_add(1),
+            None => return Err(Fail::new("another answer, then or with memory")),
         }
     }
     Ok((refused, others))
@@ -238,24 +261,26 @@ fn is_read_as<A: Allocator>(
     }
 }
 
+/// Bytes that are no ribbon, and why.
+const NO_RIBBONS: [(&[u8], RibbonFault); 6] = [
+    (b"MR", RibbonFault::Magic),
+    (b"MRB2\0\0\0\0", RibbonFault::Magic),
+    (b"MRB1", RibbonFault::Count),
+    (b"MRB1\0\0\0\x01", RibbonFault::Count),
+    (b"MRB1\0\0\0\0\0", RibbonFault::Count),
+    (
+        b"MRB1\0\0\0\x01\x80\0\0\0",
+        RibbonFault::Row(0, BadImage::HighBit),
+    ),
+];
+
 #[test]
 fn ribbons_are_read(rt: HostRuntime) -> Result<(), Fail> {
     let rows = empty_paragraph(rt.alloc())?;
-    let cases: [(&[u8], Result<&[RibbonRow], RibbonFault>); 8] = [
-        (&RIBBON, Ok(&rows)),
-        (&RIBBON[..60], Err(RibbonFault::Count)),
-        (b"MR", Err(RibbonFault::Magic)),
-        (b"MRB2\0\0\0\0", Err(RibbonFault::Magic)),
-        (b"MRB1", Err(RibbonFault::Count)),
-        (b"MRB1\0\0\0\x01", Err(RibbonFault::Count)),
-        (b"MRB1\0\0\0\0\0", Err(RibbonFault::Count)),
-        (
-            b"MRB1\0\0\0\x01\x80\0\0\0",
-            Err(RibbonFault::Row(0, BadImage::HighBit)),
-        ),
-    ];
-    for (bytes, want) in cases {
-        assert!(rt; is_read_as(rt.alloc(), bytes, want), "{bytes:?}");
+    assert!(rt; is_read_as(rt.alloc(), &RIBBON, Ok(&rows)));
+    assert!(rt; is_read_as(rt.alloc(), &RIBBON[..60], Err(RibbonFault::Count)));
+    for &(bytes, why) in &NO_RIBBONS {
+        assert!(rt; is_read_as(rt.alloc(), bytes, Err(why)), "{bytes:?}");
     }
     Ok(())
 }
@@ -269,6 +294,42 @@ fn damaged_ribbon(rt: HostRuntime) -> Result<(), Fail> {
     Ok(())
 }
 
+/// Whether reading wanted memory where a heap has so much left, or none where its answer is another than the wanted one,
+/// then or with memory.
+fn is_reading_refused(
+    alloc: Global,
+    bytes: &[u8],
+    want: Result<&[RibbonRow], RibbonFault>,
+    cut: usize,
+) -> Result<Option<bool>, AllocError> {
+    let heap = LocalHeap::new(alloc, 4096)?;
+    let ballast = ballast(&heap, 4096, cut);
+    let refused = is_read_as(&heap, bytes, Err(RibbonFault::NoMemory));
+    let right = refused || is_read_as(&heap, bytes, want);
+    drop(ballast);
+    Ok(if right && is_read_as(&heap, bytes, want) {
+        Some(refused)
+    } else {
+        None
+    })
+}
+
+/// How often reading wanted memory, of 64 heaps that have ever more left. Its other answers are the wanted one.
+fn refusals_of_reading(
+    alloc: Global,
+    bytes: &[u8],
+    want: Result<&[RibbonRow], RibbonFault>,
+) -> Result<u32, Fail> {
+    let mut refused = 0u32;
+    for cut in 0..64usize {
+        match is_reading_refused(alloc, bytes, want, cut)? {
+            Some(told) => refused = refused.saturating_add(u32::from(told)),
+            None => return Err(Fail::new("another answer, then or with memory")),
+        }
+    }
+    Ok(refused)
+}
+
 /// Each growth of reading refused in turn is out of memory, also of a ribbon whose second row has no meaning; with memory
 /// the answer is the same.
 #[test]
@@ -280,59 +341,63 @@ fn refused_growths_of_reading(rt: HostRuntime) -> Result<(), Fail> {
         (bad, Err(RibbonFault::Row(1, BadImage::HighBit))),
     ];
     for (bytes, want) in cases {
-        let mut refused = 0u32;
-        for cut in 0..64usize {
-            let heap = LocalHeap::new(rt.alloc(), 4096)?;
-            let ballast = ballast(&heap, 4096, cut);
-            let is_refused = is_read_as(&heap, bytes, Err(RibbonFault::NoMemory));
-            assert!(rt; is_refused || is_read_as(&heap, bytes, want));
-            drop(ballast);
-            assert!(rt; is_read_as(&heap, bytes, want));
-            refused = refused.saturating_add(u32::from(is_refused));
-        }
+        let refused = refusals_of_reading(rt.alloc(), bytes, want)?;
         assert!(rt; refused > 0 && refused < 60, "refused {refused} times");
     }
     Ok(())
 }
 
+const CAST_WORDS: [(CastFault, &str); 4] = [
+    (
+        CastFault::NoWedges(3),
+        "row 3 needs wedges that are not set",
+    ),
+    (
+        CastFault::NoMatrix(3),
+        "row 3: the case has no matrix there",
+    ),
+    (
+        CastFault::NotSentOut(3),
+        "the line that row 3 started was not sent out",
+    ),
+    (CastFault::NoMemory, "no memory"),
+];
+
+const RIBBON_WORDS: [(RibbonFault, &str); 4] = [
+    (RibbonFault::Magic, "no ribbon begins so"),
+    (
+        RibbonFault::Count,
+        "the ribbon has not as many rows as it says",
+    ),
+    (
+        RibbonFault::Row(3, BadImage::HighBit),
+        "row 3: bit 31 is set",
+    ),
+    (RibbonFault::NoMemory, "no memory"),
+];
+
+/// Whether these are the words of the caster's fault.
+fn is_cast_worded(alloc: Global, fault: CastFault, words: &str) -> bool {
+    match format!(in alloc; "{fault}") {
+        Ok(told) => told.as_str() == words,
+        Err(AllocError) => false,
+    }
+}
+
+/// Whether these are the words of a ribbon's fault.
+fn is_worded(alloc: Global, fault: RibbonFault, words: &str) -> bool {
+    match format!(in alloc; "{fault}") {
+        Ok(told) => told.as_str() == words,
+        Err(AllocError) => false,
+    }
+}
+
 #[test]
-fn names_its_faults(rt: HostRuntime) -> Result<(), Fail> {
-    for (fault, text) in [
-        (
-            CastFault::NoWedges(3),
-            "row 3 needs wedges that are not set",
-        ),
-        (
-            CastFault::NoMatrix(3),
-            "row 3: the case has no matrix there",
-        ),
-        (
-            CastFault::NotSentOut(3),
-            "the line that row 3 started was not sent out",
-        ),
-        (CastFault::NoMemory, "no memory"),
-    ] {
-        assert!(rt;
-            format!(in rt.alloc(); "{fault}")?.as_str() == text,
-            "{text}"
-        );
+fn names_its_faults(rt: HostRuntime) {
+    for &(fault, words) in &CAST_WORDS {
+        assert!(rt; is_cast_worded(rt.alloc(), fault, words), "{words}");
     }
-    for (fault, text) in [
-        (RibbonFault::Magic, "no ribbon begins so"),
-        (
-            RibbonFault::Count,
-            "the ribbon has not as many rows as it says",
-        ),
-        (
-            RibbonFault::Row(3, BadImage::HighBit),
-            "row 3: bit 31 is set",
-        ),
-        (RibbonFault::NoMemory, "no memory"),
-    ] {
-        assert!(rt;
-            format!(in rt.alloc(); "{fault}")?.as_str() == text,
-            "{text}"
-        );
+    for &(fault, words) in &RIBBON_WORDS {
+        assert!(rt; is_worded(rt.alloc(), fault, words), "{words}");
     }
-    Ok(())
 }

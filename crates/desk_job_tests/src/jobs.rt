@@ -1,10 +1,13 @@
 use crate::cases::{FILLS, SMALL_WEDGE, WEDGE, case_with, wedge_of};
-use desk_caster::{cast, read_ribbon};
+use desk_case::MatrixCase;
+use desk_caster::{CastLine, cast, read_ribbon};
 use desk_job::{JobFault, JobRefusal, make};
 use desk_ops::{Key, Style, Symbol};
-use desk_replica::Replica;
+use desk_replica::{Refusal, Replica};
 use desk_seq::Flat;
-use std::alloc::{Allocator, Global};
+use desk_signals::RibbonRow;
+use desk_wedge::Wedge;
+use std::alloc::{AllocError, Allocator, Global};
 use std::test::Fail;
 
 /// A job: the copy's text, all Roman, the fills of the case, and what is set once measure 120, tight 38, loose 150, case 1 and
@@ -24,35 +27,80 @@ const STANDARD: [(Key, u32); 5] = [
     (Key::Wedge, 5),
 ];
 
+/// Gives a replica a setting.
+fn set_one<A: Allocator + Copy>(
+    replica: &mut Replica<Flat<A>>,
+    key: Key,
+    value: u32,
+) -> Result<(), Refusal> {
+    match replica.set(key, value) {
+        Ok(_) => Ok(()),
+        Err(refusal) => Err(refusal),
+    }
+}
+
 /// Gives a replica these settings.
 fn set_all<A: Allocator + Copy>(
     replica: &mut Replica<Flat<A>>,
     settings: &[(Key, u32)],
-) -> Result<(), Fail> {
+) -> Result<(), Refusal> {
     for (key, value) in settings {
-        replica.set(*key, *value)?;
+        set_one(replica, *key, *value)?;
     }
     Ok(())
 }
 
-/// A replica of site 1 with the job's text and settings.
-pub fn replica_of<A: Allocator + Copy>(alloc: A, job: Job<'_>) -> Result<Replica<Flat<A>>, Fail> {
-    let mut replica = Replica::new(alloc, 1);
-    for (place, byte) in job.text.as_bytes().iter().enumerate() {
-        let (style, ch) = (Style::Roman, char::from(*byte));
-        replica.insert_at(place, Symbol { style, ch })?;
+/// Puts a Roman character into a replica's copy.
+fn type_one<A: Allocator + Copy>(
+    replica: &mut Replica<Flat<A>>,
+    place: usize,
+    byte: u8,
+) -> Result<(), Refusal> {
+    let (style, ch) = (Style::Roman, char::from(byte));
+    match replica.insert_at(place, Symbol { style, ch }) {
+        Ok(_) => Ok(()),
+        Err(refusal) => Err(refusal),
     }
-    set_all(&mut replica, &STANDARD)?;
-    set_all(&mut replica, job.more)?;
+}
+
+/// Gives a replica the job's text and settings.
+fn prepare<A: Allocator + Copy>(
+    replica: &mut Replica<Flat<A>>,
+    job: Job<'_>,
+) -> Result<(), Refusal> {
+    for (place, byte) in job.text.as_bytes().iter().enumerate() {
+        type_one(replica, place, *byte)?;
+    }
+    set_all(replica, &STANDARD)?;
+    set_all(replica, job.more)
+}
+
+/// A replica of site 1 with the job's text and settings.
+pub fn replica_of<A: Allocator + Copy>(
+    alloc: A,
+    job: Job<'_>,
+) -> Result<Replica<Flat<A>>, Refusal> {
+    let mut replica = Replica::new(alloc, 1);
+    prepare(&mut replica, job)?;
     Ok(replica)
+}
+
+/// The answer to a job with this case and this wedge.
+pub fn answer_by(
+    alloc: Global,
+    job: Job<'_>,
+    case: &MatrixCase,
+    wedge: &Wedge,
+) -> Result<Result<Vec<u8>, JobRefusal<Global>>, Refusal> {
+    let replica = replica_of(alloc, job)?;
+    Ok(make(alloc, &replica, case, wedge))
 }
 
 /// The answer to a job.
 pub fn answer(alloc: Global, job: Job<'_>) -> Result<Result<Vec<u8>, JobRefusal<Global>>, Fail> {
     let wedge = wedge_of(alloc, WEDGE)?;
     let case = case_with(alloc, job.fill)?;
-    let replica = replica_of(alloc, job)?;
-    Ok(make(alloc, &replica, &case, &wedge))
+    Ok(answer_by(alloc, job, &case, &wedge)?)
 }
 
 /// Whether an answer is these faults, and no ribbon.
@@ -74,21 +122,56 @@ pub fn ribbon(alloc: Global, job: Job<'_>) -> Result<Vec<u8>, Fail> {
     }
 }
 
+/// Whether lines have so many matrices and these totals.
+fn are_lines<A: Allocator>(lines: &[CastLine<A>], want: &[(usize, i64)]) -> bool {
+    for (at, line) in lines.iter().enumerate() {
+        let Some(&(matrices, total)) = want.get(at) else {
+            return false;
+        };
+        if line.matrices().len() != matrices || line.total().get() != total {
+            return false;
+        }
+    }
+    lines.len() == want.len()
+}
+
+/// Whether rows are cast as lines with so many matrices and these totals.
+fn are_rows_cast_as(
+    alloc: Global,
+    rows: &[RibbonRow],
+    case: &MatrixCase,
+    wedge: &Wedge,
+    want: &[(usize, i64)],
+) -> bool {
+    if rows.len() > 1000 {
+        return false;
+    }
+    match cast(alloc, rows, case, wedge) {
+        Ok(lines) => are_lines(&lines, want),
+        Err(_) => false,
+    }
+}
+
+/// Whether a ribbon is read, and cast as lines with so many matrices and these totals.
+pub fn are_bytes_cast_as(
+    alloc: Global,
+    bytes: &[u8],
+    case: &MatrixCase,
+    wedge: &Wedge,
+    want: &[(usize, i64)],
+) -> bool {
+    match read_ribbon(alloc, bytes) {
+        Ok(rows) => are_rows_cast_as(alloc, &rows, case, wedge, want),
+        Err(_) => false,
+    }
+}
+
 /// Whether the ribbon of a job is cast as lines with so many matrices and these totals.
 fn is_cast_as(alloc: Global, job: Job<'_>, want: &[(usize, i64)]) -> Result<bool, Fail> {
-    let bytes = ribbon(alloc, job)?;
-    let rows = read_ribbon(alloc, &bytes)?;
-    if rows.len() > 1000 {
-        return Err(Fail::new("more rows than a test has"));
-    }
     let wedge = wedge_of(alloc, WEDGE)?;
     let case = case_with(alloc, FILLS)?;
-    let lines = cast(alloc, &rows, &case, &wedge)?;
-    let mut found = Vec::new(alloc);
-    for line in &lines {
-        found.push((line.matrices().len(), line.total().get()))?;
-    }
-    Ok(found.as_slice() == want)
+    let bytes = ribbon(alloc, job)?;
+    Ok(are_bytes_cast_as(alloc, &bytes, &case, &wedge, want))
 }
 
 pub const EMPTY_COPY: [u8; 12] = [0x4d, 0x52, 0x42, 0x31, 0, 0, 0, 1, 0, 0, 2, 6];
@@ -129,24 +212,28 @@ fn two_lines(rt: HostRuntime) -> Result<(), Fail> {
     let lines = [(19, 2_159_232), (12, 2_159_664)];
     assert!(rt; ribbon(rt.alloc(), most(SIX_WORDS, &[]))?.len() == 8 + 4 * 36);
     assert!(rt; is_cast_as(rt.alloc(), most(SIX_WORDS, &[]), &lines)?);
-    let loose = answer(rt.alloc(), most(SIX_WORDS, &[(Key::Loose, 60)]))?;
-    assert!(rt; are_faults(&loose, &[JobFault::TooLoose(1)]));
+    let (loose, fault) = ([(Key::Loose, 60)], [JobFault::TooLoose(1)]);
+    assert!(rt; has_faults(rt.alloc(), SIX_WORDS, FILLS, &loose, &fault)?);
     Ok(())
+}
+
+/// Texts of one line, each with the tight wedge sum, and the number of matrices and the total of its line.
+const WIDEST: [(&str, u32, (usize, i64)); 2] = [
+    ("nnnnnnnnnnnnnnnnm", 53, (18, 2_160_000)),
+    ("nnnnnnnnnnnnnnnntt", 16, (19, 2_159_688)),
+];
+
+/// Whether a text is cast as one line where tight is this.
+fn is_line(alloc: Global, text: &str, tight: u32, line: (usize, i64)) -> Result<bool, Fail> {
+    is_cast_as(alloc, most(text, &[(Key::Tight, tight)]), &[line])
 }
 
 #[test]
 fn widest_lines(rt: HostRuntime) -> Result<(), Fail> {
-    let wide = answer(rt.alloc(), most("nnnnnnnnnnnnnnnnnn", &[]))?;
-    assert!(rt; are_faults(&wide, &[JobFault::TooWide(1)]));
-    for (text, tight, line) in [
-        ("nnnnnnnnnnnnnnnnm", 53, (18, 2_160_000)),
-        ("nnnnnnnnnnnnnnnntt", 16, (19, 2_159_688)),
-    ] {
-        let more = [(Key::Tight, tight)];
-        assert!(rt;
-            is_cast_as(rt.alloc(), most(text, &more), &[line])?,
-            "{text}"
-        );
+    let wide = [JobFault::TooWide(1)];
+    assert!(rt; has_faults(rt.alloc(), "nnnnnnnnnnnnnnnnnn", FILLS, &[], &wide)?);
+    for &(text, tight, line) in &WIDEST {
+        assert!(rt; is_line(rt.alloc(), text, tight, line)?, "{text}");
     }
     Ok(())
 }
@@ -162,25 +249,27 @@ fn has_faults(
     Ok(are_faults(&answer(alloc, Job { text, fill, more })?, want))
 }
 
+/// Texts, fills and what else is set, and the faults.
+const FAULTS: [(&str, &str, &[(Key, u32)], &[JobFault]); 4] = [
+    (
+        "aqnz",
+        FILLS,
+        &[],
+        &[JobFault::NoMatrix(1), JobFault::NoMatrix(3)],
+    ),
+    ("", "'A5', 'O15'", &[], &[JobFault::FillOrder]),
+    ("", FILLS, &[(Key::Wedge, 6)], &[JobFault::OtherWedge]),
+    (
+        "",
+        FILLS,
+        &[(Key::Wedge, 6), (Key::Case, 2)],
+        &[JobFault::OtherCase],
+    ),
+];
+
 #[test]
 fn job_faults(rt: HostRuntime) -> Result<(), Fail> {
-    let cases: [(&str, &str, &[(Key, u32)], &[JobFault]); 4] = [
-        (
-            "aqnz",
-            FILLS,
-            &[],
-            &[JobFault::NoMatrix(1), JobFault::NoMatrix(3)],
-        ),
-        ("", "'A5', 'O15'", &[], &[JobFault::FillOrder]),
-        ("", FILLS, &[(Key::Wedge, 6)], &[JobFault::OtherWedge]),
-        (
-            "",
-            FILLS,
-            &[(Key::Wedge, 6), (Key::Case, 2)],
-            &[JobFault::OtherCase],
-        ),
-    ];
-    for (text, fill, more, want) in cases {
+    for &(text, fill, more, want) in &FAULTS {
         assert!(rt; has_faults(rt.alloc(), text, fill, more, want)?, "{want:?}");
     }
     Ok(())
@@ -194,10 +283,12 @@ fn settings_by_stamp(rt: HostRuntime) -> Result<(), Fail> {
     Ok(())
 }
 
+/// Fills and what else is set, with which an empty paragraph cannot be filled.
+const UNFILLED: [(&str, &[(Key, u32)]); 2] = [("'O15'", &[]), (FILLS, &[(Key::Tight, 128)])];
+
 #[test]
 fn cannot_fill(rt: HostRuntime) -> Result<(), Fail> {
-    let cases: [(&str, &[(Key, u32)]); 2] = [("'O15'", &[]), (FILLS, &[(Key::Tight, 128)])];
-    for (fill, more) in cases {
+    for &(fill, more) in &UNFILLED {
         assert!(rt;
             has_faults(rt.alloc(), "\n", fill, more, &[JobFault::CannotFill(1)])?,
             "{fill}"
@@ -208,48 +299,53 @@ fn cannot_fill(rt: HostRuntime) -> Result<(), Fail> {
     Ok(())
 }
 
+/// Whether an empty copy with no setting at all lacks its measure.
+fn lacks_measure(alloc: Global, case: &MatrixCase, wedge: &Wedge) -> bool {
+    let told = make(alloc, &Replica::<Flat<_>>::new(alloc, 1), case, wedge);
+    are_faults(&told, &[JobFault::MissingSetting(Key::Measure)])
+}
+
 /// A space of no width at tight, and no setting at all.
 #[test]
 fn space_vanishes(rt: HostRuntime) -> Result<(), Fail> {
     let wedge = wedge_of(rt.alloc(), SMALL_WEDGE)?;
     let case = case_with(rt.alloc(), FILLS)?;
-    let replica = replica_of(rt.alloc(), most("", &[(Key::Tight, 16)]))?;
-    let told = make(rt.alloc(), &replica, &case, &wedge);
+    let told = answer_by(rt.alloc(), most("", &[(Key::Tight, 16)]), &case, &wedge)?;
     assert!(rt; are_faults(&told, &[JobFault::SpaceVanishes]));
-    let told = make(
-        rt.alloc(),
-        &Replica::<Flat<_>>::new(rt.alloc(), 1),
-        &case,
-        &wedge,
-    );
-    assert!(rt; are_faults(&told, &[JobFault::MissingSetting(Key::Measure)]));
+    assert!(rt; lacks_measure(rt.alloc(), &case, &wedge));
     Ok(())
 }
 
-#[test]
-fn names_its_faults(rt: HostRuntime) -> Result<(), Fail> {
-    for (fault, text) in [
-        (JobFault::MissingSetting(Key::Case), "case has no value"),
-        (JobFault::OtherCase, "the setting names another case"),
-        (JobFault::OtherWedge, "the setting names another wedge"),
-        (JobFault::Crossed, "tight is above loose"),
-        (JobFault::FillOrder, "the units of the fills do not descend"),
-        (
-            JobFault::SpaceVanishes,
-            "a space at tight is not wider than 0",
-        ),
-        (
-            JobFault::NoMatrix(7),
-            "the case has no matrix for the symbol at place 7",
-        ),
-        (JobFault::TooWide(7), "line 7 is too wide"),
-        (JobFault::TooLoose(7), "line 7 is too loose"),
-        (JobFault::CannotFill(7), "line 7 cannot be filled"),
-    ] {
-        assert!(rt;
-            format!(in rt.alloc(); "{fault}")?.as_str() == text,
-            "{text}"
-        );
+const WORDS: [(JobFault, &str); 10] = [
+    (JobFault::MissingSetting(Key::Case), "case has no value"),
+    (JobFault::OtherCase, "the setting names another case"),
+    (JobFault::OtherWedge, "the setting names another wedge"),
+    (JobFault::Crossed, "tight is above loose"),
+    (JobFault::FillOrder, "the units of the fills do not descend"),
+    (
+        JobFault::SpaceVanishes,
+        "a space at tight is not wider than 0",
+    ),
+    (
+        JobFault::NoMatrix(7),
+        "the case has no matrix for the symbol at place 7",
+    ),
+    (JobFault::TooWide(7), "line 7 is too wide"),
+    (JobFault::TooLoose(7), "line 7 is too loose"),
+    (JobFault::CannotFill(7), "line 7 cannot be filled"),
+];
+
+/// Whether these are the words of a fault.
+fn is_worded(alloc: Global, fault: JobFault, words: &str) -> bool {
+    match format!(in alloc; "{fault}") {
+        Ok(told) => told.as_str() == words,
+        Err(AllocError) => false,
     }
-    Ok(())
+}
+
+#[test]
+fn names_its_faults(rt: HostRuntime) {
+    for &(fault, words) in &WORDS {
+        assert!(rt; is_worded(rt.alloc(), fault, words), "{words}");
+    }
 }

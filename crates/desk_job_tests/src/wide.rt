@@ -1,9 +1,11 @@
 //! A job and its cast with a case of 17 columns.
 
 use crate::cases::{FILLS, WEDGE, case_with, wedge_of, wide_case};
-use crate::jobs::{Job, answer, are_faults, replica_of};
+use crate::jobs::{Job, answer, answer_by, are_bytes_cast_as, are_faults};
 use desk_caster::{CastFault, cast, read_ribbon};
-use desk_job::{JobFault, make};
+use desk_job::JobFault;
+use desk_signals::RibbonRow;
+use std::alloc::Global;
 use std::test::Fail;
 
 /// A word of the matrix in NI8.
@@ -24,35 +26,28 @@ const RIBBON: [u8; 64] = [
 fn ribbon_of_a_wide_case(rt: HostRuntime) -> Result<(), Fail> {
     let wedge = wedge_of(rt.alloc(), WEDGE)?;
     let case = wide_case(rt.alloc())?;
-    let replica = replica_of(rt.alloc(), ONE_WORD)?;
-    let Ok(bytes) = make(rt.alloc(), &replica, &case, &wedge) else {
-        return Err(Fail::new("no ribbon where one is"));
-    };
-    assert!(rt; bytes.as_slice() == RIBBON.as_slice());
-    let rows = read_ribbon(rt.alloc(), &bytes)?;
+    let told = answer_by(rt.alloc(), ONE_WORD, &case, &wedge)?;
+    assert!(rt; matches!(&told, Ok(bytes) if bytes.as_slice() == RIBBON.as_slice()));
+    let lines = [(11, 2_159_640)];
+    assert!(rt; are_bytes_cast_as(rt.alloc(), &RIBBON, &case, &wedge, &lines));
+    Ok(())
+}
+
+/// Why rows are not cast with the first case.
+fn fault_of(alloc: Global, rows: &[RibbonRow]) -> Result<Option<CastFault>, Fail> {
     if rows.len() > 1000 {
         return Err(Fail::new("more rows than a test has"));
     }
-    let lines = cast(rt.alloc(), &rows, &case, &wedge)?;
-    let mut found = Vec::new(rt.alloc());
-    for line in &lines {
-        found.push((line.matrices().len(), line.total().get()))?;
-    }
-    assert!(rt; found.as_slice() == [(11usize, 2_159_640i64)].as_slice());
-    Ok(())
+    let wedge = wedge_of(alloc, WEDGE)?;
+    let case = case_with(alloc, FILLS)?;
+    Ok(cast(alloc, rows, &case, &wedge).err())
 }
 
 #[test]
 fn wide_rows_in_a_narrow_case(rt: HostRuntime) -> Result<(), Fail> {
     let told = answer(rt.alloc(), ONE_WORD)?;
     assert!(rt; are_faults(&told, &[JobFault::NoMatrix(0)]));
-    let wedge = wedge_of(rt.alloc(), WEDGE)?;
-    let case = case_with(rt.alloc(), FILLS)?;
     let rows = read_ribbon(rt.alloc(), &RIBBON)?;
-    if rows.len() > 1000 {
-        return Err(Fail::new("more rows than a test has"));
-    }
-    let fault = cast(rt.alloc(), &rows, &case, &wedge).err();
-    assert!(rt; fault == Some(CastFault::NoMatrix(1)));
+    assert!(rt; fault_of(rt.alloc(), &rows)? == Some(CastFault::NoMatrix(1)));
     Ok(())
 }

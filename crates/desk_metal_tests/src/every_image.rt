@@ -3,6 +3,7 @@
 
 use desk_image::{BadImage, Image};
 use desk_signals::RibbonRow;
+use std::alloc::{AllocError, Global};
 use std::test::Fail;
 
 /// The digest of all answers.
@@ -35,35 +36,70 @@ fn told(image: Image) -> (usize, u32) {
     }
 }
 
-#[test]
-fn every_image_of_two_letters_and_two_numbers(rt: HostRuntime) -> Result<(), Fail> {
-    let mut few = Vec::new(rt.alloc());
+/// The masks of at most two of 14 signals.
+fn few(alloc: Global) -> Result<Vec<u32>, AllocError> {
+    let mut few = Vec::new(alloc);
     for mask in 0..16384u32 {
         if mask.count_ones() <= 2 {
             few.push(mask)?;
         }
     }
-    let mut digest = 14_695_981_039_346_656_037u64;
-    let mut counts = [0u32; 8];
-    for letters in few.iter() {
-        for numbers in few.iter() {
-            for last in 0..8u32 {
-                let image = Image::new(
-                    (*letters).wrapping_shl(17) | (*numbers).wrapping_shl(3) | last,
-                );
-                let (which, number) = told(image);
-                digest = (digest ^ number as u64).wrapping_mul(1_099_511_628_211);
-                if let Some(count) = counts.get_mut(which) {
-                    *count = count.saturating_add(1);
-                }
-                if let Ok(row) = image.to_row() {
-                    assert!(rt; Image::of_row(row) == image, "{image:?}");
-                }
-            }
+    Ok(few)
+}
+
+/// What was told of the images so far: a digest, how often each answer came, and whether each row's image is the one that
+/// it was read from.
+struct Tally {
+    digest: u64,
+    counts: [u32; 8],
+    alike: bool,
+}
+
+/// Adds what is told of an image.
+fn tell(tally: &mut Tally, image: Image) {
+    let (which, number) = told(image);
+    tally.digest = (tally.digest ^ number as u64).wrapping_mul(1_099_511_628_211);
+    if let Some(count) = tally.counts.get_mut(which) {
+        *count = count.saturating_add(1);
+    }
+    if let Ok(row) = image.to_row() {
+        tally.alike &= Image::of_row(row) == image;
+    }
+}
+
+/// Adds what is told of the images of these letters and numbers.
+fn tell_of(tally: &mut Tally, letters: u32, numbers: u32) {
+    for last in 0..8u32 {
+        let bits = letters.wrapping_shl(17) | numbers.wrapping_shl(3) | last;
+        tell(tally, Image::new(bits));
+    }
+}
+
+/// What is told of all images of these masks.
+fn told_of_all(few: &[u32]) -> Tally {
+    let mut tally = Tally {
+        digest: 14_695_981_039_346_656_037,
+        counts: [0; 8],
+        alike: true,
+    };
+    for letters in few {
+        for numbers in few {
+            tell_of(&mut tally, *letters, *numbers);
         }
     }
+    tally
+}
+
+#[test]
+fn every_image_of_two_letters_and_two_numbers(rt: HostRuntime) -> Result<(), Fail> {
+    let few = few(rt.alloc())?;
+    let Tally {
+        digest,
+        counts,
+        alike,
+    } = told_of_all(few.as_slice());
     assert!(rt;
-        few.len() == 106 && digest == DIGEST && counts == COUNTS,
+        few.len() == 106 && alike && digest == DIGEST && counts == COUNTS,
         "{digest} {counts:?}"
     );
     Ok(())

@@ -1,11 +1,15 @@
 //! The columns NI and NL, and cases that have them.
 
-use crate::cases::{CASE_1, HEAD, Texts, at, file_of, is_faulty, symbol};
+use crate::cases::{
+    CASE_1, HEAD, Texts, at, case_with, has_symbol, is_blank, is_faulty, is_file_told, is_framed,
+};
 use crate::rows::{cell, coarse};
-use desk_case::{CaseFault, CaseKey, MatrixCase, names};
+use desk_case::{CaseFault, CaseKey, MatrixCase};
 use desk_image::{BadImage, Image};
 use desk_ops::Style;
-use desk_signals::{BadRow, Column, RibbonRow, Signal, from_signals};
+use desk_signals::Signal::{A, I, L, N, S, Three};
+use desk_signals::{BadRow, Cell, Column, RibbonRow, RowNo, Signal, from_signals};
+use std::alloc::{AllocError, Global};
 use std::test::Fail;
 
 #[test]
@@ -48,23 +52,37 @@ fn letters_that_are_no_column(rt: HostRuntime) {
     }
 }
 
+/// Signals, and the cell that they are: its column, its row, and S.
+const CELLS: [(&[Signal], Column, u8, bool); 4] = [
+    (&[I, N, Three], Column::NI, 3, false),
+    (&[N, I, Three], Column::NI, 3, false),
+    (&[S, N, Three, L], Column::NL, 3, true),
+    (&[L, N], Column::NL, 15, false),
+];
+
+/// Whether signals are this cell.
+fn are_cell(signals: &[Signal], column: Column, number: u8, s: bool) -> bool {
+    match RowNo::new(number) {
+        Some(row) => from_signals(signals) == Ok(RibbonRow::Cell { column, row, s }),
+        None => false,
+    }
+}
+
+const NO_ROWS: [(&[Signal], BadRow); 5] = [
+    (&[L, I], BadRow::TwoLetters),
+    (&[N, A], BadRow::TwoLetters),
+    (&[N, I, L], BadRow::TwoLetters),
+    (&[N, N], BadRow::Repeated),
+    (&[N, I, N], BadRow::Repeated),
+];
+
 #[test]
 fn signals_in_any_order(rt: HostRuntime) {
-    use Signal::{A, I, L, N, S, Three};
-
-    let rows: [(&[Signal], Result<RibbonRow, BadRow>); 9] = [
-        (&[I, N, Three], Ok(cell(Column::NI, 3, false))),
-        (&[N, I, Three], Ok(cell(Column::NI, 3, false))),
-        (&[S, N, Three, L], Ok(cell(Column::NL, 3, true))),
-        (&[L, N], Ok(cell(Column::NL, 15, false))),
-        (&[L, I], Err(BadRow::TwoLetters)),
-        (&[N, A], Err(BadRow::TwoLetters)),
-        (&[N, I, L], Err(BadRow::TwoLetters)),
-        (&[N, N], Err(BadRow::Repeated)),
-        (&[N, I, N], Err(BadRow::Repeated)),
-    ];
-    for (signals, want) in rows {
-        assert!(rt; from_signals(signals) == want, "{want:?}");
+    for &(signals, column, number, s) in &CELLS {
+        assert!(rt; are_cell(signals, column, number, s), "{signals:?}");
+    }
+    for &(signals, why) in &NO_ROWS {
+        assert!(rt; from_signals(signals) == Err(why), "{signals:?}");
     }
     for (row, signals) in [
         (cell(Column::NI, 3, true), [I, N, Three, S]),
@@ -104,110 +122,156 @@ const WIDE: Texts<'static> = &[
     (14, 16, "i:q"),
 ];
 
+const SYMBOLS_17: [(&str, Style, char); 5] = [
+    ("A4", Style::Roman, 't'),
+    ("B5", Style::Roman, 'a'),
+    ("NI8", Style::Roman, 'q'),
+    ("O15", Style::Roman, 'z'),
+    ("NL15", Style::Italic, 'q'),
+];
+
+const BLANKS_17: [&str; 7] = ["NI1", "NL14", "NI5", "NL8", "N8", "I8", "NI15"];
+
 #[test]
 fn reads_wide_cases(rt: HostRuntime) -> Result<(), Fail> {
-    let texts = &WIDE[2..];
     let head = "case = 17\nspace = 'NI1'\nfill = ['NL14', 'NI5']\nrows = [\n";
-    let text = file_of(rt.alloc(), head, 17, 15, texts)?;
-    let case = MatrixCase::read(rt.alloc(), text.as_bytes())?;
-    for (name, style, ch) in [
-        ("A4", Style::Roman, 't'),
-        ("B5", Style::Roman, 'a'),
-        ("NI8", Style::Roman, 'q'),
-        ("O15", Style::Roman, 'z'),
-        ("NL15", Style::Italic, 'q'),
-    ] {
-        let cell = names::cell(name).ok_or("name")?;
-        assert!(rt; case.cell_of(symbol(style, ch)) == Some(cell), "{name}");
-        assert!(rt; case.symbol_at(cell) == Some(symbol(style, ch)), "{name}");
+    let case = case_with(rt.alloc(), head, 17, &WIDE[2..])?;
+    for &(name, style, ch) in &SYMBOLS_17 {
+        assert!(rt; has_symbol(&case, name, style, ch), "{name}");
     }
-    for name in ["NI1", "NL14", "NI5", "NL8", "N8", "I8", "NI15"] {
-        let cell = names::cell(name).ok_or("name")?;
-        assert!(rt; case.symbol_at(cell).is_none(), "{name}");
+    for &name in &BLANKS_17 {
+        assert!(rt; is_blank(&case, name), "{name}");
     }
     let fills = [at(Column::NL, 14), at(Column::NI, 5)];
-    assert!(rt;
-        case.number() == 17 && case.space() == at(Column::NI, 1) && case.fill() == fills.as_slice()
-    );
+    assert!(rt; is_framed(&case, 17, at(Column::NI, 1), &fills));
     Ok(())
+}
+
+/// Whether the cells in the last two columns of a row are blank.
+fn ends_blank(case: &MatrixCase, number: u8) -> bool {
+    let Some(row) = RowNo::new(number) else {
+        return false;
+    };
+    let column = Column::NI;
+    let other = Column::NL;
+    case.symbol_at(Cell { column, row }).is_none()
+        && case.symbol_at(Cell { column: other, row }).is_none()
 }
 
 #[test]
 fn narrow_cases_have_blanks(rt: HostRuntime) -> Result<(), Fail> {
-    let text = file_of(rt.alloc(), HEAD, 15, 15, CASE_1)?;
-    let case = MatrixCase::read(rt.alloc(), text.as_bytes())?;
+    let case = case_with(rt.alloc(), HEAD, 15, CASE_1)?;
     for row in 1..16u8 {
-        for column in [Column::NI, Column::NL] {
-            assert!(rt; case.symbol_at(at(column, row)).is_none(), "{row}");
-        }
+        assert!(rt; ends_blank(&case, row), "{row}");
     }
-    assert!(rt; case.symbol_at(at(Column::B, 15)) == Some(symbol(Style::SmallCap, 'M')));
+    assert!(rt; has_symbol(&case, "B15", Style::SmallCap, 'M'));
     Ok(())
 }
 
+const SPACED: &str = "case = 1\nspace = 'NI1'\nfill = ['O15']\nrows = [\n";
+
+const FILLED: &str = "case = 1\nspace = 'G1'\nfill = ['O15', 'NL3']\nrows = [\n";
+
+/// Heads, numbers of columns and texts, and the words of the fault, if there is one.
+static WIDE_FILES: [(&str, usize, Texts<'static>, Option<&str>); 10] = [
+    (
+        SPACED,
+        15,
+        CASE_1,
+        Some("`space` is of another type, number, length or name"),
+    ),
+    (SPACED, 17, CASE_1, None),
+    (
+        FILLED,
+        15,
+        CASE_1,
+        Some("`fill` is of another type, number, length or name"),
+    ),
+    (FILLED, 17, CASE_1, None),
+    (
+        HEAD,
+        16,
+        CASE_1,
+        Some("`rows` is of another type, number, length or name"),
+    ),
+    (
+        HEAD,
+        18,
+        CASE_1,
+        Some("`rows` is of another type, number, length or name"),
+    ),
+    (
+        HEAD,
+        17,
+        WIDE,
+        Some("cell NL1 has a text that is no symbol"),
+    ),
+    (
+        HEAD,
+        17,
+        &[(3, 14, "bb"), (3, 15, "cc")],
+        Some("cell O4 has a text that is no symbol"),
+    ),
+    (
+        HEAD,
+        17,
+        &[(3, 15, "b"), (3, 16, "a"), (4, 0, "a"), (4, 1, "b")],
+        Some("roman a stands in two cells"),
+    ),
+    (
+        FILLED,
+        17,
+        &[(2, 16, "x")],
+        Some("cell NL3, the space or a fill, holds a symbol"),
+    ),
+];
+
 #[test]
-fn faults_of_wide_files(rt: HostRuntime) -> Result<(), Fail> {
-    let spaced = "case = 1\nspace = 'NI1'\nfill = ['O15']\nrows = [\n";
-    let filled = "case = 1\nspace = 'G1'\nfill = ['O15', 'NL3']\nrows = [\n";
-    let cases: [(&str, usize, Texts<'_>, Option<CaseFault>); 10] = [
-        (spaced, 15, CASE_1, Some(CaseFault::Shape(CaseKey::Space))),
-        (spaced, 17, CASE_1, None),
-        (filled, 15, CASE_1, Some(CaseFault::Shape(CaseKey::Fill))),
-        (filled, 17, CASE_1, None),
-        (HEAD, 16, CASE_1, Some(CaseFault::Shape(CaseKey::Rows))),
-        (HEAD, 18, CASE_1, Some(CaseFault::Shape(CaseKey::Rows))),
-        (HEAD, 17, WIDE, Some(CaseFault::BadText(at(Column::NL, 1)))),
-        (
-            HEAD,
-            17,
-            &[(3, 14, "bb"), (3, 15, "cc")],
-            Some(CaseFault::BadText(at(Column::O, 4))),
-        ),
-        (
-            HEAD,
-            17,
-            &[(3, 15, "b"), (3, 16, "a"), (4, 0, "a"), (4, 1, "b")],
-            Some(CaseFault::Doubled(symbol(Style::Roman, 'a'))),
-        ),
-        (
-            filled,
-            17,
-            &[(2, 16, "x")],
-            Some(CaseFault::NotBlank(at(Column::NL, 3))),
-        ),
-    ];
-    for (head, columns, texts, fault) in cases {
-        let text = file_of(rt.alloc(), head, columns, 15, texts)?;
-        let told = MatrixCase::read(rt.alloc(), text.as_bytes()).err();
-        assert!(rt; told == fault, "{head} {columns}");
+fn faults_of_wide_files(rt: HostRuntime) {
+    for &(head, columns, texts, words) in &WIDE_FILES {
+        assert!(rt;
+            is_file_told(rt.alloc(), head, (columns, 15), texts, words),
+            "{head} {columns}"
+        );
     }
-    Ok(())
+}
+
+const NARROW_ROW: &str = " ['','','','','','','','','','','','','','',''],\n";
+
+const WIDE_ROW: &str = " ['','','','','','','','','','','','','','','','',''],\n";
+
+/// A file with this row, then fourteen like the next one, and then the last.
+fn fifteen(alloc: Global, first: &str, one: &str, last: &str) -> Result<String, AllocError> {
+    let mut text = String::from_str(alloc, HEAD)?;
+    text.push_str(first)?;
+    for _ in 0..14u32 {
+        text.push_str(one)?;
+    }
+    text.push_str(last)?;
+    text.push_str("]\n")?;
+    Ok(text)
+}
+
+/// Whether such a file answers that its rows are of another form.
+fn is_of_both(alloc: Global, first: &str, one: &str, last: &str) -> bool {
+    match fifteen(alloc, first, one, last) {
+        Ok(text) => is_faulty(alloc, text.as_bytes(), CaseFault::Shape(CaseKey::Rows)),
+        Err(AllocError) => false,
+    }
 }
 
 /// Fourteen rows of the one width, and before them or after them one of the other.
 #[test]
-fn rows_of_both_widths(rt: HostRuntime) -> Result<(), Fail> {
-    let narrow = " ['','','','','','','','','','','','','','',''],\n";
-    let wide = " ['','','','','','','','','','','','','','','','',''],\n";
-    for (one, other) in [(narrow, wide), (wide, narrow)] {
-        for first in [true, false] {
-            let mut text = String::from_str(rt.alloc(), HEAD)?;
-            if first {
-                text.push_str(other)?;
-            }
-            for _ in 0..14u32 {
-                text.push_str(one)?;
-            }
-            if !first {
-                text.push_str(other)?;
-            }
-            text.push_str("]\n")?;
-            let fault = CaseFault::Shape(CaseKey::Rows);
-            assert!(rt;
-                is_faulty(rt.alloc(), text.as_bytes(), fault),
-                "{first} {other}"
-            );
-        }
+fn rows_of_both_widths(rt: HostRuntime) {
+    for &(first, one, last) in &[
+        (WIDE_ROW, NARROW_ROW, ""),
+        ("", NARROW_ROW, WIDE_ROW),
+        (NARROW_ROW, WIDE_ROW, ""),
+        ("", WIDE_ROW, NARROW_ROW),
+    ] {
+        assert!(rt;
+            is_of_both(rt.alloc(), first, one, last),
+            "{first} {one} {last}"
+        );
     }
-    Ok(())
 }

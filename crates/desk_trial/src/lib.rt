@@ -1,7 +1,7 @@
 //! Settings that are tried in place of those of a copy: what its galley would be by other values, before anyone sets them.
 #![tactic(auto)]
 
-ghost use Rattle.std.specs.Prelude.{◌≡◌, ◌≢◌, IfErr, IfOk, IfSome, None, Some, option_map, string_bytes};
+ghost use Rattle.std.specs.Prelude.{◌≡◌, ◌≢◌, ◌≤◌, length, IfErr, IfOk, IfSome, None, Some, option_map, string_bytes};
 ghost use Rattle.desk_commands.specs.Request.{request};
 ghost use Rattle.desk_job.specs.Answer.{AreValues};
 ghost use Rattle.desk_ops.specs.Op.{IsValue};
@@ -178,6 +178,8 @@ pub fn trial_of<A: Allocator + Copy>(alloc: A, texts: &[&str]) -> Result<Setting
     ensures value { IfOk result (λ s. trial_of texts.now ≡ Some s) }
     ensures lawful { IfOk result AreValues }
     ensures refused { IfErr result (λ why. why ≢ fault.NoMemory → trial_of texts.now ≡ None) }
+    // Without a text nothing is refused, and no memory is taken.
+    ensures some { IfErr result (λ _. 1 ≤ length texts.now) }
 {
     let mut settings = no_trial();
     for (place, text) in texts.iter().enumerate() {
