@@ -542,16 +542,23 @@ def value_forms(data, line):
 
 
 class Ribbons(Kind):
-    """A ribbon, as `check` reads it: no other command or subcommand reads one."""
+    """A ribbon, as `check` and `read` read it."""
     name, batch = "ribbons", 40
+
+    def __init__(self):
+        examples = os.path.join(os.path.dirname(os.path.abspath(__file__)), "..", "examples")
+        wide = read(os.path.join(examples, "case17.toml"))
+        self.metal = [(differential.FILES["c"].encode(), differential.FILES["w"].encode()), (wide, differential.FILES["w_american"].encode())]
 
     def seeds(self):
         pick, out = random.Random(3), []
         cells = [oracle.image_cell((c, r), s) for c in range(17) for r in range(1, 16) for s in (False, True)]
-        for _ in range(20):
+        cases = [oracle.first_fault_case(case)[1] for case, _ in self.metal]
+        held = [oracle.image_cell(cell, s) for case in cases for cell in (*case["cells"], case["space"]) for s in (False, True)]
+        for number in range(20):
             images = [oracle.image_fine(8)]
             for _ in range(pick.randrange(3)):
-                images += [pick.choice(cells) for _ in range(pick.randrange(6))] + [oracle.image_coarse(pick.randint(1, 15)), oracle.image_fine(pick.randint(1, 15))]
+                images += [pick.choice(held if number % 2 else cells) for _ in range(pick.randrange(6))] + [oracle.image_coarse(pick.randint(1, 15)), oracle.image_fine(pick.randint(1, 15))]
             out.append({"ribbon": oracle.ribbon_bytes(images).hex()})
         return out
 
@@ -601,7 +608,25 @@ class Ribbons(Kind):
             if told.differs(data, line):
                 return "check said %r and not %r" % (line, told.of(data)), []
             forms.append({"check " + form(line.encode())} | row_forms(data, line))
+        for name, one, found in zip(names, inputs, forms):
+            wrong, more = self.cast(program, name, bytes.fromhex(one["ribbon"]))
+            if wrong:
+                return wrong, []
+            found |= more
         return None, forms
+
+    def cast(self, program, name, data):
+        """What `read` says of a ribbon, by a case and a wedge that its bytes pick."""
+        files = self.metal[sum(data) % len(self.metal)]
+        write("case", files[0])
+        write("wedge", files[1])
+        (_, case), (_, wedge) = oracle.first_fault_case(files[0]), oracle.first_fault_wedge(files[1])
+        due, whole = told.reading(data, case, wedge)
+        status, out, why = ran(program, ["read", name, "--case", "case", "--wedge", "wedge"])
+        if (status, out.decode("utf-8", "replace"), why) != (0 if whole else 1, due, b""):
+            return "read: status %s, %r %r, due %r" % (status, out[:300], why, due[:300]), None
+        line = due.split("\n")[3 if whole and due.count("\n") > 3 else 0]
+        return None, {"read " + re.sub(r"[0-9]+", "#", re.sub(r"[^ -~]+", "", line))[:40]}
 
 
 def row_forms(data, line):

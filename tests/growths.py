@@ -346,7 +346,8 @@ def by_hand(program, folder, library):
     for words, text in asked:
         runs = Runs(program, words.split(), text, folder, library)
         whole = once(runs, 0, False)
-        sweep.note(words, None if whole[0] == 0 and not whole[2] else "ended with %d and %r" % (whole[0], whole[2]))
+        due = 1 if "lacking" in words else 0
+        sweep.note(words, None if whole[0] == due and not whole[2] else "ended with %d and %r" % (whole[0], whole[2]))
         growths = runs.count()
         for number, always in [(k, False) for k in range(1, growths + 1)] + [(k, True) for k in range(1, growths + 1, 20)]:
             got = once(runs, number, always)
@@ -364,13 +365,16 @@ set 1 case 12
 set 1 wedge 5
 insert 1 0 r"Send word by noon at the latest."
 """
+# symbols that the case lacks, the first at more places than a row of the list has
+LACKED = 'insert 1 0 r"%s"\n' % ("n~ |" * 12)
 
 
 def previews(program, folder, library):
     """A proof, a punch, a reading and a list of sorts: done as undisturbed, or ended for want of memory, and then no ribbon or
     picture is there."""
     ribbon = os.path.join(folder, "preview.rib")
-    subprocess.run([program, "desk", "preview.feed", "--site", "1"], input=SETTINGS.encode(), cwd=folder, capture_output=True, check=True)
+    for feed, commands in (("preview.feed", SETTINGS), ("lacking.feed", LACKED)):
+        subprocess.run([program, "desk", feed, "--site", "1"], input=commands.encode(), cwd=folder, capture_output=True, check=True)
 
     def once(runs, number, always):
         if os.path.exists(ribbon):
@@ -386,11 +390,12 @@ def previews(program, folder, library):
     of_ribbon = "read made.rib --case case12.toml --wedge wedge5.toml"
     subprocess.run([program, *("punch -o made.rib " + metal).split()], cwd=folder, capture_output=True, check=True)
     kinds = ("proof " + metal, "proof --faults " + metal, "punch -o preview.rib " + metal, "proof --set loose=150 --svg preview.rib " + metal,
-             of_ribbon, of_ribbon + " --svg preview.rib", "sorts preview.feed --case case12.toml --layout")
+             of_ribbon, of_ribbon + " --svg preview.rib", "sorts preview.feed --case case12.toml --layout", "sorts lacking.feed --case case12.toml")
     for words in kinds:
         runs = Runs(program, words.split(), "", folder, library)
         whole = once(runs, 0, False)
-        sweep.note(words, None if whole[0] == 0 and not whole[2] else "ended with %d and %r" % (whole[0], whole[2]))
+        due = 1 if "lacking" in words else 0
+        sweep.note(words, None if whole[0] == due and not whole[2] else "ended with %d and %r" % (whole[0], whole[2]))
         growths = runs.count()
         for number, always in [(k, False) for k in range(1, growths + 1)] + [(k, True) for k in range(1, growths + 1, 20)]:
             got = once(runs, number, always)

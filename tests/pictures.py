@@ -5,7 +5,7 @@ Each is parsed as XML, and what it shows is held to what the program says in tex
 the words of each line, a place for each character, from left to right and inside the frame; boxes for fills; a line without a
 fault ends at the measure, as far as steps of 0.0005 inch reach; the cause beside each line at fault; a circle for each hole of a row,
 rows from the last to the first. Copies with what XML would read as its own, with what it does not allow, and from right to left are
-among them, and one of 100,000 symbols. The pictures of the README are compared byte for byte; --write stores them.
+among them, and one of 100,000 symbols. Of sorts that the case lacks all places are counted here, of a million symbols too. The pictures of the README are compared byte for byte; --write stores them.
 """
 import os
 import pathlib
@@ -156,19 +156,27 @@ def read_back(room, feed, name):
 
 
 def sorted_out(room, feed, lacking=""):
-    """The sorts of a copy, counted here: its export without marks, since it is plain."""
-    copy = room.run("export", feed).decode().rstrip("\n").replace("\n", "")
+    """The sorts of a copy, counted here, and the places of those that are missing: its export without marks, since it is plain."""
+    whole = room.run("export", feed).decode()
+    copy = whole.replace("\n", "")
     told = room.run("sorts", feed, "--case", "case12.toml", status=1 if lacking else 0).decode()
     wanted = {}
     for symbol in copy:
         wanted[symbol] = wanted.get(symbol, 0) + 1
     found = {it: int(count) for count, it in re.findall(r"(?m)^ *\S+ +(\d+)  Roman '(.)' \(U\+[0-9A-F]+\)$", told)}
     found.update({" ": int(count) for count in re.findall(r"(?m)^ *\S+ +(\d+)  space$", told)})
-    missing = re.findall(r"(?m)^missing Roman '(.)' \(U\+[0-9A-F]+\), wanted (\d+), first at place (\d+)$", told)
-    if found != wanted or {it for it, _, _ in missing} != set(lacking):
+    missing = re.findall(r"(?m)^missing Roman '(.)' \(U\+[0-9A-F]+\), wanted (\d+), first at place (\d+)\n  \| (.*)\n((?:  at(?: +\d+)+\n)+)", told)
+    if found != wanted or {it[0] for it in missing} != set(lacking) or told.count("missing Roman") != len(lacking):
         fail("%s: sorts %r, and not %r; missing %r" % (feed, found, wanted, missing))
-    if any(int(count) != wanted[it] or int(place) != copy.index(it) for it, count, place in missing):
-        fail("%s: a missing sort with another count or place: %r" % (feed, missing))
+    for it, count, first, around, rows in missing:
+        places = [at for at, symbol in enumerate(whole) if symbol == it]
+        begin = max(0, places[0] - 24)
+        if (int(count), int(first)) != (len(places), places[0]) or around != whole[begin:places[0] + 25].replace("\n", " "):
+            fail("%s: the missing sort %r has %s, first at %s, with %r" % (feed, it, count, first, around))
+        if [row.split()[1:] for row in rows.splitlines()] != [[str(at) for at in places[k:k + 10]] for k in range(0, len(places), 10)]:
+            fail("%s: the missing sort %r has other places" % (feed, it))
+        if any(len(row) != 4 + 8 * (len(row.split()) - 1) for row in rows.splitlines()):
+            fail("%s: places of %r out of their columns" % (feed, it))
     head = "SORTS %d kinds, %d wanted, %d missing" % (len(wanted), len(copy), len(lacking))
     if told.split("\n")[0] != head:
         fail("%s: %r, and not %r" % (feed, told.split("\n")[0], head))
@@ -208,6 +216,13 @@ def main(words):
         read_back(room, "letter.feed", "letter.rib")
         room.keyed("sorts.feed", "Sphinx of black quartz, judge my vow~ and ~ again.", 150, 200)
         sorted_out(room, "sorts.feed", "~")
+        room.keyed("many.feed", "".join("~ %d\n|" % k for k in range(50)), 150, 200)
+        sorted_out(room, "many.feed", "~|")
+        room.run("import", "million.feed", "--site", "1", "--plain", given=b"~{" * 500_000)
+        began = time.time()
+        sorted_out(room, "million.feed", "~{")
+        if time.time() - began > 60:
+            fail("sorts of 1,000,000 symbols that are missing took %d seconds" % (time.time() - began))
         room.keyed("plain.feed", "Sphinx of black quartz, judge my vow.", 150, 200)
         sorted_out(room, "plain.feed")
         room.keyed("strange.feed", STRANGE, 198, 240)

@@ -1,4 +1,4 @@
-"""What `check`, `export` and `diff` say of files, from the independent program beside this file and docs/FORMATS.md.
+"""What `check`, `export`, `diff` and `read` say of files, from the independent program beside this file and docs/FORMATS.md.
 
 Of a case's or a wedge's fault it has the number alone, as `ribbon` and `cast` answer it.
 """
@@ -55,6 +55,65 @@ def of_ribbon(data):
         if len(row) == 1:
             return "ribbon refused: row %d: %s" % (place, row[0])
     return "ok: %d rows" % count
+
+
+def sent_out(images, case, wedge):
+    """The lines that rows cast, each as its positions, its matrices' widths and what they mean; or the caster's first fault."""
+    unit = wedge["set_q"] * (250 if wedge["pica"] == "sixth" else 249)
+    fine, line, out = None, None, []
+    for place in reversed(range(len(images))):
+        row = oracle.row_of(images[place])
+        if row[0] == "fine":
+            out += [line[1:]] if line else []
+            fine, line = row[1], None
+        elif row[0] == "coarse":
+            if fine is None:
+                return "row %d: no wedges: the caster meets it before the wedges of a line are set" % place
+            if line:
+                return "row %d: not sent out: nothing sends out the line that this row starts" % line[0]
+            line = [place, row[1], fine, [], ""]
+        else:
+            cell, s = row[1], row[2]
+            if line is None:
+                return "row %d: no wedges: the caster meets it before the wedges of a line are set" % place
+            if cell not in (*case["cells"], case["space"], *case["fill"]):
+                return "row %d: no matrix: the case has neither a symbol, its space nor a fill there" % place
+            line[3].append(wedge["units"][cell[1] - 1] * unit + (oracle.STEP * (15 * line[1] + line[2] - 53) if s else 0))
+            line[4] = (" " if s else chr(case["cells"][cell][1]) if cell in case["cells"] else "\u00b7") + line[4]
+    if line:
+        return "row %d: not sent out: nothing sends out the line that this row starts" % line[0]
+    return out[::-1]
+
+
+ROWS = {"two letters": "two letters that name no column"}
+
+
+def reading(data, case, wedge):
+    """What `read` writes of a ribbon by a case and a wedge, and whether it is whole."""
+    if data[:4] != b"MRB1":
+        return "no ribbon: it does not begin with MRB1\n", False
+    said = of_ribbon(data)
+    if not said.startswith("ok"):
+        fault = said[len("ribbon refused: "):]
+        for short, words in ROWS.items():
+            fault = fault.replace(short, words)
+        if fault.endswith("bit 31 is set"):
+            fault += ", which is no channel"
+        return "no ribbon: %s\n" % fault, False
+    images = [int.from_bytes(data[at:at + 4], "big") for at in range(8, len(data), 4)]
+    lines = sent_out(images, case, wedge)
+    if isinstance(lines, str):
+        return lines + "\n", False
+    point = 18000 if wedge["pica"] == "sixth" else 17928
+    down = lambda atoms: "%d.%d" % divmod(atoms * 10 // point, 10)
+    up = lambda atoms: "%d.%d" % divmod(-(-atoms * 10 // point), 10)
+    width = lambda atoms: "-" + up(-atoms) if atoms < 0 else down(atoms)
+    widths = [sum(line[2]) for line in lines]
+    longest = max(widths, default=0)
+    out = "RIBBON %d lines, %d rows, longest %s points\n\n  line    c/f     points   short  text\n" % (len(lines), len(images), width(longest))
+    for number, (line, total) in enumerate(zip(lines, widths), 1):
+        out += "%6d%5d/%-2d%10s%8s  %s\n" % (number, line[0], line[1], width(total), up(longest - total), line[3])
+    return out, True
 
 
 @functools.lru_cache(64)
