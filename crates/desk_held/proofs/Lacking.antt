@@ -15,7 +15,7 @@ use Rattle.desk_ops.specs.declared.op.Op.{Op}
 use Rattle.desk_ops.specs.Op.{IsLawful}
 use Rattle.desk_ops.specs.Order.{op_cmp}
 use Rattle.desk_ops.specs.OrderLaws.{op_antisymmetric}
-use Rattle.desk_ops.specs.OpSet.{OpSet, has_op, with_op, with_all, in_order, is_rising, entries_of, AllLawful}
+use Rattle.desk_ops.specs.OpSet.{OpSet, no_ops, has_op, with_op, with_all, in_order, is_rising, entries_of, AllLawful}
 use Rattle.desk_ops.specs.Lists.{Among}
 use Rattle.desk_ops.proofs.Lists.{Each, each-among, each-from_among, among-filter, each-filter}
 use Rattle.desk_ops.proofs.Means.{IsOrdered, among-any, any-among}
@@ -24,7 +24,7 @@ use Rattle.desk_ops.proofs.Stamps.{by_cases, is_equal}
 use Rattle.desk_ops.proofs.Tree.{filter-hit, filter-miss}
 use Rattle.desk_ops.proofs.Unions.{same-set, has_op-with_all}
 use Rattle.desk_ops.proofs.Joined.{lawful-with_op}
-use Rattle.desk_ops.proofs.OpSets.{with_op-known}
+use Rattle.desk_ops.proofs.OpSets.{with_op-known, no_ops-from_rising, has_op-from_rising}
 use Rattle.desk_held.specs.Passing.{missing_of, IsMissing}
 use Rattle.desk_held.proofs.Edges.{each-at}
 
@@ -53,6 +53,15 @@ module _ (h : OpSet) (ops : List Op) (i : ℕ) (o : Op) (lt : i < length ops) (a
 
   pub all-held-more : list_all (has_op h) (take i ops) ≡ true → has_op h o ≡ true → list_all (has_op h) (take (i + 1) ops) ≡ true
   all-held-more before e = list_all_more (has_op h) ops i o lt ∙ and_from (list_all (has_op h) (take i ops)) (has_op h (get_or ops i o)) before (ap (has_op h) (sym at) ∙ e)
+
+-- ---- of no operations
+
+none-held : (o : Op) → has_op no_ops o ≡ false
+none-held o = ap (λ (s : OpSet). has_op s o) (sym no_ops-from_rising) ∙ has_op-from_rising [] o tt
+
+pub missing-of_none : (h : OpSet) (ops : List Op) → h ≡ no_ops → missing_of h ops ≡ ops
+missing-of_none h [] e = refl
+missing-of_none h (o ∷ ops) e = filter-hit (λ op. not (has_op h op)) o ops (ap not (ap (λ (s : OpSet). has_op s o) e ∙ none-held o)) ∙ ap (λ (l : List Op). o ∷ l) (missing-of_none h ops e)
 
 -- ---- of a list that rises
 

@@ -1,10 +1,10 @@
 //! Lists of operations added at once.
 ghost use Rattle.std.specs.Prelude.{◌≡◌, ◌+◌, ◌≤◌, ◌++◌, All, IfOk, IfSome, IfErr, OnOk, length, take};
 ghost use Rattle.desk_ops.specs.Op.{IsLawful};
-ghost use Rattle.desk_ops.specs.OpSet.{no_ops, size, with_all};
+ghost use Rattle.desk_ops.specs.OpSet.{no_ops, in_order, size, with_all};
 ghost use Rattle.desk_held.specs.Joining.{IsHalted};
 
-use crate::search::{are_rising, comes_before};
+use crate::search::{are_rising, comes_before, is_rising};
 use crate::slot::{Slot, add_ops, slots_of};
 use crate::{AddRefusal, Held, LIMIT};
 use desk_ops::Op;
@@ -60,7 +60,8 @@ impl<A: Allocator + Copy> Held<A> {
     /// allow it.
     fn of_slots(alloc: A, slots: &[Slot]) -> Option<Self>
         requires { All IsLawful slots.now }
-        ensures { IfSome result (λ h. h.ops ≡ with_all no_ops slots.now) }
+        ensures ops { IfSome result (λ h. h.ops ≡ with_all no_ops slots.now) }
+        ensures listed { IfSome result (λ h. in_order h.ops ≡ slots.now) }
     {
         if slots.len() > LIMIT || !are_rising(slots) {
             return None;
@@ -72,10 +73,15 @@ impl<A: Allocator + Copy> Held<A> {
     }
 
     /// The set of a list that rises, in full pages; none where it does not, where it is too long or memory does not allow it.
-    fn of_rising(alloc: A, ops: &[Op]) -> Option<Self>
+    /// The list is then that of its operations in order.
+    pub fn of_rising(alloc: A, ops: &[Op]) -> Option<Self>
         requires { All IsLawful ops.now }
-        ensures { IfSome result (λ h. h.ops ≡ with_all no_ops ops.now) }
+        ensures ops { IfSome result (λ h. h.ops ≡ with_all no_ops ops.now) }
+        ensures listed { IfSome result (λ h. in_order h.ops ≡ ops.now) }
     {
+        if !is_rising(ops) {
+            return None;
+        }
         let Ok(slots) = slots_of(alloc, ops) else {
             return None;
         };

@@ -104,6 +104,9 @@ impl<A: Allocator + Copy> Held<A> {
             return self.missing_of_rising(ops);
         }
         let list = in_turn(self.alloc, ops)?;
+        if self.is_empty() {
+            return Ok(list);
+        }
         self.missing_of_rising(&list)
     }
 

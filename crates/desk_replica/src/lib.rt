@@ -280,6 +280,42 @@ impl<Q: Sequence> Replica<Q> {
         self.near = enter(&mut self.sequence, &mut self.room, op, near);
     }
 
+    /// Holds this set in place of its own, by the list of its operations in order: all is made anew, whole before it replaces
+    /// the old; false where memory does not allow it.
+    fn lay_out(&mut self, held: Held<Q::Memory>, list: &[Op]) -> bool
+        requires lawful { All IsLawful list.now }
+        requires listed { list.now ≡ in_order held.ops }
+        ensures site { self.new.site ≡ self.old.site }
+        ensures whole { result ≡ true → self.new.ops ≡ held.ops }
+        ensures none { result ≡ false → self.new.ops ≡ self.old.ops }
+        ensures spare { result ≡ false → self.new.spare ≡ self.old.spare }
+    {
+        let Ok((sequence, room)) = made_of(self.alloc, &held, list) else {
+            return false;
+        };
+        self.registers = kept_in(&held, list);
+        self.held = held;
+        self.sequence = sequence;
+        self.room = room;
+        true
+    }
+
+    /// Takes in a list that rises where nothing is held: it is laid out as it is. False where it does not rise or memory does
+    /// not allow it.
+    fn begin(&mut self, ops: &[Op]) -> bool
+        requires lawful { All IsLawful ops.now }
+        requires none { size self.old.ops ≡ 0 }
+        ensures site { self.new.site ≡ self.old.site }
+        ensures begun { result ≡ true → self.new.ops ≡ with_all self.old.ops ops.now }
+        ensures none { result ≡ false → self.new.ops ≡ self.old.ops }
+        ensures spare { result ≡ false → self.new.spare ≡ self.old.spare }
+    {
+        let Some(held) = Held::of_rising(self.alloc, ops) else {
+            return false;
+        };
+        self.lay_out(held, ops)
+    }
+
     /// Takes in the operations of a list that rises and of which none is held by making all anew, whole before it replaces
     /// the old; false where memory does not allow it.
     fn join(&mut self, ops: &[Op]) -> bool
@@ -289,20 +325,16 @@ impl<Q: Sequence> Replica<Q> {
         ensures none { result ≡ false → self.new.ops ≡ self.old.ops }
         ensures spare { result ≡ false → self.new.spare ≡ self.old.spare }
     {
+        if self.held.is_empty() {
+            return self.begin(ops);
+        }
         let Some(held) = self.held.joined(ops) else {
             return false;
         };
         let Ok(list) = held.in_order() else {
             return false;
         };
-        let Ok((sequence, room)) = made_of(self.alloc, &held, &list) else {
-            return false;
-        };
-        self.registers = kept_in(&held, &list);
-        self.held = held;
-        self.sequence = sequence;
-        self.room = room;
-        true
+        self.lay_out(held, &list)
     }
 
     /// Adds an operation to what is held.
@@ -413,7 +445,7 @@ impl<Q: Sequence> Replica<Q> {
         ensures spare { result ≡ false → self.old.spare ≤ self.new.spare }
     {
         // Where nothing is held all of a list is missing, and one that rises is laid out as it is.
-        if ops.len() >= MANY && self.held.is_empty() && self.join(ops) {
+        if ops.len() >= MANY && self.held.is_empty() && self.begin(ops) {
             return true;
         }
         let Ok(missing) = self.held.missing(ops) else {

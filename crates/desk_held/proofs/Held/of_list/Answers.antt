@@ -17,4 +17,4 @@ returns g c =
     (ap (with_all no_ops) c.as_slice.ensures.value
     ∙ sym (with_all-permutation no_ops c.in-Ok.list.items c.sort_unstable.new.self.items c.sort_unstable.ensures.permutation)
     ∙ ap (with_all no_ops) c.in-Ok.ensures.items)
-    c.of_rising-2.ensures
+    c.of_rising-2.ensures.ops
