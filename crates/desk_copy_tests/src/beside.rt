@@ -82,6 +82,25 @@ fn lists_are_joined_beside(rt: HostRuntime) -> Result<(), Fail> {
     Ok(())
 }
 
+/// Whether the set of a list that rises is made of it, so many operations.
+fn is_laid_out<A: Allocator + Copy>(alloc: A, ops: &[Op], number: usize) -> bool
+    requires { All IsLawful ops.now }
+{
+    match Held::of_rising(alloc, ops) {
+        Some(held) => held.len() == number && held.has_all(ops),
+        None => false,
+    }
+}
+
+#[test]
+fn rising_lists_are_laid_out(rt: HostRuntime) -> Result<(), Fail> {
+    let alloc = rt.alloc();
+    let rising = row_of(alloc, 1, 600)?;
+    assert!(rt; is_laid_out(alloc, &rising, 600));
+    assert!(rt; is_laid_out(alloc, &[], 0));
+    Ok(())
+}
+
 /// Whether what is missing of a list in falling order was not told where so many bytes are left of a heap, and whether it
 /// was not joined.
 fn are_refused_in<'a>(
