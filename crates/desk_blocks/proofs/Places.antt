@@ -4,13 +4,14 @@ use Rattle.std.specs.List.{count_by}
 use Rattle.std.proofs.lemmas.List.{take_all, take-take, get_or-take, get_or-drop}
 use Rattle.std.proofs.lemmas.List.Sums.{sum_by-cons, sum_by-take-le, count_by_more_yes}
 use Rattle.std.proofs.lemmas.List.Recursion.{is_count_by}
+use Rattle.std.proofs.lemmas.Bool.{not-true}
 use Rattle.desk_ops.specs.declared.op.Stamp.{Stamp}
 use Rattle.desk_ops.specs.declared.op.Style.TheVariants.{Roman}
 use Rattle.desk_ops.specs.Stamp.{before, same, head}
 use Rattle.desk_ops.proofs.Stamps.{by_cases, same-true, same-symm}
 use Rattle.desk_seq.specs.declared.Entry.{Entry}
 use Rattle.desk_seq.specs.Entries.{stamps_of, IsAbsent, AreDistinct, IsFoundAt, IsFirstBelow, shown_in, IsShownAt}
-use Rattle.desk_seq.proofs.Entries.{length-stamps, stamps-at, absent-at, not-true}
+use Rattle.desk_seq.proofs.Entries.{length-stamps, stamps-at, absent-at}
 use Rattle.desk_pages.specs.Pages.{IsNth, IsShort}
 use Rattle.desk_blocks.specs.Tally.{is_shown, is_smaller, is_of, IsAt}
 

@@ -1,5 +1,5 @@
 -- What reading answers is the one list, or the first fault.
-use Rattle.std.proofs.Common.{◌≡◌, subst, ℕ, List, [], ◌∷◌, All, Result, Ok, Err, ap}
+use Rattle.std.proofs.Common.{ℕ, List, [], ◌∷◌, All, Result, Ok, Err, ap}
 use Rattle.std.specs.Prelude.{IfOk, IfErr}
 use Rattle.std.specs.List.{AllByRecursion}
 use Rattle.std.proofs.lemmas.List.Elements.{All-from_recursion}
@@ -11,10 +11,9 @@ use Rattle.desk_codec.specs.declared.fault.ReadFault.TheVariants.{Fault, Failed,
 use Rattle.desk_codec.specs.Spelling.{IsHeld}
 use Rattle.desk_codec.specs.Feed.{IsFeed}
 use Rattle.desk_codec.specs.Fault.{IsFirstFault}
-use Rattle.desk_codec.specs.Reading.{Tells, Answers, MayHoldOne}
-use Rattle.desk_codec.specs.Pieces.{Reader, fresh, Takes, Refuses, RefusesEnd}
-use Rattle.std.proofs.lemmas.List.{append-nil}
-use Rattle.desk_codec.proofs.PieceLaws.{shown_fault, end_fault}
+use Rattle.desk_codec.specs.Reading.{Tells, Answers}
+use Rattle.desk_codec.specs.Pieces.{Reader, fresh, Takes, RefusesEnd}
+use Rattle.desk_codec.proofs.PieceLaws.{end_fault}
 use Rattle.desk_codec.proofs.Grammar.{one_list, one_feed}
 use Rattle.desk_codec.proofs.FaultLaws.{not_both, one_fault}
 
@@ -48,17 +47,7 @@ all_lawful view bytes (Err fault) f = tt
 
 -- ---- one piece of all bytes
 
-pub tells_refused : (bytes : List ℕ) (fault : ReadFault) (s : Reader) → Refuses fresh bytes fault s → Tells bytes fault
-tells_refused bytes (Fault fault) s h = subst (λ (l : List ℕ). IsFirstFault l fault) (append-nil bytes) (shown_fault bytes [] fault h.0)
-tells_refused bytes Failed s h = let e = h.0 in absurd cc
-tells_refused bytes NoMemory s h = tt
-
 pub tells_end : (bytes : List ℕ) (ops : List Op) (fault : ReadFault) (s : Reader) → Takes fresh bytes ops s → RefusesEnd s fault → Tells bytes fault
 tells_end bytes ops (Fault fault) s t h = end_fault bytes ops s fault t h
 tells_end bytes ops Failed s t h = let e = t.answers_on in absurd cc
 tells_end bytes ops NoMemory s t h = absurd h
-
-pub lacks_memory : (bytes : List ℕ) (fault : ReadFault) (s : Reader) → Refuses fresh bytes fault s → fault ≡ NoMemory → MayHoldOne bytes
-lacks_memory bytes (Fault fault) s h e = absurd cc
-lacks_memory bytes Failed s h e = absurd cc
-lacks_memory bytes NoMemory s h e = record { form = h.long.form; body = h.long.body; begins = h.long.split; long = h.long.long }

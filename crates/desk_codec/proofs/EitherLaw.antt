@@ -12,7 +12,7 @@ use Rattle.desk_codec.specs.declared.fault.FeedWhy.{FeedWhy}
 use Rattle.desk_codec.specs.declared.fault.FeedWhy.TheVariants as why
 use Rattle.desk_codec.specs.declared.fault.FeedFault.{FeedFault}
 use Rattle.desk_codec.specs.Spelling.{size_of_kind, stamp_spelling, spelling, IsStampValue}
-use Rattle.desk_codec.specs.Item.{Item, One, Run, symbol_spelling, item_spelling}
+use Rattle.desk_codec.specs.Items.{Item, One, Run, symbol_spelling, item_spelling}
 use Rattle.desk_codec.specs.Feed.{magic_of, HasRuns, IsRunLength, Stands, Spells, ops_in, IsFeed}
 use Rattle.desk_codec.specs.Fault.{bytes_of, Mark, mark_of, mark_bytes, OneOf, IsWrong, IsFirstFault}
 use Rattle.desk_codec.specs.Laws.{Fronts, FeedOrFault}

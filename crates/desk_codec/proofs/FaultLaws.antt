@@ -11,7 +11,7 @@ use Rattle.desk_codec.specs.declared.fault.FeedWhy.{FeedWhy}
 use Rattle.desk_codec.specs.declared.fault.FeedWhy.TheVariants as why
 use Rattle.desk_codec.specs.declared.fault.FeedFault.{FeedFault}
 use Rattle.desk_codec.specs.Spelling.{size_of_kind, stamp_spelling}
-use Rattle.desk_codec.specs.Item.{Item, item_spelling}
+use Rattle.desk_codec.specs.Items.{Item, item_spelling}
 use Rattle.desk_codec.specs.Feed.{IsRunLength, Stands, Spells, IsFeed}
 use Rattle.desk_codec.specs.Fault.{bytes_of, Mark, mark_bytes, ItemFields, OneOf, RunOf, item_fields, item_bytes, MayStand, item_cause, HasNoKind, BeginsRun, IsNoRun, IsCutOp, IsCut, IsUnlawful, IsWrong, GoesWrong, IsFirstFault}
 use Rattle.desk_codec.proofs.ItemLaws.{item_fields_same, item_bytes-fields, stands_values, may_stand, stands_cause, marks_length}

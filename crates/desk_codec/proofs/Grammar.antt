@@ -10,7 +10,7 @@ use Rattle.desk_ops.specs.Op.{IsLawful}
 use Rattle.desk_codec.specs.declared.form.FeedForm.{FeedForm}
 use Rattle.desk_codec.specs.declared.form.FeedForm.TheVariants.{Singles, Runs}
 use Rattle.desk_codec.specs.Spelling.{spelling, IsValue, IsHeld}
-use Rattle.desk_codec.specs.Item.{Item, One, Run, item_ops, symbol_spelling, item_spelling}
+use Rattle.desk_codec.specs.Items.{Item, One, Run, item_ops, symbol_spelling, item_spelling}
 use Rattle.desk_codec.specs.Feed.{magic, magic_of, feed, Stands, Spells, ops_in, IsFeed}
 use Rattle.desk_codec.specs.Laws.{Sizes, PrefixFree, OneList, OneFeed}
 use Rattle.desk_codec.specs.Fault.{item_fields, item_bytes}

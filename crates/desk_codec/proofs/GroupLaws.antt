@@ -9,6 +9,7 @@ use Rattle.std.specs.declared.cmp.Ordering.TheVariants.{Less}
 use Rattle.std.proofs.lemmas.Bool.{true≢false}
 use Rattle.std.proofs.lemmas.List.Concat.{flat_map-cons}
 use Rattle.std.proofs.lemmas.List.Sorted.{IsPermutation-refl, IsPermutation-sym, IsPermutation-cons, IsPermutation-trans, IsPermutation-middle, list_any-IsPermutation}
+use Rattle.std.proofs.Math.Bool.{or-false}
 use Rattle.desk_ops.specs.declared.op.Stamp.{Stamp}
 use Rattle.desk_ops.specs.declared.op.Symbol.{Symbol}
 use Rattle.desk_ops.specs.declared.op.Op.{Op}
@@ -25,7 +26,7 @@ use Rattle.desk_ops.proofs.Stamps.{by_cases, same-true, same-from}
 use Rattle.desk_ops.proofs.Means.{IsOrdered, among-any, any-among}
 use Rattle.desk_ops.proofs.Lists.{each-among, each-from_among, among-filter_from}
 use Rattle.desk_ops.proofs.Bearers.{ordered_rising, counter_not_above}
-use Rattle.desk_codec.specs.Item.{Item, next_stamp, run_ops, item_ops, item_spelling}
+use Rattle.desk_codec.specs.Items.{Item, next_stamp, run_ops, item_ops, item_spelling}
 use Rattle.desk_codec.specs.declared.form.FeedForm.TheVariants.{Runs}
 use Rattle.desk_codec.specs.Spelling.{IsHeld}
 use Rattle.desk_codec.specs.Feed.{ops_in, Stands, IsFeed}
@@ -298,13 +299,6 @@ module _ (ops done later : List Op) (op : Op) (up : IsOrdered (op ∷ later)) (p
       go (inr l) (inl none) = absurd (subst (Among q) none l)
       go (inr l) (inr clear) = follower-new ops done closed op h.rest q clear new h.follows l k
 
-  group-among : Among op ops → (q : Op) → Among q group → Among q ops
-  group-among own q m = go (subst (Among q) h.is m)
-    where
-      go : Among q (op ∷ h.rest) → Among q ops
-      go (inl i) = subst (λ (p : Op). Among p ops) i own
-      go (inr l) = follower-among ops (stamp_of op) h.rest q h.follows l
-
 -- ---- all items
 
 not-yet : (op : Op) (done : List Op) → is_among op done ≡ false → Among op done → ⊥
@@ -458,10 +452,6 @@ set_rises h = subst (λ (es : List (Op × Unit {0})). T (fin.is_sorted op_cmp es
 
 has_none : (q : Op) → has_op no_ops q ≡ false
 has_none q = fin.contains_key-keys no_ops q ∙ ap (list_any (eq_by_cmp op_cmp q)) (ap in_order (sym no_ops-from_rising) ∙ in_order-from_rising [] tt)
-
-or-false : (a : Bool) → (a || false) ≡ a
-or-false true = refl
-or-false false = refl
 
 -- what is read of the feed of a set is the set
 pub runs_set : (h : OpSet) → with_all no_ops (runs_ops (in_order h)) ≡ h

@@ -21,7 +21,7 @@ use Rattle.desk_codec.specs.declared.form.FeedForm.{FeedForm}
 use Rattle.desk_codec.specs.declared.fields.Fields.{Fields}
 use Rattle.desk_codec.specs.declared.fields.Fields.TheVariants.{Insert, Delete, Set}
 use Rattle.desk_codec.specs.Spelling.{stamp_spelling, IsStampValue, IsHeld}
-use Rattle.desk_codec.specs.Item.{Run, next_stamp, run_ops, symbol_spelling, item_spelling}
+use Rattle.desk_codec.specs.Items.{Run, next_stamp, run_ops, symbol_spelling, item_spelling}
 use Rattle.desk_codec.specs.Feed.{HasRuns, IsRunLength, Stands}
 use Rattle.desk_codec.specs.Fault.{fields_of, bytes_of, AreValues, style_of, key_of, is_character, no_symbol, symbol_in, setting_cause, cause, then_cause, run_cause, Mark, mark_of, mark_bytes, IsMarkValue, RunOf, BeginsRun, IsUnlawful}
 use Rattle.desk_codec.proofs.Numbers.{IsBytes, IsBytes-drop, IsBytes-take, number_there_4, stamp_there}

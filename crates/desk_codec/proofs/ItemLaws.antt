@@ -13,7 +13,7 @@ use Rattle.desk_codec.specs.declared.form.FeedForm.{FeedForm}
 use Rattle.desk_codec.specs.declared.fields.Fields.{Fields}
 use Rattle.desk_codec.specs.declared.fields.Fields.TheVariants.{Insert, Delete, Set}
 use Rattle.desk_codec.specs.Spelling.{stamp_spelling, IsHeld}
-use Rattle.desk_codec.specs.Item.{Item, One, Run, run_ops, next_stamp, symbol_spelling, item_spelling}
+use Rattle.desk_codec.specs.Items.{Item, One, Run, run_ops, next_stamp, symbol_spelling, item_spelling}
 use Rattle.desk_codec.specs.Feed.{Stands}
 use Rattle.desk_codec.specs.Fault.{fields_of, cause, run_cause, Mark, mark_of, mark_bytes, IsMarkValue, ItemFields, OneOf, RunOf, item_fields, item_bytes, AreItemValues, MayStand, item_cause}
 use Rattle.desk_codec.proofs.Numbers.{number_same_4, stamp_same, symbol_exact, style_exact}

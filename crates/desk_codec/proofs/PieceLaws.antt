@@ -8,7 +8,7 @@ use Rattle.desk_codec.specs.declared.form.FeedForm.TheVariants.{Singles, Runs}
 use Rattle.desk_codec.specs.declared.fault.FeedWhy.{FeedWhy}
 use Rattle.desk_codec.specs.declared.fault.FeedWhy.TheVariants as why
 use Rattle.desk_codec.specs.declared.fault.FeedFault.{FeedFault}
-use Rattle.desk_codec.specs.Item.{Item, item_ops}
+use Rattle.desk_codec.specs.Items.{Item, item_ops}
 use Rattle.desk_codec.specs.Feed.{magic_of, Spells, ops_in, IsFeed}
 use Rattle.desk_codec.specs.Fault.{item_bytes, BeginsRun, IsCut, IsWrong, GoesWrong, HasNoMagic, IsFirstFault}
 use Rattle.desk_codec.specs.Pieces.{Reader, fresh, place_of, due, AwaitsMagic, Reads, IsRead, GoesAstray, ShowsFirst, Takes, Shows, IsWhole, EndsInMagic, EndsInItem, EndsWrong}
@@ -114,18 +114,6 @@ no_magic_on Runs (a ∷ b ∷ c ∷ d ∷ bytes) more long none rest e = none by
 
 pub not_magic_on : (bytes more : List ℕ) (fault : FeedFault) → 4 ≤ length bytes → HasNoMagic bytes fault → HasNoMagic (bytes ++ more) fault
 not_magic_on bytes more fault long h = record { none = λ form rest e. no_magic_on form bytes more long (h.none form) rest e; is = h.is }
-
--- what is wrong at the front of the bytes at a place is the fault there
-pub wrong_here : (form : FeedForm) (place : ℕ) (bytes : List ℕ) (w : FeedWhy) → w ≢ why.Cut → IsWrong form bytes w → ShowsFirst (Some form) place bytes (record { «at» = place; why = w })
-wrong_here form place bytes w whole h =
-    inr (record {
-      form = form;
-      agrees = refl;
-      body = bytes;
-      split = refl;
-      wrong = record { before = []; front = []; spells = refl; rest = bytes; split = refl; there = omega arith; wrong = h };
-      whole = whole;
-    })
 
 -- ---- pieces one after the other
 

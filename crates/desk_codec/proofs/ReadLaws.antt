@@ -1,5 +1,5 @@
 -- Items read one after the other, from the bytes that were kept and a piece.
-use Rattle.std.proofs.Common.{◌≡◌, ◌≢◌, ℕ, ◌+◌, ◌-◌, ◌<◌, ◌≤◌, min, Bool, false, List, [], ◌∷◌, ◌++◌, length, get_or, drop, Option, Some, None, Result, Ok, Err, refl, sym, ap, subst, ◌∙◌, ◌⊎◌, inl, inr, append_assoc, length-append, arith}
+use Rattle.std.proofs.Common.{◌≡◌, ◌≢◌, ℕ, ◌+◌, ◌-◌, ◌<◌, ◌≤◌, min, Bool, false, List, [], ◌∷◌, ◌++◌, length, get_or, drop, Option, Some, Result, Ok, Err, refl, sym, ap, subst, ◌∙◌, ◌⊎◌, inl, inr, append_assoc, length-append, arith}
 use Rattle.std.specs.Prelude.{IfOk, IfErr}
 use Rattle.std.proofs.lemmas.List.{append-nil, drop-append-le, nil_from_length}
 use Rattle.std.proofs.lemmas.List.Concat.{flat_map-cons}
@@ -16,9 +16,9 @@ use Rattle.desk_codec.specs.declared.fault.ReadFault.{ReadFault}
 use Rattle.desk_codec.specs.declared.fault.ReadFault.TheVariants.{Fault, Failed, NoMemory}
 use Rattle.desk_codec.specs.declared.items.ItemFault.{ItemFault}
 use Rattle.desk_codec.specs.declared.items.ItemFault.TheVariants as item
-use Rattle.desk_codec.specs.Item.{Item, item_ops, item_spelling}
+use Rattle.desk_codec.specs.Items.{Item, item_ops, item_spelling}
 use Rattle.desk_codec.specs.Spelling.{size_of_kind}
-use Rattle.desk_codec.specs.Feed.{magic_of, Stands, Spells, ops_in}
+use Rattle.desk_codec.specs.Feed.{Stands, ops_in}
 use Rattle.desk_codec.specs.Fault.{IsCut, IsWrong, GoesWrong}
 use Rattle.desk_codec.specs.ItemReading.{GivesItem, GivesItems, GivesRest, RefusesItem}
 use Rattle.desk_codec.specs.Pieces.{IsUnended, Reads, ShowsFirst, MayHoldMore}
@@ -26,15 +26,9 @@ use Rattle.desk_codec.specs.PieceReading.{Stops, StopsOn, kept_after}
 use Rattle.desk_codec.proofs.Grammar.{spells_append}
 use Rattle.desk_codec.proofs.ItemLaws.{item_length}
 use Rattle.desk_codec.proofs.FaultLaws.{item_not_wrong, begins_length}
-use Rattle.desk_codec.proofs.PieceLaws.{magic_length, wrong_on, goes_after}
+use Rattle.desk_codec.proofs.PieceLaws.{wrong_on, goes_after}
 
 -- ---- items after items
-
-pub none_given : (form : FeedForm) (bytes : List ℕ) (ops : List Op) → GivesItems form bytes ops ops bytes
-none_given form bytes ops = record { items = []; front = []; spells = refl; is = sym (append-nil ops); split = refl }
-
-one_spelled : (form : FeedForm) (item : Item) (bytes before after rest : List ℕ) (ops now : List Op) → (h : GivesItem form bytes ops now rest) → Spells form (item_spelling h.item ++ []) (h.item ∷ [])
-one_spelled form item bytes before after rest ops now h = (h.stands, ([], refl, refl))
 
 one_ops : (item : Item) → item_ops item ≡ ops_in (item ∷ [])
 one_ops item = sym (append-nil (item_ops item)) ∙ sym (flat_map-cons item_ops item [])
@@ -72,15 +66,6 @@ item_shorter form bytes rest before after h =
 pub given_length : (form : FeedForm) (bytes rest : List ℕ) (before after : List Op) → (h : GivesItems form bytes before after rest) → length bytes ≡ length h.front + length rest
 given_length form bytes rest before after h = ap (λ (l : List ℕ). length l) h.split ∙ length-append h.front rest
 
-pub given_shorter : (form : FeedForm) (bytes rest : List ℕ) (before after : List Op) → GivesItems form bytes before after rest → length rest ≤ length bytes
-given_shorter form bytes rest before after h = let len = given_length form bytes rest before after h in omega (arith, len)
-
--- what is wrong after items
-pub wrong_after : (form : FeedForm) (place : ℕ) (bytes rest : List ℕ) (before after : List Op) (w : FeedWhy) → GivesItems form bytes before after rest → IsWrong form rest w → GoesWrong form place bytes (record { «at» = place + (length bytes - length rest); why = w })
-wrong_after form place bytes rest before after w h wrong =
-    let len = given_length form bytes rest before after h in
-    record { before = h.items; front = h.front; spells = h.spells; rest = rest; split = h.split; there = omega (arith, len); wrong = wrong }
-
 -- what goes wrong after items
 pub goes_then : (form : FeedForm) (place : ℕ) (bytes rest : List ℕ) (before after : List Op) (fault : FeedFault) → GivesItems form bytes before after rest → GoesWrong form (place + (length bytes - length rest)) rest fault → GoesWrong form place bytes fault
 goes_then form place bytes rest before after fault h wrong =
@@ -102,26 +87,6 @@ goes_astray form place bytes fault wrong whole =
 
 pub holds_more : (form : FeedForm) (bytes : List ℕ) → 16 ≤ length bytes → MayHoldMore (Some form) bytes
 holds_more form bytes long = record { form = form; body = bytes; split = refl; long = long }
-
--- ---- after the magic
-
-pub reads_magic : (form : FeedForm) (bytes rest : List ℕ) (ops : List Op) (after : FeedForm) (kept : List ℕ) → bytes ≡ magic_of form ++ rest → Reads (Some form) rest ops after kept → Reads None bytes ops after kept
-reads_magic form bytes rest ops after kept e h =
-    record { agrees = tt; items = h.items; front = h.front; spells = h.spells; joined = h.joined; split = e ∙ ap (λ (f : FeedForm). magic_of f ++ rest) h.agrees ∙ ap (λ (l : List ℕ). magic_of after ++ l) h.split; unended = h.unended }
-
-astray_magic : (form : FeedForm) (place : ℕ) (bytes rest : List ℕ) (fault : FeedFault) → bytes ≡ magic_of form ++ rest → place ≡ 0 → length (magic_of form) ≡ 4 → ShowsFirst (Some form) 4 rest fault → ShowsFirst None place bytes fault
-astray_magic form place bytes rest fault e zero four (inl h) = let none = h.front in absurd cc
-astray_magic form place bytes rest fault e zero four (inr h) =
-    let same : length (magic_of h.form) ≡ 4 = ap (λ (f : FeedForm). length (magic_of f)) (sym h.agrees) ∙ four in
-    let there : 4 + 0 ≡ place + length (magic_of h.form) = omega (arith, zero, same) in
-    inr (record {
-      form = h.form;
-      agrees = tt;
-      body = h.body;
-      split = e ∙ ap (λ (f : FeedForm). magic_of f ++ rest) h.agrees ∙ ap (λ (l : List ℕ). magic_of h.form ++ l) h.split;
-      wrong = subst (λ (n : ℕ). GoesWrong h.form n h.body fault) there h.wrong;
-      whole = h.whole;
-    })
 
 -- ---- an item whose front was kept
 
@@ -214,29 +179,10 @@ rest_reads form read bytes kept ops h = subst (λ (g : FeedForm). Reads (Some fo
 in_place : (b : Bool) (before : Option FeedForm) (bytes kept rest : List ℕ) (ops : List Op) (form : FeedForm) → b ≡ false → Reads before bytes ops form rest → Reads before bytes ops form (kept_after b kept rest)
 in_place b before bytes kept rest ops form e h = subst (λ (t : Bool). Reads before bytes ops form (kept_after t kept rest)) (sym e) h
 
--- nothing was kept
-pub all_read : {V : Type 0} (f : V → FeedForm) (o : V → List Op) (k : V → List ℕ) (b : V → Bool) (r : Result V ReadFault) (form : FeedForm) (kept piece : List ℕ) (before : List Op) → length kept ≡ 0 → before ≡ [] → IfOk r (λ v. GivesRest form piece before (f v) (o v) (k v) × (b v ≡ false))
-    → IfOk r (λ v. Reads (Some form) (kept ++ piece) (o v) (f v) (kept_after (b v) kept (k v)))
-all_read f o k b (Ok v) form [] piece before none nothing (h, e) =
-    in_place (b v) (Some form) piece [] (k v) (o v) (f v) e (rest_reads form (f v) piece (k v) (o v) (subst (λ (l : List Op). GivesRest form piece l (f v) (o v) (k v)) nothing h))
-all_read f o k b (Ok v) form (x ∷ kept) piece before none nothing h = absurd cc
-all_read f o k b (Err fault) form kept piece before none nothing h = tt
-
--- what follows a magic
-pub magic_then : {V : Type 0} (f : V → FeedForm) (o : V → List Op) (k : V → List ℕ) (b : V → Bool) (r : Result V ReadFault) (form : FeedForm) (piece : List ℕ) (before : List Op) → before ≡ [] → IfOk r (λ v. GivesRest form piece before (f v) (o v) (k v) × (b v ≡ false))
-    → IfOk r (λ v. Reads (Some form) piece (o v) (f v) (k v) × (b v ≡ false))
-magic_then f o k b (Ok v) form piece before nothing (h, e) = (rest_reads form (f v) piece (k v) (o v) (subst (λ (l : List Op). GivesRest form piece l (f v) (o v) (k v)) nothing h), e)
-magic_then f o k b (Err fault) form piece before nothing h = tt
-
 stops_on : (fault : ReadFault) (form : FeedForm) (place : ℕ) (bytes : List ℕ) → StopsOn form place bytes fault → Stops (Some form) place bytes fault
 stops_on (Fault fault) form place bytes h = goes_astray form place bytes fault h.0 h.1
 stops_on Failed form place bytes h = h
 stops_on NoMemory form place bytes h = holds_more form bytes h
-
-pub all_stops : {V : Type 0} (r : Result V ReadFault) (form : FeedForm) (place : ℕ) (kept piece : List ℕ) → length kept ≡ 0 → IfErr r (λ fault. StopsOn form place piece fault) → IfErr r (λ fault. Stops (Some form) place (kept ++ piece) fault)
-all_stops (Ok v) form place kept piece none h = tt
-all_stops (Err fault) form place [] piece none h = stops_on fault form place piece h
-all_stops (Err fault) form place (b ∷ kept) piece none h = absurd cc
 
 -- an item was made whole
 first_read : (form read : FeedForm) (bytes middle kept : List ℕ) (between after : List Op) → GivesItem form bytes [] between middle → GivesRest form middle between read after kept → Reads (Some form) bytes after read kept
@@ -261,20 +207,6 @@ then_stops (Ok v) form place there bytes middle before between e g h = tt
 then_stops (Err fault) form place there bytes middle before between e g h = stops_on fault form place bytes (stops_then fault form place there bytes middle before between e g h)
 
 -- ---- the magic is made whole
-
-pub magic_read : {V : Type 0} (f : V → FeedForm) (o : V → List Op) (k : V → List ℕ) (b : V → Bool) (r : Result V ReadFault) (form : FeedForm) (kept bytes rest : List ℕ) → bytes ≡ magic_of form ++ rest → IfOk r (λ v. Reads (Some form) rest (o v) (f v) (k v) × (b v ≡ false))
-    → IfOk r (λ v. Reads None bytes (o v) (f v) (kept_after (b v) kept (k v)))
-magic_read f o k b (Ok v) form kept bytes rest e (h, n) = in_place (b v) None bytes kept (k v) (o v) (f v) n (reads_magic form bytes rest (o v) (f v) (k v) e h)
-magic_read f o k b (Err fault) form kept bytes rest e h = tt
-
-stops_magic : (fault : ReadFault) (form : FeedForm) (place : ℕ) (bytes rest : List ℕ) → bytes ≡ magic_of form ++ rest → place ≡ 0 → Stops (Some form) 4 rest fault → Stops None place bytes fault
-stops_magic (Fault fault) form place bytes rest e zero h = astray_magic form place bytes rest fault e zero (magic_length form) h
-stops_magic Failed form place bytes rest e zero h = h
-stops_magic NoMemory form place bytes rest e zero h = record { form = form; body = rest; split = e; long = let long = h.long in let len : length rest ≡ length h.body = ap (λ (l : List ℕ). length l) h.split in omega (arith, long, len) }
-
-pub magic_stops : {V : Type 0} (r : Result V ReadFault) (form : FeedForm) (place : ℕ) (bytes rest : List ℕ) → bytes ≡ magic_of form ++ rest → place ≡ 0 → IfErr r (λ fault. Stops (Some form) 4 rest fault) → IfErr r (λ fault. Stops None place bytes fault)
-magic_stops (Ok v) form place bytes rest e zero h = tt
-magic_stops (Err fault) form place bytes rest e zero h = stops_magic fault form place bytes rest e zero h
 
 -- as many bytes of the piece as fit are all, or fill the room
 pub fits : (kept end beyond whole piece : List ℕ) (size : ℕ) → size ≡ min (length piece) (342 - length kept) → length end ≡ size → piece ≡ end ++ beyond → whole ≡ kept ++ end → length kept < 342 → (length beyond ≡ 0) ⊎ (342 ≤ length whole)

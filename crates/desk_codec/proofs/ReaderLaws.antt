@@ -1,14 +1,13 @@
 -- A reader of pieces stays one.
 use Rattle.std.proofs.Common.{◌≡◌, ℕ, ◌+◌, ◌-◌, ◌*◌, ◌<◌, ◌≤◌, false, List, [], ◌∷◌, ◌++◌, length, get_or, drop, Option, Some, None, refl, sym, ap, subst, ◌∙◌, inl, inr, append_assoc, length-append, arith}
-use Rattle.std.proofs.lemmas.Bool.Decides.{nat_tests}
-use Rattle.std.proofs.lemmas.List.{append-nil, get_or-append-add, nil_from_length}
+use Rattle.std.proofs.lemmas.List.{append-nil, get_or-append-add}
 use Rattle.desk_ops.specs.declared.op.Op.{Op}
 use Rattle.desk_codec.specs.declared.form.FeedForm.{FeedForm}
 use Rattle.desk_codec.specs.Spelling.{size_of_kind}
 use Rattle.desk_codec.specs.Fault.{BeginsRun, IsCutFront, IsCutRun}
 use Rattle.desk_codec.specs.Pieces.{Reader, place_of, IsUnended, Reads, IsRead, Takes}
 use Rattle.desk_codec.specs.PieceReading.{Lacks, Keeps, Resumes, IsReader}
-use Rattle.desk_codec.proofs.FaultLaws.{same_some, kind_is, begins_length, run_no_size}
+use Rattle.desk_codec.proofs.FaultLaws.{kind_is, begins_length}
 use Rattle.desk_codec.proofs.PieceLaws.{IsSound, begins_on, reads_after}
 
 -- ---- how many bytes are lacking
@@ -24,46 +23,10 @@ pub room : (form : Option FeedForm) (place : ℕ) (kept : List ℕ) (missing : �
 room None place kept missing h = let four = h.2 in omega (arith, four)
 room (Some form) place kept missing h = h.1.room
 
-pub enough : (form : Option FeedForm) (place : ℕ) (kept piece : List ℕ) (missing : ℕ) → Keeps form place kept missing → missing ≤ length piece → form ≡ None → 4 ≤ length kept + length piece
-enough None place kept piece missing h long e = let four = h.2 in omega (arith, four, long)
-enough (Some form) place kept piece missing h long e = absurd cc
-
 pub sound : (r : Reader) (missing : ℕ) → IsReader r missing → IsSound r
 sound r missing h = record { within = h.within; resumes = resumes_from r.form (place_of r) r.kept missing h.keeps }
 
 -- ---- the bytes that begin an operation or a run lack so many
-
-none_lack : (form : FeedForm) (more : List ℕ) → length more < 1 → IsUnended form more
-none_lack form more few = inl (nil_from_length more (omega (arith, few)))
-
-pub lacks_kind : (form : FeedForm) (bytes : List ℕ) → length bytes ≡ 0 → Lacks form bytes 1
-lacks_kind form bytes none =
-    let nil : bytes ≡ [] = nil_from_length bytes none in
-    subst (λ (l : List ℕ). Lacks form l 1) (sym nil) (record { some = omega arith; room = omega arith; unended = λ more few. none_lack form more few })
-
-most : (k n : ℕ) → size_of_kind k ≡ Some n → n ≤ 26
-most k n e = grind (arith, nat_tests)
-
-cut_short : (form : FeedForm) (bytes : List ℕ) (k : ℕ) (rest : List ℕ) (size : ℕ) → bytes ≡ k ∷ rest → size_of_kind k ≡ Some size → IsUnended form bytes → length bytes < size
-cut_short form bytes k rest size e f (inl none) = let never = sym none ∙ e in absurd cc
-cut_short form bytes k rest size e f (inr (inl h)) =
-    let kind : k ≡ h.kind = kind_is bytes k h.kind rest h.rest e h.front in
-    let same : size ≡ h.size = same_some size h.size (size_of_kind h.kind) (sym (ap size_of_kind kind) ∙ f) h.some in
-    let short = h.short in
-    omega (arith, same, short)
-cut_short form bytes k rest size e f (inr (inr (inl h))) = absurd (run_no_size bytes k size h.rest rest h.front e f)
-cut_short form bytes k rest size e f (inr (inr (inr h))) = absurd (run_no_size bytes k size (h.front.stamps ++ h.count ∷ h.rest) rest h.front.front e f)
-
-op_on : (form : FeedForm) (bytes more : List ℕ) (k : ℕ) (rest : List ℕ) (size : ℕ) → bytes ≡ k ∷ rest → size_of_kind k ≡ Some size → length bytes + length more < size → IsUnended form (bytes ++ more)
-op_on form bytes more k rest size e f short =
-    let len = length-append bytes more in
-    inr (inl (record { kind = k; rest = rest ++ more; front = ap (λ (l : List ℕ). l ++ more) e; size = size; some = f; short = omega (arith, len, short) }))
-
-pub lacks_op : (form : FeedForm) (bytes : List ℕ) (k : ℕ) (rest : List ℕ) (size : ℕ) → bytes ≡ k ∷ rest → size_of_kind k ≡ Some size → IsUnended form bytes → (length bytes ≤ size) × Lacks form bytes (size - length bytes)
-lacks_op form bytes k rest size e f h =
-    let short = cut_short form bytes k rest size e f h in
-    let few = most k size f in
-    (omega (arith, short), record { some = omega (arith, short); room = omega (arith, short, few); unended = λ more lt. op_on form bytes more k rest size e f (omega (arith, short, lt)) })
 
 pub count_at : (bytes : List ℕ) (count : ℕ) (rest : List ℕ) → BeginsRun bytes count rest → get_or bytes 21 0 ≡ count
 count_at bytes count rest h =
@@ -158,9 +121,6 @@ pub read_reader : (r : Reader) (missing lacking : ℕ) (piece kept : List ℕ) (
 read_reader r missing lacking piece kept ops form h d lacks =
     let after = reads_after r (keeping r (Some form) piece kept) piece ops form (sound r missing h) refl refl d in
     record { within = after.0.within; keeps = (after.1, lacks) }
-
-pub read_takes : (r : Reader) (piece kept : List ℕ) (ops : List Op) (form : FeedForm) → Reads r.form (r.kept ++ piece) ops form kept → r.failed ≡ false → Takes r piece ops (keeping r (Some form) piece kept)
-read_takes r piece kept ops form d f = record { answers = f; answers_on = f; taken = refl; read = inr (form, refl, d) }
 
 pub first_here : (bytes : List ℕ) (b : ℕ) → 0 < length bytes → b ≡ get_or bytes 0 0 → bytes ≡ b ∷ drop 1 bytes
 first_here [] b some e = absurd (omega arith)

@@ -4,6 +4,7 @@ use Rattle.std.specs.Prelude.{T, Option, Some, None}
 use Rattle.std.specs.Ordering.{eq_by_cmp}
 use Rattle.std.proofs.Math.ListN.{set, length-set}
 use Rattle.std.proofs.lemmas.Bool.{cases_lt, cases_eq}
+use Rattle.std.proofs.Math.Bool.{or-true, or-false}
 use Rattle.desk_ops.specs.declared.op.Stamp.{Stamp}
 use Rattle.desk_ops.specs.declared.op.Symbol.{Symbol}
 use Rattle.desk_ops.specs.declared.op.Op.{Op}
@@ -17,7 +18,7 @@ use Rattle.desk_ops.specs.Lists.{Among}
 use Rattle.desk_ops.proofs.Stamps.{by_cases, same-true, same-refl, before_true}
 use Rattle.desk_ops.proofs.Means.{among-any, any-among}
 use Rattle.desk_ops.proofs.Lists.{among-filter}
-use Rattle.desk_codec.specs.Item.{One, next_stamp, run_ops, item_ops}
+use Rattle.desk_codec.specs.Items.{One, next_stamp, run_ops, item_ops}
 use Rattle.desk_codec.specs.Runs.{insert_in, clear_insert, child_of, next_insert, chain, item_of, item_at, is_among}
 use Rattle.desk_codec.specs.RunSteps.{IsAt, IsNextAt, MarksAlso}
 use Rattle.desk_codec.proofs.RunPlaces.{less-at, less-apart}
@@ -106,14 +107,6 @@ among-end (p ∷ os) o = inr (among-end os o)
 or-assoc : (a b c : Bool) → ((a || b) || c) ≡ (a || (b || c))
 or-assoc true b c = refl
 or-assoc false b c = refl
-
-or-true : (a : Bool) → (a || true) ≡ true
-or-true true = refl
-or-true false = refl
-
-or-false : (a : Bool) → (a || false) ≡ a
-or-false true = refl
-or-false false = refl
 
 pub is_among-append : (q : Op) (os ps : List Op) → is_among q (os ++ ps) ≡ (is_among q os || is_among q ps)
 is_among-append q [] ps = refl

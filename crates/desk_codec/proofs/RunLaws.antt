@@ -1,23 +1,21 @@
 -- What reading a run gives.
-use Rattle.std.proofs.Common.{◌≡◌, ℕ, ◌+◌, ◌-◌, ◌*◌, ◌^◌, ◌<◌, ◌≤◌, List, [], ◌∷◌, ◌++◌, length, get_or, Result, Ok, Err, refl, sym, ap, subst, ◌∙◌, ◌⊎◌, inl, inr, append_assoc, length-append, arith}
+use Rattle.std.proofs.Common.{◌≡◌, ℕ, ◌+◌, ◌-◌, ◌*◌, ◌^◌, ◌<◌, ◌≤◌, List, [], ◌∷◌, ◌++◌, length, Result, Ok, Err, sym, ap, subst, ◌∙◌, ◌⊎◌, inl, inr, append_assoc, length-append, arith}
 use Rattle.std.specs.Prelude.{IfOk, IfErr}
 use Rattle.std.specs.Int.{w32, to_be_bytes}
 use Rattle.std.specs.List.{flat_map}
 use Rattle.std.proofs.lemmas.List.Concat.{flat_map-cons}
 use Rattle.desk_ops.specs.declared.op.Stamp.{Stamp}
 use Rattle.desk_ops.specs.declared.op.Op.{Op}
-use Rattle.desk_ops.specs.declared.op.Op.TheVariants as ops
 use Rattle.desk_ops.specs.declared.op.Unlawful.{Unlawful}
 use Rattle.desk_codec.specs.declared.form.FeedForm.{FeedForm}
-use Rattle.desk_codec.specs.declared.form.FeedForm.TheVariants.{Singles, Runs}
-use Rattle.desk_codec.specs.declared.fault.FeedWhy.{FeedWhy}
+use Rattle.desk_codec.specs.declared.form.FeedForm.TheVariants.{Runs}
 use Rattle.desk_codec.specs.declared.fault.FeedWhy.TheVariants as why
 use Rattle.desk_codec.specs.declared.fields.Fields.TheVariants.{Insert}
 use Rattle.desk_codec.specs.declared.items.ItemFault.{ItemFault}
 use Rattle.desk_codec.specs.declared.items.ItemFault.TheVariants.{Wrong, NoMemory}
 use Rattle.desk_codec.specs.Spelling.{spelling, IsHeld}
-use Rattle.desk_codec.specs.Item.{One, Run, next_stamp, run_ops, symbol_spelling}
-use Rattle.desk_codec.specs.Fault.{fields_of, cause, Mark, mark_bytes, ItemFields, OneOf, RunOf, MayStand, IsNoRun, IsCut, IsWrong}
+use Rattle.desk_codec.specs.Items.{One, Run, next_stamp, run_ops, symbol_spelling}
+use Rattle.desk_codec.specs.Fault.{fields_of, cause, Mark, mark_bytes, IsNoRun, IsCut}
 use Rattle.desk_codec.specs.ItemReading.{GivesItem, RefusesItem, RunFront, GivesInserts, HasUnlawful, RefusesInserts}
 use Rattle.desk_codec.proofs.Numbers.{IsBytes}
 use Rattle.desk_codec.proofs.HereLaws.{InsertOf, insert_of, cause_after, cause_first, marks_here, rest_bytes, begins, run_stands, run_there, run_unlawful}
@@ -118,49 +116,8 @@ run_refused (Err fault) bytes stamp parent count rest h least most g = refused_a
 
 -- ---- an item whose kind is no run's
 
-kind_here : (bytes : List ℕ) (kind : ℕ) (rest : List ℕ) → bytes ≡ kind ∷ rest → get_or bytes 0 0 ≡ kind
-kind_here bytes kind rest e = ap (λ (l : List ℕ). get_or l 0 0) e
-
-stand_on : (form : FeedForm) (fields : ItemFields) → MayStand Singles fields → MayStand form fields
-stand_on form (OneOf fields) h = tt
-stand_on form (RunOf stamp parent marks) h = absurd h.0
-
-cut_on : (form : FeedForm) (bytes : List ℕ) → IsCut Singles bytes → IsCut form bytes
-cut_on form bytes (inl h) = inl h
-cut_on form bytes (inr (inl h)) = absurd h.runs
-cut_on form bytes (inr (inr h)) = absurd h.runs
-
-pub other_wrong : (form : FeedForm) (bytes : List ℕ) (w : FeedWhy) → (get_or bytes 0 0 ≡ 4 → ⊥) → IsWrong Singles bytes w → IsWrong form bytes w
-other_wrong form bytes why.Magic n h = h
-other_wrong form bytes why.Kind n h = record { kind = h.kind; rest = h.rest; front = h.front; none = h.none; no_run = λ runs e. n (kind_here bytes h.kind h.rest h.front ∙ e) }
-other_wrong form bytes (why.Unlawful u) n h = record { fields = h.fields; values = h.values; stands = stand_on form h.fields h.stands; rest = h.rest; front = h.front; is = h.is }
-other_wrong form bytes why.Cut n h = cut_on form bytes h
-other_wrong form bytes why.Run n h = absurd h.runs
-
 pub op_given : (form : FeedForm) (bytes rest : List ℕ) (op : Op) (before after : List Op) → IsHeld op → bytes ≡ spelling op ++ rest → after ≡ before ++ op ∷ [] → GivesItem form bytes before after rest
 op_given form bytes rest op before after held e is = record { item = One op; stands = held; is = is; front = e }
-
-op_length : (op : Op) → 16 ≤ length (spelling op)
-op_length (ops.Insert s p y) = omega arith
-op_length (ops.Delete s t) = omega arith
-op_length (ops.Set s k v) = omega arith
-
-pub op_whole : (bytes rest : List ℕ) (op : Op) → bytes ≡ spelling op ++ rest → 16 ≤ length bytes
-op_whole bytes rest op e =
-    let len : length bytes ≡ length (spelling op) + length rest = ap (λ (l : List ℕ). length l) e ∙ length-append (spelling op) rest in
-    let some = op_length op in
-    omega (arith, len, some)
-
-four_here : (bytes : List ℕ) → 0 < length bytes → get_or bytes 0 0 ≡ 4 → (rest : List ℕ) × (bytes ≡ 4 ∷ rest)
-four_here [] some e = absurd (omega arith)
-four_here (k ∷ bytes) some e = (bytes, ap (λ (n : ℕ). n ∷ bytes) e)
-
--- in a feed of single operations a run's kind is none
-pub no_kind : (bytes : List ℕ) → 0 < length bytes → get_or bytes 0 0 ≡ 4 → IsWrong Singles bytes why.Kind
-no_kind bytes some e = let h = four_here bytes some e in record { kind = 4; rest = h.0; front = h.1; none = refl; no_run = λ runs f. runs }
-
-pub cut_front : (bytes : List ℕ) → 0 < length bytes → get_or bytes 0 0 ≡ 4 → length bytes < 22 → IsCut Runs bytes
-cut_front bytes some e short = let h = four_here bytes some e in inr (inl (record { runs = tt; rest = h.0; front = h.1; short = short }))
 
 -- inserts are never told as cut
 pub never_cut : {V : Type 0} (r : Result V ItemFault) (stamp parent : Stamp) (count : ℕ) (rest : List ℕ) → IfErr r (λ fault. RefusesInserts stamp parent count rest fault) → r ≡ Err (Wrong why.Cut) → ⊥

@@ -5,7 +5,7 @@ use Rattle.desk_ops.specs.declared.op.Stamp.{Stamp}
 use Rattle.desk_ops.specs.declared.op.Symbol.{Symbol}
 use Rattle.desk_ops.specs.declared.op.Op.TheVariants.{Insert}
 use Rattle.desk_codec.specs.Spelling.{stamp_spelling}
-use Rattle.desk_codec.specs.Item.{symbol_spelling, item_spelling}
+use Rattle.desk_codec.specs.Items.{symbol_spelling, item_spelling}
 use Rattle.desk_codec.specs.Runs.{item_of}
 
 run-spelled : (s p : Stamp) (y : Symbol) (ys : List Symbol) → 1 < length ys → 4 ∷ stamp_spelling s ++ stamp_spelling p ++ length ys ∷ flat_map symbol_spelling ys ≡ item_spelling (item_of (Insert s p y) ys)

@@ -1,11 +1,10 @@
 -- From one item to the next.
-use Rattle.std.proofs.Common.{◌≡◌, ℕ, zero, suc, ◌+◌, ◌≤◌, Bool, true, false, ◌||◌, List, [], ◌∷◌, ◌++◌, length, drop, get_or, replicate, refl, sym, ap, ◌∙◌, append_assoc}
+use Rattle.std.proofs.Common.{◌≡◌, ℕ, ◌+◌, ◌≤◌, Bool, true, false, ◌||◌, List, [], ◌∷◌, ◌++◌, length, drop, get_or, refl, sym, ap, ◌∙◌, append_assoc}
 use Rattle.std.specs.List.{flat_map}
 use Rattle.std.proofs.lemmas.List.{append-nil, drop_all}
 use Rattle.std.proofs.lemmas.List.Concat.{flat_map-cons}
 use Rattle.desk_ops.specs.declared.op.Op.{Op}
-use Rattle.desk_codec.specs.Item.{Item, item_ops, item_spelling}
-use Rattle.desk_codec.specs.Feed.{runs_magic}
+use Rattle.desk_codec.specs.Items.{Item, item_ops, item_spelling}
 use Rattle.desk_codec.specs.Runs.{is_among, item_at, items_from, runs_feed}
 use Rattle.desk_codec.specs.RunSteps.{IsAt, IsWrittenTo, MarksAlso}
 use Rattle.desk_codec.proofs.RunPlaces.{drop-at}
@@ -22,15 +21,6 @@ items-take ops done rest op e = ap (λ (b : Bool). elim b [ true ↦ items_from 
 pub items-end : (ops done : List Op) → items_from ops done [] ≡ []
 unfolding items_from
 items-end ops done = refl
-
-no-marks : (n k : ℕ) → get_or (replicate n false) k false ≡ false
-no-marks zero k = refl
-no-marks (suc n) zero = refl
-no-marks (suc n) (suc k) = no-marks n k
-
--- nothing is written
-pub at-start : (ops : List Op) (marks : List Bool) (bytes : List ℕ) → length marks ≡ length ops → ((k : ℕ) → get_or marks k false ≡ false) → bytes ≡ runs_magic → IsWrittenTo ops marks bytes 0
-at-start ops marks bytes size none e = record { written = []; size = size; marked = λ k d lt. none k; rest = ap (λ (l : List ℕ). l ++ flat_map item_spelling (items_from ops [] ops)) e }
 
 split-at : (ops : List Op) (i : ℕ) (op : Op) → IsAt ops i op → drop i ops ≡ op ∷ drop (i + 1) ops
 split-at ops i op h = drop-at ops i op h.within ∙ ap (λ (o : Op). o ∷ drop (i + 1) ops) (h.is op)

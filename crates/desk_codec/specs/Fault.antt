@@ -22,7 +22,7 @@ use Rattle.desk_codec.specs.declared.fault.FeedWhy.TheVariants as why
 use Rattle.desk_codec.specs.declared.fault.FeedFault.{FeedFault}
 use Rattle.desk_codec.specs.declared.form.FeedForm.{FeedForm}
 use Rattle.desk_codec.specs.Spelling.{size_of_kind, stamp_spelling, IsStampValue}
-use Rattle.desk_codec.specs.Item.{Item, One, Run, next_stamp}
+use Rattle.desk_codec.specs.Items.{Item, One, Run, next_stamp}
 use Rattle.desk_codec.specs.Feed.{magic_of, HasRuns, IsRunLength, Spells}
 
 -- ---- fields, lawful or not

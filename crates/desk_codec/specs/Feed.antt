@@ -7,7 +7,7 @@ use Rattle.desk_ops.specs.declared.op.Op.{Op}
 use Rattle.desk_codec.specs.declared.form.FeedForm.{FeedForm}
 use Rattle.desk_codec.specs.declared.form.FeedForm.TheVariants.{Singles, Runs}
 use Rattle.desk_codec.specs.Spelling.{spelling, IsHeld}
-use Rattle.desk_codec.specs.Item.{Item, One, Run, run_ops, item_ops, item_spelling}
+use Rattle.desk_codec.specs.Items.{Item, One, Run, run_ops, item_ops, item_spelling}
 
 -- what a feed of single operations begins with
 abbrev pub magic : List ℕ

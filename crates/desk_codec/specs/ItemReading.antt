@@ -10,7 +10,7 @@ use Rattle.desk_codec.specs.declared.form.FeedForm.{FeedForm}
 use Rattle.desk_codec.specs.declared.items.ItemFault.{ItemFault}
 use Rattle.desk_codec.specs.declared.items.ItemFault.TheVariants.{Wrong, NoMemory}
 use Rattle.desk_codec.specs.Spelling.{stamp_spelling, IsStampValue, IsHeld}
-use Rattle.desk_codec.specs.Item.{Item, run_ops, item_ops, symbol_spelling, item_spelling}
+use Rattle.desk_codec.specs.Items.{Item, run_ops, item_ops, symbol_spelling, item_spelling}
 use Rattle.desk_codec.specs.Feed.{Stands, Spells, ops_in}
 use Rattle.desk_codec.specs.Pieces.{IsUnended}
 use Rattle.desk_codec.specs.Fault.{Mark, mark_bytes, IsMarkValue, run_cause, IsWrong}

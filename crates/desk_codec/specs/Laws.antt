@@ -11,7 +11,7 @@ use Rattle.desk_codec.specs.declared.fault.FeedWhy.{FeedWhy}
 use Rattle.desk_codec.specs.declared.form.FeedForm.{FeedForm}
 use Rattle.desk_codec.specs.Fault.{IsWrong, IsFirstFault, item_fields, AreItemValues}
 use Rattle.desk_codec.specs.Spelling.{spelling, IsHeld}
-use Rattle.desk_codec.specs.Item.{Item, Run, item_spelling}
+use Rattle.desk_codec.specs.Items.{Item, Run, item_spelling}
 use Rattle.desk_codec.specs.Feed.{magic, feed, Stands, IsFeed}
 
 -- an insert takes 26 bytes, a delete 21, and a setting 16; a run takes 22 bytes, and 5 for each of its inserts

@@ -1,9 +1,9 @@
 pub mod Spelling
-pub mod Item
+pub mod Items
 pub mod Feed
 pub mod Fault
 pub mod Laws
-pub mod Kind
+pub mod Form
 pub mod Reading
 pub mod Order
 pub mod Pieces

@@ -6,7 +6,7 @@ use Rattle.desk_codec.specs.declared.fault.FeedFault.{FeedFault}
 use Rattle.desk_codec.specs.declared.fault.ReadFault.{ReadFault}
 use Rattle.desk_codec.specs.declared.fault.ReadFault.TheVariants.{Fault, Failed, NoMemory}
 use Rattle.desk_codec.specs.declared.form.FeedForm.{FeedForm}
-use Rattle.desk_codec.specs.Item.{Item}
+use Rattle.desk_codec.specs.Items.{Item}
 use Rattle.desk_codec.specs.Feed.{magic_of, Spells, ops_in}
 use Rattle.desk_codec.specs.Fault.{IsCut, GoesWrong, HasNoMagic}
 

@@ -8,7 +8,7 @@ use Rattle.desk_codec.specs.declared.form.FeedForm.{FeedForm}
 use Rattle.desk_codec.specs.Feed.{magic_of}
 use Rattle.desk_codec.specs.Fault.{IsFirstFault}
 
--- a fault told of bytes is their first; Failed is never told, and want of memory may be told of any
+-- a fault told of bytes is their first; Failed is never told, and out of memory may be told of any
 abbrev pub Tells : List ℕ → ReadFault → Type 0
 Tells bytes (Fault fault) = IsFirstFault bytes fault
 Tells bytes Failed = ⊥

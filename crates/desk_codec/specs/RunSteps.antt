@@ -5,7 +5,7 @@ use Rattle.desk_ops.specs.declared.op.Stamp.{Stamp}
 use Rattle.desk_ops.specs.declared.op.Symbol.{Symbol}
 use Rattle.desk_ops.specs.declared.op.Op.{Op}
 use Rattle.desk_ops.specs.declared.op.Op.TheVariants.{Insert}
-use Rattle.desk_codec.specs.Item.{next_stamp, item_spelling}
+use Rattle.desk_codec.specs.Items.{next_stamp, item_spelling}
 use Rattle.desk_codec.specs.Runs.{next_insert, is_among, items_from, runs_feed}
 
 -- the operation stands at the place

@@ -11,7 +11,7 @@ use Rattle.desk_ops.specs.Op.{stamp_of, Insertion, insertion}
 use Rattle.desk_ops.specs.Order.{op_cmp}
 use Rattle.desk_ops.specs.OpSet.{OpSet, in_order}
 use Rattle.desk_ops.specs.Held.{bearing, sole}
-use Rattle.desk_codec.specs.Item.{Item, One, Run, next_stamp, item_ops, item_spelling}
+use Rattle.desk_codec.specs.Items.{Item, One, Run, next_stamp, item_ops, item_spelling}
 use Rattle.desk_codec.specs.Feed.{runs_magic, ops_in}
 
 -- the insert that an operation is

@@ -4,10 +4,9 @@ ghost use Rattle.std.specs.Prelude.{◌≡◌, ◌+◌, ◌≤◌, ◌<◌, ◌^
 ghost use Rattle.std.specs.Int.{w32, to_be_bytes};
 ghost use Rattle.desk_codec.specs.Spelling.{stamp_spelling, IsStampValue, IsHeld};
 ghost use Rattle.desk_codec.specs.Fault.{fields_of, bytes_of, AreValues, style_of, key_of, symbol_in, setting_cause, cause};
-ghost use Rattle.desk_codec.specs.Kind.{kind_byte, kind_size};
+ghost use Rattle.desk_codec.specs.Form.{kind_byte, kind_size};
 
 use crate::form::Kind;
-use crate::values::op_known;
 use desk_ops::{Key, Op, Stamp, Style, Symbol, Unlawful};
 
 /// The fields of an operation as its bytes have them, lawful or not: a style and a character, or a key, by their numbers.
@@ -108,11 +107,8 @@ impl Fields {
                 None => return Err(cause_of_no_key(stamp)),
             },
         };
-        op_known(op);
-        match op.check() {
-            Ok(()) => Ok(op),
-            Err(first) => Err(first),
-        }
+        op.check()?;
+        Ok(op)
     }
 
     /// The fields of an operation of the kind from what follows its kind, and the bytes after them.
@@ -150,7 +146,7 @@ impl Fields {
     }
 }
 
-/// The first byte and what follows it; of no bytes 0 and none.
+/// The first byte and what follows it.
 pub fn take_byte(bytes: &[u8]) -> (u8, &[u8])
     requires { 1 ≤ length bytes.now }
     ensures bytes { bytes.now ≡ result.0 ∷ result.1.now }

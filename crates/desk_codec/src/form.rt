@@ -4,7 +4,7 @@ ghost use Rattle.std.specs.Prelude.{◌≡◌, ◌≢◌, ◌≤◌, length, Mat
 ghost use Rattle.desk_codec.specs.declared.form.FeedForm.{FeedForm};
 ghost use Rattle.desk_codec.specs.Feed.{magic_of};
 ghost use Rattle.desk_codec.specs.Spelling.{size_of_kind, spelling};
-ghost use Rattle.desk_codec.specs.Kind.{kind_byte, kind_size};
+ghost use Rattle.desk_codec.specs.Form.{kind_byte, kind_size};
 
 use desk_ops::Op;
 

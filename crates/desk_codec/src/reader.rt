@@ -232,10 +232,8 @@ fn item_in<A: Allocator>(
     ensures refused { IfErr result (λ fault. RefusesItem form bytes.now fault) }
     ensures cut { result ≡ Err (Wrong why.Cut) → ops.new.items ≡ ops.old.items }
 {
-    match next_item(form, bytes, ops) {
-        Ok(rest) => Ok(rest.len()),
-        Err(fault) => Err(fault),
-    }
+    let rest = next_item(form, bytes, ops)?;
+    Ok(rest.len())
 }
 
 /// Appends the operations of the item whose front was kept and that the piece makes whole, and gives the rest of the piece; or
@@ -258,10 +256,8 @@ fn first_item<'a, A: Allocator>(
     put(kept, end);
     let read = item_in(form, kept.as_slice(), ops);
     kept.truncate(len);
-    match read {
-        Ok(left) => Ok(&piece[size - left..]),
-        Err(fault) => Err(fault),
-    }
+    let left = read?;
+    Ok(&piece[size - left..])
 }
 
 /// Appends the operations of the items at the front of the bytes at a place, and gives the bytes of no whole item after them.
@@ -304,15 +300,13 @@ fn read_rest<'a, A: Allocator>(
     ensures fault { IfErr result (λ fault. StopsOn form place bytes.now fault) }
 {
     let mut ops = ops;
-    match read_whole(form, place, bytes, &mut ops) {
-        Ok(rest) => Ok(PieceRead {
-            form,
-            ops,
-            rest,
-            is_behind: false,
-        }),
-        Err(fault) => Err(fault),
-    }
+    let rest = read_whole(form, place, bytes, &mut ops)?;
+    Ok(PieceRead {
+        form,
+        ops,
+        rest,
+        is_behind: false,
+    })
 }
 
 /// The operations of the items that the bytes kept and the piece after them make whole, and what is to be kept after.

@@ -46,10 +46,8 @@ fn operations_of<A: Allocator>(alloc: A, bytes: &[u8]) -> Result<Vec<Op, A>, Rea
 {
     let mut reader = FeedReader::new();
     let ops = reader.feed(alloc, bytes)?;
-    match reader.finish() {
-        Ok(()) => Ok(ops),
-        Err(fault) => Err(fault),
-    }
+    reader.finish()?;
+    Ok(ops)
 }
 
 /// The operations of a feed, or the first fault of bytes that are none. It never answers `Failed`.
@@ -61,7 +59,7 @@ pub fn read_feed<A: Allocator>(alloc: A, bytes: &[u8]) -> Result<Vec<Op, A>, Rea
     // The feed of a list is read as that list, and bytes with a first fault are told by it, unless memory runs out.
     ensures only { (ops : List Op) → IsFeed bytes.now ops → Answers (λ v. v.items) result (Ok ops) }
     ensures first { (fault : FeedFault) → IsFirstFault bytes.now fault → Answers (λ v. v.items) result (Err fault) }
-    // Other than the magic, or too few bytes for an operation, is never told as want of memory.
+    // Bytes without a magic, or with too few after it for an operation, are never told as out of memory.
     ensures memory { result ≡ Err fault.NoMemory → MayHoldOne bytes.now }
 {
     operations_of(alloc, bytes)

@@ -7,19 +7,18 @@ ghost use Rattle.desk_ops.specs.declared.op.Op.TheVariants.{Insert};
 ghost use Rattle.desk_ops.specs.declared.op.Stamp.{Stamp};
 ghost use Rattle.desk_ops.specs.declared.op.Symbol.{Symbol};
 ghost use Rattle.desk_ops.specs.Op.{IsLawful, stamp_of};
-ghost use Rattle.desk_ops.specs.Stamp.{before};
+ghost use Rattle.desk_ops.specs.Stamp.{before, max_counter};
 ghost use Rattle.desk_ops.specs.Held.{bearing, sole};
 ghost use Rattle.desk_ops.specs.OpSet.{is_rising};
-ghost use Rattle.desk_codec.specs.Spelling.{stamp_spelling};
-ghost use Rattle.desk_codec.specs.Item.{run_ops, item_ops, symbol_spelling, item_spelling};
+ghost use Rattle.desk_codec.specs.Spelling.{stamp_spelling, IsValue};
+ghost use Rattle.desk_codec.specs.Items.{run_ops, item_ops, symbol_spelling, item_spelling};
 ghost use Rattle.desk_codec.specs.Feed.{IsFeed};
 ghost use Rattle.desk_codec.specs.Runs.{next_insert, chain, item_of, item_at, runs_feed, runs_ops};
 ghost use Rattle.desk_codec.specs.RunSteps.{IsAt, IsNextAt, IsWrittenTo, MarksAlso};
 ghost use Rattle.desk_codec.specs.RunLaws.{RunsAreRead};
 
 use crate::form::{MOST_RUN, RUN_KIND, RUNS_MAGIC};
-use crate::values::op_known;
-use crate::writing::write_op;
+use crate::writing::put_op;
 use desk_ops::{NoMemory, Op, Stamp, Symbol};
 use std::alloc::{AllocError, Allocator};
 
@@ -103,7 +102,7 @@ fn find_next(ops: &[Op], at: usize, stamp: Stamp) -> Option<(usize, Symbol)>
     requires rising { T (is_rising ops.now) }
     requires within { at < length ops.now }
     requires borne { (d : Op) → stamp_of (slice_index_or ops.now at d) ≡ stamp }
-    requires small { stamp.counter < 2 * 4611686018427387904 }
+    requires small { stamp.counter < 2 * max_counter }
     ensures some { IfSome result (λ next. IsNextAt ops.now stamp next.0 next.1) }
     ensures none { result ≡ None → next_insert ops.now stamp ≡ None }
 {
@@ -227,7 +226,7 @@ fn push_item<A: Allocator>(
             }
             Ok(())
         }
-        _ => out.extend_from_slice(write_op(op).as_slice()),
+        _ => put_op(out, *op),
     }
 }
 
@@ -252,6 +251,11 @@ fn write_item<A: Allocator>(
     push_item(out, &ops[at], symbols.as_slice())?;
     Ok(())
 }
+
+/// Does nothing: a caller learns that the operation's numbers are values of their fields' types.
+fn op_known(op: Op)
+    ensures { IsValue op }
+{}
 
 /// The feed of runs of operations that strictly rise: what one site typed in one go stands together, in runs of at most 64.
 /// Its memory is taken at once, before anything is written.

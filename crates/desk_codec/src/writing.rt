@@ -1,18 +1,17 @@
 //! Writing operations.
 
-ghost use Rattle.std.specs.Prelude.{◌≡◌, ◌+◌, ◌≤◌, ◌++◌, List, length, All, IfOk};
+ghost use Rattle.std.specs.Prelude.{◌≡◌, ◌+◌, ◌≤◌, ◌++◌, List, length, All, IfOk, OnOk};
 ghost use Rattle.arrayvec.specs.ArrayVec.{array_vec_len};
 ghost use Rattle.desk_ops.specs.declared.op.Op.{Op};
 ghost use Rattle.desk_ops.specs.Op.{IsLawful};
 ghost use Rattle.desk_ops.specs.Order.{style_code, key_code};
-ghost use Rattle.desk_codec.specs.Spelling.{stamp_spelling, spelling};
+ghost use Rattle.desk_codec.specs.Spelling.{stamp_spelling, spelling, IsValue};
 ghost use Rattle.desk_codec.specs.Feed.{feed, IsFeed};
 
 use crate::form::{Kind, MAGIC};
-use crate::values::op_known;
 use arrayvec::ArrayVec;
 use desk_ops::{Key, NoMemory, Op, Stamp, Style};
-use std::alloc::Allocator;
+use std::alloc::{AllocError, Allocator};
 
 /// Appends bytes, for which there is room.
 pub fn put<const N: usize>(out: &mut ArrayVec<u8, N>, bytes: &[u8])
@@ -77,6 +76,15 @@ pub fn write_op(op: &Op) -> ArrayVec<u8, 26>
     out
 }
 
+/// Appends the bytes of an operation, whose numbers are values of their fields' types.
+pub fn put_op<A: Allocator>(out: &mut Vec<u8, A>, op: Op) -> Result<(), AllocError>
+    requires { IsLawful op }
+    ensures items { OnOk result (out.new.items ≡ out.old.items ++ spelling op) }
+    ensures value { IsValue op }
+{
+    out.extend_from_slice(write_op(&op).as_slice())
+}
+
 /// How many bytes a feed of the operations takes.
 fn feed_size(ops: &[Op]) -> usize
     ensures { result ≡ length (feed ops.now) }
@@ -99,8 +107,7 @@ pub fn write_feed<A: Allocator>(alloc: A, ops: &[Op]) -> Result<Vec<u8, A>, NoMe
     let mut out = Vec::with_capacity(alloc, feed_size(ops))?;
     out.extend_from_slice(&MAGIC)?;
     for op in ops {
-        op_known(*op);
-        out.extend_from_slice(write_op(op).as_slice())?;
+        put_op(&mut out, *op)?;
     }
     Ok(out)
 }

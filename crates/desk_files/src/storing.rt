@@ -34,8 +34,6 @@ pub fn store<F: Files, A: Allocator + Copy>(
     let Ok(new) = new_name(alloc, name) else {
         return Err(FileRefusal::NoMemory);
     };
-    match files.write_new(new.as_str(), bytes) {
-        Ok(()) => files.rename(new.as_str(), name),
-        Err(why) => Err(why),
-    }
+    files.write_new(new.as_str(), bytes)?;
+    files.rename(new.as_str(), name)
 }

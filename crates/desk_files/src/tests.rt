@@ -1,3 +1,5 @@
+//! The tests of files that are replaced as a whole, on files whose calls fail by count.
+
 use crate::trial::TrialFiles;
 use crate::{FileRefusal, Files, store};
 use linked_list_allocator::LocalHeap;

@@ -11,11 +11,13 @@ use Rattle.std.proofs.lemmas.List.Elements.{filter_more}
 use Rattle.std.proofs.lemmas.Nat.{or_lt}
 use Rattle.std.proofs.Math.Pow.{pow-lt}
 use Rattle.std.proofs.lemmas.Nat.Bits.{bit_at-zero, bit_at_or, bit_at-pow_same, bit_at-pow_other, bit_at-lt, same_from_bits_below}
+use Rattle.std.proofs.lemmas.Bool.{or_parts, or_from}
+use Rattle.std.proofs.Math.Bool.{and-true}
 use Rattle.desk_signals.specs.declared.Signal.{Signal}
 use Rattle.desk_signals.specs.declared.Signal.TheVariants as signal
 use Rattle.desk_signals.specs.declared.RibbonRow.{RibbonRow}
 use Rattle.desk_signals.specs.Rows.{place, same, has, repeats, the_signals, signals_of}
-use Rattle.desk_signals.proofs.Same.{same-eq, neither, both_false, and_false, and_true, has_filter}
+use Rattle.desk_signals.proofs.Same.{same-eq, and_false, has_filter}
 use Rattle.desk_image.specs.Images.{bit, image, Shows, image_of, signals_in}
 
 below_31 : (x : Signal) → place x < 31
@@ -131,13 +133,13 @@ image_shows xs = (image_below xs, shown_bit xs)
 
 repeats_filter_step : (p : Signal → Bool) (x : Signal) (xs : List Signal) (b : Bool) → has xs x ≡ false → repeats (filter p xs) ≡ false →
     repeats (cond b (x ∷ filter p xs) (filter p xs)) ≡ false
-repeats_filter_step p x xs true none ih = both_false (has (filter p xs) x) (repeats (filter p xs)) (has_filter p xs x ∙ (ap (λ b. p x && b) none ∙ sym (and_false (p x)))) ih
+repeats_filter_step p x xs true none ih = or_from (has (filter p xs) x) (repeats (filter p xs)) (has_filter p xs x ∙ (ap (λ b. p x && b) none ∙ sym (and_false (p x)))) ih
 repeats_filter_step p x xs false none ih = ih
 
 repeats_filter : (p : Signal → Bool) (xs : List Signal) → repeats xs ≡ false → repeats (filter p xs) ≡ false
 repeats_filter p [] e = refl
 repeats_filter p (x ∷ xs) e =
-    let parts = neither (has xs x) (repeats xs) e in
+    let parts = or_parts (has xs x) (repeats xs) e in
     repeats_filter_step p x xs (p x) parts.0 (repeats_filter p xs parts.1)
 
 pub in_once : (n : ℕ) → repeats (signals_in n) ≡ false
@@ -146,7 +148,7 @@ in_once n = repeats_filter (λ x. eqb (bit_at n (bit x)) 1) the_signals refl
 pub in_has : (n : ℕ) (y : Signal) → has (signals_in n) y ≡ eqb (bit_at n (bit y)) 1
 in_has n y =
     has_filter (λ x. eqb (bit_at n (bit x)) 1) the_signals y
-    ∙ (ap (λ b. eqb (bit_at n (bit y)) 1 && b) (has_each y) ∙ and_true (eqb (bit_at n (bit y)) 1))
+    ∙ (ap (λ b. eqb (bit_at n (bit y)) 1 && b) (has_each y) ∙ and-true (eqb (bit_at n (bit y)) 1))
 
 bit_is : (b : ℕ) → b < 2 → b ≡ cond (eqb b 1) 1 0
 bit_is zero below = refl
@@ -166,9 +168,6 @@ shows_more n m xs i d below is (low, shows) =
           ∙ (ap₂ max (shows y) (ap (λ (k : ℕ). bit_at k (bit y)) is ∙ one_bit x y (same y x) refl)
           ∙ (max_or (has (take i xs) y) (same y x) ∙ ap (λ b. cond b 1 0) (sym (list_any_more (same y) xs i d below)))),
     )
-
-pub shows_none : (xs : List Signal) → Shows 0 (take 0 xs)
-shows_none xs = (omega arith, λ y. bit_at-zero (bit y))
 
 pub shown_row : (n i : ℕ) (xs : List Signal) (row : RibbonRow) → xs ≡ signals_of row → length xs ≤ i → Shows n (take i xs) → n ≡ image row
 shown_row n i xs row is whole shows =

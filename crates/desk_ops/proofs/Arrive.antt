@@ -6,6 +6,7 @@ use Rattle.std.proofs.lemmas.Cmp.{tied_itself}
 use Rattle.std.proofs.lemmas.Bool.{true≢false}
 use Rattle.std.specs.FinMap as fin
 use Rattle.std.specs.declared.cmp.Ordering.TheVariants.{Less}
+use Rattle.std.proofs.Math.Bool.{or-true}
 use Rattle.desk_ops.specs.declared.op.Stamp.{Stamp}
 use Rattle.desk_ops.specs.declared.op.Op.{Op}
 use Rattle.desk_ops.specs.Op.{Insertion, stamp_of, IsLawful, insertion}
@@ -109,10 +110,6 @@ among-with_op h o p m = go (sym (has_op-with_op h o p) ∙ fin.contains_key-keys
 pub with_op-among : (h : OpSet) (o p : Op) → (o ≡ p) ⊎ Among p (in_order h) → Among p (in_order (with_op h o))
 with_op-among h o p m = any-among p (in_order (with_op h o)) (sym (fin.contains_key-keys (with_op h o) p) ∙ has_op-with_op h o p ∙ go m)
   where
-    or-true : (a : Bool) → (a || true) ≡ true
-    or-true true = refl
-    or-true false = refl
-
     go : (o ≡ p) ⊎ Among p (in_order h) → (eq_by_cmp op_cmp p o || has_op h p) ≡ true
     go (inl e) = ap (λ b. b || has_op h p) (ap is_eq (ap (op_cmp p) e ∙ tied_itself op_total p))
     go (inr m) = ap (λ b. eq_by_cmp op_cmp p o || b) (fin.contains_key-keys h p ∙ among-any p (in_order h) m) ∙ or-true (eq_by_cmp op_cmp p o)

@@ -1,4 +1,4 @@
--- Who bears a stamp: in a set, and in a row of operations that rise.
+-- Who bears a stamp: in a set, and in a list of operations that rises.
 use Rattle.std.proofs.Common.{◌≡◌, suc, ◌<◌, ◌≤◌, ◌-◌, length, get_or, max, true, false, ◌++◌, T, List, [], ◌∷◌, refl, sym, ap, ◌∙◌, subst, ◌⊎◌, inl, inr, Some, None, arith}
 use Rattle.std.specs.Option.{is_some, unwrap_or}
 use Rattle.std.specs.Prelude.{nat_le}
@@ -176,7 +176,7 @@ above_unborne h s l = by_cases (is_borne_in h s) (λ e. absurd (go (borne_op h s
     go : ((o : Op) × (has_op h o ≡ true) × (stamp_of o ≡ s)) → ⊥
     go r = let w : (stamp_of r.0).counter ≤ greatest_counter_of h = counter_within h r.0 r.1 in let e : (stamp_of r.0).counter ≡ s.counter = ap (λ (t : Stamp). t.counter) r.2 in omega arith
 
--- ---- a row that rises
+-- ---- a list that rises
 
 pub ordered_rising : (ops : List Op) → T (is_rising ops) → IsOrdered ops
 ordered_rising ops rising = subst IsOrdered (keys-entries_of ops) (ordered_entries (entries_of ops) (of-T (is_rising ops) rising))

@@ -1,7 +1,8 @@
 -- What deletes an element of the walk.
-use Rattle.std.proofs.Common.{◌≡◌, Bool, true, false, ◌||◌, List, [], ◌∷◌, refl, sym, ap, ◌∙◌, subst, inl, inr}
+use Rattle.std.proofs.Common.{◌≡◌, Bool, true, ◌||◌, List, [], ◌∷◌, refl, sym, ap, ◌∙◌, subst, inl, inr}
 use Rattle.std.specs.List.{list_any}
 use Rattle.std.proofs.lemmas.Bool.{true≢false}
+use Rattle.std.proofs.Math.Bool.{or-true}
 use Rattle.desk_ops.specs.declared.op.Stamp.{Stamp}
 use Rattle.desk_ops.specs.declared.op.Op.{Op}
 use Rattle.desk_ops.specs.declared.op.Op.TheVariants.{Insert, Delete, Set}
@@ -27,10 +28,6 @@ pub some_any : (p : Op → Bool) (os : List Op) (o : Op) → Among o os → p o 
 some_any p [] o m e = absurd m
 some_any p (q ∷ os) o (inl i) e = ap (λ b. b || list_any p os) (ap p i ∙ e)
 some_any p (q ∷ os) o (inr m) e = ap (λ b. p q || b) (some_any p os o m e) ∙ or-true (p q)
-  where
-    or-true : (a : Bool) → (a || true) ≡ true
-    or-true true = refl
-    or-true false = refl
 
 delete_of : (s : Stamp) (o : Op) → deletes s o ≡ true → (t : Stamp) × (o ≡ Delete t s)
 delete_of s (Insert t p y) e = absurd (true≢false (sym e))

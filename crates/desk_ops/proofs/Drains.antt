@@ -19,9 +19,6 @@ use Rattle.desk_ops.proofs.Arrive.{ascending-same, among-with_insert, with_inser
 use Rattle.desk_ops.proofs.Scans.{place-walk}
 
 module _ (h : OpSet) (lawful : Each IsLawful (in_order h)) (xs : List Insertion) (d : IsDrained h xs) where
-  C : List Insertion
-  C = clear_inserts (in_order h)
-
   falls : Descends (reverse (clear_inserts (in_order h)))
   falls = descends (clear_inserts (in_order h)) (clear_ascending h) (clear_grows (in_order h) lawful).0
 

@@ -6,7 +6,7 @@ use Rattle.std.specs.Ordering.{ordering_then, is_eq, is_lt, nat_cmp}
 use Rattle.std.specs.Cmp.Lexicographic.{slice_cmp}
 use Rattle.std.specs.declared.cmp.Ordering.{Ordering}
 use Rattle.std.specs.declared.cmp.Ordering.TheVariants.{Less, Equal, Greater}
-use Rattle.std.proofs.lemmas.Bool.{true≢false}
+use Rattle.std.proofs.lemmas.Bool.{true≢false, not-true}
 use Rattle.desk_ops.specs.declared.op.Stamp.{Stamp}
 use Rattle.desk_ops.specs.declared.op.Op.{Op}
 use Rattle.desk_ops.specs.declared.fault.FaultKind.{FaultKind}
@@ -90,10 +90,6 @@ Rises (s ∷ ss) = Each (λ t. before s t ≡ true) ss × Rises ss
 rises_filter : (p : Stamp → Bool) (ss : List Stamp) → Rises ss → Rises (filter p ss)
 rises_filter p [] h = tt
 rises_filter p (s ∷ ss) h = elim (p s) as (λ b. Rises (cond b (s ∷ filter p ss) (filter p ss))) [ true ↦ (each-filter (λ t. before s t ≡ true) p ss h.0, rises_filter p ss h.1) | false ↦ rises_filter p ss h.1 ]
-
-not-true : (b : Bool) → not b ≡ true → b ≡ false
-not-true true e = absurd (true≢false (sym e))
-not-true false e = refl
 
 -- of two operations in order, the stamp of the second is greater or the same
 stamp_after : (o p : Op) → op_cmp o p ≡ Less → same (stamp_of p) (stamp_of o) ≡ false → before (stamp_of o) (stamp_of p) ≡ true

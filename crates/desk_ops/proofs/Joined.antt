@@ -1,7 +1,7 @@
 -- A set with one operation more: what bears a stamp, and what is clear.
 use Rattle.std.proofs.Common.{◌≡◌, Bool, true, false, cond, ◌||◌, List, [], ◌∷◌, map, refl, sym, ap, ◌∙◌, subst, ◌⊎◌, inl, inr}
 use Rattle.std.specs.List.{filter, list_any}
-use Rattle.std.proofs.lemmas.Bool.{true≢false}
+use Rattle.std.proofs.lemmas.Bool.{true≢false, or_right}
 use Rattle.std.specs.FinMap as fin
 use Rattle.std.specs.FinMap.Entries.{by_order}
 use Rattle.std.specs.declared.cmp.Ordering.TheVariants.{Less, Equal, Greater}
@@ -13,9 +13,9 @@ use Rattle.desk_ops.specs.Order.{op_cmp}
 use Rattle.desk_ops.specs.OrderLaws.{op_total, op_antisymmetric}
 use Rattle.desk_ops.specs.OpSet.{OpSet, has_op, with_op, in_order, IsWithin, AllLawful}
 use Rattle.desk_ops.specs.Lists.{Among}
-use Rattle.desk_ops.specs.Held.{bears, bearers, is_one, is_more, is_clear, is_forked, is_borne, is_clear_in, is_forked_in, is_borne_in}
+use Rattle.desk_ops.specs.Held.{bears, bearers, is_one, is_more, is_clear, is_borne, is_clear_in, is_borne_in}
 use Rattle.desk_ops.proofs.Stamps.{same-refl, by_cases}
-use Rattle.desk_ops.proofs.Lists.{Each, each-among, each-from_among, among-filter_from}
+use Rattle.desk_ops.proofs.Lists.{Each, each-among, each-from_among}
 use Rattle.desk_ops.proofs.Tree.{filter-hit, filter-miss}
 use Rattle.desk_ops.proofs.Arrive.{among-with_op, with_op-among}
 use Rattle.desk_ops.proofs.Ends.{among_held, held_among}
@@ -46,10 +46,6 @@ pub is_clear-with_op_apart : (h : OpSet) (o : Op) (s : Stamp) → same (stamp_of
 unfolding is_clear
 is_clear-with_op_apart h o s e = ap is_one (bearers-with_op_apart h o s e)
 
-pub is_forked-with_op_apart : (h : OpSet) (o : Op) (s : Stamp) → same (stamp_of o) s ≡ false → is_forked_in (with_op h o) s ≡ is_forked_in h s
-unfolding is_forked
-is_forked-with_op_apart h o s e = ap is_more (bearers-with_op_apart h o s e)
-
 -- ---- the stamp that it bears
 
 filter_new : (p : Op → Bool) (o : Op) (es : List (Op × Unit {0})) → p o ≡ true → Each (λ (e : Op × Unit {0}). p e.0 ≡ false) es → filter p (map (λ (e : Op × Unit {0}). e.0) (fin.put op_cmp o tt es)) ≡ o ∷ []
@@ -79,10 +75,6 @@ pub is_clear-with_op_new : (h : OpSet) (o : Op) → is_borne_in h (stamp_of o) �
 unfolding is_clear
 is_clear-with_op_new h o e = ap is_one (bearers-with_op_new h o e)
 
-pub is_forked-with_op_new : (h : OpSet) (o : Op) → is_borne_in h (stamp_of o) ≡ false → is_forked_in (with_op h o) (stamp_of o) ≡ false
-unfolding is_forked
-is_forked-with_op_new h o e = ap is_more (bearers-with_op_new h o e)
-
 pub more_from : (os : List Op) (a b : Op) → Among a os → Among b os → (a ≡ b → ⊥) → is_more os ≡ true
 more_from [] a b m n f = absurd m
 more_from (o ∷ []) a b (inl e) (inl g) f = absurd (f (sym e ∙ g))
@@ -90,27 +82,12 @@ more_from (o ∷ []) a b (inl e) (inr n) f = absurd n
 more_from (o ∷ []) a b (inr m) n f = absurd m
 more_from (o ∷ p ∷ os) a b m n f = refl
 
--- beside another of its stamp it forks it
-pub is_forked-with_op_other : (h : OpSet) (o : Op) → is_borne_in h (stamp_of o) ≡ true → has_op h o ≡ false → is_forked_in (with_op h o) (stamp_of o) ≡ true
-unfolding is_borne is_forked
-is_forked-with_op_other h o b new = go (any_some (bears (stamp_of o)) (in_order h) b)
-  where
-    go : ((p : Op) × Among p (in_order h) × (bears (stamp_of o) p ≡ true)) → is_more (bearers (with_op h o) (stamp_of o)) ≡ true
-    go r = more_from (bearers (with_op h o) (stamp_of o)) o r.0
-        (among-filter_from (bears (stamp_of o)) (in_order (with_op h o)) o (with_op-among h o o (inl refl)) (same-refl (stamp_of o)))
-        (among-filter_from (bears (stamp_of o)) (in_order (with_op h o)) r.0 (with_op-among h o r.0 (inr r.1)) r.2)
-        (λ e. true≢false (sym (ap (has_op h) e ∙ held_among h r.0 r.1) ∙ new))
-
 -- ---- borne, and the set itself
 
 pub is_borne-with_op : (h : OpSet) (o : Op) (s : Stamp) → is_borne_in (with_op h o) s ≡ (same (stamp_of o) s || is_borne_in h s)
 unfolding is_borne
 is_borne-with_op h o s = same_bool (is_borne_in (with_op h o) s) (same (stamp_of o) s || is_borne_in h s) to from
   where
-    or_right : (a b : Bool) → b ≡ true → (a || b) ≡ true
-    or_right true b e = refl
-    or_right false b e = e
-
     to : list_any (bears s) (in_order (with_op h o)) ≡ true → (same (stamp_of o) s || list_any (bears s) (in_order h)) ≡ true
     to e = found (any_some (bears s) (in_order (with_op h o)) e)
       where

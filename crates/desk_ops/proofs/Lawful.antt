@@ -1,7 +1,7 @@
 -- An operation is lawful exactly where no test of it fails.
-use Rattle.std.proofs.Common.{◌≡◌, ℕ, ◌<◌, ◌≤◌, ◌⊎◌, inl, inr, Bool, true, false, cond, not, ◌&&◌, ◌||◌, ◌==◌, List, [], ◌∷◌, Ok, Err, refl, sym, ap, ◌∙◌, arith}
+use Rattle.std.proofs.Common.{◌≡◌, ℕ, ◌<◌, ◌≤◌, ◌⊎◌, inl, inr, Bool, true, cond, not, ◌&&◌, ◌||◌, ◌==◌, List, [], ◌∷◌, Ok, Err, refl, sym, ap, ◌∙◌, arith}
 use Rattle.std.specs.Prelude.{nat_lt, nat_le, ◌↔◌, is_ok}
-use Rattle.std.proofs.lemmas.Bool.{true≢false}
+use Rattle.std.proofs.lemmas.Bool.{true≢false, and_parts, and_from, or_cases, or_left, or_right}
 use Rattle.std.proofs.lemmas.Bool.Decides.{nat_tests}
 use Rattle.desk_ops.specs.declared.op.Stamp.{Stamp}
 use Rattle.desk_ops.specs.declared.op.Style.{Style}
@@ -17,24 +17,6 @@ use Rattle.desk_ops.specs.Stamp.{head, is_head, max_counter, is_counter, is_stam
 use Rattle.desk_ops.specs.Op.{symbol_verdict, IsLawful, IsSymbol, IsValue, is_roman, is_symbol, is_value, first_of, causes, verdict}
 use Rattle.desk_ops.proofs.Stamps.{by_cases}
 use Rattle.desk_ops.proofs.Lists.{Each}
-
-both : (a b : Bool) → (a && b) ≡ true → (a ≡ true) × (b ≡ true)
-both true b e = (refl, e)
-both false b e = absurd (true≢false (sym e))
-
-and : (a b : Bool) → a ≡ true → b ≡ true → (a && b) ≡ true
-and a b e f = ap (λ c. c && b) e ∙ f
-
-either : (a b : Bool) → (a || b) ≡ true → (a ≡ true) ⊎ (b ≡ true)
-either true b e = inl refl
-either false b e = inr e
-
-or_left : (a b : Bool) → a ≡ true → (a || b) ≡ true
-or_left a b e = ap (λ c. c || b) e
-
-or_right : (a b : Bool) → b ≡ true → (a || b) ≡ true
-or_right true b e = refl
-or_right false b e = e
 
 le_from : (m n : ℕ) → nat_le m n ≡ true → m ≤ n
 le_from m n e = grind (arith, nat_tests)
@@ -64,18 +46,18 @@ site_true n e = grind (arith, nat_tests)
 
 pub stamp_from : (s : Stamp) → is_stamp s ≡ true → IsStamp s
 stamp_from s e =
-    let p = both (is_counter s.counter) (not (s.site == 0)) e in
-    let q = both (nat_le 1 s.counter) (nat_le s.counter max_counter) p.0 in
+    let p = and_parts (is_counter s.counter) (not (s.site == 0)) e in
+    let q = and_parts (nat_le 1 s.counter) (nat_le s.counter max_counter) p.0 in
     (le_from 1 s.counter q.0, le_from s.counter max_counter q.1, site_from s.site p.1)
 
 pub stamp_true : (s : Stamp) → IsStamp s → is_stamp s ≡ true
-stamp_true s h = and (is_counter s.counter) (not (s.site == 0)) (and (nat_le 1 s.counter) (nat_le s.counter max_counter) (le_true 1 s.counter h.0) (le_true s.counter max_counter h.1)) (site_true s.site h.2)
+stamp_true s h = and_from (is_counter s.counter) (not (s.site == 0)) (and_from (nat_le 1 s.counter) (nat_le s.counter max_counter) (le_true 1 s.counter h.0) (le_true s.counter max_counter h.1)) (site_true s.site h.2)
 
 pub head_from : (s : Stamp) → is_head s ≡ true → s ≡ head
-head_from s e = let p = both (s.counter == 0) (s.site == 0) e in λ i. record { counter = eq_from s.counter 0 p.0 i; site = eq_from s.site 0 p.1 i }
+head_from s e = let p = and_parts (s.counter == 0) (s.site == 0) e in λ i. record { counter = eq_from s.counter 0 p.0 i; site = eq_from s.site 0 p.1 i }
 
 pub head_true : (s : Stamp) → s ≡ head → is_head s ≡ true
-head_true s e = and (s.counter == 0) (s.site == 0) (eq_true s.counter 0 (ap (λ (t : Stamp). t.counter) e)) (eq_true s.site 0 (ap (λ (t : Stamp). t.site) e))
+head_true s e = and_from (s.counter == 0) (s.site == 0) (eq_true s.counter 0 (ap (λ (t : Stamp). t.counter) e)) (eq_true s.site 0 (ap (λ (t : Stamp). t.site) e))
 
 -- ---- symbols and values
 
@@ -85,7 +67,7 @@ roman_from Italic e = absurd (true≢false (sym e))
 roman_from SmallCap e = absurd (true≢false (sym e))
 
 pub symbol_from : (y : Symbol) → is_symbol y ≡ true → IsSymbol y
-symbol_from y e = go (either blank other e)
+symbol_from y e = go (or_cases blank other e)
   where
     blank : Bool
     blank = (y.ch == 10 || y.ch == 32) && is_roman y.style
@@ -102,26 +84,26 @@ symbol_from y e = go (either blank other e)
     wide (inr k) = inr (lt_from 159 y.ch k)
 
     go : (((y.ch == 10 || y.ch == 32) && is_roman y.style) ≡ true) ⊎ ((nat_lt 32 y.ch && (nat_lt y.ch 127 || nat_lt 159 y.ch)) ≡ true) → IsSymbol y
-    go (inl k) = let p = both (y.ch == 10 || y.ch == 32) (is_roman y.style) k in inl (roman_from y.style p.1, char (either (y.ch == 10) (y.ch == 32) p.0))
-    go (inr k) = let p = both (nat_lt 32 y.ch) (nat_lt y.ch 127 || nat_lt 159 y.ch) k in inr (lt_from 32 y.ch p.0, wide (either (nat_lt y.ch 127) (nat_lt 159 y.ch) p.1))
+    go (inl k) = let p = and_parts (y.ch == 10 || y.ch == 32) (is_roman y.style) k in inl (roman_from y.style p.1, char (or_cases (y.ch == 10) (y.ch == 32) p.0))
+    go (inr k) = let p = and_parts (nat_lt 32 y.ch) (nat_lt y.ch 127 || nat_lt 159 y.ch) k in inr (lt_from 32 y.ch p.0, wide (or_cases (nat_lt y.ch 127) (nat_lt 159 y.ch) p.1))
 
 pub symbol_true : (y : Symbol) → IsSymbol y → is_symbol y ≡ true
-symbol_true y (inl h) = or_left ((y.ch == 10 || y.ch == 32) && is_roman y.style) (nat_lt 32 y.ch && (nat_lt y.ch 127 || nat_lt 159 y.ch)) (and (y.ch == 10 || y.ch == 32) (is_roman y.style) (char h.1) (ap is_roman h.0))
+symbol_true y (inl h) = or_left ((y.ch == 10 || y.ch == 32) && is_roman y.style) (nat_lt 32 y.ch && (nat_lt y.ch 127 || nat_lt 159 y.ch)) (and_from (y.ch == 10 || y.ch == 32) (is_roman y.style) (char h.1) (ap is_roman h.0))
   where
     char : (y.ch ≡ 10) ⊎ (y.ch ≡ 32) → (y.ch == 10 || y.ch == 32) ≡ true
     char (inl k) = or_left (y.ch == 10) (y.ch == 32) (eq_true y.ch 10 k)
     char (inr k) = or_right (y.ch == 10) (y.ch == 32) (eq_true y.ch 32 k)
-symbol_true y (inr h) = or_right ((y.ch == 10 || y.ch == 32) && is_roman y.style) (nat_lt 32 y.ch && (nat_lt y.ch 127 || nat_lt 159 y.ch)) (and (nat_lt 32 y.ch) (nat_lt y.ch 127 || nat_lt 159 y.ch) (lt_true 32 y.ch h.0) (wide h.1))
+symbol_true y (inr h) = or_right ((y.ch == 10 || y.ch == 32) && is_roman y.style) (nat_lt 32 y.ch && (nat_lt y.ch 127 || nat_lt 159 y.ch)) (and_from (nat_lt 32 y.ch) (nat_lt y.ch 127 || nat_lt 159 y.ch) (lt_true 32 y.ch h.0) (wide h.1))
   where
     wide : (y.ch < 127) ⊎ (159 < y.ch) → (nat_lt y.ch 127 || nat_lt 159 y.ch) ≡ true
     wide (inl k) = or_left (nat_lt y.ch 127) (nat_lt 159 y.ch) (lt_true y.ch 127 k)
     wide (inr k) = or_right (nat_lt y.ch 127) (nat_lt 159 y.ch) (lt_true 159 y.ch k)
 
 within : (a b n : ℕ) → (nat_le a n && nat_le n b) ≡ true → (a ≤ n) × (n ≤ b)
-within a b n e = let p = both (nat_le a n) (nat_le n b) e in (le_from a n p.0, le_from n b p.1)
+within a b n e = let p = and_parts (nat_le a n) (nat_le n b) e in (le_from a n p.0, le_from n b p.1)
 
 within_true : (a b n : ℕ) → (a ≤ n) × (n ≤ b) → (nat_le a n && nat_le n b) ≡ true
-within_true a b n h = and (nat_le a n) (nat_le n b) (le_true a n h.0) (le_true n b h.1)
+within_true a b n h = and_from (nat_le a n) (nat_le n b) (le_true a n h.0) (le_true n b h.1)
 
 pub value_from : (k : Key) (n : ℕ) → is_value k n ≡ true → IsValue k n
 value_from Measure n e = within 12 720 n e
@@ -151,10 +133,10 @@ true_all [] h = refl
 true_all (t ∷ ts) h = ap (λ b. cond b (first_of ts) (Err t.1)) h.0 ∙ true_all ts h.1
 
 own_from : (s : Stamp) → is_counter s.counter ≡ true → not (s.site == 0) ≡ true → IsStamp s
-own_from s c e = stamp_from s (and (is_counter s.counter) (not (s.site == 0)) c e)
+own_from s c e = stamp_from s (and_from (is_counter s.counter) (not (s.site == 0)) c e)
 
 parent_from : (p : Stamp) → (is_head p || is_stamp p) ≡ true → (p ≡ head) ⊎ IsStamp p
-parent_from p e = go (either (is_head p) (is_stamp p) e)
+parent_from p e = go (or_cases (is_head p) (is_stamp p) e)
   where
     go : (is_head p ≡ true) ⊎ (is_stamp p ≡ true) → (p ≡ head) ⊎ IsStamp p
     go (inl k) = inl (head_from p k)
@@ -167,23 +149,23 @@ parent_true p (inr k) = or_right (is_head p) (is_stamp p) (stamp_true p k)
 pub lawful_from : (op : Op) → verdict op ≡ Ok tt → IsLawful op
 lawful_from (Insert s p y) e =
     let h = all_true (causes (Insert s p y)) e in
-    let t = both (is_head p || is_stamp p) (nat_lt p.counter s.counter) h.1.1.0 in
+    let t = and_parts (is_head p || is_stamp p) (nat_lt p.counter s.counter) h.1.1.0 in
     (own_from s h.0 h.1.0, parent_from p t.0, lt_from p.counter s.counter t.1, symbol_from y h.1.1.1.0)
 lawful_from (Delete s p) e =
     let h = all_true (causes (Delete s p)) e in
-    let t = both (is_stamp p) (nat_lt p.counter s.counter) h.1.1.0 in
+    let t = and_parts (is_stamp p) (nat_lt p.counter s.counter) h.1.1.0 in
     (own_from s h.0 h.1.0, stamp_from p t.0, lt_from p.counter s.counter t.1)
 lawful_from (Set s k v) e = let h = all_true (causes (Set s k v)) e in (own_from s h.0 h.1.0, value_from k v h.1.1.1.1.0)
 
 pub lawful_true : (op : Op) → IsLawful op → verdict op ≡ Ok tt
 lawful_true (Insert s p y) h =
-    let o = both (is_counter s.counter) (not (s.site == 0)) (stamp_true s h.0) in
-    true_all (causes (Insert s p y)) (o.0, (o.1, (and (is_head p || is_stamp p) (nat_lt p.counter s.counter) (parent_true p h.1) (lt_true p.counter s.counter h.2), (symbol_true y h.3, (refl, tt)))))
+    let o = and_parts (is_counter s.counter) (not (s.site == 0)) (stamp_true s h.0) in
+    true_all (causes (Insert s p y)) (o.0, (o.1, (and_from (is_head p || is_stamp p) (nat_lt p.counter s.counter) (parent_true p h.1) (lt_true p.counter s.counter h.2), (symbol_true y h.3, (refl, tt)))))
 lawful_true (Delete s p) h =
-    let o = both (is_counter s.counter) (not (s.site == 0)) (stamp_true s h.0) in
-    true_all (causes (Delete s p)) (o.0, (o.1, (and (is_stamp p) (nat_lt p.counter s.counter) (stamp_true p h.1) (lt_true p.counter s.counter h.2), (refl, (refl, tt)))))
+    let o = and_parts (is_counter s.counter) (not (s.site == 0)) (stamp_true s h.0) in
+    true_all (causes (Delete s p)) (o.0, (o.1, (and_from (is_stamp p) (nat_lt p.counter s.counter) (stamp_true p h.1) (lt_true p.counter s.counter h.2), (refl, (refl, tt)))))
 lawful_true (Set s k v) h =
-    let o = both (is_counter s.counter) (not (s.site == 0)) (stamp_true s h.0) in
+    let o = and_parts (is_counter s.counter) (not (s.site == 0)) (stamp_true s h.0) in
     true_all (causes (Set s k v)) (o.0, (o.1, (refl, (refl, (value_true k v h.1, tt)))))
 
 pub lawful_told : (op : Op) → (verdict op ≡ Ok tt) ↔ IsLawful op

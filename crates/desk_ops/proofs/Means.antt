@@ -11,6 +11,7 @@ use Rattle.std.specs.FinMap as fin
 use Rattle.std.specs.FinMap.Entries.{is_sorted, below_all}
 use Rattle.std.specs.declared.cmp.Ordering.{Ordering}
 use Rattle.std.specs.declared.cmp.Ordering.TheVariants.{Less, Equal, Greater}
+use Rattle.std.proofs.Math.Bool.{or-true}
 use Rattle.desk_ops.specs.declared.op.Stamp.{Stamp}
 use Rattle.desk_ops.specs.declared.op.Op.{Op}
 use Rattle.desk_ops.specs.declared.op.Op.TheVariants.{Insert, Delete, Set}
@@ -66,10 +67,6 @@ pub among-any : (q : Op) (os : List Op) → Among q os → list_any (eq_by_cmp o
 among-any q [] m = absurd m
 among-any q (o ∷ os) (inl e) = ap (λ b. b || list_any (eq_by_cmp op_cmp q) os) (ap is_eq (ap (op_cmp q) e ∙ tied_itself op_total q))
 among-any q (o ∷ os) (inr m) = ap (λ b. eq_by_cmp op_cmp q o || b) (among-any q os m) ∙ or-true (eq_by_cmp op_cmp q o)
-  where
-    or-true : (a : Bool) → (a || true) ≡ true
-    or-true true = refl
-    or-true false = refl
 
 pub equal : (r : Ordering) → is_eq r ≡ true → r ≡ Equal
 equal Less e = absurd (true≢false (sym e))

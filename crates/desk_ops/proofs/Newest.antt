@@ -1,7 +1,7 @@
 -- An operation with a greater counter than all that are held: what is shown with it.
 use Rattle.std.proofs.Common.{◌≡◌, ℕ, zero, suc, ◌+◌, ◌<◌, ◌≤◌, Bool, true, false, not, cond, ◌||◌, List, [], ◌∷◌, map, length, get_or, reverse, refl, sym, ap, ◌∙◌, subst, ◌⊎◌, inl, inr, arith}
 use Rattle.std.specs.List.{filter, insert, remove}
-use Rattle.std.proofs.lemmas.Bool.{true≢false}
+use Rattle.std.proofs.lemmas.Bool.{true≢false, or_right}
 use Rattle.desk_ops.specs.declared.op.Stamp.{Stamp}
 use Rattle.desk_ops.specs.declared.op.Symbol.{Symbol}
 use Rattle.desk_ops.specs.declared.op.Key.{Key}
@@ -29,9 +29,6 @@ use Rattle.desk_ops.proofs.Joined.{same_bool, is_clear-with_op_apart, is_clear-w
 use Rattle.desk_ops.proofs.Bearers.{op_borne, counter_within, above_unborne}
 
 -- ---- lists
-
-stamps : List Insertion → List Stamp
-stamps xs = map (λ (x : Insertion). x.stamp) xs
 
 -- whatever stands at j is apart from s
 at_apart : (xs : List Insertion) (s : Stamp) → Each (λ z. same z.stamp s ≡ false) xs → (j : ℕ) → j < length xs → same (get_or (map (λ (x : Insertion). x.stamp) xs) j head) s ≡ false
@@ -222,10 +219,6 @@ module _ (h : OpSet) (lawful : AllLawful h) (s : Stamp) (newest : greatest_count
   deleted_more : (t u : Stamp) → is_deleted_in (with_op h (Delete s t)) u ≡ (same t u || is_deleted_in h u)
   deleted_more t u = same_bool (is_deleted_in (with_op h (Delete s t)) u) (same t u || is_deleted_in h u) (λ e. to (deleted_from (with_op h (Delete s t)) u e)) from
     where
-      or_right : (a b : Bool) → b ≡ true → (a || b) ≡ true
-      or_right true b e = refl
-      or_right false b e = e
-
       to : (r : Stamp) × IsClearOp (with_op h (Delete s t)) (Delete r u) → (same t u || is_deleted_in h u) ≡ true
       to r = which (clear_new h lawful (Delete s t) newest (Delete r.0 u) r.1)
         where

@@ -1,14 +1,12 @@
 -- The scan's place, by index.
-use Rattle.std.proofs.Common.{◌≡◌, ℕ, zero, suc, ◌+◌, ◌<◌, ◌≤◌, true, false, List, [], ◌∷◌, map, length, get_or, refl, sym, ap, ◌∙◌, subst, ◌⊎◌, inl, inr, arith}
-use Rattle.std.specs.List.{insert, Contains}
-use Rattle.std.proofs.lemmas.List.{get_or_default}
-use Rattle.std.proofs.lemmas.Bool.{true≢false}
+use Rattle.std.proofs.Common.{◌≡◌, ℕ, zero, suc, ◌+◌, ◌<◌, ◌≤◌, true, false, List, [], ◌∷◌, map, length, get_or, refl, sym, ap, ◌∙◌, subst, inl, inr, arith}
+use Rattle.std.specs.List.{insert}
 use Rattle.desk_ops.specs.declared.op.Stamp.{Stamp}
 use Rattle.desk_ops.specs.Op.{Insertion}
 use Rattle.desk_ops.specs.Stamp.{same, before, head}
 use Rattle.desk_ops.specs.Scan.{skip, after_parent, scan_insert}
 use Rattle.desk_ops.specs.Place.{IsPlace, IsStart}
-use Rattle.desk_ops.proofs.Stamps.{same-true, same-from}
+use Rattle.desk_ops.proofs.Stamps.{same-from}
 use Rattle.desk_ops.proofs.Scans.{skip-stop, skip-on, after-hit, after-miss, place-hit, place-miss}
 
 abbrev pub stamps : List Insertion → List Stamp
@@ -52,17 +50,3 @@ scan-at e w i p = go p.starts
         ∙ after-at e w s.1 i (subst (λ n. s.1 < n) (length-stamps w) s.3) s.4 s.5
         (let z : p.start ≡ s.1 + 1 = s.2 in let q : p.start ≤ i = p.after in omega arith) le
         (λ j h g. p.skipped j (let z : p.start ≡ s.1 + 1 = s.2 in omega arith) g) stop
-
--- ---- the loop's answers
-
-abbrev pub NoneBelow : List Stamp → Stamp → ℕ → Type 0
-NoneBelow ts p k = (j : ℕ) → j < k → same (get_or ts j head) p ≡ false
-
-pub start-found : (ts : List Stamp) (p : Stamp) (k : ℕ) → same head p ≡ false → k < length ts → same (get_or ts k head) p ≡ true → NoneBelow ts p k → IsStart ts p (k + 1)
-start-found ts p k ne l h none = inr (ne, k, refl, l, same-true (get_or ts k head) p h, none)
-
-pub start-none : (ts : List Stamp) (p : Stamp) (k : ℕ) → same head p ≡ false → (p ≡ head) ⊎ Contains ts p → length ts ≤ k → NoneBelow ts p k → ⊥
-start-none ts p k ne (inl e) l none = true≢false (sym (same-from head p (sym e)) ∙ ne)
-start-none ts p k ne (inr c) l none =
-    let lt : c.0 < length ts = c.1 in
-    true≢false (sym (same-from (get_or ts c.0 head) p (get_or_default ts c.0 head p lt ∙ c.2)) ∙ none c.0 (omega arith))

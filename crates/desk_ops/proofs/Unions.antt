@@ -5,6 +5,7 @@ use Rattle.std.specs.List.{list_any}
 use Rattle.std.specs.Ordering.{eq_by_cmp}
 use Rattle.std.proofs.lemmas.Bool.{true≢false}
 use Rattle.std.specs.FinMap as fin
+use Rattle.std.proofs.Math.Bool.{or_comm, or_self}
 use Rattle.desk_ops.specs.declared.op.Op.{Op}
 use Rattle.desk_ops.specs.Order.{op_cmp}
 use Rattle.desk_ops.specs.OpSet.{OpSet, has_op, with_op, with_all, union, in_order, size}
@@ -34,16 +35,6 @@ or-assoc true true c = refl
 or-assoc true false c = refl
 or-assoc false b c = refl
 
-or-comm : (a b : Bool) → (a || b) ≡ (b || a)
-or-comm true true = refl
-or-comm true false = refl
-or-comm false true = refl
-or-comm false false = refl
-
-or-same : (a : Bool) → (a || a) ≡ a
-or-same true = refl
-or-same false = refl
-
 or-group : (a b c : Bool) → ((a || b) || c) ≡ (a || (b || c))
 or-group true b c = refl
 or-group false b c = refl
@@ -54,13 +45,13 @@ has_op-with_all h (o ∷ os) q = has_op-with_all (with_op h o) os q ∙ ap (λ b
     ∙ or-assoc (list_any (eq_by_cmp op_cmp q) os) (eq_by_cmp op_cmp q o) (has_op h q) ∙ sym (or-group (eq_by_cmp op_cmp q o) (list_any (eq_by_cmp op_cmp q) os) (has_op h q))
 
 pub has_op-union : (h g : OpSet) (q : Op) → has_op (union h g) q ≡ (has_op h q || has_op g q)
-has_op-union h g q = has_op-with_all h (in_order g) q ∙ ap (λ b. b || has_op h q) (sym (fin.contains_key-keys g q)) ∙ or-comm (has_op g q) (has_op h q)
+has_op-union h g q = has_op-with_all h (in_order g) q ∙ ap (λ b. b || has_op h q) (sym (fin.contains_key-keys g q)) ∙ or_comm (has_op g q) (has_op h q)
 
 pub union-comm : (h g : OpSet) → union h g ≡ union g h
-union-comm h g = same-set (union h g) (union g h) (λ q. has_op-union h g q ∙ or-comm (has_op h q) (has_op g q) ∙ sym (has_op-union g h q))
+union-comm h g = same-set (union h g) (union g h) (λ q. has_op-union h g q ∙ or_comm (has_op h q) (has_op g q) ∙ sym (has_op-union g h q))
 
 pub union-same : (h : OpSet) → union h h ≡ h
-union-same h = same-set (union h h) h (λ q. has_op-union h h q ∙ or-same (has_op h q))
+union-same h = same-set (union h h) h (λ q. has_op-union h h q ∙ or_self (has_op h q))
 
 pub union-assoc : (h g k : OpSet) → union (union h g) k ≡ union h (union g k)
 union-assoc h g k = same-set (union (union h g) k) (union h (union g k))

@@ -1,3 +1,5 @@
+//! The faults of a set of operations: which stamps do not act, and why.
+
 use crate::op::Stamp;
 
 /// Why the operations of a stamp do not act.

@@ -2,7 +2,7 @@
 use Rattle.std.proofs.Common.{◌≡◌, ℕ, zero, suc, ◌+◌, ◌<◌, Bool, true, false, not, cond, List, [], ◌∷◌, map, length, get_or, take, set, refl, sym, ap, ◌∙◌, subst, arith, ◌⊎◌, inl, inr}
 use Rattle.std.specs.Prelude.{Option, Some, None, IsSome, IfSome}
 use Rattle.std.specs.List.{insert, Contains}
-use Rattle.std.proofs.lemmas.Bool.{true≢false, cases_eq}
+use Rattle.std.proofs.lemmas.Bool.{true≢false, cases_eq, not-true}
 use Rattle.std.proofs.lemmas.List.{get_or_default}
 use Rattle.desk_ops.specs.declared.op.Stamp.{Stamp}
 use Rattle.desk_ops.specs.Op.{Insertion}
@@ -10,8 +10,9 @@ use Rattle.desk_ops.specs.Stamp.{same, head}
 use Rattle.desk_ops.specs.Walk.{walk_from}
 use Rattle.desk_ops.specs.Scan.{with_insert}
 use Rattle.desk_ops.specs.Place.{IsPlace, IsStart}
-use Rattle.desk_ops.specs.Laws.{PlaceGivesWalk}
 use Rattle.desk_ops.proofs.Stamps.{same-true, same-from, same-symm}
+use Rattle.desk_ops.proofs.Scans.{place-walk}
+use Rattle.desk_ops.proofs.Places.{scan-at}
 use Rattle.desk_seq.specs.declared.Entry.{Entry}
 use Rattle.desk_seq.specs.Entries.{stamps_of, IsAbsent, AreDistinct, IsFoundAt, marked, with_mark, shown_in, IsShownAt, KeepsWalk}
 
@@ -64,20 +65,17 @@ length-stamps (e ∷ es) = ap suc (length-stamps es)
 pub start-head : (ts : List Stamp) (p : Stamp) → same head p ≡ true → IsStart ts p 0
 start-head ts p h = inl (sym (same-true head p h), refl)
 
-pub start-found : (ts : List Stamp) (p : Stamp) (k : ℕ) → same head p ≡ false → IsFoundAt ts p k → IsStart ts p (k + 1)
-start-found ts p k h f = inr (h, k, refl, f.within, f.is, f.first)
-
 pub start-none : (es : List Entry) (p : Stamp) → same head p ≡ false → (p ≡ head) ⊎ Contains (stamps_of es) p → IsAbsent p es → ⊥
 start-none es p h (inl e) a = true≢false (sym (same-from head p (sym e)) ∙ h)
 start-none es p h (inr c) a =
     let lt : c.0 < length (stamps_of es) = c.1 in
     true≢false (sym (same-from (get_or (stamps_of es) c.0 head) p (get_or_default (stamps_of es) c.0 head p lt ∙ c.2)) ∙ absent-at p es c.0 a (subst (λ n. c.0 < n) (length-stamps es) lt))
 
-pub keeps-walk : PlaceGivesWalk → (old new : List Entry) (p : Stamp) (e : Entry) (i : ℕ) → IsPlace (stamps_of old) p e.stamp i → new ≡ insert old i e → KeepsWalk old new p e.stamp
-keeps-walk law old new p e i at is = λ xs x up nh next es ep w.
+pub keeps-walk : (old new : List Entry) (p : Stamp) (e : Entry) (i : ℕ) → IsPlace (stamps_of old) p e.stamp i → new ≡ insert old i e → KeepsWalk old new p e.stamp
+keeps-walk old new p e i at is = λ xs x up nh next es ep w.
     let st = λ (y : Insertion). y.stamp in
     let at2 : IsPlace (map st (walk_from xs head)) x.parent x.stamp i = subst (λ (ts : List Stamp). IsPlace ts x.parent x.stamp i) w (subst (λ (q : Stamp). IsPlace (stamps_of old) q x.stamp i) (sym ep) (subst (λ (q : Stamp). IsPlace (stamps_of old) p q i) (sym es) at)) in
-    let law2 : walk_from (with_insert x xs) head ≡ insert (walk_from xs head) i x = law xs x i up nh next at2 in
+    let law2 : walk_from (with_insert x xs) head ≡ insert (walk_from xs head) i x = place-walk x xs up next head nh ∙ scan-at x (walk_from xs head) i at2 in
     ap stamps_of is
     ∙ map-insert (λ (y : Entry). y.stamp) old i e
     ∙ ap (λ (ts : List Stamp). insert ts i e.stamp) w
@@ -100,16 +98,6 @@ pub shown-miss : (es : List Entry) (n : ℕ) (d : Entry) → n < length es → (
 shown-miss [] n d l h = absurd (omega arith)
 shown-miss (e ∷ es) zero d l h = rw h refl
 shown-miss (e ∷ es) (suc n) d l h = ap (λ (x : ℕ). cond e.deleted x (x + 1)) (shown-miss es n d (omega arith) h)
-
-pub not-true : (b : Bool) → not b ≡ true → b ≡ false
-not-true true h = absurd (true≢false (sym h))
-not-true false h = refl
-
-pub not-false : (b : Bool) → not b ≡ false → b ≡ true
-not-false true h = refl
-not-false false h = absurd (true≢false h)
-
-pub ruleset flat_rows = (distinct-insert, distinct-mark, set-mark)
 
 -- ---- a search from the front, and a scan
 

@@ -11,7 +11,6 @@ ghost use Rattle.desk_seq.specs.Entries.{stamps_of, IsAbsent, KeepsWalk};
 
 use crate::{Entry, Sequence};
 use desk_ops::Stamp;
-use desk_ops::laws::place_gives_walk;
 
 /// Where the scan for a new child of the parent begins.
 fn start_of<Q: Sequence>(sequence: &Q, parent: Stamp) -> usize
@@ -27,7 +26,7 @@ fn start_of<Q: Sequence>(sequence: &Q, parent: Stamp) -> usize
             let _ = sequence.len();
             k + 1
         }
-        None => 0,
+        None => unreachable!(),
     }
 }
 
@@ -41,7 +40,6 @@ pub fn integrate<Q: Sequence>(sequence: &mut Q, entry: Entry, parent: Stamp)
     ensures walk { KeepsWalk (Q.entries sequence.old) (Q.entries sequence.new) parent entry.stamp }
     ensures spare { Q.free sequence.old ≤ Q.free sequence.new + 1 }
 {
-    place_gives_walk();
     let from = start_of(sequence, parent);
     let at = sequence.first_below(from, entry.stamp);
     sequence.put(at, entry);

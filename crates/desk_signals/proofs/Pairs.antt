@@ -2,6 +2,7 @@
 use Rattle.std.proofs.Common.{◌≡◌, ◌<◌, Bool, true, false, not, ◌||◌, ◌&&◌, List, [], ◌∷◌, length, refl, sym, ap, subst, ◌∙◌, eqb-true, lt-ltb, arith}
 use Rattle.std.specs.List.Sorted.{IsPermutation}
 use Rattle.std.proofs.lemmas.List.Sorted.{IsPermutation-refl, IsPermutation-trans, IsPermutation-insert, list_any-IsPermutation, length_permutation}
+use Rattle.std.proofs.lemmas.Bool.{and_parts, not-false}
 use Rattle.desk_signals.specs.declared.Column.TheVariants as column
 use Rattle.desk_signals.specs.declared.Signal.{Signal}
 use Rattle.desk_signals.specs.declared.Signal.TheVariants as signal
@@ -29,19 +30,11 @@ of_two ys a b few there also other =
     IsPermutation-trans (b ∷ a ∷ []) (a ∷ b ∷ []) ys (IsPermutation-insert (a ∷ []) 1 b)
     (subst (λ l. IsPermutation (a ∷ l) ys) (only_one found.rest b long left) back)
 
-all_of : (a b : Bool) → (a && b) ≡ true → (a ≡ true) × (b ≡ true)
-all_of true b e = (refl, e)
-all_of false b e = absurd (cc)
-
 among_letters : (xs : List Signal) (y : Signal) → is_letter y ≡ true → has xs y ≡ true → has (letters xs) y ≡ true
 among_letters xs y is there = has_filter is_letter xs y ∙ rw (is, there) refl
 
-then_pair : (b : Bool) → not b ≡ false → b ≡ true
-then_pair true e = refl
-then_pair false e = absurd (cc)
-
 pair_of : (xs : List Signal) → two_letters xs ≡ false → 1 < length (letters xs) → is_pair xs ≡ true
-pair_of xs few many = then_pair (is_pair xs) (ap (λ b. b && not (is_pair xs)) (sym (lt-ltb 1 (length (letters xs)) many)) ∙ few)
+pair_of xs few many = not-false (is_pair xs) (ap (λ b. b && not (is_pair xs)) (sym (lt-ltb 1 (length (letters xs)) many)) ∙ few)
 
 then_second : (a b : Bool) → (a || b) ≡ true → a ≡ false → b ≡ true
 then_second true b e is = absurd (cc)
@@ -49,15 +42,15 @@ then_second false b e is = e
 
 pub n_and_i : (xs : List Signal) → two_letters xs ≡ false → 1 < length (letters xs) → true ≡ has xs signal.I → IsPermutation (letters_of column.NI) (letters xs)
 n_and_i xs few many there =
-    let parts = all_of _ _ (pair_of xs few many) in
-    let first = all_of _ _ parts.0 in
+    let parts = and_parts _ _ (pair_of xs few many) in
+    let first = and_parts _ _ parts.0 in
     of_two (letters xs) signal.N signal.I (eqb-true (length (letters xs)) 2 first.0)
     (among_letters xs signal.N refl first.1) (among_letters xs signal.I refl (sym there)) refl
 
 pub n_and_l : (xs : List Signal) → two_letters xs ≡ false → 1 < length (letters xs) → false ≡ has xs signal.I → IsPermutation (letters_of column.NL) (letters xs)
 n_and_l xs few many there =
-    let parts = all_of _ _ (pair_of xs few many) in
-    let first = all_of _ _ parts.0 in
+    let parts = and_parts _ _ (pair_of xs few many) in
+    let first = and_parts _ _ parts.0 in
     let also = then_second (has xs signal.I) (has xs signal.L) parts.1 (sym there) in
     of_two (letters xs) signal.N signal.L (eqb-true (length (letters xs)) 2 first.0)
     (among_letters xs signal.N refl first.1) (among_letters xs signal.L refl also) refl

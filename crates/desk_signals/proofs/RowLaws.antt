@@ -3,6 +3,7 @@ use Rattle.std.proofs.Common.{◌≡◌, ℕ, zero, suc, ◌<◌, ◌≤◌, Boo
 use Rattle.std.specs.Prelude.{sum_by}
 use Rattle.std.proofs.lemmas.List.Folds.{list_any_at}
 use Rattle.std.proofs.lemmas.List.Sorted.{list_any-IsPermutation, sum_by-IsPermutation}
+use Rattle.std.proofs.Math.Bool.{or-true}
 use Rattle.desk_signals.specs.declared.Signal.{Signal}
 use Rattle.desk_signals.specs.declared.RibbonRow.{RibbonRow}
 use Rattle.desk_signals.specs.Rows.{IsRow, Spells, signals_of, has, same, repeats, Repeats}
@@ -66,10 +67,6 @@ two_places : (xs : List Signal) → repeats xs ≡ true → Repeats xs
 two_places [] there = absurd (cc)
 two_places (x ∷ xs) there = two_step x xs (has xs x) refl there (two_places xs)
 
-or_true : (a : Bool) → (a || true) ≡ true
-or_true true = refl
-or_true false = refl
-
 found_twice : (xs : List Signal) (i j : ℕ) → i < j → j < length xs → ((d : Signal) → get_or xs i d ≡ get_or xs j d) → repeats xs ≡ true
 found_twice [] i j before below alike = absurd (omega (arith, below))
 found_twice (x ∷ xs) i zero before below alike = absurd (omega (arith, before))
@@ -79,7 +76,7 @@ found_twice (x ∷ xs) zero (suc j) before below alike =
     ap (λ b. b || repeats xs) e
 found_twice (x ∷ xs) (suc i) (suc j) before below alike =
     let e = found_twice xs i j (omega (arith, before)) (omega (arith, below)) alike in
-    ap (λ b. has xs x || b) e ∙ or_true (has xs x)
+    ap (λ b. has xs x || b) e ∙ or-true (has xs x)
 
 pub repeats_are_two_places : RepeatsAreTwoPlaces
 repeats_are_two_places signals = (two_places signals, λ (i, j, before, below, alike). found_twice signals i j before below alike)

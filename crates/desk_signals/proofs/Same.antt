@@ -4,6 +4,7 @@ use Rattle.std.specs.List.{filter, list_any, insert}
 use Rattle.std.specs.List.Sorted.{IsPermutation}
 use Rattle.std.proofs.lemmas.List.Sums.{length-filter}
 use Rattle.std.proofs.lemmas.List.Sorted.{sum_by-IsPermutation, IsPermutation-refl, IsPermutation-cons, IsPermutation-trans, IsPermutation-insert}
+use Rattle.std.proofs.lemmas.Bool.{or_parts, or_from}
 use Rattle.desk_signals.specs.declared.Signal.{Signal}
 use Rattle.desk_signals.specs.declared.Signal.TheVariants as signal
 use Rattle.desk_signals.specs.Rows.{the_signals, place, same, has, repeats}
@@ -77,14 +78,6 @@ same-refl signal.Fine = refl
 same-refl signal.Coarse = refl
 same-refl signal.S = refl
 
-pub neither : (a b : Bool) → (a || b) ≡ false → (a ≡ false) × (b ≡ false)
-neither true b e = absurd (cc)
-neither false b e = (refl, e)
-
-pub both_false : (a b : Bool) → a ≡ false → b ≡ false → (a || b) ≡ false
-both_false true b e f = e
-both_false false b e f = f
-
 -- how often a signal stands in a list
 abbrev pub times : List Signal → Signal → ℕ
 times xs x = length (filter (same x) xs)
@@ -112,7 +105,7 @@ lone_step x y xs false is none ih = ih
 pub lone : (xs : List Signal) (y : Signal) → repeats xs ≡ false → filter (same y) xs ≡ cond (has xs y) (y ∷ []) []
 lone [] y none = refl
 lone (x ∷ xs) y none =
-    let (first, rest) = neither (has xs x) (repeats xs) none in
+    let (first, rest) = or_parts (has xs x) (repeats xs) none in
     lone_step x y xs (same y x) refl first (lone xs y rest)
 
 tail_less : (p : Signal → Bool) (b : Bool) (x : Signal) (rest : List Signal) (n : ℕ) → length (cond b (x ∷ rest) rest) ≤ n → length rest ≤ n
@@ -122,7 +115,7 @@ tail_less p false x rest n few = few
 pub no_repeats : (xs : List Signal) → ((y : Signal) → times xs y ≤ 1) → repeats xs ≡ false
 no_repeats [] few = refl
 no_repeats (x ∷ xs) few =
-    both_false (has xs x) (repeats xs)
+    or_from (has xs x) (repeats xs)
     (none_there (same x) xs (let f = few x in let g = rw (same-refl x) at f in omega (arith, g)))
     (no_repeats xs (λ y. tail_less (same y) (same y x) x (filter (same y) xs) 1 (few y)))
 
@@ -184,10 +177,6 @@ has_filter_step p x y xs false false is passes ih = ih
 pub and_false : (b : Bool) → false ≡ (b && false)
 and_false true = refl
 and_false false = refl
-
-pub and_true : (b : Bool) → (b && true) ≡ b
-and_true true = refl
-and_true false = refl
 
 pub has_filter : (p : Signal → Bool) (xs : List Signal) (y : Signal) → has (filter p xs) y ≡ (p y && has xs y)
 has_filter p [] y = and_false (p y)

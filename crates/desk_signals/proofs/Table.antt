@@ -4,6 +4,7 @@ use Rattle.std.specs.Prelude.{if◌then◌else◌, sum_by}
 use Rattle.std.specs.List.{list_all, range_with_len}
 use Rattle.std.proofs.lemmas.List.FromFn.{get_or-range_with_len}
 use Rattle.std.proofs.lemmas.List.Sums.{AllPass-from_list_all}
+use Rattle.std.proofs.lemmas.Bool.{and_parts, not-true}
 use Rattle.desk_signals.specs.declared.BadRow.{BadRow}
 use Rattle.desk_signals.specs.declared.Column.{Column}
 use Rattle.desk_signals.specs.declared.Column.TheVariants as column
@@ -56,10 +57,6 @@ abbrev pub all_pass : (RibbonRow → Bool) → Bool
 all_pass test =
     list_all (λ n. list_all (λ c. test (Cell c n true) && test (Cell c n false)) the_columns && (test (Coarse n) && test (FineOut n))) (range_with_len 1 15)
 
-both : (a b : Bool) → (a && b) ≡ true → (a ≡ true) × (b ≡ true)
-both true b e = (refl, e)
-both false b e = absurd (cc)
-
 number_passes : (p : ℕ → Bool) → list_all p (range_with_len 1 15) ≡ true → (n : ℕ) → 1 ≤ n → n ≤ 15 → p n ≡ true
 number_passes p e n low high =
     let is : get_or (range_with_len 1 15) (n - 1) 0 ≡ n = get_or-range_with_len 1 15 (n - 1) 0 (omega arith) ∙ omega arith in
@@ -75,22 +72,18 @@ at_s test c n false e = e.1
 
 pub row_passes : (test : RibbonRow → Bool) → all_pass test ≡ true → (row : RibbonRow) → IsRow row → test row ≡ true
 row_passes test e (Cell c n s) (low, high) =
-    let parts = both _ _ (number_passes (λ n. list_all (λ c. test (Cell c n true) && test (Cell c n false)) the_columns && (test (Coarse n) && test (FineOut n))) e n low high) in
-    at_s test c n s (both _ _ (column_passes (λ c. test (Cell c n true) && test (Cell c n false)) parts.0 c))
+    let parts = and_parts _ _ (number_passes (λ n. list_all (λ c. test (Cell c n true) && test (Cell c n false)) the_columns && (test (Coarse n) && test (FineOut n))) e n low high) in
+    at_s test c n s (and_parts _ _ (column_passes (λ c. test (Cell c n true) && test (Cell c n false)) parts.0 c))
 row_passes test e (Coarse n) (low, high) =
-    let parts = both _ _ (number_passes (λ n. list_all (λ c. test (Cell c n true) && test (Cell c n false)) the_columns && (test (Coarse n) && test (FineOut n))) e n low high) in
-    (both _ _ parts.1).0
+    let parts = and_parts _ _ (number_passes (λ n. list_all (λ c. test (Cell c n true) && test (Cell c n false)) the_columns && (test (Coarse n) && test (FineOut n))) e n low high) in
+    (and_parts _ _ parts.1).0
 row_passes test e (FineOut n) (low, high) =
-    let parts = both _ _ (number_passes (λ n. list_all (λ c. test (Cell c n true) && test (Cell c n false)) the_columns && (test (Coarse n) && test (FineOut n))) e n low high) in
-    (both _ _ parts.1).1
-
-was_not : (b : Bool) → not b ≡ true → b ≡ false
-was_not true e = absurd (cc)
-was_not false e = refl
+    let parts = and_parts _ _ (number_passes (λ n. list_all (λ c. test (Cell c n true) && test (Cell c n false)) the_columns && (test (Coarse n) && test (FineOut n))) e n low high) in
+    (and_parts _ _ parts.1).1
 
 -- no row has a signal twice
 pub row_once : (row : RibbonRow) → IsRow row → repeats (signals_of row) ≡ false
-row_once row is = was_not (repeats (signals_of row)) (row_passes (λ row. not (repeats (signals_of row))) refl row is)
+row_once row is = not-true (repeats (signals_of row)) (row_passes (λ row. not (repeats (signals_of row))) refl row is)
 
 abbrev no_fault : Option BadRow → Bool
 no_fault None = true
@@ -135,7 +128,7 @@ same_bool false b = not b
 
 same_bool-eq : (a b : Bool) → same_bool a b ≡ true → a ≡ b
 same_bool-eq true b e = sym e
-same_bool-eq false b e = sym (was_not b e)
+same_bool-eq false b e = sym (not-true b e)
 
 abbrev same_row : RibbonRow → RibbonRow → Bool
 same_row (Cell c n s) (Cell d m t) = eqb (index c) (index d) && (eqb n m && same_bool s t)
@@ -154,8 +147,8 @@ same_column c d e =
 
 same_row-eq : (a b : RibbonRow) → same_row a b ≡ true → a ≡ b
 same_row-eq (Cell c n s) (Cell d m t) e =
-    let first = both _ _ e in
-    let second = both _ _ first.1 in
+    let first = and_parts _ _ e in
+    let second = and_parts _ _ first.1 in
     ap (λ (c : Column). Cell c n s) (same_column c d first.0)
     ∙ (ap (λ (n : ℕ). Cell d n s) (eqb-true n m second.0) ∙ ap (λ (s : Bool). Cell d m s) (same_bool-eq s t second.1))
 same_row-eq (Cell c n s) (Coarse m) e = absurd (cc)

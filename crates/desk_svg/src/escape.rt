@@ -1,8 +1,7 @@
 //! Characters as they are written in XML.
 
 ghost use Rattle.std.specs.Prelude.{◌≡◌, ◌++◌, OnOk, string_bytes};
-ghost use Rattle.std.specs.Str.{chars};
-ghost use Rattle.desk_svg.specs.Escape.{allowed, escaped, escaped_char, is_allowed};
+ghost use Rattle.desk_svg.specs.Escape.{allowed, escaped_char, is_allowed};
 
 use std::alloc::{AllocError, Allocator};
 
@@ -22,7 +21,7 @@ fn allowed(ch: char) -> char
 }
 
 /// Writes a character at the end as it stands in a text of XML, or between the quotes of an attribute: `&`, `<`, `>` and `"`
-/// by their names, and U+FFFD in place of a character that XML 1.0 does not allow. It fails only for want of memory.
+/// by their names, and U+FFFD in place of a character that XML 1.0 does not allow. It fails only where memory runs out.
 pub fn put_escaped<A: Allocator + Copy>(out: &mut String<A>, ch: char) -> Result<(), AllocError>
     ensures { OnOk result (string_bytes out.new ≡ string_bytes out.old ++ escaped_char ch) }
 {
@@ -33,17 +32,4 @@ pub fn put_escaped<A: Allocator + Copy>(out: &mut String<A>, ch: char) -> Result
         '"' => out.push_str("&quot;"),
         ch => out.push(allowed(ch)),
     }
-}
-
-/// Writes the characters of a text at the end, each as `put_escaped` does.
-pub fn put_escaped_str<A: Allocator + Copy>(
-    out: &mut String<A>,
-    text: &str,
-) -> Result<(), AllocError>
-    ensures { OnOk result (string_bytes out.new ≡ string_bytes out.old ++ escaped (chars text.now)) }
-{
-    for ch in text.chars() {
-        put_escaped(out, ch)?;
-    }
-    Ok(())
 }

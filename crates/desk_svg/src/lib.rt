@@ -5,5 +5,5 @@ mod escape;
 pub mod laws;
 mod number;
 
-pub use escape::{put_escaped, put_escaped_str};
+pub use escape::put_escaped;
 pub use number::{put_attribute, put_hundredths};

@@ -15,7 +15,7 @@ fn put_number<A: Allocator + Copy>(out: &mut String<A>, n: u128) -> Result<(), A
     out.push_str(digits.format(n))
 }
 
-/// Writes so many hundredths at the end, as `12.34`. It fails only for want of memory.
+/// Writes so many hundredths at the end, as `12.34`. It fails only where memory runs out.
 pub fn put_hundredths<A: Allocator + Copy>(out: &mut String<A>, n: u128) -> Result<(), AllocError>
     ensures { OnOk result (string_bytes out.new ≡ string_bytes out.old ++ hundredths_text n) }
 {
@@ -26,7 +26,7 @@ pub fn put_hundredths<A: Allocator + Copy>(out: &mut String<A>, n: u128) -> Resu
 }
 
 /// Writes an attribute of this name at the end, whose value is so many hundredths, behind a space: ` x="12.34"`. It fails
-/// only for want of memory.
+/// only where memory runs out.
 pub fn put_attribute<A: Allocator + Copy>(
     out: &mut String<A>,
     name: &str,

@@ -1,15 +1,14 @@
 -- Writing a copy, symbol by symbol.
-use Rattle.std.proofs.Common.{◌≡◌, ℕ, ◌+◌, ◌<◌, ◌==◌, true, false, List, [], ◌∷◌, ◌++◌, refl, sym, ap, ◌∙◌, append_assoc, length, drop, get_or, arith}
+use Rattle.std.proofs.Common.{◌≡◌, ℕ, ◌+◌, ◌<◌, ◌==◌, false, List, [], ◌∷◌, ◌++◌, refl, sym, ap, ◌∙◌, append_assoc, length, drop, get_or, arith}
 use Rattle.std.proofs.Math.Utf8.{encode}
 use Rattle.std.proofs.lemmas.Bool.Decides.{nat_tests}
-use Rattle.std.proofs.lemmas.List.{at_drop_more, at_drop_all}
+use Rattle.std.proofs.lemmas.List.{at_drop_more}
 use Rattle.std.proofs.lemmas.Grind.{replicate_next}
 use Rattle.std.proofs.lemmas.Str.{encodes-append}
-use Rattle.std.specs.Prelude.{◌≤◌, Result, OnOk}
+use Rattle.std.specs.Prelude.{Result, OnOk}
 use Rattle.std.proofs.lemmas.Result.{on_ok_weaker}
 use Rattle.std.specs.Str.{encode_utf8_all}
 use Rattle.desk_ops.specs.declared.op.Style.{Style}
-use Rattle.desk_ops.specs.declared.op.Style.TheVariants.{Roman}
 use Rattle.desk_ops.specs.declared.op.Symbol.{Symbol}
 use Rattle.desk_text.specs.Marks.{mark, same_style}
 use Rattle.desk_text.specs.Writing.{spaces, quoted, turn, text_from}
@@ -22,14 +21,6 @@ space_put out before after n so_far pushed =
 
 drop-at : (copy : List Symbol) (i : ℕ) (s d : Symbol) → i < length copy → s ≡ get_or copy i d → drop i copy ≡ s ∷ drop (i + 1) copy
 drop-at copy i s d lt is = at_drop_more (λ xs. xs) copy i d lt ∙ ap (λ x. x ∷ drop (i + 1) copy) (sym is)
-
--- a space waits
-pub space_kept : (out whole : List ℕ) (run : Style) (count : ℕ) (copy : List Symbol) (i : ℕ) (s d : Symbol) → i < length copy → s ≡ get_or copy i d → (s.ch == 32) ≡ true
-    → out ++ encode_utf8_all (text_from run count (drop i copy)) ≡ whole
-    → out ++ encode_utf8_all (text_from run (count + 1) (drop (i + 1) copy)) ≡ whole
-space_kept out whole run count copy i s d lt is blank so_far =
-    let here : text_from run count (s ∷ drop (i + 1) copy) ≡ text_from run (count + 1) (drop (i + 1) copy) = rw blank refl in
-    ap (λ xs. out ++ encode_utf8_all xs) (sym here ∙ ap (text_from run count) (sym (drop-at copy i s d lt is))) ∙ so_far
 
 not_same : (a b : ℕ) → (a ≡ b → ⊥) → (a == b) ≡ false
 not_same a b n = grind (arith, nat_tests)
@@ -46,12 +37,6 @@ symbol_put out turned after whole run count copy i s d lt is other turns quotes 
     = encodes-append (turn run count s.style ++ quoted s.ch) _ ∙ ap (λ xs. xs ++ rest) (encodes-append (turn run count s.style) (quoted s.ch)) in
     let ahead : after ++ rest ≡ out ++ ((encode_utf8_all (turn run count s.style) ++ encode_utf8_all (quoted s.ch)) ++ rest) = rw (quotes, turns) (simp append_assoc) in
     ahead ∙ ap (λ xs. out ++ xs) (sym all) ∙ ap (λ xs. out ++ encode_utf8_all xs) (sym here ∙ ap (text_from run count) (sym (drop-at copy i s d lt is))) ∙ so_far
-
-pub text_put : (out after whole : List ℕ) (run : Style) (count : ℕ) (copy : List Symbol) (i : ℕ) → length copy ≤ i
-    → after ≡ out ++ encode_utf8_all (turn run count Roman)
-    → out ++ encode_utf8_all (text_from run count (drop i copy)) ≡ whole → after ≡ whole
-text_put out after whole run count copy i past ended so_far =
-    ended ∙ ap (λ xs. out ++ encode_utf8_all xs) (sym (at_drop_all (text_from run count) copy i past)) ∙ so_far
 
 -- a run that ends, spaces, and one that begins
 pub turn_put : (out closed spaced : List ℕ) {E : Type 0} (run : Style) (count : ℕ) (style : Style) (result : Result (Unit {0}) E) (after : List ℕ) → same_style run style ≡ false

@@ -6,7 +6,7 @@ use Rattle.desk_codec.specs.declared.items.ItemFault.{ItemFault}
 use Rattle.desk_codec.specs.declared.items.ItemFault.TheVariants.{Wrong}
 use Rattle.desk_codec.specs.declared.fault.FeedWhy.{FeedWhy}
 use Rattle.desk_codec.specs.declared.fault.FeedWhy.TheVariants as why
-use Rattle.desk_codec.proofs.ReadLaws.{item_shorter, cut_length, then_read, then_stops, reads_cut}
+use Rattle.desk_codec.proofs.ReadLaws.{item_shorter, then_read, then_stops, reads_cut}
 use Rattle.desk_codec.proofs.reader.read_items.Goals as goal
 
 pub overflow_sub-at : goal.overflow_sub-at

@@ -4,7 +4,7 @@ use Rattle.desk_ops.specs.declared.op.Symbol.{Symbol}
 use Rattle.desk_ops.specs.declared.op.Op.{Op}
 use Rattle.desk_ops.specs.declared.op.Op.TheVariants.{Insert}
 use Rattle.desk_ops.specs.Op.{stamp_of}
-use Rattle.desk_codec.specs.Item.{run_ops, next_stamp}
+use Rattle.desk_codec.specs.Items.{run_ops, next_stamp}
 use Rattle.desk_codec.specs.Runs.{next_insert, chain}
 use Rattle.desk_codec.specs.RunSteps.{MarksAlso}
 use Rattle.desk_codec.proofs.RunPlaces.{small-counter}

@@ -3,7 +3,7 @@ use Rattle.std.proofs.lemmas.Bool.Decides.{nat_tests}
 use Rattle.std.specs.List.{flat_map}
 use Rattle.std.proofs.lemmas.List.{take_all}
 use Rattle.desk_ops.specs.declared.op.Op.{Op}
-use Rattle.desk_codec.specs.Item.{symbol_spelling, item_spelling}
+use Rattle.desk_codec.specs.Items.{symbol_spelling, item_spelling}
 use Rattle.desk_codec.specs.Runs.{item_of}
 use Rattle.desk_codec.proofs.RunSpellings.{run-pushed}
 use Rattle.desk_codec.proofs.runs.push_item.Goals as goal

@@ -1,6 +1,6 @@
 use Rattle.std.proofs.Common.{◌≡◌, ◌++◌, take}
 use Rattle.std.specs.List.{flat_map}
-use Rattle.desk_codec.specs.Item.{symbol_spelling}
+use Rattle.desk_codec.specs.Items.{symbol_spelling}
 use Rattle.desk_codec.proofs.runs.push_item.Given as goal
 
 -- what is written so far

@@ -2,7 +2,7 @@ use Rattle.std.proofs.Common.{◌≡◌, ◌∷◌, [], ◌++◌, List, refl, sy
 use Rattle.std.proofs.Math.ListN.{set}
 use Rattle.desk_ops.specs.declared.op.Symbol.{Symbol}
 use Rattle.desk_ops.specs.declared.op.Op.TheVariants.{Insert}
-use Rattle.desk_codec.specs.Item.{item_ops}
+use Rattle.desk_codec.specs.Items.{item_ops}
 use Rattle.desk_codec.specs.Runs.{item_of, next_insert, chain}
 use Rattle.desk_codec.specs.RunSteps.{IsAt, MarksAlso}
 use Rattle.desk_codec.proofs.RunChains.{run-taken, ops-taken, other-taken, forked-taken, marks-none, marks-more}

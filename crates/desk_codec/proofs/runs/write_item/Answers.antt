@@ -3,7 +3,7 @@ use Rattle.desk_ops.specs.declared.op.Symbol.{Symbol}
 use Rattle.desk_ops.specs.declared.op.Op.{Op}
 use Rattle.desk_ops.specs.declared.op.Op.TheVariants.{Delete}
 use Rattle.desk_ops.specs.Stamp.{head}
-use Rattle.desk_codec.specs.Item.{item_spelling}
+use Rattle.desk_codec.specs.Items.{item_spelling}
 use Rattle.desk_codec.specs.Runs.{item_of}
 use Rattle.desk_codec.proofs.RunPlaces.{op_at, is_at}
 use Rattle.desk_codec.proofs.RunSteps.{at-written, at-item}

@@ -1,6 +1,7 @@
 use Rattle.std.proofs.Common.{◌∙◌, ◌+◌, ◌<◌, sym, ap, arith, add-one, length}
+use Rattle.std.proofs.lemmas.Bool.{not-true, not-false}
 use Rattle.desk_seq.specs.declared.Entry.{Entry}
-use Rattle.desk_seq.proofs.Entries.{shown-hit, shown-miss, shown-at, not-true, not-false}
+use Rattle.desk_seq.proofs.Entries.{shown-hit, shown-miss, shown-at}
 use Rattle.desk_seq.proofs.Sequence.shown_place.Goals as goal
 use Rattle.desk_seq.proofs.Sequence.shown_place.Goals.{then-not-entry+else-shown-i, else-not-entry}
 

@@ -5,5 +5,5 @@ use Rattle.desk_seq.proofs.scan.start_of.Goals as goal
 pub returns-then-is_same-clause-start : goal.returns-then-is_same-clause-start
 returns-then-is_same-clause-start g c = start-head _ c.args.parent (sym c.is_same.ensures ∙ c.if-is_same.true)
 
-pub returns-in-None-clause-start : goal.returns-in-None-clause-start
-returns-in-None-clause-start g c = absurd (start-none (g.Q.Sequence.entries c.args.sequence.now) c.args.parent (sym c.is_same.ensures ∙ c.if-is_same.false) c.requires (c.in-None.ensures.none refl))
+pub unreachable-requires : goal.unreachable-requires
+unreachable-requires g c = start-none (g.Q.Sequence.entries c.args.sequence.now) c.args.parent (sym c.is_same.ensures ∙ c.if-is_same.false) c.requires (c.in-None.ensures.none refl)

@@ -1,7 +1,5 @@
-use Rattle.std.proofs.Common.{◌≡◌, ◌-◌, ℕ, List, ◌++◌, sym, ap, subst}
-use Rattle.desk_codec.specs.Pieces.{Reader, place_of, Reads}
-use Rattle.desk_codec.specs.PieceReading.{Lacks, Resumes}
-use Rattle.desk_codec.proofs.ReaderLaws.{resumes_from, kept_reader, kept_takes, read_reader}
+use Rattle.desk_codec.specs.Pieces.{Reader}
+use Rattle.desk_codec.proofs.ReaderLaws.{kept_reader, kept_takes}
 use Rattle.desk_codec.proofs.reader.FeedReader.feed.Goals as goal
 
 pub invariant_of-self : goal.invariant_of-self

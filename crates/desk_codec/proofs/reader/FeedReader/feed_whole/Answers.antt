@@ -1,4 +1,4 @@
-use Rattle.std.proofs.Common.{◌≡◌, ◌-◌, ◌≤◌, ◌∙◌, ℕ, List, ◌++◌, length, sym, ap, subst, arith}
+use Rattle.std.proofs.Common.{◌≡◌, ◌-◌, ◌≤◌, ◌∙◌, ℕ, List, ◌++◌, length, sym, ap, subst}
 use Rattle.desk_codec.specs.Pieces.{Reader, place_of, Reads}
 use Rattle.desk_codec.specs.PieceReading.{Lacks, Resumes, kept_after}
 use Rattle.desk_codec.proofs.ReadLaws.{unended_length}
