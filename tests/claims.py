@@ -15,8 +15,8 @@ space continues the one before, and a label may stand more than once. The labels
   state    `proved`, `tested only` or `open`
 
 Names stand apart by spaces. A name of another crate begins with it, as `desk_held::add/full`, `desk_held/edit` and
-`desk_held::test`; other names are of the crate whose name the file has. Each edit of each crate stands in a promise.
-`--page` prints the promises as a page in place of the counts.
+`desk_held::test`; other names are of the crate whose name the file has. Each edit of each crate stands in a promise, and
+each function that a crate shows to others is named in a `calls` or `clauses` line, or in UNNAMED with the reason. `--page` prints the promises as a page in place of the counts.
 """
 import os
 import re
@@ -29,6 +29,7 @@ LABELS = ("promise", "calls", "clauses", "edits", "tests", "note", "state")
 EDITS = ("must-fail", "wrong-bodies")
 WIDEST, LONGEST = 120, 40
 SEEN = {}
+UNNAMED = {}  # a function, as `desk_held::Held::add`, with the reason why no promise names it
 
 
 def sources(crate):
@@ -63,6 +64,26 @@ def contracts(crate, function):
             end = re.compile(r"^\s*(?:\{\}?|\{.*\})\s*$|;\s*$", re.M).search(text, found.end())
             owner = [name for name, start, stop in owners(text) if start <= found.start() < stop]
             out.append((owner[-1] if owner else None, text[found.start():end.end() if end else len(text)]))
+    return out
+
+
+def public(crate):
+    """The functions that other crates can call, each with its type or trait: those of the crate's first file, of its public
+    modules, and those that it gives on by `pub use`, alone or with their type or trait."""
+    folder = os.path.join(CRATES, crate, "src")
+    files = [os.path.join(base, name) for base, _, names in os.walk(folder) for name in names if name.endswith(".rt")]
+    if crate.endswith("_tests") or os.path.join(folder, "lib.rt") not in files:
+        return []
+    texts = {os.path.relpath(path, folder)[:-3]: open(path, encoding="utf-8").read() for path in files}
+    whole = {"lib"} | set(re.findall(r"^pub mod (\w+);", texts["lib"], re.M))
+    given = set(re.findall(r"\w+", " ".join(re.findall(r"^pub (?:use|struct|enum) ([^;{(<]+(?:\{[^}]*\})?)", texts["lib"], re.M))))
+    out = []
+    for module, text in sorted(texts.items()):
+        for found in re.finditer(r"^ *(pub )?(?:const )?fn (\w+)", text, re.M):
+            owner = [it for it, start, stop in owners(text) if start <= found.start() < stop][-1:]
+            shown = found.group(1) or owner and re.search(r"^pub trait %s\b" % owner[0], text, re.M)
+            if shown and (module in whole or (owner or [found.group(2)])[0] in given):
+                out.append("::".join(owner + [found.group(2)]))
     return out
 
 
@@ -141,6 +162,16 @@ def promises(path, faults):
     return out
 
 
+def functions(block, home):
+    """The functions that a promise names, each with its crate, and with its type where that is named."""
+    out = set()
+    for word in re.findall(r"[\w:]+", re.sub(r"/\w+", "", "%s %s" % (block.get("calls"), block.get("clauses")))):
+        crate, rest = crate_of(home, word, "::")
+        parts = rest.split("::")
+        out.add((crate, "::".join(it for it in parts[-2:] if it[:1].isupper() or it is parts[-1])))
+    return out
+
+
 def judged(block, home, counts, named):
     """The faults of a promise; counts what it names, and notes its edits."""
     faults, state = [], block.get("state")
@@ -179,7 +210,7 @@ def page(files):
 
 
 def main(words):
-    faults, counts, named, files, said = [], dict.fromkeys(CHECKS, 0), set(), [], set()
+    faults, counts, named, called, files, said = [], dict.fromkeys(CHECKS, 0), set(), set(), [], set()
     for name in sorted(os.listdir(FOLDER)):
         home, ending = os.path.splitext(name)
         if ending != ".txt":
@@ -189,10 +220,14 @@ def main(words):
         files.append((home, blocks))
         for block in blocks:
             faults += judged(block, home if is_crate(home) else None, counts, named)
+            called |= functions(block, home)
             if block.get("promise") in said:
                 faults.append("%s: this promise stands twice" % block["where"])
             said.add(block.get("promise"))
     for crate in sorted(os.listdir(CRATES)):
+        for name in public(crate):
+            if not {(crate, name), (crate, name.split("::")[-1])} & called and "%s::%s" % (crate, name) not in UNNAMED:
+                faults.append("%s::%s stands in no `calls` and no `clauses`" % (crate, name))
         for part in EDITS:
             folder = os.path.join(CRATES, crate, part)
             for name in sorted(os.listdir(folder)) if os.path.isdir(folder) else []:
