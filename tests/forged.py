@@ -15,7 +15,7 @@ import time
 
 MAGIC = "4d464431"
 LIMIT = 1048576
-LARGE = 200000
+LARGE = 1048576
 HEAD = (0, 0)
 
 
