@@ -205,7 +205,7 @@ no_spelling : (item : Item) (rest : List ℕ) → [] ≡ item_spelling item ++ r
 no_spelling item rest e = no_item_fields (item_fields item) rest (fields_there [] rest item e)
 
 -- no list spells what goes wrong
-never_spelled : (form : FeedForm) (bytes front rest : List ℕ) (items before : List Item) (w : FeedWhy) → Spells form bytes items → Spells form front before → bytes ≡ front ++ rest → IsWrong form rest w → ⊥
+pub never_spelled : (form : FeedForm) (bytes front rest : List ℕ) (items before : List Item) (w : FeedWhy) → Spells form bytes items → Spells form front before → bytes ≡ front ++ rest → IsWrong form rest w → ⊥
 never_spelled form bytes front rest [] [] w f g e h =
     let none : rest ≡ [] = cc in nothing_wrong form w (subst (λ (l : List ℕ). IsWrong form l w) none h)
 never_spelled form bytes front rest [] (y ∷ ys) w f g e h =
@@ -219,7 +219,7 @@ never_spelled form bytes front rest (x ∷ xs) (y ∷ ys) w f g e h =
     never_spelled form f.1.0 g.1.0 rest xs ys w f.1.2 g.1.2 one.1 h
 
 -- what goes wrong does so at one place, in one way
-wrong_at_once : (form : FeedForm) (a p b q : List ℕ) (xs ys : List Item) (v w : FeedWhy) → Spells form a xs → Spells form b ys → a ++ p ≡ b ++ q → IsWrong form p v → IsWrong form q w → (length a ≡ length b) × (v ≡ w)
+pub wrong_at_once : (form : FeedForm) (a p b q : List ℕ) (xs ys : List Item) (v w : FeedWhy) → Spells form a xs → Spells form b ys → a ++ p ≡ b ++ q → IsWrong form p v → IsWrong form q w → (length a ≡ length b) × (v ≡ w)
 wrong_at_once form a p b q [] [] v w f g e h i =
     let same : p ≡ q = ap (λ (l : List ℕ). l ++ p) (sym f) ∙ e ∙ ap (λ (l : List ℕ). l ++ q) g in
     (ap (λ (l : List ℕ). length l) (f ∙ sym g), wrong_once form q v w (subst (λ (l : List ℕ). IsWrong form l v) same h) i)

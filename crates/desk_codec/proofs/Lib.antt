@@ -3,6 +3,7 @@ pub mod Numbers
 pub mod FieldLaws
 pub mod ItemLaws
 pub mod HereLaws
+pub mod GatheredLaws
 pub mod RunLaws
 pub mod ReadLaws
 pub mod FaultLaws

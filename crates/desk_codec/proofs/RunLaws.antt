@@ -1,5 +1,5 @@
 -- What reading a run gives.
-use Rattle.std.proofs.Common.{◌≡◌, ℕ, ◌+◌, ◌-◌, ◌*◌, ◌^◌, ◌<◌, ◌≤◌, List, [], ◌∷◌, ◌++◌, length, Result, Ok, Err, sym, ap, subst, ◌∙◌, ◌⊎◌, inl, inr, append_assoc, length-append, arith}
+use Rattle.std.proofs.Common.{◌≡◌, ℕ, ◌+◌, ◌-◌, ◌*◌, ◌^◌, ◌<◌, ◌≤◌, List, [], ◌∷◌, ◌++◌, length, Option, Result, Ok, Err, sym, ap, subst, ◌∙◌, ◌⊎◌, inl, inr, append_assoc, length-append, arith}
 use Rattle.std.specs.Prelude.{IfOk, IfErr}
 use Rattle.std.specs.Int.{w32, to_be_bytes}
 use Rattle.std.specs.List.{flat_map}
@@ -9,21 +9,19 @@ use Rattle.desk_ops.specs.declared.op.Op.{Op}
 use Rattle.desk_ops.specs.declared.op.Unlawful.{Unlawful}
 use Rattle.desk_codec.specs.declared.form.FeedForm.{FeedForm}
 use Rattle.desk_codec.specs.declared.form.FeedForm.TheVariants.{Runs}
-use Rattle.desk_codec.specs.declared.fault.FeedWhy.TheVariants as why
 use Rattle.desk_codec.specs.declared.fields.Fields.TheVariants.{Insert}
-use Rattle.desk_codec.specs.declared.items.ItemFault.{ItemFault}
-use Rattle.desk_codec.specs.declared.items.ItemFault.TheVariants.{Wrong, NoMemory}
 use Rattle.desk_codec.specs.Spelling.{spelling, IsHeld}
 use Rattle.desk_codec.specs.Items.{One, Run, next_stamp, run_ops, symbol_spelling}
-use Rattle.desk_codec.specs.Fault.{fields_of, cause, Mark, mark_bytes, IsNoRun, IsCut}
-use Rattle.desk_codec.specs.ItemReading.{GivesItem, RefusesItem, RunFront, GivesInserts, HasUnlawful, RefusesInserts}
+use Rattle.desk_codec.specs.Fault.{fields_of, cause, Mark, mark_bytes, IsNoRun, IsCut, IsUnlawful}
+use Rattle.desk_codec.specs.Gathered.{Adds}
+use Rattle.desk_codec.specs.ItemReading.{GivesItem, RunFront, GivesInserts, HasUnlawful}
+use Rattle.desk_codec.proofs.GatheredLaws.{adds_then}
 use Rattle.desk_codec.proofs.Numbers.{IsBytes}
 use Rattle.desk_codec.proofs.HereLaws.{InsertOf, insert_of, cause_after, cause_first, marks_here, rest_bytes, begins, run_stands, run_there, run_unlawful}
-use Rattle.desk_codec.proofs.FaultLaws.{begins_length}
 
 -- ---- an insert before the others
 
-inserts_before : (stamp parent : Stamp) (count : ℕ) (bytes rest end : List ℕ) (style ch : ℕ) (op : Op) (before mid after : List Op) → (count ≡ 0 → ⊥) → IsHeld op → InsertOf op stamp parent style ch → bytes ≡ style ∷ to_be_bytes w32 ch ++ rest → mid ≡ before ++ op ∷ []
+inserts_before : (stamp parent : Stamp) (count : ℕ) (bytes rest end : List ℕ) (style ch : ℕ) (op : Op) (before mid after : Option (List Op)) → (count ≡ 0 → ⊥) → IsHeld op → InsertOf op stamp parent style ch → bytes ≡ style ∷ to_be_bytes w32 ch ++ rest → Adds before mid (op ∷ [])
     → GivesInserts (next_stamp stamp) stamp (count - 1) rest mid after end → GivesInserts stamp parent count bytes before after end
 inserts_before stamp parent count bytes rest end style ch op before mid after some held i e m f =
     let first : symbol_spelling i.symbol ≡ style ∷ to_be_bytes w32 ch = ap mark_bytes i.mark in
@@ -32,7 +30,7 @@ inserts_before stamp parent count bytes rest end style ch op before mid after so
       symbols = i.symbol ∷ f.symbols;
       many = omega (arith, many, some);
       each = (subst (λ (o : Op). IsHeld o) i.is held, f.each);
-      is = f.is ∙ ap (λ (l : List Op). l ++ run_ops (next_stamp stamp) stamp f.symbols) m ∙ append_assoc before (op ∷ []) (run_ops (next_stamp stamp) stamp f.symbols) ∙ ap (λ (o : Op). before ++ o ∷ run_ops (next_stamp stamp) stamp f.symbols) i.is;
+      is = subst (λ (o : Op). Adds before after (o ∷ run_ops (next_stamp stamp) stamp f.symbols)) i.is (adds_then before mid after (op ∷ []) (run_ops (next_stamp stamp) stamp f.symbols) m f.is);
       front = e
           ∙ ap (λ (l : List ℕ). l ++ rest) (sym first)
           ∙ ap (λ (l : List ℕ). symbol_spelling i.symbol ++ l) f.front
@@ -40,8 +38,8 @@ inserts_before stamp parent count bytes rest end style ch op before mid after so
           ∙ ap (λ (l : List ℕ). l ++ end) (sym (flat_map-cons symbol_spelling i.symbol f.symbols));
     }
 
-pub inserts_more : {V : Type 0} (view : V → List ℕ) (r : Result V ItemFault) (stamp parent : Stamp) (count : ℕ) (bytes rest : List ℕ) (style ch : ℕ) (op : Op) (before mid after : List Op) → (count ≡ 0 → ⊥) → IsHeld op → fields_of op ≡ Insert stamp parent style ch
-    → bytes ≡ style ∷ to_be_bytes w32 ch ++ rest → mid ≡ before ++ op ∷ [] → IfOk r (λ v. GivesInserts (next_stamp stamp) stamp (count - 1) rest mid after (view v)) → IfOk r (λ v. GivesInserts stamp parent count bytes before after (view v))
+pub inserts_more : {V : Type 0} (view : V → List ℕ) (r : Result V Unlawful) (stamp parent : Stamp) (count : ℕ) (bytes rest : List ℕ) (style ch : ℕ) (op : Op) (before mid after : Option (List Op)) → (count ≡ 0 → ⊥) → IsHeld op → fields_of op ≡ Insert stamp parent style ch
+    → bytes ≡ style ∷ to_be_bytes w32 ch ++ rest → Adds before mid (op ∷ []) → IfOk r (λ v. GivesInserts (next_stamp stamp) stamp (count - 1) rest mid after (view v)) → IfOk r (λ v. GivesInserts stamp parent count bytes before after (view v))
 inserts_more view (Ok v) stamp parent count bytes rest style ch op before mid after some held is e m f = inserts_before stamp parent count bytes rest (view v) style ch op before mid after some held (insert_of op stamp parent style ch is) e m f
 inserts_more view (Err fault) stamp parent count bytes rest style ch op before mid after some held is e m f = tt
 
@@ -62,19 +60,10 @@ unlawful_before stamp parent count bytes rest style ch op first some s c held is
       is = cause_after stamp parent mark h.marks op first held is h.is;
     }
 
-refused_before : (fault : ItemFault) (stamp parent : Stamp) (count : ℕ) (bytes rest : List ℕ) (style ch : ℕ) (op : Op) → (count ≡ 0 → ⊥) → style < 2 ^ 8 → ch < 2 ^ 32 → IsHeld op → fields_of op ≡ Insert stamp parent style ch → bytes ≡ style ∷ to_be_bytes w32 ch ++ rest
-    → RefusesInserts (next_stamp stamp) stamp (count - 1) rest fault → RefusesInserts stamp parent count bytes fault
-refused_before (Wrong why.Magic) stamp parent count bytes rest style ch op some s c held is e h = h
-refused_before (Wrong why.Kind) stamp parent count bytes rest style ch op some s c held is e h = h
-refused_before (Wrong (why.Unlawful first)) stamp parent count bytes rest style ch op some s c held is e h = unlawful_before stamp parent count bytes rest style ch op first some s c held is e h
-refused_before (Wrong why.Cut) stamp parent count bytes rest style ch op some s c held is e h = h
-refused_before (Wrong why.Run) stamp parent count bytes rest style ch op some s c held is e h = h
-refused_before NoMemory stamp parent count bytes rest style ch op some s c held is e h = tt
-
-pub refused_more : {V : Type 0} (r : Result V ItemFault) (stamp parent : Stamp) (count : ℕ) (bytes rest : List ℕ) (style ch : ℕ) (op : Op) → (count ≡ 0 → ⊥) → style < 2 ^ 8 → ch < 2 ^ 32 → IsHeld op → fields_of op ≡ Insert stamp parent style ch → bytes ≡ style ∷ to_be_bytes w32 ch ++ rest
-    → IfErr r (λ fault. RefusesInserts (next_stamp stamp) stamp (count - 1) rest fault) → IfErr r (λ fault. RefusesInserts stamp parent count bytes fault)
+pub refused_more : {V : Type 0} (r : Result V Unlawful) (stamp parent : Stamp) (count : ℕ) (bytes rest : List ℕ) (style ch : ℕ) (op : Op) → (count ≡ 0 → ⊥) → style < 2 ^ 8 → ch < 2 ^ 32 → IsHeld op → fields_of op ≡ Insert stamp parent style ch → bytes ≡ style ∷ to_be_bytes w32 ch ++ rest
+    → IfErr r (λ first. HasUnlawful (next_stamp stamp) stamp (count - 1) rest first) → IfErr r (λ first. HasUnlawful stamp parent count bytes first)
 refused_more (Ok v) stamp parent count bytes rest style ch op some s c held is e h = tt
-refused_more (Err fault) stamp parent count bytes rest style ch op some s c held is e h = refused_before fault stamp parent count bytes rest style ch op some s c held is e h
+refused_more (Err first) stamp parent count bytes rest style ch op some s c held is e h = unlawful_before stamp parent count bytes rest style ch op first some s c held is e h
 
 -- the first insert is not lawful, whatever the others are
 pub refused_first : (stamp parent : Stamp) (count : ℕ) (bytes rest : List ℕ) (style ch : ℕ) (first : Unlawful) → (count ≡ 0 → ⊥) → style < 2 ^ 8 → ch < 2 ^ 32 → IsBytes bytes → 5 * count ≤ length bytes → bytes ≡ style ∷ to_be_bytes w32 ch ++ rest → cause (Insert stamp parent style ch) ≡ Err first
@@ -95,30 +84,14 @@ miscounted bytes stamp parent count rest h (inr many) = record { runs = tt; coun
 pub cut_symbols : (bytes : List ℕ) (stamp parent : Stamp) (count : ℕ) (rest : List ℕ) → RunFront bytes stamp parent count rest → 2 ≤ count → count ≤ 64 → length rest < 5 * count → IsCut Runs bytes
 cut_symbols bytes stamp parent count rest h least most short = inr (inr (record { runs = tt; count = count; rest = rest; front = begins bytes stamp parent count rest h.front; within = (least, most); short = short }))
 
-pub run_given : {V : Type 0} (view : V → List ℕ) (r : Result V ItemFault) (bytes : List ℕ) (stamp parent : Stamp) (count : ℕ) (rest : List ℕ) (before after : List Op) → RunFront bytes stamp parent count rest → 2 ≤ count → count ≤ 64
-    → IfOk r (λ v. GivesInserts stamp parent count rest before after (view v)) → IfOk r (λ v. GivesItem Runs bytes before after (view v))
-run_given view (Ok v) bytes stamp parent count rest before after h least most g =
-    record { item = Run stamp parent g.symbols; stands = run_stands Runs stamp parent count g.symbols tt (least, most) g.many g.each; is = g.is; front = run_there bytes stamp parent count rest (view v) g.symbols h.front g.many g.front }
-run_given view (Err fault) bytes stamp parent count rest before after h least most g = tt
+pub run_given : (bytes : List ℕ) (stamp parent : Stamp) (count : ℕ) (rest end : List ℕ) (before after : Option (List Op)) → RunFront bytes stamp parent count rest → 2 ≤ count → count ≤ 64 → GivesInserts stamp parent count rest before after end → GivesItem Runs bytes before after end
+run_given bytes stamp parent count rest end before after h least most g =
+    record { item = Run stamp parent g.symbols; stands = run_stands Runs stamp parent count g.symbols tt (least, most) g.many g.each; is = g.is; front = run_there bytes stamp parent count rest end g.symbols h.front g.many g.front }
 
-refused_at : (fault : ItemFault) (bytes : List ℕ) (stamp parent : Stamp) (count : ℕ) (rest : List ℕ) → RunFront bytes stamp parent count rest → 2 ≤ count → count ≤ 64 → RefusesInserts stamp parent count rest fault → RefusesItem Runs bytes fault
-refused_at (Wrong why.Magic) bytes stamp parent count rest h least most g = absurd g
-refused_at (Wrong why.Kind) bytes stamp parent count rest h least most g = absurd g
-refused_at (Wrong (why.Unlawful first)) bytes stamp parent count rest h least most g = run_unlawful Runs bytes stamp parent count rest g.rest g.marks first tt h.stamp_value h.parent_value h.front (least, most) g.many g.values g.front g.is
-refused_at (Wrong why.Cut) bytes stamp parent count rest h least most g = absurd g
-refused_at (Wrong why.Run) bytes stamp parent count rest h least most g = absurd g
-refused_at NoMemory bytes stamp parent count rest h least most g = let len = begins_length bytes count rest (begins bytes stamp parent count rest h.front) in omega (arith, len)
-
-pub run_refused : {V : Type 0} (r : Result V ItemFault) (bytes : List ℕ) (stamp parent : Stamp) (count : ℕ) (rest : List ℕ) → RunFront bytes stamp parent count rest → 2 ≤ count → count ≤ 64
-    → IfErr r (λ fault. RefusesInserts stamp parent count rest fault) → IfErr r (λ fault. RefusesItem Runs bytes fault)
-run_refused (Ok v) bytes stamp parent count rest h least most g = tt
-run_refused (Err fault) bytes stamp parent count rest h least most g = refused_at fault bytes stamp parent count rest h least most g
+pub run_refused : (bytes : List ℕ) (stamp parent : Stamp) (count : ℕ) (rest : List ℕ) (first : Unlawful) → RunFront bytes stamp parent count rest → 2 ≤ count → count ≤ 64 → HasUnlawful stamp parent count rest first → IsUnlawful Runs bytes first
+run_refused bytes stamp parent count rest first h least most g = run_unlawful Runs bytes stamp parent count rest g.rest g.marks first tt h.stamp_value h.parent_value h.front (least, most) g.many g.values g.front g.is
 
 -- ---- an item whose kind is no run's
 
-pub op_given : (form : FeedForm) (bytes rest : List ℕ) (op : Op) (before after : List Op) → IsHeld op → bytes ≡ spelling op ++ rest → after ≡ before ++ op ∷ [] → GivesItem form bytes before after rest
+pub op_given : (form : FeedForm) (bytes rest : List ℕ) (op : Op) (before after : Option (List Op)) → IsHeld op → bytes ≡ spelling op ++ rest → Adds before after (op ∷ []) → GivesItem form bytes before after rest
 op_given form bytes rest op before after held e is = record { item = One op; stands = held; is = is; front = e }
-
--- inserts are never told as cut
-pub never_cut : {V : Type 0} (r : Result V ItemFault) (stamp parent : Stamp) (count : ℕ) (rest : List ℕ) → IfErr r (λ fault. RefusesInserts stamp parent count rest fault) → r ≡ Err (Wrong why.Cut) → ⊥
-never_cut {V} r stamp parent count rest h e = subst (λ (x : Result V ItemFault). IfErr x (λ fault. RefusesInserts stamp parent count rest fault)) e h

@@ -1,45 +1,38 @@
 -- What reading an item gives, and why none is read.
-use Rattle.std.specs.Prelude.{◌≡◌, ℕ, ◌≤◌, List, ◌∷◌, ◌++◌, length, Err}
+use Rattle.std.specs.Prelude.{◌≡◌, ℕ, Option, List, ◌∷◌, ◌++◌, length, Err}
 use Rattle.std.specs.List.{flat_map, AllByRecursion}
 use Rattle.desk_ops.specs.declared.op.Stamp.{Stamp}
 use Rattle.desk_ops.specs.declared.op.Symbol.{Symbol}
 use Rattle.desk_ops.specs.declared.op.Op.{Op}
 use Rattle.desk_ops.specs.declared.op.Unlawful.{Unlawful}
-use Rattle.desk_codec.specs.declared.fault.FeedWhy.TheVariants as why
 use Rattle.desk_codec.specs.declared.form.FeedForm.{FeedForm}
-use Rattle.desk_codec.specs.declared.items.ItemFault.{ItemFault}
-use Rattle.desk_codec.specs.declared.items.ItemFault.TheVariants.{Wrong, NoMemory}
 use Rattle.desk_codec.specs.Spelling.{stamp_spelling, IsStampValue, IsHeld}
 use Rattle.desk_codec.specs.Items.{Item, run_ops, item_ops, symbol_spelling, item_spelling}
 use Rattle.desk_codec.specs.Feed.{Stands, Spells, ops_in}
 use Rattle.desk_codec.specs.Pieces.{IsUnended}
-use Rattle.desk_codec.specs.Fault.{Mark, mark_bytes, IsMarkValue, run_cause, IsWrong}
+use Rattle.desk_codec.specs.Gathered.{Adds}
+use Rattle.desk_codec.specs.Fault.{Mark, mark_bytes, IsMarkValue, run_cause}
 
 -- an item stands at the front, whose operations come after those before
-pub record GivesItem (form : FeedForm) (bytes : List ℕ) (before after : List Op) (rest : List ℕ) : Type 0 where
+pub record GivesItem (form : FeedForm) (bytes : List ℕ) (before after : Option (List Op)) (rest : List ℕ) : Type 0 where
   pub item : Item
   pub stands : Stands form item
-  pub is : after ≡ before ++ item_ops item
+  pub is : Adds before after (item_ops item)
   pub front : bytes ≡ item_spelling item ++ rest
 
 -- items stand at the front, whose operations come after those before
-pub record GivesItems (form : FeedForm) (bytes : List ℕ) (before after : List Op) (rest : List ℕ) : Type 0 where
+pub record GivesItems (form : FeedForm) (bytes : List ℕ) (before after : Option (List Op)) (rest : List ℕ) : Type 0 where
   pub items : List Item
   pub front : List ℕ
   pub spells : Spells form front items
-  pub is : after ≡ before ++ ops_in items
+  pub is : Adds before after (ops_in items)
   pub split : bytes ≡ front ++ rest
 
 -- items stand at the front, and no whole one after them
-pub record GivesRest (form : FeedForm) (bytes : List ℕ) (before : List Op) (read : FeedForm) (after : List Op) (kept : List ℕ) : Type 0 where
+pub record GivesRest (form : FeedForm) (bytes : List ℕ) (before : Option (List Op)) (read : FeedForm) (after : Option (List Op)) (kept : List ℕ) : Type 0 where
   pub same : form ≡ read
   pub items : GivesItems form bytes before after kept
   pub unended : IsUnended form kept
-
--- bytes that are wrong at the front are told so; only bytes as many as the shortest item's take memory
-abbrev pub RefusesItem : FeedForm → List ℕ → ItemFault → Type 0
-RefusesItem form bytes (Wrong w) = IsWrong form bytes w
-RefusesItem form bytes NoMemory = 16 ≤ length bytes
 
 -- a run's kind, its stamps and its count stand at the front
 pub record RunFront (bytes : List ℕ) (stamp parent : Stamp) (count : ℕ) (rest : List ℕ) : Type 0 where
@@ -48,11 +41,11 @@ pub record RunFront (bytes : List ℕ) (stamp parent : Stamp) (count : ℕ) (res
   pub parent_value : IsStampValue parent
 
 -- so many symbols stand at the front, and the inserts of a run of them are lawful, and come after the operations before
-pub record GivesInserts (stamp parent : Stamp) (count : ℕ) (bytes : List ℕ) (before after : List Op) (rest : List ℕ) : Type 0 where
+pub record GivesInserts (stamp parent : Stamp) (count : ℕ) (bytes : List ℕ) (before after : Option (List Op)) (rest : List ℕ) : Type 0 where
   pub symbols : List Symbol
   pub many : length symbols ≡ count
   pub each : AllByRecursion IsHeld (run_ops stamp parent symbols)
-  pub is : after ≡ before ++ run_ops stamp parent symbols
+  pub is : Adds before after (run_ops stamp parent symbols)
   pub front : bytes ≡ flat_map symbol_spelling symbols ++ rest
 
 -- so many symbols' numbers stand at the front, and this is the first cause of the first insert of a run of them that is not lawful
@@ -63,12 +56,3 @@ pub record HasUnlawful (stamp parent : Stamp) (count : ℕ) (bytes : List ℕ) (
   pub rest : List ℕ
   pub front : bytes ≡ flat_map mark_bytes marks ++ rest
   pub is : run_cause stamp parent marks ≡ Err first
-
--- why the inserts of a run are not read
-abbrev pub RefusesInserts : Stamp → Stamp → ℕ → List ℕ → ItemFault → Type 0
-RefusesInserts stamp parent count bytes (Wrong why.Magic) = ⊥
-RefusesInserts stamp parent count bytes (Wrong why.Kind) = ⊥
-RefusesInserts stamp parent count bytes (Wrong (why.Unlawful first)) = HasUnlawful stamp parent count bytes first
-RefusesInserts stamp parent count bytes (Wrong why.Cut) = ⊥
-RefusesInserts stamp parent count bytes (Wrong why.Run) = ⊥
-RefusesInserts stamp parent count bytes NoMemory = Unit {0}

@@ -8,6 +8,7 @@ pub mod Reading
 pub mod Order
 pub mod Pieces
 pub mod PieceSteps
+pub mod Gathered
 pub mod ItemReading
 pub mod PieceReading
 pub mod Runs

@@ -1,13 +1,12 @@
 -- How a reader of pieces goes on.
 use Rattle.std.specs.Prelude.{◌≡◌, ◌≢◌, ℕ, ◌+◌, ◌≤◌, ◌<◌, Bool, true, false, List, ◌++◌, length, Option, Some, None}
 use Rattle.desk_codec.specs.declared.fault.FeedWhy.TheVariants as why
-use Rattle.desk_codec.specs.declared.fault.ReadFault.{ReadFault}
-use Rattle.desk_codec.specs.declared.fault.ReadFault.TheVariants.{Fault, Failed, NoMemory}
+use Rattle.desk_codec.specs.declared.fault.FeedFault.{FeedFault}
 use Rattle.desk_codec.specs.declared.form.FeedForm.{FeedForm}
 use Rattle.desk_ops.specs.declared.op.Op.{Op}
 use Rattle.desk_codec.specs.Fault.{GoesWrong}
 use Rattle.desk_codec.specs.ItemReading.{GivesItem}
-use Rattle.desk_codec.specs.Pieces.{Reader, place_of, IsUnended, ShowsFirst, MayHoldMore}
+use Rattle.desk_codec.specs.Pieces.{Reader, place_of, IsUnended, Reads, MayHoldMore}
 
 -- fewer than so many bytes more make nothing whole, and there is room for them
 pub record Lacks (form : FeedForm) (kept : List ℕ) (missing : ℕ) : Type 0 where
@@ -30,17 +29,14 @@ abbrev pub Resumes : Option FeedForm → ℕ → List ℕ → Type 0
 Resumes None place kept = (place ≡ 0) × (length kept < 4)
 Resumes (Some form) place kept = (4 ≤ place) × IsUnended form kept
 
--- why bytes at a place are not read
-abbrev pub Stops : Option FeedForm → ℕ → List ℕ → ReadFault → Type 0
-Stops form place bytes (Fault fault) = ShowsFirst form place bytes fault
-Stops form place bytes Failed = ⊥
-Stops form place bytes NoMemory = MayHoldMore form bytes
+-- what was read of bytes, and is kept of them; without the operations where a growth was refused
+abbrev pub ReadsSo : Option FeedForm → List ℕ → Option (List Op) → FeedForm → List ℕ → Type 0
+ReadsSo before bytes (Some ops) form kept = Reads before bytes ops form kept
+ReadsSo before bytes None form kept = MayHoldMore before bytes × ((ops : List Op) × Reads before bytes ops form kept)
 
--- why the items at a place are not read
-abbrev pub StopsOn : FeedForm → ℕ → List ℕ → ReadFault → Type 0
-StopsOn form place bytes (Fault fault) = GoesWrong form place bytes fault × (fault.why ≢ why.Cut)
-StopsOn form place bytes Failed = ⊥
-StopsOn form place bytes NoMemory = 16 ≤ length bytes
+-- after items at a place something is wrong that more bytes do not mend
+abbrev pub StopsOn : FeedForm → ℕ → List ℕ → FeedFault → Type 0
+StopsOn form place bytes fault = GoesWrong form place bytes fault × (fault.why ≢ why.Cut)
 
 -- what is kept after a piece: the end of it, behind what was kept before or in place of that
 abbrev pub kept_after : Bool → List ℕ → List ℕ → List ℕ
@@ -48,5 +44,5 @@ kept_after true kept rest = kept ++ rest
 kept_after false kept rest = rest
 
 -- an item stands at the front of bytes, and so many come after it
-abbrev pub LeavesSo : FeedForm → List ℕ → List Op → List Op → ℕ → Type 0
+abbrev pub LeavesSo : FeedForm → List ℕ → Option (List Op) → Option (List Op) → ℕ → Type 0
 LeavesSo form bytes before after n = (rest : List ℕ) × GivesItem form bytes before after rest × (length rest ≡ n)

@@ -103,11 +103,12 @@ pub record MayHoldMore (before : Option FeedForm) (bytes : List ℕ) : Type 0 wh
   pub split : bytes ≡ due before form ++ body
   pub long : 16 ≤ length body
 
--- a piece that ran out of memory was not taken
+-- a piece that ran out of memory shows no fault, and was not taken
 pub record LacksMemory (before : Reader) (piece : List ℕ) (after : Reader) : Type 0 where
   pub answers : before.failed ≡ false
   pub same : after ≡ before
   pub long : MayHoldMore before.form (before.kept ++ piece)
+  pub none : (fault : FeedFault) → ShowsFirst before.form (place_of before) (before.kept ++ piece) fault → ⊥
 
 -- why a piece was not taken, and what the reader is then
 abbrev pub Refuses : Reader → List ℕ → ReadFault → Reader → Type 0

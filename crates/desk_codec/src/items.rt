@@ -2,32 +2,17 @@
 
 ghost use Rattle.std.specs.Prelude.{◌≡◌, ◌*◌, ◌≤◌, ◌<◌, length, get_or, IfOk, IfErr, Err};
 ghost use Rattle.desk_codec.specs.declared.form.FeedForm.TheVariants.{Runs};
-ghost use Rattle.desk_codec.specs.declared.items.ItemFault.TheVariants.{Wrong, NoMemory};
 ghost use Rattle.desk_codec.specs.declared.fault.FeedWhy.TheVariants as why;
-ghost use Rattle.desk_codec.specs.ItemReading.{GivesItem, GivesInserts, RefusesItem, RefusesInserts, RunFront};
+ghost use Rattle.desk_codec.specs.Fault.{IsWrong};
+ghost use Rattle.desk_codec.specs.ItemReading.{GivesItem, GivesInserts, HasUnlawful, RunFront};
 
 use crate::fault::FeedWhy;
 use crate::fields::{Fields, take_byte, take_stamp, take_u32};
 use crate::form::{FeedForm, LEAST_RUN, MOST_RUN, RUN_FRONT, RUN_KIND, SYMBOL_SIZE};
+use crate::gathered::Gathered;
 use crate::reading::next_op;
-use desk_ops::{Op, Stamp};
-use std::alloc::{AllocFailed, Allocator};
-
-/// Why no item was read.
-#[derive(Clone, Copy)]
-pub enum ItemFault {
-    Wrong(FeedWhy),
-    /// A growth was refused.
-    NoMemory,
-}
-
-impl<T: Drop> From<AllocFailed<T>> for ItemFault {
-    ghost from_gives = { λ _ fault. fault ≡ NoMemory };
-
-    fn from(_error: AllocFailed<T>) -> ItemFault {
-        ItemFault::NoMemory
-    }
-}
+use desk_ops::{Stamp, Unlawful};
+use std::alloc::Allocator;
 
 /// Appends the inserts of a run from the bytes of so many symbols, and gives the bytes after them; or tells the first cause of
 /// the first that is not lawful.
@@ -36,11 +21,11 @@ fn take_inserts<'a, A: Allocator>(
     parent: Stamp,
     count: usize,
     bytes: &'a [u8],
-    ops: &mut Vec<Op, A>,
-) -> Result<&'a [u8], ItemFault>
+    ops: &mut Gathered<A>,
+) -> Result<&'a [u8], Unlawful>
     requires { 5 * count ≤ length bytes.now }
-    ensures inserts { IfOk result (λ rest. GivesInserts stamp parent count bytes.now ops.old.items ops.new.items rest.now) }
-    ensures refused { IfErr result (λ fault. RefusesInserts stamp parent count bytes.now fault) }
+    ensures inserts { IfOk result (λ rest. GivesInserts stamp parent count bytes.now ops.old ops.new rest.now) }
+    ensures refused { IfErr result (λ first. HasUnlawful stamp parent count bytes.now first) }
 {
     if count == 0 {
         return Ok(bytes);
@@ -53,17 +38,13 @@ fn take_inserts<'a, A: Allocator>(
         style,
         ch,
     };
-    match fields.op() {
-        Ok(op) => {
-            ops.push(op)?;
-            let next = Stamp {
-                counter: stamp.counter + 1,
-                site: stamp.site,
-            };
-            take_inserts(next, stamp, count - 1, rest, ops)
-        }
-        Err(first) => Err(ItemFault::Wrong(FeedWhy::Unlawful(first))),
-    }
+    let op = fields.op()?;
+    ops.push(op);
+    let next = Stamp {
+        counter: stamp.counter + 1,
+        site: stamp.site,
+    };
+    take_inserts(next, stamp, count - 1, rest, ops)
 }
 
 /// A run's first stamp, its parent and its count, and the bytes after them.
@@ -80,49 +61,48 @@ fn take_front(bytes: &[u8]) -> (Stamp, Stamp, u8, &[u8])
 }
 
 /// Appends the inserts of the run at the front of bytes, and gives the bytes after it; or tells what is wrong there.
-fn next_run<'a, A: Allocator>(bytes: &'a [u8], ops: &mut Vec<Op, A>) -> Result<&'a [u8], ItemFault>
+fn next_run<'a, A: Allocator>(bytes: &'a [u8], ops: &mut Gathered<A>) -> Result<&'a [u8], FeedWhy>
     requires kind { get_or bytes.now 0 0 ≡ 4 }
     requires some { 0 < length bytes.now }
-    ensures item { IfOk result (λ rest. GivesItem Runs bytes.now ops.old.items ops.new.items rest.now) }
-    ensures refused { IfErr result (λ fault. RefusesItem Runs bytes.now fault) }
-    ensures cut { result ≡ Err (Wrong why.Cut) → ops.new.items ≡ ops.old.items }
+    ensures item { IfOk result (λ rest. GivesItem Runs bytes.now ops.old ops.new rest.now) }
+    ensures refused { IfErr result (λ w. IsWrong Runs bytes.now w) }
+    ensures cut { result ≡ Err why.Cut → ops.new ≡ ops.old }
 {
     if bytes.len() < RUN_FRONT {
-        return Err(ItemFault::Wrong(FeedWhy::Cut));
+        return Err(FeedWhy::Cut);
     }
     let (stamp, parent, count, rest) = take_front(bytes);
     let count = count as usize;
     if count < LEAST_RUN || count > MOST_RUN {
-        return Err(ItemFault::Wrong(FeedWhy::Run));
+        return Err(FeedWhy::Run);
     }
     if rest.len() < SYMBOL_SIZE * count {
-        return Err(ItemFault::Wrong(FeedWhy::Cut));
+        return Err(FeedWhy::Cut);
     }
-    take_inserts(stamp, parent, count, rest, ops)
+    match take_inserts(stamp, parent, count, rest, ops) {
+        Ok(rest) => Ok(rest),
+        Err(first) => Err(FeedWhy::Unlawful(first)),
+    }
 }
 
 /// Appends the operations of the item at the front of bytes, and gives the bytes after it; or tells what is wrong there.
 pub fn next_item<'a, A: Allocator>(
     form: FeedForm,
     bytes: &'a [u8],
-    ops: &mut Vec<Op, A>,
-) -> Result<&'a [u8], ItemFault>
+    ops: &mut Gathered<A>,
+) -> Result<&'a [u8], FeedWhy>
     requires { 0 < length bytes.now }
-    ensures item { IfOk result (λ rest. GivesItem form bytes.now ops.old.items ops.new.items rest.now) }
-    ensures refused { IfErr result (λ fault. RefusesItem form bytes.now fault) }
-    ensures cut { result ≡ Err (Wrong why.Cut) → ops.new.items ≡ ops.old.items }
+    ensures item { IfOk result (λ rest. GivesItem form bytes.now ops.old ops.new rest.now) }
+    ensures refused { IfErr result (λ w. IsWrong form bytes.now w) }
+    ensures cut { result ≡ Err why.Cut → ops.new ≡ ops.old }
 {
     if bytes[0] == RUN_KIND {
         return match form {
-            FeedForm::Singles => Err(ItemFault::Wrong(FeedWhy::Kind)),
+            FeedForm::Singles => Err(FeedWhy::Kind),
             FeedForm::Runs => next_run(bytes, ops),
         };
     }
-    match next_op(bytes) {
-        Ok((op, rest)) => {
-            ops.push(op)?;
-            Ok(rest)
-        }
-        Err(why) => Err(ItemFault::Wrong(why)),
-    }
+    let (op, rest) = next_op(bytes)?;
+    ops.push(op);
+    Ok(rest)
 }

@@ -8,6 +8,7 @@
 mod fault;
 mod fields;
 mod form;
+mod gathered;
 mod items;
 mod laws;
 mod reader;

@@ -4,17 +4,17 @@ ghost use Rattle.std.specs.Prelude.{◌≡◌, ◌≢◌, ℕ, ◌+◌, ◌*◌,
 ghost use Rattle.arrayvec.specs.ArrayVec.{array_vec_len};
 ghost use Rattle.desk_codec.specs.declared.form.FeedForm.{FeedForm};
 ghost use Rattle.desk_codec.specs.Feed.{magic_of};
-ghost use Rattle.desk_codec.specs.Fault.{IsCut};
-ghost use Rattle.desk_codec.specs.ItemReading.{GivesItem, GivesItems, GivesRest, RefusesItem};
-ghost use Rattle.desk_codec.specs.Pieces.{fresh, ended, Takes, Refuses, IsWhole, RefusesEnd, IsUnended, Reads};
-ghost use Rattle.desk_codec.specs.PieceReading.{Lacks, LeavesSo, Resumes, Stops, StopsOn, kept_after};
+ghost use Rattle.desk_codec.specs.Fault.{IsCut, IsWrong};
+ghost use Rattle.desk_codec.specs.ItemReading.{GivesItem, GivesItems, GivesRest};
+ghost use Rattle.desk_codec.specs.Pieces.{fresh, ended, Takes, Refuses, IsWhole, RefusesEnd, IsUnended, ShowsFirst};
+ghost use Rattle.desk_codec.specs.PieceReading.{Lacks, LeavesSo, ReadsSo, Resumes, StopsOn, kept_after};
 ghost use Rattle.desk_codec.specs.declared.fault.FeedWhy.TheVariants as why;
 ghost use Rattle.desk_codec.specs.declared.fault.ReadFault.TheVariants as fault;
-ghost use Rattle.desk_codec.specs.declared.items.ItemFault.TheVariants.{Wrong};
 
 use crate::fault::{FeedFault, FeedWhy, ReadFault};
 use crate::form::{FeedForm, Kind, MAGIC, MOST_SIZE, RUN_FRONT, SYMBOL_SIZE};
-use crate::items::{ItemFault, next_item};
+use crate::gathered::Gathered;
+use crate::items::next_item;
 use crate::writing::put;
 use arrayvec::ArrayVec;
 use desk_ops::Op;
@@ -48,7 +48,7 @@ impl Model for FeedReader {
 /// kept before it or in place of that.
 struct PieceRead<'a, A: Allocator> {
     form: FeedForm,
-    ops: Vec<Op, A>,
+    ops: Gathered<A>,
     rest: &'a [u8],
     is_behind: bool,
 }
@@ -68,8 +68,8 @@ impl FeedReader {
     }
 
     /// The operations whose last byte comes in this piece, or the first fault that the pieces so far show. A run counts as one
-    /// operation: all its inserts come with its last byte. After a fault every call answers `Failed`. After `NoMemory` the piece
-    /// was not taken. All pieces together have fewer than 2^63 bytes.
+    /// operation: all its inserts come with its last byte. After a fault every call answers `Failed`. `NoMemory` comes of a piece
+    /// that shows no fault, and the piece was not taken. All pieces together have fewer than 2^63 bytes.
     pub fn feed<A: Allocator>(&mut self, alloc: A, piece: &[u8]) -> Result<Vec<Op, A>, ReadFault>
         requires { self.old.taken + length piece.now < 2 ^ 63 }
         ensures taken { IfOk result (λ ops. Takes self.old piece.now ops.items self.new) }
@@ -107,17 +107,19 @@ impl FeedReader {
                     is_behind,
                 },
             ) => {
+                let Some(ops) = ops.list() else {
+                    return Err(ReadFault::NoMemory);
+                };
                 keep(&mut self.kept, is_behind, rest);
                 self.missing = missing_after(form, self.kept.as_slice());
                 self.form = Some(form);
                 self.taken += piece.len() as u64;
                 Ok(ops)
             }
-            Err(ReadFault::Fault(fault)) => {
+            Err(fault) => {
                 self.failed = true;
                 Err(ReadFault::Fault(fault))
             }
-            Err(fault) => Err(fault),
         }
     }
 
@@ -225,12 +227,12 @@ fn after_magic<'a>(kept: &[u8], piece: &'a [u8]) -> Option<(FeedForm, &'a [u8])>
 fn item_in<A: Allocator>(
     form: FeedForm,
     bytes: &[u8],
-    ops: &mut Vec<Op, A>,
-) -> Result<usize, ItemFault>
+    ops: &mut Gathered<A>,
+) -> Result<usize, FeedWhy>
     requires { 0 < length bytes.now }
-    ensures item { IfOk result (λ n. LeavesSo form bytes.now ops.old.items ops.new.items n) }
-    ensures refused { IfErr result (λ fault. RefusesItem form bytes.now fault) }
-    ensures cut { result ≡ Err (Wrong why.Cut) → ops.new.items ≡ ops.old.items }
+    ensures item { IfOk result (λ n. LeavesSo form bytes.now ops.old ops.new n) }
+    ensures refused { IfErr result (λ w. IsWrong form bytes.now w) }
+    ensures cut { result ≡ Err why.Cut → ops.new ≡ ops.old }
 {
     let rest = next_item(form, bytes, ops)?;
     Ok(rest.len())
@@ -242,12 +244,12 @@ fn first_item<'a, A: Allocator>(
     form: FeedForm,
     kept: &mut ArrayVec<u8, 342>,
     piece: &'a [u8],
-    ops: &mut Vec<Op, A>,
-) -> Result<&'a [u8], ItemFault>
+    ops: &mut Gathered<A>,
+) -> Result<&'a [u8], FeedWhy>
     requires { IsCut form kept.old.items }
-    ensures item { IfOk result (λ rest. GivesItem form (kept.old.items ++ piece.now) ops.old.items ops.new.items rest.now) }
-    ensures refused { IfErr result (λ fault. RefusesItem form (kept.old.items ++ piece.now) fault) }
-    ensures cut { result ≡ Err (Wrong why.Cut) → ops.new.items ≡ ops.old.items }
+    ensures item { IfOk result (λ rest. GivesItem form (kept.old.items ++ piece.now) ops.old ops.new rest.now) }
+    ensures refused { IfErr result (λ w. IsWrong form (kept.old.items ++ piece.now) w) }
+    ensures cut { result ≡ Err why.Cut → ops.new ≡ ops.old }
     ensures same { kept.new.items ≡ kept.old.items }
 {
     let len = kept.len();
@@ -265,22 +267,21 @@ fn read_whole<'a, A: Allocator>(
     form: FeedForm,
     place: u64,
     bytes: &'a [u8],
-    ops: &mut Vec<Op, A>,
-) -> Result<&'a [u8], ReadFault>
+    ops: &mut Gathered<A>,
+) -> Result<&'a [u8], FeedFault>
     requires { place + length bytes.now < 2 ^ 63 }
-    ensures read { IfOk result (λ rest. GivesItems form bytes.now ops.old.items ops.new.items rest.now × IsUnended form rest.now) }
+    ensures read { IfOk result (λ rest. GivesItems form bytes.now ops.old ops.new rest.now × IsUnended form rest.now) }
     ensures fault { IfErr result (λ fault. StopsOn form place bytes.now fault) }
 {
     let mut rest = bytes;
     while !rest.is_empty() {
         match next_item(form, rest, ops) {
             Ok(after) => rest = after,
-            Err(ItemFault::NoMemory) => return Err(ReadFault::NoMemory),
-            Err(ItemFault::Wrong(why)) => match why {
+            Err(why) => match why {
                 FeedWhy::Cut => return Ok(rest),
                 _ => {
                     let at = place + (bytes.len() - rest.len()) as u64;
-                    return Err(ReadFault::Fault(FeedFault { at, why }));
+                    return Err(FeedFault { at, why });
                 }
             },
         }
@@ -293,10 +294,10 @@ fn read_rest<'a, A: Allocator>(
     form: FeedForm,
     place: u64,
     bytes: &'a [u8],
-    ops: Vec<Op, A>,
-) -> Result<PieceRead<'a, A>, ReadFault>
+    ops: Gathered<A>,
+) -> Result<PieceRead<'a, A>, FeedFault>
     requires { place + length bytes.now < 2 ^ 63 }
-    ensures read { IfOk result (λ read. GivesRest form bytes.now ops.items read.form read.ops.items read.rest.now × (read.is_behind ≡ false)) }
+    ensures read { IfOk result (λ read. GivesRest form bytes.now ops read.form read.ops read.rest.now × (read.is_behind ≡ false)) }
     ensures fault { IfErr result (λ fault. StopsOn form place bytes.now fault) }
 {
     let mut ops = ops;
@@ -316,15 +317,15 @@ fn read_items<'a, A: Allocator>(
     place: u64,
     kept: &mut ArrayVec<u8, 342>,
     piece: &'a [u8],
-) -> Result<PieceRead<'a, A>, ReadFault>
+) -> Result<PieceRead<'a, A>, FeedFault>
     requires unended { IsUnended form kept.old.items }
     requires few { place + (length kept.old.items + length piece.now) < 2 ^ 63 }
-    ensures read { IfOk result (λ read. Reads (Some form) (kept.old.items ++ piece.now) read.ops.items read.form (kept_after read.is_behind kept.old.items read.rest.now)) }
-    ensures fault { IfErr result (λ fault. Stops (Some form) place (kept.old.items ++ piece.now) fault) }
+    ensures read { IfOk result (λ read. ReadsSo (Some form) (kept.old.items ++ piece.now) read.ops read.form (kept_after read.is_behind kept.old.items read.rest.now)) }
+    ensures fault { IfErr result (λ fault. ShowsFirst (Some form) place (kept.old.items ++ piece.now) fault) }
     ensures same { kept.new.items ≡ kept.old.items }
 {
     let most = form.most_ops(kept.len() + piece.len());
-    let mut ops = Vec::with_capacity(alloc, most)?;
+    let mut ops = Gathered::with_capacity(alloc, most);
     if kept.is_empty() {
         return read_rest(form, place, piece, ops);
     }
@@ -334,15 +335,14 @@ fn read_items<'a, A: Allocator>(
             let at = place + (len + piece.len() - after.len()) as u64;
             read_rest(form, at, after, ops)
         }
-        Err(ItemFault::NoMemory) => Err(ReadFault::NoMemory),
-        Err(ItemFault::Wrong(why)) => match why {
+        Err(why) => match why {
             FeedWhy::Cut => Ok(PieceRead {
                 form,
                 ops,
                 rest: piece,
                 is_behind: true,
             }),
-            _ => Err(ReadFault::Fault(FeedFault { at: place, why })),
+            _ => Err(FeedFault { at: place, why }),
         },
     }
 }
@@ -354,12 +354,12 @@ fn read_piece<'a, A: Allocator>(
     place: u64,
     kept: &mut ArrayVec<u8, 342>,
     piece: &'a [u8],
-) -> Result<PieceRead<'a, A>, ReadFault>
+) -> Result<PieceRead<'a, A>, FeedFault>
     requires resumes { Resumes form place kept.old.items }
     requires enough { form ≡ None → 4 ≤ length kept.old.items + length piece.now }
     requires few { place + (length kept.old.items + length piece.now) < 2 ^ 63 }
-    ensures read { IfOk result (λ read. Reads form (kept.old.items ++ piece.now) read.ops.items read.form (kept_after read.is_behind kept.old.items read.rest.now)) }
-    ensures fault { IfErr result (λ fault. Stops form place (kept.old.items ++ piece.now) fault) }
+    ensures read { IfOk result (λ read. ReadsSo form (kept.old.items ++ piece.now) read.ops read.form (kept_after read.is_behind kept.old.items read.rest.now)) }
+    ensures fault { IfErr result (λ fault. ShowsFirst form place (kept.old.items ++ piece.now) fault) }
     ensures same { kept.new.items ≡ kept.old.items }
 {
     if let Some(form) = form {
@@ -367,10 +367,10 @@ fn read_piece<'a, A: Allocator>(
     }
     match after_magic(kept.as_slice(), piece) {
         Some((form, rest)) => read_after_magic(alloc, form, rest),
-        None => Err(ReadFault::Fault(FeedFault {
+        None => Err(FeedFault {
             at: 0,
             why: FeedWhy::Magic,
-        })),
+        }),
     }
 }
 
@@ -379,11 +379,11 @@ fn read_after_magic<'a, A: Allocator>(
     alloc: A,
     form: FeedForm,
     piece: &'a [u8],
-) -> Result<PieceRead<'a, A>, ReadFault>
+) -> Result<PieceRead<'a, A>, FeedFault>
     requires few { 4 + length piece.now < 2 ^ 63 }
-    ensures read { IfOk result (λ read. Reads (Some form) piece.now read.ops.items read.form read.rest.now × (read.is_behind ≡ false)) }
-    ensures fault { IfErr result (λ fault. Stops (Some form) 4 piece.now fault) }
+    ensures read { IfOk result (λ read. ReadsSo (Some form) piece.now read.ops read.form read.rest.now × (read.is_behind ≡ false)) }
+    ensures fault { IfErr result (λ fault. ShowsFirst (Some form) 4 piece.now fault) }
 {
-    let ops = Vec::with_capacity(alloc, form.most_ops(piece.len()))?;
+    let ops = Gathered::with_capacity(alloc, form.most_ops(piece.len()));
     read_rest(form, 4, piece, ops)
 }

@@ -2,7 +2,7 @@ ghost use Rattle.std.specs.Prelude.{◌≡◌, ◌+◌, ◌<◌, ◌≤◌, ◌^
 
 use crate::codec::{AB, DELETE, FEED_AB, INSERT_A, MEASURE_144, ballast, fault};
 use desk_codec::{FeedReader, FeedWhy, ReadFault};
-use desk_ops::Op;
+use desk_ops::{Op, Unlawful};
 use linked_list_allocator::LocalHeap;
 use std::alloc::{Allocator, Global};
 use std::test::Fail;
@@ -231,7 +231,72 @@ fn refused_pieces(alloc: Global, cut: usize, place: usize) -> Result<u32, Fail> 
     Ok(u32::from(first).saturating_add(u32::from(second)))
 }
 
-/// A piece that was refused memory was not taken: given again with memory it is answered as it would have been.
+/// The front of `A_AND_NINE`, and a setting of the key 6, which there is not.
+const A_AND_NO_KEY: [u8; 46] = [
+    0x4d, 0x46, 0x44, 0x31, 1, 0, 0, 0, 0, 0, 0, 0, 1, 0, 1, 0, 0, 0, 0, 0, 0, 0, 0, 0, 0, 0, 0, 0,
+    0, 0x61, 3, 0, 0, 0, 0, 0, 0, 0, 5, 0, 2, 6, 0, 0, 0, 0x90,
+];
+
+/// The same insert in a feed of runs, and the front of a run of 65.
+const A_AND_65: [u8; 52] = [
+    0x4d, 0x46, 0x44, 0x32, 1, 0, 0, 0, 0, 0, 0, 0, 1, 0, 1, 0, 0, 0, 0, 0, 0, 0, 0, 0, 0, 0, 0, 0,
+    0, 0x61, 4, 0, 0, 0, 0, 0, 0, 0, 2, 0, 1, 0, 0, 0, 0, 0, 0, 0, 1, 0, 1, 65,
+];
+
+/// Whether the fault of a piece is told, where so many of its bytes came before, and after it `Failed`.
+fn is_told<A: Allocator + Copy>(alloc: A, before: usize, bytes: &[u8], want: ReadFault) -> bool {
+    if bytes.len() > 100 {
+        return false;
+    }
+    let (front, piece) = bytes.split_at(before.min(bytes.len()));
+    let mut reader = FeedReader::new();
+    is_answered(&mut reader, alloc, front, Ok(&AB[..0]))
+        && is_answered(&mut reader, alloc, piece, Err(want))
+        && is_answered(&mut reader, alloc, b"", FAILED)
+}
+
+/// Whether each fault is told, of a piece alone and of one behind bytes that were kept.
+fn are_told<A: Allocator + Copy>(alloc: A) -> bool {
+    let no_key = FeedWhy::Unlawful(Unlawful::Key);
+    let rows: [(usize, &[u8], ReadFault); 8] = [
+        (0, &A_AND_NINE, fault(30, FeedWhy::Kind)),
+        (19, &A_AND_NINE, fault(30, FeedWhy::Kind)),
+        (0, &A_AND_NO_KEY, fault(30, no_key)),
+        (19, &A_AND_NO_KEY, fault(30, no_key)),
+        (0, &A_AND_65, fault(30, FeedWhy::Run)),
+        (19, &A_AND_65, fault(30, FeedWhy::Run)),
+        (0, &FEED_AB[1..], fault(0, FeedWhy::Magic)),
+        (3, &FEED_AB[1..], fault(0, FeedWhy::Magic)),
+    ];
+    for (before, bytes, want) in rows {
+        if !is_told(alloc, before, bytes, want) {
+            return false;
+        }
+    }
+    true
+}
+
+/// Whether a cut heap refuses the room of one operation. There, and with memory, each fault is told.
+fn is_told_in_want(alloc: Global, cut: usize) -> Result<bool, Fail> {
+    let heap = LocalHeap::new(alloc, 512)?;
+    let ballast = ballast(&heap, cut);
+    let mut reader = FeedReader::new();
+    let refused = is_answered(
+        &mut reader,
+        &heap,
+        &A_AND_NINE[..30],
+        Err(ReadFault::NoMemory),
+    );
+    let told = are_told(&heap);
+    drop(ballast);
+    if !told || !are_told(&heap) {
+        return Err(Fail::new("another answer"));
+    }
+    Ok(refused)
+}
+
+/// A piece that was refused memory was not taken: given again with memory it is answered as it would have been. One that shows
+/// a fault is told by it, with memory or without.
 #[test]
 fn growth_refused_in_pieces(rt: HostRuntime) -> Result<(), Fail> {
     for place in 0..56usize {
@@ -244,5 +309,10 @@ fn growth_refused_in_pieces(rt: HostRuntime) -> Result<(), Fail> {
             "cut at {place} refused {refused} times"
         );
     }
+    let mut refused = 0u32;
+    for cut in 0..16usize {
+        refused = refused.saturating_add(u32::from(is_told_in_want(rt.alloc(), cut)?));
+    }
+    assert!(rt; 1 <= refused && refused <= 15, "refused {refused} times");
     Ok(())
 }
