@@ -40,9 +40,6 @@ cell_back c k =
     same_cell_made (unwrap_or (column_at (place c % 17)) column.A) c.column (place c / 17 + 1) c.row
     (ap (λ n. unwrap_or (column_at n) column.A) parts.0 ∙ ap (λ o. unwrap_or o column.A) (column_back c.column)) parts.1
 
-pub place_within : (c : Cell) → IsCell c → place c < 255
-place_within c k = let small = index_small c.column in omega arith
-
 -- a cell and its name
 parts_of_cell : (oc : Option Column) (or : Option ℕ) (cell : Cell) → cell_at oc or ≡ Some cell → (oc ≡ Some cell.column) × (or ≡ Some cell.row)
 parts_of_cell None or cell e = cc

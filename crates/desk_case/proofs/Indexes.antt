@@ -1,11 +1,10 @@
 -- The entries that index a grid, put in place by place.
-use Rattle.std.proofs.Common.{◌≡◌, ◌∙◌, ℕ, ◌+◌, ◌≤◌, ◌<◌, Bool, true, false, cond, if◌then◌else◌, List, [], ◌∷◌, ◌++◌, length, take, drop, get_or, Option, Some, None, refl, sym, ap, arith}
+use Rattle.std.proofs.Common.{◌≡◌, ◌∙◌, ℕ, ◌+◌, ◌<◌, Bool, true, false, cond, if◌then◌else◌, List, [], ◌∷◌, ◌++◌, length, take, drop, get_or, Option, Some, None, refl, sym, ap, arith}
 use Rattle.std.specs.Prelude.{is_some, option_map}
 use Rattle.std.specs.List.{position_from}
 use Rattle.std.specs.Map.{lookup}
 use Rattle.std.proofs.lemmas.Bool.{true≢false}
-use Rattle.std.proofs.lemmas.List.{drop_more, take_more, take_all, length-take-le}
-use Rattle.std.proofs.Math.ListN.{drop_of_length-le}
+use Rattle.std.proofs.lemmas.List.{drop_more, take_more, length-take-le}
 use Rattle.desk_signals.specs.declared.Cell.{Cell}
 use Rattle.desk_ops.specs.declared.op.Symbol.{Symbol}
 use Rattle.desk_case.specs.Names.{cell_of_place}
@@ -71,9 +70,6 @@ pub record IsIndexedTo (grid : Grid) (i : ℕ) (es : Entries) : Type 0 where
   pub index : IsIndexOf es (take i grid)
   pub apart : first_doubled grid ≡ doubled_after (take i grid) (drop i grid)
 
-pub none_indexed : (grid : Grid) → IsIndexedTo grid 0 []
-none_indexed grid = record { index = record { found = λ s. refl }; apart = refl }
-
 next_taken : (grid : Grid) (i : ℕ) (d m : Option Symbol) → i < length grid → get_or grid i d ≡ m → take (i + 1) grid ≡ take i grid ++ m ∷ []
 next_taken grid i d m within is = take_more grid i d within ∙ ap (λ x. take i grid ++ x ∷ []) is
 
@@ -109,20 +105,6 @@ symbol_indexed grid i es more d s within held new grown h =
           ∙ ap (λ b. or_else (if b then Some s else None) (doubled_after (take i grid ++ Some s ∷ []) (drop (i + 1) grid))) not_seen
           ∙ ap (λ g. doubled_after g (drop (i + 1) grid)) (sym taken);
     }
-
-pub doubled_indexed : (grid : Grid) (i : ℕ) (es : Entries) (d : Option Symbol) (s : Symbol) → i < length grid → get_or grid i d ≡ Some s
-    → is_some (lookup (same_symbol s) es) ≡ true → IsIndexedTo grid i es → first_doubled grid ≡ Some s
-doubled_indexed grid i es d s within held there h =
-    let dropped = next_dropped grid i d (Some s) within held in
-    let is_seen = sym (seen grid i es s h) ∙ there in
-    h.apart ∙ ap (doubled_after (take i grid)) dropped
-    ∙ ap (λ b. or_else (if b then Some s else None) (doubled_after (take i grid ++ Some s ∷ []) (drop (i + 1) grid))) is_seen
-
-pub all_indexed : (grid : Grid) (i : ℕ) (es : Entries) → length grid ≤ i → IsIndexedTo grid i es → (first_doubled grid ≡ None) × IsIndexOf es grid
-all_indexed grid i es end h =
-    let whole : take i grid ≡ grid = take_all i grid end in
-    let none : drop i grid ≡ [] = drop_of_length-le grid end in
-    (h.apart ∙ ap (doubled_after (take i grid)) none, rw whole at h.index)
 
 pub none_of : {A : Type 0} (o : Option A) → is_some o ≡ false → o ≡ None
 none_of None e = refl

@@ -54,7 +54,7 @@ pub fn cell_of_place(place: usize) -> Cell
     requires { place < ROWS * COLUMNS }
     ensures { result ≡ cell_of_place place }
 {
-    let column = Column::at((place % COLUMNS) as u8).unwrap_or(Column::A);
+    let column = Column::at((place % COLUMNS) as u8).unwrap();
     let row = RowNo::new((place / COLUMNS) as u8 + 1).unwrap();
     Cell { column, row }
 }

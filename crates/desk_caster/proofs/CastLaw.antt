@@ -1,6 +1,7 @@
 -- The rows of lines whose cells the case has, cast from the last to the first, give these lines again.
-use Rattle.std.proofs.Common.{◌≡◌, ℕ, suc, ◌+◌, List, [], ◌∷◌, ◌++◌, map, length, refl, ap, Some, Ok, Option, append_assoc, arith}
+use Rattle.std.proofs.Common.{◌≡◌, ℕ, suc, ◌+◌, List, [], ◌∷◌, ◌++◌, map, length, refl, Some, Ok, Option, append_assoc, arith}
 use Rattle.std.specs.List.{flat_map}
+use Rattle.std.proofs.lemmas.List.{append-nil}
 use Rattle.desk_units.specs.WedgeSum.{sum_at}
 use Rattle.desk_wedge.specs.Wedge.{WedgeValues}
 use Rattle.desk_case.specs.Case.{CaseValues}
@@ -49,10 +50,6 @@ pub all_lines_sent : {A : Type 0} (case : CaseValues) (wedge : WedgeValues) (pla
 all_lines_sent case wedge place [] = refl
 all_lines_sent case wedge place (line ∷ lines) = refl
 
-pub append_empty : {A : Type 0} (xs : List A) → xs ++ [] ≡ xs
-append_empty [] = refl
-append_empty (x ∷ xs) = ap (λ r. x ∷ r) (append_empty xs)
-
 pub lines_cast : {A : Type 0} (case : CaseValues) (wedge : WedgeValues) (place : ℕ) (lines : List (PunchLine A)) → LinesHaveAll case lines →
     cast_rows case wedge place (flat_map line_rows lines) ≡ Ok (after_lines case wedge place lines)
 lines_cast case wedge place [] has = refl
@@ -63,7 +60,7 @@ lines_cast case wedge place (line ∷ lines) has =
     rw (lines_cast case wedge (suc (suc after)) lines has.1, all_lines_sent case wedge (suc (suc after)) lines) refl in
     let whole = cells_cast case wedge place after line.matrices (Coarse line.coarse ∷ FineOut line.fine ∷ flat_map line_rows lines)
     (Some line.fine) after line.coarse line.fine [] (map (line_cast case wedge) lines) has.0 refl tail in
-    rw append_assoc (rw (append_empty (casts case wedge line.coarse line.fine line.matrices)) at whole)
+    rw append_assoc (rw (append-nil (casts case wedge line.coarse line.fine line.matrices)) at whole)
 
 pub lines_come_back : {A : Type 0} (case : CaseValues) (wedge : WedgeValues) (lines : List (PunchLine A)) → LinesHaveAll case lines →
     cast case wedge (ribbon_rows lines) ≡ Ok (map (line_cast case wedge) lines)

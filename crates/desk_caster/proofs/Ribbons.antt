@@ -6,8 +6,6 @@ use Rattle.std.specs.Int.{w32, to_be_bytes, from_be_bytes}
 use Rattle.std.proofs.lemmas.Nat.{be_bytes_4, from_be_bytes-to_be_bytes_4}
 use Rattle.std.proofs.lemmas.Bool.{cases_lt}
 use Rattle.std.proofs.lemmas.List.{length-take, get_or-take, get_or_past, take-append-drop}
-use Rattle.std.proofs.lemmas.Grind.{flat_map-append}
-use Rattle.desk_ops.proofs.Lists.{Each-append}
 use Rattle.desk_signals.specs.Rows.{signals_of}
 use Rattle.desk_image.proofs.Bits.{image_shows}
 use Rattle.desk_image.proofs.ImageLaws.{images_are_one_to_one, rows_have_lawful_images}
@@ -39,21 +37,6 @@ number_same m n x y p q e =
     (sym (from_be_bytes-to_be_bytes_4 m p) ∙ ap (λ (b : List ℕ). from_be_bytes w32 (take 4 b)) e ∙ from_be_bytes-to_be_bytes_4 n q, ap (λ (b : List ℕ). drop 4 b) e)
 
 -- ---- the images of rows
-
-no_end : {A : Type 0} (xs : List A) → xs ++ [] ≡ xs
-no_end [] = refl
-no_end (x ∷ xs) = ap (λ r. x ∷ r) (no_end xs)
-
-flat-push : (rows : List RibbonRow) (row : RibbonRow) → flat_map image_bytes (rows ++ row ∷ []) ≡ flat_map image_bytes rows ++ image_bytes row
-flat-push rows row = flat_map-append image_bytes rows (row ∷ []) ∙ ap (λ x. flat_map image_bytes rows ++ x) (no_end (image_bytes row))
-
--- one row more is read
-pub row_read : (images : List ℕ) (rows : List RibbonRow) (row : RibbonRow) (n : ℕ) (rest after : List ℕ) → images ≡ flat_map image_bytes rows ++ rest → rest ≡ to_be_bytes w32 n ++ after → image row ≡ n →
-    images ≡ flat_map image_bytes (rows ++ row ∷ []) ++ after
-row_read images rows row n rest after e f same =
-    let there : rest ≡ image_bytes row ++ after = f ∙ ap (λ k. to_be_bytes w32 k ++ after) (sym same) in
-    let joined : (flat_map image_bytes rows ++ image_bytes row) ++ after ≡ flat_map image_bytes rows ++ (image_bytes row ++ after) = rw append_assoc refl in
-    e ∙ ap (λ x. flat_map image_bytes rows ++ x) there ∙ sym joined ∙ ap (λ x. x ++ after) (sym (flat-push rows row))
 
 length-number : (n : ℕ) → length (to_be_bytes w32 n) ≡ 4
 length-number n = refl
@@ -122,6 +105,3 @@ pub ribbons_have_one_reading : RibbonsHaveOneReading
 ribbons_have_one_reading bytes a b p q =
     let body = same_body bytes (to_be_bytes w32 (length a) ++ flat_map image_bytes a) (flat_map image_bytes b) (length b) p.is q.is in
     same_rows a b p.lawful q.lawful (number_same (length a) (length b) (flat_map image_bytes a) (flat_map image_bytes b) p.number q.number body).1
-
-pub rows_pushed : (rows : List RibbonRow) (row : RibbonRow) → AllByRecursion IsRow rows → IsRow row → AllByRecursion IsRow (rows ++ row ∷ [])
-rows_pushed rows row all one = Each-append IsRow rows (row ∷ []) all (one, tt)

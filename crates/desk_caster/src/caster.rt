@@ -258,10 +258,7 @@ pub fn cast<A: Allocator + Copy>(
     let mut place = rows.len();
     'rows: while place > 0 {
         place -= 1;
-        caster = match caster.step(case, wedge, place as u32, rows[place]) {
-            Ok(caster) => caster,
-            Err(fault) => return Err(fault),
-        };
+        caster = caster.step(case, wedge, place as u32, rows[place])?;
     }
     caster.finish()
 }

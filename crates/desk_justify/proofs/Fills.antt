@@ -1,20 +1,7 @@
 -- How often each fill is used, one after the other, and as the definition of a filled line has it.
-use Rattle.std.proofs.Common.{◌≡◌, ℕ, zero, suc, ◌+◌, ◌-◌, ◌*◌, ◌/◌, ◌<◌, ◌≤◌, ◌^◌, List, [], ◌∷◌, ◌++◌, length, get_or, take, drop, refl, ap, ◌∙◌, append_assoc, drop-cons, arith, add-one}
-use Rattle.std.specs.Prelude.{ℤ, pos, negsuc, unsigned_abs, ◌≤ℤ◌}
-use Rattle.std.proofs.lemmas.Int.{ints}
+use Rattle.std.proofs.Common.{◌≡◌, ℕ, zero, suc, ◌+◌, ◌-◌, ◌*◌, ◌/◌, ◌<◌, List, [], ◌∷◌, length, get_or, take, refl, ap, arith}
+use Rattle.std.specs.Prelude.{ℤ, pos, unsigned_abs}
 use Rattle.desk_justify.specs.Filled.{fill_counts, room, taken, OneFilling}
-
--- one fill more
-pub one_fill_more : (widths : List ℤ) (i left : ℕ) (counts all : List ℕ) → i < length widths →
-    all ≡ counts ++ fill_counts left (drop i widths) →
-    all ≡ (counts ++ left / unsigned_abs (get_or widths i (pos 0)) ∷ [])
-    ++ fill_counts (left - left / unsigned_abs (get_or widths i (pos 0)) * unsigned_abs (get_or widths i (pos 0))) (drop (i + 1) widths)
-one_fill_more widths i left counts all below so_far =
-    so_far ∙ rw (add-one, append_assoc, drop-cons widths i (pos 0) below) refl
-
-pub small_room : (rest : ℤ) → rest ≤ℤ pos (2 ^ 31) → room rest ≤ 2 ^ 31
-small_room (pos n) h = omega (arith, ints)
-small_room (negsuc n) h = omega arith
 
 counts_number : (left : ℕ) (widths : List ℤ) → length (fill_counts left widths) ≡ length widths
 counts_number left [] = refl

@@ -2,16 +2,12 @@
 use Rattle.std.proofs.Common.{◌≡◌, ◌⊎◌, inl, inr, ℕ, zero, suc, ◌+◌, ◌-◌, ◌<◌, ◌≤◌, ◌^◌, List, [], ◌∷◌, ◌++◌, length, take, drop, get_or, refl, sym, ap, subst, ◌∙◌, arith, length-drop, append_assoc}
 use Rattle.std.specs.Prelude.{ℤ, pos, ◌+ℤ◌, ◌≤ℤ◌, ◌<ℤ◌}
 use Rattle.std.proofs.lemmas.Int.{ints}
-use Rattle.std.proofs.lemmas.List.{drop-drop}
+use Rattle.std.proofs.lemmas.List.{drop-drop, append-nil}
 use Rattle.std.proofs.Math.Seq.{get_or-drop}
 use Rattle.std.proofs.Math.ListN.{drop_of_length-le}
 use Rattle.desk_lines.specs.Groups.{group_width, groups, groups_of, ranges, IsFirstGroup, IsWidth, AreWidths}
 use Rattle.desk_lines.proofs.GroupLaws.{width_more, width_rises, groups_first}
 use Rattle.desk_lines.specs.declared.groups.Group.{Group}
-
-append_empty : {A : Type 0} (xs : List A) → xs ++ [] ≡ xs
-append_empty [] = refl
-append_empty (x ∷ xs) = ap (λ (l : List _). x ∷ l) (append_empty xs)
 
 -- a word's width is from 0 to 2 ^ 40
 pub width_at : (words : List ℤ) (i : ℕ) → AreWidths words → i < length words → IsWidth (get_or words i (pos 0))
@@ -26,18 +22,6 @@ pub record IsOpen (space measure : ℤ) (words : List ℤ) (from to : ℕ) (widt
   pub fits : (width ≤ℤ measure) ⊎ (to ≡ from + 1)
   pub low : pos 0 ≤ℤ width
   pub high : width ≤ℤ pos (2 ^ 40)
-
--- before the first word
-pub open_none : (space measure : ℤ) (words : List ℤ) → pos 0 ≤ℤ measure → IsOpen space measure words 0 0 (pos 0)
-open_none space measure words room = record {
-  order = omega arith;
-  begun = λ h. absurd (omega (arith, h));
-  within = omega arith;
-  is = refl;
-  fits = inl room;
-  low = omega (arith, ints);
-  high = omega (arith, ints);
-}
 
 -- the front of one word
 front_of_one : (words : List ℤ) (from : ℕ) (space : ℤ) → from < length words →
@@ -168,11 +152,11 @@ step_last space measure words found from to width wide room so_far group end som
     let all = found_more space measure words found from to width wide (omega (arith, ints)) so_far group (omega arith) (λ h. absurd (omega arith)) in
     let none : drop to words ≡ [] = drop_of_length-le words (omega arith) in
     subst (λ (n : ℕ). found ++ record { from = from; to = n } ∷ [] ≡ groups_of space measure words) end
-    (sym (all ∙ rw none (append_empty (found ++ record { from = from; to = to } ∷ []))))
+    (sym (all ∙ rw none (append-nil (found ++ record { from = from; to = to } ∷ []))))
 
 pub step_none : (space measure : ℤ) (words : List ℤ) (found : List Group) (from to : ℕ) (width : ℤ) →
     HasFound space measure words found from → IsOpen space measure words from to width → to ≡ length words → length words ≤ from →
     found ≡ groups_of space measure words
 step_none space measure words found from to width so_far group end none =
     let e : drop from words ≡ [] = drop_of_length-le words (omega arith) in
-    sym (so_far ∙ rw e (append_empty found))
+    sym (so_far ∙ rw e (append-nil found))

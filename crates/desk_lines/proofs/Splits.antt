@@ -3,7 +3,7 @@ use Rattle.std.proofs.Common.{◌≡◌, ℕ, suc, ◌+◌, ◌-◌, ◌<◌, �
 use Rattle.std.specs.Prelude.{◌==◌, if◌then◌else◌}
 use Rattle.std.specs.List.{slice_split, All}
 use Rattle.std.proofs.lemmas.Bool.{cases_lt}
-use Rattle.std.proofs.lemmas.List.{drop-drop, take-append-drop}
+use Rattle.std.proofs.lemmas.List.{drop-drop, take-append-drop, append-nil}
 use Rattle.std.proofs.lemmas.List.Elements.{All-nil, All-cons, All-append, All-from_get_or}
 use Rattle.std.proofs.lemmas.List.Splits.{slice_split_at, slice_split_none}
 use Rattle.std.proofs.Math.Seq.{get_or-drop, get_or-take, take-length}
@@ -12,7 +12,7 @@ use Rattle.desk_ops.specs.declared.op.Style.TheVariants.{Roman}
 use Rattle.desk_lines.specs.declared.words.Word.{Word}
 use Rattle.desk_ops.specs.Op.{is_line_feed, is_space}
 use Rattle.desk_lines.specs.Words.{drop_empty_last, paragraphs, words, word_places, paragraph_places, words_of, IsSplit}
-use Rattle.desk_lines.proofs.WordLaws.{split_is, split_only, append_empty}
+use Rattle.desk_lines.proofs.WordLaws.{split_is, split_only}
 
 -- the words of all paragraphs, an empty last one too, where the first begins here
 abbrev pub all_places : ℕ → List Symbol → List (List Word)
@@ -136,15 +136,6 @@ pub record IsReading (copy : List Symbol) (found : List (List Word)) (ws : List 
   pub so_far : all_places 0 copy ≡ found ++ with_words ws (all_places from (drop from copy))
   pub begun : 0 < length ws → 0 < to
 
-pub reading_begins : (copy : List Symbol) → IsReading copy [] [] 0 0
-reading_begins copy = record {
-  order = omega arith;
-  no_feed = λ k low high. absurd (omega (arith, high));
-  no_space = λ k low high. absurd (omega (arith, high));
-  so_far = sym (with_no_words (all_places 0 copy));
-  begun = λ h. absurd (omega (arith, h));
-}
-
 -- the word that is read
 abbrev pub part_of : List Symbol → ℕ → ℕ → List Symbol
 part_of copy from to = take (to - from) (drop from copy)
@@ -265,5 +256,5 @@ pub read_none : (copy : List Symbol) (found : List (List Word)) (ws : List Word)
 read_none copy found [] from to end past none reading =
     let e : from ≡ to = omega (arith, reading.order) in
     let all = read_all copy found [] from to end reading in
-    sym (all ∙ rw (e, blank_one to) (append_empty found))
+    sym (all ∙ rw (e, blank_one to) (append-nil found))
 read_none copy found (word ∷ ws) from to end past none reading = absurd (omega arith)

@@ -1,7 +1,7 @@
 -- The split of a list, and where its parts stand.
 use Rattle.std.proofs.Common.{◌≡◌, ℕ, suc, ◌+◌, ◌-◌, ◌≤◌, Bool, true, false, List, [], ◌∷◌, ◌++◌, map, length, take, drop, refl, sym, ap, ◌∙◌, arith, length-drop, length-take, length-append, append_assoc}
 use Rattle.std.specs.List.{slice_split, onto_first}
-use Rattle.std.proofs.lemmas.List.{drop-drop}
+use Rattle.std.proofs.lemmas.List.{drop-drop, append-nil}
 use Rattle.std.proofs.lemmas.List.Splits.{slice_split-cons_yes, slice_split-cons_no, slice_split_at, slice_split_none}
 use Rattle.std.proofs.lemmas.List.Elements.{All-nil, All-cons}
 use Rattle.desk_ops.specs.declared.op.Symbol.{Symbol}
@@ -42,10 +42,6 @@ split_only test xs (part ∷ []) split = ap (slice_split test) split.0 ∙ slice
 split_only test xs (part ∷ next ∷ parts) split =
     ap (slice_split test) split.2 ∙ slice_split_at test part split.0 split.1 split.4 split.3
     ∙ ap (λ (l : List (List _)). part ∷ l) (split_only test split.1 (next ∷ parts) split.5)
-
-pub append_empty : {A : Type 0} (xs : List A) → xs ++ [] ≡ xs
-append_empty [] = refl
-append_empty (x ∷ xs) = ap (λ (l : List _). x ∷ l) (append_empty xs)
 
 take_front : {A : Type 0} (front after : List A) → take (length front) (front ++ after) ≡ front
 take_front [] after = refl
@@ -128,7 +124,7 @@ pub places_are : (copy : List Symbol) (here : ℕ) (xs : List Symbol) (parts : L
 places_are copy here xs [] is within split = absurd split
 places_are copy here xs ([] ∷ []) is within split = (tt, tt)
 places_are copy here xs ((x ∷ part) ∷ []) is within split =
-    let whole : drop here copy ≡ (x ∷ part) ++ [] = is ∙ split.0 ∙ sym (append_empty (x ∷ part)) in
+    let whole : drop here copy ≡ (x ∷ part) ++ [] = is ∙ split.0 ∙ sym (append-nil (x ∷ part)) in
     let long = ap length split.0 in
     ((words_here copy here (x ∷ part) [] whole, tt), paragraph_in_turn copy here (x ∷ part) [] (omega (arith, long, within)) tt)
 places_are copy here xs (part ∷ next ∷ parts) is within split =

@@ -7,7 +7,7 @@ use Rattle.std.specs.FinMap.Entries.{by_order}
 use Rattle.std.specs.Ordering.{is_lt, is_eq, eq_by_cmp}
 use Rattle.std.specs.declared.cmp.Ordering.{Ordering}
 use Rattle.std.specs.declared.cmp.Ordering.TheVariants.{Less, Equal, Greater}
-use Rattle.std.proofs.lemmas.Bool.{true≢false}
+use Rattle.std.proofs.lemmas.Bool.{true≢false, or_parts}
 use Rattle.std.proofs.lemmas.Cmp.{tied_itself}
 use Rattle.desk_ops.specs.declared.op.Stamp.{Stamp}
 use Rattle.desk_ops.specs.declared.op.Op.{Op}
@@ -23,6 +23,7 @@ use Rattle.desk_ops.proofs.OpSets.{with_op-known}
 use Rattle.desk_ops.proofs.Unions.{has_op-with_op, with_op-comm, size-with_op, with_all-take, same-set, has_op-with_all}
 use Rattle.std.specs.List.Sorted.{IsPermutation}
 use Rattle.std.proofs.lemmas.List.Sorted.{list_any-IsPermutation, All-permutation}
+use Rattle.std.proofs.Math.Bool.{or-false}
 use Rattle.desk_ops.specs.Op.{IsLawful}
 use Rattle.desk_room.specs.Waiting.{waits_for, waiting_at, HasTarget}
 use Rattle.desk_room.specs.Turn.{turn_cmp, IsInTurn, set_of, IsKept}
@@ -45,14 +46,10 @@ pub set-absent : (xs : List Op) (q : Op) → AllByRecursion (λ y. eq_by_cmp op_
 set-absent [] q a = none-held q
 set-absent (x ∷ xs) q a = has_op-with_op (set_of xs) x q ∙ ap (λ b. b || has_op (set_of xs) q) a.0 ∙ set-absent xs q a.1
 
-neither : (a b : Bool) → (a || b) ≡ false → (a ≡ false) × (b ≡ false)
-neither true b h = absurd (true≢false h)
-neither false b h = (refl, h)
-
 pub absent-set : (xs : List Op) (q : Op) → has_op (set_of xs) q ≡ false → AllByRecursion (λ y. eq_by_cmp op_cmp q y ≡ false) xs
 absent-set [] q h = tt
 absent-set (x ∷ xs) q h =
-    let n = neither (eq_by_cmp op_cmp q x) (has_op (set_of xs) q) (sym (has_op-with_op (set_of xs) x q) ∙ h) in
+    let n = or_parts (eq_by_cmp op_cmp q x) (has_op (set_of xs) q) (sym (has_op-with_op (set_of xs) x q) ∙ h) in
     (n.0, absent-set xs q n.1)
 
 pub set-among : (xs : List Op) (q : Op) → has_op (set_of xs) q ≡ true → Among q xs
@@ -144,14 +141,10 @@ set-any : (xs : List Op) (q : Op) → has_op (set_of xs) q ≡ list_any (eq_by_c
 set-any [] q = none-held q
 set-any (x ∷ xs) q = has_op-with_op (set_of xs) x q ∙ ap (λ b. eq_by_cmp op_cmp q x || b) (set-any xs q)
 
-or_false : (a : Bool) → (a || false) ≡ a
-or_false true = refl
-or_false false = refl
-
 pub set-permuted : (xs ys : List Op) → IsPermutation xs ys → set_of ys ≡ with_all no_ops xs
 set-permuted xs ys h = same-set (set_of ys) (with_all no_ops xs) (λ q.
     set-any ys q ∙ sym (list_any-IsPermutation (eq_by_cmp op_cmp q) xs ys h)
-    ∙ sym (has_op-with_all no_ops xs q ∙ ap (λ b. list_any (eq_by_cmp op_cmp q) xs || b) (none-held q) ∙ or_false (list_any (eq_by_cmp op_cmp q) xs)))
+    ∙ sym (has_op-with_all no_ops xs q ∙ ap (λ b. list_any (eq_by_cmp op_cmp q) xs || b) (none-held q) ∙ or-false (list_any (eq_by_cmp op_cmp q) xs)))
 
 each-from_all : (P : Op → Type 0) (xs : List Op) → All P xs → AllByRecursion P xs
 each-from_all P [] a = tt

@@ -1,11 +1,13 @@
 use Rattle.std.proofs.Common.{◌-◌, arith}
+use Rattle.std.proofs.lemmas.Result.{err_from_is_err_and}
 use Rattle.desk_caster.proofs.Running.{kept, stopped}
 use Rattle.desk_caster.proofs.caster.cast.Goals as goal
 
-pub returns-in-Err-clause-err : goal.returns-in-Err-clause-err
-returns-in-Err-clause-err g c n =
-    stopped c.args.case.now c.args.wedge.now c.args.rows.now c.rows.place (c.rows.place - 1) c.index-rows-place.result c.rows.caster c.in-Err.fault c.rows.invariant (omega arith) c.index-rows-place.is (c.in-Err.ensures.err n)
+pub returns-in_err-caster-clause-err : goal.returns-in_err-caster-clause-err
+returns-in_err-caster-clause-err g c =
+    let p = err_from_is_err_and c.from_residual.result c.from_residual.ensures.1 in
+    rw p.1 (rw p.2 (λ n. stopped c.args.case.now c.args.wedge.now c.args.rows.now c.rows.place (c.rows.place - 1) c.index-rows-place.result c.rows.caster c.in_err-caster.field-0.0 c.rows.invariant (omega arith) c.index-rows-place.is (c.in_err-caster.ensures.err n)))
 
 pub rows-preserved : goal.rows-preserved
 rows-preserved g c =
-    kept c.args.case.now c.args.wedge.now c.args.rows.now c.rows.place (c.rows.place - 1) c.index-rows-place.result c.rows.caster c.in-Ok.caster c.rows.invariant (omega arith) c.index-rows-place.is c.in-Ok.ensures.ok
+    kept c.args.case.now c.args.wedge.now c.args.rows.now c.rows.place (c.rows.place - 1) c.index-rows-place.result c.rows.caster c.in_ok-caster.caster c.rows.invariant (omega arith) c.index-rows-place.is c.in_ok-caster.ensures.ok
