@@ -1,9 +1,12 @@
 ghost use Rattle.std.specs.Prelude.{◌≤◌};
 
 use crate::cases::{FILLS, WEDGE, ballast, case_with, wedge_of};
+use crate::jobs::TWO_LINES;
+use desk_case::MatrixCase;
 use desk_caster::{CastFault, CastLine, CastMatrix, RibbonFault, cast, read_ribbon};
-use desk_image::BadImage;
+use desk_image::{BadImage, Image};
 use desk_signals::{Column, Position, RibbonRow, RowNo};
+use desk_wedge::Wedge;
 use linked_list_allocator::LocalHeap;
 use std::alloc::{AllocError, Allocator, Global};
 use std::fmt::Write;
@@ -291,6 +294,129 @@ fn damaged_ribbon(rt: HostRuntime) -> Result<(), Fail> {
     let rows = read_ribbon(rt.alloc(), &FEWER)?;
     let told = cast_in(rt.alloc(), rt.alloc(), &rows)?;
     assert!(rt; is_as(&told, Err(CastFault::NoWedges(12))));
+    Ok(())
+}
+
+/// Bytes with one bit changed, counted from the highest bit of the first byte.
+fn with_bit_changed(alloc: Global, bytes: &[u8], bit: usize) -> Result<Vec<u8>, AllocError> {
+    let mut changed = Vec::new(alloc);
+    for (place, byte) in bytes.iter().enumerate() {
+        let change = if place == bit / 8 {
+            128u8 >> (bit % 8)
+        } else {
+            0
+        };
+        changed.push(*byte ^ change)?;
+    }
+    Ok(changed)
+}
+
+/// Whether rows have these words as their images, of four bytes each.
+fn have_images(rows: &[RibbonRow], words: &[u8]) -> bool {
+    let mut rest = words;
+    for row in rows {
+        let Some((word, after)) = rest.split_first_chunk::<4>() else {
+            return false;
+        };
+        if Image::of_row(*row).bits() != u32::from_be_bytes(*word) {
+            return false;
+        }
+        rest = after;
+    }
+    rest.is_empty()
+}
+
+/// How a ribbon with one bit changed was answered.
+#[derive(Clone, Copy)]
+enum Told {
+    /// Its first eight bytes were refused.
+    Start,
+    /// The row of the bit was refused.
+    Row,
+    /// Its rows were cast.
+    Cast,
+    /// Its rows were refused by the caster.
+    Uncast,
+}
+
+/// What is told of rows whose images are to be these words: nothing where they are others, or the caster wants memory.
+fn told_of_rows(
+    alloc: Global,
+    rows: &[RibbonRow],
+    words: &[u8],
+    case: &MatrixCase,
+    wedge: &Wedge,
+) -> Option<Told> {
+    if rows.len() > 100 || !have_images(rows, words) {
+        return None;
+    }
+    match cast(alloc, rows, case, wedge) {
+        Ok(_) => Some(Told::Cast),
+        Err(CastFault::NoMemory) => None,
+        Err(_) => Some(Told::Uncast),
+    }
+}
+
+/// Whether the fault is that of a changed bit of the first eight bytes, or of the row in which the bit is.
+fn is_fault_of(fault: RibbonFault, bit: usize) -> bool {
+    match fault {
+        RibbonFault::Magic => bit < 32,
+        RibbonFault::Count => 32 <= bit && bit < 64,
+        RibbonFault::Row(row, why) => {
+            bit / 32 == (row as usize).saturating_add(2)
+                && (why == BadImage::HighBit) == (bit % 32 == 0)
+        }
+        RibbonFault::NoMemory => false,
+    }
+}
+
+/// What is told of a ribbon in which this bit is changed, where that is right.
+fn told_of(
+    alloc: Global,
+    changed: &[u8],
+    bit: usize,
+    case: &MatrixCase,
+    wedge: &Wedge,
+) -> Option<Told> {
+    let [_, _, _, _, _, _, _, _, words @ ..] = changed else {
+        return None;
+    };
+    match read_ribbon(alloc, changed) {
+        Ok(rows) if bit < 64 => None,
+        Ok(rows) => told_of_rows(alloc, &rows, words, case, wedge),
+        Err(fault) if !is_fault_of(fault, bit) => None,
+        Err(RibbonFault::Row(_, _)) => Some(Told::Row),
+        Err(_) => Some(Told::Start),
+    }
+}
+
+/// Of a ribbon of which each bit is changed in turn: how many changes its start refused, its rows, and the caster, and how
+/// many were cast.
+fn tally_of_bits(alloc: Global, bytes: &[u8]) -> Result<[u32; 4], Fail> {
+    let wedge = wedge_of(alloc, WEDGE)?;
+    let case = case_with(alloc, FILLS)?;
+    let mut tally = [0u32; 4];
+    for bit in 0..bytes.len().saturating_mul(8) {
+        let changed = with_bit_changed(alloc, bytes, bit)?;
+        let told = told_of(alloc, &changed, bit, &case, &wedge);
+        let Some(told) = told else {
+            return Err(Fail::new("another answer"));
+        };
+        let place = told as usize;
+        tally[place] = tally[place].saturating_add(1);
+    }
+    Ok(tally)
+}
+
+/// Each bit of a ribbon changed in turn: of the empty paragraph's, and of that of two lines. A bit of `MRB1` and one of the
+/// number of rows are refused as such, and any other is refused in its own row, or read as the row that it spells. How many
+/// are refused and how many cast is as the independent caster counts them.
+#[test]
+fn each_bit_of_a_ribbon(rt: HostRuntime) -> Result<(), Fail> {
+    let empty = tally_of_bits(rt.alloc(), &RIBBON)?;
+    assert!(rt; empty == [64, 165, 33, 250], "{empty:?}");
+    let two = tally_of_bits(rt.alloc(), &TWO_LINES)?;
+    assert!(rt; two == [64, 831, 70, 251], "{two:?}");
     Ok(())
 }
 

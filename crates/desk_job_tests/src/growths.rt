@@ -85,19 +85,6 @@ fn is_out<A: Allocator>(answer: &Result<Vec<u8, A>, JobRefusal<A>>) -> bool {
     matches!(answer, Err(JobRefusal::NoMemory))
 }
 
-/// Whether the answer with memory is the wanted one, or where the first was out of memory, out of memory too.
-fn is_right_again<'a>(
-    heap: &'a LocalHeap,
-    replica: &Replica<Flat<&'a LocalHeap>>,
-    case: &MatrixCase,
-    wedge: &Wedge,
-    want: Want<'_>,
-    refused: bool,
-) -> bool {
-    let again = make(heap, replica, case, wedge);
-    is_right(&again, want) || (refused && is_out(&again))
-}
-
 /// Whether `make` was out of memory where one heap has so many bytes left. With memory the answer is the one wanted, and
 /// so is any other.
 fn is_refused<'a>(
@@ -114,9 +101,8 @@ fn is_refused<'a>(
     let first = make(heap, replica, case, wedge);
     drop(parts);
     let refused = is_out(&first);
-    if (refused || is_right(&first, want))
-        && is_right_again(heap, replica, case, wedge, want, refused)
-    {
+    let again = make(heap, replica, case, wedge);
+    if (refused || is_right(&first, want)) && is_right(&again, want) {
         Ok(refused)
     } else {
         Err(Fail::new("another answer"))

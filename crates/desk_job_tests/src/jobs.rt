@@ -205,12 +205,22 @@ fn empty_paragraph_ribbon(rt: HostRuntime) -> Result<(), Fail> {
     Ok(())
 }
 
+/// The ribbon of the six words, as the independent caster has it.
+pub const TWO_LINES: [u8; 152] = [
+    0x4d, 0x52, 0x42, 0x31, 0, 0, 0, 0x24, 0, 0, 2, 6, 0x40, 0, 2, 0, 0x40, 0, 2, 0, 0x40, 0, 2, 0,
+    1, 1, 0, 1, 0x40, 0, 2, 0, 0x40, 0, 2, 0, 0x40, 0, 2, 0, 1, 1, 0, 1, 0x40, 0, 2, 0, 0x40, 0, 2,
+    0, 0x40, 0, 2, 0, 1, 1, 0, 1, 0x40, 0, 2, 0, 0x40, 0, 2, 0, 0x40, 0, 2, 0, 1, 1, 0, 1, 0x40, 0,
+    2, 0, 0x40, 0, 2, 0, 0x40, 0, 2, 0, 0, 0, 8, 2, 0, 0, 1, 6, 0x40, 0, 2, 0, 0x40, 0, 2, 0, 0x40,
+    0, 2, 0, 1, 1, 0, 1, 0, 0, 0, 0, 0, 0, 0, 0, 0, 0, 0, 0, 0, 0, 0, 0, 0, 0, 0, 0, 0, 0, 0, 0, 0,
+    0, 0, 0, 0, 0, 0, 0, 0, 0, 0x20, 2, 0, 0, 0, 0x46,
+];
+
 const SIX_WORDS: &str = "nnn nnn nnn nnn nnn nnn";
 
 #[test]
 fn two_lines(rt: HostRuntime) -> Result<(), Fail> {
     let lines = [(19, 2_159_232), (12, 2_159_664)];
-    assert!(rt; ribbon(rt.alloc(), most(SIX_WORDS, &[]))?.len() == 8 + 4 * 36);
+    assert!(rt; ribbon(rt.alloc(), most(SIX_WORDS, &[]))?.as_slice() == TWO_LINES.as_slice());
     assert!(rt; is_cast_as(rt.alloc(), most(SIX_WORDS, &[]), &lines)?);
     let (loose, fault) = ([(Key::Loose, 60)], [JobFault::TooLoose(1)]);
     assert!(rt; has_faults(rt.alloc(), SIX_WORDS, FILLS, &loose, &fault)?);

@@ -113,9 +113,16 @@ fn goes_on<P: Sequence, Q: Sequence>(
         && ask(memory, replica, case.call, other) == after(case.answer, taken)
 }
 
-/// Whether the call was refused in a heap that has so many bytes left; none where it answers or does anything else. What
-/// it took in then is what it told, in the order of its list; with memory it gives its answer. What a merge reads stands in
-/// a heap of its own.
+/// What a heap did with a call: it had room for it, or refused it once so many of its list were taken in.
+#[derive(Clone, Copy)]
+enum Seen {
+    Done,
+    Refused(usize),
+}
+
+/// Whether the call was refused in a heap that has so many bytes left, and where; none where it answers or does anything
+/// else. What it took in then is what it told, in the order of its list; with memory it gives its answer. What a merge reads
+/// stands in a heap of its own.
 fn is_refused<P: Sequence, Q: Sequence>(
     ample: P::Memory,
     memory: Q::Memory,
@@ -123,7 +130,7 @@ fn is_refused<P: Sequence, Q: Sequence>(
     heap: &LocalHeap,
     bytes: usize,
     case: Case<'_>,
-) -> Option<bool> {
+) -> Option<Seen> {
     let mut replica = Replica::<Q>::new(memory, 1);
     let mut other = Replica::<Q>::new(store, 9);
     if !takes(&mut other, case.call.list()) {
@@ -141,16 +148,18 @@ fn is_refused_of<P: Sequence, Q: Sequence>(
     heap: &LocalHeap,
     bytes: usize,
     case: Case<'_>,
-) -> Option<bool> {
+) -> Option<Seen> {
     let held = takes(replica, case.held);
     let first = ask_in(ample, memory, replica, case.call, other, heap, bytes);
-    let is_right = match taken(first) {
-        _ if first == case.answer => true,
-        Some(taken) => goes_on::<P, Q>(ample, memory, replica, other, case, taken),
-        None => false,
+    let seen = match taken(first) {
+        _ if first == case.answer => Seen::Done,
+        Some(taken) if goes_on::<P, Q>(ample, memory, replica, other, case, taken) => {
+            Seen::Refused(taken)
+        }
+        _ => return None,
     };
-    if held && is_right && answers(replica, case.after) {
-        Some(first != case.answer)
+    if held && answers(replica, case.after) {
+        Some(seen)
     } else {
         None
     }
@@ -167,7 +176,7 @@ fn seen_in(
     is_flat: bool,
     bytes: usize,
     case: Case<'_>,
-) -> Result<Option<bool>, AllocError> {
+) -> Result<Option<Seen>, AllocError> {
     let heap = LocalHeap::new(alloc, HEAP)?;
     let store = LocalHeap::new(alloc, HEAP)?;
     Ok(if is_flat {
@@ -177,23 +186,40 @@ fn seen_in(
     })
 }
 
-/// Refuses each growth of the call in turn, over a plain list or over blocks. Answers in how many heaps one was refused.
-fn refuse_each(alloc: Global, is_flat: bool, case: Case<'_>) -> Result<usize, Fail> {
-    let mut refused = 0usize;
+/// Refuses each growth of the call in turn, over a plain list or over blocks. Answers in how many heaps one was refused, and
+/// before it how many of its list were taken in at most.
+fn refuse_each(alloc: Global, is_flat: bool, case: Case<'_>) -> Result<(usize, usize), Fail> {
+    let (mut refused, mut most) = (0usize, 0usize);
     for pieces in 0..HEAPS {
         match seen_in(alloc, is_flat, pieces.saturating_mul(PIECE), case)? {
-            Some(is_one) => refused = refused.saturating_add(usize::from(is_one)),
+            Some(Seen::Done) => {}
+            Some(Seen::Refused(taken)) => {
+                refused = refused.saturating_add(1);
+                most = most.max(taken);
+            }
             None => return Err(Fail::new("another answer")),
         }
     }
-    Ok(refused)
+    Ok((refused, most))
 }
 
 /// Whether growths of the call are refused in some heaps and in some not, over both kinds of sequence.
 fn is_refused_in_turn(alloc: Global, case: Case<'_>) -> Result<bool, Fail> {
     for is_flat in [true, false] {
-        let refused = refuse_each(alloc, is_flat, case)?;
+        let (refused, _) = refuse_each(alloc, is_flat, case)?;
         if refused == 0 || refused == HEAPS {
+            return Ok(false);
+        }
+    }
+    Ok(true)
+}
+
+/// Whether growths of the call are refused in some heaps and in some not, and in some once so many of its list were taken
+/// in, over both kinds of sequence.
+fn is_stopped_after(alloc: Global, case: Case<'_>, taken: usize) -> Result<bool, Fail> {
+    for is_flat in [true, false] {
+        let (refused, most) = refuse_each(alloc, is_flat, case)?;
+        if most < taken || refused == HEAPS {
             return Ok(false);
         }
     }
@@ -329,9 +355,34 @@ fn are_lists_refused(alloc: Global, ops: &[Op], after: Want<'_>) -> Result<bool,
 
 /// Of a few operations, which are taken in one by one.
 #[test]
-fn stopped_at_k(rt: HostRuntime) -> Result<(), Fail> {
+fn growths_of_short_lists(rt: HostRuntime) -> Result<(), Fail> {
     let [a, c, e, b, z] = arrivals();
     assert!(rt; are_lists_refused(rt.alloc(), &[a, b, c, e, z], plain("zaceb"))?);
+    Ok(())
+}
+
+/// Of lists with an operation that forks a stamp, for which all is made anew, on a replica that holds something: some stop
+/// once all before it are taken in, for which there is room. A list is taken in its own order, and what another replica
+/// holds by stamp and then by bytes.
+#[test]
+fn stopped_at_k(rt: HostRuntime) -> Result<(), Fail> {
+    let [a, c, e, b, z] = arrivals();
+    let fork = typed(at(2, 1), at(1, 1), 'x');
+    let (listed, sorted) = ([a, c, e, b, z, fork], [a, b, fork, c, e, z]);
+    let faults = [forked(at(2, 1))];
+    let after = Want {
+        faults: &faults,
+        ..four_with("zace", 120)
+    };
+    for (call, taken) in [(Call::TakeAll(&listed), 5), (Call::Merge(&sorted), 2)] {
+        let case = Case {
+            held: &[measure(at(1, 7), 120)],
+            call,
+            answer: Answer::Counted(Count { new: 6, known: 0 }),
+            after,
+        };
+        assert!(rt; is_stopped_after(rt.alloc(), case, taken)?);
+    }
     Ok(())
 }
 
@@ -421,7 +472,7 @@ fn known_and_wrong_take_no_memory(rt: HostRuntime) -> Result<(), Fail> {
             after: four_with("ab", 144),
         };
         for is_flat in [true, false] {
-            assert!(rt; refuse_each(rt.alloc(), is_flat, case)? == 0);
+            assert!(rt; refuse_each(rt.alloc(), is_flat, case)?.0 == 0);
         }
     }
     Ok(())

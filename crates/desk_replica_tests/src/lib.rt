@@ -20,4 +20,6 @@ mod long;
 #[cfg(test)]
 mod orders;
 #[cfg(test)]
+mod words;
+#[cfg(test)]
 mod worked;

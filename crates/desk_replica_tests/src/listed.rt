@@ -109,7 +109,7 @@ fn are_put_once(alloc: Global, ops: &[Op], puts: &[Stamp]) -> Result<bool, Alloc
 /// Where room was reserved the arrivals are new though every growth is refused, and so they are where they come backwards;
 /// each is put once, in the order in which it acts, since nothing is made anew.
 #[test]
-fn reserved_arrivals(rt: HostRuntime) -> Result<(), Fail> {
+fn sequence_made_anew(rt: HostRuntime) -> Result<(), Fail> {
     let [a, c, e, b, z] = arrivals();
     let (one, two, other, three, four) = (at(1, 1), at(2, 1), at(2, 2), at(3, 2), at(4, 3));
     for (ops, puts) in [

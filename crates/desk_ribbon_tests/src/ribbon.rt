@@ -1,11 +1,12 @@
-ghost use Rattle.std.specs.Prelude.{◌≡◌, ◌≤◌, ◌<◌, ◌^◌, IfOk, length};
-ghost use Rattle.desk_ribbon.specs.Ribbon.{ribbon_rows};
+ghost use Rattle.std.specs.Prelude.{◌≡◌, ◌+◌, ◌*◌, ◌≤◌, ◌<◌, ◌^◌, IfOk, length};
+ghost use Rattle.std.specs.List.{flat_map};
+ghost use Rattle.desk_ribbon.specs.Ribbon.{line_rows, ribbon_rows};
 
 use desk_ops::NoMemory;
 use desk_ribbon::{Punch, PunchLine, Punches, RibbonWriter, write_ribbon};
 use desk_signals::{Cell, Column, Position, RowNo};
 use linked_list_allocator::LocalHeap;
-use std::alloc::Global;
+use std::alloc::{AllocError, Global};
 use std::test::Fail;
 
 fn punch(column: Column, row: u8, s: bool) -> Punch
@@ -91,6 +92,23 @@ fn wide_word_ribbon(rt: HostRuntime) -> Result<(), Fail> {
     Ok(())
 }
 
+/// The ribbon of two empty paragraphs.
+const TWO_PARAGRAPHS: [u8; 116] = [
+    0x4d, 0x52, 0x42, 0x31, 0, 0, 0, 27, 0, 0, 2, 6, 1, 1, 0, 1, 0, 0, 0, 0, 0, 0, 0, 0, 0, 0, 0,
+    0, 0, 0, 0, 0, 0, 0, 0, 0, 0, 0, 0, 0, 0, 0, 0, 0, 0, 0, 0, 0, 0, 0, 0, 0, 0x40, 0, 0x10, 0, 0,
+    0, 2, 2, 0, 0, 4, 6, 1, 1, 0, 1, 0, 0, 0, 0, 0, 0, 0, 0, 0, 0, 0, 0, 0, 0, 0, 0, 0, 0, 0, 0, 0,
+    0, 0, 0, 0, 0, 0, 0, 0, 0, 0, 0, 0, 0, 0, 0, 0x40, 0, 0x10, 0, 0, 0, 2, 2, 0, 0, 4, 6,
+];
+
+/// The ribbon of no line, of an empty paragraph, or of two.
+fn paragraphs(number: usize) -> &'static [u8] {
+    match number {
+        0 => &EMPTY_COPY,
+        1 => &EMPTY_PARAGRAPH,
+        _ => &TWO_PARAGRAPHS,
+    }
+}
+
 /// Takes what a heap of 1024 bytes has left, but for so many times 16.
 fn ballast(heap: &LocalHeap, cut: usize) -> Option<Vec<u8, &LocalHeap>> {
     let left = 1024usize.saturating_sub(heap.used());
@@ -111,13 +129,13 @@ fn is_writer_refused(alloc: Global, before: usize, cut: usize) -> Result<(bool, 
     let finished = pushed.is_ok() && writer.finish().is_ok();
     drop(ballast);
     let lines = before.saturating_add(usize::from(pushed.is_ok()));
-    if writer.finish()?.len() != 12usize.saturating_add(lines.saturating_mul(52)) {
+    if writer.finish()?.as_slice() != paragraphs(lines) {
         return Err(Fail::new("another ribbon"));
     }
     if pushed.is_err() {
         writer.push(&line)?;
     }
-    if before == 0 && writer.finish()?.as_slice() != EMPTY_PARAGRAPH.as_slice() {
+    if writer.finish()?.as_slice() != paragraphs(before.saturating_add(1)) {
         return Err(Fail::new("another ribbon with memory"));
     }
     Ok((pushed.is_err(), pushed.is_ok() && !finished))
@@ -178,5 +196,67 @@ fn growths_of_write_ribbon(rt: HostRuntime) -> Result<(), Fail> {
         lines = lines.saturating_add(u8::from(line));
     }
     assert!(rt; copies > 0 && copies < 16 && lines > 0 && lines < 16);
+    Ok(())
+}
+
+/// The line of a word of a matrix in A8: that matrix, the space with S, and the wedges at 7 and 3.
+fn short_line(alloc: Global) -> Result<PunchLine<Global>, Fail>
+    ensures { IfOk result (λ line. length line.matrices ≡ 2) }
+{
+    let all = [punch(Column::A, 8, false), punch(Column::G, 1, true)];
+    Ok(PunchLine {
+        matrices: Punches::from_vec(Vec::from_array(alloc, all)?),
+        coarse: Position::new(7).unwrap(),
+        fine: Position::new(3).unwrap(),
+    })
+}
+
+/// Twice so many lines: an empty paragraph and then a short line, again and again.
+fn lines_in_turn(alloc: Global, pairs: u32) -> Result<Vec<PunchLine<Global>>, Fail>
+    ensures { IfOk result (λ lines. length (ribbon_rows lines.items) ≡ 1 + 17 * pairs) }
+{
+    let mut lines = Vec::new(alloc);
+    for pair in 0..pairs {
+        lines.push(empty_paragraph(alloc)?)?;
+        lines.push(short_line(alloc)?)?;
+    }
+    Ok(lines)
+}
+
+/// Pushes lines to a writer.
+fn push_all(writer: &mut RibbonWriter<Global>, lines: &[PunchLine<Global>]) -> Result<(), NoMemory>
+    requires { length writer.old + length (flat_map line_rows lines.now) + 1 < 2 ^ 32 }
+{
+    for line in lines {
+        writer.push(line)?;
+    }
+    Ok(())
+}
+
+/// The rows of the short line.
+const SHORT_ROWS: [u8; 16] = [0x40, 0, 2, 0, 1, 1, 0, 1, 0, 0, 4, 2, 0, 0, 0x40, 6];
+
+/// The bytes of 85,001 rows: the head row, 13 for each of 5,000 empty paragraphs, and 4 for each of as many short lines.
+fn bytes_in_turn(alloc: Global) -> Result<Vec<u8>, AllocError> {
+    let mut bytes = Vec::new(alloc);
+    bytes.extend_from_slice(b"MRB1\x00\x01\x4c\x09\0\0\x02\x06")?;
+    for _ in 0..5_000u32 {
+        bytes.extend_from_slice(&EMPTY_PARAGRAPH[12..])?;
+        bytes.extend_from_slice(&SHORT_ROWS)?;
+    }
+    Ok(bytes)
+}
+
+/// Ten thousand lines, at once and one by one.
+#[test]
+fn ten_thousand_lines(rt: HostRuntime) -> Result<(), Fail> {
+    let lines = lines_in_turn(rt.alloc(), 5_000)?;
+    let wanted = bytes_in_turn(rt.alloc())?;
+    assert!(rt; lines.len() == 10_000 && wanted.len() == 8 + 4 * 85_001);
+    let at_once = write_ribbon(rt.alloc(), &lines)?;
+    assert!(rt; at_once.as_slice() == wanted.as_slice());
+    let mut writer = RibbonWriter::new(rt.alloc());
+    push_all(&mut writer, &lines)?;
+    assert!(rt; writer.finish()?.as_slice() == wanted.as_slice());
     Ok(())
 }
