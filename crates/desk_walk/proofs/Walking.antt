@@ -13,7 +13,6 @@ use Rattle.desk_ops.specs.OpSet.{OpSet, no_ops, has_op, with_op, with_all, in_or
 use Rattle.desk_ops.specs.Lists.{Among}
 use Rattle.desk_ops.specs.Held.{is_clear_in}
 use Rattle.desk_ops.specs.Live.{insert_of, IsClearOp}
-use Rattle.desk_ops.proofs.Stamps.{same-true, same-fields}
 use Rattle.desk_ops.proofs.Lists.{Each, each-among, each-from_among, among-filter, among-filter_from}
 use Rattle.desk_ops.proofs.Ends.{among_held, held_among}
 use Rattle.desk_ops.proofs.Unions.{size-with_op}
@@ -21,7 +20,7 @@ use Rattle.desk_room.specs.Waiting.{HasTarget}
 use Rattle.desk_seq.specs.declared.Entry.{Entry}
 use Rattle.desk_walk.specs.declared.tree.Node.{Node}
 use Rattle.desk_walk.specs.Following.{places, place_at, IsFollowing, IsFree}
-use Rattle.desk_walk.specs.Tree.{no_op, op_at, no_node, node_at, next_of, links, order, stamp_at, entry_at, walked, hangs, IsClearAt, IsTree, IsLinking, IsPlaceOf, AreSettled}
+use Rattle.desk_walk.specs.Tree.{no_op, op_at, no_node, node_at, next_of, links, order, entry_at, walked, hangs, IsClearAt, IsTree, IsLinking, IsPlaceOf, AreSettled}
 use Rattle.desk_walk.proofs.Arrived.{place-is}
 use Rattle.desk_walk.proofs.Drains.{settled-entries, settled-waits}
 use Rattle.desk_walk.proofs.Anew.{none-size, HoldsClear, begins, number}
@@ -79,16 +78,6 @@ linking-none h lawful small nodes waiting e f =
 -- ---- a search
 
 module _ (h : OpSet) (end : ℕ) (nodes : List Node) (count : ℕ) (waiting : List Op) (l : IsLinking h end nodes count waiting) (s : Stamp) where
-  pub head-found : s ≡ head → IsPlaceOf (in_order h) nodes s 0
-  head-found e = record { within = l.tree.some; linked = l.tree.on.0; bears = sym e }
-
-  pub found-at : (k : ℕ) → k < end → stamp_of (op_at (in_order h) k) ≡ s → (node_at nodes (k + 1)).linked ≡ true → IsPlaceOf (in_order h) nodes s (k + 1)
-  found-at k lt e on = record { within = omega (arith, l.long); linked = on; bears = (let i : k + 1 ≡ suc k = omega arith in ap (stamp_at (in_order h)) i) ∙ e }
-
-  pub none-found : (s ≡ head → ⊥) → ((k : ℕ) → k < end → stamp_of (op_at (in_order h) k) ≡ s → ⊥) → (p : ℕ) → IsPlaceOf (in_order h) nodes s p → ⊥
-  none-found ne none zero b = ne (sym b.bears)
-  none-found ne none (suc k) b = let w : suc k < length nodes = b.within in none k (omega (arith, l.long)) b.bears
-
   -- the only one that bears the stamp does not stand in the walk
   pub not-linked : (s ≡ head → ⊥) → end < length (in_order h) → (k : ℕ) → k < end → stamp_of (op_at (in_order h) k) ≡ s → (node_at nodes (k + 1)).linked ≡ false → (p : ℕ) → IsPlaceOf (in_order h) nodes s p → ⊥
   not-linked ne in' k lt e off zero b = ne (sym b.bears)
@@ -175,9 +164,6 @@ linking-all h i is nodes count waiting l = record {
 
     law : (o : Op) → ((j : ℕ) × (j < i) × (j < length (in_order h)) × (get_or (in_order h) j no_op ≡ o)) → IsLawful o
     law o r = subst IsLawful r.3 (each-among IsLawful (in_order h) (op_at (in_order h) r.0) l.lawful (at-index (in_order h) no_op r.0 r.2))
-
-pub head-from : (s : Stamp) → is_head s ≡ true → s ≡ head
-head-from s e = same-true s head (same-fields s head ∙ e)
 
 pub not-head-from : (s : Stamp) → is_head s ≡ false → s ≡ head → ⊥
 not-head-from s e f = true≢false (sym (ap is_head f) ∙ e)

@@ -210,20 +210,7 @@ pub fn enter<Q: Sequence>(
     }
 }
 
-/// The sequence and the room of a set, made anew.
-pub fn made_anew<Q: Sequence>(
-    alloc: Q::Memory,
-    held: &Held<Q::Memory>,
-) -> Result<(Q, Room<Q::Memory>), NoMemory>
-    ensures settled { IfOk result (λ r. IsSettled held.now.ops (Q.entries r.0) r.1.ops) }
-    ensures few { IfOk result (λ r. size r.1.ops ≤ size held.now.ops) }
-    ensures free { IfOk result (λ r. size r.1.ops ≤ Q.free r.0) }
-{
-    let list = held.in_order()?;
-    made_of(alloc, held, &list)
-}
-
-/// The same, by the list of the set's operations in their order.
+/// The sequence and the room of a set, made anew from the list of its operations in their order.
 pub fn made_of<Q: Sequence>(
     alloc: Q::Memory,
     held: &Held<Q::Memory>,
