@@ -3,7 +3,7 @@ use Rattle.std.proofs.Common.{◌≡◌, ℕ, ◌+◌, ◌-◌, ◌<◌, List, [
 use Rattle.std.proofs.lemmas.List.{append-nil, length-map, length-take-le, map-append, map_more}
 use Rattle.desk_ops.specs.declared.op.Op.{Op}
 use Rattle.desk_ops.specs.OpSet.{OpSet, size, with_all}
-use Rattle.desk_files.specs.Files.{Names, Shelf, Stays}
+use Rattle.desk_files.specs.Files.{Names, Shelf}
 use Rattle.desk_held.specs.declared.AddRefusal.{AddRefusal}
 use Rattle.desk_held.specs.declared.AddRefusal.TheVariants as adds
 use Rattle.desk_replica.specs.State.{IsCounted, IsStopped}
@@ -58,10 +58,10 @@ counted_is name old after ops count counted is =
     flip a b n c e f = omega arith
 
 -- why the set does not take all of a feed
-pub refused : (set after : OpSet) (name : List ℕ) (before last : Shelf) (ops : List Op) (stop : Stopped) (why : AddRefusal) → stop.why ≡ why → IsFeedOf (before.kept name) ops → IsStopped set after ops stop
-    → Refuses set name before last (of_adding why)
-refused set after name before last ops stop adds.Full is feed stopped = (ops, feed, (after, stop, stopped, stopped.full.0 is))
-refused set after name before last ops stop adds.NoMemory is feed stopped = tt
+pub refused : (set after : OpSet) (name : List ℕ) (before last : Shelf) (ops : List Op) (stop : Stopped) (why : AddRefusal) → stop.why ≡ why → IsFeedOf (before.kept name) ops
+    → last.failures ≡ before.failures → IsStopped set after ops stop → Refuses set name before last (of_adding why)
+refused set after name before last ops stop adds.Full is feed counted stopped = (ops, feed, counted, (after, stop, stopped, stopped.full.0 is))
+refused set after name before last ops stop adds.NoMemory is feed counted stopped = (feed.0, (feed.1, counted))
 
 -- ---- names as they are given
 
@@ -77,7 +77,8 @@ module _ {X : Type 0} (f : X → List ℕ) (xs : List X) (at : ℕ) (d : X) (lt 
       let cut : drop at xs ≡ get_or xs at d ∷ drop (at + 1) xs = rw (add-one, drop-cons xs at d) refl in
       ap (map f) (sym (take-append-drop at xs)) ∙ map-append f (take at xs) (drop at xs) ∙ ap (λ l. map f (take at xs) ++ map f l) cut
 
-  pub stops_at : (old set : OpSet) (before mid after : Shelf) (told : List ℕ) (why : FeedTrouble) → IsJoined before.kept (map f (take at xs)) old set told → Stays before mid
+  pub stops_at : (old set : OpSet) (before mid after : Shelf) (told : List ℕ) (why : FeedTrouble) → IsJoined before.kept (map f (take at xs)) old set told → mid ≡ before
       → Refuses set (f (get_or xs at d)) mid after why → StopsAt (map f xs) old before after at why
-  stops_at old set before mid after told why joined stays refuses =
-      (map f (take at xs), map f (drop (at + 1) xs), f (get_or xs at d), place, length-map (take at xs) f ∙ length-take-le at xs (omega (arith, lt)), set, told, joined, mid, stays, refuses)
+  stops_at old set before mid after told why joined same refuses =
+      let first : Refuses set (f (get_or xs at d)) before after why = subst (λ (s : Shelf). Refuses set (f (get_or xs at d)) s after why) same refuses in
+      (map f (take at xs), map f (drop (at + 1) xs), f (get_or xs at d), place, length-map (take at xs) f ∙ length-take-le at xs (omega (arith, lt)), set, told, joined, first)

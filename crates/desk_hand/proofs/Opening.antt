@@ -16,8 +16,9 @@ pub closed_by : (name : List ℕ) (before after : Shelf) (why : FeedTrouble) →
 closed_by name before after (troubles.File file) refuses never = refuses no_ops
 closed_by name before after (troubles.Feed fault) refuses never = refuses no_ops
 closed_by name before after troubles.Full refuses never = absurd (never refl)
-closed_by name before after troubles.NoMemory refuses never = tt
+closed_by name before after troubles.NoMemory refuses never = refuses no_ops
 
-pub crowded : (name : List ℕ) (before after : Shelf) (ops : List Op) (why : AddRefusal) → IsFeedOf (before.kept name) ops → (why ≡ adds.Full → max_ops < size (with_all no_ops ops)) → IsClosedBy name before after (of_adding why)
-crowded name before after ops adds.Full feed full = (ops, feed, full refl)
-crowded name before after ops adds.NoMemory feed full = tt
+pub crowded : (name : List ℕ) (before after : Shelf) (ops : List Op) (why : AddRefusal) → IsFeedOf (before.kept name) ops → after.failures ≡ before.failures → (why ≡ adds.Full → max_ops < size (with_all no_ops ops))
+    → IsClosedBy name before after (of_adding why)
+crowded name before after ops adds.Full feed counted full = (ops, feed, counted, full refl)
+crowded name before after ops adds.NoMemory feed counted full = (feed.0, (feed.1, counted))

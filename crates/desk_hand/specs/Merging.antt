@@ -11,7 +11,7 @@ use Rattle.desk_replica.specs.State.{IsStopped}
 use Rattle.desk_replica.specs.declared.Stopped.{Stopped}
 use Rattle.desk_answers.specs.Reply.{Counted, Faults}
 use Rattle.desk_answers.specs.Text.{text}
-use Rattle.desk_files.specs.Files.{IsCounted, IsNowHeld, Kept, Names, Reads, Shelf, Stays}
+use Rattle.desk_files.specs.Files.{Counts, IsCounted, IsNowHeld, Kept, Names, Reads, Shelf, Stays}
 use Rattle.desk_files.specs.declared.files.FileRefusal.{FileRefusal}
 use Rattle.desk_stored.specs.Faults.{IsNotStored, IsUnopened, IsUnread, IsUntaken}
 use Rattle.desk_stored.specs.Sending.{WritesFront}
@@ -90,26 +90,30 @@ IsMerged name others first last before after =
 
 -- ---- why it stopped
 
+-- the read of a file gave these bytes, and the device did not fail
+abbrev pub GaveBytes : List ℕ → Shelf → Shelf → List ℕ → Type 0
+GaveBytes name before after bytes = Reads (before.kept name) (Ok bytes) × (after.failures ≡ before.failures)
+
 -- a set was full before all of a list was in it
 abbrev pub IsFull : OpSet → List Op → Type 0
 IsFull set ops = (after : OpSet) × (stop : Stopped) × IsStopped set after ops stop × (size after ≡ max_ops)
 
--- why the feed of a file does not come into a set
+-- why the feed of a file does not come into a set: out of memory too only where its bytes were read
 abbrev pub Refuses : OpSet → List ℕ → Shelf → Shelf → FeedTrouble → Type 0
 Refuses set name before after (troubles.File why) = Reads (before.kept name) (Err why) × IsCounted why before after
-Refuses set name before after (troubles.Feed fault) = (bytes : List ℕ) × Reads (before.kept name) (Ok bytes) × IsFirstFault bytes fault
-Refuses set name before after troubles.Full = (ops : List Op) × IsFeedOf (before.kept name) ops × IsFull set ops
-Refuses set name before after troubles.NoMemory = Unit {0}
+Refuses set name before after (troubles.Feed fault) = (bytes : List ℕ) × GaveBytes name before after bytes × IsFirstFault bytes fault
+Refuses set name before after troubles.Full = (ops : List Op) × IsFeedOf (before.kept name) ops × (after.failures ≡ before.failures) × IsFull set ops
+Refuses set name before after troubles.NoMemory = (bytes : List ℕ) × GaveBytes name before after bytes
 
--- the feeds of the first names were joined, so many, and the next was refused
+-- the feeds of the first names were joined, so many, and the next was refused: no file has changed, nor has the device failed, before that one was read
 abbrev pub StopsAt : List (List ℕ) → OpSet → Shelf → Shelf → ℕ → FeedTrouble → Type 0
 StopsAt names old before after at why =
     (front tail : List (List ℕ)) × (name : List ℕ) × (names ≡ front ++ name ∷ tail) × (length front ≡ at) × (set : OpSet) × (told : List ℕ)
-    × IsJoined before.kept front old set told × (mid : Shelf) × Stays before mid × Refuses set name mid after why
+    × IsJoined before.kept front old set told × Refuses set name before after why
 
 -- what was read of a stored feed was not opened
 abbrev pub IsShut : List ℕ → Shelf → Shelf → OpenFault → Type 0
-IsShut name held last fault = Stays held last × (read : Result (List ℕ) FileRefusal) × Reads (held.kept name) read × IsUnopened read fault
+IsShut name held last fault = Stays held last × (read : Result (List ℕ) FileRefusal) × Reads (held.kept name) read × Counts read held last × IsUnopened read fault
 
 -- why the stored feed does not come in: it was not read, or not opened
 abbrev pub IsBarredBy : List ℕ → Shelf → Shelf → FeedTrouble → Type 0

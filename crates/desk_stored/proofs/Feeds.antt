@@ -11,7 +11,7 @@ use Rattle.desk_files.specs.declared.files.FileRefusal.{FileRefusal}
 use Rattle.desk_files.specs.declared.files.FileRefusal.TheVariants as refusals
 use Rattle.desk_files.specs.Files.{Counts, HasNoPlace, Shelf, Spares, new_name}
 use Rattle.desk_stored.specs.declared.fault.OpenFault.TheVariants as openings
-use Rattle.desk_stored.specs.Faults.{IsCrowded, IsNotStored, IsUnopened, of_stop}
+use Rattle.desk_stored.specs.Faults.{IsCrowded, IsNotStored, IsUnopened, WasRead, of_stop}
 use Rattle.desk_stored.specs.Stored.{Stores}
 
 none_crowds : (ops : List Op) → ops ≡ [] → max_ops < size (with_all no_ops ops) → ⊥
@@ -27,11 +27,19 @@ crowded_by (Err refusals.Device) ops stop stores crowded = absurd stores
 crowded_by (Err refusals.Large) ops stop stores crowded = absurd stores
 crowded_by (Err refusals.NoMemory) ops stop stores crowded = absurd stores
 
+-- what stores operations was read
+pub read_by : (read : Result (List ℕ) FileRefusal) (ops : List Op) → Stores read ops → WasRead read
+read_by (Ok bytes) ops stores = tt
+read_by (Err refusals.Missing) ops stores = tt
+read_by (Err refusals.Device) ops stores = absurd stores
+read_by (Err refusals.Large) ops stores = absurd stores
+read_by (Err refusals.NoMemory) ops stores = absurd stores
+
 -- a feed with too many operations is not opened
 pub unopened : (read : Result (List ℕ) FileRefusal) (ops : List Op) (stop : Stopped) (why : AddRefusal) → stop.why ≡ why → Stores read ops → stop.taken ≡ 0
     → (stop.why ≡ adds.Full → max_ops < size (with_all no_ops ops)) → IsUnopened read (of_stop stop why)
 unopened read ops stop adds.Full is stores none full = crowded_by read ops stop stores (full is, is, none)
-unopened read ops stop adds.NoMemory is stores none full = tt
+unopened read ops stop adds.NoMemory is stores none full = read_by read ops stores
 
 -- where a store succeeds the device did not fail
 pub ok_counts : {V : Type 0} (P : Type 0) (result : Result V FileRefusal) (before after : Shelf) → OnOk result P → Counts result before after → OnOk result (P × (after.failures ≡ before.failures))

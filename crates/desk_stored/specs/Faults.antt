@@ -31,11 +31,19 @@ IsUnread name before after why = (why ≢ refusals.Missing) × Reads (before.kep
 abbrev pub IsCrowded : List Op → Stopped → Type 0
 IsCrowded ops stop = (max_ops < size (with_all no_ops ops)) × (stop.why ≡ Full) × (stop.taken ≡ 0)
 
+-- a stored feed was read: its bytes, or that no file is there, which is an empty feed
+abbrev pub WasRead : Result (List ℕ) FileRefusal → Type 0
+WasRead (Ok bytes) = Unit {0}
+WasRead (Err refusals.Missing) = Unit {0}
+WasRead (Err refusals.Device) = ⊥
+WasRead (Err refusals.Large) = ⊥
+WasRead (Err refusals.NoMemory) = ⊥
+
 -- why a stored feed was not opened, by what was read of it
 abbrev pub IsUnopened : Result (List ℕ) FileRefusal → OpenFault → Type 0
 IsUnopened read (openings.Feed fault) = (bytes : List ℕ) × (read ≡ Ok bytes) × IsFirstFault bytes fault
 IsUnopened read (openings.Opening stop) = (bytes : List ℕ) × (read ≡ Ok bytes) × (ops : List Op) × IsFeed bytes ops × IsCrowded ops stop
-IsUnopened read openings.NoMemory = Unit {0}
+IsUnopened read openings.NoMemory = WasRead read
 
 -- a feed was not stored, and nothing but what stands under the name of the writing may have changed: Missing comes only where no file can have that name or the feed's
 abbrev pub IsNotStored : List ℕ → Shelf → Shelf → FileRefusal → Type 0

@@ -98,11 +98,11 @@ IsEdited s t (kinds.Insert place symbol) op = IsInserted s t place symbol op
 IsEdited s t (kinds.Delete place) op = IsDeleted s t place op
 IsEdited s t (kinds.Set key value) op = IsSetTo s t key value op
 
--- an operation is made and gained, or nothing changes, for the first cause or as memory ran out
+-- an operation is made and gained, or nothing changes, for the first cause, or where there is none as memory ran out
 abbrev pub Edits : State → LocalEdit → Result Answer StepRefusal → State → Type 0
 Edits s edit result t = MatchResult result
     (λ a. (op : Op) × (a ≡ answers.Made op) × (refusal_of s.ops edit ≡ None) × IsEdited s t edit op)
-    (λ e. (why : EditRefusal) × (e ≡ refusals.Edit why) × ((why ≡ edits.NoMemory) ⊎ (refusal_of s.ops edit ≡ Some why)) × (t.ops ≡ s.ops))
+    (λ e. (why : EditRefusal) × (e ≡ refusals.Edit why) × (((why ≡ edits.NoMemory) × (refusal_of s.ops edit ≡ None)) ⊎ (refusal_of s.ops edit ≡ Some why)) × (t.ops ≡ s.ops))
 
 -- a site is edited; no other changes
 abbrev pub EditsSite : Sites → ℕ → LocalEdit → Result Answer StepRefusal → Sites → Type 0

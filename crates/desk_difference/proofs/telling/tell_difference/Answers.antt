@@ -36,3 +36,6 @@ returns-clause-err g c =
     let second = subst (λ (s : Shelf). IsSetOf c.args.other.now s other) same c.in-Ok-open_feed.ensures.ok in
     let front = subst (λ (l : List ℕ). WritesFront (g.W.Write.contents c.args.writer.now) (g.W.Write.contents c.write_out.new.writer) l) c.deref.ensures.value c.in-Err-write_out.ensures.err in
     (c.in-Ok-told_of.told.0.items, c.in-Ok-told_of.told.1, (one, other, c.in-Ok.ensures.ok, second, c.in-Ok-told_of.ensures), front)
+
+pub returns-in-Err-clause-err : goal.returns-in-Err-clause-err
+returns-in-Err-clause-err g c = (refl, c.in-Err.ensures.err)

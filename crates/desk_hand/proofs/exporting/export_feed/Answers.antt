@@ -1,5 +1,6 @@
 use Rattle.std.proofs.Common.{◌∙◌, refl, subst}
 use Rattle.std.specs.Io.KnownBytes.{Appends}
+use Rattle.std.proofs.lemmas.Result.{err_from_is_err_and}
 use Rattle.desk_stored.specs.Sending.{WritesFront}
 use Rattle.desk_hand.proofs.exporting.export_feed.Goals as goal
 
@@ -15,3 +16,8 @@ pub returns-clause-err : goal.returns-clause-err
 returns-clause-err g c =
     let front = subst (λ t. WritesFront (g.W.Write.contents c.args.writer.now) (g.W.Write.contents c.write_out.new.writer) t) (c.deref.ensures.value ∙ c.in_ok-text.ensures) c.in-Err-write_out.ensures.err in
     (c.in-Ok.replica.ops, c.in-Ok.ensures.ok, front)
+
+pub returns-in_err-text-clause-err : goal.returns-in_err-text-clause-err
+returns-in_err-text-clause-err g c =
+    let p = err_from_is_err_and c.from_residual.result c.from_residual.ensures.1 in
+    rw p.1 (rw p.2 (refl, c.in-Ok.replica.ops, c.in-Ok.ensures.ok, c.in-Ok.ensures.counted))

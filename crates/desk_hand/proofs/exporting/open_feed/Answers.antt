@@ -14,4 +14,4 @@ returns-in-Ok-open-clause-ok g c = (c.in-Ok.ops.items, c.in-Ok.ensures.ok.0, c.i
 pub returns-clause-err : goal.returns-clause-err
 returns-clause-err g c =
     let feed = subst (λ l. IsFeedOf ((g.F.Files.shelf c.args.files.now).kept c.args.name.now) l) (sym c.deref.ensures.value) c.in-Ok.ensures.ok.0 in
-    rw c.from.ensures (crowded c.args.name.now (g.F.Files.shelf c.args.files.now) (g.F.Files.shelf c.operations_of.new.files) c.deref.result.now c.in-Err-open.stop.why feed c.in-Err-open.ensures.full)
+    rw c.from.ensures (crowded c.args.name.now (g.F.Files.shelf c.args.files.now) (g.F.Files.shelf c.operations_of.new.files) c.deref.result.now c.in-Err-open.stop.why feed c.in-Ok.ensures.ok.1 c.in-Err-open.ensures.full)

@@ -13,7 +13,7 @@ returns-in_err-ops-clause-err g c =
 pub returns-in-Err-clause-err : goal.returns-in-Err-clause-err
 returns-in-Err-clause-err g c =
     let feed = subst (λ l. IsFeedOf ((g.F.Files.shelf c.args.files.now).kept c.args.name.now) l) (sym c.deref.ensures.value) c.in_ok-ops.ensures.ok.0 in
-    rw c.from.ensures (refused c.args.replica.now.ops c.take_all.new.self.ops c.args.name.now (g.F.Files.shelf c.args.files.now) (g.F.Files.shelf c.operations_of.new.files) c.deref.result.now c.in-Err.stop c.in-Err.stop.why refl feed c.in-Err.ensures.stopped)
+    rw c.from.ensures (refused c.args.replica.now.ops c.take_all.new.self.ops c.args.name.now (g.F.Files.shelf c.args.files.now) (g.F.Files.shelf c.operations_of.new.files) c.deref.result.now c.in-Err.stop c.in-Err.stop.why refl feed c.in_ok-ops.ensures.ok.1 c.in-Err.ensures.stopped)
 
 pub returns-in-Ok-put_line-clause-ok : goal.returns-in-Ok-put_line-clause-ok
 returns-in-Ok-put_line-clause-ok g c =

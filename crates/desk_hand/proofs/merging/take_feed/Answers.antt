@@ -21,5 +21,5 @@ returns-in-Err-open_replica-clause-err g c =
       refl,
       g.F.Files.shelf c.hold.new.self,
       c.in_default.ensures.taken,
-      inr (c.in-Err-open_replica.why, c.from.ensures, (c.stored_bytes.ensures.stays, was_read c.in-Ok.old, c.in-Ok.ensures.ok.0, c.in-Err-open_replica.ensures.err)),
+      inr (c.in-Err-open_replica.why, c.from.ensures, (c.stored_bytes.ensures.stays, was_read c.in-Ok.old, c.in-Ok.ensures.ok.0, c.in-Ok.ensures.ok.1, c.in-Err-open_replica.ensures.err)),
     )

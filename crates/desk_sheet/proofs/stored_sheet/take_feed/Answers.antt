@@ -1,5 +1,6 @@
 use Rattle.std.proofs.Common.{inr}
 use Rattle.std.proofs.lemmas.Result.{err_from_is_err_and}
+use Rattle.desk_stored.proofs.Feeds.{read_by}
 use Rattle.desk_stored.specs.Stored.{was_read}
 use Rattle.desk_stored.specs.declared.fault.OpenFault.TheVariants as openings
 use Rattle.desk_sheet.proofs.stored_sheet.take_feed.Goals as goal
@@ -12,5 +13,5 @@ returns-in_err-world-clause-err g c =
       c.in_ok-hold.ensures.taken,
       openings.NoMemory,
       p.2,
-      (was_read c.in_ok-old.old, c.in_ok-old.ensures.ok.0, c.in_ok-old.ensures.ok.1, c.stored_bytes.ensures.stays, tt),
+      (was_read c.in_ok-old.old, c.in_ok-old.ensures.ok.0, c.in_ok-old.ensures.ok.1, c.stored_bytes.ensures.stays, read_by (was_read c.in_ok-old.old) c.in_ok-replica.ensures.ok.0 c.in_ok-replica.ensures.ok.1),
     )))
