@@ -76,6 +76,21 @@ insert 1 0 r"€"
 cast 1 case12.toml wedge5.toml
 show 2
 """
+# an insert that crosses pages; lists of which the last operation forks a stamp, so that all is made anew after the others
+# have found room; and the long insert again, with memory
+STOPPED = """site 1
+site 2
+insert 1 0 r"{word}"
+delete 1 3
+take 2 4d4644310100000000000000090009000000000000000000000000000071
+take 1 4d4644310100000000000000080008000000000000000000000000000070010000000000000009000900000000000000000000000000007a
+send 1 2 7..11
+take 2 4d46443101000000000000000a00080000000000000008000800000000720100000000000000080008000000000000000000000000000073
+merge 1 2
+insert 1 0 r"{word}"
+faults 1
+faults 2
+""".format(word="and so on; " * 109)
 BAD_FILES = """site 1
 set 1 measure 288
 set 1 tight 40
@@ -252,7 +267,7 @@ class Sweep:
             file.write(old)
         return None if now == (follower.feed(site) if follower else old) else "the stored feed is another one"
 
-    def all(self):
+    def all(self, step=20):
         os.chdir(self.runs.folder)  # the independent program reads its files there
         growths = self.runs.count()
         if self.feed:
@@ -263,7 +278,7 @@ class Sweep:
             self.faults.append("memory was wanted with nothing refused")
         for number in range(1, growths + 1):
             self.note("growth %d" % number, self.once(number, False))
-        for number in range(1, growths + 1, 20):
+        for number in range(1, growths + 1, step):
             self.note("from growth %d on" % number, self.once(number, True))
         os.chdir(self.cwd)
         return self
@@ -288,6 +303,11 @@ def first(program, folder, library):
 
 def bad_files(program, folder, library):
     return script(program, folder, library, BAD_FILES)
+
+
+def stops(program, folder, library):
+    """Lists of which a part is taken in: all growths are refused from each one on."""
+    return Sweep(Runs(program, ["script"], STOPPED, folder, library)).all(1)
 
 
 def stored(program, folder, library):
@@ -407,6 +427,7 @@ def previews(program, folder, library):
 
 # the commands that a run of the script was seen to refuse for want of memory, and those that it stopped
 LACKING = {(name, False) for name in ("site", "insert", "take", "send", "merge", "show", "faults", "settings", "feed", "ribbon", "cast", "restart")}
+LACKING |= {(name, True) for name in ("insert", "take", "send", "merge")}
 
 
 def main():
@@ -414,7 +435,7 @@ def main():
     with tempfile.TemporaryDirectory() as folder:
         library, failed, lacked = shim(folder), False, set()
         files(folder)
-        for name, part in (("first script", first), ("script", script), ("bad files", bad_files), ("words", words), ("stored feed", stored), ("by hand", by_hand), ("previews", previews)):
+        for name, part in (("first script", first), ("script", script), ("stops", stops), ("bad files", bad_files), ("words", words), ("stored feed", stored), ("by hand", by_hand), ("previews", previews)):
             sweep = part(program, folder, library)
             for fault in sweep.faults[:20]:
                 print(fault)

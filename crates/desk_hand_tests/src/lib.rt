@@ -7,3 +7,5 @@ mod exporting;
 mod importing;
 #[cfg(test)]
 mod merging;
+#[cfg(test)]
+mod words;

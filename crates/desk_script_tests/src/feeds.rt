@@ -176,9 +176,17 @@ fn feed_stored_after_stopped_run(rt: HostRuntime) -> Result<(), Fail> {
     Ok(())
 }
 
-/// A run on a feed of which the writing or the renaming fails: all is answered and the old feed stays, and the next run
-/// stores its own.
-fn not_stored_at(alloc: Global, failing_call: u64) -> Result<(), Fail> {
+/// The same and one insert more, 2.3 at the head.
+const TWO_INSERTS: &[u8] =
+    b"MFD2\x01\0\0\0\0\0\0\0\x01\0\x03\0\0\0\0\0\0\0\0\0\0\0\0\0\0x\x01\0\0\0\0\0\0\0\x02\0\x03\0\0\0\0\0\0\0\0\0\0\0\0\0\0y";
+
+/// The one insert and its delete, 2.3.
+const ONE_DELETED: &[u8] =
+    b"MFD2\x01\0\0\0\0\0\0\0\x01\0\x03\0\0\0\0\0\0\0\0\0\0\0\0\0\0x\x02\0\0\0\0\0\0\0\x02\0\x03\0\0\0\0\0\0\0\x01\0\x03";
+
+/// A run on a feed of which the writing or the renaming fails: all is answered and the old feed stays, beside it is what is
+/// given, the new feed or nothing, and the next run stores its own.
+fn not_stored_at(alloc: Global, failing_call: u64, beside: Option<&[u8]>) -> Result<(), Fail> {
     let mut files = TrialFiles::new(alloc).failing_at_call(failing_call);
     files.put("a.feed", ONE_INSERT)?;
     let mut writer = TrialWriter::new(alloc);
@@ -197,9 +205,12 @@ fn not_stored_at(alloc: Global, failing_call: u64) -> Result<(), Fail> {
     if !right || writer.written() != b"ok 2.3\n".as_slice() {
         return Err(Fail::new("another end"));
     }
+    if files.bytes_of("a.feed.new") != beside {
+        return Err(Fail::new("another file beside the feed"));
+    }
     let mut files = files.for_next_run();
     answered_on(alloc, &mut files, 3, b"delete 3 0\n")?;
-    if holds(&files, "a.feed", ONE_INSERT) || files.bytes_of("a.feed.new").is_some() {
+    if !holds(&files, "a.feed", ONE_DELETED) || files.bytes_of("a.feed.new").is_some() {
         return Err(Fail::new("the next run has not stored its feed"));
     }
     Ok(())
@@ -208,8 +219,8 @@ fn not_stored_at(alloc: Global, failing_call: u64) -> Result<(), Fail> {
 /// The answers are written before the feed is stored.
 #[test]
 fn not_stored_after_all_answers(rt: HostRuntime) -> Result<(), Fail> {
-    not_stored_at(rt.alloc(), 3)?;
-    not_stored_at(rt.alloc(), 4)
+    not_stored_at(rt.alloc(), 3, None)?;
+    not_stored_at(rt.alloc(), 4, Some(TWO_INSERTS))
 }
 
 /// Where there is no place for the feed nothing is answered.
@@ -260,4 +271,39 @@ fn stored_after_a_failed_read(rt: HostRuntime) -> Result<(), Fail> {
     assert_eq!(rt; files.failures(), 1);
     assert!(rt; files.bytes_of("a.feed").is_none());
     Ok(())
+}
+
+const BAD_KIND: FeedFault = FeedFault {
+    at: 4,
+    why: FeedWhy::Kind,
+};
+
+const TOO_MANY: Stopped = Stopped {
+    taken: 0,
+    why: AddRefusal::Full,
+};
+
+const WORDS: [(RunFault, &str); 7] = [
+    (RunFault::Read, "read fault"),
+    (RunFault::Write, "write fault"),
+    (RunFault::TooLong, "too long"),
+    (RunFault::NoMemory, "no memory"),
+    (RunFault::Feed(BAD_KIND), "feed refused"),
+    (RunFault::File(FileRefusal::Device), "file fault"),
+    (RunFault::Opening(TOO_MANY), "not opened"),
+];
+
+/// Whether these are the words of a fault.
+fn is_worded(alloc: Global, fault: RunFault, words: &str) -> bool {
+    match format!(in alloc; "{fault}") {
+        Ok(told) => told.as_str() == words,
+        Err(AllocError) => false,
+    }
+}
+
+#[test]
+fn names_its_faults(rt: HostRuntime) {
+    for &(fault, words) in &WORDS {
+        assert!(rt; is_worded(rt.alloc(), fault, words), "{words}");
+    }
 }

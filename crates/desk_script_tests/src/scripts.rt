@@ -62,24 +62,38 @@ fn failing_writer(rt: HostRuntime) -> Result<(), Fail> {
         ends(reader, writer, alloc, RunFault::Write, want)?;
     }
     for k in 0..=TWO_SITES_ANSWERS.len() {
-        written_up_to(alloc, k)?;
+        written_up_to(alloc, k, None)?;
+        for &kind in &FAILURE_KINDS {
+            written_up_to(alloc, k, Some(kind))?;
+        }
     }
     Ok(())
 }
 
-/// Takes a byte in each call, and fails at one call alone.
+/// What a reader or a writer may fail with; of the last two some callers try again.
+const FAILURE_KINDS: [ErrorKind; 3] = [
+    ErrorKind::Other,
+    ErrorKind::Interrupted,
+    ErrorKind::WouldBlock,
+];
+
+/// Takes a byte in each call, and at one call alone fails so, or takes none.
 #[derive(Drop)]
 struct OnceFailing {
     written: Vec<u8>,
     calls: usize,
     failing_call: usize,
+    kind: Option<ErrorKind>,
 }
 
 impl Write for OnceFailing {
     fn write(&mut self, buf: &[u8]) -> io::Result<usize> {
         self.calls = self.calls.saturating_add(1);
         if self.calls == self.failing_call {
-            return Err(io::Error::from(ErrorKind::Interrupted));
+            return match self.kind {
+                Some(kind) => Err(io::Error::from(kind)),
+                None => Ok(0),
+            };
         }
         let Some(byte) = buf.first() else {
             return Ok(0);
@@ -93,18 +107,22 @@ impl Write for OnceFailing {
     }
 }
 
-/// A write that was refused is not tried again: exactly the bytes before it are written.
-fn written_up_to(alloc: Global, k: usize) -> Result<(), Fail> {
+/// A write that was refused so is not tried again, nor is there one after it: exactly the bytes before it are written.
+fn written_up_to(alloc: Global, k: usize, kind: Option<ErrorKind>) -> Result<(), Fail> {
     let mut reader = TrialReader::new(TWO_SITES);
     let mut writer = OnceFailing {
         written: Vec::new(alloc),
         calls: 0,
         failing_call: k.saturating_add(1),
+        kind,
     };
     let end = run(alloc, alloc, &mut reader, &mut writer, &mut NoFiles);
-    if k == TWO_SITES_ANSWERS.len() {
-        end?;
-    } else if end != Err(RunFault::Write) {
+    let (calls, want) = if k == TWO_SITES_ANSWERS.len() {
+        (k, Ok(()))
+    } else {
+        (k.saturating_add(1), Err(RunFault::Write))
+    };
+    if end != want || writer.calls != calls {
         return Err(Fail::new("another end"));
     }
     same(
@@ -138,19 +156,20 @@ fn ended(text: &[u8]) -> usize {
     lines
 }
 
-/// Gives a byte in each call, may fail at one call, and counts them.
+/// Gives a byte in each call, may fail so at one call, and counts them.
 #[derive(Drop)]
 struct Counting<'a> {
     bytes: &'a [u8],
     calls: usize,
     failing_call: usize,
+    kind: ErrorKind,
 }
 
 impl<'a> Read for Counting<'a> {
     fn read(&mut self, buf: &mut [u8]) -> io::Result<usize> {
         self.calls = self.calls.saturating_add(1);
         if self.calls == self.failing_call {
-            return Err(io::Error::from(ErrorKind::Interrupted));
+            return Err(io::Error::from(self.kind));
         }
         let Some((byte, later)) = self.bytes.split_first() else {
             return Ok(0);
@@ -166,11 +185,12 @@ impl<'a> Read for Counting<'a> {
 
 /// A read that failed is not tried again, nor is one that found the end: what was written is the answers to the lines that
 /// were read to their end.
-fn read_up_to(alloc: Global, failing_call: usize) -> Result<(), Fail> {
+fn read_up_to(alloc: Global, failing_call: usize, kind: ErrorKind) -> Result<(), Fail> {
     let mut reader = Counting {
         bytes: TWO_SITES,
         calls: 0,
         failing_call,
+        kind,
     };
     let mut written = Vec::new(alloc);
     let end = run(alloc, alloc, &mut reader, &mut written, &mut NoFiles);
@@ -203,7 +223,9 @@ fn failing_reader(rt: HostRuntime) -> Result<(), Fail> {
         b"ok\n",
     )?;
     for k in 1..=TWO_SITES.len().saturating_add(2) {
-        read_up_to(alloc, k)?;
+        for &kind in &FAILURE_KINDS {
+            read_up_to(alloc, k, kind)?;
+        }
     }
     Ok(())
 }
@@ -290,28 +312,49 @@ fn lines_words_and_numbers(rt: HostRuntime) -> Result<(), Fail> {
     answered_in_steps(rt.alloc(), SCRIPTS)
 }
 
-/// A line of so many bytes with this end, and its answers.
-fn long_line(alloc: Global, length: usize, end: &[u8], want: &[u8]) -> Result<(), Fail> {
-    let mut input = Vec::with_capacity(alloc, length)?;
-    input.resize(length, 0xffu8)?;
+/// A line of so many of one byte, with what comes before and after it, and the answers.
+fn long_line(
+    alloc: Global,
+    start: &[u8],
+    (byte, length): (u8, usize),
+    end: &[u8],
+    want: &[u8],
+) -> Result<(), Fail> {
+    let whole = start.len().saturating_add(length);
+    let mut input = Vec::with_capacity(alloc, whole)?;
+    input.extend_from_slice(start)?;
+    input.resize(whole, byte)?;
     input.extend_from_slice(end)?;
     let got = answers(alloc, alloc, &input, 1000)?;
     same(&got, want)
 }
 
-const LONG_LINES: &[(usize, &[u8], &[u8])] = &[
-    (65_536, b"\n", b"refused command\n"),
-    (65_536, b"\r\n", b"refused command\n"),
-    (65_536, b"", b"refused command\n"),
-    (65_537, b"\n", b"refused line\n"),
-    (65_536, b"\r", b"refused line\n"),
-    (200_000, b"\r\nsite 1\n", b"refused line\nok\n"),
+const LONG_LINES: &[(&[u8], usize, &[u8], &[u8])] = &[
+    (b"", 65_536, b"\n", b"refused command\n"),
+    (b"", 65_536, b"\r\n", b"refused command\n"),
+    (b"", 65_536, b"", b"refused command\n"),
+    (b"", 65_537, b"\n", b"refused line\n"),
+    (b"", 65_536, b"\r", b"refused line\n"),
+    (b"", 200_000, b"\r\nsite 1\n", b"refused line\nok\n"),
+    (
+        b"site 1\n",
+        65_536,
+        b"\nsite 2\n",
+        b"ok\nrefused command\nok\n",
+    ),
+    (
+        b"site 1\n",
+        65_537,
+        b"\nsite 2\n",
+        b"ok\nrefused line\nok\n",
+    ),
 ];
 
 #[test]
 fn long_lines(rt: HostRuntime) -> Result<(), Fail> {
-    for (length, end, want) in LONG_LINES {
-        long_line(rt.alloc(), *length, end, want)?;
+    for &(start, length, end, want) in LONG_LINES {
+        long_line(rt.alloc(), start, (b'x', length), end, want)?;
+        long_line(rt.alloc(), start, (0xff, length), end, want)?;
     }
     Ok(())
 }

@@ -9,3 +9,5 @@ mod growths;
 mod plays;
 #[cfg(test)]
 mod random;
+#[cfg(test)]
+mod words;
