@@ -4,7 +4,7 @@ use Rattle.std.specs.List.{insert}
 use Rattle.std.proofs.lemmas.List.{get_or_read, length-set, set-append_left, set-append_right, drop-drop, drop_at, take_at, drop-append-le, take-append-le, get_or_append_left, get_or-append-add, take-append-drop, append-nil}
 use Rattle.std.proofs.lemmas.Bool.{cases_lt}
 use Rattle.std.proofs.lemmas.List.Edits.{insert-append_left, insert-append_right, length-insert}
-use Rattle.desk_pages.specs.Pages.{joined, start_of, IsSpot, IsSpotOrEnd, IsGap, IsHalfFull, IsClosed, cut_at, handed_at, spare_of, IsKept}
+use Rattle.desk_pages.specs.Pages.{joined, start_of, IsSpot, IsSpotOrEnd, IsGap, IsHalfFull, IsClosed, cut_at, spare_of, IsKept}
 
 -- ---- places
 
@@ -153,89 +153,6 @@ gap-upper pages i p j at f l = rw add-one (
       has_room = omega arith;
       is = omega arith;
     })
-
--- ---- the upper half of a page is handed to the next
-
-pub handed-joined : {X : Type 0} (pages : List (List X)) (p : ℕ) → joined (handed_at pages p) ≡ joined pages
-handed-joined [] p = refl
-handed-joined (r ∷ []) p = refl
-handed-joined (r ∷ s ∷ pages) zero =
-    ap (λ x. take 256 r ++ x) (append_assoc (drop 256 r) s (joined pages))
-    ∙ sym (append_assoc (take 256 r) (drop 256 r) (s ++ joined pages)) ∙ ap (λ x. x ++ (s ++ joined pages)) (take-append-drop 256 r)
-handed-joined (r ∷ s ∷ pages) (suc p) = ap (λ x. r ++ x) (handed-joined (s ∷ pages) p)
-
-pub handed-length : {X : Type 0} (pages : List (List X)) (p : ℕ) → length (handed_at pages p) ≡ length pages
-handed-length [] p = refl
-handed-length (r ∷ []) p = refl
-handed-length (r ∷ s ∷ pages) zero = refl
-handed-length (r ∷ s ∷ pages) (suc p) = ap suc (handed-length (s ∷ pages) p)
-
-pub handed-before : {X : Type 0} (pages : List (List X)) (p : ℕ) → take p (handed_at pages p) ≡ take p pages
-handed-before [] p = refl
-handed-before (r ∷ []) p = refl
-handed-before (r ∷ s ∷ pages) zero = refl
-handed-before (r ∷ s ∷ pages) (suc p) = ap (λ x. r ∷ x) (handed-before (s ∷ pages) p)
-
-pub handed-lower : {X : Type 0} (pages : List (List X)) (p : ℕ) → suc p < length pages → get_or (handed_at pages p) p [] ≡ take 256 (get_or pages p [])
-handed-lower [] p l = absurd (omega arith)
-handed-lower (r ∷ []) p l = absurd (omega arith)
-handed-lower (r ∷ s ∷ pages) zero l = refl
-handed-lower (r ∷ s ∷ pages) (suc p) l = handed-lower (s ∷ pages) p (omega arith)
-
-pub handed-upper : {X : Type 0} (pages : List (List X)) (p : ℕ) → suc p < length pages → get_or (handed_at pages p) (suc p) [] ≡ drop 256 (get_or pages p []) ++ get_or pages (suc p) []
-handed-upper [] p l = absurd (omega arith)
-handed-upper (r ∷ []) p l = absurd (omega arith)
-handed-upper (r ∷ s ∷ pages) zero l = refl
-handed-upper (r ∷ s ∷ pages) (suc p) l = handed-upper (s ∷ pages) p (omega arith)
-
-pub handed-half : {X : Type 0} (pages : List (List X)) (p : ℕ) → IsHalfFull pages → suc p < length pages → length (get_or pages p []) ≡ 512 → IsHalfFull (handed_at pages p)
-handed-half [] p h l f = tt
-handed-half (r ∷ []) p h l f = h
-handed-half (r ∷ s ∷ pages) zero h l f = (simp length-take (omega arith), half-more pages h.1)
-  where
-    longer : 256 ≤ length (drop 256 r ++ s)
-    longer = let a = length-append (drop 256 r) s in let b : length (drop 256 r) ≡ length r - 256 = length-drop 256 r in omega arith
-
-    half-more : (rest : List (List _)) → IsHalfFull (s ∷ rest) → IsHalfFull ((drop 256 r ++ s) ∷ rest)
-    half-more [] q = let k : 1 ≤ length (drop 256 r ++ s) = omega (arith, longer) in k
-    half-more (t ∷ rest) q = (longer, q.1)
-handed-half (r ∷ s ∷ pages) (suc p) h l f = half-cons r (handed_at (s ∷ pages) p) h.0 (handed-half (s ∷ pages) p h.1 (omega arith) f)
-
--- what the two pages are written anew as
-pub handed-is : {X : Type 0} (pages : List (List X)) (p : ℕ) → suc p < length pages → set (set pages p (take 256 (get_or pages p []))) (suc p) (drop 256 (get_or pages p []) ++ get_or pages (suc p) []) ≡ handed_at pages p
-handed-is [] p l = absurd (omega arith)
-handed-is (r ∷ []) p l = absurd (omega arith)
-handed-is (r ∷ s ∷ pages) zero l = refl
-handed-is (r ∷ s ∷ pages) (suc p) l = ap (λ x. r ∷ x) (handed-is (s ∷ pages) p (omega arith))
-
--- the next page, where the first was written anew
-pub next-read : {X : Type 0} (pages : List (List X)) (p : ℕ) (y r : List X) → suc p < length pages → r ≡ get_or (set pages p y) (suc p) r → r ≡ get_or pages (suc p) []
-next-read [] p y r l e = absurd (omega arith)
-next-read (s ∷ pages) zero y r l e = get_or_read pages 0 r (omega arith) e []
-next-read (s ∷ pages) (suc p) y r l e = next-read pages p y r (omega arith) e
-
--- the place in the half that has it now
-pub handed-spot_lower : {X : Type 0} (pages : List (List X)) (p j : ℕ) → suc p < length pages → length (get_or pages p []) ≡ 512 → j < 256 → IsSpotOrEnd (handed_at pages p) p j
-handed-spot_lower pages p j l f k =
-    let n : length (get_or (handed_at pages p) p []) ≡ 256 = rw (handed-lower pages p l) (simp length-take (omega arith)) in
-    let c = handed-length pages p in
-    record { within = omega arith; inside = λ w. omega arith; end = λ w. absurd (omega (arith, w)) }
-
-pub handed-spot_upper : {X : Type 0} (pages : List (List X)) (p j : ℕ) → suc p < length pages → length (get_or pages p []) ≡ 512 → 256 ≤ j → j < 512 → IsSpotOrEnd (handed_at pages p) (suc p) (j - 256)
-handed-spot_upper pages p j l f k m =
-    let n = ap length (handed-upper pages p l) in
-    let a = length-append (drop 256 (get_or pages p [])) (get_or pages (suc p) []) in
-    let b : length (drop 256 (get_or pages p [])) ≡ length (get_or pages p []) - 256 = length-drop 256 (get_or pages p []) in
-    let c = handed-length pages p in
-    record { within = omega arith; inside = λ w. omega arith; end = λ w. absurd (omega (arith, w)) }
-
-pub handed-place : {X : Type 0} (pages : List (List X)) (p j : ℕ) → suc p < length pages → length (get_or pages p []) ≡ 512 → 256 ≤ j → start_of (handed_at pages p) (suc p) + (j - 256) ≡ start_of pages p + j
-handed-place pages p j l f k =
-    let n : length (get_or (handed_at pages p) p []) ≡ 256 = rw (handed-lower pages p l) (simp length-take (omega arith)) in
-    let c = handed-length pages p in
-    let s = start-more (handed_at pages p) p (omega arith) in
-    let b = ap (λ (x : List (List _)). length (joined x)) (handed-before pages p) in
-    omega arith
 
 -- ---- one more
 

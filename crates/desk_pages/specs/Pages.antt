@@ -61,13 +61,6 @@ cut_at [] p = []
 cut_at (r ∷ pages) zero = take 256 r ∷ drop 256 r ∷ pages
 cut_at (r ∷ pages) (suc p) = r ∷ cut_at pages p
 
--- page p keeps its first 256, and the next page has the others before its own
-abbrev pub handed_at : {X : Type 0} → List (List X) → ℕ → List (List X)
-handed_at [] p = []
-handed_at (r ∷ []) p = r ∷ []
-handed_at (r ∷ s ∷ pages) zero = take 256 r ∷ (drop 256 r ++ s) ∷ pages
-handed_at (r ∷ s ∷ pages) (suc p) = r ∷ handed_at (s ∷ pages) p
-
 -- how many more fit with no new memory, whichever pages they come to
 abbrev pub spare_of : ℕ → ℕ → ℕ
 spare_of pages len = 256 * (pages - 1) - len

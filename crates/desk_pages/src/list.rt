@@ -266,7 +266,6 @@ impl<T: Copy, S: Summary<T>, A: Allocator + Copy> Pages<T, S, A> {
         ensures spare { self.new.spare + 1 ≡ self.old.spare }
     {
         let (p, j) = search::edge(&self.pages, pick);
-        let (p, j) = pages::eased(&mut self.pages, &mut self.free, &mut self.groups, p, j);
         pages::put(
             &mut self.pages,
             &mut self.free,

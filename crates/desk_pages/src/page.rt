@@ -167,20 +167,6 @@ impl<T: Copy, S: Summary<T>, A: Allocator> Page<T, S, A> {
         self.summary = S::of(&self.items);
     }
 
-    /// Puts these before all others.
-    pub fn prepend(&mut self, items: &[T])
-        requires { length self.old + length items.now ≤ 512 }
-        ensures { self.new ≡ items.now ++ self.old }
-    {
-        let len = self.items.len();
-        if self.items.extend_from_slice(items).is_err() {
-            prove!(false);
-        }
-        self.items.rotate_left(len);
-        self.last = last_of(&self.items);
-        self.summary = S::of(&self.items);
-    }
-
     /// Appends these.
     pub fn append(&mut self, items: &[T])
         requires { length self.old + length items.now ≤ 512 }

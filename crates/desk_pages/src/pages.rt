@@ -1,7 +1,7 @@
 //! Pages in use, and free ones.
 ghost use Rattle.std.specs.Prelude.{◌≡◌, ◌+◌, ◌≤◌, ◌<◌, List, [], ◌∷◌, ◌++◌, take, drop, length, vec_capacity, vec_len, slice_index_or, OnOk, IfOk, ◌-◌, ◌^◌, IfSome, IsNone, true};
 ghost use Rattle.std.specs.List.{insert, remove};
-ghost use Rattle.desk_pages.specs.Pages.{joined, start_of, HasMore, IsShortAt, IsStarts, IsGroups, IsSpot, IsSpotOrEnd, IsGap, IsHalfFull, IsClosed, IsKept, cut_at, handed_at, spare_of};
+ghost use Rattle.desk_pages.specs.Pages.{joined, start_of, HasMore, IsShortAt, IsStarts, IsGroups, IsSpot, IsSpotOrEnd, IsGap, IsHalfFull, IsClosed, IsKept, cut_at, spare_of};
 
 use crate::groups::{Groups, find_groups, put_inside, take_inside};
 use crate::page::{FULL, HALF, Page, Summary, insert_reserved};
@@ -129,60 +129,6 @@ fn gap<T: Copy, S: Summary<T>, A: Allocator>(
     }
     split(pages, free, p);
     if j <= HALF { (p, j) } else { (p + 1, j - HALF) }
-}
-
-/// Hands the upper half of page p, which is full, to the next, by way of a free page.
-fn hand_on<T: Copy, S: Summary<T>, A: Allocator>(
-    pages: &mut Vec<Page<T, S, A>, A>,
-    free: &mut Vec<Page<T, S, A>, A>,
-    p: usize,
-)
-    requires within { p + 1 < vec_len pages.old }
-    requires full { length (slice_index_or pages.old.items p []) ≡ 512 }
-    requires room { length (slice_index_or pages.old.items (p + 1) []) ≤ 256 }
-    requires some { 0 < vec_len free.old }
-    ensures handed { pages.new.items ≡ handed_at pages.old.items p }
-    ensures len { vec_len pages.new ≡ vec_len pages.old }
-    ensures capacity { vec_capacity pages.new ≡ vec_capacity pages.old }
-    ensures free_len { vec_len free.new ≡ vec_len free.old }
-    ensures free_capacity { vec_capacity free.new ≡ vec_capacity free.old }
-{
-    let mut upper = free.take_last();
-    pages[p].split(&mut upper);
-    pages[p + 1].prepend(upper.items());
-    free.push_reserved(upper);
-}
-
-/// The same place, where one is to be put: if its page is full and the next at most half full, that one takes the upper half
-/// first. So pages that grow at their front, as by a chain that comes last element first, are left full and not half full.
-pub fn eased<T: Copy, S: Summary<T>, A: Allocator>(
-    pages: &mut Vec<Page<T, S, A>, A>,
-    free: &mut Vec<Page<T, S, A>, A>,
-    groups: &mut Groups<S, A>,
-    p: usize,
-    j: usize,
-) -> (usize, usize)
-    requires spot { IsSpotOrEnd pages.old.items p j }
-    requires half { IsHalfFull pages.old.items }
-    requires groups { IsGroups S.tells pages.old.items groups.old.starts.items groups.old.sums.items }
-    requires fits { length (joined pages.old.items) < 2 ^ 48 }
-    requires some { 0 < vec_len free.old }
-    ensures spot { IsSpotOrEnd pages.new.items result.0 result.1 }
-    ensures place { start_of pages.new.items result.0 + result.1 ≡ start_of pages.old.items p + j }
-    ensures same { joined pages.new.items ≡ joined pages.old.items }
-    ensures half { IsHalfFull pages.new.items }
-    ensures groups { IsGroups S.tells pages.new.items groups.new.starts.items groups.new.sums.items }
-    ensures len { vec_len pages.new ≡ vec_len pages.old }
-    ensures capacity { vec_capacity pages.new ≡ vec_capacity pages.old }
-    ensures free_len { vec_len free.new ≡ vec_len free.old }
-    ensures free_capacity { vec_capacity free.new ≡ vec_capacity free.old }
-{
-    if p + 1 >= pages.len() || pages[p].len() < FULL || pages[p + 1].len() > HALF {
-        return (p, j);
-    }
-    hand_on(pages, free, p);
-    find_groups(pages, groups);
-    if j < HALF { (p, j) } else { (p + 1, j - HALF) }
 }
 
 /// The place behind the last entry, where its page is not full.
