@@ -77,7 +77,7 @@ cast 1 case12.toml wedge5.toml
 show 2
 """
 # an insert that crosses pages; lists of which the last operation forks a stamp, so that all is made anew after the others
-# have found room; and the long insert again, with memory
+# have found room (after a fork there is none, so an insert makes some); and the long insert again, with memory
 STOPPED = """site 1
 site 2
 insert 1 0 r"{word}"
@@ -85,6 +85,7 @@ delete 1 3
 take 2 4d4644310100000000000000090009000000000000000000000000000071
 take 1 4d4644310100000000000000080008000000000000000000000000000070010000000000000009000900000000000000000000000000007a
 send 1 2 7..11
+insert 2 0 r"y"
 take 2 4d46443101000000000000000a00080000000000000008000800000000720100000000000000080008000000000000000000000000000073
 merge 1 2
 insert 1 0 r"{word}"
