@@ -3,7 +3,7 @@
 
 In a table of DEFINITIONS the column `name` has words of the crates that the heading above it names (of desk_ops, where it
 names none), the column `file` the files of their specs/ without the ending, and `law` functions of their sources, or of
-another crate whose name stands before them. In DESIGN each file is a path below crates/, or a name of a file in the
+another crate whose name stands before them; each table has its heads. In DESIGN each file is a path below crates/, or a name of a file in the
 folder that stands before it, and each crate of crates.txt but those of tests has a row.
 """
 import os
@@ -63,6 +63,8 @@ def definitions(text):
         cells = [cell.strip() for cell in line.strip().strip("|").split("|")]
         if columns is None:
             columns = cells
+            if cells[0] != "word":
+                yield "docs/DEFINITIONS.md:%d: a table without its heads" % number
         elif not set("".join(cells)) <= set("-: "):
             row = dict(zip(columns, cells))
             for fault in row_faults(crates, dict({"name": "", "file": "", "law": ""}, **row)):

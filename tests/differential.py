@@ -2,10 +2,12 @@
 """Scripts through the program and through the independent one beside this file; the answers must be the same.
 
 usage: differential.py PROGRAM [SCRIPTS [SEED]]      random ones, all commands; ends with status 1 at the first difference
+       differential.py PROGRAM --stored [RUNS [SEED]] random scripts on stored feeds, strict and numbered sheets among them
        differential.py PROGRAM --only WORD,WORD ..   some commands alone
        differential.py PROGRAM --jobs                the directed jobs of jobs.py, which stand at the limits of lines and wedges
        differential.py PROGRAM --large               one job of over 100,000 symbols
 """
+import fcntl
 import functools
 import multiprocessing
 import os
@@ -18,6 +20,7 @@ HERE = os.path.dirname(os.path.abspath(__file__))
 sys.path.insert(0, HERE)
 import jobs
 import oracle
+import oracle_runs
 
 oracle.first_fault_case = functools.lru_cache(256)(oracle.first_fault_case)  # many commands read the same files
 oracle.first_fault_wedge = functools.lru_cache(256)(oracle.first_fault_wedge)
@@ -25,17 +28,19 @@ oracle.first_fault_wedge = functools.lru_cache(256)(oracle.first_fault_wedge)
 ROWS = [["" for _ in range(15)] for _ in range(15)]
 for row, column, text in [(0, 0, "."), (3, 0, "t"), (4, 1, "a"), (4, 2, "i:a"), (7, 0, "n"), (13, 0, "m"), (14, 0, "M"), (14, 1, "s:M")]:
     ROWS[row][column] = text
+WIDE = [row + [{3: "q", 7: "i:M"}.get(number, ""), {3: "s:a", 13: "\u00e9"}.get(number, "")] for number, row in enumerate(ROWS)]
 W = 'wedge = 5\nset_q = 48\npica = "sixth"\nunits = [5, 6, 7, 8, 9, 9, 9, 10, 10, 11, 12, 13, 14, 15, 18]\n'
 
 
-def case_text(fill='["O15", "A5"]', number=1, space='"G1"'):
-    rows = ",\n".join("[" + ",".join('"%s"' % t for t in row) + "]" for row in ROWS)
+def case_text(fill='["O15", "A5"]', number=1, space='"G1"', rows=ROWS):
+    rows = ",\n".join("[" + ",".join('"%s"' % t for t in row) + "]" for row in rows)
     return "case = %d\nspace = %s\nfill = %s\nrows = [\n%s]\n" % (number, space, fill, rows)
 
 
 FILES = {
     "c": case_text(), "c2": case_text(number=2), "c_order": case_text(fill='["A5", "O15"]'), "c_one": case_text(fill='["O15"]'),
     "c_four": case_text(fill='["O15", "O8", "O5", "O1"]'), "c_nofill": case_text().replace("fill", "fills"),
+    "c17": case_text(rows=WIDE), "c17_blanks": case_text(fill='["NL15", "NI5"]', space='"NI1"', rows=WIDE), "c_column": case_text(space='"NI1"'),
     "c_held": case_text(space='"A8"'), "c_bad": case_text().replace('"n"', '"nn"'),
     "w": W, "w6": W.replace("wedge = 5", "wedge = 6"), "w19": W.replace("48", "19"), "w_american": W.replace("sixth", "american"),
     "w_small": W.replace("48", "20").replace("[5,", "[4,"), "w_falls": W.replace("[5, 6", "[6, 5"), "w_bad": "wedge =",
@@ -93,7 +98,7 @@ class Scripts:
             s, t = t, s
         if self.pick.random() < 0.3:
             t = (0, 0)
-        count = self.pick.choice([2, 2, 3, 5, 63, 64]) if self.pick.random() < 0.95 else self.pick.choice([0, 1, 65])
+        count = self.pick.choice([2, 2, 3, 5, 63, 64]) if self.pick.random() < 0.9 else self.pick.choice([0, 1, 65])
         symbols = b"".join(bytes([self.pick.choice([0, 0, 1, 2])]) + ord(self.pick.choice("ntam")).to_bytes(4, "big") for _ in range(count))
         if self.pick.random() < 0.03 and symbols:
             symbols = symbols[:-1] + b"\x09"
@@ -101,8 +106,14 @@ class Scripts:
 
     def hex(self):
         runs = self.pick.random() < 0.5
-        data = (b"MFD2" if runs else b"MFD1") + b"".join(self.run() if runs and self.pick.random() < 0.4 else self.op() for _ in range(self.pick.choice([0, 1, 1, 2, 4, 9])))
-        if self.pick.random() < 0.06:
+        often, data = 0.4 if runs else 0.02, b"MFD2" if runs else b"MFD1"
+        for _ in range(self.pick.choice([0, 1, 1, 2, 4, 9])):
+            item = self.run() if self.pick.random() < often else self.op()
+            data += item
+            if item[0] == 4 and not 2 <= item[21] <= 64 and self.pick.random() < 0.7:
+                data = data[:len(data) - len(item) + 22]  # the end, before the symbols of a count that no run has
+                break
+        if self.pick.random() < 0.1:
             data = data[:self.pick.randrange(0, len(data))]
         if self.pick.random() < 0.04 and data:
             k = self.pick.randrange(0, len(data))
@@ -147,7 +158,7 @@ class Scripts:
         if kind == "merge":
             return "merge %d %d" % (s, self.site())
         if kind in ("ribbon", "cast"):
-            case = self.pick.choice(["c"] * 8 + ["c2", "c_order", "c_one", "c_one", "c_four", "c_nofill", "c_held", "c_bad", "none"])
+            case = self.pick.choice(["c"] * 7 + ["c17", "c17", "c17_blanks", "c_column", "c2", "c_order", "c_one", "c_one", "c_four", "c_nofill", "c_held", "c_bad", "none"])
             wedge = self.pick.choice(["w"] * 8 + ["w6", "w19", "w_american", "w_small", "w_falls", "w_bad", "none"])
             return "%s %d %s %s" % (kind, s, case, wedge)
         if kind == "junk":
@@ -170,6 +181,83 @@ class Scripts:
 
 def random_script(seed, k, only=None):
     return Scripts(random.Random(seed * 1000003 + k), only).script()
+
+
+class Run:
+    """A random script on a stored feed, or on a missing one, or as a script of its own: what is stored, by which site, in what manner,
+    and whether another run has the feed."""
+
+    def __init__(self, seed, k):
+        pick = random.Random(seed * 1000033 + k)
+        scripts = Scripts(pick, None)
+        self.site, self.strict, self.number = pick.choice([1, 2, 3, 7, 65535, None]), pick.random() < 0.6, pick.random() < 0.5
+        self.held, self.stored = pick.random() < 0.04, self.feed(pick, scripts) if pick.random() < 0.85 else None
+        self.data = self.sheet(pick, scripts.script())
+
+    def feed(self, pick, scripts):
+        """What sites of another script hold, in one of the two forms, or operations in any order and more than once; a few are damaged."""
+        world = oracle.World()
+        for line in oracle.lines(random_script(pick.randrange(1 << 20), 0)):
+            world.answer(line)
+        held = pick.choice(list(world.sites.values()))
+        ops = [oracle.spelling(op) for op in held] + [oracle.spelling(op) for op in list(held)[:3]]
+        pick.shuffle(ops)
+        feeds = [oracle.runs_feed(held)] * 3 + [oracle.singles_feed(held), pick.choice((b"MFD1", b"MFD2")) + b"".join(ops), bytes.fromhex(scripts.hex())]
+        stored = pick.choice(feeds)
+        if pick.random() < 0.05:
+            stored = stored[:pick.randrange(len(stored) + 1)]
+        return stored
+
+    def sheet(self, pick, script):
+        """Lines of the script, of which a strict sheet has few that are refused, and lines that are passed over."""
+        world, out = oracle_runs.brought(self.site, None) if self.site else oracle.World(), []
+        for line in oracle.lines(script):
+            line = line.replace(b" 2 ", b" %d " % (self.site or 2), 1)
+            if not self.strict or pick.random() < 0.03 or not oracle_runs.is_refusal(world.answer(line)):
+                out.append(line)
+            if pick.random() < 0.15:
+                out.append(pick.choice([b"", b"# a note", b"#", b" # no note", b"#" + b"x" * 65536, b"#" + b"x" * 65535, b"\r"]))
+        return b"\n".join(out) + pick.choice([b"\n", b"\n", b"", b"\r\n"])
+
+    def words(self):
+        flags = ["--strict"] * self.strict + ["--number"] * self.number
+        return ["desk", "a.feed", "--site", str(self.site), *flags] if self.site else ["script", *flags]
+
+    def due(self, runs=oracle_runs):
+        """Its status, what it writes and says, and what then is stored."""
+        if self.site is None:
+            return (*runs.script(self.data, self.strict, self.number), self.stored)
+        return runs.desk(self.stored, self.site, self.data, self.strict, self.number, self.held)
+
+    def got(self, program):
+        """The same by the program, in a folder of its own beside the files."""
+        with tempfile.TemporaryDirectory(dir=".") as folder:
+            for name in FILES:
+                os.symlink("../" + name, os.path.join(folder, name))
+            path = os.path.join(folder, "a.feed")
+            if self.stored is not None:
+                with open(path, "wb") as file:
+                    file.write(self.stored)
+            with open(path + ".lock", "wb") as lock:
+                if self.held:
+                    fcntl.flock(lock, fcntl.LOCK_EX)
+                done = subprocess.run([program, *self.words()], input=self.data, capture_output=True, cwd=folder, timeout=300)
+            left = sorted(set(os.listdir(folder)) - set(FILES) - {"a.feed", "a.feed.lock"})
+            now = None
+            if os.path.exists(path):
+                with open(path, "rb") as file:
+                    now = file.read()
+            return done.returncode, done.stdout.decode("utf-8", "surrogateescape"), done.stderr.decode() + "".join("left: %s\n" % name for name in left), now
+
+
+def compare_stored(name, run):
+    """A run through both: the number of answers, and what differs or an empty text."""
+    due, got = run.due(), run.got(PROGRAM)
+    if due == got:
+        return due[1].count("\n"), ""
+    differs = next(k for k in range(4) if due[k] != got[k])
+    return 0, "%s (`%s`%s) differs in %s\n wanted %r\n    got %r\n of %r\n%r" % (
+        name, " ".join(run.words()), ", held" if run.held else "", ("status", "output", "standard error", "the stored feed")[differs], due[differs], got[differs], run.stored, run.data)
 
 
 def run(program, script, folder):
@@ -208,7 +296,7 @@ def compare_all(files, named):
                 file.write(text)
         os.chdir(folder)
         with multiprocessing.get_context("fork").Pool(2) as lanes:
-            for number, differs in lanes.imap(call, ((name, script) for name, script in named)):
+            for number, differs in lanes.imap(call, named):
                 if differs:
                     print(differs)
                     return None
@@ -218,7 +306,8 @@ def compare_all(files, named):
 
 
 def call(given):
-    return compare(*given)
+    name, given = given
+    return compare(name, given) if isinstance(given, bytes) else compare_stored(name, given)
 
 
 def large():
@@ -248,6 +337,10 @@ def main():
         named = [("jobs %d to %d" % (16 * k, 16 * k + 15), b"\n".join(lines + [b""])) for k, (_, lines, _) in enumerate(parts)]
         answers = compare_all(files, named + [("forged script %d" % k, script) for k, script in enumerate(forged)])
         what = "%d directed jobs and %d scripts of forged feeds" % (len(made), len(forged))
+    elif rest and rest[0] == "--stored":
+        count, seed = int(rest[1]) if len(rest) > 1 else 1000, int(rest[2]) if len(rest) > 2 else 1
+        answers = compare_all(FILES, (("run %d of seed %d" % (k, seed), Run(seed, k)) for k in range(count)))
+        what = "%d runs as sheets and on stored feeds" % count
     elif rest == ["--large"]:
         files, script, held = large()
         answers = compare_all(files, [("the large job", script)])

@@ -74,6 +74,7 @@ def replay(program):
 
 
 def stop(*_):
+    signal.signal(signal.SIGTERM, signal.SIG_IGN)  # what is found is still printed
     raise KeyboardInterrupt
 
 

@@ -8,14 +8,16 @@ import functools
 import os
 import random
 import re
-import subprocess
 import sys
 
 sys.path.insert(0, os.path.dirname(os.path.abspath(__file__)))
 import differential
+import fuzz_asks
 import jobs
 import oracle
 import told
+import told_copy
+from fuzz_asks import form, ran, read, there, write
 
 oracle.spelling = functools.lru_cache(4096)(oracle.spelling)  # many commands go over the same operations
 
@@ -25,34 +27,6 @@ LIMITS = {0, 1, 2, 3, 4, 5, 6, 9, 10, 11, 12, 13, 14, 15, 16, 17, 18, 19, 20, 24
           0xD7FF, 0xD800, 0xDFFF, 0xE000, 0x10FFFF, 0x110000, (1 << 32) - 1, 1 << 32, (1 << 62) - 1, 1 << 62, (1 << 62) + 1, (1 << 64) - 1}
 HEX = ["00", "01", "02", "03", "04", "05", "40", "7f", "80", "ff", "d800", "0041", "4d464431", "4d464432", "0000000000000001", "4000000000000000"]
 PIECES = ['r"n"', 'i"a"', 's"M"', 'r"\\n"', 'r" "', 'r"\\""', 'r"\\\\"', 'r"nn mm tt"', 'r"\u20ac"', 'i" "', 'r"\\t"', "..", "0..1", "c", "w", "none"]
-SECONDS = 10  # a run that takes longer hangs
-
-
-def write(name, data):
-    with open(name, "wb") as file:
-        file.write(data)
-
-
-def read(name):
-    with open(name, "rb") as file:
-        return file.read()
-
-
-def ran(program, words, data=b""):
-    """A run's status, or the text of what went wrong, and its output."""
-    try:
-        done = subprocess.run([program, *words], input=data, capture_output=True, timeout=SECONDS)
-    except subprocess.TimeoutExpired:
-        return "hangs", b"", b""
-    if done.returncode not in (0, 1, 2) or b"panicked" in done.stderr or b"overflow" in done.stderr:
-        return "ended with %d, %r" % (done.returncode, done.stderr[:200]), b"", b""
-    return done.returncode, done.stdout, done.stderr
-
-
-def form(answer):
-    """An answer without its texts, bytes and numbers, where what is repeated stands once."""
-    bare = re.sub(rb"[0-9]+", b"#", re.sub(rb'"[^"]*"|[0-9a-f]{8,}|#/.*', b"", answer[:400]))
-    return re.sub(rb"(.{2,16}?)\1+", rb"\1", bare)[:12 if bare.startswith(b"copy") else 40].decode("latin1")
 
 
 def scripted(program, script):
@@ -101,7 +75,8 @@ class Kind:
 
 
 class Scripts(Kind):
-    """A script, and a case and a wedge file that its `ribbon` and `cast` may name. The files change in values alone."""
+    """A script, and a case and a wedge file that its `ribbon` and `cast` may name; the same as a sheet, strict or numbered, of `script`
+    or of `desk` on what another one has stored. The files change in values alone."""
     name = "scripts"
 
     def seeds(self):
@@ -145,6 +120,9 @@ class Scripts(Kind):
         script = one["script"].encode("latin1")
         wrong, due, _ = scripted(program, script)
         forms = {form(answer) for answer in due}
+        if not wrong:
+            wrong, more = fuzz_asks.sheet(program, script)
+            forms |= more
         for line, answer in zip(oracle.lines(script), due):
             found = re.fullmatch(rb"set \d+ (\w+) (\d{1,10})|(site|show|delete \d+|insert \d+) (\d{1,10})( .*)?", line, re.DOTALL)
             if found and answer != b"refused command":
@@ -208,8 +186,10 @@ def changed_bytes(pick, data):
 
 
 class Feeds(Kind):
-    """Two feeds: `check` and `take` of both, the set of both, and `desk`, `merge`, `export` and `diff`."""
+    """Two feeds: `check` and `take` of both, the set of both, and `desk`, `merge`, `export`, `diff`, `import`, `replace`, `sorts` and `proof`."""
     name, batch = "feeds", 8
+    metal = [(differential.FILES[case].encode(), differential.FILES[wedge].encode()) for case, wedge in (("c", "w"), ("c_four", "w_american"), ("c17", "w"), ("c_held", "w"))]
+    trial = [("measure", 60), ("tight", 38), ("loose", 150), ("case", 1), ("wedge", 5)]
     after = [b"show 7", b"faults 7", b"settings 7", b'insert 7 1 r"n_"', b"insert 7 0 i\"a^\"", b"delete 7 1", b"set 7 measure 120", b"feed 7"]
 
     def seeds(self):
@@ -218,7 +198,27 @@ class Feeds(Kind):
         given += [line.split(b" ")[2].decode() for script in jobs.forged() for line in script.split(b"\n") if line.startswith(b"take")][:60]
         for one, other in zip(given, reversed(given)):
             out.append({"feed": one[:2 * LONGEST & ~1].lower(), "other": other[:2 * LONGEST & ~1].lower()})
-        return out
+        return out + [self.corrected(random.Random(number)) for number in range(40)]
+
+    def corrected(self, pick):
+        """A copy of some words of all styles, some with symbols that no case has, and the same after corrections by another site."""
+        words = ["nn", "mtn", "a", "n.", "Mnt", "tnmn", "nnnnn", "zzzzzz", "n_m", "t^", "\\"]
+        usual = pick.choice([0.9, 0.8, 0.2])
+        world = oracle.World()
+        for line in (b"site 1", b"site 2"):
+            world.answer(line)
+        for site, count in ((1, pick.randrange(6, 24)), (2, pick.randrange(3))):
+            copy = []
+            for _ in range(count):
+                style, word = pick.choice([0, 0, 0, 1, 2]), pick.choice(words[:7] if pick.random() < usual else words)
+                copy += [(style, ord(ch)) for ch in (word if style == 0 else pick.choice(["a", "aa", "M"]))] + [pick.choice([(0, 32)] * 5 + [(0, 10)])] * pick.choice([1, 1, 1, 2])
+            world.answer(b"merge %d 1" % site)
+            if copy:
+                world.answer(b"insert %d %d %s" % (site, pick.randrange(len(world.meaning(site).shown) + 1), oracle.text_of(copy).encode()))
+        for _ in range(pick.randrange(8)):
+            world.answer(b"delete 2 %d" % pick.randrange(len(world.meaning(2).shown)))
+        feeds = [oracle.runs_feed(world.sites[site]).hex() for site in pick.choice([(1, 2), (2, 1)])]
+        return {"feed": feeds[0], "other": feeds[1]}
 
     def pieces(self, text):
         """The magic, then operations and runs as far as they are whole, then the rest."""
@@ -335,6 +335,9 @@ class Feeds(Kind):
             same = oracle.Meaning(held).copy == oracle.Meaning(theirs).copy
             if status != (0 if held == theirs else 1) or why or lines[:2] != due or same != (len(lines) == 2):
                 return "diff: status %s, %r and not %r" % (status, lines[:4], due), None
+            wrong = told_copy.differs_in(oracle.Meaning(held).copy, oracle.Meaning(theirs).copy, lines[2:])
+            if wrong:
+                return "diff: %s" % wrong, None
             forms |= {"diff " + form(line.encode())[:3] + "+" * (len(line) < 9) for line in lines[2:]} | {"diff " + form(line.encode()) for line in lines[:2]}
         status, out, why = ran(program, ["export", "two"])
         due = None if theirs is None else told.exported(oracle.Meaning(theirs).copy).encode()
@@ -364,6 +367,21 @@ class Feeds(Kind):
             if status != 0 or why or out != due or read("one") != oracle.runs_feed(world.sites[7]):
                 return "desk: status %s, %r %r and not %r" % (status, out[:300], why, due), None
             forms |= {"desk " + form(line) for line in due.split(b"\n")}
+        return self.more(program, data, other, forms)
+
+    def more(self, program, data, other, forms):
+        """What is done by hand, a merge of more, and what is seen of the second by a case and a wedge that its bytes pick."""
+        write("two", other)
+        number = fuzz_asks.pick_of(data, other)
+        case, wedge = self.metal[number % len(self.metal)]
+        trial = self.trial + [("measure", 12 + number % 200), ("loose", number % 260)][:number % 3]
+        asks = [lambda: fuzz_asks.by_hand(program, data, other), lambda: fuzz_asks.sorted_out(program, "two", other, case),
+                lambda: fuzz_asks.merged(program, data, other), lambda: fuzz_asks.proofed(program, "two", other, case, wedge, trial, True)]
+        for ask in asks[number >> 8 & 1::2]:
+            wrong, more = ask()
+            if wrong:
+                return wrong, None
+            forms |= more
         return None, forms
 
 
@@ -397,7 +415,7 @@ def shape(feed):
 
 
 class Files(Kind):
-    """A case and a wedge file: `check`, `ribbon` and `cast` with settings that suit them, and `proof` and `punch`.
+    """A case and a wedge file: `check`, `ribbon` and `cast` with settings that suit them, and `punch`, `read`, `proof` and `sorts`.
 
     Which text is TOML is the affair of `toml`: tomllib of Python reads TOML 1.0, whole numbers of any size, and is cut off by its own depth.
     Where the two do not agree on that, it is told apart from what differs.
@@ -499,31 +517,33 @@ class Files(Kind):
             forms.append({form(answer) for answer in answers[7:]} | {"check " + re.sub(r"[0-9]+", "#", re.sub(r"cell .*? holds .*", "cell holds", line))[:60] for line in said[2 * k - 2:2 * k]})
             forms[-1] |= value_forms(one["case"].encode("latin1"), said[2 * k - 2]) | value_forms(one["wedge"].encode("latin1"), said[2 * k - 1])
             if k <= whole:
-                wrong, more = self.previewed(program, k, world, answers[7])
+                wrong, more = self.previewed(program, k, world, answers[7], answers[8])
                 if wrong:
                     return wrong, []
                 forms[-1] |= more
         return None, forms
 
-    def previewed(self, program, k, world, answer):
-        """`proof` and `punch` on the site's feed."""
-        write("feed", oracle.runs_feed(world.sites[k]))
-        with_files = ["feed", "--case", "case%d" % k, "--wedge", "wedge%d" % k]
-        if os.path.exists("rib"):
-            os.remove("rib")
-        status, out, why = ran(program, ["punch", *with_files, "-o", "rib"])
-        stored = read("rib") if os.path.exists("rib") else None
+    def previewed(self, program, k, world, answer, cast):
+        """`punch`, `read` of what it stores, `proof` and `sorts` on the site's feed."""
+        feed, files = oracle.runs_feed(world.sites[k]), (read("case%d" % k), read("wedge%d" % k))
+        write("feed", feed)
+        status, out, why = ran(program, ["punch", "feed", "--case", "case%d" % k, "--wedge", "wedge%d" % k, "-o", "rib"])
+        stored = there("rib")
         if answer.startswith(b"ribbon "):
             if (status, out, why, stored) != (0, b"", b"", bytes.fromhex(answer[7:].decode())):
                 return "punch: status %s, %r %r %r" % (status, out, why, stored), None
+            wrong = fuzz_asks.read_again(program, stored, files, ("case%d" % k, "wedge%d" % k), cast)
+            if wrong:
+                return wrong, None
         elif status != 1 or stored is not None or (out != answer + b"\n" if answer.startswith(b"no ribbon: ") else out or not why):
             return "punch: status %s, %r %r, due %r" % (status, out, why, answer[:300]), None
         forms = {"punch " + re.sub(r"[0-9]+", "#", why.decode("utf-8", "replace"))[:80]}
-        for flag in ([], ["--faults"]):
-            status, out, why = ran(program, ["proof", *with_files, *flag])
-            if status != (0 if answer.startswith(b"ribbon ") else 1) or (answer.startswith(b"refused") and (out or not why)):
-                return "proof: status %s, %r %r, due %r" % (status, out[:300], why, answer[:300]), None
-            forms |= {"proof " + form(line) for line in out.split(b"\n")[3:] if flag}
+        trial = [("loose", 240), ("tight", 16 + len(files[0]) % 40), ("measure", 12 + len(files[1]) % 150)][:fuzz_asks.pick_of(*files) % 4]
+        for ask in (lambda: fuzz_asks.proofed(program, "feed", feed, *files, trial, len(trial) > 1), lambda: fuzz_asks.sorted_out(program, "feed", feed, files[0])):
+            wrong, more = ask()
+            if wrong:
+                return wrong, None
+            forms |= more
         return None, forms
 
 
@@ -625,6 +645,10 @@ class Ribbons(Kind):
         status, out, why = ran(program, ["read", name, "--case", "case", "--wedge", "wedge"])
         if (status, out.decode("utf-8", "replace"), why) != (0 if whole else 1, due, b""):
             return "read: status %s, %r %r, due %r" % (status, out[:300], why, due[:300]), None
+        if fuzz_asks.pick_of(data) % 4 == 0:
+            wrong = fuzz_asks.drawn(program, name, data, whole)
+            if wrong:
+                return wrong, None
         line = due.split("\n")[3 if whole and due.count("\n") > 3 else 0]
         return None, {"read " + re.sub(r"[0-9]+", "#", re.sub(r"[^ -~]+", "", line))[:40]}
 

@@ -20,6 +20,7 @@ import sys
 import tempfile
 
 import oracle
+import oracle_runs
 
 oracle.first_fault_case = functools.lru_cache(64)(oracle.first_fault_case)  # each run reads the same files
 oracle.first_fault_wedge = functools.lru_cache(64)(oracle.first_fault_wedge)
@@ -175,21 +176,6 @@ class Runs:
             return int(told.read().split()[-1])
 
 
-def front(world, line, count):
-    """Does the first operations of a line, and whether there are more."""
-    name, site, *rest = oracle.parse(line)
-    if name == "insert":
-        done = world.insert(site, rest[0], rest[1][:count])
-        return len(rest[1]) > count and done.startswith("ok ")
-    if name == "take":
-        ops = oracle.read_feed(rest[0])
-    else:
-        ops = sorted(world.sites[site if name == "send" else rest[0]], key=oracle.order)
-        ops = ops[rest[1][0]:rest[1][1]] if name == "send" and rest[1] is not None else ops
-    to = rest[0] if name == "send" else site
-    return len(ops) > count and world.gain(to, ops[:count]).startswith("ok ")
-
-
 class Follower:
     """The independent program, which does what a run has told of each line that it did."""
 
@@ -206,7 +192,7 @@ class Follower:
         if answer == b"refused memory":
             return None
         if stopped:
-            return None if front(self.world, line, int(stopped[1])) else "%r was stopped after all: %r" % (line, answer)
+            return None if oracle_runs.front(self.world, line, int(stopped[1])) else "%r was stopped after all: %r" % (line, answer)
         want = self.world.answer(line).encode("utf-8", "surrogatepass")
         return None if answer == want else "%r was answered %r and not %r" % (line, answer[:80], want[:80])
 

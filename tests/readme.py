@@ -12,7 +12,8 @@ What is checked is named by the words behind a block's back quotes:
   sh           in README.md the two commands that do all the setting up: the main job and the tests
 
 In what is written a line may end in `..`, where more follows, and a line `..` stands for any lines. Links to files of
-the repository must lead to one, and README.md has at most 1,500 words.
+the repository must lead to one, README.md has at most 1,500 words, and docs/FORMATS.md names each subcommand and option
+that the help has, and no other.
 """
 import os
 import re
@@ -145,6 +146,24 @@ def links(page, text):
             yield "%s: no file %s" % (page, target)
 
 
+def options(program):
+    """The subcommands of the help, and of each its options."""
+    told = run([program, "--help"], ROOT, program)
+    names = [line.split()[0] for line in told[told.index("Commands:") + 1:told.index("Options:") - 1] if line.split()[:1] != ["help"]]
+    return {name: set(re.findall(r"(?m)^ +(?:-\w, )?(--\w+)", "\n".join(run([program, name, "--help"], ROOT, program)))) - {"--help"} for name in names}
+
+
+def unlike_the_help(program):
+    """What FORMATS has and the help has not, or the other way."""
+    text, known = text_of("docs/FORMATS.md"), options(program)
+    named = set(re.findall(r"(--[a-z]+)", text))
+    for name, flags in known.items():
+        if not re.search(r"`copydesk %s\b" % name, text):
+            yield "docs/FORMATS.md: no `copydesk %s`" % name
+        yield from ("docs/FORMATS.md: no %s of %s" % (flag, name) for flag in sorted(flags - named))
+    yield from ("docs/FORMATS.md: %s is no option" % flag for flag in sorted(named - set().union(*known.values())))
+
+
 def main():
     default = os.path.join(ROOT, "crates", "copydesk", "out", "copydesk")
     program, faults, checked = os.path.realpath(sys.argv[1] if len(sys.argv) > 1 else default), [], 0
@@ -158,6 +177,7 @@ def main():
                     fault = fault_of(kind, lines, folder, program)
                     faults += ["%s:%d: %s" % (page, number, fault)] if fault else []
                     checked += 1
+    faults += unlike_the_help(program)
     readme = text_of("README.md")
     if [kind for kind, _, _ in blocks(readme)].count("sh") != 2 or "bash .ci/run" not in readme:
         faults.append("README.md: the two commands, the main job and the tests, are not there")

@@ -1,12 +1,12 @@
 #!/usr/bin/env python3
-"""A test of the tests: wrong programs that a composing room would fear, each told from the right one by the jobs of `jobs.py` or by the
-random scripts of `differential.py`.
+"""A test of the tests: wrong programs that a composing room would fear, each told from the right one by the jobs of `jobs.py`, by the
+random scripts and runs of `differential.py`, by the scripts of `growths.py`, or by the corpus of `fuzz.py`.
 
 usage: wrong_models.py             ends with 1 where fewer than 3 jobs, or 3 scripts, answer otherwise by a wrong model
        wrong_models.py --count     runs all of them, and prints of each wrong model how many answer otherwise
 
 Each wrong model is the independent program with one or two of its texts replaced, so no proved program is needed. Each old text has
-to stand exactly once in `oracle.py`.
+to stand exactly once in the four files of SOURCE together.
 """
 import collections
 import functools
@@ -20,7 +20,15 @@ import types
 HERE = os.path.dirname(os.path.abspath(__file__))
 sys.path.insert(0, HERE)
 import differential
+import fuzz
+import fuzz_asks
+import fuzz_kinds
+import growths
 import jobs
+import oracle
+import told
+
+SOURCE = ("oracle.py", "oracle_runs.py", "told_copy.py", "told_galley.py")
 
 # Of the ribbon half: lines, justification, faults, units, rows, the caster, the two files.
 RIBBON = {
@@ -193,23 +201,120 @@ COPY = {
     "a run over another parent": [("if after is None or after[2] != run[-1][1]:", "if after is None:")],
     "restart forgets what waits": [("        if name == \"restart\":\n", "        if name == \"restart\":\n            gone = {s for k, s in self.meaning(site).faults if k == \"waiting\"}\n            self.sites[site] = {op for op in self.sites[site] if op[1] not in gone}\n            self.meanings.pop(site)\n")],
     "a target of its own age": [("or not t < counter:", "or not t <= counter:")],
+    # runs, read
+    "a feed of single operations may hold runs": [("{b\"MFD1\": False, b\"MFD2\": True}", "{b\"MFD1\": True, b\"MFD2\": True}")],
+    "runs are no kind": [("{b\"MFD1\": False, b\"MFD2\": True}", "{b\"MFD1\": False, b\"MFD2\": False}")],
+    "the inserts of a run are siblings": [("counter, parent = counter + 1, stamp", "counter, parent = counter + 1, parent")],
+    "the inserts of a run have counters two apart": [("counter, parent = counter + 1, stamp", "counter, parent = counter + 2, stamp")],
+    "a run of one insert": [("if not 2 <= count <= 64:", "if not 1 <= count <= 64:")],
+    "a run of 65 is read": [("if not 2 <= count <= 64:", "if not 2 <= count <= 65:")],
+    "a run is judged when all of it is there": [("            if not 2 <= count <= 64:\n                raise Feed(at, \"run\")\n            size += 5 * count\n            if len(data) - at < size:\n                raise Feed(at, \"cut\")\n",
+                                                "            size += 5 * count\n            if len(data) - at < size:\n                raise Feed(at, \"cut\")\n            if not 2 <= count <= 64:\n                raise Feed(at, \"run\")\n")],
+    "an unlawful insert of a run has a place of its own": [("        for single in inserts(one) if kind == 4 else [one]:\n            cause = unlawful(single[0], single)\n            if cause:\n                raise Feed(at,",
+                                                          "        for k, single in enumerate(inserts(one) if kind == 4 else [one]):\n            cause = unlawful(single[0], single)\n            if cause:\n                raise Feed(at + (22 + 5 * k if k else 0),")],
+    "a feed is written of single operations": [("        if len(run) == 1:\n            out.append(spelling(op))", "        if True:\n            written.difference_update(run[1:])\n            out.append(spelling(op))")],
+    # gifts and restarts
+    "a restart gives the feed of single operations": [("        if name == \"restart\":\n            return \"ok\"", "        if name == \"restart\":\n            self.sites[site] = set(list(self.sites[site])[:LIMIT]) - {op for op in self.sites[site] if op[0] == \"delete\" and op[2] not in {o[1] for o in self.sites[site]}}\n            self.meanings.pop(site, None)\n            return \"ok\"")],
+    "a restart begins the counter anew": [("        if name == \"restart\":\n            return \"ok\"", "        if name == \"restart\":\n            self.greatest[site] = max((op[1][0] for op in self.sites[site] if op[1][1] == site), default=0)\n            return \"ok\"")],
+    "a gift of what is known is refused": [("        return \"ok new %d known %d\" % (new, known)", "        return \"ok new %d known %d\" % (new, known) if new or not known else \"refused known\"")],
+    "a gift goes in the order in which it came": [("            ops = sorted(self.sites[site], key=order)\n            if command[3]", "            ops = sorted(self.sites[site], key=lambda op: (op[1][1], op[1][0]))\n            if command[3]")],
     "a feed is taken up to its fault": [("                return \"refused feed %d %s\" % (fault.at, fault.word)", "                self.gain(site, read_feed(command[2][:max(4, fault.at)]) if fault.at else [])\n                return \"refused feed %d %s\" % (fault.at, fault.word)")],
 }
 
+# Of runs: sheets, and stored feeds, which a world is given before the first line and which are stored after the last.
+RUNS = {
+    "a strict sheet goes on": [("        if strict and is_refusal(answer):\n            return \"\".join(out), k\n", "")],
+    "every sheet is strict": [("        if strict and is_refusal(answer):", "        if is_refusal(answer):")],
+    "a strict sheet stops without the answer": [("        if strict and is_refusal(answer):\n            return \"\".join(out), k\n", "        if strict and is_refusal(answer):\n            return \"\".join(out[:-1]), k\n")],
+    "a strict sheet stops one line later": [("        if strict and is_refusal(answer):\n            return \"\".join(out), k\n", "        if strict and is_refusal(answer):\n            return \"\".join(out), k + 1\n")],
+    "`no ribbon` stops a strict sheet": [("answer.startswith((\"refused\", \"stopped\"))", "answer.startswith((\"refused\", \"stopped\", \"no ribbon\"))")],
+    "notes are passed over in every sheet": [("        if strict and is_passed_over(line):", "        if is_passed_over(line):")],
+    "empty lines are not passed over": [("return line == b\"\" or line.startswith", "return line.startswith")],
+    "notes are not passed over": [("return line == b\"\" or line.startswith(b\"#\") and len(line) <= oracle.MAX_LINE", "return line == b\"\"")],
+    "notes behind a space are passed over": [("line.startswith(b\"#\")", "line.lstrip().startswith(b\"#\")")],
+    "a long note is passed over": [(" and len(line) <= oracle.MAX_LINE", "")],
+    "a note of the greatest length is refused": [(" and len(line) <= oracle.MAX_LINE", " and len(line) < oracle.MAX_LINE")],
+    "only lines with an answer are counted": [("(\"%d \" % k if number else \"\")", "(\"%d \" % (len(out) + 1) if number else \"\")")],
+    "lines count from 0": [("(\"%d \" % k if number else \"\")", "(\"%d \" % (k - 1) if number else \"\")")],
+    "every strict sheet is numbered": [("(\"%d \" % k if number else \"\")", "(\"%d \" % k if number or strict else \"\")")],
+    "what a stopped sheet did is stored": [("        return 1, written, \"copydesk: line %d refused\\n\" % stop, stored\n", "        return 1, written, \"copydesk: line %d refused\\n\" % stop, oracle.runs_feed(world.sites[site])\n")],
+    "a stopped sheet ends well": [("        return 1, written, \"copydesk: line %d refused\\n\" % stop, stored\n", "        return 0, written, \"\", stored\n")],
+    "a run stores nothing": [("    return 0, written, \"\", oracle.runs_feed(world.sites[site])", "    return 0, written, \"\", stored")],
+    "a run stores single operations": [("    return 0, written, \"\", oracle.runs_feed(world.sites[site])", "    return 0, written, \"\", oracle.singles_feed(world.sites[site])")],
+    "another site is stored": [("    return 0, written, \"\", oracle.runs_feed(world.sites[site])", "    return 0, written, \"\", oracle.runs_feed(world.sites[max(world.sites)])")],
+    "all sites are stored": [("    return 0, written, \"\", oracle.runs_feed(world.sites[site])", "    return 0, written, \"\", oracle.runs_feed(set().union(*world.sites.values()))")],
+    "what was stored is not brought": [("    world.gain(site, oracle.read_feed(stored) if stored is not None else [])\n", "    oracle.read_feed(stored) if stored is not None else []\n")],
+    "a missing feed is refused": [("oracle.read_feed(stored) if stored is not None else []", "oracle.read_feed(stored or b\"\")")],
+    "what was stored is brought up to its fault": [("        world = brought(site, stored)\n    except oracle.Feed:\n        return 1, \"\", \"copydesk: feed refused\\n\", stored\n    written",
+                                                  "        world = brought(site, stored)\n    except oracle.Feed as fault:\n        world = brought(site, stored[:fault.at] or None)\n    written")],
+    "new counters do not follow what was stored": [("    world.gain(site, oracle.read_feed(stored) if stored is not None else [])\n", "    world.gain(site, oracle.read_feed(stored) if stored is not None else [])\n    world.greatest.pop(site, None)\n")],
+    "there is no lock": [("    if held:\n        return 1, \"\", \"copydesk: file fault\\n\", stored\n    try:\n        world = brought(site, stored)", "    try:\n        world = brought(site, stored)")],
+}
+
+# Of a line that memory stops: which operations stand, and whether there were more.
+STOPS = {
+    "all of a stopped insert stands": [("world.insert(site, rest[0], rest[1][:count])", "world.insert(site, rest[0], rest[1])")],
+    "one more of a stopped insert stands": [("world.insert(site, rest[0], rest[1][:count])", "world.insert(site, rest[0], rest[1][:count + 1])")],
+    "the end of a stopped insert stands": [("world.insert(site, rest[0], rest[1][:count])", "world.insert(site, rest[0], rest[1][-count:])")],
+    "an insert may stop when it is done": [("return len(rest[1]) > count and", "return len(rest[1]) >= count and")],
+    "all of a stopped list stands": [("world.gain(to, ops[:count])", "world.gain(to, ops)")],
+    "one fewer of a stopped list stands": [("world.gain(to, ops[:count])", "world.gain(to, ops[:count - 1])")],
+    "a list may stop when it is done": [("return len(ops) > count and", "return len(ops) >= count and")],
+    "known operations of a stopped list are not counted": [("world.gain(to, ops[:count])", "world.gain(to, [op for op in ops if op not in world.sites[to]][:count])")],
+    "a stopped list is in no order": [("ops = sorted(world.sites[site if name == \"send\" else rest[0]], key=oracle.order)", "ops = sorted(world.sites[site if name == \"send\" else rest[0]], key=oracle.spelling)")],
+    "a stopped send begins at the first": [("ops = ops[rest[1][0]:rest[1][1]] if name", "ops = ops[:rest[1][1]] if name")],
+    "a stopped send goes on past its range": [("ops = ops[rest[1][0]:rest[1][1]] if name", "ops = ops[rest[1][0]:] if name")],
+    "a stopped send comes to the giver": [("to = rest[0] if name == \"send\" else site", "to = site")],
+}
+
+# Of what is said of copies and galleys: texts that are read, places, the fewest changes, words that differ, proofs, sorts.
+TOLD = {
+    "a tab is a symbol": [("if not oracle.is_symbol(symbol):", "if not oracle.is_symbol(symbol) and ch != \"\\t\":")],
+    "columns count from 0": [("ch, column = text[at], at - begun + 1", "ch, column = text[at], at - begun")],
+    "a style may go on over a line's end": [("            if style:\n                raise NoText(line, column, \"unclosed\")\n            line", "            line")],
+    "a style may be open at the end": [("    if style:\n        raise NoText(line, at - begun + 1, \"unclosed\")\n    return copy", "    return copy")],
+    "one style inside the other": [("        elif style and style != MARKS[ch]:\n            raise NoText(line, column, \"inside\")\n", "")],
+    "a backslash before any character": [("if at >= len(text) or text[at] not in \"\\\\_^\":", "if at >= len(text):")],
+    "a space in a style is of the style": [("(0 if ch == \" \" else style, ord(ch))", "(style, ord(ch))")],
+    "plain texts have marks": [("elif plain or ch not in", "elif ch not in")],
+    "a carriage return is a symbol": [("        if ch == \"\\r\":\n", "        if False:\n")],
+    "what is no UTF-8 is passed over": [("    if not whole:\n        raise NoText(line, at - begun + 1, \"encoding\")\n", "")],
+    "the last place of a text is missed": [("range(len(copy) - len(text) + 1) if copy", "range(len(copy) - len(text)) if copy")],
+    "19 symbols around a place": [("AROUND, PLACES = 20, 100", "AROUND, PLACES = 19, 100")],
+    "all is made anew": [("return len(one) + len(other) - 2 * row[-1]", "return len(one) + len(other)")],
+    "words are whole at line feeds alone": [("copy[at - 1] in ((0, 32), (0, 10))", "copy[at - 1] == (0, 10)")],
+    "a gauge of 21": [("GAUGE, GREATEST = 20, 240", "GAUGE, GREATEST = 21, 240")],
+    "the hand does not leave the gauge": [("(\"<\" if self.sum < tight else \">\" if self.sum > loose else \"|\")", "\"|\"")],
+    "what is lacking stops the galley": [("        self.lines, at = [], 0\n", "        self.lines, at = [], 0\n        if self.lacking:\n            return\n")],
+    "places without line feeds": [("at + sum(len(word) + 1 for word in given[0])", "at + sum(len(word) + 1 for word in given[0]) - (at > 0)")],
+    "what is free, rounded up": [("\"%s points are free\" % down(self.free)", "\"%s points are free\" % up(self.free)")],
+    "what is too much, rounded down": [("up(width(self.next) - self.free)", "down(width(self.next) - self.free)")],
+    "faults of the copy are not told": [("    return above + galley.text(alone), galley.is_clean() and not meaning.faults, galley", "    return galley.text(alone), galley.is_clean(), galley")],
+    "a space is missing": [("cells = dict(case[\"symbols\"], **{}) | {(0, 32): case[\"space\"]}", "cells = dict(case[\"symbols\"])")],
+    "line feeds are sorts": [("        if symbol != (0, 10):\n            places", "        if True:\n            places")],
+    "sorts by character": [("    for symbol in sorted(places):\n        cell", "    for symbol in sorted(places, key=lambda it: it[1]):\n        cell")],
+    "eleven places in a row": [("if k % 10 else", "if k % 11 else")],
+    "NI and NL stand last": [("order = [15, 16] + list(range(15))", "order = list(range(17))")],
+}
 
 TOML = types.SimpleNamespace(loads=functools.lru_cache(None)(tomllib.loads))
 
 
 def model(changes, files):
-    """The independent program with some of its texts replaced, and files in memory."""
-    with open(os.path.join(HERE, "oracle.py"), encoding="utf-8") as file:
-        text = file.read()
+    """The independent program with some of its texts replaced, and files in memory; its runs stand beside it."""
+    texts = {}
+    for name in SOURCE:
+        with open(os.path.join(HERE, name), encoding="utf-8") as file:
+            texts[name] = file.read()
     for old, new in changes:
-        if text.count(old) != 1:
-            raise ValueError("`%s` stands %d times in oracle.py" % (old.strip(), text.count(old)))
-        text = text.replace(old, new)
-    made = types.ModuleType("wrong")
-    exec(compile(text, "wrong", "exec"), made.__dict__)
+        stands = [name for name in texts for _ in range(texts[name].count(old))]
+        if len(stands) != 1:
+            raise ValueError("`%s` stands %d times in %s" % (old.strip(), len(stands), ", ".join(SOURCE)))
+        texts[stands[0]] = texts[stands[0]].replace(old, new)
+    made, runs, copies, galleys = (types.ModuleType("wrong " + name) for name in SOURCE)
+    for module, name in zip((made, runs, copies, galleys), SOURCE):
+        exec(compile(texts[name], "wrong " + name, "exec"), module.__dict__)
+    made.runs, made.copies, made.galleys, runs.oracle = runs, copies, galleys, made
     made.tomllib = TOML
     made.first_fault_case = functools.lru_cache(None)(made.first_fault_case)
     made.first_fault_wedge = functools.lru_cache(None)(made.first_fault_wedge)
@@ -275,6 +380,97 @@ class Scripts:
                 yield aim
 
 
+class Runs:
+    """Random runs on stored feeds, and as sheets."""
+
+    models = RUNS
+
+    def __init__(self):
+        self.files = {name: text.encode("utf-8") for name, text in differential.FILES.items()}
+        runs = model([], self.files).runs
+        self.made = [differential.Run(1, k) for k in range(400)]
+        self.wanted = [run.due(runs) for run in self.made]
+
+    def told(self, made):
+        for run, wanted in zip(self.made, self.wanted):
+            if run.due(made.runs) != wanted:
+                yield "on a stored feed" if run.site else "a sheet"
+
+
+class Stops:
+    """The scripts of growths.py and random ones, whose lists stop after so many operations: whether there are more, and what then is held."""
+
+    models = STOPS
+
+    def __init__(self):
+        self.files, self.scripts = {}, []
+        right = model([], self.files)
+        texts = [growths.SCRIPT.encode(), growths.STOPPED.encode(), growths.FIRST.encode()] + [differential.random_script(2, k, ["site", "insert", "delete", "set", "take", "send", "range", "merge"]) for k in range(200)]
+        pick = random.Random(1)
+        for text in texts * 2:
+            lines = [(line, pick.choice([1, 1, 2, 3, 8]) if pick.random() < 0.6 else 0) for line in oracle.lines(text)]
+            self.scripts.append((lines, self.answers(right, lines)))
+
+    @staticmethod
+    def answers(made, lines):
+        """What each line is answered, or whether it may have stopped there, and what then is held; a line that breaks down says so."""
+        world, out = made.World(), []
+        for line, count in lines:
+            name = line.split(b" ")[0]
+            try:
+                if count and name in (b"insert", b"take", b"send", b"merge"):
+                    made.parse(line)
+                    out.append(made.runs.front(world, line, count))
+                else:
+                    out.append(world.answer(line))
+                out.append({site: set(held) for site, held in world.sites.items()})
+            except Exception as fault:
+                out.append("broke down: " + type(fault).__name__)
+        return out
+
+    def told(self, made):
+        for lines, wanted in self.scripts:
+            if self.answers(made, lines) != wanted:
+                yield "stopped lists"
+
+
+class Told:
+    """The feeds and the files of the fuzzer's corpus: what is said of their copies, galleys and sorts."""
+
+    models = TOLD
+
+    def __init__(self):
+        self.files, inputs = {}, fuzz.corpus()
+        self.feeds = [(bytes.fromhex(one["feed"]), bytes.fromhex(one["other"])) for one in inputs["feeds"]]
+        self.metal = [(oracle.first_fault_case(case)[1], oracle.first_fault_wedge(wedge)[1]) for case, wedge in fuzz_kinds.Feeds.metal if not oracle.first_fault_case(case)[0]]
+        right = model([], self.files)
+        self.wanted = [self.said(right, number, *feeds) for number, feeds in enumerate(self.feeds)]
+
+    def said(self, made, number, data, other):
+        text, (old, new, plain) = fuzz_asks.texts_of(data, other)
+        copies = [oracle.Meaning(told.held_in(feed) or set()) for feed in (data, other)]
+        case, wedge = self.metal[number % len(self.metal)]
+        settings = {**dict(fuzz_kinds.Feeds.trial), "measure": 12 + 7 * number % 90, "case": case["number"], "wedge": wedge["wedge"]}
+        one, two = (meaning.copy for meaning in copies)
+        texts = [text[0]] + [fuzz_asks.with_piece(text[0], 7919 * number + place) for place in range(len(fuzz_asks.PIECES))]
+        asks = [lambda: made.copies.read_text(texts.pop(), text[1]) for _ in range(len(texts))]
+        asks += [lambda: made.copies.read_text(old.encode(), plain), lambda: made.copies.read_text(new.encode(), plain),
+                lambda: made.copies.told_places(two[:1], one), lambda: made.copies.fewest(one, two), lambda: [made.copies.begins_word(one, at) for at in range(len(one))],
+                lambda: made.galleys.proof(copies[1], settings, case, wedge)[:2], lambda: made.galleys.sorts(two, case, True)]
+        out = []
+        for ask in asks:
+            try:
+                out.append(ask())
+            except Exception as fault:
+                out.append("%s %s" % (type(fault).__name__, fault))
+        return out
+
+    def told(self, made):
+        for number, (feeds, wanted) in enumerate(zip(self.feeds, self.wanted)):
+            if self.said(made, number, *feeds) != wanted:
+                yield "the corpus"
+
+
 def tell(name):
     """How many jobs or scripts tell a wrong model; at most three where they are not counted."""
     source = next(it for it in SOURCES if name in it.models)
@@ -296,15 +492,15 @@ SOURCES = []
 
 
 def main():
-    SOURCES.extend([Jobs(), Scripts()])
+    SOURCES.extend([Jobs(), Scripts(), Runs(), Stops(), Told()])
     bad = 0
     with multiprocessing.get_context("fork").Pool(2) as lanes:
-        for name, found in lanes.imap(tell, list(RIBBON) + list(COPY)):
+        for name, found in lanes.imap(tell, [name for source in SOURCES for name in source.models]):
             number = 0 if isinstance(found, str) else sum(found.values())
             bad += number < ENOUGH
             if COUNT or number < ENOUGH:
                 print("%5d  %s: %s" % (number, name, found if isinstance(found, str) else ", ".join("%d %s" % (n, aim) for aim, n in found.most_common(3))), flush=True)
-    print("%d wrong models of the ribbon half and %d of the copy half, %d not told" % (len(RIBBON), len(COPY), bad))
+    print("%d wrong models of the ribbon half, %d of the copy half, %d of runs, %d of what memory stops and %d of what is said of copies, %d not told" % (*[len(source.models) for source in SOURCES], bad))
     return 1 if bad else 0
 
 

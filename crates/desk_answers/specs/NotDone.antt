@@ -19,25 +19,25 @@ use Rattle.desk_world.specs.declared.world.StepRefusal.{StepRefusal}
 use Rattle.desk_world.specs.declared.world.StepRefusal.TheVariants as steps
 use Rattle.desk_answers.specs.declared.text.Refusal.{Refusal}
 use Rattle.desk_answers.specs.declared.text.Refusal.TheVariants as refusals
-use Rattle.desk_answers.specs.declared.text.Response.{Response}
+use Rattle.desk_answers.specs.declared.text.Reply.{Reply}
 use Rattle.desk_answers.specs.declared.not_done.NotDone.{NotDone}
 use Rattle.desk_answers.specs.declared.not_done.NotDone.TheVariants as ends
-use Rattle.desk_answers.specs.Reply.{Reply, Done, Made, Counted, Refused, Stopped, reply}
+use Rattle.desk_answers.specs.Reply.{ReplyValues, Done, Made, Counted, Refused, Stopped, reply_values}
 
 -- the reply to a command that is not carried out
-abbrev pub reply_of : NotDone → Reply
+abbrev pub reply_of : NotDone → ReplyValues
 reply_of (ends.Refused why) = Refused why
 reply_of (ends.Stopped taken why) = Stopped taken why
 reply_of ends.NoMemory = Refused refusals.Memory
 
 -- the reply to a command, carried out or not
-abbrev pub reply_to : {A : Type 0} → Result (Response A) NotDone → Reply
-reply_to (Ok response) = reply response
+abbrev pub reply_to : {A : Type 0} → Result (Reply A) NotDone → ReplyValues
+reply_to (Ok reply) = reply_values reply
 reply_to (Err end) = reply_of end
 
 -- it holds of the reply, unless memory was refused before anything changed
-abbrev pub IfReplied : {A : Type 0} → Result (Response A) NotDone → (Reply → Type 0) → Type 0
-IfReplied (Ok response) Holds = Holds (reply response)
+abbrev pub IfReplied : {A : Type 0} → Result (Reply A) NotDone → (ReplyValues → Type 0) → Type 0
+IfReplied (Ok reply) Holds = Holds (reply_values reply)
 IfReplied (Err (ends.Refused why)) Holds = Holds (Refused why)
 IfReplied (Err (ends.Stopped taken why)) Holds = Holds (Stopped taken why)
 IfReplied (Err ends.NoMemory) Holds = Unit {0}
@@ -66,15 +66,15 @@ abbrev pub wedge_refused : WedgeFault → Option Refusal
 wedge_refused fault = option_map refusals.Wedge (wedges.fault_number fault)
 
 -- a refusal after so many operations says that these stand
-abbrev pub stopped : ℕ → Refusal → Reply
+abbrev pub stopped : ℕ → Refusal → ReplyValues
 stopped taken why = if taken == 0 then Refused why else Stopped taken why
 
 -- the reply to an event that stopped after so many operations
-abbrev pub stopped_after : ℕ → AddRefusal → Reply
+abbrev pub stopped_after : ℕ → AddRefusal → ReplyValues
 stopped_after taken adds.Full = stopped taken refusals.Full
 stopped_after taken adds.NoMemory = stopped taken refusals.Memory
 
-abbrev pub edit_refused : EditRefusal → Reply
+abbrev pub edit_refused : EditRefusal → ReplyValues
 edit_refused edits.Full = Refused refusals.Full
 edit_refused edits.ClockFull = Refused refusals.Clock
 edit_refused edits.Place = Refused refusals.Place
@@ -82,7 +82,7 @@ edit_refused edits.Value = Refused refusals.Value
 edit_refused edits.NoMemory = Refused refusals.Memory
 
 -- the reply for what an event returned. No line gives operations that are strange.
-abbrev pub event_reply : Result Answer StepRefusal → Reply
+abbrev pub event_reply : Result Answer StepRefusal → ReplyValues
 event_reply (Ok (answers.Made op)) = Made (stamp_of op)
 event_reply (Ok (answers.Taken count)) = Counted count.new count.known
 event_reply (Ok answers.Done) = Done
@@ -92,5 +92,5 @@ event_reply (Err steps.TooManySites) = Refused refusals.Sites
 event_reply (Err steps.NoSite) = Refused refusals.Site
 event_reply (Err steps.Strange) = Refused refusals.Site
 event_reply (Err (steps.Edit why)) = edit_refused why
-event_reply (Err (steps.Halted stop)) = stopped_after stop.taken stop.why
+event_reply (Err (steps.Stopped stop)) = stopped_after stop.taken stop.why
 event_reply (Err steps.NoMemory) = Refused refusals.Memory

@@ -7,45 +7,45 @@ use Rattle.desk_ops.specs.declared.op.Symbol.{Symbol}
 use Rattle.desk_ops.specs.declared.fault.CopyFault.{CopyFault}
 use Rattle.desk_replica.specs.declared.settings.Settings.{Settings as JobSettings}
 use Rattle.desk_answers.specs.declared.text.Refusal.{Refusal}
-use Rattle.desk_answers.specs.declared.text.Response.{Response}
-use Rattle.desk_answers.specs.declared.text.Response.TheVariants as responses
+use Rattle.desk_answers.specs.declared.text.Reply.{Reply}
+use Rattle.desk_answers.specs.declared.text.Reply.TheVariants as replies
 
 -- of each line how many matrices it has, and their width
 abbrev pub lines_told : List Line → List (ℕ × ℤ)
 lines_told lines = map (λ l. (length l.matrices, l.total)) lines
 
-pub data Reply : Type 0 where
-  Done : Reply
-  Made : Stamp → Reply
-  MadeMany : Stamp → Stamp → Reply
-  Counted : ℕ → ℕ → Reply
-  Copy : List Symbol → Reply
-  Feed : List ℕ → Reply
-  Faults : List CopyFault → Reply
-  Settings : JobSettings → Reply
-  Ribbon : List ℕ → Reply
-  NoRibbon : List JobFault → Reply
-  Lines : List (ℕ × ℤ) → Reply
-  Refused : Refusal → Reply
-  Stopped : ℕ → Refusal → Reply
+pub data ReplyValues : Type 0 where
+  Done : ReplyValues
+  Made : Stamp → ReplyValues
+  MadeMany : Stamp → Stamp → ReplyValues
+  Counted : ℕ → ℕ → ReplyValues
+  Copy : List Symbol → ReplyValues
+  Feed : List ℕ → ReplyValues
+  Faults : List CopyFault → ReplyValues
+  Settings : JobSettings → ReplyValues
+  Ribbon : List ℕ → ReplyValues
+  NoRibbon : List JobFault → ReplyValues
+  Lines : List (ℕ × ℤ) → ReplyValues
+  Refused : Refusal → ReplyValues
+  Stopped : ℕ → Refusal → ReplyValues
 
-abbrev pub reply : {A : Type 0} → Response A → Reply
-reply responses.Done = Done
-reply (responses.Made stamp) = Made stamp
-reply (responses.MadeMany first last) = MadeMany first last
-reply (responses.Counted new known) = Counted new known
-reply (responses.Copy copy) = Copy copy.items
-reply (responses.Feed feed) = Feed feed.items
-reply (responses.Faults faults) = Faults faults.items
-reply (responses.Settings settings) = Settings settings
-reply (responses.Ribbon ribbon) = Ribbon ribbon.items
-reply (responses.NoRibbon faults) = NoRibbon faults
-reply (responses.Lines lines) = Lines (lines_told lines.items)
-reply (responses.Refused why) = Refused why
-reply (responses.Stopped taken why) = Stopped taken why
+abbrev pub reply_values : {A : Type 0} → Reply A → ReplyValues
+reply_values replies.Done = Done
+reply_values (replies.Made stamp) = Made stamp
+reply_values (replies.MadeMany first last) = MadeMany first last
+reply_values (replies.Counted new known) = Counted new known
+reply_values (replies.Copy copy) = Copy copy.items
+reply_values (replies.Feed feed) = Feed feed.items
+reply_values (replies.Faults faults) = Faults faults.items
+reply_values (replies.Settings settings) = Settings settings
+reply_values (replies.Ribbon ribbon) = Ribbon ribbon.items
+reply_values (replies.NoRibbon faults) = NoRibbon faults
+reply_values (replies.Lines lines) = Lines (lines_told lines.items)
+reply_values (replies.Refused why) = Refused why
+reply_values (replies.Stopped taken why) = Stopped taken why
 
 -- an answer that tells what there is, at any length; the others are refusals, or tell what a command did
-abbrev pub is_long : Reply → Bool
+abbrev pub is_long : ReplyValues → Bool
 is_long Done = false
 is_long (Made stamp) = false
 is_long (MadeMany first last) = false

@@ -12,7 +12,7 @@ use Rattle.desk_ops.specs.declared.fault.CopyFault.{CopyFault}
 use Rattle.desk_replica.specs.declared.settings.Settings.{Settings as JobSettings}
 use Rattle.desk_job.specs.declared.JobFault.{JobFault}
 use Rattle.desk_job.specs.declared.JobFault.TheVariants as jobs
-use Rattle.desk_answers.specs.Reply.{Reply, Done, Made, MadeMany, Counted, Copy, Feed, Faults, Settings, Ribbon, NoRibbon, Lines, Refused, Stopped}
+use Rattle.desk_answers.specs.Reply.{ReplyValues, Done, Made, MadeMany, Counted, Copy, Feed, Faults, Settings, Ribbon, NoRibbon, Lines, Refused, Stopped}
 use Rattle.desk_answers.specs.declared.text.Refusal.{Refusal}
 use Rattle.desk_answers.specs.declared.text.Refusal.TheVariants as refusals
 
@@ -110,7 +110,7 @@ lines_text [] = []
 lines_text (l ∷ lines) = codes " " ++ decimal l.0 ++ codes "/" ++ signed_decimal l.1 ++ lines_text lines
 
 -- an answer without its end of line
-abbrev pub text : Reply → List ℕ
+abbrev pub text : ReplyValues → List ℕ
 text Done = codes "ok"
 text (Made stamp) = codes "ok " ++ stamp_words stamp
 text (MadeMany first last) = codes "ok " ++ stamp_words first ++ codes ".." ++ stamp_words last
@@ -126,6 +126,6 @@ text (Refused why) = codes "refused " ++ refusal_text why
 text (Stopped taken why) = codes "stopped " ++ decimal taken ++ codes " " ++ refusal_text why
 
 -- the lines of a list of answers
-abbrev pub output : List Reply → List ℕ
+abbrev pub output : List ReplyValues → List ℕ
 output [] = []
 output (r ∷ replies) = text r ++ (10 ∷ output replies)

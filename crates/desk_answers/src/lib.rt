@@ -5,4 +5,4 @@ mod not_done;
 mod text;
 
 pub use not_done::NotDone;
-pub use text::{Refusal, Response, Short, put, short};
+pub use text::{Refusal, Reply, Short, put, short};

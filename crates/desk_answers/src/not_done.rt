@@ -2,10 +2,10 @@
 
 ghost use Rattle.std.specs.Prelude.{◌≡◌, Err, Ok, None};
 ghost use Rattle.desk_answers.specs.NotDone.{case_refused, file_refused, line_refused, not_done, reply_of, event_reply, wedge_refused};
-ghost use Rattle.desk_answers.specs.Reply.{reply};
+ghost use Rattle.desk_answers.specs.Reply.{reply_values};
 ghost use Rattle.desk_world.specs.declared.world.StepRefusal.TheVariants as steps;
 
-use crate::text::{Refusal, Response};
+use crate::text::{Refusal, Reply};
 use desk_case::CaseFault;
 use desk_commands::ParseError;
 use desk_files::FileRefusal;
@@ -96,7 +96,7 @@ impl From<desk_replica::Refusal> for NotDone {
 }
 
 impl From<Stopped> for NotDone {
-    ghost from_gives = { λ stop end. reply_of end ≡ event_reply (Err (steps.Halted stop)) };
+    ghost from_gives = { λ stop end. reply_of end ≡ event_reply (Err (steps.Stopped stop)) };
 
     fn from(stop: Stopped) -> NotDone {
         match stop.why {
@@ -118,23 +118,23 @@ impl From<StepRefusal> for NotDone {
             StepRefusal::TooManySites => NotDone::Refused(Refusal::Sites),
             StepRefusal::NoSite | StepRefusal::Strange => NotDone::Refused(Refusal::Site),
             StepRefusal::Edit(why) => NotDone::from(why),
-            StepRefusal::Halted(stop) => NotDone::from(stop),
+            StepRefusal::Stopped(stop) => NotDone::from(stop),
             StepRefusal::NoMemory => NotDone::NoMemory,
         }
     }
 }
 
-impl<A: Allocator + Copy> From<Answer> for Response<A> {
-    ghost from_gives = { λ answer response. event_reply (Ok answer) ≡ reply response };
+impl<A: Allocator + Copy> From<Answer> for Reply<A> {
+    ghost from_gives = { λ answer reply. event_reply (Ok answer) ≡ reply_values reply };
 
-    fn from(answer: Answer) -> Response<A> {
+    fn from(answer: Answer) -> Reply<A> {
         match answer {
-            Answer::Made(op) => Response::Made(op.stamp()),
-            Answer::Taken(count) => Response::Counted {
+            Answer::Made(op) => Reply::Made(op.stamp()),
+            Answer::Taken(count) => Reply::Counted {
                 new: count.new,
                 known: count.known,
             },
-            Answer::Done => Response::Done,
+            Answer::Done => Reply::Done,
         }
     }
 }

@@ -4,7 +4,7 @@ ghost use Rattle.std.specs.Prelude.{◌≡◌, ◌+◌, ◌<◌, ◌≤◌, ◌+
 ghost use Rattle.std.specs.Fmt.{decimal, signed_decimal};
 ghost use Rattle.arrayvec.specs.ArrayString.{array_string_len};
 ghost use Rattle.desk_ops.specs.Words.{stamp_words};
-ghost use Rattle.desk_answers.specs.Reply.{is_long, reply, lines_told};
+ghost use Rattle.desk_answers.specs.Reply.{is_long, reply_values, lines_told};
 ghost use Rattle.desk_answers.specs.Reply as replies;
 ghost use Rattle.desk_answers.specs.Text.{hex_digit, hex_text, refusal_text, cause_number, fault_text, separator, entries_text, faults_text, value_text, settings_text, job_fault_text, job_faults_text, lines_text, text};
 
@@ -152,7 +152,7 @@ fn put_refusal(out: &mut Short, why: Refusal)
 
 /// What one line is answered.
 #[derive(Drop)]
-pub enum Response<A: Allocator + Copy> {
+pub enum Reply<A: Allocator + Copy> {
     Done,
     /// An operation was made, with this stamp.
     Made(Stamp),
@@ -423,25 +423,25 @@ fn done() -> Short
 
 /// An answer's text without its end of line, where it is a refusal or tells what a command did: it takes no memory. The
 /// other answers tell what there is, at any length.
-pub fn short<A: Allocator + Copy>(answer: &Response<A>) -> Option<Short>
-    ensures text { IfSome result (λ s. s.bytes ≡ text (reply answer.now)) }
+pub fn short<A: Allocator + Copy>(answer: &Reply<A>) -> Option<Short>
+    ensures text { IfSome result (λ s. s.bytes ≡ text (reply_values answer.now)) }
     ensures len { IfSome result (λ s. array_string_len s < SHORT) }
-    ensures long { is_some result ≡ false → is_long (reply answer.now) ≡ true }
+    ensures long { is_some result ≡ false → is_long (reply_values answer.now) ≡ true }
 {
     match answer {
-        Response::Done => Some(done()),
-        Response::Made(stamp) => Some(made(*stamp)),
-        Response::MadeMany(first, last) => Some(made_many(*first, *last)),
-        Response::Counted { new, known } => Some(counted(*new, *known)),
-        Response::Refused(why) => Some(refused(*why)),
-        Response::Stopped(taken, why) => Some(stopped(*taken, *why)),
-        Response::Copy(_)
-        | Response::Feed(_)
-        | Response::Faults(_)
-        | Response::Settings(_)
-        | Response::Ribbon(_)
-        | Response::NoRibbon(_)
-        | Response::Lines(_) => None,
+        Reply::Done => Some(done()),
+        Reply::Made(stamp) => Some(made(*stamp)),
+        Reply::MadeMany(first, last) => Some(made_many(*first, *last)),
+        Reply::Counted { new, known } => Some(counted(*new, *known)),
+        Reply::Refused(why) => Some(refused(*why)),
+        Reply::Stopped(taken, why) => Some(stopped(*taken, *why)),
+        Reply::Copy(_)
+        | Reply::Feed(_)
+        | Reply::Faults(_)
+        | Reply::Settings(_)
+        | Reply::Ribbon(_)
+        | Reply::NoRibbon(_)
+        | Reply::Lines(_) => None,
     }
 }
 
@@ -470,31 +470,31 @@ fn put_bytes<A: Allocator + Copy>(
 }
 
 /// Writes an answer at the end, without its end of line.
-pub fn put<A: Allocator + Copy>(out: &mut String<A>, answer: &Response<A>) -> Result<(), AllocError>
-    ensures { OnOk result (string_bytes out.new ≡ string_bytes out.old ++ text (reply answer.now)) }
+pub fn put<A: Allocator + Copy>(out: &mut String<A>, answer: &Reply<A>) -> Result<(), AllocError>
+    ensures { OnOk result (string_bytes out.new ≡ string_bytes out.old ++ text (reply_values answer.now)) }
 {
     match answer {
-        Response::Done => out.push_str(done().as_str()),
-        Response::Made(stamp) => out.push_str(made(*stamp).as_str()),
-        Response::MadeMany(first, last) => out.push_str(made_many(*first, *last).as_str()),
-        Response::Counted { new, known } => out.push_str(counted(*new, *known).as_str()),
-        Response::Copy(copy) => put_shown(out, copy),
-        Response::Feed(feed) => put_bytes(out, "feed ", feed),
-        Response::Faults(faults) => put_faults(out, faults),
-        Response::Settings(settings) => {
+        Reply::Done => out.push_str(done().as_str()),
+        Reply::Made(stamp) => out.push_str(made(*stamp).as_str()),
+        Reply::MadeMany(first, last) => out.push_str(made_many(*first, *last).as_str()),
+        Reply::Counted { new, known } => out.push_str(counted(*new, *known).as_str()),
+        Reply::Copy(copy) => put_shown(out, copy),
+        Reply::Feed(feed) => put_bytes(out, "feed ", feed),
+        Reply::Faults(faults) => put_faults(out, faults),
+        Reply::Settings(settings) => {
             out.push_str("settings ")?;
             put_settings(out, settings)
         }
-        Response::Ribbon(ribbon) => put_bytes(out, "ribbon ", ribbon),
-        Response::NoRibbon(faults) => {
+        Reply::Ribbon(ribbon) => put_bytes(out, "ribbon ", ribbon),
+        Reply::NoRibbon(faults) => {
             out.push_str("no ribbon:")?;
             put_job_faults(out, faults.as_slice())
         }
-        Response::Lines(lines) => {
+        Reply::Lines(lines) => {
             write!(out, "lines {}", lines.len())?;
             put_lines(out, lines)
         }
-        Response::Refused(why) => out.push_str(refused(*why).as_str()),
-        Response::Stopped(taken, why) => out.push_str(stopped(*taken, *why).as_str()),
+        Reply::Refused(why) => out.push_str(refused(*why).as_str()),
+        Reply::Stopped(taken, why) => out.push_str(stopped(*taken, *why).as_str()),
     }
 }

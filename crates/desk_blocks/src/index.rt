@@ -173,7 +173,7 @@ impl<A: Allocator + Copy> Index<A> {
         requires spare { 1 ≤ self.old.spare }
         requires absent { IsNoneOf stamp self.old.stamps }
         ensures put { (i : ℕ) × (i ≤ length self.old.stamps) × (self.new.stamps ≡ insert self.old.stamps i stamp) }
-        ensures spare { self.new.spare + 1 ≡ self.old.spare }
+        ensures spare { self.old.spare ≤ self.new.spare + 1 }
     {
         self.homes
             .insert_in_order(&Below { stamp }, Home::new(stamp, page));

@@ -1,5 +1,5 @@
 -- The caster after some of the rows, the last first.
-use Rattle.std.proofs.Common.{◌≡◌, ℕ, zero, suc, ◌+◌, ◌<◌, ◌≤◌, Bool, List, [], ◌∷◌, length, drop, get_or, sym, ap, subst, ◌∙◌, arith, drop-cons}
+use Rattle.std.proofs.Common.{◌≡◌, ℕ, zero, suc, ◌+◌, ◌<◌, ◌≤◌, Bool, List, [], ◌∷◌, true, length, drop, get_or, sym, ap, subst, ◌∙◌, arith, drop-cons}
 use Rattle.std.specs.Prelude.{Option, Some, None, Result, Ok, Err}
 use Rattle.desk_wedge.specs.Wedge.{WedgeValues}
 use Rattle.desk_case.specs.Case.{CaseValues}
@@ -10,6 +10,7 @@ use Rattle.desk_caster.specs.Caster.{State, Begun, Line, cast, finish, cast_row,
 use Rattle.desk_signals.specs.declared.Cell.{Cell}
 use Rattle.desk_ops.proofs.Stamps.{by_cases}
 use Rattle.desk_caster.specs.Bounds.{in_progress, in_line}
+use Rattle.desk_caster.specs.Memory.{MayTakeMemory, takes_memory}
 
 -- the caster has read the rows from a place on
 pub record IsCast (case : CaseValues) (wedge : WedgeValues) (rows : List RibbonRow) (place : ℕ) (state : State) : Type 0 where
@@ -84,3 +85,23 @@ pub stopped : (case : CaseValues) (wedge : WedgeValues) (rows : List RibbonRow) 
 stopped case wedge rows q k r state e before at is h =
     let low = before.within in
     ap (λ x. x >>= (λ s. finish s.line s.sent)) (outward case wedge 0 k k rows e (omega arith) (next case wedge rows q k r state at (omega arith) is before.cast ∙ h))
+
+-- a fault that was given on
+told_fault : {V : Type 0} (result : Result V CastFault) (e given wanted : CastFault) → result ≡ Err e → e ≡ given → result ≡ Err wanted → given ≡ wanted
+told_fault result e given wanted failed same is = let f : Err e ≡ Err wanted = sym failed ∙ is in cc
+
+-- the caster came to a row at which it takes memory
+pub grows : {V : Type 0} (case : CaseValues) (wedge : WedgeValues) (rows : List RibbonRow) (q k : ℕ) (r : RibbonRow) (state : State) (result : Result V CastFault) (e given wanted : CastFault) →
+    IsCast case wedge rows q state → q ≡ suc k → r ≡ get_or rows k r → (given ≡ wanted → takes_memory case r state.line ≡ true) →
+    result ≡ Err e → e ≡ given → result ≡ Err wanted → MayTakeMemory case wedge rows
+grows case wedge rows q k r state result e given wanted before at is takes failed same told =
+    let low = before.within in
+    record {
+      place = k;
+      row = r;
+      read = drop (suc k) rows;
+      there = drop-cons rows k r (omega arith) ∙ ap (λ x. x ∷ drop (suc k) rows) (sym is);
+      state = state;
+      reached = subst (λ n. cast_rows case wedge n (drop n rows) ≡ Ok state) at before.cast;
+      takes = takes (told_fault result e given wanted failed same told);
+    }

@@ -1,5 +1,6 @@
 pub mod Caster
 pub mod Bounds
 pub mod Lines
+pub mod Memory
 pub mod Reading
 pub mod ReadingLaws

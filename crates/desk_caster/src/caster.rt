@@ -1,9 +1,10 @@
 //! The caster as a machine over rows, from the last to the first.
-ghost use Rattle.std.specs.Prelude.{◌≡◌, ◌≢◌, ◌+◌, ◌≤◌, ◌<◌, ◌^◌, [], ◌∷◌, ◌++◌, IfOk, IfErr, Ok, Err, Some, None, length, cond, pos, ◌+ℤ◌, ◌-ℤ◌, ◌≤ℤ◌};
+ghost use Rattle.std.specs.Prelude.{◌≡◌, ◌≢◌, ◌+◌, ◌<◌, ◌&&◌, true, is_some, ◌^◌, [], ◌∷◌, ◌++◌, IfOk, IfErr, Ok, Err, Some, None, length, cond, pos, ◌+ℤ◌, ◌-ℤ◌, ◌≤ℤ◌};
 ghost use Rattle.desk_caster.specs.Caster.{idle, cast, cast_row, cast_onto, start_line, all_sent, finish, has_matrix, cast_matrix, row_width, same_cell};
 ghost use Rattle.std.specs.List.{list_any};
 ghost use Rattle.desk_units.specs.WedgeSum.{widening};
 ghost use Rattle.desk_caster.specs.Bounds.{in_progress, IsWithin};
+ghost use Rattle.desk_caster.specs.Memory.{MayTakeMemory, takes_memory};
 ghost use Rattle.desk_caster.specs.declared.CastFault.TheVariants as fault;
 
 use crate::line::Begun;
@@ -58,6 +59,7 @@ impl<A: Allocator + Copy> Caster<A> {
         requires { in_progress self + 1 < 2 ^ 32 }
         ensures ok { IfOk result (λ c. cast_row case.now wedge.now place row self ≡ Ok c) }
         ensures err { IfErr result (λ e. e ≢ fault.NoMemory → cast_row case.now wedge.now place row self ≡ Err e) }
+        ensures memory { result ≡ Err fault.NoMemory → takes_memory case.now row self.line ≡ true }
     {
         match row {
             RibbonRow::FineOut(fine) => self.send_out(fine),
@@ -76,6 +78,7 @@ impl<A: Allocator + Copy> Caster<A> {
     fn send_out(self, fine: Position) -> Result<Self, CastFault>
         ensures ok { IfOk result (λ c. c ≡ record { fine = Some fine; line = None; sent = all_sent self.line self.sent }) }
         ensures err { IfErr result (λ e. e ≡ fault.NoMemory) }
+        ensures memory { IfErr result (λ _. is_some self.line ≡ true) }
     {
         let Caster {
             alloc,
@@ -99,6 +102,7 @@ impl<A: Allocator + Copy> Caster<A> {
     fn start(self, place: u32, coarse: Position) -> Result<Self, CastFault>
         ensures ok { IfOk result (λ c. start_line place coarse self.fine self.line self.sent ≡ Ok c) }
         ensures err { IfErr result (λ e. start_line place coarse self.fine self.line self.sent ≡ Err e) }
+        ensures memory { result ≢ Err fault.NoMemory }
     {
         let Caster {
             alloc,
@@ -130,6 +134,7 @@ impl<A: Allocator + Copy> Caster<A> {
         requires { in_progress self + 1 < 2 ^ 32 }
         ensures ok { IfOk result (λ c. cast_onto case.now wedge.now place cell s self.fine self.line self.sent ≡ Ok c) }
         ensures err { IfErr result (λ e. e ≢ fault.NoMemory → cast_onto case.now wedge.now place cell s self.fine self.line self.sent ≡ Err e) }
+        ensures memory { result ≡ Err fault.NoMemory → (is_some self.line && has_matrix case.now cell) ≡ true }
     {
         let Caster {
             alloc,
@@ -160,6 +165,7 @@ impl<A: Allocator + Copy> Caster<A> {
     fn finish(self) -> Result<Vec<CastLine<A>, A>, CastFault>
         ensures ok { IfOk result (λ v. finish self.line self.sent ≡ Ok v.items) }
         ensures err { IfErr result (λ e. finish self.line self.sent ≡ Err e) }
+        ensures memory { result ≢ Err fault.NoMemory }
     {
         let Caster { line, mut sent, .. } = self;
         match line {
@@ -241,7 +247,8 @@ fn matrix_width(wedge: &Wedge, sum: WedgeSum, row: RowNo, s: bool) -> Atoms
 }
 
 /// Casts the rows of a ribbon, given in punched order, at most 4,294,967,295 of them: the lines in reading order, or the
-/// first fault that the caster meets. Out of memory may come in place of either.
+/// first fault that the caster meets. Out of memory may come in place of either where a matrix was to be cast onto a line,
+/// or a line to be sent out.
 pub fn cast<A: Allocator + Copy>(
     alloc: A,
     rows: &[RibbonRow],
@@ -251,8 +258,8 @@ pub fn cast<A: Allocator + Copy>(
     requires { length rows.now < 2 ^ 32 }
     ensures ok { IfOk result (λ v. cast case.now wedge.now rows.now ≡ Ok v.items) }
     ensures err { IfErr result (λ e. e ≢ fault.NoMemory → cast case.now wedge.now rows.now ≡ Err e) }
-    // No rows take no memory.
-    ensures memory { result ≡ Err fault.NoMemory → 1 ≤ length rows.now }
+    // So rows in which no FineOut stands behind a Coarse take no memory.
+    ensures memory { result ≡ Err fault.NoMemory → MayTakeMemory case.now wedge.now rows.now }
 {
     let mut caster = Caster::new(alloc);
     let mut place = rows.len();

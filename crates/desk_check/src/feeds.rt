@@ -5,7 +5,7 @@ ghost use Rattle.desk_check.specs.Lines.{SaysFeed};
 ghost use Rattle.desk_check.specs.Words.{cause_words, crowded_words, feed_fault_words, operations_words, set_words, shown_words, why_words};
 
 use crate::told::Told;
-use desk_answers::{Response, put};
+use desk_answers::{Reply, put};
 use desk_blocks::Blocks;
 use desk_codec::{FeedFault, FeedWhy};
 use desk_memory::NoMemory;
@@ -78,7 +78,7 @@ fn put_set<A: Allocator + Copy>(
 ) -> Result<(), NoMemory>
     ensures { OnOk result (string_bytes out.new ≡ string_bytes out.old ++ set_words replica.now.ops) }
 {
-    let faults = Response::Faults(replica.copy_faults()?);
+    let faults = Reply::Faults(replica.copy_faults()?);
     put_operations(out, replica.len())?;
     put_shown(out, replica.copy_len())?;
     Ok(put(out, &faults)?)

@@ -18,7 +18,7 @@ use Rattle.desk_ops.specs.Order.{op_cmp}
 use Rattle.desk_ops.specs.OrderLaws.{op_total}
 use Rattle.desk_ops.specs.OpSet.{is_rising, entries_of}
 use Rattle.desk_ops.specs.Held.{bears, bearing, is_more, sole}
-use Rattle.desk_ops.specs.Stamp.{same, before, head, max_counter}
+use Rattle.desk_ops.specs.Stamp.{same, before, max_counter}
 use Rattle.desk_ops.specs.Lists.{Among}
 use Rattle.desk_ops.proofs.Stamps.{by_cases, same-true, same-refl, same-symm, before-trans, before-other}
 use Rattle.desk_ops.proofs.OpSets.{rising_less}
@@ -41,10 +41,6 @@ at-among ops i op h = subst (λ (o : Op). Among o ops) (h.is op) (among-at ops i
 
 pub is_at : (ops : List Op) (i : ℕ) (d : Op) → i < length ops → IsAt ops i (get_or ops i d)
 is_at ops i d lt = record { within = lt; is = λ e. get_or_default ops i e d lt }
-
--- the operation at a place
-abbrev pub op_at : List Op → ℕ → Op
-op_at ops i = get_or ops i (Delete head head)
 
 pub drop-at : (ops : List Op) (i : ℕ) (d : Op) → i < length ops → drop i ops ≡ get_or ops i d ∷ drop (i + 1) ops
 drop-at [] i d lt = absurd (omega arith)

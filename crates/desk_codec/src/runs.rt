@@ -230,32 +230,29 @@ fn push_item<A: Allocator>(
     }
 }
 
-/// Writes the item that begins with the operation at a place, unless that is written already.
+/// Writes the item that begins with the operation, which stands at a place, unless that is written already.
 fn write_item<A: Allocator>(
     out: &mut Vec<u8, A>,
     ops: &[Op],
     at: usize,
+    op: Op,
     symbols: &mut Vec<Symbol, A>,
     written: &mut [bool],
 ) -> Result<(), AllocError>
     requires rising { T (is_rising ops.now) }
     requires lawful { All IsLawful ops.now }
-    requires within { at < length ops.now }
+    requires there { IsAt ops.now at op }
     requires before { IsWrittenTo ops.now written.old out.old.items at }
-    ensures { OnOk result (IsWrittenTo ops.now written.new out.new.items (at + 1)) }
+    ensures written { OnOk result (IsWrittenTo ops.now written.new out.new.items (at + 1)) }
+    ensures value { IsValue op }
 {
     if written[at] {
         return Ok(());
     }
     take_item(ops, at, symbols, written)?;
-    push_item(out, &ops[at], symbols.as_slice())?;
+    push_item(out, &op, symbols.as_slice())?;
     Ok(())
 }
-
-/// Does nothing: a caller learns that the operation's numbers are values of their fields' types.
-fn op_known(op: Op)
-    ensures { IsValue op }
-{}
 
 /// The feed of runs of operations that strictly rise: what one site typed in one go stands together, in runs of at most 64.
 /// Its memory is taken at once, before anything is written.
@@ -273,8 +270,8 @@ pub fn write_runs<A: Allocator + Copy>(alloc: A, ops: &[Op]) -> Result<Vec<u8, A
     let mut out = Vec::with_capacity(alloc, RUNS_MAGIC.len() + LARGEST_SIZE * ops.len())?;
     out.extend_from_slice(&RUNS_MAGIC)?;
     for at in 0..ops.len() {
-        op_known(ops[at]);
-        write_item(&mut out, ops, at, &mut symbols, &mut written)?;
+        let op = ops[at];
+        write_item(&mut out, ops, at, op, &mut symbols, &mut written)?;
     }
     Ok(out)
 }

@@ -1,6 +1,6 @@
 pub mod Reading
 pub mod Copy
-pub mod Request
+pub mod Command
 pub mod Grammar
 pub mod Writing
 pub mod Spelling

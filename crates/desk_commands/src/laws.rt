@@ -7,7 +7,7 @@ pub fn law_of_copy()
     ensures { CopyIsReadAgain }
 {}
 
-/// The bytes that are read as a copy are those that spell it: runs separated by one space, each the letter of a style and
+/// The characters that are read as a copy are those that spell it: runs separated by one space, each the letter of a style and
 /// one or more characters in quotes, with three escapes.
 pub fn law_of_spelling()
     ensures { CopyIsItsSpelling }

@@ -2,8 +2,8 @@ ghost use Rattle.std.specs.Prelude.{◌≡◌, ℕ, List};
 ghost use Rattle.std.specs.Option.{option_copied};
 ghost use Rattle.desk_commands.specs.Reading.{Gives, word_at, number_at, file_at, range_of, range_at, hex_at, at_end, dotted};
 ghost use Rattle.desk_commands.specs.Copy.{copy_at};
-ghost use Rattle.desk_commands.specs.Request.{Request, request};
-ghost use Rattle.desk_commands.specs.Request as requests;
+ghost use Rattle.desk_commands.specs.Command.{CommandValues, command_values};
+ghost use Rattle.desk_commands.specs.Command as commands;
 ghost use Rattle.desk_commands.specs.Grammar.{verb_of, key_of, one_site, insert_form, two_numbers, set_form, take_form, send_form, two_files, form_of, words_of, command_of};
 
 use crate::command::{Command, ParseError};
@@ -164,7 +164,7 @@ fn end(rest: Option<&str>) -> Result<(), ParseError>
 
 #[tactic(auto, unfolding(crate::specs::Grammar::one_site))]
 fn one_site(rest: Option<&str>) -> Result<u32, ParseError>
-    ensures { (make : ℕ → Request) → Gives (make) result (one_site make (option_copied rest.entry)) }
+    ensures { (make : ℕ → CommandValues) → Gives (make) result (one_site make (option_copied rest.entry)) }
 {
     let (site, rest) = number_at(rest)?;
     end(rest)?;
@@ -173,7 +173,7 @@ fn one_site(rest: Option<&str>) -> Result<u32, ParseError>
 
 #[tactic(auto, unfolding(crate::specs::Grammar::two_numbers))]
 fn two_numbers(rest: Option<&str>) -> Result<(u32, u32), ParseError>
-    ensures { (make : ℕ → ℕ → Request) → Gives (λ x. make x.0 x.1) result (two_numbers make (option_copied rest.entry)) }
+    ensures { (make : ℕ → ℕ → CommandValues) → Gives (λ x. make x.0 x.1) result (two_numbers make (option_copied rest.entry)) }
 {
     let (first, rest) = number_at(rest)?;
     let (second, rest) = number_at(rest)?;
@@ -183,7 +183,7 @@ fn two_numbers(rest: Option<&str>) -> Result<(u32, u32), ParseError>
 
 #[tactic(auto, unfolding(crate::specs::Grammar::insert_form))]
 fn insert<A: Allocator + Copy>(alloc: A, rest: Option<&str>) -> Result<Command<'_, A>, ParseError>
-    ensures { Gives request result (insert_form (option_copied rest.entry)) }
+    ensures { Gives command_values result (insert_form (option_copied rest.entry)) }
 {
     let (site, rest) = number_at(rest)?;
     let (place, rest) = number_at(rest)?;
@@ -193,7 +193,7 @@ fn insert<A: Allocator + Copy>(alloc: A, rest: Option<&str>) -> Result<Command<'
 
 #[tactic(auto, unfolding(crate::specs::Grammar::set_form))]
 fn set<A: Allocator + Copy>(rest: Option<&str>) -> Result<Command<'_, A>, ParseError>
-    ensures { Gives request result (set_form (option_copied rest.entry)) }
+    ensures { Gives command_values result (set_form (option_copied rest.entry)) }
 {
     let (site, rest) = number_at(rest)?;
     let (word, rest) = word_at(rest)?;
@@ -207,7 +207,7 @@ fn set<A: Allocator + Copy>(rest: Option<&str>) -> Result<Command<'_, A>, ParseE
 
 #[tactic(auto, unfolding(crate::specs::Grammar::take_form))]
 fn take<A: Allocator + Copy>(alloc: A, rest: Option<&str>) -> Result<Command<'_, A>, ParseError>
-    ensures { Gives request result (take_form (option_copied rest.entry)) }
+    ensures { Gives command_values result (take_form (option_copied rest.entry)) }
 {
     let (site, rest) = number_at(rest)?;
     let feed = hex_at(alloc, rest)?;
@@ -216,7 +216,7 @@ fn take<A: Allocator + Copy>(alloc: A, rest: Option<&str>) -> Result<Command<'_,
 
 #[tactic(auto, unfolding(crate::specs::Grammar::send_form))]
 fn send<A: Allocator + Copy>(rest: Option<&str>) -> Result<Command<'_, A>, ParseError>
-    ensures { Gives request result (send_form (option_copied rest.entry)) }
+    ensures { Gives command_values result (send_form (option_copied rest.entry)) }
 {
     let (from, rest) = number_at(rest)?;
     let (to, rest) = number_at(rest)?;
@@ -226,7 +226,7 @@ fn send<A: Allocator + Copy>(rest: Option<&str>) -> Result<Command<'_, A>, Parse
 
 #[tactic(auto, unfolding(crate::specs::Grammar::two_files))]
 fn two_files(rest: Option<&str>) -> Result<(u32, &str, &str), ParseError>
-    ensures { (make : ℕ → List ℕ → List ℕ → Request) → Gives (λ x. make x.0 x.1.now x.2.now) result (two_files make (option_copied rest.entry)) }
+    ensures { (make : ℕ → List ℕ → List ℕ → CommandValues) → Gives (λ x. make x.0 x.1.now x.2.now) result (two_files make (option_copied rest.entry)) }
 {
     let (site, rest) = number_at(rest)?;
     let (case, rest) = file_at(rest)?;
@@ -240,7 +240,7 @@ fn form_of<A: Allocator + Copy>(
     verb: Verb,
     rest: Option<&str>,
 ) -> Result<Command<'_, A>, ParseError>
-    ensures { Gives request result (form_of verb (option_copied rest.entry)) }
+    ensures { Gives command_values result (form_of verb (option_copied rest.entry)) }
 {
     match verb {
         Verb::Site => Ok(Command::Site(one_site(rest)?)),
@@ -274,7 +274,7 @@ fn form_of<A: Allocator + Copy>(
 
 #[tactic(auto, unfolding(crate::specs::Grammar::words_of))]
 fn words_of<A: Allocator + Copy>(alloc: A, line: &str) -> Result<Command<'_, A>, ParseError>
-    ensures { Gives request result (words_of line.now) }
+    ensures { Gives command_values result (words_of line.now) }
 {
     let (word, rest) = word_at(Some(line))?;
     let Some(verb) = verb_of(word) else {
@@ -286,7 +286,7 @@ fn words_of<A: Allocator + Copy>(alloc: A, line: &str) -> Result<Command<'_, A>,
 /// The command that a line is.
 #[tactic(auto, unfolding(crate::specs::Grammar::command_of))]
 pub fn parse<A: Allocator + Copy>(alloc: A, line: &[u8]) -> Result<Command<'_, A>, ParseError>
-    ensures { Gives request result (command_of line.now) }
+    ensures { Gives command_values result (command_of line.now) }
 {
     let Ok(line) = std::str::from_utf8(line) else {
         return Err(ParseError::Form);

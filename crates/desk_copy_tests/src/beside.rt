@@ -3,7 +3,7 @@ ghost use Rattle.std.specs.Prelude.{All};
 ghost use Rattle.desk_ops.specs.Op.{IsLawful};
 
 use crate::held::{ballast, counts, row_of};
-use desk_held::Held;
+use desk_held::{Held, put_in_turn};
 use desk_ops::Op;
 use linked_list_allocator::LocalHeap;
 use std::alloc::{Allocator, Global};
@@ -90,6 +90,26 @@ fn is_laid_out<A: Allocator + Copy>(alloc: A, ops: &[Op], number: usize) -> bool
         Some(held) => held.len() == number && held.has_all(ops),
         None => false,
     }
+}
+
+/// Whether a list is that other one, once it is put in order.
+fn comes_in_turn<A: Allocator>(ops: Vec<Op, A>, wanted: &[Op]) -> bool {
+    let mut list = ops;
+    put_in_turn(&mut list);
+    list.as_slice() == wanted
+}
+
+#[test]
+fn lists_are_put_in_turn(rt: HostRuntime) -> Result<(), Fail> {
+    let alloc = rt.alloc();
+    let wanted = row_of(alloc, 1, 600)?;
+    let mut falls = Vec::from_slice(alloc, &wanted)?;
+    falls.reverse();
+    let mut mixed = Vec::from_slice(alloc, &wanted)?;
+    mixed.extend_from_slice(&wanted)?;
+    assert!(rt; comes_in_turn(Vec::from_slice(alloc, &wanted)?, &wanted));
+    assert!(rt; comes_in_turn(falls, &wanted) && comes_in_turn(mixed, &wanted));
+    Ok(())
 }
 
 #[test]

@@ -134,8 +134,8 @@ fn is_spelled(alloc: Global, op: Op, bytes: &[u8]) -> Result<bool, Fail> {
 
 #[test]
 fn examples_of_bytes(rt: HostRuntime) -> Result<(), Fail> {
-    for (op, bytes) in EXAMPLES {
-        assert!(rt; is_spelled(rt.alloc(), op, bytes)?, "{op:?}");
+    for &(op, bytes) in &EXAMPLES {
+        assert!(rt; is_spelled(rt.alloc(), op, bytes)?, "{bytes:?}");
     }
     Ok(())
 }
@@ -154,76 +154,80 @@ pub fn fault(at: u64, why: FeedWhy) -> ReadFault {
     ReadFault::Fault(FeedFault { at, why })
 }
 
+/// Whether bytes are refused as a feed at this place for this cause.
+fn is_feed_refused(alloc: Global, bytes: &[u8], at: u64, why: FeedWhy) -> bool {
+    is_read_as(alloc, bytes, Err(fault(at, why)))
+}
+
+/// An insert whose parent has its own counter.
+const EQUAL_COUNTERS: [u8; 31] = [
+    0x4d, 0x46, 0x44, 0x31, 1, 0, 0, 0, 0, 0, 0, 0, 3, 0, 1, 0, 0, 0, 0, 0, 0, 0, 3, 0, 2, 0, 0, 0,
+    0, 0, 0x61,
+];
+
 #[test]
 fn refused_feeds(rt: HostRuntime) {
-    let equal_counters = [
-        0x4d, 0x46, 0x44, 0x31, 1, 0, 0, 0, 0, 0, 0, 0, 3, 0, 1, 0, 0, 0, 0, 0, 0, 0, 3, 0, 2, 0,
-        0, 0, 0, 0x61,
-    ];
-    let cases: [(&[u8], u64, FeedWhy); 4] = [
-        (&equal_counters, 4, FeedWhy::Unlawful(Unlawful::Target)),
-        (&[0x4d, 0x46, 0x44, 0x31, 2, 0], 4, FeedWhy::Cut),
-        (&[0x4d, 0x46, 0x44, 0x31, 9], 4, FeedWhy::Kind),
-        (&[0x4d, 0x46], 0, FeedWhy::Magic),
-    ];
-    for (bytes, at, why) in cases {
-        assert!(rt; is_read_as(rt.alloc(), bytes, Err(fault(at, why))), "{why}");
+    let target = FeedWhy::Unlawful(Unlawful::Target);
+    assert!(rt; is_feed_refused(rt.alloc(), &EQUAL_COUNTERS, 4, target));
+    assert!(rt; is_feed_refused(rt.alloc(), b"MFD1\x02\0", 4, FeedWhy::Cut));
+    assert!(rt; is_feed_refused(rt.alloc(), b"MFD1\x09", 4, FeedWhy::Kind));
+    assert!(rt; is_feed_refused(rt.alloc(), b"MF", 0, FeedWhy::Magic));
+}
+
+/// Whether of a prefix of a feed what it should be is read, or the place and the cause.
+fn is_prefix_read(alloc: Global, len: usize) -> bool {
+    if len >= 56 {
+        return false;
     }
+    let want = match len {
+        0..=3 => Err(fault(0, FeedWhy::Magic)),
+        4 => Ok(&AB[..0]),
+        30 => Ok(&AB[..1]),
+        5..=29 => Err(fault(4, FeedWhy::Cut)),
+        _ => Err(fault(30, FeedWhy::Cut)),
+    };
+    is_read_as(alloc, &FEED_AB[..len], want)
 }
 
 /// Of every shorter prefix of a feed: the place and the cause.
 #[test]
 fn prefixes_of_a_feed(rt: HostRuntime) {
     for len in 0..56usize {
-        let want = match len {
-            0..=3 => Err(fault(0, FeedWhy::Magic)),
-            4 => Ok(&AB[..0]),
-            30 => Ok(&AB[..1]),
-            5..=29 => Err(fault(4, FeedWhy::Cut)),
-            _ => Err(fault(30, FeedWhy::Cut)),
-        };
-        assert!(rt;
-            is_read_as(rt.alloc(), &FEED_AB[..len], want),
-            "{len} bytes"
-        );
+        assert!(rt; is_prefix_read(rt.alloc(), len), "{len} bytes");
     }
 }
+
+/// Whether bytes are no operation for this cause.
+fn is_cause(bytes: &[u8], why: FeedWhy) -> bool {
+    !bytes.is_empty() && next_op(bytes).err() == Some(why)
+}
+
+/// A surrogate.
+const SURROGATE: [u8; 26] = [
+    1, 0, 0, 0, 0, 0, 0, 0, 1, 0, 1, 0, 0, 0, 0, 0, 0, 0, 0, 0, 0, 0, 0, 0, 0xd8, 0,
+];
+
+/// A style above 2, with a site of 0.
+const STYLE_AND_SITE: [u8; 26] = [
+    1, 0, 0, 0, 0, 0, 0, 0, 1, 0, 0, 0, 0, 0, 0, 0, 0, 0, 0, 0, 0, 3, 0, 0, 0, 0x61,
+];
+
+/// Key 6, whatever the value, and with a counter of 0.
+const KEY_6: [u8; 16] = [3, 0, 0, 0, 0, 0, 0, 0, 5, 0, 1, 6, 0, 0, 0, 0];
+
+const KEY_AND_COUNTER: [u8; 16] = [3, 0, 0, 0, 0, 0, 0, 0, 0, 0, 1, 6, 0, 0, 0, 0x78];
+
+/// Bytes that are cut off, and have a site of 0.
+const CUT_AND_SITE: [u8; 15] = [3, 0, 0, 0, 0, 0, 0, 0, 5, 0, 0, 1, 0, 0, 0];
 
 /// Which cause is told where several hold, and of numbers that are no symbol's and no key's.
 #[test]
 fn causes_in_order(rt: HostRuntime) {
-    let cases: [(&[u8], FeedWhy); 5] = [
-        // A surrogate, and a style above 2 with a site of 0.
-        (
-            &[
-                1, 0, 0, 0, 0, 0, 0, 0, 1, 0, 1, 0, 0, 0, 0, 0, 0, 0, 0, 0, 0, 0, 0, 0, 0xd8, 0,
-            ],
-            FeedWhy::Unlawful(Unlawful::Symbol),
-        ),
-        (
-            &[
-                1, 0, 0, 0, 0, 0, 0, 0, 1, 0, 0, 0, 0, 0, 0, 0, 0, 0, 0, 0, 0, 3, 0, 0, 0, 0x61,
-            ],
-            FeedWhy::Unlawful(Unlawful::Site),
-        ),
-        // Key 6, whatever the value, and with a counter of 0.
-        (
-            &[3, 0, 0, 0, 0, 0, 0, 0, 5, 0, 1, 6, 0, 0, 0, 0],
-            FeedWhy::Unlawful(Unlawful::Key),
-        ),
-        (
-            &[3, 0, 0, 0, 0, 0, 0, 0, 0, 0, 1, 6, 0, 0, 0, 0x78],
-            FeedWhy::Unlawful(Unlawful::Counter),
-        ),
-        // Cut off comes before a site of 0.
-        (&[3, 0, 0, 0, 0, 0, 0, 0, 5, 0, 0, 1, 0, 0, 0], FeedWhy::Cut),
-    ];
-    for (bytes, why) in cases {
-        assert!(rt;
-            !bytes.is_empty() && next_op(bytes).err() == Some(why),
-            "{why}"
-        );
-    }
+    assert!(rt; is_cause(&SURROGATE, FeedWhy::Unlawful(Unlawful::Symbol)));
+    assert!(rt; is_cause(&STYLE_AND_SITE, FeedWhy::Unlawful(Unlawful::Site)));
+    assert!(rt; is_cause(&KEY_6, FeedWhy::Unlawful(Unlawful::Key)));
+    assert!(rt; is_cause(&KEY_AND_COUNTER, FeedWhy::Unlawful(Unlawful::Counter)));
+    assert!(rt; is_cause(&CUT_AND_SITE, FeedWhy::Cut));
 }
 
 /// Takes what a heap of 512 bytes can give, but for so many times 16.
@@ -265,36 +269,49 @@ fn is_writing_refused(alloc: Global, cut: usize) -> Result<bool, Fail> {
     Ok(refused)
 }
 
+/// How many of the readings in 16 cut heaps are out of memory.
+fn readings_refused(
+    alloc: Global,
+    bytes: &[u8],
+    want: Result<&[Op], ReadFault>,
+) -> Result<u32, Fail> {
+    let mut refused = 0u32;
+    for cut in 0..16usize {
+        let stopped = is_reading_refused(alloc, cut, bytes, want)?;
+        refused = refused.saturating_add(u32::from(stopped));
+    }
+    Ok(refused)
+}
+
+/// Whether of these readings 6 to 15 are out of memory.
+fn are_most_refused(alloc: Global, bytes: &[u8]) -> Result<bool, Fail> {
+    let refused = readings_refused(alloc, bytes, Ok(&AB))?;
+    Ok(6 <= refused && refused <= 15)
+}
+
+/// How many of the writings in 16 cut heaps are out of memory.
+fn writings_refused(alloc: Global) -> Result<u32, Fail> {
+    let mut refused = 0u32;
+    for cut in 0..16usize {
+        refused = refused.saturating_add(u32::from(is_writing_refused(alloc, cut)?));
+    }
+    Ok(refused)
+}
+
 /// A refused growth is out of memory; of other magic, and of too few bytes for an operation, the fault comes in any case.
 /// What is written takes its memory at once, so few sizes of a heap refuse it.
 #[test]
 fn growth_refused(rt: HostRuntime) -> Result<(), Fail> {
-    let cases: [(&[u8], Result<&[Op], ReadFault>, u32, u32); 5] = [
-        (&FEED_AB, Ok(&AB), 6, 15),
-        (&RUN_AB, Ok(&AB), 6, 15),
-        (&FEED_AB[..55], Err(fault(30, FeedWhy::Cut)), 1, 15),
-        (b"MFD1\x09", Err(fault(4, FeedWhy::Kind)), 0, 0),
-        (&FEED_AB[1..], Err(fault(0, FeedWhy::Magic)), 0, 0),
-    ];
-    for (bytes, want, least, most) in cases {
-        let mut refused = 0u32;
-        for cut in 0..16usize {
-            refused = refused.saturating_add(u32::from(is_reading_refused(
-                rt.alloc(),
-                cut,
-                bytes,
-                want,
-            )?));
-        }
-        assert!(rt;
-            least <= refused && refused <= most,
-            "{want:?} refused {refused} times"
-        );
-    }
-    let mut unwritten = 0u32;
-    for cut in 0..16usize {
-        unwritten = unwritten.saturating_add(u32::from(is_writing_refused(rt.alloc(), cut)?));
-    }
+    assert!(rt; are_most_refused(rt.alloc(), &FEED_AB)?);
+    assert!(rt; are_most_refused(rt.alloc(), &RUN_AB)?);
+    let cut = Err(fault(30, FeedWhy::Cut));
+    let refused = readings_refused(rt.alloc(), &FEED_AB[..55], cut)?;
+    assert!(rt; 1 <= refused && refused <= 15, "refused {refused} times");
+    let kind = Err(fault(4, FeedWhy::Kind));
+    assert!(rt; readings_refused(rt.alloc(), b"MFD1\x09", kind)? == 0);
+    let magic = Err(fault(0, FeedWhy::Magic));
+    assert!(rt; readings_refused(rt.alloc(), &FEED_AB[1..], magic)? == 0);
+    let unwritten = writings_refused(rt.alloc())?;
     assert!(rt;
         3 <= unwritten && unwritten <= 5,
         "unwritten {unwritten} times"
@@ -302,24 +319,27 @@ fn growth_refused(rt: HostRuntime) -> Result<(), Fail> {
     Ok(())
 }
 
+/// Causes, in words.
+const WORDS: [(FeedWhy, &str); 4] = [
+    (FeedWhy::Magic, "at byte 7: no feed begins so"),
+    (FeedWhy::Kind, "at byte 7: no such kind of operation"),
+    (FeedWhy::Cut, "at byte 7: cut off"),
+    (FeedWhy::Run, "at byte 7: no run has so many"),
+];
+
+/// Whether a cause at byte 7 is told in these words.
+fn is_cause_told(alloc: Global, why: FeedWhy, text: &str) -> Result<bool, Fail> {
+    is_told(alloc, &fault(7, why), text)
+}
+
 #[test]
 fn names_its_faults(rt: HostRuntime) -> Result<(), Fail> {
-    for (fault, text) in [
-        (fault(7, FeedWhy::Magic), "at byte 7: no feed begins so"),
-        (
-            fault(7, FeedWhy::Kind),
-            "at byte 7: no such kind of operation",
-        ),
-        (
-            fault(7, FeedWhy::Unlawful(Unlawful::Key)),
-            "at byte 7: unlawful: no such key",
-        ),
-        (fault(7, FeedWhy::Cut), "at byte 7: cut off"),
-        (fault(7, FeedWhy::Run), "at byte 7: no run has so many"),
-        (ReadFault::Failed, "the reading has ended"),
-        (ReadFault::NoMemory, "no memory"),
-    ] {
-        assert!(rt; is_told(rt.alloc(), &fault, text)?, "{text}");
+    for &(why, text) in &WORDS {
+        assert!(rt; is_cause_told(rt.alloc(), why, text)?, "{text}");
     }
+    let key = FeedWhy::Unlawful(Unlawful::Key);
+    assert!(rt; is_cause_told(rt.alloc(), key, "at byte 7: unlawful: no such key")?);
+    assert!(rt; is_told(rt.alloc(), &ReadFault::Failed, "the reading has ended")?);
+    assert!(rt; is_told(rt.alloc(), &ReadFault::NoMemory, "no memory")?);
     Ok(())
 }

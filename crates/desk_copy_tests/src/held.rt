@@ -120,27 +120,31 @@ fn is_clear<A: Allocator + Copy>(held: &Held<A>, op: Op, holds: bool, clear: Opt
         && held.is_clear(stamp) == clear.is_some()
 }
 
+/// Whether what comes once is new, what comes again is known, and what bears a stamp that is borne forks it.
+fn are_added<A: Allocator + Copy>(held: &mut Held<A>, one: Op, two: Op) -> Result<bool, Fail> {
+    Ok(
+        is_added(held, one, Added::New)?
+            && is_added(held, one, Added::Known)?
+            && is_added(held, FORK, Added::Forks)?
+            && is_added(held, two, Added::New)?,
+    )
+}
+
+/// Whether the stamp of the first is borne by several, that of the second by it alone, and that of the third by none.
+fn are_borne<A: Allocator + Copy>(held: &Held<A>, one: Op, two: Op, three: Op) -> bool {
+    is_clear(held, one, true, None)
+        && is_clear(held, two, true, Some(two))
+        && is_clear(held, three, false, None)
+}
+
 #[test]
 fn holds_what_is_added(rt: HostRuntime) -> Result<(), Fail> {
     let mut held = Held::new(rt.alloc());
     let (one, two, three) = (insert(1), insert(2), insert(3));
-    for (op, want) in [
-        (one, Added::New),
-        (one, Added::Known),
-        (FORK, Added::Forks),
-        (two, Added::New),
-    ] {
-        assert!(rt; is_added(&mut held, op, want)?, "{want:?}");
-    }
+    assert!(rt; are_added(&mut held, one, two)?);
     assert!(rt; lists(&held, &[one, FORK, two])?);
     assert!(rt; has_three(&held, one, FORK, three));
-    for (op, holds, clear) in [
-        (one, true, None),
-        (two, true, Some(two)),
-        (three, false, None),
-    ] {
-        assert!(rt; is_clear(&held, op, holds, clear));
-    }
+    assert!(rt; are_borne(&held, one, two, three));
     Ok(())
 }
 
@@ -224,19 +228,22 @@ fn is_halt<A: Allocator + Copy>(held: &Held<A>, halt: Option<Halt>, falls: bool)
     is_right && held.len() == added && (falls || counts(held, 2, added))
 }
 
+/// How many of the lists of 600 are halted, in a heap of which each time more is left.
+fn halts(alloc: Global, falls: bool) -> Result<u32, Fail> {
+    let mut halts = 0u32;
+    for cut in 0..128usize {
+        let stopped = is_halted(alloc, cut.saturating_mul(1024), falls)?;
+        halts = halts.saturating_add(u32::from(stopped));
+    }
+    Ok(halts)
+}
+
 #[test]
 fn stopped_at_k(rt: HostRuntime) -> Result<(), Fail> {
-    for falls in [false, true] {
-        let mut halts = 0u32;
-        for cut in 0..128usize {
-            halts = halts.saturating_add(u32::from(is_halted(
-                rt.alloc(),
-                cut.saturating_mul(1024),
-                falls,
-            )?));
-        }
-        assert!(rt; halts > 20 && halts < 120, "{halts} halts");
-    }
+    let rising = halts(rt.alloc(), false)?;
+    assert!(rt; rising > 20 && rising < 120, "{rising} halts");
+    let falling = halts(rt.alloc(), true)?;
+    assert!(rt; falling > 20 && falling < 120, "{falling} halts");
     Ok(())
 }
 
@@ -294,29 +301,29 @@ fn is_refused_in<'a>(
     Ok(true)
 }
 
+/// Whether additions are refused in a heap of which each time more is left, more than three of 256 or none; never nearly
+/// all.
+fn are_refused(
+    alloc: Global,
+    op: Op,
+    want: Added,
+    spare: usize,
+    refusals: bool,
+) -> Result<bool, Fail> {
+    let mut refused = 0u32;
+    for cut in 0..256usize {
+        let stopped = is_refused(alloc, cut.saturating_mul(512), op, want, spare)?;
+        refused = refused.saturating_add(u32::from(stopped));
+    }
+    Ok((refused > 3) == refusals && refused < 250)
+}
+
 #[test]
 fn refused_growths_change_nothing(rt: HostRuntime) -> Result<(), Fail> {
-    for (op, want, spare, refusals) in [
-        (insert(2), Added::New, 0, true),
-        (FORK, Added::Forks, 0, true),
-        (insert(1), Added::Known, 0, false),
-        (insert(100), Added::New, 5, false),
-    ] {
-        let mut refused = 0u32;
-        for cut in 0..256usize {
-            refused = refused.saturating_add(u32::from(is_refused(
-                rt.alloc(),
-                cut.saturating_mul(512),
-                op,
-                want,
-                spare,
-            )?));
-        }
-        assert!(rt;
-            (refused > 3) == refusals && refused < 250,
-            "{want:?} refused {refused} times"
-        );
-    }
+    assert!(rt; are_refused(rt.alloc(), insert(2), Added::New, 0, true)?);
+    assert!(rt; are_refused(rt.alloc(), FORK, Added::Forks, 0, true)?);
+    assert!(rt; are_refused(rt.alloc(), insert(1), Added::Known, 0, false)?);
+    assert!(rt; are_refused(rt.alloc(), insert(100), Added::New, 5, false)?);
     Ok(())
 }
 

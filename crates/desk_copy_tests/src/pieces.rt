@@ -55,46 +55,58 @@ const A_AND_NINE: [u8; 31] = [
     0, 0x61, 9,
 ];
 
+/// Whether a kind that there is not is told, in whichever piece it stands.
+fn kinds_are_told(alloc: Global) -> bool {
+    let nothing: Answer<'_> = Ok(&AB[..0]);
+    let first: Answer<'_> = Err(fault(4, FeedWhy::Kind));
+    let kind: Answer<'_> = Err(fault(30, FeedWhy::Kind));
+    let failed = Err(ReadFault::Failed);
+    let one: Row<'_> = (
+        [b"MF", b"D1\x09", b"\x01"],
+        [nothing, first, FAILED],
+        failed,
+    );
+    let two: Row<'_> = ([&A_AND_NINE, b"", b""], [kind, FAILED, FAILED], failed);
+    let three: Row<'_> = (
+        [b"MFD1", &A_AND_NINE[4..30], b"\x09"],
+        [nothing, Ok(&AB[..1]), kind],
+        failed,
+    );
+    are_answered(alloc, one) && are_answered(alloc, two) && are_answered(alloc, three)
+}
+
+/// Whether other magic is told with the fourth byte, or at the end.
+fn magic_is_told(alloc: Global) -> bool {
+    let nothing: Answer<'_> = Ok(&AB[..0]);
+    let magic = Err(fault(0, FeedWhy::Magic));
+    let none: Row<'_> = ([b"", b"", b""], [nothing; 3], magic);
+    let short: Row<'_> = ([b"x", b"F", b"D"], [nothing; 3], magic);
+    let other: Row<'_> = (
+        [b"x", b"FD", b"1"],
+        [nothing, nothing, Err(fault(0, FeedWhy::Magic))],
+        Err(ReadFault::Failed),
+    );
+    are_answered(alloc, none) && are_answered(alloc, short) && are_answered(alloc, other)
+}
+
+/// Whether the end of a feed without operations is none, and that of one that is cut off is told.
+fn ends_are_told(alloc: Global) -> bool {
+    let nothing: Answer<'_> = Ok(&AB[..0]);
+    let empty: Row<'_> = ([b"MFD1", b"", b""], [nothing; 3], Ok(()));
+    let cut: Row<'_> = (
+        [b"MFD1\x02", b"\0", b""],
+        [nothing; 3],
+        Err(fault(4, FeedWhy::Cut)),
+    );
+    are_answered(alloc, empty) && are_answered(alloc, cut)
+}
+
 #[test]
 fn feed_in_pieces(rt: HostRuntime) {
-    let nothing: Answer<'_> = Ok(&AB[..0]);
-    let failed = Err(ReadFault::Failed);
-    let magic = Err(fault(0, FeedWhy::Magic));
-    let rows: [Row<'_>; 8] = [
-        (
-            [b"MF", b"D1\x09", b"\x01"],
-            [nothing, Err(fault(4, FeedWhy::Kind)), FAILED],
-            failed,
-        ),
-        (
-            [&A_AND_NINE, b"", b""],
-            [Err(fault(30, FeedWhy::Kind)), FAILED, FAILED],
-            failed,
-        ),
-        (
-            [b"MFD1", &A_AND_NINE[4..30], b"\x09"],
-            [nothing, Ok(&AB[..1]), Err(fault(30, FeedWhy::Kind))],
-            failed,
-        ),
-        ([b"", b"", b""], [nothing; 3], magic),
-        ([b"MFD1", b"", b""], [nothing; 3], Ok(())),
-        // Other magic is told with the fourth byte, or at the end.
-        ([b"x", b"F", b"D"], [nothing; 3], magic),
-        (
-            [b"x", b"FD", b"1"],
-            [nothing, nothing, Err(fault(0, FeedWhy::Magic))],
-            failed,
-        ),
-        (
-            [b"MFD1\x02", b"\0", b""],
-            [nothing; 3],
-            Err(fault(4, FeedWhy::Cut)),
-        ),
-    ];
-    for row in rows {
-        assert!(rt; are_answered(rt.alloc(), row), "{row:?}");
-    }
-    assert!(rt; FeedReader::new().finish() == magic);
+    assert!(rt; kinds_are_told(rt.alloc()));
+    assert!(rt; magic_is_told(rt.alloc()));
+    assert!(rt; ends_are_told(rt.alloc()));
+    assert!(rt; FeedReader::new().finish() == Err(fault(0, FeedWhy::Magic)));
 }
 
 /// An operation of each kind, and their feed, and a 9.
@@ -255,25 +267,23 @@ fn is_told<A: Allocator + Copy>(alloc: A, before: usize, bytes: &[u8], want: Rea
         && is_answered(&mut reader, alloc, b"", FAILED)
 }
 
+/// Whether a fault is told of a piece alone, and of one behind so many bytes that were kept.
+fn is_told_twice<A: Allocator + Copy>(
+    alloc: A,
+    before: usize,
+    bytes: &[u8],
+    want: ReadFault,
+) -> bool {
+    is_told(alloc, 0, bytes, want) && is_told(alloc, before, bytes, want)
+}
+
 /// Whether each fault is told, of a piece alone and of one behind bytes that were kept.
 fn are_told<A: Allocator + Copy>(alloc: A) -> bool {
     let no_key = FeedWhy::Unlawful(Unlawful::Key);
-    let rows: [(usize, &[u8], ReadFault); 8] = [
-        (0, &A_AND_NINE, fault(30, FeedWhy::Kind)),
-        (19, &A_AND_NINE, fault(30, FeedWhy::Kind)),
-        (0, &A_AND_NO_KEY, fault(30, no_key)),
-        (19, &A_AND_NO_KEY, fault(30, no_key)),
-        (0, &A_AND_65, fault(30, FeedWhy::Run)),
-        (19, &A_AND_65, fault(30, FeedWhy::Run)),
-        (0, &FEED_AB[1..], fault(0, FeedWhy::Magic)),
-        (3, &FEED_AB[1..], fault(0, FeedWhy::Magic)),
-    ];
-    for (before, bytes, want) in rows {
-        if !is_told(alloc, before, bytes, want) {
-            return false;
-        }
-    }
-    true
+    is_told_twice(alloc, 19, &A_AND_NINE, fault(30, FeedWhy::Kind))
+        && is_told_twice(alloc, 19, &A_AND_NO_KEY, fault(30, no_key))
+        && is_told_twice(alloc, 19, &A_AND_65, fault(30, FeedWhy::Run))
+        && is_told_twice(alloc, 3, &FEED_AB[1..], fault(0, FeedWhy::Magic))
 }
 
 /// Whether a cut heap refuses the room of one operation. There, and with memory, each fault is told.
@@ -295,24 +305,36 @@ fn is_told_in_want(alloc: Global, cut: usize) -> Result<bool, Fail> {
     Ok(refused)
 }
 
+/// How often pieces of a feed that is cut at this place are refused memory, in 16 cut heaps.
+fn refused_at(alloc: Global, place: usize) -> Result<u32, Fail> {
+    let mut refused = 0u32;
+    for cut in 0..16usize {
+        refused = refused.saturating_add(refused_pieces(alloc, cut, place)?);
+    }
+    Ok(refused)
+}
+
+/// How many of 16 cut heaps refuse the room of one operation.
+fn refused_rooms(alloc: Global) -> Result<u32, Fail> {
+    let mut refused = 0u32;
+    for cut in 0..16usize {
+        refused = refused.saturating_add(u32::from(is_told_in_want(alloc, cut)?));
+    }
+    Ok(refused)
+}
+
 /// A piece that was refused memory was not taken: given again with memory it is answered as it would have been. One that shows
 /// a fault is told by it, with memory or without.
 #[test]
 fn growth_refused_in_pieces(rt: HostRuntime) -> Result<(), Fail> {
     for place in 0..56usize {
-        let mut refused = 0u32;
-        for cut in 0..16usize {
-            refused = refused.saturating_add(refused_pieces(rt.alloc(), cut, place)?);
-        }
+        let refused = refused_at(rt.alloc(), place)?;
         assert!(rt;
             1 <= refused && refused <= 31,
             "cut at {place} refused {refused} times"
         );
     }
-    let mut refused = 0u32;
-    for cut in 0..16usize {
-        refused = refused.saturating_add(u32::from(is_told_in_want(rt.alloc(), cut)?));
-    }
+    let refused = refused_rooms(rt.alloc())?;
     assert!(rt; 1 <= refused && refused <= 15, "refused {refused} times");
     Ok(())
 }

@@ -18,38 +18,44 @@ fn run_with(alloc: Global, place: usize, end: &[u8]) -> Result<Vec<u8>, Fail> {
     Ok(bytes)
 }
 
+/// Whether the feed of a run with these bytes from a place on is refused for this cause.
+fn is_run_refused(alloc: Global, place: usize, end: &[u8], why: FeedWhy) -> Result<bool, Fail> {
+    let bytes = run_with(alloc, place, end)?;
+    Ok(is_read_as(alloc, &bytes, Err(fault(4, why))))
+}
+
+/// A second insert whose counter is above the greatest.
+const LAST_COUNTER: [u8; 31] = [
+    0x40, 0, 0, 0, 0, 0, 0, 0, 0, 1, 0, 0, 0, 0, 0, 0, 0, 0, 0, 0, 2, 0, 0, 0, 0, 0x61, 0, 0, 0, 0,
+    0x62,
+];
+
+/// Places and the bytes from there on, and the cause. A count of 1 is told before its symbol is there, and one of 0 whatever
+/// follows; a cut comes before what is not lawful.
+static CUT_RUNS: [(usize, &[u8], FeedWhy); 6] = [
+    (25, &[1], FeedWhy::Run),
+    (25, &[0x41], FeedWhy::Run),
+    (25, &[], FeedWhy::Cut),
+    (25, &[2], FeedWhy::Cut),
+    (25, &[0, 1], FeedWhy::Run),
+    (26, &[3, 0, 0, 0, 0x61, 0, 0, 0, 0], FeedWhy::Cut),
+];
+
 #[test]
 fn refused_runs(rt: HostRuntime) -> Result<(), Fail> {
-    let last_counter = [
-        0x40, 0, 0, 0, 0, 0, 0, 0, 0, 1, 0, 0, 0, 0, 0, 0, 0, 0, 0, 0, 2, 0, 0, 0, 0, 0x61, 0, 0,
-        0, 0, 0x62,
-    ];
-    let cases: [(usize, &[u8], FeedWhy); 9] = [
-        (25, &[1], FeedWhy::Run),
-        (25, &[0x41], FeedWhy::Run),
-        (25, &[], FeedWhy::Cut),
-        (25, &[2], FeedWhy::Cut),
-        // A count of 1 is told before its symbol is there, and one of 0 whatever follows.
-        (25, &[0, 1], FeedWhy::Run),
-        // The second insert has a counter above the greatest.
-        (5, &last_counter, FeedWhy::Unlawful(Unlawful::Counter)),
-        // A style above 2, and a Roman character 0: the first insert's cause comes first.
-        (
-            26,
-            &[3, 0, 0, 0, 0x61, 0, 0, 0, 0, 0],
-            FeedWhy::Unlawful(Unlawful::Symbol),
-        ),
-        (31, &[0, 0, 0, 0, 0], FeedWhy::Unlawful(Unlawful::Symbol)),
-        // A cut comes before what is not lawful.
-        (26, &[3, 0, 0, 0, 0x61, 0, 0, 0, 0], FeedWhy::Cut),
-    ];
-    for (place, end, why) in cases {
-        let bytes = run_with(rt.alloc(), place, end)?;
+    for &(place, end, why) in &CUT_RUNS {
         assert!(rt;
-            is_read_as(rt.alloc(), &bytes, Err(fault(4, why))),
+            is_run_refused(rt.alloc(), place, end, why)?,
             "{place} {end:?}"
         );
     }
+    let counter = FeedWhy::Unlawful(Unlawful::Counter);
+    assert!(rt; is_run_refused(rt.alloc(), 5, &LAST_COUNTER, counter)?);
+    // A style above 2, and a Roman character 0: the first insert's cause comes first.
+    let symbol = FeedWhy::Unlawful(Unlawful::Symbol);
+    let both = [3, 0, 0, 0, 0x61, 0, 0, 0, 0, 0];
+    assert!(rt; is_run_refused(rt.alloc(), 26, &both, symbol)?);
+    assert!(rt; is_run_refused(rt.alloc(), 31, &[0, 0, 0, 0, 0], symbol)?);
     assert!(rt; is_read_as(rt.alloc(), b"MFD1\x04", Err(fault(4, FeedWhy::Kind))));
     assert!(rt; is_read_as(rt.alloc(), b"MFD3\x04", Err(fault(0, FeedWhy::Magic))));
     assert!(rt; is_read_as(rt.alloc(), &RUN_AB, Ok(&AB)));
@@ -92,7 +98,7 @@ fn is_run_of(alloc: Global, count: u8) -> Result<bool, Fail> {
 
 #[test]
 fn runs_of_each_length(rt: HostRuntime) -> Result<(), Fail> {
-    for count in [0u8, 1, 2, 3, 63, 64, 65, 66, 129, 255] {
+    for &count in &[0, 1, 2, 3, 63, 64, 65, 66, 129, 255] {
         assert!(rt; is_run_of(rt.alloc(), count)?, "{count}");
     }
     Ok(())

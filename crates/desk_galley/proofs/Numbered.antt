@@ -30,13 +30,6 @@ with_more terms copy done front back =
     rw e (append_assoc done here (numbered terms copy ((length done + 1) + length front) back)
     ∙ ap (λ (l : List LineValues). done ++ l) (sym (numbered_append terms copy (length done + 1) front back)))
 
-pub with_none : (terms : Terms) (copy : List Symbol) (done : List LineValues) → with_lines terms copy done [] ≡ done
-with_none terms copy done = append_empty done
-  where
-    append_empty : {A : Type 0} (xs : List A) → xs ++ [] ≡ xs
-    append_empty [] = refl
-    append_empty (x ∷ xs) = ap (λ (l : List _). x ∷ l) (append_empty xs)
-
 -- the next paragraph, where these are still to come
 pub next_paragraph : (terms : Terms) (copy : List Symbol) (found : List (List Word)) (i : ℕ) (d ws : List Word) (done new all : List LineValues) →
     i < length found → ws ≡ get_or found i d → new ≡ with_lines terms copy done (placed_in terms copy ws) →

@@ -1,10 +1,16 @@
 -- What is answered in place of a galley.
-use Rattle.std.specs.Prelude.{◌≡◌, List, [], ◌∷◌, Result, Err}
+use Rattle.std.specs.Prelude.{◌≡◌, ℕ, List, [], ◌∷◌, Option, Result, Ok, Err}
 use Rattle.std.specs.List.{flat_map}
 use Rattle.desk_ops.specs.declared.op.Symbol.{Symbol}
+use Rattle.desk_ops.specs.declared.op.Key.{Key}
+use Rattle.desk_wedge.specs.Wedge.{WedgeValues}
+use Rattle.desk_case.specs.Case.{CaseValues}
 use Rattle.desk_signals.specs.declared.RibbonRow.{RibbonRow}
 use Rattle.desk_ribbon.specs.Ribbon.{head_row}
+use Rattle.desk_job.specs.Job.{terms_fault, terms_of, values_of}
 use Rattle.desk_job.specs.declared.JobFault.{JobFault}
+use Rattle.desk_job.specs.declared.JobFault.TheVariants.{MissingSetting}
+use Rattle.desk_job.specs.declared.terms.Values.{Values}
 use Rattle.desk_galley.specs.Values.{GalleyValues}
 use Rattle.desk_galley.specs.Galley.{rows_of_line}
 use Rattle.desk_galley.specs.declared.galley.GalleyRefusal.{GalleyRefusal}
@@ -18,3 +24,14 @@ rows_of_galley galley copy = head_row ∷ flat_map (rows_of_line galley.terms.ca
 abbrev pub IsRefused : GalleyRefusal → Result (List RibbonRow) (List JobFault) → Type 0
 IsRefused (refusal.Fault fault) made = made ≡ Err (fault ∷ [])
 IsRefused refusal.NoMemory made = Unit {0}
+
+-- why nothing is set by what the settings give, a case and a wedge, if so: a key has no value, or what these have against one
+-- another
+abbrev pub no_terms : CaseValues → WedgeValues → Result Values Key → List JobFault
+no_terms case wedge (Err key) = MissingSetting key ∷ []
+no_terms case wedge (Ok values) = terms_fault (terms_of case wedge values) values
+
+-- There is no galley for this fault of the settings, the case and the wedge; out of memory comes only where there is none.
+abbrev pub IsOfTerms : GalleyRefusal → List JobFault → Type 0
+IsOfTerms (refusal.Fault fault) found = found ≡ fault ∷ []
+IsOfTerms refusal.NoMemory found = found ≡ []

@@ -6,7 +6,7 @@ ghost use Rattle.desk_job.specs.Answer.{AreValues, by_key};
 ghost use Rattle.desk_job.specs.Job as job;
 ghost use Rattle.desk_job.specs.Making.{AreWordsOf, IsRange};
 ghost use Rattle.desk_job.specs.Setting.{IsWord, words_at};
-ghost use Rattle.desk_galley.specs.Answer.{IsRefused, rows_of_galley};
+ghost use Rattle.desk_galley.specs.Answer.{IsOfTerms, IsRefused, no_terms, rows_of_galley};
 ghost use Rattle.desk_galley.specs.Galley.{IsGalley, Stands, all_placed, galley_faults, galley_of, placed_at, placed_in, with_lines};
 ghost use Rattle.desk_galley.specs.declared.galley.GalleyRefusal.TheVariants as refusal;
 
@@ -174,7 +174,7 @@ fn all_lines<A: Allocator + Copy>(
 
 /// The galley of a copy of at most 1,048,576 symbols: each line of the job as it is set, or as it fails, and the place of
 /// each symbol that the case lacks. There is none where a setting has no value, or settings, case and wedge do not go
-/// together. One pass over the copy.
+/// together, and for no other cause; out of memory comes only where they go together.
 pub fn make_galley<'a, A: Allocator + Copy>(
     alloc: A,
     copy: &[Symbol],
@@ -189,6 +189,7 @@ pub fn make_galley<'a, A: Allocator + Copy>(
     ensures job { IfOk result (λ g. job.job copy.now (by_key settings.now) case.now wedge.now ≡ job.rows_or (rows_of_galley g copy.now) (galley_faults g)) }
     ensures stands { IfOk result (λ g. All (Stands copy.now case.now) g.lines) }
     ensures err { IfErr result (λ why. IsRefused why (job.job copy.now (by_key settings.now) case.now wedge.now)) }
+    ensures terms { IfErr result (λ why. IsOfTerms why (no_terms case.now wedge.now (job.values_of (by_key settings.now)))) }
 {
     let values = match given(settings) {
         Ok(values) => values,

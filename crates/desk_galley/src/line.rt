@@ -136,7 +136,7 @@ impl<A: Allocator> Line<A> {
     pub fn is_faulty(&self) -> bool
         ensures { result ≡ is_faulty self.now }
     {
-        self.fault.is_some()
+        matches!(self.fault, Some(_))
     }
 
     /// The positions of the coarse and the fine wedge at its wedge sum, where they reach it.

@@ -3,14 +3,14 @@
 ghost use Rattle.std.specs.Prelude.{◌≡◌, ◌≢◌, ◌≤◌, ◌⊎◌, ◌++◌, ◌∷◌, [], All, IfErr, IfOk, OnOk, codes, map, string_bytes};
 ghost use Rattle.desk_ops.specs.Op.{IsLawful};
 ghost use Rattle.desk_ops.specs.OpSet.{OpSet};
-ghost use Rattle.desk_answers.specs.Reply.{reply};
+ghost use Rattle.desk_answers.specs.Reply.{reply_values};
 ghost use Rattle.desk_answers.specs.Text.{text};
 ghost use Rattle.desk_files.specs.Files.{IsHeldAlone, Stays};
 ghost use Rattle.desk_stored.specs.Stored.{was_read};
 ghost use Rattle.desk_hand.specs.Merging.{IsBarred, IsCutShort, IsFeedOf, IsJoined, IsMerged, IsMergedInto, IsOpened, IsUnmerged, Joins, Refuses, StopsAt, faults_line};
 
 use crate::fault::{FeedTrouble, HandFault};
-use desk_answers::{Response, put};
+use desk_answers::{Reply, put};
 use desk_blocks::Blocks;
 use desk_codec::{ReadFault, read_feed};
 use desk_files::Files;
@@ -52,9 +52,9 @@ pub fn operations_of<F: Files, A: Allocator + Copy>(
 fn put_line<A: Allocator + Copy>(
     out: &mut String<A>,
     name: &str,
-    counted: &Response<A>,
+    counted: &Reply<A>,
 ) -> Result<(), NoMemory>
-    ensures { OnOk result (string_bytes out.new ≡ string_bytes out.old ++ (name.now ++ codes " " ++ text (reply counted.now) ++ 10 ∷ [])) }
+    ensures { OnOk result (string_bytes out.new ≡ string_bytes out.old ++ (name.now ++ codes " " ++ text (reply_values counted.now) ++ 10 ∷ [])) }
 {
     out.push_str(name)?;
     out.push_str(" ")?;
@@ -80,7 +80,7 @@ fn join_file<F: Files, A: Allocator + Copy>(
         Ok(count) => count,
         Err(stop) => return Err(FeedTrouble::from(stop.why)),
     };
-    let counted: Response<A> = Response::Counted {
+    let counted: Reply<A> = Reply::Counted {
         new: count.new,
         known: count.known,
     };
@@ -146,7 +146,7 @@ fn put_faults<A: Allocator + Copy>(
 ) -> Result<(), NoMemory>
     ensures { OnOk result (string_bytes out.new ≡ string_bytes out.old ++ faults_line replica.now.ops) }
 {
-    let faults = Response::Faults(replica.copy_faults()?);
+    let faults = Reply::Faults(replica.copy_faults()?);
     put(out, &faults)?;
     Ok(out.push_str("\n")?)
 }

@@ -54,17 +54,11 @@ module _ (p : Op → Bool) (ops : List Op) (part : IsPartitionedBy p ops) (i : �
   pub picked-all : AllByRecursion (λ y. p y ≡ true) (take i ops)
   picked-all = taken (λ y. p y ≡ true) ops i (λ k d low high. picked-at k d high) edge.within
 
-  pub stops-all : AllByRecursion (λ y. p y ≡ false) (drop i ops)
-  stops-all = dropped (λ y. p y ≡ false) ops i (λ k d low high. stops-at k d low high)
-
 greater : (x y : Op) → op_cmp y x ≡ Less → op_cmp x y ≡ Greater
 greater x y e = op_total.antisymm x y ∙ ap ordering_reverse e
 
 lesser : (x y : Op) → op_cmp y x ≡ Greater → op_cmp x y ≡ Less
 lesser x y e = op_total.antisymm x y ∙ ap ordering_reverse e
-
-less-apart : (x : Op) → op_cmp x x ≡ Less → ⊥
-less-apart x e = true≢false (sym (ap is_lt e) ∙ ap is_lt (tied_itself op_total x))
 
 abbrev pub earlier : Op → Op → Bool
 earlier op x = is_lt (op_cmp x op)

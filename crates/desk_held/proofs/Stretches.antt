@@ -1,5 +1,5 @@
 -- Stretches of rising operations that are passed one after the other.
-use Rattle.std.proofs.Common.{◌≡◌, ℕ, ◌+◌, ◌-◌, ◌<◌, ◌≤◌, ◌⊎◌, inl, inr, false, List, [], ◌∷◌, length, take, drop, get_or, refl, sym, ap, subst, ◌∙◌, arith}
+use Rattle.std.proofs.Common.{◌≡◌, ℕ, ◌+◌, ◌-◌, ◌<◌, ◌≤◌, ◌⊎◌, inl, inr, false, List, length, take, drop, get_or, sym, ap, subst, ◌∙◌, arith}
 use Rattle.std.specs.Prelude.{T}
 use Rattle.std.specs.Ordering.{is_lt}
 use Rattle.std.specs.declared.cmp.Ordering.TheVariants.{Less}
@@ -29,13 +29,6 @@ skipped ops part start from at op is le within passed before = go (eq-or-lt_of_l
         let on : start + (at - 1) ≡ start + at - 1 = omega (arith, l) in
         ap (λ (n : ℕ). is_lt (op_cmp (get_or ops n d) op)) (sym on) ∙ ap (λ (x : Op). is_lt (op_cmp x op)) (sym (part-at ops part start (at - 1) d is here)) ∙ passed l d (omega (arith, l))
 
-pub no-part : (ops : List Op) → IsPart ops 0 [] 0
-no-part ops = record { is = none (drop 0 ops); fits = omega arith; place = omega arith }
-  where
-    none : (l : List Op) → [] ≡ take 0 l
-    none [] = refl
-    none (o ∷ l) = refl
-
 -- at another place of the stretch
 pub part-to : (ops part : List Op) (start from at : ℕ) → IsPart ops start part from → at ≤ length part → IsPart ops start part at
 part-to ops part start from at p le = record { is = p.is; fits = p.fits; place = le }
@@ -63,7 +56,3 @@ pub passed-next : (held ops : List Op) (place i : ℕ) (op next : Op) → T (is_
 passed-next held ops place i op next rising lt at on passed d some =
     let less : op_cmp op next ≡ Less = ap (λ (x : Op). op_cmp x next) (at ∙ get_or_default ops i op next (omega (arith, lt))) ∙ ap (op_cmp (get_or ops i next)) on ∙ rising_less ops i (i + 1) next rising (omega arith) lt in
     ap is_lt (op_total.trans (get_or held (place - 1) d) op next (is_less (op_cmp (get_or held (place - 1) d) op) (passed d some)) less)
-
--- of none nothing was passed
-pub none-passed : (held : List Op) (op : Op) → IsPassed held 0 op
-none-passed held op d some = absurd (omega (arith, some))

@@ -24,6 +24,7 @@ mod search;
 mod slot;
 
 pub use join::Halt;
+pub use missing::put_in_turn;
 
 /// The greatest number of operations that are held.
 pub const LIMIT: usize = 1_048_576;

@@ -15,17 +15,29 @@ use std::alloc::Allocator;
 /// Below this part of what is held each operation of a list is searched: a pass beside the list would look at each page.
 const SPARSE: usize = 256;
 
-/// The operations of a list in order, each once. A list that falls is turned round.
+/// Puts the operations of a list in order, each once, in its own memory. A list that rises stays as it is, and one that falls
+/// is turned round.
+pub fn put_in_turn<A: Allocator>(ops: &mut Vec<Op, A>)
+    ensures turn { IsInTurn ops.old.items ops.new.items }
+    ensures lawful { All IsLawful ops.old.items → All IsLawful ops.new.items }
+{
+    if is_rising(ops) {
+        return;
+    }
+    ops.reverse();
+    if is_rising(ops) {
+        return;
+    }
+    ops.sort_unstable();
+    ops.dedup();
+}
+
+/// The operations of a list in order, each once.
 fn in_turn<A: Allocator + Copy>(alloc: A, ops: &[Op]) -> Result<Vec<Op, A>, NoMemory>
     ensures { IfOk result (λ v. IsInTurn ops.now v.items) }
 {
     let mut list = Vec::from_slice(alloc, ops)?;
-    list.reverse();
-    if is_rising(&list) {
-        return Ok(list);
-    }
-    list.sort_unstable();
-    list.dedup();
+    put_in_turn(&mut list);
     Ok(list)
 }
 

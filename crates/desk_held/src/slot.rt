@@ -145,7 +145,7 @@ pub fn insert_in_order<P: Pick<Slot, ()>, A: Allocator + Copy>(
 )
     requires spare { 1 ≤ ops.old.spare }
     ensures put { (i : ℕ) × IsEdge (P.picked pick.now) ops.old.entries i × (ops.new.entries ≡ insert ops.old.entries i op) }
-    ensures spare { ops.new.spare + 1 ≡ ops.old.spare }
+    ensures spare { ops.old.spare ≤ ops.new.spare + 1 }
 {
     ops.insert_in_order(pick, Slot::of(op));
 }

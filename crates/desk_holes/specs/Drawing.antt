@@ -8,7 +8,7 @@ use Rattle.desk_caster.specs.declared.RibbonFault.{RibbonFault}
 use Rattle.desk_caster.specs.declared.RibbonFault.TheVariants as ribbons
 use Rattle.desk_files.specs.Files.{IsReplaced, Shelf, Stays}
 use Rattle.desk_stored.specs.Faults.{IsNotStored}
-use Rattle.desk_reading.specs.Sources.{AreRefused, Give, Sources}
+use Rattle.desk_reading.specs.Sources.{AreRefused, Give, LackMemory, Sources}
 use Rattle.desk_reading.specs.declared.fault.ReadingFault.{ReadingFault}
 use Rattle.desk_reading.specs.declared.fault.ReadingFault.TheVariants as faults
 use Rattle.desk_holes.specs.Picture.{picture_text}
@@ -38,4 +38,4 @@ IsUndrawn from target first last (faults.Ribbon why) = Stays first last × AreRe
 IsUndrawn from target first last (faults.Input why) = Stays first last × AreRefused from first last (faults.Input why)
 IsUndrawn from target first last faults.Write = ⊥
 IsUndrawn from target first last (faults.Unstored why) = (picture : List ℕ) × IsPictureOf from first picture × IsNotStored target first last why
-IsUndrawn from target first last faults.NoMemory = Stays first last
+IsUndrawn from target first last faults.NoMemory = LackMemory from first last

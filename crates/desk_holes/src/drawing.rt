@@ -65,10 +65,7 @@ pub fn draw_ribbon<F: Files, A: Allocator + Copy>(
     ensures err { IfErr result (IsUndrawn (sources ribbon.now case.now wedge.now) target.now (F.shelf files.old) (F.shelf files.new)) }
     ensures held { (F.shelf files.new).held ≡ (F.shelf files.old).held }
 {
-    let (bytes, case, _) = match take_in(memory, files, ribbon, case, wedge) {
-        Ok(taken) => taken,
-        Err(why) => return Err(why),
-    };
+    let (bytes, case, _) = take_in(memory, files, ribbon, case, wedge)?;
     match drawn(memory.own, &bytes, &case) {
         Ok(picture) => match store(memory.own, files, target, picture.as_bytes()) {
             Ok(()) => Ok(true),

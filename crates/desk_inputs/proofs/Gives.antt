@@ -1,24 +1,34 @@
 -- The files of a command.
-use Rattle.std.proofs.Common.{◌≡◌, ℕ, ◌∙◌, List, ap, arith, refl, subst, sym}
+use Rattle.std.proofs.Common.{◌≡◌, ℕ, ◌∙◌, List, ap, ap₂, arith, inl, inr, refl, subst, sym}
 use Rattle.std.specs.Prelude.{◌≢◌, Option, Some, None, Result, Ok, Err}
+use Rattle.toml.specs.Errors.{IsBlank}
 use Rattle.desk_answers.specs.declared.text.Refusal.{Refusal}
+use Rattle.desk_answers.specs.declared.text.Refusal.TheVariants as refusals
+use Rattle.desk_answers.specs.declared.not_done.NotDone.{NotDone}
+use Rattle.desk_answers.specs.declared.not_done.NotDone.TheVariants as ends
 use Rattle.desk_answers.specs.NotDone.{case_refused, file_refused, not_done, wedge_refused}
 use Rattle.desk_case.specs.Case.{CaseValues}
 use Rattle.desk_case.specs.File.{case_of}
 use Rattle.desk_case.specs.declared.CaseFault.{CaseFault}
 use Rattle.desk_case.specs.declared.CaseFault.TheVariants as cases
+use Rattle.desk_wedge.specs.Wedge.{WedgeValues}
 use Rattle.desk_wedge.specs.File.{wedge_of}
 use Rattle.desk_wedge.specs.declared.WedgeFault.{WedgeFault}
 use Rattle.desk_wedge.specs.declared.WedgeFault.TheVariants as wedges
 use Rattle.desk_files.specs.declared.files.FileRefusal.{FileRefusal}
 use Rattle.desk_files.specs.declared.files.FileRefusal.TheVariants as files
-use Rattle.desk_files.specs.Files.{Counts, Reads, Shelf, Stays}
-use Rattle.desk_inputs.specs.Inputs.{BothGive, FileGives, IfAnswered, Tells}
+use Rattle.desk_files.specs.Files.{Counts, IsCounted, Reads, Shelf, Stays, shelf}
+use Rattle.desk_inputs.specs.Inputs.{Answers, BothGive, BothLackMemory, FileGives, FileLacksMemory, Tells}
 
--- a file that was not read
-pub unread : {V E : Type 0} (meaning : List ℕ → Result V E) (refused : E → Option Refusal) (name : List ℕ) (before after : Shelf) (why : FileRefusal)
-    → Stays before after → Reads (before.kept name) (Err why) → Counts {V = List ℕ} (Err why) before after → (told : Refusal) → file_refused why ≡ Some told → FileGives meaning refused name before (Err told) after
-unread meaning refused name before after why stays reads counts told is = (stays, Err why, reads, counts, (told, is, refl))
+-- ---- where nothing has changed
+
+-- and nothing failed
+pub same_shelf : (before after : Shelf) → Stays before after → after.failures ≡ before.failures → after ≡ before
+same_shelf before after stays fails = ap (λ kept. shelf kept after.failures after.held) stays.0 ∙ ap₂ (shelf before.kept) fails stays.2
+
+-- what holds from one to another holds at the first
+pub still_at : (P : Shelf → Shelf → Type 0) (first mid last : Shelf) → mid ≡ first → last ≡ mid → P mid last → P first first
+still_at P first mid last same still holds = subst (λ (s : Shelf). P first s) (still ∙ same) (subst (λ (s : Shelf). P s last) same holds)
 
 pub stays_by : {V : Type 0} (result : Result V FileRefusal) (before after : Shelf) → after.kept ≡ before.kept → after.held ≡ before.held → Counts result before after → Stays before after
 stays_by (Ok v) before after kept held counts = (kept, omega arith, held)
@@ -27,20 +37,36 @@ stays_by (Err files.Device) before after kept held counts = (kept, counts.1, hel
 stays_by (Err files.Large) before after kept held counts = (kept, omega arith, held)
 stays_by (Err files.NoMemory) before after kept held counts = (kept, omega arith, held)
 
--- a file whose bytes were read, and mean this
+-- ---- one file
+
+-- it was not read
+pub unread : {V E : Type 0} (meaning : List ℕ → Result V E) (refused : E → Option Refusal) (name : List ℕ) (before after : Shelf) (why : FileRefusal)
+    → Stays before after → Reads (before.kept name) (Err why) → IsCounted why before after
+    → Answers (λ given. FileGives meaning refused name before given after) (FileLacksMemory name before after) (Err (not_done (file_refused why)))
+unread meaning refused name before after files.Missing stays reads counts = (stays, Err files.Missing, reads, counts, (refusals.FileMissing, refl, refl))
+unread meaning refused name before after files.Device stays reads counts = (stays, Err files.Device, reads, counts, (refusals.FileDevice, refl, refl))
+unread meaning refused name before after files.Large stays reads counts = (stays, Err files.Large, reads, counts, (refusals.FileLarge, refl, refl))
+unread meaning refused name before after files.NoMemory stays reads counts = (same_shelf before after stays counts, Err files.NoMemory, reads, refl)
+
+-- its bytes were read, and mean this
 pub read_as : {V E : Type 0} (meaning : List ℕ → Result V E) (refused : E → Option Refusal) (name : List ℕ) (before after : Shelf) (bytes slice : List ℕ) (value : V)
-    → Stays before after → Reads (before.kept name) (Ok bytes) → Counts {V = List ℕ} (Ok bytes) before after → slice ≡ bytes → meaning slice ≡ Ok value → FileGives meaning refused name before (Ok value) after
+    → Stays before after → Reads (before.kept name) (Ok bytes) → after.failures ≡ before.failures → slice ≡ bytes → meaning slice ≡ Ok value → FileGives meaning refused name before (Ok value) after
 read_as {V} {E} meaning refused name before after bytes slice value stays reads counts same means =
     let P : Result V E → Type 0 = λ r. Tells refused r (Ok value) in
     (stays, Ok bytes, reads, counts, subst P (sym means ∙ ap meaning same) refl)
 
--- a file whose bytes were read, and mean nothing, for this fault
+-- its bytes were read, and mean nothing, for this fault
 pub misread : {V E : Type 0} (meaning : List ℕ → Result V E) (refused : E → Option Refusal) (name : List ℕ) (before after : Shelf) (bytes slice : List ℕ) (fault : E)
-    → Stays before after → Reads (before.kept name) (Ok bytes) → Counts {V = List ℕ} (Ok bytes) before after → slice ≡ bytes → (told : Refusal) → refused fault ≡ Some told
-    → meaning slice ≡ Err fault → FileGives meaning refused name before (Err told) after
-misread {V} {E} meaning refused name before after bytes slice fault stays reads counts same told is means =
-    let P : Result V E → Type 0 = λ r. Tells refused r (Err told) in
-    (stays, Ok bytes, reads, counts, subst P (sym means ∙ ap meaning same) (told, is, refl))
+    → Stays before after → Reads (before.kept name) (Ok bytes) → after.failures ≡ before.failures → slice ≡ bytes
+    → ((told : Refusal) → refused fault ≡ Some told → meaning slice ≡ Err fault) → (refused fault ≡ None → ¬ IsBlank slice)
+    → Answers (λ given. FileGives meaning refused name before given after) (FileLacksMemory name before after) (Err (not_done (refused fault)))
+misread {V} {E} meaning refused name before after bytes slice fault stays reads counts same means more = by (refused fault) refl
+  where
+    by : (o : Option Refusal) → refused fault ≡ o → Answers (λ given. FileGives meaning refused name before given after) (FileLacksMemory name before after) (Err (not_done o))
+    by None is = (same_shelf before after stays counts, Ok bytes, reads, subst (λ l. ¬ IsBlank l) same (more is))
+    by (Some told) is =
+        let P : Result V E → Type 0 = λ r. Tells refused r (Err told) in
+        (stays, Ok bytes, reads, counts, subst P (sym (means told is) ∙ ap meaning same) (told, is, refl))
 
 pub no_memory_case : (fault : CaseFault) (told : Refusal) → case_refused fault ≡ Some told → fault ≢ cases.NoMemory
 no_memory_case fault told is none = let e : None ≡ Some told = ap case_refused (sym none) ∙ is in cc
@@ -48,14 +74,42 @@ no_memory_case fault told is none = let e : None ≡ Some told = ap case_refused
 pub no_memory_wedge : (fault : WedgeFault) (told : Refusal) → wedge_refused fault ≡ Some told → fault ≢ wedges.NoMemory
 no_memory_wedge fault told is none = let e : None ≡ Some told = ap wedge_refused (sym none) ∙ is in cc
 
+pub no_number_case : (fault : CaseFault) → case_refused fault ≡ None → fault ≡ cases.NoMemory
+no_number_case cases.NotToml is = let e : Some (refusals.Case 1) ≡ None = is in cc
+no_number_case (cases.Missing key) is = let e : Some (refusals.Case 2) ≡ None = is in cc
+no_number_case (cases.Shape key) is = let e : Some (refusals.Case 3) ≡ None = is in cc
+no_number_case (cases.BadText cell) is = let e : Some (refusals.Case 4) ≡ None = is in cc
+no_number_case (cases.Doubled symbol) is = let e : Some (refusals.Case 5) ≡ None = is in cc
+no_number_case (cases.NotBlank cell) is = let e : Some (refusals.Case 6) ≡ None = is in cc
+no_number_case cases.FillOrder is = let e : Some (refusals.Case 7) ≡ None = is in cc
+no_number_case cases.NoMemory is = refl
+
+pub no_number_wedge : (fault : WedgeFault) → wedge_refused fault ≡ None → fault ≡ wedges.NoMemory
+no_number_wedge wedges.NotToml is = let e : Some (refusals.Wedge 1) ≡ None = is in cc
+no_number_wedge (wedges.Missing key) is = let e : Some (refusals.Wedge 2) ≡ None = is in cc
+no_number_wedge (wedges.Range key) is = let e : Some (refusals.Wedge 3) ≡ None = is in cc
+no_number_wedge (wedges.Descending row) is = let e : Some (refusals.Wedge 4) ≡ None = is in cc
+no_number_wedge wedges.NoMemory is = refl
+
+-- ---- both
+
 -- no case, for this
-pub no_case : (of_case of_wedge : List ℕ) (before after : Shelf) (o : Option Refusal) → ((told : Refusal) → o ≡ Some told → FileGives case_of case_refused of_case before (Err told) after)
-    → IfAnswered (λ given. BothGive of_case of_wedge before given after) (Err (not_done o))
-no_case of_case of_wedge before after None h = tt
-no_case of_case of_wedge before after (Some told) h = (Err told, (after, h told refl, (refl, refl)))
+pub no_case : (of_case of_wedge : List ℕ) (before after : Shelf) (end : NotDone) → Answers (λ given. FileGives case_of case_refused of_case before given after) (FileLacksMemory of_case before after) (Err end)
+    → Answers (λ given. BothGive of_case of_wedge before given after) (BothLackMemory of_case of_wedge before after) (Err end)
+no_case of_case of_wedge before after (ends.Refused why) given = (Err why, (after, given, (refl, refl)))
+no_case of_case of_wedge before after (ends.Stopped taken why) given = absurd given
+no_case of_case of_wedge before after ends.NoMemory given = inl given
 
 -- a case, and no wedge, for this
-pub no_wedge : (of_case of_wedge : List ℕ) (before mid after : Shelf) (case : CaseValues) (o : Option Refusal) → FileGives case_of case_refused of_case before (Ok case) mid
-    → ((told : Refusal) → o ≡ Some told → FileGives wedge_of wedge_refused of_wedge mid (Err told) after) → IfAnswered (λ given. BothGive of_case of_wedge before given after) (Err (not_done o))
-no_wedge of_case of_wedge before mid after case None first h = tt
-no_wedge of_case of_wedge before mid after case (Some told) first h = (Ok case, (mid, first, (Err told, h told refl, refl)))
+pub no_wedge : (of_case of_wedge : List ℕ) (before mid after : Shelf) (case : CaseValues) (end : NotDone) → mid ≡ before → FileGives case_of case_refused of_case before (Ok case) mid
+    → Answers (λ given. FileGives wedge_of wedge_refused of_wedge mid given after) (FileLacksMemory of_wedge mid after) (Err end)
+    → Answers (λ given. BothGive of_case of_wedge before given after) (BothLackMemory of_case of_wedge before after) (Err end)
+no_wedge of_case of_wedge before mid after case (ends.Refused why) same first given = (Ok case, (mid, first, (Err why, given, refl)))
+no_wedge of_case of_wedge before mid after case (ends.Stopped taken why) same first given = absurd given
+no_wedge of_case of_wedge before mid after case ends.NoMemory same first given =
+    inr (case, subst (λ (s : Shelf). FileGives case_of case_refused of_case before (Ok case) s) same first, subst (λ (s : Shelf). FileLacksMemory of_wedge s after) same given)
+
+-- a case and a wedge
+pub case_and_wedge : (of_case of_wedge : List ℕ) (before mid after : Shelf) (case : CaseValues) (wedge : WedgeValues) → FileGives case_of case_refused of_case before (Ok case) mid
+    → FileGives wedge_of wedge_refused of_wedge mid (Ok wedge) after → BothGive of_case of_wedge before (Ok (case, wedge)) after
+case_and_wedge of_case of_wedge before mid after case wedge first second = (Ok case, (mid, first, (Ok wedge, second, refl)))

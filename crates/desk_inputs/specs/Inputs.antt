@@ -1,5 +1,6 @@
 -- What the files of a command give.
-use Rattle.std.specs.Prelude.{◌≡◌, ℕ, List, Option, Some, Result, Ok, Err}
+use Rattle.std.specs.Prelude.{◌≡◌, ◌⊎◌, ℕ, List, Option, Some, Result, Ok, Err}
+use Rattle.toml.specs.Errors.{IsBlank}
 use Rattle.desk_case.specs.Case.{CaseValues}
 use Rattle.desk_case.specs.File.{case_of}
 use Rattle.desk_wedge.specs.Wedge.{WedgeValues}
@@ -9,14 +10,15 @@ use Rattle.desk_answers.specs.NotDone.{case_refused, file_refused, wedge_refused
 use Rattle.desk_answers.specs.declared.not_done.NotDone.{NotDone}
 use Rattle.desk_answers.specs.declared.not_done.NotDone.TheVariants as ends
 use Rattle.desk_files.specs.declared.files.FileRefusal.{FileRefusal}
+use Rattle.desk_files.specs.declared.files.FileRefusal.TheVariants as files
 use Rattle.desk_files.specs.Files.{Counts, Reads, Shelf, Stays}
 
--- it holds of what was returned or refused, unless memory ran out
-abbrev pub IfAnswered : {V : Type 0} → (Result V Refusal → Type 0) → Result V NotDone → Type 0
-IfAnswered Holds (Ok value) = Holds (Ok value)
-IfAnswered Holds (Err (ends.Refused why)) = Holds (Err why)
-IfAnswered Holds (Err (ends.Stopped taken why)) = ⊥
-IfAnswered Holds (Err ends.NoMemory) = Unit {0}
+-- the one holds of what was returned or refused, and the other where memory ran out
+abbrev pub Answers : {V : Type 0} → (Result V Refusal → Type 0) → Type 0 → Result V NotDone → Type 0
+Answers Holds Lacks (Ok value) = Holds (Ok value)
+Answers Holds Lacks (Err (ends.Refused why)) = Holds (Err why)
+Answers Holds Lacks (Err (ends.Stopped taken why)) = ⊥
+Answers Holds Lacks (Err ends.NoMemory) = Lacks
 
 -- what was read, or the refusal that says why it was not
 abbrev pub Tells : {V E : Type 0} → (E → Option Refusal) → Result V E → Result V Refusal → Type 0
@@ -34,6 +36,15 @@ FileGives meaning refused name before given after =
     Stays before after × (read : Result (List ℕ) FileRefusal) × Reads (before.kept name) read × Counts read before after
     × TellsBytes meaning refused read given
 
+-- memory ran out for the bytes of a file, or for what they mean: then they are more than blanks
+abbrev pub EndsMemory : Result (List ℕ) FileRefusal → Type 0
+EndsMemory (Ok bytes) = ¬ IsBlank bytes
+EndsMemory (Err why) = why ≡ files.NoMemory
+
+-- a file is read by its name, and memory runs out by it; no file has changed, and the device did not fail
+abbrev pub FileLacksMemory : List ℕ → Shelf → Shelf → Type 0
+FileLacksMemory name before after = (after ≡ before) × (read : Result (List ℕ) FileRefusal) × Reads (before.kept name) read × EndsMemory read
+
 abbrev pub with_case : CaseValues → Result WedgeValues Refusal → Result (CaseValues × WedgeValues) Refusal
 with_case case (Ok wedge) = Ok (case, wedge)
 with_case case (Err why) = Err why
@@ -47,3 +58,8 @@ ThenWedge name (Ok case) mid given after = (wedge : Result WedgeValues Refusal) 
 abbrev pub BothGive : List ℕ → List ℕ → Shelf → Result (CaseValues × WedgeValues) Refusal → Shelf → Type 0
 BothGive of_case of_wedge before given after =
     (case : Result CaseValues Refusal) × ((mid : Shelf) × FileGives case_of case_refused of_case before case mid × ThenWedge of_wedge case mid given after)
+
+-- memory runs out by the case file, or by the wedge file once the other has given a case
+abbrev pub BothLackMemory : List ℕ → List ℕ → Shelf → Shelf → Type 0
+BothLackMemory of_case of_wedge before after =
+    FileLacksMemory of_case before after ⊎ ((case : CaseValues) × FileGives case_of case_refused of_case before (Ok case) before × FileLacksMemory of_wedge before after)

@@ -6,12 +6,12 @@ ghost use Rattle.desk_caster.specs.Caster.{Line, cast};
 ghost use Rattle.desk_caster.specs.Reading.{IsRibbon};
 ghost use Rattle.desk_files.specs.Files.{Stays};
 ghost use Rattle.desk_answers.specs.NotDone.{IfReplied};
-ghost use Rattle.desk_answers.specs.Reply.{reply};
+ghost use Rattle.desk_answers.specs.Reply.{reply_values};
 ghost use Rattle.desk_inputs.specs.Job.{IsJobByFiles, TellsCast, TellsJob, job_of};
 
 use crate::inputs::both;
 use crate::memory::Memory;
-use desk_answers::{NotDone, Response};
+use desk_answers::{NotDone, Reply};
 use desk_blocks::Blocks;
 use desk_case::MatrixCase;
 use desk_caster::laws::{ribbons_have_no_fault, ribbons_have_one_reading};
@@ -65,14 +65,14 @@ fn cast_bytes<A: Allocator + Copy>(
     bytes: &[u8],
     case: &MatrixCase,
     wedge: &Wedge,
-) -> Result<Response<A>, NoMemory>
+) -> Result<Reply<A>, NoMemory>
     requires { (rows : List RibbonRow) × IsRibbon bytes.now rows × ((lines : List Line) × (cast case.now wedge.now rows ≡ Ok lines)) }
-    ensures { IfOk result (λ a. TellsCast case.now wedge.now bytes.now (reply a)) }
+    ensures { IfOk result (λ a. TellsCast case.now wedge.now bytes.now (reply_values a)) }
 {
     ribbons_have_one_reading();
     let rows = rows_in(memory.own, bytes)?;
     let lines = lines_in(memory.own, &rows, case, wedge)?;
-    Ok(Response::Lines(lines))
+    Ok(Reply::Lines(lines))
 }
 
 /// What is wanted of a job: its ribbon, or the lines that it casts.
@@ -89,15 +89,15 @@ fn made<A: Allocator + Copy>(
     case: &MatrixCase,
     wedge: &Wedge,
     wanted: Wanted,
-) -> Result<Response<A>, NoMemory>
-    ensures { IfOk result (λ a. TellsJob wanted case.now wedge.now (job_of replica.now.ops case.now wedge.now) (reply a)) }
+) -> Result<Reply<A>, NoMemory>
+    ensures { IfOk result (λ a. TellsJob wanted case.now wedge.now (job_of replica.now.ops case.now wedge.now) (reply_values a)) }
 {
     match make(memory.own, replica, case, wedge) {
         Ok(bytes) => match wanted {
-            Wanted::Ribbon => Ok(Response::Ribbon(bytes)),
+            Wanted::Ribbon => Ok(Reply::Ribbon(bytes)),
             Wanted::Lines => cast_bytes(memory, &bytes, case, wedge),
         },
-        Err(JobRefusal::Faults(faults)) => Ok(Response::NoRibbon(faults)),
+        Err(JobRefusal::Faults(faults)) => Ok(Reply::NoRibbon(faults)),
         Err(JobRefusal::NoMemory) => Err(NoMemory),
     }
 }
@@ -110,7 +110,7 @@ pub fn job_by_files<F: Files, A: Allocator + Copy>(
     case: &str,
     wedge: &str,
     wanted: Wanted,
-) -> Result<Response<A>, NotDone>
+) -> Result<Reply<A>, NotDone>
     ensures made { IfReplied result (λ reply. IsJobByFiles wanted replica.now.ops case.now wedge.now (F.shelf files.old) reply (F.shelf files.new)) }
     ensures stays { Stays (F.shelf files.old) (F.shelf files.new) }
 {

@@ -5,6 +5,6 @@ mod inputs;
 mod job;
 mod memory;
 
-pub use inputs::both;
+pub use inputs::{both, case_in};
 pub use job::{Wanted, job_by_files};
 pub use memory::Memory;

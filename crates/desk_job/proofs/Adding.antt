@@ -8,10 +8,6 @@ use Rattle.desk_job.specs.Making.{Found, Adds, CanAdd}
 use Rattle.desk_job.specs.Setting.{Fits}
 use Rattle.desk_job.specs.declared.JobFault.{JobFault}
 
-pub append_empty : {A : Type 0} (xs : List A) → xs ++ [] ≡ xs
-append_empty [] = refl
-append_empty (x ∷ xs) = ap (λ (l : List _). x ∷ l) (append_empty xs)
-
 -- a list that is empty with more behind it is empty
 pub none_before : {A : Type 0} (xs ys : List A) → xs ++ ys ≡ [] → xs ≡ []
 none_before [] ys none = refl
@@ -51,13 +47,6 @@ adding_step terms ls rest all old now new is adds =
       punched = λ none. (rw (adds.punched none) (append_assoc now.rows (flat_map (line_rows terms) ls) (flat_map (line_rows terms) rest)
           ∙ (ap (λ (l : List RibbonRow). now.rows ++ l) (sym (flat_map-append (line_rows terms) ls rest)) ∙ is.punched (before none))));
     }
-
-pub adding_ends : (terms : Terms) (all : List SetLine) (old now : Found) → IsAdding terms [] all old now → Adds terms all old now
-adding_ends terms all old now is = record {
-  numbered = let a = is.numbered in omega (arith, a);
-  faulted = sym (append_empty now.faults) ∙ is.faulted;
-  punched = λ none. sym (append_empty now.rows) ∙ is.punched none;
-}
 
 -- the next of them can be added
 pub adding_room : (terms : Terms) (ls rest all : List SetLine) (old now : Found) →

@@ -7,8 +7,8 @@ use Rattle.desk_lines.specs.declared.groups.Group.{Group}
 use Rattle.desk_lines.specs.Words.{spelled}
 use Rattle.desk_job.specs.Job.{Terms, SetLine, widths, word_width}
 use Rattle.desk_job.specs.Setting.{line_at, words_at}
-use Rattle.desk_job.specs.Making.{Found, Adds, group_words, lines_at}
-use Rattle.desk_job.proofs.Adding.{IsAdding, adding_ends}
+use Rattle.desk_job.specs.Making.{Found, group_words, lines_at}
+use Rattle.desk_job.proofs.Adding.{IsAdding}
 
 pub take_map : {A B : Type 0} (f : A → B) (n : ℕ) (xs : List A) → take n (map f xs) ≡ map f (take n xs)
 take_map f zero xs = refl
@@ -42,13 +42,3 @@ pub next_line : (terms : Terms) (copy : List Symbol) (words : List Word) (groups
     IsAdding terms ((line_at copy (group_words words (get_or groups i d)) filled ∷ []) ++ lines_at copy words (drop (i + 1) groups)) all old now
 next_line terms copy words groups i d filled all old now below told is =
     rw told (rw (lines_step copy words groups i d below) at is)
-
-pub none_left : (terms : Terms) (copy : List Symbol) (words : List Word) (groups : List Group) (i : ℕ) (all : List SetLine) (old now : Found) →
-    length groups ≤ i → IsAdding terms (lines_at copy words (drop i groups)) all old now → Adds terms all old now
-none_left terms copy words groups i all old now end is = adding_ends terms all old now (rw (drop_all groups i end) at is)
-  where
-    drop_all : {A : Type 0} (xs : List A) (n : ℕ) → length xs ≤ n → drop n xs ≡ []
-    drop_all [] zero h = refl
-    drop_all [] (suc n) h = refl
-    drop_all (x ∷ xs) zero h = absurd (omega arith)
-    drop_all (x ∷ xs) (suc n) h = drop_all xs n (omega arith)

@@ -28,9 +28,6 @@ abbrev pub justified : List Punch → ℕ
 justified [] = 0
 justified (punch ∷ more) = cond punch.s 1 0 + justified more
 
-add_one : (w a : ℤ) (n b : ℕ) (t : ℤ) → t ≡ pos b +ℤ pos n *ℤ w → a +ℤ t ≡ (a +ℤ pos b) +ℤ pos n *ℤ w
-add_one w a n b t e = omega (arith, ints, e)
-
 total_step : (w t : ℤ) (width n b : ℕ) (s : Bool) → t ≡ pos b +ℤ pos n *ℤ w →
     (pos width +ℤ cond s w (pos 0)) +ℤ t ≡ pos (width + b) +ℤ pos (cond s 1 0 + n) *ℤ w
 total_step w t width n b true e = let m = one_more w n in rw Rattle.std.proofs.Math.Numerals.one-add (omega (arith, ints, e, m))

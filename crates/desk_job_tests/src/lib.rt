@@ -1,10 +1,12 @@
-//! The tests of desk_caster and desk_job.
+//! The tests of desk_caster, desk_job and desk_galley.
 #![tactic(auto)]
 
 #[cfg(test)]
 mod cases;
 #[cfg(test)]
 mod casting;
+#[cfg(test)]
+mod galleys;
 #[cfg(test)]
 mod growths;
 #[cfg(test)]

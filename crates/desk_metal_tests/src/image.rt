@@ -1,33 +1,38 @@
-use crate::rows::{cell, coarse, fine_out};
+use crate::rows::{cell_row, coarse, is_image, wedge_row};
 use desk_image::{BadImage, Image};
 use desk_signals::{BadRow, Column};
 use std::alloc::Global;
 
+/// Cells, each by its column, its row and S, and their images.
+const CELLS: [(Column, u8, bool, u32); 5] = [
+    (Column::A, 5, false, 0x4000_1000),
+    (Column::A, 8, false, 0x4000_0200),
+    (Column::G, 1, true, 0x0101_0001),
+    (Column::O, 15, false, 0),
+    (Column::O, 15, true, 1),
+];
+
+/// Settings of a wedge, each by 0005 and its number, and their images.
+const SETTINGS: [(bool, u8, u32); 10] = [
+    (false, 3, 0x4002),
+    (false, 4, 0x2002),
+    (false, 6, 0x0802),
+    (false, 8, 0x0202),
+    (false, 15, 0x0002),
+    (true, 7, 0x0406),
+    (true, 8, 0x0206),
+    (true, 9, 0x0106),
+    (true, 11, 0x0046),
+    (true, 15, 0x0006),
+];
+
 #[test]
 fn images_of_rows(rt: HostRuntime) {
-    let images = [
-        (cell(Column::A, 5, false), 0x4000_1000),
-        (cell(Column::A, 8, false), 0x4000_0200),
-        (cell(Column::G, 1, true), 0x0101_0001),
-        (cell(Column::O, 15, false), 0),
-        (cell(Column::O, 15, true), 1),
-        (coarse(3), 0x4002),
-        (coarse(4), 0x2002),
-        (coarse(6), 0x0802),
-        (coarse(8), 0x0202),
-        (coarse(15), 0x0002),
-        (fine_out(7), 0x0406),
-        (fine_out(8), 0x0206),
-        (fine_out(9), 0x0106),
-        (fine_out(11), 0x0046),
-        (fine_out(15), 0x0006),
-    ];
-    for (row, bits) in images {
-        let image = Image::of_row(row);
-        assert!(rt;
-            image == Image::new(bits) && image.bits() == bits && image.to_row() == Ok(row),
-            "{bits:08x}"
-        );
+    for &(column, number, s, bits) in &CELLS {
+        assert!(rt; is_image(cell_row(column, number, s), bits), "{bits:08x}");
+    }
+    for &(fine, number, bits) in &SETTINGS {
+        assert!(rt; is_image(wedge_row(fine, number), bits), "{bits:08x}");
     }
 }
 

@@ -1,54 +1,77 @@
-use crate::rows::{cell, coarse, fine_out};
-use desk_signals::{BadRow, Column, Position, RibbonRow, RowNo, Signal, from_signals};
+use crate::rows::{cell_row, is_read, shows, wedge_row};
+use desk_signals::Signal::{A, B, Coarse, Eight, Fine, Fourteen, G, One, S, Two};
+use desk_signals::{BadRow, Column, Position, RowNo, Signal, from_signals};
 use std::alloc::{AllocError, Global};
 
-#[test]
-fn numbers_in_range(rt: HostRuntime) {
-    for (number, want) in [
-        (0u8, None),
-        (1, Some(1)),
-        (9, Some(9)),
-        (15, Some(15)),
-        (16, None),
-        (255, None),
-    ] {
-        let row = RowNo::new(number).map(|row| row.get());
-        let position = Position::new(number).map(|position| position.get());
-        assert!(rt; row == want && position == want, "{number}");
+/// Numbers, and whether they are in range.
+const NUMBERS: [(u8, bool); 6] = [
+    (0, false),
+    (1, true),
+    (9, true),
+    (15, true),
+    (16, false),
+    (255, false),
+];
+
+/// Whether a number is one of a row and of a position, which is then this number, or is neither.
+fn is_in_range(number: u8, lawful: bool) -> bool {
+    match (RowNo::new(number), Position::new(number)) {
+        (Some(row), Some(position)) => lawful && row.get() == number && position.get() == number,
+        (None, None) => !lawful,
+        _ => false,
     }
 }
 
 #[test]
-fn images_of_rows(rt: HostRuntime) {
-    use Signal::{Coarse, Fine, Fourteen, G, One, S};
-
-    let rows: [(RibbonRow, &[Signal]); 5] = [
-        (cell(Column::G, 1, true), &[G, One, S]),
-        (cell(Column::O, 15, false), &[]),
-        (coarse(15), &[Coarse]),
-        (fine_out(15), &[Fine, Coarse]),
-        (fine_out(14), &[Fourteen, Fine, Coarse]),
-    ];
-    for (row, signals) in rows {
-        assert!(rt; row.signals().as_slice() == signals, "{row:?}");
+fn numbers_in_range(rt: HostRuntime) {
+    for &(number, lawful) in &NUMBERS {
+        assert!(rt; is_in_range(number, lawful), "{number}");
     }
+}
+
+/// Cells, each by its column, its row and S, and their signals.
+static CELLS: [(Column, u8, bool, &[Signal]); 2] = [
+    (Column::G, 1, true, &[G, One, S]),
+    (Column::O, 15, false, &[]),
+];
+
+/// Settings of a wedge, each by 0005 and its number, and their signals.
+static SETTINGS: [(bool, u8, &[Signal]); 3] = [
+    (false, 15, &[Coarse]),
+    (true, 15, &[Fine, Coarse]),
+    (true, 14, &[Fourteen, Fine, Coarse]),
+];
+
+#[test]
+fn images_of_rows(rt: HostRuntime) {
+    for &(column, number, s, signals) in &CELLS {
+        assert!(rt; shows(cell_row(column, number, s), signals), "{signals:?}");
+    }
+    for &(fine, number, signals) in &SETTINGS {
+        assert!(rt; shows(wedge_row(fine, number), signals), "{signals:?}");
+    }
+}
+
+/// Signals that are no row, and why.
+static UNLAWFUL: [(&[Signal], BadRow); 7] = [
+    (&[A, B, Fine], BadRow::TwoLetters),
+    (&[One, Two], BadRow::TwoNumbers),
+    (&[A, Fine], BadRow::FineAlone),
+    (&[A, Fine, Coarse, S], BadRow::WedgeWithLetter),
+    (&[Coarse, S], BadRow::WedgeWithS),
+    (&[A, A], BadRow::Repeated),
+    (&[S, A, B, S], BadRow::Repeated),
+];
+
+/// Whether signals are no row for this reason.
+fn is_unlawful(signals: &[Signal], why: BadRow) -> bool {
+    from_signals(signals) == Err(why)
 }
 
 #[test]
 fn unlawful_images(rt: HostRuntime) {
-    use Signal::{A, B, Coarse, Fine, One, S, Two};
-
-    let unlawful: [(&[Signal], BadRow); 7] = [
-        (&[A, B, Fine], BadRow::TwoLetters),
-        (&[One, Two], BadRow::TwoNumbers),
-        (&[A, Fine], BadRow::FineAlone),
-        (&[A, Fine, Coarse, S], BadRow::WedgeWithLetter),
-        (&[Coarse, S], BadRow::WedgeWithS),
-        (&[A, A], BadRow::Repeated),
-        (&[S, A, B, S], BadRow::Repeated),
-    ];
-    for (signals, why) in unlawful {
-        assert!(rt; from_signals(signals) == Err(why), "{why:?}");
+    for &(signals, why) in &UNLAWFUL {
+        assert!(rt; is_unlawful(signals, why), "{why:?}");
     }
 }
 
@@ -76,17 +99,20 @@ fn names_its_faults(rt: HostRuntime) {
     }
 }
 
+/// Few signals, and the cells that they are: column, row and S.
+static FEW: [(&[Signal], Column, u8, bool); 3] = [
+    (&[], Column::O, 15, false),
+    (&[S], Column::O, 15, true),
+    (&[S, One, G], Column::G, 1, true),
+];
+
 #[test]
 fn rows_of_few_signals(rt: HostRuntime) {
-    use Signal::{Coarse, Eight, Fine, G, One, S};
-
-    let rows: [(&[Signal], RibbonRow); 4] = [
-        (&[], cell(Column::O, 15, false)),
-        (&[S], cell(Column::O, 15, true)),
-        (&[S, One, G], cell(Column::G, 1, true)),
-        (&[Coarse, Eight, Fine], fine_out(8)),
-    ];
-    for (signals, row) in rows {
-        assert!(rt; from_signals(signals) == Ok(row), "{row:?}");
+    for &(signals, column, number, s) in &FEW {
+        assert!(rt;
+            is_read(cell_row(column, number, s), signals),
+            "{signals:?}"
+        );
     }
+    assert!(rt; is_read(wedge_row(true, 8), &[Coarse, Eight, Fine]));
 }

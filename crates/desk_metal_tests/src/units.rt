@@ -39,23 +39,29 @@ fn widths_of_units_and_measures(rt: HostRuntime) {
     }
 }
 
+/// Atoms, spaces, and the steps for each.
+const STEPS: [(i64, u64, i64); 10] = [
+    (120_000, 4, 46),
+    (-24_000, 4, -10),
+    (0, 1, 0),
+    (647, 1, 0),
+    (648, 1, 1),
+    (-1, 1, -1),
+    (-648, 1, -1),
+    (i64::MIN, 1, -14_233_598_822_306_753),
+    (i64::MAX, 4_294_967_296, 3_314_017),
+    (i64::MIN, 4_294_967_296, -3_314_018),
+];
+
+/// Whether so many atoms over so many spaces are so many steps.
+fn are_steps(atoms: i64, spaces: u64, want: i64) -> bool {
+    spaces >= 1 && spaces <= 4_294_967_296 && floor_steps(Atoms::new(atoms), spaces) == want
+}
+
 #[test]
 fn steps_round_down(rt: HostRuntime) {
-    for (atoms, spaces, want) in [
-        (120_000, 4, 46),
-        (-24_000, 4, -10),
-        (0, 1, 0),
-        (647, 1, 0),
-        (648, 1, 1),
-        (-1, 1, -1),
-        (-648, 1, -1),
-        (i64::MIN, 1, -14_233_598_822_306_753),
-        (i64::MAX, 4_294_967_296, 3_314_017),
-        (i64::MIN, 4_294_967_296, -3_314_018),
-    ] {
-        assert!(rt; spaces >= 1 && spaces <= 4_294_967_296);
-        let steps = floor_steps(Atoms::new(atoms), spaces);
-        assert!(rt; steps == want, "{atoms} over {spaces}");
+    for &(atoms, spaces, want) in &STEPS {
+        assert!(rt; are_steps(atoms, spaces, want), "{atoms} over {spaces}");
     }
 }
 

@@ -3,72 +3,68 @@
 use crate::cases::{
     CASE_1, HEAD, Texts, at, case_with, has_symbol, is_blank, is_faulty, is_file_told, is_framed,
 };
-use crate::rows::{cell, coarse};
+use crate::rows::{cell_row, coarse, is_image, is_read, shows};
 use desk_case::{CaseFault, CaseKey, MatrixCase};
 use desk_image::{BadImage, Image};
 use desk_ops::Style;
 use desk_signals::Signal::{A, I, L, N, S, Three};
-use desk_signals::{BadRow, Cell, Column, RibbonRow, RowNo, Signal, from_signals};
+use desk_signals::{BadRow, Cell, Column, RowNo, Signal, from_signals};
 use std::alloc::{AllocError, Global};
 use std::test::Fail;
 
+/// Cells, each by its column, its row and S, and their images.
+const IMAGES: [(Column, u8, bool, u32); 7] = [
+    (Column::NI, 3, false, 0x0042_4000),
+    (Column::NL, 15, true, 0x000a_0001),
+    (Column::NI, 15, false, 0x0042_0000),
+    (Column::NI, 8, false, 0x0042_0200),
+    (Column::N, 15, false, 0x0002_0000),
+    (Column::I, 15, false, 0x0040_0000),
+    (Column::L, 15, false, 0x0008_0000),
+];
+
 #[test]
 fn images_of_wide_rows(rt: HostRuntime) {
-    for (row, bits) in [
-        (cell(Column::NI, 3, false), 0x0042_4000),
-        (cell(Column::NL, 15, true), 0x000a_0001),
-        (cell(Column::NI, 15, false), 0x0042_0000),
-        (cell(Column::NI, 8, false), 0x0042_0200),
-        (cell(Column::N, 15, false), 0x0002_0000),
-        (cell(Column::I, 15, false), 0x0040_0000),
-        (cell(Column::L, 15, false), 0x0008_0000),
-    ] {
-        let image = Image::of_row(row);
-        assert!(rt;
-            image.bits() == bits && image.to_row() == Ok(row),
-            "{bits:08x}"
-        );
+    for &(column, number, s, bits) in &IMAGES {
+        assert!(rt; is_image(cell_row(column, number, s), bits), "{bits:08x}");
     }
+}
+
+/// Images that are no rows, and why.
+const NO_COLUMNS: [(u32, BadRow); 10] = [
+    (0x0048_0000, BadRow::TwoLetters),
+    (0x004a_0000, BadRow::TwoLetters),
+    (0x4002_0000, BadRow::TwoLetters),
+    (0x0006_0000, BadRow::TwoLetters),
+    (0x4042_0000, BadRow::TwoLetters),
+    (0x0043_8000, BadRow::TwoNumbers),
+    (0x0042_0002, BadRow::WedgeWithLetter),
+    (0x0042_0003, BadRow::WedgeWithLetter),
+    (0x0042_0004, BadRow::FineAlone),
+    (0x000a_0006, BadRow::WedgeWithLetter),
+];
+
+/// Whether an image is no row for this reason.
+fn is_no_row(bits: u32, why: BadRow) -> bool {
+    Image::new(bits).to_row() == Err(BadImage::Row(why))
 }
 
 #[test]
 fn letters_that_are_no_column(rt: HostRuntime) {
-    for (bits, why) in [
-        (0x0048_0000, BadRow::TwoLetters),
-        (0x004a_0000, BadRow::TwoLetters),
-        (0x4002_0000, BadRow::TwoLetters),
-        (0x0006_0000, BadRow::TwoLetters),
-        (0x4042_0000, BadRow::TwoLetters),
-        (0x0043_8000, BadRow::TwoNumbers),
-        (0x0042_0002, BadRow::WedgeWithLetter),
-        (0x0042_0003, BadRow::WedgeWithLetter),
-        (0x0042_0004, BadRow::FineAlone),
-        (0x000a_0006, BadRow::WedgeWithLetter),
-    ] {
-        assert!(rt;
-            Image::new(bits).to_row() == Err(BadImage::Row(why)),
-            "{bits:08x}"
-        );
+    for &(bits, why) in &NO_COLUMNS {
+        assert!(rt; is_no_row(bits, why), "{bits:08x}");
     }
 }
 
 /// Signals, and the cell that they are: its column, its row, and S.
-const CELLS: [(&[Signal], Column, u8, bool); 4] = [
+static CELLS: [(&[Signal], Column, u8, bool); 4] = [
     (&[I, N, Three], Column::NI, 3, false),
     (&[N, I, Three], Column::NI, 3, false),
     (&[S, N, Three, L], Column::NL, 3, true),
     (&[L, N], Column::NL, 15, false),
 ];
 
-/// Whether signals are this cell.
-fn are_cell(signals: &[Signal], column: Column, number: u8, s: bool) -> bool {
-    match RowNo::new(number) {
-        Some(row) => from_signals(signals) == Ok(RibbonRow::Cell { column, row, s }),
-        None => false,
-    }
-}
-
-const NO_ROWS: [(&[Signal], BadRow); 5] = [
+static NO_ROWS: [(&[Signal], BadRow); 5] = [
     (&[L, I], BadRow::TwoLetters),
     (&[N, A], BadRow::TwoLetters),
     (&[N, I, L], BadRow::TwoLetters),
@@ -76,37 +72,47 @@ const NO_ROWS: [(&[Signal], BadRow); 5] = [
     (&[N, I, N], BadRow::Repeated),
 ];
 
+/// Whether signals are no row for this reason.
+fn are_no_row(signals: &[Signal], why: BadRow) -> bool {
+    from_signals(signals) == Err(why)
+}
+
 #[test]
 fn signals_in_any_order(rt: HostRuntime) {
     for &(signals, column, number, s) in &CELLS {
-        assert!(rt; are_cell(signals, column, number, s), "{signals:?}");
+        assert!(rt;
+            is_read(cell_row(column, number, s), signals),
+            "{signals:?}"
+        );
     }
     for &(signals, why) in &NO_ROWS {
-        assert!(rt; from_signals(signals) == Err(why), "{signals:?}");
+        assert!(rt; are_no_row(signals, why), "{signals:?}");
     }
-    for (row, signals) in [
-        (cell(Column::NI, 3, true), [I, N, Three, S]),
-        (cell(Column::NL, 3, true), [L, N, Three, S]),
-    ] {
-        assert!(rt; row.signals().as_slice() == signals.as_slice(), "{row:?}");
-    }
+    assert!(rt; shows(cell_row(Column::NI, 3, true), &[I, N, Three, S]));
+    assert!(rt; shows(cell_row(Column::NL, 3, true), &[L, N, Three, S]));
+}
+
+/// Columns, each with its place in their order.
+const COLUMNS: [(u8, Column); 5] = [
+    (0, Column::A),
+    (13, Column::N),
+    (14, Column::O),
+    (15, Column::NI),
+    (16, Column::NL),
+];
+
+/// Whether a column has this place, and stands there.
+fn is_column_at(index: u8, column: Column) -> bool {
+    Column::at(index) == Some(column) && column.index() == index
 }
 
 #[test]
 fn columns_in_their_order(rt: HostRuntime) {
-    for (index, column) in [
-        (0u8, Some(Column::A)),
-        (13, Some(Column::N)),
-        (14, Some(Column::O)),
-        (15, Some(Column::NI)),
-        (16, Some(Column::NL)),
-        (17, None),
-        (255, None),
-    ] {
-        assert!(rt; Column::at(index) == column, "{index}");
-        if let Some(column) = column {
-            assert!(rt; column.index() == index, "{index}");
-        }
+    for &(index, column) in &COLUMNS {
+        assert!(rt; is_column_at(index, column), "{index}");
+    }
+    for &index in &[17, 255] {
+        assert!(rt; Column::at(index).is_none(), "{index}");
     }
     assert!(rt; coarse(3).signals().len() == 2);
 }

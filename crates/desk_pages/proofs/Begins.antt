@@ -1,6 +1,6 @@
 -- Where the groups of pages begin.
-use Rattle.std.proofs.Common.{◌≡◌, ℕ, zero, suc, ◌+◌, ◌-◌, ◌*◌, ◌/◌, ◌<◌, ◌≤◌, List, [], ◌∷◌, ◌++◌, length, get_or, take, set, refl, sym, ap, ◌∙◌, arith, ◌⊎◌, inl, inr, length-append}
-use Rattle.std.proofs.lemmas.List.{length-set, get_or_append_left, get_or_push, length_push}
+use Rattle.std.proofs.Common.{◌≡◌, ℕ, zero, suc, ◌+◌, ◌-◌, ◌*◌, ◌/◌, ◌<◌, ◌≤◌, List, [], ◌∷◌, length, get_or, take, set, refl, sym, ap, ◌∙◌, arith, ◌⊎◌, inl, inr, length-append}
+use Rattle.std.proofs.lemmas.List.{length-set}
 use Rattle.std.proofs.lemmas.Bool.{cases_lt}
 use Rattle.desk_pages.specs.Pages.{joined, start_of, IsStarts}
 
@@ -70,25 +70,6 @@ starts-raised pages q y old new l e s len below raised = record {
     go : (g : ℕ) → g < length old → (g < q / 64 + 1) ⊎ (q / 64 + 1 ≤ g) → get_or new g 0 ≡ start_of (set pages q y) (64 * g)
     go g w (inl a) = below g a ∙ s.is g w ∙ sym (start-before pages q (64 * g) y (omega arith))
     go g w (inr b) = raised g b w ∙ ap (λ (n : ℕ). n + 1) (s.is g w) ∙ sym (start-grown pages q (64 * g) y l e (omega arith))
-
-pub starts-push : {X : Type 0} (pages : List (List X)) (starts : List ℕ) (p start : ℕ) → IsStarts pages starts → p ≤ length pages → start ≡ start_of pages p → p ≡ 64 * length starts → IsStarts pages (starts ++ start ∷ [])
-starts-push pages starts p start s l e q = record {
-  within = λ g w. goWithin g w (cases_lt g (length starts));
-  is = λ g w. go g w (cases_lt g (length starts));
-}
-  where
-    len : length (starts ++ start ∷ []) ≡ length starts + 1
-    len = length_push starts start
-
-    goWithin : (g : ℕ) → g < length (starts ++ start ∷ []) → (g < length starts) ⊎ (length starts ≤ g) → 64 * g ≤ length pages
-    goWithin g w (inl a) = s.within g a
-    goWithin g w (inr a) = omega (arith, len)
-
-    go : (g : ℕ) → g < length (starts ++ start ∷ []) → (g < length starts) ⊎ (length starts ≤ g) → get_or (starts ++ start ∷ []) g 0 ≡ start_of pages (64 * g)
-    go g w (inl a) = get_or_append_left starts (start ∷ []) 0 g a ∙ s.is g a
-    go g w (inr a) =
-        let n : length starts ≡ g = omega (arith, len) in
-        get_or_push starts start 0 g n ∙ e ∙ ap (λ (m : ℕ). start_of pages m) (let r : p ≡ 64 * g = omega arith in r)
 
 pub starts-lowered : {X : Type 0} (pages : List (List X)) (q : ℕ) (y : List X) (old new : List ℕ) → q < length pages → length y + 1 ≡ length (get_or pages q []) → IsStarts pages old → length new ≡ length old → ((n : ℕ) → n < q / 64 + 1 → get_or new n 0 ≡ get_or old n 0) → ((n : ℕ) → q / 64 + 1 ≤ n → n < length old → get_or new n 0 ≡ get_or old n 0 - 1) → IsStarts (set pages q y) new
 starts-lowered pages q y old new l e s len below lowered = record {

@@ -64,8 +64,8 @@ half-count (r ∷ s ∷ pages) h =
     omega arith
 
 -- room for one more means a free page
-pub free-some : {X : Type 0} (pages : List (List X)) (all len : ℕ) → IsHalfFull pages → len ≡ length (joined pages) → 1 ≤ spare_of all len → length pages < all
-free-some pages all len h is s = let k = half-count pages h in omega arith
+pub free-some : {X : Type 0} (pages : List (List X)) (free all len : ℕ) → IsHalfFull pages → len ≡ length (joined pages) → 1 ≤ spare_of free all len → all ≡ length pages + free → 1 ≤ free
+free-some pages free all len h is s sum = let k = half-count pages h in omega arith
 
 pub closed-last : {X : Type 0} (pages : List (List X)) (k : ℕ) → suc k ≡ length pages → length (get_or pages k []) ≡ 512 → IsClosed pages
 closed-last [] k l h = tt
@@ -73,10 +73,6 @@ closed-last (r ∷ []) zero l h = h
 closed-last (r ∷ []) (suc k) l h = absurd (omega arith)
 closed-last (r ∷ s ∷ pages) zero l h = absurd (omega arith)
 closed-last (r ∷ s ∷ pages) (suc k) l h = closed-last (s ∷ pages) k (omega arith) h
-
-pub closed-none : {X : Type 0} (pages : List (List X)) → length pages ≡ 0 → IsClosed pages
-closed-none [] h = tt
-closed-none (r ∷ pages) h = absurd (omega arith)
 
 -- ---- a page is cut in two
 
@@ -198,8 +194,8 @@ spot-gap pages i p j s l = let a = s.inside in record { within = s.within; insid
 pub gap-put : {X : Type 0} (pages : List (List X)) (i p j : ℕ) (x : X) (r y : List X) → IsGap pages i p j → r ≡ get_or pages p r → y ≡ insert r j x → y ≡ insert (get_or pages p []) j x
 gap-put pages i p j x r y g e q = q ∙ ap (λ (z : List _). insert z j x) (get_or_read pages p r g.within e [])
 
-pub kept-more : {X : Type 0} (old new : List (List X)) (i len all a b : ℕ) (x : X) → len ≡ length (joined old) → i ≤ len → joined new ≡ insert (joined old) i x → IsHalfFull new → all ≤ a → all ≤ b → all ≤ 1099511627776 → 1 ≤ spare_of all len → IsKept new (len + 1) all a b
-kept-more old new i len all a b x e l put h ra rb few spare = record {
+pub kept-more : {X : Type 0} (old new : List (List X)) (i len free all a b : ℕ) (x : X) → len ≡ length (joined old) → i ≤ len → joined new ≡ insert (joined old) i x → IsHalfFull new → all ≤ a → all ≤ b → all ≤ 1099511627776 → 1 ≤ spare_of free all len → IsKept new (len + 1) all a b
+kept-more old new i len free all a b x e l put h ra rb few spare = record {
   is_len = let m = ap length put ∙ length-insert (joined old) i x (omega arith) in omega arith;
   half = h;
   room = ra;
@@ -271,16 +267,6 @@ spot-set pages i p j x r y s e q =
     let z : y ≡ set (get_or pages p []) j x = q ∙ ap (λ (l : List _). set l j x) at in
     let n = length-set (get_or pages p []) j x in
     (rw z (joined-set pages p j x s.within s.inside ∙ ap (λ (n : ℕ). set (joined pages) n x) (sym s.is)), λ h. rw z (half-grow pages p (set (get_or pages p []) j x) h (omega arith)))
-
-pub kept-set : {X : Type 0} (old new : List (List X)) (i len all a b : ℕ) (x : X) → IsKept old len all a b → joined new ≡ set (joined old) i x → IsHalfFull new → IsKept new len all a b
-kept-set old new i len all a b x k e h = record {
-  is_len = k.is_len ∙ sym (ap length e ∙ length-set (joined old) i x);
-  half = h;
-  room = k.room;
-  back = k.back;
-  few = k.few;
-  fits = k.fits;
-}
 
 -- ---- a place, or the end
 

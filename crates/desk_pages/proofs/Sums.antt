@@ -3,7 +3,7 @@ use Rattle.std.proofs.Common.{◌≡◌, ◌≢◌, ℕ, zero, suc, ◌+◌, ◌
 use Rattle.std.specs.List.{count_by, insert}
 use Rattle.std.proofs.Math.Seq.{take-add, take-set-lt}
 use Rattle.std.proofs.lemmas.Bool.{cases_lt}
-use Rattle.std.proofs.lemmas.List.{drop-set-lt, drop-set-add, take-set-le, get_or-take, get_or-drop, length-set, length-take-le, get_or_append_left, get_or_push, length_push, get_or_read}
+use Rattle.std.proofs.lemmas.List.{drop-set-lt, drop-set-add, take-set-le, get_or-take, get_or-drop, length-set, length-take-le, get_or_read}
 use Rattle.desk_pages.specs.Pages.{joined, start_of, group_at, IsSums}
 use Rattle.desk_pages.proofs.Cuts.{start-le, joined-insert, joined-set, entry-joined}
 use Rattle.desk_pages.proofs.Picks.{page-fits, page-within, joined-more, count-append}
@@ -98,26 +98,6 @@ sums-write {X} {S} tells pages q k b x old new l is fits s len others replaced =
         let t = page-within grp r k inside j in
         let at : b ≡ get_or (joined grp) (start_of grp r + k) b = is ∙ sym (entry-joined grp r k b inside j ∙ ap (λ (p : List X). get_or p k b) e) in
         subst (λ (p : List X). tells (get_or new (q / 64) d) (joined (set grp r (set p k x)))) e (rw (joined-set grp r k x inside j) (replaced (joined grp) (start_of grp r + k) d w (omega (arith, fits)) t at (s.is (q / 64) d w)))
-
--- the summary of one more group
-pub sums-push : {X S : Type 0} (tells : S → List X → Type 0) (pages : List (List X)) (sums : List S) (s : S) → IsSums tells pages sums → 64 * length sums + 64 ≤ length pages → tells s (joined (group_at pages (length sums))) → IsSums tells pages (sums ++ s ∷ [])
-sums-push {X} {S} tells pages sums s h l t = record {
-  within = λ g w. goWithin g w (cases_lt g (length sums));
-  is = λ g d w. go g d w (cases_lt g (length sums));
-}
-  where
-    len : length (sums ++ s ∷ []) ≡ length sums + 1
-    len = length_push sums s
-
-    goWithin : (g : ℕ) → g < length (sums ++ s ∷ []) → (g < length sums) ⊎ (length sums ≤ g) → 64 * g + 64 ≤ length pages
-    goWithin g w (inl a) = h.within g a
-    goWithin g w (inr a) = omega (arith, len)
-
-    go : (g : ℕ) (d : S) → g < length (sums ++ s ∷ []) → (g < length sums) ⊎ (length sums ≤ g) → tells (get_or (sums ++ s ∷ []) g d) (joined (group_at pages g))
-    go g d w (inl a) = rw (get_or_append_left sums (s ∷ []) d g a) (h.is g d a)
-    go g d w (inr a) =
-        let n : length sums ≡ g = omega (arith, len) in
-        rw (get_or_push sums s d g n) (subst (λ (m : ℕ). tells s (joined (group_at pages m))) n t)
 
 -- a summary of some pages of a group, and of one more
 page-at : {X : Type 0} (pages : List (List X)) (g k : ℕ) (r : List X) → 64 * g + k < length pages → r ≡ get_or pages (64 * g + k) r → get_or (drop (64 * g) pages) k [] ≡ r

@@ -1,5 +1,5 @@
 -- A list in pages.
-use Rattle.std.specs.Prelude.{◌≡◌, true, false, ℕ, zero, suc, ◌<◌, ◌≤◌, ◌+◌, ◌-◌, ◌*◌, ◌^◌, Bool, List, [], ◌∷◌, ◌++◌, length, slice_index_or, take, drop}
+use Rattle.std.specs.Prelude.{◌≡◌, true, false, ℕ, zero, suc, ◌<◌, ◌≤◌, ◌+◌, ◌-◌, ◌*◌, ◌^◌, min, max, Bool, List, [], ◌∷◌, ◌++◌, length, slice_index_or, take, drop}
 use Rattle.std.specs.List.{count_by}
 
 -- the pages, one after another
@@ -61,9 +61,10 @@ cut_at [] p = []
 cut_at (r ∷ pages) zero = take 256 r ∷ drop 256 r ∷ pages
 cut_at (r ∷ pages) (suc p) = r ∷ cut_at pages p
 
--- how many more fit with no new memory, whichever pages they come to
-abbrev pub spare_of : ℕ → ℕ → ℕ
-spare_of pages len = 256 * (pages - 1) - len
+-- how many more fit with no new memory, whichever pages they come to: as many as pages are free, since each cuts one page
+-- at most, or, where that is more, as many as all pages have room for when each is half full; and 2 ^ 47 entries at most
+abbrev pub spare_of : (free all len : ℕ) → ℕ
+spare_of free all len = min (max free (256 * (all - 1) - len)) (2 ^ 47 - len)
 
 -- what the pages in use keep: all is the number of pages, the free ones with them
 pub record IsKept {X : Type 0} (pages : List (List X)) (len all used_room free_room : ℕ) : Type 0 where

@@ -36,7 +36,7 @@ pub struct Pages<T: Copy, S: Summary<T>, A: Allocator> {
 impl<T: Copy, S: Summary<T>, A: Allocator> Model for Pages<T, S, A> {
     ghost Value = { Kept T };
 
-    ghost view = { λ a. record { entries = joined a.pages.items; spare = spare_of (vec_len a.pages + vec_len a.free) a.len } };
+    ghost view = { λ a. record { entries = joined a.pages.items; spare = spare_of (vec_len a.free) (vec_len a.pages + vec_len a.free) a.len } };
 
     ghost invariant = { λ a. IsKept a.pages.items a.len (vec_len a.pages + vec_len a.free) (vec_capacity a.pages) (vec_capacity a.free) × IsGroups S.tells a.pages.items a.groups.starts.items a.groups.sums.items };
 }
@@ -133,7 +133,12 @@ impl<T: Copy, S: Summary<T>, A: Allocator + Copy> Pages<T, S, A> {
     pub fn spare(&self) -> usize
         ensures { result ≡ self.now.spare }
     {
-        ((self.pages.len() + self.free.len()).saturating_sub(1) * HALF).saturating_sub(self.len)
+        let all = self.pages.len() + self.free.len();
+        let half_full = (all.saturating_sub(1) * HALF).saturating_sub(self.len);
+        self.free
+            .len()
+            .max(half_full)
+            .min(MOST.saturating_sub(self.len))
     }
 
     pub fn reserve(&mut self, n: usize) -> Result<(), AllocError>
@@ -148,7 +153,8 @@ impl<T: Copy, S: Summary<T>, A: Allocator + Copy> Pages<T, S, A> {
         if self.len > MOST || n > MOST - self.len {
             return Err(AllocError);
         }
-        let count = (self.len + n) / HALF + 2;
+        let half_full = (self.len + n) / HALF + 2;
+        let count = half_full.min(self.pages.len() + n);
         self.groups.make_room(count / GROUP + 1)?;
         pages::name_room(&mut self.order, count)?;
         pages::stock(&mut self.pages, &mut self.free, count)
@@ -169,7 +175,7 @@ impl<T: Copy, S: Summary<T>, A: Allocator + Copy> Pages<T, S, A> {
         requires within { i ≤ length self.old.entries }
         requires spare { 1 ≤ self.old.spare }
         ensures put { self.new.entries ≡ insert self.old.entries i x }
-        ensures spare { self.new.spare + 1 ≡ self.old.spare }
+        ensures spare { self.old.spare ≤ self.new.spare + 1 }
     {
         let count = self.pages.len();
         let (p, j) = pages::locate_to_end(&self.pages, &self.groups.starts, self.len, i);
@@ -263,7 +269,7 @@ impl<T: Copy, S: Summary<T>, A: Allocator + Copy> Pages<T, S, A> {
     pub fn insert_in_order<P: Pick<T, S>>(&mut self, pick: &P, x: T)
         requires spare { 1 ≤ self.old.spare }
         ensures put { (i : ℕ) × IsEdge (P.picked pick.now) self.old.entries i × (self.new.entries ≡ insert self.old.entries i x) }
-        ensures spare { self.new.spare + 1 ≡ self.old.spare }
+        ensures spare { self.old.spare ≤ self.new.spare + 1 }
     {
         let (p, j) = search::edge(&self.pages, pick);
         pages::put(

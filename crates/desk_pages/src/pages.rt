@@ -121,6 +121,7 @@ fn gap<T: Copy, S: Summary<T>, A: Allocator>(
     ensures same { joined pages.new.items ≡ joined pages.old.items }
     ensures half { IsHalfFull pages.new.items }
     ensures count { vec_len pages.new + vec_len free.new ≡ vec_len pages.old + vec_len free.old }
+    ensures fewer { vec_len free.old ≤ vec_len free.new + 1 }
     ensures capacity { vec_capacity pages.old ≤ vec_capacity pages.new }
     ensures free_capacity { vec_capacity free.new ≡ vec_capacity free.old }
 {
@@ -161,6 +162,7 @@ fn open<T: Copy, S: Summary<T>, A: Allocator>(
     ensures put { joined pages.new.items ≡ joined pages.old.items ++ x ∷ [] }
     ensures half { IsHalfFull pages.new.items }
     ensures count { vec_len pages.new + vec_len free.new ≡ vec_len pages.old + vec_len free.old }
+    ensures fewer { vec_len free.old ≤ vec_len free.new + 1 }
     ensures capacity { vec_capacity pages.new ≡ vec_capacity pages.old }
     ensures free_capacity { vec_capacity free.new ≡ vec_capacity free.old }
 {
@@ -180,10 +182,11 @@ fn put_anywhere<T: Copy, S: Summary<T>, A: Allocator>(
 )
     requires kept { IsKept pages.old.items len (vec_len pages.old + vec_len free.old) (vec_capacity pages.old) (vec_capacity free.old) }
     requires spot { IsSpotOrEnd pages.old.items p j }
-    requires spare { 1 ≤ spare_of (vec_len pages.old + vec_len free.old) len }
+    requires spare { 1 ≤ spare_of (vec_len free.old) (vec_len pages.old + vec_len free.old) len }
     ensures kept { IsKept pages.new.items (len + 1) (vec_len pages.new + vec_len free.new) (vec_capacity pages.new) (vec_capacity free.new) }
     ensures put { joined pages.new.items ≡ insert (joined pages.old.items) (start_of pages.old.items p + j) x }
     ensures count { vec_len pages.new + vec_len free.new ≡ vec_len pages.old + vec_len free.old }
+    ensures fewer { vec_len free.old ≤ vec_len free.new + 1 }
 {
     if p < pages.len() {
         let (q, k) = gap(pages, free, p, j);
@@ -229,11 +232,12 @@ pub fn put<T: Copy, S: Summary<T>, A: Allocator>(
     requires kept { IsKept pages.old.items len (vec_len pages.old + vec_len free.old) (vec_capacity pages.old) (vec_capacity free.old) }
     requires groups { IsGroups S.tells pages.old.items groups.old.starts.items groups.old.sums.items }
     requires spot { IsSpotOrEnd pages.old.items p j }
-    requires spare { 1 ≤ spare_of (vec_len pages.old + vec_len free.old) len }
+    requires spare { 1 ≤ spare_of (vec_len free.old) (vec_len pages.old + vec_len free.old) len }
     ensures kept { IsKept pages.new.items (len + 1) (vec_len pages.new + vec_len free.new) (vec_capacity pages.new) (vec_capacity free.new) }
     ensures groups { IsGroups S.tells pages.new.items groups.new.starts.items groups.new.sums.items }
     ensures put { joined pages.new.items ≡ insert (joined pages.old.items) (start_of pages.old.items p + j) x }
     ensures count { vec_len pages.new + vec_len free.new ≡ vec_len pages.old + vec_len free.old }
+    ensures fewer { vec_len free.old ≤ vec_len free.new + 1 }
 {
     match room_at(pages, p, j) {
         Some((q, k)) => put_inside(pages, groups, q, k, x),
@@ -323,6 +327,7 @@ fn level<T: Copy, S: Summary<T>, A: Allocator>(
     ensures same { joined pages.new.items ≡ joined pages.old.items }
     ensures half { IsHalfFull pages.new.items }
     ensures count { vec_len pages.new + vec_len free.new ≡ vec_len pages.old + vec_len free.old }
+    ensures freed { vec_len free.old ≤ vec_len free.new }
     ensures capacity { vec_capacity pages.old ≤ vec_capacity pages.new }
     ensures free_capacity { vec_capacity free.new ≡ vec_capacity free.old }
 {
@@ -377,6 +382,7 @@ pub fn take<T: Copy, S: Summary<T>, A: Allocator>(
     ensures rest { joined pages.new.items ≡ remove (joined pages.old.items) (start_of pages.old.items p + j) }
     ensures out { result ≡ slice_index_or (joined pages.old.items) (start_of pages.old.items p + j) result }
     ensures count { vec_len pages.new + vec_len free.new ≡ vec_len pages.old + vec_len free.old }
+    ensures freed { vec_len free.old ≤ vec_len free.new }
 {
     if has_more(pages, p) {
         return take_inside(pages, groups, p, j);
@@ -402,6 +408,7 @@ fn take_short<T: Copy, S: Summary<T>, A: Allocator>(
     ensures rest { joined pages.new.items ≡ remove (joined pages.old.items) (start_of pages.old.items p + j) }
     ensures out { result ≡ slice_index_or (joined pages.old.items) (start_of pages.old.items p + j) result }
     ensures count { vec_len pages.new + vec_len free.new ≡ vec_len pages.old + vec_len free.old }
+    ensures freed { vec_len free.old ≤ vec_len free.new }
 {
     let out = pages[p].remove(j);
     level(pages, free, p);

@@ -13,7 +13,7 @@ use Rattle.desk_galley.specs.Values.{GalleyValues}
 use Rattle.desk_galley.specs.Galley.{IsGalley}
 use Rattle.desk_files.specs.Files.{IsReplaced, Shelf, Stays}
 use Rattle.desk_stored.specs.Faults.{IsNotStored}
-use Rattle.desk_preview.specs.Sources.{AreRefused, Give, Sources}
+use Rattle.desk_preview.specs.Sources.{AreRefused, Give, LackMemory, Sources}
 use Rattle.desk_preview.specs.declared.fault.PreviewFault.{PreviewFault}
 use Rattle.desk_preview.specs.declared.fault.PreviewFault.TheVariants as faults
 use Rattle.desk_picture.specs.Picture.{no_galley_picture, picture_text}
@@ -48,4 +48,4 @@ IsUnpictured from trial target first last (faults.Input why) = Stays first last 
 IsUnpictured from trial target first last faults.Faulty = ⊥
 IsUnpictured from trial target first last faults.Write = ⊥
 IsUnpictured from trial target first last (faults.Unstored why) = (drawn : List ℕ) × IsPictureOf from first trial drawn × IsNotStored target first last why
-IsUnpictured from trial target first last faults.NoMemory = Stays first last
+IsUnpictured from trial target first last faults.NoMemory = LackMemory from first last

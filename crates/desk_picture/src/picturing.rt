@@ -99,16 +99,8 @@ pub fn picture_feed<F: Files, A: Allocator + Copy>(
     ensures err { IfErr result (IsUnpictured (sources feed.now case.now wedge.now) trial.now target.now (F.shelf files.old) (F.shelf files.new)) }
     ensures held { (F.shelf files.new).held ≡ (F.shelf files.old).held }
 {
-    let (replica, case, wedge) = match take_in(memory, files, feed, case, wedge) {
-        Ok(taken) => taken,
-        Err(why) => return Err(why),
-    };
-    let drawn = match drawn_of(memory.own, &replica, &case, &wedge, trial) {
-        Ok(drawn) => drawn,
-        Err(_) => return Err(PreviewFault::NoMemory),
-    };
-    match store(memory.own, files, target, drawn.as_bytes()) {
-        Ok(()) => Ok(()),
-        Err(why) => Err(PreviewFault::Unstored(why)),
-    }
+    let (replica, case, wedge) = take_in(memory, files, feed, case, wedge)?;
+    let drawn = drawn_of(memory.own, &replica, &case, &wedge, trial)?;
+    store(memory.own, files, target, drawn.as_bytes())?;
+    Ok(())
 }

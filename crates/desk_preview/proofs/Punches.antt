@@ -1,13 +1,17 @@
 -- A job that has a ribbon, and one that has faults.
-use Rattle.std.proofs.Common.{◌≡◌, ℕ, List, refl}
+use Rattle.std.proofs.Common.{◌≡◌, ℕ, List, inr, refl}
 use Rattle.std.specs.Prelude.{Option, Result, Ok, Err}
 use Rattle.desk_signals.specs.declared.RibbonRow.{RibbonRow}
 use Rattle.desk_ribbon.specs.Ribbon.{ribbon}
 use Rattle.desk_job.specs.Answer.{IsMade}
 use Rattle.desk_job.specs.declared.JobFault.{JobFault}
-use Rattle.desk_files.specs.Files.{Shelf, Stays}
-use Rattle.desk_preview.specs.Punching.{IsJobOf, IsUnpunched, Tells}
-use Rattle.desk_preview.specs.Sources.{Sources}
+use Rattle.desk_ops.specs.OpSet.{OpSet}
+use Rattle.desk_case.specs.Case.{CaseValues}
+use Rattle.desk_wedge.specs.Wedge.{WedgeValues}
+use Rattle.desk_inputs.specs.Job.{job_of}
+use Rattle.desk_files.specs.Files.{Shelf}
+use Rattle.desk_preview.specs.Punching.{IsUnpunched, IsUntold}
+use Rattle.desk_preview.specs.Sources.{Give, Sources}
 use Rattle.desk_preview.specs.declared.fault.PreviewFault.{PreviewFault}
 use Rattle.desk_preview.specs.declared.fault.PreviewFault.TheVariants as faults
 
@@ -16,12 +20,12 @@ pub made_rows : (bytes : List ℕ) (made : Result (List RibbonRow) (List JobFaul
 made_rows bytes (Ok rows) is = (rows, refl, is)
 made_rows bytes (Err found) is = absurd is
 
--- where the faults of a job are told, or not
-pub told_faults : (from : Sources) (target : List ℕ) (first last : Shelf) (before after : Option (List ℕ)) (found : List JobFault) (fault : PreviewFault)
-    → IsJobOf from first (Err found) → Stays first last → Tells found before after fault → IsUnpunched from target first last before after fault
-told_faults from target first last before after found (faults.Feed why) job stays tells = absurd tells
-told_faults from target first last before after found (faults.Input why) job stays tells = absurd tells
-told_faults from target first last before after found faults.Faulty job stays tells = (stays, found, job, tells)
-told_faults from target first last before after found faults.Write job stays tells = (stays, found, job, tells)
-told_faults from target first last before after found (faults.Unstored why) job stays tells = absurd tells
-told_faults from target first last before after found faults.NoMemory job stays tells = (tells, stays)
+-- where the faults of a job are not told
+pub untold_faults : (from : Sources) (target : List ℕ) (first last : Shelf) (before after : Option (List ℕ)) (set : OpSet) (case : CaseValues) (wedge : WedgeValues) (found : List JobFault) (fault : PreviewFault)
+    → Give from first set case wedge → job_of set case wedge ≡ Err found → last ≡ first → IsUntold found before after fault → IsUnpunched from target first last before after fault
+untold_faults from target first last before after set case wedge found (faults.Feed why) give refused same untold = absurd untold
+untold_faults from target first last before after set case wedge found (faults.Input why) give refused same untold = absurd untold
+untold_faults from target first last before after set case wedge found faults.Faulty give refused same untold = absurd untold
+untold_faults from target first last before after set case wedge found faults.Write give refused same untold = (same, found, (set, case, wedge, give, refused), untold)
+untold_faults from target first last before after set case wedge found (faults.Unstored why) give refused same untold = absurd untold
+untold_faults from target first last before after set case wedge found faults.NoMemory give refused same untold = (untold, inr (same, set, case, wedge, give))

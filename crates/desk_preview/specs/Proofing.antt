@@ -17,7 +17,7 @@ use Rattle.desk_stored.specs.Sending.{WritesFront}
 use Rattle.desk_replica.specs.declared.settings.Settings.{Settings}
 use Rattle.desk_job.specs.Job.{job}
 use Rattle.desk_trial.specs.Trial.{tried}
-use Rattle.desk_preview.specs.Sources.{AreRefused, Give, Sources}
+use Rattle.desk_preview.specs.Sources.{AreRefused, Give, LackMemory, Sources}
 use Rattle.desk_preview.specs.declared.fault.PreviewFault.{PreviewFault}
 use Rattle.desk_preview.specs.declared.fault.PreviewFault.TheVariants as faults
 
@@ -59,6 +59,6 @@ IsUnproofed from trial extent first last before after (faults.Feed why) = (after
 IsUnproofed from trial extent first last before after (faults.Input why) = (after ≡ before) × AreRefused from first last (faults.Input why)
 IsUnproofed from trial extent first last before after faults.Faulty = ⊥
 IsUnproofed from trial extent first last before after faults.Write =
-    (told : List ℕ) × (clean : Bool) × IsProofOf from first trial extent told clean × WritesFront before after told
+    (last ≡ first) × (told : List ℕ) × (clean : Bool) × IsProofOf from first trial extent told clean × WritesFront before after told
 IsUnproofed from trial extent first last before after (faults.Unstored why) = ⊥
-IsUnproofed from trial extent first last before after faults.NoMemory = after ≡ before
+IsUnproofed from trial extent first last before after faults.NoMemory = (after ≡ before) × LackMemory from first last

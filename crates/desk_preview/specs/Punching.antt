@@ -13,7 +13,7 @@ use Rattle.desk_files.specs.Files.{IsReplaced, Shelf, Stays}
 use Rattle.desk_stored.specs.Faults.{IsNotStored}
 use Rattle.desk_stored.specs.Sending.{WritesFront}
 use Rattle.desk_inputs.specs.Job.{job_of}
-use Rattle.desk_preview.specs.Sources.{AreRefused, Give, Sources}
+use Rattle.desk_preview.specs.Sources.{AreRefused, Give, LackMemory, Sources}
 use Rattle.desk_preview.specs.declared.fault.PreviewFault.{PreviewFault}
 use Rattle.desk_preview.specs.declared.fault.PreviewFault.TheVariants as faults
 
@@ -29,23 +29,23 @@ no_ribbon_line found = text (NoRibbon found) ++ 10 ∷ []
 abbrev pub IsPunched : Sources → List ℕ → Shelf → Shelf → Type 0
 IsPunched from target before after = (rows : List RibbonRow) × IsJobOf from before (Ok rows) × IsReplaced target (ribbon rows) before.kept after.kept
 
--- what became of the line of faults: it was written, or under Write a prefix of it, or memory ran out before
-abbrev pub Tells : List JobFault → Option (List ℕ) → Option (List ℕ) → PreviewFault → Type 0
-Tells found before after (faults.Feed why) = ⊥
-Tells found before after (faults.Input why) = ⊥
-Tells found before after faults.Faulty = Appends before after (no_ribbon_line found)
-Tells found before after faults.Write = WritesFront before after (no_ribbon_line found)
-Tells found before after (faults.Unstored why) = ⊥
-Tells found before after faults.NoMemory = after ≡ before
+-- the line of faults was not written: a prefix of it was, or memory ran out before
+abbrev pub IsUntold : List JobFault → Option (List ℕ) → Option (List ℕ) → PreviewFault → Type 0
+IsUntold found before after (faults.Feed why) = ⊥
+IsUntold found before after (faults.Input why) = ⊥
+IsUntold found before after faults.Faulty = ⊥
+IsUntold found before after faults.Write = WritesFront before after (no_ribbon_line found)
+IsUntold found before after (faults.Unstored why) = ⊥
+IsUntold found before after faults.NoMemory = after ≡ before
 
 -- Why no ribbon was stored, and what was written. No file has changed but, where the ribbon was not stored, that of the writing.
 abbrev pub IsUnpunched : Sources → List ℕ → Shelf → Shelf → Option (List ℕ) → Option (List ℕ) → PreviewFault → Type 0
 IsUnpunched from target first last before after (faults.Feed why) = (after ≡ before) × Stays first last × AreRefused from first last (faults.Feed why)
 IsUnpunched from target first last before after (faults.Input why) = (after ≡ before) × Stays first last × AreRefused from first last (faults.Input why)
 IsUnpunched from target first last before after faults.Faulty =
-    Stays first last × (found : List JobFault) × IsJobOf from first (Err found) × Appends before after (no_ribbon_line found)
+    (last ≡ first) × (found : List JobFault) × IsJobOf from first (Err found) × Appends before after (no_ribbon_line found)
 IsUnpunched from target first last before after faults.Write =
-    Stays first last × (found : List JobFault) × IsJobOf from first (Err found) × WritesFront before after (no_ribbon_line found)
+    (last ≡ first) × (found : List JobFault) × IsJobOf from first (Err found) × WritesFront before after (no_ribbon_line found)
 IsUnpunched from target first last before after (faults.Unstored why) =
     (after ≡ before) × (rows : List RibbonRow) × IsJobOf from first (Ok rows) × IsNotStored target first last why
-IsUnpunched from target first last before after faults.NoMemory = (after ≡ before) × Stays first last
+IsUnpunched from target first last before after faults.NoMemory = (after ≡ before) × LackMemory from first last

@@ -1,13 +1,21 @@
 -- What a preview is made of: a stored feed, a case and a wedge.
-use Rattle.std.specs.Prelude.{ℕ, List, Ok, Err}
+use Rattle.std.specs.Prelude.{◌≡◌, ◌⊎◌, ℕ, List, Ok, Err}
 use Rattle.desk_ops.specs.OpSet.{OpSet}
 use Rattle.desk_case.specs.Case.{CaseValues}
 use Rattle.desk_wedge.specs.Wedge.{WedgeValues}
+use Rattle.desk_answers.specs.declared.not_done.NotDone.{NotDone}
+use Rattle.desk_answers.specs.declared.not_done.NotDone.TheVariants as ends
 use Rattle.desk_files.specs.Files.{Shelf}
 use Rattle.desk_hand.specs.Exporting.{IsClosedBy, IsSetOf}
-use Rattle.desk_inputs.specs.Inputs.{BothGive}
+use Rattle.desk_inputs.specs.Inputs.{BothGive, BothLackMemory}
 use Rattle.desk_preview.specs.declared.fault.PreviewFault.{PreviewFault}
 use Rattle.desk_preview.specs.declared.fault.PreviewFault.TheVariants as faults
+
+-- what a case or a wedge that is not given is for a preview
+abbrev pub of_input : NotDone → PreviewFault
+of_input (ends.Refused why) = faults.Input why
+of_input (ends.Stopped taken why) = faults.Input why
+of_input ends.NoMemory = faults.NoMemory
 
 -- the names of a stored feed, of a case file and of a wedge file
 pub record Sources : Type 0 where
@@ -22,11 +30,17 @@ sources feed case wedge = record { feed = feed; case = case; wedge = wedge }
 abbrev pub Give : Sources → Shelf → OpSet → CaseValues → WedgeValues → Type 0
 Give from shelf set case wedge = IsSetOf from.feed shelf set × BothGive from.case from.wedge shelf (Ok (case, wedge)) shelf
 
--- why they give nothing: the feed is not opened, or it is, and then the case or the wedge is refused; or memory ran out
+-- why they give nothing: the feed is not opened; or it is, and then the case or the wedge is refused, or memory runs out by one of them
 abbrev pub AreRefused : Sources → Shelf → Shelf → PreviewFault → Type 0
 AreRefused from before after (faults.Feed why) = IsClosedBy from.feed before after why
 AreRefused from before after (faults.Input why) = (set : OpSet) × IsSetOf from.feed before set × BothGive from.case from.wedge before (Err why) after
 AreRefused from before after faults.Faulty = ⊥
 AreRefused from before after faults.Write = ⊥
 AreRefused from before after (faults.Unstored why) = ⊥
-AreRefused from before after faults.NoMemory = Unit {0}
+AreRefused from before after faults.NoMemory = (set : OpSet) × IsSetOf from.feed before set × BothLackMemory from.case from.wedge before after
+
+-- memory ran out by the case or the wedge, or once all was given, and then no file has changed and the device did not fail
+abbrev pub LackMemory : Sources → Shelf → Shelf → Type 0
+LackMemory from before after =
+    AreRefused from before after faults.NoMemory
+    ⊎ ((after ≡ before) × (set : OpSet) × (case : CaseValues) × (wedge : WedgeValues) × Give from before set case wedge)

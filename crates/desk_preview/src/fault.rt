@@ -1,9 +1,10 @@
 //! Why there is no preview.
 
 ghost use Rattle.std.specs.Prelude.{◌≡◌};
+ghost use Rattle.desk_preview.specs.Sources.{of_input};
 ghost use Rattle.desk_preview.specs.declared.fault.PreviewFault.TheVariants as faults;
 
-use desk_answers::Refusal;
+use desk_answers::{NotDone, Refusal};
 use desk_files::FileRefusal;
 use desk_hand::FeedTrouble;
 use desk_memory::NoMemory;
@@ -53,5 +54,25 @@ impl From<FeedTrouble> for PreviewFault {
 
     fn from(why: FeedTrouble) -> PreviewFault {
         PreviewFault::Feed(why)
+    }
+}
+
+impl From<NotDone> for PreviewFault {
+    ghost from_gives = { λ end fault. fault ≡ of_input end };
+
+    fn from(end: NotDone) -> PreviewFault {
+        match end {
+            NotDone::Refused(why) | NotDone::Stopped(_, why) => PreviewFault::Input(why),
+            NotDone::NoMemory => PreviewFault::NoMemory,
+        }
+    }
+}
+
+/// A file that is not stored: one that is not read is the trouble of a feed, or a refused input.
+impl From<FileRefusal> for PreviewFault {
+    ghost from_gives = { λ why fault. fault ≡ faults.Unstored why };
+
+    fn from(why: FileRefusal) -> PreviewFault {
+        PreviewFault::Unstored(why)
     }
 }

@@ -125,16 +125,8 @@ pub fn proof_feed<W: Write, F: Files, A: Allocator + Copy>(
     ensures err { IfErr result (IsUnproofed (sources feed.now case.now wedge.now) trial.now extent (F.shelf files.old) (F.shelf files.new) (W.contents writer.old) (W.contents writer.new)) }
     ensures stays { Stays (F.shelf files.old) (F.shelf files.new) }
 {
-    let (replica, case, wedge) = match take_in(memory, files, feed, case, wedge) {
-        Ok(taken) => taken,
-        Err(why) => return Err(why),
-    };
-    let (text, clean) = match told_of(memory.own, &replica, &case, &wedge, trial, extent) {
-        Ok(told) => told,
-        Err(_) => return Err(PreviewFault::NoMemory),
-    };
-    match write_out(writer, text.as_bytes()) {
-        Ok(()) => Ok(clean),
-        Err(_) => Err(PreviewFault::Write),
-    }
+    let (replica, case, wedge) = take_in(memory, files, feed, case, wedge)?;
+    let (text, clean) = told_of(memory.own, &replica, &case, &wedge, trial, extent)?;
+    write_out(writer, text.as_bytes())?;
+    Ok(clean)
 }

@@ -1,12 +1,13 @@
 //! The ribbon of a stored feed, stored under a name.
 
 ghost use Rattle.std.specs.Prelude.{◌≡◌, ◌++◌, IfErr, IfOk, OnOk, string_bytes};
-ghost use Rattle.desk_preview.specs.Punching.{IsPunched, IsUnpunched, Tells, no_ribbon_line};
+ghost use Rattle.std.specs.Io.KnownBytes.{Appends};
+ghost use Rattle.desk_preview.specs.Punching.{IsPunched, IsUnpunched, IsUntold, no_ribbon_line};
 ghost use Rattle.desk_preview.specs.Sources.{sources};
 
 use crate::fault::PreviewFault;
 use crate::sources::take_in;
-use desk_answers::{Response, put};
+use desk_answers::{Reply, put};
 use desk_files::{Files, store};
 use desk_hand::write_out;
 use desk_inputs::Memory;
@@ -20,27 +21,23 @@ fn line_of<A: Allocator + Copy>(alloc: A, faults: JobFaults<A>) -> Result<String
     ensures { IfOk result (λ s. string_bytes s ≡ no_ribbon_line faults) }
 {
     let mut out = String::new(alloc);
-    put(&mut out, &Response::NoRibbon(faults))?;
+    put(&mut out, &Reply::NoRibbon(faults))?;
     out.push_str("\n")?;
     Ok(out)
 }
 
-/// Writes the line of the faults of a job: that there is no ribbon, or why the line was not written.
+/// Writes the line of the faults of a job.
 fn tell<W: Write, A: Allocator + Copy>(
     alloc: A,
     writer: &mut W,
     faults: JobFaults<A>,
-) -> PreviewFault
-    ensures { Tells faults (W.contents writer.old) (W.contents writer.new) result }
+) -> Result<(), PreviewFault>
+    ensures ok { OnOk result (Appends (W.contents writer.old) (W.contents writer.new) (no_ribbon_line faults)) }
+    ensures err { IfErr result (IsUntold faults (W.contents writer.old) (W.contents writer.new)) }
 {
-    let line = match line_of(alloc, faults) {
-        Ok(line) => line,
-        Err(_) => return PreviewFault::NoMemory,
-    };
-    match write_out(writer, line.as_bytes()) {
-        Ok(()) => PreviewFault::Faulty,
-        Err(_) => PreviewFault::Write,
-    }
+    let line = line_of(alloc, faults)?;
+    write_out(writer, line.as_bytes())?;
+    Ok(())
 }
 
 /// Makes the ribbon of a stored feed by a case and a wedge, and stores it under the name of a target; nothing is written
@@ -62,16 +59,16 @@ pub fn punch_feed<W: Write, F: Files, A: Allocator + Copy>(
     ensures err { IfErr result (IsUnpunched (sources feed.now case.now wedge.now) target.now (F.shelf files.old) (F.shelf files.new) (W.contents writer.old) (W.contents writer.new)) }
     ensures held { (F.shelf files.new).held ≡ (F.shelf files.old).held }
 {
-    let (replica, case, wedge) = match take_in(memory, files, feed, case, wedge) {
-        Ok(taken) => taken,
-        Err(why) => return Err(why),
-    };
+    let (replica, case, wedge) = take_in(memory, files, feed, case, wedge)?;
     match make(memory.own, &replica, &case, &wedge) {
-        Ok(ribbon) => match store(memory.own, files, target, &ribbon) {
-            Ok(()) => Ok(()),
-            Err(why) => Err(PreviewFault::Unstored(why)),
-        },
-        Err(JobRefusal::Faults(faults)) => Err(tell(memory.own, writer, faults)),
+        Ok(ribbon) => {
+            store(memory.own, files, target, &ribbon)?;
+            Ok(())
+        }
+        Err(JobRefusal::Faults(faults)) => {
+            tell(memory.own, writer, faults)?;
+            Err(PreviewFault::Faulty)
+        }
         Err(JobRefusal::NoMemory) => Err(PreviewFault::NoMemory),
     }
 }

@@ -5,7 +5,6 @@ ghost use Rattle.desk_files.specs.Files.{Stays};
 ghost use Rattle.desk_preview.specs.Sources.{AreRefused, Give, sources};
 
 use crate::fault::PreviewFault;
-use desk_answers::NotDone;
 use desk_blocks::Blocks;
 use desk_case::MatrixCase;
 use desk_files::Files;
@@ -15,7 +14,8 @@ use desk_replica::Replica;
 use desk_wedge::Wedge;
 use std::alloc::Allocator;
 
-/// Opens the feed of a file, and reads a case and a wedge. No name is taken, and no file changes.
+/// Opens the feed of a file, and reads a case and a wedge. No name is taken, and no file changes. Out of memory comes only
+/// where the device did not fail in the call, the feed was opened, and the case, where the wedge was read, was not refused.
 pub fn take_in<F: Files, A: Allocator + Copy>(
     memory: Memory<A>,
     files: &mut F,
@@ -24,18 +24,11 @@ pub fn take_in<F: Files, A: Allocator + Copy>(
     wedge: &str,
 ) -> Result<(Replica<Blocks<A>>, MatrixCase, Wedge), PreviewFault>
     ensures ok { IfOk result (λ t. Give (sources feed.now case.now wedge.now) (F.shelf files.old) t.0.ops t.1 t.2) }
-    ensures counted { OnOk result ((F.shelf files.new).failures ≡ (F.shelf files.old).failures) }
+    ensures still { OnOk result (F.shelf files.new ≡ F.shelf files.old) }
     ensures err { IfErr result (AreRefused (sources feed.now case.now wedge.now) (F.shelf files.old) (F.shelf files.new)) }
     ensures stays { Stays (F.shelf files.old) (F.shelf files.new) }
 {
-    let replica = match open_feed(memory.own, files, feed) {
-        Ok(replica) => replica,
-        Err(why) => return Err(PreviewFault::Feed(why)),
-    };
-    match both(memory, files, case, wedge) {
-        Ok((case, wedge)) => Ok((replica, case, wedge)),
-        Err(NotDone::Refused(why)) => Err(PreviewFault::Input(why)),
-        Err(NotDone::Stopped(_, _)) => unreachable!(),
-        Err(NotDone::NoMemory) => Err(PreviewFault::NoMemory),
-    }
+    let replica = open_feed(memory.own, files, feed)?;
+    let (case, wedge) = both(memory, files, case, wedge)?;
+    Ok((replica, case, wedge))
 }

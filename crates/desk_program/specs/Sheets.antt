@@ -5,7 +5,7 @@ use Rattle.desk_files.specs.Files.{Shelf, Stays}
 use Rattle.desk_world.specs.Sites.{Sites, no_sites}
 use Rattle.desk_script.specs.Desk.{desk}
 use Rattle.desk_script.specs.Script.{Answers, AnswersFront}
-use Rattle.desk_script.specs.Stored.{AnswersStored, IsHalted}
+use Rattle.desk_script.specs.FeedRun.{AnswersStored, IsStoppedOnFeed}
 use Rattle.desk_script.specs.declared.fault.RunFault.{RunFault}
 use Rattle.desk_sheet.specs.Sheet.{IsDone, IsStopped}
 use Rattle.desk_sheet.specs.StoredSheet.{IsStoredSheet}
@@ -58,5 +58,5 @@ IsOnDesk manner feed site first last input before after =
 -- they stopped, and this is what they left
 abbrev pub IsOffDesk : Manner → Text → ℕ → Shelf → Shelf → Option (List ℕ) → Option (List ℕ) → Option (List ℕ) → Type 0
 IsOffDesk manner feed site first last input before after =
-    MatchBool (is_sheet manner) ((fault : SheetFault) × sheets.IsHalted (mode_of manner) feed site first last input before after fault)
-    ((fault : RunFault) × IsHalted feed site first last input before after fault)
+    MatchBool (is_sheet manner) ((fault : SheetFault) × sheets.IsStoppedOnFeed (mode_of manner) feed site first last input before after fault)
+    ((fault : RunFault) × IsStoppedOnFeed feed site first last input before after fault)

@@ -4,10 +4,10 @@
 mod compared;
 mod previews;
 mod readings;
+mod runs;
 mod sheets;
-mod tasks;
 mod telling;
 mod texts;
 
-pub use tasks::program;
+pub use runs::program;
 pub use telling::unread;

@@ -5,7 +5,7 @@ use Rattle.desk_case.specs.Case.{CaseValues}
 use Rattle.desk_wedge.specs.Wedge.{WedgeValues}
 use Rattle.desk_files.specs.Files.{Shelf}
 use Rattle.desk_stored.specs.Sending.{WritesFront}
-use Rattle.desk_reading.specs.Sources.{AreRefused, Give, Sources}
+use Rattle.desk_reading.specs.Sources.{AreRefused, Give, LackMemory, Sources}
 use Rattle.desk_reading.specs.Told.{IsTold}
 use Rattle.desk_reading.specs.declared.fault.ReadingFault.{ReadingFault}
 use Rattle.desk_reading.specs.declared.fault.ReadingFault.TheVariants as faults
@@ -23,6 +23,6 @@ IsRead from shelf before after whole = (told : List ℕ) × IsReadingOf from she
 abbrev pub IsUnread : Sources → Shelf → Shelf → Option (List ℕ) → Option (List ℕ) → ReadingFault → Type 0
 IsUnread from first last before after (faults.Ribbon why) = (after ≡ before) × AreRefused from first last (faults.Ribbon why)
 IsUnread from first last before after (faults.Input why) = (after ≡ before) × AreRefused from first last (faults.Input why)
-IsUnread from first last before after faults.Write = (told : List ℕ) × (whole : Bool) × IsReadingOf from first told whole × WritesFront before after told
+IsUnread from first last before after faults.Write = (last ≡ first) × (told : List ℕ) × (whole : Bool) × IsReadingOf from first told whole × WritesFront before after told
 IsUnread from first last before after (faults.Unstored why) = ⊥
-IsUnread from first last before after faults.NoMemory = after ≡ before
+IsUnread from first last before after faults.NoMemory = (after ≡ before) × LackMemory from first last

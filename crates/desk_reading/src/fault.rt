@@ -1,7 +1,13 @@
 //! Why there is no reading.
 
-use desk_answers::Refusal;
+ghost use Rattle.std.specs.Prelude.{◌≡◌};
+ghost use Rattle.desk_reading.specs.Sources.{of_input, of_ribbon};
+ghost use Rattle.desk_reading.specs.declared.fault.ReadingFault.TheVariants as faults;
+
+use desk_answers::{NotDone, Refusal};
 use desk_files::FileRefusal;
+use desk_memory::NoMemory;
+use desk_stored::Unsent;
 use thiserror::Error;
 
 /// Why the file of a ribbon is not read or not drawn, by the phase in which it stopped.
@@ -21,4 +27,43 @@ pub enum ReadingFault {
     Unstored(FileRefusal),
     #[error("no memory")]
     NoMemory,
+}
+
+impl From<NoMemory> for ReadingFault {
+    ghost from_gives = { λ _ fault. fault ≡ faults.NoMemory };
+
+    fn from(_: NoMemory) -> ReadingFault {
+        ReadingFault::NoMemory
+    }
+}
+
+impl From<Unsent> for ReadingFault {
+    ghost from_gives = { λ _ fault. fault ≡ faults.Write };
+
+    fn from(_: Unsent) -> ReadingFault {
+        ReadingFault::Write
+    }
+}
+
+/// A ribbon's file that is not read.
+impl From<FileRefusal> for ReadingFault {
+    ghost from_gives = { λ why fault. fault ≡ of_ribbon why };
+
+    fn from(why: FileRefusal) -> ReadingFault {
+        match why {
+            FileRefusal::NoMemory => ReadingFault::NoMemory,
+            other => ReadingFault::Ribbon(other),
+        }
+    }
+}
+
+impl From<NotDone> for ReadingFault {
+    ghost from_gives = { λ end fault. fault ≡ of_input end };
+
+    fn from(end: NotDone) -> ReadingFault {
+        match end {
+            NotDone::Refused(why) | NotDone::Stopped(_, why) => ReadingFault::Input(why),
+            NotDone::NoMemory => ReadingFault::NoMemory,
+        }
+    }
 }

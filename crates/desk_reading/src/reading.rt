@@ -32,16 +32,8 @@ pub fn read_job<W: Write, F: Files, A: Allocator + Copy>(
     ensures err { IfErr result (IsUnread (sources ribbon.now case.now wedge.now) (F.shelf files.old) (F.shelf files.new) (W.contents writer.old) (W.contents writer.new)) }
     ensures stays { Stays (F.shelf files.old) (F.shelf files.new) }
 {
-    let (bytes, case, wedge) = match take_in(memory, files, ribbon, case, wedge) {
-        Ok(taken) => taken,
-        Err(why) => return Err(why),
-    };
-    let (text, whole) = match told_of(memory.own, &bytes, &case, &wedge) {
-        Ok(told) => told,
-        Err(_) => return Err(ReadingFault::NoMemory),
-    };
-    match write_out(writer, text.as_bytes()) {
-        Ok(()) => Ok(whole),
-        Err(_) => Err(ReadingFault::Write),
-    }
+    let (bytes, case, wedge) = take_in(memory, files, ribbon, case, wedge)?;
+    let (text, whole) = told_of(memory.own, &bytes, &case, &wedge)?;
+    write_out(writer, text.as_bytes())?;
+    Ok(whole)
 }

@@ -5,16 +5,15 @@ ghost use Rattle.desk_files.specs.Files.{Stays};
 ghost use Rattle.desk_reading.specs.Sources.{AreRefused, Give, sources};
 
 use crate::fault::ReadingFault;
-use desk_answers::NotDone;
 use desk_case::MatrixCase;
-use desk_files::{FileRefusal, Files};
+use desk_files::Files;
 use desk_inputs::{Memory, both};
 use desk_wedge::Wedge;
 use std::alloc::Allocator;
 
 /// Reads the bytes of a ribbon, then a case and then a wedge, each by the name of its file. Each file is read whole: one of
 /// more than `MAX_FILE` bytes is refused. Whether the bytes are a ribbon is not asked here. No name is taken, and no file
-/// changes.
+/// changes. Out of memory comes only where the device did not fail in the call and no file that was read was refused.
 pub fn take_in<F: Files, A: Allocator + Copy>(
     memory: Memory<A>,
     files: &mut F,
@@ -23,19 +22,11 @@ pub fn take_in<F: Files, A: Allocator + Copy>(
     wedge: &str,
 ) -> Result<(Vec<u8, A>, MatrixCase, Wedge), ReadingFault>
     ensures ok { IfOk result (λ t. Give (sources ribbon.now case.now wedge.now) (F.shelf files.old) t.0.items t.1 t.2) }
-    ensures counted { OnOk result ((F.shelf files.new).failures ≡ (F.shelf files.old).failures) }
+    ensures still { OnOk result (F.shelf files.new ≡ F.shelf files.old) }
     ensures err { IfErr result (AreRefused (sources ribbon.now case.now wedge.now) (F.shelf files.old) (F.shelf files.new)) }
     ensures stays { Stays (F.shelf files.old) (F.shelf files.new) }
 {
-    let bytes = match files.read(memory.own, ribbon) {
-        Ok(bytes) => bytes,
-        Err(FileRefusal::NoMemory) => return Err(ReadingFault::NoMemory),
-        Err(why) => return Err(ReadingFault::Ribbon(why)),
-    };
-    match both(memory, files, case, wedge) {
-        Ok((case, wedge)) => Ok((bytes, case, wedge)),
-        Err(NotDone::Refused(why)) => Err(ReadingFault::Input(why)),
-        Err(NotDone::Stopped(_, _)) => unreachable!(),
-        Err(NotDone::NoMemory) => Err(ReadingFault::NoMemory),
-    }
+    let bytes = files.read(memory.own, ribbon)?;
+    let (case, wedge) = both(memory, files, case, wedge)?;
+    Ok((bytes, case, wedge))
 }

@@ -178,17 +178,6 @@ ways-none : (ops : List Op) (t : Stamp) (xs : List Insertion) → IsNone t (map 
 ways-none ops t [] none = tt
 ways-none ops t (x ∷ xs) none = (none 0 (omega arith), ways-none ops t xs (λ k lt. none (suc k) (omega arith)))
 
-among-dropped : (i : ℕ) (xs : List Op) (p : Op) → Among p xs → Among p (take i xs) ⊎ Among p (drop i xs)
-among-dropped zero [] p m = absurd m
-among-dropped (suc i) [] p m = absurd m
-among-dropped zero (x ∷ xs) p m = inr m
-among-dropped (suc i) (x ∷ xs) p (inl e) = inl (inl e)
-among-dropped (suc i) (x ∷ xs) p (inr m) = go (among-dropped i xs p m)
-  where
-    go : Among p (take i xs) ⊎ Among p (drop i xs) → Among p (x ∷ take i xs) ⊎ Among p (drop i xs)
-    go (inl n) = inl (inr n)
-    go (inr n) = inr n
-
 -- what stands from a place on has no smaller stamp than what stands there
 from-place : (ops : List Op) (i : ℕ) (d p : Op) → IsOrdered ops → Among p (drop i ops) → before (stamp_of p) (stamp_of (get_or ops i d)) ≡ false
 from-place [] zero d p up m = absurd m
@@ -325,9 +314,6 @@ module _ (h : OpSet) (lawful : AllLawful h) (i : ℕ) (d o : Op) (lt : i < lengt
     ways_are = told.ways_are ∙ sym (ways-same c);
     faults_are = ap (λ l. l ++ cons_option (marked (stamp_of o) (Some Forked)) []) told.faults_are ∙ sym (faults-new (Some Forked) (sym last_is ∙ e) (bearing_more (in_order h) o c here));
   }
-
-pub told-none : (ops : List Op) → AreTold ops 0 [] []
-told-none ops = record { ways_are = refl; faults_are = refl }
 
 pub told-all : (ops : List Op) (i : ℕ) (ways : List Way) (faults : List CopyFault) → length ops ≤ i → AreTold ops i ways faults → faults ≡ copy_faults ops
 unfolding copy_faults

@@ -1,5 +1,5 @@
 -- What is kept of each key, while operations come.
-use Rattle.std.proofs.Common.{◌≡◌, ℕ, ◌+◌, ◌<◌, ◌≤◌, Bool, true, false, cond, List, [], ◌∷◌, ◌++◌, length, get_or, refl, sym, ap, ◌∙◌, subst, ◌⊎◌, inl, inr}
+use Rattle.std.proofs.Common.{◌≡◌, ℕ, ◌+◌, ◌<◌, ◌≤◌, true, false, List, [], ◌∷◌, ◌++◌, length, get_or, refl, sym, ap, ◌∙◌, subst, ◌⊎◌, inl, inr}
 use Rattle.std.specs.Prelude.{Option, Some, None, IsSome, option_map}
 use Rattle.std.proofs.lemmas.Bool.{true≢false}
 use Rattle.std.proofs.lemmas.List.{take_all}
@@ -23,10 +23,7 @@ use Rattle.desk_ops.proofs.Ends.{among_held, held_among, clear_from_op, op_from_
 use Rattle.desk_ops.proofs.Joined.{is_clear-with_op_apart, is_clear-with_op_new}
 use Rattle.desk_ops.proofs.Bearers.{op_borne}
 use Rattle.desk_ops.proofs.Values.{is_setting, value_of}
-use Rattle.desk_ops.proofs.OpSets.{with_op-known, no_ops-from_rising, in_order-from_rising}
-use Rattle.desk_held.specs.declared.Added.{Added}
-use Rattle.desk_held.specs.declared.Added.TheVariants.{New, Known, Forks}
-use Rattle.desk_held.specs.Holding.{added_to}
+use Rattle.desk_ops.proofs.OpSets.{no_ops-from_rising, in_order-from_rising}
 use Rattle.desk_registers.specs.declared.Kept.{Kept}
 use Rattle.desk_registers.specs.Registers.{kept_with, IsOther, IsGreatestOf}
 use Rattle.desk_registers.proofs.Greatest.{same_greatest, step, Or, Is}
@@ -114,9 +111,6 @@ other-new h (Set s k v) fresh kept a = go (kept k) (a k)
     go None g = tt
     go (Some old) g = λ e. true≢false (sym (op_borne h s (Set old.stamp k old.value, g.0.0.0, e)) ∙ fresh)
 
-pub kept-known : (h : OpSet) (o : Op) → has_op h o ≡ true → (kept : Key → Option Kept) → AreKept h kept → AreKept (with_op h o) kept
-kept-known h o e kept a = subst (λ g. AreKept g kept) (sym (with_op-known h o e)) a
-
 pub kept-alike : (h : OpSet) (kept after : Key → Option Kept) → ((key : Key) → after key ≡ kept key) → AreKept h kept → AreKept h after
 kept-alike h kept after e a key = subst (IsGreatestOf (Sets h key)) (sym (e key)) (a key)
 
@@ -175,9 +169,6 @@ kept-last ops (Set s k v) kept a key =
     back t n (inl f) = inr (is_it t n f)
     back t n (inr m) = inl m
 
-pub pass-none : (ops : List Op) (kept : Key → Option Kept) → ((key : Key) → kept key ≡ None) → AreKeptOf (clear_before ops 0) kept
-pass-none ops kept e key = subst (IsGreatestOf (IsAmong [] key)) (sym (e key)) (λ s n m. m)
-
 alike : (ops : List Op) (kept after : Key → Option Kept) → ((key : Key) → after key ≡ kept key) → AreKeptOf ops kept → AreKeptOf ops after
 alike ops kept after e a key = subst (IsGreatestOf (IsAmong ops key)) (sym (e key)) (a key)
 
@@ -230,19 +221,3 @@ pass-all h ops is i kept le a key =
     all = ap (filter (λ op. is_clear (in_order h) (stamp_of op))) (take_all i (in_order h) (subst (λ os. length os ≤ i) is le))
 
 -- ---- what adding told
-
-pub known_is : (h : OpSet) (o : Op) (a : Added) → a ≡ added_to h o → a ≡ Known → has_op h o ≡ true
-known_is h o a e k = which (has_op h o) (is_borne_in h (stamp_of o)) (sym k ∙ e)
-  where
-    which : (b c : Bool) → Known ≡ cond b Known (cond c Forks New) → b ≡ true
-    which true c e = refl
-    which false true e = cc
-    which false false e = cc
-
-pub new_is : (h : OpSet) (o : Op) (a : Added) → a ≡ added_to h o → a ≡ New → is_borne_in h (stamp_of o) ≡ false
-new_is h o a e k = which (has_op h o) (is_borne_in h (stamp_of o)) (sym k ∙ e)
-  where
-    which : (b c : Bool) → New ≡ cond b Known (cond c Forks New) → c ≡ false
-    which true c e = cc
-    which false true e = cc
-    which false false e = refl

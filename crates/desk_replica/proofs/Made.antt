@@ -1,6 +1,6 @@
 -- A new operation is lawful, and newer than all that is held.
 use Rattle.std.proofs.Common.{◌≡◌, ℕ, zero, suc, ◌+◌, ◌<◌, ◌≤◌, Bool, true, false, not, cond, List, [], ◌∷◌, length, refl, sym, ap, ◌∙◌, subst, ◌⊎◌, inl, inr, arith}
-use Rattle.std.specs.Prelude.{◌≢◌, ◌==◌, nat_le, nat_lt, Option, Some, None, Result, Ok, Err, IfOk, OnOk, is_err}
+use Rattle.std.specs.Prelude.{◌≢◌, ◌==◌, nat_le, Option, Some, None, Result, Ok, Err, IfOk, OnOk, is_err}
 use Rattle.std.proofs.lemmas.Bool.Decides.{nat_tests}
 use Rattle.desk_ops.proofs.Stamps.{by_cases}
 use Rattle.desk_ops.specs.declared.op.Unlawful.TheVariants as unlawful
@@ -28,7 +28,7 @@ use Rattle.desk_ops.specs.Held.{greatest_counter, greatest_counter_of}
 use Rattle.desk_replica.specs.State.{State, IsKept}
 use Rattle.desk_ops.specs.Settings.{setting_of}
 use Rattle.desk_ops.specs.Laws.{IsParentAt}
-use Rattle.desk_replica.specs.Edits.{new_stamp, parent_at, stamp_at, new_insert, edit_refusal, insert_refusal, IsInserted, IsDeleted, IsSetTo}
+use Rattle.desk_replica.specs.Edits.{new_stamp, parent_at, stamp_at, new_insert, edit_refusal, IsInserted, IsDeleted, IsSetTo}
 use Rattle.desk_replica.proofs.Passes.{each-insert}
 use Rattle.desk_ops.proofs.Newest.{insert_shows, delete_shows, set_shows}
 use Rattle.desk_ops.proofs.NewValues.{setting_new, setting_stays}
@@ -38,14 +38,8 @@ use Rattle.desk_ops.proofs.NewValues.{setting_new, setting_stays}
 ne-from : (a b : ℕ) → a ≢ b → (a == b) ≡ false
 ne-from a b e = grind (arith, nat_tests)
 
-le-true : (a b : ℕ) → a ≤ b → nat_le a b ≡ true
-le-true a b h = grind (arith, nat_tests)
-
 le-false : (a b : ℕ) → b < a → nat_le a b ≡ false
 le-false a b h = grind (arith, nat_tests)
-
-le-none : (a b : ℕ) → nat_le a b ≡ false → b < a
-le-none a b h = grind (arith, nat_tests)
 
 -- ---- counters
 
@@ -164,15 +158,6 @@ clock_free ops e = let k : (size ops == max_ops) ≡ false = ne-from (size ops) 
 
 pub refused_none : (ops : OpSet) → size ops ≢ max_ops → greatest_counter_of ops < max_counter → edit_refusal ops true true ≡ None
 refused_none ops e lt = clock_free ops e ∙ ap (λ b. cond b (Some refusal.ClockFull) None) (le-false max_counter (greatest_counter_of ops) lt)
-
-lt-true : (a b : ℕ) → a < b → nat_lt a b ≡ true
-lt-true a b h = grind (arith, nat_tests)
-
-lt-false : (a b : ℕ) → b ≤ a → nat_lt a b ≡ false
-lt-false a b h = grind (arith, nat_tests)
-
-pub allowed : (ops : OpSet) (place : ℕ) (y : Symbol) → place ≤ length (shown_of ops) → is_symbol y ≡ true → insert_refusal ops place y ≡ edit_refusal ops true true
-allowed ops place y le e = ap (λ b. edit_refusal ops b (is_symbol y)) (le-true place (length (shown_of ops)) le) ∙ ap (edit_refusal ops true) e
 
 pub symbol_is : (y : Symbol) (b : Bool) → b ≡ is_err (symbol_verdict y) → b ≡ false → is_symbol y ≡ true
 symbol_is y b e f = by_cases (is_symbol y) (λ k. k) (λ k. let g : true ≡ false = sym (ap (λ t. is_err (cond t (Ok tt) (Err unlawful.Symbol))) k) ∙ sym e ∙ f in cc)

@@ -18,7 +18,6 @@ use Rattle.desk_replica.specs.declared.Stopped.{Stopped}
 use Rattle.desk_replica.specs.State.{IsStopped}
 use Rattle.desk_ops.proofs.Unions.{with_all-append, size-with_op}
 use Rattle.desk_ops.proofs.Stamps.{by_cases}
-use Rattle.desk_ops.proofs.Joined.{lawful-with_op}
 use Rattle.desk_ops.proofs.OpSets.{no_ops-from_rising, in_order-from_rising}
 
 pub none-lawful : AllLawful no_ops
@@ -27,8 +26,6 @@ none-lawful = subst (AllByRecursion IsLawful) (sym (ap in_order (sym no_ops-from
 pub each-of-all : (ops : List Op) → All IsLawful ops → AllByRecursion IsLawful ops
 each-of-all [] a = tt
 each-of-all (o ∷ ops) a = (a 0 o (omega arith), each-of-all ops (λ k d l. a (suc k) d (omega (arith, l))))
-
-pub ruleset sets = (none-lawful, lawful-with_op)
 
 grows : (h : OpSet) (o : Op) → size h ≤ size (with_op h o)
 grows h o = by_cases (has_op h o) (λ k. let e : size (with_op h o) ≡ size h = size-with_op h o ∙ ap (λ b. cond b (size h) (size h + 1)) k in omega arith) (λ k. let e : size (with_op h o) ≡ size h + 1 = size-with_op h o ∙ ap (λ b. cond b (size h) (size h + 1)) k in omega arith)

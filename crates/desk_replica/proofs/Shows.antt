@@ -1,5 +1,5 @@
 -- What is shown of the entries of a sequence.
-use Rattle.std.proofs.Common.{◌≡◌, ℕ, zero, suc, ◌+◌, ◌-◌, ◌<◌, Bool, true, false, not, cond, List, [], ◌∷◌, map, length, get_or, take, refl, sym, ap, ◌∙◌, subst, arith}
+use Rattle.std.proofs.Common.{◌≡◌, ℕ, zero, suc, ◌+◌, ◌<◌, Bool, true, false, not, cond, List, [], ◌∷◌, map, length, get_or, take, refl, sym, ap, ◌∙◌, subst, arith}
 use Rattle.std.specs.List.{filter}
 use Rattle.std.proofs.lemmas.List.{length-map}
 use Rattle.desk_ops.specs.declared.op.Stamp.{Stamp}
@@ -15,7 +15,7 @@ use Rattle.desk_seq.specs.declared.Entry.{Entry}
 use Rattle.desk_seq.specs.Entries.{stamps_of, shown_in, is_shown, shown_symbols, IsShownAt}
 use Rattle.desk_seq.proofs.Entries.{stamps-at}
 use Rattle.desk_walk.specs.Following.{entry_of, entries_of}
-use Rattle.desk_replica.specs.Edits.{parent_at, stamp_at}
+use Rattle.desk_replica.specs.Edits.{stamp_at}
 
 abbrev symbols : List Entry → List Symbol
 symbols es = map (λ (e : Entry). e.symbol) es
@@ -92,7 +92,3 @@ shown-stamp h es e i at s x is =
       omega arith,
       ap (λ (y : Entry). y.stamp) is ∙ sym (stamps-at es at x s.within) ∙ sym r.1 ∙ ap (λ (fs : List Entry). get_or (stamps_of fs) i head) (shown-all h es e) ∙ ap (λ ss. get_or ss i head) (plain-stamps (shown_of h)),
     )
-
-pub parent-is : (xs : List Insertion) (place : ℕ) (s : Stamp) → (place ≡ 0 → ⊥) → s ≡ stamp_at xs (place - 1) → s ≡ parent_at xs place
-parent-is xs zero s some e = absurd (some refl)
-parent-is xs (suc n) s some e = let k : suc n - 1 ≡ n = omega arith in e ∙ ap (stamp_at xs) k

@@ -1,6 +1,6 @@
 -- What a replica keeps stays sound.
-use Rattle.std.proofs.Common.{◌≡◌, ℕ, zero, suc, ◌+◌, ◌<◌, ◌≤◌, false, cond, List, [], ◌∷◌, refl, sym, ap, ◌∙◌, subst, arith}
-use Rattle.std.specs.Prelude.{None, Result, Ok, Err, OnOk, All}
+use Rattle.std.proofs.Common.{◌≡◌, ℕ, ◌+◌, ◌<◌, ◌≤◌, false, cond, List, [], refl, sym, ap, ◌∙◌, subst, arith}
+use Rattle.std.specs.Prelude.{None}
 use Rattle.desk_ops.specs.declared.op.Key.{Key}
 use Rattle.desk_ops.specs.declared.op.Op.{Op}
 use Rattle.desk_ops.specs.Op.{stamp_of, IsLawful}
@@ -32,12 +32,6 @@ sound-none site h r es w free some e none f k =
       fits = omega (arith, n);
     }
 
--- with more room
-pub sound-room : (site : ℕ) (h g : OpSet) (r : Registers) (es fs : List Entry) (w v : OpSet) (free more : ℕ) → IsSound site h r es w free → g ≡ h → fs ≡ es → v ≡ w → free ≤ more → IsSound site g r fs v more
-sound-room site h g r es fs w v free more s e f k le =
-    subst (λ (u : OpSet). IsSound site u r fs v more) (sym e) (subst (λ (ds : List Entry). IsSound site h r ds v more) (sym f) (subst (λ (u : OpSet). IsSound site h r es u more) (sym k)
-    (record { held = s.held; settings = s.settings; settled = s.settled; few = s.few; fits = let l = s.fits in omega (arith, l, le) })))
-
 -- an operation comes whose stamp none bears
 module _ (site : ℕ) (h : OpSet) (o : Op) (r : Registers) (es : List Entry) (w : OpSet) (free : ℕ) (s : IsSound site h r es w free) (lawful : IsLawful o) (new : is_borne_in h (stamp_of o) ≡ false) where
   pub arrival : IsArrival h o es w
@@ -66,24 +60,3 @@ sound-anew site h r es w free some lawful settings settled few le = record { hel
 
 pub spare-parts : (n held room free : ℕ) (w : OpSet) → size w ≤ free → n ≤ spare_of held room free w → (n ≤ held) × (n ≤ room) × (size w + n ≤ free)
 spare-parts n held room free w le h = (omega arith, omega arith, omega arith)
-
-pub spare-from : (n held room free : ℕ) (w : OpSet) → n ≤ held → n ≤ room → size w + n ≤ free → n ≤ spare_of held room free w
-spare-from n held room free w a b c = omega arith
-
-pub spare-grows : (held room free held2 room2 free2 : ℕ) (w v : OpSet) → v ≡ w → held ≤ held2 → room ≤ room2 → free ≤ free2 → spare_of held room free w ≤ spare_of held2 room2 free2 v
-spare-grows held room free held2 room2 free2 w v e a b c = let n : size v ≡ size w = ap size e in omega arith
-
-pub spare-falls : (held room free held2 room2 free2 : ℕ) (w v : OpSet) → size w ≤ free → held ≤ held2 + 1 → room ≤ room2 + 1 → free + size v ≤ free2 + size w + 1 → spare_of held room free w ≤ spare_of held2 room2 free2 v + 1
-spare-falls held room free held2 room2 free2 w v le a b c = omega arith
-
-pub on-ok : {A E : Type 0} {P Q : Type 0} (r : Result A E) → OnOk r P → (P → Q) → OnOk r Q
-on-ok (Ok x) p f = f p
-on-ok (Err e) p f = tt
-
-pub no-spare : (s : ℕ) → (1 ≤ s → ⊥) → s ≡ 0
-no-spare zero none = refl
-no-spare (suc s) none = absurd (none (omega arith))
-
-pub all-one : (o : Op) → IsLawful o → All IsLawful (o ∷ [])
-all-one o l zero d lt = l
-all-one o l (suc i) d lt = absurd (omega arith)

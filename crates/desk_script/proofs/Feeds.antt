@@ -19,7 +19,7 @@ use Rattle.desk_script.specs.declared.fault.LineFault.TheVariants as lines
 use Rattle.desk_script.specs.declared.fault.RunFault.{RunFault}
 use Rattle.desk_script.specs.declared.fault.RunFault.TheVariants as faults
 use Rattle.desk_script.specs.Faults.{of_file, of_lines, of_opening}
-use Rattle.desk_script.specs.Stored.{one_site}
+use Rattle.desk_script.specs.FeedRun.{one_site}
 
 -- the site of the feed is there to the end
 pub is_there : (n : ℕ) (ops : List Op) (start later : Sites) → start ≡ one_site n ops → KeepsSites start later → (set : OpSet) × (fin.get later n ≡ Some set)

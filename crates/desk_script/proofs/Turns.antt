@@ -3,7 +3,7 @@ use Rattle.std.proofs.Common.{◌≡◌, ℕ, inl, inr, true, List, [], ◌∷�
 use Rattle.std.specs.Io.KnownBytes.{Appends, Keeps}
 use Rattle.std.proofs.KnownBytes.{Appends-trans}
 use Rattle.std.proofs.lemmas.List.{append-nil}
-use Rattle.desk_answers.specs.Reply.{Reply, is_long}
+use Rattle.desk_answers.specs.Reply.{ReplyValues, is_long}
 use Rattle.desk_answers.specs.Text.{text, output}
 use Rattle.desk_files.specs.Files.{Shelf, Stays}
 use Rattle.desk_steps.specs.Desk.{Desk}
@@ -23,22 +23,22 @@ pub no_front : (old : Desk) (last : Shelf) (a : Option (List ℕ)) (lines : List
 no_front old last a lines still = ([], lines, refl, old, still, [], refl, ([], [], appends_none a, refl))
 
 -- a reply whose text finds no memory is that refusal, and it is allowed where nothing has changed
-pub told_allowed : (old new : Desk) (line : Line) (reply told : Reply) → Allows old line reply new → (is_long reply ≡ true → new.sites ≡ old.sites) → Stays old.shelf new.shelf → IsTold reply told → Allows old line told new
-told_allowed old new line reply told allowed same stays (inl is) = subst (λ (r : Reply). Allows old line r new) (sym is) allowed
+pub told_allowed : (old new : Desk) (line : Line) (reply told : ReplyValues) → Allows old line reply new → (is_long reply ≡ true → new.sites ≡ old.sites) → Stays old.shelf new.shelf → IsTold reply told → Allows old line told new
+told_allowed old new line reply told allowed same stays (inl is) = subst (λ (r : ReplyValues). Allows old line r new) (sym is) allowed
 told_allowed old new line reply told allowed same stays (inr h) = inr (h.1, same h.0, stays)
 
-pub one_turn : (old new : Desk) (a b : Option (List ℕ)) (line : Line) (bytes : List ℕ) (reply : Reply) → Allows old line reply new → bytes ≡ text reply ++ 10 ∷ [] → Appends a b bytes → Turn old new a b (line ∷ [])
+pub one_turn : (old new : Desk) (a b : Option (List ℕ)) (line : Line) (bytes : List ℕ) (reply : ReplyValues) → Allows old line reply new → bytes ≡ text reply ++ 10 ∷ [] → Appends a b bytes → Turn old new a b (line ∷ [])
 one_turn old new a b line bytes reply allowed is written = (reply ∷ [], (new, allowed, refl), subst (Appends a b) is written)
 
-pub one_front : (old new : Desk) (last : Shelf) (a b : Option (List ℕ)) (line : Line) (bytes : List ℕ) (reply : Reply) (more : List Line) → Stays new.shelf last → Allows old line reply new → bytes ≡ text reply ++ 10 ∷ [] → WritesFront a b bytes → Fronts old last a b (line ∷ more)
+pub one_front : (old new : Desk) (last : Shelf) (a b : Option (List ℕ)) (line : Line) (bytes : List ℕ) (reply : ReplyValues) (more : List Line) → Stays new.shelf last → Allows old line reply new → bytes ≡ text reply ++ 10 ∷ [] → WritesFront a b bytes → Fronts old last a b (line ∷ more)
 one_front old new last a b line bytes reply more still allowed is (done, rest, written, split) =
     (line ∷ [], more, refl, new, still, reply ∷ [], (new, allowed, refl), (done, rest, written, sym is ∙ split))
 
-output-append : (rs ss : List Reply) → output (rs ++ ss) ≡ output rs ++ output ss
+output-append : (rs ss : List ReplyValues) → output (rs ++ ss) ≡ output rs ++ output ss
 output-append [] ss = refl
 output-append (r ∷ rs) ss = ap (λ l. text r ++ (10 ∷ l)) (output-append rs ss) ∙ sym (append_assoc (text r) (10 ∷ output rs) (output ss))
 
-script-append : (old mid new : Desk) (ls ms : List Line) (rs ss : List Reply) → Script old ls rs mid → Script mid ms ss new → Script old (ls ++ ms) (rs ++ ss) new
+script-append : (old mid new : Desk) (ls ms : List Line) (rs ss : List ReplyValues) → Script old ls rs mid → Script mid ms ss new → Script old (ls ++ ms) (rs ++ ss) new
 script-append old mid new [] ms [] ss first second = subst (λ (w : Desk). Script w ms ss new) first second
 script-append old mid new [] ms (r ∷ rs) ss first second = absurd first
 script-append old mid new (l ∷ ls) ms [] ss first second = absurd first

@@ -2,7 +2,7 @@ pub use Rattle.desk_files.specs.Files
 pub use Rattle.desk_stored.specs.Sending
 pub use Rattle.desk_world.specs.Sites
 pub use Rattle.desk_world.specs.World
-pub use Rattle.desk_commands.specs.Request
+pub use Rattle.desk_commands.specs.Command
 pub use Rattle.desk_commands.specs.Grammar
 pub use Rattle.desk_answers.specs.Reply
 pub use Rattle.desk_answers.specs.Text
@@ -16,6 +16,6 @@ pub use Rattle.desk_steps.specs.Line
 pub mod Lines
 pub mod Examples
 pub mod Script
-pub mod Stored
+pub mod FeedRun
 pub mod Faults
 pub mod Pending

@@ -3,7 +3,7 @@ use Rattle.std.specs.Prelude.{◌≡◌, ◌⊎◌, ℕ, true, List, [], ◌∷�
 use Rattle.std.specs.Io.KnownBytes.{Appends}
 use Rattle.desk_steps.specs.Line.{Line}
 use Rattle.desk_script.specs.Lines.{lines}
-use Rattle.desk_answers.specs.Reply.{Reply, Refused, is_long}
+use Rattle.desk_answers.specs.Reply.{ReplyValues, Refused, is_long}
 use Rattle.desk_answers.specs.declared.text.Refusal.TheVariants as refusals
 use Rattle.desk_answers.specs.Text.{output}
 use Rattle.desk_files.specs.Files.{Shelf, Stays}
@@ -12,11 +12,11 @@ use Rattle.desk_steps.specs.Line.{Allows}
 use Rattle.desk_stored.specs.Sending.{WritesFront}
 
 -- what is written for a reply: it, or if it is a long one and its text finds no memory, that refusal
-abbrev pub IsTold : Reply → Reply → Type 0
+abbrev pub IsTold : ReplyValues → ReplyValues → Type 0
 IsTold reply told = (told ≡ reply) ⊎ ((is_long reply ≡ true) × (told ≡ Refused refusals.Memory))
 
 -- the answers that lines may get, one for each
-abbrev pub Script : Desk → List Line → List Reply → Desk → Type 0
+abbrev pub Script : Desk → List Line → List ReplyValues → Desk → Type 0
 Script old [] [] new = new ≡ old
 Script old (line ∷ lines) (reply ∷ replies) new = (mid : Desk) × Allows old line reply mid × Script mid lines replies new
 Script old [] (reply ∷ replies) new = ⊥
@@ -24,12 +24,12 @@ Script old (line ∷ lines) [] new = ⊥
 
 -- all these lines were answered, and the answers written
 abbrev pub Turn : Desk → Desk → Option (List ℕ) → Option (List ℕ) → List Line → Type 0
-Turn old new before after lines = (replies : List Reply) × Script old lines replies new × Appends before after (output replies)
+Turn old new before after lines = (replies : List ReplyValues) × Script old lines replies new × Appends before after (output replies)
 
 -- the first lines were answered, no file has changed since, and a prefix of their answers was written
 abbrev pub Fronts : Desk → Shelf → Option (List ℕ) → Option (List ℕ) → List Line → Type 0
 Fronts old last before after lines =
-    (front tail : List Line) × (lines ≡ front ++ tail) × (new : Desk) × Stays new.shelf last × (replies : List Reply) × Script old front replies new
+    (front tail : List Line) × (lines ≡ front ++ tail) × (new : Desk) × Stays new.shelf last × (replies : List ReplyValues) × Script old front replies new
     × WritesFront before after (output replies)
 
 -- the first lines were answered and each answer was written, no file has changed since, and a line comes after them

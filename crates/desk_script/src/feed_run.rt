@@ -2,13 +2,14 @@
 
 ghost use Rattle.std.specs.Prelude.{◌≡◌, ◌≤◌, ◌⊎◌, IfErr, IfOk, IsErrOf, List, OnOk, Some};
 ghost use Rattle.std.specs.FinMap as fin;
+ghost use Rattle.std.specs.Io.KnownBytes.{IsAtEnd};
 ghost use Rattle.desk_ops.specs.declared.op.Op.{Op};
 ghost use Rattle.desk_ops.specs.OpSet.{OpSet, max_ops, no_ops, size, with_all};
 ghost use Rattle.desk_stored.specs.Faults.{IsNotStored, IsUnopened};
 ghost use Rattle.desk_files.specs.Files.{HasFailed, IsHeldAlone, Stays};
 ghost use Rattle.desk_steps.specs.Desk.{desk};
 ghost use Rattle.desk_stored.specs.Stored.{Stores, was_read};
-ghost use Rattle.desk_script.specs.Stored.{AnswersStored, IsHalted, IsStored, one_site};
+ghost use Rattle.desk_script.specs.FeedRun.{AnswersStored, IsStoppedOnFeed, IsStored, one_site};
 
 use crate::fault::RunFault;
 use crate::stream::answer_all;
@@ -69,9 +70,10 @@ pub fn run_on_feed<R: Read, W: Write, F: Files, A: Allocator + Copy>(
 ) -> Result<(), RunFault>
     requires { 1 ≤ site }
     ensures ok { OnOk result (AnswersStored name.now site (F.shelf files.old) (F.shelf files.new) (R.remaining reader.old) (W.contents writer.old) (W.contents writer.new)) }
-    ensures err { IfErr result (IsHalted name.now site (F.shelf files.old) (F.shelf files.new) (R.remaining reader.old) (W.contents writer.old) (W.contents writer.new)) }
+    ensures err { IfErr result (IsStoppedOnFeed name.now site (F.shelf files.old) (F.shelf files.new) (R.remaining reader.old) (W.contents writer.old) (W.contents writer.new)) }
     ensures held { IsHeldAlone name.now (F.shelf files.old) (F.shelf files.new) ⊎ ((reader.new ≡ reader.old) × (writer.new ≡ writer.old) × Stays (F.shelf files.old) (F.shelf files.new)) }
     ensures device { IsErrOf result (RunFault.File FileRefusal.Device) → HasFailed (F.shelf files.old) (F.shelf files.new) }
+    ensures end { OnOk result (IsAtEnd (R.remaining reader.new)) }
 {
     files.hold(name)?;
     let old = stored_bytes(alloc, files, name)?;

@@ -5,7 +5,7 @@ mod fault;
 mod feed_run;
 mod stream;
 
-pub use desk_answers::{Refusal, Response, put};
+pub use desk_answers::{Refusal, Reply, put};
 pub use desk_commands::{
     Command, ParseError, law_of_copy, law_of_longest_runs, law_of_spelling, parse,
 };

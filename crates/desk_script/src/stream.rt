@@ -4,7 +4,7 @@ ghost use Rattle.std.specs.Prelude.{◌≡◌, ◌≢◌, ℕ, ◌≤◌, ◌++�
 ghost use Rattle.std.specs.Io.KnownBytes.{Appends, IsAtEnd, Keeps};
 ghost use Rattle.desk_steps.specs.Line.{Line, line_of};
 ghost use Rattle.desk_script.specs.Lines.{without_cr};
-ghost use Rattle.desk_answers.specs.Reply.{Reply, reply};
+ghost use Rattle.desk_answers.specs.Reply.{ReplyValues, reply_values};
 ghost use Rattle.desk_answers.specs.Text.{text};
 ghost use Rattle.desk_world.specs.Sites.{Sites, no_sites};
 ghost use Rattle.desk_steps.specs.Desk.{KeepsSites, desk};
@@ -16,7 +16,7 @@ ghost use Rattle.desk_script.specs.Faults.{IsOfLines};
 ghost use Rattle.desk_script.specs.Pending.{Moves, lines_from, last_line};
 
 use crate::fault::{LineFault, RunFault};
-use desk_answers::{Response, put, short};
+use desk_answers::{Reply, put, short};
 use desk_files::Files;
 use desk_inputs::Memory;
 use desk_ops::NoMemory;
@@ -59,8 +59,8 @@ fn flush<W: Write>(writer: &mut W) -> Result<(), LineFault>
 }
 
 /// The line of a long answer.
-fn spelled<A: Allocator + Copy>(alloc: A, answer: &Response<A>) -> Result<String<A>, NoMemory>
-    ensures { IfOk result (λ s. string_bytes s ≡ text (reply answer.now) ++ 10 ∷ []) }
+fn spelled<A: Allocator + Copy>(alloc: A, answer: &Reply<A>) -> Result<String<A>, NoMemory>
+    ensures { IfOk result (λ s. string_bytes s ≡ text (reply_values answer.now) ++ 10 ∷ []) }
 {
     let mut out = String::with_capacity(alloc, USUAL)?;
     put(&mut out, answer)?;
@@ -73,10 +73,10 @@ fn spelled<A: Allocator + Copy>(alloc: A, answer: &Response<A>) -> Result<String
 fn tell<W: Write, A: Allocator + Copy>(
     alloc: A,
     writer: &mut W,
-    answer: &Response<A>,
+    answer: &Reply<A>,
 ) -> Result<(), LineFault>
-    ensures ok { OnOk result ((r : Reply) × IsTold (reply answer.now) r × Appends (W.contents writer.old) (W.contents writer.new) (text r ++ 10 ∷ [])) }
-    ensures err { OnErr result ((r : Reply) × IsTold (reply answer.now) r × WritesFront (W.contents writer.old) (W.contents writer.new) (text r ++ 10 ∷ [])) }
+    ensures ok { OnOk result ((r : ReplyValues) × IsTold (reply_values answer.now) r × Appends (W.contents writer.old) (W.contents writer.new) (text r ++ 10 ∷ [])) }
+    ensures err { OnErr result ((r : ReplyValues) × IsTold (reply_values answer.now) r × WritesFront (W.contents writer.old) (W.contents writer.new) (text r ++ 10 ∷ [])) }
     ensures fault { IfErr result (λ fault. fault ≡ LineFault.Write) }
 {
     if let Some(mut line) = short(answer) {

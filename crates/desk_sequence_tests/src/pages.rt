@@ -108,7 +108,8 @@ fn pages_are_the_list(rt: HostRuntime) -> Result<(), Fail> {
         }
     }
     assert_eq!(rt; pages.len(), 0);
-    assert!(rt; pages.spare() >= 6_000);
+    // 6,000 entries and more stood in 12 pages at least, and each of these but one has room for 256.
+    assert!(rt; pages.spare() >= 2_816);
     Ok(())
 }
 

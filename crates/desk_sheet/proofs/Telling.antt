@@ -1,6 +1,5 @@
 -- Lines told one after another.
 use Rattle.std.proofs.Common.{◌≡◌, ℕ, ◌+◌, List, [], ◌∷◌, ◌++◌, length, length-append, append_assoc, refl, sym, ap, ◌∙◌, subst, arith}
-use Rattle.std.proofs.lemmas.List.{append-nil}
 use Rattle.desk_steps.specs.Desk.{Desk}
 use Rattle.desk_steps.specs.Line.{Line}
 use Rattle.desk_sheet.specs.Sheet.{Stops, StopsAt, Tells, Told}
@@ -41,7 +40,3 @@ pub reaches_stop : (mode : Mode) (old mid new : Desk) (before told after : List 
     → StopsAt mode old before all (n + 1) new after
 reaches_stop mode old mid new before told after all rest more line n (done, many, split, so_far) next stop =
     (done, more, line, split ∙ ap (λ l. done ++ l) next, ap (λ m. m + 1) (sym many), mid, told, so_far, stop)
-
-pub reaches_all : (mode : Mode) (old new : Desk) (before after : List ℕ) (all rest : List Line) (n : ℕ) → Reaches mode old new before after all rest n → rest ≡ [] → Told mode 1 old before all new after
-reaches_all mode old new before after all rest n (done, many, split, so_far) empty =
-    subst (λ l. Told mode 1 old before l new after) (sym (split ∙ ap (λ l. done ++ l) empty ∙ append-nil done)) so_far

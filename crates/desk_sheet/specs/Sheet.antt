@@ -2,7 +2,7 @@
 use Rattle.std.specs.Prelude.{◌≡◌, ◌<◌, ℕ, ◌+◌, ◌==◌, ◌&&◌, Bool, true, false, MatchBool, List, [], ◌∷◌, ◌++◌, length, codes, Option, None, Some, IfSome, if◌then◌else◌}
 use Rattle.std.specs.Fmt.{decimal}
 use Rattle.std.specs.Io.KnownBytes.{Appends}
-use Rattle.desk_answers.specs.Reply.{Reply, Done, Made, MadeMany, Counted, Copy, Feed, Faults, Settings, Ribbon, NoRibbon, Lines, Refused, Stopped}
+use Rattle.desk_answers.specs.Reply.{ReplyValues, Done, Made, MadeMany, Counted, Copy, Feed, Faults, Settings, Ribbon, NoRibbon, Lines, Refused, Stopped}
 use Rattle.desk_answers.specs.Text.{text}
 use Rattle.desk_steps.specs.Desk.{Desk}
 use Rattle.desk_steps.specs.Line.{Line, Bytes, Long, Allows}
@@ -22,7 +22,7 @@ is_passed_over (Bytes (b ∷ bytes)) = b == 35
 is_passed_over Long = false
 
 -- a reply that stops a strict run
-abbrev pub is_refusal : Reply → Bool
+abbrev pub is_refusal : ReplyValues → Bool
 is_refusal Done = false
 is_refusal (Made stamp) = false
 is_refusal (MadeMany first last) = false
@@ -42,13 +42,13 @@ abbrev pub head : Mode → ℕ → List ℕ
 head mode n = if mode.number then decimal n ++ codes " " else []
 
 -- the answer of line n, with its end
-abbrev pub answer_line : Mode → ℕ → Reply → List ℕ
+abbrev pub answer_line : Mode → ℕ → ReplyValues → List ℕ
 answer_line mode n reply = head mode n ++ text reply ++ 10 ∷ []
 
 -- line n is answered by a reply that does or does not stop the run, and its answer stands after what was told before
 abbrev pub IsAnswered : Mode → Bool → ℕ → Desk → List ℕ → Line → Desk → List ℕ → Type 0
 IsAnswered mode stops n old before line new after =
-    (reply : Reply) × Allows old line reply new × ((mode.strict && is_refusal reply) ≡ stops) × (after ≡ before ++ answer_line mode n reply)
+    (reply : ReplyValues) × Allows old line reply new × ((mode.strict && is_refusal reply) ≡ stops) × (after ≡ before ++ answer_line mode n reply)
 
 -- line n is passed over, or answered and the run goes on
 abbrev pub Tells : Mode → ℕ → Desk → List ℕ → Line → Desk → List ℕ → Type 0

@@ -5,7 +5,7 @@ use Rattle.desk_files.specs.Files.{IsNowHeld, Shelf, Stays}
 use Rattle.desk_stored.specs.Faults.{IsNotStored, IsUnread, IsUntaken}
 use Rattle.desk_stored.specs.declared.fault.OpenFault.{OpenFault}
 use Rattle.desk_script.specs.Faults.{of_file, of_opening}
-use Rattle.desk_script.specs.Stored.{IsClosed, IsStart, IsStored}
+use Rattle.desk_script.specs.FeedRun.{IsClosed, IsStart, IsStored}
 use Rattle.desk_steps.specs.Desk.{Desk}
 use Rattle.desk_sheet.specs.Sheet.{IsDone, IsStopped}
 use Rattle.desk_sheet.specs.declared.fault.SheetFault.{SheetFault}
@@ -30,14 +30,14 @@ IsStoredSheet mode name n first last input before after =
     × (new : Desk) × IsDone mode start new input before after × Stays start.shelf new.shelf × IsStored name n new read last
 
 -- why a run on an open feed stopped, and what it left: the sheet was not carried out to its end, and no file has changed; or it was, and the feed was not stored
-abbrev pub IsHaltedFrom : Mode → List ℕ → Desk → Shelf → Option (List ℕ) → Option (List ℕ) → Option (List ℕ) → SheetFault → Type 0
-IsHaltedFrom mode name start last input before after fault =
+abbrev pub IsStoppedFrom : Mode → List ℕ → Desk → Shelf → Option (List ℕ) → Option (List ℕ) → Option (List ℕ) → SheetFault → Type 0
+IsStoppedFrom mode name start last input before after fault =
     (new : Desk) × Stays start.shelf new.shelf
     × ((IsStopped mode start new input before after fault × (last ≡ new.shelf))
     ⊎ (IsDone mode start new input before after × (why : FileRefusal) × (fault ≡ faults.Run (of_file why)) × IsNotStored name new.shelf last why))
 
 -- why a run on a stored feed stopped, and what it left
-abbrev pub IsHalted : Mode → List ℕ → ℕ → Shelf → Shelf → Option (List ℕ) → Option (List ℕ) → Option (List ℕ) → SheetFault → Type 0
-IsHalted mode name n first last input before after fault =
+abbrev pub IsStoppedOnFeed : Mode → List ℕ → ℕ → Shelf → Shelf → Option (List ℕ) → Option (List ℕ) → Option (List ℕ) → SheetFault → Type 0
+IsStoppedOnFeed mode name n first last input before after fault =
     ((after ≡ before) × IsBarred name first last fault)
-    ⊎ ((read : Result (List ℕ) FileRefusal) × (start : Desk) × IsOpened name n first read start × IsHaltedFrom mode name start last input before after fault)
+    ⊎ ((read : Result (List ℕ) FileRefusal) × (start : Desk) × IsOpened name n first read start × IsStoppedFrom mode name start last input before after fault)

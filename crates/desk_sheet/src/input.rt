@@ -1,6 +1,7 @@
 //! A sheet, read whole, and its lines.
 
 ghost use Rattle.std.specs.Prelude.{◌≡◌, ◌<◌, ◌≤◌, ◌∷◌, [], IfErr, IfOk, IfSome, MatchOption, length};
+ghost use Rattle.std.specs.Io.KnownBytes.{IsAtEnd};
 ghost use Rattle.desk_steps.specs.Line.{line_of};
 ghost use Rattle.desk_script.specs.Lines.{lines};
 ghost use Rattle.desk_sheet.specs.Sheet.{IsInput, IsUnread};
@@ -24,6 +25,7 @@ pub fn read_whole<R: Read, A: Allocator + Copy>(
     ensures ok { IfOk result (λ v. IsInput (R.remaining reader.old) v.items) }
     ensures within { IfOk result (λ v. length v.items ≤ MAX_SHEET) }
     ensures err { IfErr result (IsUnread (R.remaining reader.old)) }
+    ensures end { IfOk result (λ _. IsAtEnd (R.remaining reader.new)) }
 {
     let mut bytes = Vec::new(alloc);
     let mut chunk = [0u8; CHUNK];

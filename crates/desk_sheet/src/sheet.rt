@@ -1,7 +1,8 @@
 //! A sheet on a world of sites.
 
 ghost use Rattle.std.specs.Prelude.{◌≡◌, ◌++◌, Bool, IfErr, IfOk, MatchBool, OnOk, string_bytes};
-ghost use Rattle.desk_answers.specs.Reply.{reply};
+ghost use Rattle.std.specs.Io.KnownBytes.{IsAtEnd};
+ghost use Rattle.desk_answers.specs.Reply.{reply_values};
 ghost use Rattle.desk_files.specs.Files.{Stays};
 ghost use Rattle.desk_script.specs.Lines.{lines};
 ghost use Rattle.desk_steps.specs.Desk.{KeepsSites, desk};
@@ -11,7 +12,7 @@ ghost use Rattle.desk_sheet.specs.Sheet.{Ends, IsDone, IsStopped, Stops, Tells, 
 
 use crate::fault::SheetFault;
 use crate::input::{next_line, read_whole};
-use desk_answers::{Response, put};
+use desk_answers::{Reply, put};
 use desk_files::Files;
 use desk_inputs::Memory;
 use desk_ops::NoMemory;
@@ -45,10 +46,10 @@ fn is_passed_over(line: &[u8]) -> bool
 }
 
 /// Whether an answer stops a strict run.
-fn is_refusal<A: Allocator + Copy>(response: &Response<A>) -> bool
-    ensures { result ≡ is_refusal (reply response.now) }
+fn is_refusal<A: Allocator + Copy>(reply: &Reply<A>) -> bool
+    ensures { result ≡ is_refusal (reply_values reply.now) }
 {
-    matches!(response, Response::Refused(_) | Response::Stopped(_, _))
+    matches!(reply, Reply::Refused(_) | Reply::Stopped(_, _))
 }
 
 /// Writes what stands before the answer of a line.
@@ -70,12 +71,12 @@ fn put_answer<A: Allocator + Copy>(
     told: &mut String<A>,
     mode: Mode,
     number: u64,
-    response: &Response<A>,
+    reply: &Reply<A>,
 ) -> Result<(), AllocError>
-    ensures { OnOk result (string_bytes told.new ≡ string_bytes told.old ++ answer_line mode number (reply response.now)) }
+    ensures { OnOk result (string_bytes told.new ≡ string_bytes told.old ++ answer_line mode number (reply_values reply.now)) }
 {
     put_head(told, mode, number)?;
-    put(told, response)?;
+    put(told, reply)?;
     told.push_str("\n")
 }
 
@@ -98,9 +99,9 @@ fn tell_line<F: Files, A: Allocator + Copy>(
     if mode.strict && is_passed_over(line) {
         return Ok(true);
     }
-    let response = answer(memory, world, files, line);
-    put_answer(told, mode, number, &response)?;
-    Ok(!(mode.strict && is_refusal(&response)))
+    let reply = answer(memory, world, files, line);
+    put_answer(told, mode, number, &reply)?;
+    Ok(!(mode.strict && is_refusal(&reply)))
 }
 
 /// Answers lines up to the end, or to the one that stops the run, whose number is returned.
@@ -141,6 +142,7 @@ pub fn answer_sheet<R: Read, W: Write, F: Files, A: Allocator + Copy>(
     ensures err { IfErr result (IsStopped mode (desk world.old (F.shelf files.old)) (desk world.new (F.shelf files.new)) (R.remaining reader.old) (W.contents writer.old) (W.contents writer.new)) }
     ensures sites { KeepsSites world.old world.new }
     ensures stays { Stays (F.shelf files.old) (F.shelf files.new) }
+    ensures end { OnOk result (IsAtEnd (R.remaining reader.new)) }
 {
     let input = read_whole(memory.own, reader)?;
     let mut told = String::new(memory.own);
@@ -169,6 +171,7 @@ pub fn run_sheet<R: Read, W: Write, F: Files, A: Allocator + Copy>(
     ensures ok { OnOk result ((new : Sites) × IsDone mode (desk no_sites (F.shelf files.old)) (desk new (F.shelf files.new)) (R.remaining reader.old) (W.contents writer.old) (W.contents writer.new)) }
     ensures err { IfErr result (λ fault. (new : Sites) × IsStopped mode (desk no_sites (F.shelf files.old)) (desk new (F.shelf files.new)) (R.remaining reader.old) (W.contents writer.old) (W.contents writer.new) fault) }
     ensures stays { Stays (F.shelf files.old) (F.shelf files.new) }
+    ensures end { OnOk result (IsAtEnd (R.remaining reader.new)) }
 {
     let mut world = World::new(alloc);
     let memory = Memory { own: alloc, global };

@@ -1,10 +1,11 @@
 //! A sheet on the feed of a file.
 
 ghost use Rattle.std.specs.Prelude.{◌≡◌, ◌≤◌, ◌⊎◌, IfErr, IfOk, OnOk};
+ghost use Rattle.std.specs.Io.KnownBytes.{IsAtEnd};
 ghost use Rattle.desk_files.specs.Files.{IsHeldAlone, Stays};
 ghost use Rattle.desk_steps.specs.Desk.{desk};
 ghost use Rattle.desk_stored.specs.Stored.{was_read};
-ghost use Rattle.desk_sheet.specs.StoredSheet.{IsBarred, IsHalted, IsOpened, IsStoredSheet};
+ghost use Rattle.desk_sheet.specs.StoredSheet.{IsBarred, IsStoppedOnFeed, IsOpened, IsStoredSheet};
 
 use crate::fault::SheetFault;
 use crate::sheet::{Mode, answer_sheet};
@@ -53,8 +54,9 @@ pub fn run_sheet_on_feed<R: Read, W: Write, F: Files, A: Allocator + Copy>(
 ) -> Result<(), SheetFault>
     requires { 1 ≤ site }
     ensures ok { OnOk result (IsStoredSheet mode name.now site (F.shelf files.old) (F.shelf files.new) (R.remaining reader.old) (W.contents writer.old) (W.contents writer.new)) }
-    ensures err { IfErr result (IsHalted mode name.now site (F.shelf files.old) (F.shelf files.new) (R.remaining reader.old) (W.contents writer.old) (W.contents writer.new)) }
+    ensures err { IfErr result (IsStoppedOnFeed mode name.now site (F.shelf files.old) (F.shelf files.new) (R.remaining reader.old) (W.contents writer.old) (W.contents writer.new)) }
     ensures held { IsHeldAlone name.now (F.shelf files.old) (F.shelf files.new) ⊎ ((reader.new ≡ reader.old) × (writer.new ≡ writer.old) × Stays (F.shelf files.old) (F.shelf files.new)) }
+    ensures end { OnOk result (IsAtEnd (R.remaining reader.new)) }
 {
     let (old, mut world) = take_feed(alloc, files, name, site)?;
     let memory = Memory { own: alloc, global };

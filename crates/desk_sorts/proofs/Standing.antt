@@ -35,11 +35,6 @@ rise_of p a (suc n) =
 
 -- ---- they are those at which it stands
 
-range_among : (a n k : ℕ) → Among k (range_with_len a n) → (a ≤ k) × (k < a + n)
-range_among a zero k m = absurd m
-range_among a (suc n) k (inl e) = (omega (arith, e), omega (arith, e))
-range_among a (suc n) k (inr m) = let h = range_among (a + 1) n k m in (omega (arith, h), omega (arith, h))
-
 among_range : (a n k : ℕ) → a ≤ k → k < a + n → Among k (range_with_len a n)
 among_range a zero k low high = absurd (omega (arith, low, high))
 among_range a (suc n) k low high = elim (eq-or-lt_of_le low) [ inl e ↦ inl e | inr lt ↦ inr (among_range (a + 1) n k (omega (arith, lt)) (omega (arith, high))) ]

@@ -1,14 +1,22 @@
 -- What is read for a list of sorts: a stored feed, and a case alone.
-use Rattle.std.specs.Prelude.{ℕ, List, Ok, Err}
+use Rattle.std.specs.Prelude.{◌≡◌, ◌⊎◌, ℕ, List, Ok, Err}
 use Rattle.desk_ops.specs.OpSet.{OpSet}
 use Rattle.desk_case.specs.Case.{CaseValues}
 use Rattle.desk_case.specs.File.{case_of}
 use Rattle.desk_answers.specs.NotDone.{case_refused}
+use Rattle.desk_answers.specs.declared.not_done.NotDone.{NotDone}
+use Rattle.desk_answers.specs.declared.not_done.NotDone.TheVariants as ends
 use Rattle.desk_files.specs.Files.{Shelf}
 use Rattle.desk_hand.specs.Exporting.{IsClosedBy, IsSetOf}
-use Rattle.desk_inputs.specs.Inputs.{FileGives}
+use Rattle.desk_inputs.specs.Inputs.{FileGives, FileLacksMemory}
 use Rattle.desk_sorts.specs.declared.fault.SortsFault.{SortsFault}
 use Rattle.desk_sorts.specs.declared.fault.SortsFault.TheVariants as faults
+
+-- what a case that is not given is for a list of sorts
+abbrev pub of_input : NotDone → SortsFault
+of_input (ends.Refused why) = faults.Input why
+of_input (ends.Stopped taken why) = faults.Input why
+of_input ends.NoMemory = faults.NoMemory
 
 -- the names of a stored feed and of a case file
 pub record Sources : Type 0 where
@@ -22,9 +30,13 @@ sources feed case = record { feed = feed; case = case }
 abbrev pub Give : Sources → Shelf → OpSet → CaseValues → Type 0
 Give from shelf set case = IsSetOf from.feed shelf set × FileGives case_of case_refused from.case shelf (Ok case) shelf
 
--- why they give nothing: the feed is not opened, or it is, and then the case is refused; or memory ran out
+-- why they give nothing: the feed is not opened; or it is, and then the case is refused, or memory runs out by it
 abbrev pub AreRefused : Sources → Shelf → Shelf → SortsFault → Type 0
 AreRefused from before after (faults.Feed why) = IsClosedBy from.feed before after why
 AreRefused from before after (faults.Input why) = (set : OpSet) × IsSetOf from.feed before set × FileGives case_of case_refused from.case before (Err why) after
 AreRefused from before after faults.Write = ⊥
-AreRefused from before after faults.NoMemory = Unit {0}
+AreRefused from before after faults.NoMemory = (set : OpSet) × IsSetOf from.feed before set × FileLacksMemory from.case before after
+
+-- memory ran out by the case, or once all was given, and then no file has changed and the device did not fail
+abbrev pub LackMemory : Sources → Shelf → Shelf → Type 0
+LackMemory from before after = AreRefused from before after faults.NoMemory ⊎ ((after ≡ before) × (set : OpSet) × (case : CaseValues) × Give from before set case)

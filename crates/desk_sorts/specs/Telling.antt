@@ -8,7 +8,7 @@ use Rattle.desk_files.specs.Files.{Shelf}
 use Rattle.desk_stored.specs.Sending.{WritesFront}
 use Rattle.desk_sorts.specs.declared.fault.SortsFault.{SortsFault}
 use Rattle.desk_sorts.specs.declared.fault.SortsFault.TheVariants as faults
-use Rattle.desk_sorts.specs.Sources.{AreRefused, Give, Sources}
+use Rattle.desk_sorts.specs.Sources.{AreRefused, Give, LackMemory, Sources}
 use Rattle.desk_sorts.specs.Told.{IsToldOf}
 
 -- what is told of what the sources give
@@ -23,5 +23,6 @@ AreListed from layout shelf before after complete = (told : List ℕ) × IsListO
 abbrev pub AreUnlisted : Sources → Bool → Shelf → Shelf → Option (List ℕ) → Option (List ℕ) → SortsFault → Type 0
 AreUnlisted from layout first last before after (faults.Feed why) = (after ≡ before) × AreRefused from first last (faults.Feed why)
 AreUnlisted from layout first last before after (faults.Input why) = (after ≡ before) × AreRefused from first last (faults.Input why)
-AreUnlisted from layout first last before after faults.Write = (told : List ℕ) × (complete : Bool) × IsListOf from first layout told complete × WritesFront before after told
-AreUnlisted from layout first last before after faults.NoMemory = after ≡ before
+AreUnlisted from layout first last before after faults.Write =
+    (last ≡ first) × (told : List ℕ) × (complete : Bool) × IsListOf from first layout told complete × WritesFront before after told
+AreUnlisted from layout first last before after faults.NoMemory = (after ≡ before) × LackMemory from first last

@@ -1,9 +1,10 @@
 //! Why there is no list of sorts.
 
 ghost use Rattle.std.specs.Prelude.{◌≡◌};
+ghost use Rattle.desk_sorts.specs.Sources.{of_input};
 ghost use Rattle.desk_sorts.specs.declared.fault.SortsFault.TheVariants as faults;
 
-use desk_answers::Refusal;
+use desk_answers::{NotDone, Refusal};
 use desk_hand::FeedTrouble;
 use desk_memory::NoMemory;
 use desk_stored::Unsent;
@@ -46,5 +47,16 @@ impl From<FeedTrouble> for SortsFault {
 
     fn from(why: FeedTrouble) -> SortsFault {
         SortsFault::Feed(why)
+    }
+}
+
+impl From<NotDone> for SortsFault {
+    ghost from_gives = { λ end fault. fault ≡ of_input end };
+
+    fn from(end: NotDone) -> SortsFault {
+        match end {
+            NotDone::Refused(why) | NotDone::Stopped(_, why) => SortsFault::Input(why),
+            NotDone::NoMemory => SortsFault::NoMemory,
+        }
     }
 }

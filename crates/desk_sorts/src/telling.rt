@@ -51,16 +51,8 @@ pub fn tell_sorts<W: Write, F: Files, A: Allocator + Copy>(
     ensures err { IfErr result (AreUnlisted (sources feed.now case.now) layout (F.shelf files.old) (F.shelf files.new) (W.contents writer.old) (W.contents writer.new)) }
     ensures stays { Stays (F.shelf files.old) (F.shelf files.new) }
 {
-    let (replica, case) = match take_in(memory, files, feed, case) {
-        Ok(taken) => taken,
-        Err(why) => return Err(why),
-    };
-    let (text, complete) = match told_of_replica(memory.own, &replica, &case, layout) {
-        Ok(told) => told,
-        Err(_) => return Err(SortsFault::NoMemory),
-    };
-    match write_out(writer, text.as_bytes()) {
-        Ok(()) => Ok(complete),
-        Err(_) => Err(SortsFault::Write),
-    }
+    let (replica, case) = take_in(memory, files, feed, case)?;
+    let (text, complete) = told_of_replica(memory.own, &replica, &case, layout)?;
+    write_out(writer, text.as_bytes())?;
+    Ok(complete)
 }

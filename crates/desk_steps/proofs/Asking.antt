@@ -12,9 +12,9 @@ use Rattle.desk_held.specs.declared.AddRefusal.TheVariants as adds
 use Rattle.desk_replica.specs.declared.Refusal.{Refusal as EditRefusal}
 use Rattle.desk_replica.specs.declared.Refusal.TheVariants as edits
 use Rattle.desk_commands.specs.Grammar.{command_of}
-use Rattle.desk_commands.specs.Request.{Request, Site, Insert, Delete, SetTo, Take, Send, Merge, Show, Faults, Settings, Feed, Ribbon, Cast, Restart}
+use Rattle.desk_commands.specs.Command.{CommandValues, Site, Insert, Delete, SetTo, Take, Send, Merge, Show, Faults, Settings, Feed, Ribbon, Cast, Restart}
 use Rattle.desk_answers.specs.NotDone.{edit_refused, event_reply, stopped, stopped_after}
-use Rattle.desk_answers.specs.Reply.{Reply, Refused, Stopped, is_long}
+use Rattle.desk_answers.specs.Reply.{ReplyValues, Refused, Stopped, is_long}
 use Rattle.desk_answers.specs.Reply as replies
 use Rattle.desk_answers.specs.declared.text.Refusal.{Refusal}
 use Rattle.desk_answers.specs.declared.text.Refusal.TheVariants as refusals
@@ -22,7 +22,7 @@ use Rattle.desk_inputs.specs.declared.job.Wanted.{Wanted}
 use Rattle.desk_inputs.specs.declared.job.Wanted.TheVariants as wants
 use Rattle.desk_world.specs.Sites.{Sites}
 use Rattle.desk_world.specs.World.{taken}
-use Rattle.desk_world.specs.World as changes
+use Rattle.desk_world.specs.World as events
 use Rattle.desk_world.specs.declared.world.Answer.{Answer}
 use Rattle.desk_world.specs.declared.world.Answer.TheVariants as answers
 use Rattle.desk_world.specs.declared.world.StepRefusal.{StepRefusal}
@@ -59,10 +59,10 @@ event_short (Err steps.TooManySites) = refl
 event_short (Err steps.NoSite) = refl
 event_short (Err steps.Strange) = refl
 event_short (Err (steps.Edit why)) = edit_short why
-event_short (Err (steps.Halted stop)) = halted_short stop.taken stop.why
+event_short (Err (steps.Stopped stop)) = halted_short stop.taken stop.why
 event_short (Err steps.NoMemory) = refl
 
-after_short : (k : ℕ) (r : Reply) → is_long r ≡ false → is_long (after k r) ≡ false
+after_short : (k : ℕ) (r : ReplyValues) → is_long r ≡ false → is_long (after k r) ≡ false
 after_short k (Refused why) short = stopped_short _ k why
 after_short k replies.Done short = short
 after_short k (replies.Made stamp) short = short
@@ -85,55 +85,55 @@ made_short k (Some span) = span_short _ span.0 span.1
     span_short true first last = refl
     span_short false first last = refl
 
-as_short : (a b : Reply) → a ≡ b → is_long a ≡ false → is_long b ≡ false
+as_short : (a b : ReplyValues) → a ≡ b → is_long a ≡ false → is_long b ≡ false
 as_short a b same short = ap is_long (sym same) ∙ short
 
-inserts_short : (old new : Sites) (n place : ℕ) (copy : List Symbol) (k : ℕ) (made : Option (Stamp × Stamp)) (reply : Reply) → Inserts old n place copy k made reply new → is_long reply ≡ false
+inserts_short : (old new : Sites) (n place : ℕ) (copy : List Symbol) (k : ℕ) (made : Option (Stamp × Stamp)) (reply : ReplyValues) → Inserts old n place copy k made reply new → is_long reply ≡ false
 inserts_short old new n place [] k made reply h = as_short _ reply (sym h.0) (made_short k made)
 inserts_short old new n place (y ∷ ys) k made reply (mid, result, steps, rest) =
     by_look_up (made_of result) _ _ (is_long reply ≡ false) (λ r. as_short _ reply r.0 (after_short k _ (event_short result)))
     (λ op r. inserts_short mid new n place ys (k + 1) (Some (first_of made (stamp_of op), stamp_of op)) reply r) rest
 
 -- a reply that is short is not long
-neither : (P : Type 0) (r : Reply) → is_long r ≡ false → is_long r ≡ true → P
+neither : (P : Type 0) (r : ReplyValues) → is_long r ≡ false → is_long r ≡ true → P
 neither P r short long = let e : is_long r ≡ false = short in let f : is_long r ≡ true = long in absurd (cc)
 
-happens_same : (old new : Sites) (change : changes.Change) (reply : Reply) → is_long reply ≡ true → Happens old change reply new → new ≡ old
-happens_same old new change reply long h = neither (new ≡ old) reply (as_short _ reply h.2 (event_short h.0)) long
+happens_same : (old new : Sites) (event : events.EventValues) (reply : ReplyValues) → is_long reply ≡ true → Happens old event reply new → new ≡ old
+happens_same old new event reply long h = neither (new ≡ old) reply (as_short _ reply h.2 (event_short h.0)) long
 
-takes_same : (old new : Sites) (n : ℕ) (bytes : List ℕ) (reply : Reply) → is_long reply ≡ true → Takes old n bytes reply new → new ≡ old
+takes_same : (old new : Sites) (n : ℕ) (bytes : List ℕ) (reply : ReplyValues) → is_long reply ≡ true → Takes old n bytes reply new → new ≡ old
 takes_same old new n bytes reply long (inl h) = neither (new ≡ old) reply (as_short _ reply h.2.2 (event_short (taken h.2.0))) long
 takes_same old new n bytes reply long (inr h) = h.2.1
 
-gives_same : (old new : Sites) (ops : List Op) (range : Option (ℕ × ℕ)) (to : ℕ) (reply : Reply) → is_long reply ≡ true → GivesPart old ops range to reply new → new ≡ old
-gives_same old new ops range to reply long h = by_look_up (sent ops range) _ _ (new ≡ old) (λ r. r.1) (λ part. happens_same old new (changes.Give to part) reply long) h
+gives_same : (old new : Sites) (ops : List Op) (range : Option (ℕ × ℕ)) (to : ℕ) (reply : ReplyValues) → is_long reply ≡ true → GivesPart old ops range to reply new → new ≡ old
+gives_same old new ops range to reply long h = by_look_up (sent ops range) _ _ (new ≡ old) (λ r. r.1) (λ part. happens_same old new (events.Give to part) reply long) h
 
-does_same : (old new : Sites) (request : Request) (reply : Reply) → is_long reply ≡ true → Does old request reply new → new ≡ old
-does_same old new (Site n) reply long h = by_test (nat_lt 65535 n) _ _ (new ≡ old) (λ r. r.1) (happens_same old new (changes.Site n) reply long) h
+does_same : (old new : Sites) (command : CommandValues) (reply : ReplyValues) → is_long reply ≡ true → Does old command reply new → new ≡ old
+does_same old new (Site n) reply long h = by_test (nat_lt 65535 n) _ _ (new ≡ old) (λ r. r.1) (happens_same old new (events.Site n) reply long) h
 does_same old new (Insert n place copy) reply long h =
     by_look_up (set_of old n) _ _ (new ≡ old) (λ r. r.1)
     (λ set r. by_test (nat_le place (length (copy_of set))) _ _ (new ≡ old)
     (λ inside. by_test (all_symbols copy) _ _ (new ≡ old) (λ i. neither (new ≡ old) reply (inserts_short old new n place copy 0 None reply i) long) (λ u. u.1) inside) (λ u. u.1) r) h
-does_same old new (Delete n place) reply long h = by_look_up (set_of old n) _ _ (new ≡ old) (λ r. r.1) (λ set. happens_same old new (changes.Delete n place) reply long) h
-does_same old new (SetTo n key value) reply long h = by_look_up (set_of old n) _ _ (new ≡ old) (λ r. r.1) (λ set. happens_same old new (changes.Set n key value) reply long) h
+does_same old new (Delete n place) reply long h = by_look_up (set_of old n) _ _ (new ≡ old) (λ r. r.1) (λ set. happens_same old new (events.Delete n place) reply long) h
+does_same old new (SetTo n key value) reply long h = by_look_up (set_of old n) _ _ (new ≡ old) (λ r. r.1) (λ set. happens_same old new (events.Set n key value) reply long) h
 does_same old new (Take n bytes) reply long h = by_look_up (set_of old n) _ _ (new ≡ old) (λ r. r.1) (λ set. takes_same old new n bytes reply long) h
 does_same old new (Send from to range) reply long h =
     by_look_up (set_of old from) _ _ (new ≡ old) (λ r. r.1) (λ set r. by_look_up (set_of old to) _ _ (new ≡ old) (λ u. u.1) (λ other. gives_same old new (in_order set) range to reply long) r) h
 does_same old new (Merge to from) reply long h =
     by_look_up (set_of old to) _ _ (new ≡ old) (λ r. r.1)
-    (λ other r. by_look_up (set_of old from) _ _ (new ≡ old) (λ u. u.1) (λ set. happens_same old new (changes.Give to (in_order set)) reply long) r) h
+    (λ other r. by_look_up (set_of old from) _ _ (new ≡ old) (λ u. u.1) (λ set. happens_same old new (events.Give to (in_order set)) reply long) r) h
 does_same old new (Show n) reply long h = by_look_up (set_of old n) _ _ (new ≡ old) (λ r. r.1) (λ set r. r.1) h
 does_same old new (Feed n) reply long h = by_look_up (set_of old n) _ _ (new ≡ old) (λ r. r.1) (λ set r. r.1) h
-does_same old new (Restart n) reply long h = by_look_up (set_of old n) _ _ (new ≡ old) (λ r. r.1) (λ set. happens_same old new (changes.Restart n) reply long) h
+does_same old new (Restart n) reply long h = by_look_up (set_of old n) _ _ (new ≡ old) (λ r. r.1) (λ set. happens_same old new (events.Restart n) reply long) h
 does_same old new (Faults n) reply long h = by_look_up (set_of old n) _ _ (new ≡ old) (λ r. r.1) (λ set r. r.1) h
 does_same old new (Settings n) reply long h = by_look_up (set_of old n) _ _ (new ≡ old) (λ r. r.1) (λ set r. r.1) h
 does_same old new (Ribbon n case wedge) reply long h = absurd h
 does_same old new (Cast n case wedge) reply long h = absurd h
 
-jobs_same : (wanted : Wanted) (old new : Desk) (n : ℕ) (of_case of_wedge : List ℕ) (reply : Reply) → Jobs wanted old n of_case of_wedge reply new → new.sites ≡ old.sites
+jobs_same : (wanted : Wanted) (old new : Desk) (n : ℕ) (of_case of_wedge : List ℕ) (reply : ReplyValues) → Jobs wanted old n of_case of_wedge reply new → new.sites ≡ old.sites
 jobs_same wanted old new n of_case of_wedge reply h = by_look_up (set_of old.sites n) _ _ (new.sites ≡ old.sites) (λ r. ap (λ (d : Desk). d.sites) r.1) (λ set r. r.0) h
 
-performs_same : (old new : Desk) (request : Request) (reply : Reply) → is_long reply ≡ true → Performs old request reply new → new.sites ≡ old.sites
+performs_same : (old new : Desk) (command : CommandValues) (reply : ReplyValues) → is_long reply ≡ true → Performs old command reply new → new.sites ≡ old.sites
 performs_same old new (Ribbon n case wedge) reply long h = jobs_same wants.Ribbon old new n case wedge reply h
 performs_same old new (Cast n case wedge) reply long h = jobs_same wants.Lines old new n case wedge reply h
 performs_same old new (Site n) reply long h = does_same old.sites new.sites (Site n) reply long h.0
@@ -149,11 +149,11 @@ performs_same old new (Settings n) reply long h = does_same old.sites new.sites 
 performs_same old new (Feed n) reply long h = does_same old.sites new.sites (Feed n) reply long h.0
 performs_same old new (Restart n) reply long h = does_same old.sites new.sites (Restart n) reply long h.0
 
-answers_same : (old new : Desk) (line : Line) (reply : Reply) → is_long reply ≡ true → IsAnswered old line reply new → new.sites ≡ old.sites
+answers_same : (old new : Desk) (line : Line) (reply : ReplyValues) → is_long reply ≡ true → IsAnswered old line reply new → new.sites ≡ old.sites
 answers_same old new Long reply long h = ap (λ (d : Desk). d.sites) h.1
-answers_same old new (Bytes bytes) reply long h = by_look_up (command_of bytes) _ _ (new.sites ≡ old.sites) (λ r. ap (λ (d : Desk). d.sites) r.1) (λ request. performs_same old new request reply long) h
+answers_same old new (Bytes bytes) reply long h = by_look_up (command_of bytes) _ _ (new.sites ≡ old.sites) (λ r. ap (λ (d : Desk). d.sites) r.1) (λ command. performs_same old new command reply long) h
 
 -- whatever a line is
-pub allows_same : (old new : Desk) (line : Line) (reply : Reply) → is_long reply ≡ true → Allows old line reply new → new.sites ≡ old.sites
+pub allows_same : (old new : Desk) (line : Line) (reply : ReplyValues) → is_long reply ≡ true → Allows old line reply new → new.sites ≡ old.sites
 allows_same old new line reply long (inl h) = answers_same old new line reply long h
 allows_same old new line reply long (inr h) = h.1

@@ -19,23 +19,23 @@ use Rattle.desk_answers.specs.declared.not_done.NotDone.{NotDone}
 use Rattle.desk_answers.specs.declared.not_done.NotDone.TheVariants as ends
 use Rattle.desk_answers.specs.declared.text.Refusal.{Refusal}
 use Rattle.desk_answers.specs.declared.text.Refusal.TheVariants as refusals
-use Rattle.desk_answers.specs.Reply.{Reply, Copy, Refused}
+use Rattle.desk_answers.specs.Reply.{ReplyValues, Copy, Refused}
 use Rattle.desk_answers.specs.Reply as replies
-use Rattle.desk_commands.specs.Request.{Request, Site, Insert, Delete, SetTo, Take, Send, Merge, Show, Faults, Settings, Feed, Ribbon, Cast, Restart}
+use Rattle.desk_commands.specs.Command.{CommandValues, Site, Insert, Delete, SetTo, Take, Send, Merge, Show, Faults, Settings, Feed, Ribbon, Cast, Restart}
 use Rattle.desk_world.specs.Sites.{Sites}
 use Rattle.desk_world.specs.World.{Brings, taken}
-use Rattle.desk_world.specs.World as changes
+use Rattle.desk_world.specs.World as events
 use Rattle.desk_world.specs.declared.world.StepRefusal.{StepRefusal}
 use Rattle.desk_steps.specs.Desk.{Desk}
 use Rattle.desk_steps.specs.Event.{Happens, Says, set_of}
 use Rattle.desk_steps.specs.Insert.{Inserts, all_symbols}
 
 -- operations are brought to a site, wherever they come from, and the reply is that of the result
-abbrev pub IsBrought : Sites → ℕ → List Op → Reply → Sites → Type 0
+abbrev pub IsBrought : Sites → ℕ → List Op → ReplyValues → Sites → Type 0
 IsBrought old n ops reply new = (result : Result Count StepRefusal) × Brings old n ops result new × (event_reply (taken result) ≡ reply)
 
 -- a feed's operations are brought to a site, or its first fault is the reply
-abbrev pub Takes : Sites → ℕ → List ℕ → Reply → Sites → Type 0
+abbrev pub Takes : Sites → ℕ → List ℕ → ReplyValues → Sites → Type 0
 Takes old n bytes reply new =
     ((ops : List Op) × IsFeed bytes ops × IsBrought old n ops reply new)
     ⊎ ((fault : FeedFault) × IsFirstFault bytes fault × Says (Refused (refusals.Feed fault)) old reply new)
@@ -50,60 +50,60 @@ abbrev pub IsNoPart : NotDone → Option (List Op) → Type 0
 IsNoPart end part = ((end ≡ ends.Refused refusals.Place) × (part ≡ None)) ⊎ (end ≡ ends.NoMemory)
 
 -- a site is given the operations at the places, or the places are refused
-abbrev pub GivesPart : Sites → List Op → Option (ℕ × ℕ) → ℕ → Reply → Sites → Type 0
-GivesPart old ops range to reply new = MatchOption (sent ops range) (Says (Refused refusals.Place) old reply new) (λ part. Happens old (changes.Give to part) reply new)
+abbrev pub GivesPart : Sites → List Op → Option (ℕ × ℕ) → ℕ → ReplyValues → Sites → Type 0
+GivesPart old ops range to reply new = MatchOption (sent ops range) (Says (Refused refusals.Place) old reply new) (λ part. Happens old (events.Give to part) reply new)
 
 -- what a command that asks for no file answers and does
-abbrev pub Does : Sites → Request → Reply → Sites → Type 0
-Does old (Site n) reply new = MatchBool (nat_lt 65535 n) (Says (Refused refusals.Number) old reply new) (Happens old (changes.Site n) reply new)
+abbrev pub Does : Sites → CommandValues → ReplyValues → Sites → Type 0
+Does old (Site n) reply new = MatchBool (nat_lt 65535 n) (Says (Refused refusals.Number) old reply new) (Happens old (events.Site n) reply new)
 Does old (Insert n place copy) reply new = MatchOption (set_of old n) (Says (Refused refusals.Site) old reply new)
     (λ set. MatchBool (nat_le place (length (copy_of set)))
     (MatchBool (all_symbols copy) (Inserts old n place copy 0 None reply new) (Says (Refused refusals.Value) old reply new))
     (Says (Refused refusals.Place) old reply new))
-Does old (Delete n place) reply new = MatchOption (set_of old n) (Says (Refused refusals.Site) old reply new) (λ set. Happens old (changes.Delete n place) reply new)
-Does old (SetTo n key value) reply new = MatchOption (set_of old n) (Says (Refused refusals.Site) old reply new) (λ set. Happens old (changes.Set n key value) reply new)
+Does old (Delete n place) reply new = MatchOption (set_of old n) (Says (Refused refusals.Site) old reply new) (λ set. Happens old (events.Delete n place) reply new)
+Does old (SetTo n key value) reply new = MatchOption (set_of old n) (Says (Refused refusals.Site) old reply new) (λ set. Happens old (events.Set n key value) reply new)
 Does old (Take n bytes) reply new = MatchOption (set_of old n) (Says (Refused refusals.Site) old reply new) (λ set. Takes old n bytes reply new)
 Does old (Send from to range) reply new = MatchOption (set_of old from) (Says (Refused refusals.Site) old reply new)
     (λ set. MatchOption (set_of old to) (Says (Refused refusals.Site) old reply new)
     (λ other. GivesPart old (in_order set) range to reply new))
 Does old (Merge to from) reply new = MatchOption (set_of old to) (Says (Refused refusals.Site) old reply new)
     (λ other. MatchOption (set_of old from) (Says (Refused refusals.Site) old reply new)
-    (λ set. Happens old (changes.Give to (in_order set)) reply new))
+    (λ set. Happens old (events.Give to (in_order set)) reply new))
 Does old (Show n) reply new = MatchOption (set_of old n) (Says (Refused refusals.Site) old reply new) (λ set. Says (Copy (copy_of set)) old reply new)
 Does old (Feed n) reply new = MatchOption (set_of old n) (Says (Refused refusals.Site) old reply new) (λ set. Says (replies.Feed (set_feed set)) old reply new)
-Does old (Restart n) reply new = MatchOption (set_of old n) (Says (Refused refusals.Site) old reply new) (λ set. Happens old (changes.Restart n) reply new)
+Does old (Restart n) reply new = MatchOption (set_of old n) (Says (Refused refusals.Site) old reply new) (λ set. Happens old (events.Restart n) reply new)
 Does old (Faults n) reply new = MatchOption (set_of old n) (Says (Refused refusals.Site) old reply new) (λ set. Says (replies.Faults (faults_of set)) old reply new)
 Does old (Settings n) reply new = MatchOption (set_of old n) (Says (Refused refusals.Site) old reply new) (λ set. Says (replies.Settings (settings_of set)) old reply new)
 Does old (Ribbon n case wedge) reply new = ⊥
 Does old (Cast n case wedge) reply new = ⊥
 
 -- memory is refused, and no site has changed
-abbrev pub Lacks : Sites → Reply → Sites → Type 0
+abbrev pub Lacks : Sites → ReplyValues → Sites → Type 0
 Lacks old reply new = Says (Refused refusals.Memory) old reply new
 
 -- what a command that asks for no file answers and does, or memory is refused to it
-abbrev pub Tries : Sites → Request → Reply → Sites → Type 0
-Tries old request reply new = Does old request reply new ⊎ Lacks old reply new
+abbrev pub Tries : Sites → CommandValues → ReplyValues → Sites → Type 0
+Tries old command reply new = Does old command reply new ⊎ Lacks old reply new
 
 -- a line or a command is refused, and nothing changes
-abbrev pub Refuses : Desk → Refusal → Reply → Desk → Type 0
+abbrev pub Refuses : Desk → Refusal → ReplyValues → Desk → Type 0
 Refuses old why reply new = (reply ≡ Refused why) × (new ≡ old)
 
 -- memory is refused, and neither a site nor a file has changed; a device may have failed before
-abbrev pub LacksMemory : Desk → Reply → Desk → Type 0
+abbrev pub LacksMemory : Desk → ReplyValues → Desk → Type 0
 LacksMemory old reply new = (reply ≡ Refused refusals.Memory) × (new.sites ≡ old.sites) × Stays old.shelf new.shelf
 
 -- A job at a site: the site is looked up, both files are read by their names, and no set changes.
-abbrev pub Jobs : Wanted → Desk → ℕ → List ℕ → List ℕ → Reply → Desk → Type 0
+abbrev pub Jobs : Wanted → Desk → ℕ → List ℕ → List ℕ → ReplyValues → Desk → Type 0
 Jobs wanted old n of_case of_wedge reply new = MatchOption (set_of old.sites n) (Refuses old refusals.Site reply new)
     (λ set. (new.sites ≡ old.sites) × IsJobByFiles wanted set of_case of_wedge old.shelf reply new.shelf)
 
 -- a command that asks for no file leaves the files as they are
-abbrev pub Keeps : Desk → Request → Reply → Desk → Type 0
-Keeps old request reply new = Does old.sites request reply new.sites × (new.shelf ≡ old.shelf)
+abbrev pub Keeps : Desk → CommandValues → ReplyValues → Desk → Type 0
+Keeps old command reply new = Does old.sites command reply new.sites × (new.shelf ≡ old.shelf)
 
 -- what a command answers and does
-abbrev pub Performs : Desk → Request → Reply → Desk → Type 0
+abbrev pub Performs : Desk → CommandValues → ReplyValues → Desk → Type 0
 Performs old (Ribbon n case wedge) reply new = Jobs wants.Ribbon old n case wedge reply new
 Performs old (Cast n case wedge) reply new = Jobs wants.Lines old n case wedge reply new
 Performs old (Site n) reply new = Keeps old (Site n) reply new
@@ -120,5 +120,5 @@ Performs old (Feed n) reply new = Keeps old (Feed n) reply new
 Performs old (Restart n) reply new = Keeps old (Restart n) reply new
 
 -- what a command answers and does, or memory is refused to it
-abbrev pub Attempts : Desk → Request → Reply → Desk → Type 0
-Attempts old request reply new = Performs old request reply new ⊎ LacksMemory old reply new
+abbrev pub Attempts : Desk → CommandValues → ReplyValues → Desk → Type 0
+Attempts old command reply new = Performs old command reply new ⊎ LacksMemory old reply new

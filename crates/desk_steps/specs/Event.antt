@@ -3,19 +3,19 @@ use Rattle.std.specs.Prelude.{◌≡◌, ℕ, nat_lt, Option, None, Result, if�
 use Rattle.std.specs.FinMap as fin
 use Rattle.desk_ops.specs.OpSet.{OpSet}
 use Rattle.desk_answers.specs.NotDone.{event_reply}
-use Rattle.desk_answers.specs.Reply.{Reply}
+use Rattle.desk_answers.specs.Reply.{ReplyValues}
 use Rattle.desk_world.specs.Sites.{Sites}
 use Rattle.desk_world.specs.World.{Steps}
-use Rattle.desk_world.specs.World as changes
+use Rattle.desk_world.specs.World as events
 use Rattle.desk_world.specs.declared.world.Answer.{Answer}
 use Rattle.desk_world.specs.declared.world.StepRefusal.{StepRefusal}
 
 -- an event happens, and the reply is that of its result
-abbrev pub Happens : Sites → changes.Change → Reply → Sites → Type 0
-Happens old change reply new = (result : Result Answer StepRefusal) × Steps old change result new × (event_reply result ≡ reply)
+abbrev pub Happens : Sites → events.EventValues → ReplyValues → Sites → Type 0
+Happens old event reply new = (result : Result Answer StepRefusal) × Steps old event result new × (event_reply result ≡ reply)
 
 -- nothing changes
-abbrev pub Says : Reply → Sites → Reply → Sites → Type 0
+abbrev pub Says : ReplyValues → Sites → ReplyValues → Sites → Type 0
 Says what old reply new = (reply ≡ what) × (new ≡ old)
 
 -- what the named site holds: no site has a number above 65535

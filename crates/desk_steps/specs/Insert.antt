@@ -5,11 +5,11 @@ use Rattle.desk_ops.specs.declared.op.Op.{Op}
 use Rattle.desk_ops.specs.declared.op.Stamp.{Stamp}
 use Rattle.desk_ops.specs.declared.op.Symbol.{Symbol}
 use Rattle.desk_answers.specs.NotDone.{event_reply, stopped}
-use Rattle.desk_answers.specs.Reply.{Reply, Done, Made, MadeMany, Counted, Copy, Refused, Stopped}
+use Rattle.desk_answers.specs.Reply.{ReplyValues, Done, Made, MadeMany, Counted, Copy, Refused, Stopped}
 use Rattle.desk_answers.specs.Reply as replies
 use Rattle.desk_world.specs.Sites.{Sites}
 use Rattle.desk_world.specs.World.{Steps}
-use Rattle.desk_world.specs.World as changes
+use Rattle.desk_world.specs.World as events
 use Rattle.desk_world.specs.declared.world.Answer.{Answer}
 use Rattle.desk_world.specs.declared.world.Answer.TheVariants as answers
 use Rattle.desk_world.specs.declared.world.StepRefusal.{StepRefusal}
@@ -21,7 +21,7 @@ all_symbols [] = true
 all_symbols (y ∷ ys) = is_symbol y && all_symbols ys
 
 -- a refusal after k edits says that these stand
-abbrev pub after : ℕ → Reply → Reply
+abbrev pub after : ℕ → ReplyValues → ReplyValues
 after k (Refused why) = stopped k why
 after k Done = Done
 after k (Made stamp) = Made stamp
@@ -43,7 +43,7 @@ made_of (Ok answers.Done) = None
 made_of (Err why) = None
 
 -- the reply to k edits, by the first stamp and the last
-abbrev pub all_made : ℕ → Option (Stamp × Stamp) → Reply
+abbrev pub all_made : ℕ → Option (Stamp × Stamp) → ReplyValues
 all_made k None = Done
 all_made k (Some span) = if k == 1 then Made span.0 else MadeMany span.0 span.1
 
@@ -52,9 +52,9 @@ first_of None s = s
 first_of (Some span) s = span.0
 
 -- symbols are inserted one after another, where k were made before
-abbrev pub Inserts : Sites → ℕ → ℕ → List Symbol → ℕ → Option (Stamp × Stamp) → Reply → Sites → Type 0
+abbrev pub Inserts : Sites → ℕ → ℕ → List Symbol → ℕ → Option (Stamp × Stamp) → ReplyValues → Sites → Type 0
 Inserts old n place [] k made reply new = Says (all_made k made) old reply new
 Inserts old n place (y ∷ ys) k made reply new =
-    (mid : Sites) × (result : Result Answer StepRefusal) × Steps old (changes.Insert n (place + k) y) result mid
+    (mid : Sites) × (result : Result Answer StepRefusal) × Steps old (events.Insert n (place + k) y) result mid
     × MatchOption (made_of result) ((after k (event_reply result) ≡ reply) × (new ≡ mid))
     (λ op. Inserts mid n place ys (k + 1) (Some (first_of made (stamp_of op), stamp_of op)) reply new)

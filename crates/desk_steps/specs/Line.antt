@@ -1,6 +1,6 @@
 -- A line of a script, and the answer that it may get.
 use Rattle.std.specs.Prelude.{ℕ, ◌⊎◌, nat_le, List, length, MatchOption, if◌then◌else◌}
-use Rattle.desk_answers.specs.Reply.{Reply}
+use Rattle.desk_answers.specs.Reply.{ReplyValues}
 use Rattle.desk_answers.specs.declared.text.Refusal.TheVariants as refusals
 use Rattle.desk_commands.specs.Grammar.{command_of}
 use Rattle.desk_steps.specs.Act.{LacksMemory, Performs, Refuses}
@@ -15,10 +15,10 @@ abbrev pub line_of : List ℕ → Line
 line_of bytes = if nat_le (length bytes) 65536 then Bytes bytes else Long
 
 -- the answer of a line for which there is memory, and what it leaves
-abbrev pub IsAnswered : Desk → Line → Reply → Desk → Type 0
+abbrev pub IsAnswered : Desk → Line → ReplyValues → Desk → Type 0
 IsAnswered old Long reply new = Refuses old refusals.Line reply new
-IsAnswered old (Bytes bytes) reply new = MatchOption (command_of bytes) (Refuses old refusals.Command reply new) (λ request. Performs old request reply new)
+IsAnswered old (Bytes bytes) reply new = MatchOption (command_of bytes) (Refuses old refusals.Command reply new) (λ command. Performs old command reply new)
 
 -- the answer that a line may get, and what it leaves: to any line memory may be refused
-abbrev pub Allows : Desk → Line → Reply → Desk → Type 0
+abbrev pub Allows : Desk → Line → ReplyValues → Desk → Type 0
 Allows old line reply new = IsAnswered old line reply new ⊎ LacksMemory old reply new

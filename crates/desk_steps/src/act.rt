@@ -2,8 +2,8 @@
 
 ghost use Rattle.std.specs.Prelude.{◌≡◌, ◌⊎◌, All, IfErr, IfOk, Some};
 ghost use Rattle.desk_answers.specs.NotDone.{reply_to};
-ghost use Rattle.desk_commands.specs.Request as requests;
-ghost use Rattle.desk_commands.specs.Request.{request};
+ghost use Rattle.desk_commands.specs.Command as commands;
+ghost use Rattle.desk_commands.specs.Command.{command_values};
 ghost use Rattle.desk_files.specs.Files.{Stays};
 ghost use Rattle.desk_inputs.specs.Job.{IsJobByFiles};
 ghost use Rattle.desk_ops.specs.Op.{IsLawful};
@@ -13,7 +13,7 @@ ghost use Rattle.desk_steps.specs.Desk.{desk};
 
 use crate::event::{happen, number_of, replica_of};
 use crate::insert::insert;
-use desk_answers::{NotDone, Refusal, Response};
+use desk_answers::{NotDone, Refusal, Reply};
 use desk_blocks::Blocks;
 use desk_codec::{ReadFault, read_feed};
 use desk_commands::Command;
@@ -24,8 +24,8 @@ use desk_replica::Replica;
 use desk_world::{Answer, Event, World};
 use std::alloc::Allocator;
 
-fn add_site<A: Allocator + Copy>(world: &mut World<A>, site: u32) -> Result<Response<A>, NotDone>
-    ensures { Does world.old (requests.Site site) (reply_to result) world.new }
+fn add_site<A: Allocator + Copy>(world: &mut World<A>, site: u32) -> Result<Reply<A>, NotDone>
+    ensures { Does world.old (commands.Site site) (reply_to result) world.new }
 {
     let Ok(number) = u16::try_from(site) else {
         return Err(NotDone::Refused(Refusal::Number));
@@ -37,8 +37,8 @@ fn delete<A: Allocator + Copy>(
     world: &mut World<A>,
     site: u32,
     place: u32,
-) -> Result<Response<A>, NotDone>
-    ensures { Does world.old (requests.Delete site place) (reply_to result) world.new }
+) -> Result<Reply<A>, NotDone>
+    ensures { Does world.old (commands.Delete site place) (reply_to result) world.new }
 {
     let site = number_of(world, site)?;
     let place = place as usize;
@@ -50,15 +50,15 @@ fn set<A: Allocator + Copy>(
     site: u32,
     key: Key,
     value: u32,
-) -> Result<Response<A>, NotDone>
-    ensures { Does world.old (requests.SetTo site key value) (reply_to result) world.new }
+) -> Result<Reply<A>, NotDone>
+    ensures { Does world.old (commands.SetTo site key value) (reply_to result) world.new }
 {
     let site = number_of(world, site)?;
     happen(world, &Event::Set { site, key, value })
 }
 
-fn restart<A: Allocator + Copy>(world: &mut World<A>, site: u32) -> Result<Response<A>, NotDone>
-    ensures { Does world.old (requests.Restart site) (reply_to result) world.new }
+fn restart<A: Allocator + Copy>(world: &mut World<A>, site: u32) -> Result<Reply<A>, NotDone>
+    ensures { Does world.old (commands.Restart site) (reply_to result) world.new }
 {
     let site = number_of(world, site)?;
     happen(world, &Event::Restart(site))
@@ -69,12 +69,12 @@ fn bring<A: Allocator + Copy>(
     world: &mut World<A>,
     site: u16,
     ops: &[Op],
-) -> Result<Response<A>, NotDone>
+) -> Result<Reply<A>, NotDone>
     requires { All IsLawful ops.now }
     ensures { IsBrought world.old site ops.now (reply_to result) world.new }
 {
     let count = world.bring(site, ops)?;
-    Ok(Response::from(Answer::Taken(count)))
+    Ok(Reply::from(Answer::Taken(count)))
 }
 
 /// Takes a feed at a site that is there.
@@ -83,7 +83,7 @@ fn take_feed<A: Allocator + Copy>(
     world: &mut World<A>,
     site: u16,
     feed: &[u8],
-) -> Result<Response<A>, NotDone>
+) -> Result<Reply<A>, NotDone>
     ensures { Takes world.old site feed.now (reply_to result) world.new ⊎ Lacks world.old (reply_to result) world.new }
 {
     match read_feed(alloc, feed) {
@@ -99,8 +99,8 @@ fn take<A: Allocator + Copy>(
     world: &mut World<A>,
     site: u32,
     feed: &[u8],
-) -> Result<Response<A>, NotDone>
-    ensures { Tries world.old (requests.Take site feed.now) (reply_to result) world.new }
+) -> Result<Reply<A>, NotDone>
+    ensures { Tries world.old (commands.Take site feed.now) (reply_to result) world.new }
 {
     let site = number_of(world, site)?;
     take_feed(alloc, world, site, feed)
@@ -130,8 +130,8 @@ fn send<A: Allocator + Copy>(
     from: u32,
     to: u32,
     range: Option<(u32, u32)>,
-) -> Result<Response<A>, NotDone>
-    ensures { Tries world.old (requests.Send from to range) (reply_to result) world.new }
+) -> Result<Reply<A>, NotDone>
+    ensures { Tries world.old (commands.Send from to range) (reply_to result) world.new }
 {
     let replica = replica_of(world, from)?;
     let to = number_of(world, to)?;
@@ -139,44 +139,40 @@ fn send<A: Allocator + Copy>(
     happen(world, &Event::Give { to, ops: &ops })
 }
 
-fn merge<A: Allocator + Copy>(
-    world: &mut World<A>,
-    to: u32,
-    from: u32,
-) -> Result<Response<A>, NotDone>
-    ensures { Tries world.old (requests.Merge to from) (reply_to result) world.new }
+fn merge<A: Allocator + Copy>(world: &mut World<A>, to: u32, from: u32) -> Result<Reply<A>, NotDone>
+    ensures { Tries world.old (commands.Merge to from) (reply_to result) world.new }
 {
     let to = number_of(world, to)?;
     let ops = replica_of(world, from)?.in_order()?;
     happen(world, &Event::Give { to, ops: &ops })
 }
 
-fn show<A: Allocator + Copy>(world: &World<A>, site: u32) -> Result<Response<A>, NotDone>
-    ensures { Tries world.now (requests.Show site) (reply_to result) world.now }
+fn show<A: Allocator + Copy>(world: &World<A>, site: u32) -> Result<Reply<A>, NotDone>
+    ensures { Tries world.now (commands.Show site) (reply_to result) world.now }
 {
     let copy = replica_of(world, site)?.copy()?;
-    Ok(Response::Copy(copy))
+    Ok(Reply::Copy(copy))
 }
 
-fn faults<A: Allocator + Copy>(world: &World<A>, site: u32) -> Result<Response<A>, NotDone>
-    ensures { Tries world.now (requests.Faults site) (reply_to result) world.now }
+fn faults<A: Allocator + Copy>(world: &World<A>, site: u32) -> Result<Reply<A>, NotDone>
+    ensures { Tries world.now (commands.Faults site) (reply_to result) world.now }
 {
     let faults = replica_of(world, site)?.copy_faults()?;
-    Ok(Response::Faults(faults))
+    Ok(Reply::Faults(faults))
 }
 
-fn settings<A: Allocator + Copy>(world: &World<A>, site: u32) -> Result<Response<A>, NotDone>
-    ensures { Tries world.now (requests.Settings site) (reply_to result) world.now }
+fn settings<A: Allocator + Copy>(world: &World<A>, site: u32) -> Result<Reply<A>, NotDone>
+    ensures { Tries world.now (commands.Settings site) (reply_to result) world.now }
 {
     let replica = replica_of(world, site)?;
-    Ok(Response::Settings(replica.settings()))
+    Ok(Reply::Settings(replica.settings()))
 }
 
-fn feed<A: Allocator + Copy>(world: &World<A>, site: u32) -> Result<Response<A>, NotDone>
-    ensures { Tries world.now (requests.Feed site) (reply_to result) world.now }
+fn feed<A: Allocator + Copy>(world: &World<A>, site: u32) -> Result<Reply<A>, NotDone>
+    ensures { Tries world.now (commands.Feed site) (reply_to result) world.now }
 {
     let feed = replica_of(world, site)?.write_feed()?;
-    Ok(Response::Feed(feed))
+    Ok(Reply::Feed(feed))
 }
 
 /// The job of a site's copy by two files.
@@ -188,7 +184,7 @@ fn job_at<F: Files, A: Allocator + Copy>(
     case: &str,
     wedge: &str,
     wanted: Wanted,
-) -> Result<Response<A>, NotDone>
+) -> Result<Reply<A>, NotDone>
     ensures made { Jobs wanted (desk world.now (F.shelf files.old)) site case.now wedge.now (reply_to result) (desk world.now (F.shelf files.new))
         ⊎ LacksMemory (desk world.now (F.shelf files.old)) (reply_to result) (desk world.now (F.shelf files.new)) }
     ensures stays { Stays (F.shelf files.old) (F.shelf files.new) }
@@ -203,8 +199,8 @@ pub fn act<F: Files, A: Allocator + Copy>(
     world: &mut World<A>,
     files: &mut F,
     command: Command<'_, A>,
-) -> Result<Response<A>, NotDone>
-    ensures done { Attempts (desk world.old (F.shelf files.old)) (request command.entry) (reply_to result) (desk world.new (F.shelf files.new)) }
+) -> Result<Reply<A>, NotDone>
+    ensures done { Attempts (desk world.old (F.shelf files.old)) (command_values command.entry) (reply_to result) (desk world.new (F.shelf files.new)) }
     ensures stays { Stays (F.shelf files.old) (F.shelf files.new) }
 {
     match command {

@@ -4,9 +4,9 @@ ghost use Rattle.std.specs.Prelude.{◌≡◌, IfErr, IfOk, MatchResult, None, S
 ghost use Rattle.desk_ops.specs.OpSet.{OpSet};
 ghost use Rattle.desk_answers.specs.NotDone.{reply_to};
 ghost use Rattle.desk_steps.specs.Event.{Happens, set_of};
-ghost use Rattle.desk_world.specs.World.{IsSound, change};
+ghost use Rattle.desk_world.specs.World.{IsSound, event_values};
 
-use desk_answers::{NotDone, Refusal, Response};
+use desk_answers::{NotDone, Refusal, Reply};
 use desk_blocks::Blocks;
 use desk_replica::Replica;
 use desk_world::{Event, World};
@@ -44,10 +44,10 @@ pub fn number_of<A: Allocator + Copy>(world: &World<A>, site: u32) -> Result<u16
 pub fn happen<A: Allocator + Copy>(
     world: &mut World<A>,
     event: &Event<'_>,
-) -> Result<Response<A>, NotDone>
-    requires { IsSound (change event.now) }
-    ensures { Happens world.old (change event.now) (reply_to result) world.new }
+) -> Result<Reply<A>, NotDone>
+    requires { IsSound (event_values event.now) }
+    ensures { Happens world.old (event_values event.now) (reply_to result) world.new }
 {
     let answer = world.step(event)?;
-    Ok(Response::from(answer))
+    Ok(Reply::from(answer))
 }

@@ -2,14 +2,14 @@
 
 ghost use Rattle.std.specs.Prelude.{◌≡◌, ◌+◌, ◌<◌, ◌^◌, length, None};
 ghost use Rattle.desk_answers.specs.NotDone.{reply_of, reply_to};
-ghost use Rattle.desk_answers.specs.Reply.{reply};
-ghost use Rattle.desk_commands.specs.Request as requests;
+ghost use Rattle.desk_answers.specs.Reply.{reply_values};
+ghost use Rattle.desk_commands.specs.Command as commands;
 ghost use Rattle.desk_ops.specs.Op.{stamp_of};
 ghost use Rattle.desk_steps.specs.Act.{Does};
 ghost use Rattle.desk_steps.specs.Insert.{Inserts, after, all_made, all_symbols, first_of};
 
 use crate::event::replica_of;
-use desk_answers::{NotDone, Refusal, Response};
+use desk_answers::{NotDone, Refusal, Reply};
 use desk_ops::{Op, Stamp, Symbol};
 use desk_world::{Answer, Event, World};
 use std::alloc::Allocator;
@@ -35,13 +35,13 @@ fn span(made: Option<(Stamp, Stamp)>, op: &Op) -> (Stamp, Stamp)
     }
 }
 
-fn all_made<A: Allocator + Copy>(count: usize, made: Option<(Stamp, Stamp)>) -> Response<A>
-    ensures { reply result ≡ all_made count made }
+fn all_made<A: Allocator + Copy>(count: usize, made: Option<(Stamp, Stamp)>) -> Reply<A>
+    ensures { reply_values result ≡ all_made count made }
 {
     match made {
-        None => Response::Done,
-        Some((first, _)) if count == 1 => Response::Made(first),
-        Some((first, last)) => Response::MadeMany(first, last),
+        None => Reply::Done,
+        Some((first, _)) if count == 1 => Reply::Made(first),
+        Some((first, last)) => Reply::MadeMany(first, last),
     }
 }
 
@@ -51,7 +51,7 @@ fn insert_all<A: Allocator + Copy>(
     site: u16,
     place: usize,
     copy: &[Symbol],
-) -> Result<Response<A>, NotDone>
+) -> Result<Reply<A>, NotDone>
     requires { place + length copy.now < 2 ^ 64 }
     ensures { Inserts world.old site place copy.now 0 None (reply_to result) world.new }
 {
@@ -94,8 +94,8 @@ pub fn insert<A: Allocator + Copy>(
     site: u32,
     place: u32,
     copy: &[Symbol],
-) -> Result<Response<A>, NotDone>
-    ensures { Does world.old (requests.Insert site place copy.now) (reply_to result) world.new }
+) -> Result<Reply<A>, NotDone>
+    ensures { Does world.old (commands.Insert site place copy.now) (reply_to result) world.new }
 {
     let replica = replica_of(world, site)?;
     let number = replica.site();

@@ -2,13 +2,13 @@
 
 ghost use Rattle.std.specs.Prelude.{◌≡◌, true};
 ghost use Rattle.desk_answers.specs.NotDone.{reply_to};
-ghost use Rattle.desk_answers.specs.Reply.{is_long, reply};
+ghost use Rattle.desk_answers.specs.Reply.{is_long, reply_values};
 ghost use Rattle.desk_files.specs.Files.{Stays};
 ghost use Rattle.desk_steps.specs.Desk.{KeepsSites, desk};
 ghost use Rattle.desk_steps.specs.Line.{Allows, line_of};
 
 use crate::act::act;
-use desk_answers::{NotDone, Refusal, Response};
+use desk_answers::{NotDone, Refusal, Reply};
 use desk_commands::parse;
 use desk_files::Files;
 use desk_inputs::Memory;
@@ -24,7 +24,7 @@ fn do_line<F: Files, A: Allocator + Copy>(
     world: &mut World<A>,
     files: &mut F,
     line: &[u8],
-) -> Result<Response<A>, NotDone>
+) -> Result<Reply<A>, NotDone>
     ensures done { Allows (desk world.old (F.shelf files.old)) (line_of line.now) (reply_to result) (desk world.new (F.shelf files.new)) }
     ensures stays { Stays (F.shelf files.old) (F.shelf files.new) }
 {
@@ -43,16 +43,16 @@ pub fn answer<F: Files, A: Allocator + Copy>(
     world: &mut World<A>,
     files: &mut F,
     line: &[u8],
-) -> Response<A>
-    ensures answered { Allows (desk world.old (F.shelf files.old)) (line_of line.now) (reply result) (desk world.new (F.shelf files.new)) }
-    ensures unchanged { is_long (reply result) ≡ true → world.new ≡ world.old }
+) -> Reply<A>
+    ensures answered { Allows (desk world.old (F.shelf files.old)) (line_of line.now) (reply_values result) (desk world.new (F.shelf files.new)) }
+    ensures unchanged { is_long (reply_values result) ≡ true → world.new ≡ world.old }
     ensures sites { KeepsSites world.old world.new }
     ensures stays { Stays (F.shelf files.old) (F.shelf files.new) }
 {
     match do_line(memory, world, files, line) {
-        Ok(response) => response,
-        Err(NotDone::Refused(why)) => Response::Refused(why),
-        Err(NotDone::Stopped(taken, why)) => Response::Stopped(taken, why),
-        Err(NotDone::NoMemory) => Response::Refused(Refusal::Memory),
+        Ok(reply) => reply,
+        Err(NotDone::Refused(why)) => Reply::Refused(why),
+        Err(NotDone::Stopped(taken, why)) => Reply::Stopped(taken, why),
+        Err(NotDone::NoMemory) => Reply::Refused(Refusal::Memory),
     }
 }

@@ -12,6 +12,7 @@ use crate::fault::OpenFault;
 use desk_blocks::Blocks;
 use desk_codec::{ReadFault, read_feed};
 use desk_files::{FileRefusal, Files, store};
+use desk_held::put_in_turn;
 use desk_ops::Op;
 use desk_replica::Replica;
 use std::alloc::Allocator;
@@ -68,7 +69,8 @@ pub fn open_replica<A: Allocator + Copy>(
     ensures limit { IfOk result (λ r. size r.ops ≤ max_ops) }
     ensures err { IfErr result (IsUnopened (was_read old.now)) }
 {
-    let ops = operations_in(alloc, old)?;
+    let mut ops = operations_in(alloc, old)?;
+    put_in_turn(&mut ops);
     let replica = Replica::open(alloc, site, &ops)?;
     let _held = replica.len();
     Ok(replica)

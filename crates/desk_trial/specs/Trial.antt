@@ -1,5 +1,5 @@
 -- Settings that are tried in place of those of a copy.
-use Rattle.std.specs.Prelude.{◌≡◌, ℕ, ◌==◌, List, [], ◌∷◌, ◌++◌, length, Option, Some, None, if◌then◌else◌, codes}
+use Rattle.std.specs.Prelude.{◌≡◌, ◌≢◌, ℕ, suc, ◌==◌, List, [], ◌∷◌, ◌++◌, length, Option, Some, None, if◌then◌else◌, codes}
 use Rattle.std.specs.List.{before_first, after_first, position_or_len}
 use Rattle.std.specs.Borrow.{Bor}
 use Rattle.std.proofs.Common.{eqb}
@@ -13,8 +13,10 @@ use Rattle.desk_replica.specs.declared.settings.Settings.{Settings}
 use Rattle.desk_job.specs.Answer.{by_key}
 use Rattle.desk_commands.specs.Grammar.{command_of}
 use Rattle.desk_commands.specs.Reading.{◌>>=◌}
-use Rattle.desk_commands.specs.Request.{Request, SetTo}
-use Rattle.desk_commands.specs.Request as requests
+use Rattle.desk_commands.specs.Command.{CommandValues, SetTo}
+use Rattle.desk_commands.specs.Command as commands
+use Rattle.desk_trial.specs.declared.TrialFault.{TrialFault}
+use Rattle.desk_trial.specs.declared.TrialFault.TheVariants as fault
 
 -- ---- what is tried
 
@@ -54,21 +56,21 @@ line_of text =
     else Some (codes "set 1 " ++ before_first (λ b. eqb b 61) text ++ codes " " ++ after_first (λ b. eqb b 61) text)
 
 -- the key and the value that a command sets, where the key may have the value
-abbrev pub set_by : Request → Option (Key × ℕ)
-set_by (requests.Site n) = None
-set_by (requests.Insert site place copy) = None
-set_by (requests.Delete site place) = None
+abbrev pub set_by : CommandValues → Option (Key × ℕ)
+set_by (commands.Site n) = None
+set_by (commands.Insert site place copy) = None
+set_by (commands.Delete site place) = None
 set_by (SetTo site key value) = if is_value key value then Some (key, value) else None
-set_by (requests.Take site bytes) = None
-set_by (requests.Send from to range) = None
-set_by (requests.Merge to from) = None
-set_by (requests.Show site) = None
-set_by (requests.Faults site) = None
-set_by (requests.Settings site) = None
-set_by (requests.Feed site) = None
-set_by (requests.Ribbon site case wedge) = None
-set_by (requests.Cast site case wedge) = None
-set_by (requests.Restart site) = None
+set_by (commands.Take site bytes) = None
+set_by (commands.Send from to range) = None
+set_by (commands.Merge to from) = None
+set_by (commands.Show site) = None
+set_by (commands.Faults site) = None
+set_by (commands.Settings site) = None
+set_by (commands.Feed site) = None
+set_by (commands.Ribbon site case wedge) = None
+set_by (commands.Cast site case wedge) = None
+set_by (commands.Restart site) = None
 
 -- what the command of a line sets
 abbrev pub set_in : List ℕ → Option (Key × ℕ)
@@ -98,3 +100,23 @@ trial_from settings (text ∷ texts) = with_text settings (tried_by text.now) >>
 
 abbrev pub trial_of : List (Bor (List ℕ)) → Option Settings
 trial_of texts = trial_from no_trial texts
+
+-- a place where a text tries nothing, or else a later one
+abbrev pub idle_or : ℕ → Option (Key × ℕ) → Option ℕ → Option ℕ
+idle_or here None later = Some here
+idle_or here (Some found) later = later
+
+-- the place of the first text that tries nothing, where the first of them has this place
+abbrev pub first_idle : ℕ → List (Bor (List ℕ)) → Option ℕ
+first_idle here [] = None
+first_idle here (text ∷ texts) = idle_or here (tried_by text.now) (first_idle (suc here) texts)
+
+-- The refusal has the place of the first text that tries nothing; out of memory may come in place of any.
+abbrev pub HasPlace : TrialFault → List (Bor (List ℕ)) → Type 0
+HasPlace (fault.NoSetting place) texts = first_idle 0 texts ≡ Some place
+HasPlace fault.NoMemory texts = Unit {0}
+
+-- The first text stands for a command.
+abbrev pub HasLine : List (Bor (List ℕ)) → Type 0
+HasLine [] = ⊥
+HasLine (text ∷ texts) = line_of text.now ≢ None

@@ -1,11 +1,11 @@
 //! Settings that are tried in place of those of a copy: what its galley would be by other values, before anyone sets them.
 #![tactic(auto)]
 
-ghost use Rattle.std.specs.Prelude.{◌≡◌, ◌≢◌, ◌≤◌, length, IfErr, IfOk, IfSome, None, Some, option_map, string_bytes};
-ghost use Rattle.desk_commands.specs.Request.{request};
+ghost use Rattle.std.specs.Prelude.{◌≡◌, ◌≢◌, ◌≤◌, length, Err, IfErr, IfOk, IfSome, None, Some, option_map, string_bytes};
+ghost use Rattle.desk_commands.specs.Command.{command_values};
 ghost use Rattle.desk_job.specs.Answer.{AreValues};
 ghost use Rattle.desk_ops.specs.Op.{IsValue};
-ghost use Rattle.desk_trial.specs.Trial.{NothingIsAsSet, line_of, no_trial, set_by, set_in, trial_of, tried_by, tried_with, value_or, with_value};
+ghost use Rattle.desk_trial.specs.Trial.{HasLine, HasPlace, NothingIsAsSet, line_of, no_trial, set_by, set_in, trial_of, tried_by, tried_with, value_or, with_value};
 ghost use Rattle.desk_trial.specs.declared.TrialFault.TheVariants as fault;
 
 use desk_commands::{Command, ParseError, parse};
@@ -76,7 +76,8 @@ pub fn no_trial() -> Settings
 /// The command that a text as `loose=200` stands for.
 #[tactic(auto, unfolding(crate::specs::Trial::line_of))]
 fn line_of<A: Allocator + Copy>(alloc: A, text: &str) -> Result<Option<String<A>>, AllocError>
-    ensures { IfOk result (λ line. line_of text.now ≡ option_map string_bytes line) }
+    ensures value { IfOk result (λ line. line_of text.now ≡ option_map string_bytes line) }
+    ensures memory { IfErr result (λ _. line_of text.now ≢ None) }
 {
     let Some((name, value)) = text.split_once('=') else {
         return Ok(None);
@@ -91,7 +92,7 @@ fn line_of<A: Allocator + Copy>(alloc: A, text: &str) -> Result<Option<String<A>
 
 /// The key and the value that a command sets, where the key may have the value.
 fn set_by<A: Allocator + Copy>(command: &Command<'_, A>) -> Option<(Key, u32)>
-    ensures value { result ≡ set_by (request command.now) }
+    ensures value { result ≡ set_by (command_values command.now) }
     ensures lawful { IfSome result (λ t. IsValue t.0 t.1) }
 {
     match command {
@@ -135,6 +136,7 @@ fn set_in<A: Allocator + Copy>(alloc: A, line: &str) -> Result<Option<(Key, u32)
 fn tried_by<A: Allocator + Copy>(alloc: A, text: &str) -> Result<Option<(Key, u32)>, NoMemory>
     ensures value { IfOk result (λ t. tried_by text.now ≡ t) }
     ensures lawful { IfOk result (λ t. IfSome t (λ p. IsValue p.0 p.1)) }
+    ensures memory { IfErr result (λ _. line_of text.now ≢ None) }
 {
     match line_of(alloc, text)? {
         Some(line) => set_in(alloc, &line),
@@ -173,13 +175,16 @@ fn with_value(settings: Settings, key: Key, value: u32) -> Settings
 }
 
 /// The settings that texts as `loose=200` try, each KEY=VALUE as in the command `set`; of one key the last counts. A text that
-/// names no setting, or gives it no value that it may have, is refused by its place, and so is the whole.
+/// names no setting, or gives it no value that it may have, is refused by its place, the first of them, and so is the whole.
 pub fn trial_of<A: Allocator + Copy>(alloc: A, texts: &[&str]) -> Result<Settings, TrialFault>
     ensures value { IfOk result (λ s. trial_of texts.now ≡ Some s) }
     ensures lawful { IfOk result AreValues }
     ensures refused { IfErr result (λ why. why ≢ fault.NoMemory → trial_of texts.now ≡ None) }
+    ensures place { IfErr result (λ why. HasPlace why texts.now) }
     // Without a text nothing is refused, and no memory is taken.
     ensures some { IfErr result (λ _. 1 ≤ length texts.now) }
+    // A first text that stands for no command takes no memory.
+    ensures memory { result ≡ Err fault.NoMemory → HasLine texts.now }
 {
     let mut settings = no_trial();
     for (place, text) in texts.iter().enumerate() {

@@ -8,10 +8,10 @@ use Rattle.clap.specs.Matches.{ReadsOne}
 use Rattle.clap.specs.Words.{Row, Text, all_of, fault_of, first_value, one_of, rows_of, subcommand_of}
 use Rattle.clap.specs.declared.parser.matches.Found.{Found}
 use Rattle.clap.proofs.WalkLemmas.{first_value-rows}
-use Rattle.desk_words.specs.Words.{HasSite, IsAsked, IsTold, IsWished, Names, NamesDesk, NamesFeed, NamesRibbon, NamesSources, Tells, copydesk, name_of, task_of, texts_of}
+use Rattle.desk_words.specs.Words.{HasSite, IsAsked, IsTold, IsWished, Names, NamesDesk, NamesFeed, NamesRibbon, NamesSources, Tells, copydesk, name_of, subcommand_asked, texts_of}
 use Rattle.desk_words.specs.declared.wishes.Sources.{Sources}
-use Rattle.desk_words.specs.declared.wishes.Task.{Task}
-use Rattle.desk_words.specs.declared.wishes.Task.TheVariants as tasks
+use Rattle.desk_words.specs.declared.wishes.Subcommand.{Subcommand}
+use Rattle.desk_words.specs.declared.wishes.Subcommand.TheVariants as subcommands
 use Rattle.desk_words.specs.declared.wishes.Wish.{Wish}
 use Rattle.desk_words.specs.declared.wishes.Wish.TheVariants as wishes
 
@@ -57,22 +57,22 @@ unnamed argument f r got is name names =
 -- ---- what is lacking
 
 -- what the matches of a subcommand lack, where they hold nothing that can be done
-abbrev pub Lacks : List Row → Task → Type 0
-Lacks rows tasks.Script = ⊥
-Lacks rows tasks.Desk = (feed : Text) (site : ℕ) → NamesDesk rows feed site → ⊥
-Lacks rows tasks.Merge = (feed : Text) (others : List Text) → NamesFeed rows feed → all_of (codes "other") rows ≡ Some others → ⊥
-Lacks rows tasks.Diff = (feed other : Text) → NamesFeed rows feed → Names (codes "other") rows other → ⊥
-Lacks rows tasks.Export = (feed : Text) → NamesFeed rows feed → ⊥
-Lacks rows tasks.Import = (feed : Text) (site : ℕ) → NamesDesk rows feed site → ⊥
-Lacks rows tasks.Replace = (feed : Text) (site : ℕ) (old new : Text) → NamesDesk rows feed site → Names (codes "old") rows old → Names (codes "new") rows new → ⊥
-Lacks rows tasks.Check = all_of (codes "file") rows ≡ None
-Lacks rows tasks.Proof = (from : Sources) → NamesSources rows from → ⊥
-Lacks rows tasks.Punch = (from : Sources) (target : Text) → NamesSources rows from → Names (codes "output") rows target → ⊥
-Lacks rows tasks.Read = (ribbon case wedge : Text) → NamesRibbon rows ribbon case wedge → ⊥
-Lacks rows tasks.Sorts = (feed case : Text) → NamesFeed rows feed → Names (codes "case") rows case → ⊥
+abbrev pub Lacks : List Row → Subcommand → Type 0
+Lacks rows subcommands.Script = ⊥
+Lacks rows subcommands.Desk = (feed : Text) (site : ℕ) → NamesDesk rows feed site → ⊥
+Lacks rows subcommands.Merge = (feed : Text) (others : List Text) → NamesFeed rows feed → all_of (codes "other") rows ≡ Some others → ⊥
+Lacks rows subcommands.Diff = (feed other : Text) → NamesFeed rows feed → Names (codes "other") rows other → ⊥
+Lacks rows subcommands.Export = (feed : Text) → NamesFeed rows feed → ⊥
+Lacks rows subcommands.Import = (feed : Text) (site : ℕ) → NamesDesk rows feed site → ⊥
+Lacks rows subcommands.Replace = (feed : Text) (site : ℕ) (old new : Text) → NamesDesk rows feed site → Names (codes "old") rows old → Names (codes "new") rows new → ⊥
+Lacks rows subcommands.Check = all_of (codes "file") rows ≡ None
+Lacks rows subcommands.Proof = (from : Sources) → NamesSources rows from → ⊥
+Lacks rows subcommands.Punch = (from : Sources) (target : Text) → NamesSources rows from → Names (codes "output") rows target → ⊥
+Lacks rows subcommands.Read = (ribbon case wedge : Text) → NamesRibbon rows ribbon case wedge → ⊥
+Lacks rows subcommands.Sorts = (feed case : Text) → NamesFeed rows feed → Names (codes "case") rows case → ⊥
 
 -- no wish is told by matches that lack what its subcommand wants
-none_told : (rows : List Row) (wish : Wish) → Lacks rows (task_of wish) → Tells rows wish → ⊥
+none_told : (rows : List Row) (wish : Wish) → Lacks rows (subcommand_asked wish) → Tells rows wish → ⊥
 none_told rows (wishes.Script manner) lacks tells = lacks
 none_told rows (wishes.Desk feed site why manner) lacks tells = lacks feed.now site tells.0
 none_told rows (wishes.Merge feed others) lacks tells = lacks feed.now (texts_of others.items) tells.0 tells.1
@@ -88,45 +88,45 @@ none_told rows (wishes.Punch from target) lacks tells = lacks from target.now te
 none_told rows (wishes.Read ribbon case wedge picture) lacks tells = lacks ribbon.now case.now wedge.now tells.0
 none_told rows (wishes.Sorts feed case layout) lacks tells = lacks feed.now case.now tells.0 tells.1
 
-pub no_wish : (rows : List Row) (task : Task) → Lacks rows task → (wish : Wish) → task_of wish ≡ task → Tells rows wish → ⊥
-no_wish rows task lacks wish is = none_told rows wish (subst (λ t. Lacks rows t) (sym is) lacks)
+pub no_wish : (rows : List Row) (subcommand : Subcommand) → Lacks rows subcommand → (wish : Wish) → subcommand_asked wish ≡ subcommand → Tells rows wish → ⊥
+no_wish rows subcommand lacks wish is = none_told rows wish (subst (λ t. Lacks rows t) (sym is) lacks)
 
 -- ---- the name of a subcommand
 
 -- the subcommand that a name calls
-called : Text → Task
+called : Text → Subcommand
 called name =
-    if bytes_eq name (codes "desk") then tasks.Desk else
-    if bytes_eq name (codes "merge") then tasks.Merge else
-    if bytes_eq name (codes "diff") then tasks.Diff else
-    if bytes_eq name (codes "export") then tasks.Export else
-    if bytes_eq name (codes "import") then tasks.Import else
-    if bytes_eq name (codes "replace") then tasks.Replace else
-    if bytes_eq name (codes "check") then tasks.Check else
-    if bytes_eq name (codes "proof") then tasks.Proof else
-    if bytes_eq name (codes "punch") then tasks.Punch else
-    if bytes_eq name (codes "read") then tasks.Read else
-    if bytes_eq name (codes "sorts") then tasks.Sorts else
-    tasks.Script
+    if bytes_eq name (codes "desk") then subcommands.Desk else
+    if bytes_eq name (codes "merge") then subcommands.Merge else
+    if bytes_eq name (codes "diff") then subcommands.Diff else
+    if bytes_eq name (codes "export") then subcommands.Export else
+    if bytes_eq name (codes "import") then subcommands.Import else
+    if bytes_eq name (codes "replace") then subcommands.Replace else
+    if bytes_eq name (codes "check") then subcommands.Check else
+    if bytes_eq name (codes "proof") then subcommands.Proof else
+    if bytes_eq name (codes "punch") then subcommands.Punch else
+    if bytes_eq name (codes "read") then subcommands.Read else
+    if bytes_eq name (codes "sorts") then subcommands.Sorts else
+    subcommands.Script
 
-called_of : (task : Task) → called (name_of task) ≡ task
+called_of : (subcommand : Subcommand) → called (name_of subcommand) ≡ subcommand
 unfolding called
-called_of tasks.Script = refl
-called_of tasks.Desk = refl
-called_of tasks.Merge = refl
-called_of tasks.Diff = refl
-called_of tasks.Export = refl
-called_of tasks.Import = refl
-called_of tasks.Replace = refl
-called_of tasks.Check = refl
-called_of tasks.Proof = refl
-called_of tasks.Punch = refl
-called_of tasks.Read = refl
-called_of tasks.Sorts = refl
+called_of subcommands.Script = refl
+called_of subcommands.Desk = refl
+called_of subcommands.Merge = refl
+called_of subcommands.Diff = refl
+called_of subcommands.Export = refl
+called_of subcommands.Import = refl
+called_of subcommands.Replace = refl
+called_of subcommands.Check = refl
+called_of subcommands.Proof = refl
+called_of subcommands.Punch = refl
+called_of subcommands.Read = refl
+called_of subcommands.Sorts = refl
 
 -- two subcommands have two names
-pub same_task : (task other : Task) → name_of task ≡ name_of other → task ≡ other
-same_task task other same = sym (called_of task) ∙ ap called same ∙ called_of other
+pub same_subcommand : (subcommand other : Subcommand) → name_of subcommand ≡ name_of other → subcommand ≡ other
+same_subcommand subcommand other same = sym (called_of subcommand) ∙ ap called same ∙ called_of other
 
 abbrev name_in : Option (Text × List Row) → Text
 name_in None = []
@@ -137,13 +137,13 @@ rows_in None = []
 rows_in (Some asked) = asked.1
 
 -- what the matches of a subcommand hold is what is wished
-pub wished : (asked : Option (Text × List Row)) (task : Task) (rows : List Row) (o : Option Wish) → asked ≡ Some (name_of task, rows) → IsTold rows task o → IsWished asked o
-wished asked task rows (Some wish) is told = (rows, is ∙ ap (λ t. Some (name_of t, rows)) (sym told.0), told.1)
-wished asked task rows None is none = λ wish wishes.
-    let same : Some (name_of task, rows) ≡ Some (name_of (task_of wish), wishes.0) = sym is ∙ wishes.1 in
-    let names : name_of task ≡ name_of (task_of wish) = ap name_in same in
+pub wished : (asked : Option (Text × List Row)) (subcommand : Subcommand) (rows : List Row) (o : Option Wish) → asked ≡ Some (name_of subcommand, rows) → IsTold rows subcommand o → IsWished asked o
+wished asked subcommand rows (Some wish) is told = (rows, is ∙ ap (λ t. Some (name_of t, rows)) (sym told.0), told.1)
+wished asked subcommand rows None is none = λ wish wishes.
+    let same : Some (name_of subcommand, rows) ≡ Some (name_of (subcommand_asked wish), wishes.0) = sym is ∙ wishes.1 in
+    let names : name_of subcommand ≡ name_of (subcommand_asked wish) = ap name_in same in
     let held : wishes.0 ≡ rows = sym (ap rows_in same) in
-    none wish (sym (same_task task (task_of wish) names)) (subst (λ (rs : List Row). Tells rs wish) held wishes.2)
+    none wish (sym (same_subcommand subcommand (subcommand_asked wish) names)) (subst (λ (rs : List Row). Tells rs wish) held wishes.2)
 
 -- ---- words without a fault
 

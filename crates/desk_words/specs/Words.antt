@@ -10,8 +10,8 @@ use Rattle.clap.specs.declared.error.kind.ErrorKind.{ErrorKind}
 use Rattle.clap.specs.declared.error.kind.ErrorKind.TheVariants as kind
 use Rattle.desk_words.specs.declared.wishes.Manner.{Manner}
 use Rattle.desk_words.specs.declared.wishes.Sources.{Sources}
-use Rattle.desk_words.specs.declared.wishes.Task.{Task}
-use Rattle.desk_words.specs.declared.wishes.Task.TheVariants as tasks
+use Rattle.desk_words.specs.declared.wishes.Subcommand.{Subcommand}
+use Rattle.desk_words.specs.declared.wishes.Subcommand.TheVariants as subcommands
 use Rattle.desk_words.specs.declared.wishes.Wish.{Wish}
 use Rattle.desk_words.specs.declared.wishes.Wish.TheVariants as wishes
 
@@ -179,34 +179,34 @@ HasManner rows manner = HasFlag (codes "strict") rows manner.strict × HasFlag (
 -- ---- what is asked for
 
 -- the name of a subcommand
-abbrev pub name_of : Task → Text
-name_of tasks.Script = codes "script"
-name_of tasks.Desk = codes "desk"
-name_of tasks.Merge = codes "merge"
-name_of tasks.Diff = codes "diff"
-name_of tasks.Export = codes "export"
-name_of tasks.Import = codes "import"
-name_of tasks.Replace = codes "replace"
-name_of tasks.Check = codes "check"
-name_of tasks.Proof = codes "proof"
-name_of tasks.Punch = codes "punch"
-name_of tasks.Read = codes "read"
-name_of tasks.Sorts = codes "sorts"
+abbrev pub name_of : Subcommand → Text
+name_of subcommands.Script = codes "script"
+name_of subcommands.Desk = codes "desk"
+name_of subcommands.Merge = codes "merge"
+name_of subcommands.Diff = codes "diff"
+name_of subcommands.Export = codes "export"
+name_of subcommands.Import = codes "import"
+name_of subcommands.Replace = codes "replace"
+name_of subcommands.Check = codes "check"
+name_of subcommands.Proof = codes "proof"
+name_of subcommands.Punch = codes "punch"
+name_of subcommands.Read = codes "read"
+name_of subcommands.Sorts = codes "sorts"
 
 -- the subcommand of a wish
-abbrev pub task_of : Wish → Task
-task_of (wishes.Script manner) = tasks.Script
-task_of (wishes.Desk feed site why manner) = tasks.Desk
-task_of (wishes.Merge feed others) = tasks.Merge
-task_of (wishes.Diff one other) = tasks.Diff
-task_of (wishes.Export feed) = tasks.Export
-task_of (wishes.Import feed site plain) = tasks.Import
-task_of (wishes.Replace feed site old new plain) = tasks.Replace
-task_of (wishes.Check files) = tasks.Check
-task_of (wishes.Proof from faults picture sets) = tasks.Proof
-task_of (wishes.Punch from target) = tasks.Punch
-task_of (wishes.Read ribbon case wedge picture) = tasks.Read
-task_of (wishes.Sorts feed case layout) = tasks.Sorts
+abbrev pub subcommand_asked : Wish → Subcommand
+subcommand_asked (wishes.Script manner) = subcommands.Script
+subcommand_asked (wishes.Desk feed site why manner) = subcommands.Desk
+subcommand_asked (wishes.Merge feed others) = subcommands.Merge
+subcommand_asked (wishes.Diff one other) = subcommands.Diff
+subcommand_asked (wishes.Export feed) = subcommands.Export
+subcommand_asked (wishes.Import feed site plain) = subcommands.Import
+subcommand_asked (wishes.Replace feed site old new plain) = subcommands.Replace
+subcommand_asked (wishes.Check files) = subcommands.Check
+subcommand_asked (wishes.Proof from faults picture sets) = subcommands.Proof
+subcommand_asked (wishes.Punch from target) = subcommands.Punch
+subcommand_asked (wishes.Read ribbon case wedge picture) = subcommands.Read
+subcommand_asked (wishes.Sorts feed case layout) = subcommands.Sorts
 
 -- its matches hold what the wish says
 abbrev pub Tells : List Row → Wish → Type 0
@@ -227,7 +227,7 @@ Tells rows (wishes.Sorts feed case layout) = NamesFeed rows feed.now × Names (c
 
 -- a subcommand with its matches asks for this
 abbrev pub Wishes : Option (Text × List Row) → Wish → Type 0
-Wishes asked wish = (rows : List Row) × (asked ≡ Some (name_of (task_of wish), rows)) × Tells rows wish
+Wishes asked wish = (rows : List Row) × (asked ≡ Some (name_of (subcommand_asked wish), rows)) × Tells rows wish
 
 -- the words have no fault, and ask for this
 abbrev pub AsksFor : List Text → Wish → Type 0
@@ -258,9 +258,9 @@ AreSources rows (Some from) = NamesSources rows from
 AreSources rows None = (from : Sources) → NamesSources rows from → ⊥
 
 -- what the matches of a subcommand hold, or that they hold nothing that can be done
-abbrev pub IsTold : List Row → Task → Option Wish → Type 0
-IsTold rows task (Some wish) = (task_of wish ≡ task) × Tells rows wish
-IsTold rows task None = (wish : Wish) → task_of wish ≡ task → Tells rows wish → ⊥
+abbrev pub IsTold : List Row → Subcommand → Option Wish → Type 0
+IsTold rows subcommand (Some wish) = (subcommand_asked wish ≡ subcommand) × Tells rows wish
+IsTold rows subcommand None = (wish : Wish) → subcommand_asked wish ≡ subcommand → Tells rows wish → ⊥
 
 -- what a subcommand with its matches asks for, or that it asks for nothing that can be done
 abbrev pub IsWished : Option (Text × List Row) → Option Wish → Type 0

@@ -8,4 +8,4 @@ mod wishes;
 
 pub use help::VERSION;
 pub use reading::read_words;
-pub use wishes::{Manner, Sources, Task, Wish};
+pub use wishes::{Manner, Sources, Subcommand, Wish};

@@ -9,7 +9,7 @@ use std::alloc::{AllocError, Global};
 
 /// The subcommands.
 #[derive(Clone, Copy, Debug, PartialEq, Eq)]
-pub enum Task {
+pub enum Subcommand {
     Script,
     Desk,
     Merge,
@@ -32,7 +32,7 @@ pub struct Sources<'a> {
     pub wedge: &'a str,
 }
 
-/// How commands are carried out and told.
+/// How commands are to be carried out and told, as the flags say.
 #[derive(Clone, Copy, Debug, PartialEq, Eq)]
 pub struct Manner {
     /// The run ends at the first line that is refused.
@@ -116,45 +116,45 @@ pub enum Wish<'a> {
 }
 
 /// The subcommand of a name.
-fn task_named(name: &str) -> Option<Task>
-    ensures some { IfSome result (λ task. name.now ≡ name_of task) }
-    ensures none { IsNone result → (task : _) → name.now ≢ name_of task }
+fn subcommand_named(name: &str) -> Option<Subcommand>
+    ensures some { IfSome result (λ subcommand. name.now ≡ name_of subcommand) }
+    ensures none { IsNone result → (subcommand : _) → name.now ≢ name_of subcommand }
 {
     if name == "script" {
-        return Some(Task::Script);
+        return Some(Subcommand::Script);
     }
     if name == "desk" {
-        return Some(Task::Desk);
+        return Some(Subcommand::Desk);
     }
     if name == "merge" {
-        return Some(Task::Merge);
+        return Some(Subcommand::Merge);
     }
     if name == "diff" {
-        return Some(Task::Diff);
+        return Some(Subcommand::Diff);
     }
     if name == "export" {
-        return Some(Task::Export);
+        return Some(Subcommand::Export);
     }
     if name == "import" {
-        return Some(Task::Import);
+        return Some(Subcommand::Import);
     }
     if name == "replace" {
-        return Some(Task::Replace);
+        return Some(Subcommand::Replace);
     }
     if name == "check" {
-        return Some(Task::Check);
+        return Some(Subcommand::Check);
     }
     if name == "proof" {
-        return Some(Task::Proof);
+        return Some(Subcommand::Proof);
     }
     if name == "punch" {
-        return Some(Task::Punch);
+        return Some(Subcommand::Punch);
     }
     if name == "read" {
-        return Some(Task::Read);
+        return Some(Subcommand::Read);
     }
     if name == "sorts" {
-        return Some(Task::Sorts);
+        return Some(Subcommand::Sorts);
     }
     None
 }
@@ -207,7 +207,7 @@ fn manner_of(matches: &ArgMatches<'_>) -> Manner
 }
 
 fn desk_wish<'a>(matches: &ArgMatches<'a>) -> Option<Wish<'a>>
-    ensures { IsTold (rows_of (found_of matches.now)) Task.Desk result }
+    ensures { IsTold (rows_of (found_of matches.now)) Subcommand.Desk result }
 {
     match feed_and_site(matches) {
         Some((feed, site)) => Some(Wish::Desk {
@@ -235,7 +235,7 @@ fn names_of<'a>(
 }
 
 fn merge_wish<'a>(alloc: Global, matches: &ArgMatches<'a>) -> Result<Option<Wish<'a>>, AllocError>
-    ensures { IfOk result (IsTold (rows_of (found_of matches.now)) Task.Merge) }
+    ensures { IfOk result (IsTold (rows_of (found_of matches.now)) Subcommand.Merge) }
 {
     let Some(feed) = matches.get_str("feed") else {
         return Ok(None);
@@ -247,7 +247,7 @@ fn merge_wish<'a>(alloc: Global, matches: &ArgMatches<'a>) -> Result<Option<Wish
 }
 
 fn diff_wish<'a>(matches: &ArgMatches<'a>) -> Option<Wish<'a>>
-    ensures { IsTold (rows_of (found_of matches.now)) Task.Diff result }
+    ensures { IsTold (rows_of (found_of matches.now)) Subcommand.Diff result }
 {
     let Some(one) = matches.get_str("feed") else {
         return None;
@@ -259,7 +259,7 @@ fn diff_wish<'a>(matches: &ArgMatches<'a>) -> Option<Wish<'a>>
 }
 
 fn export_wish<'a>(matches: &ArgMatches<'a>) -> Option<Wish<'a>>
-    ensures { IsTold (rows_of (found_of matches.now)) Task.Export result }
+    ensures { IsTold (rows_of (found_of matches.now)) Subcommand.Export result }
 {
     match matches.get_str("feed") {
         Some(feed) => Some(Wish::Export { feed }),
@@ -268,7 +268,7 @@ fn export_wish<'a>(matches: &ArgMatches<'a>) -> Option<Wish<'a>>
 }
 
 fn import_wish<'a>(matches: &ArgMatches<'a>) -> Option<Wish<'a>>
-    ensures { IsTold (rows_of (found_of matches.now)) Task.Import result }
+    ensures { IsTold (rows_of (found_of matches.now)) Subcommand.Import result }
 {
     match feed_and_site(matches) {
         Some((feed, site)) => Some(Wish::Import {
@@ -281,7 +281,7 @@ fn import_wish<'a>(matches: &ArgMatches<'a>) -> Option<Wish<'a>>
 }
 
 fn replace_wish<'a>(matches: &ArgMatches<'a>) -> Option<Wish<'a>>
-    ensures { IsTold (rows_of (found_of matches.now)) Task.Replace result }
+    ensures { IsTold (rows_of (found_of matches.now)) Subcommand.Replace result }
 {
     let Some((feed, site)) = feed_and_site(matches) else {
         return None;
@@ -305,7 +305,7 @@ fn replace_wish<'a>(matches: &ArgMatches<'a>) -> Option<Wish<'a>>
 }
 
 fn check_wish<'a>(alloc: Global, matches: &ArgMatches<'a>) -> Result<Option<Wish<'a>>, AllocError>
-    ensures { IfOk result (IsTold (rows_of (found_of matches.now)) Task.Check) }
+    ensures { IfOk result (IsTold (rows_of (found_of matches.now)) Subcommand.Check) }
 {
     match names_of(alloc, matches, "file")? {
         Some(files) => Ok(Some(Wish::Check { files })),
@@ -347,7 +347,7 @@ fn sets_of<'a>(alloc: Global, matches: &ArgMatches<'a>) -> Result<Vec<&'a str>, 
 }
 
 fn proof_wish<'a>(alloc: Global, matches: &ArgMatches<'a>) -> Result<Option<Wish<'a>>, AllocError>
-    ensures { IfOk result (IsTold (rows_of (found_of matches.now)) Task.Proof) }
+    ensures { IfOk result (IsTold (rows_of (found_of matches.now)) Subcommand.Proof) }
 {
     let Some(from) = sources_of(matches) else {
         return Ok(None);
@@ -364,7 +364,7 @@ fn proof_wish<'a>(alloc: Global, matches: &ArgMatches<'a>) -> Result<Option<Wish
 }
 
 fn read_wish<'a>(matches: &ArgMatches<'a>) -> Option<Wish<'a>>
-    ensures { IsTold (rows_of (found_of matches.now)) Task.Read result }
+    ensures { IsTold (rows_of (found_of matches.now)) Subcommand.Read result }
 {
     let Some(ribbon) = matches.get_str("ribbon") else {
         return None;
@@ -387,7 +387,7 @@ fn read_wish<'a>(matches: &ArgMatches<'a>) -> Option<Wish<'a>>
 }
 
 fn sorts_wish<'a>(matches: &ArgMatches<'a>) -> Option<Wish<'a>>
-    ensures { IsTold (rows_of (found_of matches.now)) Task.Sorts result }
+    ensures { IsTold (rows_of (found_of matches.now)) Subcommand.Sorts result }
 {
     let Some(feed) = matches.get_str("feed") else {
         return None;
@@ -402,7 +402,7 @@ fn sorts_wish<'a>(matches: &ArgMatches<'a>) -> Option<Wish<'a>>
 }
 
 fn punch_wish<'a>(matches: &ArgMatches<'a>) -> Option<Wish<'a>>
-    ensures { IsTold (rows_of (found_of matches.now)) Task.Punch result }
+    ensures { IsTold (rows_of (found_of matches.now)) Subcommand.Punch result }
 {
     match sources_of(matches) {
         Some(from) => match matches.get_str("output") {
@@ -416,26 +416,26 @@ fn punch_wish<'a>(matches: &ArgMatches<'a>) -> Option<Wish<'a>>
 /// What the matches of a subcommand hold.
 fn told<'a>(
     alloc: Global,
-    task: Task,
+    subcommand: Subcommand,
     matches: &ArgMatches<'a>,
 ) -> Result<Option<Wish<'a>>, AllocError>
-    ensures { IfOk result (IsTold (rows_of (found_of matches.now)) task) }
+    ensures { IfOk result (IsTold (rows_of (found_of matches.now)) subcommand) }
 {
-    match task {
-        Task::Script => Ok(Some(Wish::Script {
+    match subcommand {
+        Subcommand::Script => Ok(Some(Wish::Script {
             manner: manner_of(matches),
         })),
-        Task::Desk => Ok(desk_wish(matches)),
-        Task::Merge => merge_wish(alloc, matches),
-        Task::Diff => Ok(diff_wish(matches)),
-        Task::Export => Ok(export_wish(matches)),
-        Task::Import => Ok(import_wish(matches)),
-        Task::Replace => Ok(replace_wish(matches)),
-        Task::Check => check_wish(alloc, matches),
-        Task::Proof => proof_wish(alloc, matches),
-        Task::Punch => Ok(punch_wish(matches)),
-        Task::Read => Ok(read_wish(matches)),
-        Task::Sorts => Ok(sorts_wish(matches)),
+        Subcommand::Desk => Ok(desk_wish(matches)),
+        Subcommand::Merge => merge_wish(alloc, matches),
+        Subcommand::Diff => Ok(diff_wish(matches)),
+        Subcommand::Export => Ok(export_wish(matches)),
+        Subcommand::Import => Ok(import_wish(matches)),
+        Subcommand::Replace => Ok(replace_wish(matches)),
+        Subcommand::Check => check_wish(alloc, matches),
+        Subcommand::Proof => proof_wish(alloc, matches),
+        Subcommand::Punch => Ok(punch_wish(matches)),
+        Subcommand::Read => Ok(read_wish(matches)),
+        Subcommand::Sorts => Ok(sorts_wish(matches)),
     }
 }
 
@@ -446,8 +446,8 @@ pub fn wish_of<'a>(alloc: Global, matches: &ArgMatches<'a>) -> Result<Option<Wis
     let Some((name, inner)) = matches.subcommand() else {
         return Ok(None);
     };
-    match task_named(name) {
-        Some(task) => told(alloc, task, inner),
+    match subcommand_named(name) {
+        Some(subcommand) => told(alloc, subcommand, inner),
         None => Ok(None),
     }
 }

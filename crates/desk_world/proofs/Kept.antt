@@ -23,7 +23,7 @@ use Rattle.desk_world.specs.Sites.{Sites, sites_of, all_held, AreLawful, IsKept,
 use Rattle.desk_world.specs.declared.world.LocalEdit.{LocalEdit}
 use Rattle.desk_world.specs.declared.world.LocalEdit.TheVariants as kinds
 use Rattle.desk_world.specs.World.{site_refusal, Refuses, Adds, Edits, EditsSite, IsEdited, Gains, Brings, Steps, site_with, taken, IsReopened}
-use Rattle.desk_world.specs.World as changes
+use Rattle.desk_world.specs.World as events
 use Rattle.desk_world.proofs.Sites.{get-sites_of, sites_of-updated}
 use Rattle.desk_world.proofs.Gained.{gains_lawful, edits_lawful}
 
@@ -99,7 +99,7 @@ kept_added es fs n t kept none same distinct more named own = record {
 
 -- ---- what is answered
 
-pub refused : (old : Sites) (n : ℕ) (why : StepRefusal) → site_refusal old n ≡ Some why → Steps old (changes.Site n) (Err why) old
+pub refused : (old : Sites) (n : ℕ) (why : StepRefusal) → site_refusal old n ≡ Some why → Steps old (events.Site n) (Err why) old
 refused old n why e = subst (λ o. MatchOption o (Adds old n (Err why) old) (λ w. Refuses old w (Err why) old)) (sym e) (refl, refl)
 
 pub known_refused : (old : Sites) (n : ℕ) → (n == 0) ≡ false → fin.contains_key old n ≡ true → site_refusal old n ≡ Some refusals.KnownSite
@@ -120,7 +120,7 @@ many_refused old n a b d = rw (a, b, d) refl
 pub not_refused : (old : Sites) (n : ℕ) → (n == 0) ≡ false → fin.contains_key old n ≡ false → nat_le 16 (fin.len old) ≡ false → site_refusal old n ≡ None
 not_refused old n a b d = rw (a, b, d) refl
 
-pub added : (old new : Sites) (n : ℕ) (r : Result Answer StepRefusal) → site_refusal old n ≡ None → Adds old n r new → Steps old (changes.Site n) r new
+pub added : (old new : Sites) (n : ℕ) (r : Result Answer StepRefusal) → site_refusal old n ≡ None → Adds old n r new → Steps old (events.Site n) r new
 added old new n r e h = subst (λ o. MatchOption o (Adds old n r new) (λ w. Refuses old w r new)) (sym e) h
 
 abbrev pub Given : Sites → ℕ → List Op → Result Answer StepRefusal → Sites → Type 0
@@ -129,10 +129,10 @@ Given old to ops r new = (counts : Result Count StepRefusal) × (r ≡ taken cou
 abbrev GivesAt : Sites → ℕ → List Op → Result Answer StepRefusal → Sites → Option OpSet → Type 0
 GivesAt old to ops r new o = MatchOption o (Refuses old refusals.NoSite r new) (λ set. MatchBool (all_held old ops) (Given old to ops r new) (Refuses old refusals.Strange r new))
 
-pub no_site : (old : Sites) (to : ℕ) (ops : List Op) → fin.get old to ≡ None → Steps old (changes.Give to ops) (Err refusals.NoSite) old
+pub no_site : (old : Sites) (to : ℕ) (ops : List Op) → fin.get old to ≡ None → Steps old (events.Give to ops) (Err refusals.NoSite) old
 no_site old to ops e = subst (GivesAt old to ops (Err refusals.NoSite) old) (sym e) (refl, refl)
 
-pub strange : (old : Sites) (to : ℕ) (ops : List Op) → is_some (fin.get old to) ≡ true → all_held old ops ≡ false → Steps old (changes.Give to ops) (Err refusals.Strange) old
+pub strange : (old : Sites) (to : ℕ) (ops : List Op) → is_some (fin.get old to) ≡ true → all_held old ops ≡ false → Steps old (events.Give to ops) (Err refusals.Strange) old
 strange old to ops there e = at (fin.get old to) there
   where
     at : (o : Option OpSet) → is_some o ≡ true → GivesAt old to ops (Err refusals.Strange) old o
@@ -140,7 +140,7 @@ strange old to ops there e = at (fin.get old to) there
     at (Some set) t = subst (λ b. MatchBool b (Given old to ops (Err refusals.Strange) old) (Refuses old refusals.Strange (Err refusals.Strange) old)) (sym e) (refl, refl)
 
 pub given : (old new : Sites) (to : ℕ) (ops : List Op) (counts : Result Count StepRefusal) → is_some (fin.get old to) ≡ true → all_held old ops ≡ true → Brings old to ops counts new
-    → Steps old (changes.Give to ops) (taken counts) new
+    → Steps old (events.Give to ops) (taken counts) new
 given old new to ops counts there e brings = at (fin.get old to) there
   where
     at : (o : Option OpSet) → is_some o ≡ true → GivesAt old to ops (taken counts) new o
@@ -245,10 +245,10 @@ abbrev ReopensTo : Sites → Result Answer StepRefusal → Sites → Option OpSe
 ReopensTo old r new o = MatchOption o (Refuses old refusals.NoSite r new) (λ set. IsReopened set r × (new ≡ old))
 
 pub reopened : (es fs : List (ℕ × State)) (n : ℕ) (r : Result Answer StepRefusal) (old : Sites) → sites_of es ≡ old
-    → ReopensAt es fs n r (lookup (nat_eq n) es) → Steps old (changes.Restart n) r (sites_of fs)
+    → ReopensAt es fs n r (lookup (nat_eq n) es) → Steps old (events.Restart n) r (sites_of fs)
 reopened es fs n r old view h = at (lookup (nat_eq n) es) refl h
   where
-    at : (o : Option State) → lookup (nat_eq n) es ≡ o → ReopensAt es fs n r o → Steps old (changes.Restart n) r (sites_of fs)
+    at : (o : Option State) → lookup (nat_eq n) es ≡ o → ReopensAt es fs n r o → Steps old (events.Restart n) r (sites_of fs)
     at None e g =
         let none : fin.get old n ≡ None = ap (λ m. fin.get m n) (sym view) ∙ get-sites_of es n ∙ ap (option_map (λ x. x.ops)) e in
         subst (ReopensTo old r (sites_of fs)) (sym none) (g.0, ap sites_of g.1 ∙ view)

@@ -40,14 +40,6 @@ pub lent_ops : (o : Option State) (r : Option (Bor State)) → option_copied r �
 lent_ops o None e = ap (option_map (λ h. h.ops)) e
 lent_ops o (Some r) e = ap (option_map (λ h. h.ops)) e
 
-none_of : {A B : Type 0} (f : A → B) (o : Option A) → is_some o ≡ false → option_map f o ≡ None
-none_of f None e = refl
-none_of f (Some x) e = absurd (let e2 : true ≡ false = e in cc)
-
--- a site with no entry is not there
-pub absent : (es : List (ℕ × State)) (n : ℕ) (s : Sites) → sites_of es ≡ s → is_some (lookup (nat_eq n) es) ≡ false → fin.get s n ≡ None
-absent es n s view e = ap (λ t. fin.get t n) (sym view) ∙ get-sites_of es n ∙ none_of (λ h. h.ops) (lookup (nat_eq n) es) e
-
 is_some-map : {A B : Type 0} (f : A → B) (o : Option A) → is_some (option_map f o) ≡ is_some o
 is_some-map f None = refl
 is_some-map f (Some x) = refl

@@ -29,8 +29,8 @@ use Rattle.desk_world.specs.declared.world.StepRefusal.TheVariants as refusals
 use Rattle.desk_world.specs.declared.world.LocalEdit.{LocalEdit}
 use Rattle.desk_world.specs.declared.world.LocalEdit.TheVariants as kinds
 use Rattle.desk_world.specs.Sites.{Sites, no_sites, is_held, all_held, AreLawful}
-use Rattle.desk_world.specs.World.{Change, site_refusal, Refuses, Adds, Gains, Brings, taken, site_with, IsEdited, Edits, EditsSite, IsReopened, Steps}
-use Rattle.desk_world.specs.World as changes
+use Rattle.desk_world.specs.World.{EventValues, site_refusal, Refuses, Adds, Gains, Brings, taken, site_with, IsEdited, Edits, EditsSite, IsReopened, Steps}
+use Rattle.desk_world.specs.World as events
 use Rattle.desk_world.specs.Honest.{all_ops, IsHeldAt, IsHonest, StandsIn}
 use Rattle.desk_world.proofs.Gained.{gains_keep, gains_from}
 use Rattle.desk_world.proofs.Kept.{known_refused}
@@ -148,16 +148,16 @@ honest_edits old new n edit r honest lawful h = at (fin.get old n) refl h
 
 -- ---- an event
 
-pub honest_steps : (old new : Sites) (c : Change) (r : Result Answer StepRefusal) → AreLawful old → Steps old c r new → IsHonest old → IsHonest new
-honest_steps old new (changes.Site n) r lawful h honest = at (site_refusal old n) refl h
+pub honest_steps : (old new : Sites) (c : EventValues) (r : Result Answer StepRefusal) → AreLawful old → Steps old c r new → IsHonest old → IsHonest new
+honest_steps old new (events.Site n) r lawful h honest = at (site_refusal old n) refl h
   where
     at : (o : Option StepRefusal) → site_refusal old n ≡ o → MatchOption o (Adds old n r new) (λ why. Refuses old why r new) → IsHonest new
     at None e g = honest_adds old new n r honest e g
     at (Some why) e g = honest_refused old new why r honest g
-honest_steps old new (changes.Insert n place symbol) r lawful h honest = honest_edits old new n (kinds.Insert place symbol) r honest lawful h
-honest_steps old new (changes.Delete n place) r lawful h honest = honest_edits old new n (kinds.Delete place) r honest lawful h
-honest_steps old new (changes.Set n key value) r lawful h honest = honest_edits old new n (kinds.Set key value) r honest lawful h
-honest_steps old new (changes.Give to ops) r lawful h honest = at (fin.get old to) h
+honest_steps old new (events.Insert n place symbol) r lawful h honest = honest_edits old new n (kinds.Insert place symbol) r honest lawful h
+honest_steps old new (events.Delete n place) r lawful h honest = honest_edits old new n (kinds.Delete place) r honest lawful h
+honest_steps old new (events.Set n key value) r lawful h honest = honest_edits old new n (kinds.Set key value) r honest lawful h
+honest_steps old new (events.Give to ops) r lawful h honest = at (fin.get old to) h
   where
     held : (b : Bool) → all_held old ops ≡ b → MatchBool b ((given : Result Count StepRefusal) × (r ≡ taken given) × Brings old to ops given new) (Refuses old refusals.Strange r new) → IsHonest new
     held true e g = honest_brings old new to ops g.0 honest e g.2
@@ -167,7 +167,7 @@ honest_steps old new (changes.Give to ops) r lawful h honest = at (fin.get old t
         (λ set. MatchBool (all_held old ops) ((given : Result Count StepRefusal) × (r ≡ taken given) × Brings old to ops given new) (Refuses old refusals.Strange r new)) → IsHonest new
     at None g = honest_refused old new refusals.NoSite r honest g
     at (Some set) g = held (all_held old ops) refl g
-honest_steps old new (changes.Restart n) r lawful h honest = at (fin.get old n) h
+honest_steps old new (events.Restart n) r lawful h honest = at (fin.get old n) h
   where
     at : (o : Option OpSet) → MatchOption o (Refuses old refusals.NoSite r new) (λ set. IsReopened set r × (new ≡ old)) → IsHonest new
     at None g = honest_refused old new refusals.NoSite r honest g

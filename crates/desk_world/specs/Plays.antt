@@ -3,11 +3,11 @@ use Rattle.std.specs.Prelude.{◌≡◌, List, [], ◌∷◌, Result}
 use Rattle.desk_world.specs.declared.world.Answer.{Answer}
 use Rattle.desk_world.specs.declared.world.StepRefusal.{StepRefusal}
 use Rattle.desk_world.specs.Sites.{Sites}
-use Rattle.desk_world.specs.World.{Change, Steps}
+use Rattle.desk_world.specs.World.{EventValues, Steps}
 
 -- each event has one answer, the one at its own place in the list, and steps from the sites that those before it left
-abbrev pub Plays : Sites → List Change → List (Result Answer StepRefusal) → Sites → Type 0
+abbrev pub Plays : Sites → List EventValues → List (Result Answer StepRefusal) → Sites → Type 0
 Plays old [] [] new = new ≡ old
 Plays old [] (answer ∷ answers) new = ⊥
-Plays old (change ∷ changes) [] new = ⊥
-Plays old (change ∷ changes) (answer ∷ answers) new = (sites : Sites) × Steps old change answer sites × Plays sites changes answers new
+Plays old (event ∷ events) [] new = ⊥
+Plays old (event ∷ events) (answer ∷ answers) new = (sites : Sites) × Steps old event answer sites × Plays sites events answers new

@@ -24,24 +24,24 @@ use Rattle.desk_world.specs.declared.world.Event.TheVariants as events
 use Rattle.desk_world.specs.Sites.{Sites, all_held}
 
 -- events, without where they lie in memory
-pub data Change : Type 0 where
-  Site : ℕ → Change
-  Insert : ℕ → ℕ → Symbol → Change
-  Delete : ℕ → ℕ → Change
-  Set : ℕ → Key → ℕ → Change
-  Give : ℕ → List Op → Change
-  Restart : ℕ → Change
+pub data EventValues : Type 0 where
+  Site : ℕ → EventValues
+  Insert : ℕ → ℕ → Symbol → EventValues
+  Delete : ℕ → ℕ → EventValues
+  Set : ℕ → Key → ℕ → EventValues
+  Give : ℕ → List Op → EventValues
+  Restart : ℕ → EventValues
 
-abbrev pub change : Event → Change
-change (events.Site n) = Site n
-change (events.Insert site place symbol) = Insert site place symbol
-change (events.Delete site place) = Delete site place
-change (events.Set site key value) = Set site key value
-change (events.Give to ops) = Give to ops.now
-change (events.Restart site) = Restart site
+abbrev pub event_values : Event → EventValues
+event_values (events.Site n) = Site n
+event_values (events.Insert site place symbol) = Insert site place symbol
+event_values (events.Delete site place) = Delete site place
+event_values (events.Set site key value) = Set site key value
+event_values (events.Give to ops) = Give to ops.now
+event_values (events.Restart site) = Restart site
 
 -- what is given is lawful
-abbrev pub IsSound : Change → Type 0
+abbrev pub IsSound : EventValues → Type 0
 IsSound (Site n) = ⊤
 IsSound (Insert site place symbol) = ⊤
 IsSound (Delete site place) = ⊤
@@ -70,7 +70,7 @@ Adds old n result new = MatchResult result
 abbrev pub Gains : OpSet → List Op → Result Count StepRefusal → OpSet → Type 0
 Gains set ops result after = MatchResult result
     (λ count. (after ≡ with_all set ops) × IsCounted set after ops count × (size after ≤ max_ops))
-    (λ e. (stop : Stopped) × (e ≡ refusals.Halted stop) × IsStopped set after ops stop)
+    (λ e. (stop : Stopped) × (e ≡ refusals.Stopped stop) × IsStopped set after ops stop)
 
 -- a site gains operations, wherever they come from; no other changes
 abbrev pub Brings : Sites → ℕ → List Op → Result Count StepRefusal → Sites → Type 0
@@ -112,10 +112,10 @@ EditsSite old n edit result new = MatchOption (fin.get old n) (Refuses old refus
 -- opening a set again succeeds, or stops before anything was taken; full only where the set is more than may be held
 abbrev pub IsReopened : OpSet → Result Answer StepRefusal → Type 0
 IsReopened set result = MatchResult result (λ a. a ≡ answers.Done)
-    (λ e. (stop : Stopped) × (e ≡ refusals.Halted stop) × (stop.taken ≡ 0) × (stop.why ≡ adds.Full → max_ops < size set))
+    (λ e. (stop : Stopped) × (e ≡ refusals.Stopped stop) × (stop.taken ≡ 0) × (stop.why ≡ adds.Full → max_ops < size set))
 
 -- what an event answers, and the sites after it: no other than the named one changes
-abbrev pub Steps : Sites → Change → Result Answer StepRefusal → Sites → Type 0
+abbrev pub Steps : Sites → EventValues → Result Answer StepRefusal → Sites → Type 0
 Steps old (Site n) result new = MatchOption (site_refusal old n) (Adds old n result new) (λ why. Refuses old why result new)
 Steps old (Insert n place symbol) result new = EditsSite old n (kinds.Insert place symbol) result new
 Steps old (Delete n place) result new = EditsSite old n (kinds.Delete place) result new

@@ -8,7 +8,7 @@ ghost use Rattle.desk_ops.specs.Op.{IsLawful};
 ghost use Rattle.desk_ops.specs.OpSet.{has_op};
 ghost use Rattle.desk_replica.specs.State.{State};
 ghost use Rattle.desk_world.specs.Sites.{no_sites, is_held, all_held, sites_of, IsUpdated};
-ghost use Rattle.desk_world.specs.World.{Steps, change, IsSound, Edits, EditsSite, Gains, Brings, taken, IsReopened};
+ghost use Rattle.desk_world.specs.World.{Steps, event_values, IsSound, Edits, EditsSite, Gains, Brings, taken, IsReopened};
 ghost use Rattle.desk_world.specs.Plays.{Plays};
 ghost use Rattle.desk_world.specs.Honest.{IsHonest, StandsIn};
 ghost use Rattle.desk_world.specs.World as world;
@@ -75,7 +75,7 @@ pub enum Answer {
     Done,
 }
 
-/// Why an event was refused: the first cause that holds. Nothing has changed then, but for `Halted`.
+/// Why an event was refused: the first cause that holds. Nothing has changed then, but for `Stopped`.
 #[derive(Clone, Copy, Debug, PartialEq, Eq, Error)]
 pub enum StepRefusal {
     #[error("no site has the number 0")]
@@ -92,7 +92,7 @@ pub enum StepRefusal {
     Edit(desk_replica::Refusal),
     /// The first `taken` operations were taken.
     #[error("{0}")]
-    Halted(Stopped),
+    Stopped(Stopped),
     #[error("no memory")]
     NoMemory,
 }
@@ -132,7 +132,7 @@ fn gain<A: Allocator + Copy>(
             let _held = replica.len();
             Ok(count)
         }
-        Err(stop) => Err(StepRefusal::Halted(stop)),
+        Err(stop) => Err(StepRefusal::Stopped(stop)),
     }
 }
 
@@ -205,7 +205,7 @@ fn reopen<A: Allocator + Copy>(
     ensures answer { IsReopened replica.old.ops result }
 {
     let Ok(ops) = replica.in_order() else {
-        return Err(StepRefusal::Halted(Stopped {
+        return Err(StepRefusal::Stopped(Stopped {
             taken: 0,
             why: AddRefusal::NoMemory,
         }));
@@ -215,7 +215,7 @@ fn reopen<A: Allocator + Copy>(
             *replica = anew;
             Ok(Answer::Done)
         }
-        Err(stop) => Err(StepRefusal::Halted(stop)),
+        Err(stop) => Err(StepRefusal::Stopped(stop)),
     }
 }
 
@@ -356,7 +356,7 @@ impl<A: Allocator + Copy> World<A> {
         }
     }
 
-    /// Gives a site operations that may come from outside the world: `NoSite`, or `Halted` after the first `taken`. No
+    /// Gives a site operations that may come from outside the world: `NoSite`, or `Stopped` after the first `taken`. No
     /// other site changes. An honest world stays honest where some site holds each of them; else it need not.
     pub fn bring(&mut self, site: u16, ops: &[Op]) -> Result<Count, StepRefusal>
         requires { All IsLawful ops.now }
@@ -395,8 +395,8 @@ impl<A: Allocator + Copy> World<A> {
     /// Lets an event happen. It changes the named site alone, and `Give` asks for lawful operations. An honest world stays
     /// honest, after a refusal too.
     pub fn step(&mut self, event: &Event<'_>) -> Result<Answer, StepRefusal>
-        requires { IsSound (change event.now) }
-        ensures steps { Steps self.old (change event.now) result self.new }
+        requires { IsSound (event_values event.now) }
+        ensures steps { Steps self.old (event_values event.now) result self.new }
         ensures honest { IsHonest self.old → IsHonest self.new }
     {
         let _ = &self.sites;
@@ -420,8 +420,8 @@ impl<A: Allocator + Copy> World<A> {
         &mut self,
         events: &[Event<'_>],
     ) -> Result<Vec<Result<Answer, StepRefusal>, A>, NoMemory>
-        requires { All (λ event. IsSound (change event)) events.now }
-        ensures plays { IfOk result (λ answers. Plays self.old (map change events.now) answers.items self.new) }
+        requires { All (λ event. IsSound (event_values event)) events.now }
+        ensures plays { IfOk result (λ answers. Plays self.old (map event_values events.now) answers.items self.new) }
         ensures none { OnErr result (self.new ≡ self.old) }
         ensures honest { IsHonest self.old → IsHonest self.new }
     {

@@ -173,7 +173,7 @@ fn stop_of(answer: Result<Answer, StepRefusal>) -> Option<usize> {
     match answer {
         Err(StepRefusal::NoMemory | StepRefusal::Edit(Refusal::NoMemory)) => Some(0),
         Err(
-            StepRefusal::Halted(
+            StepRefusal::Stopped(
                 Stopped {
                     taken,
                     why: AddRefusal::NoMemory,

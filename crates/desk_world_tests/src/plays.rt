@@ -2,7 +2,7 @@
 
 ghost use Rattle.std.specs.Prelude.{All};
 ghost use Rattle.desk_ops.specs.Op.{IsLawful};
-ghost use Rattle.desk_world.specs.World.{change, IsSound};
+ghost use Rattle.desk_world.specs.World.{event_values, IsSound};
 
 use crate::events::{at, held, roman, typed};
 use crate::growths::lawful_of;
@@ -31,7 +31,7 @@ fn third() -> Op {
 
 /// An insert of a Roman character at a place of a site's copy.
 fn insert<'a>(site: u16, place: usize, ch: char) -> Event<'a>
-    ensures { IsSound (change result) }
+    ensures { IsSound (event_values result) }
 {
     let symbol = roman(ch);
     Event::Insert {
@@ -46,7 +46,7 @@ fn table<'a>(one: &'a [Op], twice: &'a [Op], two: &'a [Op]) -> [Event<'a>; 9]
     requires one { All IsLawful one.now }
     requires twice { All IsLawful twice.now }
     requires two { All IsLawful two.now }
-    ensures { All (λ event. IsSound (change event)) result }
+    ensures { All (λ event. IsSound (event_values event)) result }
 {
     [
         Event::Site(1),
@@ -149,7 +149,7 @@ fn two_sites_by_one_play(rt: HostRuntime) -> Result<(), Fail> {
 /// Of these events all are refused but the first and the last.
 fn refused_events<'a>(strange: &'a [Op]) -> [Event<'a>; 9]
     requires { All IsLawful strange.now }
-    ensures { All (λ event. IsSound (change event)) result }
+    ensures { All (λ event. IsSound (event_values event)) result }
 {
     [
         Event::Site(1),

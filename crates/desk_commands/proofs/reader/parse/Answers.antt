@@ -1,6 +1,6 @@
 use Rattle.std.proofs.Common.{◌≡◌, sym, ap, ◌∙◌, subst}
 use Rattle.std.specs.Prelude.{Option}
-use Rattle.desk_commands.specs.Request.{Request, request}
+use Rattle.desk_commands.specs.Command.{CommandValues, command_values}
 use Rattle.desk_commands.specs.Reading.{Gives}
 use Rattle.desk_commands.specs.Grammar.{command_of, words_of}
 use Rattle.desk_commands.proofs.Loops.{command_of-text, command_of-bytes}
@@ -13,5 +13,5 @@ pub returns : goal.returns
 returns g c =
     let e = c.in-Ok.ensures.cases in
     let same : command_of c.args.line.now ≡ words_of c.in-Ok.line.now = command_of-text c.args.line.now e.1 ∙ ap words_of (sym e.0) in
-    let P : Option Request → Type 0 = λ r. Gives request c.words_of.result r in
+    let P : Option CommandValues → Type 0 = λ r. Gives command_values c.words_of.result r in
     subst P (sym same) c.words_of.ensures

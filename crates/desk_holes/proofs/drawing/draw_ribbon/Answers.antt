@@ -1,20 +1,30 @@
-use Rattle.std.proofs.Common.{ap, subst}
+use Rattle.std.proofs.Common.{ap, inr, subst}
+use Rattle.std.proofs.lemmas.Result.{err_from_is_err_and}
 use Rattle.std.specs.Prelude.{Err, string_bytes}
 use Rattle.desk_files.specs.Files.{Shelf}
 use Rattle.desk_stored.specs.Faults.{IsNotStored}
-use Rattle.desk_reading.proofs.Gives.{same_shelf}
+use Rattle.desk_reading.specs.Sources.{sources}
 use Rattle.desk_holes.specs.Drawing.{IsPicture}
+use Rattle.desk_holes.proofs.Pictures.{undrawn}
 use Rattle.desk_holes.proofs.drawing.draw_ribbon.Goals as goal
 
-pub returns-in-Ok-drawn-clause-err : goal.returns-in-Ok-drawn-clause-err
-returns-in-Ok-drawn-clause-err g c =
-    let first : Shelf = g.F.Files.shelf c.args.files.now in
+pub returns-in_err-bytes-clause-err : goal.returns-in_err-bytes-clause-err
+returns-in_err-bytes-clause-err g c =
+    let p = err_from_is_err_and c.from_residual.result c.from_residual.ensures.1 in
+    rw p.1 (rw p.2 (undrawn (sources c.args.ribbon.now c.args.case.now c.args.wedge.now) c.args.target.now (g.F.Files.shelf c.args.files.now) (g.F.Files.shelf c.take_in.new.files) c.in_err-bytes.field-0.0 c.take_in.ensures.stays c.in_err-bytes.ensures.err))
+
+pub returns-in-Ok-clause-err : goal.returns-in-Ok-clause-err
+returns-in-Ok-clause-err g c =
     let mid : Shelf = g.F.Files.shelf c.take_in.new.files in
     let last : Shelf = g.F.Files.shelf c.store.new.files in
-    let same = same_shelf first mid c.take_in.ensures.stays c.in-Ok.ensures.counted in
-    let t = c.in-Ok.taken in
-    let picture = string_bytes c.in-Ok-drawn.picture in
-    let is = subst (λ l. IsPicture l t.1 picture) c.deref.ensures.value c.in-Ok-drawn.ensures.ok in
+    let t = c.in_ok-bytes in
+    let picture = string_bytes c.in-Ok.picture in
+    let is = subst (λ l. IsPicture l t.case picture) c.deref.ensures.value c.in-Ok.ensures.ok in
     let e = c.in-Err-store.ensures in
     let unstored : IsNotStored c.args.target.now mid last c.in-Err-store.why = (e.err, e.small, (λ is. e.missing (ap Err is)), e.counted) in
-    (picture, (t.0.items, t.1, t.2, c.in-Ok.ensures.ok, is), subst (λ (s : Shelf). IsNotStored c.args.target.now s last c.in-Err-store.why) same unstored)
+    (picture, (t.bytes.items, t.case, _, t.ensures.ok, is), subst (λ (s : Shelf). IsNotStored c.args.target.now s last c.in-Err-store.why) t.ensures.still unstored)
+
+pub returns-in-Err-NoMemory-clause-err : goal.returns-in-Err-NoMemory-clause-err
+returns-in-Err-NoMemory-clause-err g c =
+    let t = c.in_ok-bytes in
+    inr (t.ensures.still, t.bytes.items, t.case, _, t.ensures.ok)

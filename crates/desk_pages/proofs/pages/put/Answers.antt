@@ -20,4 +20,4 @@ pub returns-in-Some-clause-kept : goal.returns-in-Some-clause-kept
 returns-in-Some-clause-kept g c =
     let pages = c.args.pages.now.items in
     let k = c.requires.kept in
-    kept-more pages c.put_inside.new.pages.items (start_of pages c.args.p + c.args.j) c.args.len (vec_len c.put_inside.new.pages + vec_len c.args.free.now) (vec_capacity c.put_inside.new.pages) (vec_capacity c.args.free.now) c.args.x k.is_len (end-le pages c.args.p c.args.j c.args.len c.requires.spot k.is_len) (returns-in-Some-clause-put g c) c.put_inside.ensures.half (omega (arith, k.room)) (omega (arith, k.back)) (omega (arith, k.few)) (omega (arith, c.requires.spare, c.put_inside.ensures.len))
+    kept-more pages c.put_inside.new.pages.items (start_of pages c.args.p + c.args.j) c.args.len (vec_len c.args.free.now) (vec_len c.put_inside.new.pages + vec_len c.args.free.now) (vec_capacity c.put_inside.new.pages) (vec_capacity c.args.free.now) c.args.x k.is_len (end-le pages c.args.p c.args.j c.args.len c.requires.spot k.is_len) (returns-in-Some-clause-put g c) c.put_inside.ensures.half (omega (arith, k.room)) (omega (arith, k.back)) (omega (arith, k.few)) (omega (arith, c.requires.spare, c.put_inside.ensures.len))

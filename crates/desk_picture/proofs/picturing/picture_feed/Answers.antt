@@ -1,28 +1,39 @@
-use Rattle.std.proofs.Common.{ap, subst}
+use Rattle.std.proofs.Common.{ap, inr, subst}
+use Rattle.std.proofs.lemmas.Result.{err_from_is_err_and}
 use Rattle.std.specs.Prelude.{Err, string_bytes}
 use Rattle.desk_files.specs.Files.{IsReplaced, Shelf}
 use Rattle.desk_stored.specs.Faults.{IsNotStored}
-use Rattle.desk_hand.proofs.Shelves.{same_shelf}
+use Rattle.desk_preview.specs.Sources.{sources}
+use Rattle.desk_picture.proofs.Refusing.{unpictured}
 use Rattle.desk_picture.proofs.picturing.picture_feed.Goals as goal
 
-pub returns-in-Ok-store-clause-ok : goal.returns-in-Ok-store-clause-ok
-returns-in-Ok-store-clause-ok g c =
-    let first : Shelf = g.F.Files.shelf c.args.files.now in
-    let mid : Shelf = g.F.Files.shelf c.take_in.new.files in
-    let last : Shelf = g.F.Files.shelf c.store.new.files in
-    let same = same_shelf first mid c.take_in.ensures.stays c.in-Ok.ensures.counted in
-    let t = c.in-Ok.taken in
-    let drawn = c.in-Ok-drawn_of.drawn in
-    let stored = subst (λ bytes. IsReplaced c.args.target.now bytes mid.kept last.kept) c.as_bytes.ensures.value c.in-Ok-store.ensures.ok in
-    (string_bytes drawn, (t.0.ops, t.1, t.2, c.in-Ok.ensures.ok, c.in-Ok-drawn_of.ensures), subst (λ (s : Shelf). IsReplaced c.args.target.now (string_bytes drawn) s.kept last.kept) same stored)
+pub returns-in_err-replica-clause-err : goal.returns-in_err-replica-clause-err
+returns-in_err-replica-clause-err g c =
+    let p = err_from_is_err_and c.from_residual.result c.from_residual.ensures.1 in
+    rw p.1 (rw p.2 (unpictured (sources c.args.feed.now c.args.case.now c.args.wedge.now) c.args.trial.now c.args.target.now (g.F.Files.shelf c.args.files.now) (g.F.Files.shelf c.take_in.new.files) c.in_err-replica.field-0.0 c.take_in.ensures.stays c.in_err-replica.ensures.err))
 
-pub returns-clause-err : goal.returns-clause-err
-returns-clause-err g c =
-    let first : Shelf = g.F.Files.shelf c.args.files.now in
+pub returns-in_err-drawn-clause-err : goal.returns-in_err-drawn-clause-err
+returns-in_err-drawn-clause-err g c =
+    let t = c.in_ok-replica in
+    let p = err_from_is_err_and c.from_residual-in_err-drawn.result c.from_residual-in_err-drawn.ensures.1 in
+    rw p.1 (rw p.2 (inr (t.ensures.still, t.replica.ops, t.case, t.wedge, t.ensures.ok)))
+
+pub returns-in_err-store-clause-err : goal.returns-in_err-store-clause-err
+returns-in_err-store-clause-err g c =
     let mid : Shelf = g.F.Files.shelf c.take_in.new.files in
     let last : Shelf = g.F.Files.shelf c.store.new.files in
-    let same = same_shelf first mid c.take_in.ensures.stays c.in-Ok.ensures.counted in
-    let t = c.in-Ok.taken in
-    let e = c.in-Err-store.ensures in
-    let unstored : IsNotStored c.args.target.now mid last c.in-Err-store.why = (e.err, e.small, (λ is. e.missing (ap Err is)), e.counted) in
-    (string_bytes c.in-Ok-drawn_of.drawn, (t.0.ops, t.1, t.2, c.in-Ok.ensures.ok, c.in-Ok-drawn_of.ensures), subst (λ (s : Shelf). IsNotStored c.args.target.now s last c.in-Err-store.why) same unstored)
+    let t = c.in_ok-replica in
+    let e = c.in_err-store.ensures in
+    let why = c.in_err-store.field-0.0 in
+    let unstored : IsNotStored c.args.target.now mid last why = (e.err, e.small, (λ is. e.missing (ap Err is)), e.counted) in
+    let p = err_from_is_err_and c.from_residual-in_err-store.result c.from_residual-in_err-store.ensures.1 in
+    rw p.1 (rw p.2 (string_bytes c.in_ok-drawn.drawn, (t.replica.ops, t.case, t.wedge, t.ensures.ok, c.in_ok-drawn.ensures), subst (λ (s : Shelf). IsNotStored c.args.target.now s last why) t.ensures.still unstored))
+
+pub returns-clause-ok : goal.returns-clause-ok
+returns-clause-ok g c =
+    let mid : Shelf = g.F.Files.shelf c.take_in.new.files in
+    let last : Shelf = g.F.Files.shelf c.store.new.files in
+    let t = c.in_ok-replica in
+    let drawn = string_bytes c.in_ok-drawn.drawn in
+    let stored = subst (λ bytes. IsReplaced c.args.target.now bytes mid.kept last.kept) c.as_bytes.ensures.value c.in_ok-store.ensures.ok in
+    (drawn, (t.replica.ops, t.case, t.wedge, t.ensures.ok, c.in_ok-drawn.ensures), subst (λ (s : Shelf). IsReplaced c.args.target.now drawn s.kept last.kept) t.ensures.still stored)

@@ -1,29 +1,36 @@
-use Rattle.std.proofs.Common.{subst}
-use Rattle.std.specs.Prelude.{Err}
-use Rattle.desk_answers.specs.declared.not_done.NotDone.{NotDone}
-use Rattle.desk_case.specs.Case.{CaseValues}
-use Rattle.desk_wedge.specs.Wedge.{WedgeValues}
-use Rattle.desk_files.specs.Files.{Shelf, Stays}
-use Rattle.desk_hand.proofs.Shelves.{same_shelf}
-use Rattle.desk_inputs.specs.Inputs.{BothGive, IfAnswered}
-use Rattle.desk_preview.proofs.Gives.{given_still}
+use Rattle.std.proofs.Common.{◌∙◌}
+use Rattle.std.proofs.lemmas.Result.{err_from_is_err_and}
+use Rattle.std.specs.Prelude.{Ok}
+use Rattle.desk_files.specs.Files.{Shelf}
+use Rattle.desk_inputs.proofs.Gives.{same_shelf, still_at}
+use Rattle.desk_inputs.specs.Inputs.{BothGive}
+use Rattle.desk_preview.specs.Sources.{sources}
+use Rattle.desk_preview.proofs.Gives.{no_inputs}
 use Rattle.desk_preview.proofs.sources.take_in.Goals as goal
 
-pub returns-in-Ok-both-clause-ok : goal.returns-in-Ok-both-clause-ok
-returns-in-Ok-both-clause-ok g c =
-    let first : Shelf = g.F.Files.shelf c.args.files.now in
-    let mid : Shelf = g.F.Files.shelf c.open_feed.new.files in
-    let last : Shelf = g.F.Files.shelf c.both.new.files in
-    let same = same_shelf first mid c.open_feed.ensures.stays c.in-Ok.ensures.counted in
-    let stays = subst (λ (s : Shelf). Stays s last) same c.both.ensures.stays in
-    (c.in-Ok.ensures.ok, given_still c.args.case.now c.args.wedge.now first mid last (c.in-Ok-both.case, c.in-Ok-both.wedge) same stays c.in-Ok-both.ensures.given)
+pub returns-in_err-replica-clause-err : goal.returns-in_err-replica-clause-err
+returns-in_err-replica-clause-err g c = let p = err_from_is_err_and c.from_residual.result c.from_residual.ensures.1 in rw p.1 (rw p.2 c.in_err-replica.ensures.err)
 
-pub returns-in-Err-Refused-clause-err : goal.returns-in-Err-Refused-clause-err
-returns-in-Err-Refused-clause-err g c =
+pub returns-in_err-case-clause-err : goal.returns-in_err-case-clause-err
+returns-in_err-case-clause-err g c =
     let first : Shelf = g.F.Files.shelf c.args.files.now in
     let mid : Shelf = g.F.Files.shelf c.open_feed.new.files in
     let last : Shelf = g.F.Files.shelf c.both.new.files in
-    let same = same_shelf first mid c.open_feed.ensures.stays c.in-Ok.ensures.counted in
-    let refused = subst (λ (e : NotDone). IfAnswered {V = CaseValues × WedgeValues} (λ given. BothGive c.args.case.now c.args.wedge.now mid given last) (Err e)) c.in-Err-Refused.field-0-is c.in-Err-Refused.ensures.given in
-    let of_first = subst (λ (s : Shelf). BothGive c.args.case.now c.args.wedge.now s (Err c.in-Err-Refused.why) last) same refused in
-    (c.in-Ok.replica.ops, c.in-Ok.ensures.ok, rw c.in-Err-Refused.why-is of_first)
+    let same = same_shelf first mid c.open_feed.ensures.stays c.in_ok-replica.ensures.counted in
+    let p = err_from_is_err_and c.from_residual-in_err-case.result c.from_residual-in_err-case.ensures.1 in
+    rw p.1 (rw p.2 (no_inputs (sources c.args.feed.now c.args.case.now c.args.wedge.now) c.in_ok-replica.replica.ops first mid last c.in_err-case.field-0.0 same c.in_ok-replica.ensures.ok c.in_err-case.ensures.given))
+
+pub returns-clause-ok : goal.returns-clause-ok
+returns-clause-ok g c =
+    let first : Shelf = g.F.Files.shelf c.args.files.now in
+    let mid : Shelf = g.F.Files.shelf c.open_feed.new.files in
+    let last : Shelf = g.F.Files.shelf c.both.new.files in
+    let same = same_shelf first mid c.open_feed.ensures.stays c.in_ok-replica.ensures.counted in
+    (c.in_ok-replica.ensures.ok, still_at (λ s t. BothGive c.args.case.now c.args.wedge.now s (Ok (c.in_ok-case.case, c.in_ok-case.wedge)) t) first mid last same c.in_ok-case.ensures.still c.in_ok-case.ensures.given)
+
+pub returns-clause-still : goal.returns-clause-still
+returns-clause-still g c =
+    let first : Shelf = g.F.Files.shelf c.args.files.now in
+    let mid : Shelf = g.F.Files.shelf c.open_feed.new.files in
+    let same = same_shelf first mid c.open_feed.ensures.stays c.in_ok-replica.ensures.counted in
+    c.in_ok-case.ensures.still ∙ same

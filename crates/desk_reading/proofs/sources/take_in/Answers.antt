@@ -1,29 +1,41 @@
-use Rattle.std.proofs.Common.{subst}
-use Rattle.std.specs.Prelude.{Err}
-use Rattle.desk_answers.specs.declared.not_done.NotDone.{NotDone}
-use Rattle.desk_case.specs.Case.{CaseValues}
-use Rattle.desk_wedge.specs.Wedge.{WedgeValues}
-use Rattle.desk_files.specs.Files.{Shelf, Stays}
-use Rattle.desk_inputs.proofs.Gives.{stays_by}
-use Rattle.desk_inputs.specs.Inputs.{BothGive, IfAnswered}
-use Rattle.desk_reading.proofs.Gives.{given_still, same_shelf}
+use Rattle.std.proofs.Common.{◌∙◌}
+use Rattle.std.proofs.lemmas.Result.{err_from_is_err_and}
+use Rattle.std.specs.Prelude.{Ok}
+use Rattle.desk_files.specs.Files.{Shelf}
+use Rattle.desk_inputs.proofs.Gives.{same_shelf, stays_by, still_at}
+use Rattle.desk_inputs.specs.Inputs.{BothGive}
+use Rattle.desk_reading.specs.Sources.{sources}
+use Rattle.desk_reading.proofs.Gives.{no_inputs, no_ribbon}
 use Rattle.desk_reading.proofs.sources.take_in.Goals as goal
 
-pub returns-in-Ok-both-clause-ok : goal.returns-in-Ok-both-clause-ok
-returns-in-Ok-both-clause-ok g c =
+pub returns-in_err-bytes-clause-err : goal.returns-in_err-bytes-clause-err
+returns-in_err-bytes-clause-err g c =
     let first : Shelf = g.F.Files.shelf c.args.files.now in
     let mid : Shelf = g.F.Files.shelf c.read.new.self in
-    let last : Shelf = g.F.Files.shelf c.both.new.files in
-    let same = same_shelf first mid (stays_by c.read.result first mid c.in-Ok.ensures.kept c.in-Ok.ensures.held c.read.ensures.counted) c.in-Ok.ensures.counted in
-    let stays = subst (λ (s : Shelf). Stays s last) same c.both.ensures.stays in
-    (c.in-Ok.ensures.given, given_still c.args.case.now c.args.wedge.now first mid last (c.in-Ok-both.case, c.in-Ok-both.wedge) same stays c.in-Ok-both.ensures.given)
+    let p = err_from_is_err_and c.from_residual.result c.from_residual.ensures.1 in
+    rw p.1 (rw p.2 (no_ribbon (sources c.args.ribbon.now c.args.case.now c.args.wedge.now) first mid c.in_err-bytes.field-0.0 (stays_by c.read.result first mid c.in_err-bytes.ensures.kept c.in_err-bytes.ensures.held c.read.ensures.counted)
+    c.in_err-bytes.ensures.given c.in_err-bytes.ensures.counted))
 
-pub returns-in-Err-Refused-clause-err : goal.returns-in-Err-Refused-clause-err
-returns-in-Err-Refused-clause-err g c =
+pub returns-in_err-case-clause-err : goal.returns-in_err-case-clause-err
+returns-in_err-case-clause-err g c =
     let first : Shelf = g.F.Files.shelf c.args.files.now in
     let mid : Shelf = g.F.Files.shelf c.read.new.self in
     let last : Shelf = g.F.Files.shelf c.both.new.files in
-    let same = same_shelf first mid (stays_by c.read.result first mid c.in-Ok.ensures.kept c.in-Ok.ensures.held c.read.ensures.counted) c.in-Ok.ensures.counted in
-    let refused = subst (λ (e : NotDone). IfAnswered {V = CaseValues × WedgeValues} (λ given. BothGive c.args.case.now c.args.wedge.now mid given last) (Err e)) c.in-Err-Refused.field-0-is c.in-Err-Refused.ensures.given in
-    let of_first = subst (λ (s : Shelf). BothGive c.args.case.now c.args.wedge.now s (Err c.in-Err-Refused.why) last) same refused in
-    (c.in-Ok.bytes.items, c.in-Ok.ensures.given, rw c.in-Err-Refused.why-is of_first)
+    let same = same_shelf first mid (stays_by c.read.result first mid c.in_ok-bytes.ensures.kept c.in_ok-bytes.ensures.held c.read.ensures.counted) c.in_ok-bytes.ensures.counted in
+    let p = err_from_is_err_and c.from_residual-in_err-case.result c.from_residual-in_err-case.ensures.1 in
+    rw p.1 (rw p.2 (no_inputs (sources c.args.ribbon.now c.args.case.now c.args.wedge.now) c.in_ok-bytes.bytes.items first mid last c.in_err-case.field-0.0 same c.in_ok-bytes.ensures.given c.in_err-case.ensures.given))
+
+pub returns-clause-ok : goal.returns-clause-ok
+returns-clause-ok g c =
+    let first : Shelf = g.F.Files.shelf c.args.files.now in
+    let mid : Shelf = g.F.Files.shelf c.read.new.self in
+    let last : Shelf = g.F.Files.shelf c.both.new.files in
+    let same = same_shelf first mid (stays_by c.read.result first mid c.in_ok-bytes.ensures.kept c.in_ok-bytes.ensures.held c.read.ensures.counted) c.in_ok-bytes.ensures.counted in
+    (c.in_ok-bytes.ensures.given, still_at (λ s t. BothGive c.args.case.now c.args.wedge.now s (Ok (c.in_ok-case.case, c.in_ok-case.wedge)) t) first mid last same c.in_ok-case.ensures.still c.in_ok-case.ensures.given)
+
+pub returns-clause-still : goal.returns-clause-still
+returns-clause-still g c =
+    let first : Shelf = g.F.Files.shelf c.args.files.now in
+    let mid : Shelf = g.F.Files.shelf c.read.new.self in
+    let same = same_shelf first mid (stays_by c.read.result first mid c.in_ok-bytes.ensures.kept c.in_ok-bytes.ensures.held c.read.ensures.counted) c.in_ok-bytes.ensures.counted in
+    c.in_ok-case.ensures.still ∙ same

@@ -1,5 +1,5 @@
-use Rattle.std.proofs.Common.{◌≡◌, ◌∙◌, sym, ap}
-use Rattle.desk_ops.specs.OpSet.{OpSet, no_ops, with_all}
+use Rattle.std.proofs.Common.{◌∙◌, sym, ap}
+use Rattle.desk_ops.specs.OpSet.{OpSet, with_all}
 use Rattle.desk_held.proofs.Joins.{none_held}
 use Rattle.desk_replica.proofs.Replica.begin.Goals as goal
 

@@ -3,7 +3,7 @@ use Rattle.std.proofs.lemmas.Result.{err_from_is_err_and}
 use Rattle.std.specs.Prelude.{Err}
 use Rattle.desk_steps.specs.Desk.{desk}
 use Rattle.desk_stored.specs.Stored.{was_read}
-use Rattle.desk_script.specs.Stored.{IsStart}
+use Rattle.desk_script.specs.FeedRun.{IsStart}
 use Rattle.desk_script.proofs.Bytes.{told_fault}
 use Rattle.desk_script.proofs.Feeds.{counts_up, fails_from, fails_later, file_failed, is_there, no_line_fails, no_opening_fails}
 use Rattle.desk_script.proofs.feed_run.run_on_feed.Goals as goal

@@ -1,6 +1,6 @@
 use Rattle.std.proofs.Common.{◌≡◌, drop}
 use Rattle.std.specs.Prelude.{None}
-use Rattle.desk_answers.specs.Reply.{Reply}
+use Rattle.desk_answers.specs.Reply.{ReplyValues}
 use Rattle.desk_world.specs.Sites.{Sites}
 use Rattle.desk_steps.specs.Insert.{Inserts}
 use Rattle.desk_steps.proofs.insert.insert_all.Given as goal
@@ -9,5 +9,5 @@ use Rattle.desk_steps.proofs.insert.insert_all.Given as goal
 abbrev pub invariant-loop-symbol : goal.invariant-loop-symbol
 invariant-loop-symbol g l = record {
   counted : l.count ≡ l.symbol-index;
-  goes_on : (r : Reply) (new : Sites) → Inserts l.world l.site l.place (drop l.symbol-index l.copy) l.count l.stamps r new → Inserts l.fn.world l.site l.place l.copy 0 None r new;
+  goes_on : (r : ReplyValues) (new : Sites) → Inserts l.world l.site l.place (drop l.symbol-index l.copy) l.count l.stamps r new → Inserts l.fn.world l.site l.place l.copy 0 None r new;
 }

@@ -1,4 +1,4 @@
-use Rattle.desk_answers.specs.Reply.{Refused, Stopped, reply}
+use Rattle.desk_answers.specs.Reply.{Refused, Stopped, reply_values}
 use Rattle.desk_answers.specs.declared.text.Refusal.TheVariants as refusals
 use Rattle.desk_steps.specs.Desk.{desk}
 use Rattle.desk_steps.specs.Line.{line_of}
@@ -8,7 +8,7 @@ use Rattle.desk_steps.proofs.line.answer.Goals as goal
 
 pub returns-in-Ok-clause-sites : goal.returns-in-Ok-clause-sites
 returns-in-Ok-clause-sites g c =
-    allows_keep (desk c.args.world.now (g.F.Files.shelf c.args.files.now)) (desk c.do_line.new.world (g.F.Files.shelf c.do_line.new.files)) (line_of c.args.line.now) (reply c.in-Ok.response) c.in-Ok.ensures.done
+    allows_keep (desk c.args.world.now (g.F.Files.shelf c.args.files.now)) (desk c.do_line.new.world (g.F.Files.shelf c.do_line.new.files)) (line_of c.args.line.now) (reply_values c.in-Ok.reply) c.in-Ok.ensures.done
 
 pub returns-in-Err-Refused-clause-sites : goal.returns-in-Err-Refused-clause-sites
 returns-in-Err-Refused-clause-sites g c =
@@ -22,7 +22,7 @@ returns-in-Err-Stopped-clause-sites g c =
 
 pub returns-in-Ok-clause-unchanged : goal.returns-in-Ok-clause-unchanged
 returns-in-Ok-clause-unchanged g c long =
-    allows_same (desk c.args.world.now (g.F.Files.shelf c.args.files.now)) (desk c.do_line.new.world (g.F.Files.shelf c.do_line.new.files)) (line_of c.args.line.now) (reply c.in-Ok.response) long c.in-Ok.ensures.done
+    allows_same (desk c.args.world.now (g.F.Files.shelf c.args.files.now)) (desk c.do_line.new.world (g.F.Files.shelf c.do_line.new.files)) (line_of c.args.line.now) (reply_values c.in-Ok.reply) long c.in-Ok.ensures.done
 
 pub returns-in-Err-NoMemory-clause-sites : goal.returns-in-Err-NoMemory-clause-sites
 returns-in-Err-NoMemory-clause-sites g c =

@@ -1,13 +1,19 @@
-use Rattle.std.proofs.Common.{refl, subst, sym}
+use Rattle.std.proofs.Common.{◌≡◌, ◌∙◌, ◌<◌, ap, refl, subst}
 use Rattle.std.proofs.lemmas.Result.{err_from_is_err_and}
-use Rattle.desk_stored.specs.Stored.{Stores, was_read}
+use Rattle.desk_ops.specs.OpSet.{OpSet, no_ops, with_all, size, max_ops}
+use Rattle.desk_held.specs.declared.AddRefusal.TheVariants as adds
+use Rattle.desk_stored.specs.Stored.{was_read}
 use Rattle.desk_stored.proofs.Feeds.{unopened}
 use Rattle.desk_stored.proofs.stored.open_replica.Goals as goal
+
+pub returns-clause-ok : goal.returns-clause-ok
+returns-clause-ok g c =
+    (c.in_ok-ops.ops.items, c.in_ok-ops.ensures.feed, c.in_ok-replica.ensures.ops ∙ ap (with_all no_ops) c.deref.ensures.value ∙ c.put_in_turn.ensures.turn.whole no_ops)
 
 pub returns-in_err-replica-clause-err : goal.returns-in_err-replica-clause-err
 returns-in_err-replica-clause-err g c =
     let stop = c.in_err-replica.field-0.0 in
-    let ops = c.deref.result.now in
-    let stores = subst (λ l. Stores (was_read c.args.old.now) l) (sym c.deref.ensures.value) c.in_ok-ops.ensures.feed in
+    let same = ap (with_all no_ops) c.deref.ensures.value ∙ c.put_in_turn.ensures.turn.whole no_ops in
+    let full : stop.why ≡ adds.Full → max_ops < size (with_all no_ops c.in_ok-ops.ops.items) = λ is. subst (λ (s : OpSet). max_ops < size s) same (c.in_err-replica.ensures.full is) in
     let p = err_from_is_err_and c.from_residual-in_err-replica.result c.from_residual-in_err-replica.ensures.1 in
-    rw p.1 (rw p.2 (unopened (was_read c.args.old.now) ops stop stop.why refl stores c.in_err-replica.ensures.none c.in_err-replica.ensures.full))
+    rw p.1 (rw p.2 (unopened (was_read c.args.old.now) c.in_ok-ops.ops.items stop stop.why refl c.in_ok-ops.ensures.feed c.in_err-replica.ensures.none full))

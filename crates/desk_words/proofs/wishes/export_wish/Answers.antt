@@ -1,6 +1,6 @@
 use Rattle.std.proofs.Common.{codes, refl}
 use Rattle.clap.specs.Words.{found_of, rows_of}
-use Rattle.desk_words.specs.declared.wishes.Task.TheVariants as tasks
+use Rattle.desk_words.specs.declared.wishes.Subcommand.TheVariants as subcommands
 use Rattle.desk_words.proofs.Asked.{named, no_wish, unnamed}
 use Rattle.desk_words.proofs.wishes.export_wish.Goals as goal
 
@@ -8,4 +8,4 @@ pub returns-in-Some : goal.returns-in-Some
 returns-in-Some c = (refl, named (codes "feed") (found_of c.args.matches.now) c.get_str.result c.in-Some.feed c.get_str.ensures c.in-Some.is)
 
 pub returns-in-None : goal.returns-in-None
-returns-in-None c = no_wish (rows_of (found_of c.args.matches.now)) tasks.Export (unnamed (codes "feed") (found_of c.args.matches.now) c.get_str.result c.get_str.ensures c.in-None.is)
+returns-in-None c = no_wish (rows_of (found_of c.args.matches.now)) subcommands.Export (unnamed (codes "feed") (found_of c.args.matches.now) c.get_str.result c.get_str.ensures c.in-None.is)

@@ -1,7 +1,7 @@
 use Rattle.std.proofs.Common.{codes, refl, subst}
 use Rattle.clap.specs.Words.{found_of, rows_of}
 use Rattle.desk_words.specs.Words.{AreSources}
-use Rattle.desk_words.specs.declared.wishes.Task.TheVariants as tasks
+use Rattle.desk_words.specs.declared.wishes.Subcommand.TheVariants as subcommands
 use Rattle.desk_words.proofs.Asked.{named, no_wish, unnamed}
 use Rattle.desk_words.proofs.wishes.punch_wish.Goals as goal
 
@@ -15,7 +15,7 @@ returns-in-Some-get_str c = (
 )
 
 pub returns-in-None-get_str : goal.returns-in-None-get_str
-returns-in-None-get_str c = no_wish (rows_of (found_of c.args.matches.now)) tasks.Punch (λ from target sources names. unnamed (codes "output") (found_of c.args.matches.now) c.get_str.result c.get_str.ensures c.in-None-get_str.is target names)
+returns-in-None-get_str c = no_wish (rows_of (found_of c.args.matches.now)) subcommands.Punch (λ from target sources names. unnamed (codes "output") (found_of c.args.matches.now) c.get_str.result c.get_str.ensures c.in-None-get_str.is target names)
 
 pub returns-in-None : goal.returns-in-None
-returns-in-None c = no_wish (rows_of (found_of c.args.matches.now)) tasks.Punch (λ from target sources names. subst (AreSources (rows_of (found_of c.args.matches.now))) c.in-None.is c.sources_of.ensures from sources)
+returns-in-None c = no_wish (rows_of (found_of c.args.matches.now)) subcommands.Punch (λ from target sources names. subst (AreSources (rows_of (found_of c.args.matches.now))) c.in-None.is c.sources_of.ensures from sources)

@@ -5,7 +5,7 @@ use Rattle.desk_world.proofs.Sites.{is_there}
 use Rattle.desk_world.proofs.Kept.{no_site, strange, given, none_from}
 use Rattle.desk_world.specs.Sites.{all_held}
 use Rattle.desk_world.specs.World.{Steps}
-use Rattle.desk_world.specs.World as changes
+use Rattle.desk_world.specs.World as events
 use Rattle.desk_world.proofs.world.World.give.Goals as goal
 
 pub returns-then-not-contains_key : goal.returns-then-not-contains_key
@@ -22,4 +22,4 @@ pub returns : goal.returns
 returns g c =
     let there : is_some (fin.get c.args.self.now c.args.to) ≡ true = is_there c.self.inside.sites.entries c.args.to c.args.self.now true c.self.view_is (search rules) in
     let held : all_held c.args.self.now c.args.ops.now ≡ true = search rules in
-    subst (λ r. Steps c.args.self.now (changes.Give c.args.to c.args.ops.now) r c.bring-given.new.self) (sym c.taken.ensures) (given c.args.self.now c.bring-given.new.self c.args.to c.args.ops.now c.bring-given.result there held c.bring-given.ensures.gained)
+    subst (λ r. Steps c.args.self.now (events.Give c.args.to c.args.ops.now) r c.bring-given.new.self) (sym c.taken.ensures) (given c.args.self.now c.bring-given.new.self c.args.to c.args.ops.now c.bring-given.result there held c.bring-given.ensures.gained)

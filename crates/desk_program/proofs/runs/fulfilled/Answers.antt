@@ -9,7 +9,7 @@ use Rattle.desk_program.specs.Previews.{IsSeen, IsUnseen}
 use Rattle.desk_program.specs.Runs.{Does, Stops}
 use Rattle.desk_program.specs.Texts.{AreFound, AreNotInOrder}
 use Rattle.desk_program.proofs.Statuses.{done_of, halt_of}
-use Rattle.desk_program.proofs.tasks.fulfilled.Goals as goal
+use Rattle.desk_program.proofs.runs.fulfilled.Goals as goal
 
 pub returns-in-Script-clause-done : goal.returns-in-Script-clause-done
 returns-in-Script-clause-done g c zero =

@@ -59,15 +59,15 @@ IsClosed name held last why =
     (read : Result (List ℕ) FileRefusal) × Reads (held.kept name) read × Counts read held last × Stays held last × IsUnopened read why
 
 -- Why a run stopped that had taken the name, and what it left: it did not read the feed, or not open it, and nothing was written; or it stopped among the lines; or it did not store the feed.
-abbrev pub IsHaltedOnFeed : List ℕ → ℕ → Shelf → Shelf → Option (List ℕ) → Option (List ℕ) → Option (List ℕ) → RunFault → Type 0
-IsHaltedOnFeed name n held last input before after fault =
+abbrev pub IsStoppedWhileHeld : List ℕ → ℕ → Shelf → Shelf → Option (List ℕ) → Option (List ℕ) → Option (List ℕ) → RunFault → Type 0
+IsStoppedWhileHeld name n held last input before after fault =
     ((after ≡ before) × (why : FileRefusal) × (fault ≡ of_file why) × IsUnread name held last why)
     ⊎ ((after ≡ before) × (why : OpenFault) × (fault ≡ of_opening why) × IsClosed name held last why)
     ⊎ ((why : LineFault) × (fault ≡ of_lines why) × IsBroken name n held last input before after why)
     ⊎ ((why : FileRefusal) × (fault ≡ of_file why) × IsUnstored name n held last input before after why)
 
 -- why a run on a stored feed stopped, and what it left: the name was not taken and nothing was done, or it was, and then the run stopped
-abbrev pub IsHalted : List ℕ → ℕ → Shelf → Shelf → Option (List ℕ) → Option (List ℕ) → Option (List ℕ) → RunFault → Type 0
-IsHalted name n first last input before after fault =
+abbrev pub IsStoppedOnFeed : List ℕ → ℕ → Shelf → Shelf → Option (List ℕ) → Option (List ℕ) → Option (List ℕ) → RunFault → Type 0
+IsStoppedOnFeed name n first last input before after fault =
     ((after ≡ before) × (why : FileRefusal) × (fault ≡ of_file why) × IsUntaken name first last why)
-    ⊎ ((held : Shelf) × IsNowHeld name first held × IsHaltedOnFeed name n held last input before after fault)
+    ⊎ ((held : Shelf) × IsNowHeld name first held × IsStoppedWhileHeld name n held last input before after fault)

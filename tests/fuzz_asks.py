@@ -1,0 +1,312 @@
+"""What the kinds of fuzz_kinds.py ask of the subcommands on stored feeds, files and ribbons.
+
+Each gives what differs, or none, and the forms of what was answered. It runs in an empty folder.
+"""
+import os
+import re
+import subprocess
+import xml.etree.ElementTree as ElementTree
+import zlib
+
+import oracle
+import oracle_runs
+import pictures
+import told
+import told_copy
+import told_galley
+
+SECONDS = 60  # a run that takes longer hangs, on a busy machine too
+PIECES = [b"_", b"^", b"\\", b"\r\n", b"\n", b"\t", b"\xff", b"\xe2\x82", b" ", b"\\_", b"\xed\xa0\x80", b"\r"]
+
+
+def write(name, data):
+    with open(name, "wb") as file:
+        file.write(data)
+
+
+def read(name):
+    with open(name, "rb") as file:
+        return file.read()
+
+
+def there(name):
+    """The bytes under a name, or none; then no file is there."""
+    data = read(name) if os.path.exists(name) else None
+    if data is not None:
+        os.remove(name)
+    return data
+
+
+def ran(program, words, data=b""):
+    """A run's status, or the text of what went wrong, and its output."""
+    try:
+        done = subprocess.run([program, *words], input=data, capture_output=True, timeout=SECONDS)
+    except subprocess.TimeoutExpired:
+        return "hangs", b"", b""
+    if done.returncode not in (0, 1, 2) or b"panicked" in done.stderr or b"overflow" in done.stderr:
+        return "ended with %d, %r" % (done.returncode, done.stderr[:200]), b"", b""
+    return done.returncode, done.stdout, done.stderr
+
+
+def form(answer):
+    """An answer without its texts, bytes and numbers, where what is repeated stands once."""
+    bare = re.sub(rb"[0-9]+", b"#", re.sub(rb'"[^"]*"|[0-9a-f]{8,}|#/.*', b"", answer[:400]))
+    return re.sub(rb"(.{2,16}?)\1+", rb"\1", bare)[:12 if bare.startswith(b"copy") else 40].decode("latin1")
+
+
+def forms_of(name, text):
+    """The forms of lines, without the words of the copy."""
+    return {name + " " + re.sub(r"[0-9]+", "#", re.sub(r"'.*?'|[^ -~]|  \|.*|(?<=[|.<>] [! ] ).*", "", line))[:60] for line in text.split("\n")[:12]}
+
+
+def pick_of(*parts):
+    """A number that an input has, whichever run asks for it."""
+    return zlib.crc32(b"\0".join(parts))
+
+
+def differing(name, got, due):
+    """What differs of a status, an output and the lines on standard error."""
+    if got == due:
+        return None
+    return "%s: status %s, %r, %r, due %s, %r, %r" % (name, got[0], got[1][:400], got[2][:200], due[0], due[1][:400], due[2][:200])
+
+
+def bytes_of(due):
+    return due[0], due[1].encode("utf-8", "surrogatepass"), due[2].encode("utf-8", "surrogatepass")
+
+
+def refused(name, data):
+    """The two lines on standard error of a feed that is refused, or an empty text."""
+    try:
+        oracle.read_feed(data)
+    except oracle.Feed as fault:
+        return "copydesk: feed refused\n%s: byte %d: %s\n" % (name, fault.at, told.CAUSES[fault.word])
+    return ""
+
+
+def left_by(script, number):
+    """The feed of a site of which the front of a script was carried out, in one of the two forms, or none."""
+    world, lines = oracle.World(), list(oracle.lines(script))
+    for line in lines[:len(lines) // 2]:
+        world.answer(line)
+    if not world.sites or not number & 8:
+        return None
+    held = world.sites[min(world.sites)]
+    return oracle.singles_feed(held) if number & 16 else oracle.runs_feed(held)
+
+
+def sheet(program, script):
+    """A script as a sheet, or on a stored feed that the front of it has left; which of these, and in what manner, its bytes pick."""
+    number = pick_of(script)
+    strict, numbered, stored = bool(number & 1), bool(number & 2), bool(number & 4)
+    flags = ["--strict"] * strict + ["--number"] * numbered
+    if not stored:
+        due = oracle_runs.script(script, strict, numbered)
+        return differing("script " + " ".join(flags), ran(program, ["script", *flags], script), bytes_of(due)), forms_of("sheet", due[2])
+    before, site = left_by(script, number), 1 + (number >> 5) % 3
+    if before is not None:
+        write("desk.feed", before)
+    due, name = oracle_runs.desk(before, site, script, strict, numbered), "desk --site %d %s" % (site, " ".join(flags))
+    wrong = differing(name, ran(program, ["desk", "desk.feed", "--site", str(site), *flags], script), bytes_of(due[:3]))
+    now = there("desk.feed")
+    if not wrong and now != due[3]:
+        wrong = "%s: it has stored %r, due %r" % (name, now, due[3])
+    return wrong, forms_of("sheet on a feed", due[2])
+
+
+def changed_by_hand(name, before, site, copy, got):
+    """What is wrong with a feed of whose copy another was made by hand, or with what was said of it."""
+    held = told.held_in(before)
+    greatest = max((op[1][0] for op in held), default=0)
+    least = told_copy.fewest(oracle.Meaning(held).copy, copy)
+    now = read("one")
+    if greatest + least > oracle.MAX_COUNTER:
+        return differing(name, got, (1, b"", b"copydesk: the greatest counter is held\none: the text does not fit into it\n")) or (None if now == before else name + ": the feed changed")
+    if got[0] != 0 or got[2]:
+        return "%s: status %s, %r, %r" % (name, *got)
+    after = told.held_in(now)
+    if after is None or now != oracle.runs_feed(after):
+        return "%s: it has stored %s" % (name, now.hex())
+    wrong = told_copy.edited(held, after, site, copy, got[1].decode())
+    return wrong and name + ": " + wrong
+
+
+def imported(program, data, text, plain):
+    """An import of a text."""
+    write("one", data)
+    name, site = "import of %r%s" % (text[:300], " --plain" if plain else ""), 7
+    got = ran(program, ["import", "one", "--site", str(site)] + ["--plain"] * plain, text)
+    why = refused("one", data)
+    if not why:
+        try:
+            copy = told_copy.read_text(text, plain)
+            return changed_by_hand(name, data, site, copy, got), {"import done"}
+        except told_copy.NoText as fault:
+            why = "copydesk: %s\n" % fault
+    wrong = differing(name, got, (1, b"", why.encode())) or (None if read("one") == data else name + ": the feed changed")
+    return wrong, forms_of("import", why)
+
+
+def replaced(program, data, old, new, plain):
+    """A text in place of another."""
+    write("one", data)
+    name, site = "replace %r %r%s" % (old[:200], new[:200], " --plain" if plain else ""), 9
+    got = ran(program, ["replace", "one", "--site", str(site), *["--plain"] * plain, "--", old, new])
+    out, why = "", ""
+    try:
+        for called, text in (("OLD", old), ("NEW", new)):
+            read_of = told_copy.read_text(text.encode("utf-8", "surrogateescape"), plain)
+            old_of, new_of = (read_of, None) if called == "OLD" else (old_of, read_of)
+    except told_copy.NoText as fault:
+        why = "copydesk: %s, %s\n" % (called, fault)
+    why = why or refused("one", data)
+    if not why:
+        copy = oracle.Meaning(told.held_in(data)).copy
+        places = told_copy.places_of(old_of, copy)
+        if len(places) == 1:
+            return changed_by_hand(name, data, site, copy[:places[0]] + new_of + copy[places[0] + len(old_of):], got), {"replace done"}
+        out, why = told_copy.told_places(old_of, copy), "copydesk: %s\n" % ("%d places" % len(places) if places else "no place")
+    wrong = differing(name, got, (1, out.encode(), why.encode())) or (None if read("one") == data else name + ": the feed changed")
+    return wrong, forms_of("replace", why)
+
+
+def with_piece(text, number):
+    """A text with what may be its first fault put into it."""
+    at = (number >> 4) % (len(text) + 1)
+    return text[:at] + PIECES[number % len(PIECES)] + text[at:]
+
+
+def texts_of(data, other):
+    """A text to import, and a text with another to take its place, each with whether it is plain: of the copies of two feeds."""
+    number = pick_of(data, other)
+    held, theirs = told.held_in(data) or set(), told.held_in(other) or set()
+    copy, their = oracle.Meaning(held).copy, oracle.Meaning(theirs).copy
+    text = told.exported((copy, their, copy[:len(copy) // 2] + their[len(their) // 3:], their + copy)[number % 4]).encode()
+    if number & 4:
+        text = with_piece(text, number >> 4)
+    at, size = (number >> 5) % (len(copy) + 1), (number >> 9) % 4
+    old, new = told.exported(copy[at:at + size]), told.exported(their[:(number >> 11) % 5])
+    if number % 7 == 0:
+        old, new = (old, new + "_") if number & 16 else (old + "\\", new)
+    return (text, number % 11 == 0), (old, new, number % 13 == 0)
+
+
+def by_hand(program, data, other):
+    """An import and a replacement."""
+    text, exchange = texts_of(data, other)
+    wrong, forms = imported(program, data, *text)
+    if wrong:
+        return wrong, forms
+    wrong, more = replaced(program, data, *exchange)
+    return wrong, forms | more
+
+
+def merged(program, data, other):
+    """A merge with more than one feed, of which one may be the feed itself."""
+    write("one", data)
+    write("two", other)
+    names = [("two", "one", "two"), ("one", "two")][pick_of(data) & 1]
+    of = {"one": data, "two": other}
+    due = oracle_runs.merge(data, [(name, of[name]) for name in names])
+    status, out, why = ran(program, ["merge", "one", *names])
+    bad = next((name for name in ("one", *names) if refused(name, of[name])), None)
+    wrong = differing("merge one %s" % " ".join(names), (status, out, why), bytes_of((due[0], due[1], refused(bad, of[bad]) if bad else "")))
+    return wrong or (None if read("one") == due[3] else "merge: it has stored %s" % read("one").hex()), forms_of("merge", due[1])
+
+
+def sorted_out(program, feed, data, case_data):
+    """The sorts of a feed by a case."""
+    write("case", case_data)
+    layout = pick_of(data) & 1
+    got = ran(program, ["sorts", feed, "--case", "case"] + ["--layout"] * layout)
+    case = told_galley.inputs(("case", "wedge"), case_data, None)
+    why = refused(feed, data) or ("copydesk: input refused\n" + case if isinstance(case, str) else "")
+    if why:
+        return differing("sorts", got, (1, b"", why.encode())), forms_of("sorts", why)
+    out, whole = told_galley.sorts(oracle.Meaning(told.held_in(data)).copy, case[0], bool(layout))
+    return differing("sorts", got, (0 if whole else 1, out.encode(), b"")), forms_of("sorts", out)
+
+
+def pictured(data, galley):
+    """What is wrong with the picture of a galley, or of none."""
+    if data is None:
+        return "no picture"
+    try:
+        root = ElementTree.fromstring(data)
+    except ElementTree.ParseError as fault:
+        return "no XML: %s" % fault
+    seen = pictures.galley_in(root)
+    if galley is None:
+        return None if not seen else "lines where there is no galley"
+    frame = [float(it.get("width")) for it in root.iter(pictures.SVG + "rect") if it.get("class") == "frame"]
+    if frame != [galley.settings["measure"]] or len(seen) != len(galley.lines):
+        return "a frame of %r, %d lines of %d" % (frame, len(seen), len(galley.lines))
+    for line, drawn in zip(galley.lines, seen):
+        words = pictures.shown(" ".join(map(told_galley.bare, line.words)))
+        due = (line.number, line.begin, bool(line.fault), sum(line.fills), words.rstrip(" "), line.fault or "")
+        got = (drawn["number"], drawn["place"], drawn["faulty"], len(drawn["boxes"]), drawn["text"].rstrip(" "), drawn["cause"])
+        if got != due:
+            return "line %d: %r and not %r" % (line.number, got, due)
+        if len(drawn["x"]) != len(drawn["text"]):
+            return "line %d: %d places for %r" % (line.number, len(drawn["x"]), drawn["text"])
+    return None
+
+
+def proofed(program, feed, data, case_data, wedge_data, trial, picture):
+    """The proof of a feed by settings that are tried, whole or its faults, and its picture where one is wanted."""
+    write("case", case_data)
+    write("wedge", wedge_data)
+    alone = bool(pick_of(data, wedge_data) & 1)
+    words = ["proof", feed, "--case", "case", "--wedge", "wedge"] + ["--faults"] * alone + ["--svg", "a.svg"] * picture
+    for key, value in trial:
+        words += ["--set", "%s=%d" % (key, value)]
+    got, name = ran(program, words), " ".join(words)
+    drawn, files = there("a.svg"), told_galley.inputs(("case", "wedge"), case_data, wedge_data)
+    bad = next(("--set %s=%d: no setting, or no value that it may have\n" % (key, value) for key, value in trial if not oracle.RANGES[key][0] <= value <= oracle.RANGES[key][1]), "")
+    why = "copydesk: input refused\n" + bad if bad else refused(feed, data) or ("copydesk: input refused\n" + files if isinstance(files, str) else "")
+    if why:
+        return differing(name, got, (1, b"", why.encode())) or (name + ": a picture" if drawn else None), forms_of("proof", why)
+    meaning = oracle.Meaning(told.held_in(data))
+    out, clean, galley = told_galley.proof(meaning, {**meaning.settings, **dict(trial)}, *files, alone)
+    wrong = differing(name, got, (0 if clean else 1, out.encode(), b""))
+    if not wrong and (picture or drawn):
+        wrong = pictured(drawn, galley)
+        wrong = wrong and name + ": " + wrong
+    return wrong, forms_of("proof", out)
+
+
+def read_again(program, ribbon, files, names, cast):
+    """What is wrong with the reading of a ribbon that was punched, whose lines are those that `cast` has answered."""
+    case, wedge = told_galley.inputs(names, *files)
+    due, whole = told.reading(ribbon, case, wedge)
+    images = [int.from_bytes(ribbon[at:at + 4], "big") for at in range(8, len(ribbon), 4)]
+    lines = told.sent_out(images, case, wedge)
+    if not whole or cast.decode() != "lines %d" % len(lines) + "".join(" %d/%d" % (len(line[2]), sum(line[2])) for line in lines):
+        return "read: the lines of the ribbon are not those that are cast, %r" % cast[:300]
+    write("rib", ribbon)
+    got = ran(program, ["read", "rib", "--case", names[0], "--wedge", names[1]])
+    there("rib")
+    return differing("read", got, (0, due.encode(), b""))
+
+
+def drawn(program, name, data, whole):
+    """The picture of a ribbon: a row for each image, the last first, a circle for each hole."""
+    status, _, why = ran(program, ["read", name, "--case", "case", "--wedge", "wedge", "--svg", "holes.svg"])
+    picture = there("holes.svg")
+    lawful = data[:4] == b"MRB1" and told.of_ribbon(data).startswith("ok")
+    if status != (0 if whole else 1) or why or (picture is not None) != lawful:
+        return "read --svg: status %s, %r, %s" % (status, why, "a picture" if picture else "no picture")
+    if not lawful:
+        return None
+    try:
+        root = ElementTree.fromstring(picture)
+    except ElementTree.ParseError as fault:
+        return "read --svg: no XML: %s" % fault
+    images = [int.from_bytes(data[at:at + 4], "big") for at in range(8, len(data), 4)]
+    circles = {}
+    for it in root.iter(pictures.SVG + "circle"):
+        circles.setdefault(int(it.get("cy")), set()).add(int(it.get("cx")))
+    rows = [(int(it.get("y")) - 3, int(it.text)) for it in root.iter(pictures.SVG + "text") if it.get("class") == "n"]
+    if [place for _, place in rows] != list(range(len(images) - 1, -1, -1)) or any(len(circles.get(y, ())) != images[place].bit_count() for y, place in rows):
+        return "read --svg: other rows or holes"
+    return None
