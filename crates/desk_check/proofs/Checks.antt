@@ -32,9 +32,6 @@ lines_more (n ∷ names) name first mid last lines line well one (between, l, re
   ap (λ b. b && one) both ∙ sym (and_more head others one),
 )
 
-pub none_checked : (shelf : Shelf) (known : Option (List ℕ)) → IsChecked [] shelf shelf known known true
-none_checked shelf known = ([], (refl, refl, refl), Appends-nil known)
-
 pub checked_more : (names : List (List ℕ)) (name : List ℕ) (first mid last : Shelf) (before between after : Option (List ℕ)) (well one : Bool) → IsChecked names first mid before between well
     → SaysLine name mid last between after one → IsChecked (names ++ name ∷ []) first last before after (well && one)
 checked_more names name first mid last before between after well one (lines, are, written) (line, is, more) =

@@ -35,10 +35,14 @@ IsChecked names first last before after well = (lines : List ℕ) × AreLines na
 abbrev pub SaysLine : List ℕ → Shelf → Shelf → Option (List ℕ) → Option (List ℕ) → Bool → Type 0
 SaysLine name before after held written well = (line : List ℕ) × IsLine name before after line well × Appends held written line
 
+-- a read of a name answered, and its failure is counted where it failed
+abbrev pub IsRead : List ℕ → Shelf → Shelf → Type 0
+IsRead name before after = (read : Result (List ℕ) FileRefusal) × Reads (before.kept name) read × Counts read before after
+
 -- why a line was not written: a prefix of it was, or nothing, where memory ran out
 abbrev pub IsUnsaid : List ℕ → Shelf → Shelf → Option (List ℕ) → Option (List ℕ) → CheckFault → Type 0
 IsUnsaid name before after held written faults.Write = (line : List ℕ) × (well : Bool) × IsLine name before after line well × WritesFront held written line
-IsUnsaid name before after held written faults.NoMemory = Stays before after × (written ≡ held)
+IsUnsaid name before after held written faults.NoMemory = Stays before after × (written ≡ held) × IsRead name before after
 
 -- the lines of the names in front were written, and then the line of one was not
 abbrev pub IsUnchecked : List (List ℕ) → Shelf → Shelf → Option (List ℕ) → Option (List ℕ) → CheckFault → Type 0

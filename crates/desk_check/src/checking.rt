@@ -1,8 +1,8 @@
 //! Files that are checked by their names.
 
-ghost use Rattle.std.specs.Prelude.{◌≡◌, ◌&&◌, false, IfErr, IfOk, map, string_bytes};
+ghost use Rattle.std.specs.Prelude.{◌≡◌, ◌&&◌, false, IfErr, IfOk, OnErr, map, string_bytes};
 ghost use Rattle.desk_files.specs.Files.{Stays};
-ghost use Rattle.desk_check.specs.Checking.{IsChecked, IsLine, IsUnchecked, IsUnsaid, SaysLine};
+ghost use Rattle.desk_check.specs.Checking.{IsChecked, IsLine, IsRead, IsUnchecked, IsUnsaid, SaysLine};
 ghost use Rattle.desk_check.specs.Lines.{line_of};
 ghost use Rattle.desk_check.specs.Words.{refusal_words};
 
@@ -55,6 +55,7 @@ fn look<F: Files, A: Allocator + Copy>(
     name: &str,
 ) -> Result<(String<A>, bool), NoMemory>
     ensures ok { IfOk result (λ l. IsLine name.now (F.shelf files.old) (F.shelf files.new) (string_bytes l.0) l.1) }
+    ensures err { OnErr result (IsRead name.now (F.shelf files.old) (F.shelf files.new)) }
     ensures stays { Stays (F.shelf files.old) (F.shelf files.new) }
 {
     let told = match files.read(memory.own, name) {
@@ -76,14 +77,9 @@ fn check_file<W: Write, F: Files, A: Allocator + Copy>(
     ensures err { IfErr result (IsUnsaid name.now (F.shelf files.old) (F.shelf files.new) (W.contents writer.old) (W.contents writer.new)) }
     ensures stays { Stays (F.shelf files.old) (F.shelf files.new) }
 {
-    let (line, well) = match look(memory, files, name) {
-        Ok(seen) => seen,
-        Err(_) => return Err(CheckFault::NoMemory),
-    };
-    match write_out(writer, line.as_bytes()) {
-        Ok(()) => Ok(well),
-        Err(_) => Err(CheckFault::Write),
-    }
+    let (line, well) = look(memory, files, name)?;
+    write_out(writer, line.as_bytes())?;
+    Ok(well)
 }
 
 /// Whether the files before are in order, and one more.
@@ -108,10 +104,8 @@ pub fn check_files<W: Write, F: Files, A: Allocator + Copy>(
 {
     let mut all = true;
     for at in 0..names.len() {
-        match check_file(memory, writer, files, names[at]) {
-            Ok(well) => all = both(all, well),
-            Err(why) => return Err(why),
-        }
+        let well = check_file(memory, writer, files, names[at])?;
+        all = both(all, well);
     }
     Ok(all)
 }

@@ -1,5 +1,10 @@
 //! Why a check stopped.
 
+ghost use Rattle.std.specs.Prelude.{◌≡◌};
+ghost use Rattle.desk_check.specs.declared.fault.CheckFault.TheVariants as faults;
+
+use desk_memory::NoMemory;
+use desk_stored::Unsent;
 use thiserror::Error;
 
 /// Why a check stopped before its end.
@@ -10,4 +15,20 @@ pub enum CheckFault {
     Write,
     #[error("no memory")]
     NoMemory,
+}
+
+impl From<NoMemory> for CheckFault {
+    ghost from_gives = { λ _ fault. fault ≡ faults.NoMemory };
+
+    fn from(_: NoMemory) -> CheckFault {
+        CheckFault::NoMemory
+    }
+}
+
+impl From<Unsent> for CheckFault {
+    ghost from_gives = { λ _ fault. fault ≡ faults.Write };
+
+    fn from(_: Unsent) -> CheckFault {
+        CheckFault::Write
+    }
 }

@@ -1,6 +1,11 @@
 //! Why a difference was not told.
 
+ghost use Rattle.std.specs.Prelude.{◌≡◌};
+ghost use Rattle.desk_difference.specs.declared.fault.DifferenceFault.TheVariants as faults;
+
 use desk_hand::FeedTrouble;
+use desk_memory::NoMemory;
+use desk_stored::Unsent;
 use thiserror::Error;
 
 /// Why the difference of two stored feeds was not told, by the phase in which it stopped.
@@ -17,4 +22,20 @@ pub enum DifferenceFault {
     Write,
     #[error("no memory")]
     NoMemory,
+}
+
+impl From<NoMemory> for DifferenceFault {
+    ghost from_gives = { λ _ fault. fault ≡ faults.NoMemory };
+
+    fn from(_: NoMemory) -> DifferenceFault {
+        DifferenceFault::NoMemory
+    }
+}
+
+impl From<Unsent> for DifferenceFault {
+    ghost from_gives = { λ _ fault. fault ≡ faults.Write };
+
+    fn from(_: Unsent) -> DifferenceFault {
+        DifferenceFault::Write
+    }
 }

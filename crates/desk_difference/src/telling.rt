@@ -39,12 +39,7 @@ pub fn tell_difference<W: Write, F: Files, A: Allocator + Copy>(
         Ok(second) => second,
         Err(why) => return Err(DifferenceFault::Other(why)),
     };
-    let (text, same) = match told_of(alloc, one, other, &first, &second) {
-        Ok(told) => told,
-        Err(_) => return Err(DifferenceFault::NoMemory),
-    };
-    match write_out(writer, &text) {
-        Ok(()) => Ok(same),
-        Err(_) => Err(DifferenceFault::Write),
-    }
+    let (text, same) = told_of(alloc, one, other, &first, &second)?;
+    write_out(writer, &text)?;
+    Ok(same)
 }

@@ -244,10 +244,10 @@ fn four_with(copy: &str, value: u32) -> Want<'_> {
     }
 }
 
-/// These operations behind settings of the measure: 256 in all, for which a held set has just room.
+/// These operations behind settings of the measure: 513 in all, one more than a page has, for which a held set has just room.
 fn filled(alloc: Global, ops: &[Op]) -> Result<Vec<Op>, NoMemory> {
     let mut list = Vec::new(alloc);
-    for site in ops.len()..256 {
+    for site in ops.len()..513 {
         let site = u16::try_from(site).unwrap_or(0).saturating_add(1000);
         list.push(measure(at(1, site), 120))?;
     }

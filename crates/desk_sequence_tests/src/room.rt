@@ -221,7 +221,7 @@ fn refused_growths_of_room(rt: HostRuntime) -> Result<(), Fail> {
         let left = if cut < 80 {
             cut * 32
         } else {
-            cut * 1024 - 79_000
+            cut * 2048 - 161_280
         };
         let (one, more) = refusals_in_heap(rt.alloc(), 213_000 - left)?;
         refused = refused.saturating_add(one);
