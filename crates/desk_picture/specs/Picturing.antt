@@ -1,18 +1,18 @@
 -- The picture of a stored feed's galley, stored under a name.
-use Rattle.std.specs.Prelude.{◌≡◌, ◌⊎◌, ℕ, List, [], ◌∷◌, Err}
+use Rattle.std.specs.Prelude.{◌≡◌, ◌⊎◌, ℕ, List}
 use Rattle.desk_ops.specs.OpSet.{OpSet}
 use Rattle.desk_ops.specs.Shown.{copy_of}
 use Rattle.desk_ops.specs.Faults.{faults_of}
 use Rattle.desk_case.specs.Case.{CaseValues}
 use Rattle.desk_wedge.specs.Wedge.{WedgeValues}
 use Rattle.desk_replica.specs.declared.settings.Settings.{Settings}
-use Rattle.desk_job.specs.Job.{job}
 use Rattle.desk_job.specs.declared.JobFault.{JobFault}
 use Rattle.desk_trial.specs.Trial.{tried}
 use Rattle.desk_galley.specs.Values.{GalleyValues}
 use Rattle.desk_galley.specs.Galley.{IsGalley}
 use Rattle.desk_files.specs.Files.{IsReplaced, Shelf, Stays}
 use Rattle.desk_stored.specs.Faults.{IsNotStored}
+use Rattle.desk_preview.specs.Proofing.{LacksGalley}
 use Rattle.desk_preview.specs.Sources.{AreRefused, Give, LackMemory, Sources}
 use Rattle.desk_preview.specs.declared.fault.PreviewFault.{PreviewFault}
 use Rattle.desk_preview.specs.declared.fault.PreviewFault.TheVariants as faults
@@ -24,10 +24,9 @@ ShowsGalley set case wedge trial drawn =
     (galley : GalleyValues) × IsGalley (copy_of set) (tried trial set) case wedge galley
     × (drawn ≡ picture_text (copy_of set) (faults_of set) galley)
 
--- there is no galley, for the one fault that the job by these settings has, and the picture says so
+-- there is no galley, and the picture says why
 abbrev pub ShowsNone : OpSet → CaseValues → WedgeValues → Settings → List ℕ → Type 0
-ShowsNone set case wedge trial drawn =
-    (why : JobFault) × (job (copy_of set) (tried trial set) case wedge ≡ Err (why ∷ [])) × (drawn ≡ no_galley_picture (faults_of set) why)
+ShowsNone set case wedge trial drawn = (why : JobFault) × LacksGalley set case wedge trial why × (drawn ≡ no_galley_picture (faults_of set) why)
 
 -- what is drawn of a set by a case and a wedge
 abbrev pub IsDrawn : OpSet → CaseValues → WedgeValues → Settings → List ℕ → Type 0

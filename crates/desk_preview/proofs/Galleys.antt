@@ -1,7 +1,7 @@
 -- The galley of a set's copy.
-use Rattle.std.proofs.Common.{◌≡◌, List, subst}
+use Rattle.std.proofs.Common.{◌≡◌, List, [], ◌∷◌, subst}
 use Rattle.std.specs.List.{All}
-use Rattle.std.specs.Prelude.{slice_index_or}
+use Rattle.std.specs.Prelude.{Err, slice_index_or}
 use Rattle.desk_ops.specs.OpSet.{OpSet}
 use Rattle.desk_ops.specs.Shown.{copy_of}
 use Rattle.desk_ops.specs.declared.op.Symbol.{Symbol}
@@ -10,10 +10,14 @@ use Rattle.desk_wedge.specs.Wedge.{WedgeValues}
 use Rattle.desk_replica.specs.JobSettings.{settings_of}
 use Rattle.desk_replica.specs.declared.settings.Settings.{Settings}
 use Rattle.desk_job.specs.Answer.{by_key}
+use Rattle.desk_job.specs.Job.{job, values_of}
+use Rattle.desk_job.specs.declared.JobFault.{JobFault}
 use Rattle.desk_trial.specs.Trial.{tried, tried_with}
+use Rattle.desk_galley.specs.Answer.{no_terms}
 use Rattle.desk_galley.specs.Galley.{IsGalley, Stands}
 use Rattle.desk_galley.specs.Values.{GalleyValues, LineValues}
 use Rattle.desk_proof.specs.Rows.{HasWords}
+use Rattle.desk_preview.specs.Proofing.{LacksGalley}
 
 -- lines that stand in a copy have their words in it
 pub have_words : (copy other : List Symbol) (case : CaseValues) (lines : List LineValues) → copy ≡ other → All (Stands copy case) lines → All (HasWords other) lines
@@ -27,3 +31,11 @@ pub of_set : (set : OpSet) (copy : List Symbol) (trial settings : Settings) (cas
 of_set set copy trial settings case wedge galley same is made =
     let by_copy = subst (λ (l : List Symbol). IsGalley l (by_key settings) case wedge galley) same made in
     subst (λ (s : Settings). IsGalley (copy_of set) (by_key s) case wedge galley) is by_copy
+
+-- why there is no galley of what a replica shows is why there is none of its set
+pub none_of_set : (set : OpSet) (copy : List Symbol) (trial settings : Settings) (case : CaseValues) (wedge : WedgeValues) (why : JobFault)
+    → copy ≡ copy_of set → settings ≡ tried_with trial (settings_of set) → no_terms case wedge (values_of (by_key settings)) ≡ why ∷ [] → job copy (by_key settings) case wedge ≡ Err (why ∷ [])
+    → LacksGalley set case wedge trial why
+none_of_set set copy trial settings case wedge why same is terms refused =
+    let by_copy = subst (λ (l : List Symbol). job l (by_key settings) case wedge ≡ Err (why ∷ [])) same refused in
+    (subst (λ (s : Settings). no_terms case wedge (values_of (by_key s)) ≡ why ∷ []) is terms, subst (λ (s : Settings). job (copy_of set) (by_key s) case wedge ≡ Err (why ∷ [])) is by_copy)

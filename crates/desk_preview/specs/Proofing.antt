@@ -10,12 +10,13 @@ use Rattle.desk_wedge.specs.Wedge.{WedgeValues}
 use Rattle.desk_job.specs.declared.JobFault.{JobFault}
 use Rattle.desk_galley.specs.Values.{GalleyValues, LineValues}
 use Rattle.desk_galley.specs.Galley.{IsGalley, is_faulty}
+use Rattle.desk_galley.specs.Answer.{no_terms}
 use Rattle.desk_proof.specs.Proof.{no_galley_text, proof_text}
 use Rattle.desk_proof.specs.declared.proof.Extent.{Extent}
 use Rattle.desk_files.specs.Files.{Shelf}
 use Rattle.desk_stored.specs.Sending.{WritesFront}
 use Rattle.desk_replica.specs.declared.settings.Settings.{Settings}
-use Rattle.desk_job.specs.Job.{job}
+use Rattle.desk_job.specs.Job.{job, values_of}
 use Rattle.desk_trial.specs.Trial.{tried}
 use Rattle.desk_preview.specs.Sources.{AreRefused, Give, LackMemory, Sources}
 use Rattle.desk_preview.specs.declared.fault.PreviewFault.{PreviewFault}
@@ -36,10 +37,15 @@ HasProof set case wedge trial extent told clean =
     (galley : GalleyValues) × IsGalley (copy_of set) (tried trial set) case wedge galley
     × (told ≡ proof_text (copy_of set) (faults_of set) galley extent) × (clean ≡ is_clean (faults_of set) galley)
 
--- there is no galley, for the one fault that the job by these settings has
+-- There is no galley, for this fault of the settings, those that are tried among them, the case and the wedge. The job by these settings has it alone.
+abbrev pub LacksGalley : OpSet → CaseValues → WedgeValues → Settings → JobFault → Type 0
+LacksGalley set case wedge trial why =
+    (no_terms case wedge (values_of (tried trial set)) ≡ why ∷ []) × (job (copy_of set) (tried trial set) case wedge ≡ Err (why ∷ []))
+
+-- it is told why there is none
 abbrev pub HasNoGalley : OpSet → CaseValues → WedgeValues → Settings → List ℕ → Bool → Type 0
 HasNoGalley set case wedge trial told clean =
-    (why : JobFault) × (job (copy_of set) (tried trial set) case wedge ≡ Err (why ∷ [])) × (told ≡ no_galley_text (faults_of set) why) × (clean ≡ false)
+    (why : JobFault) × LacksGalley set case wedge trial why × (told ≡ no_galley_text (faults_of set) why) × (clean ≡ false)
 
 -- what is told of a set by a case and a wedge
 abbrev pub IsTold : OpSet → CaseValues → WedgeValues → Settings → Extent → List ℕ → Bool → Type 0

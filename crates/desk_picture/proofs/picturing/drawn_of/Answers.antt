@@ -1,13 +1,12 @@
-use Rattle.std.proofs.Common.{◌≡◌, ◌∙◌, List, [], ◌∷◌, ap, ap₂, arith, inl, inr, length, rules, subst, sym}
+use Rattle.std.proofs.Common.{◌≡◌, ◌∙◌, [], ◌∷◌, ap, ap₂, arith, inl, inr, length, rules, subst, sym}
 use Rattle.std.specs.Prelude.{Err}
-use Rattle.desk_ops.specs.Shown.{copy_of}
-use Rattle.desk_ops.specs.declared.op.Symbol.{Symbol}
 use Rattle.desk_replica.specs.declared.settings.Settings.{Settings}
 use Rattle.desk_job.specs.Answer.{AreValues, by_key}
-use Rattle.desk_job.specs.Job.{job}
+use Rattle.desk_job.specs.Job.{job, values_of}
 use Rattle.desk_job.proofs.Replicas.{copy_short, settings_in}
 use Rattle.desk_trial.specs.Trial.{tried_with}
-use Rattle.desk_preview.proofs.Galleys.{of_set}
+use Rattle.desk_galley.specs.Answer.{no_terms}
+use Rattle.desk_preview.proofs.Galleys.{none_of_set, of_set}
 use Rattle.desk_picture.specs.Picture.{no_galley_picture, picture_text}
 use Rattle.desk_picture.proofs.Standing.{stand_in}
 use Rattle.desk_picture.proofs.picturing.drawn_of.Goals as goal
@@ -45,10 +44,11 @@ returns-in-Ok g c =
 pub returns-in-Err-Fault : goal.returns-in-Err-Fault
 returns-in-Err-Fault g c =
     let why = c.in-Err-Fault.why in
-    let copy = c.deref.ensures.value ∙ c.in_ok-copy.ensures in
     let faults = c.deref-in-Err-Fault.ensures.value ∙ c.in_ok-faults.ensures in
-    let settings = c.tried-settings.ensures.value ∙ ap (tried_with c.args.trial.now) c.settings-given.ensures in
     let refused : job c.deref.result.now (by_key c.tried-settings.result) c.args.case.now c.args.wedge.now ≡ Err (why ∷ []) = search rules in
-    let here = subst (λ (l : List Symbol). job l (by_key c.tried-settings.result) c.args.case.now c.args.wedge.now ≡ Err (why ∷ [])) copy refused in
-    let by_set = subst (λ (s : Settings). job (copy_of c.args.replica.now.ops) (by_key s) c.args.case.now c.args.wedge.now ≡ Err (why ∷ [])) settings here in
-    inr (why, by_set, c.in_ok-drawn-in-Err-Fault.ensures ∙ ap (λ f. no_galley_picture f why) faults)
+    let terms : no_terms c.args.case.now c.args.wedge.now (values_of (by_key c.tried-settings.result)) ≡ why ∷ [] = search rules in
+    inr (
+      why,
+      none_of_set c.args.replica.now.ops c.deref.result.now c.args.trial.now c.tried-settings.result c.args.case.now c.args.wedge.now why (c.deref.ensures.value ∙ c.in_ok-copy.ensures) (c.tried-settings.ensures.value ∙ ap (tried_with c.args.trial.now) c.settings-given.ensures) terms refused,
+      c.in_ok-drawn-in-Err-Fault.ensures ∙ ap (λ f. no_galley_picture f why) faults,
+    )

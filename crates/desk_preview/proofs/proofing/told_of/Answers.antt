@@ -1,11 +1,14 @@
-use Rattle.std.proofs.Common.{◌∙◌, ap, ap₂, arith, inl, length, subst, sym}
+use Rattle.std.proofs.Common.{◌≡◌, ◌∙◌, [], ◌∷◌, ap, ap₂, arith, inl, inr, length, refl, rules, subst, sym}
+use Rattle.std.specs.Prelude.{Err}
 use Rattle.desk_replica.specs.declared.settings.Settings.{Settings}
-use Rattle.desk_job.specs.Answer.{AreValues}
+use Rattle.desk_job.specs.Answer.{AreValues, by_key}
+use Rattle.desk_job.specs.Job.{job, values_of}
 use Rattle.desk_job.proofs.Replicas.{copy_short, settings_in}
-use Rattle.desk_proof.specs.Proof.{proof_text}
+use Rattle.desk_galley.specs.Answer.{no_terms}
+use Rattle.desk_proof.specs.Proof.{no_galley_text, proof_text}
 use Rattle.desk_trial.specs.Trial.{tried_with}
 use Rattle.desk_preview.specs.Proofing.{is_clean}
-use Rattle.desk_preview.proofs.Galleys.{have_words, of_set}
+use Rattle.desk_preview.proofs.Galleys.{have_words, none_of_set, of_set}
 use Rattle.desk_preview.proofs.proofing.told_of.Goals as goal
 
 pub make_galley-requires-clause-copy : goal.make_galley-requires-clause-copy
@@ -31,4 +34,17 @@ returns-in-Ok g c =
       of_set c.args.replica.now.ops c.deref.result.now c.args.trial.now c.tried-settings.result c.args.case.now c.args.wedge.now galley (c.deref.ensures.value ∙ c.in_ok-copy.ensures) (c.tried-settings.ensures.value ∙ ap (tried_with c.args.trial.now) c.settings-given.ensures) c.in-Ok.ensures.ok,
       c.in_ok-text-in-Ok.ensures ∙ ap₂ (λ l f. proof_text l f galley c.args.extent) copy faults,
       c.is_clean.ensures ∙ ap (λ f. is_clean f galley) same,
+    )
+
+pub returns-in-Err-Fault : goal.returns-in-Err-Fault
+returns-in-Err-Fault g c =
+    let why = c.in-Err-Fault.why in
+    let faults = c.deref-in-Err-Fault.ensures.value ∙ c.in_ok-faults.ensures in
+    let refused : job c.deref.result.now (by_key c.tried-settings.result) c.args.case.now c.args.wedge.now ≡ Err (why ∷ []) = search rules in
+    let terms : no_terms c.args.case.now c.args.wedge.now (values_of (by_key c.tried-settings.result)) ≡ why ∷ [] = search rules in
+    inr (
+      why,
+      none_of_set c.args.replica.now.ops c.deref.result.now c.args.trial.now c.tried-settings.result c.args.case.now c.args.wedge.now why (c.deref.ensures.value ∙ c.in_ok-copy.ensures) (c.tried-settings.ensures.value ∙ ap (tried_with c.args.trial.now) c.settings-given.ensures) terms refused,
+      c.in_ok-text-in-Err-Fault.ensures ∙ ap (λ f. no_galley_text f why) faults,
+      refl,
     )
