@@ -1,5 +1,5 @@
 use Rattle.std.proofs.Common.{◌≡◌, ◌∙◌, [], ◌∷◌, ap, ap₂, arith, inl, inr, length, refl, rules, subst, sym}
-use Rattle.std.specs.Prelude.{Err}
+use Rattle.std.specs.Prelude.{Err, string_bytes}
 use Rattle.desk_replica.specs.declared.settings.Settings.{Settings}
 use Rattle.desk_job.specs.Answer.{AreValues, by_key}
 use Rattle.desk_job.specs.Job.{job, values_of}
@@ -42,9 +42,10 @@ returns-in-Err-Fault g c =
     let faults = c.deref-in-Err-Fault.ensures.value ∙ c.in_ok-faults.ensures in
     let refused : job c.deref.result.now (by_key c.tried-settings.result) c.args.case.now c.args.wedge.now ≡ Err (why ∷ []) = search rules in
     let terms : no_terms c.args.case.now c.args.wedge.now (values_of (by_key c.tried-settings.result)) ≡ why ∷ [] = search rules in
+    let told : string_bytes c.in_ok-text-in-Err-Fault.text ≡ no_galley_text c.deref-in-Err-Fault.result.now why = search rules in
     inr (
       why,
       none_of_set c.args.replica.now.ops c.deref.result.now c.args.trial.now c.tried-settings.result c.args.case.now c.args.wedge.now why (c.deref.ensures.value ∙ c.in_ok-copy.ensures) (c.tried-settings.ensures.value ∙ ap (tried_with c.args.trial.now) c.settings-given.ensures) terms refused,
-      c.in_ok-text-in-Err-Fault.ensures ∙ ap (λ f. no_galley_text f why) faults,
+      told ∙ ap (λ f. no_galley_text f why) faults,
       refl,
     )
