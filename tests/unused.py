@@ -14,7 +14,7 @@ import sys
 
 CRATES = pathlib.Path(__file__).resolve().parent.parent / "crates"
 # Crates from which they have not been taken out yet.
-EXCEPTIONS = ["desk_check", "desk_hand"]
+EXCEPTIONS = ["desk_check"]
 # Files whose proofs are wanted for themselves.
 WANTED = re.compile(r"Answers|Invariants|\w*Examples|Lib")
 WORD = re.compile(r"[^\s(){}\[\],;.]+")
