@@ -6,15 +6,13 @@ usage: unused.py [CRATE ..]     every crate, or those named
 A file of proofs declares names for other proofs. Each must be named by an answer, an invariant, a worked example, a
 specification or the code, or by a lemma that one of these comes to; a lemma that only lemmas of no use name is of no use
 itself. A name is followed where it stands in its own file, or in one that imports it from there. It ends with 1 and says where,
-if one is left over in a crate that is not among the exceptions below.
+if one is left over.
 """
 import pathlib
 import re
 import sys
 
 CRATES = pathlib.Path(__file__).resolve().parent.parent / "crates"
-# Crates from which they have not been taken out yet.
-EXCEPTIONS = ["desk_hand"]
 # Files whose proofs are wanted for themselves.
 WANTED = re.compile(r"Answers|Invariants|\w*Examples|Lib")
 WORD = re.compile(r"[^\s(){}\[\],;.]+")
@@ -81,11 +79,10 @@ def main(crates):
             reached.add(it)
             left.append(bodies[it])
 
-    over = [it for it in declared if it not in reached and (it[0] in crates if crates else it[0] not in EXCEPTIONS)]
+    over = [it for it in declared if it not in reached and (not crates or it[0] in crates)]
     for it in over:
         print("unused: %s %s" % (declared[it], it[2]))
-    print("%d names of proofs, %d of no use, and %d in the exceptions" % (
-        len(declared), len(over), len(declared) - len(reached) - len(over)))
+    print("%d names of proofs, %d of no use" % (len(declared), len(over)))
     return 1 if over else 0
 
 

@@ -1,6 +1,6 @@
 -- Changes of a copy, made one after the other.
 use Rattle.std.proofs.Common.{◌≡◌, ◌⊎◌, inl, inr, ℕ, suc, ◌+◌, ◌<◌, Bool, true, false, cond, List, [], ◌∷◌, ◌++◌, Option, Some, None, length, map, take, drop, get_or, refl, sym, ap, ap₂, ◌∙◌, subst, length-append, take-append-drop, add-one, drop-cons}
-use Rattle.std.specs.Prelude.{◌==◌, not, nat_le, nat_lt}
+use Rattle.std.specs.Prelude.{◌≢◌, ◌==◌, not, nat_le, nat_lt}
 use Rattle.std.proofs.lemmas.List.{drop-map, length-map, map-append, take-map, take_more}
 use Rattle.desk_ops.specs.declared.op.Op.{Op}
 use Rattle.desk_ops.specs.declared.op.Symbol.{Symbol}
@@ -16,9 +16,11 @@ use Rattle.desk_replica.specs.Edits.{IsDeleted, IsInserted, delete_refusal, edit
 use Rattle.desk_replica.specs.State.{State}
 use Rattle.desk_replica.specs.declared.Refusal.{Refusal}
 use Rattle.desk_replica.specs.declared.Refusal.TheVariants as refusals
-use Rattle.desk_hand.specs.Faults.{of_edit}
+use Rattle.desk_hand.specs.Faults.{refusal_of}
+use Rattle.desk_hand.specs.declared.fault.RevisionFault.{RevisionFault}
+use Rattle.desk_hand.specs.declared.fault.RevisionFault.TheVariants as revisions
 use Rattle.desk_hand.specs.Editing.{AreMade, IsMade, IsRefusedAmong, IsRevised, IsUnrevised, change_refusal, deletes_of, insert_count, delete_count, inserts_of}
-use Rattle.desk_hand.proofs.Sites.{all_counted, deletes_more, deletes_of_more, extends_more, extends_same, inserts_more, inserts_of_more, own_more, with_more}
+use Rattle.desk_hand.proofs.Sites.{all_counted, deletes_more, deletes_of_more, extends_more, inserts_more, inserts_of_more, own_more, with_more}
 
 -- ---- one change
 
@@ -78,9 +80,6 @@ changed-append (c ∷ front) rest copy = at (changed c copy) (changed-append fro
         → and_then o (all_changed (front ++ rest)) ≡ and_then (and_then o (all_changed front)) (all_changed rest)
     at None each = refl
     at (Some xs) each = each xs
-
-pub made_none : (site : ℕ) (set : OpSet) → AreMade site set set [] []
-made_none site set = record { own = tt; gained = refl; extends = extends_same site set; count = refl; inserts = refl; deletes = refl; copy = refl }
 
 made_more : (site : ℕ) (old mid now : OpSet) (made : List Change) (ops : List Op) (change : Change) (op : Op) → AreMade site old mid made ops → IsMade site mid now change op
     → AreMade site old now (made ++ change ∷ []) (ops ++ op ∷ [])
@@ -159,14 +158,18 @@ never_placeless site old text made makes (front, tail, next, is, set, ops, all, 
     let e : Some text ≡ None = sym makes ∙ none in
     cc
 
-pub unrevised : (site : ℕ) (old : OpSet) (text : List Symbol) (made : List Change) (why : Refusal) → all_changed made (copy_of old) ≡ Some text
-    → (why ≡ refusals.NoMemory) ⊎ IsRefusedAmong site old made why → IsUnrevised site old text (of_edit why)
-unrevised site old text made refusals.NoMemory makes end = tt
-unrevised site old text made refusals.Full makes (inl e) = absurd (let f : refusals.Full ≡ refusals.NoMemory = e in cc)
-unrevised site old text made refusals.Full makes (inr among) = ((λ (e : refusals.Full ≡ refusals.Place). cc), (λ (e : refusals.Full ≡ refusals.NoMemory). cc), made, makes, among)
-unrevised site old text made refusals.ClockFull makes (inl e) = absurd (let f : refusals.ClockFull ≡ refusals.NoMemory = e in cc)
-unrevised site old text made refusals.ClockFull makes (inr among) = ((λ (e : refusals.ClockFull ≡ refusals.Place). cc), (λ (e : refusals.ClockFull ≡ refusals.NoMemory). cc), made, makes, among)
-unrevised site old text made refusals.Value makes (inl e) = absurd (let f : refusals.Value ≡ refusals.NoMemory = e in cc)
-unrevised site old text made refusals.Value makes (inr among) = ((λ (e : refusals.Value ≡ refusals.Place). cc), (λ (e : refusals.Value ≡ refusals.NoMemory). cc), made, makes, among)
-unrevised site old text made refusals.Place makes (inl e) = absurd (let f : refusals.Place ≡ refusals.NoMemory = e in cc)
-unrevised site old text made refusals.Place makes (inr among) = absurd (never_placeless site old text made makes among)
+-- so no change that makes a text is refused for its place
+pub placed : (site : ℕ) (old : OpSet) (text : List Symbol) (made : List Change) (why : Refusal) → all_changed made (copy_of old) ≡ Some text
+    → (why ≡ refusals.NoMemory) ⊎ IsRefusedAmong site old made why → why ≢ refusals.Place
+placed site old text made why makes (inl memory) place = absurd (let e : refusals.NoMemory ≡ refusals.Place = sym memory ∙ place in cc)
+placed site old text made why makes (inr among) place = never_placeless site old text made makes (subst (λ w. IsRefusedAmong site old made w) place among)
+
+pub unrevised : (site : ℕ) (old : OpSet) (text : List Symbol) (made : List Change) (fault : RevisionFault) → all_changed made (copy_of old) ≡ Some text
+    → (refusal_of fault ≡ refusals.NoMemory) ⊎ IsRefusedAmong site old made (refusal_of fault) → IsUnrevised site old text fault
+unrevised site old text made revisions.NoMemory makes end = tt
+unrevised site old text made revisions.Full makes (inl e) = absurd (let f : refusals.Full ≡ refusals.NoMemory = e in cc)
+unrevised site old text made revisions.Full makes (inr among) = (made, makes, among)
+unrevised site old text made revisions.ClockFull makes (inl e) = absurd (let f : refusals.ClockFull ≡ refusals.NoMemory = e in cc)
+unrevised site old text made revisions.ClockFull makes (inr among) = (made, makes, among)
+unrevised site old text made revisions.Value makes (inl e) = absurd (let f : refusals.Value ≡ refusals.NoMemory = e in cc)
+unrevised site old text made revisions.Value makes (inr among) = (made, makes, among)

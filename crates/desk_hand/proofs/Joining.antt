@@ -32,9 +32,6 @@ lines_more kept set (n ∷ names) (l ∷ lists) name ops all =
     ap (λ more. line_of n set l ++ more) (lines_more kept (with_all set l) names lists name ops all.1)
     ∙ sym (append_assoc (line_of n set l) (lines_of (with_all set l) names lists) (line_of name (with_lists (with_all set l) lists) ops))
 
-pub none_joined : (kept : Names) (set : OpSet) (told : List ℕ) → told ≡ [] → IsJoined kept [] set set told
-none_joined kept set told empty = ([], tt, refl, empty)
-
 pub joined_more : (kept : Names) (names : List (List ℕ)) (name : List ℕ) (old mid after : OpSet) (before told : List ℕ) → IsJoined kept names old mid before → Joins kept name mid after before told
     → IsJoined kept (names ++ name ∷ []) old after told
 joined_more kept names name old mid after before told (lists, all, is, lines) (ops, one, more, line) = (

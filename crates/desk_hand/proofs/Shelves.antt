@@ -1,6 +1,6 @@
 -- Files that are as they were.
 use Rattle.std.proofs.Common.{◌≡◌, ℕ, ap, ap₂, ◌∙◌}
-use Rattle.std.specs.Prelude.{IfErr, IfOk, Option, None, Some, Result, Ok, Err, Vec}
+use Rattle.std.specs.Prelude.{Option, None, Some, Vec}
 use Rattle.desk_files.specs.Files.{Counts, Shelf, Stays, shelf}
 use Rattle.desk_stored.specs.Stored.{was_read}
 
@@ -11,11 +11,3 @@ same_shelf before after stays fails = ap (λ kept. shelf kept after.failures aft
 pub read_counts : {A : Type 0} (old : Option (Vec ℕ A)) (before after : Shelf) → Counts (was_read old) before after → after.failures ≡ before.failures
 read_counts (Some bytes) before after counts = counts
 read_counts None before after counts = counts
-
-pub err_weaker : {V E : Type 0} (r : Result V E) (P Q : E → Type 0) → ((e : E) → P e → Q e) → IfErr r P → IfErr r Q
-err_weaker (Ok v) P Q weaker p = tt
-err_weaker (Err e) P Q weaker p = weaker e p
-
-pub ok_weaker : {V E : Type 0} (r : Result V E) (P Q : V → Type 0) → ((v : V) → P v → Q v) → IfOk r P → IfOk r Q
-ok_weaker (Ok v) P Q weaker p = weaker v p
-ok_weaker (Err e) P Q weaker p = tt

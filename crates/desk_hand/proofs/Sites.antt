@@ -22,9 +22,6 @@ with_more set ops op = with_all-append set ops (op ∷ [])
 
 -- ---- what was held is held
 
-pub extends_same : (site : ℕ) (set : OpSet) → Extends site set set
-extends_same site set = record { kept = λ op held. held; own = λ op held. inl held }
-
 with_cases : (set : OpSet) (op other : Op) → has_op (with_op set op) other ≡ true → (op ≡ other) ⊎ (has_op set other ≡ true)
 with_cases set op other held = go (among-with_op set op other (among_held (with_op set op) other held))
   where

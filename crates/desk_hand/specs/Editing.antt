@@ -1,5 +1,5 @@
 -- Changes of a copy, made by operations of one site.
-use Rattle.std.specs.Prelude.{◌≡◌, ◌⊎◌, ◌≢◌, ℕ, ◌+◌, true, List, [], ◌∷◌, ◌++◌, length, Option, Some}
+use Rattle.std.specs.Prelude.{◌≡◌, ◌⊎◌, ℕ, ◌+◌, true, List, [], ◌∷◌, ◌++◌, length, Option, Some}
 use Rattle.desk_ops.specs.declared.op.Stamp.{Stamp}
 use Rattle.desk_ops.specs.declared.op.Symbol.{Symbol}
 use Rattle.desk_ops.specs.declared.op.Op.{Op}
@@ -14,8 +14,8 @@ use Rattle.desk_changes.specs.declared.making.Change.TheVariants as changes
 use Rattle.desk_replica.specs.Edits.{delete_refusal, insert_refusal}
 use Rattle.desk_replica.specs.declared.Refusal.{Refusal}
 use Rattle.desk_replica.specs.declared.Refusal.TheVariants as refusals
-use Rattle.desk_hand.specs.declared.fault.HandFault.{HandFault}
-use Rattle.desk_hand.specs.declared.fault.HandFault.TheVariants as faults
+use Rattle.desk_hand.specs.declared.fault.RevisionFault.{RevisionFault}
+use Rattle.desk_hand.specs.declared.fault.RevisionFault.TheVariants as revisions
 
 -- ---- how many are inserts, and how many deletes
 
@@ -115,16 +115,13 @@ pub record IsRevised (site : ℕ) (old now : OpSet) (text : List Symbol) (insert
   pub deletes : deletes_in ops ≡ deleted
   pub all : inserted + deleted ≡ length ops
 
--- why a copy does not become a text: of changes that make it the text one is refused, after those before it were made
-abbrev pub IsUnrevised : ℕ → OpSet → List Symbol → HandFault → Type 0
-IsUnrevised site old text (faults.Untaken why) = ⊥
-IsUnrevised site old text (faults.Feed why) = ⊥
-IsUnrevised site old text (faults.Other at why) = ⊥
-IsUnrevised site old text faults.Read = ⊥
-IsUnrevised site old text faults.TooLong = ⊥
-IsUnrevised site old text (faults.Text why) = ⊥
-IsUnrevised site old text (faults.Refused why) =
-    (why ≢ refusals.Place) × (why ≢ refusals.NoMemory) × (made : List Change) × (all_changed made (copy_of old) ≡ Some text) × IsRefusedAmong site old made why
-IsUnrevised site old text faults.Write = ⊥
-IsUnrevised site old text (faults.Unstored why) = ⊥
-IsUnrevised site old text faults.NoMemory = Unit {0}
+-- of changes that make the copy a text one is refused with this cause, after those before it were made
+abbrev pub IsRefusedIn : ℕ → OpSet → List Symbol → Refusal → Type 0
+IsRefusedIn site old text why = (made : List Change) × (all_changed made (copy_of old) ≡ Some text) × IsRefusedAmong site old made why
+
+-- why a copy does not become a text: a change is refused, and never for its place; or memory ran out
+abbrev pub IsUnrevised : ℕ → OpSet → List Symbol → RevisionFault → Type 0
+IsUnrevised site old text revisions.Full = IsRefusedIn site old text refusals.Full
+IsUnrevised site old text revisions.ClockFull = IsRefusedIn site old text refusals.ClockFull
+IsUnrevised site old text revisions.Value = IsRefusedIn site old text refusals.Value
+IsUnrevised site old text revisions.NoMemory = Unit {0}

@@ -1,5 +1,5 @@
 -- The copy of a stored feed, written as text.
-use Rattle.std.specs.Prelude.{◌≡◌, ◌<◌, ℕ, List, Option, Ok, Err}
+use Rattle.std.specs.Prelude.{◌≡◌, ◌<◌, ℕ, List, Option, Err}
 use Rattle.std.specs.Io.KnownBytes.{Appends}
 use Rattle.desk_ops.specs.declared.op.Op.{Op}
 use Rattle.desk_ops.specs.OpSet.{OpSet, max_ops, no_ops, size, with_all}
@@ -11,8 +11,8 @@ use Rattle.desk_stored.specs.Sending.{WritesFront}
 use Rattle.desk_hand.specs.Merging.{GaveBytes, IsFeedOf}
 use Rattle.desk_hand.specs.declared.fault.FeedTrouble.{FeedTrouble}
 use Rattle.desk_hand.specs.declared.fault.FeedTrouble.TheVariants as troubles
-use Rattle.desk_hand.specs.declared.fault.HandFault.{HandFault}
-use Rattle.desk_hand.specs.declared.fault.HandFault.TheVariants as faults
+use Rattle.desk_hand.specs.declared.fault.ExportFault.{ExportFault}
+use Rattle.desk_hand.specs.declared.fault.ExportFault.TheVariants as exports
 
 -- the name stands for a feed of the operations of this set
 abbrev pub IsSetOf : List ℕ → Shelf → OpSet → Type 0
@@ -29,15 +29,8 @@ IsClosedBy name before after (troubles.Feed fault) = (bytes : List ℕ) × GaveB
 IsClosedBy name before after troubles.Full = (ops : List Op) × IsFeedOf (before.kept name) ops × (after.failures ≡ before.failures) × (max_ops < size (with_all no_ops ops))
 IsClosedBy name before after troubles.NoMemory = (bytes : List ℕ) × GaveBytes name before after bytes
 
--- why not all of the text was written, and what was: nothing, or under Write a prefix
-abbrev pub IsUnexported : List ℕ → Shelf → Shelf → Option (List ℕ) → Option (List ℕ) → HandFault → Type 0
-IsUnexported name first last before after (faults.Untaken why) = ⊥
-IsUnexported name first last before after (faults.Feed why) = (after ≡ before) × IsClosedBy name first last why
-IsUnexported name first last before after (faults.Other at why) = ⊥
-IsUnexported name first last before after faults.Read = ⊥
-IsUnexported name first last before after faults.TooLong = ⊥
-IsUnexported name first last before after (faults.Text why) = ⊥
-IsUnexported name first last before after (faults.Refused why) = ⊥
-IsUnexported name first last before after faults.Write = (set : OpSet) × IsSetOf name first set × WritesFront before after (text_bytes (copy_of set))
-IsUnexported name first last before after (faults.Unstored why) = ⊥
-IsUnexported name first last before after faults.NoMemory = (after ≡ before) × (set : OpSet) × IsSetOf name first set × (last.failures ≡ first.failures)
+-- why not all of the text was written, and what was: nothing, or under Write a prefix; out of memory only once the feed was opened
+abbrev pub IsUnexported : List ℕ → Shelf → Shelf → Option (List ℕ) → Option (List ℕ) → ExportFault → Type 0
+IsUnexported name first last before after (exports.Feed why) = (after ≡ before) × IsClosedBy name first last why
+IsUnexported name first last before after exports.Write = (set : OpSet) × IsSetOf name first set × WritesFront before after (text_bytes (copy_of set)) × (last.failures ≡ first.failures)
+IsUnexported name first last before after exports.NoMemory = (after ≡ before) × (set : OpSet) × IsSetOf name first set × (last.failures ≡ first.failures)

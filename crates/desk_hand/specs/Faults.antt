@@ -1,4 +1,4 @@
--- Why what one asked for was not done.
+-- Why what one asked for was not done, by what a call below answers.
 use Rattle.desk_held.specs.declared.AddRefusal.{AddRefusal}
 use Rattle.desk_held.specs.declared.AddRefusal.TheVariants as adds
 use Rattle.desk_stored.specs.declared.fault.OpenFault.{OpenFault}
@@ -9,8 +9,10 @@ use Rattle.desk_text.specs.declared.fault.TextFault.{TextFault}
 use Rattle.desk_text.specs.declared.fault.TextFault.TheVariants as texts
 use Rattle.desk_hand.specs.declared.fault.FeedTrouble.{FeedTrouble}
 use Rattle.desk_hand.specs.declared.fault.FeedTrouble.TheVariants as troubles
-use Rattle.desk_hand.specs.declared.fault.HandFault.{HandFault}
-use Rattle.desk_hand.specs.declared.fault.HandFault.TheVariants as faults
+use Rattle.desk_hand.specs.declared.fault.InputFault.{InputFault}
+use Rattle.desk_hand.specs.declared.fault.InputFault.TheVariants as inputs
+use Rattle.desk_hand.specs.declared.fault.RevisionFault.{RevisionFault}
+use Rattle.desk_hand.specs.declared.fault.RevisionFault.TheVariants as revisions
 
 abbrev pub of_opening : OpenFault → FeedTrouble
 of_opening (openings.Feed fault) = troubles.Feed fault
@@ -21,13 +23,13 @@ abbrev pub of_adding : AddRefusal → FeedTrouble
 of_adding adds.Full = troubles.Full
 of_adding adds.NoMemory = troubles.NoMemory
 
-abbrev pub of_text : TextFault → HandFault
-of_text (texts.At line column cause) = faults.Text (texts.At line column cause)
-of_text texts.NoMemory = faults.NoMemory
+abbrev pub of_text : TextFault → InputFault
+of_text (texts.At line column cause) = inputs.Text (texts.At line column cause)
+of_text texts.NoMemory = inputs.NoMemory
 
-abbrev pub of_edit : Refusal → HandFault
-of_edit refusals.Full = faults.Refused refusals.Full
-of_edit refusals.ClockFull = faults.Refused refusals.ClockFull
-of_edit refusals.Place = faults.Refused refusals.Place
-of_edit refusals.Value = faults.Refused refusals.Value
-of_edit refusals.NoMemory = faults.NoMemory
+-- the refusal of an edit that a fault of a revision is
+abbrev pub refusal_of : RevisionFault → Refusal
+refusal_of revisions.Full = refusals.Full
+refusal_of revisions.ClockFull = refusals.ClockFull
+refusal_of revisions.Value = refusals.Value
+refusal_of revisions.NoMemory = refusals.NoMemory

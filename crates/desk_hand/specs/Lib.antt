@@ -1,5 +1,6 @@
+pub mod Faults
+pub mod Keeping
 pub mod Merging
-pub mod Exporting
 pub mod Editing
 pub mod Importing
-pub mod Faults
+pub mod Exporting

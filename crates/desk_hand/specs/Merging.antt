@@ -1,27 +1,27 @@
 -- Feeds of files, merged into a stored feed.
-use Rattle.std.specs.Prelude.{◌≡◌, ◌⊎◌, ℕ, ◌-◌, List, [], ◌∷◌, ◌++◌, Option, Result, Ok, Err, codes, length}
-use Rattle.std.specs.Io.KnownBytes.{Appends}
+use Rattle.std.specs.Prelude.{◌≡◌, ℕ, ◌-◌, List, [], ◌∷◌, ◌++◌, Option, Result, Ok, Err, codes, length}
 use Rattle.desk_ops.specs.declared.op.Op.{Op}
 use Rattle.desk_ops.specs.OpSet.{OpSet, max_ops, size, with_all}
 use Rattle.desk_ops.specs.Faults.{faults_of}
 use Rattle.desk_codec.specs.Fault.{IsFirstFault}
 use Rattle.desk_codec.specs.Feed.{IsFeed}
-use Rattle.desk_codec.specs.Runs.{set_feed}
 use Rattle.desk_replica.specs.State.{IsStopped}
 use Rattle.desk_replica.specs.declared.Stopped.{Stopped}
 use Rattle.desk_answers.specs.Reply.{Counted, Faults}
 use Rattle.desk_answers.specs.Text.{text}
 use Rattle.desk_files.specs.Files.{Counts, IsCounted, IsNowHeld, Kept, Names, Reads, Shelf, Stays}
 use Rattle.desk_files.specs.declared.files.FileRefusal.{FileRefusal}
-use Rattle.desk_stored.specs.Faults.{IsNotStored, IsUnopened, IsUnread, IsUntaken}
-use Rattle.desk_stored.specs.Sending.{WritesFront}
-use Rattle.desk_stored.specs.Stored.{IsStoredAs, Opens}
+use Rattle.desk_stored.specs.Faults.{IsUnopened, IsUnread, IsUntaken}
+use Rattle.desk_stored.specs.Stored.{Opens}
 use Rattle.desk_stored.specs.declared.fault.OpenFault.{OpenFault}
-use Rattle.desk_hand.specs.Faults.{of_opening}
+use Rattle.desk_stored.specs.declared.fault.OpenFault.TheVariants as openings
+use Rattle.desk_hand.specs.Keeping.{IsKept, IsUnkept}
 use Rattle.desk_hand.specs.declared.fault.FeedTrouble.{FeedTrouble}
 use Rattle.desk_hand.specs.declared.fault.FeedTrouble.TheVariants as troubles
-use Rattle.desk_hand.specs.declared.fault.HandFault.{HandFault}
-use Rattle.desk_hand.specs.declared.fault.HandFault.TheVariants as faults
+use Rattle.desk_hand.specs.declared.fault.TakeFault.{TakeFault}
+use Rattle.desk_hand.specs.declared.fault.TakeFault.TheVariants as takes
+use Rattle.desk_hand.specs.declared.fault.MergeFault.{MergeFault}
+use Rattle.desk_hand.specs.declared.fault.MergeFault.TheVariants as merges
 
 -- ---- the feeds of other files
 
@@ -78,15 +78,11 @@ IsJoined kept names old after told = (lists : List (List Op)) × AreFeeds kept n
 abbrev pub IsOpened : List ℕ → Shelf → Shelf → Result (List ℕ) FileRefusal → OpSet → Type 0
 IsOpened name first held read set = IsNowHeld name first held × Reads (held.kept name) read × Opens read set
 
--- the feeds of all names were joined to a set, the lines written, and the feed of the set stored
-abbrev pub IsMergedInto : List ℕ → List (List ℕ) → Shelf → Result (List ℕ) FileRefusal → OpSet → Shelf → Option (List ℕ) → Option (List ℕ) → Type 0
-IsMergedInto name others held read old last before after =
-    (set : OpSet) × (told : List ℕ) × IsJoined held.kept others old set told × Appends before after (told ++ faults_line set) × IsStoredAs name (set_feed set) read held last
-
--- The set is that of the stored feed with the operations of all other feeds. Its feed stands under the name, and the lines were written.
+-- The set is that of the stored feed with the operations of all other feeds. The lines were written, and its feed stands under the name.
 abbrev pub IsMerged : List ℕ → List (List ℕ) → Shelf → Shelf → Option (List ℕ) → Option (List ℕ) → Type 0
 IsMerged name others first last before after =
-    (held : Shelf) × (read : Result (List ℕ) FileRefusal) × (old : OpSet) × IsOpened name first held read old × IsMergedInto name others held read old last before after
+    (held : Shelf) × (read : Result (List ℕ) FileRefusal) × (old : OpSet) × IsOpened name first held read old
+    × (set : OpSet) × (told : List ℕ) × IsJoined held.kept others old set told × IsKept name set (told ++ faults_line set) read held last before after
 
 -- ---- why it stopped
 
@@ -115,34 +111,23 @@ StopsAt names old before after at why =
 abbrev pub IsShut : List ℕ → Shelf → Shelf → OpenFault → Type 0
 IsShut name held last fault = Stays held last × (read : Result (List ℕ) FileRefusal) × Reads (held.kept name) read × Counts read held last × IsUnopened read fault
 
--- why the stored feed does not come in: it was not read, or not opened
+-- why the stored feed does not come in: it was not read, or not opened; out of memory only where its bytes were read, or no file is there
 abbrev pub IsBarredBy : List ℕ → Shelf → Shelf → FeedTrouble → Type 0
-IsBarredBy name held last why =
-    ((file : FileRefusal) × (why ≡ troubles.File file) × IsUnread name held last file) ⊎ ((fault : OpenFault) × (why ≡ of_opening fault) × IsShut name held last fault)
+IsBarredBy name held last (troubles.File why) = IsUnread name held last why
+IsBarredBy name held last (troubles.Feed fault) = IsShut name held last (openings.Feed fault)
+IsBarredBy name held last troubles.Full = (stop : Stopped) × IsShut name held last (openings.Opening stop)
+IsBarredBy name held last troubles.NoMemory = IsShut name held last openings.NoMemory
 
--- the name was not taken, or the stored feed does not come in
-abbrev pub IsBarred : List ℕ → Shelf → Shelf → HandFault → Type 0
-IsBarred name first last fault =
-    ((why : FileRefusal) × (fault ≡ faults.Untaken why) × IsUntaken name first last why)
-    ⊎ ((why : FeedTrouble) × (fault ≡ faults.Feed why) × (held : Shelf) × IsNowHeld name first held × IsBarredBy name held last why)
+-- why a stored feed was not taken: its name was not, or it does not come in
+abbrev pub IsBarred : List ℕ → Shelf → Shelf → TakeFault → Type 0
+IsBarred name first last (takes.Untaken why) = IsUntaken name first last why
+IsBarred name first last (takes.Feed why) = (held : Shelf) × IsNowHeld name first held × IsBarredBy name held last why
 
--- Why a merge into an open feed stopped, and what it left. Until all was joined nothing was written and no file has changed.
-abbrev pub IsCutShort : List ℕ → List (List ℕ) → Shelf → OpSet → Shelf → Option (List ℕ) → Option (List ℕ) → HandFault → Type 0
-IsCutShort name others held old last before after (faults.Untaken why) = ⊥
-IsCutShort name others held old last before after (faults.Feed why) = ⊥
-IsCutShort name others held old last before after faults.Read = ⊥
-IsCutShort name others held old last before after faults.TooLong = ⊥
-IsCutShort name others held old last before after (faults.Text why) = ⊥
-IsCutShort name others held old last before after (faults.Refused why) = ⊥
-IsCutShort name others held old last before after (faults.Other at why) = (after ≡ before) × Stays held last × StopsAt others old held last at why
-IsCutShort name others held old last before after faults.Write =
-    Stays held last × (set : OpSet) × (told : List ℕ) × IsJoined held.kept others old set told × WritesFront before after (told ++ faults_line set)
-IsCutShort name others held old last before after (faults.Unstored why) =
-    (set : OpSet) × (told : List ℕ) × IsJoined held.kept others old set told × Appends before after (told ++ faults_line set) × IsNotStored name held last why
-IsCutShort name others held old last before after faults.NoMemory = (after ≡ before) × Stays held last
-
--- why a merge stopped, and what it left
-abbrev pub IsUnmerged : List ℕ → List (List ℕ) → Shelf → Shelf → Option (List ℕ) → Option (List ℕ) → HandFault → Type 0
-IsUnmerged name others first last before after fault =
-    ((after ≡ before) × IsBarred name first last fault)
-    ⊎ ((held : Shelf) × (read : Result (List ℕ) FileRefusal) × (old : OpSet) × IsOpened name first held read old × IsCutShort name others held old last before after fault)
+-- Why a merge stopped, and what it left. Until all was joined nothing was written and no file has changed.
+abbrev pub IsUnmerged : List ℕ → List (List ℕ) → Shelf → Shelf → Option (List ℕ) → Option (List ℕ) → MergeFault → Type 0
+IsUnmerged name others first last before after (merges.Take why) = (after ≡ before) × IsBarred name first last why
+IsUnmerged name others first last before after (merges.Other at why) =
+    (after ≡ before) × (held : Shelf) × (read : Result (List ℕ) FileRefusal) × (old : OpSet) × IsOpened name first held read old × Stays held last × StopsAt others old held last at why
+IsUnmerged name others first last before after (merges.Keep why) =
+    (held : Shelf) × (read : Result (List ℕ) FileRefusal) × (old : OpSet) × IsOpened name first held read old
+    × (set : OpSet) × (told : List ℕ) × IsJoined held.kept others old set told × IsUnkept name (told ++ faults_line set) held last before after why

@@ -1,10 +1,11 @@
 //! The copy of a replica, made a text by operations of its site.
 
-ghost use Rattle.std.specs.Prelude.{◌≡◌, ◌⊎◌, IfErr, IfOk, List, OnOk};
+ghost use Rattle.std.specs.Prelude.{◌≡◌, ◌≢◌, ◌⊎◌, IfErr, IfOk, List, OnOk};
 ghost use Rattle.desk_ops.specs.declared.op.Op.{Op};
+ghost use Rattle.desk_hand.specs.Faults.{refusal_of};
 ghost use Rattle.desk_hand.specs.Editing.{AreMade, IsMade, IsRefusedAmong, IsRevised, IsUnrevised, change_refusal, deletes_of, inserts_of};
 
-use crate::fault::HandFault;
+use crate::fault::RevisionFault;
 use desk_blocks::Blocks;
 use desk_changes::{Change, changes};
 use desk_ops::Symbol;
@@ -72,19 +73,33 @@ fn tally_of(made: &[Change]) -> Tally
     Tally { inserted, deleted }
 }
 
+/// The fault of a revision that a refusal of an edit is.
+fn fault_of(why: Refusal) -> RevisionFault
+    requires { why ≢ Refusal.Place }
+    ensures { refusal_of result ≡ why }
+{
+    match why {
+        Refusal::Full => RevisionFault::Full,
+        Refusal::ClockFull => RevisionFault::ClockFull,
+        Refusal::Value => RevisionFault::Value,
+        Refusal::NoMemory => RevisionFault::NoMemory,
+        Refusal::Place => unreachable!(),
+    }
+}
+
 /// Makes the copy of a replica a text, by operations of its site alone. A refusal leaves the first of them made.
 pub fn revise<A: Allocator + Copy>(
     alloc: A,
     replica: &mut Replica<Blocks<A>>,
     text: &[Symbol],
-) -> Result<Tally, HandFault>
+) -> Result<Tally, RevisionFault>
     ensures ok { IfOk result (λ t. IsRevised replica.old.site replica.old.ops replica.new.ops text.now t.inserted t.deleted) }
     ensures err { IfErr result (IsUnrevised replica.old.site replica.old.ops text.now) }
 {
     let copy = replica.copy()?;
     let made = changes(alloc, &copy, text)?;
     if let Err(why) = put_edits(replica, &made) {
-        return Err(HandFault::from(why));
+        return Err(fault_of(why));
     }
     Ok(tally_of(&made))
 }

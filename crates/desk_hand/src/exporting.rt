@@ -6,7 +6,7 @@ ghost use Rattle.desk_text.specs.Writing.{text_bytes};
 ghost use Rattle.desk_files.specs.Files.{Stays};
 ghost use Rattle.desk_hand.specs.Exporting.{IsClosedBy, IsExported, IsSetOf, IsUnexported};
 
-use crate::fault::{FeedTrouble, HandFault};
+use crate::fault::{ExportFault, FeedTrouble};
 use crate::merging::{ANY_SITE, operations_of};
 use desk_blocks::Blocks;
 use desk_files::Files;
@@ -29,14 +29,8 @@ pub fn open_feed<F: Files, A: Allocator + Copy>(
     ensures err { IfErr result (IsClosedBy name.now (F.shelf files.old) (F.shelf files.new)) }
     ensures stays { Stays (F.shelf files.old) (F.shelf files.new) }
 {
-    let ops = match operations_of(alloc, files, name) {
-        Ok(ops) => ops,
-        Err(why) => return Err(why),
-    };
-    match Replica::open(alloc, ANY_SITE, &ops) {
-        Ok(replica) => Ok(replica),
-        Err(stop) => Err(FeedTrouble::from(stop.why)),
-    }
+    let ops = operations_of(alloc, files, name)?;
+    Ok(Replica::open(alloc, ANY_SITE, &ops)?)
 }
 
 /// The copy of a replica as text.
@@ -58,19 +52,13 @@ pub fn export_feed<W: Write, F: Files, A: Allocator + Copy>(
     writer: &mut W,
     files: &mut F,
     name: &str,
-) -> Result<(), HandFault>
+) -> Result<(), ExportFault>
     ensures ok { OnOk result (IsExported name.now (F.shelf files.old) (W.contents writer.old) (W.contents writer.new)) }
     ensures counted { OnOk result ((F.shelf files.new).failures ≡ (F.shelf files.old).failures) }
     ensures err { IfErr result (IsUnexported name.now (F.shelf files.old) (F.shelf files.new) (W.contents writer.old) (W.contents writer.new)) }
     ensures stays { Stays (F.shelf files.old) (F.shelf files.new) }
 {
-    let replica = match open_feed(alloc, files, name) {
-        Ok(replica) => replica,
-        Err(why) => return Err(HandFault::Feed(why)),
-    };
+    let replica = open_feed(alloc, files, name)?;
     let text = text_of(alloc, &replica)?;
-    match write_out(writer, &text) {
-        Ok(()) => Ok(()),
-        Err(_) => Err(HandFault::Write),
-    }
+    Ok(write_out(writer, &text)?)
 }

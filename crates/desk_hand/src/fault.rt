@@ -1,17 +1,24 @@
-//! Why what one asked for was not done.
+//! Why what one asked for was not done, by the phase in which it stopped.
 
 ghost use Rattle.std.specs.Prelude.{◌≡◌};
-ghost use Rattle.desk_hand.specs.Faults.{of_adding, of_edit, of_opening, of_text};
-ghost use Rattle.desk_hand.specs.declared.fault.HandFault.TheVariants as faults;
+ghost use Rattle.desk_hand.specs.Faults.{of_adding, of_opening, of_text};
+ghost use Rattle.desk_hand.specs.declared.fault.FeedTrouble.TheVariants as troubles;
+ghost use Rattle.desk_hand.specs.declared.fault.KeepFault.TheVariants as keeps;
+ghost use Rattle.desk_hand.specs.declared.fault.RevisionFault.TheVariants as revisions;
+ghost use Rattle.desk_hand.specs.declared.fault.ExportFault.TheVariants as exports;
+ghost use Rattle.desk_hand.specs.declared.fault.MergeFault.TheVariants as merges;
+ghost use Rattle.desk_hand.specs.declared.fault.ImportFault.TheVariants as imports;
 
 use desk_codec::FeedFault;
 use desk_files::FileRefusal;
 use desk_held::AddRefusal;
 use desk_memory::NoMemory;
-use desk_replica::Refusal;
+use desk_replica::Stopped;
 use desk_stored::{OpenFault, Unsent};
 use desk_text::TextFault;
 use thiserror::Error;
+
+// ---- the phases
 
 /// Why the feed of one file does not come in.
 #[derive(Clone, Copy, Debug, PartialEq, Eq, Error)]
@@ -25,57 +32,124 @@ pub enum FeedTrouble {
     /// With its operations there would be more than a replica holds.
     #[error("full")]
     Full,
+    /// Its bytes were read, or no file is there, and memory ran out then.
     #[error("no memory")]
     NoMemory,
 }
 
-/// Why it was not done, by the phase in which it stopped.
+/// Why a stored feed was not taken, so that it can be changed.
 #[derive(Clone, Copy, Debug, PartialEq, Eq, Error)]
-pub enum HandFault {
-    /// The name of the feed was not taken.
+pub enum TakeFault {
+    /// Its name was not taken.
     #[error("file fault")]
     Untaken(FileRefusal),
-    /// The stored feed does not come in.
+    /// Its name was taken, and it does not come in.
     #[error("{0}")]
     Feed(FeedTrouble),
-    /// The feed of another file does not come in: that of a place among the names that were given, counted from 0.
-    #[error("{why}")]
-    Other { at: usize, why: FeedTrouble },
-    /// The reader of a text failed.
+}
+
+/// Why no text was read.
+#[derive(Clone, Copy, Debug, PartialEq, Eq, Error)]
+pub enum InputFault {
+    /// The reader failed.
     #[error("read fault")]
     Read,
-    /// A text has more than `MAX_TEXT` bytes.
+    /// The reader has more than `MAX_TEXT` bytes.
     #[error("too long")]
     TooLong,
-    /// The bytes are no text of a copy: the first fault, by its line and its column. Out of memory is `NoMemory`.
+    /// Its bytes are no text of a copy: the first fault, by its line and its column. Out of memory is `NoMemory`.
     #[error("{0}")]
     Text(TextFault),
-    /// An edit was refused: as many operations are held as may be, or the greatest counter is. Out of memory is `NoMemory`.
+    /// Memory ran out while the text was read.
+    #[error("no memory")]
+    NoMemory,
+}
+
+/// Why a copy was not made a text: one of the edits was refused, after those before it were made, or memory ran out.
+#[derive(Clone, Copy, Debug, PartialEq, Eq, Error)]
+pub enum RevisionFault {
+    /// As many operations are held as a replica holds.
+    #[error("as many operations are held as may be")]
+    Full,
+    /// No later counter is left.
+    #[error("the greatest counter is held")]
+    ClockFull,
+    /// A symbol that was to be inserted is not lawful.
+    #[error("the value is out of its range")]
+    Value,
+    /// Memory ran out before all edits were made.
+    #[error("no memory")]
+    NoMemory,
+}
+
+/// Why what was done was not written, or the feed not stored.
+#[derive(Clone, Copy, Debug, PartialEq, Eq, Error)]
+pub enum KeepFault {
+    /// The writer failed, or took no byte. No file has changed.
+    #[error("write fault")]
+    Write,
+    /// All was written, and the feed was not stored.
+    #[error("file fault")]
+    Unstored(FileRefusal),
+    /// Memory ran out before anything was written. No file has changed.
+    #[error("no memory")]
+    NoMemory,
+}
+
+// ---- the calls
+
+/// Why a feed was not written as text.
+#[derive(Clone, Copy, Debug, PartialEq, Eq, Error)]
+pub enum ExportFault {
+    /// The feed does not come in. Nothing was written.
     #[error("{0}")]
-    Refused(Refusal),
+    Feed(FeedTrouble),
     /// The writer failed, or took no byte.
     #[error("write fault")]
     Write,
-    /// All was done and written, and the feed was not stored.
-    #[error("file fault")]
-    Unstored(FileRefusal),
+    /// Memory ran out once the feed was opened. Nothing was written.
     #[error("no memory")]
     NoMemory,
 }
 
-impl From<NoMemory> for HandFault {
-    ghost from_gives = { λ _ fault. fault ≡ faults.NoMemory };
-
-    fn from(_: NoMemory) -> HandFault {
-        HandFault::NoMemory
-    }
+/// Why feeds were not merged into a stored one.
+#[derive(Clone, Copy, Debug, PartialEq, Eq, Error)]
+pub enum MergeFault {
+    /// The stored feed was not taken.
+    #[error("{0}")]
+    Take(TakeFault),
+    /// The feed of another file does not come in: that of a place among the names that were given, counted from 0.
+    #[error("{why}")]
+    Other { at: usize, why: FeedTrouble },
+    /// All came in, and their lines were not written, or the union was not stored.
+    #[error("{0}")]
+    Keep(KeepFault),
 }
 
-impl From<Unsent> for HandFault {
-    ghost from_gives = { λ _ fault. fault ≡ faults.Write };
+/// Why the copy of a stored feed was not made a text that is read.
+#[derive(Clone, Copy, Debug, PartialEq, Eq, Error)]
+pub enum ImportFault {
+    /// The stored feed was not taken.
+    #[error("{0}")]
+    Take(TakeFault),
+    /// The feed was taken, and no text was read.
+    #[error("{0}")]
+    Input(InputFault),
+    /// The text was read, and the copy was not made it.
+    #[error("{0}")]
+    Revision(RevisionFault),
+    /// The copy was made the text, and the line was not written, or the feed not stored.
+    #[error("{0}")]
+    Keep(KeepFault),
+}
 
-    fn from(_: Unsent) -> HandFault {
-        HandFault::Write
+// ---- what the cause of a phase is
+
+impl From<FileRefusal> for FeedTrouble {
+    ghost from_gives = { λ why trouble. trouble ≡ troubles.File why };
+
+    fn from(why: FileRefusal) -> FeedTrouble {
+        FeedTrouble::File(why)
     }
 }
 
@@ -91,35 +165,154 @@ impl From<OpenFault> for FeedTrouble {
     }
 }
 
-impl From<AddRefusal> for FeedTrouble {
-    ghost from_gives = { λ why trouble. trouble ≡ of_adding why };
+impl From<Stopped> for FeedTrouble {
+    ghost from_gives = { λ stop trouble. trouble ≡ of_adding stop.why };
 
-    fn from(why: AddRefusal) -> FeedTrouble {
-        match why {
+    fn from(stop: Stopped) -> FeedTrouble {
+        match stop.why {
             AddRefusal::Full => FeedTrouble::Full,
             AddRefusal::NoMemory => FeedTrouble::NoMemory,
         }
     }
 }
 
-impl From<TextFault> for HandFault {
+impl From<NoMemory> for FeedTrouble {
+    ghost from_gives = { λ _ trouble. trouble ≡ troubles.NoMemory };
+
+    fn from(_: NoMemory) -> FeedTrouble {
+        FeedTrouble::NoMemory
+    }
+}
+
+impl From<TextFault> for InputFault {
     ghost from_gives = { λ why fault. fault ≡ of_text why };
 
-    fn from(why: TextFault) -> HandFault {
+    fn from(why: TextFault) -> InputFault {
         match why {
-            TextFault::At { .. } => HandFault::Text(why),
-            TextFault::NoMemory => HandFault::NoMemory,
+            TextFault::At { .. } => InputFault::Text(why),
+            TextFault::NoMemory => InputFault::NoMemory,
         }
     }
 }
 
-impl From<Refusal> for HandFault {
-    ghost from_gives = { λ why fault. fault ≡ of_edit why };
+impl From<NoMemory> for RevisionFault {
+    ghost from_gives = { λ _ fault. fault ≡ revisions.NoMemory };
 
-    fn from(why: Refusal) -> HandFault {
-        match why {
-            Refusal::NoMemory => HandFault::NoMemory,
-            other => HandFault::Refused(other),
-        }
+    fn from(_: NoMemory) -> RevisionFault {
+        RevisionFault::NoMemory
+    }
+}
+
+impl From<NoMemory> for KeepFault {
+    ghost from_gives = { λ _ fault. fault ≡ keeps.NoMemory };
+
+    fn from(_: NoMemory) -> KeepFault {
+        KeepFault::NoMemory
+    }
+}
+
+impl From<Unsent> for KeepFault {
+    ghost from_gives = { λ _ fault. fault ≡ keeps.Write };
+
+    fn from(_: Unsent) -> KeepFault {
+        KeepFault::Write
+    }
+}
+
+impl From<FileRefusal> for KeepFault {
+    ghost from_gives = { λ why fault. fault ≡ keeps.Unstored why };
+
+    fn from(why: FileRefusal) -> KeepFault {
+        KeepFault::Unstored(why)
+    }
+}
+
+// ---- what the phase of a call is
+
+impl From<FeedTrouble> for ExportFault {
+    ghost from_gives = { λ why fault. fault ≡ exports.Feed why };
+
+    fn from(why: FeedTrouble) -> ExportFault {
+        ExportFault::Feed(why)
+    }
+}
+
+impl From<NoMemory> for ExportFault {
+    ghost from_gives = { λ _ fault. fault ≡ exports.NoMemory };
+
+    fn from(_: NoMemory) -> ExportFault {
+        ExportFault::NoMemory
+    }
+}
+
+impl From<Unsent> for ExportFault {
+    ghost from_gives = { λ _ fault. fault ≡ exports.Write };
+
+    fn from(_: Unsent) -> ExportFault {
+        ExportFault::Write
+    }
+}
+
+impl From<TakeFault> for MergeFault {
+    ghost from_gives = { λ why fault. fault ≡ merges.Take why };
+
+    fn from(why: TakeFault) -> MergeFault {
+        MergeFault::Take(why)
+    }
+}
+
+impl From<(usize, FeedTrouble)> for MergeFault {
+    ghost from_gives = { λ stop fault. fault ≡ merges.Other stop.0 stop.1 };
+
+    fn from((at, why): (usize, FeedTrouble)) -> MergeFault {
+        MergeFault::Other { at, why }
+    }
+}
+
+impl From<NoMemory> for MergeFault {
+    ghost from_gives = { λ _ fault. fault ≡ merges.Keep keeps.NoMemory };
+
+    fn from(_: NoMemory) -> MergeFault {
+        MergeFault::Keep(KeepFault::NoMemory)
+    }
+}
+
+impl From<KeepFault> for MergeFault {
+    ghost from_gives = { λ why fault. fault ≡ merges.Keep why };
+
+    fn from(why: KeepFault) -> MergeFault {
+        MergeFault::Keep(why)
+    }
+}
+
+impl From<TakeFault> for ImportFault {
+    ghost from_gives = { λ why fault. fault ≡ imports.Take why };
+
+    fn from(why: TakeFault) -> ImportFault {
+        ImportFault::Take(why)
+    }
+}
+
+impl From<InputFault> for ImportFault {
+    ghost from_gives = { λ why fault. fault ≡ imports.Input why };
+
+    fn from(why: InputFault) -> ImportFault {
+        ImportFault::Input(why)
+    }
+}
+
+impl From<RevisionFault> for ImportFault {
+    ghost from_gives = { λ why fault. fault ≡ imports.Revision why };
+
+    fn from(why: RevisionFault) -> ImportFault {
+        ImportFault::Revision(why)
+    }
+}
+
+impl From<KeepFault> for ImportFault {
+    ghost from_gives = { λ why fault. fault ≡ imports.Keep why };
+
+    fn from(why: KeepFault) -> ImportFault {
+        ImportFault::Keep(why)
     }
 }

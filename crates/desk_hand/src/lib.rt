@@ -6,11 +6,16 @@ mod editing;
 mod exporting;
 mod fault;
 mod importing;
+mod keeping;
 mod merging;
 
 pub use desk_stored::write_out;
 pub use editing::{Tally, revise};
 pub use exporting::{export_feed, open_feed};
-pub use fault::{FeedTrouble, HandFault};
-pub use importing::{MAX_TEXT, import_text, tell_and_keep};
+pub use fault::{
+    ExportFault, FeedTrouble, ImportFault, InputFault, KeepFault, MergeFault, RevisionFault,
+    TakeFault,
+};
+pub use importing::{MAX_TEXT, import_text};
+pub use keeping::tell_and_keep;
 pub use merging::{merge_feeds, take_feed};

@@ -7,9 +7,10 @@ ghost use Rattle.desk_answers.specs.Reply.{reply_values};
 ghost use Rattle.desk_answers.specs.Text.{text};
 ghost use Rattle.desk_files.specs.Files.{IsHeldAlone, Stays};
 ghost use Rattle.desk_stored.specs.Stored.{was_read};
-ghost use Rattle.desk_hand.specs.Merging.{IsBarred, IsCutShort, IsFeedOf, IsJoined, IsMerged, IsMergedInto, IsOpened, IsUnmerged, Joins, Refuses, StopsAt, faults_line};
+ghost use Rattle.desk_hand.specs.Merging.{IsBarred, IsFeedOf, IsJoined, IsMerged, IsOpened, IsUnmerged, Joins, Refuses, StopsAt, faults_line};
 
-use crate::fault::{FeedTrouble, HandFault};
+use crate::fault::{FeedTrouble, MergeFault, TakeFault};
+use crate::keeping::write_and_keep;
 use desk_answers::{Reply, put};
 use desk_blocks::Blocks;
 use desk_codec::{ReadFault, read_feed};
@@ -17,7 +18,7 @@ use desk_files::Files;
 use desk_memory::NoMemory;
 use desk_ops::Op;
 use desk_replica::Replica;
-use desk_stored::{keep_replica, open_replica, stored_bytes, write_out};
+use desk_stored::{open_replica, stored_bytes};
 use std::alloc::Allocator;
 use std::io::Write;
 
@@ -36,10 +37,7 @@ pub fn operations_of<F: Files, A: Allocator + Copy>(
     ensures never_full { IfErr result (λ e. e ≢ FeedTrouble.Full) }
     ensures stays { Stays (F.shelf files.old) (F.shelf files.new) }
 {
-    let bytes = match files.read(alloc, name) {
-        Ok(bytes) => bytes,
-        Err(why) => return Err(FeedTrouble::File(why)),
-    };
+    let bytes = files.read(alloc, name)?;
     match read_feed(alloc, &bytes) {
         Ok(ops) => Ok(ops),
         Err(ReadFault::Fault(fault)) => Err(FeedTrouble::Feed(fault)),
@@ -76,18 +74,12 @@ fn join_file<F: Files, A: Allocator + Copy>(
     ensures stays { Stays (F.shelf files.old) (F.shelf files.new) }
 {
     let ops = operations_of(alloc, files, name)?;
-    let count = match replica.take_all(&ops) {
-        Ok(count) => count,
-        Err(stop) => return Err(FeedTrouble::from(stop.why)),
-    };
+    let count = replica.take_all(&ops)?;
     let counted: Reply<A> = Reply::Counted {
         new: count.new,
         known: count.known,
     };
-    match put_line(out, name, &counted) {
-        Ok(()) => Ok(()),
-        Err(_) => Err(FeedTrouble::NoMemory),
-    }
+    Ok(put_line(out, name, &counted)?)
 }
 
 /// Joins the feeds of files to what a replica holds, in their order: the line of each, or the place of the first that does
@@ -119,7 +111,7 @@ pub fn take_feed<F: Files, A: Allocator + Copy>(
     files: &mut F,
     name: &str,
     site: u16,
-) -> Result<(Option<Vec<u8, A>>, Replica<Blocks<A>>), HandFault>
+) -> Result<(Option<Vec<u8, A>>, Replica<Blocks<A>>), TakeFault>
     requires { 1 ≤ site }
     ensures ok { IfOk result (λ p. IsOpened name.now (F.shelf files.old) (F.shelf files.new) (was_read p.0) p.1.ops) }
     ensures site { IfOk result (λ p. p.1.site ≡ site) }
@@ -127,15 +119,15 @@ pub fn take_feed<F: Files, A: Allocator + Copy>(
     ensures held { IsHeldAlone name.now (F.shelf files.old) (F.shelf files.new) ⊎ Stays (F.shelf files.old) (F.shelf files.new) }
 {
     if let Err(why) = files.hold(name) {
-        return Err(HandFault::Untaken(why));
+        return Err(TakeFault::Untaken(why));
     }
     let old = match stored_bytes(alloc, files, name) {
         Ok(old) => old,
-        Err(why) => return Err(HandFault::Feed(FeedTrouble::File(why))),
+        Err(why) => return Err(TakeFault::Feed(FeedTrouble::File(why))),
     };
     match open_replica(alloc, &old, site) {
         Ok(replica) => Ok((old, replica)),
-        Err(why) => Err(HandFault::Feed(FeedTrouble::from(why))),
+        Err(why) => Err(TakeFault::Feed(FeedTrouble::from(why))),
     }
 }
 
@@ -151,32 +143,6 @@ fn put_faults<A: Allocator + Copy>(
     Ok(out.push_str("\n")?)
 }
 
-/// Joins feeds to an open one, writes the lines, and stores it.
-fn merge_into<W: Write, F: Files, A: Allocator + Copy>(
-    alloc: A,
-    replica: &mut Replica<Blocks<A>>,
-    writer: &mut W,
-    files: &mut F,
-    name: &str,
-    others: &[&str],
-    old: &Option<Vec<u8, A>>,
-) -> Result<(), HandFault>
-    ensures ok { OnOk result (IsMergedInto name.now (map (λ n. n.now) others.now) (F.shelf files.old) (was_read old.now) replica.old.ops (F.shelf files.new) (W.contents writer.old) (W.contents writer.new)) }
-    ensures err { IfErr result (IsCutShort name.now (map (λ n. n.now) others.now) (F.shelf files.old) replica.old.ops (F.shelf files.new) (W.contents writer.old) (W.contents writer.new)) }
-    ensures held { (F.shelf files.new).held ≡ (F.shelf files.old).held }
-{
-    let mut out = match join_files(alloc, replica, files, others) {
-        Ok(out) => out,
-        Err((at, why)) => return Err(HandFault::Other { at, why }),
-    };
-    put_faults(replica, &mut out)?;
-    write_out(writer, out.as_bytes())?;
-    match keep_replica(alloc, replica, files, name, old) {
-        Ok(()) => Ok(()),
-        Err(why) => Err(HandFault::Unstored(why)),
-    }
-}
-
 /// Merges the feeds of files into a stored feed, whose name it takes first and for itself alone: a missing one holds
 /// nothing. Each of the others must be there, and may be that feed itself. In their order each has a line,
 /// `NAME ok new 45 known 29857`, and at the end stand the faults of the copy, as the command `faults` has them. Once all
@@ -188,11 +154,13 @@ pub fn merge_feeds<W: Write, F: Files, A: Allocator + Copy>(
     files: &mut F,
     name: &str,
     others: &[&str],
-) -> Result<(), HandFault>
+) -> Result<(), MergeFault>
     ensures ok { OnOk result (IsMerged name.now (map (λ n. n.now) others.now) (F.shelf files.old) (F.shelf files.new) (W.contents writer.old) (W.contents writer.new)) }
     ensures err { IfErr result (IsUnmerged name.now (map (λ n. n.now) others.now) (F.shelf files.old) (F.shelf files.new) (W.contents writer.old) (W.contents writer.new)) }
     ensures held { IsHeldAlone name.now (F.shelf files.old) (F.shelf files.new) ⊎ ((writer.new ≡ writer.old) × Stays (F.shelf files.old) (F.shelf files.new)) }
 {
     let (old, mut replica) = take_feed(alloc, files, name, ANY_SITE)?;
-    merge_into(alloc, &mut replica, writer, files, name, others, &old)
+    let mut out = join_files(alloc, &mut replica, files, others)?;
+    put_faults(&replica, &mut out)?;
+    Ok(write_and_keep(alloc, &replica, out.as_bytes(), writer, files, name, &old)?)
 }

@@ -1,7 +1,7 @@
 use desk_codec::{FeedFault, FeedWhy};
 use desk_files::trial::{AtEnd, TrialFiles, TrialWriter};
 use desk_files::{FileRefusal, Files};
-use desk_hand::{FeedTrouble, HandFault, export_feed};
+use desk_hand::{ExportFault, FeedTrouble, export_feed};
 use linked_list_allocator::LocalHeap;
 use std::alloc::{AllocError, Global};
 use std::test::Fail;
@@ -23,7 +23,7 @@ fn rooms(alloc: Global, k: u64) -> Result<TrialFiles<Global>, AllocError> {
 }
 
 /// What an export writes, if the files stay.
-fn exported(alloc: Global, k: u64, name: &str) -> Result<Result<Vec<u8>, HandFault>, Fail> {
+fn exported(alloc: Global, k: u64, name: &str) -> Result<Result<Vec<u8>, ExportFault>, Fail> {
     let mut files = rooms(alloc, k)?;
     let mut written = Vec::new(alloc);
     let ended = export_feed(alloc, &mut written, &mut files, name);
@@ -50,7 +50,7 @@ fn writes(alloc: Global, name: &str, text: &[u8]) -> Result<bool, Fail> {
 }
 
 /// Why an export writes nothing.
-fn fault_of(alloc: Global, k: u64, name: &str) -> Result<Option<HandFault>, Fail> {
+fn fault_of(alloc: Global, k: u64, name: &str) -> Result<Option<ExportFault>, Fail> {
     Ok(exported(alloc, k, name)?.err())
 }
 
@@ -63,11 +63,11 @@ fn copies_are_exported(rt: HostRuntime) -> Result<(), Fail> {
 
 #[test]
 fn feeds_that_are_not_exported(rt: HostRuntime) -> Result<(), Fail> {
-    let missing = HandFault::Feed(FeedTrouble::File(FileRefusal::Missing));
+    let missing = ExportFault::Feed(FeedTrouble::File(FileRefusal::Missing));
     assert_eq!(rt; fault_of(rt.alloc(), 0, "b.feed")?, Some(missing));
-    let device = HandFault::Feed(FeedTrouble::File(FileRefusal::Device));
+    let device = ExportFault::Feed(FeedTrouble::File(FileRefusal::Device));
     assert_eq!(rt; fault_of(rt.alloc(), 1, "a.feed")?, Some(device));
-    let cut = HandFault::Feed(FeedTrouble::Feed(FeedFault {
+    let cut = ExportFault::Feed(FeedTrouble::Feed(FeedFault {
         at: 4,
         why: FeedWhy::Cut,
     }));
@@ -94,7 +94,7 @@ fn closed_output_of_an_export(rt: HostRuntime) -> Result<(), Fail> {
     let mut files = rooms(rt.alloc(), 0)?;
     let mut writer = TrialWriter::new(rt.alloc()).with_room(3, AtEnd::TakesNone);
     let ended = export_feed(rt.alloc(), &mut writer, &mut files, "a.feed");
-    assert_eq!(rt; ended, Err(HandFault::Write));
+    assert_eq!(rt; ended, Err(ExportFault::Write));
     assert!(rt; TEXT.starts_with(writer.written()));
     Ok(())
 }
@@ -111,9 +111,9 @@ fn is_refused(alloc: Global, cut: usize) -> Result<bool, Fail> {
     let mut written = Vec::new(alloc);
     let refused = match export_feed(&heap, &mut written, &mut files, "a.feed") {
         Ok(()) => false,
-        Err(HandFault::NoMemory) => true,
-        Err(HandFault::Feed(FeedTrouble::NoMemory)) => true,
-        Err(HandFault::Feed(FeedTrouble::File(FileRefusal::NoMemory))) => true,
+        Err(ExportFault::NoMemory) => true,
+        Err(ExportFault::Feed(FeedTrouble::NoMemory)) => true,
+        Err(ExportFault::Feed(FeedTrouble::File(FileRefusal::NoMemory))) => true,
         Err(_) => return Err(Fail::new("another fault")),
     };
     let wanted: &[u8] = if refused { b"" } else { TEXT };

@@ -1,8 +1,10 @@
 use desk_codec::{FeedFault, FeedWhy};
 use desk_files::trial::{AtEnd, TrialFiles, TrialReader, TrialWriter};
 use desk_files::{FileRefusal, Files};
-use desk_hand::{FeedTrouble, HandFault, MAX_TEXT, export_feed, import_text};
-use desk_replica::Refusal;
+use desk_hand::{
+    FeedTrouble, ImportFault, InputFault, KeepFault, MAX_TEXT, RevisionFault, TakeFault,
+    export_feed, import_text,
+};
 use desk_text::{Cause, TextFault};
 use linked_list_allocator::LocalHeap;
 use std::alloc::{AllocError, Global};
@@ -50,7 +52,7 @@ fn imported(
     name: &str,
     text: &[u8],
     plain: bool,
-) -> Result<Vec<u8>, HandFault> {
+) -> Result<Vec<u8>, ImportFault> {
     let mut reader = TrialReader::new(text).in_steps_of(3);
     let mut written = Vec::new(alloc);
     match import_text(alloc, &mut reader, &mut written, files, name, 4, plain) {
@@ -126,7 +128,7 @@ fn stop_of(
     files: &mut TrialFiles<Global>,
     name: &str,
     text: &[u8],
-) -> Result<Option<HandFault>, Fail> {
+) -> Result<Option<ImportFault>, Fail> {
     let mut reader = TrialReader::new(text);
     let mut written = Vec::new(alloc);
     let ended = import_text(alloc, &mut reader, &mut written, files, name, 4, false);
@@ -138,12 +140,12 @@ fn stop_of(
 }
 
 /// Where a text has its first fault.
-fn text_fault(line: u64, column: u64, cause: Cause) -> Option<HandFault> {
-    Some(HandFault::Text(TextFault::At {
+fn text_fault(line: u64, column: u64, cause: Cause) -> Option<ImportFault> {
+    Some(ImportFault::Input(InputFault::Text(TextFault::At {
         line,
         column,
         cause,
-    }))
+    })))
 }
 
 #[test]
@@ -169,23 +171,23 @@ fn texts_that_are_refused(rt: HostRuntime) -> Result<(), Fail> {
 #[test]
 fn feeds_that_take_no_text(rt: HostRuntime) -> Result<(), Fail> {
     let mut files = rooms(rt.alloc(), 0)?;
-    let cut = HandFault::Feed(FeedTrouble::Feed(FeedFault {
+    let cut = FeedTrouble::Feed(FeedFault {
         at: 4,
         why: FeedWhy::Cut,
-    }));
+    });
     assert_eq!(rt;
         stop_of(rt.alloc(), &mut files, "cut.feed", b"x")?,
-        Some(cut)
+        Some(ImportFault::Take(TakeFault::Feed(cut)))
     );
     let mut files = files.for_next_run();
-    let late = HandFault::Refused(Refusal::ClockFull);
+    let late = ImportFault::Revision(RevisionFault::ClockFull);
     assert_eq!(rt;
         stop_of(rt.alloc(), &mut files, "late.feed", b"xz")?,
         Some(late)
     );
     assert_eq!(rt;
         stop_of(rt.alloc(), &mut files, "x.feed", b"xz")?,
-        Some(HandFault::Untaken(FileRefusal::Device))
+        Some(ImportFault::Take(TakeFault::Untaken(FileRefusal::Device)))
     );
     Ok(())
 }
@@ -194,15 +196,16 @@ fn feeds_that_take_no_text(rt: HostRuntime) -> Result<(), Fail> {
 fn files_that_fail_under_an_import(rt: HostRuntime) -> Result<(), Fail> {
     let device = FileRefusal::Device;
     let mut files = rooms(rt.alloc(), 1)?;
-    let untaken = Some(HandFault::Untaken(device));
+    let untaken = Some(ImportFault::Take(TakeFault::Untaken(device)));
     assert_eq!(rt; stop_of(rt.alloc(), &mut files, "x.feed", b"xz")?, untaken);
     let mut files = rooms(rt.alloc(), 2)?;
-    let unread = Some(HandFault::Feed(FeedTrouble::File(device)));
+    let unread = Some(ImportFault::Take(TakeFault::Feed(FeedTrouble::File(device))));
     assert_eq!(rt; stop_of(rt.alloc(), &mut files, "x.feed", b"xz")?, unread);
     for k in 3..5u64 {
         let mut files = rooms(rt.alloc(), k)?;
         let ended = imported(rt.alloc(), &mut files, "x.feed", b"xz", false).err();
-        assert_eq!(rt; ended, Some(HandFault::Unstored(device)));
+        let unstored = ImportFault::Keep(KeepFault::Unstored(device));
+        assert_eq!(rt; ended, Some(unstored));
         assert!(rt; holds(&files, "x.feed", X));
     }
     Ok(())
@@ -222,7 +225,7 @@ fn reader_that_fails(rt: HostRuntime) -> Result<(), Fail> {
         4,
         false,
     );
-    assert_eq!(rt; ended, Err(HandFault::Read));
+    assert_eq!(rt; ended, Err(ImportFault::Input(InputFault::Read)));
     assert!(rt; written.is_empty() && holds(&files, "x.feed", X));
     Ok(())
 }
@@ -233,7 +236,7 @@ fn text_that_is_too_long(rt: HostRuntime) -> Result<(), Fail> {
     text.resize(MAX_TEXT.saturating_add(1), b'\t')?;
     let mut files = rooms(rt.alloc(), 0)?;
     let long = stop_of(rt.alloc(), &mut files, "x.feed", &text)?;
-    assert_eq!(rt; long, Some(HandFault::TooLong));
+    assert_eq!(rt; long, Some(ImportFault::Input(InputFault::TooLong)));
     text.truncate(MAX_TEXT);
     let mut files = files.for_next_run();
     let read = stop_of(rt.alloc(), &mut files, "x.feed", &text)?;
@@ -255,7 +258,7 @@ fn closed_output_imports_nothing(rt: HostRuntime) -> Result<(), Fail> {
         4,
         false,
     );
-    assert_eq!(rt; ended, Err(HandFault::Write));
+    assert_eq!(rt; ended, Err(ImportFault::Keep(KeepFault::Write)));
     assert!(rt; b"ok inserted 1 deleted 0\n".starts_with(writer.written()));
     assert!(rt; holds(&files, "x.feed", X));
     assert!(rt; files.bytes_of("x.feed.new").is_none());
@@ -292,6 +295,19 @@ fn long_text_is_imported(rt: HostRuntime) -> Result<(), Fail> {
 /// The bytes of the heap of the next test.
 const HEAP: usize = 1_048_576;
 
+/// Whether a fault that comes before the line is want of memory.
+fn is_of_memory(fault: ImportFault) -> bool {
+    match fault {
+        ImportFault::Take(TakeFault::Feed(why)) => {
+            why == FeedTrouble::NoMemory || why == FeedTrouble::File(FileRefusal::NoMemory)
+        }
+        ImportFault::Input(why) => why == InputFault::NoMemory,
+        ImportFault::Revision(why) => why == RevisionFault::NoMemory,
+        ImportFault::Keep(why) => why == KeepFault::NoMemory,
+        ImportFault::Take(TakeFault::Untaken(_)) => false,
+    }
+}
+
 /// Whether an import in a cut heap is out of memory, and leaves the feed; any other end is the wanted one.
 fn is_refused(alloc: Global, cut: usize) -> Result<bool, Fail> {
     let heap = LocalHeap::new(alloc, HEAP)?;
@@ -312,10 +328,8 @@ fn is_refused(alloc: Global, cut: usize) -> Result<bool, Fail> {
     drop(ballast);
     let (is_refused, is_told) = match ended {
         Ok(()) => (false, true),
-        Err(HandFault::NoMemory) => (true, false),
-        Err(HandFault::Feed(FeedTrouble::NoMemory)) => (true, false),
-        Err(HandFault::Feed(FeedTrouble::File(FileRefusal::NoMemory))) => (true, false),
-        Err(HandFault::Unstored(FileRefusal::NoMemory)) => (true, true),
+        Err(ImportFault::Keep(KeepFault::Unstored(FileRefusal::NoMemory))) => (true, true),
+        Err(fault) if is_of_memory(fault) => (true, false),
         Err(_) => return Err(Fail::new("another fault")),
     };
     let line: &[u8] = if is_told {

@@ -1,7 +1,7 @@
 use desk_codec::{FeedFault, FeedWhy};
 use desk_files::trial::{AtEnd, TrialFiles, TrialWriter};
 use desk_files::{FileRefusal, Files};
-use desk_hand::{FeedTrouble, HandFault, merge_feeds};
+use desk_hand::{FeedTrouble, KeepFault, MergeFault, TakeFault, merge_feeds};
 use std::alloc::{AllocError, Global};
 use std::test::Fail;
 
@@ -38,7 +38,7 @@ fn written_by(
     files: &mut TrialFiles<Global>,
     name: &str,
     others: &[&str],
-) -> Result<Vec<u8>, HandFault> {
+) -> Result<Vec<u8>, MergeFault> {
     let mut written = Vec::new(alloc);
     match merge_feeds(alloc, &mut written, files, name, others) {
         Ok(()) => Ok(written),
@@ -86,7 +86,7 @@ fn unchanged_feed_is_not_written(rt: HostRuntime) -> Result<(), Fail> {
 }
 
 /// Why a merge of two feeds into `x.feed` stops that writes nothing, if the feed stays.
-fn stop_of(alloc: Global, k: u64, others: &[&str]) -> Result<Option<HandFault>, AllocError> {
+fn stop_of(alloc: Global, k: u64, others: &[&str]) -> Result<Option<MergeFault>, AllocError> {
     let mut files = rooms(alloc, k)?;
     let mut writer = TrialWriter::new(alloc);
     let ended = merge_feeds(alloc, &mut writer, &mut files, "x.feed", others);
@@ -98,7 +98,7 @@ fn stop_of(alloc: Global, k: u64, others: &[&str]) -> Result<Option<HandFault>, 
 
 #[test]
 fn feeds_that_do_not_come_in(rt: HostRuntime) -> Result<(), Fail> {
-    let missing = HandFault::Other {
+    let missing = MergeFault::Other {
         at: 1,
         why: FeedTrouble::File(FileRefusal::Missing),
     };
@@ -106,7 +106,7 @@ fn feeds_that_do_not_come_in(rt: HostRuntime) -> Result<(), Fail> {
         stop_of(rt.alloc(), 0, &["y.feed", "z.feed"])?,
         Some(missing)
     );
-    let cut = HandFault::Other {
+    let cut = MergeFault::Other {
         at: 0,
         why: FeedTrouble::Feed(FeedFault {
             at: 4,
@@ -121,14 +121,14 @@ fn feeds_that_do_not_come_in(rt: HostRuntime) -> Result<(), Fail> {
 fn files_that_fail_at_each_call(rt: HostRuntime) -> Result<(), Fail> {
     let device = FileRefusal::Device;
     let faults = [
-        HandFault::Untaken(device),
-        HandFault::Feed(FeedTrouble::File(device)),
-        HandFault::Other {
+        MergeFault::Take(TakeFault::Untaken(device)),
+        MergeFault::Take(TakeFault::Feed(FeedTrouble::File(device))),
+        MergeFault::Other {
             at: 0,
             why: FeedTrouble::File(device),
         },
-        HandFault::Unstored(device),
-        HandFault::Unstored(device),
+        MergeFault::Keep(KeepFault::Unstored(device)),
+        MergeFault::Keep(KeepFault::Unstored(device)),
     ];
     for at in 0..faults.len() {
         let k = (at as u64).saturating_add(1);
@@ -142,7 +142,8 @@ fn held_feed_is_not_merged(rt: HostRuntime) -> Result<(), Fail> {
     let mut files = rooms(rt.alloc(), 0)?;
     files.hold("x.feed")?;
     let ended = written_by(rt.alloc(), &mut files, "x.feed", &["y.feed"]).err();
-    assert_eq!(rt; ended, Some(HandFault::Untaken(FileRefusal::Device)));
+    let untaken = TakeFault::Untaken(FileRefusal::Device);
+    assert_eq!(rt; ended, Some(MergeFault::Take(untaken)));
     assert!(rt; holds(&files, "x.feed", X));
     Ok(())
 }
@@ -152,7 +153,7 @@ fn closed_output_stores_nothing(rt: HostRuntime) -> Result<(), Fail> {
     let mut files = rooms(rt.alloc(), 0)?;
     let mut writer = TrialWriter::new(rt.alloc()).with_room(9, AtEnd::Fails);
     let ended = merge_feeds(rt.alloc(), &mut writer, &mut files, "x.feed", &["y.feed"]);
-    assert_eq!(rt; ended, Err(HandFault::Write));
+    assert_eq!(rt; ended, Err(MergeFault::Keep(KeepFault::Write)));
     assert!(rt; b"y.feed ok new 1 known 0\n".starts_with(writer.written()));
     assert!(rt; holds(&files, "x.feed", X));
     Ok(())

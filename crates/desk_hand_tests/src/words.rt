@@ -2,7 +2,10 @@
 
 use desk_codec::{FeedFault, FeedWhy};
 use desk_files::FileRefusal;
-use desk_hand::{FeedTrouble, HandFault};
+use desk_hand::{
+    ExportFault, FeedTrouble, ImportFault, InputFault, KeepFault, MergeFault, RevisionFault,
+    TakeFault,
+};
 use desk_held::AddRefusal;
 use desk_replica::{Refusal, Stopped};
 use desk_stored::{OpenFault, Unsent};
@@ -48,10 +51,10 @@ const FEED_WORDS: [(FeedTrouble, &str); 4] = [
     (FeedTrouble::NoMemory, "no memory"),
 ];
 
-const OTHER: HandFault = HandFault::Other {
-    at: 1,
-    why: FeedTrouble::File(FileRefusal::Missing),
-};
+const TAKE_WORDS: [(TakeFault, &str); 2] = [
+    (TakeFault::Untaken(FileRefusal::Device), "file fault"),
+    (TakeFault::Feed(FeedTrouble::Full), "full"),
+];
 
 const OPEN_STYLE: TextFault = TextFault::At {
     line: 3,
@@ -59,33 +62,100 @@ const OPEN_STYLE: TextFault = TextFault::At {
     cause: Cause::Unclosed,
 };
 
-const HAND_WORDS: [(HandFault, &str); 10] = [
-    (HandFault::Untaken(FileRefusal::Device), "file fault"),
-    (HandFault::Feed(FeedTrouble::Full), "full"),
-    (OTHER, "file fault"),
-    (HandFault::Read, "read fault"),
-    (HandFault::TooLong, "too long"),
+const INPUT_WORDS: [(InputFault, &str); 4] = [
+    (InputFault::Read, "read fault"),
+    (InputFault::TooLong, "too long"),
     (
-        HandFault::Text(OPEN_STYLE),
+        InputFault::Text(OPEN_STYLE),
         "line 3, column 14: a style that is open at the end of the line",
     ),
-    (
-        HandFault::Refused(Refusal::ClockFull),
-        "the greatest counter is held",
-    ),
-    (HandFault::Write, "write fault"),
-    (HandFault::Unstored(FileRefusal::Device), "file fault"),
-    (HandFault::NoMemory, "no memory"),
+    (InputFault::NoMemory, "no memory"),
 ];
 
+/// They are those of the refusal of an edit.
+const REVISION_WORDS: [(RevisionFault, Refusal, &str); 4] = [
+    (
+        RevisionFault::Full,
+        Refusal::Full,
+        "as many operations are held as may be",
+    ),
+    (
+        RevisionFault::ClockFull,
+        Refusal::ClockFull,
+        "the greatest counter is held",
+    ),
+    (
+        RevisionFault::Value,
+        Refusal::Value,
+        "the value is out of its range",
+    ),
+    (RevisionFault::NoMemory, Refusal::NoMemory, "no memory"),
+];
+
+const KEEP_WORDS: [(KeepFault, &str); 3] = [
+    (KeepFault::Write, "write fault"),
+    (KeepFault::Unstored(FileRefusal::Device), "file fault"),
+    (KeepFault::NoMemory, "no memory"),
+];
+
+const EXPORT_WORDS: [(ExportFault, &str); 3] = [
+    (ExportFault::Feed(FeedTrouble::Full), "full"),
+    (ExportFault::Write, "write fault"),
+    (ExportFault::NoMemory, "no memory"),
+];
+
+const OTHER: MergeFault = MergeFault::Other {
+    at: 1,
+    why: FeedTrouble::File(FileRefusal::Missing),
+};
+
+/// The words of a phase are those of the call.
 #[test]
 fn names_its_faults(rt: HostRuntime) {
     for &(fault, words) in &FEED_WORDS {
         assert!(rt; is_worded(rt.alloc(), &fault, words), "{words}");
     }
-    for &(fault, words) in &HAND_WORDS {
+    for &(fault, words) in &TAKE_WORDS {
+        assert!(rt; is_worded(rt.alloc(), &fault, words), "{words}");
+        assert!(rt;
+            is_worded(rt.alloc(), &MergeFault::Take(fault), words),
+            "{words}"
+        );
+        assert!(rt;
+            is_worded(rt.alloc(), &ImportFault::Take(fault), words),
+            "{words}"
+        );
+    }
+    for &(fault, words) in &INPUT_WORDS {
+        assert!(rt; is_worded(rt.alloc(), &fault, words), "{words}");
+        assert!(rt;
+            is_worded(rt.alloc(), &ImportFault::Input(fault), words),
+            "{words}"
+        );
+    }
+    for &(fault, refusal, words) in &REVISION_WORDS {
+        assert!(rt; is_worded(rt.alloc(), &fault, words), "{words}");
+        assert!(rt; is_worded(rt.alloc(), &refusal, words), "{words}");
+        assert!(rt;
+            is_worded(rt.alloc(), &ImportFault::Revision(fault), words),
+            "{words}"
+        );
+    }
+    for &(fault, words) in &KEEP_WORDS {
+        assert!(rt; is_worded(rt.alloc(), &fault, words), "{words}");
+        assert!(rt;
+            is_worded(rt.alloc(), &MergeFault::Keep(fault), words),
+            "{words}"
+        );
+        assert!(rt;
+            is_worded(rt.alloc(), &ImportFault::Keep(fault), words),
+            "{words}"
+        );
+    }
+    for &(fault, words) in &EXPORT_WORDS {
         assert!(rt; is_worded(rt.alloc(), &fault, words), "{words}");
     }
+    assert!(rt; is_worded(rt.alloc(), &OTHER, "file fault"));
 }
 
 #[test]

@@ -6,7 +6,9 @@ use Rattle.desk_files.specs.Files.{Shelf, Stays}
 use Rattle.desk_hand.specs.Exporting.{IsExported, IsUnexported}
 use Rattle.desk_hand.specs.Importing.{IsImported, IsUnimported}
 use Rattle.desk_hand.specs.Merging.{IsMerged, IsUnmerged}
-use Rattle.desk_hand.specs.declared.fault.HandFault.{HandFault}
+use Rattle.desk_hand.specs.declared.fault.ExportFault.{ExportFault}
+use Rattle.desk_hand.specs.declared.fault.ImportFault.{ImportFault}
+use Rattle.desk_hand.specs.declared.fault.MergeFault.{MergeFault}
 use Rattle.desk_words.specs.Words.{AsksFor, texts_of}
 use Rattle.desk_program.specs.Compared.{AreNotOne, AreOne}
 use Rattle.desk_program.specs.Sheets.{IsOffDesk, IsOnDesk, IsScripted, IsUnscripted}
@@ -38,10 +40,10 @@ Does (wishes.Sorts feed case layout) first last input before after = IsListed (s
 abbrev pub Stops : Wish → Shelf → Shelf → Option (List ℕ) → Option (List ℕ) → Option (List ℕ) → Type 0
 Stops (wishes.Script manner) first last input before after = IsUnscripted manner first last input before after
 Stops (wishes.Desk feed site why manner) first last input before after = IsOffDesk manner feed.now site first last input before after
-Stops (wishes.Merge feed others) first last input before after = (fault : HandFault) × IsUnmerged feed.now (texts_of others.items) first last before after fault
+Stops (wishes.Merge feed others) first last input before after = (fault : MergeFault) × IsUnmerged feed.now (texts_of others.items) first last before after fault
 Stops (wishes.Diff one other) first last input before after = AreNotOne one.now other.now first last before after
-Stops (wishes.Export feed) first last input before after = Stays first last × (fault : HandFault) × IsUnexported feed.now first last before after fault
-Stops (wishes.Import feed site plain) first last input before after = (fault : HandFault) × IsUnimported feed.now site plain first last input before after fault
+Stops (wishes.Export feed) first last input before after = Stays first last × (fault : ExportFault) × IsUnexported feed.now first last before after fault
+Stops (wishes.Import feed site plain) first last input before after = (fault : ImportFault) × IsUnimported feed.now site plain first last input before after fault
 Stops (wishes.Replace feed site old new plain) first last input before after = IsUnchanged feed.now site (exchange old new plain) first last before after
 Stops (wishes.Check files) first last input before after = AreNotInOrder (texts_of files.items) first last before after
 Stops (wishes.Proof from faults picture sets) first last input before after = IsUnseen from faults (option_copied picture) sets.items first last before after

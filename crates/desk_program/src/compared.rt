@@ -3,53 +3,21 @@
 ghost use Rattle.std.specs.Prelude.{◌≡◌, ◌≤◌, MatchResult, false, true};
 ghost use Rattle.desk_program.specs.Compared.{AreNotOne, AreOne};
 
-use crate::telling::{explain_feed, lacks_memory};
+use crate::telling::{Cause, feed_cause, told};
 use desk_difference::{DifferenceFault, tell_difference};
-use desk_hand::HandFault;
 use desk_host::Explains;
-use desk_script::{Files, RunFault};
+use desk_script::Files;
 use std::alloc::Global;
-use std::io::{self, Write};
+use std::io::Write;
 
-/// Writes a second line on why feeds are not compared: which file, and the cause.
-fn explain_difference<E: Write, F: Explains>(
-    faults: &mut E,
-    files: &F,
-    one: &str,
-    other: &str,
-    fault: DifferenceFault,
-) -> io::Result<()> {
+/// The cause where feeds are not compared.
+fn difference_cause<'a>(one: &'a str, other: &'a str, fault: DifferenceFault) -> Cause<'a> {
     match fault {
-        DifferenceFault::One(why) => explain_feed(faults, files, one, why),
-        DifferenceFault::Other(why) => explain_feed(faults, files, other, why),
-        DifferenceFault::Write => writeln!(faults, "standard output: it cannot be written"),
-        DifferenceFault::NoMemory => writeln!(faults, "{one}: out of memory"),
+        DifferenceFault::One(why) => feed_cause(one, why),
+        DifferenceFault::Other(why) => feed_cause(other, why),
+        DifferenceFault::Write => Cause::Output,
+        DifferenceFault::NoMemory => Cause::NoMemory(one),
     }
-}
-
-/// Writes two lines on why feeds are not compared, and gives the status of it.
-fn uncompared<E: Write, F: Explains>(
-    faults: &mut E,
-    files: &F,
-    one: &str,
-    other: &str,
-    fault: DifferenceFault,
-) -> u8
-    ensures { result ≡ 1 }
-{
-    let lacks = match fault {
-        DifferenceFault::One(why) | DifferenceFault::Other(why) => {
-            lacks_memory(HandFault::Feed(why))
-        }
-        _ => false,
-    };
-    let _ = if lacks {
-        writeln!(faults, "copydesk: {}", RunFault::NoMemory)
-    } else {
-        writeln!(faults, "copydesk: {fault}")
-    };
-    let _ = explain_difference(faults, files, one, other, fault);
-    1
 }
 
 /// The status of a difference: 1 also where it was written and the feeds do not hold the same.
@@ -65,7 +33,7 @@ fn difference_status<E: Write, F: Explains>(
     match outcome {
         Ok(true) => 0,
         Ok(false) => 1,
-        Err(fault) => uncompared(faults, files, one, other, fault),
+        Err(fault) => told(faults, files, &fault, difference_cause(one, other, fault)),
     }
 }
 

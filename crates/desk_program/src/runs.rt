@@ -5,11 +5,12 @@ ghost use Rattle.clap.specs.Words.{kind_of};
 ghost use Rattle.desk_program.specs.Runs.{Does, IsRun, IsStopped, Stops};
 ghost use Rattle.desk_words.specs.Words.{AsksHelp, AsksNothing, IsLawful};
 
+use crate::by_hand::{export_status, import_status, merge_status};
 use crate::compared::compared;
 use crate::previews::{proofed, punched};
 use crate::readings::{listed, read_whole};
 use crate::sheets::{on_desk, scripted};
-use crate::telling::{hand_status, stopped};
+use crate::telling::stopped;
 use crate::texts::{checked, replaced};
 use clap::Error;
 use clap::error::ErrorKind;
@@ -47,16 +48,16 @@ fn fulfilled<R: Read, W: Write, E: Write, F: Files + Explains>(
         ),
         Wish::Merge { feed, others } => {
             let outcome = merge_feeds(alloc, writer, files, feed, others);
-            hand_status(faults, files, feed, others, outcome)
+            merge_status(faults, files, feed, others, outcome)
         }
         Wish::Diff { one, other } => compared(alloc, one, other, writer, faults, files),
         Wish::Export { feed } => {
             let outcome = export_feed(alloc, writer, files, feed);
-            hand_status(faults, files, feed, &[], outcome)
+            export_status(faults, files, feed, outcome)
         }
         Wish::Import { feed, site, plain } => {
             let outcome = import_text(alloc, reader, writer, files, feed, *site, *plain);
-            hand_status(faults, files, feed, &[], outcome)
+            import_status(faults, files, feed, outcome)
         }
         Wish::Replace {
             feed,

@@ -3,9 +3,11 @@
 ghost use Rattle.std.specs.Prelude.{◌≡◌, ◌↔◌, ◌⊎◌, MatchResult};
 ghost use Rattle.std.specs.IoError.{error_kind};
 
-use desk_hand::{FeedTrouble, HandFault, MAX_TEXT};
+use desk_codec::FeedFault;
+use desk_hand::{FeedTrouble, MAX_TEXT};
 use desk_host::Explains;
 use desk_script::{FileRefusal, RunFault};
+use std::fmt::Display;
 use std::io::{self, ErrorKind, Write};
 
 /// Writes what stopped a run, and gives the status of it.
@@ -70,6 +72,74 @@ pub fn status_on<E: Write, F: Explains>(
     status
 }
 
+/// What stopped something, as its second line tells it: which file, and the cause.
+#[derive(Clone, Copy)]
+pub enum Cause<'a> {
+    /// The first line tells all.
+    Told,
+    /// Memory ran out over this feed.
+    NoMemory(&'a str),
+    /// A call failed of this file.
+    File(&'a str),
+    /// The bytes of this file are no feed.
+    Feed(&'a str, FeedFault),
+    /// With the operations of this feed there would be more than a desk can hold.
+    Full(&'a str),
+    /// The text does not fit into this feed.
+    Text(&'a str),
+    /// Standard input failed.
+    Input,
+    /// Standard input has too many bytes.
+    TooLong,
+    /// Standard output failed.
+    Output,
+}
+
+/// The cause where a file was refused.
+pub fn file_cause<'a>(name: &'a str, why: FileRefusal) -> Cause<'a> {
+    match why {
+        FileRefusal::NoMemory => Cause::NoMemory(name),
+        _ => Cause::File(name),
+    }
+}
+
+/// The cause where the feed of a file does not come in.
+pub fn feed_cause<'a>(feed: &'a str, why: FeedTrouble) -> Cause<'a> {
+    match why {
+        FeedTrouble::File(refusal) => file_cause(feed, refusal),
+        FeedTrouble::Feed(fault) => Cause::Feed(feed, fault),
+        FeedTrouble::Full => Cause::Full(feed),
+        FeedTrouble::NoMemory => Cause::NoMemory(feed),
+    }
+}
+
+/// Writes a line on a cause.
+fn explain_cause<E: Write, F: Explains>(
+    faults: &mut E,
+    files: &F,
+    cause: Cause<'_>,
+) -> io::Result<()> {
+    match cause {
+        Cause::Told => Ok(()),
+        Cause::NoMemory(feed) => writeln!(faults, "{feed}: out of memory"),
+        Cause::File(name) => files.explain(name, faults),
+        Cause::Feed(feed, fault) => {
+            let (at, why) = (fault.at, fault.why);
+            writeln!(faults, "{feed}: byte {at}: {why}")
+        }
+        Cause::Full(feed) => {
+            writeln!(
+                faults,
+                "{feed}: with its operations there would be more than a desk can hold"
+            )
+        }
+        Cause::Text(feed) => writeln!(faults, "{feed}: the text does not fit into it"),
+        Cause::Input => writeln!(faults, "standard input: it cannot be read"),
+        Cause::TooLong => writeln!(faults, "standard input: it has more than {MAX_TEXT} bytes"),
+        Cause::Output => writeln!(faults, "standard output: it cannot be written"),
+    }
+}
+
 /// Writes a line on why the feed of a file does not come in: the file, and the cause.
 pub fn explain_feed<E: Write, F: Explains>(
     faults: &mut E,
@@ -77,100 +147,25 @@ pub fn explain_feed<E: Write, F: Explains>(
     feed: &str,
     why: FeedTrouble,
 ) -> io::Result<()> {
-    match why {
-        FeedTrouble::File(FileRefusal::NoMemory) | FeedTrouble::NoMemory => {
-            writeln!(faults, "{feed}: out of memory")
-        }
-        FeedTrouble::File(_) => files.explain(feed, faults),
-        FeedTrouble::Feed(fault) => {
-            let (at, why) = (fault.at, fault.why);
-            writeln!(faults, "{feed}: byte {at}: {why}")
-        }
-        FeedTrouble::Full => {
-            writeln!(
-                faults,
-                "{feed}: with its operations there would be more than a desk can hold"
-            )
-        }
-    }
+    explain_cause(faults, files, feed_cause(feed, why))
 }
 
-/// Writes a second line on what one asked for and was not done: which file, and the cause. Of a text the first line has
-/// both.
-fn explain_hand<E: Write, F: Explains>(
+/// Writes two lines on a fault and its cause, and gives the status of it. Want of memory is told as such, whatever it was
+/// wanted for.
+pub fn told<E: Write, F: Explains, T: Display>(
     faults: &mut E,
     files: &F,
-    feed: &str,
-    others: &[&str],
-    fault: HandFault,
-) -> io::Result<()> {
-    match fault {
-        HandFault::Untaken(FileRefusal::NoMemory)
-        | HandFault::Unstored(FileRefusal::NoMemory)
-        | HandFault::NoMemory => writeln!(faults, "{feed}: out of memory"),
-        HandFault::Untaken(_) | HandFault::Unstored(_) => files.explain(feed, faults),
-        HandFault::Feed(why) => explain_feed(faults, files, feed, why),
-        HandFault::Other { at, why } => match others.get(at) {
-            Some(other) => explain_feed(faults, files, other, why),
-            None => Ok(()),
-        },
-        HandFault::Read => writeln!(faults, "standard input: it cannot be read"),
-        HandFault::TooLong => writeln!(faults, "standard input: it has more than {MAX_TEXT} bytes"),
-        HandFault::Text(_) => Ok(()),
-        HandFault::Refused(_) => writeln!(faults, "{feed}: the text does not fit into it"),
-        HandFault::Write => writeln!(faults, "standard output: it cannot be written"),
-    }
-}
-
-/// Whether a file was refused for want of memory.
-pub fn lacks_memory(fault: HandFault) -> bool {
-    match fault {
-        HandFault::Untaken(why) | HandFault::Unstored(why) => why == FileRefusal::NoMemory,
-        HandFault::Feed(why) | HandFault::Other { why, .. } => {
-            why == FeedTrouble::File(FileRefusal::NoMemory)
-        }
-        _ => false,
-    }
-}
-
-/// Writes what stopped what was done by hand: want of memory as such, whatever it was wanted for.
-fn tell_hand<E: Write>(faults: &mut E, fault: HandFault) {
-    let _ = if lacks_memory(fault) {
-        writeln!(faults, "copydesk: {}", RunFault::NoMemory)
-    } else {
-        writeln!(faults, "copydesk: {fault}")
-    };
-}
-
-/// Writes two lines on why something was not done by hand, and gives the status of it.
-pub fn hand_told<E: Write, F: Explains>(
-    faults: &mut E,
-    files: &F,
-    feed: &str,
-    others: &[&str],
-    fault: HandFault,
+    fault: &T,
+    cause: Cause<'_>,
 ) -> u8
     ensures { result ≡ 1 }
 {
-    tell_hand(faults, fault);
-    let _ = explain_hand(faults, files, feed, others, fault);
+    let _ = match cause {
+        Cause::NoMemory(_) => writeln!(faults, "copydesk: {}", RunFault::NoMemory),
+        _ => writeln!(faults, "copydesk: {fault}"),
+    };
+    let _ = explain_cause(faults, files, cause);
     1
-}
-
-/// The status of what was done by hand with a stored feed. Where it was not done two lines say why.
-pub fn hand_status<E: Write, F: Explains>(
-    faults: &mut E,
-    files: &F,
-    feed: &str,
-    others: &[&str],
-    outcome: Result<(), HandFault>,
-) -> u8
-    ensures { MatchResult outcome (λ _. result ≡ 0) (λ _. result ≡ 1) }
-{
-    match outcome {
-        Ok(()) => 0,
-        Err(fault) => hand_told(faults, files, feed, others, fault),
-    }
 }
 
 /// Tells why the words could not be read, and gives the status of it: 1 where memory ran out, as of a run, and else 2, as of

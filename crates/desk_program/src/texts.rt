@@ -5,17 +5,31 @@ ghost use Rattle.desk_words.specs.Words.{texts_of};
 ghost use Rattle.desk_replace.specs.Replacing.{IsReplaced};
 ghost use Rattle.desk_program.specs.Texts.{AreFound, AreNotInOrder, IsUnchanged, exchange};
 
-use crate::telling::{hand_told, stopped};
+use crate::by_hand::{keep_cause, revision_cause, take_cause};
+use crate::telling::{Cause, stopped, told};
 use desk_check::{CheckFault, check_files};
 use desk_host::Explains;
 use desk_inputs::Memory;
-use desk_replace::{Exchange, ReplaceFault, replace_text};
+use desk_replace::{Exchange, ExchangeFault, PlaceFault, ReplaceFault, replace_text};
 use desk_script::{Files, RunFault};
 use std::alloc::Global;
 use std::io::Write;
 
-/// The status of a replacement. What stopped it has a line, and a second one where it is not of the texts: of these the
-/// places stand on standard output.
+/// The cause where nothing was replaced. Of the texts the first line tells all; the places stand on standard output.
+fn replace_cause<'a>(feed: &'a str, fault: ReplaceFault) -> Cause<'a> {
+    match fault {
+        ReplaceFault::Exchange(ExchangeFault::NoMemory) => Cause::NoMemory(feed),
+        ReplaceFault::Exchange(_) => Cause::Told,
+        ReplaceFault::Take(why) => take_cause(feed, why),
+        ReplaceFault::Place(PlaceFault::NoMemory) => Cause::NoMemory(feed),
+        ReplaceFault::Place(PlaceFault::Write) => Cause::Output,
+        ReplaceFault::Place(_) => Cause::Told,
+        ReplaceFault::Revision(why) => revision_cause(feed, why),
+        ReplaceFault::Keep(why) => keep_cause(feed, why),
+    }
+}
+
+/// The status of a replacement.
 fn replace_status<E: Write, F: Explains>(
     faults: &mut E,
     files: &F,
@@ -26,11 +40,7 @@ fn replace_status<E: Write, F: Explains>(
 {
     match outcome {
         Ok(()) => 0,
-        Err(ReplaceFault::Hand(fault)) => hand_told(faults, files, feed, &[], fault),
-        Err(fault) => {
-            let _ = writeln!(faults, "copydesk: {fault}");
-            1
-        }
+        Err(fault) => told(faults, files, &fault, replace_cause(feed, fault)),
     }
 }
 

@@ -6,6 +6,6 @@ mod replacing;
 mod telling;
 mod texts;
 
-pub use fault::ReplaceFault;
+pub use fault::{ExchangeFault, PlaceFault, ReplaceFault};
 pub use replacing::replace_text;
 pub use texts::Exchange;

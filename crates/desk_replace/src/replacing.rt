@@ -1,16 +1,17 @@
 //! A text in the copy of a stored feed, made another.
 
 ghost use Rattle.std.specs.Prelude.{◌≡◌, ◌≤◌, ◌+◌, ◌⊎◌, length, IfErr, IfOk, OnOk};
+ghost use Rattle.desk_ops.specs.Shown.{copy_of};
 ghost use Rattle.desk_files.specs.Files.{IsHeldAlone, Stays};
-ghost use Rattle.desk_hand.specs.Editing.{IsRevised, IsUnrevised};
-ghost use Rattle.desk_replace.specs.Replacing.{IsReplaced, IsUnreplaced, Replaces, ReplacesNothing, replaced};
+ghost use Rattle.desk_replace.specs.Replacing.{IsExchanged, IsReplaced, IsUnreplaced, replaced};
+ghost use Rattle.desk_replace.specs.Telling.{IsTold};
 
-use crate::fault::ReplaceFault;
+use crate::fault::{PlaceFault, ReplaceFault};
 use crate::telling::only_place;
 use crate::texts::{Exchange, read_both};
 use desk_blocks::Blocks;
 use desk_files::Files;
-use desk_hand::{HandFault, Tally, revise, take_feed, tell_and_keep};
+use desk_hand::{revise, take_feed, tell_and_keep};
 use desk_memory::NoMemory;
 use desk_ops::Symbol;
 use desk_replica::Replica;
@@ -35,53 +36,27 @@ fn replaced<A: Allocator + Copy>(
     Ok(text)
 }
 
-/// Makes the copy of a replica that with a text in place of so many symbols from a place on.
-fn put_at<A: Allocator + Copy>(
+/// The copy of a replica with a text in place of another, at the one place at which that stands. Where there is none, or
+/// more than one, they are told.
+fn exchanged<W: Write, A: Allocator + Copy>(
     alloc: A,
-    replica: &mut Replica<Blocks<A>>,
-    copy: &[Symbol],
-    place: usize,
-    count: usize,
-    new: &[Symbol],
-) -> Result<Tally, HandFault>
-    requires { place + count ≤ length copy.now }
-    ensures ok { IfOk result (λ t. IsRevised replica.old.site replica.old.ops replica.new.ops (replaced place count new.now copy.now) t.inserted t.deleted) }
-    ensures err { IfErr result (IsUnrevised replica.old.site replica.old.ops (replaced place count new.now copy.now)) }
-{
-    let text = replaced(alloc, copy, place, count, new)?;
-    revise(alloc, replica, &text)
-}
-
-/// Makes a text another at the one place of the copy of a replica at which it stands. Where there is none, or more than
-/// one, they are told.
-fn put_in<W: Write, A: Allocator + Copy>(
-    alloc: A,
-    replica: &mut Replica<Blocks<A>>,
+    replica: &Replica<Blocks<A>>,
     writer: &mut W,
     old: &[Symbol],
     new: &[Symbol],
-) -> Result<Tally, ReplaceFault>
-    ensures ok { IfOk result (λ t. Replaces replica.old.site old.now new.now replica.old.ops replica.new.ops t.inserted t.deleted) }
+) -> Result<Vec<Symbol, A>, PlaceFault>
+    ensures ok { IfOk result (λ v. IsExchanged old.now new.now (copy_of replica.now.ops) v.items) }
     ensures silent { OnOk result (writer.new ≡ writer.old) }
-    ensures err { IfErr result (ReplacesNothing replica.old.site old.now new.now replica.old.ops (W.contents writer.old) (W.contents writer.new)) }
+    ensures err { IfErr result (IsTold old.now (copy_of replica.now.ops) (W.contents writer.old) (W.contents writer.new)) }
 {
-    let copy = match replica.copy() {
-        Ok(copy) => copy,
-        Err(_) => return Err(ReplaceFault::Hand(HandFault::NoMemory)),
-    };
-    let place = match only_place(alloc, writer, old, &copy) {
-        Ok(place) => place,
-        Err(why) => return Err(why),
-    };
-    match put_at(alloc, replica, &copy, place, old.len(), new) {
-        Ok(tally) => Ok(tally),
-        Err(why) => Err(ReplaceFault::Hand(why)),
-    }
+    let copy = replica.copy()?;
+    let place = only_place(alloc, writer, old, &copy)?;
+    Ok(replaced(alloc, &copy, place, old.len(), new)?)
 }
 
 /// Makes a text another in the copy of a stored feed, at the one place where it stands, by few inserts and deletes of the
 /// site; no other operation is made, and nothing that the feed held is lost. Both texts are read as `desk_text` reads them,
-/// with marks for their styles or plain, before anything is begun; `Old` and `New` tell the first fault of one. The name of
+/// with marks for their styles or plain, before anything is begun; `Exchange` tells the first fault of one. The name of
 /// the feed is then taken, for this run alone; a missing one holds nothing. The line `ok inserted 4 deleted 4` is written,
 /// and the feed is stored, unless the file has these bytes. Where the text stands at no place the line `no place` is
 /// written, and where it stands at several a line for each of the first 100, as `place 17: by noon`; then nothing is
@@ -100,20 +75,9 @@ pub fn replace_text<W: Write, F: Files, A: Allocator + Copy>(
     ensures err { IfErr result (IsUnreplaced name.now site exchange.now (F.shelf files.old) (F.shelf files.new) (W.contents writer.old) (W.contents writer.new)) }
     ensures held { IsHeldAlone name.now (F.shelf files.old) (F.shelf files.new) ⊎ ((writer.new ≡ writer.old) × Stays (F.shelf files.old) (F.shelf files.new)) }
 {
-    let (old, new) = match read_both(alloc, exchange) {
-        Ok(texts) => texts,
-        Err(why) => return Err(why),
-    };
-    let (stored, mut replica) = match take_feed(alloc, files, name, site) {
-        Ok(taken) => taken,
-        Err(why) => return Err(ReplaceFault::Hand(why)),
-    };
-    let tally = match put_in(alloc, &mut replica, writer, &old, &new) {
-        Ok(tally) => tally,
-        Err(why) => return Err(why),
-    };
-    match tell_and_keep(alloc, &replica, tally, writer, files, name, &stored) {
-        Ok(()) => Ok(()),
-        Err(why) => Err(ReplaceFault::Hand(why)),
-    }
+    let (old, new) = read_both(alloc, exchange)?;
+    let (stored, mut replica) = take_feed(alloc, files, name, site)?;
+    let text = exchanged(alloc, &replica, writer, &old, &new)?;
+    let tally = revise(alloc, &mut replica, &text)?;
+    Ok(tell_and_keep(alloc, &replica, tally, writer, files, name, &stored)?)
 }

@@ -4,8 +4,8 @@ ghost use Rattle.std.specs.Prelude.{◌≡◌, ◌≢◌, ◌∷◌, [], length,
 ghost use Rattle.desk_places.specs.Places.{places_of};
 ghost use Rattle.desk_replace.specs.Telling.{IsTold};
 
-use crate::fault::ReplaceFault;
-use desk_hand::{HandFault, write_out};
+use crate::fault::PlaceFault;
+use desk_hand::write_out;
 use desk_ops::Symbol;
 use desk_places::{places_of, told_places};
 use std::alloc::Allocator;
@@ -18,22 +18,22 @@ fn tell<W: Write, A: Allocator + Copy>(
     old: &[Symbol],
     copy: &[Symbol],
     places: &[usize],
-) -> ReplaceFault
+) -> PlaceFault
     requires all { places.now ≡ places_of old.now copy.now }
     requires several { length places.now ≢ 1 }
     ensures { IsTold old.now copy.now (W.contents writer.old) (W.contents writer.new) result }
 {
     let text = match told_places(alloc, old.len(), copy, places) {
         Ok(text) => text,
-        Err(_) => return ReplaceFault::Hand(HandFault::NoMemory),
+        Err(_) => return PlaceFault::NoMemory,
     };
     if write_out(writer, &text).is_err() {
-        return ReplaceFault::Hand(HandFault::Write);
+        return PlaceFault::Write;
     }
     if places.is_empty() {
-        ReplaceFault::NoPlace
+        PlaceFault::NoPlace
     } else {
-        ReplaceFault::ManyPlaces(places.len())
+        PlaceFault::ManyPlaces(places.len())
     }
 }
 
@@ -43,15 +43,12 @@ pub fn only_place<W: Write, A: Allocator + Copy>(
     writer: &mut W,
     old: &[Symbol],
     copy: &[Symbol],
-) -> Result<usize, ReplaceFault>
+) -> Result<usize, PlaceFault>
     ensures ok { IfOk result (λ p. places_of old.now copy.now ≡ p ∷ []) }
     ensures silent { OnOk result (writer.new ≡ writer.old) }
     ensures err { IfErr result (IsTold old.now copy.now (W.contents writer.old) (W.contents writer.new)) }
 {
-    let places = match places_of(alloc, old, copy) {
-        Ok(places) => places,
-        Err(_) => return Err(ReplaceFault::Hand(HandFault::NoMemory)),
-    };
+    let places = places_of(alloc, old, copy)?;
     if places.len() == 1 {
         return Ok(places[0]);
     }

@@ -3,8 +3,7 @@
 ghost use Rattle.std.specs.Prelude.{IfErr, IfOk};
 ghost use Rattle.desk_replace.specs.Replacing.{AreRead, AreUnread};
 
-use crate::fault::ReplaceFault;
-use desk_hand::HandFault;
+use crate::fault::ExchangeFault;
 use desk_ops::Symbol;
 use desk_text::{TextFault, read_text};
 use std::alloc::Allocator;
@@ -22,18 +21,18 @@ pub struct Exchange<'a> {
 pub fn read_both<A: Allocator + Copy>(
     alloc: A,
     exchange: &Exchange<'_>,
-) -> Result<(Vec<Symbol, A>, Vec<Symbol, A>), ReplaceFault>
+) -> Result<(Vec<Symbol, A>, Vec<Symbol, A>), ExchangeFault>
     ensures ok { IfOk result (λ t. AreRead exchange.now t.0.items t.1.items) }
     ensures err { IfErr result (AreUnread exchange.now) }
 {
     let old = match read_text(alloc, exchange.from.as_bytes(), exchange.plain) {
         Ok(old) => old,
-        Err(TextFault::NoMemory) => return Err(ReplaceFault::Hand(HandFault::NoMemory)),
-        Err(why) => return Err(ReplaceFault::Old(why)),
+        Err(TextFault::NoMemory) => return Err(ExchangeFault::NoMemory),
+        Err(why) => return Err(ExchangeFault::Old(why)),
     };
     match read_text(alloc, exchange.to.as_bytes(), exchange.plain) {
         Ok(new) => Ok((old, new)),
-        Err(TextFault::NoMemory) => Err(ReplaceFault::Hand(HandFault::NoMemory)),
-        Err(why) => Err(ReplaceFault::New(why)),
+        Err(TextFault::NoMemory) => Err(ExchangeFault::NoMemory),
+        Err(why) => Err(ExchangeFault::New(why)),
     }
 }

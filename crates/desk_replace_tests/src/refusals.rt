@@ -2,9 +2,8 @@ use crate::rooms::{feed_of, holds, left_by, text_of};
 use desk_codec::{FeedFault, FeedWhy};
 use desk_files::trial::{AtEnd, TrialFiles, TrialWriter};
 use desk_files::{FileRefusal, Files};
-use desk_hand::{FeedTrouble, HandFault};
-use desk_replace::{Exchange, ReplaceFault, replace_text};
-use desk_replica::Refusal;
+use desk_hand::{FeedTrouble, KeepFault, RevisionFault, TakeFault};
+use desk_replace::{Exchange, ExchangeFault, PlaceFault, ReplaceFault, replace_text};
 use desk_text::{Cause, TextFault};
 use linked_list_allocator::LocalHeap;
 use std::alloc::{AllocError, Global};
@@ -57,6 +56,16 @@ fn text_fault(line: u64, column: u64, cause: Cause) -> TextFault {
     }
 }
 
+/// The text that is to be replaced is none.
+fn old_fault(why: TextFault) -> ReplaceFault {
+    ReplaceFault::Exchange(ExchangeFault::Old(why))
+}
+
+/// The text that is to take its place is none.
+fn new_fault(why: TextFault) -> ReplaceFault {
+    ReplaceFault::Exchange(ExchangeFault::New(why))
+}
+
 /// Why two texts are not exchanged, if no name was taken for them.
 fn fault_of(
     alloc: Global,
@@ -74,13 +83,13 @@ fn fault_of(
 /// The first text is told before the other.
 #[test]
 fn texts_that_are_none(rt: HostRuntime) -> Result<(), Fail> {
-    let old = ReplaceFault::Old(text_fault(1, 2, Cause::Symbol));
+    let old = old_fault(text_fault(1, 2, Cause::Symbol));
     assert_eq!(rt; fault_of(rt.alloc(), "x\t", "_y", false)?, Some(old));
-    let new = ReplaceFault::New(text_fault(2, 3, Cause::Unclosed));
+    let new = new_fault(text_fault(2, 3, Cause::Unclosed));
     assert_eq!(rt; fault_of(rt.alloc(), "x", "\n_y", false)?, Some(new));
-    let mark = ReplaceFault::Old(text_fault(1, 1, Cause::Escape));
+    let mark = old_fault(text_fault(1, 1, Cause::Escape));
     assert_eq!(rt; fault_of(rt.alloc(), "\\x", "y", false)?, Some(mark));
-    let plain = ReplaceFault::New(text_fault(1, 4, Cause::Symbol));
+    let plain = new_fault(text_fault(1, 4, Cause::Symbol));
     assert_eq!(rt; fault_of(rt.alloc(), "_\\", "_\\^\r", true)?, Some(plain));
     Ok(())
 }
@@ -94,19 +103,19 @@ fn feeds_that_take_no_exchange(rt: HostRuntime) -> Result<(), Fail> {
     });
     assert_eq!(rt;
         stop_of(rt.alloc(), &mut files, "cut.feed", &LONGER)?,
-        Some(ReplaceFault::Hand(HandFault::Feed(cut)))
+        Some(ReplaceFault::Take(TakeFault::Feed(cut)))
     );
     let mut files = files.for_next_run();
-    let late = HandFault::Refused(Refusal::ClockFull);
+    let late = RevisionFault::ClockFull;
     assert_eq!(rt;
         stop_of(rt.alloc(), &mut files, "late.feed", &LONGER)?,
-        Some(ReplaceFault::Hand(late))
+        Some(ReplaceFault::Revision(late))
     );
     // Another feed is held.
-    let held = HandFault::Untaken(FileRefusal::Device);
+    let held = TakeFault::Untaken(FileRefusal::Device);
     assert_eq!(rt;
         stop_of(rt.alloc(), &mut files, "x.feed", &LONGER)?,
-        Some(ReplaceFault::Hand(held))
+        Some(ReplaceFault::Take(held))
     );
     Ok(())
 }
@@ -117,7 +126,7 @@ fn missing_feed_has_no_place(rt: HostRuntime) -> Result<(), Fail> {
     let mut files = rooms(rt.alloc(), 0)?;
     let mut written = Vec::new(rt.alloc());
     let ended = replace_text(rt.alloc(), &mut written, &mut files, "b.feed", 4, &LONGER);
-    assert_eq!(rt; ended, Err(ReplaceFault::NoPlace));
+    assert_eq!(rt; ended, Err(ReplaceFault::Place(PlaceFault::NoPlace)));
     assert!(rt; written.as_slice() == b"no place\n".as_slice());
     assert!(rt; files.bytes_of("b.feed").is_none());
     Ok(())
@@ -127,17 +136,17 @@ fn missing_feed_has_no_place(rt: HostRuntime) -> Result<(), Fail> {
 fn files_that_fail_under_an_exchange(rt: HostRuntime) -> Result<(), Fail> {
     let device = FileRefusal::Device;
     let faults = [
-        HandFault::Untaken(device),
-        HandFault::Feed(FeedTrouble::File(device)),
-        HandFault::Unstored(device),
-        HandFault::Unstored(device),
+        ReplaceFault::Take(TakeFault::Untaken(device)),
+        ReplaceFault::Take(TakeFault::Feed(FeedTrouble::File(device))),
+        ReplaceFault::Keep(KeepFault::Unstored(device)),
+        ReplaceFault::Keep(KeepFault::Unstored(device)),
     ];
     for at in 0..faults.len() {
         let k = (at as u64).saturating_add(1);
         let mut files = rooms(rt.alloc(), k)?;
         let mut written = Vec::new(rt.alloc());
         let ended = replace_text(rt.alloc(), &mut written, &mut files, "x.feed", 4, &LONGER);
-        assert_eq!(rt; ended, Err(ReplaceFault::Hand(faults[at])));
+        assert_eq!(rt; ended, Err(faults[at]));
         assert!(rt; holds(&files, "x.feed", X));
     }
     Ok(())
@@ -148,7 +157,7 @@ fn closed_output_of_an_exchange(rt: HostRuntime) -> Result<(), Fail> {
     let mut files = rooms(rt.alloc(), 0)?;
     let mut writer = TrialWriter::new(rt.alloc()).with_room(9, AtEnd::Fails);
     let ended = replace_text(rt.alloc(), &mut writer, &mut files, "x.feed", 4, &LONGER);
-    assert_eq!(rt; ended, Err(ReplaceFault::Hand(HandFault::Write)));
+    assert_eq!(rt; ended, Err(ReplaceFault::Keep(KeepFault::Write)));
     assert!(rt; b"ok inserted 1 deleted 0\n".starts_with(writer.written()));
     assert!(rt; holds(&files, "x.feed", X));
     assert!(rt; files.bytes_of("x.feed.new").is_none());
@@ -160,7 +169,7 @@ fn closed_output_of_places(rt: HostRuntime) -> Result<(), Fail> {
     let mut files = feed_of(rt.alloc(), b"x x")?;
     let mut writer = TrialWriter::new(rt.alloc()).with_room(9, AtEnd::TakesNone);
     let ended = replace_text(rt.alloc(), &mut writer, &mut files, "a.feed", 4, &LONGER);
-    assert_eq!(rt; ended, Err(ReplaceFault::Hand(HandFault::Write)));
+    assert_eq!(rt; ended, Err(ReplaceFault::Place(PlaceFault::Write)));
     assert!(rt; b"place 0: x x\n".starts_with(writer.written()));
     assert!(rt; text_of(rt.alloc(), &mut files)?.as_slice() == b"x x".as_slice());
     Ok(())
@@ -172,11 +181,16 @@ const HEAP: usize = 1_048_576;
 /// Whether a fault is want of memory.
 fn is_of_memory(fault: ReplaceFault) -> bool {
     match fault {
-        ReplaceFault::Hand(HandFault::NoMemory) => true,
-        ReplaceFault::Hand(HandFault::Feed(FeedTrouble::NoMemory)) => true,
-        ReplaceFault::Hand(HandFault::Feed(FeedTrouble::File(FileRefusal::NoMemory))) => true,
-        ReplaceFault::Hand(HandFault::Unstored(FileRefusal::NoMemory)) => true,
-        _ => false,
+        ReplaceFault::Exchange(why) => why == ExchangeFault::NoMemory,
+        ReplaceFault::Take(TakeFault::Feed(why)) => {
+            why == FeedTrouble::NoMemory || why == FeedTrouble::File(FileRefusal::NoMemory)
+        }
+        ReplaceFault::Take(TakeFault::Untaken(_)) => false,
+        ReplaceFault::Place(why) => why == PlaceFault::NoMemory,
+        ReplaceFault::Revision(why) => why == RevisionFault::NoMemory,
+        ReplaceFault::Keep(why) => {
+            why == KeepFault::NoMemory || why == KeepFault::Unstored(FileRefusal::NoMemory)
+        }
     }
 }
 
@@ -222,7 +236,7 @@ fn growths_of_an_exchange_refused(rt: HostRuntime) -> Result<(), Fail> {
 
 #[test]
 fn growths_of_places_refused(rt: HostRuntime) -> Result<(), Fail> {
-    let several = Err(ReplaceFault::ManyPlaces(2));
+    let several = Err(ReplaceFault::Place(PlaceFault::ManyPlaces(2)));
     let mut refused = 0u32;
     for cut in 0..384usize {
         let out = is_refused(rt.alloc(), cut, b"x x", several, b"x x")?;
@@ -242,13 +256,28 @@ fn says(alloc: Global, fault: ReplaceFault, words: &str) -> Result<bool, AllocEr
 fn words_of_replace_faults(rt: HostRuntime) -> Result<(), Fail> {
     let fault = text_fault(1, 3, Cause::Symbol);
     let old = "OLD, line 1, column 3: no symbol of a copy";
-    assert!(rt; says(rt.alloc(), ReplaceFault::Old(fault), old)?);
+    assert!(rt; says(rt.alloc(), old_fault(fault), old)?);
     let new = "NEW, line 1, column 3: no symbol of a copy";
-    assert!(rt; says(rt.alloc(), ReplaceFault::New(fault), new)?);
-    assert!(rt; says(rt.alloc(), ReplaceFault::NoPlace, "no place")?);
-    assert!(rt; says(rt.alloc(), ReplaceFault::ManyPlaces(3), "3 places")?);
-    let hand = ReplaceFault::Hand(HandFault::Write);
-    assert!(rt; says(rt.alloc(), hand, "write fault")?);
+    assert!(rt; says(rt.alloc(), new_fault(fault), new)?);
+    let rows = [
+        (ReplaceFault::Exchange(ExchangeFault::NoMemory), "no memory"),
+        (
+            ReplaceFault::Take(TakeFault::Untaken(FileRefusal::Device)),
+            "file fault",
+        ),
+        (ReplaceFault::Place(PlaceFault::NoPlace), "no place"),
+        (ReplaceFault::Place(PlaceFault::ManyPlaces(3)), "3 places"),
+        (ReplaceFault::Place(PlaceFault::Write), "write fault"),
+        (ReplaceFault::Place(PlaceFault::NoMemory), "no memory"),
+        (
+            ReplaceFault::Revision(RevisionFault::ClockFull),
+            "the greatest counter is held",
+        ),
+        (ReplaceFault::Keep(KeepFault::Write), "write fault"),
+    ];
+    for (fault, words) in rows {
+        assert!(rt; says(rt.alloc(), fault, words)?, "{words}");
+    }
     Ok(())
 }
 
@@ -256,7 +285,7 @@ fn words_of_replace_faults(rt: HostRuntime) -> Result<(), Fail> {
 #[test]
 fn copy_stays_under_a_refusal(rt: HostRuntime) -> Result<(), Fail> {
     let left = left_by(rt.alloc(), b"_a_ b", "_a", "c", false)?;
-    let fault = ReplaceFault::Old(text_fault(1, 3, Cause::Unclosed));
+    let fault = old_fault(text_fault(1, 3, Cause::Unclosed));
     assert_eq!(rt; left.ended, Err(fault));
     assert!(rt; left.written.is_empty());
     assert!(rt; left.text.as_slice() == b"_a_ b".as_slice());

@@ -1,31 +1,35 @@
 use crate::rooms::left_by;
 use desk_places::{places_of, told_places};
-use desk_replace::ReplaceFault;
+use desk_replace::{PlaceFault, ReplaceFault};
 use desk_text::read_text;
 use std::alloc::Global;
 use std::test::Fail;
 
 /// A copy as text, what is looked for, what is told, and how it ends.
-type Row = (&'static str, &'static str, &'static str, ReplaceFault);
+type Row = (&'static str, &'static str, &'static str, PlaceFault);
 
 /// Whether a row is so, and the copy stays.
 fn is_so(alloc: Global, row: Row) -> Result<bool, Fail> {
     let (text, from, lines, fault) = row;
     let left = left_by(alloc, text.as_bytes(), from, "new", false)?;
     let is_told = left.written.as_slice() == lines.as_bytes();
-    Ok(left.ended == Err(fault) && is_told && left.text.as_slice() == text.as_bytes())
+    Ok(
+        left.ended == Err(ReplaceFault::Place(fault))
+            && is_told
+            && left.text.as_slice() == text.as_bytes(),
+    )
 }
 
 #[test]
 fn texts_that_stand_nowhere(rt: HostRuntime) -> Result<(), Fail> {
     let rows: [Row; 5] = [
-        ("one", "q", "no place\n", ReplaceFault::NoPlace),
-        ("", "one", "no place\n", ReplaceFault::NoPlace),
+        ("one", "q", "no place\n", PlaceFault::NoPlace),
+        ("", "one", "no place\n", PlaceFault::NoPlace),
         // It begins to stand, and the copy ends.
-        ("two one", "one ", "no place\n", ReplaceFault::NoPlace),
-        ("one", "one more", "no place\n", ReplaceFault::NoPlace),
+        ("two one", "one ", "no place\n", PlaceFault::NoPlace),
+        ("one", "one more", "no place\n", PlaceFault::NoPlace),
         // It stands there in another style.
-        ("of _of_", "^of^", "no place\n", ReplaceFault::NoPlace),
+        ("of _of_", "^of^", "no place\n", PlaceFault::NoPlace),
     ];
     for row in rows {
         assert!(rt; is_so(rt.alloc(), row)?, "{row:?}");
@@ -41,35 +45,35 @@ fn texts_that_stand_at_several_places(rt: HostRuntime) -> Result<(), Fail> {
             "aaa",
             "aa",
             "place 0: aaa\nplace 1: aaa\n",
-            ReplaceFault::ManyPlaces(2),
+            PlaceFault::ManyPlaces(2),
         ),
         // The end of a line is shown as a space.
         (
             "one\ntwo one",
             "one",
             "place 0: one two one\nplace 8: one two one\n",
-            ReplaceFault::ManyPlaces(2),
+            PlaceFault::ManyPlaces(2),
         ),
         // With marks for the styles.
         (
             "_a_ b _a_",
             "_a_",
             "place 0: _a_ b _a_\nplace 4: _a_ b _a_\n",
-            ReplaceFault::ManyPlaces(2),
+            PlaceFault::ManyPlaces(2),
         ),
         // An empty text stands at each place, and at the end.
         (
             "a\\_",
             "",
             "place 0: a\\_\nplace 1: a\\_\nplace 2: a\\_\n",
-            ReplaceFault::ManyPlaces(3),
+            PlaceFault::ManyPlaces(3),
         ),
         // 20 symbols before it, and 20 behind it.
         (
             "x1234567890123456789012345x",
             "x",
             "place 0: x12345678901234567890\nplace 26: 67890123456789012345x\n",
-            ReplaceFault::ManyPlaces(2),
+            PlaceFault::ManyPlaces(2),
         ),
     ];
     for row in rows {
@@ -83,7 +87,9 @@ fn lines_of(alloc: Global, count: usize, last: &[u8]) -> Result<Option<u32>, Fai
     let mut text = Vec::with_capacity(alloc, count)?;
     text.resize(count, b'a')?;
     let left = left_by(alloc, &text, "a", "b", false)?;
-    if left.ended != Err(ReplaceFault::ManyPlaces(count)) || !left.written.ends_with(last) {
+    if left.ended != Err(ReplaceFault::Place(PlaceFault::ManyPlaces(count)))
+        || !left.written.ends_with(last)
+    {
         return Ok(None);
     }
     let mut lines = 0u32;

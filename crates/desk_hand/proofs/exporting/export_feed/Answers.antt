@@ -4,20 +4,23 @@ use Rattle.std.proofs.lemmas.Result.{err_from_is_err_and}
 use Rattle.desk_stored.specs.Sending.{WritesFront}
 use Rattle.desk_hand.proofs.exporting.export_feed.Goals as goal
 
-pub returns-in-Err-clause-err : goal.returns-in-Err-clause-err
-returns-in-Err-clause-err g c = (refl, c.in-Err.ensures.err)
-
-pub returns-in-Ok-write_out-clause-ok : goal.returns-in-Ok-write_out-clause-ok
-returns-in-Ok-write_out-clause-ok g c =
-    let written = subst (λ t. Appends (g.W.Write.contents c.args.writer.now) (g.W.Write.contents c.write_out.new.writer) t) (c.deref.ensures.value ∙ c.in_ok-text.ensures) c.in-Ok-write_out.ensures.ok in
-    (c.in-Ok.replica.ops, c.in-Ok.ensures.ok, written)
-
-pub returns-clause-err : goal.returns-clause-err
-returns-clause-err g c =
-    let front = subst (λ t. WritesFront (g.W.Write.contents c.args.writer.now) (g.W.Write.contents c.write_out.new.writer) t) (c.deref.ensures.value ∙ c.in_ok-text.ensures) c.in-Err-write_out.ensures.err in
-    (c.in-Ok.replica.ops, c.in-Ok.ensures.ok, front)
+pub returns-in_err-replica-clause-err : goal.returns-in_err-replica-clause-err
+returns-in_err-replica-clause-err g c =
+    let p = err_from_is_err_and c.from_residual.result c.from_residual.ensures.1 in
+    rw p.1 (rw p.2 (refl, c.in_err-replica.ensures.err))
 
 pub returns-in_err-text-clause-err : goal.returns-in_err-text-clause-err
 returns-in_err-text-clause-err g c =
-    let p = err_from_is_err_and c.from_residual.result c.from_residual.ensures.1 in
-    rw p.1 (rw p.2 (refl, c.in-Ok.replica.ops, c.in-Ok.ensures.ok, c.in-Ok.ensures.counted))
+    let p = err_from_is_err_and c.from_residual-in_err-text.result c.from_residual-in_err-text.ensures.1 in
+    rw p.1 (rw p.2 (refl, c.in_ok-replica.replica.ops, c.in_ok-replica.ensures.ok, c.in_ok-replica.ensures.counted))
+
+pub returns-in_err-write_out-clause-err : goal.returns-in_err-write_out-clause-err
+returns-in_err-write_out-clause-err g c =
+    let p = err_from_is_err_and c.from_residual-in_err-write_out.result c.from_residual-in_err-write_out.ensures.1 in
+    let front = subst (λ t. WritesFront (g.W.Write.contents c.args.writer.now) (g.W.Write.contents c.write_out.new.writer) t) (c.deref.ensures.value ∙ c.in_ok-text.ensures) c.in_err-write_out.ensures.err in
+    rw p.1 (rw p.2 (c.in_ok-replica.replica.ops, c.in_ok-replica.ensures.ok, front, c.in_ok-replica.ensures.counted))
+
+pub returns-clause-ok : goal.returns-clause-ok
+returns-clause-ok g c =
+    let written = subst (λ t. Appends (g.W.Write.contents c.args.writer.now) (g.W.Write.contents c.write_out.new.writer) t) (c.deref.ensures.value ∙ c.in_ok-text.ensures) c.in_ok-write_out.ensures.ok in
+    (c.in_ok-replica.replica.ops, c.in_ok-replica.ensures.ok, written)

@@ -10,12 +10,19 @@ returns-in_err-ops-clause-err g c =
     let p = err_from_is_err_and c.from_residual.result c.from_residual.ensures.1 in
     rw p.1 (rw p.2 (c.in_err-ops.ensures.err c.args.replica.now.ops))
 
-pub returns-in-Err-clause-err : goal.returns-in-Err-clause-err
-returns-in-Err-clause-err g c =
+pub returns-in_err-count-clause-err : goal.returns-in_err-count-clause-err
+returns-in_err-count-clause-err g c =
+    let p = err_from_is_err_and c.from_residual-in_err-count.result c.from_residual-in_err-count.ensures.1 in
     let feed = subst (λ l. IsFeedOf ((g.F.Files.shelf c.args.files.now).kept c.args.name.now) l) (sym c.deref.ensures.value) c.in_ok-ops.ensures.ok.0 in
-    rw c.from.ensures (refused c.args.replica.now.ops c.take_all.new.self.ops c.args.name.now (g.F.Files.shelf c.args.files.now) (g.F.Files.shelf c.operations_of.new.files) c.deref.result.now c.in-Err.stop c.in-Err.stop.why refl feed c.in_ok-ops.ensures.ok.1 c.in-Err.ensures.stopped)
+    rw p.1 (rw p.2 (refused c.args.replica.now.ops c.take_all.new.self.ops c.args.name.now (g.F.Files.shelf c.args.files.now) (g.F.Files.shelf c.operations_of.new.files) c.deref.result.now c.in_err-count.field-0.0 _ refl feed c.in_ok-ops.ensures.ok.1 c.in_err-count.ensures.stopped))
 
-pub returns-in-Ok-put_line-clause-ok : goal.returns-in-Ok-put_line-clause-ok
-returns-in-Ok-put_line-clause-ok g c =
+pub returns-in_err-put_line-clause-err : goal.returns-in_err-put_line-clause-err
+returns-in_err-put_line-clause-err g c =
+    let p = err_from_is_err_and c.from_residual-in_err-put_line.result c.from_residual-in_err-put_line.ensures.1 in
+    let feed = c.in_ok-ops.ensures.ok.0 in
+    rw p.1 (rw p.2 (feed.0, (feed.1, c.in_ok-ops.ensures.ok.1)))
+
+pub returns-clause-ok : goal.returns-clause-ok
+returns-clause-ok g c =
     let feed = subst (λ l. IsFeedOf ((g.F.Files.shelf c.args.files.now).kept c.args.name.now) l) (sym c.deref.ensures.value) c.in_ok-ops.ensures.ok.0 in
-    (c.deref.result.now, feed, c.in-Ok.ensures.ok, c.in-Ok-put_line.ensures ∙ ap (λ l. string_bytes c.args.out.now ++ l) (counted_is c.args.name.now c.args.replica.now.ops c.take_all.new.self.ops c.deref.result.now c.in-Ok.count c.in-Ok.ensures.counts c.in-Ok.ensures.ok))
+    (c.deref.result.now, feed, c.in_ok-count.ensures.ok, c.in_ok-put_line.ensures ∙ ap (λ l. string_bytes c.args.out.now ++ l) (counted_is c.args.name.now c.args.replica.now.ops c.take_all.new.self.ops c.deref.result.now c.in_ok-count.count c.in_ok-count.ensures.counts c.in_ok-count.ensures.ok))

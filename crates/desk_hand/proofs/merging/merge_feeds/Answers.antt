@@ -1,15 +1,46 @@
-use Rattle.std.proofs.Common.{inl, inr, refl}
-use Rattle.std.proofs.lemmas.Result.{err_from_is_err_and, on_ok_weaker}
-use Rattle.desk_hand.proofs.Shelves.{err_weaker}
+use Rattle.std.proofs.Common.{◌++◌, ◌∙◌, refl, subst}
+use Rattle.std.specs.Prelude.{string_bytes}
+use Rattle.std.proofs.lemmas.Result.{err_from_is_err_and}
+use Rattle.desk_files.specs.Files.{Shelf}
+use Rattle.desk_stored.specs.Stored.{was_read}
+use Rattle.desk_hand.specs.Keeping.{IsKept, IsUnkept}
+use Rattle.desk_hand.specs.Merging.{faults_line}
+use Rattle.desk_hand.proofs.Shelves.{same_shelf}
 use Rattle.desk_hand.proofs.merging.merge_feeds.Goals as goal
 
 pub returns-in_err-old-clause-err : goal.returns-in_err-old-clause-err
 returns-in_err-old-clause-err g c =
     let p = err_from_is_err_and c.from_residual.result c.from_residual.ensures.1 in
-    rw p.1 (rw p.2 (inl (refl, c.in_err-old.ensures.err)))
+    rw p.1 (rw p.2 (refl, c.in_err-old.ensures.err))
+
+pub returns-in_err-out-clause-err : goal.returns-in_err-out-clause-err
+returns-in_err-out-clause-err g c =
+    let p = err_from_is_err_and c.from_residual-in_err-out.result c.from_residual-in_err-out.ensures.1 in
+    rw p.1 (rw p.2 (refl, g.F.Files.shelf c.take_feed.new.files, was_read c.in_ok-old.old, c.in_ok-old.replica.ops, c.in_ok-old.ensures.ok, c.join_files.ensures.stays, c.in_err-out.ensures.err))
+
+pub returns-in_err-put_faults-clause-err : goal.returns-in_err-put_faults-clause-err
+returns-in_err-put_faults-clause-err g c =
+    let p = err_from_is_err_and c.from_residual-in_err-put_faults.result c.from_residual-in_err-put_faults.ensures.1 in
+    let same = same_shelf (g.F.Files.shelf c.take_feed.new.files) (g.F.Files.shelf c.join_files.new.files) c.join_files.ensures.stays c.in_ok-out.ensures.counted in
+    rw p.1 (rw p.2 (g.F.Files.shelf c.take_feed.new.files, was_read c.in_ok-old.old, c.in_ok-old.replica.ops, c.in_ok-old.ensures.ok, c.join_files.new.replica.ops, string_bytes c.in_ok-out.out, c.in_ok-out.ensures.ok, (same, refl)))
+
+pub returns-in_err-write_and_keep-clause-err : goal.returns-in_err-write_and_keep-clause-err
+returns-in_err-write_and_keep-clause-err g c =
+    let p = err_from_is_err_and c.from_residual-in_err-write_and_keep.result c.from_residual-in_err-write_and_keep.ensures.1 in
+    let same = same_shelf (g.F.Files.shelf c.take_feed.new.files) (g.F.Files.shelf c.join_files.new.files) c.join_files.ensures.stays c.in_ok-out.ensures.counted in
+    let told = subst
+    (λ t. IsUnkept c.args.name.now t (g.F.Files.shelf c.join_files.new.files) (g.F.Files.shelf c.write_and_keep.new.files) (g.W.Write.contents c.args.writer.now) (g.W.Write.contents c.write_and_keep.new.writer) c.in_err-write_and_keep.field-0.0)
+    (c.as_bytes.ensures.value ∙ c.in_ok-put_faults.ensures) c.in_err-write_and_keep.ensures.err in
+    let unkept = subst
+    (λ (s : Shelf). IsUnkept c.args.name.now (string_bytes c.in_ok-out.out ++ faults_line c.join_files.new.replica.ops) s (g.F.Files.shelf c.write_and_keep.new.files) (g.W.Write.contents c.args.writer.now) (g.W.Write.contents c.write_and_keep.new.writer) c.in_err-write_and_keep.field-0.0) same told in
+    rw p.1 (rw p.2 (g.F.Files.shelf c.take_feed.new.files, was_read c.in_ok-old.old, c.in_ok-old.replica.ops, c.in_ok-old.ensures.ok, c.join_files.new.replica.ops, string_bytes c.in_ok-out.out, c.in_ok-out.ensures.ok, unkept))
 
 pub returns-clause-ok : goal.returns-clause-ok
-returns-clause-ok g c = on_ok_weaker c.merge_into.result (λ merged. (g.F.Files.shelf c.take_feed.new.files, _, _, c.in_ok-old.ensures.ok, merged)) c.merge_into.ensures.ok
-
-pub returns-clause-err : goal.returns-clause-err
-returns-clause-err g c = err_weaker c.merge_into.result _ _ (λ e cut. inr (g.F.Files.shelf c.take_feed.new.files, _, _, c.in_ok-old.ensures.ok, cut)) c.merge_into.ensures.err
+returns-clause-ok g c =
+    let same = same_shelf (g.F.Files.shelf c.take_feed.new.files) (g.F.Files.shelf c.join_files.new.files) c.join_files.ensures.stays c.in_ok-out.ensures.counted in
+    let told = subst
+    (λ t. IsKept c.args.name.now c.join_files.new.replica.ops t (was_read c.in_ok-old.old) (g.F.Files.shelf c.join_files.new.files) (g.F.Files.shelf c.write_and_keep.new.files) (g.W.Write.contents c.args.writer.now) (g.W.Write.contents c.write_and_keep.new.writer))
+    (c.as_bytes.ensures.value ∙ c.in_ok-put_faults.ensures) c.in_ok-write_and_keep.ensures.ok in
+    let kept = subst
+    (λ (s : Shelf). IsKept c.args.name.now c.join_files.new.replica.ops (string_bytes c.in_ok-out.out ++ faults_line c.join_files.new.replica.ops) (was_read c.in_ok-old.old) s (g.F.Files.shelf c.write_and_keep.new.files) (g.W.Write.contents c.args.writer.now) (g.W.Write.contents c.write_and_keep.new.writer)) same told in
+    (g.F.Files.shelf c.take_feed.new.files, was_read c.in_ok-old.old, c.in_ok-old.replica.ops, c.in_ok-old.ensures.ok, c.join_files.new.replica.ops, string_bytes c.in_ok-out.out, c.in_ok-out.ensures.ok, kept)

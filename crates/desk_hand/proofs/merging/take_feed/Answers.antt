@@ -1,6 +1,7 @@
-use Rattle.std.proofs.Common.{inr, refl, sym, subst}
+use Rattle.std.proofs.Common.{sym, subst}
 use Rattle.desk_files.specs.Files.{IsNowHeld, Reads, Shelf}
 use Rattle.desk_stored.specs.Stored.{was_read}
+use Rattle.desk_hand.proofs.Opening.{shut}
 use Rattle.desk_hand.proofs.Shelves.{read_counts, same_shelf}
 use Rattle.desk_hand.proofs.merging.take_feed.Goals as goal
 
@@ -16,10 +17,8 @@ returns-in-Ok-open_replica-clause-ok g c =
 
 pub returns-in-Err-open_replica-clause-err : goal.returns-in-Err-open_replica-clause-err
 returns-in-Err-open_replica-clause-err g c =
-    inr (
-      c.from.result,
-      refl,
-      g.F.Files.shelf c.hold.new.self,
-      c.in_default.ensures.taken,
-      inr (c.in-Err-open_replica.why, c.from.ensures, (c.stored_bytes.ensures.stays, was_read c.in-Ok.old, c.in-Ok.ensures.ok.0, c.in-Ok.ensures.ok.1, c.in-Err-open_replica.ensures.err)),
-    )
+    let held : Shelf = g.F.Files.shelf c.hold.new.self in
+    let last : Shelf = g.F.Files.shelf c.stored_bytes.new.files in
+    let why = c.in-Err-open_replica.why in
+    let is = shut c.args.name.now held last why (c.stored_bytes.ensures.stays, was_read c.in-Ok.old, c.in-Ok.ensures.ok.0, c.in-Ok.ensures.ok.1, c.in-Err-open_replica.ensures.err) in
+    rw c.from.ensures (held, c.in_default.ensures.taken, is)

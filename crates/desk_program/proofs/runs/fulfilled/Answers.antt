@@ -3,7 +3,7 @@ use Rattle.std.specs.Borrow.{Bor}
 use Rattle.std.specs.Option.{option_copied}
 use Rattle.clap.specs.Words.{Text}
 use Rattle.desk_hand.specs.Merging.{IsMerged, IsUnmerged}
-use Rattle.desk_hand.specs.declared.fault.HandFault.{HandFault}
+use Rattle.desk_hand.specs.declared.fault.MergeFault.{MergeFault}
 use Rattle.desk_words.specs.Words.{texts_of}
 use Rattle.desk_program.specs.Previews.{IsSeen, IsUnseen}
 use Rattle.desk_program.specs.Runs.{Does, Stops}
@@ -35,23 +35,23 @@ pub returns-in-Merge-clause-done : goal.returns-in-Merge-clause-done
 returns-in-Merge-clause-done g c zero =
     subst (λ w. Does w (g.F.Files.shelf c.args.files.now) (g.F.Files.shelf c.merge_feeds-outcome.new.files) (g.R.Read.remaining c.args.reader.now) (g.W.Write.contents c.args.writer.now) (g.W.Write.contents c.merge_feeds-outcome.new.writer)) (sym c.in-Merge.is)
     (subst (λ (l : List (Bor Text)). IsMerged c.in-Merge.feed.now (texts_of l) (g.F.Files.shelf c.args.files.now) (g.F.Files.shelf c.merge_feeds-outcome.new.files) (g.W.Write.contents c.args.writer.now) (g.W.Write.contents c.merge_feeds-outcome.new.writer)) c.deref.ensures.value
-    (done_of c.merge_feeds-outcome.result c.hand_status.result c.hand_status.ensures c.merge_feeds-outcome.ensures.ok zero))
+    (done_of c.merge_feeds-outcome.result c.merge_status.result c.merge_status.ensures c.merge_feeds-outcome.ensures.ok zero))
 
 pub returns-in-Merge-clause-stopped : goal.returns-in-Merge-clause-stopped
 returns-in-Merge-clause-stopped g c one =
     subst (λ w. Stops w (g.F.Files.shelf c.args.files.now) (g.F.Files.shelf c.merge_feeds-outcome.new.files) (g.R.Read.remaining c.args.reader.now) (g.W.Write.contents c.args.writer.now) (g.W.Write.contents c.merge_feeds-outcome.new.writer)) (sym c.in-Merge.is)
-    (subst (λ (l : List (Bor Text)). (fault : HandFault) × IsUnmerged c.in-Merge.feed.now (texts_of l) (g.F.Files.shelf c.args.files.now) (g.F.Files.shelf c.merge_feeds-outcome.new.files) (g.W.Write.contents c.args.writer.now) (g.W.Write.contents c.merge_feeds-outcome.new.writer) fault) c.deref.ensures.value
-    (halt_of c.merge_feeds-outcome.result _ c.hand_status.result c.hand_status.ensures c.merge_feeds-outcome.ensures.err one))
+    (subst (λ (l : List (Bor Text)). (fault : MergeFault) × IsUnmerged c.in-Merge.feed.now (texts_of l) (g.F.Files.shelf c.args.files.now) (g.F.Files.shelf c.merge_feeds-outcome.new.files) (g.W.Write.contents c.args.writer.now) (g.W.Write.contents c.merge_feeds-outcome.new.writer) fault) c.deref.ensures.value
+    (halt_of c.merge_feeds-outcome.result _ c.merge_status.result c.merge_status.ensures c.merge_feeds-outcome.ensures.err one))
 
 pub returns-in-Import-clause-done : goal.returns-in-Import-clause-done
 returns-in-Import-clause-done g c zero =
     subst (λ w. Does w (g.F.Files.shelf c.args.files.now) (g.F.Files.shelf c.import_text-outcome.new.files) (g.R.Read.remaining c.args.reader.now) (g.W.Write.contents c.args.writer.now) (g.W.Write.contents c.import_text-outcome.new.writer)) (sym c.in-Import.is)
-    (done_of c.import_text-outcome.result c.hand_status-in-Import.result c.hand_status-in-Import.ensures c.import_text-outcome.ensures.ok zero)
+    (done_of c.import_text-outcome.result c.import_status.result c.import_status.ensures c.import_text-outcome.ensures.ok zero)
 
 pub returns-in-Import-clause-stopped : goal.returns-in-Import-clause-stopped
 returns-in-Import-clause-stopped g c one =
     subst (λ w. Stops w (g.F.Files.shelf c.args.files.now) (g.F.Files.shelf c.import_text-outcome.new.files) (g.R.Read.remaining c.args.reader.now) (g.W.Write.contents c.args.writer.now) (g.W.Write.contents c.import_text-outcome.new.writer)) (sym c.in-Import.is)
-    (halt_of c.import_text-outcome.result _ c.hand_status-in-Import.result c.hand_status-in-Import.ensures c.import_text-outcome.ensures.err one)
+    (halt_of c.import_text-outcome.result _ c.import_status.result c.import_status.ensures c.import_text-outcome.ensures.err one)
 
 pub returns-in-Proof-clause-done : goal.returns-in-Proof-clause-done
 returns-in-Proof-clause-done g c zero =

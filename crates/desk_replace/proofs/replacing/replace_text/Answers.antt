@@ -1,60 +1,58 @@
-use Rattle.std.proofs.Common.{inl, inr, refl, subst}
-use Rattle.desk_files.proofs.Shelves.{stays_same}
+use Rattle.std.proofs.Common.{ap, refl, subst}
+use Rattle.std.proofs.lemmas.Result.{err_from_is_err_and}
 use Rattle.desk_stored.specs.Stored.{was_read}
-use Rattle.desk_hand.specs.Importing.{IsKept, IsUnkept}
-use Rattle.desk_replace.specs.Replacing.{AreRead, Replaces, ReplacesNothing}
+use Rattle.desk_hand.specs.Editing.{IsRevised, IsUnrevised}
+use Rattle.desk_hand.specs.Keeping.{IsKept, IsUnkept, edited_line}
+use Rattle.desk_ops.specs.Shown.{copy_of}
+use Rattle.desk_replace.specs.Replacing.{AreRead}
+use Rattle.desk_replace.specs.Telling.{IsTold}
 use Rattle.desk_replace.proofs.replacing.replace_text.Goals as goal
 
-pub returns-in-Err-put_in-clause-err : goal.returns-in-Err-put_in-clause-err
-returns-in-Err-put_in-clause-err g c =
-    let t = c.in-Ok-take_feed.taken in
-    let texts : AreRead c.args.exchange.now c.deref.result.now c.deref-2.result.now = rw (c.deref.ensures.value, c.deref-2.ensures.value) c.in-Ok.ensures.ok in
-    let nothing = subst
-    (λ n. ReplacesNothing n c.deref.result.now c.deref-2.result.now t.1.ops (g.W.Write.contents c.args.writer.now) (g.W.Write.contents c.put_in.new.writer) c.in-Err-put_in.why)
-    c.in-Ok-take_feed.ensures.site c.in-Err-put_in.ensures.err in
-    inr (c.deref.result.now, c.deref-2.result.now, texts, inr (g.F.Files.shelf c.take_feed.new.files, was_read t.0, t.1.ops, c.in-Ok-take_feed.ensures.ok, inl (stays_same (g.F.Files.shelf c.take_feed.new.files), nothing)))
+pub returns-in_err-old-clause-err : goal.returns-in_err-old-clause-err
+returns-in_err-old-clause-err g c =
+    let p = err_from_is_err_and c.from_residual.result c.from_residual.ensures.1 in
+    rw p.1 (rw p.2 (refl, refl, c.in_err-old.ensures.err))
 
-pub returns-in-Ok-tell_and_keep-clause-ok : goal.returns-in-Ok-tell_and_keep-clause-ok
-returns-in-Ok-tell_and_keep-clause-ok g c =
-    let t = c.in-Ok-take_feed.taken in
-    let tally = c.in-Ok-put_in.tally in
-    let texts : AreRead c.args.exchange.now c.deref.result.now c.deref-2.result.now = rw (c.deref.ensures.value, c.deref-2.ensures.value) c.in-Ok.ensures.ok in
-    let replaces = subst (λ n. Replaces n c.deref.result.now c.deref-2.result.now t.1.ops c.put_in.new.replica.ops tally.inserted tally.deleted) c.in-Ok-take_feed.ensures.site c.in-Ok-put_in.ensures.ok in
-    let kept = subst
-    (λ w. IsKept c.args.name.now c.put_in.new.replica.ops tally.inserted tally.deleted (was_read t.0) (g.F.Files.shelf c.take_feed.new.files) (g.F.Files.shelf c.tell_and_keep.new.files) (g.W.Write.contents w) (g.W.Write.contents c.tell_and_keep.new.writer))
-    c.in-Ok-put_in.ensures.silent c.in-Ok-tell_and_keep.ensures.ok in (
-      c.deref.result.now,
-      c.deref-2.result.now,
-      texts,
-      g.F.Files.shelf c.take_feed.new.files,
-      was_read t.0,
-      t.1.ops,
-      c.in-Ok-take_feed.ensures.ok,
-      c.put_in.new.replica.ops,
-      tally.inserted,
-      tally.deleted,
-      replaces,
-      kept,
-    )
+pub returns-in_err-stored-clause-err : goal.returns-in_err-stored-clause-err
+returns-in_err-stored-clause-err g c =
+    let p = err_from_is_err_and c.from_residual-in_err-stored.result c.from_residual-in_err-stored.ensures.1 in
+    rw p.1 (rw p.2 (refl, c.in_ok-old.old.items, c.in_ok-old.new.items, c.in_ok-old.ensures.ok, c.in_err-stored.ensures.err))
 
-pub returns-clause-err : goal.returns-clause-err
-returns-clause-err g c =
-    let t = c.in-Ok-take_feed.taken in
-    let tally = c.in-Ok-put_in.tally in
-    let texts : AreRead c.args.exchange.now c.deref.result.now c.deref-2.result.now = rw (c.deref.ensures.value, c.deref-2.ensures.value) c.in-Ok.ensures.ok in
-    let replaces = subst (λ n. Replaces n c.deref.result.now c.deref-2.result.now t.1.ops c.put_in.new.replica.ops tally.inserted tally.deleted) c.in-Ok-take_feed.ensures.site c.in-Ok-put_in.ensures.ok in
+pub returns-in_err-text-clause-err : goal.returns-in_err-text-clause-err
+returns-in_err-text-clause-err g c =
+    let p = err_from_is_err_and c.from_residual-in_err-text.result c.from_residual-in_err-text.ensures.1 in
+    let told = subst
+    (λ l. IsTold l (copy_of c.in_ok-stored.replica.ops) (g.W.Write.contents c.args.writer.now) (g.W.Write.contents c.exchanged.new.writer) c.in_err-text.field-0.0)
+    c.deref.ensures.value c.in_err-text.ensures.err in
+    rw p.1 (rw p.2 (c.in_ok-old.old.items, c.in_ok-old.new.items, c.in_ok-old.ensures.ok, was_read c.in_ok-stored.stored, c.in_ok-stored.replica.ops, c.in_ok-stored.ensures.ok, told))
+
+pub returns-in_err-tally-clause-err : goal.returns-in_err-tally-clause-err
+returns-in_err-tally-clause-err g c =
+    let p = err_from_is_err_and c.from_residual-in_err-tally.result c.from_residual-in_err-tally.ensures.1 in
+    let texts : AreRead c.args.exchange.now c.deref.result.now c.deref-2.result.now = rw (c.deref.ensures.value, c.deref-2.ensures.value) c.in_ok-old.ensures.ok in
+    let unrevised = subst (λ l. IsUnrevised c.in_ok-stored.replica.site c.in_ok-stored.replica.ops l c.in_err-tally.field-0.0) c.deref-3.ensures.value c.in_err-tally.ensures.err in
+    let by = subst (λ n. IsUnrevised n c.in_ok-stored.replica.ops c.in_ok-text.text.items c.in_err-tally.field-0.0) c.in_ok-stored.ensures.site unrevised in
+    rw p.1 (rw p.2 (ap g.W.Write.contents c.in_ok-text.ensures.silent, c.deref.result.now, c.deref-2.result.now, texts, was_read c.in_ok-stored.stored, c.in_ok-stored.replica.ops, c.in_ok-stored.ensures.ok, c.in_ok-text.text.items, c.in_ok-text.ensures.ok, by))
+
+pub returns-in_err-tell_and_keep-clause-err : goal.returns-in_err-tell_and_keep-clause-err
+returns-in_err-tell_and_keep-clause-err g c =
+    let p = err_from_is_err_and c.from_residual-in_err-tell_and_keep.result c.from_residual-in_err-tell_and_keep.ensures.1 in
+    let t = c.in_ok-tally.tally in
+    let texts : AreRead c.args.exchange.now c.deref.result.now c.deref-2.result.now = rw (c.deref.ensures.value, c.deref-2.ensures.value) c.in_ok-old.ensures.ok in
+    let revised = subst (λ l. IsRevised c.in_ok-stored.replica.site c.in_ok-stored.replica.ops c.revise.new.replica.ops l t.inserted t.deleted) c.deref-3.ensures.value c.in_ok-tally.ensures.ok in
+    let by = subst (λ n. IsRevised n c.in_ok-stored.replica.ops c.revise.new.replica.ops c.in_ok-text.text.items t.inserted t.deleted) c.in_ok-stored.ensures.site revised in
     let unkept = subst
-    (λ w. IsUnkept c.args.name.now tally.inserted tally.deleted (g.F.Files.shelf c.take_feed.new.files) (g.F.Files.shelf c.tell_and_keep.new.files) (g.W.Write.contents w) (g.W.Write.contents c.tell_and_keep.new.writer) c.in-Err-tell_and_keep.why)
-    c.in-Ok-put_in.ensures.silent c.in-Err-tell_and_keep.ensures.err in
-    inr (
-      c.deref.result.now,
-      c.deref-2.result.now,
-      texts,
-      inr (
-        g.F.Files.shelf c.take_feed.new.files,
-        was_read t.0,
-        t.1.ops,
-        c.in-Ok-take_feed.ensures.ok,
-        inr (c.put_in.new.replica.ops, tally.inserted, tally.deleted, replaces, c.in-Err-tell_and_keep.why, refl, unkept),
-      ),
-    )
+    (λ w. IsUnkept c.args.name.now (edited_line t.inserted t.deleted) (g.F.Files.shelf c.take_feed.new.files) (g.F.Files.shelf c.tell_and_keep.new.files) (g.W.Write.contents w) (g.W.Write.contents c.tell_and_keep.new.writer) c.in_err-tell_and_keep.field-0.0)
+    c.in_ok-text.ensures.silent c.in_err-tell_and_keep.ensures.err in
+    rw p.1 (rw p.2 (c.deref.result.now, c.deref-2.result.now, texts, g.F.Files.shelf c.take_feed.new.files, was_read c.in_ok-stored.stored, c.in_ok-stored.replica.ops, c.in_ok-stored.ensures.ok, c.revise.new.replica.ops, t.inserted, t.deleted, (c.in_ok-text.text.items, c.in_ok-text.ensures.ok, by), unkept))
+
+pub returns-clause-ok : goal.returns-clause-ok
+returns-clause-ok g c =
+    let t = c.in_ok-tally.tally in
+    let texts : AreRead c.args.exchange.now c.deref.result.now c.deref-2.result.now = rw (c.deref.ensures.value, c.deref-2.ensures.value) c.in_ok-old.ensures.ok in
+    let revised = subst (λ l. IsRevised c.in_ok-stored.replica.site c.in_ok-stored.replica.ops c.revise.new.replica.ops l t.inserted t.deleted) c.deref-3.ensures.value c.in_ok-tally.ensures.ok in
+    let by = subst (λ n. IsRevised n c.in_ok-stored.replica.ops c.revise.new.replica.ops c.in_ok-text.text.items t.inserted t.deleted) c.in_ok-stored.ensures.site revised in
+    let kept = subst
+    (λ w. IsKept c.args.name.now c.revise.new.replica.ops (edited_line t.inserted t.deleted) (was_read c.in_ok-stored.stored) (g.F.Files.shelf c.take_feed.new.files) (g.F.Files.shelf c.tell_and_keep.new.files) (g.W.Write.contents w) (g.W.Write.contents c.tell_and_keep.new.writer))
+    c.in_ok-text.ensures.silent c.in_ok-tell_and_keep.ensures.ok in
+    (c.deref.result.now, c.deref-2.result.now, texts, g.F.Files.shelf c.take_feed.new.files, was_read c.in_ok-stored.stored, c.in_ok-stored.replica.ops, c.in_ok-stored.ensures.ok, c.revise.new.replica.ops, t.inserted, t.deleted, (c.in_ok-text.text.items, c.in_ok-text.ensures.ok, by), kept)
