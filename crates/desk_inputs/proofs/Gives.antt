@@ -113,3 +113,10 @@ no_wedge of_case of_wedge before mid after case ends.NoMemory same first given =
 pub case_and_wedge : (of_case of_wedge : List ℕ) (before mid after : Shelf) (case : CaseValues) (wedge : WedgeValues) → FileGives case_of case_refused of_case before (Ok case) mid
     → FileGives wedge_of wedge_refused of_wedge mid (Ok wedge) after → BothGive of_case of_wedge before (Ok (case, wedge)) after
 case_and_wedge of_case of_wedge before mid after case wedge first second = (Ok case, (mid, first, (Ok wedge, second, refl)))
+
+-- ---- out of memory
+
+pub lacking : {V : Type 0} (Holds : Result V Refusal → Type 0) (Lacks : Type 0) (end : NotDone) → Answers {V = V} Holds Lacks (Err end) → end ≡ ends.NoMemory → Lacks
+lacking Holds Lacks (ends.Refused why) given is = let e : ends.Refused why ≡ ends.NoMemory = is in cc
+lacking Holds Lacks (ends.Stopped taken why) given is = absurd given
+lacking Holds Lacks ends.NoMemory given is = given

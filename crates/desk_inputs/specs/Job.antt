@@ -1,5 +1,5 @@
 -- The job of a site's copy by two files.
-use Rattle.std.specs.Prelude.{◌≡◌, ℕ, List, Result, Ok, Err, MatchResult}
+use Rattle.std.specs.Prelude.{◌≡◌, ◌⊎◌, ℕ, List, Result, Ok, Err, MatchResult}
 use Rattle.desk_ops.specs.OpSet.{OpSet}
 use Rattle.desk_ops.specs.Shown.{copy_of}
 use Rattle.desk_ops.specs.Settings.{setting_of}
@@ -15,7 +15,7 @@ use Rattle.desk_files.specs.Files.{Shelf}
 use Rattle.desk_answers.specs.Reply.{ReplyValues, Refused, lines_told}
 use Rattle.desk_answers.specs.Reply as replies
 use Rattle.desk_answers.specs.declared.text.Refusal.{Refusal}
-use Rattle.desk_inputs.specs.Inputs.{BothGive}
+use Rattle.desk_inputs.specs.Inputs.{BothGive, BothLackMemory}
 use Rattle.desk_inputs.specs.declared.job.Wanted.{Wanted}
 use Rattle.desk_inputs.specs.declared.job.Wanted.TheVariants as wants
 
@@ -49,3 +49,8 @@ abbrev pub IsJobByFiles : Wanted → OpSet → List ℕ → List ℕ → Shelf �
 IsJobByFiles wanted set of_case of_wedge before reply after =
     (given : Result (CaseValues × WedgeValues) Refusal) × BothGive of_case of_wedge before given after
     × MatchResult given (λ both. IsJobOf wanted set both.0 both.1 reply) (λ why. reply ≡ Refused why)
+
+-- memory ran out by one of the files, or once both had given a case and a wedge: no file has changed, and the device did not fail
+abbrev pub JobLacksMemory : List ℕ → List ℕ → Shelf → Shelf → Type 0
+JobLacksMemory of_case of_wedge before after =
+    BothLackMemory of_case of_wedge before after ⊎ ((after ≡ before) × (both : CaseValues × WedgeValues) × BothGive of_case of_wedge before (Ok both) after)

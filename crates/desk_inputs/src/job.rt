@@ -1,13 +1,14 @@
 //! The job of a site's copy: its ribbon, and the ribbon cast.
 
-ghost use Rattle.std.specs.Prelude.{◌≡◌, ◌<◌, ◌^◌, length, List, Ok, IfOk};
+ghost use Rattle.std.specs.Prelude.{◌≡◌, ◌<◌, ◌^◌, length, List, Ok, IfErr, IfOk};
 ghost use Rattle.desk_signals.specs.declared.RibbonRow.{RibbonRow};
 ghost use Rattle.desk_caster.specs.Caster.{Line, cast};
 ghost use Rattle.desk_caster.specs.Reading.{IsRibbon};
 ghost use Rattle.desk_files.specs.Files.{Stays};
 ghost use Rattle.desk_answers.specs.NotDone.{IfReplied};
+ghost use Rattle.desk_answers.specs.declared.not_done.NotDone.TheVariants as ends;
 ghost use Rattle.desk_answers.specs.Reply.{reply_values};
-ghost use Rattle.desk_inputs.specs.Job.{IsJobByFiles, TellsCast, TellsJob, job_of};
+ghost use Rattle.desk_inputs.specs.Job.{IsJobByFiles, JobLacksMemory, TellsCast, TellsJob, job_of};
 
 use crate::inputs::both;
 use crate::memory::Memory;
@@ -102,7 +103,8 @@ fn made<A: Allocator + Copy>(
     }
 }
 
-/// The job of a replica's copy by two files.
+/// The job of a replica's copy by two files. Out of memory comes in place of no refusal of the device: it comes where memory
+/// ran out by one of the files, or once both had given a case and a wedge.
 pub fn job_by_files<F: Files, A: Allocator + Copy>(
     memory: Memory<A>,
     replica: &Replica<Blocks<A>>,
@@ -112,6 +114,7 @@ pub fn job_by_files<F: Files, A: Allocator + Copy>(
     wanted: Wanted,
 ) -> Result<Reply<A>, NotDone>
     ensures made { IfReplied result (λ reply. IsJobByFiles wanted replica.now.ops case.now wedge.now (F.shelf files.old) reply (F.shelf files.new)) }
+    ensures memory { IfErr result (λ end. end ≡ ends.NoMemory → JobLacksMemory case.now wedge.now (F.shelf files.old) (F.shelf files.new)) }
     ensures stays { Stays (F.shelf files.old) (F.shelf files.new) }
 {
     let (case, wedge) = both(memory, files, case, wedge)?;
