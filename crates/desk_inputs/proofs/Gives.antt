@@ -18,7 +18,7 @@ use Rattle.desk_wedge.specs.declared.WedgeFault.TheVariants as wedges
 use Rattle.desk_files.specs.declared.files.FileRefusal.{FileRefusal}
 use Rattle.desk_files.specs.declared.files.FileRefusal.TheVariants as files
 use Rattle.desk_files.specs.Files.{Counts, IsCounted, Reads, Shelf, Stays, shelf}
-use Rattle.desk_inputs.specs.Inputs.{Answers, BothGive, BothLackMemory, FileGives, FileLacksMemory, Tells}
+use Rattle.desk_inputs.specs.Inputs.{Answers, BothGive, BothLackMemory, FileGives, FileLacksMemory, Tells, TellsBytes, ThenWedge, with_case}
 
 -- ---- where nothing has changed
 
@@ -120,3 +120,23 @@ pub lacking : {V : Type 0} (Holds : Result V Refusal → Type 0) (Lacks : Type 0
 lacking Holds Lacks (ends.Refused why) given is = let e : ends.Refused why ≡ ends.NoMemory = is in cc
 lacking Holds Lacks (ends.Stopped taken why) given is = absurd given
 lacking Holds Lacks ends.NoMemory given is = given
+
+-- ---- where a file gives a value nothing has changed, and nothing failed
+
+given_same : {V E : Type 0} (meaning : List ℕ → Result V E) (refused : E → Option Refusal) (name : List ℕ) (before after : Shelf) (value : V) → FileGives meaning refused name before (Ok value) after → after ≡ before
+given_same {V} {E} meaning refused name before after value (stays, read, reads, counts, tells) = by read counts tells
+  where
+    by : (read : Result (List ℕ) FileRefusal) → Counts read before after → TellsBytes meaning refused read (Ok value) → after ≡ before
+    by (Ok bytes) counts tells = same_shelf before after stays counts
+    by (Err why) counts (told, is, e) = let k : Ok value ≡ Err told = e in cc
+
+wedge_same : (name : List ℕ) (mid after : Shelf) (case : CaseValues) (both : CaseValues × WedgeValues) (wedge : Result WedgeValues Refusal) → FileGives wedge_of wedge_refused name mid wedge after → Ok both ≡ with_case case wedge → after ≡ mid
+wedge_same name mid after case both (Ok wedge) given e = given_same wedge_of wedge_refused name mid after wedge given
+wedge_same name mid after case both (Err why) given e = let k : Ok both ≡ Err why = e in cc
+
+case_same : (of_case of_wedge : List ℕ) (before mid after : Shelf) (both : CaseValues × WedgeValues) (case : Result CaseValues Refusal) → FileGives case_of case_refused of_case before case mid → ThenWedge of_wedge case mid (Ok both) after → after ≡ before
+case_same of_case of_wedge before mid after both (Ok case) given (wedge, second, e) = wedge_same of_wedge mid after case both wedge second e ∙ given_same case_of case_refused of_case before mid case given
+case_same of_case of_wedge before mid after both (Err why) given (e, same) = let k : Ok both ≡ Err why = e in cc
+
+pub both_same : (of_case of_wedge : List ℕ) (before after : Shelf) (both : CaseValues × WedgeValues) → BothGive of_case of_wedge before (Ok both) after → after ≡ before
+both_same of_case of_wedge before after both (case, (mid, given, more)) = case_same of_case of_wedge before mid after both case given more

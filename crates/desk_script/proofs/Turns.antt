@@ -23,9 +23,9 @@ pub no_front : (old : Desk) (last : Shelf) (a : Option (List ℕ)) (lines : List
 no_front old last a lines still = ([], lines, refl, old, still, [], refl, ([], [], appends_none a, refl))
 
 -- a reply whose text finds no memory is that refusal, and it is allowed where nothing has changed
-pub told_allowed : (old new : Desk) (line : Line) (reply told : ReplyValues) → Allows old line reply new → (is_long reply ≡ true → new.sites ≡ old.sites) → Stays old.shelf new.shelf → IsTold reply told → Allows old line told new
-told_allowed old new line reply told allowed same stays (inl is) = subst (λ (r : ReplyValues). Allows old line r new) (sym is) allowed
-told_allowed old new line reply told allowed same stays (inr h) = inr (h.1, same h.0, stays)
+pub told_allowed : (old new : Desk) (line : Line) (reply told : ReplyValues) → Allows old line reply new → (is_long reply ≡ true → new ≡ old) → IsTold reply told → Allows old line told new
+told_allowed old new line reply told allowed same (inl is) = subst (λ (r : ReplyValues). Allows old line r new) (sym is) allowed
+told_allowed old new line reply told allowed same (inr h) = inr (h.1, same h.0)
 
 pub one_turn : (old new : Desk) (a b : Option (List ℕ)) (line : Line) (bytes : List ℕ) (reply : ReplyValues) → Allows old line reply new → bytes ≡ text reply ++ 10 ∷ [] → Appends a b bytes → Turn old new a b (line ∷ [])
 one_turn old new a b line bytes reply allowed is written = (reply ∷ [], (new, allowed, refl), subst (Appends a b) is written)

@@ -1,11 +1,11 @@
--- Where an answer may be long no site has changed.
+-- Where an answer may be long no site has changed, and no file; and no device has failed.
 use Rattle.std.proofs.Common.{◌≡◌, ℕ, ◌+◌, ◌∙◌, ◌⊎◌, inl, inr, List, [], ◌∷◌, Bool, true, false, refl, ap, sym}
 use Rattle.std.specs.Prelude.{Option, Some, None, Result, Ok, Err, MatchBool, MatchOption, length, nat_le, nat_lt, if◌then◌else◌}
 use Rattle.desk_ops.specs.declared.op.Op.{Op}
 use Rattle.desk_ops.specs.declared.op.Stamp.{Stamp}
 use Rattle.desk_ops.specs.declared.op.Symbol.{Symbol}
 use Rattle.desk_ops.specs.Op.{stamp_of}
-use Rattle.desk_ops.specs.OpSet.{in_order}
+use Rattle.desk_ops.specs.OpSet.{OpSet, in_order}
 use Rattle.desk_ops.specs.Shown.{copy_of}
 use Rattle.desk_held.specs.declared.AddRefusal.{AddRefusal}
 use Rattle.desk_held.specs.declared.AddRefusal.TheVariants as adds
@@ -18,6 +18,9 @@ use Rattle.desk_answers.specs.Reply.{ReplyValues, Refused, Stopped, is_long}
 use Rattle.desk_answers.specs.Reply as replies
 use Rattle.desk_answers.specs.declared.text.Refusal.{Refusal}
 use Rattle.desk_answers.specs.declared.text.Refusal.TheVariants as refusals
+use Rattle.desk_files.specs.Files.{Shelf}
+use Rattle.desk_inputs.specs.Job.{IsJobByFiles}
+use Rattle.desk_inputs.proofs.Gives.{both_same}
 use Rattle.desk_inputs.specs.declared.job.Wanted.{Wanted}
 use Rattle.desk_inputs.specs.declared.job.Wanted.TheVariants as wants
 use Rattle.desk_world.specs.Sites.{Sites}
@@ -130,30 +133,39 @@ does_same old new (Settings n) reply long h = by_look_up (set_of old n) _ _ (new
 does_same old new (Ribbon n case wedge) reply long h = absurd h
 does_same old new (Cast n case wedge) reply long h = absurd h
 
-jobs_same : (wanted : Wanted) (old new : Desk) (n : ℕ) (of_case of_wedge : List ℕ) (reply : ReplyValues) → Jobs wanted old n of_case of_wedge reply new → new.sites ≡ old.sites
-jobs_same wanted old new n of_case of_wedge reply h = by_look_up (set_of old.sites n) _ _ (new.sites ≡ old.sites) (λ r. ap (λ (d : Desk). d.sites) r.1) (λ set r. r.0) h
+same_desk : (old new : Desk) → new ≡ old → (new.sites ≡ old.sites) × (new.shelf ≡ old.shelf)
+same_desk old new same = (ap (λ (d : Desk). d.sites) same, ap (λ (d : Desk). d.shelf) same)
 
-performs_same : (old new : Desk) (command : CommandValues) (reply : ReplyValues) → is_long reply ≡ true → Performs old command reply new → new.sites ≡ old.sites
-performs_same old new (Ribbon n case wedge) reply long h = jobs_same wants.Ribbon old new n case wedge reply h
-performs_same old new (Cast n case wedge) reply long h = jobs_same wants.Lines old new n case wedge reply h
-performs_same old new (Site n) reply long h = does_same old.sites new.sites (Site n) reply long h.0
-performs_same old new (Insert n place copy) reply long h = does_same old.sites new.sites (Insert n place copy) reply long h.0
-performs_same old new (Delete n place) reply long h = does_same old.sites new.sites (Delete n place) reply long h.0
-performs_same old new (SetTo n key value) reply long h = does_same old.sites new.sites (SetTo n key value) reply long h.0
-performs_same old new (Take n bytes) reply long h = does_same old.sites new.sites (Take n bytes) reply long h.0
-performs_same old new (Send from to range) reply long h = does_same old.sites new.sites (Send from to range) reply long h.0
-performs_same old new (Merge to from) reply long h = does_same old.sites new.sites (Merge to from) reply long h.0
-performs_same old new (Show n) reply long h = does_same old.sites new.sites (Show n) reply long h.0
-performs_same old new (Faults n) reply long h = does_same old.sites new.sites (Faults n) reply long h.0
-performs_same old new (Settings n) reply long h = does_same old.sites new.sites (Settings n) reply long h.0
-performs_same old new (Feed n) reply long h = does_same old.sites new.sites (Feed n) reply long h.0
-performs_same old new (Restart n) reply long h = does_same old.sites new.sites (Restart n) reply long h.0
+files_same : (wanted : Wanted) (set : OpSet) (of_case of_wedge : List ℕ) (before after : Shelf) (reply : ReplyValues) → is_long reply ≡ true → IsJobByFiles wanted set of_case of_wedge before reply after → after ≡ before
+files_same wanted set of_case of_wedge before after reply long (Ok both, gives, told) = both_same of_case of_wedge before after both gives
+files_same wanted set of_case of_wedge before after reply long (Err why, gives, told) = neither (after ≡ before) reply (ap is_long told) long
 
-answers_same : (old new : Desk) (line : Line) (reply : ReplyValues) → is_long reply ≡ true → IsAnswered old line reply new → new.sites ≡ old.sites
-answers_same old new Long reply long h = ap (λ (d : Desk). d.sites) h.1
-answers_same old new (Bytes bytes) reply long h = by_look_up (command_of bytes) _ _ (new.sites ≡ old.sites) (λ r. ap (λ (d : Desk). d.sites) r.1) (λ command. performs_same old new command reply long) h
+jobs_same : (wanted : Wanted) (old new : Desk) (n : ℕ) (of_case of_wedge : List ℕ) (reply : ReplyValues) → is_long reply ≡ true → Jobs wanted old n of_case of_wedge reply new → (new.sites ≡ old.sites) × (new.shelf ≡ old.shelf)
+jobs_same wanted old new n of_case of_wedge reply long h =
+    by_look_up (set_of old.sites n) _ _ ((new.sites ≡ old.sites) × (new.shelf ≡ old.shelf)) (λ r. same_desk old new r.1) (λ set r. (r.0, files_same wanted set of_case of_wedge old.shelf new.shelf reply long r.1)) h
+
+performs_same : (old new : Desk) (command : CommandValues) (reply : ReplyValues) → is_long reply ≡ true → Performs old command reply new → (new.sites ≡ old.sites) × (new.shelf ≡ old.shelf)
+performs_same old new (Ribbon n case wedge) reply long h = jobs_same wants.Ribbon old new n case wedge reply long h
+performs_same old new (Cast n case wedge) reply long h = jobs_same wants.Lines old new n case wedge reply long h
+performs_same old new (Site n) reply long h = (does_same old.sites new.sites (Site n) reply long h.0, h.1)
+performs_same old new (Insert n place copy) reply long h = (does_same old.sites new.sites (Insert n place copy) reply long h.0, h.1)
+performs_same old new (Delete n place) reply long h = (does_same old.sites new.sites (Delete n place) reply long h.0, h.1)
+performs_same old new (SetTo n key value) reply long h = (does_same old.sites new.sites (SetTo n key value) reply long h.0, h.1)
+performs_same old new (Take n bytes) reply long h = (does_same old.sites new.sites (Take n bytes) reply long h.0, h.1)
+performs_same old new (Send from to range) reply long h = (does_same old.sites new.sites (Send from to range) reply long h.0, h.1)
+performs_same old new (Merge to from) reply long h = (does_same old.sites new.sites (Merge to from) reply long h.0, h.1)
+performs_same old new (Show n) reply long h = (does_same old.sites new.sites (Show n) reply long h.0, h.1)
+performs_same old new (Faults n) reply long h = (does_same old.sites new.sites (Faults n) reply long h.0, h.1)
+performs_same old new (Settings n) reply long h = (does_same old.sites new.sites (Settings n) reply long h.0, h.1)
+performs_same old new (Feed n) reply long h = (does_same old.sites new.sites (Feed n) reply long h.0, h.1)
+performs_same old new (Restart n) reply long h = (does_same old.sites new.sites (Restart n) reply long h.0, h.1)
+
+answers_same : (old new : Desk) (line : Line) (reply : ReplyValues) → is_long reply ≡ true → IsAnswered old line reply new → (new.sites ≡ old.sites) × (new.shelf ≡ old.shelf)
+answers_same old new Long reply long h = same_desk old new h.1
+answers_same old new (Bytes bytes) reply long h =
+    by_look_up (command_of bytes) _ _ ((new.sites ≡ old.sites) × (new.shelf ≡ old.shelf)) (λ r. same_desk old new r.1) (λ command. performs_same old new command reply long) h
 
 -- whatever a line is
-pub allows_same : (old new : Desk) (line : Line) (reply : ReplyValues) → is_long reply ≡ true → Allows old line reply new → new.sites ≡ old.sites
+pub allows_same : (old new : Desk) (line : Line) (reply : ReplyValues) → is_long reply ≡ true → Allows old line reply new → (new.sites ≡ old.sites) × (new.shelf ≡ old.shelf)
 allows_same old new line reply long (inl h) = answers_same old new line reply long h
-allows_same old new line reply long (inr h) = h.1
+allows_same old new line reply long (inr h) = same_desk old new h.1

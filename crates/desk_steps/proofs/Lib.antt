@@ -1,4 +1,5 @@
 pub mod Inserting
 pub mod Keeping
 mod Parts
+mod Jobs
 pub mod Asking

@@ -13,7 +13,6 @@ use Rattle.desk_replica.specs.JobSettings.{settings_of}
 use Rattle.desk_inputs.specs.Job.{IsJobByFiles}
 use Rattle.desk_inputs.specs.declared.job.Wanted.{Wanted}
 use Rattle.desk_inputs.specs.declared.job.Wanted.TheVariants as wants
-use Rattle.desk_files.specs.Files.{Stays}
 use Rattle.desk_answers.specs.NotDone.{event_reply}
 use Rattle.desk_answers.specs.declared.not_done.NotDone.{NotDone}
 use Rattle.desk_answers.specs.declared.not_done.NotDone.TheVariants as ends
@@ -89,9 +88,9 @@ Tries old command reply new = Does old command reply new ⊎ Lacks old reply new
 abbrev pub Refuses : Desk → Refusal → ReplyValues → Desk → Type 0
 Refuses old why reply new = (reply ≡ Refused why) × (new ≡ old)
 
--- memory is refused, and neither a site nor a file has changed; a device may have failed before
+-- memory is refused, neither a site nor a file has changed, and no device has failed
 abbrev pub LacksMemory : Desk → ReplyValues → Desk → Type 0
-LacksMemory old reply new = (reply ≡ Refused refusals.Memory) × (new.sites ≡ old.sites) × Stays old.shelf new.shelf
+LacksMemory old reply new = Refuses old refusals.Memory reply new
 
 -- A job at a site: the site is looked up, both files are read by their names, and no set changes.
 abbrev pub Jobs : Wanted → Desk → ℕ → List ℕ → List ℕ → ReplyValues → Desk → Type 0

@@ -37,7 +37,7 @@ fn do_line<F: Files, A: Allocator + Copy>(
 
 /// Does what a line says, and returns its answer. Where memory is refused before anything has changed the answer is that
 /// refusal, and after k operations that these stand. No line takes a site away, and where the answer may be long nothing
-/// has changed.
+/// has changed, and no device has failed.
 pub fn answer<F: Files, A: Allocator + Copy>(
     memory: Memory<A>,
     world: &mut World<A>,
@@ -46,6 +46,7 @@ pub fn answer<F: Files, A: Allocator + Copy>(
 ) -> Reply<A>
     ensures answered { Allows (desk world.old (F.shelf files.old)) (line_of line.now) (reply_values result) (desk world.new (F.shelf files.new)) }
     ensures unchanged { is_long (reply_values result) ≡ true → world.new ≡ world.old }
+    ensures still { is_long (reply_values result) ≡ true → F.shelf files.new ≡ F.shelf files.old }
     ensures sites { KeepsSites world.old world.new }
     ensures stays { Stays (F.shelf files.old) (F.shelf files.new) }
 {

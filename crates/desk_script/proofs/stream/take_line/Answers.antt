@@ -1,5 +1,5 @@
 use Rattle.desk_files.proofs.Shelves.{stays_same}
-use Rattle.std.proofs.Common.{refl}
+use Rattle.std.proofs.Common.{ap₂, refl}
 use Rattle.std.proofs.lemmas.Result.{on_err_weaker, on_ok_weaker}
 use Rattle.desk_answers.specs.Reply.{reply_values}
 use Rattle.desk_steps.specs.Desk.{desk}
@@ -12,14 +12,14 @@ returns-clause-ok g c =
     let old = desk c.args.world.now (g.F.Files.shelf c.args.files.now) in
     let new = desk c.answer-reply.new.world (g.F.Files.shelf c.answer-reply.new.files) in
     let line = line_of c.args.line.now in
-    on_ok_weaker c.tell.result (λ (r, told, written). one_turn old new _ _ line _ r (told_allowed old new line (reply_values c.answer-reply.result) r c.answer-reply.ensures.answered c.answer-reply.ensures.unchanged c.answer-reply.ensures.stays told) refl written) c.tell.ensures.ok
+    on_ok_weaker c.tell.result (λ (r, told, written). one_turn old new _ _ line _ r (told_allowed old new line (reply_values c.answer-reply.result) r c.answer-reply.ensures.answered (λ long. ap₂ desk (c.answer-reply.ensures.unchanged long) (c.answer-reply.ensures.still long)) told) refl written) c.tell.ensures.ok
 
 pub returns-clause-err : goal.returns-clause-err
 returns-clause-err g c =
     let old = desk c.args.world.now (g.F.Files.shelf c.args.files.now) in
     let new = desk c.answer-reply.new.world (g.F.Files.shelf c.answer-reply.new.files) in
     let line = line_of c.args.line.now in
-    on_err_weaker c.tell.result (λ (r, told, written) more. one_front old new (g.F.Files.shelf c.answer-reply.new.files) _ _ line _ r more (stays_same _) (told_allowed old new line (reply_values c.answer-reply.result) r c.answer-reply.ensures.answered c.answer-reply.ensures.unchanged c.answer-reply.ensures.stays told) refl written) c.tell.ensures.err
+    on_err_weaker c.tell.result (λ (r, told, written) more. one_front old new (g.F.Files.shelf c.answer-reply.new.files) _ _ line _ r more (stays_same _) (told_allowed old new line (reply_values c.answer-reply.result) r c.answer-reply.ensures.answered (λ long. ap₂ desk (c.answer-reply.ensures.unchanged long) (c.answer-reply.ensures.still long)) told) refl written) c.tell.ensures.err
 
 pub returns-clause-sites : goal.returns-clause-sites
 returns-clause-sites g c = on_ok_weaker c.tell.result (λ told. c.answer-reply.ensures.sites) c.tell.ensures.ok

@@ -22,7 +22,11 @@ returns-in-Err-Stopped-clause-sites g c =
 
 pub returns-in-Ok-clause-unchanged : goal.returns-in-Ok-clause-unchanged
 returns-in-Ok-clause-unchanged g c long =
-    allows_same (desk c.args.world.now (g.F.Files.shelf c.args.files.now)) (desk c.do_line.new.world (g.F.Files.shelf c.do_line.new.files)) (line_of c.args.line.now) (reply_values c.in-Ok.reply) long c.in-Ok.ensures.done
+    (allows_same (desk c.args.world.now (g.F.Files.shelf c.args.files.now)) (desk c.do_line.new.world (g.F.Files.shelf c.do_line.new.files)) (line_of c.args.line.now) (reply_values c.in-Ok.reply) long c.in-Ok.ensures.done).0
+
+pub returns-in-Ok-clause-still : goal.returns-in-Ok-clause-still
+returns-in-Ok-clause-still g c long =
+    (allows_same (desk c.args.world.now (g.F.Files.shelf c.args.files.now)) (desk c.do_line.new.world (g.F.Files.shelf c.do_line.new.files)) (line_of c.args.line.now) (reply_values c.in-Ok.reply) long c.in-Ok.ensures.done).1
 
 pub returns-in-Err-NoMemory-clause-sites : goal.returns-in-Err-NoMemory-clause-sites
 returns-in-Err-NoMemory-clause-sites g c =
