@@ -1,7 +1,7 @@
 -- Lines, one after the other.
 use Rattle.std.proofs.Common.{◌≡◌, ◌∙◌, ℕ, ◌+◌, ◌<◌, Bool, true, false, ◌&&◌, List, [], ◌∷◌, ◌++◌, length, map, take, drop, get_or, refl, sym, ap, subst, append_assoc, append-nil, take-append-drop, add-one, drop-cons}
 use Rattle.std.specs.Prelude.{Option}
-use Rattle.std.proofs.KnownBytes.{Appends-nil, Appends-trans}
+use Rattle.std.proofs.KnownBytes.{Appends-trans}
 use Rattle.std.proofs.lemmas.List.{map-append, map_more}
 use Rattle.desk_files.specs.Files.{Shelf}
 use Rattle.desk_check.specs.Checking.{AreLines, IsChecked, IsLine, IsUnchecked, IsUnsaid, SaysLine}
