@@ -150,8 +150,8 @@ pub fn explain_feed<E: Write, F: Explains>(
     explain_cause(faults, files, feed_cause(feed, why))
 }
 
-/// Writes two lines on a fault and its cause, and gives the status of it. Want of memory is told as such, whatever it was
-/// wanted for.
+/// Writes a line on a fault and a second one on its cause, and gives the status of it. Want of memory is told as such,
+/// whatever it was wanted for.
 pub fn told<E: Write, F: Explains, T: Display>(
     faults: &mut E,
     files: &F,
