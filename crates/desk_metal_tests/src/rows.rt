@@ -28,13 +28,24 @@ pub fn wedge_row(fine: bool, number: u8) -> Option<RibbonRow> {
     })
 }
 
+/// Whether a row has this image.
+fn has_image(row: RibbonRow, bits: u32) -> bool {
+    let image = Image::of_row(row);
+    if image != Image::new(bits) || image.bits() != bits {
+        return false;
+    }
+    match image.to_row() {
+        Ok(read) => read == row,
+        Err(_) => false,
+    }
+}
+
 /// Whether there is a row, and this is its image.
 pub fn is_image(row: Option<RibbonRow>, bits: u32) -> bool {
-    let Some(row) = row else {
-        return false;
-    };
-    let image = Image::of_row(row);
-    image == Image::new(bits) && image.bits() == bits && image.to_row() == Ok(row)
+    match row {
+        Some(row) => has_image(row, bits),
+        None => false,
+    }
 }
 
 /// Whether there is a row, and these are its signals, in their order.
