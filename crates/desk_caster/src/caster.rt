@@ -150,15 +150,13 @@ impl<A: Allocator + Copy> Caster<A> {
         }
         let sum = line.wedge_sum();
         let cast = matrix(case, wedge, sum, &cell, s);
-        match line.with(cast) {
-            Ok(line) => Ok(Caster {
-                alloc,
-                fine,
-                line: Some(line),
-                sent,
-            }),
-            Err(_) => Err(CastFault::NoMemory),
-        }
+        let line = line.with(cast)?;
+        Ok(Caster {
+            alloc,
+            fine,
+            line: Some(line),
+            sent,
+        })
     }
 
     /// The lines sent out, where none is in progress.

@@ -11,11 +11,12 @@ mod reading;
 
 pub use caster::cast;
 use desk_image::BadImage;
-use desk_ops::Symbol;
+use desk_ops::{NoMemory, Symbol};
 use desk_signals::Cell;
 use desk_units::Atoms;
 pub use line::CastLine;
 pub use reading::read_ribbon;
+use std::alloc::AllocError;
 use thiserror::Error;
 
 /// A matrix that was cast.
@@ -43,6 +44,17 @@ pub enum RibbonFault {
     NoMemory,
 }
 
+impl From<AllocError> for RibbonFault {
+    ghost use Rattle.std.specs.Prelude.{◌≡◌};
+    ghost use Rattle.desk_caster.specs.declared.RibbonFault.TheVariants as fault;
+
+    ghost from_gives = { λ _ why. why ≡ fault.NoMemory };
+
+    fn from(_: AllocError) -> RibbonFault {
+        RibbonFault::NoMemory
+    }
+}
+
 /// Why rows cast no lines: the first fault that the caster meets, with a row's place in punched order from 0, or out of memory.
 #[derive(Clone, Copy, PartialEq, Eq, Debug, Error)]
 pub enum CastFault {
@@ -57,4 +69,15 @@ pub enum CastFault {
     NotSentOut(u32),
     #[error("no memory")]
     NoMemory,
+}
+
+impl From<NoMemory> for CastFault {
+    ghost use Rattle.std.specs.Prelude.{◌≡◌};
+    ghost use Rattle.desk_caster.specs.declared.CastFault.TheVariants as fault;
+
+    ghost from_gives = { λ _ why. why ≡ fault.NoMemory };
+
+    fn from(_: NoMemory) -> CastFault {
+        CastFault::NoMemory
+    }
 }

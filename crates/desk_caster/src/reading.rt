@@ -32,10 +32,7 @@ fn rows_of<A: Allocator>(
     ensures fault { IfErr result (λ fault. TellsRow images.now fault) }
     ensures memory { result ≡ Err fault.NoMemory → 0 < number }
 {
-    let mut rows = match Vec::with_capacity(alloc, number as usize) {
-        Ok(rows) => rows,
-        Err(_) => return Err(RibbonFault::NoMemory),
-    };
+    let mut rows = Vec::with_capacity(alloc, number as usize)?;
     let mut rest = images;
     for place in 0..number {
         let (image, after) = take_number(rest);

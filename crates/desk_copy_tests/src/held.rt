@@ -148,6 +148,31 @@ fn holds_what_is_added(rt: HostRuntime) -> Result<(), Fail> {
     Ok(())
 }
 
+/// Whether a set of 600 operations has no stamp that two bear, and one once the k-th of its stamps is borne by another too.
+fn is_forked_at(alloc: Global, k: u64) -> Result<bool, Fail> {
+    let mut held = Held::new(alloc);
+    let halt = add_row(alloc, &mut held, 1, 600, false)?;
+    let stamp = insert(k.saturating_mul(2).saturating_add(1)).stamp();
+    let fork = Op::Set {
+        stamp,
+        key: Key::Measure,
+        value: 120,
+    };
+    let was = held.is_unforked();
+    let is_added = is_added(&mut held, fork, Added::Forks)?;
+    Ok(halt.is_none() && was && is_added && !held.is_unforked())
+}
+
+/// A fork is found wherever it stands: a page has 512 operations.
+#[test]
+fn forks_are_found(rt: HostRuntime) -> Result<(), Fail> {
+    assert!(rt; Held::new(rt.alloc()).is_unforked());
+    for k in [0, 1, 511, 512, 599] {
+        assert!(rt; is_forked_at(rt.alloc(), k)?);
+    }
+    Ok(())
+}
+
 #[test]
 fn put_needs_no_memory(rt: HostRuntime) -> Result<(), Fail> {
     let mut held = Held::new(rt.alloc());

@@ -51,6 +51,14 @@ pub enum GalleyRefusal {
     NoMemory,
 }
 
+impl From<JobFault> for GalleyRefusal {
+    ghost from_gives = { λ fault why. why ≡ refusal.Fault fault };
+
+    fn from(fault: JobFault) -> GalleyRefusal {
+        GalleyRefusal::Fault(fault)
+    }
+}
+
 impl From<NoMemory> for GalleyRefusal {
     ghost from_gives = { λ _ why. why ≡ refusal.NoMemory };
 
@@ -195,10 +203,7 @@ pub fn make_galley<'a, A: Allocator + Copy>(
         Ok(values) => values,
         Err(key) => return Err(GalleyRefusal::Fault(JobFault::MissingSetting(key))),
     };
-    let terms = match Terms::new(case, wedge, values) {
-        Ok(terms) => terms,
-        Err(fault) => return Err(GalleyRefusal::Fault(fault)),
-    };
+    let terms = Terms::new(case, wedge, values)?;
     let lacking = lacking(alloc, case, copy)?;
     let lines = all_lines(alloc, &terms, copy)?;
     Ok(Galley {

@@ -155,7 +155,7 @@ rising-drop [] (suc i) h = tt
 rising-drop (y ∷ ops) zero h = h
 rising-drop (y ∷ ops) (suc i) h = rising-drop ops i (subst T (sym (second_so (below_all op_cmp y (entries_of ops)) (is_rising ops) (of-T _ h))) tt)
 
-drop-at : (ops : List Op) (i : ℕ) (d : Op) → i < length ops → drop i ops ≡ get_or ops i d ∷ drop (i + 1) ops
+pub drop-at : (ops : List Op) (i : ℕ) (d : Op) → i < length ops → drop i ops ≡ get_or ops i d ∷ drop (i + 1) ops
 drop-at [] i d lt = absurd (omega arith)
 drop-at (y ∷ ops) zero d lt = refl
 drop-at (y ∷ ops) (suc i) d lt = let e : suc (i + 1) ≡ suc i + 1 = omega arith in drop-at ops i d (omega arith) ∙ ap (λ n. get_or ops i d ∷ drop n (y ∷ ops)) e

@@ -3,5 +3,6 @@ mod Edges
 pub mod Lacking
 mod Pairs
 pub mod Ranges
+mod Rises
 pub mod Stamped
 mod Stretches

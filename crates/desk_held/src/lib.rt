@@ -7,10 +7,11 @@
 ghost use Rattle.std.specs.Prelude.{◌≡◌, ◌+◌, ◌-◌, ◌≤◌, ◌<◌, ◌↔◌, take, drop, IfOk, OnOk, OnErr, IsErrOf, IsOk, IsTrue, All, true, false, slice_index_or};
 ghost use Rattle.desk_ops.specs.Op.{IsLawful};
 ghost use Rattle.desk_ops.specs.OpSet.{no_ops, has_op, with_op, in_order, size, AllLawful};
-ghost use Rattle.desk_ops.specs.Held.{is_borne_in, is_clear_in, clear_op_in, greatest_counter_of};
+ghost use Rattle.desk_ops.specs.Held.{is_borne_in, is_clear_in, clear_op_in, greatest_counter_of, IsUnforked};
 
 use desk_ops::{NoMemory, Op, Stamp};
 use desk_pages::Pages;
+use rising::all_rise;
 use search::{Below, Earlier, UpTo};
 use slot::{Slot, append, entry, insert_in_order, seek};
 use std::alloc::Allocator;
@@ -20,6 +21,7 @@ use thiserror::Error;
 mod join;
 mod missing;
 mod passing;
+mod rising;
 mod search;
 mod slot;
 
@@ -200,6 +202,13 @@ impl<A: Allocator + Copy> Held<A> {
         ensures { result ≡ is_clear_in self.now.ops stamp }
     {
         self.clear_op(stamp).is_some()
+    }
+
+    /// Whether no stamp is borne by more than one operation. It is one pass over all, and takes no memory.
+    pub fn is_unforked(&self) -> bool
+        ensures { IsTrue result ↔ IsUnforked self.now.ops }
+    {
+        all_rise(&self.ops)
     }
 
     /// The greatest counter that is held, or 0 where nothing is.

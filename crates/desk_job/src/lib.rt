@@ -7,7 +7,7 @@ mod ribbon;
 pub mod setting;
 pub mod terms;
 
-use desk_ops::Key;
+use desk_ops::{Key, NoMemory};
 pub use ribbon::{given, make, make_from};
 use std::alloc::Allocator;
 use std::marker::Model;
@@ -104,4 +104,15 @@ impl<A: Allocator> JobFaults<A> {
 pub enum JobRefusal<A: Allocator> {
     Faults(JobFaults<A>),
     NoMemory,
+}
+
+impl<A: Allocator> From<NoMemory> for JobRefusal<A> {
+    ghost use Rattle.std.specs.Prelude.{◌≡◌};
+    ghost use Rattle.desk_job.specs.declared.JobRefusal.TheVariants as refusal;
+
+    ghost from_gives = { λ _ why. why ≡ refusal.NoMemory };
+
+    fn from(_: NoMemory) -> JobRefusal<A> {
+        JobRefusal::NoMemory
+    }
 }

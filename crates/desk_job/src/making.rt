@@ -183,10 +183,7 @@ impl<A: Allocator + Copy> Making<A> {
     {
         let Making { faults, ribbon, .. } = self;
         if faults.is_empty() {
-            match ribbon.finish() {
-                Ok(bytes) => Ok(bytes),
-                Err(NoMemory) => Err(JobRefusal::NoMemory),
-            }
+            Ok(ribbon.finish()?)
         } else {
             Err(JobRefusal::Faults(JobFaults::from_vec(faults)))
         }
@@ -243,15 +240,9 @@ pub fn set_copy<A: Allocator + Copy>(
     ensures ok { IfOk result (λ bytes. IsMade bytes.items (set_copy terms.now copy.now)) }
     ensures err { IfErr result (λ refusal. IsRefused refusal (set_copy terms.now copy.now)) }
 {
-    let lacking = match lacking(alloc, terms.case(), copy) {
-        Ok(faults) => faults,
-        Err(NoMemory) => return Err(JobRefusal::NoMemory),
-    };
+    let lacking = lacking(alloc, terms.case(), copy)?;
     if !lacking.is_empty() {
         return Err(JobRefusal::Faults(JobFaults::from_vec(lacking)));
     }
-    match make_lines(alloc, terms, copy) {
-        Ok(making) => making.finish(),
-        Err(NoMemory) => Err(JobRefusal::NoMemory),
-    }
+    make_lines(alloc, terms, copy)?.finish()
 }

@@ -11,7 +11,7 @@ use crate::making::set_copy;
 use crate::terms::{Terms, Values};
 use crate::{JobFault, JobFaults, JobRefusal};
 use desk_case::MatrixCase;
-use desk_ops::{Key, NoMemory, Symbol};
+use desk_ops::{Key, Symbol};
 use desk_replica::{Replica, Settings};
 use desk_seq::Sequence;
 use desk_wedge::Wedge;
@@ -98,8 +98,6 @@ pub fn make<Q: Sequence>(
     ensures cast { IfOk result (λ bytes. CastsCopy (copy_of replica.now.ops) (setting_of replica.now.ops) case.now wedge.now bytes.items) }
 {
     let _held = replica.len();
-    match replica.copy() {
-        Ok(copy) => make_from(alloc, &copy, &replica.settings(), case, wedge),
-        Err(NoMemory) => Err(JobRefusal::NoMemory),
-    }
+    let copy = replica.copy()?;
+    make_from(alloc, &copy, &replica.settings(), case, wedge)
 }

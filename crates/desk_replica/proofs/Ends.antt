@@ -1,6 +1,6 @@
 -- Where ways end, told from the oldest operation to the newest.
-use Rattle.std.proofs.Common.{◌≡◌, ℕ, zero, suc, ◌+◌, ◌-◌, ◌<◌, ◌≤◌, Bool, true, false, not, cond, ◌||◌, List, [], ◌∷◌, ◌++◌, map, length, take, drop, get_or, reverse, refl, sym, ap, ◌∙◌, subst, ◌⊎◌, inl, inr, arith}
-use Rattle.std.specs.Prelude.{Option, Some, None, slice_get, Result, Ok, Err, OnOk}
+use Rattle.std.proofs.Common.{◌≡◌, ℕ, zero, suc, ◌+◌, ◌<◌, ◌≤◌, Bool, true, false, not, cond, ◌||◌, List, [], ◌∷◌, ◌++◌, map, length, take, drop, get_or, reverse, refl, sym, ap, ◌∙◌, subst, ◌⊎◌, inl, inr, arith}
+use Rattle.std.specs.Prelude.{Option, Some, None, Result, Ok, Err, OnOk}
 use Rattle.std.specs.List.{filter, filter_map, cons_option, list_any}
 use Rattle.std.specs.Option.{unwrap_or}
 use Rattle.std.proofs.lemmas.Bool.{true≢false}
@@ -55,16 +55,12 @@ module _ (h : OpSet) (ways : List Way) (t : Stamp) (w : AreWays h ways t) (none 
 
 -- ---- the last of some operations
 
-last-cons : (x y : Op) (xs : List Op) → slice_get (x ∷ y ∷ xs) (length (x ∷ y ∷ xs) - 1) ≡ slice_get (y ∷ xs) (length (y ∷ xs) - 1)
-last-cons x y xs = let e : suc (suc (length xs)) - 1 ≡ suc (suc (length xs) - 1) = omega arith in ap (slice_get (x ∷ y ∷ xs)) e
-
-pub last_bears : (ops : List Op) (last : Op) (s : Stamp) → Some last ≡ slice_get ops (length ops - 1) → same (stamp_of last) s ≡ ends_with ops s
-last_bears [] last s e = cc
-last_bears (x ∷ []) last s e = let f : last ≡ x = cc (one x) in ap (λ o. same (stamp_of o) s) f
-  where
-    one : (x : Op) → slice_get (x ∷ []) (length (x ∷ []) - 1) ≡ Some x
-    one x = refl
-last_bears (x ∷ y ∷ ops) last s e = last_bears (y ∷ ops) last s (e ∙ last-cons x y ops)
+pub ends_at : (ops : List Op) (i : ℕ) (d : Op) (s : Stamp) → i < length ops → ends_with (take (suc i) ops) s ≡ same (stamp_of (get_or ops i d)) s
+ends_at [] i d s lt = absurd (omega arith)
+ends_at (x ∷ []) zero d s lt = refl
+ends_at (x ∷ []) (suc i) d s lt = absurd (omega arith)
+ends_at (x ∷ y ∷ ops) zero d s lt = refl
+ends_at (x ∷ y ∷ ops) (suc i) d s lt = ends_at (y ∷ ops) i d s (omega arith)
 
 -- of operations in order none of which has a later stamp, the last bears the stamp if any does
 pub ends-borne : (s : Stamp) (os : List Op) → IsOrdered os → Each (λ p. before s (stamp_of p) ≡ false) os → ends_with os s ≡ is_borne os s
@@ -321,27 +317,24 @@ told-all ops i ways faults le told = told.faults_are ∙ ap (λ l. filter_map (�
 
 -- ---- the steps of the pass
 
-module _ (h : OpSet) (lawful : AllLawful h) (ops : List Op) (is : ops ≡ in_order h) (i : ℕ) (d : Op) (lt : i < length (in_order h)) (ways : List Way) (faults : List CopyFault) (told : AreTold (in_order h) i ways faults) where
-  at_place : get_or (in_order h) i d ≡ get_or ops i d
-  at_place = ap (λ os. get_or os i d) (sym is)
+module _ (h : OpSet) (lawful : AllLawful h) (i : ℕ) (o : Op) (at : o ≡ get_or (in_order h) i o) (lt : i < length (in_order h)) (ways : List Way) (faults : List CopyFault) (told : AreTold (in_order h) i ways faults) where
+  pub pass_ways : (ws : List Way) → ws ≡ ways → (t : Stamp) → target_of o ≡ Some t → AreWays h ws t
+  pass_ways ws w t e = subst (λ ws. AreWays h ws t) (sym (w ∙ told.ways_are)) (target_ways h lawful i o o lt (sym at) t e)
 
-  pub pass_ways : (ws : List Way) → ws ≡ ways → (t : Stamp) → target_of (get_or ops i d) ≡ Some t → AreWays h ws t
-  pass_ways ws w t e = subst (λ ws. AreWays h ws t) (sym (w ∙ told.ways_are)) (target_ways h lawful i d (get_or ops i d) lt at_place t e)
+  pub pass_clear : (r : Result (Unit {0}) NoMemory) (s : Stamp) (kind : Option FaultKind) (ways_then : List Way) (faults_then : List CopyFault) → s ≡ stamp_of o → is_clear (in_order h) s ≡ true → kind ≡ fault_of (in_order h) o
+      → faults_then ≡ faults ++ cons_option (marked s kind) [] → OnOk r (ways_then ≡ ways ++ ways_with o kind) → OnOk r (AreTold (in_order h) (i + 1) ways_then faults_then)
+  pass_clear (Ok u) s kind ways_then faults_then is c k f w =
+      subst (λ ws. AreTold (in_order h) (i + 1) ws faults_then) (sym (w ∙ ap (λ k. ways ++ ways_with o k) k))
+      (subst (AreTold (in_order h) (i + 1) (ways ++ ways_with o (fault_of (in_order h) o))) (sym (f ∙ ap (λ k. faults ++ cons_option (marked s k) []) k ∙ ap (λ s. faults ++ cons_option (marked s (fault_of (in_order h) o)) []) is))
+      (told-clear h lawful i o o lt (sym at) ways faults told (ap (is_clear (in_order h)) (sym is) ∙ c)))
+  pass_clear (Err e) s kind ways_then faults_then is c k f w = tt
 
-  pub pass_clear : (r : Result (Unit {0}) NoMemory) (s : Stamp) (kind : Option FaultKind) (ways_then : List Way) (faults_then : List CopyFault) → s ≡ stamp_of (get_or ops i d) → is_clear (in_order h) s ≡ true → kind ≡ fault_of (in_order h) (get_or ops i d)
-      → faults_then ≡ faults ++ cons_option (marked s kind) [] → OnOk r (ways_then ≡ ways ++ ways_with (get_or ops i d) kind) → OnOk r (AreTold (in_order h) (i + 1) ways_then faults_then)
-  pass_clear (Ok u) s kind ways_then faults_then at c k f w =
-      subst (λ ws. AreTold (in_order h) (i + 1) ws faults_then) (sym (w ∙ ap (λ k. ways ++ ways_with (get_or ops i d) k) k))
-      (subst (AreTold (in_order h) (i + 1) (ways ++ ways_with (get_or ops i d) (fault_of (in_order h) (get_or ops i d)))) (sym (f ∙ ap (λ k. faults ++ cons_option (marked s k) []) k ∙ ap (λ s. faults ++ cons_option (marked s (fault_of (in_order h) (get_or ops i d))) []) at))
-      (told-clear h lawful i d (get_or ops i d) lt at_place ways faults told (ap (is_clear (in_order h)) (sym at) ∙ c)))
-  pass_clear (Err e) s kind ways_then faults_then at c k f w = tt
+  pub pass_known : (s : Stamp) → s ≡ stamp_of o → is_clear (in_order h) s ≡ false → ends_with (take i (in_order h)) s ≡ true → AreTold (in_order h) (i + 1) ways faults
+  pass_known s is c e = told-known h lawful i o o lt (sym at) ways faults told (ap (is_clear (in_order h)) (sym is) ∙ c) (ap (ends_with (take i (in_order h))) (sym is) ∙ e)
 
-  pub pass_known : (s : Stamp) → s ≡ stamp_of (get_or ops i d) → is_clear (in_order h) s ≡ false → ends_with (take i ops) s ≡ true → AreTold (in_order h) (i + 1) ways faults
-  pass_known s at c e = told-known h lawful i d (get_or ops i d) lt at_place ways faults told (ap (is_clear (in_order h)) (sym at) ∙ c) (ap (ends_with (take i (in_order h))) (sym at) ∙ ap (λ os. ends_with (take i os) s) (sym is) ∙ e)
-
-  pub pass_forked : (r : Result (Unit {0}) NoMemory) (s : Stamp) (faults_then : List CopyFault) → s ≡ stamp_of (get_or ops i d) → is_clear (in_order h) s ≡ false → ends_with (take i ops) s ≡ false
+  pub pass_forked : (r : Result (Unit {0}) NoMemory) (s : Stamp) (faults_then : List CopyFault) → s ≡ stamp_of o → is_clear (in_order h) s ≡ false → ends_with (take i (in_order h)) s ≡ false
       → OnOk r (faults_then ≡ faults ++ cons_option (marked s (Some Forked)) []) → OnOk r (AreTold (in_order h) (i + 1) ways faults_then)
-  pass_forked (Ok u) s faults_then at c e f =
-      subst (AreTold (in_order h) (i + 1) ways) (sym (f ∙ ap (λ s. faults ++ cons_option (marked s (Some Forked)) []) at))
-      (told-forked h lawful i d (get_or ops i d) lt at_place ways faults told (ap (is_clear (in_order h)) (sym at) ∙ c) (ap (ends_with (take i (in_order h))) (sym at) ∙ ap (λ os. ends_with (take i os) s) (sym is) ∙ e))
-  pass_forked (Err x) s faults_then at c e f = tt
+  pass_forked (Ok u) s faults_then is c e f =
+      subst (AreTold (in_order h) (i + 1) ways) (sym (f ∙ ap (λ s. faults ++ cons_option (marked s (Some Forked)) []) is))
+      (told-forked h lawful i o o lt (sym at) ways faults told (ap (is_clear (in_order h)) (sym is) ∙ c) (ap (ends_with (take i (in_order h))) (sym is) ∙ e))
+  pass_forked (Err x) s faults_then is c e f = tt

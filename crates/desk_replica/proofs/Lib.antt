@@ -11,3 +11,4 @@ pub mod Convergence
 pub mod Orders
 pub mod Merges
 mod Unforked
+mod Faultless

@@ -6,8 +6,12 @@ use Rattle.desk_ops.specs.Op.{stamp_of}
 use Rattle.desk_ops.specs.Stamp.{before}
 use Rattle.desk_ops.specs.OpSet.{OpSet, op_set_code, has_op, with_op, size, AllLawful, max_ops}
 use Rattle.desk_ops.specs.Held.{is_borne_in}
+use Rattle.desk_held.specs.declared.AddRefusal.{AddRefusal}
+use Rattle.desk_held.specs.declared.AddRefusal.TheVariants as add
 use Rattle.desk_held.specs.Joining.{IsHalted}
 use Rattle.desk_replica.specs.declared.Count.{Count}
+use Rattle.desk_replica.specs.declared.Refusal.{Refusal}
+use Rattle.desk_replica.specs.declared.Refusal.TheVariants.{Full, NoMemory}
 use Rattle.desk_replica.specs.declared.Stopped.{Stopped}
 use Rattle.desk_replica.specs.declared.Took.{Took}
 use Rattle.desk_replica.specs.declared.Took.TheVariants.{New, Known}
@@ -29,6 +33,11 @@ pub record IsKept (site : ℕ) (ops : OpSet) : Type 0 where
 -- what taking in an operation is
 abbrev pub took_by : OpSet → Op → Took
 took_by ops op = cond (has_op ops op) Known New
+
+-- what a refusal of the set is to one who takes in
+abbrev pub refusal_of : AddRefusal → Refusal
+refusal_of add.Full = Full
+refusal_of add.NoMemory = NoMemory
 
 -- the counts of a list that was taken in, by the sets before and after
 pub record IsCounted (old after : OpSet) (ops : List Op) (count : Count) : Type 0 where

@@ -1,5 +1,5 @@
 //! The copy faults of a held set, told in one pass from the oldest operation to the newest.
-ghost use Rattle.std.specs.Prelude.{◌≡◌, ◌+◌, ◌<◌, ◌++◌, [], IfOk, OnOk, MatchOption, Some, length};
+ghost use Rattle.std.specs.Prelude.{◌≡◌, ◌+◌, ◌<◌, ◌++◌, [], IfOk, OnOk, MatchOption, Some, length, take};
 ghost use Rattle.std.specs.List.{cons_option};
 ghost use Rattle.desk_ops.specs.declared.op.Stamp.{Stamp};
 ghost use Rattle.desk_ops.specs.Op.{target_of};
@@ -52,14 +52,15 @@ fn kind_of<A: Allocator + Copy>(held: &Held<A>, ways: &[Way], target: Stamp) -> 
     }
 }
 
-/// Whether the last of the operations bears the stamp.
-fn ends_with(ops: &[Op], stamp: Stamp) -> bool
-    ensures { result ≡ ends_with ops.now stamp }
+/// Whether the operation before the place bears the stamp.
+fn is_repeated<A: Allocator + Copy>(held: &Held<A>, place: usize, stamp: Stamp) -> bool
+    requires { place < length (in_order held.now.ops) }
+    ensures { result ≡ ends_with (take place (in_order held.now.ops)) stamp }
 {
-    match ops.last() {
-        Some(op) => op.stamp() == stamp,
-        None => false,
+    if place == 0 {
+        return false;
     }
+    held.op(place - 1).stamp() == stamp
 }
 
 /// The fault of a clear operation.
@@ -108,25 +109,23 @@ fn join<A: Allocator>(
 /// Tells the operation at the place.
 fn pass<A: Allocator + Copy>(
     held: &Held<A>,
-    ops: &[Op],
     place: usize,
     ways: &mut Vec<Way, A>,
     faults: &mut Vec<CopyFault, A>,
 ) -> Result<(), NoMemory>
     requires lawful { AllLawful held.now.ops }
-    requires list { ops.now ≡ in_order held.now.ops }
     requires within { place < length (in_order held.now.ops) }
     requires told { AreTold (in_order held.now.ops) place ways.old.items faults.old.items }
     ensures { OnOk result (AreTold (in_order held.now.ops) (place + 1) ways.new.items faults.new.items) }
 {
-    let op = ops[place];
+    let op = held.op(place);
     let stamp = op.stamp();
     if held.is_clear(stamp) {
         let kind = fault_of(held, ways, &op);
         tell(faults, stamp, kind)?;
         return join(ways, &op, kind);
     }
-    if ends_with(&ops[..place], stamp) {
+    if is_repeated(held, place, stamp) {
         return Ok(());
     }
     tell(faults, stamp, Some(FaultKind::Forked))
@@ -142,9 +141,8 @@ pub fn faults_of<A: Allocator + Copy>(
 {
     let mut ways = Vec::new(alloc);
     let mut faults = Vec::new(alloc);
-    let ops = held.in_order()?;
-    for place in 0..ops.len() {
-        pass(held, &ops, place, &mut ways, &mut faults)?;
+    for place in 0..held.len() {
+        pass(held, place, &mut ways, &mut faults)?;
     }
     Ok(faults)
 }

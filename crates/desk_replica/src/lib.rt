@@ -5,7 +5,7 @@
 //! specification of Attiya et al. 2016 ("Specification and complexity of collaborative text editing").
 #![tactic(auto)]
 
-ghost use Rattle.std.specs.Prelude.{◌≡◌, ◌+◌, ◌-◌, ◌≤◌, ◌<◌, ◌↔◌, ◌⊎◌, ◌++◌, ◌^◌, drop, All, IfOk, IfErr, IfSome, IsNone, IsOk, OnOk, OnErr, IsErrOf, length, take, true, false};
+ghost use Rattle.std.specs.Prelude.{◌≡◌, ◌+◌, ◌-◌, ◌≤◌, ◌<◌, ◌↔◌, ◌⊎◌, ◌++◌, ◌^◌, [], drop, All, IfOk, IfErr, IfSome, IsNone, IsOk, OnOk, OnErr, IsErrOf, length, take, true, false};
 ghost use Rattle.std.specs.List.{list_all};
 ghost use Rattle.desk_ops.specs.Op.{IsLawful};
 ghost use Rattle.desk_ops.specs.OpSet.{no_ops, has_op, with_op, with_all, union, in_order, size, AllLawful};
@@ -72,6 +72,20 @@ pub enum Refusal {
     Value,
     #[error("no memory")]
     NoMemory,
+}
+
+impl From<AddRefusal> for Refusal {
+    ghost use Rattle.std.specs.Prelude.{◌≡◌};
+    ghost use Rattle.desk_replica.specs.State.{refusal_of};
+
+    ghost from_gives = { λ why refusal. refusal ≡ refusal_of why };
+
+    fn from(why: AddRefusal) -> Refusal {
+        match why {
+            AddRefusal::Full => Refusal::Full,
+            AddRefusal::NoMemory => Refusal::NoMemory,
+        }
+    }
 }
 
 /// How many operations of a list were new, and how many were known.
@@ -392,11 +406,7 @@ impl<Q: Sequence> Replica<Q> {
         ensures known_spare { has_op self.old.ops op ≡ true → self.new.spare ≡ self.old.spare }
         ensures order { KeepsOrder self.old.ops self.new.ops }
     {
-        match self.put(op) {
-            Ok(took) => Ok(took),
-            Err(AddRefusal::Full) => Err(Refusal::Full),
-            Err(AddRefusal::NoMemory) => Err(Refusal::NoMemory),
-        }
+        Ok(self.put(op)?)
     }
 
     /// Takes in the operations of a list of which none bears a stamp that is borne, where there is room for them. No memory
@@ -509,9 +519,7 @@ impl<Q: Sequence> Replica<Q> {
         ensures order { KeepsOrder self.old.ops self.new.ops }
     {
         let before = self.len();
-        if let Err(stopped) = self.take_in(ops) {
-            return Err(stopped);
-        }
+        self.take_in(ops)?;
         let new = self.len() - before;
         Ok(Count {
             new,
@@ -593,10 +601,15 @@ impl<Q: Sequence> Replica<Q> {
     }
 
     /// The copy faults: of each stamp whose operations do not act why they do not, by stamp. It is one pass over the
-    /// operations, oldest first; the memory taken grows with the number of operations held, and with nothing else.
+    /// operations, oldest first. Where there are none no memory is taken; else what is taken grows with the number of
+    /// operations held, and with nothing else.
     pub fn copy_faults(&self) -> Result<Vec<CopyFault, Q::Memory>, NoMemory>
-        ensures { IfOk result (λ v. v.items ≡ faults_of self.now.ops) }
+        ensures faults { IfOk result (λ v. v.items ≡ faults_of self.now.ops) }
+        ensures none { faults_of self.now.ops ≡ [] → IsOk result }
     {
+        if self.room.is_empty() && self.held.is_unforked() {
+            return Ok(Vec::new(self.alloc));
+        }
         faults_of(self.alloc, &self.held)
     }
 
@@ -720,10 +733,7 @@ impl<Q: Sequence> Replica<Q> {
         if symbol.check().is_err() {
             return Err(Refusal::Value);
         }
-        let stamp = match self.next_stamp() {
-            Ok(stamp) => stamp,
-            Err(refusal) => return Err(refusal),
-        };
+        let stamp = self.next_stamp()?;
         self.make(
             Op::Insert {
                 stamp,
@@ -749,10 +759,7 @@ impl<Q: Sequence> Replica<Q> {
         let Some((target, at)) = self.stamp_at(place) else {
             return Err(Refusal::Place);
         };
-        let stamp = match self.next_stamp() {
-            Ok(stamp) => stamp,
-            Err(refusal) => return Err(refusal),
-        };
+        let stamp = self.next_stamp()?;
         self.make(Op::Delete { stamp, target }, Some(at))
     }
 
@@ -771,10 +778,7 @@ impl<Q: Sequence> Replica<Q> {
         if !key.takes(value) {
             return Err(Refusal::Value);
         }
-        let stamp = match self.next_stamp() {
-            Ok(stamp) => stamp,
-            Err(refusal) => return Err(refusal),
-        };
+        let stamp = self.next_stamp()?;
         self.make(Op::Set { stamp, key, value }, None)
     }
 }

@@ -453,7 +453,7 @@ fn growths_of_copy_faults(rt: HostRuntime) -> Result<(), Fail> {
     Ok(())
 }
 
-/// A known operation, and what is refused for another cause, is never refused for memory.
+/// A known operation, what is refused for another cause, and a look for faults where there are none, are never refused for memory.
 #[test]
 fn known_and_wrong_take_no_memory(rt: HostRuntime) -> Result<(), Fail> {
     let four = four();
@@ -463,6 +463,7 @@ fn known_and_wrong_take_no_memory(rt: HostRuntime) -> Result<(), Fail> {
         (Call::Insert(3, 'x'), Answer::Refused(Refusal::Place)),
         (Call::Insert(0, '\t'), Answer::Refused(Refusal::Value)),
         (Call::Delete(2), Answer::Refused(Refusal::Place)),
+        (Call::Faults, Answer::Read(0)),
     ];
     for (call, answer) in table {
         let case = Case {

@@ -4,8 +4,8 @@ use Rattle.desk_image.specs.Images.{image_fault}
 use Rattle.desk_ribbon.specs.Ribbon.{image_bytes}
 use Rattle.desk_caster.proofs.reading.rows_of.Goals as goal
 
-pub returns-in-Err-to_row-clause-fault : goal.returns-in-Err-to_row-clause-fault
-returns-in-Err-to_row-clause-fault g c =
+pub returns-in-Err-clause-fault : goal.returns-in-Err-clause-fault
+returns-in-Err-clause-fault g c =
     record {
       before = c.loop-place.rows.items;
       rows = c.loop-place.invariant.rows;
@@ -14,5 +14,5 @@ returns-in-Err-to_row-clause-fault g c =
       fits = c.take_number-image.ensures.value;
       rest = c.take_number-image.result.1.now;
       split = c.loop-place.invariant.read ∙ ap (λ (x : List ℕ). flat_map image_bytes c.loop-place.rows.items ++ x) c.take_number-image.ensures.bytes;
-      bad = ap image_fault (sym c.new.ensures) ∙ sym c.in-Err-to_row.ensures.fault;
+      bad = ap image_fault (sym c.new.ensures) ∙ sym c.in-Err.ensures.fault;
     }
