@@ -7,7 +7,7 @@ use Rattle.desk_job.proofs.ribbon.make.Goals as goal
 pub make_from-requires-clause-copy : goal.make_from-requires-clause-copy
 make_from-requires-clause-copy g c =
     let short = copy_short c.args.replica.now.ops c.len-held.ensures.lawful in
-    let long = ap length (c.deref.ensures.value ∙ c.in-Ok.ensures) in
+    let long = ap length (c.deref.ensures.value ∙ c.in_ok-copy.ensures) in
     omega (arith, short, long, c.len-held.ensures.value, c.len-held.ensures.within)
 
 pub make_from-requires-clause-settings : goal.make_from-requires-clause-settings
