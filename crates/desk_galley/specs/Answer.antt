@@ -1,5 +1,5 @@
 -- What is answered in place of a galley.
-use Rattle.std.specs.Prelude.{◌≡◌, ℕ, List, [], ◌∷◌, Option, Result, Ok, Err}
+use Rattle.std.specs.Prelude.{◌≡◌, List, [], ◌∷◌, Result, Ok, Err}
 use Rattle.std.specs.List.{flat_map}
 use Rattle.desk_ops.specs.declared.op.Symbol.{Symbol}
 use Rattle.desk_ops.specs.declared.op.Key.{Key}
@@ -7,7 +7,7 @@ use Rattle.desk_wedge.specs.Wedge.{WedgeValues}
 use Rattle.desk_case.specs.Case.{CaseValues}
 use Rattle.desk_signals.specs.declared.RibbonRow.{RibbonRow}
 use Rattle.desk_ribbon.specs.Ribbon.{head_row}
-use Rattle.desk_job.specs.Job.{terms_fault, terms_of, values_of}
+use Rattle.desk_job.specs.Job.{terms_fault, terms_of}
 use Rattle.desk_job.specs.declared.JobFault.{JobFault}
 use Rattle.desk_job.specs.declared.JobFault.TheVariants.{MissingSetting}
 use Rattle.desk_job.specs.declared.terms.Values.{Values}

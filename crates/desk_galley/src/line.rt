@@ -1,6 +1,6 @@
 //! A line as it is set, or as it fails.
 
-ghost use Rattle.std.specs.Prelude.{◌≡◌, ◌+◌, ◌-◌, ◌*◌, ◌≤◌, ◌^◌, pos, ◌+ℤ◌, ◌-ℤ◌, ◌*ℤ◌, ◌≤ℤ◌, length, drop, option_and_then, IfOk};
+ghost use Rattle.std.specs.Prelude.{◌≡◌, ◌+◌, ◌-◌, ◌*◌, ◌≤◌, ◌^◌, pos, ◌+ℤ◌, ◌-ℤ◌, ◌*ℤ◌, ◌≤ℤ◌, int_lt, length, drop, option_and_then, IfOk};
 ghost use Rattle.desk_lines.specs.Groups.{AreWidths};
 ghost use Rattle.desk_justify.specs.Positions.{sum_of};
 ghost use Rattle.desk_job.specs.Job as job;
@@ -8,7 +8,7 @@ ghost use Rattle.desk_job.specs.Setting.{listed, words_at};
 ghost use Rattle.desk_job.specs.Making.{IsRange, group_words};
 ghost use Rattle.desk_galley.specs.Line.{next_at, sum_if, values_of};
 ghost use Rattle.desk_galley.specs.Galley.{is_faulty};
-ghost use Rattle.desk_units.specs.WedgeSum.{pair_of};
+ghost use Rattle.desk_units.specs.WedgeSum.{greatest, least, pair_of};
 
 use arrayvec::ArrayVec;
 use desk_job::JobFault;
@@ -20,9 +20,6 @@ use desk_signals::Position;
 use desk_units::{Atoms, WedgeSum, floor_steps};
 use std::alloc::Allocator;
 use std::marker::Model;
-
-/// The greatest wedge sum.
-const GREATEST: i64 = 240;
 
 /// The word after a line in its paragraph.
 #[derive(Clone, Copy, PartialEq, Eq, Debug)]
@@ -177,6 +174,14 @@ fn sum_at(left: Atoms, spaces: usize) -> Option<i64>
     Some(WedgeSum::NEUTRAL.get() as i64 + steps)
 }
 
+/// Whether a sum that is no less than a wedge sum is above what the wedges reach.
+fn is_above(sum: i64) -> bool
+    requires { pos least ≤ℤ sum }
+    ensures { result ≡ int_lt (pos greatest) sum }
+{
+    WedgeSum::from_steps(sum - WedgeSum::NEUTRAL.get() as i64).is_none()
+}
+
 /// Why a line of so many spaces and with so much left for them can't be set, if so.
 fn fault_at(
     terms: &Terms,
@@ -195,7 +200,7 @@ fn fault_at(
     let tight = terms.tight().get() as i64;
     let loose = terms.loose().get() as i64;
     if filled {
-        if sum < tight || sum > GREATEST {
+        if sum < tight || is_above(sum) {
             return Some(JobFault::CannotFill(number));
         }
         return None;
