@@ -34,7 +34,7 @@ pub returns-in-Ok : goal.returns-in-Ok
 returns-in-Ok g c =
     let galley = c.in-Ok.galley in
     let copy = c.deref-in-Ok.ensures.value ∙ c.in_ok-copy.ensures in
-    let faults = c.deref-in-Ok-2.ensures.value ∙ c.in_ok-faults.ensures in
+    let faults = c.deref-in-Ok-2.ensures.value ∙ c.in_ok-faults.ensures.faults in
     inl (
       galley,
       of_set c.args.replica.now.ops c.deref.result.now c.args.trial.now c.tried-settings.result c.args.case.now c.args.wedge.now galley (c.deref.ensures.value ∙ c.in_ok-copy.ensures) (c.tried-settings.ensures.value ∙ ap (tried_with c.args.trial.now) c.settings-given.ensures) c.in-Ok.ensures.ok,
@@ -44,7 +44,7 @@ returns-in-Ok g c =
 pub returns-in-Err-Fault : goal.returns-in-Err-Fault
 returns-in-Err-Fault g c =
     let why = c.in-Err-Fault.why in
-    let faults = c.deref-in-Err-Fault.ensures.value ∙ c.in_ok-faults.ensures in
+    let faults = c.deref-in-Err-Fault.ensures.value ∙ c.in_ok-faults.ensures.faults in
     let refused : job c.deref.result.now (by_key c.tried-settings.result) c.args.case.now c.args.wedge.now ≡ Err (why ∷ []) = search rules in
     let terms : no_terms c.args.case.now c.args.wedge.now (values_of (by_key c.tried-settings.result)) ≡ why ∷ [] = search rules in
     inr (
