@@ -108,12 +108,13 @@ abbrev pub IsDone : Mode → Desk → Desk → Option (List ℕ) → Option (Lis
 IsDone mode old new input before after = (told : List ℕ) × IsTold mode old new input None told × Appends before after told
 
 -- Why a run stopped, and what was written: all that was told up to the line that stopped it; a prefix of what was told; or nothing.
+-- Where the sheet could not be read, no line was carried out.
 abbrev pub IsStopped : Mode → Desk → Desk → Option (List ℕ) → Option (List ℕ) → Option (List ℕ) → SheetFault → Type 0
 IsStopped mode old new input before after (faults.Line k) = (told : List ℕ) × IsTold mode old new input (Some k) told × Appends before after told
-IsStopped mode old new input before after (faults.Run runs.Read) = after ≡ before
+IsStopped mode old new input before after (faults.Run runs.Read) = (new ≡ old) × (after ≡ before)
 IsStopped mode old new input before after (faults.Run runs.Write) =
     (end : Option ℕ) × (told : List ℕ) × IsTold mode old new input end told × WritesFront before after told
-IsStopped mode old new input before after (faults.Run runs.TooLong) = (after ≡ before) × IfSome input (λ known. max_sheet < length known)
+IsStopped mode old new input before after (faults.Run runs.TooLong) = (new ≡ old) × (after ≡ before) × IfSome input (λ known. max_sheet < length known)
 IsStopped mode old new input before after (faults.Run runs.NoMemory) = after ≡ before
 IsStopped mode old new input before after (faults.Run (runs.Feed why)) = ⊥
 IsStopped mode old new input before after (faults.Run (runs.File why)) = ⊥
