@@ -57,7 +57,7 @@ of_rising_list ops rising = sym (of_none (from_rising ops)) ∙ ap (with_all no_
 -- ---- two lists in one order
 
 -- an operation that comes first comes last as well
-with_op-with_all : (h : OpSet) (x : Op) (os : List Op) → with_all (with_op h x) os ≡ with_op (with_all h os) x
+pub with_op-with_all : (h : OpSet) (x : Op) (os : List Op) → with_all (with_op h x) os ≡ with_op (with_all h os) x
 with_op-with_all h x [] = refl
 with_op-with_all h x (o ∷ os) = ap (λ g. with_all g os) (with_op-comm h x o) ∙ with_op-with_all (with_op h o) x os
 

@@ -5,10 +5,10 @@ ghost use Rattle.desk_ops.specs.OpSet.{no_ops, in_order, size, with_all};
 ghost use Rattle.desk_held.specs.Joining.{IsHalted};
 
 use crate::search::{are_rising, comes_before, is_rising};
-use crate::slot::{Slot, add_ops, slots_of};
 use crate::{AddRefusal, Held, LIMIT};
 use desk_ops::Op;
 use desk_pages::Pages;
+use desk_slots::{Slot, add_ops, slots_of};
 use std::alloc::{AllocError, Allocator};
 
 /// A list was added up to an operation that was refused.
@@ -62,6 +62,7 @@ impl<A: Allocator + Copy> Held<A> {
         requires { All IsLawful slots.now }
         ensures ops { IfSome result (λ h. h.ops ≡ with_all no_ops slots.now) }
         ensures listed { IfSome result (λ h. in_order h.ops ≡ slots.now) }
+        ensures within { IfSome result (λ h. size h.ops ≤ LIMIT) }
     {
         if slots.len() > LIMIT || !are_rising(slots) {
             return None;
@@ -78,6 +79,7 @@ impl<A: Allocator + Copy> Held<A> {
         requires { All IsLawful ops.now }
         ensures ops { IfSome result (λ h. h.ops ≡ with_all no_ops ops.now) }
         ensures listed { IfSome result (λ h. in_order h.ops ≡ ops.now) }
+        ensures within { IfSome result (λ h. size h.ops ≤ LIMIT) }
     {
         if !is_rising(ops) {
             return None;
@@ -109,7 +111,8 @@ impl<A: Allocator + Copy> Held<A> {
     /// where the list is another, they are too many or memory does not allow it.
     pub fn joined(&self, ops: &[Op]) -> Option<Self>
         requires { All IsLawful ops.now }
-        ensures { IfSome result (λ h. h.ops ≡ with_all self.now.ops ops.now) }
+        ensures ops { IfSome result (λ h. h.ops ≡ with_all self.now.ops ops.now) }
+        ensures within { IfSome result (λ h. size h.ops ≤ LIMIT) }
     {
         let Ok(slots) = self.beside(ops) else {
             return None;

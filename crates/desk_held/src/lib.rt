@@ -11,9 +11,9 @@ ghost use Rattle.desk_ops.specs.Held.{is_borne_in, is_clear_in, clear_op_in, gre
 
 use desk_ops::{NoMemory, Op, Stamp};
 use desk_pages::Pages;
+use desk_slots::{Slot, append, entry, insert_in_order, seek};
 use rising::all_rise;
 use search::{Below, Earlier, UpTo};
-use slot::{Slot, append, entry, insert_in_order, seek};
 use std::alloc::Allocator;
 use std::marker::Model;
 use thiserror::Error;
@@ -23,7 +23,6 @@ mod missing;
 mod passing;
 mod rising;
 mod search;
-mod slot;
 
 pub use join::Halt;
 pub use missing::put_in_turn;

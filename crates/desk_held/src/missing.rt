@@ -8,8 +8,8 @@ ghost use Rattle.desk_held.specs.Passing.{missing_of, IsMissing, IsInTurn};
 use crate::Held;
 use crate::passing::look;
 use crate::search::is_rising;
-use crate::slot::Slot;
 use desk_ops::{NoMemory, Op};
+use desk_slots::Slot;
 use std::alloc::Allocator;
 
 /// Below this part of what is held each operation of a list is searched: a pass beside the list would look at each page.

@@ -7,9 +7,9 @@ ghost use Rattle.desk_pages.specs.Pages.{IsEdge};
 ghost use Rattle.desk_held.specs.Passing.{IsPart, IsPassed};
 
 use crate::search::comes_before;
-use crate::slot::Slot;
 use desk_ops::Op;
 use desk_pages::Pages;
+use desk_slots::Slot;
 use std::alloc::Allocator;
 
 /// The first place of a stretch, from a place on, of what does not come before an operation. Where the last of it does, all

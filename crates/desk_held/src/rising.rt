@@ -3,9 +3,9 @@ ghost use Rattle.std.specs.Prelude.{◌≡◌, true, false, IfSome, IsNone};
 ghost use Rattle.desk_ops.specs.Stamp.{head};
 ghost use Rattle.desk_held.specs.Rising.{rise_from, last_from};
 
-use crate::slot::Slot;
 use desk_ops::Stamp;
 use desk_pages::Pages;
+use desk_slots::Slot;
 use std::alloc::Allocator;
 
 /// The last stamp of a stretch, where its stamps rise, the first from the one given.

@@ -4,9 +4,9 @@ ghost use Rattle.std.specs.Ordering.{is_lt};
 ghost use Rattle.desk_ops.specs.Order.{op_cmp};
 ghost use Rattle.desk_ops.specs.OpSet.{is_rising};
 
-use crate::slot::Slot;
 use desk_ops::{Op, Stamp};
 use desk_pages::Pick;
+use desk_slots::Slot;
 
 /// Whether the first operation comes before the second. Their stamps tell it, but where these are one.
 fn is_earlier(a: &Op, b: &Op) -> bool

@@ -4,7 +4,7 @@ use Rattle.std.specs.List.{insert}
 use Rattle.std.proofs.lemmas.List.{get_or_read, length-set, set-append_left, set-append_right, drop-drop, drop_at, take_at, drop-append-le, take-append-le, get_or_append_left, get_or-append-add, take-append-drop, append-nil}
 use Rattle.std.proofs.lemmas.Bool.{cases_lt}
 use Rattle.std.proofs.lemmas.List.Edits.{insert-append_left, insert-append_right, length-insert}
-use Rattle.desk_pages.specs.Pages.{joined, start_of, IsSpot, IsSpotOrEnd, IsGap, IsHalfFull, IsClosed, cut_at, spare_of, IsKept}
+use Rattle.desk_pages.specs.Pages.{joined, start_of, IsSpot, IsSpotOrEnd, IsGap, AreHalfFull, IsHalfFull, IsClosed, cut_at, spare_of, IsKept}
 
 -- ---- places
 
@@ -38,29 +38,51 @@ spot pages p j l k = record { within = l; inside = k; is = refl }
 
 -- ---- half full
 
-pub half-cons : {X : Type 0} (r : List X) (pages : List (List X)) → 256 ≤ length r → IsHalfFull pages → IsHalfFull (r ∷ pages)
+pub half-cons : {X : Type 0} (r : List X) (pages : List (List X)) → 256 ≤ length r → AreHalfFull pages → AreHalfFull (r ∷ pages)
 half-cons r [] l h = let k : 1 ≤ length r = omega arith in k
 half-cons r (s ∷ pages) l h = (l, h)
 
+halves-push : {X : Type 0} (pages : List (List X)) (y : List X) → 1 ≤ length y → AreHalfFull pages → IsClosed pages → AreHalfFull (pages ++ y ∷ [])
+halves-push [] y l h c = l
+halves-push (r ∷ []) y l h c = (omega arith, l)
+halves-push (r ∷ s ∷ pages) y l h c = half-cons r ((s ∷ pages) ++ y ∷ []) h.0 (halves-push (s ∷ pages) y l h.1 c)
+
 pub half-push : {X : Type 0} (pages : List (List X)) (y : List X) → 1 ≤ length y → IsHalfFull pages → IsClosed pages → IsHalfFull (pages ++ y ∷ [])
-half-push [] y l h c = l
-half-push (r ∷ []) y l h c = (omega arith, l)
-half-push (r ∷ s ∷ pages) y l h c = half-cons r ((s ∷ pages) ++ y ∷ []) h.0 (half-push (s ∷ pages) y l h.1 c)
+half-push [] y l h c = (l, tt)
+half-push (r ∷ []) y l h c = (h.0, l)
+half-push (r ∷ s ∷ pages) y l h c = (h.0, halves-push (s ∷ pages) y l h.1 c)
+
+-- a page before one that is half full
+pub half-first : {X : Type 0} (pages : List (List X)) (y : List X) → 1 ≤ length y → IsHalfFull pages → 256 ≤ length (get_or pages 0 []) → IsHalfFull (y ∷ pages)
+half-first [] y l h f = (l, tt)
+half-first (r ∷ pages) y l h f = (l, half-cons r pages f h.1)
+
+halves-grow : {X : Type 0} (pages : List (List X)) (p : ℕ) (y : List X) → AreHalfFull pages → length (get_or pages p []) ≤ length y → AreHalfFull (set pages p y)
+halves-grow [] p y h l = tt
+halves-grow (r ∷ []) zero y h l = let a : 1 ≤ length r = h in let k : 1 ≤ length y = omega arith in k
+halves-grow (r ∷ s ∷ pages) zero y h l = (let a : 256 ≤ length r = h.0 in omega arith, h.1)
+halves-grow (r ∷ []) (suc p) y h l = h
+halves-grow (r ∷ s ∷ pages) (suc p) y h l = half-cons r (set (s ∷ pages) p y) h.0 (halves-grow (s ∷ pages) p y h.1 l)
 
 pub half-grow : {X : Type 0} (pages : List (List X)) (p : ℕ) (y : List X) → IsHalfFull pages → length (get_or pages p []) ≤ length y → IsHalfFull (set pages p y)
 half-grow [] p y h l = tt
-half-grow (r ∷ []) zero y h l = let a : 1 ≤ length r = h in let k : 1 ≤ length y = omega arith in k
-half-grow (r ∷ s ∷ pages) zero y h l = (let a : 256 ≤ length r = h.0 in omega arith, h.1)
-half-grow (r ∷ []) (suc p) y h l = h
-half-grow (r ∷ s ∷ pages) (suc p) y h l = half-cons r (set (s ∷ pages) p y) h.0 (half-grow (s ∷ pages) p y h.1 l)
+half-grow (r ∷ pages) zero y h l = (let a : 1 ≤ length r = h.0 in omega arith, h.1)
+half-grow (r ∷ pages) (suc p) y h l = (h.0, halves-grow pages p y h.1 l)
 
-pub half-count : {X : Type 0} (pages : List (List X)) → IsHalfFull pages → 256 * (length pages - 1) ≤ length (joined pages)
-half-count [] h = omega arith
-half-count (r ∷ []) h = omega arith
-half-count (r ∷ s ∷ pages) h =
+halves-count : {X : Type 0} (pages : List (List X)) → AreHalfFull pages → 256 * (length pages - 1) ≤ length (joined pages)
+halves-count [] h = omega arith
+halves-count (r ∷ []) h = omega arith
+halves-count (r ∷ s ∷ pages) h =
     let a : 256 ≤ length r = h.0 in
     let e = length-append r (joined (s ∷ pages)) in
-    let k = half-count (s ∷ pages) h.1 in
+    let k = halves-count (s ∷ pages) h.1 in
+    omega arith
+
+pub half-count : {X : Type 0} (pages : List (List X)) → IsHalfFull pages → 256 * (length pages - 2) ≤ length (joined pages)
+half-count [] h = omega arith
+half-count (r ∷ pages) h =
+    let e = length-append r (joined pages) in
+    let k = halves-count pages h.1 in
     omega arith
 
 -- room for one more means a free page
@@ -91,18 +113,23 @@ cut-length [] p l = absurd (omega arith)
 cut-length (r ∷ pages) zero l = omega arith
 cut-length (r ∷ pages) (suc p) l = let h = cut-length pages p (omega arith) in omega arith
 
-pub cut-half : {X : Type 0} (pages : List (List X)) (p : ℕ) → IsHalfFull pages → p < length pages → length (get_or pages p []) ≡ 512 → IsHalfFull (cut_at pages p)
-cut-half [] p h l f = tt
-cut-half (r ∷ pages) zero h l f = half-cons (take 256 r) (drop 256 r ∷ pages) (simp length-take (omega arith)) (half-upper pages h)
+halves-cut : {X : Type 0} (pages : List (List X)) (p : ℕ) → AreHalfFull pages → p < length pages → length (get_or pages p []) ≡ 512 → AreHalfFull (cut_at pages p)
+halves-cut [] p h l f = tt
+halves-cut (r ∷ pages) zero h l f = half-cons (take 256 r) (drop 256 r ∷ pages) (simp length-take (omega arith)) (half-upper pages h)
   where
     upper : 256 ≤ length (drop 256 r)
     upper = simp length-drop (omega arith)
 
-    half-upper : (rest : List (List _)) → IsHalfFull (r ∷ rest) → IsHalfFull (drop 256 r ∷ rest)
+    half-upper : (rest : List (List _)) → AreHalfFull (r ∷ rest) → AreHalfFull (drop 256 r ∷ rest)
     half-upper [] q = let k : 1 ≤ length (drop 256 r) = omega (arith, upper) in k
     half-upper (s ∷ rest) q = (upper, q.1)
-cut-half (r ∷ []) (suc p) h l f = absurd (omega arith)
-cut-half (r ∷ s ∷ pages) (suc p) h l f = half-cons r (cut_at (s ∷ pages) p) h.0 (cut-half (s ∷ pages) p h.1 (omega arith) f)
+halves-cut (r ∷ []) (suc p) h l f = absurd (omega arith)
+halves-cut (r ∷ s ∷ pages) (suc p) h l f = half-cons r (cut_at (s ∷ pages) p) h.0 (halves-cut (s ∷ pages) p h.1 (omega arith) f)
+
+pub cut-half : {X : Type 0} (pages : List (List X)) (p : ℕ) → IsHalfFull pages → p < length pages → length (get_or pages p []) ≡ 512 → IsHalfFull (cut_at pages p)
+cut-half [] p h l f = tt
+cut-half (r ∷ pages) zero h l f = (simp length-take (omega arith), half-cons (drop 256 r) pages (simp length-drop (omega arith)) h.1)
+cut-half (r ∷ pages) (suc p) h l f = (h.0, halves-cut pages p h.1 (omega arith) f)
 
 pub cut-lower : {X : Type 0} (pages : List (List X)) (p : ℕ) → p < length pages → get_or (cut_at pages p) p [] ≡ take 256 (get_or pages p [])
 cut-lower [] p l = absurd (omega arith)

@@ -4,7 +4,7 @@ use Rattle.std.specs.List.{count_by}
 use Rattle.std.proofs.lemmas.Bool.{true≢false, cases_lt}
 use Rattle.std.proofs.lemmas.List.Sums.{sum_by-append, count_by-le-length, count_by_more_no}
 use Rattle.std.proofs.lemmas.List.{get_or_read, take-append-drop, length-take-le}
-use Rattle.desk_pages.specs.Pages.{joined, start_of, IsSpot, IsHalfFull, ends_in, IsEdge, IsNth, IsShort}
+use Rattle.desk_pages.specs.Pages.{joined, start_of, IsSpot, AreHalfFull, IsHalfFull, ends_in, IsEdge, IsNth, IsShort}
 use Rattle.desk_pages.proofs.Cuts.{start-more, start-le, take-joined, take-start, entry-joined, joined-past, page-length}
 
 pub joined-more : {X : Type 0} (pages : List (List X)) (n : ℕ) → n < length pages → joined (take (suc n) pages) ≡ joined (take n pages) ++ get_or pages n []
@@ -98,12 +98,17 @@ next-start pages from p j n r s e l =
 
 -- ---- the edge of what is picked
 
+halves-some : {X : Type 0} (pages : List (List X)) (k : ℕ) → AreHalfFull pages → k < length pages → 0 < length (get_or pages k [])
+halves-some [] k h l = absurd (omega arith)
+halves-some (r ∷ []) zero h l = let a : 1 ≤ length r = h in omega arith
+halves-some (r ∷ []) (suc k) h l = absurd (omega arith)
+halves-some (r ∷ s ∷ pages) zero h l = let a : 256 ≤ length r = h.0 in omega arith
+halves-some (r ∷ s ∷ pages) (suc k) h l = halves-some (s ∷ pages) k h.1 (omega arith)
+
 pub half-some : {X : Type 0} (pages : List (List X)) (k : ℕ) → IsHalfFull pages → k < length pages → 0 < length (get_or pages k [])
 half-some [] k h l = absurd (omega arith)
-half-some (r ∷ []) zero h l = let a : 1 ≤ length r = h in omega arith
-half-some (r ∷ []) (suc k) h l = absurd (omega arith)
-half-some (r ∷ s ∷ pages) zero h l = let a : 256 ≤ length r = h.0 in omega arith
-half-some (r ∷ s ∷ pages) (suc k) h l = half-some (s ∷ pages) k h.1 (omega arith)
+half-some (r ∷ pages) zero h l = let a : 1 ≤ length r = h.0 in omega arith
+half-some (r ∷ pages) (suc k) h l = halves-some pages k h.1 (omega arith)
 
 pub ends-last : {X : Type 0} (picks : X → Bool) (r : List X) (d : X) → 0 < length r → ends_in picks r ≡ picks (get_or r (length r - 1) d)
 ends-last picks [] d l = absurd (omega arith)

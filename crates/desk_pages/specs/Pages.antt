@@ -31,23 +31,34 @@ pub record IsGap {X : Type 0} (pages : List (List X)) (i p j : ℕ) : Type 0 whe
   pub is : i ≡ start_of pages p + j
 
 -- no page is empty, and each but the last has 256 at least
+abbrev pub AreHalfFull : {X : Type 0} → List (List X) → Type 0
+AreHalfFull [] = Unit {0}
+AreHalfFull (r ∷ []) = 1 ≤ length r
+AreHalfFull (r ∷ s ∷ pages) = (256 ≤ length r) × AreHalfFull (s ∷ pages)
+
+-- the same, but that page p may have one less than it must
+abbrev pub AreShortAt : {X : Type 0} → List (List X) → ℕ → Type 0
+AreShortAt [] p = Unit {0}
+AreShortAt (r ∷ []) zero = Unit {0}
+AreShortAt (r ∷ []) (suc p) = 1 ≤ length r
+AreShortAt (r ∷ s ∷ pages) zero = (255 ≤ length r) × AreHalfFull (s ∷ pages)
+AreShortAt (r ∷ s ∷ pages) (suc p) = (256 ≤ length r) × AreShortAt (s ∷ pages) p
+
+-- no page is empty, and each but the first and the last has 256 at least
 abbrev pub IsHalfFull : {X : Type 0} → List (List X) → Type 0
 IsHalfFull [] = Unit {0}
-IsHalfFull (r ∷ []) = 1 ≤ length r
-IsHalfFull (r ∷ s ∷ pages) = (256 ≤ length r) × IsHalfFull (s ∷ pages)
+IsHalfFull (r ∷ pages) = (1 ≤ length r) × AreHalfFull pages
 
 -- the same, but that page p may have one less than it must
 abbrev pub IsShortAt : {X : Type 0} → List (List X) → ℕ → Type 0
 IsShortAt [] p = Unit {0}
-IsShortAt (r ∷ []) zero = Unit {0}
-IsShortAt (r ∷ []) (suc p) = 1 ≤ length r
-IsShortAt (r ∷ s ∷ pages) zero = (255 ≤ length r) × IsHalfFull (s ∷ pages)
-IsShortAt (r ∷ s ∷ pages) (suc p) = (256 ≤ length r) × IsShortAt (s ∷ pages) p
+IsShortAt (r ∷ pages) zero = AreHalfFull pages
+IsShortAt (r ∷ pages) (suc p) = (1 ≤ length r) × AreShortAt pages p
 
 -- page p may lose an entry and stay long enough
 pub record HasMore {X : Type 0} (pages : List (List X)) (p : ℕ) : Type 0 where
   pub some : 2 ≤ length (slice_index_or pages p [])
-  pub more : suc p < length pages → 257 ≤ length (slice_index_or pages p [])
+  pub more : 0 < p → suc p < length pages → 257 ≤ length (slice_index_or pages p [])
 
 -- no page, or the last is full
 abbrev pub IsClosed : {X : Type 0} → List (List X) → Type 0
@@ -62,9 +73,9 @@ cut_at (r ∷ pages) zero = take 256 r ∷ drop 256 r ∷ pages
 cut_at (r ∷ pages) (suc p) = r ∷ cut_at pages p
 
 -- how many more fit with no new memory, whichever pages they come to: as many as pages are free, since each cuts one page
--- at most, or, where that is more, as many as all pages have room for when each is half full; and 2 ^ 47 entries at most
+-- at most, or, where that is more, as many as all pages but two have room for when each is half full; and 2 ^ 47 entries at most
 abbrev pub spare_of : (free all len : ℕ) → ℕ
-spare_of free all len = min (max free (256 * (all - 1) - len)) (2 ^ 47 - len)
+spare_of free all len = min (max free (256 * (all - 2) - len)) (2 ^ 47 - len)
 
 -- what the pages in use keep: all is the number of pages, the free ones with them
 pub record IsKept {X : Type 0} (pages : List (List X)) (len all used_room free_room : ℕ) : Type 0 where

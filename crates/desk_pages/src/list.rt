@@ -134,7 +134,7 @@ impl<T: Copy, S: Summary<T>, A: Allocator + Copy> Pages<T, S, A> {
         ensures { result ≡ self.now.spare }
     {
         let all = self.pages.len() + self.free.len();
-        let half_full = (all.saturating_sub(1) * HALF).saturating_sub(self.len);
+        let half_full = (all.saturating_sub(2) * HALF).saturating_sub(self.len);
         self.free
             .len()
             .max(half_full)
@@ -153,7 +153,7 @@ impl<T: Copy, S: Summary<T>, A: Allocator + Copy> Pages<T, S, A> {
         if self.len > MOST || n > MOST - self.len {
             return Err(AllocError);
         }
-        let half_full = (self.len + n) / HALF + 2;
+        let half_full = (self.len + n) / HALF + 3;
         let count = half_full.min(self.pages.len() + n);
         self.groups.make_room(count / GROUP + 1)?;
         pages::name_room(&mut self.order, count)?;
@@ -192,9 +192,15 @@ impl<T: Copy, S: Summary<T>, A: Allocator + Copy> Pages<T, S, A> {
         self.len += 1;
         if p < count && count < self.pages.len() {
             let at = if j <= HALF { p } else { p + 1 };
+            let lower = self.pages[p].len();
+            let cut = if lower < HALF {
+                None
+            } else {
+                Some((i - j).saturating_add(lower))
+            };
             return Placed {
                 page: pages::name_of(&self.pages, at),
-                cut: Some((i - j).saturating_add(self.pages[p].len())),
+                cut,
             };
         }
         Placed {

@@ -171,7 +171,30 @@ fn open<T: Copy, S: Summary<T>, A: Allocator>(
     pages.push_reserved(page);
 }
 
+/// One more page, with one entry, before a full one.
+fn open_first<T: Copy, S: Summary<T>, A: Allocator>(
+    pages: &mut Vec<Page<T, S, A>, A>,
+    free: &mut Vec<Page<T, S, A>, A>,
+    x: T,
+)
+    requires half { IsHalfFull pages.old.items }
+    requires full { 256 ≤ length (slice_index_or pages.old.items 0 []) }
+    requires some { 0 < vec_len free.old }
+    requires room { vec_len pages.old < vec_capacity pages.old }
+    ensures put { joined pages.new.items ≡ x ∷ joined pages.old.items }
+    ensures half { IsHalfFull pages.new.items }
+    ensures count { vec_len pages.new + vec_len free.new ≡ vec_len pages.old + vec_len free.old }
+    ensures fewer { vec_len free.old ≤ vec_len free.new + 1 }
+    ensures capacity { vec_capacity pages.old ≤ vec_capacity pages.new }
+    ensures free_capacity { vec_capacity free.new ≡ vec_capacity free.old }
+{
+    let mut page = free.take_last();
+    page.fill(&[x]);
+    insert_reserved(pages, 0, page);
+}
+
 /// Puts an entry at the j-th place of page p, or behind all pages, and cuts a page or takes a free one where there is no room.
+/// What comes before all opens a page, so that a list that grows there is kept in full pages.
 fn put_anywhere<T: Copy, S: Summary<T>, A: Allocator>(
     pages: &mut Vec<Page<T, S, A>, A>,
     free: &mut Vec<Page<T, S, A>, A>,
@@ -189,6 +212,10 @@ fn put_anywhere<T: Copy, S: Summary<T>, A: Allocator>(
     ensures fewer { vec_len free.old ≤ vec_len free.new + 1 }
 {
     if p < pages.len() {
+        if p == 0 && j == 0 && pages[0].len() == FULL {
+            open_first(pages, free, x);
+            return;
+        }
         let (q, k) = gap(pages, free, p, j);
         pages[q].insert(k, x);
         return;
@@ -359,8 +386,12 @@ fn has_more<T: Copy, S: Summary<T>, A: Allocator>(pages: &[Page<T, S, A>], p: us
     requires { p < length pages.now }
     ensures { result ≡ true → HasMore pages.now p }
 {
+    let len = pages[p].len();
+    if p == 0 {
+        return len > 1;
+    }
     let least = if p + 1 == pages.len() { 1 } else { HALF };
-    pages[p].len() > least
+    len > least
 }
 
 /// Takes out the j-th entry of page p.

@@ -4,7 +4,7 @@ use Rattle.std.specs.Prelude.{None}
 use Rattle.desk_ops.specs.declared.op.Key.{Key}
 use Rattle.desk_ops.specs.declared.op.Op.{Op}
 use Rattle.desk_ops.specs.Op.{stamp_of, IsLawful}
-use Rattle.desk_ops.specs.OpSet.{OpSet, no_ops, has_op, with_op, size, AllLawful}
+use Rattle.desk_ops.specs.OpSet.{OpSet, no_ops, has_op, with_op, size, AllLawful, max_ops}
 use Rattle.desk_ops.specs.Held.{is_borne_in}
 use Rattle.desk_ops.proofs.Stamps.{by_cases}
 use Rattle.desk_ops.proofs.Joined.{lawful-with_op}
@@ -26,6 +26,7 @@ sound-none site h r es w free some e none f k =
     let n : size w ≡ 0 = ap size k ∙ none-size in
     record {
       held = record { numbered = some; lawful = subst AllLawful (sym e) none-lawful };
+      within = let m : size h ≡ 0 = ap size e ∙ none-size in omega (arith, m);
       settings = subst (λ (v : OpSet). AreKept v (kept r)) (sym e) (kept-none (kept r) none);
       settled = settled-none h es w e f k;
       few = omega (arith, n);
@@ -40,12 +41,13 @@ module _ (site : ℕ) (h : OpSet) (o : Op) (r : Registers) (es : List Entry) (w 
   pub unheld : has_op h o ≡ false
   unheld = by_cases (has_op h o) (λ e. absurd (true≢false (sym (op_borne h (stamp_of o) (o, e, refl)) ∙ new))) (λ e. e)
 
-  pub sound-more : (g : OpSet) (q : Registers) (fs : List Entry) (v : OpSet) (left : ℕ) → g ≡ with_op h o → ((key : Key) → kept q key ≡ kept_op (kept r) o key) → IsSettled (with_op h o) fs v → size v ≤ size w + 1 → size w < free → free + size v ≤ left + size w + 1 → IsSound site g q fs v left
-  sound-more g q fs v left e k settled few below l =
+  pub sound-more : (g : OpSet) (q : Registers) (fs : List Entry) (v : OpSet) (left : ℕ) → g ≡ with_op h o → ((key : Key) → kept q key ≡ kept_op (kept r) o key) → IsSettled (with_op h o) fs v → size v ≤ size w + 1 → size w < free → free + size v ≤ left + size w + 1 → size h < max_ops → IsSound site g q fs v left
+  sound-more g q fs v left e k settled few below l limit =
       let n : size (with_op h o) ≡ size h + 1 = size-with_op h o ∙ ap (λ b. cond b (size h) (size h + 1)) unheld in
       let m = s.few in
       subst (λ (u : OpSet). IsSound site u q fs v left) (sym e) (record {
         held = record { numbered = s.held.numbered; lawful = lawful-with_op h o s.held.lawful lawful };
+        within = omega (arith, n, limit);
         settings = kept-alike (with_op h o) (kept_op (kept r) o) (kept q) k (kept-new h o new (kept r) s.settings);
         settled = settled;
         few = omega (arith, n, m, few);
@@ -53,8 +55,8 @@ module _ (site : ℕ) (h : OpSet) (o : Op) (r : Registers) (es : List Entry) (w 
       })
 
 -- all made anew
-pub sound-anew : (site : ℕ) (h : OpSet) (r : Registers) (es : List Entry) (w : OpSet) (free : ℕ) → 1 ≤ site → AllLawful h → AreKept h (kept r) → IsSettled h es w → size w ≤ size h → size w ≤ free → IsSound site h r es w free
-sound-anew site h r es w free some lawful settings settled few le = record { held = record { numbered = some; lawful = lawful }; settings = settings; settled = settled; few = few; fits = le }
+pub sound-anew : (site : ℕ) (h : OpSet) (r : Registers) (es : List Entry) (w : OpSet) (free : ℕ) → 1 ≤ site → AllLawful h → size h ≤ max_ops → AreKept h (kept r) → IsSettled h es w → size w ≤ size h → size w ≤ free → IsSound site h r es w free
+sound-anew site h r es w free some lawful within settings settled few le = record { held = record { numbered = some; lawful = lawful }; within = within; settings = settings; settled = settled; few = few; fits = le }
 
 -- ---- room
 

@@ -190,11 +190,12 @@ impl<Q: Sequence> Replica<Q> {
         requires lawful { All IsLawful ops.now }
         ensures site { IfOk result (λ r. r.site ≡ site) }
         ensures ops { IfOk result (λ r. r.ops ≡ with_all no_ops ops.now) }
+        ensures within { IfOk result (λ r. size r.ops ≤ LIMIT) }
         ensures none { IfErr result (λ s. s.taken ≡ 0) }
         ensures full { IfErr result (λ s. s.why ≡ AddRefusal.Full → LIMIT < size (with_all no_ops ops.now)) }
     {
         let mut replica = Replica::new(alloc, site);
-        if let Err(stopped) = replica.take_in(ops) {
+        if let Err(stopped) = replica.take_all(ops) {
             return Err(Stopped {
                 taken: 0,
                 why: stopped.why,
@@ -207,6 +208,7 @@ impl<Q: Sequence> Replica<Q> {
     pub fn site(&self) -> u16
         ensures value { result ≡ self.now.site }
         ensures some { 1 ≤ result }
+        ensures lawful { AllLawful self.now.ops }
     {
         self.site
     }
@@ -299,6 +301,7 @@ impl<Q: Sequence> Replica<Q> {
     fn lay_out(&mut self, held: Held<Q::Memory>, list: &[Op]) -> bool
         requires lawful { All IsLawful list.now }
         requires listed { list.now ≡ in_order held.ops }
+        requires few { size held.ops ≤ LIMIT }
         ensures site { self.new.site ≡ self.old.site }
         ensures whole { result ≡ true → self.new.ops ≡ held.ops }
         ensures none { result ≡ false → self.new.ops ≡ self.old.ops }
@@ -424,9 +427,34 @@ impl<Q: Sequence> Replica<Q> {
         }
     }
 
+    /// The same, but the newest first.
+    fn enter_newest_first(&mut self, ops: &[Op])
+        requires lawful { All IsLawful ops.now }
+        requires apart { AreApart self.old.ops ops.now }
+        requires below { size self.old.ops + length ops.now ≤ LIMIT }
+        requires spare { length ops.now ≤ self.old.spare }
+        ensures site { self.new.site ≡ self.old.site }
+        ensures ops { self.new.ops ≡ with_all self.old.ops ops.now }
+    {
+        let mut left = ops.len();
+        while left > 0 {
+            left -= 1;
+            self.enter(ops[left], None);
+        }
+    }
+
+    /// Whether the operation would wait for what it hangs on.
+    fn would_wait(&self, op: &Op) -> bool {
+        match op.target() {
+            Some(target) => !target.is_head() && self.sequence.find(target).is_none(),
+            None => false,
+        }
+    }
+
     /// Takes in the operations of a list that rises and of which none is held: where they are many, or one of them forks a
-    /// stamp, by making all anew; else one by one, once there is room for all. False where memory does not allow it: then the
-    /// set stays.
+    /// stamp, by making all anew; else one by one, once there is room for all. Where the oldest would wait, and with it what
+    /// hangs on it, the newest comes first: each is then put before all that is held, and behind all that waits, where a
+    /// chain is sent end first. False where memory does not allow it: then the set stays.
     fn take_new(&mut self, ops: &[Op]) -> bool
         requires lawful { All IsLawful ops.now }
         requires below { size self.old.ops + length ops.now ≤ LIMIT }
@@ -442,7 +470,11 @@ impl<Q: Sequence> Replica<Q> {
         let Ok(()) = self.reserve(ops.len()) else {
             return false;
         };
-        self.enter_all(ops);
+        if ops.len() > 0 && self.would_wait(&ops[0]) {
+            self.enter_newest_first(ops);
+        } else {
+            self.enter_all(ops);
+        }
         true
     }
 
@@ -514,6 +546,7 @@ impl<Q: Sequence> Replica<Q> {
         ensures site { self.new.site ≡ self.old.site }
         ensures ok { OnOk result (self.new.ops ≡ with_all self.old.ops ops.now) }
         ensures counts { IfOk result (λ c. IsCounted self.old.ops self.new.ops ops.now c) }
+        ensures within { OnOk result (size self.new.ops ≤ LIMIT) }
         ensures stopped { IfErr result (λ s. IsStopped self.old.ops self.new.ops ops.now s) }
         ensures room { HasRoom self.old.ops self.old.spare ops.now → IsOk result }
         ensures order { KeepsOrder self.old.ops self.new.ops }
@@ -600,9 +633,8 @@ impl<Q: Sequence> Replica<Q> {
         write_runs(self.alloc, &ops)
     }
 
-    /// The copy faults: of each stamp whose operations do not act why they do not, by stamp. It is one pass over the
-    /// operations, oldest first. Where there are none no memory is taken; else what is taken grows with the number of
-    /// operations held, and with nothing else.
+    /// The copy faults: of each stamp whose operations do not act why they do not, by stamp. Where there are none it is
+    /// never out of memory.
     pub fn copy_faults(&self) -> Result<Vec<CopyFault, Q::Memory>, NoMemory>
         ensures faults { IfOk result (λ v. v.items ≡ faults_of self.now.ops) }
         ensures none { faults_of self.now.ops ≡ [] → IsOk result }
@@ -615,7 +647,9 @@ impl<Q: Sequence> Replica<Q> {
 
     /// The copy: the symbols that the set shows. It is read from the sequence.
     pub fn copy(&self) -> Result<Vec<Symbol, Q::Memory>, NoMemory>
-        ensures { IfOk result (λ v. v.items ≡ copy_of self.now.ops) }
+        ensures copy { IfOk result (λ v. v.items ≡ copy_of self.now.ops) }
+        ensures within { size self.now.ops ≤ LIMIT }
+        ensures lawful { AllLawful self.now.ops }
     {
         Ok(self.sequence.symbols(self.alloc)?)
     }

@@ -9,6 +9,7 @@ ghost use Rattle.desk_room.specs.Waiting.{HasTarget, waits_for, waiting_at, IsRe
 
 use desk_ops::{NoMemory, Op, Stamp};
 use desk_pages::Pages;
+use desk_slots::{Slot, insert_in_order, remove_in_order, seek, slots_of};
 use std::alloc::Allocator;
 use std::marker::Model;
 
@@ -22,7 +23,7 @@ use turn::{Above, Earlier, compare, is_in_turn, target_of};
 /// `NoMemory` only where a growth was refused.
 #[derive(Drop)]
 pub struct Room<A: Allocator + Copy> {
-    ops: Pages<Op, (), A>,
+    ops: Pages<Slot, (), A>,
 }
 
 impl<A: Allocator + Copy> Model for Room<A> {
@@ -54,8 +55,8 @@ impl<A: Allocator + Copy> Room<A> {
         requires targets { All HasTarget ops.now }
         ensures { IfOk result (λ room. room.ops ≡ with_all no_ops ops.now) }
     {
-        let mut list = Vec::from_slice(alloc, ops)?;
-        list.sort_unstable_by(|a, b| compare(a, b));
+        let mut list = slots_of(alloc, ops)?;
+        list.sort_unstable_by(|a, b| compare(&a.op(), &b.op()));
         if is_in_turn(&list) {
             let ops = Pages::from_slice(alloc, &list)?;
             return Ok(Room { ops });
@@ -95,7 +96,7 @@ impl<A: Allocator + Copy> Room<A> {
     pub fn has(&self, op: &Op) -> bool
         ensures { result ≡ has_op self.now.ops op.now }
     {
-        match self.ops.seek(&Earlier { op: *op }) {
+        match seek(&self.ops, &Earlier { op: *op }) {
             Some(first) => first == *op,
             None => false,
         }
@@ -128,7 +129,7 @@ impl<A: Allocator + Copy> Room<A> {
         ensures put { self.new.ops ≡ with_op self.old.ops op }
         ensures spare { self.old.spare ≤ self.new.spare + 1 }
     {
-        self.ops.insert_in_order(&Earlier { op }, op);
+        insert_in_order(&mut self.ops, &Earlier { op }, op);
     }
 
     /// Takes out the first operation, by stamp and bytes, that waits for the target; none where nothing waits for it.
@@ -139,12 +140,12 @@ impl<A: Allocator + Copy> Room<A> {
         ensures spare { self.old.spare ≤ self.new.spare }
     {
         let above = Above { target };
-        let Some(first) = self.ops.seek(&above) else {
+        let Some(first) = seek(&self.ops, &above) else {
             return None;
         };
         if !target_of(&first).is_same(target) {
             return None;
         }
-        self.ops.remove_in_order(&above)
+        remove_in_order(&mut self.ops, &above)
     }
 }

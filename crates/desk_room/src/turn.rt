@@ -7,6 +7,7 @@ ghost use Rattle.desk_room.specs.Turn.{target_or_head, turn_cmp, IsInTurn};
 
 use desk_ops::{Op, Stamp};
 use desk_pages::Pick;
+use desk_slots::Slot;
 use std::cmp::Ordering;
 
 /// The target, and the head where there is none.
@@ -43,12 +44,12 @@ pub fn compare(a: &Op, b: &Op) -> Ordering {
 }
 
 /// Whether each operation is kept before the next.
-pub fn is_in_turn(ops: &[Op]) -> bool
+pub fn is_in_turn(ops: &[Slot]) -> bool
     ensures { IsTrue result → IsInTurn ops.now }
 {
     let mut i = 1;
     while i < ops.len() {
-        if !is_earlier(&ops[i - 1], &ops[i]) {
+        if !is_earlier(&ops[i - 1].op(), &ops[i].op()) {
             return false;
         }
         i += 1;
@@ -62,14 +63,14 @@ pub struct Earlier {
     pub op: Op,
 }
 
-impl Pick<Op, ()> for Earlier {
+impl Pick<Slot, ()> for Earlier {
     ghost use Rattle.std.specs.Ordering.{is_lt};
     ghost use Rattle.desk_room.specs.Turn.{turn_cmp};
 
     ghost picked = { λ s x. is_lt (turn_cmp x s.op) };
 
-    fn picks(&self, x: Op) -> bool {
-        is_earlier(&x, &self.op)
+    fn picks(&self, x: Slot) -> bool {
+        is_earlier(&x.op(), &self.op)
     }
 }
 
@@ -79,13 +80,13 @@ pub struct Above {
     pub target: Stamp,
 }
 
-impl Pick<Op, ()> for Above {
+impl Pick<Slot, ()> for Above {
     ghost use Rattle.desk_ops.specs.Stamp.{before};
     ghost use Rattle.desk_room.specs.Turn.{target_or_head};
 
     ghost picked = { λ s x. before s.target (target_or_head x) };
 
-    fn picks(&self, x: Op) -> bool {
-        self.target.is_before(target_of(&x))
+    fn picks(&self, x: Slot) -> bool {
+        self.target.is_before(target_of(&x.op()))
     }
 }

@@ -1,4 +1,4 @@
-//! The tests of desk_pages, desk_seq, desk_blocks and desk_room.
+//! The tests of desk_pages, desk_slots, desk_seq, desk_blocks and desk_room.
 #![tactic(auto)]
 
 #[cfg(test)]
@@ -11,3 +11,5 @@ mod pages;
 mod room;
 #[cfg(test)]
 mod seq;
+#[cfg(test)]
+mod slots;

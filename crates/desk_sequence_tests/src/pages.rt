@@ -108,8 +108,57 @@ fn pages_are_the_list(rt: HostRuntime) -> Result<(), Fail> {
         }
     }
     assert_eq!(rt; pages.len(), 0);
-    // 6,000 entries and more stood in 12 pages at least, and each of these but one has room for 256.
-    assert!(rt; pages.spare() >= 2_816);
+    // 6,000 entries and more stood in 12 pages at least, and each of these but two has room for 256.
+    assert!(rt; pages.spare() >= 2_560);
+    Ok(())
+}
+
+/// Puts so many at the front, the last of them first.
+fn put_at_the_front<A: Allocator + Copy>(
+    pages: &mut Pages<u32, (), A>,
+    many: u32,
+) -> Result<(), AllocError> {
+    for k in 0..many {
+        pages.reserve(1)?;
+        if pages.spare() > 0 {
+            pages.insert(0, many - k);
+        }
+    }
+    Ok(())
+}
+
+/// How many stand side by side from a place on.
+fn stretch_len<A: Allocator + Copy>(pages: &Pages<u32, (), A>, i: usize) -> usize {
+    if i < pages.len() {
+        pages.stretch(i).len()
+    } else {
+        0
+    }
+}
+
+/// Takes out the first, where there is one.
+fn take_first<A: Allocator + Copy>(pages: &mut Pages<u32, (), A>) -> Option<u32> {
+    if pages.len() == 0 {
+        return None;
+    }
+    Some(pages.remove(0))
+}
+
+/// A list that grows at its front is kept in full pages, and shrinks there.
+#[test]
+fn front_pages_are_full(rt: HostRuntime) -> Result<(), Fail> {
+    let mut pages = Pages::new(rt.alloc());
+    put_at_the_front(&mut pages, 2_100)?;
+    assert_eq!(rt; pages.len(), 2_100);
+    // 52 stand in the first page, and behind it are four full ones
+    assert_eq!(rt; stretch_len(&pages, 0), 52);
+    for page in 0..4usize {
+        assert_eq!(rt; stretch_len(&pages, 52 + page * FULL), FULL);
+    }
+    for k in 0..2_100u32 {
+        assert_eq!(rt; take_first(&mut pages), Some(k + 1));
+    }
+    assert_eq!(rt; take_first(&mut pages), None);
     Ok(())
 }
 

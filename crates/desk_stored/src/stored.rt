@@ -71,9 +71,7 @@ pub fn open_replica<A: Allocator + Copy>(
 {
     let mut ops = operations_in(alloc, old)?;
     put_in_turn(&mut ops);
-    let replica = Replica::open(alloc, site, &ops)?;
-    let _held = replica.len();
-    Ok(replica)
+    Ok(Replica::open(alloc, site, &ops)?)
 }
 
 /// Whether a feed is what was stored.

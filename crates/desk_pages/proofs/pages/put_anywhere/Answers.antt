@@ -17,6 +17,18 @@ gap-q-requires-clause-room g c =
     let f = free-some c.args.pages.now.items (vec_len c.args.free.now) (vec_len c.args.pages.now + vec_len c.args.free.now) c.args.len k.half k.is_len c.requires.spare (omega (arith, c.args.pages.now.ok.0)) in
     omega (arith, c.args.pages.now.ok.0, k.room)
 
+pub open_first-requires-clause-some : goal.open_first-requires-clause-some
+open_first-requires-clause-some g c =
+    let k = c.requires.kept in
+    let f = free-some c.args.pages.now.items (vec_len c.args.free.now) (vec_len c.args.pages.now + vec_len c.args.free.now) c.args.len k.half k.is_len c.requires.spare (omega (arith, c.args.pages.now.ok.0)) in
+    omega (arith, c.args.pages.now.ok.0)
+
+pub open_first-requires-clause-room : goal.open_first-requires-clause-room
+open_first-requires-clause-room g c =
+    let k = c.requires.kept in
+    let f = free-some c.args.pages.now.items (vec_len c.args.free.now) (vec_len c.args.pages.now + vec_len c.args.free.now) c.args.len k.half k.is_len c.requires.spare (omega (arith, c.args.pages.now.ok.0)) in
+    omega (arith, c.args.pages.now.ok.0, k.room)
+
 pub open-requires-clause-some : goal.open-requires-clause-some
 open-requires-clause-some g c =
     let k = c.requires.kept in

@@ -1,6 +1,6 @@
-use Rattle.std.proofs.Common.{◌≡◌, ◌≤◌, ◌<◌, ◌∙◌, ap, arith, false}
+use Rattle.std.proofs.Common.{◌≡◌, ◌≤◌, ◌<◌, ◌∙◌, ap, sym, subst, arith, false}
 use Rattle.desk_ops.specs.Op.{stamp_of}
-use Rattle.desk_ops.specs.OpSet.{size}
+use Rattle.desk_ops.specs.OpSet.{size, max_ops}
 use Rattle.desk_ops.specs.Held.{is_borne_in}
 use Rattle.desk_registers.specs.Registers.{kept}
 use Rattle.desk_replica.specs.Shows.{spare_of}
@@ -37,4 +37,4 @@ invariant_of-self g c =
     c.put.new.self.ops c.keep.new.registers (g.Q.Sequence.entries c.enter-self-inside.new.sequence) c.enter-self-inside.new.room.ops (g.Q.Sequence.free c.enter-self-inside.new.sequence)
     c.put.ensures.ops c.keep.ensures
     (c.enter-self-inside.ensures.settled h (arrival c.self.inside.site h c.args.op c.self.inside.registers es w free c.self.invariant c.requires.lawful new))
-    c.enter-self-inside.ensures.few below c.enter-self-inside.ensures.free
+    c.enter-self-inside.ensures.few below c.enter-self-inside.ensures.free (subst (λ s. size s.ops < max_ops) (sym c.self.view_is) c.requires.below)

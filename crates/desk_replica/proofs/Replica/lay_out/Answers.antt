@@ -10,4 +10,5 @@ invariant_of-self g c =
     sound-anew c.self.inside.site c.args.held.ops c.kept_in-self-inside.result (g.Q.Sequence.entries c.in-Ok.sequence) c.in-Ok.room.ops (g.Q.Sequence.free c.in-Ok.sequence)
     c.self.invariant.held.numbered
     (subst (AllByRecursion IsLawful) c.requires.listed (each-of-all c.args.list.now c.requires.lawful))
+    c.requires.few
     c.kept_in-self-inside.ensures c.in-Ok.ensures.settled c.in-Ok.ensures.few c.in-Ok.ensures.free

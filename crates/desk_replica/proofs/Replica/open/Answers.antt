@@ -6,4 +6,4 @@ use Rattle.desk_replica.proofs.Replica.open.Goals as goal
 pub returns-in-Err-clause-full : goal.returns-in-Err-clause-full
 returns-in-Err-clause-full g c =
     λ e. subst (λ (h : OpSet). max_ops < size (with_all h c.args.ops.now)) c.new-replica.ensures.ops
-    (too_many c.new-replica.result.ops c.take_in.new.self.ops c.args.ops.now c.in-Err.stopped c.in-Err.ensures.stopped e)
+    (too_many c.new-replica.result.ops c.take_all.new.self.ops c.args.ops.now c.in-Err.stopped c.in-Err.ensures.stopped e)

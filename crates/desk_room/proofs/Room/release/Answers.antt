@@ -45,12 +45,12 @@ returns-then-not-is_same-clause-none g c = λ _.
     (subst (λ (w : Waiting). waiting_at w.ops s ≡ []) c.self.view_is (no_list s (set_of xs) (other-waits s xs f.0 c.in-Some.first c.self.invariant.in_turn edge f.2 f.3 apart)), refl)
 
 pub invariant_of-self : goal.invariant_of-self
-invariant_of-self g c = kept-after (above c.args.target) c.remove_in_order.result c.self.inside.ops.entries c.remove_in_order.new.self.entries c.self.invariant c.remove_in_order.ensures.some c.remove_in_order.ensures.none
+invariant_of-self g c = kept-after (above c.args.target) c.remove_in_order.result c.self.inside.ops.entries c.remove_in_order.new.ops.entries c.self.invariant c.remove_in_order.ensures.some c.remove_in_order.ensures.none
 
 pub returns-clause-some : goal.returns-clause-some
 returns-clause-some g c =
     let xs = c.self.inside.ops.entries in
-    let ys = c.remove_in_order.new.self.entries in
+    let ys = c.remove_in_order.new.ops.entries in
     let s = c.args.target in
     let f = c.in-Some.ensures.found in
     let edge : IsEdge (above s) xs f.0 = f.1 in

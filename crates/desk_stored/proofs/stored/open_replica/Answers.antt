@@ -8,12 +8,12 @@ use Rattle.desk_stored.proofs.stored.open_replica.Goals as goal
 
 pub returns-clause-ok : goal.returns-clause-ok
 returns-clause-ok g c =
-    (c.in_ok-ops.ops.items, c.in_ok-ops.ensures.feed, c.in_ok-replica.ensures.ops ∙ ap (with_all no_ops) c.deref.ensures.value ∙ c.put_in_turn.ensures.turn.whole no_ops)
+    (c.in_ok-ops.ops.items, c.in_ok-ops.ensures.feed, c.in_ok-open.ensures.ops ∙ ap (with_all no_ops) c.deref.ensures.value ∙ c.put_in_turn.ensures.turn.whole no_ops)
 
-pub returns-in_err-replica-clause-err : goal.returns-in_err-replica-clause-err
-returns-in_err-replica-clause-err g c =
-    let stop = c.in_err-replica.field-0.0 in
+pub returns-in_err-open-clause-err : goal.returns-in_err-open-clause-err
+returns-in_err-open-clause-err g c =
+    let stop = c.in_err-open.field-0.0 in
     let same = ap (with_all no_ops) c.deref.ensures.value ∙ c.put_in_turn.ensures.turn.whole no_ops in
-    let full : stop.why ≡ adds.Full → max_ops < size (with_all no_ops c.in_ok-ops.ops.items) = λ is. subst (λ (s : OpSet). max_ops < size s) same (c.in_err-replica.ensures.full is) in
-    let p = err_from_is_err_and c.from_residual-in_err-replica.result c.from_residual-in_err-replica.ensures.1 in
-    rw p.1 (rw p.2 (unopened (was_read c.args.old.now) c.in_ok-ops.ops.items stop stop.why refl c.in_ok-ops.ensures.feed c.in_err-replica.ensures.none full))
+    let full : stop.why ≡ adds.Full → max_ops < size (with_all no_ops c.in_ok-ops.ops.items) = λ is. subst (λ (s : OpSet). max_ops < size s) same (c.in_err-open.ensures.full is) in
+    let p = err_from_is_err_and c.from_residual-in_err-open.result c.from_residual-in_err-open.ensures.1 in
+    rw p.1 (rw p.2 (unopened (was_read c.args.old.now) c.in_ok-ops.ops.items stop stop.why refl c.in_ok-ops.ensures.feed c.in_err-open.ensures.none full))

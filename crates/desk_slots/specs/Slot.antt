@@ -5,8 +5,8 @@ use Rattle.desk_ops.specs.declared.op.Op.{Op}
 use Rattle.desk_ops.specs.declared.op.Op.TheVariants as op
 use Rattle.desk_ops.specs.Op.{stamp_of}
 use Rattle.desk_ops.specs.Stamp.{head}
-use Rattle.desk_held.specs.declared.slot.Tail.{Tail}
-use Rattle.desk_held.specs.declared.slot.Tail.TheVariants.{Insert, Delete, Set}
+use Rattle.desk_slots.specs.declared.Tail.{Tail}
+use Rattle.desk_slots.specs.declared.Tail.TheVariants.{Insert, Delete, Set}
 
 -- the operation of a stamp, another stamp and the rest
 abbrev pub op_with : Stamp → Stamp → Tail → Op

@@ -1,5 +1,5 @@
 use Rattle.std.proofs.Common.{◌≡◌, ◌++◌, take}
-use Rattle.desk_held.proofs.slot.append.Given as goal
+use Rattle.desk_slots.proofs.append.Given as goal
 
 -- the operations of the slots so far stand at the end
 abbrev pub invariant-loop-slot : goal.invariant-loop-slot

@@ -1,5 +1,5 @@
 use Rattle.std.proofs.Common.{◌≡◌, ◌++◌, take}
-use Rattle.desk_held.proofs.slot.add_ops.Given as goal
+use Rattle.desk_slots.proofs.add_ops.Given as goal
 
 -- the operations so far stand at the end
 abbrev pub invariant-loop-op : goal.invariant-loop-op

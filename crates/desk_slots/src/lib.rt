@@ -1,6 +1,8 @@
-//! The operations of a set as they are kept, in 32 bytes each.
-ghost use Rattle.std.specs.Prelude.{◌≡◌, ◌+◌, ◌≤◌, ◌<◌, ◌++◌, ℕ, [], length, slice_index_or, IfOk, IfSome, IsNone};
-ghost use Rattle.std.specs.List.{insert};
+//! Operations as they are kept in pages, in 32 bytes each.
+#![tactic(auto)]
+
+ghost use Rattle.std.specs.Prelude.{◌≡◌, ◌+◌, ◌≤◌, ◌<◌, ◌++◌, ℕ, length, slice_index_or, IfOk, IfSome, IsNone};
+ghost use Rattle.std.specs.List.{insert, remove};
 ghost use Rattle.desk_ops.specs.Op.{stamp_of};
 ghost use Rattle.desk_pages.specs.Pages.{IsEdge};
 
@@ -11,7 +13,7 @@ use std::marker::Model;
 
 /// What an operation says besides its stamp and its parent or target.
 #[derive(Clone, Copy)]
-pub enum Tail {
+enum Tail {
     Insert { style: Style, ch: char },
     Delete,
     Set { key: Key, value: u32 },
@@ -33,7 +35,7 @@ impl Model for Slot {
     ghost use Rattle.desk_ops.specs.contracts.op.Op as op_contract;
     ghost use Rattle.desk_ops.specs.declared.op.Op.{Op};
     ghost use Rattle.desk_ops.specs.Op.{stamp_of};
-    ghost use Rattle.desk_held.specs.Slot.{op_with, other_of, tail_of, IsPlain, stamp-back, other-back, tail-back};
+    ghost use Rattle.desk_slots.specs.Slot.{op_with, other_of, tail_of, IsPlain, stamp-back, other-back, tail-back};
 
     ghost Value = { Op };
 
@@ -148,6 +150,21 @@ pub fn insert_in_order<P: Pick<Slot, ()>, A: Allocator + Copy>(
     ensures spare { ops.old.spare ≤ ops.new.spare + 1 }
 {
     ops.insert_in_order(pick, Slot::of(op));
+}
+
+/// Takes out the first operation that is not picked, where those that are picked stand first.
+pub fn remove_in_order<P: Pick<Slot, ()>, A: Allocator + Copy>(
+    ops: &mut Pages<Slot, (), A>,
+    pick: &P,
+) -> Option<Op>
+    ensures some { IfSome result (λ x. (i : ℕ) × IsEdge (P.picked pick.now) ops.old.entries i × (i < length ops.old.entries) × (x ≡ slice_index_or ops.old.entries i x) × (ops.new.entries ≡ remove ops.old.entries i)) }
+    ensures none { IsNone result → IsEdge (P.picked pick.now) ops.old.entries (length ops.old.entries) × (ops.new.entries ≡ ops.old.entries) }
+    ensures spare { ops.old.spare ≤ ops.new.spare }
+{
+    let Some(slot) = ops.remove_in_order(pick) else {
+        return None;
+    };
+    Some(slot.op())
 }
 
 /// The i-th operation.
