@@ -421,7 +421,7 @@ fn done() -> Short
     out
 }
 
-/// An answer's text without its end of line, where it is a refusal or tells what a command did: it takes no memory. The
+/// An answer's text without its end of line, where it is a refusal or says what a command did: it takes no memory. The
 /// other answers tell what there is, at any length.
 pub fn short<A: Allocator + Copy>(answer: &Reply<A>) -> Option<Short>
     ensures text { IfSome result (λ s. s.bytes ≡ text (reply_values answer.now)) }

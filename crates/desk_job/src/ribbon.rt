@@ -97,7 +97,6 @@ pub fn make<Q: Sequence>(
     ensures err { IfErr result (λ refusal. IsRefused refusal (job.job (copy_of replica.now.ops) (setting_of replica.now.ops) case.now wedge.now)) }
     ensures cast { IfOk result (λ bytes. CastsCopy (copy_of replica.now.ops) (setting_of replica.now.ops) case.now wedge.now bytes.items) }
 {
-    let _held = replica.len();
     let copy = replica.copy()?;
     make_from(alloc, &copy, &replica.settings(), case, wedge)
 }

@@ -28,7 +28,7 @@ parent_at shown place = slice_index_or (head ∷ map (λ x. x.stamp) shown) plac
 abbrev pub new_insert : State → ℕ → Symbol → Insertion
 new_insert s place symbol = record { stamp = new_stamp s; parent = parent_at (shown_of s.ops) place; symbol = symbol }
 
--- the first cause that holds, want of memory aside
+-- the first cause that holds, out of memory aside
 abbrev pub edit_refusal : OpSet → Bool → Bool → Option Refusal
 edit_refusal ops is_there is_value =
     cond (not is_there) (Some refusal.Place)

@@ -1,4 +1,4 @@
-//! The copy faults of a held set, told in one pass from the oldest operation to the newest.
+//! The copy faults of a held set, found in one pass from the oldest operation to the newest.
 ghost use Rattle.std.specs.Prelude.{◌≡◌, ◌+◌, ◌<◌, ◌++◌, [], IfOk, OnOk, MatchOption, Some, length, take};
 ghost use Rattle.std.specs.List.{cons_option};
 ghost use Rattle.desk_ops.specs.declared.op.Stamp.{Stamp};

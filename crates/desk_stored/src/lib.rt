@@ -1,5 +1,5 @@
 //! A feed that is stored in a file: read, opened as a replica, and stored anew where it changed; and bytes that are written
-//! whole or told as failed.
+//! whole or reported as failed.
 #![tactic(auto)]
 
 mod fault;

@@ -1,4 +1,4 @@
-//! Bytes that are written whole, or told as failed.
+//! Bytes that are written whole, or reported as failed.
 
 ghost use Rattle.std.specs.Prelude.{OnErr, OnOk};
 ghost use Rattle.std.specs.Io.KnownBytes.{Appends, Keeps};

@@ -97,6 +97,28 @@ pub enum StepRefusal {
     NoMemory,
 }
 
+impl From<desk_replica::Refusal> for StepRefusal {
+    ghost use Rattle.std.specs.Prelude.{◌≡◌};
+    ghost use Rattle.desk_world.specs.declared.world.StepRefusal.TheVariants as refusals;
+
+    ghost from_gives = { λ why refusal. refusal ≡ refusals.Edit why };
+
+    fn from(why: desk_replica::Refusal) -> StepRefusal {
+        StepRefusal::Edit(why)
+    }
+}
+
+impl From<Stopped> for StepRefusal {
+    ghost use Rattle.std.specs.Prelude.{◌≡◌};
+    ghost use Rattle.desk_world.specs.declared.world.StepRefusal.TheVariants as refusals;
+
+    ghost from_gives = { λ stop refusal. refusal ≡ refusals.Stopped stop };
+
+    fn from(stop: Stopped) -> StepRefusal {
+        StepRefusal::Stopped(stop)
+    }
+}
+
 type SiteMap<A> = IndexMap<u16, Replica<Blocks<A>>, BuildHasherDefault<FoldHasher>, A>;
 
 /// Sites by their numbers, each with a replica.
@@ -127,13 +149,7 @@ fn gain<A: Allocator + Copy>(
     ensures site { replica.new.site ≡ replica.old.site }
     ensures ops { Gains replica.old.ops ops.now result replica.new.ops }
 {
-    match replica.take_all(ops) {
-        Ok(count) => {
-            let _held = replica.len();
-            Ok(count)
-        }
-        Err(stop) => Err(StepRefusal::Stopped(stop)),
-    }
+    Ok(replica.take_all(ops)?)
 }
 
 /// Gives a site operations. The others stay.
@@ -155,10 +171,7 @@ fn gain_at<A: Allocator + Copy>(
 fn taken(given: Result<Count, StepRefusal>) -> Result<Answer, StepRefusal>
     ensures { result ≡ taken given }
 {
-    match given {
-        Ok(count) => Ok(Answer::Taken(count)),
-        Err(why) => Err(why),
-    }
+    Ok(Answer::Taken(given?))
 }
 
 /// Edits a replica.
@@ -170,14 +183,11 @@ fn edit<A: Allocator + Copy>(
     ensures ops { Edits replica.old change result replica.new }
 {
     let made = match change {
-        LocalEdit::Insert { place, symbol } => replica.insert_at(place, symbol),
-        LocalEdit::Delete { place } => replica.delete_at(place),
-        LocalEdit::Set { key, value } => replica.set(key, value),
+        LocalEdit::Insert { place, symbol } => replica.insert_at(place, symbol)?,
+        LocalEdit::Delete { place } => replica.delete_at(place)?,
+        LocalEdit::Set { key, value } => replica.set(key, value)?,
     };
-    match made {
-        Ok(op) => Ok(Answer::Made(op)),
-        Err(why) => Err(StepRefusal::Edit(why)),
-    }
+    Ok(Answer::Made(made))
 }
 
 /// Edits a site. The others stay.
@@ -210,13 +220,9 @@ fn reopen<A: Allocator + Copy>(
             why: AddRefusal::NoMemory,
         }));
     };
-    match Replica::open(alloc, replica.site(), &ops) {
-        Ok(anew) => {
-            *replica = anew;
-            Ok(Answer::Done)
-        }
-        Err(stop) => Err(StepRefusal::Stopped(stop)),
-    }
+    let anew = Replica::open(alloc, replica.site(), &ops)?;
+    *replica = anew;
+    Ok(Answer::Done)
 }
 
 /// Opens a site again. The others stay.
@@ -265,7 +271,6 @@ impl<A: Allocator + Copy> World<A> {
         ensures { IfOk result (λ w. w ≡ fin.insert no_sites replica.site replica.ops) }
     {
         let mut sites = IndexMap::new(alloc);
-        let _len = replica.len();
         match sites.insert(replica.site(), replica) {
             Ok(_) => Ok(World { alloc, sites }),
             Err(_) => Err(NoMemory),

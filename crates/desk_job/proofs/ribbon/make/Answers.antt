@@ -6,10 +6,10 @@ use Rattle.desk_job.proofs.ribbon.make.Goals as goal
 
 pub make_from-requires-clause-copy : goal.make_from-requires-clause-copy
 make_from-requires-clause-copy g c =
-    let short = copy_short c.args.replica.now.ops c.len-held.ensures.lawful in
-    let long = ap length (c.deref.ensures.value ∙ c.in_ok-copy.ensures) in
-    omega (arith, short, long, c.len-held.ensures.value, c.len-held.ensures.within)
+    let short = copy_short c.args.replica.now.ops c.copy.ensures.lawful in
+    let long = ap length (c.deref.ensures.value ∙ c.in_ok-copy.ensures.copy) in
+    omega (arith, short, long, c.copy.ensures.within)
 
 pub make_from-requires-clause-settings : goal.make_from-requires-clause-settings
 make_from-requires-clause-settings g c =
-    subst (λ (s : Settings). AreValues s) (sym c.settings.ensures) (settings_in c.args.replica.now.ops c.len-held.ensures.lawful)
+    subst (λ (s : Settings). AreValues s) (sym c.settings.ensures) (settings_in c.args.replica.now.ops c.copy.ensures.lawful)

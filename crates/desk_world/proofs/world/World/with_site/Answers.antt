@@ -12,7 +12,7 @@ invariant_of-result g c =
     let empty = c.new-sites.ensures.empty in
     let none : lookup (nat_eq c.site.result) c.new-sites.result.entries ≡ None = ap (lookup (nat_eq c.site.result)) empty in
     kept_added c.new-sites.result.entries c.insert.new.self.entries c.site.result c.args.replica (subst IsKept (sym empty) nothing_kept) none c.in-Ok.ensures.updates.0 c.in-Ok.ensures.unique
-    (c.in-Ok.ensures.len ∙ ap (λ o. length c.new-sites.result.entries + cond (is_some o) 0 1) (c.in-Ok.ensures.old ∙ none)) (sym c.site.ensures.value) c.len-len.ensures.lawful
+    (c.in-Ok.ensures.len ∙ ap (λ o. length c.new-sites.result.entries + cond (is_some o) 0 1) (c.in-Ok.ensures.old ∙ none)) (sym c.site.ensures.value) c.site.ensures.lawful
 
 pub returns-in-Ok : goal.returns-in-Ok
 returns-in-Ok g c =
