@@ -406,29 +406,6 @@ impl<Q: Sequence> Replica<Q> {
         Ok(self.put(op)?)
     }
 
-    /// Takes in the operations of a list, one after the other, up to the first that is refused: `Full` comes exactly
-    /// where 1,048,576 operations are held and the next is not among them. None is refused where all can be held, there is
-    /// room for as many, and none forks a stamp. Elements that are shown before and after keep their order, whatever the
-    /// outcome.
-    pub fn take_all(&mut self, ops: &[Op]) -> Result<Count, Stopped>
-        requires { All IsLawful ops.now }
-        ensures site { self.new.site ≡ self.old.site }
-        ensures ok { OnOk result (self.new.ops ≡ with_all self.old.ops ops.now) }
-        ensures counts { IfOk result (λ c. IsCounted self.old.ops self.new.ops ops.now c) }
-        ensures within { OnOk result (size self.new.ops ≤ LIMIT) }
-        ensures stopped { IfErr result (λ s. IsStopped self.old.ops self.new.ops ops.now s) }
-        ensures room { HasRoom self.old.ops self.old.spare ops.now → IsOk result }
-        ensures order { KeepsOrder self.old.ops self.new.ops }
-    {
-        let before = self.len();
-        self.take_in(ops)?;
-        let new = self.len() - before;
-        Ok(Count {
-            new,
-            known: ops.len() - new,
-        })
-    }
-
     /// Takes in the operations of another replica, by stamp and then by bytes, up to the first that is refused: `Full`
     /// comes exactly where 1,048,576 operations are held and the next is not among them. None is refused where all can be
     /// held, there is room for as many, and none forks a stamp. The other is only read. A long list takes memory for both

@@ -1,10 +1,11 @@
 //! Lists of operations, taken in one by one or all at once.
-ghost use Rattle.std.specs.Prelude.{◌≡◌, ◌+◌, ◌≤◌, ◌⊎◌, All, IfErr, IsOk, OnOk, length, take, true, false};
+ghost use Rattle.std.specs.Prelude.{◌≡◌, ◌+◌, ◌≤◌, ◌⊎◌, All, IfErr, IfOk, IsOk, OnOk, length, take, true, false};
 ghost use Rattle.desk_ops.specs.Op.{IsLawful};
 ghost use Rattle.desk_ops.specs.OpSet.{with_all, size};
+ghost use Rattle.desk_replica.specs.Orders.{KeepsOrder};
 
 use crate::apart::are_apart;
-use crate::{Replica, Stopped};
+use crate::{Count, Replica, Stopped};
 use desk_held::LIMIT;
 use desk_ops::Op;
 use desk_seq::Sequence;
@@ -16,7 +17,7 @@ const MANY: usize = 32;
 const PART: usize = 6;
 
 impl<Q: Sequence> Replica<Q> {
-    ghost use Rattle.desk_replica.specs.State.{AreApart, HasRoom, IsStopped};
+    ghost use Rattle.desk_replica.specs.State.{AreApart, HasRoom, IsCounted, IsStopped};
 
     /// Takes in the operations of a list of which none bears a stamp that is borne, where there is room for them. No memory
     /// is taken.
@@ -127,7 +128,7 @@ impl<Q: Sequence> Replica<Q> {
     }
 
     /// Takes in operations one after the other, up to the first that is refused.
-    pub fn take_in(&mut self, ops: &[Op]) -> Result<(), Stopped>
+    fn take_in(&mut self, ops: &[Op]) -> Result<(), Stopped>
         requires { All IsLawful ops.now }
         ensures site { self.new.site ≡ self.old.site }
         ensures ok { OnOk result (self.new.ops ≡ with_all self.old.ops ops.now) }
@@ -141,5 +142,28 @@ impl<Q: Sequence> Replica<Q> {
             }
         }
         Ok(())
+    }
+
+    /// Takes in the operations of a list, one after the other, up to the first that is refused: `Full` comes exactly
+    /// where 1,048,576 operations are held and the next is not among them. None is refused where all can be held, there is
+    /// room for as many, and none forks a stamp. Elements that are shown before and after keep their order, whatever the
+    /// outcome.
+    pub fn take_all(&mut self, ops: &[Op]) -> Result<Count, Stopped>
+        requires { All IsLawful ops.now }
+        ensures site { self.new.site ≡ self.old.site }
+        ensures ok { OnOk result (self.new.ops ≡ with_all self.old.ops ops.now) }
+        ensures counts { IfOk result (λ c. IsCounted self.old.ops self.new.ops ops.now c) }
+        ensures within { OnOk result (size self.new.ops ≤ LIMIT) }
+        ensures stopped { IfErr result (λ s. IsStopped self.old.ops self.new.ops ops.now s) }
+        ensures room { HasRoom self.old.ops self.old.spare ops.now → IsOk result }
+        ensures order { KeepsOrder self.old.ops self.new.ops }
+    {
+        let before = self.len();
+        self.take_in(ops)?;
+        let new = self.len() - before;
+        Ok(Count {
+            new,
+            known: ops.len() - new,
+        })
     }
 }
