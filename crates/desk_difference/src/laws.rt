@@ -1,8 +1,8 @@
-//! What holds of the differences that are told.
+//! What holds of the differences that are reported.
 
 ghost use Rattle.desk_difference.specs.Laws.{EqualSetsAreToldSo, EqualCopiesHaveNoWords};
 
-/// Of two sets that are one it is told that each has nothing alone, and nothing else; and there are lines of words exactly
+/// Of two sets that are one it is reported that each has nothing alone, and nothing else; and there are lines of words exactly
 /// where the copies are not one.
 pub fn law_of_differences()
     ensures sets { EqualSetsAreToldSo }

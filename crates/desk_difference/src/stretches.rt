@@ -88,7 +88,7 @@ fn close<A: Allocator + Copy>(
     Ok(())
 }
 
-/// What was told once a walk comes to a point. Where words are whole there, those behind the last such point are told as one
+/// What was reported once a walk comes to a point. Where words are whole there, those behind the last such point are one
 /// stretch with what is open, if they differ; else they are kept, and what was open is a stretch.
 fn pass<A: Allocator + Copy>(
     one: &[Symbol],

@@ -1,4 +1,4 @@
-//! What is told of two replicas.
+//! What is reported of two replicas.
 
 ghost use Rattle.std.specs.Prelude.{◌≡◌, ◌↔◌, ◌++◌, ℕ, IfOk, List, OnOk, T, string_bytes, true};
 ghost use Rattle.desk_ops.specs.OpSet.{from_rising, is_rising};
@@ -73,7 +73,7 @@ fn put_words<A: Allocator + Copy>(
     put_stretches(alloc, out, &one, &other, &stretches)
 }
 
-/// What is told of two replicas, and whether they hold the same.
+/// What is reported of two replicas, and whether they hold the same.
 pub fn told_of<A: Allocator + Copy>(
     alloc: A,
     one: &str,

@@ -98,7 +98,7 @@ fn closed_output_of_a_difference(rt: HostRuntime) -> Result<(), Fail> {
 /// The bytes of the heap of the next test.
 const HEAP: usize = 1_048_576;
 
-/// Whether a fault is want of memory.
+/// Whether a fault is out of memory.
 fn is_of_memory(fault: DifferenceFault) -> bool {
     match fault {
         DifferenceFault::NoMemory => true,

@@ -1,5 +1,5 @@
 -- Changes of a copy, made one after the other.
-use Rattle.std.proofs.Common.{◌≡◌, ◌⊎◌, inl, inr, ℕ, suc, ◌+◌, ◌<◌, Bool, true, false, cond, List, [], ◌∷◌, ◌++◌, Option, Some, None, length, map, take, drop, get_or, refl, sym, ap, ap₂, ◌∙◌, subst, length-append, take-append-drop, add-one, drop-cons}
+use Rattle.std.proofs.Common.{◌≡◌, inl, inr, ℕ, suc, ◌+◌, ◌<◌, ◌≤◌, Bool, true, false, cond, List, [], ◌∷◌, ◌++◌, Option, Some, None, length, map, take, drop, get_or, refl, sym, ap, ap₂, ◌∙◌, subst, arith, length-append, take-append-drop, add-one, drop-cons}
 use Rattle.std.specs.Prelude.{◌≢◌, ◌==◌, not, nat_le, nat_lt}
 use Rattle.std.proofs.lemmas.List.{drop-map, length-map, map-append, take-map, take_more}
 use Rattle.desk_ops.specs.declared.op.Op.{Op}
@@ -19,7 +19,7 @@ use Rattle.desk_replica.specs.declared.Refusal.TheVariants as refusals
 use Rattle.desk_hand.specs.Faults.{refusal_of}
 use Rattle.desk_hand.specs.declared.fault.RevisionFault.{RevisionFault}
 use Rattle.desk_hand.specs.declared.fault.RevisionFault.TheVariants as revisions
-use Rattle.desk_hand.specs.Editing.{AreMade, IsMade, IsRefusedAmong, IsRevised, IsUnrevised, change_refusal, deletes_of, insert_count, delete_count, inserts_of}
+use Rattle.desk_hand.specs.Editing.{AreMade, IsMade, IsRefusedAmong, IsRefusedBy, IsRevised, IsUnrevised, change_refusal, deletes_of, insert_count, delete_count, inserts_of}
 use Rattle.desk_hand.proofs.Sites.{all_counted, deletes_more, deletes_of_more, extends_more, inserts_more, inserts_of_more, own_more, with_more}
 
 -- ---- one change
@@ -103,10 +103,10 @@ module _ (made : List Change) (at : ℕ) (d : Change) (lt : at < length made) wh
         (made_more site old mid now (take at made) ops (get_or made at d) op all (subst (λ n. IsMade n mid now (get_or made at d) op) same one)),
   )
 
-  pub refused_next : (site : ℕ) (old mid : OpSet) (ops : List Op) (why : Refusal) → AreMade site old mid (take at made) ops → (why ≡ refusals.NoMemory) ⊎ (change_refusal mid (get_or made at d) ≡ Some why)
-      → (why ≡ refusals.NoMemory) ⊎ IsRefusedAmong site old made why
-  refused_next site old mid ops why all (inl memory) = inl memory
-  refused_next site old mid ops why all (inr refused) = inr (take at made, drop (at + 1) made, get_or made at d, place, mid, ops, all, refused)
+  pub refused_next : (site : ℕ) (old mid now : OpSet) (ops : List Op) (why : Refusal) → now ≡ mid → AreMade site old mid (take at made) ops → IsRefusedBy mid (get_or made at d) why
+      → IsRefusedAmong site old now made why
+  refused_next site old mid now ops why same all refused =
+      subst (λ (set : OpSet). IsRefusedAmong site old set made why) (sym same) (take at made, drop (at + 1) made, get_or made at d, place, ops, all, refused)
     where
       place : made ≡ take at made ++ get_or made at d ∷ drop (at + 1) made
       place =
@@ -131,6 +131,10 @@ revised site old now text made ops inserted deleted makes all is are = record {
   all = ap₂ (λ m n. m + n) is are ∙ all_counted made ∙ sym all.count;
 }
 
+-- so many operations are made as there are changes
+pub few_made : (made : List Change) (inserted deleted most : ℕ) → inserted ≡ inserts_of made → deleted ≡ deletes_of made → length made ≤ most → inserted + deleted ≤ most
+few_made made inserted deleted most is are few = let all = all_counted made in omega (arith, is, are, all, few)
+
 -- a place that a change names is there
 later_cause : (is_value is_full is_late : Bool) → cond (not is_value) (Some refusals.Value) (cond is_full (Some refusals.Full) (cond is_late (Some refusals.ClockFull) None)) ≡ Some refusals.Place → ⊥
 later_cause false is_full is_late e = cc
@@ -150,26 +154,34 @@ no_change set (changes.Delete place) refused =
     let out : nat_lt place (length (copy_of set)) ≡ false = ap (nat_lt place) (length-copy set) ∙ not_there set (nat_lt place (length (shown_of set))) true refused in
     rw out refl
 
-never_placeless : (site : ℕ) (old : OpSet) (text : List Symbol) (made : List Change) → all_changed made (copy_of old) ≡ Some text → IsRefusedAmong site old made refusals.Place → ⊥
-never_placeless site old text made makes (front, tail, next, is, set, ops, all, refused) =
+never_placeless : (site : ℕ) (old now : OpSet) (text : List Symbol) (made : List Change) → all_changed made (copy_of old) ≡ Some text → IsRefusedAmong site old now made refusals.Place → ⊥
+never_placeless site old now text made makes (front, tail, next, is, ops, all, inr (memory, none)) = let e : refusals.Place ≡ refusals.NoMemory = memory in cc
+never_placeless site old now text made makes (front, tail, next, is, ops, all, inl refused) =
     let none : all_changed made (copy_of old) ≡ None =
     ap (λ cs. all_changed cs (copy_of old)) is ∙ changed-append front (next ∷ tail) (copy_of old) ∙ ap (λ o. and_then o (all_changed (next ∷ tail))) all.copy
-    ∙ ap (λ o. and_then o (all_changed tail)) (no_change set next refused) in
+    ∙ ap (λ o. and_then o (all_changed tail)) (no_change now next refused) in
     let e : Some text ≡ None = sym makes ∙ none in
     cc
 
 -- so no change that makes a text is refused for its place
-pub placed : (site : ℕ) (old : OpSet) (text : List Symbol) (made : List Change) (why : Refusal) → all_changed made (copy_of old) ≡ Some text
-    → (why ≡ refusals.NoMemory) ⊎ IsRefusedAmong site old made why → why ≢ refusals.Place
-placed site old text made why makes (inl memory) place = absurd (let e : refusals.NoMemory ≡ refusals.Place = sym memory ∙ place in cc)
-placed site old text made why makes (inr among) place = never_placeless site old text made makes (subst (λ w. IsRefusedAmong site old made w) place among)
+pub placed : (site : ℕ) (old now : OpSet) (text : List Symbol) (made : List Change) (why : Refusal) → all_changed made (copy_of old) ≡ Some text → IsRefusedAmong site old now made why → why ≢ refusals.Place
+placed site old now text made why makes among place = never_placeless site old now text made makes (subst (λ w. IsRefusedAmong site old now made w) place among)
 
-pub unrevised : (site : ℕ) (old : OpSet) (text : List Symbol) (made : List Change) (fault : RevisionFault) → all_changed made (copy_of old) ≡ Some text
-    → (refusal_of fault ≡ refusals.NoMemory) ⊎ IsRefusedAmong site old made (refusal_of fault) → IsUnrevised site old text fault
-unrevised site old text made revisions.NoMemory makes end = tt
-unrevised site old text made revisions.Full makes (inl e) = absurd (let f : refusals.Full ≡ refusals.NoMemory = e in cc)
-unrevised site old text made revisions.Full makes (inr among) = (made, makes, among)
-unrevised site old text made revisions.ClockFull makes (inl e) = absurd (let f : refusals.ClockFull ≡ refusals.NoMemory = e in cc)
-unrevised site old text made revisions.ClockFull makes (inr among) = (made, makes, among)
-unrevised site old text made revisions.Value makes (inl e) = absurd (let f : refusals.Value ≡ refusals.NoMemory = e in cc)
-unrevised site old text made revisions.Value makes (inr among) = (made, makes, among)
+pub unrevised : (site : ℕ) (old now : OpSet) (text : List Symbol) (made : List Change) (fault : RevisionFault) → all_changed made (copy_of old) ≡ Some text
+    → IsRefusedAmong site old now made (refusal_of fault) → IsUnrevised site old now text fault
+unrevised site old now text made revisions.NoMemory makes among = inr (made, makes, among)
+unrevised site old now text made revisions.Full makes among = (made, makes, among)
+unrevised site old now text made revisions.ClockFull makes among = (made, makes, among)
+unrevised site old now text made revisions.Value makes among = (made, makes, among)
+
+-- ---- no changes
+
+pub none_made : (site : ℕ) (old now : OpSet) (made : List Change) (ops : List Op) → made ≡ [] → AreMade site old now made ops → now ≡ old
+none_made site old now made [] none all = all.gained
+none_made site old now made (op ∷ ops) none all = absurd (let e : length (op ∷ ops) ≡ 0 = all.count ∙ ap length none in omega (arith, e))
+
+pub none_refused : (site : ℕ) (old now : OpSet) (made : List Change) (why : Refusal) → made ≡ [] → IsRefusedAmong site old now made why → ⊥
+none_refused site old now made why none (front, tail, next, is, ops, all, refused) =
+    let e : length (front ++ next ∷ tail) ≡ 0 = ap length (sym is ∙ none) in
+    let l = length-append front (next ∷ tail) in
+    omega (arith, e, l)

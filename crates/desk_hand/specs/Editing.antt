@@ -1,5 +1,5 @@
 -- Changes of a copy, made by operations of one site.
-use Rattle.std.specs.Prelude.{◌≡◌, ◌⊎◌, ℕ, ◌+◌, true, List, [], ◌∷◌, ◌++◌, length, Option, Some}
+use Rattle.std.specs.Prelude.{◌≡◌, ◌⊎◌, ℕ, ◌+◌, true, List, [], ◌∷◌, ◌++◌, length, Option, None, Some}
 use Rattle.desk_ops.specs.declared.op.Stamp.{Stamp}
 use Rattle.desk_ops.specs.declared.op.Symbol.{Symbol}
 use Rattle.desk_ops.specs.declared.op.Op.{Op}
@@ -96,11 +96,14 @@ abbrev pub change_refusal : OpSet → Change → Option Refusal
 change_refusal set (changes.Insert place symbol) = insert_refusal set place symbol
 change_refusal set (changes.Delete place) = delete_refusal set place
 
--- so many of the changes were made, and the next one is refused
-abbrev pub IsRefusedAmong : ℕ → OpSet → List Change → Refusal → Type 0
-IsRefusedAmong site old made why =
-    (front tail : List Change) × (next : Change) × (made ≡ front ++ next ∷ tail) × (set : OpSet) × (ops : List Op) × AreMade site old set front ops
-    × (change_refusal set next ≡ Some why)
+-- a set refuses a change, and the first cause is told; or it does not, and memory ran out
+abbrev pub IsRefusedBy : OpSet → Change → Refusal → Type 0
+IsRefusedBy set change why = (change_refusal set change ≡ Some why) ⊎ ((why ≡ refusals.NoMemory) × (change_refusal set change ≡ None))
+
+-- so many of the changes were made, by which the old set became this one, and the next one is refused in it
+abbrev pub IsRefusedAmong : ℕ → OpSet → OpSet → List Change → Refusal → Type 0
+IsRefusedAmong site old now made why =
+    (front tail : List Change) × (next : Change) × (made ≡ front ++ next ∷ tail) × (ops : List Op) × AreMade site old now front ops × IsRefusedBy now next why
 
 -- ---- a copy that becomes a text
 
@@ -115,13 +118,13 @@ pub record IsRevised (site : ℕ) (old now : OpSet) (text : List Symbol) (insert
   pub deletes : deletes_in ops ≡ deleted
   pub all : inserted + deleted ≡ length ops
 
--- of changes that make the copy a text one is refused with this cause, after those before it were made
-abbrev pub IsRefusedIn : ℕ → OpSet → List Symbol → Refusal → Type 0
-IsRefusedIn site old text why = (made : List Change) × (all_changed made (copy_of old) ≡ Some text) × IsRefusedAmong site old made why
+-- of changes that make the copy a text one is refused with this cause, and the set is what those before it made of the old one
+abbrev pub IsRefusedIn : ℕ → OpSet → OpSet → List Symbol → Refusal → Type 0
+IsRefusedIn site old now text why = (made : List Change) × (all_changed made (copy_of old) ≡ Some text) × IsRefusedAmong site old now made why
 
--- why a copy does not become a text: a change is refused, and never for its place; or memory ran out
-abbrev pub IsUnrevised : ℕ → OpSet → List Symbol → RevisionFault → Type 0
-IsUnrevised site old text revisions.Full = IsRefusedIn site old text refusals.Full
-IsUnrevised site old text revisions.ClockFull = IsRefusedIn site old text refusals.ClockFull
-IsUnrevised site old text revisions.Value = IsRefusedIn site old text refusals.Value
-IsUnrevised site old text revisions.NoMemory = Unit {0}
+-- Why a copy does not become a text, and which set is left: a change is refused, and never for its place; or memory ran out, before any change was made or at one that the set does not refuse.
+abbrev pub IsUnrevised : ℕ → OpSet → OpSet → List Symbol → RevisionFault → Type 0
+IsUnrevised site old now text revisions.Full = IsRefusedIn site old now text refusals.Full
+IsUnrevised site old now text revisions.ClockFull = IsRefusedIn site old now text refusals.ClockFull
+IsUnrevised site old now text revisions.Value = IsRefusedIn site old now text refusals.Value
+IsUnrevised site old now text revisions.NoMemory = (now ≡ old) ⊎ IsRefusedIn site old now text refusals.NoMemory

@@ -53,7 +53,7 @@ IsUnimported name site plain first last input before after (imports.Input why) =
     (after ≡ before) × (read : Result (List ℕ) FileRefusal) × (old : OpSet) × IsOpened name first last read old × IsNoText plain input why
 IsUnimported name site plain first last input before after (imports.Revision why) =
     (after ≡ before) × (read : Result (List ℕ) FileRefusal) × (old : OpSet) × IsOpened name first last read old
-    × (text : List Symbol) × IsReadAs plain input text × IsUnrevised site old text why
+    × (text : List Symbol) × IsReadAs plain input text × (now : OpSet) × IsUnrevised site old now text why
 IsUnimported name site plain first last input before after (imports.Keep why) =
     (held : Shelf) × (read : Result (List ℕ) FileRefusal) × (old : OpSet) × IsOpened name first held read old
     × (set : OpSet) × (inserted deleted : ℕ) × TakesText site plain input old set inserted deleted × IsUnkept name (edited_line inserted deleted) held last before after why

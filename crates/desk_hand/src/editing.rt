@@ -1,9 +1,10 @@
 //! The copy of a replica, made a text by operations of its site.
 
-ghost use Rattle.std.specs.Prelude.{◌≡◌, ◌≢◌, ◌⊎◌, IfErr, IfOk, List, OnOk};
+ghost use Rattle.std.specs.Prelude.{◌≡◌, ◌≢◌, ◌+◌, ◌≤◌, IfErr, IfOk, List, OnErr, OnOk, length};
 ghost use Rattle.desk_ops.specs.declared.op.Op.{Op};
+ghost use Rattle.desk_ops.specs.Shown.{copy_of};
 ghost use Rattle.desk_hand.specs.Faults.{refusal_of};
-ghost use Rattle.desk_hand.specs.Editing.{AreMade, IsMade, IsRefusedAmong, IsRevised, IsUnrevised, change_refusal, deletes_of, inserts_of};
+ghost use Rattle.desk_hand.specs.Editing.{AreMade, IsMade, IsRefusedAmong, IsRefusedBy, IsRevised, IsUnrevised, deletes_of, inserts_of};
 
 use crate::fault::RevisionFault;
 use desk_blocks::Blocks;
@@ -19,35 +20,33 @@ pub struct Tally {
     pub deleted: usize,
 }
 
-/// Makes one change of the copy, by one operation.
+/// Makes one change of the copy, by one operation. A refusal leaves the set as it was, and says the first cause for
+/// which the set refuses the change; out of memory comes only where there is none.
 fn put_edit<A: Allocator + Copy>(
     replica: &mut Replica<Blocks<A>>,
     change: &Change,
 ) -> Result<(), Refusal>
     ensures site { replica.new.site ≡ replica.old.site }
     ensures made { OnOk result ((op : Op) × IsMade replica.old.site replica.old.ops replica.new.ops change.now op) }
-    ensures refused { IfErr result (λ e. (e ≡ Refusal.NoMemory) ⊎ (change_refusal replica.old.ops change.now ≡ Some e)) }
+    ensures same { OnErr result (replica.new.ops ≡ replica.old.ops) }
+    ensures refused { IfErr result (IsRefusedBy replica.old.ops change.now) }
 {
     match *change {
-        Change::Insert { place, symbol } => match replica.insert_at(place, symbol) {
-            Ok(_) => Ok(()),
-            Err(why) => Err(why),
-        },
-        Change::Delete { place } => match replica.delete_at(place) {
-            Ok(_) => Ok(()),
-            Err(why) => Err(why),
-        },
-    }
+        Change::Insert { place, symbol } => replica.insert_at(place, symbol)?,
+        Change::Delete { place } => replica.delete_at(place)?,
+    };
+    Ok(())
 }
 
-/// Makes changes of the copy, one after the other, up to one that is refused.
+/// Makes changes of the copy, one after the other, up to one that is refused: then those before it are made, and no
+/// other.
 fn put_edits<A: Allocator + Copy>(
     replica: &mut Replica<Blocks<A>>,
     made: &[Change],
 ) -> Result<(), Refusal>
     ensures site { replica.new.site ≡ replica.old.site }
     ensures made { OnOk result ((ops : List Op) × AreMade replica.old.site replica.old.ops replica.new.ops made.now ops) }
-    ensures refused { IfErr result (λ e. (e ≡ Refusal.NoMemory) ⊎ IsRefusedAmong replica.old.site replica.old.ops made.now e) }
+    ensures refused { IfErr result (IsRefusedAmong replica.old.site replica.old.ops replica.new.ops made.now) }
 {
     for change in made {
         if let Err(why) = put_edit(replica, change) {
@@ -87,14 +86,22 @@ fn fault_of(why: Refusal) -> RevisionFault
     }
 }
 
-/// Makes the copy of a replica a text, by operations of its site alone. A refusal leaves the first of them made.
+/// Makes the copy of a replica a text, by operations of its site alone, never more than the copy and the text have
+/// symbols together. Where the text is the copy already nothing changes, and only memory can run out. A change that is
+/// refused leaves those before it made, and no other; the fault is the first cause for which the set that they left
+/// refuses it, and that is never its place. Out of memory comes only where that set does not refuse the change, or where
+/// nothing has changed.
 pub fn revise<A: Allocator + Copy>(
     alloc: A,
     replica: &mut Replica<Blocks<A>>,
     text: &[Symbol],
 ) -> Result<Tally, RevisionFault>
+    ensures site { replica.new.site ≡ replica.old.site }
     ensures ok { IfOk result (λ t. IsRevised replica.old.site replica.old.ops replica.new.ops text.now t.inserted t.deleted) }
-    ensures err { IfErr result (IsUnrevised replica.old.site replica.old.ops text.now) }
+    ensures few { IfOk result (λ t. t.inserted + t.deleted ≤ length (copy_of replica.old.ops) + length text.now) }
+    ensures none { copy_of replica.old.ops ≡ text.now → replica.new.ops ≡ replica.old.ops }
+    ensures unrefused { copy_of replica.old.ops ≡ text.now → IfErr result (λ e. e ≡ RevisionFault.NoMemory) }
+    ensures err { IfErr result (IsUnrevised replica.old.site replica.old.ops replica.new.ops text.now) }
 {
     let copy = replica.copy()?;
     let made = changes(alloc, &copy, text)?;

@@ -65,7 +65,8 @@ pub enum InputFault {
     NoMemory,
 }
 
-/// Why a copy was not made a text: one of the edits was refused, after those before it were made, or memory ran out.
+/// Why a copy was not made a text: the first cause for which one of the edits was refused, after those before it were
+/// made, or memory ran out.
 #[derive(Clone, Copy, Debug, PartialEq, Eq, Error)]
 pub enum RevisionFault {
     /// As many operations are held as a replica holds.
@@ -77,7 +78,7 @@ pub enum RevisionFault {
     /// A symbol that was to be inserted is not lawful.
     #[error("the value is out of its range")]
     Value,
-    /// Memory ran out before all edits were made.
+    /// Memory ran out: before any edit was made, or at one that would not have been refused.
     #[error("no memory")]
     NoMemory,
 }

@@ -295,7 +295,7 @@ fn long_text_is_imported(rt: HostRuntime) -> Result<(), Fail> {
 /// The bytes of the heap of the next test.
 const HEAP: usize = 1_048_576;
 
-/// Whether a fault that comes before the line is want of memory.
+/// Whether a fault that comes before the line is out of memory.
 fn is_of_memory(fault: ImportFault) -> bool {
     match fault {
         ImportFault::Take(TakeFault::Feed(why)) => {

@@ -16,7 +16,7 @@ use std::os::unix::fs::{OpenOptionsExt, PermissionsExt};
 use std::path::Path;
 
 /// Files of the machine, by their paths, with a count of the failures, the name that is held, and what failed last. What is
-/// read of them and written is told as the run's progress.
+/// read of them and written is reported as the run's progress.
 #[derive(Drop)]
 pub struct HostFiles<'a> {
     host: &'a HostRuntime,
@@ -128,7 +128,7 @@ fn whole<R: Read + Drop, A: Allocator + Copy>(alloc: A, reader: R) -> io::Result
     }
 }
 
-/// The bytes of the file at a place, told by its name.
+/// The bytes of the file at a place, reported by its name.
 fn read_file<A: Allocator + Copy>(
     host: &HostRuntime,
     progress: &Progress<'_>,

@@ -1,4 +1,4 @@
-//! How far a run is, told each second on standard error.
+//! How far a run is, reported each second on standard error.
 
 ghost use Rattle.std.specs.Prelude.{◌≡◌};
 
@@ -7,10 +7,10 @@ use std::fmt::{self, Display, Formatter};
 use std::io::{self, IsTerminal, Read, Write};
 use std::time::{Duration, Instant};
 
-/// The most bytes that are handed to a writer at once, so that a slow one is told of on the way.
+/// The most bytes that are handed to a writer at once, so that a slow one is reported on the way.
 const PIECE: usize = 65_536;
 
-/// When a line was told last, or else when the run began. None is told where standard error is no terminal, or while the
+/// When a line was written last, or else when the run began. None is written where standard error is no terminal, or while the
 /// clock fails.
 #[derive(Drop)]
 pub struct Progress<'a> {
@@ -39,7 +39,7 @@ impl<'a> Progress<'a> {
         }
     }
 
-    /// Whether a second has passed since a line was told or the run began. Then a line is told now.
+    /// Whether a second has passed since a line was written or the run began. Then a line is written now.
     fn is_due(&self) -> bool {
         let Some(told) = self.told.get() else {
             return false;
@@ -102,7 +102,7 @@ enum Bytes<'a> {
     Seen,
 }
 
-/// A reader or a writer of which it is told how many bytes went through.
+/// A reader or a writer of which it is reported how many bytes went through.
 #[derive(Drop)]
 pub struct Watched<'a, S: Drop> {
     progress: &'a Progress<'a>,

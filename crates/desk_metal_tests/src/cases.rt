@@ -83,7 +83,12 @@ pub fn file_of(
 }
 
 /// A case file without NI and NL.
-fn file(alloc: Global, head: &str, rows: usize, texts: Texts<'_>) -> Result<String, AllocError> {
+pub fn file(
+    alloc: Global,
+    head: &str,
+    rows: usize,
+    texts: Texts<'_>,
+) -> Result<String, AllocError> {
     file_of(alloc, head, 15, rows, texts)
 }
 
@@ -111,7 +116,7 @@ pub fn is_faulty(alloc: Global, bytes: &[u8], fault: CaseFault) -> bool {
 }
 
 /// Whether a file answers this fault.
-fn is_file_faulty(
+pub fn is_file_faulty(
     alloc: Global,
     head: &str,
     rows: usize,
@@ -586,40 +591,6 @@ fn hostile_files(rt: HostRuntime) -> Result<(), Fail> {
     Ok(())
 }
 
-/// First rows that have no 15 texts, or are no list.
-const HOSTILE_ROWS: [&str; 14] = [
-    "['','','','','','','','','','','','','','']",
-    "['','','','','','','','','','','','','','','','']",
-    "['','','','','','','','','','','','','','',1]",
-    "['','','','','','','','','','','','','','',1.0]",
-    "['','','','','','','','','','','','','','',nan]",
-    "['','','','','','','','','','','','','','',true]",
-    "['','','','','','','','','','','','','','',1979-05-27]",
-    "['','','','','','','','','','','','','','',{}]",
-    "['','','','','','','','','','','','','','',[]]",
-    "['','','','','','','','','','','','','','',['a']]",
-    "1",
-    "'abcdefghijklmno'",
-    "{}",
-    "1979-05-27",
-];
-
-/// Whether a first row before a text that is no symbol is of another form.
-fn is_no_row(alloc: Global, row: &str) -> bool {
-    let fault = CaseFault::Shape(CaseKey::Rows);
-    match format!(in alloc; "{HEAD} {row},\n") {
-        Ok(head) => is_file_faulty(alloc, head.as_str(), 14, &[(0, 0, "bad")], fault),
-        Err(AllocError) => false,
-    }
-}
-
-#[test]
-fn hostile_rows(rt: HostRuntime) {
-    for &row in &HOSTILE_ROWS {
-        assert!(rt; is_no_row(rt.alloc(), row), "{row}");
-    }
-}
-
 /// A symbol in two cells, and then a text that is no symbol.
 const DOUBLED_AND_BAD: Texts<'static> = &[(0, 0, "x"), (0, 1, "x"), (1, 2, "xx")];
 
@@ -702,62 +673,6 @@ fn faults_in_their_order(rt: HostRuntime) -> Result<(), Fail> {
     }
     let shared = "case = 1\nspace = 'O15'\nfill = ['O15']\nrows = [\n";
     assert!(rt; case_of(rt.alloc(), shared, &[])?.fill().len() == 1);
-    Ok(())
-}
-
-/// 64 MiB of text: its prefix, then one byte over and over, and its end.
-fn long(alloc: Global, prefix: &str, filler: u8, end: &str) -> Result<Vec<u8>, AllocError> {
-    let mut bytes = Vec::with_capacity(alloc, 67_108_864)?;
-    bytes.extend_from_slice(prefix.as_bytes())?;
-    bytes.resize(67_108_864usize.saturating_sub(end.len()), filler)?;
-    bytes.extend_from_slice(end.as_bytes())?;
-    Ok(bytes)
-}
-
-/// Case 1 after a comment, in 64 MiB.
-fn commented(alloc: Global) -> Result<Vec<u8>, AllocError> {
-    let head = "\ncase = 1\nspace = \"G1\"\nfill = [\"O15\", \"A5\"]\nrows = [\n";
-    let end = file(alloc, head, 15, CASE_1)?;
-    long(alloc, "#", b'x', end.as_str())
-}
-
-/// Whether bytes are a case that has the small capital M in B15.
-fn has_small_m(alloc: Global, bytes: &[u8]) -> bool {
-    match MatrixCase::read(alloc, bytes) {
-        Ok(case) => case.symbol_at(at(Column::B, 15)) == Some(symbol(Style::SmallCap, 'M')),
-        Err(_) => false,
-    }
-}
-
-#[test]
-fn comment_of_64_mib(rt: HostRuntime) -> Result<(), Fail> {
-    let text = commented(rt.alloc())?;
-    assert!(rt; text.len() == 67_108_864 && has_small_m(rt.alloc(), text.as_slice()));
-    Ok(())
-}
-
-#[test]
-fn garbage_of_64_mib(rt: HostRuntime) -> Result<(), Fail> {
-    let text = long(rt.alloc(), "case = 1\nrows = ", b'7', "")?;
-    assert!(rt;
-        text.len() == 67_108_864 && is_faulty(rt.alloc(), text.as_slice(), CaseFault::NotToml)
-    );
-    Ok(())
-}
-
-/// Case 1 with a cell that makes it 64 MiB.
-fn long_cell(alloc: Global) -> Result<Vec<u8>, AllocError> {
-    let rest = "','','','','','','','','','','','',''],\n";
-    let end = file(alloc, rest, 14, CASE_1)?;
-    let prefix = "case = 1\nspace = \"G1\"\nfill = [\"O15\", \"A5\"]\nrows = [\n ['','','";
-    long(alloc, prefix, b'n', end.as_str())
-}
-
-#[test]
-fn cell_of_64_mib(rt: HostRuntime) -> Result<(), Fail> {
-    let text = long_cell(rt.alloc())?;
-    let fault = CaseFault::BadText(at(Column::C, 1));
-    assert!(rt; text.len() == 67_108_864 && is_faulty(rt.alloc(), text.as_slice(), fault));
     Ok(())
 }
 

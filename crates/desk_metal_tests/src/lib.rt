@@ -6,6 +6,8 @@ mod cases;
 #[cfg(test)]
 mod every_image;
 #[cfg(test)]
+mod hostile;
+#[cfg(test)]
 mod image;
 #[cfg(test)]
 mod rows;

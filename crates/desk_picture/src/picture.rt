@@ -232,7 +232,7 @@ fn put_why<A: Allocator + Copy>(
     out.push_str(text_end())
 }
 
-/// Writes a picture that tells the faults of a copy, of which there are so many, and why it has no galley.
+/// Writes a picture of the faults of a copy, of which there are so many, and why it has no galley.
 fn put_none<A: Allocator + Copy>(
     out: &mut String<A>,
     faults: &[CopyFault],
@@ -251,7 +251,7 @@ fn put_none<A: Allocator + Copy>(
     out.push_str("</svg>\n")
 }
 
-/// Writes a picture at the end that tells the faults of a copy and why it has no galley.
+/// Writes a picture of the faults of a copy, and of why it has no galley, at the end.
 pub fn put_no_galley_picture<A: Allocator + Copy>(
     out: &mut String<A>,
     faults: &[CopyFault],

@@ -62,7 +62,6 @@ fn drawn_of<A: Allocator + Copy>(
     requires { AreValues trial.now }
     ensures { IfOk result (λ s. IsDrawn replica.now.ops case.now wedge.now trial.now (string_bytes s)) }
 {
-    let _held = replica.len();
     let copy = replica.copy()?;
     let faults = replica.copy_faults()?;
     let given = replica.settings();

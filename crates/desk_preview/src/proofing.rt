@@ -61,7 +61,7 @@ fn proof_of<'a, A: Allocator + Copy>(
     Ok(out)
 }
 
-/// What is told where there is no galley.
+/// What is reported where there is no galley.
 fn refusal_of<A: Allocator + Copy>(
     alloc: A,
     faults: &[CopyFault],
@@ -74,7 +74,7 @@ fn refusal_of<A: Allocator + Copy>(
     Ok(out)
 }
 
-/// What is told of the copy of a replica by a case and a wedge, and whether no fault stands in it.
+/// What is reported of the copy of a replica by a case and a wedge, and whether no fault stands in it.
 fn told_of<A: Allocator + Copy>(
     alloc: A,
     replica: &Replica<Blocks<A>>,
@@ -86,7 +86,6 @@ fn told_of<A: Allocator + Copy>(
     requires { AreValues trial.now }
     ensures { IfOk result (λ t. IsTold replica.now.ops case.now wedge.now trial.now extent (string_bytes t.0) t.1) }
 {
-    let _held = replica.len();
     let copy = replica.copy()?;
     let faults = replica.copy_faults()?;
     let given = replica.settings();

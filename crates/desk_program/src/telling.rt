@@ -1,4 +1,4 @@
-//! What is told of a run that stopped.
+//! What is reported of a run that stopped.
 
 ghost use Rattle.std.specs.Prelude.{◌≡◌, ◌↔◌, ◌⊎◌, MatchResult};
 ghost use Rattle.std.specs.IoError.{error_kind};
@@ -72,10 +72,10 @@ pub fn status_on<E: Write, F: Explains>(
     status
 }
 
-/// What stopped something, as its second line tells it: which file, and the cause.
+/// What stopped something, as its second line says it: which file, and the cause.
 #[derive(Clone, Copy)]
 pub enum Cause<'a> {
-    /// The first line tells all.
+    /// The first line says all.
     Told,
     /// Memory ran out over this feed.
     NoMemory(&'a str),
@@ -150,7 +150,7 @@ pub fn explain_feed<E: Write, F: Explains>(
     explain_cause(faults, files, feed_cause(feed, why))
 }
 
-/// Writes a line on a fault and a second one on its cause, and gives the status of it. Want of memory is told as such,
+/// Writes a line on a fault and a second one on its cause, and gives the status of it. Out of memory is reported as such,
 /// whatever it was wanted for.
 pub fn told<E: Write, F: Explains, T: Display>(
     faults: &mut E,

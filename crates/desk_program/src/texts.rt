@@ -15,7 +15,7 @@ use desk_script::{Files, RunFault};
 use std::alloc::Global;
 use std::io::Write;
 
-/// The cause where nothing was replaced. Of the texts the first line tells all; the places stand on standard output.
+/// The cause where nothing was replaced. Of the texts the first line says all; the places stand on standard output.
 fn replace_cause<'a>(feed: &'a str, fault: ReplaceFault) -> Cause<'a> {
     match fault {
         ReplaceFault::Exchange(ExchangeFault::NoMemory) => Cause::NoMemory(feed),

@@ -1,4 +1,4 @@
-//! A proof of a galley as text: what is told of each line, and faults at their text with the way out in figures.
+//! A proof of a galley as text: what is reported of each line, and faults at their text with the way out in figures.
 #![tactic(auto)]
 
 mod faults;

@@ -14,7 +14,7 @@ use desk_job::terms::Values;
 use desk_ops::{CopyFault, Symbol};
 use std::alloc::{AllocError, Allocator};
 
-/// What is told of a galley.
+/// What is reported of a galley.
 #[derive(Clone, Copy, PartialEq, Eq, Debug)]
 pub enum Extent {
     /// Each line, and then the faults at their text.
@@ -23,7 +23,7 @@ pub enum Extent {
     Faults,
 }
 
-/// What the figures of a galley are told by.
+/// What the figures of a galley are written by.
 pub fn scale_of<'a, A: Allocator>(galley: &Galley<'a, A>) -> Scale
     ensures { result ≡ scale_of galley.now }
 {
@@ -114,7 +114,7 @@ fn put_body<'a, A: Allocator + Copy>(
 
 /// Writes a galley of a copy as text at the end, and the faults of the copy, which mean that a correction is not shown. They
 /// stand above all; then the head, the symbols that the case lacks, each line where it is wanted, and the faults of lines.
-/// Widths are told in points to a tenth, what is free rounded down, what is too much rounded up.
+/// Widths are written in points to a tenth, what is free rounded down, what is too much rounded up.
 pub fn put_proof<'a, A: Allocator + Copy>(
     out: &mut String<A>,
     copy: &[Symbol],

@@ -1,8 +1,8 @@
-//! What the figures of a proof are told by.
+//! What the figures of a proof are written by.
 
 use desk_units::Pica;
 
-/// The pica, by which widths are told in points, and the limits of a wedge sum.
+/// The pica, by which widths are written in points, and the limits of a wedge sum.
 #[derive(Clone, Copy, PartialEq, Eq, Debug)]
 pub struct Scale {
     pub pica: Pica,

@@ -1,4 +1,4 @@
-//! What is told of the bytes of a ribbon.
+//! What is reported of the bytes of a ribbon.
 
 ghost use Rattle.std.specs.Prelude.{◌≡◌, ◌<◌, ◌^◌, IfOk, false, length, string_bytes, true};
 ghost use Rattle.std.specs.Result.{is_ok};
@@ -55,7 +55,7 @@ fn lines_told<A: Allocator + Copy>(
     Ok((out, true))
 }
 
-/// What is told of rows by a case and a wedge, and whether they are cast without a fault.
+/// What is reported of rows by a case and a wedge, and whether they are cast without a fault.
 fn rows_told<A: Allocator + Copy>(
     alloc: A,
     rows: &[RibbonRow],
@@ -75,8 +75,8 @@ fn rows_told<A: Allocator + Copy>(
     }
 }
 
-/// What is told of the bytes of a ribbon by a case and a wedge: the lines that it casts, or its first fault on one line; and
-/// whether it is cast without a fault.
+/// What is reported of the bytes of a ribbon by a case and a wedge: the lines that it casts, or its first fault on one
+/// line; and whether it is cast without a fault.
 pub fn told_of<A: Allocator + Copy>(
     alloc: A,
     bytes: &[u8],

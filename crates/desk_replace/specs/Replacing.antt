@@ -59,7 +59,7 @@ IsUnreplaced name site exchange first last before after (faults.Place why) =
     (old new : List Symbol) × AreRead exchange old new × (read : Result (List ℕ) FileRefusal) × (was : OpSet) × IsOpened name first last read was × IsTold old (copy_of was) before after why
 IsUnreplaced name site exchange first last before after (faults.Revision why) =
     (after ≡ before) × (old new : List Symbol) × AreRead exchange old new × (read : Result (List ℕ) FileRefusal) × (was : OpSet) × IsOpened name first last read was
-    × (text : List Symbol) × IsExchanged old new (copy_of was) text × IsUnrevised site was text why
+    × (text : List Symbol) × IsExchanged old new (copy_of was) text × (now : OpSet) × IsUnrevised site was now text why
 IsUnreplaced name site exchange first last before after (faults.Keep why) =
     (old new : List Symbol) × AreRead exchange old new × (held : Shelf) × (read : Result (List ℕ) FileRefusal) × (was : OpSet) × IsOpened name first held read was
     × (set : OpSet) × (inserted deleted : ℕ) × Replaces site old new was set inserted deleted × IsUnkept name (edited_line inserted deleted) held last before after why

@@ -37,7 +37,7 @@ fn replaced<A: Allocator + Copy>(
 }
 
 /// The copy of a replica with a text in place of another, at the one place at which that stands. Where there is none, or
-/// more than one, they are told.
+/// more than one, they are reported.
 fn exchanged<W: Write, A: Allocator + Copy>(
     alloc: A,
     replica: &Replica<Blocks<A>>,
@@ -56,7 +56,7 @@ fn exchanged<W: Write, A: Allocator + Copy>(
 
 /// Makes a text another in the copy of a stored feed, at the one place where it stands, by few inserts and deletes of the
 /// site; no other operation is made, and nothing that the feed held is lost. Both texts are read as `desk_text` reads them,
-/// with marks for their styles or plain, before anything is begun; `Exchange` tells the first fault of one. The name of
+/// with marks for their styles or plain, before anything is begun; `Exchange` is the first fault of one. The name of
 /// the feed is then taken, for this run alone; a missing one holds nothing. The line `ok inserted 4 deleted 4` is written,
 /// and the feed is stored, unless the file has these bytes. Where the text stands at no place the line `no place` is
 /// written, and where it stands at several a line for each of the first 100, as `place 17: by noon`; then nothing is

@@ -1,4 +1,4 @@
-//! The one place of a text, or what is told where there is none or more than one.
+//! The one place of a text, or what is reported where there is none or more than one.
 
 ghost use Rattle.std.specs.Prelude.{◌≡◌, ◌≢◌, ◌∷◌, [], length, IfErr, IfOk, OnOk};
 ghost use Rattle.desk_places.specs.Places.{places_of};
@@ -37,7 +37,7 @@ fn tell<W: Write, A: Allocator + Copy>(
     }
 }
 
-/// The one place of a copy at which a text stands. Where there is none, or more than one, they are told.
+/// The one place of a copy at which a text stands. Where there is none, or more than one, they are reported.
 pub fn only_place<W: Write, A: Allocator + Copy>(
     alloc: A,
     writer: &mut W,

@@ -178,7 +178,7 @@ fn closed_output_of_places(rt: HostRuntime) -> Result<(), Fail> {
 /// The bytes of the heap of the next tests.
 const HEAP: usize = 1_048_576;
 
-/// Whether a fault is want of memory.
+/// Whether a fault is out of memory.
 fn is_of_memory(fault: ReplaceFault) -> bool {
     match fault {
         ReplaceFault::Exchange(why) => why == ExchangeFault::NoMemory,

@@ -89,7 +89,7 @@ fn tell<W: Write, A: Allocator + Copy>(
     }
 }
 
-/// Answers a line. Only the writer can fail: a line that was kept never ends the run for want of memory.
+/// Answers a line. Only the writer can fail: a line that was kept never ends the run as out of memory.
 fn take_line<W: Write, F: Files, A: Allocator + Copy>(
     memory: Memory<A>,
     world: &mut World<A>,

@@ -158,7 +158,7 @@ pub fn answer_sheet<R: Read, W: Write, F: Files, A: Allocator + Copy>(
 /// most; its lines are those of a script. Each is answered as in a script, or, where the run is strict, passed over. The
 /// answers are written once all are there: up to the end, or to the line that stops the run, which `Line` then tells. No
 /// file changes, and nothing is written under `Read`, `TooLong` and `NoMemory`. Memory that is refused to a command is an
-/// answer; `NoMemory` tells that the sheet or its answers were not kept. The reading of a case or a wedge takes the global
+/// answer; `NoMemory` says that the sheet or its answers were not kept. The reading of a case or a wedge takes the global
 /// allocator alone.
 pub fn run_sheet<R: Read, W: Write, F: Files, A: Allocator + Copy>(
     alloc: A,

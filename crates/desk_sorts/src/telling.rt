@@ -20,7 +20,7 @@ use desk_replica::Replica;
 use std::alloc::Allocator;
 use std::io::Write;
 
-/// What is told of the copy of a replica.
+/// What is reported of the copy of a replica.
 fn told_of_replica<A: Allocator + Copy>(
     alloc: A,
     replica: &Replica<Blocks<A>>,

@@ -1,4 +1,4 @@
-//! What is told of a copy by a case.
+//! What is reported of a copy by a case.
 
 ghost use Rattle.std.specs.Prelude.{◌≡◌, ◌++◌, IfOk, OnOk, string_bytes};
 ghost use Rattle.desk_sorts.specs.Sorts.{AreSortsOf};
@@ -40,7 +40,7 @@ fn text_of<A: Allocator + Copy>(
     Ok(out)
 }
 
-/// What is told of a copy by a case, and whether the case holds each of its sorts.
+/// What is reported of a copy by a case, and whether the case holds each of its sorts.
 pub fn told_of<A: Allocator + Copy>(
     alloc: A,
     copy: &[Symbol],

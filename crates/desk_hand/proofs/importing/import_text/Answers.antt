@@ -17,9 +17,9 @@ returns-in_err-text-clause-err g c =
 pub returns-in_err-tally-clause-err : goal.returns-in_err-tally-clause-err
 returns-in_err-tally-clause-err g c =
     let p = err_from_is_err_and c.from_residual-in_err-tally.result c.from_residual-in_err-tally.ensures.1 in
-    let unrevised = subst (λ l. IsUnrevised c.in_ok-old.replica.site c.in_ok-old.replica.ops l c.in_err-tally.field-0.0) c.deref.ensures.value c.in_err-tally.ensures.err in
-    let by = subst (λ n. IsUnrevised n c.in_ok-old.replica.ops c.in_ok-text.text.items c.in_err-tally.field-0.0) c.in_ok-old.ensures.site unrevised in
-    rw p.1 (rw p.2 (refl, was_read c.in_ok-old.old, c.in_ok-old.replica.ops, c.in_ok-old.ensures.ok, c.in_ok-text.text.items, c.in_ok-text.ensures.ok, by))
+    let unrevised = subst (λ l. IsUnrevised c.in_ok-old.replica.site c.in_ok-old.replica.ops c.revise.new.replica.ops l c.in_err-tally.field-0.0) c.deref.ensures.value c.in_err-tally.ensures.err in
+    let by = subst (λ n. IsUnrevised n c.in_ok-old.replica.ops c.revise.new.replica.ops c.in_ok-text.text.items c.in_err-tally.field-0.0) c.in_ok-old.ensures.site unrevised in
+    rw p.1 (rw p.2 (refl, was_read c.in_ok-old.old, c.in_ok-old.replica.ops, c.in_ok-old.ensures.ok, c.in_ok-text.text.items, c.in_ok-text.ensures.ok, c.revise.new.replica.ops, by))
 
 pub returns-in_err-tell_and_keep-clause-err : goal.returns-in_err-tell_and_keep-clause-err
 returns-in_err-tell_and_keep-clause-err g c =

@@ -13,18 +13,18 @@ use Rattle.desk_picture.proofs.picturing.drawn_of.Goals as goal
 
 pub make_galley-requires-clause-copy : goal.make_galley-requires-clause-copy
 make_galley-requires-clause-copy g c =
-    let short = copy_short c.args.replica.now.ops c.len-held.ensures.lawful in
-    let long = ap length (c.deref.ensures.value ∙ c.in_ok-copy.ensures) in
-    omega (arith, short, long, c.len-held.ensures.value, c.len-held.ensures.within)
+    let short = copy_short c.args.replica.now.ops c.copy.ensures.lawful in
+    let long = ap length (c.deref.ensures.value ∙ c.in_ok-copy.ensures.copy) in
+    omega (arith, short, long, c.copy.ensures.within)
 
 pub tried-settings-requires-clause-given : goal.tried-settings-requires-clause-given
-tried-settings-requires-clause-given g c = subst (λ (s : Settings). AreValues s) (sym c.settings-given.ensures) (settings_in c.args.replica.now.ops c.len-held.ensures.lawful)
+tried-settings-requires-clause-given g c = subst (λ (s : Settings). AreValues s) (sym c.settings-given.ensures) (settings_in c.args.replica.now.ops c.copy.ensures.lawful)
 
 pub picture_of-requires-clause-copy : goal.picture_of-requires-clause-copy
 picture_of-requires-clause-copy g c =
-    let short = copy_short c.args.replica.now.ops c.len-held.ensures.lawful in
-    let long = ap length (c.deref-in-Ok.ensures.value ∙ c.in_ok-copy.ensures) in
-    omega (arith, short, long, c.len-held.ensures.value, c.len-held.ensures.within)
+    let short = copy_short c.args.replica.now.ops c.copy.ensures.lawful in
+    let long = ap length (c.deref-in-Ok.ensures.value ∙ c.in_ok-copy.ensures.copy) in
+    omega (arith, short, long, c.copy.ensures.within)
 
 pub picture_of-requires-clause-lines : goal.picture_of-requires-clause-lines
 picture_of-requires-clause-lines g c =
@@ -33,11 +33,11 @@ picture_of-requires-clause-lines g c =
 pub returns-in-Ok : goal.returns-in-Ok
 returns-in-Ok g c =
     let galley = c.in-Ok.galley in
-    let copy = c.deref-in-Ok.ensures.value ∙ c.in_ok-copy.ensures in
+    let copy = c.deref-in-Ok.ensures.value ∙ c.in_ok-copy.ensures.copy in
     let faults = c.deref-in-Ok-2.ensures.value ∙ c.in_ok-faults.ensures.faults in
     inl (
       galley,
-      of_set c.args.replica.now.ops c.deref.result.now c.args.trial.now c.tried-settings.result c.args.case.now c.args.wedge.now galley (c.deref.ensures.value ∙ c.in_ok-copy.ensures) (c.tried-settings.ensures.value ∙ ap (tried_with c.args.trial.now) c.settings-given.ensures) c.in-Ok.ensures.ok,
+      of_set c.args.replica.now.ops c.deref.result.now c.args.trial.now c.tried-settings.result c.args.case.now c.args.wedge.now galley (c.deref.ensures.value ∙ c.in_ok-copy.ensures.copy) (c.tried-settings.ensures.value ∙ ap (tried_with c.args.trial.now) c.settings-given.ensures) c.in-Ok.ensures.ok,
       c.in_ok-drawn-in-Ok.ensures ∙ ap₂ (λ l f. picture_text l f galley) copy faults,
     )
 
@@ -49,6 +49,6 @@ returns-in-Err-Fault g c =
     let terms : no_terms c.args.case.now c.args.wedge.now (values_of (by_key c.tried-settings.result)) ≡ why ∷ [] = search rules in
     inr (
       why,
-      none_of_set c.args.replica.now.ops c.deref.result.now c.args.trial.now c.tried-settings.result c.args.case.now c.args.wedge.now why (c.deref.ensures.value ∙ c.in_ok-copy.ensures) (c.tried-settings.ensures.value ∙ ap (tried_with c.args.trial.now) c.settings-given.ensures) terms refused,
+      none_of_set c.args.replica.now.ops c.deref.result.now c.args.trial.now c.tried-settings.result c.args.case.now c.args.wedge.now why (c.deref.ensures.value ∙ c.in_ok-copy.ensures.copy) (c.tried-settings.ensures.value ∙ ap (tried_with c.args.trial.now) c.settings-given.ensures) terms refused,
       c.in_ok-drawn-in-Err-Fault.ensures ∙ ap (λ f. no_galley_picture f why) faults,
     )

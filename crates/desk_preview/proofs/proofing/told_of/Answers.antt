@@ -13,12 +13,12 @@ use Rattle.desk_preview.proofs.proofing.told_of.Goals as goal
 
 pub make_galley-requires-clause-copy : goal.make_galley-requires-clause-copy
 make_galley-requires-clause-copy g c =
-    let short = copy_short c.args.replica.now.ops c.len-held.ensures.lawful in
-    let long = ap length (c.deref.ensures.value ∙ c.in_ok-copy.ensures) in
-    omega (arith, short, long, c.len-held.ensures.value, c.len-held.ensures.within)
+    let short = copy_short c.args.replica.now.ops c.copy.ensures.lawful in
+    let long = ap length (c.deref.ensures.value ∙ c.in_ok-copy.ensures.copy) in
+    omega (arith, short, long, c.copy.ensures.within)
 
 pub tried-settings-requires-clause-given : goal.tried-settings-requires-clause-given
-tried-settings-requires-clause-given g c = subst (λ (s : Settings). AreValues s) (sym c.settings-given.ensures) (settings_in c.args.replica.now.ops c.len-held.ensures.lawful)
+tried-settings-requires-clause-given g c = subst (λ (s : Settings). AreValues s) (sym c.settings-given.ensures) (settings_in c.args.replica.now.ops c.copy.ensures.lawful)
 
 pub proof_of-requires : goal.proof_of-requires
 proof_of-requires g c = have_words c.deref.result.now c.deref-in-Ok.result.now c.args.case.now c.in-Ok.galley.lines (c.deref.ensures.value ∙ sym c.deref-in-Ok.ensures.value) c.in-Ok.ensures.stands
@@ -26,12 +26,12 @@ proof_of-requires g c = have_words c.deref.result.now c.deref-in-Ok.result.now c
 pub returns-in-Ok : goal.returns-in-Ok
 returns-in-Ok g c =
     let galley = c.in-Ok.galley in
-    let copy = c.deref-in-Ok.ensures.value ∙ c.in_ok-copy.ensures in
+    let copy = c.deref-in-Ok.ensures.value ∙ c.in_ok-copy.ensures.copy in
     let faults = c.deref-in-Ok-2.ensures.value ∙ c.in_ok-faults.ensures.faults in
     let same = c.deref-in-Ok-3.ensures.value ∙ c.in_ok-faults.ensures.faults in
     inl (
       galley,
-      of_set c.args.replica.now.ops c.deref.result.now c.args.trial.now c.tried-settings.result c.args.case.now c.args.wedge.now galley (c.deref.ensures.value ∙ c.in_ok-copy.ensures) (c.tried-settings.ensures.value ∙ ap (tried_with c.args.trial.now) c.settings-given.ensures) c.in-Ok.ensures.ok,
+      of_set c.args.replica.now.ops c.deref.result.now c.args.trial.now c.tried-settings.result c.args.case.now c.args.wedge.now galley (c.deref.ensures.value ∙ c.in_ok-copy.ensures.copy) (c.tried-settings.ensures.value ∙ ap (tried_with c.args.trial.now) c.settings-given.ensures) c.in-Ok.ensures.ok,
       c.in_ok-text-in-Ok.ensures ∙ ap₂ (λ l f. proof_text l f galley c.args.extent) copy faults,
       c.is_clean.ensures ∙ ap (λ f. is_clean f galley) same,
     )
@@ -45,7 +45,7 @@ returns-in-Err-Fault g c =
     let told : string_bytes c.in_ok-text-in-Err-Fault.text ≡ no_galley_text c.deref-in-Err-Fault.result.now why = search rules in
     inr (
       why,
-      none_of_set c.args.replica.now.ops c.deref.result.now c.args.trial.now c.tried-settings.result c.args.case.now c.args.wedge.now why (c.deref.ensures.value ∙ c.in_ok-copy.ensures) (c.tried-settings.ensures.value ∙ ap (tried_with c.args.trial.now) c.settings-given.ensures) terms refused,
+      none_of_set c.args.replica.now.ops c.deref.result.now c.args.trial.now c.tried-settings.result c.args.case.now c.args.wedge.now why (c.deref.ensures.value ∙ c.in_ok-copy.ensures.copy) (c.tried-settings.ensures.value ∙ ap (tried_with c.args.trial.now) c.settings-given.ensures) terms refused,
       told ∙ ap (λ f. no_galley_text f why) faults,
       refl,
     )

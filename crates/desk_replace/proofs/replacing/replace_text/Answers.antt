@@ -30,9 +30,9 @@ pub returns-in_err-tally-clause-err : goal.returns-in_err-tally-clause-err
 returns-in_err-tally-clause-err g c =
     let p = err_from_is_err_and c.from_residual-in_err-tally.result c.from_residual-in_err-tally.ensures.1 in
     let texts : AreRead c.args.exchange.now c.deref.result.now c.deref-2.result.now = rw (c.deref.ensures.value, c.deref-2.ensures.value) c.in_ok-old.ensures.ok in
-    let unrevised = subst (λ l. IsUnrevised c.in_ok-stored.replica.site c.in_ok-stored.replica.ops l c.in_err-tally.field-0.0) c.deref-3.ensures.value c.in_err-tally.ensures.err in
-    let by = subst (λ n. IsUnrevised n c.in_ok-stored.replica.ops c.in_ok-text.text.items c.in_err-tally.field-0.0) c.in_ok-stored.ensures.site unrevised in
-    rw p.1 (rw p.2 (ap g.W.Write.contents c.in_ok-text.ensures.silent, c.deref.result.now, c.deref-2.result.now, texts, was_read c.in_ok-stored.stored, c.in_ok-stored.replica.ops, c.in_ok-stored.ensures.ok, c.in_ok-text.text.items, c.in_ok-text.ensures.ok, by))
+    let unrevised = subst (λ l. IsUnrevised c.in_ok-stored.replica.site c.in_ok-stored.replica.ops c.revise.new.replica.ops l c.in_err-tally.field-0.0) c.deref-3.ensures.value c.in_err-tally.ensures.err in
+    let by = subst (λ n. IsUnrevised n c.in_ok-stored.replica.ops c.revise.new.replica.ops c.in_ok-text.text.items c.in_err-tally.field-0.0) c.in_ok-stored.ensures.site unrevised in
+    rw p.1 (rw p.2 (ap g.W.Write.contents c.in_ok-text.ensures.silent, c.deref.result.now, c.deref-2.result.now, texts, was_read c.in_ok-stored.stored, c.in_ok-stored.replica.ops, c.in_ok-stored.ensures.ok, c.in_ok-text.text.items, c.in_ok-text.ensures.ok, c.revise.new.replica.ops, by))
 
 pub returns-in_err-tell_and_keep-clause-err : goal.returns-in_err-tell_and_keep-clause-err
 returns-in_err-tell_and_keep-clause-err g c =
