@@ -105,7 +105,7 @@ const HEAP: usize = 1_048_576;
 /// Whether an export in a cut heap is out of memory; any other end is the text, and with memory each is.
 fn is_refused(alloc: Global, cut: usize) -> Result<bool, Fail> {
     let heap = LocalHeap::new(alloc, HEAP)?;
-    let kept = HEAP.saturating_sub(cut.saturating_mul(512));
+    let kept = HEAP.saturating_sub(cut.saturating_mul(1_024));
     let ballast: Option<Vec<u8, &LocalHeap>> = Vec::with_capacity(&heap, kept).ok();
     let mut files = rooms(alloc, 0)?;
     let mut written = Vec::new(alloc);

@@ -148,7 +148,7 @@ fn is_of_memory(fault: PreviewFault) -> bool {
 /// Whether a punch in a cut heap is out of memory, and the target then as it was.
 fn is_refused(alloc: Global, cut: usize) -> Result<bool, Fail> {
     let heap = LocalHeap::new(alloc, HEAP)?;
-    let kept = HEAP.saturating_sub(cut.saturating_mul(512));
+    let kept = HEAP.saturating_sub(cut.saturating_mul(1_024));
     let ballast: Option<Vec<u8, &LocalHeap>> = Vec::with_capacity(&heap, kept).ok();
     let mut files = rooms(alloc, 0)?;
     let mut written = Vec::new(alloc);
