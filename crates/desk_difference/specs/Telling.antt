@@ -18,11 +18,11 @@ IsDifference one other shelf told same =
 abbrev pub IsTold : List ℕ → List ℕ → Shelf → Option (List ℕ) → Option (List ℕ) → Bool → Type 0
 IsTold one other shelf before after same = (told : List ℕ) × IsDifference one other shelf told same × Appends before after told
 
--- why not all of it was written, and what was: nothing, or under Write a prefix. Out of memory comes where both feeds were opened and no file call failed
+-- why not all of it was written, and what was: nothing, or under Write a prefix. Write and out of memory come where both feeds were opened and no file call failed
 abbrev pub IsUntold : List ℕ → List ℕ → Shelf → Shelf → Option (List ℕ) → Option (List ℕ) → DifferenceFault → Type 0
 IsUntold one other first last before after (faults.One why) = (after ≡ before) × IsClosedBy one first last why
 IsUntold one other first last before after (faults.Other why) =
     (after ≡ before) × (set : OpSet) × IsSetOf one first set × IsClosedBy other first last why
-IsUntold one other first last before after faults.Write = (told : List ℕ) × (same : Bool) × IsDifference one other first told same × WritesFront before after told
+IsUntold one other first last before after faults.Write = (last.failures ≡ first.failures) × (told : List ℕ) × (same : Bool) × IsDifference one other first told same × WritesFront before after told
 IsUntold one other first last before after faults.NoMemory =
     (after ≡ before) × (last.failures ≡ first.failures) × (set others : OpSet) × IsSetOf one first set × IsSetOf other first others

@@ -48,7 +48,7 @@ returns-in_err-write_out-clause-err g c =
     let second = subst (λ (s : Shelf). IsSetOf c.args.other.now s other) same c.in-Ok-open_feed.ensures.ok in
     let front = subst (λ (l : List ℕ). WritesFront (g.W.Write.contents c.args.writer.now) (g.W.Write.contents c.write_out.new.writer) l) c.deref.ensures.value c.in_err-write_out.ensures.err in
     let p = err_from_is_err_and c.from_residual-in_err-write_out.result c.from_residual-in_err-write_out.ensures.1 in
-    rw p.1 (rw p.2 (c.in_ok-text.text.items, c.in_ok-text.same, (one, other, c.in-Ok.ensures.ok, second, c.in_ok-text.ensures), front))
+    rw p.1 (rw p.2 (c.in-Ok-open_feed.ensures.counted ∙ c.in-Ok.ensures.counted, c.in_ok-text.text.items, c.in_ok-text.same, (one, other, c.in-Ok.ensures.ok, second, c.in_ok-text.ensures), front))
 
 pub returns-in-Err-clause-err : goal.returns-in-Err-clause-err
 returns-in-Err-clause-err g c = (refl, c.in-Err.ensures.err)
