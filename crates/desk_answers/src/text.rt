@@ -1,7 +1,8 @@
 //! Answers, and what they say.
 
-ghost use Rattle.std.specs.Prelude.{◌≡◌, ◌+◌, ◌<◌, ◌≤◌, ◌++◌, ◌∷◌, [], true, false, length, List, IfSome, OnOk, codes, is_some, string_bytes};
+ghost use Rattle.std.specs.Prelude.{◌≡◌, ◌≢◌, ◌+◌, ◌<◌, ◌≤◌, ◌++◌, ◌∷◌, [], true, false, length, List, IfSome, OnOk, codes, is_some, string_bytes};
 ghost use Rattle.std.specs.Fmt.{decimal, signed_decimal};
+ghost use Rattle.std.specs.Io.{StartsWith};
 ghost use Rattle.arrayvec.specs.ArrayString.{array_string_len};
 ghost use Rattle.desk_ops.specs.Words.{stamp_words};
 ghost use Rattle.desk_answers.specs.Reply.{is_long, reply_values, lines_told};
@@ -15,7 +16,7 @@ use desk_commands::put_copy;
 use desk_job::{JobFault, JobFaults};
 use desk_ops::{CopyFault, Stamp, Symbol, Unlawful};
 use desk_replica::Settings;
-use itoa::Buffer;
+use itoa::{Buffer, Integer};
 use std::alloc::{AllocError, Allocator};
 
 /// Why a line changed nothing, or why it stopped.
@@ -202,8 +203,10 @@ fn hex_digit(n: u8) -> &'static str
 }
 
 /// Writes bytes in hexadecimal at the end.
+#[tactic(auto, using(crate::proofs::Fronts::fronts))]
 fn put_hex<A: Allocator + Copy>(out: &mut String<A>, bytes: &[u8]) -> Result<(), AllocError>
-    ensures { OnOk result (string_bytes out.new ≡ string_bytes out.old ++ hex_text bytes.now) }
+    ensures text { OnOk result (string_bytes out.new ≡ string_bytes out.old ++ hex_text bytes.now) }
+    ensures front { StartsWith (string_bytes out.new) (string_bytes out.old) }
 {
     for b in bytes {
         out.push_str(hex_digit(*b / 16))?;
@@ -230,11 +233,13 @@ fn stamp_of(stamp: Stamp) -> Short
 }
 
 /// Writes the faults of a copy at the end, or that there are none.
+#[tactic(auto, using(crate::proofs::Fronts::fronts))]
 fn put_faults<A: Allocator + Copy>(
     out: &mut String<A>,
     faults: &[CopyFault],
 ) -> Result<(), AllocError>
-    ensures { OnOk result (string_bytes out.new ≡ string_bytes out.old ++ faults_text faults.now) }
+    ensures text { OnOk result (string_bytes out.new ≡ string_bytes out.old ++ faults_text faults.now) }
+    ensures front { StartsWith (string_bytes out.new) (string_bytes out.old) }
 {
     if faults.is_empty() {
         return out.push_str("faults none");
@@ -251,11 +256,13 @@ fn separator(is_first: bool) -> &'static str
 }
 
 /// Writes each fault behind a space, or a comma and a space.
+#[tactic(auto, using(crate::proofs::Fronts::fronts))]
 fn put_entries<A: Allocator + Copy>(
     out: &mut String<A>,
     faults: &[CopyFault],
 ) -> Result<(), AllocError>
-    ensures { OnOk result (string_bytes out.new ≡ string_bytes out.old ++ entries_text true faults.now) }
+    ensures text { OnOk result (string_bytes out.new ≡ string_bytes out.old ++ entries_text true faults.now) }
+    ensures front { StartsWith (string_bytes out.new) (string_bytes out.old) }
 {
     let mut is_first = true;
     for fault in faults {
@@ -268,40 +275,79 @@ fn put_entries<A: Allocator + Copy>(
     Ok(())
 }
 
+/// Writes a number at the end.
+#[tactic(auto, using(crate::proofs::Fronts::fronts))]
+fn put_decimal<A: Allocator + Copy, N: Integer>(out: &mut String<A>, n: N) -> Result<(), AllocError>
+    ensures text { OnOk result (string_bytes out.new ≡ string_bytes out.old ++ N.text n) }
+    ensures front { StartsWith (string_bytes out.new) (string_bytes out.old) }
+{
+    let mut digits = Buffer::new();
+    out.push_str(digits.format(n))
+}
+
 /// Writes a setting's value at the end, or that it has none.
+#[tactic(auto, using(crate::proofs::Fronts::fronts))]
 fn put_value<A: Allocator + Copy>(out: &mut String<A>, value: Option<u32>) -> Result<(), AllocError>
-    ensures { OnOk result (string_bytes out.new ≡ string_bytes out.old ++ value_text value) }
+    ensures text { OnOk result (string_bytes out.new ≡ string_bytes out.old ++ value_text value) }
+    ensures front { StartsWith (string_bytes out.new) (string_bytes out.old) }
 {
     match value {
         None => out.push_str("-"),
-        Some(value) => write!(out, "{value}"),
+        Some(value) => put_decimal(out, value),
     }
 }
 
+/// Writes a setting's name and its value at the end.
+#[tactic(auto, using(crate::proofs::Fronts::fronts))]
+fn put_setting<A: Allocator + Copy>(
+    out: &mut String<A>,
+    name: &str,
+    value: Option<u32>,
+) -> Result<(), AllocError>
+    ensures text { OnOk result (string_bytes out.new ≡ string_bytes out.old ++ name.now ++ value_text value) }
+    ensures front { StartsWith (string_bytes out.new) (string_bytes out.old) }
+{
+    out.push_str(name)?;
+    put_value(out, value)
+}
+
 /// Writes the settings of the job at the end.
+#[tactic(auto, using(crate::proofs::Fronts::fronts))]
 fn put_settings<A: Allocator + Copy>(
     out: &mut String<A>,
     settings: &Settings,
 ) -> Result<(), AllocError>
-    ensures { OnOk result (string_bytes out.new ≡ string_bytes out.old ++ settings_text settings.now) }
+    ensures text { OnOk result (string_bytes out.new ≡ string_bytes out.old ++ settings_text settings.now) }
+    ensures front { StartsWith (string_bytes out.new) (string_bytes out.old) }
 {
-    out.push_str("measure=")?;
-    put_value(out, settings.measure)?;
-    out.push_str(" tight=")?;
-    put_value(out, settings.tight)?;
-    out.push_str(" loose=")?;
-    put_value(out, settings.loose)?;
-    out.push_str(" case=")?;
-    put_value(out, settings.case)?;
-    out.push_str(" wedge=")?;
-    put_value(out, settings.wedge)
+    put_setting(out, "measure=", settings.measure)?;
+    put_setting(out, " tight=", settings.tight)?;
+    put_setting(out, " loose=", settings.loose)?;
+    put_setting(out, " case=", settings.case)?;
+    put_setting(out, " wedge=", settings.wedge)
 }
 
+/// Writes words, and a number behind them.
+#[tactic(auto, using(crate::proofs::Fronts::fronts))]
+fn put_counted<A: Allocator + Copy>(
+    out: &mut String<A>,
+    words: &str,
+    n: usize,
+) -> Result<(), AllocError>
+    ensures text { OnOk result (string_bytes out.new ≡ string_bytes out.old ++ words.now ++ decimal n) }
+    ensures front { StartsWith (string_bytes out.new) (string_bytes out.old) }
+{
+    out.push_str(words)?;
+    put_decimal(out, n)
+}
+
+#[tactic(auto, using(crate::proofs::Fronts::fronts))]
 fn put_job_fault<A: Allocator + Copy>(
     out: &mut String<A>,
     fault: JobFault,
 ) -> Result<(), AllocError>
-    ensures { OnOk result (string_bytes out.new ≡ string_bytes out.old ++ job_fault_text fault) }
+    ensures text { OnOk result (string_bytes out.new ≡ string_bytes out.old ++ job_fault_text fault) }
+    ensures front { StartsWith (string_bytes out.new) (string_bytes out.old) }
 {
     match fault {
         JobFault::MissingSetting(key) => {
@@ -313,19 +359,21 @@ fn put_job_fault<A: Allocator + Copy>(
         JobFault::Crossed => out.push_str("crossed"),
         JobFault::FillOrder => out.push_str("fill order"),
         JobFault::SpaceVanishes => out.push_str("space vanishes"),
-        JobFault::NoMatrix(place) => write!(out, "no matrix {place}"),
-        JobFault::TooWide(line) => write!(out, "too wide {line}"),
-        JobFault::TooLoose(line) => write!(out, "too loose {line}"),
-        JobFault::CannotFill(line) => write!(out, "cannot fill {line}"),
+        JobFault::NoMatrix(place) => put_counted(out, "no matrix ", place),
+        JobFault::TooWide(line) => put_counted(out, "too wide ", line),
+        JobFault::TooLoose(line) => put_counted(out, "too loose ", line),
+        JobFault::CannotFill(line) => put_counted(out, "cannot fill ", line),
     }
 }
 
 /// Writes each fault of a job behind a space, or a comma and a space.
+#[tactic(auto, using(crate::proofs::Fronts::fronts))]
 fn put_job_faults<A: Allocator + Copy>(
     out: &mut String<A>,
     faults: &[JobFault],
 ) -> Result<(), AllocError>
-    ensures { OnOk result (string_bytes out.new ≡ string_bytes out.old ++ job_faults_text true faults.now) }
+    ensures text { OnOk result (string_bytes out.new ≡ string_bytes out.old ++ job_faults_text true faults.now) }
+    ensures front { StartsWith (string_bytes out.new) (string_bytes out.old) }
 {
     let mut is_first = true;
     for fault in faults {
@@ -336,18 +384,24 @@ fn put_job_faults<A: Allocator + Copy>(
     Ok(())
 }
 
+#[tactic(auto, using(crate::proofs::Fronts::fronts))]
 fn put_line<A: Allocator + Copy>(out: &mut String<A>, line: &CastLine<A>) -> Result<(), AllocError>
-    ensures { OnOk result (string_bytes out.new ≡ string_bytes out.old ++ codes " " ++ decimal (length line.now.matrices) ++ codes "/" ++ signed_decimal line.now.total) }
+    ensures text { OnOk result (string_bytes out.new ≡ string_bytes out.old ++ codes " " ++ decimal (length line.now.matrices) ++ codes "/" ++ signed_decimal line.now.total) }
+    ensures front { StartsWith (string_bytes out.new) (string_bytes out.old) }
 {
-    write!(out, " {}/{}", line.matrices().len(), line.total().get())
+    put_counted(out, " ", line.matrices().len())?;
+    out.push_str("/")?;
+    put_decimal(out, line.total().get())
 }
 
 /// Writes each line that was cast behind a space.
+#[tactic(auto, using(crate::proofs::Fronts::fronts))]
 fn put_lines<A: Allocator + Copy>(
     out: &mut String<A>,
     lines: &[CastLine<A>],
 ) -> Result<(), AllocError>
-    ensures { OnOk result (string_bytes out.new ≡ string_bytes out.old ++ lines_text (lines_told lines.now)) }
+    ensures text { OnOk result (string_bytes out.new ≡ string_bytes out.old ++ lines_text (lines_told lines.now)) }
+    ensures front { StartsWith (string_bytes out.new) (string_bytes out.old) }
 {
     for line in lines {
         put_line(out, line)?;
@@ -458,20 +512,25 @@ fn put_shown<A: Allocator + Copy>(out: &mut String<A>, copy: &[Symbol]) -> Resul
 }
 
 /// Writes bytes behind a word.
+#[tactic(auto, using(crate::proofs::Fronts::fronts))]
 fn put_bytes<A: Allocator + Copy>(
     out: &mut String<A>,
     word: &str,
     bytes: &[u8],
 ) -> Result<(), AllocError>
-    ensures { OnOk result (string_bytes out.new ≡ string_bytes out.old ++ word.now ++ hex_text bytes.now) }
+    ensures text { OnOk result (string_bytes out.new ≡ string_bytes out.old ++ word.now ++ hex_text bytes.now) }
+    ensures front { StartsWith (string_bytes out.new) (string_bytes out.old) }
 {
     out.push_str(word)?;
     put_hex(out, bytes)
 }
 
-/// Writes an answer at the end, without its end of line.
+/// Writes an answer at the end, without its end of line. Where memory is refused to another answer than a copy, what stood
+/// before still stands in front.
+#[tactic(auto, using(crate::proofs::Fronts::fronts))]
 pub fn put<A: Allocator + Copy>(out: &mut String<A>, answer: &Reply<A>) -> Result<(), AllocError>
-    ensures { OnOk result (string_bytes out.new ≡ string_bytes out.old ++ text (reply_values answer.now)) }
+    ensures text { OnOk result (string_bytes out.new ≡ string_bytes out.old ++ text (reply_values answer.now)) }
+    ensures front { ((copy : List Symbol) → reply_values answer.now ≢ replies.Copy copy) → StartsWith (string_bytes out.new) (string_bytes out.old) }
 {
     match answer {
         Reply::Done => out.push_str(done().as_str()),
@@ -491,7 +550,7 @@ pub fn put<A: Allocator + Copy>(out: &mut String<A>, answer: &Reply<A>) -> Resul
             put_job_faults(out, faults.as_slice())
         }
         Reply::Lines(lines) => {
-            write!(out, "lines {}", lines.len())?;
+            put_counted(out, "lines ", lines.len())?;
             put_lines(out, lines)
         }
         Reply::Refused(why) => out.push_str(refused(*why).as_str()),

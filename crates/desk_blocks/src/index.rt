@@ -34,7 +34,7 @@ impl Model for Home {
 }
 
 impl Home {
-    /// A page beyond 32 bits is told as the last that they name: no hint is believed without a look.
+    /// A page beyond 32 bits is kept as the last that they name: no hint is believed without a look.
     fn new(stamp: Stamp, page: usize) -> Home
         ensures { result.stamp ≡ stamp }
     {

@@ -1,6 +1,7 @@
 //! Why bytes are no feed.
 
 ghost use Rattle.std.specs.Prelude.{◌≡◌};
+ghost use Rattle.desk_codec.specs.declared.fault.FeedWhy.TheVariants as feed_why;
 ghost use Rattle.desk_codec.specs.declared.fault.ReadFault.TheVariants.{NoMemory};
 
 use desk_ops::Unlawful;
@@ -27,6 +28,14 @@ pub enum FeedWhy {
     Run,
 }
 
+impl From<Unlawful> for FeedWhy {
+    ghost from_gives = { λ first why. why ≡ feed_why.Unlawful first };
+
+    fn from(first: Unlawful) -> FeedWhy {
+        FeedWhy::Unlawful(first)
+    }
+}
+
 /// The first fault from the left, and the place of the first byte of its operation or run.
 #[derive(Clone, Copy, Debug, PartialEq, Eq, Error)]
 #[error("at byte {at}: {why}")]
@@ -40,7 +49,7 @@ pub struct FeedFault {
 pub enum ReadFault {
     #[error("{0}")]
     Fault(FeedFault),
-    /// An earlier call has told a fault, or the end of the feed was told.
+    /// An earlier call has reported a fault, or `finish` was called.
     #[error("the reading has ended")]
     Failed,
     /// A growth was refused.

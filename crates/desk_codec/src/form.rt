@@ -8,7 +8,7 @@ ghost use Rattle.desk_codec.specs.Form.{kind_byte, kind_size};
 
 use desk_ops::Op;
 
-/// The two forms of feed, told by what a feed begins with.
+/// The two forms of feed, known by what a feed begins with.
 #[derive(Clone, Copy, Debug, PartialEq, Eq)]
 pub enum FeedForm {
     /// Single operations alone, after `MFD1`.

@@ -14,8 +14,8 @@ use crate::reading::next_op;
 use desk_ops::{Stamp, Unlawful};
 use std::alloc::Allocator;
 
-/// Appends the inserts of a run from the bytes of so many symbols, and gives the bytes after them; or tells the first cause of
-/// the first that is not lawful.
+/// Appends the inserts of a run from the bytes of so many symbols, and gives the bytes after them; or the first
+/// cause of the first that is not lawful.
 fn take_inserts<'a, A: Allocator>(
     stamp: Stamp,
     parent: Stamp,
@@ -60,7 +60,7 @@ fn take_front(bytes: &[u8]) -> (Stamp, Stamp, u8, &[u8])
     (stamp, parent, count, rest)
 }
 
-/// Appends the inserts of the run at the front of bytes, and gives the bytes after it; or tells what is wrong there.
+/// Appends the inserts of the run at the front of bytes, and gives the bytes after it; or what is wrong there.
 fn next_run<'a, A: Allocator>(bytes: &'a [u8], ops: &mut Gathered<A>) -> Result<&'a [u8], FeedWhy>
     requires kind { get_or bytes.now 0 0 ≡ 4 }
     requires some { 0 < length bytes.now }
@@ -79,13 +79,11 @@ fn next_run<'a, A: Allocator>(bytes: &'a [u8], ops: &mut Gathered<A>) -> Result<
     if rest.len() < SYMBOL_SIZE * count {
         return Err(FeedWhy::Cut);
     }
-    match take_inserts(stamp, parent, count, rest, ops) {
-        Ok(rest) => Ok(rest),
-        Err(first) => Err(FeedWhy::Unlawful(first)),
-    }
+    let rest = take_inserts(stamp, parent, count, rest, ops)?;
+    Ok(rest)
 }
 
-/// Appends the operations of the item at the front of bytes, and gives the bytes after it; or tells what is wrong there.
+/// Appends the operations of the item at the front of bytes, and gives the bytes after it; or what is wrong there.
 pub fn next_item<'a, A: Allocator>(
     form: FeedForm,
     bytes: &'a [u8],

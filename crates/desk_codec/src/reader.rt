@@ -223,7 +223,8 @@ fn after_magic<'a>(kept: &[u8], piece: &'a [u8]) -> Option<(FeedForm, &'a [u8])>
     }
 }
 
-/// Appends the operations of the item at the front of these bytes, and tells how many bytes come after it; or what is wrong.
+/// Appends the operations of the item at the front of these bytes, and gives how many bytes come after it; or what is
+/// wrong.
 fn item_in<A: Allocator>(
     form: FeedForm,
     bytes: &[u8],
@@ -239,7 +240,7 @@ fn item_in<A: Allocator>(
 }
 
 /// Appends the operations of the item whose front was kept and that the piece makes whole, and gives the rest of the piece; or
-/// tells what is wrong, `Cut` where it is not whole yet. What was kept stays.
+/// what is wrong, `Cut` where it is not whole yet. What was kept stays.
 fn first_item<'a, A: Allocator>(
     form: FeedForm,
     kept: &mut ArrayVec<u8, 342>,

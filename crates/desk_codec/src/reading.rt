@@ -32,10 +32,8 @@ pub fn next_op(bytes: &[u8]) -> Result<(Op, &[u8]), FeedWhy>
         return Err(FeedWhy::Cut);
     }
     let (fields, rest) = Fields::take(kind, rest);
-    match fields.op() {
-        Ok(op) => Ok((op, rest)),
-        Err(first) => Err(FeedWhy::Unlawful(first)),
-    }
+    let op = fields.op()?;
+    Ok((op, rest))
 }
 
 /// One `feed` of all bytes, and one `finish`.
@@ -56,10 +54,10 @@ pub fn read_feed<A: Allocator>(alloc: A, bytes: &[u8]) -> Result<Vec<Op, A>, Rea
     ensures lawful { IfOk result (λ ops. All IsLawful ops.items) }
     // A fault is the first from the left.
     ensures fault { IfErr result (λ fault. Tells bytes.now fault) }
-    // The feed of a list is read as that list, and bytes with a first fault are told by it, unless memory runs out.
+    // The feed of a list is read as that list, and bytes with a first fault are refused with it, unless memory runs out.
     ensures only { (ops : List Op) → IsFeed bytes.now ops → Answers (λ v. v.items) result (Ok ops) }
     ensures first { (fault : FeedFault) → IsFirstFault bytes.now fault → Answers (λ v. v.items) result (Err fault) }
-    // Bytes without a magic, or with too few after it for an operation, are never told as out of memory.
+    // Bytes without a magic, or with too few after it for an operation, are never reported as out of memory.
     ensures memory { result ≡ Err fault.NoMemory → MayHoldOne bytes.now }
 {
     operations_of(alloc, bytes)

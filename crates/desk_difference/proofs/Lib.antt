@@ -3,3 +3,4 @@ pub mod Sorting
 pub mod Parts
 pub mod Equal
 pub mod Sets
+pub mod Begins

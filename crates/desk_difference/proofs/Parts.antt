@@ -14,7 +14,7 @@ use Rattle.desk_ops.specs.declared.op.Symbol.{Symbol}
 use Rattle.desk_difference.specs.declared.stretch.Point.{Point}
 use Rattle.desk_difference.specs.declared.stretch.Stretch.{Stretch}
 use Rattle.desk_difference.specs.Walking.{EndBefore}
-use Rattle.desk_difference.specs.Stretches.{AreApart, AreSame, AreStretches, Differ, DifferIn, IsReached, ends, is_whole, of_one, of_other, start}
+use Rattle.desk_difference.specs.Stretches.{AreApart, AreSame, AreStretches, BeginsApart, Differ, DifferIn, IsReached, ends, is_whole, of_one, of_other, start}
 
 drop_none : {A : Type 0} (k : ℕ) → drop {A = A} k [] ≡ []
 drop_none zero = refl
@@ -36,7 +36,7 @@ range_join xs a b c low high =
 pub reached_farther : (one other : List Symbol) (a b c : Point) → IsReached one other a b → IsReached one other b c → IsReached one other a c
 reached_farther one other a b c f g = record { one_rises = omega arith; other_rises = omega arith; one_within = g.one_within; other_within = g.other_within }
 
-same_farther : (one other : List Symbol) (a b c : Point) → AreSame one other a b → AreSame one other b c → AreSame one other a c
+pub same_farther : (one other : List Symbol) (a b c : Point) → AreSame one other a b → AreSame one other b c → AreSame one other a c
 same_farther one other a b c f g = record {
   reached = reached_farther one other a b c f.reached g.reached;
   same = range_join one a.one b.one c.one f.reached.one_rises g.reached.one_rises ∙ ap₂ (λ l m. l ++ m) f.same g.same ∙ sym (range_join other a.other b.other c.other f.reached.other_rises g.reached.other_rises);
@@ -45,7 +45,7 @@ same_farther one other a b c f g = record {
 pub here : (one other : List Symbol) (a b : Point) → IsReached one other a b → IsReached one other b b
 here one other a b r = record { one_rises = omega arith; other_rises = omega arith; one_within = r.one_within; other_within = r.other_within }
 
-none_between : (one other : List Symbol) (a b : Point) → IsReached one other a b → AreSame one other b b
+pub none_between : (one other : List Symbol) (a b : Point) → IsReached one other a b → AreSame one other b b
 none_between one other a b r = record { reached = here one other a b r; same = nothing one b.one ∙ sym (nothing other b.other) }
   where
     nothing : (xs : List Symbol) (k : ℕ) → slice_range xs k k ≡ []
@@ -87,10 +87,10 @@ pub closed_same : (one other : List Symbol) (from to : Point) (stretches : List 
 closed_same one other from to stretches told reached same = told_farther one other start from to stretches told (record { reached = reached; same = same })
 
 pub closed : (one other : List Symbol) (from to : Point) (stretches after : List Stretch) → DifferIn one other start stretches from → is_whole one other from ≡ true → is_whole one other to ≡ true → IsReached one other from to
-    → of_one one from to ≢ of_other other from to → after ≡ stretches ++ (record { from = from; to = to }) ∷ [] → DifferIn one other start after to
-closed one other from to stretches after told whole whole_to reached differ is =
+    → of_one one from to ≢ of_other other from to → BeginsApart one other from to.one → after ≡ stretches ++ (record { from = from; to = to }) ∷ [] → DifferIn one other start after to
+closed one other from to stretches after told whole whole_to reached differ begins is =
     let next : Stretch = record { from = from; to = to } in
-    subst (λ (l : List Stretch). DifferIn one other start l to) (sym is) (told_stretch one other start next stretches told (record { reached = reached; whole = whole; whole_to = whole_to; differ = differ }))
+    subst (λ (l : List Stretch). DifferIn one other start l to) (sym is) (told_stretch one other start next stretches told (record { reached = reached; whole = whole; whole_to = whole_to; differ = differ; begins = begins }))
 
 -- two copies that are one have no stretch, and others those of a walk
 pub no_stretches : (one other : List Symbol) (stretches : List Stretch) → stretches ≡ [] → one ≡ other → AreStretches one other stretches

@@ -47,12 +47,18 @@ pub record AreSame (one other : List Symbol) (from to : Point) : Type 0 where
   pub reached : IsReached one other from to
   pub same : of_one one from to ≡ of_other other from to
 
--- between two points they differ, and words are whole at both
+-- behind a point of two copies, up to a place of the first, no words that are whole are the same in both
+abbrev pub BeginsApart : List Symbol → List Symbol → Point → ℕ → Type 0
+BeginsApart one other from place =
+    (point : Point) → is_whole one other point ≡ true → IsReached one other from point → from.one < point.one → point.one ≤ place → of_one one from point ≢ of_other other from point
+
+-- between two points they differ, words are whole at both, and what is between does not begin with words that both have alike
 pub record Differ (one other : List Symbol) (stretch : Stretch) : Type 0 where
   pub reached : IsReached one other stretch.from stretch.to
   pub whole : is_whole one other stretch.from ≡ true
   pub whole_to : is_whole one other stretch.to ≡ true
   pub differ : of_one one stretch.from stretch.to ≢ of_other other stretch.from stretch.to
+  pub begins : BeginsApart one other stretch.from stretch.to.one
 
 -- from one point to another the copies differ in these stretches alone, in their order
 abbrev pub DifferIn : List Symbol → List Symbol → Point → List Stretch → Point → Type 0

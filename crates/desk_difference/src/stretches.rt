@@ -1,7 +1,7 @@
 //! The words in which two copies differ.
 
 ghost use Rattle.std.specs.Prelude.{◌≡◌, ◌↔◌, ◌⊎◌, ◌+◌, ◌<◌, IfOk, OnOk, length, true};
-ghost use Rattle.desk_difference.specs.Stretches.{AreApart, AreStretches, DifferIn, IsReached, ends, is_whole, of_one, of_other, start};
+ghost use Rattle.desk_difference.specs.Stretches.{AreApart, AreStretches, BeginsApart, DifferIn, IsReached, ends, is_whole, of_one, of_other, start};
 ghost use Rattle.desk_difference.specs.Walking.{EndBefore, HasTold, IsStep};
 
 use crate::stretch::{Point, Stretch, is_whole};
@@ -33,8 +33,8 @@ fn are_kept(one: &[Symbol], other: &[Symbol], from: Point, to: Point) -> bool
     from.one < to.one && are_same(one, other, from, to)
 }
 
-/// The point behind the next step of two copies, of which one at least has symbols left. A change that is due at the point
-/// goes on in one of them, and else both go on.
+/// The point behind the next step of two copies, of which one at least has symbols left. Where they have the same symbol
+/// both go on. Else a change that is due at the point goes on in one of them.
 fn step(one: &[Symbol], other: &[Symbol], change: Option<Change>, point: Point) -> Point
     requires within { IsReached one.now other.now point point }
     requires left { (point.one < length one.now) ⊎ (point.other < length other.now) }
@@ -53,6 +53,12 @@ fn step(one: &[Symbol], other: &[Symbol], change: Option<Change>, point: Point) 
     }
     if point.other >= other.len() {
         return gone;
+    }
+    if one[point.one] == other[point.other] {
+        return Point {
+            one: gone.one,
+            other: come.other,
+        };
     }
     match change {
         Some(Change::Delete { place }) if place == point.other => gone,
@@ -78,6 +84,7 @@ fn close<A: Allocator + Copy>(
     requires from { is_whole one.now other.now from ≡ true }
     requires to { is_whole one.now other.now to ≡ true }
     requires reached { IsReached one.now other.now from to }
+    requires begins { BeginsApart one.now other.now from to.one }
     ensures told { OnOk result (DifferIn one.now other.now start stretches.new.items to) }
     ensures apart { OnOk result (AreApart stretches.new.items) }
     ensures behind { OnOk result (EndBefore (to.one + 1) stretches.new.items) }
@@ -97,8 +104,8 @@ fn pass<A: Allocator + Copy>(
     front: Front,
     point: Point,
 ) -> Result<Front, NoMemory>
-    requires { HasTold one.now other.now stretches.old.items front point }
-    ensures { IfOk result (λ f. HasTold one.now other.now stretches.new.items f point) }
+    requires { HasTold one.now other.now stretches.old.items front point point.one }
+    ensures { IfOk result (λ f. HasTold one.now other.now stretches.new.items f point (point.one + 1)) }
 {
     if !is_whole(one, other, point) {
         return Ok(front);

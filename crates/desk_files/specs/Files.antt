@@ -1,5 +1,5 @@
 -- What files hold by name, when they may tell of a device, and what their calls leave.
-use Rattle.std.specs.Prelude.{◌≡◌, ◌≢◌, ◌≤◌, ℕ, ◌<◌, ◌⊎◌, ◌++◌, List, Option, None, Some, Result, Ok, Err, codes, length}
+use Rattle.std.specs.Prelude.{◌≡◌, ◌≢◌, ◌≤◌, ℕ, ◌<◌, ◌⊎◌, ◌++◌, List, Result, Ok, Err, codes, length}
 use Rattle.desk_files.specs.declared.files.FileRefusal.{FileRefusal}
 use Rattle.desk_files.specs.declared.files.FileRefusal.TheVariants as refusals
 
@@ -14,13 +14,29 @@ pub data Kept : Type 0 where
 abbrev pub Names : Type 0
 Names = List ℕ → Kept
 
--- what each name stands for, how often the device has failed, and the name that is held for one run alone, if one is
+-- what is held for one run alone: no name; a name, since when this run has asked for no writing and no renaming; or a name, since when it has
+pub data Hold : Type 0 where
+  Free : Hold
+  Untouched : List ℕ → Hold
+  Touched : List ℕ → Hold
+
+-- what is held after a writing or a renaming was asked for
+abbrev pub touched : Hold → Hold
+touched Free = Free
+touched (Untouched name) = Touched name
+touched (Touched name) = Touched name
+
+-- the same name is held, or none; a writing or a renaming may have been asked for
+abbrev pub HoldsOn : Hold → Hold → Type 0
+HoldsOn before after = (after ≡ before) ⊎ (after ≡ touched before)
+
+-- what each name stands for, how often the device has failed, and what is held for one run alone
 pub record Shelf : Type 0 where
   pub kept : Names
   pub failures : ℕ
-  pub held : Option (List ℕ)
+  pub held : Hold
 
-abbrev pub shelf : Names → ℕ → Option (List ℕ) → Shelf
+abbrev pub shelf : Names → ℕ → Hold → Shelf
 shelf kept failures held = record { kept = kept; failures = failures; held = held }
 
 -- a count rose, or can rise no more
@@ -31,7 +47,7 @@ HasRisen before after = (before < after) ⊎ (before ≡ 18446744073709551615)
 abbrev pub HasFailed : Shelf → Shelf → Type 0
 HasFailed before after = HasRisen before.failures after.failures
 
--- no file has changed, the count has not fallen, and the same name is held
+-- no file has changed, the count has not fallen, and what is held is as it was: no writing and no renaming was asked for while a name is held
 abbrev pub Stays : Shelf → Shelf → Type 0
 Stays before after = (after.kept ≡ before.kept) × (before.failures ≤ after.failures) × (after.held ≡ before.held)
 
@@ -122,16 +138,16 @@ pub record IsRenamed (from to : List ℕ) (before after : Names) : Type 0 where
 abbrev pub new_name : List ℕ → List ℕ
 new_name name = name ++ codes ".new"
 
--- no name was held, and this one is now. What stands under it, and under the name of the writing, is what other runs left until now; no other name stands for something else.
+-- no name was held, and this one is now. What stands under it, and under the name of the writing, is what other runs left until now, and nothing that this run wrote; no other name stands for something else.
 pub record IsNowHeld (name : List ℕ) (before after : Shelf) : Type 0 where
-  pub free : before.held ≡ None
-  pub held : after.held ≡ Some name
+  pub free : before.held ≡ Free
+  pub held : after.held ≡ Untouched name
   pub failures : after.failures ≡ before.failures
   pub others : (other : List ℕ) → other ≢ name → other ≢ new_name name → after.kept other ≡ before.kept other
 
 -- no name was held before, and this one is after
 abbrev pub IsHeldAlone : List ℕ → Shelf → Shelf → Type 0
-IsHeldAlone name before after = (before.held ≡ None) × (after.held ≡ Some name)
+IsHeldAlone name before after = (before.held ≡ Free) × ((after.held ≡ Untouched name) ⊎ (after.held ≡ Touched name))
 
 -- a file is not stored for want of a place: the name, or that of the writing, can stand for no file
 abbrev pub HasNoPlace : List ℕ → Names → Type 0

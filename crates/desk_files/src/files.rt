@@ -1,7 +1,7 @@
 //! Files by name.
 
-ghost use Rattle.std.specs.Prelude.{◌≢◌, ◌≤◌, ◌⊎◌, IfErr, IfOk, IsErrOf, None, ◌≡◌, length};
-ghost use Rattle.desk_files.specs.Files.{Counts, IsGone, IsNowHeld, IsNowhere, IsRenamed, IsWritten, Reads, Shelf, Spares, Stays, bytes_read, max_file, shelf};
+ghost use Rattle.std.specs.Prelude.{◌≢◌, ◌≤◌, ◌⊎◌, IfErr, IfOk, IsErrOf, ◌≡◌, length};
+ghost use Rattle.desk_files.specs.Files.{Counts, IsGone, IsNowHeld, IsNowhere, IsRenamed, IsWritten, Reads, Shelf, Spares, Stays, bytes_read, max_file, shelf, touched};
 
 use std::alloc::Allocator;
 use thiserror::Error;
@@ -29,7 +29,8 @@ pub enum FileRefusal {
 pub trait Files {
     ghost use Rattle.desk_files.specs.declared.files.FileRefusal.{FileRefusal};
 
-    /// What each name stands for, as far as the files can tell, how often the device has failed, and the name that is held.
+    /// What each name stands for, as far as the files can tell, how often the device has failed, and the name that is held,
+    /// with whether this run has asked for a writing or a renaming since.
     ghost shelf: { Self → Shelf };
 
     /// How often the device has failed. It stays at its greatest value.
@@ -63,7 +64,7 @@ pub trait Files {
         ensures small { IfErr result (λ e. e ≢ FileRefusal.Large) }
         ensures missing { IsErrOf result FileRefusal.Missing → IsNowhere ((shelf self.old).kept name.now) }
         ensures written { IfOk result (λ _. IsWritten bytes.now ((shelf self.old).kept name.now) ((shelf self.new).kept name.now)) }
-        ensures held { (shelf self.new).held ≡ (shelf self.old).held }
+        ensures held { (shelf self.new).held ≡ touched (shelf self.old).held }
         ensures others { Spares name.now (shelf self.old).kept (shelf self.new).kept };
 
     /// Gives a file another name, in place of a file that had it. A refused call changes no file. `Missing` comes only
@@ -73,7 +74,7 @@ pub trait Files {
         ensures small { IfErr result (λ e. e ≢ FileRefusal.Large) }
         ensures missing { IsErrOf result FileRefusal.Missing → IsGone ((shelf self.old).kept from.now) ⊎ IsNowhere ((shelf self.old).kept to.now) }
         ensures renamed { IfOk result (λ _. IsRenamed from.now to.now (shelf self.old).kept (shelf self.new).kept) }
-        ensures held { (shelf self.new).held ≡ (shelf self.old).held }
+        ensures held { (shelf self.new).held ≡ touched (shelf self.old).held }
         ensures refused { IfErr result (λ _. (shelf self.new).kept ≡ (shelf self.old).kept) };
 }
 
@@ -82,9 +83,9 @@ pub trait Files {
 pub struct NoFiles;
 
 impl Files for NoFiles {
-    ghost use Rattle.desk_files.specs.Files.{Nowhere};
+    ghost use Rattle.desk_files.specs.Files.{Free, Nowhere};
 
-    ghost shelf = { λ _. shelf (λ _. Nowhere) 0 None };
+    ghost shelf = { λ _. shelf (λ _. Nowhere) 0 Free };
 
     fn failures(&self) -> u64 {
         0

@@ -1,7 +1,7 @@
 //! A file that is replaced as a whole.
 
 ghost use Rattle.std.specs.Prelude.{◌≡◌, ◌≢◌, ◌≤◌, IfErr, IfOk, IsErrOf, OnErr, OnOk, string_bytes};
-ghost use Rattle.desk_files.specs.Files.{Counts, HasNoPlace, IsReplaced, Spares, new_name};
+ghost use Rattle.desk_files.specs.Files.{Counts, HasNoPlace, HoldsOn, IsReplaced, Spares, new_name, touched};
 
 use crate::files::{FileRefusal, Files};
 use std::alloc::{AllocError, Allocator};
@@ -27,7 +27,8 @@ pub fn store<F: Files, A: Allocator + Copy>(
     ensures small { IfErr result (λ e. e ≢ FileRefusal.Large) }
     ensures missing { IsErrOf result FileRefusal.Missing → HasNoPlace name.now (F.shelf files.old).kept }
     ensures counted { Counts result (F.shelf files.old) (F.shelf files.new) }
-    ensures held { (F.shelf files.new).held ≡ (F.shelf files.old).held }
+    ensures held { HoldsOn (F.shelf files.old).held (F.shelf files.new).held }
+    ensures touched { OnOk result ((F.shelf files.new).held ≡ touched (F.shelf files.old).held) }
     ensures ok { OnOk result (IsReplaced name.now bytes.now (F.shelf files.old).kept (F.shelf files.new).kept) }
     ensures err { OnErr result (Spares (new_name name.now) (F.shelf files.old).kept (F.shelf files.new).kept) }
 {

@@ -1,8 +1,8 @@
 //! A reader, a writer and files in memory, which fail where they are told to. For tests.
 
-ghost use Rattle.std.specs.Prelude.{◌≡◌, ◌≤◌, ◌<◌, ◌≢◌, IfErr, IfOk, IsErrOf, IsFalse, IsTrue, None, ◌+◌, min, nat_eq, Some, length, option_map, string_bytes};
-ghost use Rattle.desk_files.specs.Files.{HasRisen, IsGone, IsRenamed, max_file, shelf};
-ghost use Rattle.desk_files.specs.Trial.{IsPut, bytes_in, kept_in};
+ghost use Rattle.std.specs.Prelude.{◌≡◌, ◌≤◌, ◌<◌, ◌≢◌, IfErr, IfOk, IsErrOf, IsFalse, IsTrue, ◌+◌, min, nat_eq, Some, length, option_map, string_bytes};
+ghost use Rattle.desk_files.specs.Files.{Free, HasRisen, IsGone, IsRenamed, max_file, shelf, touched};
+ghost use Rattle.desk_files.specs.Trial.{IsPut, bytes_in, held_in, kept_in};
 
 use crate::files::{FileRefusal, Files, MAX_FILE};
 use std::alloc::{AllocError, Allocator};
@@ -167,6 +167,13 @@ fn bytes_in<'a, A: Allocator + Copy>(changes: &'a [FileChange<A>], name: &str) -
     }
 }
 
+/// A name that is held, and whether a writing or a renaming was asked for since.
+#[derive(Drop)]
+struct HeldName<A: Allocator + Copy> {
+    name: String<A>,
+    is_touched: bool,
+}
+
 /// Files in memory, of which one call may fail. There are no folders.
 #[derive(Drop)]
 pub struct TrialFiles<A: Allocator + Copy> {
@@ -175,7 +182,7 @@ pub struct TrialFiles<A: Allocator + Copy> {
     calls: u64,
     failing_call: u64,
     failures: u64,
-    held: Option<String<A>>,
+    held: Option<HeldName<A>>,
 }
 
 impl<A: Allocator + Copy> TrialFiles<A> {
@@ -201,7 +208,7 @@ impl<A: Allocator + Copy> TrialFiles<A> {
 
     /// The files as the next run finds them: the name that was held is free.
     pub fn for_next_run(self) -> Self
-        ensures free { result.held ≡ None }
+        ensures free { held_in result.held ≡ Free }
         ensures files { result.changes ≡ self.changes }
     {
         TrialFiles { held: None, ..self }
@@ -258,6 +265,18 @@ impl<A: Allocator + Copy> TrialFiles<A> {
         true
     }
 
+    /// A writing or a renaming was asked for.
+    fn touch(&mut self)
+        ensures held { held_in self.new.held ≡ touched (held_in self.old.held) }
+        ensures failures { self.new.failures ≡ self.old.failures }
+        ensures calls { (self.new.calls ≡ self.old.calls) × (self.new.failing_call ≡ self.old.failing_call) }
+        ensures changes { self.new.changes ≡ self.old.changes }
+    {
+        if let Some(held) = &mut self.held {
+            held.is_touched = true;
+        }
+    }
+
     /// Gives a file another name, in place of a file that had it.
     fn move_file(&mut self, from: &str, to: &str) -> Result<(), FileRefusal>
         ensures device { IfErr result (λ e. (e ≢ FileRefusal.Device) × (e ≢ FileRefusal.Large)) }
@@ -285,7 +304,7 @@ impl<A: Allocator + Copy> TrialFiles<A> {
 }
 
 impl<A: Allocator + Copy> Files for TrialFiles<A> {
-    ghost shelf = { λ f. shelf (kept_in f.changes.items) f.failures (option_map string_bytes f.held) };
+    ghost shelf = { λ f. shelf (kept_in f.changes.items) f.failures (held_in f.held) };
 
     fn failures(&self) -> u64 {
         self.failures
@@ -302,7 +321,10 @@ impl<A: Allocator + Copy> Files for TrialFiles<A> {
         let Ok(name) = String::from_str(self.alloc, name) else {
             return Err(FileRefusal::NoMemory);
         };
-        self.held = Some(name);
+        self.held = Some(HeldName {
+            name,
+            is_touched: false,
+        });
         Ok(())
     }
 
@@ -321,6 +343,7 @@ impl<A: Allocator + Copy> Files for TrialFiles<A> {
     }
 
     fn write_new(&mut self, name: &str, bytes: &[u8]) -> Result<(), FileRefusal> {
+        self.touch();
         if self.fails() {
             return Err(FileRefusal::Device);
         }
@@ -331,6 +354,7 @@ impl<A: Allocator + Copy> Files for TrialFiles<A> {
     }
 
     fn rename(&mut self, from: &str, to: &str) -> Result<(), FileRefusal> {
+        self.touch();
         if self.fails() {
             return Err(FileRefusal::Device);
         }

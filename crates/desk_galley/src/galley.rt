@@ -1,6 +1,6 @@
 //! The galley of a copy: all its lines, one by one.
 
-ghost use Rattle.std.specs.Prelude.{◌≡◌, ◌+◌, ◌≤◌, ◌<◌, ◌^◌, ◌∷◌, [], length, All, OnOk, IfOk, IfErr};
+ghost use Rattle.std.specs.Prelude.{◌≡◌, ◌+◌, ◌≤◌, ◌<◌, ◌^◌, ◌∷◌, [], length, All, OnOk, IfOk, IfErr, IsErrOf};
 ghost use Rattle.desk_lines.specs.Groups.{AreWidths};
 ghost use Rattle.desk_job.specs.Answer.{AreValues, by_key};
 ghost use Rattle.desk_job.specs.Job as job;
@@ -157,7 +157,9 @@ fn add_paragraphs<A: Allocator + Copy>(
 ) -> Result<(), NoMemory>
     requires copy { length copy.now ≤ 2 ^ 20 }
     requires words { All (AreWordsOf copy.now) found.now }
-    ensures { OnOk result (lines.new.items ≡ with_lines terms.now copy.now lines.old.items (all_placed terms.now copy.now found.now)) }
+    ensures ok { OnOk result (lines.new.items ≡ with_lines terms.now copy.now lines.old.items (all_placed terms.now copy.now found.now)) }
+    // No paragraphs take no memory.
+    ensures memory { IfErr result (λ _. 1 ≤ length found.now) }
 {
     for paragraph in found {
         add_paragraph(lines, alloc, terms, copy, paragraph.words())?;
@@ -172,7 +174,9 @@ fn all_lines<A: Allocator + Copy>(
     copy: &[Symbol],
 ) -> Result<Vec<Line<A>, A>, NoMemory>
     requires { length copy.now ≤ 2 ^ 20 }
-    ensures { IfOk result (λ lines. lines.items ≡ galley_of terms.now copy.now) }
+    ensures ok { IfOk result (λ lines. lines.items ≡ galley_of terms.now copy.now) }
+    // No symbols take no memory.
+    ensures memory { IfErr result (λ _. 1 ≤ length copy.now) }
 {
     let found = paragraphs(alloc, copy)?;
     let mut lines = Vec::new(alloc);
@@ -180,9 +184,24 @@ fn all_lines<A: Allocator + Copy>(
     Ok(lines)
 }
 
+/// The place of each symbol that the case lacks. An empty copy lacks none, and takes no memory.
+fn lacking_in<A: Allocator>(
+    alloc: A,
+    case: &MatrixCase,
+    copy: &[Symbol],
+) -> Result<Vec<JobFault, A>, NoMemory>
+    ensures ok { IfOk result (λ faults. faults.items ≡ job.lacking case.now 0 copy.now) }
+    ensures memory { IfErr result (λ _. 1 ≤ length copy.now) }
+{
+    if copy.is_empty() {
+        return Ok(Vec::new(alloc));
+    }
+    lacking(alloc, case, copy)
+}
+
 /// The galley of a copy of at most 1,048,576 symbols: each line of the job as it is set, or as it fails, and the place of
 /// each symbol that the case lacks. There is none where a setting has no value, or settings, case and wedge do not go
-/// together, and for no other cause; out of memory comes only where they go together.
+/// together, and for no other cause; out of memory comes only where they go together, and of a copy that is not empty.
 pub fn make_galley<'a, A: Allocator + Copy>(
     alloc: A,
     copy: &[Symbol],
@@ -198,13 +217,15 @@ pub fn make_galley<'a, A: Allocator + Copy>(
     ensures stands { IfOk result (λ g. All (Stands copy.now case.now) g.lines) }
     ensures err { IfErr result (λ why. IsRefused why (job.job copy.now (by_key settings.now) case.now wedge.now)) }
     ensures terms { IfErr result (λ why. IsOfTerms why (no_terms case.now wedge.now (job.values_of (by_key settings.now)))) }
+    // No symbols take no memory.
+    ensures memory { IsErrOf result refusal.NoMemory → 1 ≤ length copy.now }
 {
     let values = match given(settings) {
         Ok(values) => values,
         Err(key) => return Err(GalleyRefusal::Fault(JobFault::MissingSetting(key))),
     };
     let terms = Terms::new(case, wedge, values)?;
-    let lacking = lacking(alloc, case, copy)?;
+    let lacking = lacking_in(alloc, case, copy)?;
     let lines = all_lines(alloc, &terms, copy)?;
     Ok(Galley {
         wedge,

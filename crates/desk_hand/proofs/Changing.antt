@@ -1,15 +1,19 @@
 -- Changes of a copy, made one after the other.
-use Rattle.std.proofs.Common.{◌≡◌, inl, inr, ℕ, suc, ◌+◌, ◌<◌, ◌≤◌, Bool, true, false, cond, List, [], ◌∷◌, ◌++◌, Option, Some, None, length, map, take, drop, get_or, refl, sym, ap, ap₂, ◌∙◌, subst, arith, length-append, take-append-drop, add-one, drop-cons}
+use Rattle.std.proofs.Common.{◌≡◌, inl, inr, ℕ, zero, suc, ◌+◌, ◌<◌, ◌≤◌, Bool, true, false, cond, List, [], ◌∷◌, ◌++◌, Option, Some, None, length, map, take, drop, get_or, refl, sym, ap, ap₂, ◌∙◌, subst, arith, length-append, take-append-drop, add-one, drop-cons}
 use Rattle.std.specs.Prelude.{◌≢◌, ◌==◌, not, nat_le, nat_lt}
+use Rattle.std.specs.List.{All, slice_get}
+use Rattle.std.proofs.lemmas.List.Elements.{All-head, All-tail}
 use Rattle.std.proofs.lemmas.List.{drop-map, length-map, map-append, take-map, take_more}
 use Rattle.desk_ops.specs.declared.op.Op.{Op}
 use Rattle.desk_ops.specs.declared.op.Symbol.{Symbol}
 use Rattle.desk_ops.specs.Stamp.{max_counter}
-use Rattle.desk_ops.specs.Op.{Insertion, is_symbol, stamp_of}
+use Rattle.desk_ops.specs.Op.{Insertion, IsSymbol, is_symbol, stamp_of}
+use Rattle.desk_ops.proofs.Lawful.{symbol_true}
 use Rattle.desk_ops.specs.OpSet.{OpSet, max_ops, size, with_op}
 use Rattle.desk_ops.specs.Held.{greatest_counter_of}
 use Rattle.desk_ops.specs.Shown.{copy_of, shown_of}
-use Rattle.desk_changes.specs.Changes.{all_changed, and_then, changed}
+use Rattle.desk_text.specs.Laws.{AreLawful}
+use Rattle.desk_changes.specs.Changes.{AddsOf, AreSparing, all_changed, and_then, between, changed}
 use Rattle.desk_changes.specs.declared.making.Change.{Change}
 use Rattle.desk_changes.specs.declared.making.Change.TheVariants as changes
 use Rattle.desk_replica.specs.Edits.{IsDeleted, IsInserted, delete_refusal, edit_refusal, insert_refusal, new_insert}
@@ -19,7 +23,7 @@ use Rattle.desk_replica.specs.declared.Refusal.TheVariants as refusals
 use Rattle.desk_hand.specs.Faults.{refusal_of}
 use Rattle.desk_hand.specs.declared.fault.RevisionFault.{RevisionFault}
 use Rattle.desk_hand.specs.declared.fault.RevisionFault.TheVariants as revisions
-use Rattle.desk_hand.specs.Editing.{AreMade, IsMade, IsRefusedAmong, IsRefusedBy, IsRevised, IsUnrevised, change_refusal, deletes_of, insert_count, delete_count, inserts_of}
+use Rattle.desk_hand.specs.Editing.{AreMade, IsMade, IsRefusedAmong, IsRefusedBy, IsRevised, IsSparing, IsUnrevised, change_refusal, deletes_of, insert_count, delete_count, inserts_of}
 use Rattle.desk_hand.proofs.Sites.{all_counted, deletes_more, deletes_of_more, extends_more, inserts_more, inserts_of_more, own_more, with_more}
 
 -- ---- one change
@@ -168,11 +172,48 @@ pub placed : (site : ℕ) (old now : OpSet) (text : List Symbol) (made : List Ch
 placed site old now text made why makes among place = never_placeless site old now text made makes (subst (λ w. IsRefusedAmong site old now made w) place among)
 
 pub unrevised : (site : ℕ) (old now : OpSet) (text : List Symbol) (made : List Change) (fault : RevisionFault) → all_changed made (copy_of old) ≡ Some text
-    → IsRefusedAmong site old now made (refusal_of fault) → IsUnrevised site old now text fault
-unrevised site old now text made revisions.NoMemory makes among = inr (made, makes, among)
-unrevised site old now text made revisions.Full makes among = (made, makes, among)
-unrevised site old now text made revisions.ClockFull makes among = (made, makes, among)
-unrevised site old now text made revisions.Value makes among = (made, makes, among)
+    → AreSparing (copy_of old) text made → IsRefusedAmong site old now made (refusal_of fault) → IsUnrevised site old now text fault
+unrevised site old now text made revisions.NoMemory makes sparing among = inr (made, makes, sparing, among)
+unrevised site old now text made revisions.Full makes sparing among = (made, makes, sparing, among)
+unrevised site old now text made revisions.ClockFull makes sparing among = (made, makes, sparing, among)
+unrevised site old now text made revisions.Value makes sparing among = (made, makes, sparing, among)
+
+-- so many operations are made as there are changes, and these are sparing
+pub sparing_made : (from to : List Symbol) (made : List Change) (inserted deleted : ℕ) → inserted ≡ inserts_of made → deleted ≡ deletes_of made → AreSparing from to made → IsSparing from to (inserted + deleted)
+sparing_made from to made inserted deleted is are sparing =
+    (sparing.front, sparing.back, sparing.begins, sparing.ends, few_made made inserted deleted (between (sparing.front + sparing.back) from + between (sparing.front + sparing.back) to) is are sparing.few)
+
+-- ---- a text that is lawful
+
+never_value : (is_full is_late : Bool) → cond is_full (Some refusals.Full) (cond is_late (Some refusals.ClockFull) None) ≡ Some refusals.Value → ⊥
+never_value true is_late e = cc
+never_value false true e = cc
+never_value false false e = cc
+
+is_lawful : (set : OpSet) (is_there is_value : Bool) → is_value ≡ true → edit_refusal set is_there is_value ≡ Some refusals.Value → ⊥
+is_lawful set false is_value lawful e = cc
+is_lawful set true false lawful e = cc
+is_lawful set true true lawful e = never_value (size set == max_ops) (nat_le max_counter (greatest_counter_of set)) e
+
+lawful_at : (text : List Symbol) (place : ℕ) (symbol : Symbol) → AreLawful text → slice_get text place ≡ Some symbol → IsSymbol symbol
+lawful_at [] place symbol lawful at = absurd (let e : None ≡ Some symbol = at in cc)
+lawful_at (s ∷ text) zero symbol lawful at = subst (λ (y : Symbol). IsSymbol y) (let e : Some s ≡ Some symbol = at in cc) lawful.0
+lawful_at (s ∷ text) (suc place) symbol lawful at = lawful_at text place symbol lawful.1 at
+
+valued : (set : OpSet) (text : List Symbol) (change : Change) → AreLawful text → AddsOf text change → change_refusal set change ≡ Some refusals.Value → ⊥
+valued set text (changes.Delete place) lawful adds refused = is_lawful set (nat_lt place (length (shown_of set))) true refl refused
+valued set text (changes.Insert place symbol) lawful adds refused =
+    is_lawful set (nat_le place (length (shown_of set))) (is_symbol symbol) (symbol_true symbol (lawful_at text place symbol lawful adds)) refused
+
+one_of : (P : Change → Type 0) (front tail : List Change) (next : Change) → All P (front ++ next ∷ tail) → P next
+one_of P [] tail next all = All-head P next tail all
+one_of P (c ∷ front) tail next all = one_of P front tail next (All-tail P c (front ++ next ∷ tail) all)
+
+-- no change that inserts symbols of a lawful text is refused for its value
+pub valueless : (site : ℕ) (old now : OpSet) (text : List Symbol) (made : List Change) (why : Refusal) → AreLawful text → All (AddsOf text) made → IsRefusedAmong site old now made why → why ≢ refusals.Value
+valueless site old now text made why lawful adds (front, tail, next, is, ops, all, inr (memory, none)) value = let e : refusals.NoMemory ≡ refusals.Value = sym memory ∙ value in cc
+valueless site old now text made why lawful adds (front, tail, next, is, ops, all, inl refused) value =
+    valued now text next lawful (one_of (AddsOf text) front tail next (subst (λ (l : List Change). All (AddsOf text) l) is adds)) (refused ∙ ap Some value)
 
 -- ---- no changes
 

@@ -1,5 +1,5 @@
 -- Feeds joined one after the other.
-use Rattle.std.proofs.Common.{◌≡◌, ℕ, ◌+◌, ◌-◌, ◌<◌, List, [], ◌∷◌, ◌++◌, length, map, take, drop, get_or, refl, sym, ap, ap₂, subst, ◌∙◌, append_assoc, arith, take-append-drop, add-one, drop-cons}
+use Rattle.std.proofs.Common.{◌≡◌, ℕ, ◌+◌, ◌-◌, ◌<◌, List, [], ◌∷◌, ◌++◌, length, map, take, drop, get_or, inr, refl, sym, ap, ap₂, subst, ◌∙◌, append_assoc, arith, take-append-drop, add-one, drop-cons}
 use Rattle.std.proofs.lemmas.List.{append-nil, length-map, length-take-le, map-append, map_more}
 use Rattle.desk_ops.specs.declared.op.Op.{Op}
 use Rattle.desk_ops.specs.OpSet.{OpSet, size, with_all}
@@ -58,7 +58,7 @@ counted_is name old after ops count counted is =
 pub refused : (set after : OpSet) (name : List ℕ) (before last : Shelf) (ops : List Op) (stop : Stopped) (why : AddRefusal) → stop.why ≡ why → IsFeedOf (before.kept name) ops
     → last.failures ≡ before.failures → IsStopped set after ops stop → Refuses set name before last (of_adding why)
 refused set after name before last ops stop adds.Full is feed counted stopped = (ops, feed, counted, (after, stop, stopped, stopped.full.0 is))
-refused set after name before last ops stop adds.NoMemory is feed counted stopped = (feed.0, (feed.1, counted))
+refused set after name before last ops stop adds.NoMemory is feed counted stopped = (feed.0, (feed.1, counted), inr (ops, feed.2))
 
 -- ---- names as they are given
 

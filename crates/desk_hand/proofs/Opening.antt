@@ -1,5 +1,5 @@
 -- A feed that is read and opened, or not.
-use Rattle.std.proofs.Common.{◌≡◌, ◌<◌, ℕ, List, refl}
+use Rattle.std.proofs.Common.{◌≡◌, ◌<◌, ℕ, List, inr, refl}
 use Rattle.std.specs.Prelude.{◌≢◌}
 use Rattle.desk_ops.specs.declared.op.Op.{Op}
 use Rattle.desk_ops.specs.OpSet.{OpSet, max_ops, no_ops, size, with_all}
@@ -23,7 +23,7 @@ closed_by name before after troubles.NoMemory refuses never = refuses no_ops
 pub crowded : (name : List ℕ) (before after : Shelf) (ops : List Op) (why : AddRefusal) → IsFeedOf (before.kept name) ops → after.failures ≡ before.failures → (why ≡ adds.Full → max_ops < size (with_all no_ops ops))
     → IsClosedBy name before after (of_adding why)
 crowded name before after ops adds.Full feed counted full = (ops, feed, counted, full refl)
-crowded name before after ops adds.NoMemory feed counted full = (feed.0, (feed.1, counted))
+crowded name before after ops adds.NoMemory feed counted full = (feed.0, (feed.1, counted), inr (ops, feed.2))
 
 -- why a stored feed that was read is not opened
 pub shut : (name : List ℕ) (held last : Shelf) (why : OpenFault) → IsShut name held last why → IsBarredBy name held last (of_opening why)

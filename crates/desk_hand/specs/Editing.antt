@@ -1,5 +1,5 @@
 -- Changes of a copy, made by operations of one site.
-use Rattle.std.specs.Prelude.{◌≡◌, ◌⊎◌, ℕ, ◌+◌, true, List, [], ◌∷◌, ◌++◌, length, Option, None, Some}
+use Rattle.std.specs.Prelude.{◌≡◌, ◌≤◌, ◌⊎◌, ℕ, ◌+◌, true, List, [], ◌∷◌, ◌++◌, length, Option, None, Some}
 use Rattle.desk_ops.specs.declared.op.Stamp.{Stamp}
 use Rattle.desk_ops.specs.declared.op.Symbol.{Symbol}
 use Rattle.desk_ops.specs.declared.op.Op.{Op}
@@ -8,7 +8,8 @@ use Rattle.desk_ops.specs.Op.{stamp_of}
 use Rattle.desk_ops.specs.OpSet.{OpSet, IsWithin, has_op, with_all, with_op}
 use Rattle.desk_ops.specs.Held.{greatest_counter_of}
 use Rattle.desk_ops.specs.Shown.{copy_of}
-use Rattle.desk_changes.specs.Changes.{all_changed, changed}
+use Rattle.desk_changes.specs.Changes.{AreSparing, all_changed, between, changed}
+use Rattle.desk_changes.specs.Ends.{IsSharedEnd, IsSharedFront}
 use Rattle.desk_changes.specs.declared.making.Change.{Change}
 use Rattle.desk_changes.specs.declared.making.Change.TheVariants as changes
 use Rattle.desk_replica.specs.Edits.{delete_refusal, insert_refusal}
@@ -91,12 +92,12 @@ pub record AreMade (site : ℕ) (old now : OpSet) (made : List Change) (ops : Li
   pub deletes : deletes_in ops ≡ deletes_of made
   pub copy : all_changed made (copy_of old) ≡ Some (copy_of now)
 
--- the first cause that refuses a change in a set, want of memory aside
+-- the first cause that refuses a change in a set, out of memory aside
 abbrev pub change_refusal : OpSet → Change → Option Refusal
 change_refusal set (changes.Insert place symbol) = insert_refusal set place symbol
 change_refusal set (changes.Delete place) = delete_refusal set place
 
--- a set refuses a change, and the first cause is told; or it does not, and memory ran out
+-- a set refuses a change, with this first cause; or it does not, and memory ran out
 abbrev pub IsRefusedBy : OpSet → Change → Refusal → Type 0
 IsRefusedBy set change why = (change_refusal set change ≡ Some why) ⊎ ((why ≡ refusals.NoMemory) × (change_refusal set change ≡ None))
 
@@ -118,9 +119,13 @@ pub record IsRevised (site : ℕ) (old now : OpSet) (text : List Symbol) (insert
   pub deletes : deletes_in ops ≡ deleted
   pub all : inserted + deleted ≡ length ops
 
--- of changes that make the copy a text one is refused with this cause, and the set is what those before it made of the old one
+-- no more than two copies have symbols between what both begin with and what both end with
+abbrev pub IsSparing : List Symbol → List Symbol → ℕ → Type 0
+IsSparing from to count = (front back : ℕ) × IsSharedFront from to front × IsSharedEnd from to front back × (count ≤ between (front + back) from + between (front + back) to)
+
+-- of changes that make the copy a text, and leave what both begin with, one is refused with this cause; and the set is what those before it made of the old one
 abbrev pub IsRefusedIn : ℕ → OpSet → OpSet → List Symbol → Refusal → Type 0
-IsRefusedIn site old now text why = (made : List Change) × (all_changed made (copy_of old) ≡ Some text) × IsRefusedAmong site old now made why
+IsRefusedIn site old now text why = (made : List Change) × (all_changed made (copy_of old) ≡ Some text) × AreSparing (copy_of old) text made × IsRefusedAmong site old now made why
 
 -- Why a copy does not become a text, and which set is left: a change is refused, and never for its place; or memory ran out, before any change was made or at one that the set does not refuse.
 abbrev pub IsUnrevised : ℕ → OpSet → OpSet → List Symbol → RevisionFault → Type 0

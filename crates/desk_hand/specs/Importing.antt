@@ -1,5 +1,5 @@
 -- The copy of a stored feed, made a text that is read.
-use Rattle.std.specs.Prelude.{◌≡◌, ◌<◌, ℕ, Bool, List, Option, IfSome, Result, Ok, Err, length}
+use Rattle.std.specs.Prelude.{◌≡◌, ◌≢◌, ◌≤◌, ◌<◌, ℕ, Bool, List, Option, IfSome, Result, Ok, Err, length}
 use Rattle.desk_ops.specs.declared.op.Symbol.{Symbol}
 use Rattle.desk_ops.specs.OpSet.{OpSet}
 use Rattle.desk_text.specs.Reading.{reading}
@@ -10,6 +10,7 @@ use Rattle.desk_hand.specs.Keeping.{IsKept, IsUnkept, edited_line}
 use Rattle.desk_hand.specs.Merging.{IsBarred, IsOpened}
 use Rattle.desk_hand.specs.declared.fault.InputFault.{InputFault}
 use Rattle.desk_hand.specs.declared.fault.InputFault.TheVariants as inputs
+use Rattle.desk_hand.specs.declared.fault.RevisionFault.TheVariants as revisions
 use Rattle.desk_hand.specs.declared.fault.ImportFault.{ImportFault}
 use Rattle.desk_hand.specs.declared.fault.ImportFault.TheVariants as imports
 
@@ -19,9 +20,9 @@ use Rattle.desk_hand.specs.declared.fault.ImportFault.TheVariants as imports
 abbrev pub max_text : ℕ
 max_text = 8388608
 
--- all that a reader has left, where that is known
+-- all that a reader has left, where that is known; and no more than a text may have
 abbrev pub IsInput : Option (List ℕ) → List ℕ → Type 0
-IsInput input bytes = IfSome input (λ known. bytes ≡ known)
+IsInput input bytes = (length bytes ≤ max_text) × IfSome input (λ known. bytes ≡ known)
 
 -- all that a reader has left is read as this copy; where all is plain, without marks
 abbrev pub IsReadAs : Bool → Option (List ℕ) → List Symbol → Type 0
@@ -46,14 +47,14 @@ IsImported name site plain first last input before after =
     (held : Shelf) × (read : Result (List ℕ) FileRefusal) × (old : OpSet) × IsOpened name first held read old
     × (set : OpSet) × (inserted deleted : ℕ) × TakesText site plain input old set inserted deleted × IsKept name set (edited_line inserted deleted) read held last before after
 
--- Why an import stopped, and what it left. Until the copy was made the text nothing was written, and the files are as they were when the feed was opened.
+-- Why an import stopped, and what it left. Until the copy was made the text nothing was written, and the files are as they were when the feed was opened. No edit is refused for its value, since what is read is lawful.
 abbrev pub IsUnimported : List ℕ → ℕ → Bool → Shelf → Shelf → Option (List ℕ) → Option (List ℕ) → Option (List ℕ) → ImportFault → Type 0
 IsUnimported name site plain first last input before after (imports.Take why) = (after ≡ before) × IsBarred name first last why
 IsUnimported name site plain first last input before after (imports.Input why) =
     (after ≡ before) × (read : Result (List ℕ) FileRefusal) × (old : OpSet) × IsOpened name first last read old × IsNoText plain input why
 IsUnimported name site plain first last input before after (imports.Revision why) =
     (after ≡ before) × (read : Result (List ℕ) FileRefusal) × (old : OpSet) × IsOpened name first last read old
-    × (text : List Symbol) × IsReadAs plain input text × (now : OpSet) × IsUnrevised site old now text why
+    × (text : List Symbol) × IsReadAs plain input text × (now : OpSet) × IsUnrevised site old now text why × (why ≢ revisions.Value)
 IsUnimported name site plain first last input before after (imports.Keep why) =
     (held : Shelf) × (read : Result (List ℕ) FileRefusal) × (old : OpSet) × IsOpened name first held read old
     × (set : OpSet) × (inserted deleted : ℕ) × TakesText site plain input old set inserted deleted × IsUnkept name (edited_line inserted deleted) held last before after why

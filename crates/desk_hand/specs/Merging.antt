@@ -11,7 +11,7 @@ use Rattle.desk_answers.specs.Reply.{Counted, Faults}
 use Rattle.desk_answers.specs.Text.{text}
 use Rattle.desk_files.specs.Files.{Counts, IsCounted, IsNowHeld, Kept, Names, Reads, Shelf, Stays}
 use Rattle.desk_files.specs.declared.files.FileRefusal.{FileRefusal}
-use Rattle.desk_stored.specs.Faults.{IsUnopened, IsUnread, IsUntaken}
+use Rattle.desk_stored.specs.Faults.{AskMemory, IsUnopened, IsUnread, IsUntaken}
 use Rattle.desk_stored.specs.Stored.{Opens}
 use Rattle.desk_stored.specs.declared.fault.OpenFault.{OpenFault}
 use Rattle.desk_stored.specs.declared.fault.OpenFault.TheVariants as openings
@@ -94,12 +94,12 @@ GaveBytes name before after bytes = Reads (before.kept name) (Ok bytes) × (afte
 abbrev pub IsFull : OpSet → List Op → Type 0
 IsFull set ops = (after : OpSet) × (stop : Stopped) × IsStopped set after ops stop × (size after ≡ max_ops)
 
--- why the feed of a file does not come into a set: out of memory too only where its bytes were read
+-- why the feed of a file does not come into a set: out of memory too only where its bytes were read, and are such that memory is asked for
 abbrev pub Refuses : OpSet → List ℕ → Shelf → Shelf → FeedTrouble → Type 0
 Refuses set name before after (troubles.File why) = Reads (before.kept name) (Err why) × IsCounted why before after
 Refuses set name before after (troubles.Feed fault) = (bytes : List ℕ) × GaveBytes name before after bytes × IsFirstFault bytes fault
 Refuses set name before after troubles.Full = (ops : List Op) × IsFeedOf (before.kept name) ops × (after.failures ≡ before.failures) × IsFull set ops
-Refuses set name before after troubles.NoMemory = (bytes : List ℕ) × GaveBytes name before after bytes
+Refuses set name before after troubles.NoMemory = (bytes : List ℕ) × GaveBytes name before after bytes × AskMemory bytes
 
 -- the feeds of the first names were joined, so many, and the next was refused: no file has changed, nor has the device failed, before that one was read
 abbrev pub StopsAt : List (List ℕ) → OpSet → Shelf → Shelf → ℕ → FeedTrouble → Type 0

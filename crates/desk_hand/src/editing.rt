@@ -4,7 +4,8 @@ ghost use Rattle.std.specs.Prelude.{◌≡◌, ◌≢◌, ◌+◌, ◌≤◌, If
 ghost use Rattle.desk_ops.specs.declared.op.Op.{Op};
 ghost use Rattle.desk_ops.specs.Shown.{copy_of};
 ghost use Rattle.desk_hand.specs.Faults.{refusal_of};
-ghost use Rattle.desk_hand.specs.Editing.{AreMade, IsMade, IsRefusedAmong, IsRefusedBy, IsRevised, IsUnrevised, deletes_of, inserts_of};
+ghost use Rattle.desk_text.specs.Laws.{AreLawful};
+ghost use Rattle.desk_hand.specs.Editing.{AreMade, IsMade, IsRefusedAmong, IsRefusedBy, IsRevised, IsSparing, IsUnrevised, deletes_of, inserts_of};
 
 use crate::fault::RevisionFault;
 use desk_blocks::Blocks;
@@ -87,9 +88,9 @@ fn fault_of(why: Refusal) -> RevisionFault
 }
 
 /// Makes the copy of a replica a text, by operations of its site alone, never more than the copy and the text have
-/// symbols together. Where the text is the copy already nothing changes, and only memory can run out. A change that is
+/// symbols together between what both begin with, which stays, and what both end with. Where the text is the copy already nothing changes, and only memory can run out. A change that is
 /// refused leaves those before it made, and no other; the fault is the first cause for which the set that they left
-/// refuses it, and that is never its place. Out of memory comes only where that set does not refuse the change, or where
+/// refuses it, and that is never its place, nor its value where the text is lawful. Out of memory comes only where that set does not refuse the change, or where
 /// nothing has changed.
 pub fn revise<A: Allocator + Copy>(
     alloc: A,
@@ -99,9 +100,11 @@ pub fn revise<A: Allocator + Copy>(
     ensures site { replica.new.site ≡ replica.old.site }
     ensures ok { IfOk result (λ t. IsRevised replica.old.site replica.old.ops replica.new.ops text.now t.inserted t.deleted) }
     ensures few { IfOk result (λ t. t.inserted + t.deleted ≤ length (copy_of replica.old.ops) + length text.now) }
+    ensures sparing { IfOk result (λ t. IsSparing (copy_of replica.old.ops) text.now (t.inserted + t.deleted)) }
     ensures none { copy_of replica.old.ops ≡ text.now → replica.new.ops ≡ replica.old.ops }
     ensures unrefused { copy_of replica.old.ops ≡ text.now → IfErr result (λ e. e ≡ RevisionFault.NoMemory) }
     ensures err { IfErr result (IsUnrevised replica.old.site replica.old.ops replica.new.ops text.now) }
+    ensures value { AreLawful text.now → IfErr result (λ e. e ≢ RevisionFault.Value) }
 {
     let copy = replica.copy()?;
     let made = changes(alloc, &copy, text)?;

@@ -2,6 +2,7 @@
 
 ghost use Rattle.std.specs.Prelude.{◌≡◌, ◌≤◌, ◌⊎◌, Bool, IfErr, IfOk, OnOk, length};
 ghost use Rattle.desk_files.specs.Files.{IsHeldAlone, Stays};
+ghost use Rattle.desk_text.specs.Laws.{AreLawful};
 ghost use Rattle.desk_hand.specs.Importing.{IsImported, IsInput, IsNoText, IsReadAs, IsUnimported};
 
 use crate::editing::revise;
@@ -55,6 +56,7 @@ fn text_from<R: Read, A: Allocator + Copy>(
     plain: bool,
 ) -> Result<Vec<Symbol, A>, InputFault>
     ensures ok { IfOk result (λ v. IsReadAs plain (R.remaining reader.old) v.items) }
+    ensures lawful { IfOk result (λ v. AreLawful v.items) }
     ensures err { IfErr result (IsNoText plain (R.remaining reader.old)) }
 {
     let bytes = read_whole(alloc, reader)?;
@@ -64,7 +66,7 @@ fn text_from<R: Read, A: Allocator + Copy>(
 /// Makes the copy of a stored feed the text that a reader has left, whole: with marks for its styles as `desk_text` reads
 /// it, or plain. The name of the feed is taken first and for this run alone; a missing one holds nothing. Each change is
 /// an operation of the site, and no other is made; nothing that the feed held is lost. The line `ok inserted 12 deleted 7`
-/// is written, and then the feed is stored, unless the file has these bytes. `Input` tells the first fault of the text, or
+/// is written, and then the feed is stored, unless the file has these bytes. `Input` has the first fault of the text, or
 /// that it has more than `MAX_TEXT` bytes, and `Revision` that the feed would have more operations than a replica holds, or
 /// counters above the greatest. Until the line is written no file has changed, and where the feed is not stored
 /// none but `name.new`.

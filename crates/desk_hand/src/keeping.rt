@@ -1,6 +1,7 @@
 //! What was done is written, and the feed of a replica stored.
 
 ghost use Rattle.std.specs.Prelude.{◌≡◌, IfErr, IfOk, OnOk, string_bytes};
+ghost use Rattle.desk_files.specs.Files.{HoldsOn};
 ghost use Rattle.desk_stored.specs.Stored.{was_read};
 ghost use Rattle.desk_hand.specs.Keeping.{IsKept, IsUnkept, edited_line};
 
@@ -40,7 +41,7 @@ pub fn write_and_keep<W: Write, F: Files, A: Allocator + Copy>(
 ) -> Result<(), KeepFault>
     ensures ok { OnOk result (IsKept name.now replica.now.ops text.now (was_read old.now) (F.shelf files.old) (F.shelf files.new) (W.contents writer.old) (W.contents writer.new)) }
     ensures err { IfErr result (IsUnkept name.now text.now (F.shelf files.old) (F.shelf files.new) (W.contents writer.old) (W.contents writer.new)) }
-    ensures held { (F.shelf files.new).held ≡ (F.shelf files.old).held }
+    ensures held { HoldsOn (F.shelf files.old).held (F.shelf files.new).held }
 {
     write_out(writer, text)?;
     Ok(keep_replica(alloc, replica, files, name, old)?)
@@ -58,7 +59,7 @@ pub fn tell_and_keep<W: Write, F: Files, A: Allocator + Copy>(
 ) -> Result<(), KeepFault>
     ensures ok { OnOk result (IsKept name.now replica.now.ops (edited_line tally.inserted tally.deleted) (was_read old.now) (F.shelf files.old) (F.shelf files.new) (W.contents writer.old) (W.contents writer.new)) }
     ensures err { IfErr result (IsUnkept name.now (edited_line tally.inserted tally.deleted) (F.shelf files.old) (F.shelf files.new) (W.contents writer.old) (W.contents writer.new)) }
-    ensures held { (F.shelf files.new).held ≡ (F.shelf files.old).held }
+    ensures held { HoldsOn (F.shelf files.old).held (F.shelf files.new).held }
 {
     let line = edited_line(alloc, tally)?;
     write_and_keep(alloc, replica, line.as_bytes(), writer, files, name, old)

@@ -8,7 +8,7 @@ use desk_ops::{Op, Stamp};
 use desk_pages::Pick;
 use desk_slots::Slot;
 
-/// Whether the first operation comes before the second. Their stamps tell it, but where these are one.
+/// Whether the first operation comes before the second. Their stamps decide it, but where these are one.
 fn is_earlier(a: &Op, b: &Op) -> bool
     ensures { result ≡ is_lt (op_cmp a.now b.now) }
 {

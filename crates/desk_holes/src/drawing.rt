@@ -3,6 +3,7 @@
 ghost use Rattle.std.specs.Prelude.{◌≡◌, IfErr, IfOk, OnOk, string_bytes};
 ghost use Rattle.desk_caster.specs.Reading.{Tells};
 ghost use Rattle.desk_caster.specs.declared.RibbonFault.TheVariants as fault;
+ghost use Rattle.desk_files.specs.Files.{HoldsOn};
 ghost use Rattle.desk_holes.specs.Drawing.{IsDrawn, IsPicture, IsUndrawn};
 ghost use Rattle.desk_holes.specs.Picture.{picture_text};
 ghost use Rattle.desk_reading.specs.Sources.{sources};
@@ -63,7 +64,7 @@ pub fn draw_ribbon<F: Files, A: Allocator + Copy>(
     ensures ok { IfOk result (IsDrawn (sources ribbon.now case.now wedge.now) target.now (F.shelf files.old) (F.shelf files.new)) }
     ensures counted { OnOk result ((F.shelf files.new).failures ≡ (F.shelf files.old).failures) }
     ensures err { IfErr result (IsUndrawn (sources ribbon.now case.now wedge.now) target.now (F.shelf files.old) (F.shelf files.new)) }
-    ensures held { (F.shelf files.new).held ≡ (F.shelf files.old).held }
+    ensures held { HoldsOn (F.shelf files.old).held (F.shelf files.new).held }
 {
     let (bytes, case, _) = take_in(memory, files, ribbon, case, wedge)?;
     match drawn(memory.own, &bytes, &case) {

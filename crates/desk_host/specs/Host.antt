@@ -1,9 +1,11 @@
--- What a failed call of the machine tells.
-use Rattle.std.specs.Prelude.{◌≡◌, ◌≢◌, ◌⊎◌}
+-- What a failed call of the machine says, and what is held.
+use Rattle.std.specs.Prelude.{◌≡◌, ◌≢◌, ◌⊎◌, if◌then◌else◌, Option, None, Some, string_bytes}
 use Rattle.std.specs.declared.io.ErrorKind.{ErrorKind}
 use Rattle.std.specs.declared.io.ErrorKind.TheVariants as kinds
 use Rattle.desk_files.specs.declared.files.FileRefusal.{FileRefusal}
 use Rattle.desk_files.specs.declared.files.FileRefusal.TheVariants as refusals
+use Rattle.desk_files.specs.Files as files
+use Rattle.desk_host.specs.declared.hold.Hold.{Hold}
 
 -- by the kind of the error: that the file or its folder is not there, that memory ran out, or of all other kinds that the device failed
 abbrev pub IsToldOf : ErrorKind → FileRefusal → Type 0
@@ -11,3 +13,8 @@ IsToldOf kind refusals.Missing = (kind ≡ kinds.NotFound) ⊎ (kind ≡ kinds.N
 IsToldOf kind refusals.Device = (kind ≢ kinds.NotFound) × (kind ≢ kinds.NotADirectory) × (kind ≢ kinds.OutOfMemory)
 IsToldOf kind refusals.Large = ⊥
 IsToldOf kind refusals.NoMemory = kind ≡ kinds.OutOfMemory
+
+-- what is held, by the name and whether it was touched
+abbrev pub held_in : Option Hold → files.Hold
+held_in None = files.Free
+held_in (Some hold) = if hold.is_touched then files.Touched (string_bytes hold.name) else files.Untouched (string_bytes hold.name)

@@ -1,6 +1,6 @@
 //! A feed's name, taken for one run alone.
 
-ghost use Rattle.std.specs.Prelude.{◌≡◌, IfOk, string_bytes};
+ghost use Rattle.std.specs.Prelude.{◌≡◌, IfOk, false, string_bytes};
 
 use crate::trouble::{Asked, Trouble};
 use std::fs::{self, File, OpenOptions, TryLockError};
@@ -23,12 +23,15 @@ pub struct Hold {
     /// The file of the writing, which stands beside it.
     pub new_place: String,
     pub lock: File,
+    /// Whether a writing or a renaming was asked for since.
+    pub is_touched: bool,
 }
 
 impl Hold {
     /// Takes a name: its file and the folder must let the feed be stored, and no other run may have it.
     pub fn take(host: &HostRuntime, name: &str) -> Result<Hold, Trouble>
-        ensures { IfOk result (λ hold. string_bytes hold.name ≡ name.now) }
+        ensures name { IfOk result (λ hold. string_bytes hold.name ≡ name.now) }
+        ensures untouched { IfOk result (λ hold. hold.is_touched ≡ false) }
     {
         let place = place_of(host, name).map_err(|error| trouble(Asked::Find, error))?;
         check_file(host, place.as_str()).map_err(|error| trouble(Asked::Replace, error))?;
@@ -46,6 +49,7 @@ impl Hold {
             place,
             new_place,
             lock,
+            is_touched: false,
         })
     }
 

@@ -1,9 +1,9 @@
 //! Files of the machine.
 
-ghost use Rattle.std.specs.Prelude.{◌≡◌, ◌<◌, ◌≤◌, IfOk, IfSome, IsNone, None, length, option_map, string_bytes};
+ghost use Rattle.std.specs.Prelude.{◌≡◌, ◌<◌, ◌≤◌, IfOk, IfSome, IsNone, None, length};
 ghost use Rattle.std.specs.IoError.{error_kind};
-ghost use Rattle.desk_files.specs.Files.{IsCounted, Unknown, max_file, shelf};
-ghost use Rattle.desk_host.specs.Host.{IsToldOf};
+ghost use Rattle.desk_files.specs.Files.{Free, IsCounted, Unknown, max_file, shelf, touched};
+ghost use Rattle.desk_host.specs.Host.{IsToldOf, held_in};
 
 use crate::hold::Hold;
 use crate::progress::{Progress, Step, Watched};
@@ -41,10 +41,10 @@ impl<'a> HostFiles<'a> {
         }
     }
 
-    /// Counts a failed call, if it was the device that failed, and keeps it to be told.
+    /// Counts a failed call, if it was the device that failed, and keeps it to be reported.
     fn refused(&mut self, trouble: Trouble) -> FileRefusal
         ensures told { IsToldOf (error_kind trouble.error) result }
-        ensures counted { IsCounted result (shelf (λ _. Unknown) self.old.failures None) (shelf (λ _. Unknown) self.new.failures None) }
+        ensures counted { IsCounted result (shelf (λ _. Unknown) self.old.failures Free) (shelf (λ _. Unknown) self.new.failures Free) }
         ensures held { self.new.hold ≡ self.old.hold }
     {
         let why = refusal_of(&trouble.error);
@@ -53,6 +53,16 @@ impl<'a> HostFiles<'a> {
         }
         self.trouble = Some(trouble);
         why
+    }
+
+    /// A writing or a renaming was asked for.
+    fn touch(&mut self)
+        ensures held { held_in self.new.hold ≡ touched (held_in self.old.hold) }
+        ensures failures { self.new.failures ≡ self.old.failures }
+    {
+        if let Some(hold) = &mut self.hold {
+            hold.is_touched = true;
+        }
     }
 
     /// Where a name leads: that of the held feed and that of its writing past their links, any other as it is.
@@ -97,7 +107,7 @@ fn mode_at(host: &HostRuntime, place: &str) -> io::Result<Option<u32>> {
     }
 }
 
-/// What a failed call tells: that something is not there, that memory ran out, or else that the device failed.
+/// What a failed call says: that something is not there, that memory ran out, or else that the device failed.
 fn refusal_of(error: &io::Error) -> FileRefusal
     ensures { IsToldOf (error_kind error.now) result }
 {
@@ -185,7 +195,7 @@ fn folder_of(host: &HostRuntime, name: &str) -> Option<File> {
 }
 
 /// Gives a file another name, and waits until the device has that, where the system lets it wait for the folder. A folder
-/// that was not synced is not told: the file has its name by then.
+/// that was not synced is not reported: the file has its name by then.
 fn rename_file(host: &HostRuntime, from: &str, to: &str) -> io::Result<()> {
     let folder = folder_of(host, to);
     fs::rename(host, from, to)?;
@@ -196,8 +206,8 @@ fn rename_file(host: &HostRuntime, from: &str, to: &str) -> io::Result<()> {
 }
 
 impl<'a> Files for HostFiles<'a> {
-    // what a file of the machine holds is not told by std
-    ghost shelf = { λ f. shelf (λ _. Unknown) f.failures (option_map (λ h. string_bytes h.name) f.hold) };
+    // std does not say what a file of the machine holds
+    ghost shelf = { λ f. shelf (λ _. Unknown) f.failures (held_in f.hold) };
 
     fn failures(&self) -> u64 {
         self.failures
@@ -237,6 +247,7 @@ impl<'a> Files for HostFiles<'a> {
     }
 
     fn write_new(&mut self, name: &str, bytes: &[u8]) -> Result<(), FileRefusal> {
+        self.touch();
         match self.write_at(name, bytes) {
             Ok(()) => Ok(()),
             Err(error) => {
@@ -247,6 +258,7 @@ impl<'a> Files for HostFiles<'a> {
     }
 
     fn rename(&mut self, from: &str, to: &str) -> Result<(), FileRefusal> {
+        self.touch();
         match rename_file(self.host, self.place(from), self.place(to)) {
             Ok(()) => {
                 self.progress.tell(Step::Stored(to));

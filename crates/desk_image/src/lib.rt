@@ -1,7 +1,7 @@
 //! Images of ribbon rows: the 31 channels of a row as the bits of a number.
 //!
 //! Everything else speaks of rows by their signals; images are for what comes from outside or goes there. So any number is
-//! read, and one that is the image of no row is told by its first cause.
+//! read, and one that is the image of no row is refused with its first cause.
 #![tactic(auto)]
 
 ghost use Rattle.std.specs.Prelude.{◌≡◌, ℕ, ◌-◌, ◌^◌, ◌<◌, if◌then◌else◌, ◌==◌, IfOk, slice_index};
@@ -39,6 +39,16 @@ pub enum BadImage {
     HighBit,
     #[error("{0}")]
     Row(BadRow),
+}
+
+impl From<BadRow> for BadImage {
+    ghost use Rattle.desk_image.specs.declared.BadImage.TheVariants as bad;
+
+    ghost from_gives = { λ why image. image ≡ bad.Row why };
+
+    fn from(why: BadRow) -> BadImage {
+        BadImage::Row(why)
+    }
 }
 
 /// The signals in signal order.
@@ -140,10 +150,8 @@ impl Image {
         if self.0 >= 0x8000_0000 {
             return Err(BadImage::HighBit);
         }
-        match from_signals(&self.signals()) {
-            Ok(row) => Ok(row),
-            Err(why) => Err(BadImage::Row(why)),
-        }
+        let row = from_signals(&self.signals())?;
+        Ok(row)
     }
 
     /// The 31 channels, bit 30 first: `O` for a hole and `.` for none.

@@ -98,7 +98,7 @@ next-start pages from p j n r s e l =
 
 -- ---- the edge of what is picked
 
-halves-some : {X : Type 0} (pages : List (List X)) (k : ℕ) → AreHalfFull pages → k < length pages → 0 < length (get_or pages k [])
+pub halves-some : {X : Type 0} (pages : List (List X)) (k : ℕ) → AreHalfFull pages → k < length pages → 0 < length (get_or pages k [])
 halves-some [] k h l = absurd (omega arith)
 halves-some (r ∷ []) zero h l = let a : 1 ≤ length r = h in omega arith
 halves-some (r ∷ []) (suc k) h l = absurd (omega arith)

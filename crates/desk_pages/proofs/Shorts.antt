@@ -5,10 +5,7 @@ use Rattle.std.proofs.lemmas.List.{take-append-drop, length-take-le}
 use Rattle.std.proofs.lemmas.List.Edits.{remove-append_left, remove-append_right}
 use Rattle.desk_pages.specs.Pages.{joined, start_of, HasMore, AreHalfFull, AreShortAt, IsHalfFull, IsShortAt}
 use Rattle.desk_pages.proofs.Cuts.{half-cons, past-page}
-
-halves-some : {X : Type 0} (r : List X) (pages : List (List X)) → AreHalfFull (r ∷ pages) → 1 ≤ length r
-halves-some r [] h = h
-halves-some r (s ∷ pages) h = let a : 256 ≤ length r = h.0 in omega arith
+use Rattle.desk_pages.proofs.Picks.{halves-some}
 
 halves-rest : {X : Type 0} (r : List X) (pages : List (List X)) → AreHalfFull (r ∷ pages) → AreHalfFull pages
 halves-rest r [] h = tt
@@ -85,7 +82,7 @@ merges-half (r ∷ s ∷ pages) (suc p) h l = half-cons r (set (remove (s ∷ pa
 pub merge-half : {X : Type 0} (pages : List (List X)) (p : ℕ) → IsShortAt pages p → suc p < length pages → IsHalfFull (set (remove pages (suc p)) p (get_or pages p [] ++ get_or pages (suc p) []))
 merge-half [] p h l = absurd (omega arith)
 merge-half (r ∷ []) p h l = absurd (omega arith)
-merge-half (r ∷ s ∷ pages) zero h l = let e = length-append r s in let a = halves-some s pages h in (omega arith, halves-rest s pages h)
+merge-half (r ∷ s ∷ pages) zero h l = let e = length-append r s in let a = halves-some (s ∷ pages) zero h (omega arith) in (omega arith, halves-rest s pages h)
 merge-half (r ∷ s ∷ pages) (suc p) h l = (h.0, merges-half (s ∷ pages) p h.1 (omega arith))
 
 -- the first of the next moved over

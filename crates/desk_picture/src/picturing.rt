@@ -1,6 +1,7 @@
 //! The picture of a stored feed's galley, stored under a name.
 
 ghost use Rattle.std.specs.Prelude.{◌≡◌, ◌≤◌, ◌^◌, length, All, IfErr, IfOk, OnOk, string_bytes};
+ghost use Rattle.desk_files.specs.Files.{HoldsOn};
 ghost use Rattle.desk_galley.specs.Galley.{Stands};
 ghost use Rattle.desk_job.specs.Answer.{AreValues};
 ghost use Rattle.desk_preview.specs.Sources.{sources};
@@ -96,7 +97,7 @@ pub fn picture_feed<F: Files, A: Allocator + Copy>(
     ensures ok { OnOk result (IsPictured (sources feed.now case.now wedge.now) trial.now target.now (F.shelf files.old) (F.shelf files.new)) }
     ensures counted { OnOk result ((F.shelf files.new).failures ≡ (F.shelf files.old).failures) }
     ensures err { IfErr result (IsUnpictured (sources feed.now case.now wedge.now) trial.now target.now (F.shelf files.old) (F.shelf files.new)) }
-    ensures held { (F.shelf files.new).held ≡ (F.shelf files.old).held }
+    ensures held { HoldsOn (F.shelf files.old).held (F.shelf files.new).held }
 {
     let (replica, case, wedge) = take_in(memory, files, feed, case, wedge)?;
     let drawn = drawn_of(memory.own, &replica, &case, &wedge, trial)?;

@@ -1,4 +1,4 @@
-//! The places of a copy at which a text stands, found and told.
+//! The places of a copy at which a text stands, found and shown.
 #![tactic(auto)]
 
 mod laws;

@@ -1,4 +1,4 @@
-//! The places of a text, told with what surrounds each.
+//! The places of a text, shown with what surrounds each.
 
 ghost use Rattle.std.specs.Prelude.{◌≡◌, ◌+◌, ◌-◌, ◌++◌, map, take, drop, IfOk, OnOk, string_bytes, codes};
 ghost use Rattle.std.specs.Fmt.{decimal};
@@ -103,7 +103,7 @@ fn put_more<A: Allocator + Copy>(
     Ok(())
 }
 
-/// What is told of the places of a text of so many symbols: `no place`, or a line `place 17: ..` for each of the first
+/// What is shown of the places of a text of so many symbols: `no place`, or a line `place 17: ..` for each of the first
 /// 100, with up to 20 symbols before it and behind the text there, as text with marks for its styles; and then, if there
 /// are more, a line `and 3 more`. The end of a line is shown as a space.
 pub fn told_places<A: Allocator + Copy>(

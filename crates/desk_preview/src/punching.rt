@@ -2,6 +2,7 @@
 
 ghost use Rattle.std.specs.Prelude.{◌≡◌, ◌++◌, IfErr, IfOk, OnOk, string_bytes};
 ghost use Rattle.std.specs.Io.KnownBytes.{Appends};
+ghost use Rattle.desk_files.specs.Files.{HoldsOn};
 ghost use Rattle.desk_preview.specs.Punching.{IsPunched, IsUnpunched, IsUntold, no_ribbon_line};
 ghost use Rattle.desk_preview.specs.Sources.{sources};
 
@@ -57,7 +58,7 @@ pub fn punch_feed<W: Write, F: Files, A: Allocator + Copy>(
     ensures silent { OnOk result (W.contents writer.new ≡ W.contents writer.old) }
     ensures counted { OnOk result ((F.shelf files.new).failures ≡ (F.shelf files.old).failures) }
     ensures err { IfErr result (IsUnpunched (sources feed.now case.now wedge.now) target.now (F.shelf files.old) (F.shelf files.new) (W.contents writer.old) (W.contents writer.new)) }
-    ensures held { (F.shelf files.new).held ≡ (F.shelf files.old).held }
+    ensures held { HoldsOn (F.shelf files.old).held (F.shelf files.new).held }
 {
     let (replica, case, wedge) = take_in(memory, files, feed, case, wedge)?;
     match make(memory.own, &replica, &case, &wedge) {

@@ -1,5 +1,5 @@
 -- A text in the copy of a stored feed, made another at the one place where it stands.
-use Rattle.std.specs.Prelude.{◌≡◌, ◌≤◌, ℕ, ◌+◌, List, [], ◌∷◌, ◌++◌, Option, Result, Ok, Err, length, take, drop}
+use Rattle.std.specs.Prelude.{◌≡◌, ◌≢◌, ℕ, ◌+◌, List, [], ◌∷◌, ◌++◌, Option, Result, Ok, Err, length, take, drop}
 use Rattle.desk_ops.specs.declared.op.Symbol.{Symbol}
 use Rattle.desk_ops.specs.OpSet.{OpSet}
 use Rattle.desk_ops.specs.Shown.{copy_of}
@@ -7,7 +7,7 @@ use Rattle.desk_text.specs.Reading.{reading}
 use Rattle.desk_files.specs.Files.{Shelf}
 use Rattle.desk_files.specs.declared.files.FileRefusal.{FileRefusal}
 use Rattle.desk_places.specs.Places.{places_of}
-use Rattle.desk_hand.specs.Editing.{IsRevised, IsUnrevised}
+use Rattle.desk_hand.specs.Editing.{IsRevised, IsSparing, IsUnrevised}
 use Rattle.desk_hand.specs.Keeping.{IsKept, IsUnkept, edited_line}
 use Rattle.desk_hand.specs.Merging.{IsBarred, IsOpened}
 use Rattle.desk_hand.specs.declared.fault.RevisionFault.TheVariants as revisions
@@ -40,10 +40,10 @@ replaced place count new copy = take place copy ++ new ++ drop (place + count) c
 abbrev pub IsExchanged : List Symbol → List Symbol → List Symbol → List Symbol → Type 0
 IsExchanged old new copy text = (place : ℕ) × (places_of old copy ≡ place ∷ []) × (text ≡ replaced place (length old) new copy)
 
--- The one text stands at exactly one place of the copy of the old set. In that of the new set the other stands there instead, by so many inserts and so many deletes of the site: no more than both copies have symbols, and none where the copy stays.
+-- The one text stands at exactly one place of the copy of the old set. In that of the new set the other stands there instead, by so many inserts and so many deletes of the site: no more than both copies have symbols between what they begin and end with alike, and none where the copy stays.
 abbrev pub Replaces : ℕ → List Symbol → List Symbol → OpSet → OpSet → ℕ → ℕ → Type 0
 Replaces site old new was set inserted deleted = (text : List Symbol) × IsExchanged old new (copy_of was) text × IsRevised site was set text inserted deleted
-    × (inserted + deleted ≤ length (copy_of was) + length text) × (copy_of was ≡ text → set ≡ was)
+    × IsSparing (copy_of was) text (inserted + deleted) × (copy_of was ≡ text → set ≡ was)
 
 -- ---- a replacement
 
@@ -62,7 +62,7 @@ IsUnreplaced name site exchange first last before after (faults.Place why) =
 IsUnreplaced name site exchange first last before after (faults.Revision why) =
     (after ≡ before) × (old new : List Symbol) × AreRead exchange old new × (read : Result (List ℕ) FileRefusal) × (was : OpSet) × IsOpened name first last read was
     × (text : List Symbol) × IsExchanged old new (copy_of was) text × (now : OpSet) × IsUnrevised site was now text why
-    × (copy_of was ≡ text → why ≡ revisions.NoMemory)
+    × (copy_of was ≡ text → why ≡ revisions.NoMemory) × (why ≢ revisions.Value)
 IsUnreplaced name site exchange first last before after (faults.Keep why) =
     (old new : List Symbol) × AreRead exchange old new × (held : Shelf) × (read : Result (List ℕ) FileRefusal) × (was : OpSet) × IsOpened name first held read was
     × (set : OpSet) × (inserted deleted : ℕ) × Replaces site old new was set inserted deleted × IsUnkept name (edited_line inserted deleted) held last before after why

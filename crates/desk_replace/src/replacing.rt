@@ -3,6 +3,7 @@
 ghost use Rattle.std.specs.Prelude.{◌≡◌, ◌≤◌, ◌+◌, ◌⊎◌, length, IfErr, IfOk, OnOk};
 ghost use Rattle.desk_ops.specs.Shown.{copy_of};
 ghost use Rattle.desk_files.specs.Files.{IsHeldAlone, Stays};
+ghost use Rattle.desk_text.specs.Laws.{AreLawful};
 ghost use Rattle.desk_replace.specs.Replacing.{IsExchanged, IsReplaced, IsUnreplaced, replaced};
 ghost use Rattle.desk_replace.specs.Telling.{IsTold};
 
@@ -46,6 +47,7 @@ fn exchanged<W: Write, A: Allocator + Copy>(
     new: &[Symbol],
 ) -> Result<Vec<Symbol, A>, PlaceFault>
     ensures ok { IfOk result (λ v. IsExchanged old.now new.now (copy_of replica.now.ops) v.items) }
+    ensures lawful { AreLawful new.now → IfOk result (λ v. AreLawful v.items) }
     ensures silent { OnOk result (writer.new ≡ writer.old) }
     ensures err { IfErr result (IsTold old.now (copy_of replica.now.ops) (W.contents writer.old) (W.contents writer.new)) }
 {

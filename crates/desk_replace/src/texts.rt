@@ -1,6 +1,7 @@
 //! The text that is to be replaced, and the one that is to take its place.
 
 ghost use Rattle.std.specs.Prelude.{IfErr, IfOk};
+ghost use Rattle.desk_text.specs.Laws.{AreLawful};
 ghost use Rattle.desk_replace.specs.Replacing.{AreRead, AreUnread};
 
 use crate::fault::ExchangeFault;
@@ -23,6 +24,7 @@ pub fn read_both<A: Allocator + Copy>(
     exchange: &Exchange<'_>,
 ) -> Result<(Vec<Symbol, A>, Vec<Symbol, A>), ExchangeFault>
     ensures ok { IfOk result (λ t. AreRead exchange.now t.0.items t.1.items) }
+    ensures lawful { IfOk result (λ t. AreLawful t.1.items) }
     ensures err { IfErr result (AreUnread exchange.now) }
 {
     let old = match read_text(alloc, exchange.from.as_bytes(), exchange.plain) {

@@ -1,14 +1,15 @@
 -- Lines that were answered, one part after another.
-use Rattle.std.proofs.Common.{◌≡◌, ℕ, inl, inr, true, List, [], ◌∷◌, ◌++◌, Option, Some, None, refl, sym, ap, ◌∙◌, subst, append_assoc}
+use Rattle.std.proofs.Common.{◌≡◌, ℕ, inl, inr, true, false, List, [], ◌∷◌, ◌++◌, Option, Some, None, refl, sym, ap, ◌∙◌, subst, append_assoc}
 use Rattle.std.specs.Io.KnownBytes.{Appends, Keeps}
 use Rattle.std.proofs.KnownBytes.{Appends-trans}
 use Rattle.std.proofs.lemmas.List.{append-nil}
-use Rattle.desk_answers.specs.Reply.{ReplyValues, is_long}
+use Rattle.desk_answers.specs.Reply.{ReplyValues, Refused, is_long}
+use Rattle.desk_answers.specs.declared.text.Refusal.{Refusal}
+use Rattle.desk_answers.specs.declared.text.Refusal.TheVariants as refusals
 use Rattle.desk_answers.specs.Text.{text, output}
 use Rattle.desk_files.specs.Files.{Shelf, Stays}
 use Rattle.desk_steps.specs.Desk.{Desk}
-use Rattle.desk_steps.specs.Line.{Line}
-use Rattle.desk_steps.specs.Line.{Allows}
+use Rattle.desk_steps.specs.Line.{Allows, Bytes, Line, Long}
 use Rattle.desk_stored.specs.Sending.{WritesFront}
 use Rattle.desk_script.specs.Script.{Script, Turn, Fronts, StopsBefore, IsTold}
 
@@ -22,10 +23,16 @@ no_turn old a = ([], refl, appends_none a)
 pub no_front : (old : Desk) (last : Shelf) (a : Option (List ℕ)) (lines : List Line) → Stays old.shelf last → Fronts old last a a lines
 no_front old last a lines still = ([], lines, refl, old, still, [], refl, ([], [], appends_none a, refl))
 
--- a reply whose text finds no memory is that refusal, and it is allowed where nothing has changed
+-- a refusal is not long
+never : (P : Type 0) (reply : ReplyValues) (why : Refusal) → reply ≡ Refused why → is_long reply ≡ true → P
+never P reply why is long = let short : is_long reply ≡ false = ap is_long is in absurd (cc)
+
+-- A reply whose text finds no memory is that refusal, and it is allowed where nothing has changed. No reply to a line that is too long is such.
 pub told_allowed : (old new : Desk) (line : Line) (reply told : ReplyValues) → Allows old line reply new → (is_long reply ≡ true → new ≡ old) → IsTold reply told → Allows old line told new
 told_allowed old new line reply told allowed same (inl is) = subst (λ (r : ReplyValues). Allows old line r new) (sym is) allowed
-told_allowed old new line reply told allowed same (inr h) = inr (h.1, same h.0)
+told_allowed old new (Bytes bytes) reply told allowed same (inr h) = inr (tt, (h.1, same h.0))
+told_allowed old new Long reply told (inl allowed) same (inr h) = never (Allows old Long told new) reply refusals.Line allowed.0 h.0
+told_allowed old new Long reply told (inr lacks) same (inr h) = absurd lacks.0
 
 pub one_turn : (old new : Desk) (a b : Option (List ℕ)) (line : Line) (bytes : List ℕ) (reply : ReplyValues) → Allows old line reply new → bytes ≡ text reply ++ 10 ∷ [] → Appends a b bytes → Turn old new a b (line ∷ [])
 one_turn old new a b line bytes reply allowed is written = (reply ∷ [], (new, allowed, refl), subst (Appends a b) is written)

@@ -6,7 +6,7 @@ ghost use Rattle.std.specs.Io.KnownBytes.{IsAtEnd};
 ghost use Rattle.desk_ops.specs.declared.op.Op.{Op};
 ghost use Rattle.desk_ops.specs.OpSet.{OpSet, max_ops, no_ops, size, with_all};
 ghost use Rattle.desk_stored.specs.Faults.{IsNotStored, IsUnopened};
-ghost use Rattle.desk_files.specs.Files.{HasFailed, IsHeldAlone, Stays};
+ghost use Rattle.desk_files.specs.Files.{HasFailed, HoldsOn, IsHeldAlone, Stays};
 ghost use Rattle.desk_steps.specs.Desk.{desk};
 ghost use Rattle.desk_stored.specs.Stored.{Stores, was_read};
 ghost use Rattle.desk_script.specs.FeedRun.{AnswersStored, IsStoppedOnFeed, IsStored, one_site};
@@ -46,7 +46,7 @@ pub fn keep_feed<F: Files, A: Allocator + Copy>(
     requires { (set : OpSet) × (fin.get world.now site ≡ Some set) }
     ensures ok { OnOk result (IsStored name.now site (desk world.now (F.shelf files.old)) (was_read old.now) (F.shelf files.new)) }
     ensures err { IfErr result (IsNotStored name.now (F.shelf files.old) (F.shelf files.new)) }
-    ensures held { (F.shelf files.new).held ≡ (F.shelf files.old).held }
+    ensures held { HoldsOn (F.shelf files.old).held (F.shelf files.new).held }
 {
     let Some(replica) = world.replica(site) else {
         unreachable!()

@@ -1,7 +1,7 @@
 -- A sheet of commands: how its lines are told, and where a strict run stops.
-use Rattle.std.specs.Prelude.{◌≡◌, ◌<◌, ℕ, ◌+◌, ◌==◌, ◌&&◌, Bool, true, false, MatchBool, List, [], ◌∷◌, ◌++◌, length, codes, Option, None, Some, IfSome, if◌then◌else◌}
+use Rattle.std.specs.Prelude.{◌≡◌, ◌<◌, ◌≤◌, ℕ, ◌+◌, ◌==◌, ◌&&◌, Bool, true, false, MatchBool, List, [], ◌∷◌, ◌++◌, length, codes, Option, None, Some, IfSome, if◌then◌else◌}
 use Rattle.std.specs.Fmt.{decimal}
-use Rattle.std.specs.Io.KnownBytes.{Appends}
+use Rattle.std.specs.Io.KnownBytes.{Appends, Consumes}
 use Rattle.desk_answers.specs.Reply.{ReplyValues, Done, Made, MadeMany, Counted, Copy, Feed, Faults, Settings, Ribbon, NoRibbon, Lines, Refused, Stopped}
 use Rattle.desk_answers.specs.Text.{text}
 use Rattle.desk_steps.specs.Desk.{Desk}
@@ -98,6 +98,21 @@ IsUnread input (faults.Run runs.NoMemory) = Unit {0}
 IsUnread input (faults.Run (runs.Feed why)) = ⊥
 IsUnread input (faults.Run (runs.File why)) = ⊥
 IsUnread input (faults.Run (runs.Opening stop)) = ⊥
+
+-- Where a read failed, no more had been read before it than a sheet may have; and where a sheet is too long, more had.
+abbrev pub IsReadTo : Option (List ℕ) → Option (List ℕ) → SheetFault → Type 0
+IsReadTo before after (faults.Line k) = Unit {0}
+IsReadTo before after (faults.Run runs.Read) = (read : List ℕ) × Consumes before after read × (length read ≤ max_sheet)
+IsReadTo before after (faults.Run runs.Write) = Unit {0}
+IsReadTo before after (faults.Run runs.TooLong) = (read : List ℕ) × Consumes before after read × (max_sheet < length read)
+IsReadTo before after (faults.Run runs.NoMemory) = Unit {0}
+IsReadTo before after (faults.Run (runs.Feed why)) = Unit {0}
+IsReadTo before after (faults.Run (runs.File why)) = Unit {0}
+IsReadTo before after (faults.Run (runs.Opening stop)) = Unit {0}
+
+-- some bytes were read, and no more than a sheet may have
+abbrev pub HasTaken : Option (List ℕ) → Option (List ℕ) → Type 0
+HasTaken before after = (read : List ℕ) × Consumes before after read × (0 < length read) × (length read ≤ max_sheet)
 
 -- what is told of all that a reader has left, to the end or to the line of this number
 abbrev pub IsTold : Mode → Desk → Desk → Option (List ℕ) → Option ℕ → List ℕ → Type 0

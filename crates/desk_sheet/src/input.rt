@@ -1,10 +1,12 @@
 //! A sheet, read whole, and its lines.
 
-ghost use Rattle.std.specs.Prelude.{◌≡◌, ◌<◌, ◌≤◌, ◌∷◌, [], IfErr, IfOk, IfSome, MatchOption, length};
-ghost use Rattle.std.specs.Io.KnownBytes.{IsAtEnd};
+ghost use Rattle.std.specs.Prelude.{◌≡◌, ◌<◌, ◌≤◌, ◌∷◌, [], IfErr, IfOk, IfSome, IsErrOf, MatchOption, length};
+ghost use Rattle.std.specs.Io.KnownBytes.{Consumes, IsAtEnd};
 ghost use Rattle.desk_steps.specs.Line.{line_of};
 ghost use Rattle.desk_script.specs.Lines.{lines};
-ghost use Rattle.desk_sheet.specs.Sheet.{IsInput, IsUnread};
+ghost use Rattle.desk_script.specs.declared.fault.RunFault.TheVariants as runs;
+ghost use Rattle.desk_sheet.specs.declared.fault.SheetFault.TheVariants as faults;
+ghost use Rattle.desk_sheet.specs.Sheet.{HasTaken, IsInput, IsReadTo, IsUnread};
 
 use crate::fault::SheetFault;
 use desk_script::{RunFault, without_cr};
@@ -26,6 +28,9 @@ pub fn read_whole<R: Read, A: Allocator + Copy>(
     ensures within { IfOk result (λ v. length v.items ≤ MAX_SHEET) }
     ensures err { IfErr result (IsUnread (R.remaining reader.old)) }
     ensures end { IfOk result (λ _. IsAtEnd (R.remaining reader.new)) }
+    ensures taken { IfOk result (λ v. Consumes (R.remaining reader.old) (R.remaining reader.new) v.items) }
+    ensures left { IfErr result (IsReadTo (R.remaining reader.old) (R.remaining reader.new)) }
+    ensures memory { IsErrOf result (faults.Run runs.NoMemory) → HasTaken (R.remaining reader.old) (R.remaining reader.new) }
 {
     let mut bytes = Vec::new(alloc);
     let mut chunk = [0u8; CHUNK];

@@ -1,6 +1,6 @@
 //! A sheet on a world of sites.
 
-ghost use Rattle.std.specs.Prelude.{◌≡◌, ◌++◌, Bool, IfErr, IfOk, MatchBool, OnOk, string_bytes};
+ghost use Rattle.std.specs.Prelude.{◌≡◌, ◌<◌, ◌++◌, Bool, IfErr, IfOk, IsErrOf, MatchBool, OnErr, OnOk, length, string_bytes};
 ghost use Rattle.std.specs.Io.KnownBytes.{IsAtEnd};
 ghost use Rattle.desk_answers.specs.Reply.{reply_values};
 ghost use Rattle.desk_files.specs.Files.{Stays};
@@ -8,7 +8,9 @@ ghost use Rattle.desk_script.specs.Lines.{lines};
 ghost use Rattle.desk_steps.specs.Desk.{KeepsSites, desk};
 ghost use Rattle.desk_steps.specs.Line.{line_of};
 ghost use Rattle.desk_world.specs.Sites.{Sites, no_sites};
-ghost use Rattle.desk_sheet.specs.Sheet.{Ends, IsDone, IsStopped, Stops, Tells, answer_line, head, is_passed_over, is_refusal};
+ghost use Rattle.desk_script.specs.declared.fault.RunFault.TheVariants as runs;
+ghost use Rattle.desk_sheet.specs.declared.fault.SheetFault.TheVariants as faults;
+ghost use Rattle.desk_sheet.specs.Sheet.{Ends, HasTaken, IsDone, IsReadTo, IsStopped, Stops, Tells, answer_line, head, is_passed_over, is_refusal};
 
 use crate::fault::SheetFault;
 use crate::input::{next_line, read_whole};
@@ -114,6 +116,7 @@ fn tell_lines<F: Files, A: Allocator + Copy>(
     input: &[u8],
 ) -> Result<Option<u64>, NoMemory>
     ensures ok { IfOk result (λ end. Ends mode (desk world.old (F.shelf files.old)) (string_bytes told.old) (lines input.now) end (desk world.new (F.shelf files.new)) (string_bytes told.new)) }
+    ensures some { OnErr result (0 < length input.now) }
     ensures sites { KeepsSites world.old world.new }
     ensures stays { Stays (F.shelf files.old) (F.shelf files.new) }
 {
@@ -143,6 +146,8 @@ pub fn answer_sheet<R: Read, W: Write, F: Files, A: Allocator + Copy>(
     ensures sites { KeepsSites world.old world.new }
     ensures stays { Stays (F.shelf files.old) (F.shelf files.new) }
     ensures end { OnOk result (IsAtEnd (R.remaining reader.new)) }
+    ensures left { IfErr result (IsReadTo (R.remaining reader.old) (R.remaining reader.new)) }
+    ensures memory { IsErrOf result (faults.Run runs.NoMemory) → HasTaken (R.remaining reader.old) (R.remaining reader.new) }
 {
     let input = read_whole(memory.own, reader)?;
     let mut told = String::new(memory.own);
@@ -158,8 +163,8 @@ pub fn answer_sheet<R: Read, W: Write, F: Files, A: Allocator + Copy>(
 /// most; its lines are those of a script. Each is answered as in a script, or, where the run is strict, passed over. The
 /// answers are written once all are there: up to the end, or to the line that stops the run, which `Line` then tells. No
 /// file changes, and nothing is written under `Read`, `TooLong` and `NoMemory`. Memory that is refused to a command is an
-/// answer; `NoMemory` says that the sheet or its answers were not kept. The reading of a case or a wedge takes the global
-/// allocator alone.
+/// answer; `NoMemory` says that the sheet or its answers were not kept, and of an empty sheet it never comes. The reading of
+/// a case or a wedge takes the global allocator alone.
 pub fn run_sheet<R: Read, W: Write, F: Files, A: Allocator + Copy>(
     alloc: A,
     global: Global,
@@ -172,6 +177,8 @@ pub fn run_sheet<R: Read, W: Write, F: Files, A: Allocator + Copy>(
     ensures err { IfErr result (λ fault. (new : Sites) × IsStopped mode (desk no_sites (F.shelf files.old)) (desk new (F.shelf files.new)) (R.remaining reader.old) (W.contents writer.old) (W.contents writer.new) fault) }
     ensures stays { Stays (F.shelf files.old) (F.shelf files.new) }
     ensures end { OnOk result (IsAtEnd (R.remaining reader.new)) }
+    ensures left { IfErr result (IsReadTo (R.remaining reader.old) (R.remaining reader.new)) }
+    ensures memory { IsErrOf result (faults.Run runs.NoMemory) → HasTaken (R.remaining reader.old) (R.remaining reader.new) }
 {
     let mut world = World::new(alloc);
     let memory = Memory { own: alloc, global };

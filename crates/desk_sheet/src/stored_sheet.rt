@@ -5,6 +5,7 @@ ghost use Rattle.std.specs.Io.KnownBytes.{IsAtEnd};
 ghost use Rattle.desk_files.specs.Files.{IsHeldAlone, Stays};
 ghost use Rattle.desk_steps.specs.Desk.{desk};
 ghost use Rattle.desk_stored.specs.Stored.{was_read};
+ghost use Rattle.desk_sheet.specs.Sheet.{IsReadTo};
 ghost use Rattle.desk_sheet.specs.StoredSheet.{IsBarred, IsStoppedOnFeed, IsOpened, IsStoredSheet};
 
 use crate::fault::SheetFault;
@@ -57,6 +58,7 @@ pub fn run_sheet_on_feed<R: Read, W: Write, F: Files, A: Allocator + Copy>(
     ensures err { IfErr result (IsStoppedOnFeed mode name.now site (F.shelf files.old) (F.shelf files.new) (R.remaining reader.old) (W.contents writer.old) (W.contents writer.new)) }
     ensures held { IsHeldAlone name.now (F.shelf files.old) (F.shelf files.new) ⊎ ((reader.new ≡ reader.old) × (writer.new ≡ writer.old) × Stays (F.shelf files.old) (F.shelf files.new)) }
     ensures end { OnOk result (IsAtEnd (R.remaining reader.new)) }
+    ensures left { IfErr result (IsReadTo (R.remaining reader.old) (R.remaining reader.new)) }
 {
     let (old, mut world) = take_feed(alloc, files, name, site)?;
     let memory = Memory { own: alloc, global };

@@ -168,4 +168,4 @@ answers_same old new (Bytes bytes) reply long h =
 -- whatever a line is
 pub allows_same : (old new : Desk) (line : Line) (reply : ReplyValues) → is_long reply ≡ true → Allows old line reply new → (new.sites ≡ old.sites) × (new.shelf ≡ old.shelf)
 allows_same old new line reply long (inl h) = answers_same old new line reply long h
-allows_same old new line reply long (inr h) = same_desk old new h.1
+allows_same old new line reply long (inr (fits, h)) = same_desk old new h.1

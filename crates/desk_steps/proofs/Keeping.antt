@@ -140,4 +140,4 @@ answers_keep old new (Bytes bytes) reply h =
 -- whatever a line is
 pub allows_keep : (old new : Desk) (line : Line) (reply : ReplyValues) → Allows old line reply new → KeepsSites old.sites new.sites
 allows_keep old new line reply (inl h) = answers_keep old new line reply h
-allows_keep old new line reply (inr h) = keeps_same old.sites new.sites (ap (λ (d : Desk). d.sites) h.1)
+allows_keep old new line reply (inr (fits, h)) = keeps_same old.sites new.sites (ap (λ (d : Desk). d.sites) h.1)

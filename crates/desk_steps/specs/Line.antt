@@ -19,6 +19,11 @@ abbrev pub IsAnswered : Desk → Line → ReplyValues → Desk → Type 0
 IsAnswered old Long reply new = Refuses old refusals.Line reply new
 IsAnswered old (Bytes bytes) reply new = MatchOption (command_of bytes) (Refuses old refusals.Command reply new) (λ command. Performs old command reply new)
 
--- the answer that a line may get, and what it leaves: to any line memory may be refused
+-- a line that is not too long
+abbrev pub Fits : Line → Type 0
+Fits Long = ⊥
+Fits (Bytes bytes) = Unit {0}
+
+-- the answer that a line may get, and what it leaves: to any line memory may be refused, but to one that is too long
 abbrev pub Allows : Desk → Line → ReplyValues → Desk → Type 0
-Allows old line reply new = IsAnswered old line reply new ⊎ LacksMemory old reply new
+Allows old line reply new = IsAnswered old line reply new ⊎ (Fits line × LacksMemory old reply new)

@@ -1,5 +1,5 @@
 -- Stored feeds, opened and stored anew.
-use Rattle.std.proofs.Common.{◌≡◌, ℕ, ◌<◌, List, [], ap, refl, subst, arith}
+use Rattle.std.proofs.Common.{◌≡◌, ℕ, ◌<◌, List, [], ap, inr, refl, subst, arith}
 use Rattle.std.specs.Prelude.{◌≢◌, IfErr, IsErrOf, OnErr, OnOk, Result, Ok, Err}
 use Rattle.std.specs.FinMap as fin
 use Rattle.desk_ops.specs.declared.op.Op.{Op}
@@ -11,7 +11,7 @@ use Rattle.desk_files.specs.declared.files.FileRefusal.{FileRefusal}
 use Rattle.desk_files.specs.declared.files.FileRefusal.TheVariants as refusals
 use Rattle.desk_files.specs.Files.{Counts, HasNoPlace, Shelf, Spares, new_name}
 use Rattle.desk_stored.specs.declared.fault.OpenFault.TheVariants as openings
-use Rattle.desk_stored.specs.Faults.{IsCrowded, IsNotStored, IsUnopened, WasRead, of_stop}
+use Rattle.desk_stored.specs.Faults.{AsksMemory, IsCrowded, IsNotStored, IsUnopened, of_stop}
 use Rattle.desk_stored.specs.Stored.{Stores}
 
 none_crowds : (ops : List Op) → ops ≡ [] → max_ops < size (with_all no_ops ops) → ⊥
@@ -27,9 +27,9 @@ crowded_by (Err refusals.Device) ops stop stores crowded = absurd stores
 crowded_by (Err refusals.Large) ops stop stores crowded = absurd stores
 crowded_by (Err refusals.NoMemory) ops stop stores crowded = absurd stores
 
--- what stores operations was read
-pub read_by : (read : Result (List ℕ) FileRefusal) (ops : List Op) → Stores read ops → WasRead read
-read_by (Ok bytes) ops stores = tt
+-- for what stores operations memory is asked
+pub read_by : (read : Result (List ℕ) FileRefusal) (ops : List Op) → Stores read ops → AsksMemory read
+read_by (Ok bytes) ops stores = inr (ops, stores)
 read_by (Err refusals.Missing) ops stores = tt
 read_by (Err refusals.Device) ops stores = absurd stores
 read_by (Err refusals.Large) ops stores = absurd stores

@@ -1,9 +1,10 @@
 -- Why a stored feed was not taken, read, opened or stored.
-use Rattle.std.specs.Prelude.{◌≡◌, ◌≢◌, ◌<◌, ℕ, List, Result, Ok, Err}
+use Rattle.std.specs.Prelude.{◌≡◌, ◌≢◌, ◌<◌, ◌⊎◌, ℕ, List, Result, Ok, Err}
 use Rattle.desk_ops.specs.declared.op.Op.{Op}
 use Rattle.desk_ops.specs.OpSet.{no_ops, size, with_all, max_ops}
 use Rattle.desk_codec.specs.Fault.{IsFirstFault}
 use Rattle.desk_codec.specs.Feed.{IsFeed}
+use Rattle.desk_codec.specs.Reading.{MayHoldOne}
 use Rattle.desk_held.specs.declared.AddRefusal.{AddRefusal}
 use Rattle.desk_held.specs.declared.AddRefusal.TheVariants.{Full, NoMemory}
 use Rattle.desk_replica.specs.declared.Stopped.{Stopped}
@@ -31,19 +32,23 @@ IsUnread name before after why = (why ≢ refusals.Missing) × Reads (before.kep
 abbrev pub IsCrowded : List Op → Stopped → Type 0
 IsCrowded ops stop = (max_ops < size (with_all no_ops ops)) × (stop.why ≡ Full) × (stop.taken ≡ 0)
 
--- a stored feed was read: its bytes, or that no file is there, which is an empty feed
-abbrev pub WasRead : Result (List ℕ) FileRefusal → Type 0
-WasRead (Ok bytes) = Unit {0}
-WasRead (Err refusals.Missing) = Unit {0}
-WasRead (Err refusals.Device) = ⊥
-WasRead (Err refusals.Large) = ⊥
-WasRead (Err refusals.NoMemory) = ⊥
+-- bytes for which memory is asked: such as may hold an operation, or a feed
+abbrev pub AskMemory : List ℕ → Type 0
+AskMemory bytes = MayHoldOne bytes ⊎ ((ops : List Op) × IsFeed bytes ops)
+
+-- a stored feed was read for which memory is asked: its bytes, or that no file is there, which is an empty feed
+abbrev pub AsksMemory : Result (List ℕ) FileRefusal → Type 0
+AsksMemory (Ok bytes) = AskMemory bytes
+AsksMemory (Err refusals.Missing) = Unit {0}
+AsksMemory (Err refusals.Device) = ⊥
+AsksMemory (Err refusals.Large) = ⊥
+AsksMemory (Err refusals.NoMemory) = ⊥
 
 -- why a stored feed was not opened, by what was read of it
 abbrev pub IsUnopened : Result (List ℕ) FileRefusal → OpenFault → Type 0
 IsUnopened read (openings.Feed fault) = (bytes : List ℕ) × (read ≡ Ok bytes) × IsFirstFault bytes fault
 IsUnopened read (openings.Opening stop) = (bytes : List ℕ) × (read ≡ Ok bytes) × (ops : List Op) × IsFeed bytes ops × IsCrowded ops stop
-IsUnopened read openings.NoMemory = WasRead read
+IsUnopened read openings.NoMemory = AsksMemory read
 
 -- a feed was not stored, and nothing but what stands under the name of the writing may have changed: Missing comes only where no file can have that name or the feed's
 abbrev pub IsNotStored : List ℕ → Shelf → Shelf → FileRefusal → Type 0

@@ -27,4 +27,4 @@ was_read None = Err refusals.Missing
 -- these bytes were stored, or nothing was written, since they were what was read
 abbrev pub IsStoredAs : List ℕ → List ℕ → Result (List ℕ) FileRefusal → Shelf → Shelf → Type 0
 IsStoredAs name bytes read before last =
-    (read ≡ Ok bytes → last.kept ≡ before.kept) × (read ≢ Ok bytes → IsReplaced name bytes before.kept last.kept) × (last.failures ≡ before.failures)
+    (read ≡ Ok bytes → last ≡ before) × (read ≢ Ok bytes → IsReplaced name bytes before.kept last.kept) × (last.failures ≡ before.failures)

@@ -4,7 +4,7 @@ ghost use Rattle.std.specs.Prelude.{◌≡◌, ◌↔◌, ◌≤◌, All, IfErr,
 ghost use Rattle.desk_codec.specs.Runs.{set_feed};
 ghost use Rattle.desk_ops.specs.Op.{IsLawful};
 ghost use Rattle.desk_ops.specs.OpSet.{max_ops, size};
-ghost use Rattle.desk_files.specs.Files.{Counts, Reads, Stays};
+ghost use Rattle.desk_files.specs.Files.{Counts, HoldsOn, Reads, Stays};
 ghost use Rattle.desk_stored.specs.Faults.{IsNotStored, IsUnopened, IsUnread};
 ghost use Rattle.desk_stored.specs.Stored.{IsStoredAs, Opens, Stores, was_read};
 
@@ -95,7 +95,7 @@ pub fn keep_replica<F: Files, A: Allocator + Copy>(
 ) -> Result<(), FileRefusal>
     ensures ok { OnOk result (IsStoredAs name.now (set_feed replica.now.ops) (was_read old.now) (F.shelf files.old) (F.shelf files.new)) }
     ensures err { IfErr result (IsNotStored name.now (F.shelf files.old) (F.shelf files.new)) }
-    ensures held { (F.shelf files.new).held ≡ (F.shelf files.old).held }
+    ensures held { HoldsOn (F.shelf files.old).held (F.shelf files.new).held }
 {
     let Ok(feed) = replica.write_feed() else {
         return Err(FileRefusal::NoMemory);

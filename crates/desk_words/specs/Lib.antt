@@ -1,2 +1,3 @@
 pub mod Words
+pub mod Help
 pub mod Examples

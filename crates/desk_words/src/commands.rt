@@ -1,101 +1,129 @@
 //! The words of the command line that the program takes.
 
-ghost use Rattle.std.specs.Prelude.{◌≡◌, IfOk, codes, false};
+ghost use Rattle.std.specs.Prelude.{◌≡◌, Some, IfOk, codes, false};
 ghost use Rattle.clap.specs.Words.{app_of, new_app, rule_of, with_rule};
 ghost use Rattle.clap.specs.declared.builder.command.Command.TheViews.{out-Command};
+ghost use Rattle.desk_words.specs.Help.{HasTexts, IsShown, version_of};
 ghost use Rattle.desk_words.specs.Words.{check_app, choice_rule, copydesk, desk_app, diff_app, each_rule, export_app, feed_rule, file_rule, flag_rule, import_app, merge_app, names_rule, no_subcommand, proof_app, punch_app, read_app, replace_app, ribbon_app, script_app, site_rule, sorts_app, sources_app, target_rule, text_rule, with_correcting};
 
 use crate::help::{
-    COMMANDS, ON_A_FEED, ON_CHECK, ON_DIFF, ON_EXPORT, ON_IMPORT, ON_MERGE, ON_PROOF, ON_PUNCH,
-    ON_READ, ON_REPLACE, ON_SORTS, ON_SUBCOMMANDS, VERSION,
+    ABOUT, COMMANDS, FEED, NUMBER, ON_A_FEED, ON_CHECK, ON_DIFF, ON_EXPORT, ON_IMPORT, ON_MERGE,
+    ON_PROOF, ON_PUNCH, ON_READ, ON_REPLACE, ON_SORTS, ON_SUBCOMMANDS, SITE, STRICT, TARGET,
+    VERSION,
 };
 use clap::{Arg, ArgAction, Command, value_parser};
 use std::alloc::{AllocError, Global};
 
+/// The argument with this help, in which it is shown.
+fn with_help<'a>(arg: Arg<'a>, help: &'a str) -> Arg<'a>
+    ensures rule { rule_of result ≡ rule_of arg.entry }
+    ensures local { result.global ≡ arg.entry.global }
+    ensures help { IsShown result help.now }
+{
+    arg.help(help)
+        .hide(false)
+        .hide_short_help(false)
+        .hide_long_help(false)
+}
+
 fn feed_arg<'a>(alloc: Global) -> Arg<'a>
     ensures rule { rule_of result ≡ feed_rule }
     ensures local { result.global ≡ false }
+    ensures help { IsShown result FEED.now }
 {
-    Arg::new(alloc, "feed")
-        .required(true)
-        .help("The name of the file that the feed is stored in.")
+    with_help(Arg::new(alloc, "feed").required(true), FEED)
 }
 
 fn site_arg<'a>(alloc: Global) -> Arg<'a>
     ensures rule { rule_of result ≡ site_rule }
     ensures local { result.global ≡ false }
+    ensures help { IsShown result SITE.now }
 {
-    Arg::new(alloc, "site")
+    let site = Arg::new(alloc, "site")
         .long("site")
         .required(true)
-        .value_parser(value_parser!(u16).range(1..))
-        .help("The number of the site whose feed it is, from 1 to 65535.")
+        .value_parser(value_parser!(u16).range(1..));
+    with_help(site, SITE)
 }
 
 /// One name or more.
 fn names_arg<'a>(alloc: Global, name: &'a str, help: &'a str) -> Arg<'a>
     ensures rule { rule_of result ≡ names_rule name.now }
     ensures local { result.global ≡ false }
+    ensures help { IsShown result help.now }
 {
-    Arg::new(alloc, name)
+    let names = Arg::new(alloc, name)
         .required(true)
-        .action(ArgAction::Append)
-        .help(help)
+        .action(ArgAction::Append);
+    with_help(names, help)
 }
 
 /// One text.
 fn text_arg<'a>(alloc: Global, name: &'a str, help: &'a str) -> Arg<'a>
     ensures rule { rule_of result ≡ text_rule name.now }
     ensures local { result.global ≡ false }
+    ensures help { IsShown result help.now }
 {
-    Arg::new(alloc, name).required(true).help(help)
+    with_help(Arg::new(alloc, name).required(true), help)
 }
 
 /// A flag without a value.
 fn flag_arg<'a>(alloc: Global, name: &'a str, help: &'a str) -> Arg<'a>
     ensures rule { rule_of result ≡ flag_rule name.now }
     ensures local { result.global ≡ false }
+    ensures help { IsShown result help.now }
 {
-    Arg::new(alloc, name)
-        .long(name)
-        .action(ArgAction::SetTrue)
-        .help(help)
+    let flag = Arg::new(alloc, name).long(name).action(ArgAction::SetTrue);
+    with_help(flag, help)
 }
 
 /// An option with the name of a file.
 fn file_arg<'a>(alloc: Global, name: &'a str, help: &'a str) -> Arg<'a>
     ensures rule { rule_of result ≡ file_rule name.now }
     ensures local { result.global ≡ false }
+    ensures help { IsShown result help.now }
 {
-    Arg::new(alloc, name).long(name).required(true).help(help)
+    with_help(Arg::new(alloc, name).long(name).required(true), help)
 }
 
 /// An option with the name of a file, which may be left out.
 fn choice_arg<'a>(alloc: Global, name: &'a str, help: &'a str) -> Arg<'a>
     ensures rule { rule_of result ≡ choice_rule name.now }
     ensures local { result.global ≡ false }
+    ensures help { IsShown result help.now }
 {
-    Arg::new(alloc, name).long(name).help(help)
+    with_help(Arg::new(alloc, name).long(name), help)
 }
 
 /// An option that may stand more than once.
 fn each_arg<'a>(alloc: Global, name: &'a str, help: &'a str) -> Arg<'a>
     ensures rule { rule_of result ≡ each_rule name.now }
     ensures local { result.global ≡ false }
+    ensures help { IsShown result help.now }
 {
     let action = ArgAction::Append;
-    Arg::new(alloc, name).long(name).action(action).help(help)
+    with_help(Arg::new(alloc, name).long(name).action(action), help)
 }
 
 fn target_arg<'a>(alloc: Global) -> Arg<'a>
     ensures rule { rule_of result ≡ target_rule }
     ensures local { result.global ≡ false }
+    ensures help { IsShown result TARGET.now }
 {
-    Arg::new(alloc, "output")
+    let target = Arg::new(alloc, "output")
         .long("output")
         .short('o')
-        .required(true)
-        .help("The name of the file that the ribbon is stored in.")
+        .required(true);
+    with_help(target, TARGET)
+}
+
+/// A command with what is told of it: in one line, and below its help.
+fn with_texts<'a>(alloc: Global, name: &'a str, about: &'a str, help: &'a str) -> Command<'a>
+    ensures app { app_of result ≡ new_app name.now }
+    ensures local { (out-Command result).has_globals ≡ false }
+    ensures texts { HasTexts result about.now help.now }
+{
+    Command::new(alloc, name).about(about).after_help(help)
 }
 
 /// A subcommand with a feed.
@@ -108,41 +136,31 @@ fn on_feed<'a>(
     ensures app { IfOk result (λ c. app_of c ≡ with_rule (new_app name.now) feed_rule) }
     ensures local { IfOk result (λ c. (out-Command c).has_globals ≡ false) }
 {
-    Command::new(alloc, name)
-        .about(about)
-        .after_help(help)
-        .arg(feed_arg(alloc))
+    with_texts(alloc, name, about, help).arg(feed_arg(alloc))
 }
 
 fn strict_arg<'a>(alloc: Global) -> Arg<'a>
     ensures rule { rule_of result ≡ flag_rule (codes "strict") }
     ensures local { result.global ≡ false }
+    ensures help { IsShown result STRICT.now }
 {
-    flag_arg(
-        alloc,
-        "strict",
-        "Ends at the first line that is refused; empty lines and lines that begin with # are passed over.",
-    )
+    flag_arg(alloc, "strict", STRICT)
 }
 
 fn number_arg<'a>(alloc: Global) -> Arg<'a>
     ensures rule { rule_of result ≡ flag_rule (codes "number") }
     ensures local { result.global ≡ false }
+    ensures help { IsShown result NUMBER.now }
 {
-    flag_arg(
-        alloc,
-        "number",
-        "Writes the number of its line before each answer.",
-    )
+    flag_arg(alloc, "number", NUMBER)
 }
 
 fn script_command<'a>(alloc: Global) -> Result<Command<'a>, AllocError>
     ensures app { IfOk result (λ c. app_of c ≡ script_app) }
     ensures local { IfOk result (λ c. (out-Command c).has_globals ≡ false) }
 {
-    Command::new(alloc, "script")
-        .about("Runs commands from standard input to standard output.")
-        .after_help(COMMANDS)
+    let about = "Runs commands from standard input to standard output.";
+    with_texts(alloc, "script", about, COMMANDS)
         .arg(strict_arg(alloc))?
         .arg(number_arg(alloc))
 }
@@ -251,14 +269,12 @@ fn check_command<'a>(alloc: Global) -> Result<Command<'a>, AllocError>
     ensures app { IfOk result (λ c. app_of c ≡ check_app) }
     ensures local { IfOk result (λ c. (out-Command c).has_globals ≡ false) }
 {
-    Command::new(alloc, "check")
-        .about("Says of files what they are, and what is wrong in them.")
-        .after_help(ON_CHECK)
-        .arg(names_arg(
-            alloc,
-            "file",
-            "The names of feeds, ribbons, cases and wedges.",
-        ))
+    let about = "Says of files what they are, and what is wrong in them.";
+    with_texts(alloc, "check", about, ON_CHECK).arg(names_arg(
+        alloc,
+        "file",
+        "The names of feeds, ribbons, cases and wedges.",
+    ))
 }
 
 /// A subcommand with a feed, a case and a wedge.
@@ -317,9 +333,8 @@ fn on_ribbon<'a>(alloc: Global) -> Result<Command<'a>, AllocError>
     ensures app { IfOk result (λ c. app_of c ≡ ribbon_app) }
     ensures local { IfOk result (λ c. (out-Command c).has_globals ≡ false) }
 {
-    Command::new(alloc, "read")
-        .about("Writes what a caster would cast of a stored ribbon.")
-        .after_help(ON_READ)
+    let about = "Writes what a caster would cast of a stored ribbon.";
+    with_texts(alloc, "read", about, ON_READ)
         .arg(text_arg(
             alloc,
             "ribbon",
@@ -356,11 +371,11 @@ fn sorts_command<'a>(alloc: Global) -> Result<Command<'a>, AllocError>
 
 /// The program's command without its subcommands.
 fn bare_command<'a>(alloc: Global) -> Command<'a>
-    ensures { app_of result ≡ no_subcommand }
+    ensures app { app_of result ≡ no_subcommand }
+    ensures version { version_of result ≡ Some VERSION.now }
+    ensures texts { HasTexts result ABOUT.now ON_SUBCOMMANDS.now }
 {
-    Command::new(alloc, "copydesk")
-        .about("A copy desk for Monotype composition.")
-        .after_help(ON_SUBCOMMANDS)
+    with_texts(alloc, "copydesk", ABOUT, ON_SUBCOMMANDS)
         .version(VERSION)
         .no_binary_name(true)
         .subcommand_required(true)

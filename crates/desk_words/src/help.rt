@@ -3,6 +3,25 @@
 /// The version of the program.
 pub const VERSION: &str = "0.2.0";
 
+/// What the program is.
+pub const ABOUT: &str = "A copy desk for Monotype composition.";
+
+/// What the feed of a subcommand is.
+pub const FEED: &str = "The name of the file that the feed is stored in.";
+
+/// What the site of a feed is.
+pub const SITE: &str = "The number of the site whose feed it is, from 1 to 65535.";
+
+/// What the target of a ribbon is.
+pub const TARGET: &str = "The name of the file that the ribbon is stored in.";
+
+/// What a strict run does.
+pub const STRICT: &str = "\
+Ends at the first line that is refused; empty lines and lines that begin with # are passed over.";
+
+/// What numbered answers are.
+pub const NUMBER: &str = "Writes the number of its line before each answer.";
+
 /// What the subcommands are for.
 pub const ON_SUBCOMMANDS: &str = "\
 As in:

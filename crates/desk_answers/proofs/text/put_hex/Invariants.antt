@@ -1,6 +1,10 @@
 use Rattle.std.proofs.Common.{◌≡◌, ◌++◌, string_bytes, drop}
+use Rattle.std.specs.Io.{StartsWith}
 use Rattle.desk_answers.specs.Text.{hex_text}
 use Rattle.desk_answers.proofs.text.put_hex.Given as goal
 
 abbrev pub invariant-loop-b : goal.invariant-loop-b
-invariant-loop-b g l = string_bytes l.out ++ hex_text (drop l.b-index l.bytes) ≡ string_bytes l.fn.out ++ hex_text l.bytes
+invariant-loop-b g l = record {
+  text : string_bytes l.out ++ hex_text (drop l.b-index l.bytes) ≡ string_bytes l.fn.out ++ hex_text l.bytes;
+  front : StartsWith (string_bytes l.out) (string_bytes l.fn.out);
+}

@@ -6,7 +6,7 @@ use Rattle.desk_difference.proofs.stretches.close.Goals as goal
 pub returns-in_ok-push-clause-told : goal.returns-in_ok-push-clause-told
 returns-in_ok-push-clause-told g c =
     closed c.args.one.now c.args.other.now c.args.from c.args.to c.args.stretches.now.items c.push.new.self.items c.requires.told c.requires.from c.requires.to c.requires.reached
-    (λ same. true≢false (sym (c.are_same.ensures.1 same) ∙ c.if-not-are_same.true)) c.in_ok-push.ensures.items
+    (λ same. true≢false (sym (c.are_same.ensures.1 same) ∙ c.if-not-are_same.true)) c.requires.begins c.in_ok-push.ensures.items
 
 pub returns-in_ok-push-clause-apart : goal.returns-in_ok-push-clause-apart
 returns-in_ok-push-clause-apart g c = apart_after c.args.stretches.now.items c.push.new.self.items (record { from = c.args.from; to = c.args.to }) c.in_ok-push.ensures.items c.requires.apart c.requires.behind

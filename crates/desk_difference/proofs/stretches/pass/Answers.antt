@@ -1,5 +1,7 @@
-use Rattle.std.proofs.Common.{◌+◌, ◌≤◌, arith}
-use Rattle.desk_difference.proofs.Parts.{closed_same, end_later, here}
+use Rattle.std.proofs.Common.{◌+◌, ◌≤◌, ◌∙◌, arith, sym}
+use Rattle.std.proofs.lemmas.Bool.{true≢false}
+use Rattle.desk_difference.proofs.Begins.{begun_apart, begun_here, begun_within}
+use Rattle.desk_difference.proofs.Parts.{closed_same, end_later, here, reached_farther}
 use Rattle.desk_difference.proofs.stretches.pass.Goals as goal
 
 pub returns : goal.returns
@@ -17,4 +19,29 @@ returns g c =
       last_whole = cc;
       last_reached = at;
       point_reached = at;
+      begun = begun_here c.args.one.now c.args.other.now c.args.point c.args.point (c.args.point.one + 1) at (omega arith);
     }
+
+pub returns-then-not-is_whole : goal.returns-then-not-is_whole
+returns-then-not-is_whole g c = record {
+  told = c.requires.told;
+  apart = c.requires.apart;
+  behind = c.requires.behind;
+  open_whole = c.requires.open_whole;
+  last_whole = c.requires.last_whole;
+  last_reached = c.requires.last_reached;
+  point_reached = c.requires.point_reached;
+  begun = begun_within c.args.one.now c.args.other.now c.args.front c.args.point (sym c.is_whole.ensures ∙ c.if-not-is_whole.true) c.requires.begun;
+}
+
+pub returns-then-not-are_kept : goal.returns-then-not-are_kept
+returns-then-not-are_kept g c = record {
+  told = c.requires.told;
+  apart = c.requires.apart;
+  behind = c.requires.behind;
+  open_whole = c.requires.open_whole;
+  last_whole = sym c.is_whole.ensures ∙ c.if-not-is_whole.false;
+  last_reached = reached_farther c.args.one.now c.args.other.now c.args.front.open c.args.front.last c.args.point c.requires.last_reached c.requires.point_reached;
+  point_reached = here c.args.one.now c.args.other.now c.args.front.last c.args.point c.requires.point_reached;
+  begun = begun_apart c.args.one.now c.args.other.now c.args.front c.args.point (λ both. true≢false (sym (c.are_kept.ensures.1 both) ∙ c.if-not-are_kept.true)) c.requires.begun;
+}

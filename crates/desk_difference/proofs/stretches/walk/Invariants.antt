@@ -6,7 +6,7 @@ use Rattle.desk_difference.proofs.stretches.walk.Given as goal
 abbrev pub invariant-loop-point : goal.invariant-loop-point
 invariant-loop-point g l = record {
   within : IsReached l.one l.other l.point l.point;
-  told : HasTold l.one l.other l.stretches.items l.front l.point;
+  told : HasTold l.one l.other l.stretches.items l.front l.point (l.point.one + 1);
 }
 
 abbrev pub decreases-loop-point : goal.decreases-loop-point

@@ -1,5 +1,8 @@
-use Rattle.std.proofs.Common.{refl, subst}
+use Rattle.std.proofs.Common.{List, inl, refl, subst, sym}
 use Rattle.std.proofs.lemmas.Result.{err_from_is_err_and}
+use Rattle.desk_ops.specs.declared.op.Symbol.{Symbol}
+use Rattle.desk_text.specs.Laws.{AreLawful}
+use Rattle.desk_files.proofs.Shelves.{held_alone}
 use Rattle.desk_stored.specs.Stored.{was_read}
 use Rattle.desk_hand.specs.Editing.{IsRevised, IsUnrevised}
 use Rattle.desk_hand.proofs.importing.import_text.Goals as goal
@@ -19,7 +22,8 @@ returns-in_err-tally-clause-err g c =
     let p = err_from_is_err_and c.from_residual-in_err-tally.result c.from_residual-in_err-tally.ensures.1 in
     let unrevised = subst (λ l. IsUnrevised c.in_ok-old.replica.site c.in_ok-old.replica.ops c.revise.new.replica.ops l c.in_err-tally.field-0.0) c.deref.ensures.value c.in_err-tally.ensures.err in
     let by = subst (λ n. IsUnrevised n c.in_ok-old.replica.ops c.revise.new.replica.ops c.in_ok-text.text.items c.in_err-tally.field-0.0) c.in_ok-old.ensures.site unrevised in
-    rw p.1 (rw p.2 (refl, was_read c.in_ok-old.old, c.in_ok-old.replica.ops, c.in_ok-old.ensures.ok, c.in_ok-text.text.items, c.in_ok-text.ensures.ok, c.revise.new.replica.ops, by))
+    let value = c.in_err-tally.ensures.value (subst (λ (l : List Symbol). AreLawful l) (sym c.deref.ensures.value) c.in_ok-text.ensures.lawful) in
+    rw p.1 (rw p.2 (refl, was_read c.in_ok-old.old, c.in_ok-old.replica.ops, c.in_ok-old.ensures.ok, c.in_ok-text.text.items, c.in_ok-text.ensures.ok, c.revise.new.replica.ops, by, value))
 
 pub returns-in_err-tell_and_keep-clause-err : goal.returns-in_err-tell_and_keep-clause-err
 returns-in_err-tell_and_keep-clause-err g c =
@@ -35,3 +39,11 @@ returns-clause-ok g c =
     let revised = subst (λ l. IsRevised c.in_ok-old.replica.site c.in_ok-old.replica.ops c.revise.new.replica.ops l t.inserted t.deleted) c.deref.ensures.value c.in_ok-tally.ensures.ok in
     let by = subst (λ n. IsRevised n c.in_ok-old.replica.ops c.revise.new.replica.ops c.in_ok-text.text.items t.inserted t.deleted) c.in_ok-old.ensures.site revised in
     (g.F.Files.shelf c.take_feed.new.files, was_read c.in_ok-old.old, c.in_ok-old.replica.ops, c.in_ok-old.ensures.ok, c.revise.new.replica.ops, t.inserted, t.deleted, (c.in_ok-text.text.items, c.in_ok-text.ensures.ok, by), c.in_ok-tell_and_keep.ensures.ok)
+
+pub returns-in_err-tell_and_keep-clause-held : goal.returns-in_err-tell_and_keep-clause-held
+returns-in_err-tell_and_keep-clause-held g c =
+    inl (held_alone c.args.name.now (g.F.Files.shelf c.args.files.now) (g.F.Files.shelf c.take_feed.new.files) (g.F.Files.shelf c.tell_and_keep.new.files) c.in_ok-old.ensures.ok.0 c.tell_and_keep.ensures.held)
+
+pub returns-clause-held : goal.returns-clause-held
+returns-clause-held g c =
+    inl (held_alone c.args.name.now (g.F.Files.shelf c.args.files.now) (g.F.Files.shelf c.take_feed.new.files) (g.F.Files.shelf c.tell_and_keep.new.files) c.in_ok-old.ensures.ok.0 c.tell_and_keep.ensures.held)

@@ -1,4 +1,4 @@
-use Rattle.std.proofs.Common.{◌++◌, ◌∙◌, ap, refl, subst, sym}
+use Rattle.std.proofs.Common.{◌++◌, ◌∙◌, ap, inr, refl, subst, sym}
 use Rattle.std.specs.Prelude.{string_bytes}
 use Rattle.std.proofs.lemmas.Result.{err_from_is_err_and}
 use Rattle.desk_hand.specs.Merging.{IsFeedOf}
@@ -20,7 +20,7 @@ pub returns-in_err-put_line-clause-err : goal.returns-in_err-put_line-clause-err
 returns-in_err-put_line-clause-err g c =
     let p = err_from_is_err_and c.from_residual-in_err-put_line.result c.from_residual-in_err-put_line.ensures.1 in
     let feed = c.in_ok-ops.ensures.ok.0 in
-    rw p.1 (rw p.2 (feed.0, (feed.1, c.in_ok-ops.ensures.ok.1)))
+    rw p.1 (rw p.2 (feed.0, (feed.1, c.in_ok-ops.ensures.ok.1), inr (c.in_ok-ops.ops.items, feed.2)))
 
 pub returns-clause-ok : goal.returns-clause-ok
 returns-clause-ok g c =

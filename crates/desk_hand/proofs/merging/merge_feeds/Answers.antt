@@ -1,7 +1,8 @@
-use Rattle.std.proofs.Common.{◌++◌, ◌∙◌, refl, subst}
+use Rattle.std.proofs.Common.{◌++◌, ◌∙◌, inl, refl, subst}
 use Rattle.std.specs.Prelude.{string_bytes}
 use Rattle.std.proofs.lemmas.Result.{err_from_is_err_and}
 use Rattle.desk_files.specs.Files.{Shelf}
+use Rattle.desk_files.proofs.Shelves.{held_alone, holds_on}
 use Rattle.desk_stored.specs.Stored.{was_read}
 use Rattle.desk_hand.specs.Keeping.{IsKept, IsUnkept}
 use Rattle.desk_hand.specs.Merging.{faults_line}
@@ -44,3 +45,17 @@ returns-clause-ok g c =
     let kept = subst
     (λ (s : Shelf). IsKept c.args.name.now c.join_files.new.replica.ops (string_bytes c.in_ok-out.out ++ faults_line c.join_files.new.replica.ops) (was_read c.in_ok-old.old) s (g.F.Files.shelf c.write_and_keep.new.files) (g.W.Write.contents c.args.writer.now) (g.W.Write.contents c.write_and_keep.new.writer)) same told in
     (g.F.Files.shelf c.take_feed.new.files, was_read c.in_ok-old.old, c.in_ok-old.replica.ops, c.in_ok-old.ensures.ok, c.join_files.new.replica.ops, string_bytes c.in_ok-out.out, c.in_ok-out.ensures.ok, kept)
+
+pub returns-in_err-write_and_keep-clause-held : goal.returns-in_err-write_and_keep-clause-held
+returns-in_err-write_and_keep-clause-held g c =
+    let mid : Shelf = g.F.Files.shelf c.take_feed.new.files in
+    let last : Shelf = g.F.Files.shelf c.write_and_keep.new.files in
+    let on = holds_on mid.held (g.F.Files.shelf c.join_files.new.files).held last.held c.join_files.ensures.stays.2 c.write_and_keep.ensures.held in
+    inl (held_alone c.args.name.now (g.F.Files.shelf c.args.files.now) mid last c.in_ok-old.ensures.ok.0 on)
+
+pub returns-clause-held : goal.returns-clause-held
+returns-clause-held g c =
+    let mid : Shelf = g.F.Files.shelf c.take_feed.new.files in
+    let last : Shelf = g.F.Files.shelf c.write_and_keep.new.files in
+    let on = holds_on mid.held (g.F.Files.shelf c.join_files.new.files).held last.held c.join_files.ensures.stays.2 c.write_and_keep.ensures.held in
+    inl (held_alone c.args.name.now (g.F.Files.shelf c.args.files.now) mid last c.in_ok-old.ensures.ok.0 on)

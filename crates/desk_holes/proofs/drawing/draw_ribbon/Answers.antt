@@ -2,6 +2,7 @@ use Rattle.std.proofs.Common.{ap, inr, subst}
 use Rattle.std.proofs.lemmas.Result.{err_from_is_err_and}
 use Rattle.std.specs.Prelude.{Err, string_bytes}
 use Rattle.desk_files.specs.Files.{Shelf}
+use Rattle.desk_files.proofs.Shelves.{holds_on}
 use Rattle.desk_stored.specs.Faults.{IsNotStored}
 use Rattle.desk_reading.specs.Sources.{sources}
 use Rattle.desk_holes.specs.Drawing.{IsPicture}
@@ -28,3 +29,15 @@ pub returns-in-Err-NoMemory-clause-err : goal.returns-in-Err-NoMemory-clause-err
 returns-in-Err-NoMemory-clause-err g c =
     let t = c.in_ok-bytes in
     inr (t.ensures.still, t.bytes.items, t.case, _, t.ensures.ok)
+
+pub returns-in-Ok-clause-held : goal.returns-in-Ok-clause-held
+returns-in-Ok-clause-held g c =
+    let mid : Shelf = g.F.Files.shelf c.take_in.new.files in
+    let last : Shelf = g.F.Files.shelf c.store.new.files in
+    holds_on (g.F.Files.shelf c.args.files.now).held mid.held last.held c.take_in.ensures.stays.2 c.store.ensures.held
+
+pub returns-in-Ok-store-clause-held : goal.returns-in-Ok-store-clause-held
+returns-in-Ok-store-clause-held g c =
+    let mid : Shelf = g.F.Files.shelf c.take_in.new.files in
+    let last : Shelf = g.F.Files.shelf c.store.new.files in
+    holds_on (g.F.Files.shelf c.args.files.now).held mid.held last.held c.take_in.ensures.stays.2 c.store.ensures.held

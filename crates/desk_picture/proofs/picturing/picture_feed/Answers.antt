@@ -2,6 +2,7 @@ use Rattle.std.proofs.Common.{ap, inr, subst}
 use Rattle.std.proofs.lemmas.Result.{err_from_is_err_and}
 use Rattle.std.specs.Prelude.{Err, string_bytes}
 use Rattle.desk_files.specs.Files.{IsReplaced, Shelf}
+use Rattle.desk_files.proofs.Shelves.{holds_on}
 use Rattle.desk_stored.specs.Faults.{IsNotStored}
 use Rattle.desk_preview.specs.Sources.{sources}
 use Rattle.desk_picture.proofs.Refusing.{unpictured}
@@ -37,3 +38,15 @@ returns-clause-ok g c =
     let drawn = string_bytes c.in_ok-drawn.drawn in
     let stored = subst (λ bytes. IsReplaced c.args.target.now bytes mid.kept last.kept) c.as_bytes.ensures.value c.in_ok-store.ensures.ok in
     (drawn, (t.replica.ops, t.case, t.wedge, t.ensures.ok, c.in_ok-drawn.ensures), subst (λ (s : Shelf). IsReplaced c.args.target.now drawn s.kept last.kept) t.ensures.still stored)
+
+pub returns-in_err-store-clause-held : goal.returns-in_err-store-clause-held
+returns-in_err-store-clause-held g c =
+    let mid : Shelf = g.F.Files.shelf c.take_in.new.files in
+    let last : Shelf = g.F.Files.shelf c.store.new.files in
+    holds_on (g.F.Files.shelf c.args.files.now).held mid.held last.held c.take_in.ensures.stays.2 c.store.ensures.held
+
+pub returns-clause-held : goal.returns-clause-held
+returns-clause-held g c =
+    let mid : Shelf = g.F.Files.shelf c.take_in.new.files in
+    let last : Shelf = g.F.Files.shelf c.store.new.files in
+    holds_on (g.F.Files.shelf c.args.files.now).held mid.held last.held c.take_in.ensures.stays.2 c.store.ensures.held

@@ -3,6 +3,7 @@ use Rattle.std.proofs.lemmas.Result.{err_from_is_err_and}
 use Rattle.std.specs.Io.KnownBytes.{Appends}
 use Rattle.std.specs.Prelude.{Err}
 use Rattle.desk_files.specs.Files.{IsReplaced, Shelf}
+use Rattle.desk_files.proofs.Shelves.{holds_on}
 use Rattle.desk_ribbon.specs.Ribbon.{ribbon}
 use Rattle.desk_job.specs.Answer.{IsRefused}
 use Rattle.desk_stored.specs.Faults.{IsNotStored}
@@ -62,3 +63,15 @@ pub returns-clause-err : goal.returns-clause-err
 returns-clause-err g c =
     let t = c.in_ok-replica in
     (refl, inr (t.ensures.still, t.replica.ops, t.case, t.wedge, t.ensures.ok))
+
+pub returns-in_err-store-in-Ok-clause-held : goal.returns-in_err-store-in-Ok-clause-held
+returns-in_err-store-in-Ok-clause-held g c =
+    let mid : Shelf = g.F.Files.shelf c.take_in.new.files in
+    let last : Shelf = g.F.Files.shelf c.store.new.files in
+    holds_on (g.F.Files.shelf c.args.files.now).held mid.held last.held c.take_in.ensures.stays.2 c.store.ensures.held
+
+pub returns-in-Ok-clause-held : goal.returns-in-Ok-clause-held
+returns-in-Ok-clause-held g c =
+    let mid : Shelf = g.F.Files.shelf c.take_in.new.files in
+    let last : Shelf = g.F.Files.shelf c.store.new.files in
+    holds_on (g.F.Files.shelf c.args.files.now).held mid.held last.held c.take_in.ensures.stays.2 c.store.ensures.held

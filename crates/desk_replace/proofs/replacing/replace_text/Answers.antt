@@ -1,10 +1,13 @@
-use Rattle.std.proofs.Common.{◌≡◌, ◌≤◌, ◌+◌, length, ap, refl, subst}
+use Rattle.std.proofs.Common.{◌≡◌, ◌+◌, List, ap, inl, refl, subst, sym}
 use Rattle.std.proofs.lemmas.Result.{err_from_is_err_and}
+use Rattle.desk_files.proofs.Shelves.{held_alone}
 use Rattle.desk_stored.specs.Stored.{was_read}
-use Rattle.desk_hand.specs.Editing.{IsRevised, IsUnrevised}
+use Rattle.desk_hand.specs.Editing.{IsRevised, IsSparing, IsUnrevised}
 use Rattle.desk_hand.specs.Keeping.{IsKept, IsUnkept, edited_line}
 use Rattle.desk_hand.specs.declared.fault.RevisionFault.TheVariants as revisions
+use Rattle.desk_ops.specs.declared.op.Symbol.{Symbol}
 use Rattle.desk_ops.specs.Shown.{copy_of}
+use Rattle.desk_text.specs.Laws.{AreLawful}
 use Rattle.desk_replace.specs.Replacing.{AreRead}
 use Rattle.desk_replace.specs.Telling.{IsTold}
 use Rattle.desk_replace.proofs.replacing.replace_text.Goals as goal
@@ -33,8 +36,10 @@ returns-in_err-tally-clause-err g c =
     let texts : AreRead c.args.exchange.now c.deref.result.now c.deref-2.result.now = rw (c.deref.ensures.value, c.deref-2.ensures.value) c.in_ok-old.ensures.ok in
     let unrevised = subst (λ l. IsUnrevised c.in_ok-stored.replica.site c.in_ok-stored.replica.ops c.revise.new.replica.ops l c.in_err-tally.field-0.0) c.deref-3.ensures.value c.in_err-tally.ensures.err in
     let by = subst (λ n. IsUnrevised n c.in_ok-stored.replica.ops c.revise.new.replica.ops c.in_ok-text.text.items c.in_err-tally.field-0.0) c.in_ok-stored.ensures.site unrevised in
+    let new = subst (λ (l : List Symbol). AreLawful l) (sym c.deref-2.ensures.value) c.in_ok-old.ensures.lawful in
+    let value = c.in_err-tally.ensures.value (subst (λ (l : List Symbol). AreLawful l) (sym c.deref-3.ensures.value) (c.in_ok-text.ensures.lawful new)) in
     let unrefused = subst (λ l. copy_of c.in_ok-stored.replica.ops ≡ l → c.in_err-tally.field-0.0 ≡ revisions.NoMemory) c.deref-3.ensures.value c.in_err-tally.ensures.unrefused in
-    rw p.1 (rw p.2 (ap g.W.Write.contents c.in_ok-text.ensures.silent, c.deref.result.now, c.deref-2.result.now, texts, was_read c.in_ok-stored.stored, c.in_ok-stored.replica.ops, c.in_ok-stored.ensures.ok, c.in_ok-text.text.items, c.in_ok-text.ensures.ok, c.revise.new.replica.ops, by, unrefused))
+    rw p.1 (rw p.2 (ap g.W.Write.contents c.in_ok-text.ensures.silent, c.deref.result.now, c.deref-2.result.now, texts, was_read c.in_ok-stored.stored, c.in_ok-stored.replica.ops, c.in_ok-stored.ensures.ok, c.in_ok-text.text.items, c.in_ok-text.ensures.ok, c.revise.new.replica.ops, by, unrefused, value))
 
 pub returns-in_err-tell_and_keep-clause-err : goal.returns-in_err-tell_and_keep-clause-err
 returns-in_err-tell_and_keep-clause-err g c =
@@ -43,12 +48,12 @@ returns-in_err-tell_and_keep-clause-err g c =
     let texts : AreRead c.args.exchange.now c.deref.result.now c.deref-2.result.now = rw (c.deref.ensures.value, c.deref-2.ensures.value) c.in_ok-old.ensures.ok in
     let revised = subst (λ l. IsRevised c.in_ok-stored.replica.site c.in_ok-stored.replica.ops c.revise.new.replica.ops l t.inserted t.deleted) c.deref-3.ensures.value c.in_ok-tally.ensures.ok in
     let by = subst (λ n. IsRevised n c.in_ok-stored.replica.ops c.revise.new.replica.ops c.in_ok-text.text.items t.inserted t.deleted) c.in_ok-stored.ensures.site revised in
-    let few = subst (λ l. t.inserted + t.deleted ≤ length (copy_of c.in_ok-stored.replica.ops) + length l) c.deref-3.ensures.value c.in_ok-tally.ensures.few in
+    let sparing = subst (λ l. IsSparing (copy_of c.in_ok-stored.replica.ops) l (t.inserted + t.deleted)) c.deref-3.ensures.value c.in_ok-tally.ensures.sparing in
     let none = subst (λ l. copy_of c.in_ok-stored.replica.ops ≡ l → c.revise.new.replica.ops ≡ c.in_ok-stored.replica.ops) c.deref-3.ensures.value c.in_ok-tally.ensures.none in
     let unkept = subst
     (λ w. IsUnkept c.args.name.now (edited_line t.inserted t.deleted) (g.F.Files.shelf c.take_feed.new.files) (g.F.Files.shelf c.tell_and_keep.new.files) (g.W.Write.contents w) (g.W.Write.contents c.tell_and_keep.new.writer) c.in_err-tell_and_keep.field-0.0)
     c.in_ok-text.ensures.silent c.in_err-tell_and_keep.ensures.err in
-    rw p.1 (rw p.2 (c.deref.result.now, c.deref-2.result.now, texts, g.F.Files.shelf c.take_feed.new.files, was_read c.in_ok-stored.stored, c.in_ok-stored.replica.ops, c.in_ok-stored.ensures.ok, c.revise.new.replica.ops, t.inserted, t.deleted, (c.in_ok-text.text.items, c.in_ok-text.ensures.ok, by, few, none), unkept))
+    rw p.1 (rw p.2 (c.deref.result.now, c.deref-2.result.now, texts, g.F.Files.shelf c.take_feed.new.files, was_read c.in_ok-stored.stored, c.in_ok-stored.replica.ops, c.in_ok-stored.ensures.ok, c.revise.new.replica.ops, t.inserted, t.deleted, (c.in_ok-text.text.items, c.in_ok-text.ensures.ok, by, sparing, none), unkept))
 
 pub returns-clause-ok : goal.returns-clause-ok
 returns-clause-ok g c =
@@ -56,9 +61,17 @@ returns-clause-ok g c =
     let texts : AreRead c.args.exchange.now c.deref.result.now c.deref-2.result.now = rw (c.deref.ensures.value, c.deref-2.ensures.value) c.in_ok-old.ensures.ok in
     let revised = subst (λ l. IsRevised c.in_ok-stored.replica.site c.in_ok-stored.replica.ops c.revise.new.replica.ops l t.inserted t.deleted) c.deref-3.ensures.value c.in_ok-tally.ensures.ok in
     let by = subst (λ n. IsRevised n c.in_ok-stored.replica.ops c.revise.new.replica.ops c.in_ok-text.text.items t.inserted t.deleted) c.in_ok-stored.ensures.site revised in
-    let few = subst (λ l. t.inserted + t.deleted ≤ length (copy_of c.in_ok-stored.replica.ops) + length l) c.deref-3.ensures.value c.in_ok-tally.ensures.few in
+    let sparing = subst (λ l. IsSparing (copy_of c.in_ok-stored.replica.ops) l (t.inserted + t.deleted)) c.deref-3.ensures.value c.in_ok-tally.ensures.sparing in
     let none = subst (λ l. copy_of c.in_ok-stored.replica.ops ≡ l → c.revise.new.replica.ops ≡ c.in_ok-stored.replica.ops) c.deref-3.ensures.value c.in_ok-tally.ensures.none in
     let kept = subst
     (λ w. IsKept c.args.name.now c.revise.new.replica.ops (edited_line t.inserted t.deleted) (was_read c.in_ok-stored.stored) (g.F.Files.shelf c.take_feed.new.files) (g.F.Files.shelf c.tell_and_keep.new.files) (g.W.Write.contents w) (g.W.Write.contents c.tell_and_keep.new.writer))
     c.in_ok-text.ensures.silent c.in_ok-tell_and_keep.ensures.ok in
-    (c.deref.result.now, c.deref-2.result.now, texts, g.F.Files.shelf c.take_feed.new.files, was_read c.in_ok-stored.stored, c.in_ok-stored.replica.ops, c.in_ok-stored.ensures.ok, c.revise.new.replica.ops, t.inserted, t.deleted, (c.in_ok-text.text.items, c.in_ok-text.ensures.ok, by, few, none), kept)
+    (c.deref.result.now, c.deref-2.result.now, texts, g.F.Files.shelf c.take_feed.new.files, was_read c.in_ok-stored.stored, c.in_ok-stored.replica.ops, c.in_ok-stored.ensures.ok, c.revise.new.replica.ops, t.inserted, t.deleted, (c.in_ok-text.text.items, c.in_ok-text.ensures.ok, by, sparing, none), kept)
+
+pub returns-in_err-tell_and_keep-clause-held : goal.returns-in_err-tell_and_keep-clause-held
+returns-in_err-tell_and_keep-clause-held g c =
+    inl (held_alone c.args.name.now (g.F.Files.shelf c.args.files.now) (g.F.Files.shelf c.take_feed.new.files) (g.F.Files.shelf c.tell_and_keep.new.files) c.in_ok-stored.ensures.ok.0 c.tell_and_keep.ensures.held)
+
+pub returns-clause-held : goal.returns-clause-held
+returns-clause-held g c =
+    inl (held_alone c.args.name.now (g.F.Files.shelf c.args.files.now) (g.F.Files.shelf c.take_feed.new.files) (g.F.Files.shelf c.tell_and_keep.new.files) c.in_ok-stored.ensures.ok.0 c.tell_and_keep.ensures.held)

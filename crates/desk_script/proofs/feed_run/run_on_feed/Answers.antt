@@ -1,6 +1,8 @@
-use Rattle.std.proofs.Common.{ap, inl, inr, refl}
+use Rattle.std.proofs.Common.{◌∙◌, ap, inl, inr, refl}
 use Rattle.std.proofs.lemmas.Result.{err_from_is_err_and}
 use Rattle.std.specs.Prelude.{Err}
+use Rattle.desk_files.specs.Files.{Shelf}
+use Rattle.desk_files.proofs.Shelves.{held_alone, holds_on}
 use Rattle.desk_steps.specs.Desk.{desk}
 use Rattle.desk_stored.specs.Stored.{was_read}
 use Rattle.desk_script.specs.FeedRun.{IsStart}
@@ -120,3 +122,21 @@ returns-clause-ok g c =
       (c.answer_all.ensures.stays, c.in_ok-answer_all.ensures.ok),
       c.in_ok-keep_feed.ensures.ok,
     )
+
+-- ---- the name is held on
+
+pub returns-in_err-keep_feed-clause-held : goal.returns-in_err-keep_feed-clause-held
+returns-in_err-keep_feed-clause-held g c =
+    let held : Shelf = g.F.Files.shelf c.hold.new.self in
+    let mid : Shelf = g.F.Files.shelf c.answer_all.new.files in
+    let last : Shelf = g.F.Files.shelf c.keep_feed.new.files in
+    let on = holds_on held.held mid.held last.held (c.answer_all.ensures.stays.2 ∙ c.stored_bytes.ensures.stays.2) c.keep_feed.ensures.held in
+    inl (held_alone c.args.name.now (g.F.Files.shelf c.args.files.now) held last c.in_ok-hold.ensures.taken on)
+
+pub returns-clause-held : goal.returns-clause-held
+returns-clause-held g c =
+    let held : Shelf = g.F.Files.shelf c.hold.new.self in
+    let mid : Shelf = g.F.Files.shelf c.answer_all.new.files in
+    let last : Shelf = g.F.Files.shelf c.keep_feed.new.files in
+    let on = holds_on held.held mid.held last.held (c.answer_all.ensures.stays.2 ∙ c.stored_bytes.ensures.stays.2) c.keep_feed.ensures.held in
+    inl (held_alone c.args.name.now (g.F.Files.shelf c.args.files.now) held last c.in_ok-hold.ensures.taken on)

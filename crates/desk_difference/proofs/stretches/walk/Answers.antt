@@ -1,0 +1,22 @@
+use Rattle.desk_difference.proofs.Begins.{begun_next}
+use Rattle.desk_difference.proofs.Parts.{reached_farther}
+use Rattle.desk_difference.proofs.stretches.walk.Goals as goal
+
+pub pass-requires : goal.pass-requires
+pass-requires g c =
+    let one = c.args.one.now in
+    let other = c.args.other.now in
+    let front = c.loop-point.front in
+    let point = c.loop-point.point in
+    let next = c.step-next.result in
+    let told = c.loop-point.invariant.told in
+    record {
+      told = told.told;
+      apart = told.apart;
+      behind = told.behind;
+      open_whole = told.open_whole;
+      last_whole = told.last_whole;
+      last_reached = told.last_reached;
+      point_reached = reached_farther one other front.last point next told.point_reached c.step-next.ensures.reached;
+      begun = begun_next one other front point next (reached_farther one other front.open front.last point told.last_reached told.point_reached) c.step-next.ensures told.begun;
+    }
