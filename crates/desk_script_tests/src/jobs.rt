@@ -61,10 +61,9 @@ fn parts(name: &str) -> Result<(&'static [u8], &'static [u8]), FileRefusal> {
 }
 
 impl Files for Shelf {
-    ghost use Rattle.std.specs.Prelude.{None};
-    ghost use Rattle.desk_files.specs.Files.{Unknown, shelf};
+    ghost use Rattle.desk_files.specs.Files.{Free, Unknown, shelf};
 
-    ghost shelf = { λ s. shelf (λ _. Unknown) s.failures None };
+    ghost shelf = { λ s. shelf (λ _. Unknown) s.failures Free };
 
     fn failures(&self) -> u64 {
         self.failures
