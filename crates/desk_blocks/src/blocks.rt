@@ -11,7 +11,7 @@ use desk_seq::{Entry, Sequence};
 use std::alloc::{AllocError, Allocator};
 use std::marker::Model;
 
-/// A sequence in pages of at most 512, with an index of its stamps.
+/// A sequence in pages of at most 256, with an index of its stamps.
 #[derive(Drop)]
 pub struct Blocks<A: Allocator> {
     pages: Pages<Slot, Tally, A>,
@@ -34,7 +34,7 @@ impl<A: Allocator> Model for Blocks<A> {
 }
 
 impl<A: Allocator + Copy> Blocks<A> {
-    /// How many entries stand side by side in memory from place i on: one at least, and a page's 512 at most.
+    /// How many entries stand side by side in memory from place i on: one at least, and a page's 256 at most.
     pub fn stretch_len(&self, i: usize) -> usize
         requires { i < length self.now.entries }
         ensures some { 0 < result }

@@ -38,7 +38,7 @@ spot pages p j l k = record { within = l; inside = k; is = refl }
 
 -- ---- half full
 
-pub half-cons : {X : Type 0} (r : List X) (pages : List (List X)) → 256 ≤ length r → AreHalfFull pages → AreHalfFull (r ∷ pages)
+pub half-cons : {X : Type 0} (r : List X) (pages : List (List X)) → 128 ≤ length r → AreHalfFull pages → AreHalfFull (r ∷ pages)
 half-cons r [] l h = let k : 1 ≤ length r = omega arith in k
 half-cons r (s ∷ pages) l h = (l, h)
 
@@ -53,14 +53,14 @@ half-push (r ∷ []) y l h c = (h.0, l)
 half-push (r ∷ s ∷ pages) y l h c = (h.0, halves-push (s ∷ pages) y l h.1 c)
 
 -- a page before one that is half full
-pub half-first : {X : Type 0} (pages : List (List X)) (y : List X) → 1 ≤ length y → IsHalfFull pages → 256 ≤ length (get_or pages 0 []) → IsHalfFull (y ∷ pages)
+pub half-first : {X : Type 0} (pages : List (List X)) (y : List X) → 1 ≤ length y → IsHalfFull pages → 128 ≤ length (get_or pages 0 []) → IsHalfFull (y ∷ pages)
 half-first [] y l h f = (l, tt)
 half-first (r ∷ pages) y l h f = (l, half-cons r pages f h.1)
 
 halves-grow : {X : Type 0} (pages : List (List X)) (p : ℕ) (y : List X) → AreHalfFull pages → length (get_or pages p []) ≤ length y → AreHalfFull (set pages p y)
 halves-grow [] p y h l = tt
 halves-grow (r ∷ []) zero y h l = let a : 1 ≤ length r = h in let k : 1 ≤ length y = omega arith in k
-halves-grow (r ∷ s ∷ pages) zero y h l = (let a : 256 ≤ length r = h.0 in omega arith, h.1)
+halves-grow (r ∷ s ∷ pages) zero y h l = (let a : 128 ≤ length r = h.0 in omega arith, h.1)
 halves-grow (r ∷ []) (suc p) y h l = h
 halves-grow (r ∷ s ∷ pages) (suc p) y h l = half-cons r (set (s ∷ pages) p y) h.0 (halves-grow (s ∷ pages) p y h.1 l)
 
@@ -69,16 +69,16 @@ half-grow [] p y h l = tt
 half-grow (r ∷ pages) zero y h l = (let a : 1 ≤ length r = h.0 in omega arith, h.1)
 half-grow (r ∷ pages) (suc p) y h l = (h.0, halves-grow pages p y h.1 l)
 
-halves-count : {X : Type 0} (pages : List (List X)) → AreHalfFull pages → 256 * (length pages - 1) ≤ length (joined pages)
+halves-count : {X : Type 0} (pages : List (List X)) → AreHalfFull pages → 128 * (length pages - 1) ≤ length (joined pages)
 halves-count [] h = omega arith
 halves-count (r ∷ []) h = omega arith
 halves-count (r ∷ s ∷ pages) h =
-    let a : 256 ≤ length r = h.0 in
+    let a : 128 ≤ length r = h.0 in
     let e = length-append r (joined (s ∷ pages)) in
     let k = halves-count (s ∷ pages) h.1 in
     omega arith
 
-pub half-count : {X : Type 0} (pages : List (List X)) → IsHalfFull pages → 256 * (length pages - 2) ≤ length (joined pages)
+pub half-count : {X : Type 0} (pages : List (List X)) → IsHalfFull pages → 128 * (length pages - 2) ≤ length (joined pages)
 half-count [] h = omega arith
 half-count (r ∷ pages) h =
     let e = length-append r (joined pages) in
@@ -89,7 +89,7 @@ half-count (r ∷ pages) h =
 pub free-some : {X : Type 0} (pages : List (List X)) (free all len : ℕ) → IsHalfFull pages → len ≡ length (joined pages) → 1 ≤ spare_of free all len → all ≡ length pages + free → 1 ≤ free
 free-some pages free all len h is s sum = let k = half-count pages h in omega arith
 
-pub closed-last : {X : Type 0} (pages : List (List X)) (k : ℕ) → suc k ≡ length pages → length (get_or pages k []) ≡ 512 → IsClosed pages
+pub closed-last : {X : Type 0} (pages : List (List X)) (k : ℕ) → suc k ≡ length pages → length (get_or pages k []) ≡ 256 → IsClosed pages
 closed-last [] k l h = tt
 closed-last (r ∷ []) zero l h = h
 closed-last (r ∷ []) (suc k) l h = absurd (omega arith)
@@ -98,14 +98,14 @@ closed-last (r ∷ s ∷ pages) (suc k) l h = closed-last (s ∷ pages) k (omega
 
 -- ---- a page is cut in two
 
-pub cut-is : {X : Type 0} (pages : List (List X)) (p : ℕ) → p < length pages → insert (set pages p (take 256 (get_or pages p []))) (suc p) (drop 256 (get_or pages p [])) ≡ cut_at pages p
+pub cut-is : {X : Type 0} (pages : List (List X)) (p : ℕ) → p < length pages → insert (set pages p (take 128 (get_or pages p []))) (suc p) (drop 128 (get_or pages p [])) ≡ cut_at pages p
 cut-is [] p l = absurd (omega arith)
 cut-is (r ∷ pages) zero l = refl
 cut-is (r ∷ pages) (suc p) l = ap (λ x. r ∷ x) (cut-is pages p (omega arith))
 
 pub cut-joined : {X : Type 0} (pages : List (List X)) (p : ℕ) → joined (cut_at pages p) ≡ joined pages
 cut-joined [] p = refl
-cut-joined (r ∷ pages) zero = sym (append_assoc (take 256 r) (drop 256 r) (joined pages)) ∙ ap (λ x. x ++ joined pages) (take-append-drop 256 r)
+cut-joined (r ∷ pages) zero = sym (append_assoc (take 128 r) (drop 128 r) (joined pages)) ∙ ap (λ x. x ++ joined pages) (take-append-drop 128 r)
 cut-joined (r ∷ pages) (suc p) = ap (λ x. r ++ x) (cut-joined pages p)
 
 pub cut-length : {X : Type 0} (pages : List (List X)) (p : ℕ) → p < length pages → length (cut_at pages p) ≡ length pages + 1
@@ -113,30 +113,30 @@ cut-length [] p l = absurd (omega arith)
 cut-length (r ∷ pages) zero l = omega arith
 cut-length (r ∷ pages) (suc p) l = let h = cut-length pages p (omega arith) in omega arith
 
-halves-cut : {X : Type 0} (pages : List (List X)) (p : ℕ) → AreHalfFull pages → p < length pages → length (get_or pages p []) ≡ 512 → AreHalfFull (cut_at pages p)
+halves-cut : {X : Type 0} (pages : List (List X)) (p : ℕ) → AreHalfFull pages → p < length pages → length (get_or pages p []) ≡ 256 → AreHalfFull (cut_at pages p)
 halves-cut [] p h l f = tt
-halves-cut (r ∷ pages) zero h l f = half-cons (take 256 r) (drop 256 r ∷ pages) (simp length-take (omega arith)) (half-upper pages h)
+halves-cut (r ∷ pages) zero h l f = half-cons (take 128 r) (drop 128 r ∷ pages) (simp length-take (omega arith)) (half-upper pages h)
   where
-    upper : 256 ≤ length (drop 256 r)
+    upper : 128 ≤ length (drop 128 r)
     upper = simp length-drop (omega arith)
 
-    half-upper : (rest : List (List _)) → AreHalfFull (r ∷ rest) → AreHalfFull (drop 256 r ∷ rest)
-    half-upper [] q = let k : 1 ≤ length (drop 256 r) = omega (arith, upper) in k
+    half-upper : (rest : List (List _)) → AreHalfFull (r ∷ rest) → AreHalfFull (drop 128 r ∷ rest)
+    half-upper [] q = let k : 1 ≤ length (drop 128 r) = omega (arith, upper) in k
     half-upper (s ∷ rest) q = (upper, q.1)
 halves-cut (r ∷ []) (suc p) h l f = absurd (omega arith)
 halves-cut (r ∷ s ∷ pages) (suc p) h l f = half-cons r (cut_at (s ∷ pages) p) h.0 (halves-cut (s ∷ pages) p h.1 (omega arith) f)
 
-pub cut-half : {X : Type 0} (pages : List (List X)) (p : ℕ) → IsHalfFull pages → p < length pages → length (get_or pages p []) ≡ 512 → IsHalfFull (cut_at pages p)
+pub cut-half : {X : Type 0} (pages : List (List X)) (p : ℕ) → IsHalfFull pages → p < length pages → length (get_or pages p []) ≡ 256 → IsHalfFull (cut_at pages p)
 cut-half [] p h l f = tt
-cut-half (r ∷ pages) zero h l f = (simp length-take (omega arith), half-cons (drop 256 r) pages (simp length-drop (omega arith)) h.1)
+cut-half (r ∷ pages) zero h l f = (simp length-take (omega arith), half-cons (drop 128 r) pages (simp length-drop (omega arith)) h.1)
 cut-half (r ∷ pages) (suc p) h l f = (h.0, halves-cut pages p h.1 (omega arith) f)
 
-pub cut-lower : {X : Type 0} (pages : List (List X)) (p : ℕ) → p < length pages → get_or (cut_at pages p) p [] ≡ take 256 (get_or pages p [])
+pub cut-lower : {X : Type 0} (pages : List (List X)) (p : ℕ) → p < length pages → get_or (cut_at pages p) p [] ≡ take 128 (get_or pages p [])
 cut-lower [] p l = absurd (omega arith)
 cut-lower (r ∷ pages) zero l = refl
 cut-lower (r ∷ pages) (suc p) l = cut-lower pages p (omega arith)
 
-pub cut-upper : {X : Type 0} (pages : List (List X)) (p : ℕ) → p < length pages → get_or (cut_at pages p) (suc p) [] ≡ drop 256 (get_or pages p [])
+pub cut-upper : {X : Type 0} (pages : List (List X)) (p : ℕ) → p < length pages → get_or (cut_at pages p) (suc p) [] ≡ drop 128 (get_or pages p [])
 cut-upper [] p l = absurd (omega arith)
 cut-upper (r ∷ pages) zero l = refl
 cut-upper (r ∷ pages) (suc p) l = cut-upper pages p (omega arith)
@@ -147,10 +147,10 @@ cut-before (r ∷ pages) zero l = refl
 cut-before (r ∷ pages) (suc p) l = ap (λ x. r ∷ x) (cut-before pages p (omega arith))
 
 -- the place in the half that has it now
-pub gap-lower : {X : Type 0} (pages : List (List X)) (i p j : ℕ) → IsSpot pages i p j → length (get_or pages p []) ≡ 512 → j ≤ 256 → IsGap (cut_at pages p) i p j
+pub gap-lower : {X : Type 0} (pages : List (List X)) (i p j : ℕ) → IsSpot pages i p j → length (get_or pages p []) ≡ 256 → j ≤ 128 → IsGap (cut_at pages p) i p j
 gap-lower pages i p j at f l =
     let w = at.within in
-    let n : length (get_or (cut_at pages p) p []) ≡ 256 = rw (cut-lower pages p w) (simp length-take (omega arith)) in
+    let n : length (get_or (cut_at pages p) p []) ≡ 128 = rw (cut-lower pages p w) (simp length-take (omega arith)) in
     let c = cut-length pages p w in
     record {
       within = omega arith;
@@ -159,11 +159,11 @@ gap-lower pages i p j at f l =
       is = at.is ∙ ap (λ (x : List (List _)). length (joined x) + j) (sym (cut-before pages p w));
     }
 
-pub gap-upper : {X : Type 0} (pages : List (List X)) (i p j : ℕ) → IsSpot pages i p j → length (get_or pages p []) ≡ 512 → 256 ≤ j → IsGap (cut_at pages p) i (p + 1) (j - 256)
+pub gap-upper : {X : Type 0} (pages : List (List X)) (i p j : ℕ) → IsSpot pages i p j → length (get_or pages p []) ≡ 256 → 128 ≤ j → IsGap (cut_at pages p) i (p + 1) (j - 128)
 gap-upper pages i p j at f l = rw add-one (
     let w = at.within in
-    let n : length (get_or (cut_at pages p) (suc p) []) ≡ 256 = rw (cut-upper pages p w) (simp length-drop (omega arith)) in
-    let m : length (get_or (cut_at pages p) p []) ≡ 256 = rw (cut-lower pages p w) (simp length-take (omega arith)) in
+    let n : length (get_or (cut_at pages p) (suc p) []) ≡ 128 = rw (cut-upper pages p w) (simp length-drop (omega arith)) in
+    let m : length (get_or (cut_at pages p) p []) ≡ 128 = rw (cut-lower pages p w) (simp length-take (omega arith)) in
     let c = cut-length pages p w in
     let in_page = at.inside in
     let wc : p < length (cut_at pages p) = omega arith in
@@ -200,7 +200,7 @@ joined-push [] r = append-nil r
 joined-push (s ∷ pages) r = ap (λ x. s ++ x) (joined-push pages r) ∙ sym (append_assoc s (joined pages) r)
 
 -- the place behind the last entry
-pub end-gap : {X : Type 0} (pages : List (List X)) (p : ℕ) → p + 1 ≡ length pages → length (get_or pages p []) < 512 → IsGap pages (length (joined pages)) p (length (get_or pages p []))
+pub end-gap : {X : Type 0} (pages : List (List X)) (p : ℕ) → p + 1 ≡ length pages → length (get_or pages p []) < 256 → IsGap pages (length (joined pages)) p (length (get_or pages p []))
 end-gap pages p l f =
     let w : p < length pages = omega arith in
     let s = start-more pages p w in
@@ -208,20 +208,20 @@ end-gap pages p l f =
     record { within = w; inside = omega arith; has_room = f; is = omega arith }
 
 -- what a page that was read tells of the list of pages
-pub full-page : {X : Type 0} (pages : List (List X)) (p n : ℕ) (r : List X) → p < length pages → r ≡ get_or pages p r → n ≡ length r → n ≤ 512 → 512 ≤ n → length (get_or pages p []) ≡ 512
+pub full-page : {X : Type 0} (pages : List (List X)) (p n : ℕ) (r : List X) → p < length pages → r ≡ get_or pages p r → n ≡ length r → n ≤ 256 → 256 ≤ n → length (get_or pages p []) ≡ 256
 full-page pages p n r w e l a b = let q = ap length (get_or_read pages p r w e []) in omega arith
 
 pub page-length : {X : Type 0} (pages : List (List X)) (p n : ℕ) (r : List X) → p < length pages → r ≡ get_or pages p r → n ≡ length r → n ≡ length (get_or pages p [])
 page-length pages p n r w e l = let q = ap length (get_or_read pages p r w e []) in omega arith
 
-pub spot-gap : {X : Type 0} (pages : List (List X)) (i p j : ℕ) → IsSpot pages i p j → length (get_or pages p []) < 512 → IsGap pages i p j
+pub spot-gap : {X : Type 0} (pages : List (List X)) (i p j : ℕ) → IsSpot pages i p j → length (get_or pages p []) < 256 → IsGap pages i p j
 spot-gap pages i p j s l = let a = s.inside in record { within = s.within; inside = omega arith; has_room = l; is = s.is }
 
 -- one more in a page that was read and written
 pub gap-put : {X : Type 0} (pages : List (List X)) (i p j : ℕ) (x : X) (r y : List X) → IsGap pages i p j → r ≡ get_or pages p r → y ≡ insert r j x → y ≡ insert (get_or pages p []) j x
 gap-put pages i p j x r y g e q = q ∙ ap (λ (z : List _). insert z j x) (get_or_read pages p r g.within e [])
 
-pub kept-more : {X : Type 0} (old new : List (List X)) (i len free all a b : ℕ) (x : X) → len ≡ length (joined old) → i ≤ len → joined new ≡ insert (joined old) i x → IsHalfFull new → all ≤ a → all ≤ b → all ≤ 1099511627776 → 1 ≤ spare_of free all len → IsKept new (len + 1) all a b
+pub kept-more : {X : Type 0} (old new : List (List X)) (i len free all a b : ℕ) (x : X) → len ≡ length (joined old) → i ≤ len → joined new ≡ insert (joined old) i x → IsHalfFull new → all ≤ a → all ≤ b → all ≤ 2199023255552 → 1 ≤ spare_of free all len → IsKept new (len + 1) all a b
 kept-more old new i len free all a b x e l put h ra rb few spare = record {
   is_len = let m = ap length put ∙ length-insert (joined old) i x (omega arith) in omega arith;
   half = h;
@@ -307,7 +307,7 @@ end-le pages p j len s e = go (cases_lt p (length pages))
     go (inl l) = let a = start-more pages p l in let b = start-le pages (suc p) in let k = s.inside l in omega arith
     go (inr l) = let a = end-is pages p j s l in omega arith
 
-pub closed-push : {X : Type 0} (pages : List (List X)) (y : List X) → length y ≡ 512 → IsClosed (pages ++ y ∷ [])
+pub closed-push : {X : Type 0} (pages : List (List X)) (y : List X) → length y ≡ 256 → IsClosed (pages ++ y ∷ [])
 closed-push [] y l = l
 closed-push (r ∷ []) y l = l
 closed-push (r ∷ s ∷ pages) y l = closed-push (s ∷ pages) y l

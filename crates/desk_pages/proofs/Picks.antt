@@ -102,7 +102,7 @@ pub halves-some : {X : Type 0} (pages : List (List X)) (k : ℕ) → AreHalfFull
 halves-some [] k h l = absurd (omega arith)
 halves-some (r ∷ []) zero h l = let a : 1 ≤ length r = h in omega arith
 halves-some (r ∷ []) (suc k) h l = absurd (omega arith)
-halves-some (r ∷ s ∷ pages) zero h l = let a : 256 ≤ length r = h.0 in omega arith
+halves-some (r ∷ s ∷ pages) zero h l = let a : 128 ≤ length r = h.0 in omega arith
 halves-some (r ∷ s ∷ pages) (suc k) h l = halves-some (s ∷ pages) k h.1 (omega arith)
 
 pub half-some : {X : Type 0} (pages : List (List X)) (k : ℕ) → IsHalfFull pages → k < length pages → 0 < length (get_or pages k [])

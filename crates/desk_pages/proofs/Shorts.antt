@@ -15,7 +15,7 @@ shorts-set : {X : Type 0} (pages : List (List X)) (p : ℕ) (y : List X) → Are
 shorts-set [] p y h l e = absurd (omega arith)
 shorts-set (r ∷ []) zero y h l e = tt
 shorts-set (r ∷ []) (suc p) y h l e = absurd (omega arith)
-shorts-set (r ∷ s ∷ pages) zero y h l e = (let a : 256 ≤ length r = h.0 in omega arith, h.1)
+shorts-set (r ∷ s ∷ pages) zero y h l e = (let a : 128 ≤ length r = h.0 in omega arith, h.1)
 shorts-set (r ∷ s ∷ []) (suc zero) y h l e = (h.0, tt)
 shorts-set (r ∷ s ∷ []) (suc (suc p)) y h l e = absurd (omega arith)
 shorts-set (r ∷ s ∷ t ∷ pages) (suc zero) y h l e = (h.0, shorts-set (s ∷ t ∷ pages) zero y h.1 (omega arith) e)
@@ -27,14 +27,14 @@ short-set (r ∷ pages) zero y h l e = h.1
 short-set (r ∷ pages) (suc p) y h l e = (h.0, shorts-set pages p y h.1 (omega arith) e)
 
 -- long enough after all
-shorts-half : {X : Type 0} (pages : List (List X)) (p : ℕ) → AreShortAt pages p → p < length pages → 256 ≤ length (get_or pages p []) → AreHalfFull pages
+shorts-half : {X : Type 0} (pages : List (List X)) (p : ℕ) → AreShortAt pages p → p < length pages → 128 ≤ length (get_or pages p []) → AreHalfFull pages
 shorts-half [] p h l e = tt
 shorts-half (r ∷ []) zero h l e = let k : 1 ≤ length r = omega arith in k
 shorts-half (r ∷ []) (suc p) h l e = h
 shorts-half (r ∷ s ∷ pages) zero h l e = (e, h.1)
 shorts-half (r ∷ s ∷ pages) (suc p) h l e = (h.0, shorts-half (s ∷ pages) p h.1 (omega arith) e)
 
-pub short-half : {X : Type 0} (pages : List (List X)) (p : ℕ) → IsShortAt pages p → p < length pages → 256 ≤ length (get_or pages p []) → IsHalfFull pages
+pub short-half : {X : Type 0} (pages : List (List X)) (p : ℕ) → IsShortAt pages p → p < length pages → 128 ≤ length (get_or pages p []) → IsHalfFull pages
 short-half [] p h l e = tt
 short-half (r ∷ pages) zero h l e = (omega arith, h)
 short-half (r ∷ pages) (suc p) h l e = (h.0, shorts-half pages p h.1 (omega arith) e)
@@ -56,7 +56,7 @@ short-last (r ∷ pages) (suc p) h l e = (h.0, shorts-last pages p h.1 (omega ar
 shorts-front : {X : Type 0} (pages : List (List X)) (y : List X) (p : ℕ) → AreShortAt (pages ++ y ∷ []) p → p ≡ length pages → AreHalfFull pages
 shorts-front [] y p h e = tt
 shorts-front (r ∷ []) y zero h e = absurd (omega arith)
-shorts-front (r ∷ []) y (suc p) h e = let a : 256 ≤ length r = h.0 in let k : 1 ≤ length r = omega arith in k
+shorts-front (r ∷ []) y (suc p) h e = let a : 128 ≤ length r = h.0 in let k : 1 ≤ length r = omega arith in k
 shorts-front (r ∷ s ∷ pages) y zero h e = absurd (omega arith)
 shorts-front (r ∷ s ∷ pages) y (suc p) h e = half-cons r (s ∷ pages) h.0 (shorts-front (s ∷ pages) y p h.1 (omega arith))
 
@@ -75,8 +75,8 @@ merge-joined (r ∷ s ∷ pages) (suc p) l = ap (λ x. r ++ x) (merge-joined (s 
 merges-half : {X : Type 0} (pages : List (List X)) (p : ℕ) → AreShortAt pages p → suc p < length pages → AreHalfFull (set (remove pages (suc p)) p (get_or pages p [] ++ get_or pages (suc p) []))
 merges-half [] p h l = absurd (omega arith)
 merges-half (r ∷ []) p h l = absurd (omega arith)
-merges-half (r ∷ s ∷ []) zero h l = let e = length-append r s in let a : 255 ≤ length r = h.0 in let k : 1 ≤ length (r ++ s) = omega arith in k
-merges-half (r ∷ s ∷ t ∷ pages) zero h l = (let e = length-append r s in let a : 255 ≤ length r = h.0 in let b : 256 ≤ length s = h.1.0 in omega arith, h.1.1)
+merges-half (r ∷ s ∷ []) zero h l = let e = length-append r s in let a : 127 ≤ length r = h.0 in let k : 1 ≤ length (r ++ s) = omega arith in k
+merges-half (r ∷ s ∷ t ∷ pages) zero h l = (let e = length-append r s in let a : 127 ≤ length r = h.0 in let b : 128 ≤ length s = h.1.0 in omega arith, h.1.1)
 merges-half (r ∷ s ∷ pages) (suc p) h l = half-cons r (set (remove (s ∷ pages) (suc p)) p (get_or (s ∷ pages) p [] ++ get_or (s ∷ pages) (suc p) [])) h.0 (merges-half (s ∷ pages) p h.1 (omega arith))
 
 pub merge-half : {X : Type 0} (pages : List (List X)) (p : ℕ) → IsShortAt pages p → suc p < length pages → IsHalfFull (set (remove pages (suc p)) p (get_or pages p [] ++ get_or pages (suc p) []))
@@ -94,24 +94,24 @@ share-joined (r ∷ s ∷ pages) zero n l =
     ∙ ap (λ z. r ++ z) (sym (append_assoc (take n s) (drop n s) (joined pages)) ∙ ap (λ z. z ++ joined pages) (take-append-drop n s))
 share-joined (r ∷ s ∷ pages) (suc p) n l = ap (λ z. r ++ z) (share-joined (s ∷ pages) p n (omega arith))
 
-shares-half : {X : Type 0} (pages : List (List X)) (p n : ℕ) → AreShortAt pages p → suc p < length pages → 1 ≤ n → n + 256 ≤ length (get_or pages (suc p) []) → AreHalfFull (insert (set (remove pages (suc p)) p (get_or pages p [] ++ take n (get_or pages (suc p) []))) (suc p) (drop n (get_or pages (suc p) [])))
+shares-half : {X : Type 0} (pages : List (List X)) (p n : ℕ) → AreShortAt pages p → suc p < length pages → 1 ≤ n → n + 128 ≤ length (get_or pages (suc p) []) → AreHalfFull (insert (set (remove pages (suc p)) p (get_or pages p [] ++ take n (get_or pages (suc p) []))) (suc p) (drop n (get_or pages (suc p) [])))
 shares-half [] p n h l m f = absurd (omega arith)
 shares-half (r ∷ []) p n h l m f = absurd (omega arith)
 shares-half (r ∷ s ∷ []) zero n h l m f =
-    let a : 255 ≤ length r = h.0 in
+    let a : 127 ≤ length r = h.0 in
     let b = length-append r (take n s) in
     let c = length-take-le n s (omega arith) in
     let d = length-drop n s in
     (omega arith, let k : 1 ≤ length (drop n s) = omega arith in k)
 shares-half (r ∷ s ∷ t ∷ pages) zero n h l m f =
-    let a : 255 ≤ length r = h.0 in
+    let a : 127 ≤ length r = h.0 in
     let b = length-append r (take n s) in
     let c = length-take-le n s (omega arith) in
     let d = length-drop n s in
     (omega arith, (omega arith, h.1.1))
 shares-half (r ∷ s ∷ pages) (suc p) n h l m f = half-cons r (insert (set (remove (s ∷ pages) (suc p)) p (get_or (s ∷ pages) p [] ++ take n (get_or (s ∷ pages) (suc p) []))) (suc p) (drop n (get_or (s ∷ pages) (suc p) []))) h.0 (shares-half (s ∷ pages) p n h.1 (omega arith) m f)
 
-pub share-half : {X : Type 0} (pages : List (List X)) (p n : ℕ) → IsShortAt pages p → suc p < length pages → 1 ≤ n → n + 256 ≤ length (get_or pages (suc p) []) → IsHalfFull (insert (set (remove pages (suc p)) p (get_or pages p [] ++ take n (get_or pages (suc p) []))) (suc p) (drop n (get_or pages (suc p) [])))
+pub share-half : {X : Type 0} (pages : List (List X)) (p n : ℕ) → IsShortAt pages p → suc p < length pages → 1 ≤ n → n + 128 ≤ length (get_or pages (suc p) []) → IsHalfFull (insert (set (remove pages (suc p)) p (get_or pages p [] ++ take n (get_or pages (suc p) []))) (suc p) (drop n (get_or pages (suc p) [])))
 share-half [] p n h l m f = absurd (omega arith)
 share-half (r ∷ []) p n h l m f = absurd (omega arith)
 share-half (r ∷ s ∷ pages) zero n h l m f =
@@ -122,7 +122,7 @@ share-half (r ∷ s ∷ pages) zero n h l m f =
 share-half (r ∷ s ∷ pages) (suc p) n h l m f = (h.0, shares-half (s ∷ pages) p n h.1 (omega arith) m f)
 
 -- a page that has more may lose one
-mores-half : {X : Type 0} (pages : List (List X)) (p : ℕ) (y : List X) → AreHalfFull pages → p < length pages → 2 ≤ length (get_or pages p []) → (suc p < length pages → 257 ≤ length (get_or pages p [])) → length y + 1 ≡ length (get_or pages p []) → AreHalfFull (set pages p y)
+mores-half : {X : Type 0} (pages : List (List X)) (p : ℕ) (y : List X) → AreHalfFull pages → p < length pages → 2 ≤ length (get_or pages p []) → (suc p < length pages → 129 ≤ length (get_or pages p [])) → length y + 1 ≡ length (get_or pages p []) → AreHalfFull (set pages p y)
 mores-half [] p y h l some more e = tt
 mores-half (r ∷ []) zero y h l some more e = let k : 1 ≤ length y = omega arith in k
 mores-half (r ∷ []) (suc p) y h l some more e = absurd (omega arith)

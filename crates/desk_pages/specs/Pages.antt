@@ -27,24 +27,24 @@ pub record IsSpotOrEnd {X : Type 0} (pages : List (List X)) (p j : ℕ) : Type 0
 pub record IsGap {X : Type 0} (pages : List (List X)) (i p j : ℕ) : Type 0 where
   pub within : p < length pages
   pub inside : j ≤ length (slice_index_or pages p [])
-  pub has_room : length (slice_index_or pages p []) < 512
+  pub has_room : length (slice_index_or pages p []) < 256
   pub is : i ≡ start_of pages p + j
 
--- no page is empty, and each but the last has 256 at least
+-- no page is empty, and each but the last has 128 at least
 abbrev pub AreHalfFull : {X : Type 0} → List (List X) → Type 0
 AreHalfFull [] = Unit {0}
 AreHalfFull (r ∷ []) = 1 ≤ length r
-AreHalfFull (r ∷ s ∷ pages) = (256 ≤ length r) × AreHalfFull (s ∷ pages)
+AreHalfFull (r ∷ s ∷ pages) = (128 ≤ length r) × AreHalfFull (s ∷ pages)
 
 -- the same, but that page p may have one less than it must
 abbrev pub AreShortAt : {X : Type 0} → List (List X) → ℕ → Type 0
 AreShortAt [] p = Unit {0}
 AreShortAt (r ∷ []) zero = Unit {0}
 AreShortAt (r ∷ []) (suc p) = 1 ≤ length r
-AreShortAt (r ∷ s ∷ pages) zero = (255 ≤ length r) × AreHalfFull (s ∷ pages)
-AreShortAt (r ∷ s ∷ pages) (suc p) = (256 ≤ length r) × AreShortAt (s ∷ pages) p
+AreShortAt (r ∷ s ∷ pages) zero = (127 ≤ length r) × AreHalfFull (s ∷ pages)
+AreShortAt (r ∷ s ∷ pages) (suc p) = (128 ≤ length r) × AreShortAt (s ∷ pages) p
 
--- no page is empty, and each but the first and the last has 256 at least
+-- no page is empty, and each but the first and the last has 128 at least
 abbrev pub IsHalfFull : {X : Type 0} → List (List X) → Type 0
 IsHalfFull [] = Unit {0}
 IsHalfFull (r ∷ pages) = (1 ≤ length r) × AreHalfFull pages
@@ -58,24 +58,24 @@ IsShortAt (r ∷ pages) (suc p) = (1 ≤ length r) × AreShortAt pages p
 -- page p may lose an entry and stay long enough
 pub record HasMore {X : Type 0} (pages : List (List X)) (p : ℕ) : Type 0 where
   pub some : 2 ≤ length (slice_index_or pages p [])
-  pub more : 0 < p → suc p < length pages → 257 ≤ length (slice_index_or pages p [])
+  pub more : 0 < p → suc p < length pages → 129 ≤ length (slice_index_or pages p [])
 
 -- no page, or the last is full
 abbrev pub IsClosed : {X : Type 0} → List (List X) → Type 0
 IsClosed [] = Unit {0}
-IsClosed (r ∷ []) = length r ≡ 512
+IsClosed (r ∷ []) = length r ≡ 256
 IsClosed (r ∷ s ∷ pages) = IsClosed (s ∷ pages)
 
 -- page p cut in two
 abbrev pub cut_at : {X : Type 0} → List (List X) → ℕ → List (List X)
 cut_at [] p = []
-cut_at (r ∷ pages) zero = take 256 r ∷ drop 256 r ∷ pages
+cut_at (r ∷ pages) zero = take 128 r ∷ drop 128 r ∷ pages
 cut_at (r ∷ pages) (suc p) = r ∷ cut_at pages p
 
 -- how many more fit with no new memory, whichever pages they come to: as many as pages are free, since each cuts one page
 -- at most, or, where that is more, as many as all pages but two have room for when each is half full; and 2 ^ 47 entries at most
 abbrev pub spare_of : (free all len : ℕ) → ℕ
-spare_of free all len = min (max free (256 * (all - 2) - len)) (2 ^ 47 - len)
+spare_of free all len = min (max free (128 * (all - 2) - len)) (2 ^ 47 - len)
 
 -- what the pages in use keep: all is the number of pages, the free ones with them
 pub record IsKept {X : Type 0} (pages : List (List X)) (len all used_room free_room : ℕ) : Type 0 where
@@ -83,7 +83,7 @@ pub record IsKept {X : Type 0} (pages : List (List X)) (len all used_room free_r
   pub half : IsHalfFull pages
   pub room : all ≤ used_room
   pub back : all ≤ free_room
-  pub few : all ≤ 2 ^ 40
+  pub few : all ≤ 2 ^ 41
   pub fits : len < 2 ^ 48
 
 -- where each group of 64 pages begins, as far as it is known

@@ -23,7 +23,7 @@ pub struct Placed {
     pub cut: Option<usize>,
 }
 
-/// A list in pages of at most 512, seen as its entries and how many more it takes with no new memory.
+/// A list in pages of at most 256, seen as its entries and how many more it takes with no new memory.
 #[derive(Drop)]
 pub struct Pages<T: Copy, S: Summary<T>, A: Allocator> {
     pages: Vec<Page<T, S, A>, A>,

@@ -6,9 +6,9 @@ use std::alloc::{AllocError, Allocator};
 use std::marker::Model;
 
 /// The most entries of a page.
-pub const FULL: usize = 512;
+pub const FULL: usize = 256;
 /// The fewest of a page that is not the last.
-pub const HALF: usize = 256;
+pub const HALF: usize = 128;
 
 /// What is kept of each page, so that a search can pass it by.
 pub trait Summary<T: Copy>: Copy {
@@ -17,7 +17,7 @@ pub trait Summary<T: Copy>: Copy {
 
     /// That of a page.
     fn of(page: &[T]) -> Self
-        requires { length page.now ≤ 512 }
+        requires { length page.now ≤ 256 }
         ensures { tells result page.now };
 
     /// That with one entry more, wherever it is put.
@@ -46,7 +46,7 @@ impl<T: Copy> Summary<T> for () {
     fn join(self, _other: ()) -> () {}
 }
 
-/// At most 512 entries, with memory for as many.
+/// At most 256 entries, with memory for as many.
 #[derive(Drop)]
 pub struct Page<T: Copy, S: Summary<T>, A: Allocator> {
     items: Vec<T, A>,
@@ -60,7 +60,7 @@ impl<T: Copy, S: Summary<T>, A: Allocator> Model for Page<T, S, A> {
 
     ghost view = { λ r. r.items.items };
 
-    ghost invariant = { λ r. (length r.items.items ≤ 512) × (512 ≤ vec_capacity r.items) × S.tells r.summary r.items.items × IfSome r.last (λ x. x ≡ slice_index_or r.items.items (length r.items.items - 1) x) };
+    ghost invariant = { λ r. (length r.items.items ≤ 256) × (256 ≤ vec_capacity r.items) × S.tells r.summary r.items.items × IfSome r.last (λ x. x ≡ slice_index_or r.items.items (length r.items.items - 1) x) };
 }
 
 impl<T: Copy, S: Summary<T>, A: Allocator> Page<T, S, A> {
@@ -77,7 +77,7 @@ impl<T: Copy, S: Summary<T>, A: Allocator> Page<T, S, A> {
 
     pub fn len(&self) -> usize
         ensures len { result ≡ length self.now }
-        ensures most { result ≤ 512 }
+        ensures most { result ≤ 256 }
     {
         self.items.len()
     }
@@ -112,7 +112,7 @@ impl<T: Copy, S: Summary<T>, A: Allocator> Page<T, S, A> {
     /// Puts one where there is room.
     pub fn insert(&mut self, j: usize, x: T)
         requires within { j ≤ length self.old }
-        requires room { length self.old < 512 }
+        requires room { length self.old < 256 }
         ensures { self.new ≡ insert self.old j x }
     {
         self.summary = self.summary.with(x);
@@ -143,7 +143,7 @@ impl<T: Copy, S: Summary<T>, A: Allocator> Page<T, S, A> {
 
     /// Holds these alone.
     pub fn fill(&mut self, items: &[T])
-        requires { length items.now ≤ 512 }
+        requires { length items.now ≤ 256 }
         ensures { self.new ≡ items.now }
     {
         self.items.truncate(0);
@@ -154,11 +154,11 @@ impl<T: Copy, S: Summary<T>, A: Allocator> Page<T, S, A> {
         self.summary = S::of(&self.items);
     }
 
-    /// Hands what stands behind the first 256 to another page.
+    /// Hands what stands behind the first 128 to another page.
     pub fn split(&mut self, upper: &mut Self)
-        requires { length self.old ≡ 512 }
-        ensures lower { self.new ≡ take 256 self.old }
-        ensures upper { upper.new ≡ drop 256 self.old }
+        requires { length self.old ≡ 256 }
+        ensures lower { self.new ≡ take 128 self.old }
+        ensures upper { upper.new ≡ drop 128 self.old }
     {
         let (_, tail) = self.items.split_at(HALF);
         upper.fill(tail);
@@ -169,7 +169,7 @@ impl<T: Copy, S: Summary<T>, A: Allocator> Page<T, S, A> {
 
     /// Appends these.
     pub fn append(&mut self, items: &[T])
-        requires { length self.old + length items.now ≤ 512 }
+        requires { length self.old + length items.now ≤ 256 }
         ensures { self.new ≡ self.old ++ items.now }
     {
         if self.items.extend_from_slice(items).is_err() {

@@ -91,7 +91,7 @@ fn split<T: Copy, S: Summary<T>, A: Allocator>(
     p: usize,
 )
     requires within { p < vec_len pages.old }
-    requires full { length (slice_index_or pages.old.items p []) ≡ 512 }
+    requires full { length (slice_index_or pages.old.items p []) ≡ 256 }
     requires some { 0 < vec_len free.old }
     requires room { vec_len pages.old < vec_capacity pages.old }
     ensures split { pages.new.items ≡ cut_at pages.old.items p }
@@ -178,7 +178,7 @@ fn open_first<T: Copy, S: Summary<T>, A: Allocator>(
     x: T,
 )
     requires half { IsHalfFull pages.old.items }
-    requires full { 256 ≤ length (slice_index_or pages.old.items 0 []) }
+    requires full { 128 ≤ length (slice_index_or pages.old.items 0 []) }
     requires some { 0 < vec_len free.old }
     requires room { vec_len pages.old < vec_capacity pages.old }
     ensures put { joined pages.new.items ≡ x ∷ joined pages.old.items }
@@ -300,14 +300,14 @@ pub fn stock<T: Copy, S: Summary<T>, A: Allocator + Copy>(
     free: &mut Vec<Page<T, S, A>, A>,
     target: usize,
 ) -> Result<(), AllocError>
-    requires few { vec_len pages.old + vec_len free.old ≤ 2 ^ 40 }
-    requires target { target ≤ 2 ^ 40 }
+    requires few { vec_len pages.old + vec_len free.old ≤ 2 ^ 41 }
+    requires target { target ≤ 2 ^ 41 }
     requires room { vec_len pages.old + vec_len free.old ≤ vec_capacity pages.old }
     requires free_room { vec_len pages.old + vec_len free.old ≤ vec_capacity free.old }
     ensures same { pages.new.items ≡ pages.old.items }
     ensures len { vec_len pages.new ≡ vec_len pages.old }
     ensures grows { vec_len free.old ≤ vec_len free.new }
-    ensures few { vec_len pages.new + vec_len free.new ≤ 2 ^ 40 }
+    ensures few { vec_len pages.new + vec_len free.new ≤ 2 ^ 41 }
     ensures capacity { vec_capacity pages.old ≤ vec_capacity pages.new }
     ensures free_capacity { vec_capacity free.old ≤ vec_capacity free.new }
     ensures room { vec_len pages.new + vec_len free.new ≤ vec_capacity pages.new }

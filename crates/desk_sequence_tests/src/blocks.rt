@@ -313,9 +313,9 @@ fn grown<A: Allocator + Copy>(sequence: &mut Blocks<A>) -> Result<usize, AllocEr
 }
 
 #[test]
-fn no_block_holds_more_than_512(rt: HostRuntime) -> Result<(), Fail> {
+fn no_block_holds_more_than_256(rt: HostRuntime) -> Result<(), Fail> {
     let mut blocks = Blocks::empty(rt.alloc());
-    assert_eq!(rt; grown(&mut blocks)?, 512);
+    assert_eq!(rt; grown(&mut blocks)?, 256);
     assert_eq!(rt; blocks.len(), 6_000);
     Ok(())
 }

@@ -18,7 +18,7 @@ impl Pick<u32, ()> for Under {
     }
 }
 
-/// Whether the list is this one, read by stretches and by entries, and no page holds more than 512.
+/// Whether the list is this one, read by stretches and by entries, and no page holds more than 256.
 fn is_list<A: Allocator + Copy>(pages: &Pages<u32, (), A>, list: &[u32]) -> bool {
     let mut at = 0usize;
     for _ in 0..list.len() {
@@ -108,8 +108,8 @@ fn pages_are_the_list(rt: HostRuntime) -> Result<(), Fail> {
         }
     }
     assert_eq!(rt; pages.len(), 0);
-    // 6,000 entries and more stood in 12 pages at least, and each of these but two has room for 256.
-    assert!(rt; pages.spare() >= 2_560);
+    // 6,000 entries and more stood in 24 pages at least, and each of these but two has room for 128.
+    assert!(rt; pages.spare() >= 2_816);
     Ok(())
 }
 
@@ -150,9 +150,9 @@ fn front_pages_are_full(rt: HostRuntime) -> Result<(), Fail> {
     let mut pages = Pages::new(rt.alloc());
     put_at_the_front(&mut pages, 2_100)?;
     assert_eq!(rt; pages.len(), 2_100);
-    // 52 stand in the first page, and behind it are four full ones
+    // 52 stand in the first page, and behind it are eight full ones
     assert_eq!(rt; stretch_len(&pages, 0), 52);
-    for page in 0..4usize {
+    for page in 0..8usize {
         assert_eq!(rt; stretch_len(&pages, 52 + page * FULL), FULL);
     }
     for k in 0..2_100u32 {

@@ -69,7 +69,7 @@ pub returns-else-len-le-FULL-clause-same : goal.returns-else-len-le-FULL-clause-
 returns-else-len-le-FULL-clause-same g c =
     let pages = c.args.pages.now.items in
     let p = c.args.p in
-    let n = (c.len-else-len-le-FULL.result - 256) / 2 in
+    let n = (c.len-else-len-le-FULL.result - 128) / 2 in
     let l : suc p < length pages = omega (arith, c.args.pages.now.ok.0, c.requires.within, c.if-p-len.false) in
     let next = c.remove-next.result in
     let f : next ≡ get_or pages (suc p) next = rw add-one at c.remove-next.ensures.value in
@@ -87,7 +87,7 @@ pub returns-else-len-le-FULL-clause-half : goal.returns-else-len-le-FULL-clause-
 returns-else-len-le-FULL-clause-half g c =
     let pages = c.args.pages.now.items in
     let p = c.args.p in
-    let n = (c.len-else-len-le-FULL.result - 256) / 2 in
+    let n = (c.len-else-len-le-FULL.result - 128) / 2 in
     let l : suc p < length pages = omega (arith, c.args.pages.now.ok.0, c.requires.within, c.if-p-len.false) in
     let next = c.remove-next.result in
     let f : next ≡ get_or pages (suc p) next = rw add-one at c.remove-next.ensures.value in
@@ -102,5 +102,5 @@ returns-else-len-le-FULL-clause-half g c =
     let m = page-length pages p c.len-len.result c.index.result.now (omega arith) c.index.ensures c.len-len.ensures.len in
     let k = ap length s in
     let some : 1 ≤ n = omega (arith, c.if-len-le-FULL.false, c.if-len-ge-HALF.false, c.len-2.ensures.len, c.len-else-len-le-FULL.ensures.len) in
-    let few : n + 256 ≤ length (get_or pages (suc p) []) = omega (arith, c.if-len-le-FULL.false, c.if-len-ge-HALF.false, c.len-2.ensures.len, c.len-else-len-le-FULL.ensures.len, k) in
+    let few : n + 128 ≤ length (get_or pages (suc p) []) = omega (arith, c.if-len-le-FULL.false, c.if-len-ge-HALF.false, c.len-2.ensures.len, c.len-else-len-le-FULL.ensures.len, k) in
     rw (c.insert_reserved.ensures.items, c.remove-next.ensures.items, add-one, y, z) (share-half pages p n c.requires.short l some few)

@@ -4,7 +4,7 @@ use Rattle.desk_pages.proofs.pages.stock.Given as goal
 abbrev pub invariant-loop-pages : goal.invariant-loop-pages
 invariant-loop-pages g l = record {
   grows : vec_len l.initial.free ≤ vec_len l.free;
-  few : vec_len l.pages + vec_len l.free ≤ 2 ^ 40;
+  few : vec_len l.pages + vec_len l.free ≤ 2 ^ 41;
   room : vec_len l.pages + vec_len l.free ≤ vec_capacity l.pages;
   free_room : vec_len l.pages + vec_len l.free ≤ vec_capacity l.free;
   target : l.target ≤ vec_capacity l.pages;
