@@ -1,8 +1,8 @@
 -- Operations that bear stamps of their own.
-use Rattle.std.proofs.Common.{◌≡◌, ℕ, zero, suc, ◌+◌, ◌-◌, ◌<◌, ◌≤◌, ◌||◌, ◌⊎◌, inl, inr, Bool, true, false, not, List, [], ◌∷◌, ◌++◌, length, get_or, take, drop, refl, sym, ap, ◌∙◌, subst, arith}
+use Rattle.std.proofs.Common.{◌≡◌, ℕ, zero, suc, ◌+◌, ◌-◌, ◌<◌, ◌≤◌, ◌||◌, ◌⊎◌, inl, inr, Bool, true, false, not, List, [], ◌∷◌, ◌++◌, length, get_or, drop, reverse, refl, sym, ap, ◌∙◌, subst, arith}
 use Rattle.std.specs.List.{list_any}
 use Rattle.std.proofs.lemmas.Bool.{true≢false, cases_eq}
-use Rattle.std.proofs.lemmas.List.{get_or_default}
+use Rattle.std.proofs.lemmas.List.{get_or_default, reverse-append}
 use Rattle.desk_ops.specs.declared.op.Op.{Op}
 use Rattle.desk_ops.specs.Op.{stamp_of}
 use Rattle.desk_ops.specs.Stamp.{before, same}
@@ -14,7 +14,7 @@ use Rattle.desk_ops.proofs.Joined.{is_borne-with_op}
 use Rattle.desk_ops.proofs.Unions.{with_op-comm, with_all_push}
 use Rattle.desk_held.proofs.Joins.{with_op-with_all}
 use Rattle.desk_replica.specs.State.{AreApart, RiseByStamp}
-use Rattle.desk_replica.proofs.Sets.{split-at, take-none, grows_by_one}
+use Rattle.desk_replica.proofs.Sets.{split-at, grows_by_one}
 
 neither : (a b : Bool) → (a || b) ≡ false → (a ≡ false) × (b ≡ false)
 neither true b e = absurd (true≢false e)
@@ -80,31 +80,21 @@ entered-size h after o n m e le = let a : size after ≡ size (with_op h o) = ap
 
 -- ---- operations that are taken in from the last on
 
--- the last of a list can come first
-last-first : (h : OpSet) (ops : List Op) (o : Op) → AreApart h (ops ++ o ∷ []) → (is_borne_in h (stamp_of o) ≡ false) × AreApart (with_op h o) ops
-last-first h [] o all = (all.0, tt)
-last-first h (p ∷ ops) o all =
-    let rest = last-first (with_op h p) ops o all.1 in
-    let n = neither (same (stamp_of p) (stamp_of o)) (is_borne_in h (stamp_of o)) (sym (is_borne-with_op h p (stamp_of o)) ∙ rest.0) in
-    let first : is_borne_in (with_op h o) (stamp_of p) ≡ false = is_borne-with_op h o (stamp_of p) ∙ ap (λ b. b || is_borne_in h (stamp_of p)) (same-symm (stamp_of o) (stamp_of p) ∙ n.0) ∙ all.0 in
-    (n.1, (first, subst (λ (g : OpSet). AreApart g ops) (with_op-comm h p o) rest.1))
+-- the first of a list can come last
+first-last : (h : OpSet) (ops : List Op) (o : Op) → is_borne_in h (stamp_of o) ≡ false → AreApart (with_op h o) ops → AreApart h (ops ++ o ∷ [])
+first-last h [] o new all = (new, tt)
+first-last h (p ∷ ops) o new all =
+    let n = neither (same (stamp_of o) (stamp_of p)) (is_borne_in h (stamp_of p)) (sym (is_borne-with_op h o (stamp_of p)) ∙ all.0) in
+    let last : is_borne_in (with_op h p) (stamp_of o) ≡ false = is_borne-with_op h p (stamp_of o) ∙ ap (λ b. b || is_borne_in h (stamp_of o)) (same-symm (stamp_of p) (stamp_of o) ∙ n.0) ∙ new in
+    (n.1, first-last (with_op h p) ops o last (subst (λ (g : OpSet). AreApart g ops) (with_op-comm h o p) all.1))
 
-take-last : (ops : List Op) (i : ℕ) (o : Op) → i < length ops → o ≡ get_or ops i o → take (i + 1) ops ≡ take i ops ++ o ∷ []
-take-last [] i o lt at = absurd (omega arith)
-take-last (p ∷ ops) zero o lt at = ap (λ (q : Op). q ∷ take 0 ops) (sym at) ∙ ap (λ (l : List Op). o ∷ l) (take-none ops)
-take-last (p ∷ ops) (suc i) o lt at =
-    let e : suc i + 1 ≡ suc (i + 1) = omega arith in
-    ap (λ (n : ℕ). take n (p ∷ ops)) e ∙ ap (λ (l : List Op). p ∷ l) (take-last ops i o (omega arith) at)
+turned : (o : Op) (ops : List Op) → reverse (o ∷ ops) ≡ reverse ops ++ o ∷ []
+turned o ops = reverse-append (o ∷ []) ops
 
-module _ (h : OpSet) (ops : List Op) (left : ℕ) (o : Op) (some : 0 < left) (within : left ≤ length ops) (at : o ≡ get_or ops (left - 1) o) where
-  cut : take left ops ≡ take (left - 1) ops ++ o ∷ []
-  cut = let e : left ≡ (left - 1) + 1 = omega (arith, some) in ap (λ (n : ℕ). take n ops) e ∙ take-last ops (left - 1) o (omega (arith, some, within)) at
+pub apart-reversed : (h : OpSet) (ops : List Op) → AreApart h ops → AreApart h (reverse ops)
+apart-reversed h [] all = tt
+apart-reversed h (o ∷ ops) all = subst (AreApart h) (sym (turned o ops)) (first-last h (reverse ops) o all.0 (apart-reversed (with_op h o) ops all.1))
 
-  pub apart-last : AreApart h (take left ops) → (is_borne_in h (stamp_of o) ≡ false) × AreApart (with_op h o) (take (left - 1) ops)
-  apart-last all = last-first h (take (left - 1) ops) o (subst (AreApart h) cut all)
-
-  pub gained-last : with_all (with_op h o) (take (left - 1) ops) ≡ with_all h (take left ops)
-  gained-last = with_op-with_all h o (take (left - 1) ops) ∙ sym (with_all_push h (take (left - 1) ops) o) ∙ ap (with_all h) (sym cut)
-
-pub left-size : (h after : OpSet) (o : Op) (left : ℕ) → after ≡ with_op h o → 0 < left → size h + left ≤ max_ops → size after + (left - 1) ≤ max_ops
-left-size h after o left e some le = let a : size after ≡ size (with_op h o) = ap size e in let b = grows_by_one h o in omega (arith, a, b, some, le)
+pub gained-reversed : (h : OpSet) (ops : List Op) → with_all h (reverse ops) ≡ with_all h ops
+gained-reversed h [] = refl
+gained-reversed h (o ∷ ops) = ap (with_all h) (turned o ops) ∙ with_all_push h (reverse ops) o ∙ ap (λ (g : OpSet). with_op g o) (gained-reversed h ops) ∙ sym (with_op-with_all h o ops)

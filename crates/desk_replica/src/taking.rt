@@ -1,5 +1,5 @@
 //! Lists of operations, taken in one by one or all at once.
-ghost use Rattle.std.specs.Prelude.{◌≡◌, ◌+◌, ◌≤◌, ◌⊎◌, All, IfErr, IfOk, IsOk, OnOk, length, take, true, false};
+ghost use Rattle.std.specs.Prelude.{◌≡◌, ◌+◌, ◌≤◌, ◌⊎◌, All, IfErr, IfOk, IsOk, OnOk, length, take, true, false, vec_len};
 ghost use Rattle.desk_ops.specs.Op.{IsLawful};
 ghost use Rattle.desk_ops.specs.OpSet.{with_all, size};
 ghost use Rattle.desk_replica.specs.Orders.{KeepsOrder};
@@ -34,22 +34,6 @@ impl<Q: Sequence> Replica<Q> {
         }
     }
 
-    /// The same, but the newest first.
-    fn enter_newest_first(&mut self, ops: &[Op])
-        requires lawful { All IsLawful ops.now }
-        requires apart { AreApart self.old.ops ops.now }
-        requires below { size self.old.ops + length ops.now ≤ LIMIT }
-        requires spare { length ops.now ≤ self.old.spare }
-        ensures site { self.new.site ≡ self.old.site }
-        ensures ops { self.new.ops ≡ with_all self.old.ops ops.now }
-    {
-        let mut left = ops.len();
-        while left > 0 {
-            left -= 1;
-            self.enter(ops[left], None);
-        }
-    }
-
     /// Whether the operation would wait for what it hangs on.
     fn would_wait(&self, op: &Op) -> bool {
         match op.target() {
@@ -58,30 +42,42 @@ impl<Q: Sequence> Replica<Q> {
         }
     }
 
+    /// Turns a list round where its oldest operation would wait, and with it what hangs on it: where a chain is sent end
+    /// first, each is then put before all that is held, and behind all that waits.
+    fn put_in_turn(&self, ops: &mut Vec<Op, Q::Memory>)
+        requires lawful { All IsLawful ops.old.items }
+        requires apart { AreApart self.now.ops ops.old.items }
+        ensures lawful { All IsLawful ops.new.items }
+        ensures apart { AreApart self.now.ops ops.new.items }
+        ensures len { vec_len ops.new ≡ vec_len ops.old }
+        ensures same { with_all self.now.ops ops.new.items ≡ with_all self.now.ops ops.old.items }
+    {
+        if ops.len() > 0 && self.would_wait(&ops[0]) {
+            ops.reverse();
+        }
+    }
+
     /// Takes in the operations of a list that rises and of which none is held: where they are many, or one of them forks a
-    /// stamp, by making all anew; else one by one, once there is room for all. Where the oldest would wait, and with it what
-    /// hangs on it, the newest comes first: each is then put before all that is held, and behind all that waits, where a
-    /// chain is sent end first. False where memory does not allow it: then the set stays.
-    fn take_new(&mut self, ops: &[Op]) -> bool
-        requires lawful { All IsLawful ops.now }
-        requires below { size self.old.ops + length ops.now ≤ LIMIT }
+    /// stamp, by making all anew; else one by one, once there is room for all. False where memory does not allow it: then
+    /// the set stays.
+    fn take_new(&mut self, ops: Vec<Op, Q::Memory>) -> bool
+        requires lawful { All IsLawful ops.items }
+        requires below { size self.old.ops + vec_len ops ≤ LIMIT }
         ensures site { self.new.site ≡ self.old.site }
-        ensures taken { result ≡ true → self.new.ops ≡ with_all self.old.ops ops.now }
+        ensures taken { result ≡ true → self.new.ops ≡ with_all self.old.ops ops.items }
         ensures none { result ≡ false → self.new.ops ≡ self.old.ops }
         ensures spare { result ≡ false → self.old.spare ≤ self.new.spare }
     {
         let are_many = ops.len() >= MANY && ops.len() >= self.held.len() / PART;
-        if are_many || !are_apart(&self.held, ops) {
-            return self.join(ops);
+        if are_many || !are_apart(&self.held, &ops) {
+            return self.join(&ops);
         }
         let Ok(()) = self.reserve(ops.len()) else {
             return false;
         };
-        if ops.len() > 0 && self.would_wait(&ops[0]) {
-            self.enter_newest_first(ops);
-        } else {
-            self.enter_all(ops);
-        }
+        let mut ops = ops;
+        self.put_in_turn(&mut ops);
+        self.enter_all(&ops);
         true
     }
 
@@ -103,7 +99,7 @@ impl<Q: Sequence> Replica<Q> {
         if missing.len() > LIMIT - self.held.len() {
             return false;
         }
-        self.take_new(&missing)
+        self.take_new(missing)
     }
 
     /// How many operations of a list, from its first on, were taken in at once: all, or as many as can be held in any case.
