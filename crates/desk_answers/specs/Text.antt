@@ -1,5 +1,5 @@
 -- What answers say.
-use Rattle.std.specs.Prelude.{ℕ, ℤ, length, ◌+◌, ◌/◌, ◌%◌, nat_lt, Bool, true, false, ◌==◌, List, [], ◌∷◌, ◌++◌, Option, Some, None, codes, if◌then◌else◌}
+use Rattle.std.specs.Prelude.{ℕ, ℤ, length, ◌+◌, ◌/◌, ◌%◌, nat_lt, Bool, true, false, List, [], ◌∷◌, ◌++◌, Option, Some, None, codes, if◌then◌else◌}
 use Rattle.std.specs.Fmt.{decimal, signed_decimal}
 use Rattle.desk_commands.specs.Writing.{copy_text}
 use Rattle.desk_ops.specs.declared.op.Symbol.{Symbol}
@@ -70,14 +70,18 @@ abbrev pub separator : Bool → List ℕ
 separator true = codes " "
 separator false = codes ", "
 
--- `KIND STAMP` of each, where the next is the first or not
-abbrev pub entries_text : Bool → List CopyFault → List ℕ
-entries_text is_first [] = []
-entries_text is_first (f ∷ faults) = separator is_first ++ kind_words f.kind ++ codes " " ++ stamp_words f.stamp ++ entries_text false faults
+-- the words of each, where the next is the first or not
+abbrev pub list_text : {T : Type 0} → (T → List ℕ) → Bool → List T → List ℕ
+list_text words is_first [] = []
+list_text words is_first (x ∷ xs) = separator is_first ++ words x ++ list_text words false xs
+
+-- `KIND STAMP`
+abbrev pub copy_fault_text : CopyFault → List ℕ
+copy_fault_text f = kind_words f.kind ++ codes " " ++ stamp_words f.stamp
 
 abbrev pub faults_text : List CopyFault → List ℕ
 faults_text [] = codes "faults none"
-faults_text (f ∷ faults) = codes "faults" ++ entries_text true (f ∷ faults)
+faults_text (f ∷ faults) = codes "faults" ++ list_text copy_fault_text true (f ∷ faults)
 
 abbrev pub value_text : Option ℕ → List ℕ
 value_text None = codes "-"
@@ -100,10 +104,6 @@ job_fault_text (jobs.TooWide line) = codes "too wide " ++ decimal line
 job_fault_text (jobs.TooLoose line) = codes "too loose " ++ decimal line
 job_fault_text (jobs.CannotFill line) = codes "cannot fill " ++ decimal line
 
-abbrev pub job_faults_text : Bool → List JobFault → List ℕ
-job_faults_text is_first [] = []
-job_faults_text is_first (f ∷ faults) = separator is_first ++ job_fault_text f ++ job_faults_text false faults
-
 -- `MATRICES/TOTAL` of each line, behind a space
 abbrev pub lines_text : List (ℕ × ℤ) → List ℕ
 lines_text [] = []
@@ -120,7 +120,7 @@ text (Feed feed) = codes "feed " ++ hex_text feed
 text (Faults faults) = faults_text faults
 text (Settings settings) = codes "settings " ++ settings_text settings
 text (Ribbon ribbon) = codes "ribbon " ++ hex_text ribbon
-text (NoRibbon faults) = codes "no ribbon:" ++ job_faults_text true faults
+text (NoRibbon faults) = codes "no ribbon:" ++ list_text job_fault_text true faults
 text (Lines lines) = codes "lines " ++ decimal (length lines) ++ lines_text lines
 text (Refused why) = codes "refused " ++ refusal_text why
 text (Stopped taken why) = codes "stopped " ++ decimal taken ++ codes " " ++ refusal_text why

@@ -1,13 +1,13 @@
 //! Answers, and what they say.
 
-ghost use Rattle.std.specs.Prelude.{◌≡◌, ◌≢◌, ◌+◌, ◌<◌, ◌≤◌, ◌++◌, ◌∷◌, [], true, false, length, List, IfSome, OnOk, codes, is_some, string_bytes};
+ghost use Rattle.std.specs.Prelude.{◌≡◌, ◌+◌, ◌<◌, ◌≤◌, ◌++◌, ◌∷◌, [], true, false, length, List, IfSome, OnOk, codes, is_some, string_bytes, ℕ};
 ghost use Rattle.std.specs.Fmt.{decimal, signed_decimal};
 ghost use Rattle.std.specs.Io.{StartsWith};
 ghost use Rattle.arrayvec.specs.ArrayString.{array_string_len};
 ghost use Rattle.desk_ops.specs.Words.{stamp_words};
 ghost use Rattle.desk_answers.specs.Reply.{is_long, reply_values, lines_told};
 ghost use Rattle.desk_answers.specs.Reply as replies;
-ghost use Rattle.desk_answers.specs.Text.{hex_digit, hex_text, refusal_text, cause_number, fault_text, separator, entries_text, faults_text, value_text, settings_text, job_fault_text, job_faults_text, lines_text, text};
+ghost use Rattle.desk_answers.specs.Text.{hex_digit, hex_text, refusal_text, cause_number, fault_text, separator, list_text, copy_fault_text, faults_text, value_text, settings_text, job_fault_text, lines_text, text};
 
 use arrayvec::ArrayString;
 use desk_caster::CastLine;
@@ -203,7 +203,7 @@ fn hex_digit(n: u8) -> &'static str
 }
 
 /// Writes bytes in hexadecimal at the end.
-#[tactic(auto, using(crate::proofs::Fronts::fronts))]
+#[tactic(auto, using(desk_commands::proofs::Fronts::fronts))]
 fn put_hex<A: Allocator + Copy>(out: &mut String<A>, bytes: &[u8]) -> Result<(), AllocError>
     ensures text { OnOk result (string_bytes out.new ≡ string_bytes out.old ++ hex_text bytes.now) }
     ensures front { StartsWith (string_bytes out.new) (string_bytes out.old) }
@@ -233,7 +233,7 @@ fn stamp_of(stamp: Stamp) -> Short
 }
 
 /// Writes the faults of a copy at the end, or that there are none.
-#[tactic(auto, using(crate::proofs::Fronts::fronts))]
+#[tactic(auto, using(desk_commands::proofs::Fronts::fronts))]
 fn put_faults<A: Allocator + Copy>(
     out: &mut String<A>,
     faults: &[CopyFault],
@@ -245,7 +245,7 @@ fn put_faults<A: Allocator + Copy>(
         return out.push_str("faults none");
     }
     out.push_str("faults")?;
-    put_entries(out, faults)
+    put_list(out, faults)
 }
 
 /// What stands before the first of a list, and before each other.
@@ -255,28 +255,48 @@ fn separator(is_first: bool) -> &'static str
     if is_first { " " } else { ", " }
 }
 
-/// Writes each fault behind a space, or a comma and a space.
-#[tactic(auto, using(crate::proofs::Fronts::fronts))]
-fn put_entries<A: Allocator + Copy>(
+/// What stands in a list.
+trait Entry: Copy {
+    /// What is written of it.
+    ghost words: { Self → List ℕ };
+
+    /// Writes it at the end.
+    fn put_words<A: Allocator + Copy>(self, out: &mut String<A>) -> Result<(), AllocError>
+        ensures text { OnOk result (string_bytes out.new ≡ string_bytes out.old ++ words self) }
+        ensures front { StartsWith (string_bytes out.new) (string_bytes out.old) };
+}
+
+impl Entry for CopyFault {
+    ghost words = { copy_fault_text };
+
+    #[tactic(auto, using(desk_commands::proofs::Fronts::fronts))]
+    fn put_words<A: Allocator + Copy>(self, out: &mut String<A>) -> Result<(), AllocError> {
+        out.push_str(self.kind.name())?;
+        out.push_str(" ")?;
+        out.push_str(stamp_of(self.stamp).as_str())
+    }
+}
+
+/// Writes each behind a space, or a comma and a space.
+#[tactic(auto, using(desk_commands::proofs::Fronts::fronts))]
+fn put_list<A: Allocator + Copy, E: Entry>(
     out: &mut String<A>,
-    faults: &[CopyFault],
+    entries: &[E],
 ) -> Result<(), AllocError>
-    ensures text { OnOk result (string_bytes out.new ≡ string_bytes out.old ++ entries_text true faults.now) }
+    ensures text { OnOk result (string_bytes out.new ≡ string_bytes out.old ++ list_text E.words true entries.now) }
     ensures front { StartsWith (string_bytes out.new) (string_bytes out.old) }
 {
     let mut is_first = true;
-    for fault in faults {
+    for entry in entries {
         out.push_str(separator(is_first))?;
-        out.push_str(fault.kind.name())?;
-        out.push_str(" ")?;
-        out.push_str(stamp_of(fault.stamp).as_str())?;
+        entry.put_words(out)?;
         is_first = false;
     }
     Ok(())
 }
 
 /// Writes a number at the end.
-#[tactic(auto, using(crate::proofs::Fronts::fronts))]
+#[tactic(auto, using(desk_commands::proofs::Fronts::fronts))]
 fn put_decimal<A: Allocator + Copy, N: Integer>(out: &mut String<A>, n: N) -> Result<(), AllocError>
     ensures text { OnOk result (string_bytes out.new ≡ string_bytes out.old ++ N.text n) }
     ensures front { StartsWith (string_bytes out.new) (string_bytes out.old) }
@@ -286,7 +306,7 @@ fn put_decimal<A: Allocator + Copy, N: Integer>(out: &mut String<A>, n: N) -> Re
 }
 
 /// Writes a setting's value at the end, or that it has none.
-#[tactic(auto, using(crate::proofs::Fronts::fronts))]
+#[tactic(auto, using(desk_commands::proofs::Fronts::fronts))]
 fn put_value<A: Allocator + Copy>(out: &mut String<A>, value: Option<u32>) -> Result<(), AllocError>
     ensures text { OnOk result (string_bytes out.new ≡ string_bytes out.old ++ value_text value) }
     ensures front { StartsWith (string_bytes out.new) (string_bytes out.old) }
@@ -298,7 +318,7 @@ fn put_value<A: Allocator + Copy>(out: &mut String<A>, value: Option<u32>) -> Re
 }
 
 /// Writes a setting's name and its value at the end.
-#[tactic(auto, using(crate::proofs::Fronts::fronts))]
+#[tactic(auto, using(desk_commands::proofs::Fronts::fronts))]
 fn put_setting<A: Allocator + Copy>(
     out: &mut String<A>,
     name: &str,
@@ -312,7 +332,7 @@ fn put_setting<A: Allocator + Copy>(
 }
 
 /// Writes the settings of the job at the end.
-#[tactic(auto, using(crate::proofs::Fronts::fronts))]
+#[tactic(auto, using(desk_commands::proofs::Fronts::fronts))]
 fn put_settings<A: Allocator + Copy>(
     out: &mut String<A>,
     settings: &Settings,
@@ -328,7 +348,7 @@ fn put_settings<A: Allocator + Copy>(
 }
 
 /// Writes words, and a number behind them.
-#[tactic(auto, using(crate::proofs::Fronts::fronts))]
+#[tactic(auto, using(desk_commands::proofs::Fronts::fronts))]
 fn put_counted<A: Allocator + Copy>(
     out: &mut String<A>,
     words: &str,
@@ -341,50 +361,30 @@ fn put_counted<A: Allocator + Copy>(
     put_decimal(out, n)
 }
 
-#[tactic(auto, using(crate::proofs::Fronts::fronts))]
-fn put_job_fault<A: Allocator + Copy>(
-    out: &mut String<A>,
-    fault: JobFault,
-) -> Result<(), AllocError>
-    ensures text { OnOk result (string_bytes out.new ≡ string_bytes out.old ++ job_fault_text fault) }
-    ensures front { StartsWith (string_bytes out.new) (string_bytes out.old) }
-{
-    match fault {
-        JobFault::MissingSetting(key) => {
-            out.push_str("missing ")?;
-            out.push_str(key.name())
+impl Entry for JobFault {
+    ghost words = { job_fault_text };
+
+    #[tactic(auto, using(desk_commands::proofs::Fronts::fronts))]
+    fn put_words<A: Allocator + Copy>(self, out: &mut String<A>) -> Result<(), AllocError> {
+        match self {
+            JobFault::MissingSetting(key) => {
+                out.push_str("missing ")?;
+                out.push_str(key.name())
+            }
+            JobFault::OtherCase => out.push_str("other case"),
+            JobFault::OtherWedge => out.push_str("other wedge"),
+            JobFault::Crossed => out.push_str("crossed"),
+            JobFault::FillOrder => out.push_str("fill order"),
+            JobFault::SpaceVanishes => out.push_str("space vanishes"),
+            JobFault::NoMatrix(place) => put_counted(out, "no matrix ", place),
+            JobFault::TooWide(line) => put_counted(out, "too wide ", line),
+            JobFault::TooLoose(line) => put_counted(out, "too loose ", line),
+            JobFault::CannotFill(line) => put_counted(out, "cannot fill ", line),
         }
-        JobFault::OtherCase => out.push_str("other case"),
-        JobFault::OtherWedge => out.push_str("other wedge"),
-        JobFault::Crossed => out.push_str("crossed"),
-        JobFault::FillOrder => out.push_str("fill order"),
-        JobFault::SpaceVanishes => out.push_str("space vanishes"),
-        JobFault::NoMatrix(place) => put_counted(out, "no matrix ", place),
-        JobFault::TooWide(line) => put_counted(out, "too wide ", line),
-        JobFault::TooLoose(line) => put_counted(out, "too loose ", line),
-        JobFault::CannotFill(line) => put_counted(out, "cannot fill ", line),
     }
 }
 
-/// Writes each fault of a job behind a space, or a comma and a space.
-#[tactic(auto, using(crate::proofs::Fronts::fronts))]
-fn put_job_faults<A: Allocator + Copy>(
-    out: &mut String<A>,
-    faults: &[JobFault],
-) -> Result<(), AllocError>
-    ensures text { OnOk result (string_bytes out.new ≡ string_bytes out.old ++ job_faults_text true faults.now) }
-    ensures front { StartsWith (string_bytes out.new) (string_bytes out.old) }
-{
-    let mut is_first = true;
-    for fault in faults {
-        out.push_str(separator(is_first))?;
-        put_job_fault(out, *fault)?;
-        is_first = false;
-    }
-    Ok(())
-}
-
-#[tactic(auto, using(crate::proofs::Fronts::fronts))]
+#[tactic(auto, using(desk_commands::proofs::Fronts::fronts))]
 fn put_line<A: Allocator + Copy>(out: &mut String<A>, line: &CastLine<A>) -> Result<(), AllocError>
     ensures text { OnOk result (string_bytes out.new ≡ string_bytes out.old ++ codes " " ++ decimal (length line.now.matrices) ++ codes "/" ++ signed_decimal line.now.total) }
     ensures front { StartsWith (string_bytes out.new) (string_bytes out.old) }
@@ -395,7 +395,7 @@ fn put_line<A: Allocator + Copy>(out: &mut String<A>, line: &CastLine<A>) -> Res
 }
 
 /// Writes each line that was cast behind a space.
-#[tactic(auto, using(crate::proofs::Fronts::fronts))]
+#[tactic(auto, using(desk_commands::proofs::Fronts::fronts))]
 fn put_lines<A: Allocator + Copy>(
     out: &mut String<A>,
     lines: &[CastLine<A>],
@@ -500,8 +500,10 @@ pub fn short<A: Allocator + Copy>(answer: &Reply<A>) -> Option<Short>
 }
 
 /// Writes a copy, behind a space where there is one.
+#[tactic(auto, using(desk_commands::proofs::Fronts::fronts))]
 fn put_shown<A: Allocator + Copy>(out: &mut String<A>, copy: &[Symbol]) -> Result<(), AllocError>
-    ensures { OnOk result (string_bytes out.new ≡ string_bytes out.old ++ text (replies.Copy copy.now)) }
+    ensures text { OnOk result (string_bytes out.new ≡ string_bytes out.old ++ text (replies.Copy copy.now)) }
+    ensures front { StartsWith (string_bytes out.new) (string_bytes out.old) }
 {
     out.push_str("copy")?;
     if !copy.is_empty() {
@@ -512,7 +514,7 @@ fn put_shown<A: Allocator + Copy>(out: &mut String<A>, copy: &[Symbol]) -> Resul
 }
 
 /// Writes bytes behind a word.
-#[tactic(auto, using(crate::proofs::Fronts::fronts))]
+#[tactic(auto, using(desk_commands::proofs::Fronts::fronts))]
 fn put_bytes<A: Allocator + Copy>(
     out: &mut String<A>,
     word: &str,
@@ -525,12 +527,12 @@ fn put_bytes<A: Allocator + Copy>(
     put_hex(out, bytes)
 }
 
-/// Writes an answer at the end, without its end of line. Where memory is refused to another answer than a copy, what stood
-/// before still stands in front.
-#[tactic(auto, using(crate::proofs::Fronts::fronts))]
+/// Writes an answer at the end, without its end of line. Where memory is refused, what stood before still stands in
+/// front.
+#[tactic(auto, using(desk_commands::proofs::Fronts::fronts))]
 pub fn put<A: Allocator + Copy>(out: &mut String<A>, answer: &Reply<A>) -> Result<(), AllocError>
     ensures text { OnOk result (string_bytes out.new ≡ string_bytes out.old ++ text (reply_values answer.now)) }
-    ensures front { ((copy : List Symbol) → reply_values answer.now ≢ replies.Copy copy) → StartsWith (string_bytes out.new) (string_bytes out.old) }
+    ensures front { StartsWith (string_bytes out.new) (string_bytes out.old) }
 {
     match answer {
         Reply::Done => out.push_str(done().as_str()),
@@ -547,7 +549,7 @@ pub fn put<A: Allocator + Copy>(out: &mut String<A>, answer: &Reply<A>) -> Resul
         Reply::Ribbon(ribbon) => put_bytes(out, "ribbon ", ribbon),
         Reply::NoRibbon(faults) => {
             out.push_str("no ribbon:")?;
-            put_job_faults(out, faults.as_slice())
+            put_list(out, faults.as_slice())
         }
         Reply::Lines(lines) => {
             put_counted(out, "lines ", lines.len())?;

@@ -1,3 +1,4 @@
+pub mod Fronts
 pub mod Loops
 pub mod Texts
 pub mod Again

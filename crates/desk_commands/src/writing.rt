@@ -1,6 +1,7 @@
 //! How a copy is written: its runs, each the longest of its style.
 
 ghost use Rattle.std.specs.Prelude.{◌≡◌, ◌++◌, OnOk, string_bytes};
+ghost use Rattle.std.specs.Io.{StartsWith};
 ghost use Rattle.std.specs.Str.{encode_utf8_all};
 ghost use Rattle.desk_commands.specs.Writing.{opening, quoted, turn, close, copy_text};
 
@@ -17,12 +18,14 @@ fn opening(style: Style) -> &'static str
     }
 }
 
+#[tactic(auto, using(crate::proofs::Fronts::fronts))]
 fn put_turn<A: Allocator + Copy>(
     out: &mut String<A>,
     run: Option<Style>,
     style: Style,
 ) -> Result<(), AllocError>
-    ensures { OnOk result (string_bytes out.new ≡ string_bytes out.old ++ turn run style) }
+    ensures text { OnOk result (string_bytes out.new ≡ string_bytes out.old ++ turn run style) }
+    ensures front { StartsWith (string_bytes out.new) (string_bytes out.old) }
 {
     if let Some(run) = run {
         if run == style {
@@ -33,8 +36,10 @@ fn put_turn<A: Allocator + Copy>(
     out.push_str(opening(style))
 }
 
+#[tactic(auto, using(crate::proofs::Fronts::fronts))]
 fn put_quoted<A: Allocator + Copy>(out: &mut String<A>, c: char) -> Result<(), AllocError>
-    ensures { OnOk result (string_bytes out.new ≡ string_bytes out.old ++ encode_utf8_all (quoted c)) }
+    ensures text { OnOk result (string_bytes out.new ≡ string_bytes out.old ++ encode_utf8_all (quoted c)) }
+    ensures front { StartsWith (string_bytes out.new) (string_bytes out.old) }
 {
     match c {
         '\n' => out.push_str("\\n"),
@@ -44,8 +49,10 @@ fn put_quoted<A: Allocator + Copy>(out: &mut String<A>, c: char) -> Result<(), A
     }
 }
 
+#[tactic(auto, using(crate::proofs::Fronts::fronts))]
 fn put_close<A: Allocator + Copy>(out: &mut String<A>, run: Option<Style>) -> Result<(), AllocError>
-    ensures { OnOk result (string_bytes out.new ≡ string_bytes out.old ++ close run) }
+    ensures text { OnOk result (string_bytes out.new ≡ string_bytes out.old ++ close run) }
+    ensures front { StartsWith (string_bytes out.new) (string_bytes out.old) }
 {
     match run {
         None => Ok(()),
@@ -53,9 +60,11 @@ fn put_close<A: Allocator + Copy>(out: &mut String<A>, run: Option<Style>) -> Re
     }
 }
 
-/// Writes a COPY at the end.
+/// Writes a COPY at the end. Where memory is refused, what stood before still stands in front.
+#[tactic(auto, using(crate::proofs::Fronts::fronts))]
 pub fn put_copy<A: Allocator + Copy>(out: &mut String<A>, copy: &[Symbol]) -> Result<(), AllocError>
-    ensures { OnOk result (string_bytes out.new ≡ string_bytes out.old ++ copy_text copy.now) }
+    ensures text { OnOk result (string_bytes out.new ≡ string_bytes out.old ++ copy_text copy.now) }
+    ensures front { StartsWith (string_bytes out.new) (string_bytes out.old) }
 {
     let mut run = None;
     for symbol in copy {

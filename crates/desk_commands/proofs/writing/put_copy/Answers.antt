@@ -1,9 +1,12 @@
 use Rattle.std.proofs.Common.{◌++◌, string_bytes, refl}
+use Rattle.std.proofs.Transfers.{starts_with_trans}
 use Rattle.desk_commands.specs.Writing.{copy_text}
 use Rattle.desk_commands.proofs.Texts.{copy_put}
 use Rattle.desk_commands.proofs.writing.put_copy.Goals as goal
 
 pub loop-symbol-preserved : goal.loop-symbol-preserved
-loop-symbol-preserved g c =
-    copy_put (string_bytes c.loop-symbol.out) (string_bytes c.put_turn.new.out) (string_bytes c.put_quoted.new.out) (string_bytes c.args.out.now ++ copy_text c.args.copy.now)
-    c.loop-symbol.run c.args.copy.now c.loop-symbol.symbol-index _ _ c.loop-symbol-test.true refl c.in_ok-put_turn.ensures c.in_ok-put_quoted.ensures c.loop-symbol.invariant
+loop-symbol-preserved g c = record {
+  text = copy_put (string_bytes c.loop-symbol.out) (string_bytes c.put_turn.new.out) (string_bytes c.put_quoted.new.out) (string_bytes c.args.out.now ++ copy_text c.args.copy.now)
+      c.loop-symbol.run c.args.copy.now c.loop-symbol.symbol-index _ _ c.loop-symbol-test.true refl c.in_ok-put_turn.ensures.text c.in_ok-put_quoted.ensures.text c.loop-symbol.invariant.text;
+  front = starts_with_trans _ _ _ (starts_with_trans _ _ _ c.put_quoted.ensures.front c.put_turn.ensures.front) c.loop-symbol.invariant.front;
+}

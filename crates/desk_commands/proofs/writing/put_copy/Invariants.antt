@@ -1,7 +1,11 @@
 use Rattle.std.proofs.Common.{◌≡◌, ◌++◌, string_bytes, drop}
+use Rattle.std.specs.Io.{StartsWith}
 use Rattle.std.specs.Str.{encode_utf8_all}
 use Rattle.desk_commands.specs.Writing.{copy_chars_from, copy_text}
 use Rattle.desk_commands.proofs.writing.put_copy.Given as goal
 
 abbrev pub invariant-loop-symbol : goal.invariant-loop-symbol
-invariant-loop-symbol g l = string_bytes l.out ++ encode_utf8_all (copy_chars_from l.run (drop l.symbol-index l.copy)) ≡ string_bytes l.fn.out ++ copy_text l.copy
+invariant-loop-symbol g l = record {
+  text : string_bytes l.out ++ encode_utf8_all (copy_chars_from l.run (drop l.symbol-index l.copy)) ≡ string_bytes l.fn.out ++ copy_text l.copy;
+  front : StartsWith (string_bytes l.out) (string_bytes l.fn.out);
+}
