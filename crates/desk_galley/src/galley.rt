@@ -2,6 +2,7 @@
 
 ghost use Rattle.std.specs.Prelude.{◌≡◌, ◌+◌, ◌≤◌, ◌<◌, ◌^◌, ◌∷◌, [], length, All, OnOk, IfOk, IfErr, IsErrOf};
 ghost use Rattle.desk_lines.specs.Groups.{AreWidths};
+ghost use Rattle.desk_lines.specs.Words.{joined};
 ghost use Rattle.desk_job.specs.Answer.{AreValues, by_key};
 ghost use Rattle.desk_job.specs.Job as job;
 ghost use Rattle.desk_job.specs.Making.{AreWordsOf, IsRange};
@@ -118,7 +119,9 @@ fn add_groups<A: Allocator + Copy>(
     requires widths { widths.now ≡ job.widths terms.now (words_at copy.now words.now) }
     requires within { AreWidths widths.now }
     requires ranges { All (IsRange (length words.now)) groups.now }
-    ensures { OnOk result (lines.new.items ≡ with_lines terms.now copy.now lines.old.items (placed_at words.now groups.now)) }
+    ensures ok { OnOk result (lines.new.items ≡ with_lines terms.now copy.now lines.old.items (placed_at words.now groups.now)) }
+    // No groups take no memory.
+    ensures memory { IfErr result (λ _. 1 ≤ length groups.now) }
 {
     for (i, group) in groups.iter().enumerate() {
         let filled = is_filled(groups, i, group);
@@ -140,7 +143,9 @@ fn add_paragraph<A: Allocator + Copy>(
     requires copy { length copy.now ≤ 2 ^ 20 }
     requires number { length words.now ≤ 2 ^ 20 + 1 }
     requires words { All (IsWord copy.now) words.now }
-    ensures { OnOk result (lines.new.items ≡ with_lines terms.now copy.now lines.old.items (placed_in terms.now copy.now words.now)) }
+    ensures ok { OnOk result (lines.new.items ≡ with_lines terms.now copy.now lines.old.items (placed_in terms.now copy.now words.now)) }
+    // No words take no memory.
+    ensures memory { IfErr result (λ _. 1 ≤ length words.now) }
 {
     let widths = word_widths(alloc, terms, copy, words)?;
     let groups = break_lines(alloc, &widths, terms.tight_space(), terms.measure())?;
@@ -158,8 +163,8 @@ fn add_paragraphs<A: Allocator + Copy>(
     requires copy { length copy.now ≤ 2 ^ 20 }
     requires words { All (AreWordsOf copy.now) found.now }
     ensures ok { OnOk result (lines.new.items ≡ with_lines terms.now copy.now lines.old.items (all_placed terms.now copy.now found.now)) }
-    // No paragraphs take no memory.
-    ensures memory { IfErr result (λ _. 1 ≤ length found.now) }
+    // Paragraphs without a word take no memory.
+    ensures memory { IfErr result (λ _. 1 ≤ length (joined found.now)) }
 {
     for paragraph in found {
         add_paragraph(lines, alloc, terms, copy, paragraph.words())?;
@@ -182,21 +187,6 @@ fn all_lines<A: Allocator + Copy>(
     let mut lines = Vec::new(alloc);
     add_paragraphs(&mut lines, alloc, terms, copy, &found)?;
     Ok(lines)
-}
-
-/// The place of each symbol that the case lacks. An empty copy lacks none, and takes no memory.
-fn lacking_in<A: Allocator>(
-    alloc: A,
-    case: &MatrixCase,
-    copy: &[Symbol],
-) -> Result<Vec<JobFault, A>, NoMemory>
-    ensures ok { IfOk result (λ faults. faults.items ≡ job.lacking case.now 0 copy.now) }
-    ensures memory { IfErr result (λ _. 1 ≤ length copy.now) }
-{
-    if copy.is_empty() {
-        return Ok(Vec::new(alloc));
-    }
-    lacking(alloc, case, copy)
 }
 
 /// The galley of a copy of at most 1,048,576 symbols: each line of the job as it is set, or as it fails, and the place of
@@ -225,7 +215,7 @@ pub fn make_galley<'a, A: Allocator + Copy>(
         Err(key) => return Err(GalleyRefusal::Fault(JobFault::MissingSetting(key))),
     };
     let terms = Terms::new(case, wedge, values)?;
-    let lacking = lacking_in(alloc, case, copy)?;
+    let lacking = lacking(alloc, case, copy)?;
     let lines = all_lines(alloc, &terms, copy)?;
     Ok(Galley {
         wedge,

@@ -1,6 +1,6 @@
 //! The matrices of a line.
 
-ghost use Rattle.std.specs.Prelude.{◌≡◌, ◌≤◌, All, IfOk, length};
+ghost use Rattle.std.specs.Prelude.{◌≡◌, ◌≤◌, All, IfErr, IfOk, length};
 ghost use Rattle.desk_job.specs.Setting.{IsWord};
 ghost use Rattle.desk_galley.specs.Galley.{matrices_of};
 
@@ -21,7 +21,9 @@ pub fn matrices<A: Allocator + Copy>(
 ) -> Result<Vec<Punch, A>, NoMemory>
     requires words { All (IsWord copy.now) line.now.words }
     requires fills { length line.now.fills ≤ length case.now.fill }
-    ensures { IfOk result (λ found. found.items ≡ matrices_of case.now copy.now line.now) }
+    ensures ok { IfOk result (λ found. found.items ≡ matrices_of case.now copy.now line.now) }
+    // No matrices take no memory.
+    ensures memory { IfErr result (λ _. 1 ≤ length (matrices_of case.now copy.now line.now)) }
 {
     let mut found = Vec::new(alloc);
     add_words(&mut found, case, copy, line.words())?;

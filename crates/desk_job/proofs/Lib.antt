@@ -1,4 +1,5 @@
 mod Examples
+pub mod Asked
 pub mod Sums
 pub mod LineSizes
 pub mod Widths

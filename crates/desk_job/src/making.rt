@@ -6,6 +6,7 @@ ghost use Rattle.std.specs.Prelude.{◌≡◌, ◌+◌, ◌≤◌, ◌<◌, ◌^
 ghost use Rattle.desk_ribbon.specs.Ribbon.{head_row, ribbon};
 ghost use Rattle.desk_job.specs.Answer.{IsMade, IsRefused, HasFaults, set_copy};
 ghost use Rattle.desk_lines.specs.Groups.{AreWidths};
+ghost use Rattle.desk_lines.specs.Words.{joined};
 ghost use Rattle.desk_job.specs.Job as job;
 ghost use Rattle.desk_job.specs.declared.JobRefusal.TheVariants as refusal;
 ghost use Rattle.desk_job.specs.Terms.{IsUsable};
@@ -51,6 +52,8 @@ pub fn word_widths<A: Allocator>(
     requires words { All (IsWord copy.now) words.now }
     ensures value { IfOk result (λ widths. widths.items ≡ job.widths terms.now (words_at copy.now words.now)) }
     ensures within { IfOk result (λ widths. AreWidths widths.items) }
+    // No words take no memory.
+    ensures memory { IfErr result (λ _. 1 ≤ length words.now) }
 {
     let mut widths = Vec::with_capacity(alloc, words.len())?;
     for word in words {
@@ -96,7 +99,9 @@ impl<A: Allocator + Copy> Making<A> {
         requires widths { widths.now ≡ job.widths terms.now (words_at copy.now words.now) }
         requires within { AreWidths widths.now }
         requires can_add { CanAdd terms.now (line_at copy.now words.now filled ∷ []) self.old }
-        ensures { OnOk result (Adds terms.now (line_at copy.now words.now filled ∷ []) self.old self.new) }
+        ensures ok { OnOk result (Adds terms.now (line_at copy.now words.now filled ∷ []) self.old self.new) }
+        // After a fault a line without one takes no memory.
+        ensures memory { IfErr result (λ _. job.line_fault terms.now self.old.next (line_at copy.now words.now filled) ≡ [] → self.old.faults ≡ []) }
     {
         match set_line(terms, self.next, copy, words, widths, filled) {
             Err(fault) => self.faults.push(fault)?,
@@ -126,7 +131,9 @@ impl<A: Allocator + Copy> Making<A> {
         requires within { AreWidths widths.now }
         requires ranges { All (IsRange (length words.now)) groups.now }
         requires can_add { CanAdd terms.now (lines_at copy.now words.now groups.now) self.old }
-        ensures { OnOk result (Adds terms.now (lines_at copy.now words.now groups.now) self.old self.new) }
+        ensures ok { OnOk result (Adds terms.now (lines_at copy.now words.now groups.now) self.old self.new) }
+        // No groups take no memory.
+        ensures memory { IfErr result (λ _. 1 ≤ length groups.now) }
     {
         for (i, group) in groups.iter().enumerate() {
             let filled = is_filled(groups, i, group);
@@ -149,7 +156,9 @@ impl<A: Allocator + Copy> Making<A> {
         requires number { length words.now ≤ 2 ^ 20 + 1 }
         requires words { All (IsWord copy.now) words.now }
         requires can_add { CanAdd terms.now (paragraph_lines terms.now copy.now words.now) self.old }
-        ensures { OnOk result (Adds terms.now (paragraph_lines terms.now copy.now words.now) self.old self.new) }
+        ensures ok { OnOk result (Adds terms.now (paragraph_lines terms.now copy.now words.now) self.old self.new) }
+        // No words take no memory.
+        ensures memory { IfErr result (λ _. 1 ≤ length words.now) }
     {
         let widths = word_widths(alloc, terms, copy, words)?;
         let groups = break_lines(alloc, &widths, terms.tight_space(), terms.measure())?;
@@ -167,7 +176,9 @@ impl<A: Allocator + Copy> Making<A> {
         requires copy { length copy.now ≤ 2 ^ 20 }
         requires words { All (AreWordsOf copy.now) found.now }
         requires can_add { CanAdd terms.now (all_lines terms.now copy.now found.now) self.old }
-        ensures { OnOk result (Adds terms.now (all_lines terms.now copy.now found.now) self.old self.new) }
+        ensures ok { OnOk result (Adds terms.now (all_lines terms.now copy.now found.now) self.old self.new) }
+        // Paragraphs without a word take no memory.
+        ensures memory { IfErr result (λ _. 1 ≤ length (joined found.now)) }
     {
         for paragraph in found {
             self.add_paragraph(alloc, terms, copy, paragraph.words())?;
@@ -203,7 +214,9 @@ pub fn lacking<A: Allocator>(
     case: &MatrixCase,
     copy: &[Symbol],
 ) -> Result<Vec<JobFault, A>, NoMemory>
-    ensures { IfOk result (λ faults. faults.items ≡ job.lacking case.now 0 copy.now) }
+    ensures ok { IfOk result (λ faults. faults.items ≡ job.lacking case.now 0 copy.now) }
+    // Where no symbol is lacking it takes no memory.
+    ensures memory { IfErr result (λ _. 1 ≤ length (job.lacking case.now 0 copy.now)) }
 {
     let mut faults = Vec::new(alloc);
     for (i, symbol) in copy.iter().enumerate() {
@@ -222,7 +235,9 @@ fn make_lines<A: Allocator + Copy>(
 ) -> Result<Making<A>, NoMemory>
     requires usable { IsUsable terms.now }
     requires copy { length copy.now ≤ 2 ^ 20 }
-    ensures { IfOk result (λ making. Adds terms.now (job.lines terms.now copy.now) (record { next = 1; faults = []; rows = [] }) making) }
+    ensures ok { IfOk result (λ making. Adds terms.now (job.lines terms.now copy.now) (record { next = 1; faults = []; rows = [] }) making) }
+    // No symbols take no memory.
+    ensures memory { IfErr result (λ _. 1 ≤ length copy.now) }
 {
     let found = paragraphs(alloc, copy)?;
     let mut making = Making::new(alloc);

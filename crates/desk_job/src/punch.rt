@@ -1,6 +1,6 @@
 //! The matrices of a line, and the line as it is punched.
 
-ghost use Rattle.std.specs.Prelude.{◌≡◌, ◌+◌, ◌-◌, ◌*◌, ◌≤◌, ◌<◌, ◌^◌, ◌++◌, ◌∷◌, [], length, replicate, All, OnOk, IfOk, if◌then◌else◌, true, false};
+ghost use Rattle.std.specs.Prelude.{◌≡◌, ◌+◌, ◌-◌, ◌*◌, ◌≤◌, ◌<◌, ◌^◌, ◌++◌, ◌∷◌, [], length, replicate, All, OnOk, IfOk, IfErr, if◌then◌else◌, true, false, vec_capacity, vec_len};
 ghost use Rattle.std.specs.List.{zip};
 ghost use Rattle.desk_job.specs.Job as job;
 ghost use Rattle.desk_job.specs.Setting.{IsWord, set_rows, words_at};
@@ -20,7 +20,9 @@ fn add_word<A: Allocator>(
     case: &MatrixCase,
     word: &[Symbol],
 ) -> Result<(), NoMemory>
-    ensures { OnOk result (punches.new.items ≡ punches.old.items ++ job.word_punches case.now word.now) }
+    ensures ok { OnOk result (punches.new.items ≡ punches.old.items ++ job.word_punches case.now word.now) }
+    // No matrices take no memory.
+    ensures memory { IfErr result (λ _. 1 ≤ length (job.word_punches case.now word.now)) }
 {
     for symbol in word {
         if let Some(cell) = case.cell_of(*symbol) {
@@ -35,7 +37,9 @@ pub fn add_space<A: Allocator>(
     punches: &mut Vec<Punch, A>,
     case: &MatrixCase,
 ) -> Result<(), NoMemory>
-    ensures { OnOk result (punches.new.items ≡ punches.old.items ++ job.space_punch case.now ∷ []) }
+    ensures ok { OnOk result (punches.new.items ≡ punches.old.items ++ job.space_punch case.now ∷ []) }
+    // Where there is room it takes no memory.
+    ensures memory { IfErr result (λ _. vec_capacity punches.old ≤ vec_len punches.old) }
 {
     punches.push(Punch {
         cell: case.space(),
@@ -52,7 +56,9 @@ fn add_more_words<A: Allocator>(
     words: &[Word],
 ) -> Result<(), NoMemory>
     requires { All (IsWord copy.now) words.now }
-    ensures { OnOk result (punches.new.items ≡ punches.old.items ++ job.spaced_punches case.now (words_at copy.now words.now)) }
+    ensures ok { OnOk result (punches.new.items ≡ punches.old.items ++ job.spaced_punches case.now (words_at copy.now words.now)) }
+    // No words take no memory.
+    ensures memory { IfErr result (λ _. 1 ≤ length words.now) }
 {
     for word in words {
         add_space(punches, case)?;
@@ -69,7 +75,9 @@ pub fn add_words<A: Allocator>(
     words: &[Word],
 ) -> Result<(), NoMemory>
     requires { All (IsWord copy.now) words.now }
-    ensures { OnOk result (punches.new.items ≡ punches.old.items ++ job.words_punches case.now (words_at copy.now words.now)) }
+    ensures ok { OnOk result (punches.new.items ≡ punches.old.items ++ job.words_punches case.now (words_at copy.now words.now)) }
+    // No matrices take no memory.
+    ensures memory { IfErr result (λ _. 1 ≤ length (job.words_punches case.now (words_at copy.now words.now))) }
 {
     let [first, more @ ..] = words else {
         return Ok(());
@@ -84,7 +92,9 @@ fn add_times<A: Allocator>(
     punch: &Punch,
     count: u32,
 ) -> Result<(), NoMemory>
-    ensures { OnOk result (punches.new.items ≡ punches.old.items ++ replicate count punch.now) }
+    ensures ok { OnOk result (punches.new.items ≡ punches.old.items ++ replicate count punch.now) }
+    // No times take no memory.
+    ensures memory { IfErr result (λ _. 1 ≤ count) }
 {
     for _ in 0..count {
         punches.push(*punch)?;
@@ -99,7 +109,9 @@ pub fn add_fills<A: Allocator>(
     cells: &[Cell],
 ) -> Result<(), NoMemory>
     requires { length counts.now ≤ length cells.now }
-    ensures { OnOk result (punches.new.items ≡ punches.old.items ++ job.fill_punches (zip counts.now cells.now)) }
+    ensures ok { OnOk result (punches.new.items ≡ punches.old.items ++ job.fill_punches (zip counts.now cells.now)) }
+    // No matrices take no memory.
+    ensures memory { IfErr result (λ _. 1 ≤ length (job.fill_punches (zip counts.now cells.now))) }
 {
     for (i, count) in counts.iter().enumerate() {
         let punch = Punch {

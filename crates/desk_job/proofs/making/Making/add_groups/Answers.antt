@@ -11,4 +11,4 @@ add_line-requires-clause-can_add g c =
 
 pub loop-i-preserved : goal.loop-i-preserved
 loop-i-preserved g c =
-    adding_step _ _ _ _ _ _ _ (next_line _ _ _ _ _ _ _ _ _ _ c.loop-i-test.true c.is_filled-filled.ensures c.loop-i.invariant) c.in_ok-add_line.ensures
+    adding_step _ _ _ _ _ _ _ (next_line _ _ _ _ _ _ _ _ _ _ c.loop-i-test.true c.is_filled-filled.ensures c.loop-i.invariant) c.in_ok-add_line.ensures.ok

@@ -17,9 +17,9 @@ add_groups-requires-clause-can_add g c =
     c.tight_space.ensures.value c.measure.ensures.value c.deref-3.ensures.value c.in_ok-groups.ensures.ok).0)
     c.requires.can_add
 
-pub returns : goal.returns
-returns g c =
+pub returns-clause-ok : goal.returns-clause-ok
+returns-clause-ok g c =
     subst (λ (ls : List SetLine). OnOk c.add_groups.result (Adds c.args.terms.now ls c.args.self.now c.add_groups.new.self))
     (paragraph_from c.args.terms.now c.args.copy.now c.args.words.now _ _ _ _ _ _ c.deref.ensures.value c.in_ok-widths.ensures.value
     c.tight_space.ensures.value c.measure.ensures.value c.deref-3.ensures.value c.in_ok-groups.ensures.ok).0
-    c.add_groups.ensures
+    c.add_groups.ensures.ok
