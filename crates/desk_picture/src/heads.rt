@@ -54,11 +54,8 @@ pub fn put_copy_faults<A: Allocator + Copy>(
 ) -> Result<(), AllocError>
     ensures { OnOk result (string_bytes out.new ≡ string_bytes out.old ++ copy_faults 0 faults.now) }
 {
-    let _count = faults.len();
-    let mut number = 0;
-    for fault in faults {
-        put_copy_fault(out, head_y(number), *fault)?;
-        number += 1;
+    for (number, fault) in faults.iter().enumerate() {
+        put_copy_fault(out, head_y(number as u128), *fault)?;
     }
     Ok(())
 }
@@ -209,7 +206,6 @@ fn put_lacks<A: Allocator + Copy>(
     requires { first ≤ 2 ^ 65 }
     ensures { OnOk result (string_bytes out.new ≡ string_bytes out.old ++ lacks copy.now first lacking.now) }
 {
-    let _count = lacking.len();
     let mut number = first;
     for fault in lacking {
         put_lack(out, copy, head_y(number), *fault)?;

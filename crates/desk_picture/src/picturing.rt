@@ -80,10 +80,11 @@ fn drawn_of<A: Allocator + Copy>(
     }
 }
 
-/// Draws the galley of a stored feed by a case and a wedge, as `put_picture` does, and stores the picture under the name of a
-/// target; where there is no galley, a picture that says why. A line that can't be set is drawn with its fault, and no refusal.
-/// Settings that are tried count in place of the copy's, and are stored nowhere. No name is taken: a feed is stored by a rename, so what is read is a whole feed. A target that is the feed, the case or the
-/// wedge is replaced as any other. After an `Err` the target has its old bytes.
+/// Draws the galley of a stored feed by a case and a wedge, as `put_picture` does, and stores the picture under the name of
+/// a target; where there is no galley, a picture that says why. A line that can't be set is drawn with its fault, and no
+/// refusal. Settings that are tried count in place of the copy's, and are stored nowhere. No name is taken: a feed is stored
+/// by a rename, so what is read is a whole feed. A target that is the feed, the case or the wedge is replaced as any other.
+/// After an `Err` the target has its old bytes.
 pub fn picture_feed<F: Files, A: Allocator + Copy>(
     memory: Memory<A>,
     files: &mut F,

@@ -51,7 +51,6 @@ pub fn put_words<A: Allocator + Copy>(
     ensures end { IfOk result (λ end. end ≡ after_words terms.now copy.now space 0 words.now) }
     ensures limit { IfOk result (λ end. end ≤ 2 ^ 106) }
 {
-    let _count = words.len();
     let mut here = 0;
     for word in words {
         let end = put_word(out, terms, pica, here, &copy[word.from..word.to])?;

@@ -10,7 +10,7 @@ use Rattle.desk_reading.specs.Told.{IsTold}
 use Rattle.desk_reading.specs.declared.fault.ReadingFault.{ReadingFault}
 use Rattle.desk_reading.specs.declared.fault.ReadingFault.TheVariants as faults
 
--- what is told of the bytes that the ribbon's name stands for, by the case and the wedge that the two files give
+-- what is reported of the bytes that the ribbon's name stands for, by the case and the wedge that the two files give
 abbrev pub IsReadingOf : Sources → Shelf → List ℕ → Bool → Type 0
 IsReadingOf from shelf told whole =
     (bytes : List ℕ) × (case : CaseValues) × (wedge : WedgeValues) × Give from shelf bytes case wedge × IsTold bytes case wedge told whole

@@ -1,4 +1,4 @@
--- What is told of the bytes of a ribbon.
+-- What is reported of the bytes of a ribbon.
 use Rattle.std.specs.Prelude.{◌≡◌, ◌≢◌, ℕ, Bool, false, List, length, Result, Ok, Err}
 use Rattle.std.specs.Result.{is_ok}
 use Rattle.desk_signals.specs.declared.RibbonRow.{RibbonRow}
@@ -23,11 +23,11 @@ abbrev pub cast_text : Pica → ℕ → Result (List Line) CastFault → List �
 cast_text pica rows (Ok lines) = ribbon_text pica rows lines
 cast_text pica rows (Err fault) = cast_fault_text fault
 
--- what is told of rows, by what the caster makes of them
+-- what is reported of rows, by what the caster makes of them
 abbrev pub rows_text : CaseValues → WedgeValues → List RibbonRow → List ℕ
 rows_text case wedge rows = cast_text wedge.pica (length rows) (cast case wedge rows)
 
--- what is told of bytes, by what they mean
+-- what is reported of bytes, by what they mean
 abbrev pub told_text : CaseValues → WedgeValues → Result (List RibbonRow) RibbonFault → List ℕ
 told_text case wedge (Ok rows) = rows_text case wedge rows
 told_text case wedge (Err fault) = ribbon_fault_text fault
@@ -37,7 +37,7 @@ abbrev pub is_whole : CaseValues → WedgeValues → Result (List RibbonRow) Rib
 is_whole case wedge (Ok rows) = is_ok (cast case wedge rows)
 is_whole case wedge (Err fault) = false
 
--- the bytes have a meaning, this is told of it, and it is whole or not
+-- the bytes have a meaning, this is reported of it, and it is whole or not
 abbrev pub IsTold : List ℕ → CaseValues → WedgeValues → List ℕ → Bool → Type 0
 IsTold bytes case wedge told whole =
     (found : Result (List RibbonRow) RibbonFault) × AreRows bytes found × (told ≡ told_text case wedge found) × (whole ≡ is_whole case wedge found)

@@ -1,6 +1,8 @@
 //! The first fault of a ribbon, on one line.
 
-ghost use Rattle.std.specs.Prelude.{◌≡◌, ◌++◌, OnOk, string_bytes};
+ghost use Rattle.std.specs.Prelude.{◌≡◌, ◌≢◌, ◌++◌, OnOk, string_bytes};
+ghost use Rattle.desk_caster.specs.declared.CastFault.TheVariants as casts;
+ghost use Rattle.desk_caster.specs.declared.RibbonFault.TheVariants as ribbons;
 ghost use Rattle.desk_reading.specs.Faults.{cast_fault_text, cast_fault_words, image_words, ribbon_fault_text, ribbon_fault_words, row_text, row_words};
 
 use desk_caster::{CastFault, RibbonFault};
@@ -44,38 +46,43 @@ fn put_row<A: Allocator + Copy>(
     out.push_str(words)
 }
 
+/// Writes why bytes are no ribbon. Out of memory is no such cause: it is returned.
 fn put_ribbon_words<A: Allocator + Copy>(
     out: &mut String<A>,
     fault: RibbonFault,
 ) -> Result<(), AllocError>
-    ensures { OnOk result (string_bytes out.new ≡ string_bytes out.old ++ ribbon_fault_words fault) }
+    ensures text { OnOk result (string_bytes out.new ≡ string_bytes out.old ++ ribbon_fault_words fault) }
+    ensures cause { OnOk result (fault ≢ ribbons.NoMemory) }
 {
     match fault {
         RibbonFault::Magic => out.push_str("it does not begin with MRB1"),
         RibbonFault::Count => out.push_str("it has not as many rows as it says"),
         RibbonFault::Row(place, why) => put_row(out, place, image_words(why)),
-        RibbonFault::NoMemory => out.push_str("out of memory"),
+        RibbonFault::NoMemory => Err(AllocError),
     }
 }
 
 /// Writes the line of the first fault of bytes that are no ribbon, as `no ribbon: row 12: two numbers`. The place of a row
-/// counts from 0 in punched order.
+/// counts from 0 in punched order. Out of memory has no line: it is returned.
 pub fn put_ribbon_fault<A: Allocator + Copy>(
     out: &mut String<A>,
     fault: RibbonFault,
 ) -> Result<(), AllocError>
-    ensures { OnOk result (string_bytes out.new ≡ string_bytes out.old ++ ribbon_fault_text fault) }
+    ensures text { OnOk result (string_bytes out.new ≡ string_bytes out.old ++ ribbon_fault_text fault) }
+    ensures cause { OnOk result (fault ≢ ribbons.NoMemory) }
 {
     out.push_str("no ribbon: ")?;
     put_ribbon_words(out, fault)?;
     out.push_str("\n")
 }
 
+/// Writes why the caster stops at a row. Out of memory is no such cause: it is returned.
 fn put_cast_words<A: Allocator + Copy>(
     out: &mut String<A>,
     fault: CastFault,
 ) -> Result<(), AllocError>
-    ensures { OnOk result (string_bytes out.new ≡ string_bytes out.old ++ cast_fault_words fault) }
+    ensures text { OnOk result (string_bytes out.new ≡ string_bytes out.old ++ cast_fault_words fault) }
+    ensures cause { OnOk result (fault ≢ casts.NoMemory) }
 {
     match fault {
         CastFault::NoWedges(place) => put_row(
@@ -93,17 +100,18 @@ fn put_cast_words<A: Allocator + Copy>(
             place,
             "not sent out: nothing sends out the line that this row starts",
         ),
-        CastFault::NoMemory => out.push_str("out of memory"),
+        CastFault::NoMemory => Err(AllocError),
     }
 }
 
 /// Writes the line of the first fault that the caster meets, as `row 12: no matrix: ..`. The place of a row counts from 0 in
-/// punched order, though the caster goes from the last row to the first.
+/// punched order, though the caster goes from the last row to the first. Out of memory has no line: it is returned.
 pub fn put_cast_fault<A: Allocator + Copy>(
     out: &mut String<A>,
     fault: CastFault,
 ) -> Result<(), AllocError>
-    ensures { OnOk result (string_bytes out.new ≡ string_bytes out.old ++ cast_fault_text fault) }
+    ensures text { OnOk result (string_bytes out.new ≡ string_bytes out.old ++ cast_fault_text fault) }
+    ensures cause { OnOk result (fault ≢ casts.NoMemory) }
 {
     put_cast_words(out, fault)?;
     out.push_str("\n")

@@ -1,8 +1,10 @@
 //! What is reported of the bytes of a ribbon.
 
-ghost use Rattle.std.specs.Prelude.{◌≡◌, ◌<◌, ◌^◌, IfOk, false, length, string_bytes, true};
+ghost use Rattle.std.specs.Prelude.{◌≡◌, ◌≢◌, ◌<◌, ◌^◌, IfOk, OnOk, false, length, string_bytes, true};
 ghost use Rattle.std.specs.Result.{is_ok};
 ghost use Rattle.desk_caster.specs.Caster.{cast};
+ghost use Rattle.desk_caster.specs.declared.CastFault.TheVariants as casts;
+ghost use Rattle.desk_caster.specs.declared.RibbonFault.TheVariants as ribbons;
 ghost use Rattle.desk_reading.specs.Faults.{cast_fault_text, ribbon_fault_text};
 ghost use Rattle.desk_reading.specs.Lines.{ribbon_text};
 ghost use Rattle.desk_reading.specs.Told.{IsTold, rows_text};
@@ -17,23 +19,25 @@ use desk_units::Pica;
 use desk_wedge::Wedge;
 use std::alloc::Allocator;
 
-/// The line of bytes that are no ribbon.
+/// The line of bytes that are no ribbon; out of memory where that is the fault.
 fn no_ribbon<A: Allocator + Copy>(
     alloc: A,
     fault: RibbonFault,
 ) -> Result<(String<A>, bool), NoMemory>
     ensures text { IfOk result (λ t. string_bytes t.0 ≡ ribbon_fault_text fault) }
     ensures whole { IfOk result (λ t. t.1 ≡ false) }
+    ensures cause { OnOk result (fault ≢ ribbons.NoMemory) }
 {
     let mut out = String::new(alloc);
     put_ribbon_fault(&mut out, fault)?;
     Ok((out, false))
 }
 
-/// The line of rows that are not cast.
+/// The line of rows that are not cast; out of memory where that is the fault.
 fn not_cast<A: Allocator + Copy>(alloc: A, fault: CastFault) -> Result<(String<A>, bool), NoMemory>
     ensures text { IfOk result (λ t. string_bytes t.0 ≡ cast_fault_text fault) }
     ensures whole { IfOk result (λ t. t.1 ≡ false) }
+    ensures cause { OnOk result (fault ≢ casts.NoMemory) }
 {
     let mut out = String::new(alloc);
     put_cast_fault(&mut out, fault)?;
@@ -68,10 +72,7 @@ fn rows_told<A: Allocator + Copy>(
 {
     match cast(alloc, rows, case, wedge) {
         Ok(lines) => lines_told(alloc, wedge.pica(), rows.len(), &lines),
-        Err(CastFault::NoWedges(place)) => not_cast(alloc, CastFault::NoWedges(place)),
-        Err(CastFault::NoMatrix(place)) => not_cast(alloc, CastFault::NoMatrix(place)),
-        Err(CastFault::NotSentOut(place)) => not_cast(alloc, CastFault::NotSentOut(place)),
-        Err(CastFault::NoMemory) => Err(NoMemory),
+        Err(fault) => not_cast(alloc, fault),
     }
 }
 
@@ -87,9 +88,6 @@ pub fn told_of<A: Allocator + Copy>(
 {
     match read_ribbon(alloc, bytes) {
         Ok(rows) => rows_told(alloc, &rows, case, wedge),
-        Err(RibbonFault::Magic) => no_ribbon(alloc, RibbonFault::Magic),
-        Err(RibbonFault::Count) => no_ribbon(alloc, RibbonFault::Count),
-        Err(RibbonFault::Row(place, why)) => no_ribbon(alloc, RibbonFault::Row(place, why)),
-        Err(RibbonFault::NoMemory) => Err(NoMemory),
+        Err(fault) => no_ribbon(alloc, fault),
     }
 }

@@ -1,6 +1,6 @@
 -- What a stored feed and a case give.
 use Rattle.std.proofs.Common.{◌≡◌, List, ℕ, inl, refl, subst}
-use Rattle.std.specs.Prelude.{Bool, Option, Ok, Err}
+use Rattle.std.specs.Prelude.{Bool, Option, Err}
 use Rattle.desk_ops.specs.OpSet.{OpSet}
 use Rattle.desk_case.specs.Case.{CaseValues}
 use Rattle.desk_case.specs.File.{case_of}
@@ -10,10 +10,10 @@ use Rattle.desk_answers.specs.declared.not_done.NotDone.TheVariants as ends
 use Rattle.desk_files.specs.Files.{Shelf}
 use Rattle.desk_hand.specs.Exporting.{IsSetOf}
 use Rattle.desk_inputs.specs.Inputs.{Answers, FileGives, FileLacksMemory}
-use Rattle.desk_sorts.specs.Sources.{AreRefused, Sources, of_input}
+use Rattle.desk_sorts.specs.Sources.{AreRefused, Sources, of_input, of_sources}
 use Rattle.desk_sorts.specs.Telling.{AreUnlisted}
-use Rattle.desk_sorts.specs.declared.fault.SortsFault.{SortsFault}
-use Rattle.desk_sorts.specs.declared.fault.SortsFault.TheVariants as faults
+use Rattle.desk_sorts.specs.declared.fault.SourcesFault.{SourcesFault}
+use Rattle.desk_sorts.specs.declared.fault.SourcesFault.TheVariants as refusals
 
 -- the case is not given, where nothing changed as the feed was opened
 pub no_inputs : (from : Sources) (set : OpSet) (first mid last : Shelf) (end : NotDone) → mid ≡ first → IsSetOf from.feed first set
@@ -23,8 +23,7 @@ no_inputs from set first mid last (ends.Stopped taken why) same is given = absur
 no_inputs from set first mid last ends.NoMemory same is given = (set, is, subst (λ (s : Shelf). FileLacksMemory from.case s last) same given)
 
 -- no list, where the two give nothing
-pub unlisted : (from : Sources) (layout : Bool) (first last : Shelf) (told : Option (List ℕ)) (fault : SortsFault) → AreRefused from first last fault → AreUnlisted from layout first last told told fault
-unlisted from layout first last told (faults.Feed why) refused = (refl, refused)
-unlisted from layout first last told (faults.Input why) refused = (refl, refused)
-unlisted from layout first last told faults.Write refused = absurd refused
-unlisted from layout first last told faults.NoMemory refused = (refl, inl refused)
+pub unlisted : (from : Sources) (layout : Bool) (first last : Shelf) (told : Option (List ℕ)) (why : SourcesFault) → AreRefused from first last why → AreUnlisted from layout first last told told (of_sources why)
+unlisted from layout first last told (refusals.Feed why) refused = (refl, refused)
+unlisted from layout first last told (refusals.Input why) refused = (refl, refused)
+unlisted from layout first last told refusals.NoMemory refused = (refl, inl refused)

@@ -11,12 +11,20 @@ use Rattle.desk_hand.specs.Exporting.{IsClosedBy, IsSetOf}
 use Rattle.desk_inputs.specs.Inputs.{FileGives, FileLacksMemory}
 use Rattle.desk_sorts.specs.declared.fault.SortsFault.{SortsFault}
 use Rattle.desk_sorts.specs.declared.fault.SortsFault.TheVariants as faults
+use Rattle.desk_sorts.specs.declared.fault.SourcesFault.{SourcesFault}
+use Rattle.desk_sorts.specs.declared.fault.SourcesFault.TheVariants as refusals
 
--- what a case that is not given is for a list of sorts
-abbrev pub of_input : NotDone → SortsFault
-of_input (ends.Refused why) = faults.Input why
-of_input (ends.Stopped taken why) = faults.Input why
-of_input ends.NoMemory = faults.NoMemory
+-- what a case that is not given is for the sources of a list
+abbrev pub of_input : NotDone → SourcesFault
+of_input (ends.Refused why) = refusals.Input why
+of_input (ends.Stopped taken why) = refusals.Input why
+of_input ends.NoMemory = refusals.NoMemory
+
+-- what sources that give nothing are for a list of sorts
+abbrev pub of_sources : SourcesFault → SortsFault
+of_sources (refusals.Feed why) = faults.Feed why
+of_sources (refusals.Input why) = faults.Input why
+of_sources refusals.NoMemory = faults.NoMemory
 
 -- the names of a stored feed and of a case file
 pub record Sources : Type 0 where
@@ -31,12 +39,11 @@ abbrev pub Give : Sources → Shelf → OpSet → CaseValues → Type 0
 Give from shelf set case = IsSetOf from.feed shelf set × FileGives case_of case_refused from.case shelf (Ok case) shelf
 
 -- why they give nothing: the feed is not opened; or it is, and then the case is refused, or memory runs out by it
-abbrev pub AreRefused : Sources → Shelf → Shelf → SortsFault → Type 0
-AreRefused from before after (faults.Feed why) = IsClosedBy from.feed before after why
-AreRefused from before after (faults.Input why) = (set : OpSet) × IsSetOf from.feed before set × FileGives case_of case_refused from.case before (Err why) after
-AreRefused from before after faults.Write = ⊥
-AreRefused from before after faults.NoMemory = (set : OpSet) × IsSetOf from.feed before set × FileLacksMemory from.case before after
+abbrev pub AreRefused : Sources → Shelf → Shelf → SourcesFault → Type 0
+AreRefused from before after (refusals.Feed why) = IsClosedBy from.feed before after why
+AreRefused from before after (refusals.Input why) = (set : OpSet) × IsSetOf from.feed before set × FileGives case_of case_refused from.case before (Err why) after
+AreRefused from before after refusals.NoMemory = (set : OpSet) × IsSetOf from.feed before set × FileLacksMemory from.case before after
 
 -- memory ran out by the case, or once all was given, and then no file has changed and the device did not fail
 abbrev pub LackMemory : Sources → Shelf → Shelf → Type 0
-LackMemory from before after = AreRefused from before after faults.NoMemory ⊎ ((after ≡ before) × (set : OpSet) × (case : CaseValues) × Give from before set case)
+LackMemory from before after = AreRefused from before after refusals.NoMemory ⊎ ((after ≡ before) × (set : OpSet) × (case : CaseValues) × Give from before set case)

@@ -8,10 +8,11 @@ use Rattle.desk_files.specs.Files.{Shelf}
 use Rattle.desk_stored.specs.Sending.{WritesFront}
 use Rattle.desk_sorts.specs.declared.fault.SortsFault.{SortsFault}
 use Rattle.desk_sorts.specs.declared.fault.SortsFault.TheVariants as faults
+use Rattle.desk_sorts.specs.declared.fault.SourcesFault.TheVariants as refusals
 use Rattle.desk_sorts.specs.Sources.{AreRefused, Give, LackMemory, Sources}
 use Rattle.desk_sorts.specs.Told.{IsToldOf}
 
--- what is told of what the sources give
+-- what is reported of what the sources give
 abbrev pub IsListOf : Sources → Shelf → Bool → List ℕ → Bool → Type 0
 IsListOf from shelf layout told complete = (set : OpSet) × (case : CaseValues) × Give from shelf set case × IsToldOf (copy_of set) case layout told complete
 
@@ -21,8 +22,8 @@ AreListed from layout shelf before after complete = (told : List ℕ) × IsListO
 
 -- why not all of it was written, and what was: nothing, or under Write a prefix
 abbrev pub AreUnlisted : Sources → Bool → Shelf → Shelf → Option (List ℕ) → Option (List ℕ) → SortsFault → Type 0
-AreUnlisted from layout first last before after (faults.Feed why) = (after ≡ before) × AreRefused from first last (faults.Feed why)
-AreUnlisted from layout first last before after (faults.Input why) = (after ≡ before) × AreRefused from first last (faults.Input why)
+AreUnlisted from layout first last before after (faults.Feed why) = (after ≡ before) × AreRefused from first last (refusals.Feed why)
+AreUnlisted from layout first last before after (faults.Input why) = (after ≡ before) × AreRefused from first last (refusals.Input why)
 AreUnlisted from layout first last before after faults.Write =
     (last ≡ first) × (told : List ℕ) × (complete : Bool) × IsListOf from first layout told complete × WritesFront before after told
 AreUnlisted from layout first last before after faults.NoMemory = (after ≡ before) × LackMemory from first last

@@ -1,4 +1,4 @@
--- What is told of a copy by a case: its sorts, and what the case holds.
+-- What is reported of a copy by a case: its sorts, and what the case holds.
 use Rattle.std.specs.Prelude.{◌≡◌, ◌==◌, ℕ, Bool, List, [], ◌++◌, if◌then◌else◌}
 use Rattle.desk_ops.specs.declared.op.Symbol.{Symbol}
 use Rattle.desk_case.specs.Case.{CaseValues}
@@ -15,7 +15,7 @@ layout_text case layout = if layout then case_text case else []
 abbrev pub told_text : List Symbol → CaseValues → List Sort → Bool → List ℕ
 told_text copy case sorts layout = sorts_text copy case sorts ++ layout_text case layout
 
--- what is told of the sorts of a copy by a case, and whether the case holds each
+-- what is reported of the sorts of a copy by a case, and whether the case holds each
 abbrev pub IsToldOf : List Symbol → CaseValues → Bool → List ℕ → Bool → Type 0
 IsToldOf copy case layout told complete =
     (sorts : List Sort) × AreSortsOf copy sorts × (told ≡ told_text copy case sorts layout) × (complete ≡ (missing_of case sorts == 0))

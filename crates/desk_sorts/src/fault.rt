@@ -1,8 +1,9 @@
 //! Why there is no list of sorts.
 
 ghost use Rattle.std.specs.Prelude.{◌≡◌};
-ghost use Rattle.desk_sorts.specs.Sources.{of_input};
+ghost use Rattle.desk_sorts.specs.Sources.{of_input, of_sources};
 ghost use Rattle.desk_sorts.specs.declared.fault.SortsFault.TheVariants as faults;
+ghost use Rattle.desk_sorts.specs.declared.fault.SourcesFault.TheVariants as refusals;
 
 use desk_answers::{NotDone, Refusal};
 use desk_hand::FeedTrouble;
@@ -10,7 +11,7 @@ use desk_memory::NoMemory;
 use desk_stored::Unsent;
 use thiserror::Error;
 
-/// Why the sorts of a stored feed are not told, by the phase in which it stopped.
+/// Why no list of the sorts of a stored feed is written, by the phase in which it stopped.
 #[derive(Clone, Copy, Debug, PartialEq, Eq, Error)]
 pub enum SortsFault {
     /// The stored feed is not opened.
@@ -42,21 +43,43 @@ impl From<Unsent> for SortsFault {
     }
 }
 
-impl From<FeedTrouble> for SortsFault {
-    ghost from_gives = { λ why fault. fault ≡ faults.Feed why };
+/// Why the stored feed and the case that are read for a list give nothing.
+#[derive(Clone, Copy, Debug, PartialEq, Eq)]
+pub enum SourcesFault {
+    /// The stored feed is not opened.
+    Feed(FeedTrouble),
+    /// The case is not read, or is refused.
+    Input(Refusal),
+    NoMemory,
+}
 
-    fn from(why: FeedTrouble) -> SortsFault {
-        SortsFault::Feed(why)
+impl From<FeedTrouble> for SourcesFault {
+    ghost from_gives = { λ why fault. fault ≡ refusals.Feed why };
+
+    fn from(why: FeedTrouble) -> SourcesFault {
+        SourcesFault::Feed(why)
     }
 }
 
-impl From<NotDone> for SortsFault {
+impl From<NotDone> for SourcesFault {
     ghost from_gives = { λ end fault. fault ≡ of_input end };
 
-    fn from(end: NotDone) -> SortsFault {
+    fn from(end: NotDone) -> SourcesFault {
         match end {
-            NotDone::Refused(why) | NotDone::Stopped(_, why) => SortsFault::Input(why),
-            NotDone::NoMemory => SortsFault::NoMemory,
+            NotDone::Refused(why) | NotDone::Stopped(_, why) => SourcesFault::Input(why),
+            NotDone::NoMemory => SourcesFault::NoMemory,
+        }
+    }
+}
+
+impl From<SourcesFault> for SortsFault {
+    ghost from_gives = { λ why fault. fault ≡ of_sources why };
+
+    fn from(why: SourcesFault) -> SortsFault {
+        match why {
+            SourcesFault::Feed(why) => SortsFault::Feed(why),
+            SourcesFault::Input(why) => SortsFault::Input(why),
+            SourcesFault::NoMemory => SortsFault::NoMemory,
         }
     }
 }

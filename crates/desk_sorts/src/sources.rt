@@ -4,7 +4,7 @@ ghost use Rattle.std.specs.Prelude.{◌≡◌, IfErr, IfOk, OnOk};
 ghost use Rattle.desk_files.specs.Files.{Stays};
 ghost use Rattle.desk_sorts.specs.Sources.{AreRefused, Give, sources};
 
-use crate::fault::SortsFault;
+use crate::fault::SourcesFault;
 use desk_blocks::Blocks;
 use desk_case::MatrixCase;
 use desk_files::Files;
@@ -20,7 +20,7 @@ pub fn take_in<F: Files, A: Allocator + Copy>(
     files: &mut F,
     feed: &str,
     case: &str,
-) -> Result<(Replica<Blocks<A>>, MatrixCase), SortsFault>
+) -> Result<(Replica<Blocks<A>>, MatrixCase), SourcesFault>
     ensures ok { IfOk result (λ t. Give (sources feed.now case.now) (F.shelf files.old) t.0.ops t.1) }
     ensures still { OnOk result (F.shelf files.new ≡ F.shelf files.old) }
     ensures err { IfErr result (AreRefused (sources feed.now case.now) (F.shelf files.old) (F.shelf files.new)) }

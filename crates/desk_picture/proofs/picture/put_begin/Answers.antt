@@ -1,6 +1,7 @@
 use Rattle.std.proofs.Common.{ap, ◌∙◌, ◌++◌, string_bytes}
 use Rattle.std.specs.Prelude.{codes}
-use Rattle.desk_picture.proofs.Texts.{four, pushed}
+use Rattle.desk_proof.proofs.Texts.{four}
+use Rattle.desk_picture.proofs.Texts.{pushed}
 use Rattle.desk_picture.proofs.picture.put_begin.Goals as goal
 
 pub returns : goal.returns

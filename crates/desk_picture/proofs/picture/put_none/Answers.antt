@@ -2,7 +2,8 @@ use Rattle.std.proofs.Common.{ap, ◌∙◌, ◌+◌, ◌++◌, string_bytes}
 use Rattle.desk_picture.specs.Heads.{head_y}
 use Rattle.desk_picture.specs.Picture.{begin_text, why_text}
 use Rattle.std.specs.Prelude.{codes}
-use Rattle.desk_picture.proofs.Texts.{four, pushed}
+use Rattle.desk_proof.proofs.Texts.{four}
+use Rattle.desk_picture.proofs.Texts.{pushed}
 use Rattle.desk_picture.proofs.picture.put_none.Goals as goal
 
 pub returns : goal.returns
