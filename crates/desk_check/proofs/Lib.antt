@@ -1,4 +1,3 @@
 pub mod Said
-pub mod Sorts
 pub mod Places
 pub mod Checks

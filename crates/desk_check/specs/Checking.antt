@@ -1,5 +1,5 @@
 -- Files checked by their names, in order.
-use Rattle.std.specs.Prelude.{◌≡◌, ℕ, Bool, true, false, ◌&&◌, List, [], ◌∷◌, ◌++◌, Option, Result, Ok, Err}
+use Rattle.std.specs.Prelude.{◌≡◌, ℕ, Bool, true, false, ◌&&◌, List, [], ◌∷◌, ◌++◌, Option, Some, Result, Ok, Err}
 use Rattle.std.specs.Io.KnownBytes.{Appends}
 use Rattle.desk_files.specs.Files.{Counts, Reads, Shelf, Stays}
 use Rattle.desk_files.specs.declared.files.FileRefusal.{FileRefusal}
@@ -12,7 +12,7 @@ use Rattle.desk_check.specs.declared.fault.CheckFault.TheVariants as faults
 -- what is said of what a read gave
 abbrev pub SaysRead : Result (List ℕ) FileRefusal → List ℕ → Bool → Type 0
 SaysRead (Ok bytes) said well = SaysBytes bytes said well
-SaysRead (Err why) said well = (said ≡ refusal_words why) × (well ≡ false)
+SaysRead (Err why) said well = (refusal_words why ≡ Some said) × (well ≡ false)
 
 -- a name was read, and this is its line; no file changes
 abbrev pub IsLine : List ℕ → Shelf → Shelf → List ℕ → Bool → Type 0
@@ -44,7 +44,7 @@ abbrev pub IsUnsaid : List ℕ → Shelf → Shelf → Option (List ℕ) → Opt
 IsUnsaid name before after held written faults.Write = (line : List ℕ) × (well : Bool) × IsLine name before after line well × WritesFront held written line
 IsUnsaid name before after held written faults.NoMemory = Stays before after × (written ≡ held) × IsRead name before after
 
--- the lines of the names in front were written, and then the line of one was not
+-- the lines of the names before were written, and then the line of one was not
 abbrev pub IsUnchecked : List (List ℕ) → Shelf → Shelf → Option (List ℕ) → Option (List ℕ) → CheckFault → Type 0
 IsUnchecked names first last before after fault =
     (front tail : List (List ℕ)) × (name : List ℕ) × (names ≡ front ++ name ∷ tail) × (mid : Shelf) × (between : Option (List ℕ)) × (well : Bool)

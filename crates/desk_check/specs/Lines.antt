@@ -1,5 +1,5 @@
 -- What is said of the bytes of a file, and whether they are in order.
-use Rattle.std.specs.Prelude.{◌≡◌, ◌≢◌, ◌<◌, ℕ, Bool, false, List, [], ◌∷◌, ◌++◌, codes, Result, Ok, Err}
+use Rattle.std.specs.Prelude.{◌≡◌, ◌≢◌, ◌<◌, ℕ, Bool, false, List, [], ◌∷◌, ◌++◌, codes, Option, Some, Result, Ok, Err}
 use Rattle.std.specs.Result.{is_ok}
 use Rattle.desk_ops.specs.declared.op.Op.{Op}
 use Rattle.desk_ops.specs.OpSet.{OpSet, max_ops, no_ops, size, with_all}
@@ -31,8 +31,8 @@ AreRows bytes (Ok rows) = IsRibbon bytes rows
 AreRows bytes (Err fault) = castings.Tells bytes fault × (fault ≢ ribbons.NoMemory)
 
 -- bytes have a meaning, this is said of it, and they are in order where it is no fault
-abbrev pub Says : {V E : Type 0} → (List ℕ → Result V E → Type 0) → (Result V E → List ℕ) → List ℕ → List ℕ → Bool → Type 0
-Says {V} {E} Means words bytes said well = (found : Result V E) × Means bytes found × (said ≡ words found) × (well ≡ is_ok found)
+abbrev pub Says : {V E : Type 0} → (List ℕ → Result V E → Type 0) → (Result V E → Option (List ℕ)) → List ℕ → List ℕ → Bool → Type 0
+Says {V} {E} Means words bytes said well = (found : Result V E) × Means bytes found × (words found ≡ Some said) × (well ≡ is_ok found)
 
 abbrev pub SaysFeed : List ℕ → List ℕ → Bool → Type 0
 SaysFeed = Says IsSet feed_words

@@ -1,5 +1,5 @@
 -- The texts of a case file's cells.
-use Rattle.std.specs.Prelude.{ℕ, zero, suc, ◌+◌, ◌/◌, ◌%◌, Bool, false, if◌then◌else◌, List, [], ◌∷◌, ◌++◌, codes, Option, Some, None, is_some, option_and_then}
+use Rattle.std.specs.Prelude.{ℕ, zero, suc, ◌+◌, ◌*◌, ◌/◌, ◌%◌, Bool, false, if◌then◌else◌, List, [], ◌∷◌, ◌++◌, codes, Option, Some, None, is_some, option_and_then}
 use Rattle.std.specs.Char.{encode_utf8}
 use Rattle.std.specs.Str.{bytes_eq}
 use Rattle.toml.specs.Data.{Data, as_str, at, get_member}
@@ -8,13 +8,16 @@ use Rattle.desk_signals.specs.declared.Cell.{Cell}
 use Rattle.desk_ops.specs.declared.op.Style.{Style}
 use Rattle.desk_ops.specs.declared.op.Style.TheVariants as styles
 use Rattle.desk_ops.specs.declared.op.Symbol.{Symbol}
+use Rattle.desk_case.specs.File.{key_name}
 use Rattle.desk_case.specs.Names.{cell_of_place}
 use Rattle.desk_case.specs.declared.CaseFault.{CaseFault}
 use Rattle.desk_case.specs.declared.CaseFault.TheVariants as cases
+use Rattle.desk_case.specs.declared.CaseKey.TheVariants as keys
+use Rattle.desk_case.specs.declared.TheConstants.{COLUMNS, ROWS}
 
--- the text at a place of rows, counted row by row, 17 places for each
+-- the text at a place of rows, counted row by row, a place for each column
 abbrev pub text_at : Data → ℕ → Option (List ℕ)
-text_at rows place = option_and_then as_str (option_and_then (at (place % 17)) (at (place / 17) rows))
+text_at rows place = option_and_then as_str (option_and_then (at (place % COLUMNS)) (at (place / COLUMNS) rows))
 
 -- ---- how many there are
 
@@ -28,7 +31,7 @@ texts rows (suc place) = texts rows place + one_text rows place
 
 abbrev pub cells_of : Option Data → ℕ
 cells_of None = 0
-cells_of (Some rows) = texts rows 255
+cells_of (Some rows) = texts rows (ROWS * COLUMNS)
 
 -- ---- the cells that have one text
 
@@ -46,7 +49,7 @@ holders rows text (suc place) = holders rows text place ++ holder rows text plac
 
 abbrev pub holders_of : List ℕ → Option Data → List Cell
 holders_of text None = []
-holders_of text (Some rows) = holders rows text 255
+holders_of text (Some rows) = holders rows text (ROWS * COLUMNS)
 
 -- the text that stands for a symbol
 abbrev pub style_mark : Style → List ℕ
@@ -61,19 +64,13 @@ symbol_text symbol = style_mark symbol.style ++ encode_utf8 symbol.ch
 
 -- what the key `rows` of a file holds
 abbrev pub rows_in : List ℕ → Option Data
-rows_in bytes = option_and_then (get_member (codes "rows")) (document bytes)
+rows_in bytes = option_and_then (get_member (key_name keys.Rows)) (document bytes)
 
 -- how many cells a file has texts for
 abbrev pub cells_in : List ℕ → ℕ
 cells_in bytes = cells_of (rows_in bytes)
 
--- the cells that hold the symbol of a fault
+-- the cells that hold the symbol of a fault, if it is of one
 abbrev pub fault_holders : List ℕ → CaseFault → List Cell
-fault_holders bytes cases.NotToml = []
-fault_holders bytes (cases.Missing key) = []
-fault_holders bytes (cases.Shape key) = []
-fault_holders bytes (cases.BadText cell) = []
 fault_holders bytes (cases.Doubled symbol) = holders_of (symbol_text symbol) (rows_in bytes)
-fault_holders bytes (cases.NotBlank cell) = []
-fault_holders bytes cases.FillOrder = []
-fault_holders bytes cases.NoMemory = []
+fault_holders bytes other = []

@@ -1,10 +1,10 @@
 -- What is said of a file, without its name.
-use Rattle.std.specs.Prelude.{ℕ, ◌/◌, ◌%◌, ◌==◌, if◌then◌else◌, List, [], ◌∷◌, ◌++◌, length, codes, Result, Ok, Err}
+use Rattle.std.specs.Prelude.{ℕ, ◌*◌, ◌/◌, ◌%◌, ◌==◌, if◌then◌else◌, List, [], ◌∷◌, ◌++◌, length, codes, Option, Some, None, option_map, Result, Ok, Err}
 use Rattle.std.specs.Fmt.{decimal}
 use Rattle.desk_ops.specs.declared.op.Symbol.{Symbol}
 use Rattle.desk_ops.specs.declared.op.Unlawful.{Unlawful}
 use Rattle.desk_ops.specs.declared.op.Unlawful.TheVariants as causes
-use Rattle.desk_ops.specs.OpSet.{OpSet, size}
+use Rattle.desk_ops.specs.OpSet.{OpSet, max_ops, size}
 use Rattle.desk_ops.specs.Shown.{copy_of}
 use Rattle.desk_ops.specs.Faults.{faults_of}
 use Rattle.desk_codec.specs.declared.fault.FeedFault.{FeedFault}
@@ -30,6 +30,7 @@ use Rattle.desk_signals.specs.Words.{cell_words}
 use Rattle.desk_ops.specs.Words.{symbol_words}
 use Rattle.desk_case.specs.declared.CaseFault.{CaseFault}
 use Rattle.desk_case.specs.declared.CaseFault.TheVariants as cases
+use Rattle.desk_case.specs.declared.TheConstants.{COLUMNS, ROWS}
 use Rattle.desk_check.specs.Sorts.{sorts}
 use Rattle.desk_answers.specs.Reply.{Faults}
 use Rattle.desk_answers.specs.Text.{text}
@@ -71,12 +72,12 @@ abbrev pub feed_fault_words : FeedFault → List ℕ
 feed_fault_words fault = codes "feed refused: byte " ++ decimal fault.at ++ codes ": " ++ why_words fault.why
 
 abbrev pub crowded_words : List ℕ
-crowded_words = codes "feed refused: more than 1048576 operations"
+crowded_words = codes "feed refused: more than " ++ decimal max_ops ++ codes " operations"
 
-abbrev pub feed_words : Result OpSet NoSet → List ℕ
-feed_words (Ok set) = set_words set
-feed_words (Err (Wrong fault)) = feed_fault_words fault
-feed_words (Err Crowded) = crowded_words
+abbrev pub feed_words : Result OpSet NoSet → Option (List ℕ)
+feed_words (Ok set) = Some (set_words set)
+feed_words (Err (Wrong fault)) = Some (feed_fault_words fault)
+feed_words (Err Crowded) = Some crowded_words
 
 -- ---- ribbons
 
@@ -92,15 +93,22 @@ abbrev pub image_words : BadImage → List ℕ
 image_words images.HighBit = codes "bit 31 is set"
 image_words (images.Row why) = row_words why
 
-abbrev pub ribbon_fault_words : RibbonFault → List ℕ
-ribbon_fault_words ribbons.Magic = codes "no ribbon begins so"
-ribbon_fault_words ribbons.Count = codes "it has not as many rows as it says"
-ribbon_fault_words (ribbons.Row place why) = codes "row " ++ decimal place ++ codes ": " ++ image_words why
-ribbon_fault_words ribbons.NoMemory = codes "no memory"
+abbrev pub row_fault_words : ℕ → BadImage → List ℕ
+row_fault_words place why = codes "row " ++ decimal place ++ codes ": " ++ image_words why
 
-abbrev pub ribbon_words : Result (List RibbonRow) RibbonFault → List ℕ
-ribbon_words (Ok rows) = codes "ok: " ++ decimal (length rows) ++ codes " rows"
-ribbon_words (Err fault) = codes "ribbon refused: " ++ ribbon_fault_words fault
+-- the fault of a ribbon; of out of memory nothing is said
+abbrev pub ribbon_fault_words : RibbonFault → Option (List ℕ)
+ribbon_fault_words ribbons.Magic = Some (codes "no ribbon begins so")
+ribbon_fault_words ribbons.Count = Some (codes "it has not as many rows as it says")
+ribbon_fault_words (ribbons.Row place why) = Some (row_fault_words place why)
+ribbon_fault_words ribbons.NoMemory = None
+
+abbrev pub rows_words : ℕ → List ℕ
+rows_words count = codes "ok: " ++ decimal count ++ codes " rows"
+
+abbrev pub ribbon_words : Result (List RibbonRow) RibbonFault → Option (List ℕ)
+ribbon_words (Ok rows) = Some (rows_words (length rows))
+ribbon_words (Err fault) = option_map (λ words. codes "ribbon refused: " ++ words) (ribbon_fault_words fault)
 
 -- ---- wedges
 
@@ -123,16 +131,20 @@ count_words q = codes " (" ++ decimal q ++ codes " quarter points)"
 abbrev pub set_q_words : ℕ → List ℕ
 set_q_words q = points_words q ++ count_words q
 
-abbrev pub wedge_fault_words : WedgeFault → List ℕ
-wedge_fault_words wedges.NotToml = codes "it is not TOML"
-wedge_fault_words (wedges.Missing key) = codes "`" ++ wedge_files.key_name key ++ codes "` is missing"
-wedge_fault_words (wedges.Range key) = codes "`" ++ wedge_files.key_name key ++ codes "` is of another type, length or value"
-wedge_fault_words (wedges.Descending row) = codes "row " ++ decimal row ++ codes " has fewer units than the row before"
-wedge_fault_words wedges.NoMemory = codes "no memory"
+-- the fault of a wedge file; of out of memory nothing is said
+abbrev pub wedge_fault_words : WedgeFault → Option (List ℕ)
+wedge_fault_words wedges.NotToml = Some (codes "it is not TOML")
+wedge_fault_words (wedges.Missing key) = Some (codes "`" ++ wedge_files.key_name key ++ codes "` is missing")
+wedge_fault_words (wedges.Range key) = Some (codes "`" ++ wedge_files.key_name key ++ codes "` is of another type, length or value")
+wedge_fault_words (wedges.Descending row) = Some (codes "row " ++ decimal row ++ codes " has fewer units than the row before")
+wedge_fault_words wedges.NoMemory = None
 
-abbrev pub wedge_words : Result WedgeValues WedgeFault → List ℕ
-wedge_words (Ok wedge) = codes "ok: wedge " ++ decimal wedge.number ++ codes ", set " ++ set_q_words wedge.set_q ++ codes ", pica " ++ pica_word wedge.pica
-wedge_words (Err fault) = codes "wedge refused: " ++ wedge_fault_words fault
+abbrev pub values_words : WedgeValues → List ℕ
+values_words wedge = codes "ok: wedge " ++ decimal wedge.number ++ codes ", set " ++ set_q_words wedge.set_q ++ codes ", pica " ++ pica_word wedge.pica
+
+abbrev pub wedge_words : Result WedgeValues WedgeFault → Option (List ℕ)
+wedge_words (Ok wedge) = Some (values_words wedge)
+wedge_words (Err fault) = option_map (λ words. codes "wedge refused: " ++ words) (wedge_fault_words fault)
 
 -- ---- cases
 
@@ -162,16 +174,16 @@ abbrev pub doubled_words : List Cell → Symbol → List ℕ
 doubled_words [] symbol = twice_words symbol
 doubled_words (first ∷ rest) symbol = doubled_from first rest symbol
 
--- the fault of a case file, with the cells that hold its symbol
-abbrev pub case_fault_words : List Cell → CaseFault → List ℕ
-case_fault_words holders cases.NotToml = codes "it is not TOML"
-case_fault_words holders (cases.Missing key) = codes "`" ++ case_files.key_name key ++ codes "` is missing"
-case_fault_words holders (cases.Shape key) = codes "`" ++ case_files.key_name key ++ codes "` is of another type, number, length or name"
-case_fault_words holders (cases.BadText cell) = cell_fault_words cell (codes " has a text that is no symbol")
-case_fault_words holders (cases.Doubled symbol) = doubled_words holders symbol
-case_fault_words holders (cases.NotBlank cell) = cell_fault_words cell (codes ", the space or a fill, holds a symbol")
-case_fault_words holders cases.FillOrder = codes "the units of the fills do not descend"
-case_fault_words holders cases.NoMemory = codes "no memory"
+-- the fault of a case file, with the cells that hold its symbol; of out of memory nothing is said
+abbrev pub case_fault_words : List Cell → CaseFault → Option (List ℕ)
+case_fault_words holders cases.NotToml = Some (codes "it is not TOML")
+case_fault_words holders (cases.Missing key) = Some (codes "`" ++ case_files.key_name key ++ codes "` is missing")
+case_fault_words holders (cases.Shape key) = Some (codes "`" ++ case_files.key_name key ++ codes "` is of another type, number, length or name")
+case_fault_words holders (cases.BadText cell) = Some (cell_fault_words cell (codes " has a text that is no symbol"))
+case_fault_words holders (cases.Doubled symbol) = Some (doubled_words holders symbol)
+case_fault_words holders (cases.NotBlank cell) = Some (cell_fault_words cell (codes ", the space or a fill, holds a symbol"))
+case_fault_words holders cases.FillOrder = Some (codes "the units of the fills do not descend")
+case_fault_words holders cases.NoMemory = None
 
 abbrev pub number_words : ℕ → List ℕ
 number_words number = codes "ok: case " ++ decimal number
@@ -183,15 +195,15 @@ abbrev pub sorts_words : ℕ → List ℕ
 sorts_words sorts = codes ", " ++ decimal sorts ++ codes " sorts"
 
 -- what a case file gives, with how many cells it has texts for; or its fault, with the cells that hold its symbol
-abbrev pub case_words : ℕ → (CaseFault → List Cell) → Result CaseValues CaseFault → List ℕ
-case_words cells holders (Ok case) = number_words case.number ++ cells_words cells ++ sorts_words (sorts case.grid)
-case_words cells holders (Err fault) = codes "case refused: " ++ case_fault_words (holders fault) fault
+abbrev pub case_words : ℕ → (CaseFault → List Cell) → Result CaseValues CaseFault → Option (List ℕ)
+case_words cells holders (Ok case) = Some (number_words case.number ++ cells_words cells ++ sorts_words (sorts case.grid (ROWS * COLUMNS)))
+case_words cells holders (Err fault) = option_map (λ words. codes "case refused: " ++ words) (case_fault_words (holders fault) fault)
 
 -- ---- others
 
--- a file that was not read
-abbrev pub refusal_words : FileRefusal → List ℕ
-refusal_words refusals.Missing = codes "no file"
-refusal_words refusals.Device = codes "file fault"
-refusal_words refusals.Large = codes "too large"
-refusal_words refusals.NoMemory = codes "no memory"
+-- a file that was not read; of out of memory nothing is said
+abbrev pub refusal_words : FileRefusal → Option (List ℕ)
+refusal_words refusals.Missing = Some (codes "no file")
+refusal_words refusals.Device = Some (codes "file fault")
+refusal_words refusals.Large = Some (codes "too large")
+refusal_words refusals.NoMemory = None

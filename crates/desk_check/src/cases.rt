@@ -1,6 +1,6 @@
 //! What is said of the bytes of a case file.
 
-ghost use Rattle.std.specs.Prelude.{◌≡◌, ◌≤◌, ◌<◌, ◌*◌, ◌++◌, Err, IfOk, Ok, OnOk, false, string_bytes, true};
+ghost use Rattle.std.specs.Prelude.{◌≡◌, ◌≤◌, ◌<◌, ◌*◌, ◌++◌, Err, IfOk, Ok, OnOk, Some, false, option_map, string_bytes, true};
 ghost use Rattle.desk_check.specs.Lines.{SaysCase};
 ghost use Rattle.desk_check.specs.Sorts.{sort_at, sorts};
 ghost use Rattle.desk_check.specs.Texts.{cells_in, fault_holders};
@@ -29,10 +29,10 @@ fn sort_at(case: &MatrixCase, place: usize) -> usize
 }
 
 /// How many cells of a case hold a symbol.
+#[tactic(auto, using(crate::proofs::Places::sorts_none))]
 fn sorts(case: &MatrixCase) -> usize
-    ensures { result ≡ sorts (case.now).grid }
+    ensures { result ≡ sorts (case.now).grid (ROWS * COLUMNS) }
 {
-    let _lawful = case.fill();
     let mut count: usize = 0;
     for place in 0..ROWS * COLUMNS {
         count += sort_at(case, place);
@@ -64,7 +64,7 @@ fn put_case<A: Allocator + Copy>(
     case: &MatrixCase,
     cells: usize,
 ) -> Result<(), AllocError>
-    ensures { OnOk result (string_bytes out.new ≡ string_bytes out.old ++ number_words (case.now).number ++ cells_words cells ++ sorts_words (sorts (case.now).grid)) }
+    ensures { OnOk result (string_bytes out.new ≡ string_bytes out.old ++ number_words (case.now).number ++ cells_words cells ++ sorts_words (sorts (case.now).grid (ROWS * COLUMNS))) }
 {
     put_case_number(out, case.number())?;
     put_cells(out, cells)?;
@@ -149,13 +149,14 @@ fn put_doubled<A: Allocator + Copy>(
     put_doubled_from(out, symbol, *first, rest)
 }
 
-/// Writes the first fault of a case file, with its key, its cell, or its symbol and the cells that hold it.
+/// Writes the first fault of a case file, with its key, its cell, or its symbol and the cells that hold it. Of out of
+/// memory nothing is written.
 fn put_case_fault<A: Allocator + Copy>(
     out: &mut String<A>,
     fault: CaseFault,
     holders: &[Cell],
 ) -> Result<(), AllocError>
-    ensures { OnOk result (string_bytes out.new ≡ string_bytes out.old ++ case_fault_words holders.now fault) }
+    ensures { OnOk result (Some (string_bytes out.new) ≡ option_map (λ words. string_bytes out.old ++ words) (case_fault_words holders.now fault)) }
 {
     match fault {
         CaseFault::NotToml => out.push_str("it is not TOML"),
@@ -171,7 +172,7 @@ fn put_case_fault<A: Allocator + Copy>(
             put_cell_fault(out, cell, ", the space or a fill, holds a symbol")
         }
         CaseFault::FillOrder => out.push_str("the units of the fills do not descend"),
-        CaseFault::NoMemory => out.push_str("no memory"),
+        CaseFault::NoMemory => Err(AllocError),
     }
 }
 
@@ -182,7 +183,7 @@ fn case_in_order<A: Allocator + Copy>(
     bytes: &[u8],
     case: &MatrixCase,
 ) -> Result<Told<A>, NoMemory>
-    ensures text { IfOk result (λ t. string_bytes t.text ≡ case_words (cells_in bytes.now) (fault_holders bytes.now) (Ok case.now)) }
+    ensures text { IfOk result (λ t. case_words (cells_in bytes.now) (fault_holders bytes.now) (Ok case.now) ≡ Some (string_bytes t.text)) }
     ensures well { IfOk result (λ t. t.well ≡ true) }
 {
     let mut text = String::new(alloc);
@@ -198,7 +199,7 @@ fn case_refused<A: Allocator + Copy>(
     bytes: &[u8],
     fault: CaseFault,
 ) -> Result<Told<A>, NoMemory>
-    ensures text { IfOk result (λ t. string_bytes t.text ≡ case_words (cells_in bytes.now) (fault_holders bytes.now) (Err fault)) }
+    ensures text { IfOk result (λ t. case_words (cells_in bytes.now) (fault_holders bytes.now) (Err fault) ≡ Some (string_bytes t.text)) }
     ensures well { IfOk result (λ t. t.well ≡ false) }
 {
     let mut text = String::new(alloc);
@@ -218,7 +219,6 @@ pub fn case_told<A: Allocator + Copy>(
 {
     match MatrixCase::read(global, bytes) {
         Ok(case) => case_in_order(alloc, global, bytes, &case),
-        Err(CaseFault::NoMemory) => Err(NoMemory),
         Err(fault) => case_refused(alloc, global, bytes, fault),
     }
 }

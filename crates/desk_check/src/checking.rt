@@ -1,6 +1,6 @@
 //! Files that are checked by their names.
 
-ghost use Rattle.std.specs.Prelude.{◌≡◌, ◌&&◌, false, IfErr, IfOk, OnErr, map, string_bytes};
+ghost use Rattle.std.specs.Prelude.{◌≡◌, ◌&&◌, false, IfErr, IfOk, OnErr, Some, map, option_map, string_bytes};
 ghost use Rattle.desk_files.specs.Files.{Stays};
 ghost use Rattle.desk_check.specs.Checking.{IsChecked, IsLine, IsRead, IsUnchecked, IsUnsaid, SaysLine};
 ghost use Rattle.desk_check.specs.Lines.{line_of};
@@ -15,24 +15,25 @@ use desk_memory::NoMemory;
 use std::alloc::Allocator;
 use std::io::Write;
 
-/// Why a file was not read.
-fn refusal_words(why: FileRefusal) -> &'static str
-    ensures { result.now ≡ refusal_words why }
+/// Why a file was not read. Out of memory has no words.
+fn refusal_words(why: FileRefusal) -> Option<&'static str>
+    ensures { option_map (λ w. w.now) result ≡ refusal_words why }
 {
     match why {
-        FileRefusal::Missing => "no file",
-        FileRefusal::Device => "file fault",
-        FileRefusal::Large => "too large",
-        FileRefusal::NoMemory => "no memory",
+        FileRefusal::Missing => Some("no file"),
+        FileRefusal::Device => Some("file fault"),
+        FileRefusal::Large => Some("too large"),
+        FileRefusal::NoMemory => None,
     }
 }
 
 /// That a file was not read.
 fn unread<A: Allocator + Copy>(alloc: A, why: FileRefusal) -> Result<Told<A>, NoMemory>
-    ensures text { IfOk result (λ t. string_bytes t.text ≡ refusal_words why) }
+    ensures text { IfOk result (λ t. refusal_words why ≡ Some (string_bytes t.text)) }
     ensures well { IfOk result (λ t. t.well ≡ false) }
 {
-    let text = String::from_str(alloc, refusal_words(why))?;
+    let words = refusal_words(why).ok_or(NoMemory)?;
+    let text = String::from_str(alloc, words)?;
     Ok(Told { text, well: false })
 }
 
@@ -60,7 +61,6 @@ fn look<F: Files, A: Allocator + Copy>(
 {
     let told = match files.read(memory.own, name) {
         Ok(bytes) => told_of(memory, bytes)?,
-        Err(FileRefusal::NoMemory) => return Err(NoMemory),
         Err(why) => unread(memory.own, why)?,
     };
     Ok((line_of(memory.own, name, told.text.as_str())?, told.well))

@@ -1,11 +1,14 @@
 //! What bytes are checked as.
 
-ghost use Rattle.std.specs.Prelude.{◌≡◌, IfOk};
+ghost use Rattle.std.specs.Prelude.{◌≡◌, IfOk, option_map};
 ghost use Rattle.toml.specs.View.{table_view};
+ghost use Rattle.desk_keys.specs.Keys.{document};
 ghost use Rattle.desk_check.specs.Kinds.{begins, has_key, kind_of, kind_of_members};
 
+use desk_case::CaseKey;
 use desk_keys::{TableFault, member, table};
 use desk_memory::NoMemory;
+use desk_wedge::WedgeKey;
 use std::alloc::Global;
 use toml::Table;
 
@@ -24,11 +27,11 @@ pub enum Kind {
     Strange,
 }
 
-/// Whether bytes begin with some others.
-fn begins(bytes: &[u8], front: &[u8]) -> bool
-    ensures { result ≡ begins bytes.now front.now }
+/// Whether bytes begin with a prefix.
+fn begins(bytes: &[u8], prefix: &[u8]) -> bool
+    ensures { result ≡ begins bytes.now prefix.now }
 {
-    bytes.starts_with(front)
+    bytes.starts_with(prefix)
 }
 
 /// Whether a document has a key of a name.
@@ -42,18 +45,29 @@ fn has_key(table: &Table, name: &str) -> bool
 fn kind_of_table(table: &Table) -> Kind
     ensures { result ≡ kind_of_members (table_view table.now) }
 {
-    if has_key(table, "case") || has_key(table, "rows") {
+    if has_key(table, CaseKey::Case.name()) || has_key(table, CaseKey::Rows.name()) {
         Kind::Case
-    } else if has_key(table, "wedge") || has_key(table, "units") {
+    } else if has_key(table, WedgeKey::Wedge.name()) || has_key(table, WedgeKey::Units.name()) {
         Kind::Wedge
     } else {
         Kind::Strange
     }
 }
 
+/// The document that bytes are, if they are one. `toml` takes the global allocator alone.
+pub fn document(global: Global, bytes: &[u8]) -> Result<Option<Table>, NoMemory>
+    ensures { IfOk result (λ found. option_map (λ t. table_view t) found ≡ document bytes.now) }
+{
+    match table(global, bytes) {
+        Ok(table) => Ok(Some(table)),
+        Err(TableFault::NotToml) => Ok(None),
+        Err(TableFault::NoMemory) => Err(NoMemory),
+    }
+}
+
 /// The kind of bytes: a feed or a ribbon by the first four, else a case or a wedge by the keys of the document that they
-/// are. `toml` takes the global allocator alone.
-pub fn kind_of(alloc: Global, bytes: &[u8]) -> Result<Kind, NoMemory>
+/// are.
+pub fn kind_of(global: Global, bytes: &[u8]) -> Result<Kind, NoMemory>
     ensures { IfOk result (λ kind. kind ≡ kind_of bytes.now) }
 {
     if begins(bytes, b"MFD1") || begins(bytes, b"MFD2") {
@@ -62,9 +76,8 @@ pub fn kind_of(alloc: Global, bytes: &[u8]) -> Result<Kind, NoMemory>
     if begins(bytes, b"MRB1") {
         return Ok(Kind::Ribbon);
     }
-    match table(alloc, bytes) {
-        Ok(table) => Ok(kind_of_table(&table)),
-        Err(TableFault::NotToml) => Ok(Kind::Strange),
-        Err(TableFault::NoMemory) => Err(NoMemory),
+    match document(global, bytes)? {
+        Some(table) => Ok(kind_of_table(&table)),
+        None => Ok(Kind::Strange),
     }
 }

@@ -1,8 +1,8 @@
 //! What is said of the bytes of a ribbon.
 
-ghost use Rattle.std.specs.Prelude.{◌≡◌, ◌++◌, Err, IfOk, Ok, OnOk, false, string_bytes, true};
+ghost use Rattle.std.specs.Prelude.{◌≡◌, ◌++◌, Err, IfOk, OnOk, Some, false, length, option_map, string_bytes, true};
 ghost use Rattle.desk_check.specs.Lines.{SaysRibbon};
-ghost use Rattle.desk_check.specs.Words.{image_words, ribbon_fault_words, ribbon_words, row_words};
+ghost use Rattle.desk_check.specs.Words.{image_words, ribbon_fault_words, ribbon_words, row_fault_words, row_words, rows_words};
 
 use crate::told::Told;
 use desk_caster::{RibbonFault, read_ribbon};
@@ -33,27 +33,36 @@ fn image_words(why: BadImage) -> &'static str
     }
 }
 
-/// Writes the first fault of a ribbon, with the place of its row.
+/// Writes what is wrong with the row at a place.
+fn put_row_fault<A: Allocator + Copy>(
+    out: &mut String<A>,
+    place: u32,
+    why: BadImage,
+) -> Result<(), AllocError>
+    ensures { OnOk result (string_bytes out.new ≡ string_bytes out.old ++ row_fault_words place why) }
+{
+    write!(out, "row {place}: ")?;
+    out.push_str(image_words(why))
+}
+
+/// Writes the first fault of a ribbon, with the place of its row. Of out of memory nothing is written.
 fn put_ribbon_fault<A: Allocator + Copy>(
     out: &mut String<A>,
     fault: RibbonFault,
 ) -> Result<(), AllocError>
-    ensures { OnOk result (string_bytes out.new ≡ string_bytes out.old ++ ribbon_fault_words fault) }
+    ensures { OnOk result (Some (string_bytes out.new) ≡ option_map (λ words. string_bytes out.old ++ words) (ribbon_fault_words fault)) }
 {
     match fault {
         RibbonFault::Magic => out.push_str("no ribbon begins so"),
         RibbonFault::Count => out.push_str("it has not as many rows as it says"),
-        RibbonFault::Row(place, why) => {
-            write!(out, "row {place}: ")?;
-            out.push_str(image_words(why))
-        }
-        RibbonFault::NoMemory => out.push_str("no memory"),
+        RibbonFault::Row(place, why) => put_row_fault(out, place, why),
+        RibbonFault::NoMemory => Err(AllocError),
     }
 }
 
 /// What is said of the rows of a ribbon.
 fn rows_told<A: Allocator + Copy>(alloc: A, rows: &[RibbonRow]) -> Result<Told<A>, NoMemory>
-    ensures text { IfOk result (λ t. string_bytes t.text ≡ ribbon_words (Ok rows.now)) }
+    ensures text { IfOk result (λ t. string_bytes t.text ≡ rows_words (length rows.now)) }
     ensures well { IfOk result (λ t. t.well ≡ true) }
 {
     let mut text = String::new(alloc);
@@ -63,7 +72,7 @@ fn rows_told<A: Allocator + Copy>(alloc: A, rows: &[RibbonRow]) -> Result<Told<A
 
 /// What is said of a ribbon that has a fault.
 fn ribbon_refused<A: Allocator + Copy>(alloc: A, fault: RibbonFault) -> Result<Told<A>, NoMemory>
-    ensures text { IfOk result (λ t. string_bytes t.text ≡ ribbon_words (Err fault)) }
+    ensures text { IfOk result (λ t. ribbon_words (Err fault) ≡ Some (string_bytes t.text)) }
     ensures well { IfOk result (λ t. t.well ≡ false) }
 {
     let mut text = String::new(alloc);
@@ -78,9 +87,6 @@ pub fn ribbon_told<A: Allocator + Copy>(alloc: A, bytes: &[u8]) -> Result<Told<A
 {
     match read_ribbon(alloc, bytes) {
         Ok(rows) => rows_told(alloc, &rows),
-        Err(RibbonFault::Magic) => ribbon_refused(alloc, RibbonFault::Magic),
-        Err(RibbonFault::Count) => ribbon_refused(alloc, RibbonFault::Count),
-        Err(RibbonFault::Row(place, why)) => ribbon_refused(alloc, RibbonFault::Row(place, why)),
-        Err(RibbonFault::NoMemory) => Err(NoMemory),
+        Err(fault) => ribbon_refused(alloc, fault),
     }
 }

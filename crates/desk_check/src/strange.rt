@@ -77,9 +77,8 @@ pub fn strange_told<A: Allocator + Copy>(
     ensures text { IfOk result (λ t. SaysStrange bytes.now (string_bytes t.text)) }
     ensures well { IfOk result (λ t. t.well ≡ false) }
 {
-    match fault_place(global, bytes) {
-        Ok(None) => no_kind_told(alloc),
-        Ok(Some(place)) => no_document_told(alloc, line_at(bytes, place)),
-        Err(why) => Err(why),
+    match fault_place(global, bytes)? {
+        Some(place) => no_document_told(alloc, line_at(bytes, place)),
+        None => no_kind_told(alloc),
     }
 }

@@ -5,9 +5,10 @@ ghost use Rattle.toml.specs.View.{table_view, view};
 ghost use Rattle.desk_keys.specs.Keys.{document};
 ghost use Rattle.desk_check.specs.Texts.{cells_in, cells_of, fault_holders, holder, holders, holders_of, is_text, one_text, rows_in, style_mark, symbol_text, text_at, texts};
 
+use crate::kinds::document;
 use desk_case::names::cell_of_place;
-use desk_case::{COLUMNS, CaseFault, ROWS};
-use desk_keys::{TableFault, member, table};
+use desk_case::{COLUMNS, CaseFault, CaseKey, ROWS};
+use desk_keys::member;
 use desk_memory::NoMemory;
 use desk_ops::{Style, Symbol};
 use desk_signals::Cell;
@@ -32,7 +33,7 @@ fn one_text(rows: &Value, place: usize) -> usize
 /// How many places have a text.
 #[tactic(auto, using(crate::proofs::Places::texts_none))]
 fn texts(rows: &Value) -> usize
-    ensures { result ≡ texts (view rows.now) 255 }
+    ensures { result ≡ texts (view rows.now) (ROWS * COLUMNS) }
 {
     let mut count: usize = 0;
     for place in 0..ROWS * COLUMNS {
@@ -74,7 +75,7 @@ fn holders<A: Allocator + Copy>(
     rows: &Value,
     text: &str,
 ) -> Result<Vec<Cell, A>, NoMemory>
-    ensures { IfOk result (λ v. v.items ≡ holders (view rows.now) text.now 255) }
+    ensures { IfOk result (λ v. v.items ≡ holders (view rows.now) text.now (ROWS * COLUMNS)) }
 {
     let mut cells = Vec::new(alloc);
     for place in 0..ROWS * COLUMNS {
@@ -117,10 +118,9 @@ fn cells_of(rows: Option<&Value>) -> usize
 pub fn cells_in(global: Global, bytes: &[u8]) -> Result<usize, NoMemory>
     ensures { IfOk result (λ n. n ≡ cells_in bytes.now) }
 {
-    match table(global, bytes) {
-        Ok(table) => Ok(cells_of(member(&table, "rows"))),
-        Err(TableFault::NotToml) => Ok(0),
-        Err(TableFault::NoMemory) => Err(NoMemory),
+    match document(global, bytes)? {
+        Some(table) => Ok(cells_of(member(&table, CaseKey::Rows.name()))),
+        None => Ok(0),
     }
 }
 
@@ -147,10 +147,9 @@ fn holders_in<A: Allocator + Copy>(
 ) -> Result<Vec<Cell, A>, NoMemory>
     ensures { IfOk result (λ v. v.items ≡ holders_of text.now (rows_in bytes.now)) }
 {
-    match table(global, bytes) {
-        Ok(table) => holders_of(alloc, member(&table, "rows"), text),
-        Err(TableFault::NotToml) => Ok(Vec::new(alloc)),
-        Err(TableFault::NoMemory) => Err(NoMemory),
+    match document(global, bytes)? {
+        Some(table) => holders_of(alloc, member(&table, CaseKey::Rows.name()), text),
+        None => Ok(Vec::new(alloc)),
     }
 }
 

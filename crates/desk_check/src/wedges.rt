@@ -1,8 +1,8 @@
 //! What is said of the bytes of a wedge file.
 
-ghost use Rattle.std.specs.Prelude.{◌≡◌, ◌++◌, ◌<◌, Err, IfOk, Ok, OnOk, false, string_bytes, true};
+ghost use Rattle.std.specs.Prelude.{◌≡◌, ◌++◌, ◌<◌, Err, IfOk, OnOk, Some, false, option_map, string_bytes, true};
 ghost use Rattle.desk_check.specs.Lines.{SaysWedge};
-ghost use Rattle.desk_check.specs.Words.{count_words, pica_word, points_words, quarter_words, set_q_words, wedge_fault_words, wedge_words};
+ghost use Rattle.desk_check.specs.Words.{count_words, pica_word, points_words, quarter_words, set_q_words, values_words, wedge_fault_words, wedge_words};
 
 use crate::told::Told;
 use desk_memory::NoMemory;
@@ -64,7 +64,7 @@ fn put_set_q<A: Allocator + Copy>(out: &mut String<A>, set_q: SetQ) -> Result<()
 
 /// Writes what a wedge is.
 fn put_wedge<A: Allocator + Copy>(out: &mut String<A>, wedge: &Wedge) -> Result<(), AllocError>
-    ensures { OnOk result (string_bytes out.new ≡ string_bytes out.old ++ wedge_words (Ok wedge.now)) }
+    ensures { OnOk result (string_bytes out.new ≡ string_bytes out.old ++ values_words wedge.now) }
 {
     write!(out, "ok: wedge {}, set ", wedge.number())?;
     put_set_q(out, wedge.set_q())?;
@@ -72,12 +72,12 @@ fn put_wedge<A: Allocator + Copy>(out: &mut String<A>, wedge: &Wedge) -> Result<
     out.push_str(pica_word(wedge.pica()))
 }
 
-/// Writes the first fault of a wedge file, with its key or its row.
+/// Writes the first fault of a wedge file, with its key or its row. Of out of memory nothing is written.
 fn put_wedge_fault<A: Allocator + Copy>(
     out: &mut String<A>,
     fault: WedgeFault,
 ) -> Result<(), AllocError>
-    ensures { OnOk result (string_bytes out.new ≡ string_bytes out.old ++ wedge_fault_words fault) }
+    ensures { OnOk result (Some (string_bytes out.new) ≡ option_map (λ words. string_bytes out.old ++ words) (wedge_fault_words fault)) }
 {
     match fault {
         WedgeFault::NotToml => out.push_str("it is not TOML"),
@@ -88,13 +88,13 @@ fn put_wedge_fault<A: Allocator + Copy>(
         WedgeFault::Descending(row) => {
             write!(out, "row {} has fewer units than the row before", row.get())
         }
-        WedgeFault::NoMemory => out.push_str("no memory"),
+        WedgeFault::NoMemory => Err(AllocError),
     }
 }
 
 /// What is said of a wedge.
 fn wedge_in_order<A: Allocator + Copy>(alloc: A, wedge: &Wedge) -> Result<Told<A>, NoMemory>
-    ensures text { IfOk result (λ t. string_bytes t.text ≡ wedge_words (Ok wedge.now)) }
+    ensures text { IfOk result (λ t. string_bytes t.text ≡ values_words wedge.now) }
     ensures well { IfOk result (λ t. t.well ≡ true) }
 {
     let mut text = String::new(alloc);
@@ -104,7 +104,7 @@ fn wedge_in_order<A: Allocator + Copy>(alloc: A, wedge: &Wedge) -> Result<Told<A
 
 /// What is said of a wedge file that has a fault.
 fn wedge_refused<A: Allocator + Copy>(alloc: A, fault: WedgeFault) -> Result<Told<A>, NoMemory>
-    ensures text { IfOk result (λ t. string_bytes t.text ≡ wedge_words (Err fault)) }
+    ensures text { IfOk result (λ t. wedge_words (Err fault) ≡ Some (string_bytes t.text)) }
     ensures well { IfOk result (λ t. t.well ≡ false) }
 {
     let mut text = String::new(alloc);
@@ -123,7 +123,6 @@ pub fn wedge_told<A: Allocator + Copy>(
 {
     match Wedge::read(global, bytes) {
         Ok(wedge) => wedge_in_order(alloc, &wedge),
-        Err(WedgeFault::NoMemory) => Err(NoMemory),
         Err(fault) => wedge_refused(alloc, fault),
     }
 }

@@ -21,11 +21,13 @@ IsPicture bytes case picture = (rows : List RibbonRow) × IsRibbon bytes rows ×
 abbrev pub IsPictureOf : Sources → Shelf → List ℕ → Type 0
 IsPictureOf from shelf picture = (bytes : List ℕ) × (case : CaseValues) × (wedge : WedgeValues) × Give from shelf bytes case wedge × IsPicture bytes case picture
 
--- those bytes are no ribbon, for their first fault
+-- bytes are no ribbon, for their first fault
+abbrev pub IsNoRibbon : List ℕ → Type 0
+IsNoRibbon bytes = (why : RibbonFault) × Tells bytes why × (why ≢ ribbons.NoMemory)
+
+-- those that the ribbon's name stands for are none
 abbrev pub HasNoPicture : Sources → Shelf → Type 0
-HasNoPicture from shelf =
-    (bytes : List ℕ) × (case : CaseValues) × (wedge : WedgeValues) × Give from shelf bytes case wedge
-    × (why : RibbonFault) × Tells bytes why × (why ≢ ribbons.NoMemory)
+HasNoPicture from shelf = (bytes : List ℕ) × (case : CaseValues) × (wedge : WedgeValues) × Give from shelf bytes case wedge × IsNoRibbon bytes
 
 -- the target stands for the picture; or there is none, and no file has changed
 abbrev pub IsDrawn : Sources → List ℕ → Shelf → Shelf → Bool → Type 0
@@ -34,8 +36,6 @@ IsDrawn from target before after false = HasNoPicture from before × (after ≡ 
 
 -- Why no picture was stored. No file has changed but, where it was not stored, that of the writing.
 abbrev pub IsUndrawn : Sources → List ℕ → Shelf → Shelf → ReadingFault → Type 0
-IsUndrawn from target first last (faults.Ribbon why) = Stays first last × AreRefused from first last (faults.Ribbon why)
-IsUndrawn from target first last (faults.Input why) = Stays first last × AreRefused from first last (faults.Input why)
-IsUndrawn from target first last faults.Write = ⊥
 IsUndrawn from target first last (faults.Unstored why) = (picture : List ℕ) × IsPictureOf from first picture × IsNotStored target first last why
 IsUndrawn from target first last faults.NoMemory = LackMemory from first last
+IsUndrawn from target first last refused = Stays first last × AreRefused from first last refused

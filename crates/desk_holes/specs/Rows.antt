@@ -53,7 +53,7 @@ abbrev pub held_text : CaseValues → Cell → Option Symbol → List ℕ
 held_text case cell (Some s) = symbol_text s
 held_text case cell None = blank_text case cell
 
--- the wedge 0075 tells by S
+-- S, where a row has it
 abbrev pub s_text : Bool → List ℕ
 s_text true = codes " S"
 s_text false = []

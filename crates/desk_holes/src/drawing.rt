@@ -1,10 +1,8 @@
 //! The picture of a ribbon's file, stored under a name.
 
-ghost use Rattle.std.specs.Prelude.{◌≡◌, IfErr, IfOk, OnOk, string_bytes};
-ghost use Rattle.desk_caster.specs.Reading.{Tells};
-ghost use Rattle.desk_caster.specs.declared.RibbonFault.TheVariants as fault;
+ghost use Rattle.std.specs.Prelude.{◌≡◌, IfErr, IfOk, MatchOption, OnOk, string_bytes};
 ghost use Rattle.desk_files.specs.Files.{HoldsOn};
-ghost use Rattle.desk_holes.specs.Drawing.{IsDrawn, IsPicture, IsUndrawn};
+ghost use Rattle.desk_holes.specs.Drawing.{IsDrawn, IsNoRibbon, IsPicture, IsUndrawn};
 ghost use Rattle.desk_holes.specs.Picture.{picture_text};
 ghost use Rattle.desk_reading.specs.Sources.{sources};
 
@@ -13,6 +11,7 @@ use desk_case::MatrixCase;
 use desk_caster::{RibbonFault, read_ribbon};
 use desk_files::{Files, store};
 use desk_inputs::Memory;
+use desk_memory::NoMemory;
 use desk_reading::{ReadingFault, take_in};
 use desk_signals::RibbonRow;
 use std::alloc::Allocator;
@@ -22,29 +21,26 @@ fn picture_of<A: Allocator + Copy>(
     alloc: A,
     rows: &[RibbonRow],
     case: &MatrixCase,
-) -> Result<String<A>, RibbonFault>
-    ensures ok { IfOk result (λ s. string_bytes s ≡ picture_text rows.now case.now) }
-    ensures err { IfErr result (λ e. e ≡ fault.NoMemory) }
+) -> Result<String<A>, NoMemory>
+    ensures { IfOk result (λ s. string_bytes s ≡ picture_text rows.now case.now) }
 {
     let mut out = String::new(alloc);
-    match put_holes(&mut out, rows, case) {
-        Ok(()) => Ok(out),
-        Err(_) => Err(RibbonFault::NoMemory),
-    }
+    put_holes(&mut out, rows, case)?;
+    Ok(out)
 }
 
-/// The picture of a ribbon's bytes, or their first fault.
+/// The picture of a ribbon's bytes, if they are one.
 fn drawn<A: Allocator + Copy>(
     alloc: A,
     bytes: &[u8],
     case: &MatrixCase,
-) -> Result<String<A>, RibbonFault>
-    ensures ok { IfOk result (λ s. IsPicture bytes.now case.now (string_bytes s)) }
-    ensures err { IfErr result (Tells bytes.now) }
+) -> Result<Option<String<A>>, NoMemory>
+    ensures { IfOk result (λ o. MatchOption o (IsNoRibbon bytes.now) (λ s. IsPicture bytes.now case.now (string_bytes s))) }
 {
     match read_ribbon(alloc, bytes) {
-        Ok(rows) => picture_of(alloc, &rows, case),
-        Err(why) => Err(why),
+        Ok(rows) => Ok(Some(picture_of(alloc, &rows, case)?)),
+        Err(RibbonFault::NoMemory) => Err(NoMemory),
+        Err(_) => Ok(None),
     }
 }
 
@@ -67,12 +63,11 @@ pub fn draw_ribbon<F: Files, A: Allocator + Copy>(
     ensures held { HoldsOn (F.shelf files.old).held (F.shelf files.new).held }
 {
     let (bytes, case, _) = take_in(memory, files, ribbon, case, wedge)?;
-    match drawn(memory.own, &bytes, &case) {
-        Ok(picture) => match store(memory.own, files, target, picture.as_bytes()) {
-            Ok(()) => Ok(true),
-            Err(why) => Err(ReadingFault::Unstored(why)),
-        },
-        Err(RibbonFault::NoMemory) => Err(ReadingFault::NoMemory),
-        Err(_) => Ok(false),
+    let Some(picture) = drawn(memory.own, &bytes, &case)? else {
+        return Ok(false);
+    };
+    match store(memory.own, files, target, picture.as_bytes()) {
+        Ok(()) => Ok(true),
+        Err(why) => Err(ReadingFault::Unstored(why)),
     }
 }

@@ -126,16 +126,12 @@ fn whole<R: Read + Drop, A: Allocator + Copy>(alloc: A, reader: R) -> io::Result
     ensures large { IfOk result (λ o. IsNone o → IfSome (R.remaining reader) (λ input. max_file < length input)) }
 {
     let mut bytes = Vec::new(alloc);
-    let mut front = reader.take(MAX_FILE as u64 + 1);
-    match front.read_to_end(&mut bytes) {
-        Ok(_) => {
-            if bytes.len() > MAX_FILE {
-                return Ok(None);
-            }
-            Ok(Some(bytes))
-        }
-        Err(error) => Err(error),
+    let mut prefix = reader.take(MAX_FILE as u64 + 1);
+    prefix.read_to_end(&mut bytes)?;
+    if bytes.len() > MAX_FILE {
+        return Ok(None);
     }
+    Ok(Some(bytes))
 }
 
 /// The bytes of the file at a place, reported by its name.
@@ -148,10 +144,8 @@ fn read_file<A: Allocator + Copy>(
 ) -> io::Result<Option<Vec<u8, A>>>
     ensures { IfOk result (λ o. IfSome o (λ v. length v.items ≤ max_file)) }
 {
-    match File::open(host, place) {
-        Ok(file) => whole(alloc, Watched::from(progress, name, file)),
-        Err(error) => Err(error),
-    }
+    let file = File::open(host, place)?;
+    whole(alloc, Watched::from(progress, name, file))
 }
 
 /// Removes what has a name, a link and not what it leads to. Where nothing has it, that is fine.
@@ -261,7 +255,7 @@ impl<'a> Files for HostFiles<'a> {
         self.touch();
         match rename_file(self.host, self.place(from), self.place(to)) {
             Ok(()) => {
-                self.progress.tell(Step::Stored(to));
+                self.progress.report(Step::Stored(to));
                 Ok(())
             }
             Err(error) => {

@@ -15,47 +15,47 @@ const PIECE: usize = 65_536;
 #[derive(Drop)]
 pub struct Progress<'a> {
     host: &'a HostRuntime,
-    told: Cell<Option<Instant>>,
+    last: Cell<Option<Instant>>,
 }
 
 impl<'a> Progress<'a> {
     /// A run that begins now.
     pub fn new(host: &'a HostRuntime) -> Self {
-        let told = if host.stderr().is_terminal() {
+        let last = if host.stderr().is_terminal() {
             Instant::now(host).ok()
         } else {
             None
         };
         Progress {
             host,
-            told: Cell::new(told),
+            last: Cell::new(last),
         }
     }
 
     /// Begins anew: somebody has typed or seen something just now.
     fn begin(&self) {
-        if self.told.get().is_some() {
-            self.told.set(Instant::now(self.host).ok());
+        if self.last.get().is_some() {
+            self.last.set(Instant::now(self.host).ok());
         }
     }
 
     /// Whether a second has passed since a line was written or the run began. Then a line is written now.
     fn is_due(&self) -> bool {
-        let Some(told) = self.told.get() else {
+        let Some(last) = self.last.get() else {
             return false;
         };
         let Some(now) = Instant::now(self.host).ok() else {
             return false;
         };
-        if now.saturating_duration_since(told) < Duration::from_secs(1) {
+        if now.saturating_duration_since(last) < Duration::from_secs(1) {
             return false;
         }
-        self.told.set(Some(now));
+        self.last.set(Some(now));
         true
     }
 
-    /// Tells how far the run is, where a second has passed. Whether the line can be written changes nothing.
-    pub fn tell(&self, step: Step<'_>) {
+    /// Reports how far the run is, where a second has passed. Whether the line can be written changes nothing.
+    pub fn report(&self, step: Step<'_>) {
         if self.is_due() {
             let _ = writeln!(self.host.stderr(), "copydesk: {step}");
         }
@@ -123,7 +123,7 @@ impl<'a, S: Drop> Watched<'a, S> {
         }
     }
 
-    /// Standard input. What somebody types is not told.
+    /// Standard input. What somebody types is not reported.
     pub fn input(progress: &'a Progress<'a>, reader: S) -> Self
     where
         S: Read + IsTerminal,
@@ -137,7 +137,7 @@ impl<'a, S: Drop> Watched<'a, S> {
         Watched::new(progress, reader, what)
     }
 
-    /// Standard output. What somebody sees is not told.
+    /// Standard output. What somebody sees is not reported.
     pub fn answer(progress: &'a Progress<'a>, writer: S) -> Self
         ensures { result.stream ≡ writer }
     {
@@ -169,10 +169,10 @@ impl<'a, S: Drop> Watched<'a, S> {
     {
         self.bytes = self.bytes.saturating_add(bytes as u64);
         match self.what {
-            Bytes::Input => self.progress.tell(Step::Input(self.bytes)),
-            Bytes::Answer => self.progress.tell(Step::Answer(self.bytes)),
-            Bytes::From(name) => self.progress.tell(Step::Read(name, self.bytes)),
-            Bytes::To(name) => self.progress.tell(Step::Written(name, self.bytes)),
+            Bytes::Input => self.progress.report(Step::Input(self.bytes)),
+            Bytes::Answer => self.progress.report(Step::Answer(self.bytes)),
+            Bytes::From(name) => self.progress.report(Step::Read(name, self.bytes)),
+            Bytes::To(name) => self.progress.report(Step::Written(name, self.bytes)),
             Bytes::Seen => self.progress.begin(),
         }
     }
@@ -182,13 +182,9 @@ impl<'a, R: Read + Drop> Read for Watched<'a, R> {
     ghost remaining = { λ w. R.remaining w.stream };
 
     fn read(&mut self, buf: &mut [u8]) -> io::Result<usize> {
-        match self.stream.read(buf) {
-            Ok(count) => {
-                self.count(count);
-                Ok(count)
-            }
-            Err(error) => Err(error),
-        }
+        let count = self.stream.read(buf)?;
+        self.count(count);
+        Ok(count)
     }
 }
 
@@ -197,13 +193,9 @@ impl<'a, W: Write + Drop> Write for Watched<'a, W> {
 
     fn write(&mut self, buf: &[u8]) -> io::Result<usize> {
         let most = buf.len().min(PIECE);
-        match self.stream.write(&buf[..most]) {
-            Ok(count) => {
-                self.count(count);
-                Ok(count)
-            }
-            Err(error) => Err(error),
-        }
+        let count = self.stream.write(&buf[..most])?;
+        self.count(count);
+        Ok(count)
     }
 
     fn flush(&mut self) -> io::Result<()> {
