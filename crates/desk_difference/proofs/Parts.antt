@@ -1,16 +1,13 @@
 -- What is told of two copies, from point to point.
-use Rattle.std.proofs.Common.{◌≡◌, ◌∙◌, ◌≤◌, ◌<◌, ℕ, zero, suc, ◌+◌, ◌-◌, true, List, [], ◌∷◌, ◌++◌, length, take, drop, refl, sym, ap, ap₂, subst, arith}
+use Rattle.std.proofs.Common.{◌≡◌, ◌∙◌, ◌≤◌, ◌<◌, ℕ, zero, suc, ◌+◌, ◌-◌, false, true, inl, List, [], ◌∷◌, ◌++◌, length, take, drop, refl, sym, ap, ap₂, subst, arith}
 use Rattle.std.specs.List.{slice_range}
 use Rattle.std.proofs.Math.Seq.{take-add}
-use Rattle.std.proofs.lemmas.Bool.{false≢true}
-use Rattle.std.proofs.lemmas.Bool.Decides.{Decides-and, Decides-eqb, Decides-like}
 use Rattle.std.specs.Bool.{Decides}
-use Rattle.std.specs.Prelude.{◌==◌, ◌≢◌}
-use Rattle.desk_ops.specs.contracts.op.StylePartialEq.TheImpl as style_eq
+use Rattle.std.specs.Prelude.{◌≢◌}
+use Rattle.desk_ops.proofs.Stamps.{by_cases}
 use Rattle.desk_ops.specs.contracts.op.SymbolPartialEq.TheImpl as symbol_eq
-use Rattle.desk_ops.specs.declared.op.Style.{Style}
-use Rattle.desk_ops.specs.declared.op.Style.TheVariants.{Roman, Italic, SmallCap}
 use Rattle.desk_ops.specs.declared.op.Symbol.{Symbol}
+use Rattle.desk_changes.proofs.Shared.{are_one, not_there}
 use Rattle.desk_difference.specs.declared.stretch.Point.{Point}
 use Rattle.desk_difference.specs.declared.stretch.Stretch.{Stretch}
 use Rattle.desk_difference.specs.Walking.{EndBefore}
@@ -61,25 +58,12 @@ pub told_stretch : (one other : List Symbol) (from : Point) (next : Stretch) (st
 told_stretch one other from next [] told differ = (told, differ, none_between one other next.from next.to differ.reached)
 told_stretch one other from next (s ∷ stretches) told differ = (told.0, told.1, told_stretch one other s.to next stretches told.2 differ)
 
-style_decides : (x y : Style) → Decides ((style_eq.ghosts).eq x y) (x ≡ y)
-style_decides Roman Roman = (λ e. refl, λ e. refl)
-style_decides Roman Italic = (λ e. absurd (false≢true e), λ e. cc)
-style_decides Roman SmallCap = (λ e. absurd (false≢true e), λ e. cc)
-style_decides Italic Roman = (λ e. absurd (false≢true e), λ e. cc)
-style_decides Italic Italic = (λ e. refl, λ e. refl)
-style_decides Italic SmallCap = (λ e. absurd (false≢true e), λ e. cc)
-style_decides SmallCap Roman = (λ e. absurd (false≢true e), λ e. cc)
-style_decides SmallCap Italic = (λ e. absurd (false≢true e), λ e. cc)
-style_decides SmallCap SmallCap = (λ e. refl, λ e. refl)
-
-made : (s t : Symbol) → s.style ≡ t.style → s.ch ≡ t.ch → s ≡ t
-made s t a b i = record { style = a i; ch = b i }
-
 -- `==` on symbols tells whether they are one
 pub same_symbols : (s t : Symbol) → Decides ((symbol_eq.eq-value).it s t) (s ≡ t)
-same_symbols s t =
-    Decides-like ((symbol_eq.eq-value).it s t) (λ (p : (s.style ≡ t.style) × (s.ch ≡ t.ch)). made s t p.0 p.1) (λ (e : s ≡ t). (ap (λ (y : Symbol). y.style) e, ap (λ (y : Symbol). y.ch) e))
-    (Decides-and ((style_eq.ghosts).eq s.style t.style) (s.ch == t.ch) (style_decides s.style t.style) (Decides-eqb s.ch t.ch))
+same_symbols s t = (are_one s t ((symbol_eq.eq-value).it s t) refl, λ same. by_cases ((symbol_eq.eq-value).it s t) (λ e. e) (λ e. absurd (not_other same e)))
+  where
+    not_other : s ≡ t → (symbol_eq.eq-value).it s t ≡ false → ⊥
+    not_other same e = not_there (s ∷ []) (t ∷ []) 1 0 0 (ap (λ (x : Symbol). x ∷ []) same) (omega arith) (omega arith) (omega arith) (omega arith) s ((symbol_eq.eq-value).it s t) refl e (inl (omega arith)) refl
 
 -- ---- a stretch that is closed
 

@@ -1,4 +1,4 @@
-//! Why a difference was not told.
+//! Why a difference was not written.
 
 ghost use Rattle.std.specs.Prelude.{◌≡◌};
 ghost use Rattle.desk_difference.specs.declared.fault.DifferenceFault.TheVariants as faults;
@@ -8,7 +8,7 @@ use desk_memory::NoMemory;
 use desk_stored::Unsent;
 use thiserror::Error;
 
-/// Why the difference of two stored feeds was not told, by the phase in which it stopped.
+/// Why the difference of two stored feeds was not written, by the phase in which it stopped.
 #[derive(Clone, Copy, Debug, PartialEq, Eq, Error)]
 pub enum DifferenceFault {
     /// The first feed is not opened.

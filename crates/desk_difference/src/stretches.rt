@@ -10,7 +10,7 @@ use desk_memory::NoMemory;
 use desk_ops::Symbol;
 use std::alloc::{AllocError, Allocator};
 
-/// How far two copies were told: up to `open`, and words are whole at `last`.
+/// How far two copies were compared: their stretches are known up to `open`, and words are whole at `last`.
 #[derive(Clone, Copy)]
 pub struct Front {
     pub open: Point,

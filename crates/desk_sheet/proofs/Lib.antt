@@ -1,3 +1,4 @@
 pub mod Cutting
 pub mod Telling
 pub mod Reading
+pub mod Taking

@@ -3,11 +3,7 @@ use Rattle.std.proofs.Common.{◌≡◌, ℕ, ◌+◌, ◌<◌, ◌≤◌, List,
 use Rattle.std.specs.Prelude.{Option}
 use Rattle.std.specs.Io.KnownBytes.{Consumes}
 use Rattle.std.proofs.KnownBytes.{Consumes-trans}
-use Rattle.desk_files.specs.declared.files.FileRefusal.{FileRefusal}
-use Rattle.desk_files.specs.declared.files.FileRefusal.TheVariants as refusals
-use Rattle.desk_script.specs.Faults.{of_file}
-use Rattle.desk_sheet.specs.Sheet.{HasTaken, IsReadTo, max_sheet}
-use Rattle.desk_sheet.specs.declared.fault.SheetFault.TheVariants as faults
+use Rattle.desk_sheet.specs.Sheet.{HasTaken, max_sheet}
 
 module _ (before mid after : Option (List ℕ)) (bytes piece : List ℕ) (n : ℕ) (long : n ≡ length piece) (first : Consumes before mid bytes) (next : Consumes mid after piece) where
   -- more than a sheet may have
@@ -17,10 +13,3 @@ module _ (before mid after : Option (List ℕ)) (bytes piece : List ℕ) (n : �
   -- some, and no more than that
   pub some_taken : 0 < n → length bytes + n ≤ max_sheet → HasTaken before after
   some_taken some room = (bytes ++ piece, Consumes-trans before mid after bytes piece first next, omega (arith, long, length-append bytes piece, some), omega (arith, long, length-append bytes piece, room))
-
--- a fault of the files says nothing of the reader
-pub file_left : (before after : Option (List ℕ)) (why : FileRefusal) → IsReadTo before after (faults.Run (of_file why))
-file_left before after refusals.Missing = tt
-file_left before after refusals.Device = tt
-file_left before after refusals.Large = tt
-file_left before after refusals.NoMemory = tt

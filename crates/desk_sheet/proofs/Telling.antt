@@ -1,4 +1,4 @@
--- Lines told one after another.
+-- Lines answered or passed over, one after another.
 use Rattle.std.proofs.Common.{◌≡◌, ℕ, ◌+◌, List, [], ◌∷◌, ◌++◌, length, length-append, append_assoc, refl, sym, ap, ◌∙◌, subst, arith}
 use Rattle.desk_steps.specs.Desk.{Desk}
 use Rattle.desk_steps.specs.Line.{Line}
@@ -20,7 +20,7 @@ told_more mode n k old mid new before told after [] line is (same, text) step =
 told_more mode n k old mid new before told after (next ∷ done) line is (one, text, first, rest) step =
     (one, text, first, told_more mode (n + 1) k one mid new text told after done line (omega (arith, is)) rest step)
 
--- so many lines of all are told, and the rest is left
+-- so many lines of all are answered or passed over, and the rest is left
 abbrev pub Reaches : Mode → Desk → Desk → List ℕ → List ℕ → List Line → List Line → ℕ → Type 0
 Reaches mode old new before after all rest n = (done : List Line) × (length done ≡ n) × (all ≡ done ++ rest) × Told mode 1 old before done new after
 

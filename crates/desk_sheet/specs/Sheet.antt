@@ -1,16 +1,19 @@
--- A sheet of commands: how its lines are told, and where a strict run stops.
+-- A sheet of commands: how its lines are answered, and where a strict run stops.
 use Rattle.std.specs.Prelude.{◌≡◌, ◌<◌, ◌≤◌, ℕ, ◌+◌, ◌==◌, ◌&&◌, Bool, true, false, MatchBool, List, [], ◌∷◌, ◌++◌, length, codes, Option, None, Some, IfSome, if◌then◌else◌}
 use Rattle.std.specs.Fmt.{decimal}
-use Rattle.std.specs.Io.KnownBytes.{Appends, Consumes}
+use Rattle.std.specs.Io.KnownBytes.{Appends, Consumes, IsAtEnd}
 use Rattle.desk_answers.specs.Reply.{ReplyValues, Done, Made, MadeMany, Counted, Copy, Feed, Faults, Settings, Ribbon, NoRibbon, Lines, Refused, Stopped}
 use Rattle.desk_answers.specs.Text.{text}
 use Rattle.desk_steps.specs.Desk.{Desk}
 use Rattle.desk_steps.specs.Line.{Line, Bytes, Long, Allows}
 use Rattle.desk_stored.specs.Sending.{WritesFront}
 use Rattle.desk_script.specs.Lines.{lines}
-use Rattle.desk_script.specs.declared.fault.RunFault.TheVariants as runs
+use Rattle.desk_sheet.specs.Phases.{of_answers}
+use Rattle.desk_sheet.specs.declared.fault.AnswerFault.{AnswerFault}
+use Rattle.desk_sheet.specs.declared.fault.AnswerFault.TheVariants as answers
+use Rattle.desk_sheet.specs.declared.fault.InputFault.{InputFault}
+use Rattle.desk_sheet.specs.declared.fault.InputFault.TheVariants as inputs
 use Rattle.desk_sheet.specs.declared.fault.SheetFault.{SheetFault}
-use Rattle.desk_sheet.specs.declared.fault.SheetFault.TheVariants as faults
 use Rattle.desk_sheet.specs.declared.sheet.Mode.{Mode}
 
 -- ---- one line
@@ -45,7 +48,7 @@ head mode n = if mode.number then decimal n ++ codes " " else []
 abbrev pub answer_line : Mode → ℕ → ReplyValues → List ℕ
 answer_line mode n reply = head mode n ++ text reply ++ 10 ∷ []
 
--- line n is answered by a reply that does or does not stop the run, and its answer stands after what was told before
+-- line n is answered by a reply that does or does not stop the run, and its answer stands after those before
 abbrev pub IsAnswered : Mode → Bool → ℕ → Desk → List ℕ → Line → Desk → List ℕ → Type 0
 IsAnswered mode stops n old before line new after =
     (reply : ReplyValues) × Allows old line reply new × ((mode.strict && is_refusal reply) ≡ stops) × (after ≡ before ++ answer_line mode n reply)
@@ -61,19 +64,19 @@ Stops mode n old before line new after = ((mode.strict && is_passed_over line) �
 
 -- ---- all lines
 
--- the lines from line n on are told, and none stops the run
+-- the lines from line n on are answered or passed over, and none stops the run
 abbrev pub Told : Mode → ℕ → Desk → List ℕ → List Line → Desk → List ℕ → Type 0
 Told mode n old before [] new after = (new ≡ old) × (after ≡ before)
 Told mode n old before (line ∷ lines) new after =
     (mid : Desk) × (told : List ℕ) × Tells mode n old before line mid told × Told mode (n + 1) mid told lines new after
 
--- the lines before line k are told, and that stops the run
+-- the lines before line k are answered or passed over, and that stops the run
 abbrev pub StopsAt : Mode → Desk → List ℕ → List Line → ℕ → Desk → List ℕ → Type 0
 StopsAt mode old before lines k new after =
     (front tail : List Line) × (line : Line) × (lines ≡ front ++ line ∷ tail) × (k ≡ length front + 1)
     × (mid : Desk) × (told : List ℕ) × Told mode 1 old before front mid told × Stops mode k mid told line new after
 
--- all lines are told, or the line of this number stops the run
+-- all lines are answered or passed over, or the line of this number stops the run
 abbrev pub Ends : Mode → Desk → List ℕ → List Line → Option ℕ → Desk → List ℕ → Type 0
 Ends mode old before lines None new after = Told mode 1 old before lines new after
 Ends mode old before lines (Some k) new after = StopsAt mode old before lines k new after
@@ -89,48 +92,51 @@ abbrev pub IsInput : Option (List ℕ) → List ℕ → Type 0
 IsInput input bytes = IfSome input (λ known. bytes ≡ known)
 
 -- why a sheet was not read whole
-abbrev pub IsUnread : Option (List ℕ) → SheetFault → Type 0
-IsUnread input (faults.Line k) = ⊥
-IsUnread input (faults.Run runs.Read) = Unit {0}
-IsUnread input (faults.Run runs.Write) = ⊥
-IsUnread input (faults.Run runs.TooLong) = IfSome input (λ known. max_sheet < length known)
-IsUnread input (faults.Run runs.NoMemory) = Unit {0}
-IsUnread input (faults.Run (runs.Feed why)) = ⊥
-IsUnread input (faults.Run (runs.File why)) = ⊥
-IsUnread input (faults.Run (runs.Opening stop)) = ⊥
-
--- Where a read failed, no more had been read before it than a sheet may have; and where a sheet is too long, more had.
-abbrev pub IsReadTo : Option (List ℕ) → Option (List ℕ) → SheetFault → Type 0
-IsReadTo before after (faults.Line k) = Unit {0}
-IsReadTo before after (faults.Run runs.Read) = (read : List ℕ) × Consumes before after read × (length read ≤ max_sheet)
-IsReadTo before after (faults.Run runs.Write) = Unit {0}
-IsReadTo before after (faults.Run runs.TooLong) = (read : List ℕ) × Consumes before after read × (max_sheet < length read)
-IsReadTo before after (faults.Run runs.NoMemory) = Unit {0}
-IsReadTo before after (faults.Run (runs.Feed why)) = Unit {0}
-IsReadTo before after (faults.Run (runs.File why)) = Unit {0}
-IsReadTo before after (faults.Run (runs.Opening stop)) = Unit {0}
+abbrev pub IsUnread : Option (List ℕ) → InputFault → Type 0
+IsUnread input inputs.Read = Unit {0}
+IsUnread input inputs.TooLong = IfSome input (λ known. max_sheet < length known)
+IsUnread input inputs.NoMemory = Unit {0}
 
 -- some bytes were read, and no more than a sheet may have
 abbrev pub HasTaken : Option (List ℕ) → Option (List ℕ) → Type 0
 HasTaken before after = (read : List ℕ) × Consumes before after read × (0 < length read) × (length read ≤ max_sheet)
 
--- what is told of all that a reader has left, to the end or to the line of this number
+-- Where a read failed, no more had been read before it than a sheet may have; where a sheet is too long, more had; and where memory ran out, some bytes had.
+abbrev pub IsReadTo : Option (List ℕ) → Option (List ℕ) → InputFault → Type 0
+IsReadTo before after inputs.Read = (read : List ℕ) × Consumes before after read × (length read ≤ max_sheet)
+IsReadTo before after inputs.TooLong = (read : List ℕ) × Consumes before after read × (max_sheet < length read)
+IsReadTo before after inputs.NoMemory = HasTaken before after
+
+-- how far a reader was read whose sheet was not answered to its end
+abbrev pub IsLeft : Option (List ℕ) → Option (List ℕ) → AnswerFault → Type 0
+IsLeft before after (answers.Input why) = IsReadTo before after why
+IsLeft before after answers.NoMemory = HasTaken before after
+IsLeft before after answers.Write = IsAtEnd after
+IsLeft before after (answers.Line k) = IsAtEnd after
+
+-- the answers to all that a reader has left, to the end or to the line of this number
 abbrev pub IsTold : Mode → Desk → Desk → Option (List ℕ) → Option ℕ → List ℕ → Type 0
 IsTold mode old new input end told = (bytes : List ℕ) × IsInput input bytes × Ends mode old [] (lines bytes) end new told
 
--- all lines were told, and that was written
+-- no line stopped the run, and the answers were written
 abbrev pub IsDone : Mode → Desk → Desk → Option (List ℕ) → Option (List ℕ) → Option (List ℕ) → Type 0
 IsDone mode old new input before after = (told : List ℕ) × IsTold mode old new input None told × Appends before after told
 
--- Why a run stopped, and what was written: all that was told up to the line that stopped it; a prefix of what was told; or nothing.
+-- Why a sheet was not answered to its end, and what was written: nothing; a prefix of the answers; or all of them up to that of the line that stopped the run.
 -- Where the sheet could not be read, no line was carried out.
-abbrev pub IsStopped : Mode → Desk → Desk → Option (List ℕ) → Option (List ℕ) → Option (List ℕ) → SheetFault → Type 0
-IsStopped mode old new input before after (faults.Line k) = (told : List ℕ) × IsTold mode old new input (Some k) told × Appends before after told
-IsStopped mode old new input before after (faults.Run runs.Read) = (new ≡ old) × (after ≡ before)
-IsStopped mode old new input before after (faults.Run runs.Write) =
+abbrev pub IsUnanswered : Mode → Desk → Desk → Option (List ℕ) → Option (List ℕ) → Option (List ℕ) → AnswerFault → Type 0
+IsUnanswered mode old new input before after (answers.Input why) = (new ≡ old) × (after ≡ before) × IsUnread input why
+IsUnanswered mode old new input before after answers.NoMemory = after ≡ before
+IsUnanswered mode old new input before after answers.Write =
     (end : Option ℕ) × (told : List ℕ) × IsTold mode old new input end told × WritesFront before after told
-IsStopped mode old new input before after (faults.Run runs.TooLong) = (new ≡ old) × (after ≡ before) × IfSome input (λ known. max_sheet < length known)
-IsStopped mode old new input before after (faults.Run runs.NoMemory) = after ≡ before
-IsStopped mode old new input before after (faults.Run (runs.Feed why)) = ⊥
-IsStopped mode old new input before after (faults.Run (runs.File why)) = ⊥
-IsStopped mode old new input before after (faults.Run (runs.Opening stop)) = ⊥
+IsUnanswered mode old new input before after (answers.Line k) = (told : List ℕ) × IsTold mode old new input (Some k) told × Appends before after told
+
+-- ---- by the fault of the run
+
+-- why a run stopped, and what was written
+abbrev pub IsStopped : Mode → Desk → Desk → Option (List ℕ) → Option (List ℕ) → Option (List ℕ) → SheetFault → Type 0
+IsStopped mode old new input before after fault = (why : AnswerFault) × (fault ≡ of_answers why) × IsUnanswered mode old new input before after why
+
+-- how far the reader of a run that stopped was read
+abbrev pub LeavesOff : Option (List ℕ) → Option (List ℕ) → SheetFault → Type 0
+LeavesOff before after fault = (why : AnswerFault) × (fault ≡ of_answers why) × IsLeft before after why

@@ -1,29 +1,31 @@
 -- A sheet of commands on a stored feed.
 use Rattle.std.specs.Prelude.{◌≡◌, ◌⊎◌, ℕ, List, Option, Result}
+use Rattle.std.specs.Io.KnownBytes.{IsAtEnd}
 use Rattle.desk_files.specs.declared.files.FileRefusal.{FileRefusal}
 use Rattle.desk_files.specs.Files.{IsNowHeld, Shelf, Stays}
 use Rattle.desk_stored.specs.Faults.{IsNotStored, IsUnread, IsUntaken}
-use Rattle.desk_stored.specs.declared.fault.OpenFault.{OpenFault}
-use Rattle.desk_script.specs.Faults.{of_file, of_opening}
+use Rattle.desk_script.specs.Faults.{of_file}
 use Rattle.desk_script.specs.FeedRun.{IsClosed, IsStart, IsStored}
 use Rattle.desk_steps.specs.Desk.{Desk}
-use Rattle.desk_sheet.specs.Sheet.{IsDone, IsStopped}
+use Rattle.desk_sheet.specs.Phases.{of_taking}
+use Rattle.desk_sheet.specs.Sheet.{IsDone, IsStopped, LeavesOff}
 use Rattle.desk_sheet.specs.declared.fault.SheetFault.{SheetFault}
 use Rattle.desk_sheet.specs.declared.fault.SheetFault.TheVariants as faults
+use Rattle.desk_sheet.specs.declared.fault.TakeFault.{TakeFault}
+use Rattle.desk_sheet.specs.declared.fault.TakeFault.TheVariants as takes
 use Rattle.desk_sheet.specs.declared.sheet.Mode.{Mode}
 
 -- the name was taken for this run, and the site holds the operations of what was read of the feed while it was held
 abbrev pub IsOpened : List ℕ → ℕ → Shelf → Result (List ℕ) FileRefusal → Desk → Type 0
 IsOpened name n first read start = (held : Shelf) × IsNowHeld name first held × IsStart name n held read start
 
--- why a stored feed was not opened, and no file has changed: its name was not taken; or it was, and the feed was not read, or not opened
-abbrev pub IsBarred : List ℕ → Shelf → Shelf → SheetFault → Type 0
-IsBarred name first last fault =
-    ((why : FileRefusal) × (fault ≡ faults.Run (of_file why)) × IsUntaken name first last why)
-    ⊎ ((held : Shelf) × IsNowHeld name first held × (why : FileRefusal) × (fault ≡ faults.Run (of_file why)) × IsUnread name held last why)
-    ⊎ ((held : Shelf) × IsNowHeld name first held × (why : OpenFault) × (fault ≡ faults.Run (of_opening why)) × IsClosed name held last why)
+-- why a stored feed was not taken, and no file has changed
+abbrev pub IsBarred : List ℕ → Shelf → Shelf → TakeFault → Type 0
+IsBarred name first last (takes.Untaken why) = IsUntaken name first last why
+IsBarred name first last (takes.Unread why) = (held : Shelf) × IsNowHeld name first held × IsUnread name held last why
+IsBarred name first last (takes.Unopened why) = (held : Shelf) × IsNowHeld name first held × IsClosed name held last why
 
--- the feed was opened, all lines were told and that was written, and then the feed was stored
+-- the feed was opened, no line stopped the run and the answers were written, and then the feed was stored
 abbrev pub IsStoredSheet : Mode → List ℕ → ℕ → Shelf → Shelf → Option (List ℕ) → Option (List ℕ) → Option (List ℕ) → Type 0
 IsStoredSheet mode name n first last input before after =
     (read : Result (List ℕ) FileRefusal) × (start : Desk) × IsOpened name n first read start
@@ -39,5 +41,12 @@ IsStoppedFrom mode name start last input before after fault =
 -- why a run on a stored feed stopped, and what it left
 abbrev pub IsStoppedOnFeed : Mode → List ℕ → ℕ → Shelf → Shelf → Option (List ℕ) → Option (List ℕ) → Option (List ℕ) → SheetFault → Type 0
 IsStoppedOnFeed mode name n first last input before after fault =
-    ((after ≡ before) × IsBarred name first last fault)
+    ((after ≡ before) × (why : TakeFault) × (fault ≡ of_taking why) × IsBarred name first last why)
     ⊎ ((read : Result (List ℕ) FileRefusal) × (start : Desk) × IsOpened name n first read start × IsStoppedFrom mode name start last input before after fault)
+
+-- how far the reader of a run on a stored feed that stopped was read: not at all, where the feed was not taken; to its end, where the feed was not stored; or as the sheet was not answered
+abbrev pub LeavesOffOnFeed : Option (List ℕ) → Option (List ℕ) → SheetFault → Type 0
+LeavesOffOnFeed before after fault =
+    ((why : TakeFault) × (fault ≡ of_taking why) × (after ≡ before))
+    ⊎ LeavesOff before after fault
+    ⊎ ((why : FileRefusal) × (fault ≡ faults.Run (of_file why)) × IsAtEnd after)

@@ -1,15 +1,57 @@
-//! Why a sheet was not carried out.
+//! Why a sheet was not carried out, by the phase in which it stopped.
 
 ghost use Rattle.std.specs.Prelude.{◌≡◌};
-ghost use Rattle.desk_script.specs.Faults.{of_file, of_opening};
-ghost use Rattle.desk_script.specs.declared.fault.RunFault.TheVariants as runs;
+ghost use Rattle.desk_script.specs.Faults.{of_file};
+ghost use Rattle.desk_stored.specs.declared.fault.OpenFault.TheVariants as openings;
+ghost use Rattle.desk_sheet.specs.Phases.{of_answers, of_taking};
+ghost use Rattle.desk_sheet.specs.declared.fault.AnswerFault.TheVariants as answers;
 ghost use Rattle.desk_sheet.specs.declared.fault.SheetFault.TheVariants as faults;
+ghost use Rattle.desk_sheet.specs.declared.fault.TakeFault.TheVariants as takes;
 
 use desk_files::FileRefusal;
 use desk_ops::NoMemory;
 use desk_script::RunFault;
 use desk_stored::{OpenFault, Unsent};
 use thiserror::Error;
+
+// ---- the phases
+
+/// Why a sheet was not read whole.
+#[derive(Clone, Copy, Debug, PartialEq, Eq)]
+pub enum InputFault {
+    /// The reader failed.
+    Read,
+    /// It has more than `MAX_SHEET` bytes.
+    TooLong,
+    /// Its bytes were not kept.
+    NoMemory,
+}
+
+/// Why a sheet was not answered to its end.
+#[derive(Clone, Copy, Debug, PartialEq, Eq)]
+pub enum AnswerFault {
+    /// It was not read, and no line was carried out.
+    Input(InputFault),
+    /// It was read, and its answers were not kept.
+    NoMemory,
+    /// The answers were there, and the writer failed, or took no byte.
+    Write,
+    /// They were written up to that of the line of this number, which stopped the run.
+    Line(u64),
+}
+
+/// Why a stored feed was not taken.
+#[derive(Clone, Copy, Debug, PartialEq, Eq)]
+pub enum TakeFault {
+    /// Its name was not taken.
+    Untaken(FileRefusal),
+    /// Its name was taken, and the file was not read.
+    Unread(FileRefusal),
+    /// The file was read, and its feed was not opened.
+    Unopened(OpenFault),
+}
+
+// ---- the calls
 
 /// Why a sheet was not carried out to its end.
 #[derive(Clone, Copy, Debug, PartialEq, Eq, Error)]
@@ -22,27 +64,74 @@ pub enum SheetFault {
     Run(RunFault),
 }
 
-impl From<NoMemory> for SheetFault {
-    ghost from_gives = { λ _ fault. fault ≡ faults.Run runs.NoMemory };
+// ---- what the cause of a phase is
 
-    fn from(_: NoMemory) -> SheetFault {
-        SheetFault::Run(RunFault::NoMemory)
+impl From<InputFault> for AnswerFault {
+    ghost from_gives = { λ why fault. fault ≡ answers.Input why };
+
+    fn from(why: InputFault) -> AnswerFault {
+        AnswerFault::Input(why)
     }
 }
 
-impl From<Unsent> for SheetFault {
-    ghost from_gives = { λ _ fault. fault ≡ faults.Run runs.Write };
+impl From<NoMemory> for AnswerFault {
+    ghost from_gives = { λ _ fault. fault ≡ answers.NoMemory };
 
-    fn from(_: Unsent) -> SheetFault {
-        SheetFault::Run(RunFault::Write)
+    fn from(_: NoMemory) -> AnswerFault {
+        AnswerFault::NoMemory
     }
 }
 
-impl From<OpenFault> for SheetFault {
-    ghost from_gives = { λ why fault. fault ≡ faults.Run (of_opening why) };
+impl From<Unsent> for AnswerFault {
+    ghost from_gives = { λ _ fault. fault ≡ answers.Write };
 
-    fn from(why: OpenFault) -> SheetFault {
-        SheetFault::Run(RunFault::from(why))
+    fn from(_: Unsent) -> AnswerFault {
+        AnswerFault::Write
+    }
+}
+
+impl From<OpenFault> for TakeFault {
+    ghost from_gives = { λ why fault. fault ≡ takes.Unopened why };
+
+    fn from(why: OpenFault) -> TakeFault {
+        TakeFault::Unopened(why)
+    }
+}
+
+impl From<NoMemory> for TakeFault {
+    ghost from_gives = { λ _ fault. fault ≡ takes.Unopened openings.NoMemory };
+
+    fn from(_: NoMemory) -> TakeFault {
+        TakeFault::Unopened(OpenFault::NoMemory)
+    }
+}
+
+// ---- what the phase of a call is
+
+impl From<TakeFault> for SheetFault {
+    ghost from_gives = { λ why fault. fault ≡ of_taking why };
+
+    fn from(why: TakeFault) -> SheetFault {
+        match why {
+            TakeFault::Untaken(refusal) => SheetFault::from(refusal),
+            TakeFault::Unread(refusal) => SheetFault::from(refusal),
+            TakeFault::Unopened(fault) => SheetFault::Run(RunFault::from(fault)),
+        }
+    }
+}
+
+impl From<AnswerFault> for SheetFault {
+    ghost from_gives = { λ why fault. fault ≡ of_answers why };
+
+    fn from(why: AnswerFault) -> SheetFault {
+        match why {
+            AnswerFault::Input(InputFault::Read) => SheetFault::Run(RunFault::Read),
+            AnswerFault::Input(InputFault::TooLong) => SheetFault::Run(RunFault::TooLong),
+            AnswerFault::Input(InputFault::NoMemory) => SheetFault::Run(RunFault::NoMemory),
+            AnswerFault::NoMemory => SheetFault::Run(RunFault::NoMemory),
+            AnswerFault::Write => SheetFault::Run(RunFault::Write),
+            AnswerFault::Line(number) => SheetFault::Line(number),
+        }
     }
 }
 

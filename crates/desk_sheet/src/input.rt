@@ -1,15 +1,13 @@
 //! A sheet, read whole, and its lines.
 
-ghost use Rattle.std.specs.Prelude.{◌≡◌, ◌<◌, ◌≤◌, ◌∷◌, [], IfErr, IfOk, IfSome, IsErrOf, MatchOption, length};
+ghost use Rattle.std.specs.Prelude.{◌≡◌, ◌<◌, ◌≤◌, ◌∷◌, [], IfErr, IfOk, IfSome, MatchOption, length};
 ghost use Rattle.std.specs.Io.KnownBytes.{Consumes, IsAtEnd};
 ghost use Rattle.desk_steps.specs.Line.{line_of};
 ghost use Rattle.desk_script.specs.Lines.{lines};
-ghost use Rattle.desk_script.specs.declared.fault.RunFault.TheVariants as runs;
-ghost use Rattle.desk_sheet.specs.declared.fault.SheetFault.TheVariants as faults;
-ghost use Rattle.desk_sheet.specs.Sheet.{HasTaken, IsInput, IsReadTo, IsUnread};
+ghost use Rattle.desk_sheet.specs.Sheet.{IsInput, IsReadTo, IsUnread};
 
-use crate::fault::SheetFault;
-use desk_script::{RunFault, without_cr};
+use crate::fault::InputFault;
+use desk_script::without_cr;
 use std::alloc::Allocator;
 use std::io::Read;
 
@@ -23,14 +21,13 @@ const CHUNK: usize = 8192;
 pub fn read_whole<R: Read, A: Allocator + Copy>(
     alloc: A,
     reader: &mut R,
-) -> Result<Vec<u8, A>, SheetFault>
+) -> Result<Vec<u8, A>, InputFault>
     ensures ok { IfOk result (λ v. IsInput (R.remaining reader.old) v.items) }
     ensures within { IfOk result (λ v. length v.items ≤ MAX_SHEET) }
     ensures err { IfErr result (IsUnread (R.remaining reader.old)) }
     ensures end { IfOk result (λ _. IsAtEnd (R.remaining reader.new)) }
     ensures taken { IfOk result (λ v. Consumes (R.remaining reader.old) (R.remaining reader.new) v.items) }
     ensures left { IfErr result (IsReadTo (R.remaining reader.old) (R.remaining reader.new)) }
-    ensures memory { IsErrOf result (faults.Run runs.NoMemory) → HasTaken (R.remaining reader.old) (R.remaining reader.new) }
 {
     let mut bytes = Vec::new(alloc);
     let mut chunk = [0u8; CHUNK];
@@ -39,13 +36,13 @@ pub fn read_whole<R: Read, A: Allocator + Copy>(
             Ok(0) => return Ok(bytes),
             Ok(n) => {
                 if n > MAX_SHEET - bytes.len() {
-                    return Err(SheetFault::Run(RunFault::TooLong));
+                    return Err(InputFault::TooLong);
                 }
                 let Ok(()) = bytes.extend_from_slice(&chunk[..n]) else {
-                    return Err(SheetFault::Run(RunFault::NoMemory));
+                    return Err(InputFault::NoMemory);
                 };
             }
-            Err(_) => return Err(SheetFault::Run(RunFault::Read)),
+            Err(_) => return Err(InputFault::Read),
         }
     }
 }

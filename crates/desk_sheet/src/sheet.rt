@@ -1,6 +1,6 @@
 //! A sheet on a world of sites.
 
-ghost use Rattle.std.specs.Prelude.{◌≡◌, ◌<◌, ◌++◌, Bool, IfErr, IfOk, IsErrOf, MatchBool, OnErr, OnOk, length, string_bytes};
+ghost use Rattle.std.specs.Prelude.{◌≡◌, ◌<◌, ◌++◌, Bool, IfErr, IfOk, MatchBool, OnErr, OnOk, length, string_bytes};
 ghost use Rattle.std.specs.Io.KnownBytes.{IsAtEnd};
 ghost use Rattle.desk_answers.specs.Reply.{reply_values};
 ghost use Rattle.desk_files.specs.Files.{Stays};
@@ -8,11 +8,9 @@ ghost use Rattle.desk_script.specs.Lines.{lines};
 ghost use Rattle.desk_steps.specs.Desk.{KeepsSites, desk};
 ghost use Rattle.desk_steps.specs.Line.{line_of};
 ghost use Rattle.desk_world.specs.Sites.{Sites, no_sites};
-ghost use Rattle.desk_script.specs.declared.fault.RunFault.TheVariants as runs;
-ghost use Rattle.desk_sheet.specs.declared.fault.SheetFault.TheVariants as faults;
-ghost use Rattle.desk_sheet.specs.Sheet.{Ends, HasTaken, IsDone, IsReadTo, IsStopped, Stops, Tells, answer_line, head, is_passed_over, is_refusal};
+ghost use Rattle.desk_sheet.specs.Sheet.{Ends, IsDone, IsLeft, IsStopped, IsUnanswered, LeavesOff, Stops, Tells, answer_line, head, is_passed_over, is_refusal};
 
-use crate::fault::SheetFault;
+use crate::fault::{AnswerFault, SheetFault};
 use crate::input::{next_line, read_whole};
 use desk_answers::{Reply, put};
 use desk_files::Files;
@@ -27,7 +25,7 @@ use std::io::{Read, Write};
 /// A longer line is no command, and none that is passed over.
 const MAX_LINE: usize = 65_536;
 
-/// How a sheet is carried out and told.
+/// How a sheet is carried out and answered.
 #[derive(Clone, Copy, Debug, PartialEq, Eq)]
 pub struct Mode {
     /// The run ends at the first line that is answered by a refusal or by `stopped`; empty lines and those that begin with
@@ -140,28 +138,27 @@ pub fn answer_sheet<R: Read, W: Write, F: Files, A: Allocator + Copy>(
     reader: &mut R,
     writer: &mut W,
     files: &mut F,
-) -> Result<(), SheetFault>
+) -> Result<(), AnswerFault>
     ensures ok { OnOk result (IsDone mode (desk world.old (F.shelf files.old)) (desk world.new (F.shelf files.new)) (R.remaining reader.old) (W.contents writer.old) (W.contents writer.new)) }
-    ensures err { IfErr result (IsStopped mode (desk world.old (F.shelf files.old)) (desk world.new (F.shelf files.new)) (R.remaining reader.old) (W.contents writer.old) (W.contents writer.new)) }
+    ensures err { IfErr result (IsUnanswered mode (desk world.old (F.shelf files.old)) (desk world.new (F.shelf files.new)) (R.remaining reader.old) (W.contents writer.old) (W.contents writer.new)) }
     ensures sites { KeepsSites world.old world.new }
     ensures stays { Stays (F.shelf files.old) (F.shelf files.new) }
     ensures end { OnOk result (IsAtEnd (R.remaining reader.new)) }
-    ensures left { IfErr result (IsReadTo (R.remaining reader.old) (R.remaining reader.new)) }
-    ensures memory { IsErrOf result (faults.Run runs.NoMemory) → HasTaken (R.remaining reader.old) (R.remaining reader.new) }
+    ensures left { IfErr result (IsLeft (R.remaining reader.old) (R.remaining reader.new)) }
 {
     let input = read_whole(memory.own, reader)?;
     let mut told = String::new(memory.own);
     let end = tell_lines(memory, mode, world, files, &mut told, &input)?;
     write_out(writer, told.as_bytes())?;
     match end {
-        Some(number) => Err(SheetFault::Line(number)),
+        Some(number) => Err(AnswerFault::Line(number)),
         None => Ok(()),
     }
 }
 
 /// Carries out a sheet on a world that has no site yet. All that the reader has left is read first, `MAX_SHEET` bytes at
 /// most; its lines are those of a script. Each is answered as in a script, or, where the run is strict, passed over. The
-/// answers are written once all are there: up to the end, or to the line that stops the run, which `Line` then tells. No
+/// answers are written once all are there: up to the end, or to the line that stops the run, whose number `Line` then has. No
 /// file changes, and nothing is written under `Read`, `TooLong` and `NoMemory`. Memory that is refused to a command is an
 /// answer; `NoMemory` says that the sheet or its answers were not kept, and of an empty sheet it never comes. The reading of
 /// a case or a wedge takes the global allocator alone.
@@ -177,10 +174,9 @@ pub fn run_sheet<R: Read, W: Write, F: Files, A: Allocator + Copy>(
     ensures err { IfErr result (λ fault. (new : Sites) × IsStopped mode (desk no_sites (F.shelf files.old)) (desk new (F.shelf files.new)) (R.remaining reader.old) (W.contents writer.old) (W.contents writer.new) fault) }
     ensures stays { Stays (F.shelf files.old) (F.shelf files.new) }
     ensures end { OnOk result (IsAtEnd (R.remaining reader.new)) }
-    ensures left { IfErr result (IsReadTo (R.remaining reader.old) (R.remaining reader.new)) }
-    ensures memory { IsErrOf result (faults.Run runs.NoMemory) → HasTaken (R.remaining reader.old) (R.remaining reader.new) }
+    ensures left { IfErr result (LeavesOff (R.remaining reader.old) (R.remaining reader.new)) }
 {
     let mut world = World::new(alloc);
     let memory = Memory { own: alloc, global };
-    answer_sheet(memory, mode, &mut world, reader, writer, files)
+    Ok(answer_sheet(memory, mode, &mut world, reader, writer, files)?)
 }

@@ -5,10 +5,9 @@ ghost use Rattle.std.specs.Io.KnownBytes.{IsAtEnd};
 ghost use Rattle.desk_files.specs.Files.{IsHeldAlone, Stays};
 ghost use Rattle.desk_steps.specs.Desk.{desk};
 ghost use Rattle.desk_stored.specs.Stored.{was_read};
-ghost use Rattle.desk_sheet.specs.Sheet.{IsReadTo};
-ghost use Rattle.desk_sheet.specs.StoredSheet.{IsBarred, IsStoppedOnFeed, IsOpened, IsStoredSheet};
+ghost use Rattle.desk_sheet.specs.StoredSheet.{IsBarred, IsStoppedOnFeed, IsOpened, IsStoredSheet, LeavesOffOnFeed};
 
-use crate::fault::SheetFault;
+use crate::fault::{SheetFault, TakeFault};
 use crate::sheet::{Mode, answer_sheet};
 use desk_files::Files;
 use desk_inputs::Memory;
@@ -25,14 +24,14 @@ fn take_feed<F: Files, A: Allocator + Copy>(
     files: &mut F,
     name: &str,
     site: u16,
-) -> Result<(Option<Vec<u8, A>>, World<A>), SheetFault>
+) -> Result<(Option<Vec<u8, A>>, World<A>), TakeFault>
     requires { 1 ≤ site }
     ensures ok { IfOk result (λ p. IsOpened name.now site (F.shelf files.old) (was_read p.0) (desk p.1 (F.shelf files.new))) }
     ensures err { IfErr result (IsBarred name.now (F.shelf files.old) (F.shelf files.new)) }
     ensures held { IsHeldAlone name.now (F.shelf files.old) (F.shelf files.new) ⊎ Stays (F.shelf files.old) (F.shelf files.new) }
 {
-    files.hold(name)?;
-    let old = stored_bytes(alloc, files, name)?;
+    files.hold(name).map_err(TakeFault::Untaken)?;
+    let old = stored_bytes(alloc, files, name).map_err(TakeFault::Unread)?;
     let replica = open_replica(alloc, &old, site)?;
     let world = World::with_site(alloc, replica)?;
     Ok((old, world))
@@ -58,7 +57,7 @@ pub fn run_sheet_on_feed<R: Read, W: Write, F: Files, A: Allocator + Copy>(
     ensures err { IfErr result (IsStoppedOnFeed mode name.now site (F.shelf files.old) (F.shelf files.new) (R.remaining reader.old) (W.contents writer.old) (W.contents writer.new)) }
     ensures held { IsHeldAlone name.now (F.shelf files.old) (F.shelf files.new) ⊎ ((reader.new ≡ reader.old) × (writer.new ≡ writer.old) × Stays (F.shelf files.old) (F.shelf files.new)) }
     ensures end { OnOk result (IsAtEnd (R.remaining reader.new)) }
-    ensures left { IfErr result (IsReadTo (R.remaining reader.old) (R.remaining reader.new)) }
+    ensures left { IfErr result (LeavesOffOnFeed (R.remaining reader.old) (R.remaining reader.new)) }
 {
     let (old, mut world) = take_feed(alloc, files, name, site)?;
     let memory = Memory { own: alloc, global };

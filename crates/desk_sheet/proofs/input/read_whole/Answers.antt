@@ -7,7 +7,7 @@ returns-then-n-len-clause-left g c =
     too_many (g.R.Read.remaining c.args.reader.now) (g.R.Read.remaining c.reads.reader) (g.R.Read.remaining c.read.new.self) c.reads.bytes.items (take c.in-Ok.n c.read.new.buf) c.in-Ok.n
     c.in-Ok.ensures.bound.1 c.reads.invariant.bytes c.in-Ok.ensures.bytes.0 (omega (arith, c.if-n-len.true, c.len.ensures, c.reads.invariant.within))
 
-pub returns-in_default-clause-memory : goal.returns-in_default-clause-memory
-returns-in_default-clause-memory g c is =
+pub returns-in_default-clause-left : goal.returns-in_default-clause-left
+returns-in_default-clause-left g c =
     some_taken (g.R.Read.remaining c.args.reader.now) (g.R.Read.remaining c.reads.reader) (g.R.Read.remaining c.read.new.self) c.reads.bytes.items (take c.in-Ok.n c.read.new.buf) c.in-Ok.n
     c.in-Ok.ensures.bound.1 c.reads.invariant.bytes c.in-Ok.ensures.bytes.0 (omega (arith, c.in-Ok.n-test)) (omega (arith, c.if-n-len.false, c.len.ensures, c.reads.invariant.within))

@@ -1,0 +1,25 @@
+-- Why a sheet was not carried out, by the phase in which it stopped.
+use Rattle.desk_script.specs.Faults.{of_file, of_opening}
+use Rattle.desk_script.specs.declared.fault.RunFault.TheVariants as runs
+use Rattle.desk_sheet.specs.declared.fault.AnswerFault.{AnswerFault}
+use Rattle.desk_sheet.specs.declared.fault.AnswerFault.TheVariants as answers
+use Rattle.desk_sheet.specs.declared.fault.InputFault.TheVariants as inputs
+use Rattle.desk_sheet.specs.declared.fault.SheetFault.{SheetFault}
+use Rattle.desk_sheet.specs.declared.fault.SheetFault.TheVariants as faults
+use Rattle.desk_sheet.specs.declared.fault.TakeFault.{TakeFault}
+use Rattle.desk_sheet.specs.declared.fault.TakeFault.TheVariants as takes
+
+-- the fault of a run, by that of the phase
+
+abbrev pub of_answers : AnswerFault → SheetFault
+of_answers (answers.Input inputs.Read) = faults.Run runs.Read
+of_answers (answers.Input inputs.TooLong) = faults.Run runs.TooLong
+of_answers (answers.Input inputs.NoMemory) = faults.Run runs.NoMemory
+of_answers answers.NoMemory = faults.Run runs.NoMemory
+of_answers answers.Write = faults.Run runs.Write
+of_answers (answers.Line k) = faults.Line k
+
+abbrev pub of_taking : TakeFault → SheetFault
+of_taking (takes.Untaken why) = faults.Run (of_file why)
+of_taking (takes.Unread why) = faults.Run (of_file why)
+of_taking (takes.Unopened why) = faults.Run (of_opening why)
