@@ -163,11 +163,11 @@ fn is_forked_at(alloc: Global, k: u64) -> Result<bool, Fail> {
     Ok(halt.is_none() && was && is_added && !held.is_unforked())
 }
 
-/// A fork is found wherever it stands: a page has 512 operations.
+/// A fork is found wherever it stands: a page has 256 operations.
 #[test]
 fn forks_are_found(rt: HostRuntime) -> Result<(), Fail> {
     assert!(rt; Held::new(rt.alloc()).is_unforked());
-    for k in [0, 1, 511, 512, 599] {
+    for k in [0, 1, 255, 256, 599] {
         assert!(rt; is_forked_at(rt.alloc(), k)?);
     }
     Ok(())
@@ -428,7 +428,7 @@ fn growths_of_reserves_and_lists(rt: HostRuntime) -> Result<(), Fail> {
         )?));
         lists = lists.saturating_add(u32::from(is_list_refused(
             rt.alloc(),
-            cut.saturating_mul(96).saturating_add(16_384),
+            cut.saturating_mul(96).saturating_add(8_192),
         )?));
     }
     assert!(rt; reserves > 3 && reserves < 250 && lists > 3 && lists < 250);

@@ -12,7 +12,7 @@ use linked_list_allocator::LocalHeap;
 use std::alloc::{AllocError, Allocator, Global};
 use std::test::Fail;
 
-/// The bytes of a heap: a page of what waits takes some 24,000, one of a copy in blocks 28,000, and where all is made anew
+/// The bytes of a heap: a page of what waits takes some 8,000, one of a copy in blocks 4,000, and where all is made anew
 /// both stand twice.
 pub const HEAP: usize = 524_288;
 
@@ -244,10 +244,10 @@ fn four_with(copy: &str, value: u32) -> Want<'_> {
     }
 }
 
-/// These operations behind settings of the measure: 513 in all, one more than a page has, for which a held set has just room.
+/// These operations behind settings of the measure: 257 in all, one more than a page has, for which a held set has just room.
 fn filled(alloc: Global, ops: &[Op]) -> Result<Vec<Op>, NoMemory> {
     let mut list = Vec::new(alloc);
-    for site in ops.len()..513 {
+    for site in ops.len()..257 {
         let site = u16::try_from(site).unwrap_or(0).saturating_add(1000);
         list.push(measure(at(1, site), 120))?;
     }
