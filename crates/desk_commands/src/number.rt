@@ -51,7 +51,7 @@ fn nibble(b: u8) -> Result<u8, ParseError>
 pub fn bytes_of<A: Allocator + Copy>(alloc: A, word: &[u8]) -> Result<Vec<u8, A>, ParseError>
     ensures { Gives (λ v. v.items) result (pairs word.now) }
 {
-    let mut out = Vec::new(alloc);
+    let mut out = Vec::with_capacity(alloc, word.len() / 2)?;
     let mut left = word;
     'pairs: while let [a, b, rest @ ..] = left {
         let high = nibble(*a)?;

@@ -41,13 +41,22 @@ fn in_turn<A: Allocator + Copy>(alloc: A, ops: &[Op]) -> Result<Vec<Op, A>, NoMe
     Ok(list)
 }
 
-/// Adds an operation to a list, unless it is held.
-fn add_missing<A: Allocator>(list: &mut Vec<Op, A>, op: Op, is_held: bool) -> Result<(), NoMemory>
+/// Adds an operation to a list, unless it is held. The first takes room for as many as may come.
+fn add_missing<A: Allocator>(
+    list: &mut Vec<Op, A>,
+    op: Op,
+    is_held: bool,
+    most: usize,
+) -> Result<(), NoMemory>
     ensures { OnOk result (list.new.items ≡ (if is_held then list.old.items else list.old.items ++ op ∷ [])) }
 {
-    if !is_held {
-        list.push(op)?;
+    if is_held {
+        return Ok(());
     }
+    if list.is_empty() {
+        list.reserve_exact(most)?;
+    }
+    list.push(op)?;
     Ok(())
 }
 
@@ -139,7 +148,7 @@ impl<A: Allocator + Copy> Held<A> {
             start = begin;
             part = stretch;
             at = place;
-            add_missing(&mut list, *op, is_held)?;
+            add_missing(&mut list, *op, is_held, ops.len())?;
         }
         Ok(list)
     }
@@ -150,9 +159,7 @@ impl<A: Allocator + Copy> Held<A> {
     {
         let mut list = Vec::new(self.alloc);
         for op in ops {
-            if !self.has(op) {
-                list.push(*op)?;
-            }
+            add_missing(&mut list, *op, self.has(op), ops.len())?;
         }
         Ok(list)
     }

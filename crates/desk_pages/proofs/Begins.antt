@@ -58,29 +58,29 @@ start-same (r ∷ pages) (suc p) (suc n) y e =
 pub starts-set : {X : Type 0} (pages : List (List X)) (p : ℕ) (y : List X) (starts : List ℕ) → length y ≡ length (get_or pages p []) → IsStarts pages starts → IsStarts (set pages p y) starts
 starts-set pages p y starts e s = record {
   within = λ g l. (let a = s.within g l in let b = length-set pages p y in omega arith);
-  is = λ g l. s.is g l ∙ sym (start-same pages p (64 * g) y e);
+  is = λ g l. s.is g l ∙ sym (start-same pages p (32 * g) y e);
 }
 
-pub starts-raised : {X : Type 0} (pages : List (List X)) (q : ℕ) (y : List X) (old new : List ℕ) → q < length pages → length y ≡ length (get_or pages q []) + 1 → IsStarts pages old → length new ≡ length old → ((n : ℕ) → n < q / 64 + 1 → get_or new n 0 ≡ get_or old n 0) → ((n : ℕ) → q / 64 + 1 ≤ n → n < length old → get_or new n 0 ≡ get_or old n 0 + 1) → IsStarts (set pages q y) new
+pub starts-raised : {X : Type 0} (pages : List (List X)) (q : ℕ) (y : List X) (old new : List ℕ) → q < length pages → length y ≡ length (get_or pages q []) + 1 → IsStarts pages old → length new ≡ length old → ((n : ℕ) → n < q / 32 + 1 → get_or new n 0 ≡ get_or old n 0) → ((n : ℕ) → q / 32 + 1 ≤ n → n < length old → get_or new n 0 ≡ get_or old n 0 + 1) → IsStarts (set pages q y) new
 starts-raised pages q y old new l e s len below raised = record {
   within = λ g w. (let a = s.within g (omega arith) in let b = length-set pages q y in omega arith);
-  is = λ g w. go g (omega arith) (cases_lt g (q / 64 + 1));
+  is = λ g w. go g (omega arith) (cases_lt g (q / 32 + 1));
 }
   where
-    go : (g : ℕ) → g < length old → (g < q / 64 + 1) ⊎ (q / 64 + 1 ≤ g) → get_or new g 0 ≡ start_of (set pages q y) (64 * g)
-    go g w (inl a) = below g a ∙ s.is g w ∙ sym (start-before pages q (64 * g) y (omega arith))
-    go g w (inr b) = raised g b w ∙ ap (λ (n : ℕ). n + 1) (s.is g w) ∙ sym (start-grown pages q (64 * g) y l e (omega arith))
+    go : (g : ℕ) → g < length old → (g < q / 32 + 1) ⊎ (q / 32 + 1 ≤ g) → get_or new g 0 ≡ start_of (set pages q y) (32 * g)
+    go g w (inl a) = below g a ∙ s.is g w ∙ sym (start-before pages q (32 * g) y (omega arith))
+    go g w (inr b) = raised g b w ∙ ap (λ (n : ℕ). n + 1) (s.is g w) ∙ sym (start-grown pages q (32 * g) y l e (omega arith))
 
-pub starts-lowered : {X : Type 0} (pages : List (List X)) (q : ℕ) (y : List X) (old new : List ℕ) → q < length pages → length y + 1 ≡ length (get_or pages q []) → IsStarts pages old → length new ≡ length old → ((n : ℕ) → n < q / 64 + 1 → get_or new n 0 ≡ get_or old n 0) → ((n : ℕ) → q / 64 + 1 ≤ n → n < length old → get_or new n 0 ≡ get_or old n 0 - 1) → IsStarts (set pages q y) new
+pub starts-lowered : {X : Type 0} (pages : List (List X)) (q : ℕ) (y : List X) (old new : List ℕ) → q < length pages → length y + 1 ≡ length (get_or pages q []) → IsStarts pages old → length new ≡ length old → ((n : ℕ) → n < q / 32 + 1 → get_or new n 0 ≡ get_or old n 0) → ((n : ℕ) → q / 32 + 1 ≤ n → n < length old → get_or new n 0 ≡ get_or old n 0 - 1) → IsStarts (set pages q y) new
 starts-lowered pages q y old new l e s len below lowered = record {
   within = λ g w. (let a = s.within g (omega arith) in let b = length-set pages q y in omega arith);
-  is = λ g w. go g (omega arith) (cases_lt g (q / 64 + 1));
+  is = λ g w. go g (omega arith) (cases_lt g (q / 32 + 1));
 }
   where
-    go : (g : ℕ) → g < length old → (g < q / 64 + 1) ⊎ (q / 64 + 1 ≤ g) → get_or new g 0 ≡ start_of (set pages q y) (64 * g)
-    go g w (inl a) = below g a ∙ s.is g w ∙ sym (start-before pages q (64 * g) y (omega arith))
+    go : (g : ℕ) → g < length old → (g < q / 32 + 1) ⊎ (q / 32 + 1 ≤ g) → get_or new g 0 ≡ start_of (set pages q y) (32 * g)
+    go g w (inl a) = below g a ∙ s.is g w ∙ sym (start-before pages q (32 * g) y (omega arith))
     go g w (inr b) =
         let a = lowered g b w in
         let c = s.is g w in
-        let d = start-shrunk pages q (64 * g) y l e (omega arith) in
+        let d = start-shrunk pages q (32 * g) y l e (omega arith) in
         omega arith

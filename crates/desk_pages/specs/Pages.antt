@@ -86,18 +86,18 @@ pub record IsKept {X : Type 0} (pages : List (List X)) (len all used_room free_r
   pub few : all ≤ 2 ^ 41
   pub fits : len < 2 ^ 48
 
--- where each group of 64 pages begins, as far as it is known
+-- where each group of 32 pages begins, as far as it is known
 pub record IsStarts {X : Type 0} (pages : List (List X)) (starts : List ℕ) : Type 0 where
-  pub within : (g : ℕ) → g < length starts → 64 * g ≤ length pages
-  pub is : (g : ℕ) → g < length starts → slice_index_or starts g 0 ≡ start_of pages (64 * g)
+  pub within : (g : ℕ) → g < length starts → 32 * g ≤ length pages
+  pub is : (g : ℕ) → g < length starts → slice_index_or starts g 0 ≡ start_of pages (32 * g)
 
 -- the pages of group g
 abbrev pub group_at : {X : Type 0} → List (List X) → ℕ → List (List X)
-group_at pages g = take 64 (drop (64 * g) pages)
+group_at pages g = take 32 (drop (32 * g) pages)
 
--- a summary of each group of 64 pages, as far as it is known
+-- a summary of each group of 32 pages, as far as it is known
 pub record IsSums {X S : Type 0} (tells : S → List X → Type 0) (pages : List (List X)) (sums : List S) : Type 0 where
-  pub within : (g : ℕ) → g < length sums → 64 * g + 64 ≤ length pages
+  pub within : (g : ℕ) → g < length sums → 32 * g + 32 ≤ length pages
   pub is : (g : ℕ) (d : S) → g < length sums → tells (slice_index_or sums g d) (joined (group_at pages g))
 
 -- where each group begins, and a summary of each

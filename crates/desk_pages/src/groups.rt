@@ -52,9 +52,9 @@ fn find_sums<T: Copy, S: Summary<T>, A: Allocator>(pages: &[Page<T, S, A>], sums
 
 /// The summary of a whole group.
 fn sum_of<T: Copy, S: Summary<T>, A: Allocator>(pages: &[Page<T, S, A>], g: usize) -> S
-    requires within { 64 * g + 64 ≤ length pages.now }
+    requires within { 32 * g + 32 ≤ length pages.now }
     requires fits { length (joined pages.now) < 2 ^ 48 }
-    ensures { S.tells result (joined (take 64 (drop (64 * g) pages.now))) }
+    ensures { S.tells result (joined (take 32 (drop (32 * g) pages.now))) }
 {
     let first = GROUP * g;
     let mut sum = S::of(&[]);
@@ -170,11 +170,11 @@ fn sum_again<T: Copy, S: Summary<T>, A: Allocator>(
     sums: &mut Vec<S, A>,
     g: usize,
 )
-    requires within { g < length sums.old.items → 64 * g + 64 ≤ length pages.now }
+    requires within { g < length sums.old.items → 32 * g + 32 ≤ length pages.now }
     requires fits { length (joined pages.now) < 2 ^ 48 }
     ensures len { length sums.new.items ≡ length sums.old.items }
     ensures others { (n : ℕ) (d : S) → n ≢ g → slice_index_or sums.new.items n d ≡ slice_index_or sums.old.items n d }
-    ensures summed { (d : S) → g < length sums.old.items → S.tells (slice_index_or sums.new.items g d) (joined (take 64 (drop (64 * g) pages.now))) }
+    ensures summed { (d : S) → g < length sums.old.items → S.tells (slice_index_or sums.new.items g d) (joined (take 32 (drop (32 * g) pages.now))) }
 {
     if g < sums.len() {
         sums[g] = sum_of(pages, g);

@@ -74,7 +74,7 @@ impl<T: Copy, S: Summary<T>, A: Allocator + Copy> Pages<T, S, A> {
         find_groups(&pages, &mut groups);
         let mut order = Vec::new(alloc);
         order.resize(pages.len(), 0)?;
-        pages::find_order(&pages, &mut order);
+        pages::find_order(&pages, &mut order, 0);
         Ok(Pages {
             pages,
             free,

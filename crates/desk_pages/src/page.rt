@@ -7,7 +7,7 @@ use std::marker::Model;
 
 /// The most entries of a page.
 pub const FULL: usize = 256;
-/// The fewest of a page that is not the last.
+/// The fewest of a page that is neither first nor last.
 pub const HALF: usize = 128;
 
 /// What is kept of each page, so that a search can pass it by.

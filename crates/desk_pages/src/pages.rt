@@ -271,7 +271,7 @@ pub fn put<T: Copy, S: Summary<T>, A: Allocator>(
         None => {
             put_anywhere(pages, free, p, j, len, x);
             find_groups(pages, groups);
-            find_order(pages, order);
+            find_order(pages, order, p);
         }
     }
 }
@@ -420,7 +420,7 @@ pub fn take<T: Copy, S: Summary<T>, A: Allocator>(
     }
     let out = take_short(pages, free, p, j, len);
     find_groups(pages, groups);
-    find_order(pages, order);
+    find_order(pages, order, p);
     out
 }
 
@@ -477,12 +477,13 @@ pub fn name_room<A: Allocator>(order: &mut Vec<usize, A>, count: usize) -> Resul
     Ok(())
 }
 
-/// Where each page stands, by its name, as far as there is room to keep it.
+/// Where each page from `first` on stands, by its name, as far as there is room to keep it.
 pub fn find_order<T: Copy, S: Summary<T>, A: Allocator>(
     pages: &[Page<T, S, A>],
     order: &mut Vec<usize, A>,
+    first: usize,
 ) {
-    for p in 0..pages.len() {
+    for p in first..pages.len() {
         let name = pages[p].name();
         if name < order.len() {
             order[name] = p;

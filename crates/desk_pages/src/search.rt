@@ -127,10 +127,10 @@ fn pass<T: Copy, S: Summary<T>, A: Allocator, P: Pick<T, S>>(
     n: usize,
 ) -> Option<(usize, usize)>
     requires { IsGroups S.tells pages.now groups.now.starts.items groups.now.sums.items }
-    ensures within { IsSome result → at + 64 ≤ length pages.now }
+    ensures within { IsSome result → at + 32 ≤ length pages.now }
     ensures less { IfSome result (λ r. r.0 ≤ n) }
-    ensures start { IfSome result (λ r. r.1 ≡ start_of pages.now (at + 64)) }
-    ensures count { IfSome result (λ r. count_by (P.picked pick.now) (joined (take (at + 64) pages.now)) + r.0 ≡ count_by (P.picked pick.now) (joined (take at pages.now)) + n) }
+    ensures start { IfSome result (λ r. r.1 ≡ start_of pages.now (at + 32)) }
+    ensures count { IfSome result (λ r. count_by (P.picked pick.now) (joined (take (at + 32) pages.now)) + r.0 ≡ count_by (P.picked pick.now) (joined (take at pages.now)) + n) }
 {
     let _ = pages;
     let g = at / GROUP;

@@ -6,7 +6,7 @@ use crate::page::{Page, Summary};
 use std::alloc::Allocator;
 
 /// How many pages are in a group.
-pub const GROUP: usize = 64;
+pub const GROUP: usize = 32;
 
 /// The first page of the last group that is known to begin no later, and where it begins.
 pub fn group_before<T: Copy, S: Summary<T>, A: Allocator>(
@@ -19,13 +19,9 @@ pub fn group_before<T: Copy, S: Summary<T>, A: Allocator>(
     ensures start { result.1 ≡ start_of pages.now result.0 }
     ensures before { result.1 ≤ i }
 {
-    let mut g = 0;
-    for h in 1..starts.len() {
-        if starts[h] > i {
-            break;
-        }
-        g = h;
-    }
+    let g = starts
+        .partition_point(|start| *start <= i)
+        .saturating_sub(1);
     if g < starts.len() && starts[g] <= i && g <= pages.len() / GROUP {
         return (GROUP * g, starts[g]);
     }

@@ -273,7 +273,7 @@ fn are_pages_alike<Q: Sequence, R: Sequence>(
     is_made_alike::<Q, R>(&mut flat, alloc, memory, more)
 }
 
-/// Over more than two groups of 64 pages, cut at random places or laid out in full pages.
+/// Over more than eight groups of 32 pages, cut at random places or laid out in full pages.
 #[test]
 fn many_pages_answer_alike(rt: HostRuntime) -> Result<(), Fail> {
     assert!(rt;

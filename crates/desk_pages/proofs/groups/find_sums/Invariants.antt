@@ -6,4 +6,4 @@ abbrev pub invariant-loop-sums : goal.invariant-loop-sums
 invariant-loop-sums g l = IsSums g.S.Summary.tells l.pages l.sums.items
 
 abbrev pub decreases-loop-sums : goal.decreases-loop-sums
-decreases-loop-sums g l = length l.pages / 64 - length l.sums.items
+decreases-loop-sums g l = length l.pages / 32 - length l.sums.items

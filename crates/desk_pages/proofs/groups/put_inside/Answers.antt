@@ -10,7 +10,7 @@ pub raise-requires : goal.raise-requires
 raise-requires g c = λ n l.
     let pages = c.args.pages.now.items in
     let a = c.requires.groups.0.is n l in
-    let b = start-le pages (64 * n) in
+    let b = start-le pages (32 * n) in
     omega (arith, c.requires.fits)
 
 pub returns-clause-put : goal.returns-clause-put

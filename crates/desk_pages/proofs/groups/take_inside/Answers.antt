@@ -12,7 +12,7 @@ use Rattle.desk_pages.proofs.groups.take_inside.Goals as goal
 
 pub sum_again-requires-clause-within : goal.sum_again-requires-clause-within
 sum_again-requires-clause-within g c = λ w.
-    let a = c.requires.groups.1.within (c.args.p / 64) w in
+    let a = c.requires.groups.1.within (c.args.p / 32) w in
     let n = length-set c.args.pages.now.items c.args.p c.remove-out.new.self in
     rw c.deref.ensures.value (omega arith)
 

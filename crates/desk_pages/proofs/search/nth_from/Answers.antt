@@ -73,7 +73,7 @@ loop-at-preserved-in-Some g c =
     let pages = c.args.pages.now in
     let i = c.loop-at.invariant in
     let e = c.in-Some.ensures in
-    let m = start-grows pages c.loop-at.at 64 in
+    let m = start-grows pages c.loop-at.at 32 in
     record {
       low = omega (arith, i.low);
       within = e.within refl;
