@@ -1,3 +1,4 @@
 pub mod Said
+pub mod Sorts
 pub mod Places
 pub mod Checks

@@ -1,5 +1,5 @@
 -- What is said of a file, without its name.
-use Rattle.std.specs.Prelude.{ℕ, ◌*◌, ◌/◌, ◌%◌, ◌==◌, if◌then◌else◌, List, [], ◌∷◌, ◌++◌, length, codes, Option, Some, None, option_map, Result, Ok, Err}
+use Rattle.std.specs.Prelude.{ℕ, ◌/◌, ◌%◌, ◌==◌, if◌then◌else◌, List, [], ◌∷◌, ◌++◌, length, codes, Option, Some, None, option_map, Result, Ok, Err}
 use Rattle.std.specs.Fmt.{decimal}
 use Rattle.desk_ops.specs.declared.op.Symbol.{Symbol}
 use Rattle.desk_ops.specs.declared.op.Unlawful.{Unlawful}
@@ -30,7 +30,6 @@ use Rattle.desk_signals.specs.Words.{cell_words}
 use Rattle.desk_ops.specs.Words.{symbol_words}
 use Rattle.desk_case.specs.declared.CaseFault.{CaseFault}
 use Rattle.desk_case.specs.declared.CaseFault.TheVariants as cases
-use Rattle.desk_case.specs.declared.TheConstants.{COLUMNS, ROWS}
 use Rattle.desk_check.specs.Sorts.{sorts}
 use Rattle.desk_answers.specs.Reply.{Faults}
 use Rattle.desk_answers.specs.Text.{text}
@@ -196,7 +195,7 @@ sorts_words sorts = codes ", " ++ decimal sorts ++ codes " sorts"
 
 -- what a case file gives, with how many cells it has texts for; or its fault, with the cells that hold its symbol
 abbrev pub case_words : ℕ → (CaseFault → List Cell) → Result CaseValues CaseFault → Option (List ℕ)
-case_words cells holders (Ok case) = Some (number_words case.number ++ cells_words cells ++ sorts_words (sorts case.grid (ROWS * COLUMNS)))
+case_words cells holders (Ok case) = Some (number_words case.number ++ cells_words cells ++ sorts_words (sorts case.grid))
 case_words cells holders (Err fault) = option_map (λ words. codes "case refused: " ++ words) (case_fault_words (holders fault) fault)
 
 -- ---- others

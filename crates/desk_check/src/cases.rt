@@ -29,10 +29,10 @@ fn sort_at(case: &MatrixCase, place: usize) -> usize
 }
 
 /// How many cells of a case hold a symbol.
-#[tactic(auto, using(crate::proofs::Places::sorts_none))]
 fn sorts(case: &MatrixCase) -> usize
-    ensures { result ≡ sorts (case.now).grid (ROWS * COLUMNS) }
+    ensures { result ≡ sorts (case.now).grid }
 {
+    let _lawful = case.fill();
     let mut count: usize = 0;
     for place in 0..ROWS * COLUMNS {
         count += sort_at(case, place);
@@ -64,7 +64,7 @@ fn put_case<A: Allocator + Copy>(
     case: &MatrixCase,
     cells: usize,
 ) -> Result<(), AllocError>
-    ensures { OnOk result (string_bytes out.new ≡ string_bytes out.old ++ number_words (case.now).number ++ cells_words cells ++ sorts_words (sorts (case.now).grid (ROWS * COLUMNS))) }
+    ensures { OnOk result (string_bytes out.new ≡ string_bytes out.old ++ number_words (case.now).number ++ cells_words cells ++ sorts_words (sorts (case.now).grid)) }
 {
     put_case_number(out, case.number())?;
     put_cells(out, cells)?;

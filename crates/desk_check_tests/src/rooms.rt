@@ -30,9 +30,6 @@ pub fn says(alloc: Global, bytes: &[u8], line: &str, well: bool) -> Result<bool,
     let mut files = TrialFiles::new(alloc);
     files.put("f", bytes)?;
     let (written, ended) = checked(alloc, &mut files, &["f"]);
-    let stays = match files.bytes_of("f") {
-        Some(kept) => kept == bytes,
-        None => false,
-    };
+    let stays = files.holds("f", bytes);
     Ok(stays && written.as_slice() == line.as_bytes() && ended == Ok(well))
 }

@@ -1,7 +1,8 @@
--- What is told of two copies, from point to point.
-use Rattle.std.proofs.Common.{◌≡◌, ◌∙◌, ◌≤◌, ◌<◌, ℕ, zero, suc, ◌+◌, ◌-◌, false, true, inl, List, [], ◌∷◌, ◌++◌, length, take, drop, refl, sym, ap, ap₂, subst, arith}
+-- What is said of two copies, from point to point.
+use Rattle.std.proofs.Common.{◌≡◌, ◌∙◌, ◌≤◌, ◌<◌, ℕ, ◌+◌, ◌-◌, false, true, inl, List, [], ◌∷◌, ◌++◌, length, take, drop, refl, sym, ap, ap₂, subst, arith}
 use Rattle.std.specs.List.{slice_range}
 use Rattle.std.proofs.Math.Seq.{take-add}
+use Rattle.std.proofs.lemmas.List.{drop-drop}
 use Rattle.std.specs.Bool.{Decides}
 use Rattle.std.specs.Prelude.{◌≢◌}
 use Rattle.desk_ops.proofs.Stamps.{by_cases}
@@ -13,22 +14,13 @@ use Rattle.desk_difference.specs.declared.stretch.Stretch.{Stretch}
 use Rattle.desk_difference.specs.Walking.{EndBefore}
 use Rattle.desk_difference.specs.Stretches.{AreApart, AreSame, AreStretches, BeginsApart, Differ, DifferIn, IsReached, ends, is_whole, of_one, of_other, start}
 
-drop_none : {A : Type 0} (k : ℕ) → drop {A = A} k [] ≡ []
-drop_none zero = refl
-drop_none (suc k) = refl
-
-drop_more : {A : Type 0} (a m : ℕ) (xs : List A) → drop m (drop a xs) ≡ drop (a + m) xs
-drop_more zero m xs = let e : zero + m ≡ m = omega arith in rw e refl
-drop_more (suc a) m [] = drop_none m ∙ sym (drop_none (suc a + m))
-drop_more (suc a) m (x ∷ xs) = let e : suc a + m ≡ suc (a + m) = omega arith in rw e (drop_more a m xs)
-
 -- a part of a list, from two
 pub range_join : {A : Type 0} (xs : List A) (a b c : ℕ) → a ≤ b → b ≤ c → slice_range xs a c ≡ slice_range xs a b ++ slice_range xs b c
 range_join xs a b c low high =
     let whole : c - a ≡ (b - a) + (c - b) = omega arith in
     let there : a + (b - a) ≡ b = omega arith in
     ap (λ (k : ℕ). take k (drop a xs)) whole ∙ take-add (b - a) (c - b) (drop a xs)
-    ∙ ap (λ l. take (b - a) (drop a xs) ++ take (c - b) l) (drop_more a (b - a) xs ∙ ap (λ (k : ℕ). drop k xs) there)
+    ∙ ap (λ l. take (b - a) (drop a xs) ++ take (c - b) l) (drop-drop (b - a) a xs ∙ ap (λ (k : ℕ). drop k xs) there)
 
 pub reached_farther : (one other : List Symbol) (a b c : Point) → IsReached one other a b → IsReached one other b c → IsReached one other a c
 reached_farther one other a b c f g = record { one_rises = omega arith; other_rises = omega arith; one_within = g.one_within; other_within = g.other_within }
@@ -48,7 +40,7 @@ none_between one other a b r = record { reached = here one other a b r; same = n
     nothing : (xs : List Symbol) (k : ℕ) → slice_range xs k k ≡ []
     nothing xs k = let e : k - k ≡ 0 = omega arith in rw e refl
 
--- what is told up to a point is told up to a later one, where the copies are the same between the two
+-- the stretches up to a point are those up to a later one, where the copies are the same between the two
 pub told_farther : (one other : List Symbol) (from a b : Point) (stretches : List Stretch) → DifferIn one other from stretches a → AreSame one other a b → DifferIn one other from stretches b
 told_farther one other from a b [] told same = same_farther one other from a b told same
 told_farther one other from a b (s ∷ stretches) told same = (told.0, told.1, told_farther one other s.to a b stretches told.2 same)
@@ -58,7 +50,7 @@ pub told_stretch : (one other : List Symbol) (from : Point) (next : Stretch) (st
 told_stretch one other from next [] told differ = (told, differ, none_between one other next.from next.to differ.reached)
 told_stretch one other from next (s ∷ stretches) told differ = (told.0, told.1, told_stretch one other s.to next stretches told.2 differ)
 
--- `==` on symbols tells whether they are one
+-- `==` on symbols says whether they are one
 pub same_symbols : (s t : Symbol) → Decides ((symbol_eq.eq-value).it s t) (s ≡ t)
 same_symbols s t = (are_one s t ((symbol_eq.eq-value).it s t) refl, λ same. by_cases ((symbol_eq.eq-value).it s t) (λ e. e) (λ e. absurd (not_other same e)))
   where

@@ -16,7 +16,7 @@ use Rattle.desk_ops.proofs.Unions.{same-set}
 use Rattle.desk_difference.specs.Told.{TellsAlone}
 use Rattle.desk_codec.proofs.GroupLaws.{set_rises}
 
--- `==` on operations tells whether they are one
+-- `==` on operations says whether they are one
 pub same_operations : (x y : Op) → Decides ((op_eq.ghosts).eq x y) (x ≡ y)
 same_operations x y = (
   λ e. op_antisymmetric x y (is_equal (op_cmp x y) (sym (op_tie x y) ∙ e)),

@@ -89,7 +89,7 @@ alone_skip op [] ys above = refl
 alone_skip op (x ∷ one) ys above =
     ap₂ (λ (held : Bool) (rest : List Op). kept x rest held) (among_skip op x (λ y e. op_total.trans y op x e above.0) ys) (alone_skip op one ys above.1)
 
--- ---- the first that is not passed over tells whether the operation is there
+-- ---- the first that is not passed over decides whether the operation is there
 
 all_above : (op y : Op) (ys : List Op) → op_cmp op y ≡ Less → AllAbove y ys → AllAbove op ys
 all_above op y [] e above = tt

@@ -1,14 +1,12 @@
 -- Stamps by site and then by counter, each once.
-use Rattle.std.proofs.Common.{◌≡◌, ◌∙◌, ℕ, zero, suc, ◌<◌, Bool, true, false, not, ◌&&◌, List, [], ◌∷◌, length, get_or, map, refl, sym, ap, subst, inl, inr, arith, IsPermutation}
+use Rattle.std.proofs.Common.{◌≡◌, ◌∙◌, ℕ, zero, suc, ◌<◌, Bool, true, not, ◌&&◌, List, [], ◌∷◌, length, get_or, map, refl, sym, ap, subst, inl, inr, arith, IsPermutation}
 use Rattle.std.specs.Prelude.{◌↔◌, ◌==◌, T}
 use Rattle.std.specs.List.{Contains, dedup}
 use Rattle.std.specs.List.Sorted.{IsSorted, IsStrictlySortedBy}
-use Rattle.std.specs.Ordering.{eq_by_cmp, is_eq, nat_cmp, ordering_then}
-use Rattle.std.specs.Cmp.{IsTotalOrder, IsEquivalence, unsigned_tied}
-use Rattle.std.specs.declared.cmp.Ordering.{Ordering}
-use Rattle.std.specs.declared.cmp.Ordering.TheVariants.{Less, Equal, Greater}
+use Rattle.std.specs.Ordering.{eq_by_cmp, is_eq, nat_cmp}
+use Rattle.std.specs.Cmp.{IsTotalOrder, IsEquivalence, tied_then, unsigned_tied}
 use Rattle.std.proofs.lemmas.Bool.Decides.{nat_tests}
-use Rattle.std.proofs.lemmas.Bool.{true≢false}
+use Rattle.std.proofs.lemmas.Bool.{not-true}
 use Rattle.std.proofs.lemmas.Cmp.{and_equiv, nat_cmp_total, nat_eq_equiv, on_equiv, on_total, then_total}
 use Rattle.std.proofs.lemmas.List.Kept.{Contains-dedup, Contains-from_dedup, IsStrictlySortedBy-dedup}
 use Rattle.std.proofs.lemmas.List.Sorted.{Contains-permutation, IsPermutation-sym}
@@ -28,14 +26,9 @@ site_total = then_total (on_total (λ (s : SiteStamp). s.site) nat_cmp_total) (o
 abbrev pub same_stamp : SiteStamp → SiteStamp → Bool
 same_stamp a b = a.site == b.site && a.counter == b.counter
 
-then_tie : (r o : Ordering) → is_eq (ordering_then r o) ≡ (is_eq r && is_eq o)
-then_tie Less o = refl
-then_tie Equal o = refl
-then_tie Greater o = refl
-
 same_cmp : (a b : SiteStamp) → same_stamp a b ≡ eq_by_cmp site_cmp a b
 same_cmp a b =
-    sym (then_tie (nat_cmp a.site b.site) (nat_cmp a.counter b.counter) ∙ ap (λ t. t && is_eq (nat_cmp a.counter b.counter)) (unsigned_tied a.site b.site) ∙ ap (λ t. (a.site == b.site) && t) (unsigned_tied a.counter b.counter))
+    sym (sym (tied_then (nat_cmp a.site b.site) (nat_cmp a.counter b.counter)) ∙ ap (λ t. t && is_eq (nat_cmp a.counter b.counter)) (unsigned_tied a.site b.site) ∙ ap (λ t. (a.site == b.site) && t) (unsigned_tied a.counter b.counter))
 
 same_exact : (a b : SiteStamp) → same_stamp a b ≡ true → a ≡ b
 same_exact a b e = grind (arith, nat_tests)
@@ -70,10 +63,6 @@ among_map_from f [] x y m e = absurd m
 among_map_from f (z ∷ xs) x y (inl h) e = inl (ap f h ∙ e)
 among_map_from f (z ∷ xs) x y (inr m) e = inr (among_map_from f xs x y m e)
 
-falsely : (b : Bool) → not b ≡ true → b ≡ false
-falsely true e = absurd (true≢false (sym e))
-falsely false e = refl
-
 held_in : (ops : List Op) (op : Op) → T (is_rising ops) → Among op ops → has_op (from_rising ops) op ≡ true
 held_in ops op rising m = held_among (from_rising ops) op (subst (λ (l : List Op). Among op l) (sym (in_order-from_rising ops rising)) m)
 
@@ -87,7 +76,7 @@ alone_told one other stamp first second = (there, back)
     there m =
         let r = among_map site_stamp (alone one other) stamp m in
         let f = among-filter (λ (op : Op). not (among op other)) one r.0 r.1 in
-        (r.0, held_in one r.0 first f.0, has_op-from_rising other r.0 second ∙ falsely (among r.0 other) f.1, r.2)
+        (r.0, held_in one r.0 first f.0, has_op-from_rising other r.0 second ∙ not-true (among r.0 other) f.1, r.2)
 
     back : IsAlone (from_rising one) (from_rising other) stamp → Among stamp (map site_stamp (alone one other))
     back h =

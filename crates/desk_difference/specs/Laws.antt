@@ -1,11 +1,11 @@
--- What holds of the differences that are told.
+-- What holds of the differences that are reported.
 use Rattle.std.specs.Prelude.{◌≡◌, ◌↔◌, ℕ, Bool, true, List, [], ◌++◌}
 use Rattle.desk_ops.specs.OpSet.{OpSet}
 use Rattle.desk_ops.specs.Shown.{copy_of}
 use Rattle.desk_difference.specs.Counters.{alone_line}
 use Rattle.desk_difference.specs.Told.{Tells, TellsWords}
 
--- of a set and itself it is told that they are one, and that neither has anything alone
+-- of a set and itself it is said that they are one, and that neither has anything alone
 abbrev pub EqualSetsAreToldSo : Type 0
 EqualSetsAreToldSo =
     (one other : List ℕ) (set : OpSet) (told : List ℕ) (same : Bool) → Tells one other set set told same → (same ≡ true) × (told ≡ alone_line one [] ++ alone_line other [])

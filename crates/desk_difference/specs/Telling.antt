@@ -9,7 +9,7 @@ use Rattle.desk_difference.specs.Told.{Tells}
 use Rattle.desk_difference.specs.declared.fault.DifferenceFault.{DifferenceFault}
 use Rattle.desk_difference.specs.declared.fault.DifferenceFault.TheVariants as faults
 
--- what is told of the sets that two names stand for
+-- what is said of the sets that two names stand for
 abbrev pub IsDifference : List ℕ → List ℕ → Shelf → List ℕ → Bool → Type 0
 IsDifference one other shelf told same =
     (first second : OpSet) × IsSetOf one shelf first × IsSetOf other shelf second × Tells one other first second told same

@@ -1,4 +1,4 @@
--- What is told of two sets of operations.
+-- What is said of two sets of operations.
 use Rattle.std.specs.Prelude.{◌≡◌, ◌↔◌, ℕ, Bool, true, List, ◌++◌}
 use Rattle.desk_ops.specs.OpSet.{OpSet}
 use Rattle.desk_ops.specs.Shown.{copy_of}
@@ -23,7 +23,7 @@ abbrev pub IsText : List ℕ → List ℕ → OpSet → OpSet → List ℕ → T
 IsText one other first second told =
     (lines words : List ℕ) × TellsAlone one other first second lines × TellsWords first second words × (told ≡ lines ++ words)
 
--- what is told of two sets, and whether they are one
+-- what is said of two sets, and whether they are one
 pub record Tells (one other : List ℕ) (first second : OpSet) (told : List ℕ) (same : Bool) : Type 0 where
   pub text : IsText one other first second told
   pub are_one : (same ≡ true) ↔ (first ≡ second)

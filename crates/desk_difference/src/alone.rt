@@ -1,6 +1,6 @@
 //! The operations that one list has and another has not, by the stamps that they bear.
 
-ghost use Rattle.std.specs.Prelude.{◌≡◌, ◌++◌, ◌∷◌, [], IfOk, OnOk, T, map};
+ghost use Rattle.std.specs.Prelude.{◌≡◌, ◌++◌, IfOk, OnOk, T, map};
 ghost use Rattle.desk_ops.specs.OpSet.{from_rising, is_rising};
 ghost use Rattle.desk_difference.specs.Alone.{AreAlone, alone, alone_stamp, begins, skip, site_stamp};
 

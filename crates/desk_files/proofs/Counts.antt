@@ -5,7 +5,7 @@ use Rattle.std.specs.Prelude.{◌≢◌, Result, Ok, Err, IfErr}
 use Rattle.desk_files.specs.declared.files.FileRefusal.TheVariants as files
 use Rattle.desk_files.specs.Files.{Counts, Shelf}
 
--- a call that does not tell of the device, and counts nothing
+-- a call that is not refused for the device, and counts nothing
 pub counts_none : {T : Type 0} (P : FileRefusal → Type 0) (r : Result T FileRefusal) (before after : Shelf) → IfErr r (λ e. (e ≢ files.Device) × P e) → after.failures ≡ before.failures → Counts r before after
 counts_none P (Ok v) before after other same = same
 counts_none P (Err files.Missing) before after other same = same

@@ -1,9 +1,9 @@
--- What files hold by name, when they may tell of a device, and what their calls leave.
+-- What files hold by name, when they may answer that the device failed, and what their calls leave.
 use Rattle.std.specs.Prelude.{◌≡◌, ◌≢◌, ◌≤◌, ℕ, ◌<◌, ◌⊎◌, ◌++◌, List, Result, Ok, Err, codes, length}
 use Rattle.desk_files.specs.declared.files.FileRefusal.{FileRefusal}
 use Rattle.desk_files.specs.declared.files.FileRefusal.TheVariants as refusals
 
--- what a name stands for: Unknown where the files cannot tell, Nowhere where no file can have it, as in a folder that is not there. A name that is known is the only one of its file, and of no folder.
+-- what a name stands for: Unknown where that is not known of the files, Nowhere where no file can have it, as in a folder that is not there. A name that is known is the only one of its file, and of no folder.
 pub data Kept : Type 0 where
   Unknown : Kept
   Nowhere : Kept
@@ -51,7 +51,7 @@ HasFailed before after = HasRisen before.failures after.failures
 abbrev pub Stays : Shelf → Shelf → Type 0
 Stays before after = (after.kept ≡ before.kept) × (before.failures ≤ after.failures) × (after.held ≡ before.held)
 
--- a refusal tells of the device exactly where the count says that it failed, while it can
+-- a refusal is of the device exactly where the count says that it failed, while it can
 abbrev pub IsCounted : FileRefusal → Shelf → Shelf → Type 0
 IsCounted refusals.Missing before after = after.failures ≡ before.failures
 IsCounted refusals.Device before after = HasFailed before after × (before.failures ≤ after.failures)
@@ -91,28 +91,28 @@ Reads (Holds kept) (Err refusals.Device) = Unit {0}
 Reads (Holds kept) (Err refusals.Large) = max_file < length kept
 Reads (Holds kept) (Err refusals.NoMemory) = Unit {0}
 
--- the name stands for these bytes, as far as the files can tell
+-- the name stands for these bytes, as far as that is known of the files
 abbrev pub Has : Kept → List ℕ → Type 0
 Has Unknown bytes = Unit {0}
 Has Nowhere bytes = ⊥
 Has Absent bytes = ⊥
 Has (Holds kept) bytes = kept ≡ bytes
 
--- the name stands for no file, as far as the files can tell
+-- the name stands for no file, as far as that is known of the files
 abbrev pub IsGone : Kept → Type 0
 IsGone Unknown = Unit {0}
 IsGone Nowhere = Unit {0}
 IsGone Absent = Unit {0}
 IsGone (Holds kept) = ⊥
 
--- no file can have the name, as far as the files can tell
+-- no file can have the name, as far as that is known of the files
 abbrev pub IsNowhere : Kept → Type 0
 IsNowhere Unknown = Unit {0}
 IsNowhere Nowhere = Unit {0}
 IsNowhere Absent = ⊥
 IsNowhere (Holds kept) = ⊥
 
--- the name may stand for a file, as far as the files can tell
+-- the name may stand for a file, as far as that is known of the files
 abbrev pub IsThere : Kept → Type 0
 IsThere Unknown = Unit {0}
 IsThere Nowhere = ⊥

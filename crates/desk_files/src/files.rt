@@ -29,7 +29,7 @@ pub enum FileRefusal {
 pub trait Files {
     ghost use Rattle.desk_files.specs.declared.files.FileRefusal.{FileRefusal};
 
-    /// What each name stands for, as far as the files can tell, how often the device has failed, and the name that is held,
+    /// What each name stands for, as far as that is known, how often the device has failed, and the name that is held,
     /// with whether this run has asked for a writing or a renaming since.
     ghost shelf: { Self → Shelf };
 

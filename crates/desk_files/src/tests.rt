@@ -1,9 +1,10 @@
-//! The tests of files that are replaced as a whole, on files whose calls fail by count.
+//! The tests of files that are replaced as a whole, on files whose calls fail by count, and of a reader that is read to
+//! its end.
 
-use crate::trial::TrialFiles;
-use crate::{FileRefusal, Files, store};
+use crate::trial::{TrialFiles, TrialReader};
+use crate::{FileRefusal, Files, ReaderFault, read_whole, store};
 use linked_list_allocator::LocalHeap;
-use std::alloc::{Allocator, Global};
+use std::alloc::Global;
 use std::test::Fail;
 
 /// Files with `a` of some bytes, of which the k-th call fails.
@@ -13,23 +14,15 @@ fn files_with_a(alloc: Global, k: u64) -> Result<TrialFiles<Global>, Fail> {
     Ok(files)
 }
 
-/// Whether a file of that name has these bytes.
-fn holds<A: Allocator + Copy>(files: &TrialFiles<A>, name: &str, bytes: &[u8]) -> bool {
-    match files.bytes_of(name) {
-        Some(kept) => kept == bytes,
-        None => false,
-    }
-}
-
 #[test]
 fn stored_in_place(rt: HostRuntime) -> Result<(), Fail> {
     let mut files = files_with_a(rt.alloc(), 0)?;
     files.put("a.new", b"left over")?;
     assert_eq!(rt; store(rt.alloc(), &mut files, "a", b"new"), Ok(()));
-    assert!(rt; holds(&files, "a", b"new"));
+    assert!(rt; files.holds("a", b"new"));
     assert!(rt; files.bytes_of("a.new").is_none());
     assert_eq!(rt; store(rt.alloc(), &mut files, "b", b""), Ok(()));
-    assert!(rt; holds(&files, "b", b""));
+    assert!(rt; files.holds("b", b""));
     assert_eq!(rt; files.failures(), 0);
     Ok(())
 }
@@ -41,7 +34,7 @@ fn not_stored_where_a_call_fails(rt: HostRuntime) -> Result<(), Fail> {
         store(rt.alloc(), &mut files, "a", b"new"),
         Err(FileRefusal::Device)
     );
-    assert!(rt; holds(&files, "a", b"old"));
+    assert!(rt; files.holds("a", b"old"));
     assert!(rt; files.bytes_of("a.new").is_none());
     assert_eq!(rt; files.failures(), 1);
 
@@ -50,10 +43,10 @@ fn not_stored_where_a_call_fails(rt: HostRuntime) -> Result<(), Fail> {
         store(rt.alloc(), &mut files, "a", b"new"),
         Err(FileRefusal::Device)
     );
-    assert!(rt; holds(&files, "a", b"old"));
-    assert!(rt; holds(&files, "a.new", b"new"));
+    assert!(rt; files.holds("a", b"old"));
+    assert!(rt; files.holds("a.new", b"new"));
     assert_eq!(rt; store(rt.alloc(), &mut files, "a", b"new"), Ok(()));
-    assert!(rt; holds(&files, "a", b"new"));
+    assert!(rt; files.holds("a", b"new"));
     Ok(())
 }
 
@@ -79,13 +72,13 @@ fn refused_store(alloc: Global, cut: usize) -> Result<bool, Fail> {
     let first = store(&heap, &mut files, "a", b"new");
     drop(ballast);
     let refused = first == Err(FileRefusal::NoMemory);
-    let kept = !refused || holds(&files, "a", b"old");
+    let kept = !refused || files.holds("a", b"old");
     let end = if refused {
         store(&heap, &mut files, "a", b"new")
     } else {
         first
     };
-    if kept && end == Ok(()) && holds(&files, "a", b"new") && files.bytes_of("a.new").is_none() {
+    if kept && end == Ok(()) && files.holds("a", b"new") && files.bytes_of("a.new").is_none() {
         Ok(refused)
     } else {
         Err(Fail::new("another file"))
@@ -102,5 +95,23 @@ fn growths_of_store(rt: HostRuntime) -> Result<(), Fail> {
     }
     assert!(rt; refused > 3);
     assert!(rt; refused < 128);
+    Ok(())
+}
+
+#[test]
+fn reader_read_to_its_end(rt: HostRuntime) -> Result<(), Fail> {
+    let mut reader = TrialReader::new(b"abcd").in_steps_of(3);
+    let bytes = read_whole(rt.alloc(), &mut reader, 4)?;
+    assert_eq!(rt; bytes.as_slice(), b"abcd".as_slice());
+    let mut reader = TrialReader::new(b"abcd").in_steps_of(3);
+    assert_eq!(rt;
+        read_whole(rt.alloc(), &mut reader, 3).err(),
+        Some(ReaderFault::TooLong)
+    );
+    let mut reader = TrialReader::new(b"abcd").failing_at_call(2);
+    assert_eq!(rt;
+        read_whole(rt.alloc(), &mut reader, 4).err(),
+        Some(ReaderFault::Failed)
+    );
     Ok(())
 }

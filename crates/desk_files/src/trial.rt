@@ -1,4 +1,4 @@
-//! A reader, a writer and files in memory, which fail where they are told to. For tests.
+//! A reader, a writer and files in memory, which fail where a test wants it. For tests.
 
 ghost use Rattle.std.specs.Prelude.{◌≡◌, ◌≤◌, ◌<◌, ◌≢◌, IfErr, IfOk, IsErrOf, IsFalse, IsTrue, ◌+◌, min, nat_eq, Some, length, option_map, string_bytes};
 ghost use Rattle.desk_files.specs.Files.{Free, HasRisen, IsGone, IsRenamed, max_file, shelf, touched};
@@ -221,6 +221,17 @@ impl<A: Allocator + Copy> TrialFiles<A> {
         bytes_in(&self.changes, name)
     }
 
+    /// Whether a file of that name has these bytes.
+    pub fn holds(&self, name: &str, bytes: &[u8]) -> bool
+        ensures yes { IsTrue result → bytes_in self.now.changes.items name.now ≡ Some bytes.now }
+        ensures no { IsFalse result → bytes_in self.now.changes.items name.now ≢ Some bytes.now }
+    {
+        match self.bytes_of(name) {
+            Some(kept) => kept == bytes,
+            None => false,
+        }
+    }
+
     /// Puts a file there, in place of one of its name. It is no call.
     pub fn put(&mut self, name: &str, bytes: &[u8]) -> Result<(), AllocError>
         ensures failures { self.new.failures ≡ self.old.failures }
@@ -248,7 +259,7 @@ impl<A: Allocator + Copy> TrialFiles<A> {
 
     /// Counts a call, and answers whether it fails.
     fn fails(&mut self) -> bool
-        ensures told { result ≡ nat_eq self.new.calls self.old.failing_call }
+        ensures answer { result ≡ nat_eq self.new.calls self.old.failing_call }
         ensures calls { self.new.calls ≡ min (self.old.calls + 1) 18446744073709551615 }
         ensures same { self.new.failing_call ≡ self.old.failing_call }
         ensures failed { IsTrue result → HasRisen self.old.failures self.new.failures }

@@ -9,6 +9,7 @@ use Rattle.desk_ops.specs.declared.op.Symbol.{Symbol}
 use Rattle.desk_ops.specs.Stamp.{max_counter}
 use Rattle.desk_ops.specs.Op.{Insertion, IsSymbol, is_symbol, stamp_of}
 use Rattle.desk_ops.proofs.Lawful.{symbol_true}
+use Rattle.desk_ops.proofs.Unions.{with_all_push}
 use Rattle.desk_ops.specs.OpSet.{OpSet, max_ops, size, with_op}
 use Rattle.desk_ops.specs.Held.{greatest_counter_of}
 use Rattle.desk_ops.specs.Shown.{copy_of, shown_of}
@@ -24,7 +25,7 @@ use Rattle.desk_hand.specs.Faults.{refusal_of}
 use Rattle.desk_hand.specs.declared.fault.RevisionFault.{RevisionFault}
 use Rattle.desk_hand.specs.declared.fault.RevisionFault.TheVariants as revisions
 use Rattle.desk_hand.specs.Editing.{AreMade, IsMade, IsRefusedAmong, IsRefusedBy, IsRevised, IsSparing, IsUnrevised, change_refusal, deletes_of, insert_count, delete_count, inserts_of}
-use Rattle.desk_hand.proofs.Sites.{all_counted, deletes_more, deletes_of_more, extends_more, inserts_more, inserts_of_more, own_more, with_more}
+use Rattle.desk_hand.proofs.Sites.{all_counted, deletes_more, deletes_of_more, extends_more, inserts_more, inserts_of_more, own_more}
 
 -- ---- one change
 
@@ -89,7 +90,7 @@ made_more : (site : ℕ) (old mid now : OpSet) (made : List Change) (ops : List 
     → AreMade site old now (made ++ change ∷ []) (ops ++ op ∷ [])
 made_more site old mid now made ops change op all one = record {
   own = own_more site old ops op all.own (subst (λ (s : OpSet). stamp_of op ≡ record { counter = greatest_counter_of s + 1; site = site }) all.gained one.own);
-  gained = one.gained ∙ ap (λ s. with_op s op) all.gained ∙ sym (with_more old ops op);
+  gained = one.gained ∙ ap (λ s. with_op s op) all.gained ∙ sym (with_all_push old ops op);
   extends = extends_more site old mid now op all.extends one.gained (ap (λ s. s.site) one.own);
   count = length-append ops (op ∷ []) ∙ ap (λ n. n + 1) all.count ∙ sym (length-append made (change ∷ []));
   inserts = inserts_more ops op ∙ ap₂ (λ m n. m + n) all.inserts one.inserts ∙ sym (inserts_of_more made change);

@@ -8,7 +8,6 @@ use Rattle.desk_ops.specs.Lists.{Among}
 use Rattle.desk_ops.proofs.Arrive.{among-with_op}
 use Rattle.desk_ops.proofs.Ends.{among_held, held_among}
 use Rattle.desk_ops.proofs.Joined.{within-with_op}
-use Rattle.desk_ops.proofs.Unions.{with_all-append}
 use Rattle.desk_changes.specs.declared.making.Change.{Change}
 use Rattle.desk_changes.specs.declared.making.Change.TheVariants as changes
 use Rattle.desk_hand.specs.Editing.{AreOwn, Extends, delete_count, delete_count_of, deletes_in, deletes_of, insert_count, insert_count_of, inserts_in, inserts_of, stamp_after}
@@ -16,9 +15,6 @@ use Rattle.desk_hand.specs.Editing.{AreOwn, Extends, delete_count, delete_count_
 pub own_more : (site : ℕ) (set : OpSet) (ops : List Op) (op : Op) → AreOwn site set ops → stamp_of op ≡ stamp_after site (with_all set ops) → AreOwn site set (ops ++ op ∷ [])
 own_more site set [] op own one = (one, tt)
 own_more site set (o ∷ ops) op own one = (own.0, own_more site (with_op set o) ops op own.1 one)
-
-pub with_more : (set : OpSet) (ops : List Op) (op : Op) → with_all set (ops ++ op ∷ []) ≡ with_op (with_all set ops) op
-with_more set ops op = with_all-append set ops (op ∷ [])
 
 -- ---- what was held is held
 

@@ -1,4 +1,6 @@
 -- Why what one asked for was not done, by what a call below answers.
+use Rattle.desk_files.specs.declared.input.ReaderFault.{ReaderFault}
+use Rattle.desk_files.specs.declared.input.ReaderFault.TheVariants as readers
 use Rattle.desk_held.specs.declared.AddRefusal.{AddRefusal}
 use Rattle.desk_held.specs.declared.AddRefusal.TheVariants as adds
 use Rattle.desk_stored.specs.declared.fault.OpenFault.{OpenFault}
@@ -22,6 +24,11 @@ of_opening openings.NoMemory = troubles.NoMemory
 abbrev pub of_adding : AddRefusal → FeedTrouble
 of_adding adds.Full = troubles.Full
 of_adding adds.NoMemory = troubles.NoMemory
+
+abbrev pub of_reader : ReaderFault → InputFault
+of_reader readers.Failed = inputs.Read
+of_reader readers.TooLong = inputs.TooLong
+of_reader readers.NoMemory = inputs.NoMemory
 
 abbrev pub of_text : TextFault → InputFault
 of_text (texts.At line column cause) = inputs.Text (texts.At line column cause)

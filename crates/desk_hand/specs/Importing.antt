@@ -4,6 +4,7 @@ use Rattle.desk_ops.specs.declared.op.Symbol.{Symbol}
 use Rattle.desk_ops.specs.OpSet.{OpSet}
 use Rattle.desk_text.specs.Reading.{reading}
 use Rattle.desk_files.specs.Files.{Shelf}
+use Rattle.desk_files.specs.Input.{IsInput}
 use Rattle.desk_files.specs.declared.files.FileRefusal.{FileRefusal}
 use Rattle.desk_hand.specs.Editing.{IsRevised, IsUnrevised}
 use Rattle.desk_hand.specs.Keeping.{IsKept, IsUnkept, edited_line}
@@ -21,18 +22,18 @@ abbrev pub max_text : ℕ
 max_text = 8388608
 
 -- all that a reader has left, where that is known; and no more than a text may have
-abbrev pub IsInput : Option (List ℕ) → List ℕ → Type 0
-IsInput input bytes = (length bytes ≤ max_text) × IfSome input (λ known. bytes ≡ known)
+abbrev pub FitsText : Option (List ℕ) → List ℕ → Type 0
+FitsText input bytes = (length bytes ≤ max_text) × IsInput input bytes
 
 -- all that a reader has left is read as this copy; where all is plain, without marks
 abbrev pub IsReadAs : Bool → Option (List ℕ) → List Symbol → Type 0
-IsReadAs plain input text = (bytes : List ℕ) × IsInput input bytes × (reading plain bytes ≡ Ok text)
+IsReadAs plain input text = (bytes : List ℕ) × FitsText input bytes × (reading plain bytes ≡ Ok text)
 
 -- why what a reader has left is not read as a copy
 abbrev pub IsNoText : Bool → Option (List ℕ) → InputFault → Type 0
 IsNoText plain input inputs.Read = Unit {0}
 IsNoText plain input inputs.TooLong = IfSome input (λ known. max_text < length known)
-IsNoText plain input (inputs.Text why) = (bytes : List ℕ) × IsInput input bytes × (reading plain bytes ≡ Err why)
+IsNoText plain input (inputs.Text why) = (bytes : List ℕ) × FitsText input bytes × (reading plain bytes ≡ Err why)
 IsNoText plain input inputs.NoMemory = Unit {0}
 
 -- the copy of a set is now what a reader had, by operations of a site

@@ -1,7 +1,7 @@
 //! Why what one asked for was not done, by the phase in which it stopped.
 
 ghost use Rattle.std.specs.Prelude.{◌≡◌};
-ghost use Rattle.desk_hand.specs.Faults.{of_adding, of_opening, of_text};
+ghost use Rattle.desk_hand.specs.Faults.{of_adding, of_opening, of_reader, of_text};
 ghost use Rattle.desk_hand.specs.declared.fault.FeedTrouble.TheVariants as troubles;
 ghost use Rattle.desk_hand.specs.declared.fault.KeepFault.TheVariants as keeps;
 ghost use Rattle.desk_hand.specs.declared.fault.RevisionFault.TheVariants as revisions;
@@ -10,7 +10,7 @@ ghost use Rattle.desk_hand.specs.declared.fault.MergeFault.TheVariants as merges
 ghost use Rattle.desk_hand.specs.declared.fault.ImportFault.TheVariants as imports;
 
 use desk_codec::FeedFault;
-use desk_files::FileRefusal;
+use desk_files::{FileRefusal, ReaderFault};
 use desk_held::AddRefusal;
 use desk_memory::NoMemory;
 use desk_replica::Stopped;
@@ -182,6 +182,18 @@ impl From<NoMemory> for FeedTrouble {
 
     fn from(_: NoMemory) -> FeedTrouble {
         FeedTrouble::NoMemory
+    }
+}
+
+impl From<ReaderFault> for InputFault {
+    ghost from_gives = { λ why fault. fault ≡ of_reader why };
+
+    fn from(why: ReaderFault) -> InputFault {
+        match why {
+            ReaderFault::Failed => InputFault::Read,
+            ReaderFault::TooLong => InputFault::TooLong,
+            ReaderFault::NoMemory => InputFault::NoMemory,
+        }
     }
 }
 

@@ -1,15 +1,15 @@
 //! The copy of a stored feed, made a text that is read.
 
-ghost use Rattle.std.specs.Prelude.{◌≡◌, ◌≤◌, ◌⊎◌, Bool, IfErr, IfOk, OnOk, length};
+ghost use Rattle.std.specs.Prelude.{◌≡◌, ◌≤◌, ◌⊎◌, IfErr, IfOk, OnOk};
 ghost use Rattle.desk_files.specs.Files.{IsHeldAlone, Stays};
 ghost use Rattle.desk_text.specs.Laws.{AreLawful};
-ghost use Rattle.desk_hand.specs.Importing.{IsImported, IsInput, IsNoText, IsReadAs, IsUnimported};
+ghost use Rattle.desk_hand.specs.Importing.{IsImported, IsNoText, IsReadAs, IsUnimported};
 
 use crate::editing::revise;
 use crate::fault::{ImportFault, InputFault};
 use crate::keeping::tell_and_keep;
 use crate::merging::take_feed;
-use desk_files::Files;
+use desk_files::{Files, read_whole};
 use desk_ops::Symbol;
 use desk_text::read_text;
 use std::alloc::Allocator;
@@ -18,36 +18,6 @@ use std::io::{Read, Write};
 /// The most bytes of a text: eight for each symbol that a copy may have. The longest that `desk_text` writes has six for
 /// each, and one more.
 pub const MAX_TEXT: usize = 8_388_608;
-
-/// So much is read at a time.
-const CHUNK: usize = 8192;
-
-/// All that a reader has left. Where that is too long the rest is left unread.
-fn read_whole<R: Read, A: Allocator + Copy>(
-    alloc: A,
-    reader: &mut R,
-) -> Result<Vec<u8, A>, InputFault>
-    ensures ok { IfOk result (λ v. IsInput (R.remaining reader.old) v.items) }
-    ensures within { IfOk result (λ v. length v.items ≤ MAX_TEXT) }
-    ensures err { IfErr result (λ e. (plain : Bool) → IsNoText plain (R.remaining reader.old) e) }
-{
-    let mut bytes = Vec::new(alloc);
-    let mut chunk = [0u8; CHUNK];
-    'reads: loop {
-        match reader.read(&mut chunk) {
-            Ok(0) => return Ok(bytes),
-            Ok(n) => {
-                if n > MAX_TEXT - bytes.len() {
-                    return Err(InputFault::TooLong);
-                }
-                let Ok(()) = bytes.extend_from_slice(&chunk[..n]) else {
-                    return Err(InputFault::NoMemory);
-                };
-            }
-            Err(_) => return Err(InputFault::Read),
-        }
-    }
-}
 
 /// The copy that all that a reader has left is.
 fn text_from<R: Read, A: Allocator + Copy>(
@@ -59,7 +29,7 @@ fn text_from<R: Read, A: Allocator + Copy>(
     ensures lawful { IfOk result (λ v. AreLawful v.items) }
     ensures err { IfErr result (IsNoText plain (R.remaining reader.old)) }
 {
-    let bytes = read_whole(alloc, reader)?;
+    let bytes = read_whole(alloc, reader, MAX_TEXT)?;
     Ok(read_text(alloc, &bytes, plain)?)
 }
 

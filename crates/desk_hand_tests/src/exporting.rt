@@ -27,11 +27,7 @@ fn exported(alloc: Global, k: u64, name: &str) -> Result<Result<Vec<u8>, ExportF
     let mut files = rooms(alloc, k)?;
     let mut written = Vec::new(alloc);
     let ended = export_feed(alloc, &mut written, &mut files, name);
-    let stays = match files.bytes_of("a.feed") {
-        Some(kept) => kept == MIXED,
-        None => false,
-    };
-    if !stays || files.bytes_of("a.feed.new").is_some() {
+    if !files.holds("a.feed", MIXED) || files.bytes_of("a.feed.new").is_some() {
         return Err(Fail::new("a file changed"));
     }
     match ended {

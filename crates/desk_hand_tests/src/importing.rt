@@ -1,3 +1,4 @@
+use crate::feeds::X;
 use desk_codec::{FeedFault, FeedWhy};
 use desk_files::trial::{AtEnd, TrialFiles, TrialReader, TrialWriter};
 use desk_files::{FileRefusal, Files};
@@ -10,14 +11,11 @@ use linked_list_allocator::LocalHeap;
 use std::alloc::{AllocError, Global};
 use std::test::Fail;
 
-/// One insert, 1.3 of a Roman x.
-const X: &[u8] = b"MFD2\x01\0\0\0\0\0\0\0\x01\0\x03\0\0\0\0\0\0\0\0\0\0\0\0\0\0x";
-
-/// The same, and 2.4, which inserts a Roman z behind it.
+/// `X`, and 2.4, which inserts a Roman z behind it.
 const XZ: &[u8] =
     b"MFD2\x01\0\0\0\0\0\0\0\x01\0\x03\0\0\0\0\0\0\0\0\0\0\0\0\0\0x\x01\0\0\0\0\0\0\0\x02\0\x04\0\0\0\0\0\0\0\x01\0\x03\0\0\0\0z";
 
-/// The same, and 2.4, which deletes it.
+/// `X`, and 2.4, which deletes it.
 const GONE: &[u8] =
     b"MFD2\x01\0\0\0\0\0\0\0\x01\0\x03\0\0\0\0\0\0\0\0\0\0\0\0\0\0x\x02\0\0\0\0\0\0\0\x02\0\x04\0\0\0\0\0\0\0\x01\0\x03";
 
@@ -27,14 +25,6 @@ const NEW: &[u8] =
 
 /// An insert with the greatest counter.
 const LATE: &[u8] = b"MFD2\x01\x40\0\0\0\0\0\0\0\0\x03\0\0\0\0\0\0\0\0\0\0\0\0\0\0x";
-
-/// Whether a file of that name has these bytes.
-fn holds(files: &TrialFiles<Global>, name: &str, bytes: &[u8]) -> bool {
-    match files.bytes_of(name) {
-        Some(kept) => kept == bytes,
-        None => false,
-    }
-}
 
 /// Files of which the k-th call fails, with a feed, one with the greatest counter, and one that is refused.
 fn rooms(alloc: Global, k: u64) -> Result<TrialFiles<Global>, AllocError> {
@@ -65,7 +55,7 @@ fn imported(
 fn makes(alloc: Global, name: &str, text: &[u8], line: &str, bytes: &[u8]) -> Result<bool, Fail> {
     let mut files = rooms(alloc, 0)?;
     let written = imported(alloc, &mut files, name, text, false)?;
-    Ok(written.as_slice() == line.as_bytes() && holds(&files, name, bytes))
+    Ok(written.as_slice() == line.as_bytes() && files.holds(name, bytes))
 }
 
 #[test]
@@ -117,8 +107,8 @@ fn same_text_changes_nothing(rt: HostRuntime) -> Result<(), Fail> {
     files.put("x.feed.new", b"left over")?;
     let line = imported(rt.alloc(), &mut files, "x.feed", b"x", false)?;
     assert!(rt; line.as_slice() == b"ok inserted 0 deleted 0\n".as_slice());
-    assert!(rt; holds(&files, "x.feed", X));
-    assert!(rt; holds(&files, "x.feed.new", b"left over"));
+    assert!(rt; files.holds("x.feed", X));
+    assert!(rt; files.holds("x.feed.new", b"left over"));
     Ok(())
 }
 
@@ -132,7 +122,7 @@ fn stop_of(
     let mut reader = TrialReader::new(text);
     let mut written = Vec::new(alloc);
     let ended = import_text(alloc, &mut reader, &mut written, files, name, 4, false);
-    let stays = holds(files, "x.feed", X) && holds(files, "late.feed", LATE);
+    let stays = files.holds("x.feed", X) && files.holds("late.feed", LATE);
     if !stays || !written.is_empty() || files.bytes_of("x.feed.new").is_some() {
         return Err(Fail::new("bytes before a fault"));
     }
@@ -206,7 +196,7 @@ fn files_that_fail_under_an_import(rt: HostRuntime) -> Result<(), Fail> {
         let ended = imported(rt.alloc(), &mut files, "x.feed", b"xz", false).err();
         let unstored = ImportFault::Keep(KeepFault::Unstored(device));
         assert_eq!(rt; ended, Some(unstored));
-        assert!(rt; holds(&files, "x.feed", X));
+        assert!(rt; files.holds("x.feed", X));
     }
     Ok(())
 }
@@ -226,7 +216,7 @@ fn reader_that_fails(rt: HostRuntime) -> Result<(), Fail> {
         false,
     );
     assert_eq!(rt; ended, Err(ImportFault::Input(InputFault::Read)));
-    assert!(rt; written.is_empty() && holds(&files, "x.feed", X));
+    assert!(rt; written.is_empty() && files.holds("x.feed", X));
     Ok(())
 }
 
@@ -260,7 +250,7 @@ fn closed_output_imports_nothing(rt: HostRuntime) -> Result<(), Fail> {
     );
     assert_eq!(rt; ended, Err(ImportFault::Keep(KeepFault::Write)));
     assert!(rt; b"ok inserted 1 deleted 0\n".starts_with(writer.written()));
-    assert!(rt; holds(&files, "x.feed", X));
+    assert!(rt; files.holds("x.feed", X));
     assert!(rt; files.bytes_of("x.feed.new").is_none());
     Ok(())
 }
@@ -338,7 +328,7 @@ fn is_refused(alloc: Global, cut: usize) -> Result<bool, Fail> {
         b""
     };
     let feed = if is_refused { X } else { XZ };
-    if written.as_slice() != line || !holds(&files, "x.feed", feed) {
+    if written.as_slice() != line || !files.holds("x.feed", feed) {
         return Err(Fail::new("another line or another feed"));
     }
     Ok(is_refused)

@@ -4,6 +4,8 @@
 #[cfg(test)]
 mod exporting;
 #[cfg(test)]
+mod feeds;
+#[cfg(test)]
 mod importing;
 #[cfg(test)]
 mod merging;

@@ -1,3 +1,4 @@
+use crate::feeds::X;
 use desk_codec::{FeedFault, FeedWhy};
 use desk_files::trial::{AtEnd, TrialFiles, TrialWriter};
 use desk_files::{FileRefusal, Files};
@@ -5,23 +6,12 @@ use desk_hand::{FeedTrouble, KeepFault, MergeFault, TakeFault, merge_feeds};
 use std::alloc::{AllocError, Global};
 use std::test::Fail;
 
-/// One insert, 1.3 by site 3.
-const X: &[u8] = b"MFD2\x01\0\0\0\0\0\0\0\x01\0\x03\0\0\0\0\0\0\0\0\0\0\0\0\0\0x";
-
-/// One insert, 1.4 by site 4.
+/// One insert, 1.4 of a Roman y.
 const Y: &[u8] = b"MFD2\x01\0\0\0\0\0\0\0\x01\0\x04\0\0\0\0\0\0\0\0\0\0\0\0\0\0y";
 
-/// Both.
+/// That and `X`.
 const BOTH: &[u8] =
     b"MFD2\x01\0\0\0\0\0\0\0\x01\0\x03\0\0\0\0\0\0\0\0\0\0\0\0\0\0x\x01\0\0\0\0\0\0\0\x01\0\x04\0\0\0\0\0\0\0\0\0\0\0\0\0\0y";
-
-/// Whether a file of that name has these bytes.
-fn holds(files: &TrialFiles<Global>, name: &str, bytes: &[u8]) -> bool {
-    match files.bytes_of(name) {
-        Some(kept) => kept == bytes,
-        None => false,
-    }
-}
 
 /// Files of which the k-th call fails, with the two feeds and one that is refused.
 fn rooms(alloc: Global, k: u64) -> Result<TrialFiles<Global>, AllocError> {
@@ -52,14 +42,14 @@ fn merged_feeds_are_the_union(rt: HostRuntime) -> Result<(), Fail> {
     let first = written_by(rt.alloc(), &mut files, "x.feed", &["y.feed", "x.feed"])?;
     let lines = b"y.feed ok new 1 known 0\nx.feed ok new 0 known 1\nfaults none\n";
     assert_eq!(rt; first.as_slice(), lines.as_slice());
-    assert!(rt; holds(&files, "x.feed", BOTH));
+    assert!(rt; files.holds("x.feed", BOTH));
     assert!(rt; files.bytes_of("x.feed.new").is_none());
     let mut files = rooms(rt.alloc(), 0)?;
     let second = written_by(rt.alloc(), &mut files, "y.feed", &["x.feed"])?;
     let line = b"x.feed ok new 1 known 0\nfaults none\n";
     assert_eq!(rt; second.as_slice(), line.as_slice());
-    assert!(rt; holds(&files, "y.feed", BOTH));
-    assert!(rt; holds(&files, "x.feed", X));
+    assert!(rt; files.holds("y.feed", BOTH));
+    assert!(rt; files.holds("x.feed", X));
     Ok(())
 }
 
@@ -69,7 +59,7 @@ fn merged_into_a_missing_feed(rt: HostRuntime) -> Result<(), Fail> {
     let first = written_by(rt.alloc(), &mut files, "new.feed", &["y.feed"])?;
     let line = b"y.feed ok new 1 known 0\nfaults none\n";
     assert_eq!(rt; first.as_slice(), line.as_slice());
-    assert!(rt; holds(&files, "new.feed", Y));
+    assert!(rt; files.holds("new.feed", Y));
     Ok(())
 }
 
@@ -81,7 +71,7 @@ fn unchanged_feed_is_not_written(rt: HostRuntime) -> Result<(), Fail> {
     let first = written_by(rt.alloc(), &mut files, "x.feed", &["x.feed"])?;
     let line = b"x.feed ok new 0 known 1\nfaults none\n";
     assert_eq!(rt; first.as_slice(), line.as_slice());
-    assert!(rt; holds(&files, "x.feed.new", b"left over"));
+    assert!(rt; files.holds("x.feed.new", b"left over"));
     Ok(())
 }
 
@@ -90,7 +80,7 @@ fn stop_of(alloc: Global, k: u64, others: &[&str]) -> Result<Option<MergeFault>,
     let mut files = rooms(alloc, k)?;
     let mut writer = TrialWriter::new(alloc);
     let ended = merge_feeds(alloc, &mut writer, &mut files, "x.feed", others);
-    if !holds(&files, "x.feed", X) || (k < 4 && !writer.written().is_empty()) {
+    if !files.holds("x.feed", X) || (k < 4 && !writer.written().is_empty()) {
         return Ok(None);
     }
     Ok(ended.err())
@@ -144,7 +134,7 @@ fn held_feed_is_not_merged(rt: HostRuntime) -> Result<(), Fail> {
     let ended = written_by(rt.alloc(), &mut files, "x.feed", &["y.feed"]).err();
     let untaken = TakeFault::Untaken(FileRefusal::Device);
     assert_eq!(rt; ended, Some(MergeFault::Take(untaken)));
-    assert!(rt; holds(&files, "x.feed", X));
+    assert!(rt; files.holds("x.feed", X));
     Ok(())
 }
 
@@ -155,6 +145,6 @@ fn closed_output_stores_nothing(rt: HostRuntime) -> Result<(), Fail> {
     let ended = merge_feeds(rt.alloc(), &mut writer, &mut files, "x.feed", &["y.feed"]);
     assert_eq!(rt; ended, Err(MergeFault::Keep(KeepFault::Write)));
     assert!(rt; b"y.feed ok new 1 known 0\n".starts_with(writer.written()));
-    assert!(rt; holds(&files, "x.feed", X));
+    assert!(rt; files.holds("x.feed", X));
     Ok(())
 }

@@ -1,5 +1,5 @@
 -- The picture of a ribbon's file, stored under a name.
-use Rattle.std.specs.Prelude.{◌≡◌, ◌≢◌, ℕ, Bool, true, false, List}
+use Rattle.std.specs.Prelude.{◌≡◌, ◌≢◌, ◌⊎◌, ℕ, Bool, true, false, List}
 use Rattle.desk_signals.specs.declared.RibbonRow.{RibbonRow}
 use Rattle.desk_case.specs.Case.{CaseValues}
 use Rattle.desk_wedge.specs.Wedge.{WedgeValues}
@@ -7,10 +7,12 @@ use Rattle.desk_caster.specs.Reading.{IsRibbon, Tells}
 use Rattle.desk_caster.specs.declared.RibbonFault.{RibbonFault}
 use Rattle.desk_caster.specs.declared.RibbonFault.TheVariants as ribbons
 use Rattle.desk_files.specs.Files.{IsReplaced, Shelf, Stays}
+use Rattle.desk_files.specs.declared.files.FileRefusal.{FileRefusal}
 use Rattle.desk_stored.specs.Faults.{IsNotStored}
-use Rattle.desk_reading.specs.Sources.{AreRefused, Give, LackMemory, Sources}
+use Rattle.desk_reading.specs.Sources.{AreRefused, Give, GiveAll, Sources, of_sources}
 use Rattle.desk_reading.specs.declared.fault.ReadingFault.{ReadingFault}
 use Rattle.desk_reading.specs.declared.fault.ReadingFault.TheVariants as faults
+use Rattle.desk_reading.specs.declared.fault.SourcesFault.{SourcesFault}
 use Rattle.desk_holes.specs.Picture.{picture_text}
 
 -- this is the picture of the rows whose ribbon the bytes are, by a case
@@ -34,8 +36,9 @@ abbrev pub IsDrawn : Sources → List ℕ → Shelf → Shelf → Bool → Type 
 IsDrawn from target before after true = (picture : List ℕ) × IsPictureOf from before picture × IsReplaced target picture before.kept after.kept
 IsDrawn from target before after false = HasNoPicture from before × (after ≡ before)
 
--- Why no picture was stored. No file has changed but, where it was not stored, that of the writing.
+-- Why no picture was stored: the sources give nothing; or memory ran out once they had given all; or it was made, and not stored. No file has changed but, in that last case, that of the writing.
 abbrev pub IsUndrawn : Sources → List ℕ → Shelf → Shelf → ReadingFault → Type 0
-IsUndrawn from target first last (faults.Unstored why) = (picture : List ℕ) × IsPictureOf from first picture × IsNotStored target first last why
-IsUndrawn from target first last faults.NoMemory = LackMemory from first last
-IsUndrawn from target first last refused = Stays first last × AreRefused from first last refused
+IsUndrawn from target first last fault =
+    (Stays first last × (why : SourcesFault) × (fault ≡ of_sources why) × AreRefused from first last why)
+    ⊎ ((fault ≡ faults.NoMemory) × (last ≡ first) × GiveAll from first)
+    ⊎ ((why : FileRefusal) × (fault ≡ faults.Unstored why) × (picture : List ℕ) × IsPictureOf from first picture × IsNotStored target first last why)

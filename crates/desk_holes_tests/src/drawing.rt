@@ -42,14 +42,6 @@ fn is_drawn(files: &TrialFiles<Global>) -> bool {
     }
 }
 
-/// Whether the target is as it was.
-fn is_old(files: &TrialFiles<Global>) -> bool {
-    match files.bytes_of("a.svg") {
-        Some(kept) => kept == OLD,
-        None => false,
-    }
-}
-
 /// How a drawing ends, if the target has the picture after `Ok(true)` alone.
 fn drawn(
     alloc: Global,
@@ -61,7 +53,7 @@ fn drawn(
     let ended = draw_ribbon(memory(alloc), &mut files, ribbon, case, wedge, "a.svg");
     let kept = match ended {
         Ok(true) => is_drawn(&files) && files.bytes_of("a.svg.new").is_none(),
-        _ => is_old(&files),
+        _ => files.holds("a.svg", OLD),
     };
     if !kept {
         return Err(Fail::new("another target"));
@@ -127,7 +119,7 @@ fn is_refused(alloc: Global, cut: usize) -> Result<bool, Fail> {
     drop(ballast);
     match ended {
         Ok(true) if is_drawn(&files) => Ok(false),
-        Err(fault) if is_of_memory(fault) && is_old(&files) => Ok(true),
+        Err(fault) if is_of_memory(fault) && files.holds("a.svg", OLD) => Ok(true),
         _ => Err(Fail::new("another end")),
     }
 }

@@ -1,5 +1,5 @@
 -- What a failed call of the machine says, and what is held.
-use Rattle.std.specs.Prelude.{◌≡◌, ◌≢◌, ◌⊎◌, if◌then◌else◌, Option, None, Some, string_bytes}
+use Rattle.std.specs.Prelude.{◌≡◌, ◌≢◌, ◌⊎◌, ℕ, if◌then◌else◌, List, Option, None, Some, string_bytes}
 use Rattle.std.specs.declared.io.ErrorKind.{ErrorKind}
 use Rattle.std.specs.declared.io.ErrorKind.TheVariants as kinds
 use Rattle.desk_files.specs.declared.files.FileRefusal.{FileRefusal}
@@ -18,3 +18,9 @@ IsToldOf kind refusals.NoMemory = kind ≡ kinds.OutOfMemory
 abbrev pub held_in : Option Hold → files.Hold
 held_in None = files.Free
 held_in (Some hold) = if hold.is_touched then files.Touched (string_bytes hold.name) else files.Untouched (string_bytes hold.name)
+
+-- Where a name leads: the held one and that of its writing to their places, any other to itself.
+pub record LeadsTo (hold : Hold) (name place : List ℕ) : Type 0 where
+  pub held : name ≡ string_bytes hold.name → place ≡ string_bytes hold.place
+  pub writing : name ≢ string_bytes hold.name → name ≡ string_bytes hold.new → place ≡ string_bytes hold.new_place
+  pub other : name ≢ string_bytes hold.name → name ≢ string_bytes hold.new → place ≡ name

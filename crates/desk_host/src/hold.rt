@@ -1,6 +1,8 @@
 //! A feed's name, taken for one run alone.
 
-ghost use Rattle.std.specs.Prelude.{◌≡◌, IfOk, false, string_bytes};
+ghost use Rattle.std.specs.Prelude.{◌≡◌, ◌++◌, IfOk, false, string_bytes};
+ghost use Rattle.desk_files.specs.Files.{new_name};
+ghost use Rattle.desk_host.specs.Host.{LeadsTo};
 
 use crate::trouble::{Asked, Trouble};
 use std::fs::{self, File, OpenOptions, TryLockError};
@@ -32,6 +34,8 @@ impl Hold {
     pub fn take(host: &HostRuntime, name: &str) -> Result<Hold, Trouble>
         ensures name { IfOk result (λ hold. string_bytes hold.name ≡ name.now) }
         ensures untouched { IfOk result (λ hold. hold.is_touched ≡ false) }
+        ensures new { IfOk result (λ hold. string_bytes hold.new ≡ new_name name.now) }
+        ensures beside { IfOk result (λ hold. string_bytes hold.new_place ≡ new_name (string_bytes hold.place)) }
     {
         let place = place_of(host, name).map_err(|error| trouble(Asked::Find, error))?;
         check_file(host, place.as_str()).map_err(|error| trouble(Asked::Replace, error))?;
@@ -54,7 +58,9 @@ impl Hold {
     }
 
     /// Where a name leads: the held one and that of its writing to their places, any other to itself.
-    pub fn place_of<'b>(&'b self, name: &'b str) -> &'b str {
+    pub fn place_of<'b>(&'b self, name: &'b str) -> &'b str
+        ensures { LeadsTo self.now name.now result.now }
+    {
         if name == self.name.as_str() {
             return self.place.as_str();
         }
@@ -76,7 +82,9 @@ fn copied(host: &HostRuntime, text: &str) -> io::Result<String>
 }
 
 /// The name with an ending.
-fn beside(host: &HostRuntime, name: &str, ending: &str) -> io::Result<String> {
+fn beside(host: &HostRuntime, name: &str, ending: &str) -> io::Result<String>
+    ensures { IfOk result (λ s. string_bytes s ≡ name.now ++ ending.now) }
+{
     let mut longer = String::from_str(host.alloc(), name)?;
     longer.push_str(ending)?;
     Ok(longer)

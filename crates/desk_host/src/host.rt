@@ -1,9 +1,9 @@
 //! Files of the machine.
 
-ghost use Rattle.std.specs.Prelude.{◌≡◌, ◌<◌, ◌≤◌, IfOk, IfSome, IsNone, None, length};
+ghost use Rattle.std.specs.Prelude.{◌≡◌, ◌≢◌, ◌<◌, ◌≤◌, Err, IfOk, IfSome, IsErrAnd, IsNone, MatchOption, MatchResult, None, Ok, Some, length, string_bytes};
 ghost use Rattle.std.specs.IoError.{error_kind};
-ghost use Rattle.desk_files.specs.Files.{Free, IsCounted, Unknown, max_file, shelf, touched};
-ghost use Rattle.desk_host.specs.Host.{IsToldOf, held_in};
+ghost use Rattle.desk_files.specs.Files.{Counts, Free, IsCounted, Unknown, max_file, shelf, touched};
+ghost use Rattle.desk_host.specs.Host.{IsToldOf, LeadsTo, held_in};
 
 use crate::hold::Hold;
 use crate::progress::{Progress, Step, Watched};
@@ -46,6 +46,7 @@ impl<'a> HostFiles<'a> {
         ensures told { IsToldOf (error_kind trouble.error) result }
         ensures counted { IsCounted result (shelf (λ _. Unknown) self.old.failures Free) (shelf (λ _. Unknown) self.new.failures Free) }
         ensures held { self.new.hold ≡ self.old.hold }
+        ensures kept { self.new.trouble ≡ Some trouble }
     {
         let why = refusal_of(&trouble.error);
         if why == FileRefusal::Device {
@@ -66,7 +67,9 @@ impl<'a> HostFiles<'a> {
     }
 
     /// Where a name leads: that of the held feed and that of its writing past their links, any other as it is.
-    fn place<'b>(&'b self, name: &'b str) -> &'b str {
+    fn place<'b>(&'b self, name: &'b str) -> &'b str
+        ensures { MatchOption self.now.hold (result.now ≡ name.now) (λ hold. LeadsTo hold name.now result.now) }
+    {
         match &self.hold {
             Some(hold) => hold.place_of(name),
             None => name,
@@ -74,7 +77,9 @@ impl<'a> HostFiles<'a> {
     }
 
     /// The mode that a file is written with: that of the held feed's file, where it will take its place.
-    fn mode_of(&self, name: &str) -> io::Result<Option<u32>> {
+    fn mode_of(&self, name: &str) -> io::Result<Option<u32>>
+        ensures { MatchOption self.now.hold (result ≡ Ok None) (λ hold. name.now ≢ string_bytes hold.new → result ≡ Ok None) }
+    {
         match &self.hold {
             Some(hold) => {
                 if name != hold.new.as_str() {
@@ -83,6 +88,28 @@ impl<'a> HostFiles<'a> {
                 mode_at(self.host, hold.place.as_str())
             }
             None => Ok(None),
+        }
+    }
+
+    /// What a reading comes to: the bytes, that there are too many, or why the system gave none.
+    fn given<A: Allocator + Copy>(
+        &mut self,
+        read: io::Result<Option<Vec<u8, A>>>,
+    ) -> Result<Vec<u8, A>, FileRefusal>
+        ensures given { MatchResult read (λ o. MatchOption o (result ≡ Err FileRefusal.Large) (λ bytes. result ≡ Ok bytes)) (λ error. IsErrAnd result (IsToldOf (error_kind error))) }
+        ensures counted { Counts result (shelf (λ _. Unknown) self.old.failures Free) (shelf (λ _. Unknown) self.new.failures Free) }
+        ensures held { self.new.hold ≡ self.old.hold }
+    {
+        match read {
+            Ok(Some(bytes)) => Ok(bytes),
+            Ok(None) => {
+                self.trouble = None;
+                Err(FileRefusal::Large)
+            }
+            Err(error) => {
+                let asked = Asked::Read;
+                Err(self.refused(Trouble { asked, error }))
+            }
         }
     }
 
@@ -227,17 +254,8 @@ impl<'a> Files for HostFiles<'a> {
         alloc: A,
         name: &str,
     ) -> Result<Vec<u8, A>, FileRefusal> {
-        match read_file(self.host, self.progress, alloc, name, self.place(name)) {
-            Ok(Some(bytes)) => Ok(bytes),
-            Ok(None) => {
-                self.trouble = None;
-                Err(FileRefusal::Large)
-            }
-            Err(error) => {
-                let asked = Asked::Read;
-                Err(self.refused(Trouble { asked, error }))
-            }
-        }
+        let read = read_file(self.host, self.progress, alloc, name, self.place(name));
+        self.given(read)
     }
 
     fn write_new(&mut self, name: &str, bytes: &[u8]) -> Result<(), FileRefusal> {

@@ -3,4 +3,3 @@ pub mod NextBox
 pub mod NextPlace
 pub mod NextLine
 pub mod Standing
-pub mod Refusing

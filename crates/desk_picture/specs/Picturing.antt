@@ -11,11 +11,13 @@ use Rattle.desk_trial.specs.Trial.{tried}
 use Rattle.desk_galley.specs.Values.{GalleyValues}
 use Rattle.desk_galley.specs.Galley.{IsGalley}
 use Rattle.desk_files.specs.Files.{IsReplaced, Shelf, Stays}
+use Rattle.desk_files.specs.declared.files.FileRefusal.{FileRefusal}
 use Rattle.desk_stored.specs.Faults.{IsNotStored}
 use Rattle.desk_preview.specs.Proofing.{LacksGalley}
-use Rattle.desk_preview.specs.Sources.{AreRefused, Give, LackMemory, Sources}
+use Rattle.desk_preview.specs.Sources.{AreRefused, Give, GiveAll, Sources, of_sources}
 use Rattle.desk_preview.specs.declared.fault.PreviewFault.{PreviewFault}
 use Rattle.desk_preview.specs.declared.fault.PreviewFault.TheVariants as faults
+use Rattle.desk_preview.specs.declared.fault.SourcesFault.{SourcesFault}
 use Rattle.desk_picture.specs.Picture.{no_galley_picture, picture_text}
 
 -- the picture of a galley of the set, by its settings and those that are tried
@@ -40,11 +42,9 @@ IsPictureOf from shelf trial drawn = (set : OpSet) × (case : CaseValues) × (we
 abbrev pub IsPictured : Sources → Settings → List ℕ → Shelf → Shelf → Type 0
 IsPictured from trial target before after = (drawn : List ℕ) × IsPictureOf from before trial drawn × IsReplaced target drawn before.kept after.kept
 
--- Why no picture was stored. No file has changed but, where the picture was not stored, that of the writing.
+-- Why no picture was stored: the sources give nothing; or memory ran out once they had given all; or it was made, and not stored. No file has changed but, in that last case, that of the writing.
 abbrev pub IsUnpictured : Sources → Settings → List ℕ → Shelf → Shelf → PreviewFault → Type 0
-IsUnpictured from trial target first last (faults.Feed why) = Stays first last × AreRefused from first last (faults.Feed why)
-IsUnpictured from trial target first last (faults.Input why) = Stays first last × AreRefused from first last (faults.Input why)
-IsUnpictured from trial target first last faults.Faulty = ⊥
-IsUnpictured from trial target first last faults.Write = ⊥
-IsUnpictured from trial target first last (faults.Unstored why) = (drawn : List ℕ) × IsPictureOf from first trial drawn × IsNotStored target first last why
-IsUnpictured from trial target first last faults.NoMemory = LackMemory from first last
+IsUnpictured from trial target first last fault =
+    (Stays first last × (why : SourcesFault) × (fault ≡ of_sources why) × AreRefused from first last why)
+    ⊎ ((fault ≡ faults.NoMemory) × (last ≡ first) × GiveAll from first)
+    ⊎ ((why : FileRefusal) × (fault ≡ faults.Unstored why) × (drawn : List ℕ) × IsPictureOf from first trial drawn × IsNotStored target first last why)

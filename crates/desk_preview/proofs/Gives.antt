@@ -1,6 +1,6 @@
 -- What a stored feed, a case and a wedge give.
 use Rattle.std.proofs.Common.{◌≡◌, List, ℕ, inl, refl, subst}
-use Rattle.std.specs.Prelude.{Option, Ok, Err}
+use Rattle.std.specs.Prelude.{Option, Err}
 use Rattle.desk_ops.specs.OpSet.{OpSet}
 use Rattle.desk_case.specs.Case.{CaseValues}
 use Rattle.desk_wedge.specs.Wedge.{WedgeValues}
@@ -9,13 +9,10 @@ use Rattle.desk_answers.specs.declared.not_done.NotDone.TheVariants as ends
 use Rattle.desk_files.specs.Files.{Shelf, Stays}
 use Rattle.desk_hand.specs.Exporting.{IsSetOf}
 use Rattle.desk_inputs.specs.Inputs.{Answers, BothGive, BothLackMemory}
-use Rattle.desk_replica.specs.declared.settings.Settings.{Settings}
-use Rattle.desk_proof.specs.declared.proof.Extent.{Extent}
-use Rattle.desk_preview.specs.Proofing.{IsUnproofed}
 use Rattle.desk_preview.specs.Punching.{IsUnpunched}
-use Rattle.desk_preview.specs.Sources.{AreRefused, Sources, of_input}
-use Rattle.desk_preview.specs.declared.fault.PreviewFault.{PreviewFault}
-use Rattle.desk_preview.specs.declared.fault.PreviewFault.TheVariants as faults
+use Rattle.desk_preview.specs.Sources.{AreRefused, Sources, of_input, of_sources}
+use Rattle.desk_preview.specs.declared.fault.SourcesFault.{SourcesFault}
+use Rattle.desk_preview.specs.declared.fault.SourcesFault.TheVariants as refusals
 
 -- the case or the wedge is not given, where nothing changed as the feed was opened
 pub no_inputs : (from : Sources) (set : OpSet) (first mid last : Shelf) (end : NotDone) → mid ≡ first → IsSetOf from.feed first set
@@ -24,21 +21,9 @@ no_inputs from set first mid last (ends.Refused why) same is given = (set, is, s
 no_inputs from set first mid last (ends.Stopped taken why) same is given = absurd given
 no_inputs from set first mid last ends.NoMemory same is given = (set, is, subst (λ (s : Shelf). BothLackMemory from.case from.wedge s last) same given)
 
--- no proof, and no ribbon, where the three give nothing
-pub unproofed : (from : Sources) (trial : Settings) (extent : Extent) (first last : Shelf) (told : Option (List ℕ)) (fault : PreviewFault) → AreRefused from first last fault
-    → IsUnproofed from trial extent first last told told fault
-unproofed from trial extent first last told (faults.Feed why) refused = (refl, refused)
-unproofed from trial extent first last told (faults.Input why) refused = (refl, refused)
-unproofed from trial extent first last told faults.Faulty refused = absurd refused
-unproofed from trial extent first last told faults.Write refused = absurd refused
-unproofed from trial extent first last told (faults.Unstored why) refused = absurd refused
-unproofed from trial extent first last told faults.NoMemory refused = (refl, inl refused)
-
-pub unpunched : (from : Sources) (target : List ℕ) (first last : Shelf) (told : Option (List ℕ)) (fault : PreviewFault) → Stays first last → AreRefused from first last fault
-    → IsUnpunched from target first last told told fault
-unpunched from target first last told (faults.Feed why) stays refused = (refl, stays, refused)
-unpunched from target first last told (faults.Input why) stays refused = (refl, stays, refused)
-unpunched from target first last told faults.Faulty stays refused = absurd refused
-unpunched from target first last told faults.Write stays refused = absurd refused
-unpunched from target first last told (faults.Unstored why) stays refused = absurd refused
-unpunched from target first last told faults.NoMemory stays refused = (refl, inl refused)
+-- no ribbon, where the three give nothing
+pub unpunched : (from : Sources) (target : List ℕ) (first last : Shelf) (told : Option (List ℕ)) (why : SourcesFault) → Stays first last → AreRefused from first last why
+    → IsUnpunched from target first last told told (of_sources why)
+unpunched from target first last told (refusals.Feed why) stays refused = (refl, stays, refused)
+unpunched from target first last told (refusals.Input why) stays refused = (refl, stays, refused)
+unpunched from target first last told refusals.NoMemory stays refused = (refl, inl refused)

@@ -10,10 +10,10 @@ use Rattle.desk_case.specs.Case.{CaseValues}
 use Rattle.desk_wedge.specs.Wedge.{WedgeValues}
 use Rattle.desk_inputs.specs.Job.{job_of}
 use Rattle.desk_files.specs.Files.{Shelf}
-use Rattle.desk_preview.specs.Punching.{IsUnpunched, IsUntold}
+use Rattle.desk_preview.specs.Punching.{IsUnpunched, IsUntold, of_line}
 use Rattle.desk_preview.specs.Sources.{Give, Sources}
-use Rattle.desk_preview.specs.declared.fault.PreviewFault.{PreviewFault}
-use Rattle.desk_preview.specs.declared.fault.PreviewFault.TheVariants as faults
+use Rattle.desk_preview.specs.declared.fault.LineFault.{LineFault}
+use Rattle.desk_preview.specs.declared.fault.LineFault.TheVariants as lines
 
 -- bytes that are made are the ribbon of the rows of the job
 pub made_rows : (bytes : List ℕ) (made : Result (List RibbonRow) (List JobFault)) → IsMade bytes made → (rows : List RibbonRow) × (made ≡ Ok rows) × (bytes ≡ ribbon rows)
@@ -21,11 +21,7 @@ made_rows bytes (Ok rows) is = (rows, refl, is)
 made_rows bytes (Err found) is = absurd is
 
 -- where the faults of a job are not told
-pub untold_faults : (from : Sources) (target : List ℕ) (first last : Shelf) (before after : Option (List ℕ)) (set : OpSet) (case : CaseValues) (wedge : WedgeValues) (found : List JobFault) (fault : PreviewFault)
-    → Give from first set case wedge → job_of set case wedge ≡ Err found → last ≡ first → IsUntold found before after fault → IsUnpunched from target first last before after fault
-untold_faults from target first last before after set case wedge found (faults.Feed why) give refused same untold = absurd untold
-untold_faults from target first last before after set case wedge found (faults.Input why) give refused same untold = absurd untold
-untold_faults from target first last before after set case wedge found faults.Faulty give refused same untold = absurd untold
-untold_faults from target first last before after set case wedge found faults.Write give refused same untold = (same, found, (set, case, wedge, give, refused), untold)
-untold_faults from target first last before after set case wedge found (faults.Unstored why) give refused same untold = absurd untold
-untold_faults from target first last before after set case wedge found faults.NoMemory give refused same untold = (untold, inr (same, set, case, wedge, give))
+pub untold_faults : (from : Sources) (target : List ℕ) (first last : Shelf) (before after : Option (List ℕ)) (set : OpSet) (case : CaseValues) (wedge : WedgeValues) (found : List JobFault) (why : LineFault)
+    → Give from first set case wedge → job_of set case wedge ≡ Err found → last ≡ first → IsUntold found before after why → IsUnpunched from target first last before after (of_line why)
+untold_faults from target first last before after set case wedge found lines.NoMemory give refused same untold = (untold, inr (same, (set, case, wedge, give)))
+untold_faults from target first last before after set case wedge found lines.Write give refused same untold = (same, found, (set, case, wedge, give, refused), untold)

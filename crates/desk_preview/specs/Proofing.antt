@@ -18,9 +18,10 @@ use Rattle.desk_stored.specs.Sending.{WritesFront}
 use Rattle.desk_replica.specs.declared.settings.Settings.{Settings}
 use Rattle.desk_job.specs.Job.{job, values_of}
 use Rattle.desk_trial.specs.Trial.{tried}
-use Rattle.desk_preview.specs.Sources.{AreRefused, Give, LackMemory, Sources}
+use Rattle.desk_preview.specs.Sources.{AreRefused, Give, GiveAll, Sources, of_sources}
 use Rattle.desk_preview.specs.declared.fault.PreviewFault.{PreviewFault}
 use Rattle.desk_preview.specs.declared.fault.PreviewFault.TheVariants as faults
+use Rattle.desk_preview.specs.declared.fault.SourcesFault.{SourcesFault}
 
 -- none of the lines has a fault
 abbrev pub are_set : List LineValues → Bool
@@ -59,12 +60,9 @@ IsProofOf from shelf trial extent told clean = (set : OpSet) × (case : CaseValu
 abbrev pub IsProofed : Sources → Settings → Extent → Shelf → Option (List ℕ) → Option (List ℕ) → Bool → Type 0
 IsProofed from trial extent shelf before after clean = (told : List ℕ) × IsProofOf from shelf trial extent told clean × Appends before after told
 
--- why not all of it was written, and what was: nothing, or under Write a prefix
+-- Why not all of it was written, and what was: nothing, where the sources give nothing, or memory ran out once they had given all; or a prefix, under Write.
 abbrev pub IsUnproofed : Sources → Settings → Extent → Shelf → Shelf → Option (List ℕ) → Option (List ℕ) → PreviewFault → Type 0
-IsUnproofed from trial extent first last before after (faults.Feed why) = (after ≡ before) × AreRefused from first last (faults.Feed why)
-IsUnproofed from trial extent first last before after (faults.Input why) = (after ≡ before) × AreRefused from first last (faults.Input why)
-IsUnproofed from trial extent first last before after faults.Faulty = ⊥
-IsUnproofed from trial extent first last before after faults.Write =
-    (last ≡ first) × (told : List ℕ) × (clean : Bool) × IsProofOf from first trial extent told clean × WritesFront before after told
-IsUnproofed from trial extent first last before after (faults.Unstored why) = ⊥
-IsUnproofed from trial extent first last before after faults.NoMemory = (after ≡ before) × LackMemory from first last
+IsUnproofed from trial extent first last before after fault =
+    ((after ≡ before) × (why : SourcesFault) × (fault ≡ of_sources why) × AreRefused from first last why)
+    ⊎ ((after ≡ before) × (fault ≡ faults.NoMemory) × (last ≡ first) × GiveAll from first)
+    ⊎ ((fault ≡ faults.Write) × (last ≡ first) × (told : List ℕ) × (clean : Bool) × IsProofOf from first trial extent told clean × WritesFront before after told)

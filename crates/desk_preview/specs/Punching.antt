@@ -14,8 +14,11 @@ use Rattle.desk_stored.specs.Faults.{IsNotStored}
 use Rattle.desk_stored.specs.Sending.{WritesFront}
 use Rattle.desk_inputs.specs.Job.{job_of}
 use Rattle.desk_preview.specs.Sources.{AreRefused, Give, LackMemory, Sources}
+use Rattle.desk_preview.specs.declared.fault.LineFault.{LineFault}
+use Rattle.desk_preview.specs.declared.fault.LineFault.TheVariants as lines
 use Rattle.desk_preview.specs.declared.fault.PreviewFault.{PreviewFault}
 use Rattle.desk_preview.specs.declared.fault.PreviewFault.TheVariants as faults
+use Rattle.desk_preview.specs.declared.fault.SourcesFault.TheVariants as refusals
 
 -- the job of what the sources give, by its rows or its faults
 abbrev pub IsJobOf : Sources → Shelf → Result (List RibbonRow) (List JobFault) → Type 0
@@ -25,23 +28,24 @@ IsJobOf from shelf made = (set : OpSet) × (case : CaseValues) × (wedge : Wedge
 abbrev pub no_ribbon_line : List JobFault → List ℕ
 no_ribbon_line found = text (NoRibbon found) ++ 10 ∷ []
 
+-- what such a line that is not written is for a preview
+abbrev pub of_line : LineFault → PreviewFault
+of_line lines.NoMemory = faults.NoMemory
+of_line lines.Write = faults.Write
+
 -- the job has rows, and the target stands for their ribbon
 abbrev pub IsPunched : Sources → List ℕ → Shelf → Shelf → Type 0
 IsPunched from target before after = (rows : List RibbonRow) × IsJobOf from before (Ok rows) × IsReplaced target (ribbon rows) before.kept after.kept
 
 -- the line of faults was not written: a prefix of it was, or memory ran out before
-abbrev pub IsUntold : List JobFault → Option (List ℕ) → Option (List ℕ) → PreviewFault → Type 0
-IsUntold found before after (faults.Feed why) = ⊥
-IsUntold found before after (faults.Input why) = ⊥
-IsUntold found before after faults.Faulty = ⊥
-IsUntold found before after faults.Write = WritesFront before after (no_ribbon_line found)
-IsUntold found before after (faults.Unstored why) = ⊥
-IsUntold found before after faults.NoMemory = after ≡ before
+abbrev pub IsUntold : List JobFault → Option (List ℕ) → Option (List ℕ) → LineFault → Type 0
+IsUntold found before after lines.NoMemory = after ≡ before
+IsUntold found before after lines.Write = WritesFront before after (no_ribbon_line found)
 
 -- Why no ribbon was stored, and what was written. No file has changed but, where the ribbon was not stored, that of the writing.
 abbrev pub IsUnpunched : Sources → List ℕ → Shelf → Shelf → Option (List ℕ) → Option (List ℕ) → PreviewFault → Type 0
-IsUnpunched from target first last before after (faults.Feed why) = (after ≡ before) × Stays first last × AreRefused from first last (faults.Feed why)
-IsUnpunched from target first last before after (faults.Input why) = (after ≡ before) × Stays first last × AreRefused from first last (faults.Input why)
+IsUnpunched from target first last before after (faults.Feed why) = (after ≡ before) × Stays first last × AreRefused from first last (refusals.Feed why)
+IsUnpunched from target first last before after (faults.Input why) = (after ≡ before) × Stays first last × AreRefused from first last (refusals.Input why)
 IsUnpunched from target first last before after faults.Faulty =
     (last ≡ first) × (found : List JobFault) × IsJobOf from first (Err found) × Appends before after (no_ribbon_line found)
 IsUnpunched from target first last before after faults.Write =

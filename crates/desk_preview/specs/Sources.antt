@@ -10,12 +10,20 @@ use Rattle.desk_hand.specs.Exporting.{IsClosedBy, IsSetOf}
 use Rattle.desk_inputs.specs.Inputs.{BothGive, BothLackMemory}
 use Rattle.desk_preview.specs.declared.fault.PreviewFault.{PreviewFault}
 use Rattle.desk_preview.specs.declared.fault.PreviewFault.TheVariants as faults
+use Rattle.desk_preview.specs.declared.fault.SourcesFault.{SourcesFault}
+use Rattle.desk_preview.specs.declared.fault.SourcesFault.TheVariants as refusals
 
--- what a case or a wedge that is not given is for a preview
-abbrev pub of_input : NotDone → PreviewFault
-of_input (ends.Refused why) = faults.Input why
-of_input (ends.Stopped taken why) = faults.Input why
-of_input ends.NoMemory = faults.NoMemory
+-- what a case or a wedge that is not given is for the sources of a preview
+abbrev pub of_input : NotDone → SourcesFault
+of_input (ends.Refused why) = refusals.Input why
+of_input (ends.Stopped taken why) = refusals.Input why
+of_input ends.NoMemory = refusals.NoMemory
+
+-- what sources that give nothing are for a preview
+abbrev pub of_sources : SourcesFault → PreviewFault
+of_sources (refusals.Feed why) = faults.Feed why
+of_sources (refusals.Input why) = faults.Input why
+of_sources refusals.NoMemory = faults.NoMemory
 
 -- the names of a stored feed, of a case file and of a wedge file
 pub record Sources : Type 0 where
@@ -30,17 +38,16 @@ sources feed case wedge = record { feed = feed; case = case; wedge = wedge }
 abbrev pub Give : Sources → Shelf → OpSet → CaseValues → WedgeValues → Type 0
 Give from shelf set case wedge = IsSetOf from.feed shelf set × BothGive from.case from.wedge shelf (Ok (case, wedge)) shelf
 
+-- they give a set, a case and a wedge
+abbrev pub GiveAll : Sources → Shelf → Type 0
+GiveAll from shelf = (set : OpSet) × (case : CaseValues) × (wedge : WedgeValues) × Give from shelf set case wedge
+
 -- why they give nothing: the feed is not opened; or it is, and then the case or the wedge is refused, or memory runs out by one of them
-abbrev pub AreRefused : Sources → Shelf → Shelf → PreviewFault → Type 0
-AreRefused from before after (faults.Feed why) = IsClosedBy from.feed before after why
-AreRefused from before after (faults.Input why) = (set : OpSet) × IsSetOf from.feed before set × BothGive from.case from.wedge before (Err why) after
-AreRefused from before after faults.Faulty = ⊥
-AreRefused from before after faults.Write = ⊥
-AreRefused from before after (faults.Unstored why) = ⊥
-AreRefused from before after faults.NoMemory = (set : OpSet) × IsSetOf from.feed before set × BothLackMemory from.case from.wedge before after
+abbrev pub AreRefused : Sources → Shelf → Shelf → SourcesFault → Type 0
+AreRefused from before after (refusals.Feed why) = IsClosedBy from.feed before after why
+AreRefused from before after (refusals.Input why) = (set : OpSet) × IsSetOf from.feed before set × BothGive from.case from.wedge before (Err why) after
+AreRefused from before after refusals.NoMemory = (set : OpSet) × IsSetOf from.feed before set × BothLackMemory from.case from.wedge before after
 
 -- memory ran out by the case or the wedge, or once all was given, and then no file has changed and the device did not fail
 abbrev pub LackMemory : Sources → Shelf → Shelf → Type 0
-LackMemory from before after =
-    AreRefused from before after faults.NoMemory
-    ⊎ ((after ≡ before) × (set : OpSet) × (case : CaseValues) × (wedge : WedgeValues) × Give from before set case wedge)
+LackMemory from before after = AreRefused from before after refusals.NoMemory ⊎ ((after ≡ before) × GiveAll from before)

@@ -1,8 +1,11 @@
-//! Why there is no preview.
+//! Why there is no preview, by the phase in which it stopped.
 
 ghost use Rattle.std.specs.Prelude.{◌≡◌};
-ghost use Rattle.desk_preview.specs.Sources.{of_input};
+ghost use Rattle.desk_preview.specs.Punching.{of_line};
+ghost use Rattle.desk_preview.specs.Sources.{of_input, of_sources};
+ghost use Rattle.desk_preview.specs.declared.fault.LineFault.TheVariants as lines;
 ghost use Rattle.desk_preview.specs.declared.fault.PreviewFault.TheVariants as faults;
+ghost use Rattle.desk_preview.specs.declared.fault.SourcesFault.TheVariants as refusals;
 
 use desk_answers::{NotDone, Refusal};
 use desk_files::FileRefusal;
@@ -11,7 +14,30 @@ use desk_memory::NoMemory;
 use desk_stored::Unsent;
 use thiserror::Error;
 
-/// Why a stored feed is not punched or proofed, by the phase in which it stopped.
+// ---- the phases
+
+/// Why the stored feed, the case and the wedge that are read for a preview give nothing.
+#[derive(Clone, Copy, Debug, PartialEq, Eq)]
+pub enum SourcesFault {
+    /// The stored feed is not opened.
+    Feed(FeedTrouble),
+    /// The case or the wedge is not read, or is refused.
+    Input(Refusal),
+    NoMemory,
+}
+
+/// Why the line of a job's faults is not written.
+#[derive(Clone, Copy, Debug, PartialEq, Eq)]
+pub enum LineFault {
+    /// It was not kept.
+    NoMemory,
+    /// The writer failed, or took no byte.
+    Write,
+}
+
+// ---- the calls
+
+/// Why a stored feed is not punched, proofed or drawn, by the phase in which it stopped.
 #[derive(Clone, Copy, Debug, PartialEq, Eq, Error)]
 pub enum PreviewFault {
     /// The stored feed is not opened.
@@ -26,11 +52,73 @@ pub enum PreviewFault {
     /// The writer failed, or took no byte.
     #[error("write fault")]
     Write,
-    /// The ribbon was made, and not stored.
+    /// The ribbon or the picture was made, and not stored.
     #[error("file fault")]
     Unstored(FileRefusal),
     #[error("no memory")]
     NoMemory,
+}
+
+// ---- what the cause of a phase is
+
+impl From<FeedTrouble> for SourcesFault {
+    ghost from_gives = { λ why fault. fault ≡ refusals.Feed why };
+
+    fn from(why: FeedTrouble) -> SourcesFault {
+        SourcesFault::Feed(why)
+    }
+}
+
+impl From<NotDone> for SourcesFault {
+    ghost from_gives = { λ end fault. fault ≡ of_input end };
+
+    fn from(end: NotDone) -> SourcesFault {
+        match end {
+            NotDone::Refused(why) | NotDone::Stopped(_, why) => SourcesFault::Input(why),
+            NotDone::NoMemory => SourcesFault::NoMemory,
+        }
+    }
+}
+
+impl From<NoMemory> for LineFault {
+    ghost from_gives = { λ _ fault. fault ≡ lines.NoMemory };
+
+    fn from(_: NoMemory) -> LineFault {
+        LineFault::NoMemory
+    }
+}
+
+impl From<Unsent> for LineFault {
+    ghost from_gives = { λ _ fault. fault ≡ lines.Write };
+
+    fn from(_: Unsent) -> LineFault {
+        LineFault::Write
+    }
+}
+
+// ---- what the phase of a call is
+
+impl From<SourcesFault> for PreviewFault {
+    ghost from_gives = { λ why fault. fault ≡ of_sources why };
+
+    fn from(why: SourcesFault) -> PreviewFault {
+        match why {
+            SourcesFault::Feed(why) => PreviewFault::Feed(why),
+            SourcesFault::Input(why) => PreviewFault::Input(why),
+            SourcesFault::NoMemory => PreviewFault::NoMemory,
+        }
+    }
+}
+
+impl From<LineFault> for PreviewFault {
+    ghost from_gives = { λ why fault. fault ≡ of_line why };
+
+    fn from(why: LineFault) -> PreviewFault {
+        match why {
+            LineFault::NoMemory => PreviewFault::NoMemory,
+            LineFault::Write => PreviewFault::Write,
+        }
+    }
 }
 
 impl From<NoMemory> for PreviewFault {
@@ -46,25 +134,6 @@ impl From<Unsent> for PreviewFault {
 
     fn from(_: Unsent) -> PreviewFault {
         PreviewFault::Write
-    }
-}
-
-impl From<FeedTrouble> for PreviewFault {
-    ghost from_gives = { λ why fault. fault ≡ faults.Feed why };
-
-    fn from(why: FeedTrouble) -> PreviewFault {
-        PreviewFault::Feed(why)
-    }
-}
-
-impl From<NotDone> for PreviewFault {
-    ghost from_gives = { λ end fault. fault ≡ of_input end };
-
-    fn from(end: NotDone) -> PreviewFault {
-        match end {
-            NotDone::Refused(why) | NotDone::Stopped(_, why) => PreviewFault::Input(why),
-            NotDone::NoMemory => PreviewFault::NoMemory,
-        }
     }
 }
 

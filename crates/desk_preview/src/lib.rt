@@ -7,7 +7,7 @@ mod proofing;
 mod punching;
 mod sources;
 
-pub use fault::PreviewFault;
+pub use fault::{PreviewFault, SourcesFault};
 pub use proofing::proof_feed;
 pub use punching::punch_feed;
 pub use sources::take_in;

@@ -6,7 +6,7 @@ ghost use Rattle.desk_files.specs.Files.{HoldsOn};
 ghost use Rattle.desk_preview.specs.Punching.{IsPunched, IsUnpunched, IsUntold, no_ribbon_line};
 ghost use Rattle.desk_preview.specs.Sources.{sources};
 
-use crate::fault::PreviewFault;
+use crate::fault::{LineFault, PreviewFault};
 use crate::sources::take_in;
 use desk_answers::{Reply, put};
 use desk_files::{Files, store};
@@ -32,7 +32,7 @@ fn tell<W: Write, A: Allocator + Copy>(
     alloc: A,
     writer: &mut W,
     faults: JobFaults<A>,
-) -> Result<(), PreviewFault>
+) -> Result<(), LineFault>
     ensures ok { OnOk result (Appends (W.contents writer.old) (W.contents writer.new) (no_ribbon_line faults)) }
     ensures err { IfErr result (IsUntold faults (W.contents writer.old) (W.contents writer.new)) }
 {

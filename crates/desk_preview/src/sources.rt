@@ -4,7 +4,7 @@ ghost use Rattle.std.specs.Prelude.{◌≡◌, IfErr, IfOk, OnOk};
 ghost use Rattle.desk_files.specs.Files.{Stays};
 ghost use Rattle.desk_preview.specs.Sources.{AreRefused, Give, sources};
 
-use crate::fault::PreviewFault;
+use crate::fault::SourcesFault;
 use desk_blocks::Blocks;
 use desk_case::MatrixCase;
 use desk_files::Files;
@@ -22,7 +22,7 @@ pub fn take_in<F: Files, A: Allocator + Copy>(
     feed: &str,
     case: &str,
     wedge: &str,
-) -> Result<(Replica<Blocks<A>>, MatrixCase, Wedge), PreviewFault>
+) -> Result<(Replica<Blocks<A>>, MatrixCase, Wedge), SourcesFault>
     ensures ok { IfOk result (λ t. Give (sources feed.now case.now wedge.now) (F.shelf files.old) t.0.ops t.1 t.2) }
     ensures still { OnOk result (F.shelf files.new ≡ F.shelf files.old) }
     ensures err { IfErr result (AreRefused (sources feed.now case.now wedge.now) (F.shelf files.old) (F.shelf files.new)) }

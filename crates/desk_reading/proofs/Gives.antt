@@ -1,26 +1,23 @@
 -- What a ribbon, a case and a wedge give.
-use Rattle.std.proofs.Common.{◌≡◌, List, ℕ, inl, inr, refl, subst}
-use Rattle.std.specs.Prelude.{Option, Ok, Err}
+use Rattle.std.proofs.Common.{◌≡◌, List, ℕ, inl, inr, subst}
+use Rattle.std.specs.Prelude.{Ok, Err}
 use Rattle.desk_case.specs.Case.{CaseValues}
 use Rattle.desk_wedge.specs.Wedge.{WedgeValues}
 use Rattle.desk_answers.specs.declared.not_done.NotDone.{NotDone}
 use Rattle.desk_answers.specs.declared.not_done.NotDone.TheVariants as ends
 use Rattle.desk_files.specs.Files.{IsCounted, Reads, Shelf, Stays}
 use Rattle.desk_files.specs.declared.files.FileRefusal.{FileRefusal}
-use Rattle.desk_files.specs.declared.files.FileRefusal.TheVariants as refusals
+use Rattle.desk_files.specs.declared.files.FileRefusal.TheVariants as files
 use Rattle.desk_inputs.specs.Inputs.{Answers, BothGive, BothLackMemory}
 use Rattle.desk_inputs.proofs.Gives.{same_shelf}
-use Rattle.desk_reading.specs.Reading.{IsUnread}
 use Rattle.desk_reading.specs.Sources.{AreRefused, Sources, of_input, of_ribbon}
-use Rattle.desk_reading.specs.declared.fault.ReadingFault.{ReadingFault}
-use Rattle.desk_reading.specs.declared.fault.ReadingFault.TheVariants as faults
 
 -- the ribbon is not read
 pub no_ribbon : (from : Sources) (first last : Shelf) (why : FileRefusal) → Stays first last → Reads (first.kept from.ribbon) (Err why) → IsCounted why first last → AreRefused from first last (of_ribbon why)
-no_ribbon from first last refusals.Missing stays reads counts = ((λ e. cc), reads, counts)
-no_ribbon from first last refusals.Device stays reads counts = ((λ e. cc), reads, counts)
-no_ribbon from first last refusals.Large stays reads counts = ((λ e. cc), reads, counts)
-no_ribbon from first last refusals.NoMemory stays reads counts = inl (reads, same_shelf first last stays counts)
+no_ribbon from first last files.Missing stays reads counts = ((λ e. cc), reads, counts)
+no_ribbon from first last files.Device stays reads counts = ((λ e. cc), reads, counts)
+no_ribbon from first last files.Large stays reads counts = ((λ e. cc), reads, counts)
+no_ribbon from first last files.NoMemory stays reads counts = inl (reads, same_shelf first last stays counts)
 
 -- the case or the wedge is not given, where nothing changed as the ribbon was read
 pub no_inputs : (from : Sources) (bytes : List ℕ) (first mid last : Shelf) (end : NotDone) → mid ≡ first → Reads (first.kept from.ribbon) (Ok bytes)
@@ -28,11 +25,3 @@ pub no_inputs : (from : Sources) (bytes : List ℕ) (first mid last : Shelf) (en
 no_inputs from bytes first mid last (ends.Refused why) same is given = (bytes, is, subst (λ (s : Shelf). BothGive from.case from.wedge s (Err why) last) same given)
 no_inputs from bytes first mid last (ends.Stopped taken why) same is given = absurd given
 no_inputs from bytes first mid last ends.NoMemory same is given = inr (bytes, is, subst (λ (s : Shelf). BothLackMemory from.case from.wedge s last) same given)
-
--- no reading, where the three give nothing
-pub unread : (from : Sources) (first last : Shelf) (told : Option (List ℕ)) (fault : ReadingFault) → AreRefused from first last fault → IsUnread from first last told told fault
-unread from first last told (faults.Ribbon why) refused = (refl, refused)
-unread from first last told (faults.Input why) refused = (refl, refused)
-unread from first last told faults.Write refused = absurd refused
-unread from first last told (faults.Unstored why) refused = absurd refused
-unread from first last told faults.NoMemory refused = (refl, inl refused)

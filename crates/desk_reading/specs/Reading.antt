@@ -1,14 +1,15 @@
 -- The reading of a ribbon's file, written as text.
-use Rattle.std.specs.Prelude.{◌≡◌, ℕ, Bool, List, Option}
+use Rattle.std.specs.Prelude.{◌≡◌, ◌⊎◌, ℕ, Bool, List, Option}
 use Rattle.std.specs.Io.KnownBytes.{Appends}
 use Rattle.desk_case.specs.Case.{CaseValues}
 use Rattle.desk_wedge.specs.Wedge.{WedgeValues}
 use Rattle.desk_files.specs.Files.{Shelf}
 use Rattle.desk_stored.specs.Sending.{WritesFront}
-use Rattle.desk_reading.specs.Sources.{AreRefused, Give, LackMemory, Sources}
+use Rattle.desk_reading.specs.Sources.{AreRefused, Give, GiveAll, Sources, of_sources}
 use Rattle.desk_reading.specs.Told.{IsTold}
 use Rattle.desk_reading.specs.declared.fault.ReadingFault.{ReadingFault}
 use Rattle.desk_reading.specs.declared.fault.ReadingFault.TheVariants as faults
+use Rattle.desk_reading.specs.declared.fault.SourcesFault.{SourcesFault}
 
 -- what is reported of the bytes that the ribbon's name stands for, by the case and the wedge that the two files give
 abbrev pub IsReadingOf : Sources → Shelf → List ℕ → Bool → Type 0
@@ -19,10 +20,9 @@ IsReadingOf from shelf told whole =
 abbrev pub IsRead : Sources → Shelf → Option (List ℕ) → Option (List ℕ) → Bool → Type 0
 IsRead from shelf before after whole = (told : List ℕ) × IsReadingOf from shelf told whole × Appends before after told
 
--- why not all of it was written, and what was: nothing, or under Write a prefix
+-- Why not all of it was written, and what was: nothing, where the sources give nothing, or memory ran out once they had given all; or a prefix, under Write.
 abbrev pub IsUnread : Sources → Shelf → Shelf → Option (List ℕ) → Option (List ℕ) → ReadingFault → Type 0
-IsUnread from first last before after (faults.Ribbon why) = (after ≡ before) × AreRefused from first last (faults.Ribbon why)
-IsUnread from first last before after (faults.Input why) = (after ≡ before) × AreRefused from first last (faults.Input why)
-IsUnread from first last before after faults.Write = (last ≡ first) × (told : List ℕ) × (whole : Bool) × IsReadingOf from first told whole × WritesFront before after told
-IsUnread from first last before after (faults.Unstored why) = ⊥
-IsUnread from first last before after faults.NoMemory = (after ≡ before) × LackMemory from first last
+IsUnread from first last before after fault =
+    ((after ≡ before) × (why : SourcesFault) × (fault ≡ of_sources why) × AreRefused from first last why)
+    ⊎ ((after ≡ before) × (fault ≡ faults.NoMemory) × (last ≡ first) × GiveAll from first)
+    ⊎ ((fault ≡ faults.Write) × (last ≡ first) × (told : List ℕ) × (whole : Bool) × IsReadingOf from first told whole × WritesFront before after told)

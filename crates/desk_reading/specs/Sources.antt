@@ -6,23 +6,31 @@ use Rattle.desk_answers.specs.declared.not_done.NotDone.{NotDone}
 use Rattle.desk_answers.specs.declared.not_done.NotDone.TheVariants as ends
 use Rattle.desk_files.specs.Files.{IsCounted, Reads, Shelf}
 use Rattle.desk_files.specs.declared.files.FileRefusal.{FileRefusal}
-use Rattle.desk_files.specs.declared.files.FileRefusal.TheVariants as refusals
+use Rattle.desk_files.specs.declared.files.FileRefusal.TheVariants as files
 use Rattle.desk_inputs.specs.Inputs.{BothGive, BothLackMemory}
 use Rattle.desk_reading.specs.declared.fault.ReadingFault.{ReadingFault}
 use Rattle.desk_reading.specs.declared.fault.ReadingFault.TheVariants as faults
+use Rattle.desk_reading.specs.declared.fault.SourcesFault.{SourcesFault}
+use Rattle.desk_reading.specs.declared.fault.SourcesFault.TheVariants as refusals
 
--- what a ribbon's file that is not read is for a reading
-abbrev pub of_ribbon : FileRefusal → ReadingFault
-of_ribbon refusals.Missing = faults.Ribbon refusals.Missing
-of_ribbon refusals.Device = faults.Ribbon refusals.Device
-of_ribbon refusals.Large = faults.Ribbon refusals.Large
-of_ribbon refusals.NoMemory = faults.NoMemory
+-- what a ribbon's file that is not read is for the sources of a reading
+abbrev pub of_ribbon : FileRefusal → SourcesFault
+of_ribbon files.Missing = refusals.Ribbon files.Missing
+of_ribbon files.Device = refusals.Ribbon files.Device
+of_ribbon files.Large = refusals.Ribbon files.Large
+of_ribbon files.NoMemory = refusals.NoMemory
 
--- what a case or a wedge that is not given is for it
-abbrev pub of_input : NotDone → ReadingFault
-of_input (ends.Refused why) = faults.Input why
-of_input (ends.Stopped taken why) = faults.Input why
-of_input ends.NoMemory = faults.NoMemory
+-- what a case or a wedge that is not given is for them
+abbrev pub of_input : NotDone → SourcesFault
+of_input (ends.Refused why) = refusals.Input why
+of_input (ends.Stopped taken why) = refusals.Input why
+of_input ends.NoMemory = refusals.NoMemory
+
+-- what sources that give nothing are for a reading
+abbrev pub of_sources : SourcesFault → ReadingFault
+of_sources (refusals.Ribbon why) = faults.Ribbon why
+of_sources (refusals.Input why) = faults.Input why
+of_sources refusals.NoMemory = faults.NoMemory
 
 -- the names of a ribbon, of a case file and of a wedge file
 pub record Sources : Type 0 where
@@ -37,18 +45,14 @@ sources ribbon case wedge = record { ribbon = ribbon; case = case; wedge = wedge
 abbrev pub Give : Sources → Shelf → List ℕ → CaseValues → WedgeValues → Type 0
 Give from shelf bytes case wedge = Reads (shelf.kept from.ribbon) (Ok bytes) × BothGive from.case from.wedge shelf (Ok (case, wedge)) shelf
 
--- why they give nothing: the ribbon is not read; or it is, and then the case or the wedge is refused; or memory runs out by one of the three, and the device did not fail
-abbrev pub AreRefused : Sources → Shelf → Shelf → ReadingFault → Type 0
-AreRefused from before after (faults.Ribbon why) = (why ≢ refusals.NoMemory) × Reads (before.kept from.ribbon) (Err why) × IsCounted why before after
-AreRefused from before after (faults.Input why) = (bytes : List ℕ) × Reads (before.kept from.ribbon) (Ok bytes) × BothGive from.case from.wedge before (Err why) after
-AreRefused from before after faults.Write = ⊥
-AreRefused from before after (faults.Unstored why) = ⊥
-AreRefused from before after faults.NoMemory =
-    (Reads (before.kept from.ribbon) (Err refusals.NoMemory) × (after ≡ before))
-    ⊎ ((bytes : List ℕ) × Reads (before.kept from.ribbon) (Ok bytes) × BothLackMemory from.case from.wedge before after)
+-- they give bytes, a case and a wedge
+abbrev pub GiveAll : Sources → Shelf → Type 0
+GiveAll from shelf = (bytes : List ℕ) × (case : CaseValues) × (wedge : WedgeValues) × Give from shelf bytes case wedge
 
--- memory ran out by one of the three, or once all was given, and then no file has changed and the device did not fail
-abbrev pub LackMemory : Sources → Shelf → Shelf → Type 0
-LackMemory from before after =
-    AreRefused from before after faults.NoMemory
-    ⊎ ((after ≡ before) × (bytes : List ℕ) × (case : CaseValues) × (wedge : WedgeValues) × Give from before bytes case wedge)
+-- why they give nothing: the ribbon is not read; or it is, and then the case or the wedge is refused; or memory runs out by one of the three, and the device did not fail
+abbrev pub AreRefused : Sources → Shelf → Shelf → SourcesFault → Type 0
+AreRefused from before after (refusals.Ribbon why) = (why ≢ files.NoMemory) × Reads (before.kept from.ribbon) (Err why) × IsCounted why before after
+AreRefused from before after (refusals.Input why) = (bytes : List ℕ) × Reads (before.kept from.ribbon) (Ok bytes) × BothGive from.case from.wedge before (Err why) after
+AreRefused from before after refusals.NoMemory =
+    (Reads (before.kept from.ribbon) (Err files.NoMemory) × (after ≡ before))
+    ⊎ ((bytes : List ℕ) × Reads (before.kept from.ribbon) (Ok bytes) × BothLackMemory from.case from.wedge before after)

@@ -1,7 +1,7 @@
-//! Why there is no reading.
+//! Why there is no reading, by the phase in which it stopped.
 
 ghost use Rattle.std.specs.Prelude.{◌≡◌};
-ghost use Rattle.desk_reading.specs.Sources.{of_input, of_ribbon};
+ghost use Rattle.desk_reading.specs.Sources.{of_input, of_ribbon, of_sources};
 ghost use Rattle.desk_reading.specs.declared.fault.ReadingFault.TheVariants as faults;
 
 use desk_answers::{NotDone, Refusal};
@@ -9,6 +9,20 @@ use desk_files::FileRefusal;
 use desk_memory::NoMemory;
 use desk_stored::Unsent;
 use thiserror::Error;
+
+// ---- the phases
+
+/// Why the ribbon, the case and the wedge that are read for a reading give nothing.
+#[derive(Clone, Copy, Debug, PartialEq, Eq)]
+pub enum SourcesFault {
+    /// The ribbon's file is not read, for another cause than memory: `MAX_FILE` bytes are the most.
+    Ribbon(FileRefusal),
+    /// The case or the wedge is not read, or is refused.
+    Input(Refusal),
+    NoMemory,
+}
+
+// ---- the calls
 
 /// Why the file of a ribbon is not read or not drawn, by the phase in which it stopped.
 #[derive(Clone, Copy, Debug, PartialEq, Eq, Error)]
@@ -29,6 +43,45 @@ pub enum ReadingFault {
     NoMemory,
 }
 
+// ---- what the cause of a phase is
+
+/// A ribbon's file that is not read.
+impl From<FileRefusal> for SourcesFault {
+    ghost from_gives = { λ why fault. fault ≡ of_ribbon why };
+
+    fn from(why: FileRefusal) -> SourcesFault {
+        match why {
+            FileRefusal::NoMemory => SourcesFault::NoMemory,
+            other => SourcesFault::Ribbon(other),
+        }
+    }
+}
+
+impl From<NotDone> for SourcesFault {
+    ghost from_gives = { λ end fault. fault ≡ of_input end };
+
+    fn from(end: NotDone) -> SourcesFault {
+        match end {
+            NotDone::Refused(why) | NotDone::Stopped(_, why) => SourcesFault::Input(why),
+            NotDone::NoMemory => SourcesFault::NoMemory,
+        }
+    }
+}
+
+// ---- what the phase of a call is
+
+impl From<SourcesFault> for ReadingFault {
+    ghost from_gives = { λ why fault. fault ≡ of_sources why };
+
+    fn from(why: SourcesFault) -> ReadingFault {
+        match why {
+            SourcesFault::Ribbon(why) => ReadingFault::Ribbon(why),
+            SourcesFault::Input(why) => ReadingFault::Input(why),
+            SourcesFault::NoMemory => ReadingFault::NoMemory,
+        }
+    }
+}
+
 impl From<NoMemory> for ReadingFault {
     ghost from_gives = { λ _ fault. fault ≡ faults.NoMemory };
 
@@ -42,28 +95,5 @@ impl From<Unsent> for ReadingFault {
 
     fn from(_: Unsent) -> ReadingFault {
         ReadingFault::Write
-    }
-}
-
-/// A ribbon's file that is not read.
-impl From<FileRefusal> for ReadingFault {
-    ghost from_gives = { λ why fault. fault ≡ of_ribbon why };
-
-    fn from(why: FileRefusal) -> ReadingFault {
-        match why {
-            FileRefusal::NoMemory => ReadingFault::NoMemory,
-            other => ReadingFault::Ribbon(other),
-        }
-    }
-}
-
-impl From<NotDone> for ReadingFault {
-    ghost from_gives = { λ end fault. fault ≡ of_input end };
-
-    fn from(end: NotDone) -> ReadingFault {
-        match end {
-            NotDone::Refused(why) | NotDone::Stopped(_, why) => ReadingFault::Input(why),
-            NotDone::NoMemory => ReadingFault::NoMemory,
-        }
     }
 }

@@ -8,7 +8,7 @@ mod reading;
 mod sources;
 mod told;
 
-pub use fault::ReadingFault;
+pub use fault::{ReadingFault, SourcesFault};
 pub use faults::{put_cast_fault, put_ribbon_fault};
 pub use lines::put_ribbon;
 pub use reading::read_job;

@@ -4,7 +4,7 @@ ghost use Rattle.std.specs.Prelude.{◌≡◌, IfErr, IfOk, OnOk};
 ghost use Rattle.desk_files.specs.Files.{Stays};
 ghost use Rattle.desk_reading.specs.Sources.{AreRefused, Give, sources};
 
-use crate::fault::ReadingFault;
+use crate::fault::SourcesFault;
 use desk_case::MatrixCase;
 use desk_files::Files;
 use desk_inputs::{Memory, both};
@@ -20,7 +20,7 @@ pub fn take_in<F: Files, A: Allocator + Copy>(
     ribbon: &str,
     case: &str,
     wedge: &str,
-) -> Result<(Vec<u8, A>, MatrixCase, Wedge), ReadingFault>
+) -> Result<(Vec<u8, A>, MatrixCase, Wedge), SourcesFault>
     ensures ok { IfOk result (λ t. Give (sources ribbon.now case.now wedge.now) (F.shelf files.old) t.0.items t.1 t.2) }
     ensures still { OnOk result (F.shelf files.new ≡ F.shelf files.old) }
     ensures err { IfErr result (AreRefused (sources ribbon.now case.now wedge.now) (F.shelf files.old) (F.shelf files.new)) }

@@ -1,4 +1,4 @@
--- What is told of a text that does not stand at exactly one place.
+-- What is said of a text that does not stand at exactly one place.
 use Rattle.std.specs.Prelude.{◌≡◌, ◌≢◌, ℕ, ◌<◌, List, [], Option, length}
 use Rattle.std.specs.Io.KnownBytes.{Appends}
 use Rattle.desk_ops.specs.declared.op.Symbol.{Symbol}
@@ -8,7 +8,7 @@ use Rattle.desk_places.specs.Telling.{told_of}
 use Rattle.desk_replace.specs.declared.fault.PlaceFault.{PlaceFault}
 use Rattle.desk_replace.specs.declared.fault.PlaceFault.TheVariants as faults
 
--- why a text has not one place in a copy, and what was written: it stands at none, or at so many, and that was told; or it was told in part under Write; or memory ran out, and nothing was written
+-- why a text has not one place in a copy, and what was written: it stands at none, or at so many, and that was written; or it was written in part under Write; or memory ran out, and nothing was written
 abbrev pub IsTold : List Symbol → List Symbol → Option (List ℕ) → Option (List ℕ) → PlaceFault → Type 0
 IsTold old copy before after faults.NoPlace = (places_of old copy ≡ []) × Appends before after (told_of old copy)
 IsTold old copy before after (faults.ManyPlaces count) = (1 < count) × (length (places_of old copy) ≡ count) × Appends before after (told_of old copy)

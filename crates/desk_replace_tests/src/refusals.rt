@@ -1,4 +1,4 @@
-use crate::rooms::{feed_of, holds, left_by, text_of};
+use crate::rooms::{X, feed_of, left_by, text_of};
 use desk_codec::{FeedFault, FeedWhy};
 use desk_files::trial::{AtEnd, TrialFiles, TrialWriter};
 use desk_files::{FileRefusal, Files};
@@ -8,9 +8,6 @@ use desk_text::{Cause, TextFault};
 use linked_list_allocator::LocalHeap;
 use std::alloc::{AllocError, Global};
 use std::test::Fail;
-
-/// One insert, 1.3 of a Roman x.
-const X: &[u8] = b"MFD2\x01\0\0\0\0\0\0\0\x01\0\x03\0\0\0\0\0\0\0\0\0\0\0\0\0\0x";
 
 /// An insert with the greatest counter.
 const LATE: &[u8] = b"MFD2\x01\x40\0\0\0\0\0\0\0\0\x03\0\0\0\0\0\0\0\0\0\0\0\0\0\0x";
@@ -40,7 +37,7 @@ fn stop_of(
 ) -> Result<Option<ReplaceFault>, Fail> {
     let mut written = Vec::new(alloc);
     let ended = replace_text(alloc, &mut written, files, name, 4, exchange);
-    let stays = holds(files, "x.feed", X) && holds(files, "late.feed", LATE);
+    let stays = files.holds("x.feed", X) && files.holds("late.feed", LATE);
     if !stays || !written.is_empty() || files.bytes_of("x.feed.new").is_some() {
         return Err(Fail::new("bytes before a fault"));
     }
@@ -147,7 +144,7 @@ fn files_that_fail_under_an_exchange(rt: HostRuntime) -> Result<(), Fail> {
         let mut written = Vec::new(rt.alloc());
         let ended = replace_text(rt.alloc(), &mut written, &mut files, "x.feed", 4, &LONGER);
         assert_eq!(rt; ended, Err(faults[at]));
-        assert!(rt; holds(&files, "x.feed", X));
+        assert!(rt; files.holds("x.feed", X));
     }
     Ok(())
 }
@@ -159,7 +156,7 @@ fn closed_output_of_an_exchange(rt: HostRuntime) -> Result<(), Fail> {
     let ended = replace_text(rt.alloc(), &mut writer, &mut files, "x.feed", 4, &LONGER);
     assert_eq!(rt; ended, Err(ReplaceFault::Keep(KeepFault::Write)));
     assert!(rt; b"ok inserted 1 deleted 0\n".starts_with(writer.written()));
-    assert!(rt; holds(&files, "x.feed", X));
+    assert!(rt; files.holds("x.feed", X));
     assert!(rt; files.bytes_of("x.feed.new").is_none());
     Ok(())
 }

@@ -1,17 +1,14 @@
-use crate::rooms::{holds, left_by};
+use crate::rooms::{X, left_by};
 use desk_files::trial::TrialFiles;
 use desk_replace::{Exchange, replace_text};
 use std::alloc::Global;
 use std::test::Fail;
 
-/// One insert, 1.3 of a Roman x.
-const X: &[u8] = b"MFD2\x01\0\0\0\0\0\0\0\x01\0\x03\0\0\0\0\0\0\0\0\0\0\0\0\0\0x";
-
-/// The same, and 2.4, which inserts a Roman z behind it.
+/// `X`, and 2.4, which inserts a Roman z behind it.
 const XZ: &[u8] =
     b"MFD2\x01\0\0\0\0\0\0\0\x01\0\x03\0\0\0\0\0\0\0\0\0\0\0\0\0\0x\x01\0\0\0\0\0\0\0\x02\0\x04\0\0\0\0\0\0\0\x01\0\x03\0\0\0\0z";
 
-/// The same, and 2.4, which deletes it.
+/// `X`, and 2.4, which deletes it.
 const GONE: &[u8] =
     b"MFD2\x01\0\0\0\0\0\0\0\x01\0\x03\0\0\0\0\0\0\0\0\0\0\0\0\0\0x\x02\0\0\0\0\0\0\0\x02\0\x04\0\0\0\0\0\0\0\x01\0\x03";
 
@@ -120,7 +117,7 @@ fn makes(alloc: Global, from: &str, to: &str, line: &str, bytes: &[u8]) -> Resul
     };
     replace_text(alloc, &mut written, &mut files, "x.feed", 4, &exchange)?;
     let is_gone = files.bytes_of("x.feed.new").is_none();
-    Ok(is_gone && written.as_slice() == line.as_bytes() && holds(&files, "x.feed", bytes))
+    Ok(is_gone && written.as_slice() == line.as_bytes() && files.holds("x.feed", bytes))
 }
 
 /// Each operation is by the site, and what the feed held stands in front of it.

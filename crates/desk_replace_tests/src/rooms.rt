@@ -6,6 +6,9 @@ use desk_replace::{Exchange, ReplaceFault, replace_text};
 use std::alloc::Global;
 use std::test::Fail;
 
+/// One insert, 1.3 of a Roman x.
+pub const X: &[u8] = b"MFD2\x01\0\0\0\0\0\0\0\x01\0\x03\0\0\0\0\0\0\0\0\0\0\0\0\0\0x";
+
 /// What a run wrote, how it ended, and the text of the copy after it.
 #[derive(Drop)]
 pub struct Left {
@@ -56,12 +59,4 @@ pub fn left_by(
         ended,
         text,
     })
-}
-
-/// Whether a file of that name has these bytes.
-pub fn holds(files: &TrialFiles<Global>, name: &str, bytes: &[u8]) -> bool {
-    match files.bytes_of(name) {
-        Some(kept) => kept == bytes,
-        None => false,
-    }
 }

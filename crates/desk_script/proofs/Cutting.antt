@@ -1,11 +1,12 @@
 -- Cutting bytes into lines, from the front and from the end.
 use Rattle.std.proofs.Common.{◌≡◌, ℕ, ◌+◌, ◌<◌, ◌≤◌, ◌==◌, ◌&&◌, cond, Bool, true, false, List, [], ◌∷◌, ◌++◌, map, length, length-append, refl, sym, ap, ◌∙◌, append_assoc, arith, eq-eqb}
 use Rattle.std.specs.Prelude.{nat_le, if◌then◌else◌}
+use Rattle.std.proofs.Math.Bool.{and-false, and-true}
 use Rattle.std.proofs.lemmas.Bool.{ne_eqb}
 use Rattle.std.proofs.lemmas.Bool.Decides.{nat_tests}
 use Rattle.std.specs.List.{onto_first}
 use Rattle.std.proofs.lemmas.List.{append-nil}
-use Rattle.desk_steps.specs.Line.{Line, Bytes, Long, line_of}
+use Rattle.desk_steps.specs.Line.{Line, Bytes, Long, line_of, max_line}
 use Rattle.desk_script.specs.Lines.{is_empty, pieces, without_cr, ended, lines_of_pieces, lines}
 use Rattle.desk_script.specs.Pending.{last_line, lines_from}
 use Rattle.desk_ops.proofs.Stamps.{by_cases}
@@ -62,20 +63,12 @@ line_to_come pending b (d ∷ more) =
     (λ e. let (next, tail, is) = line_to_come (pending ++ b ∷ []) d more in (next, tail, from_byte (pending ++ b ∷ []) more d e ∙ is))
 
 -- the end of a line
-never : (t : Bool) → (t && false) ≡ false
-never true = refl
-never false = refl
-
 not_end : (c b : ℕ) (cs : List ℕ) (x y : List ℕ) → cond (c == 13 && is_empty (cs ++ b ∷ [])) x y ≡ y
-not_end c b [] x y = ap (λ t. cond t x y) (never (c == 13))
-not_end c b (d ∷ cs) x y = ap (λ t. cond t x y) (never (c == 13))
-
-always : (t : Bool) → (t && true) ≡ t
-always true = refl
-always false = refl
+not_end c b [] x y = ap (λ t. cond t x y) (and-false (c == 13))
+not_end c b (d ∷ cs) x y = ap (λ t. cond t x y) (and-false (c == 13))
 
 pub without_cr-push : (front : List ℕ) (b : ℕ) → without_cr (front ++ b ∷ []) ≡ cond (b == 13) front (front ++ b ∷ [])
-without_cr-push [] b = ap (λ t. cond t [] (b ∷ [])) (always (b == 13))
+without_cr-push [] b = ap (λ t. cond t [] (b ∷ [])) (and-true (b == 13))
 without_cr-push (c ∷ front) b =
     not_end c b front [] (c ∷ without_cr (front ++ b ∷ [])) ∙ ap (λ l. c ∷ l) (without_cr-push front b) ∙ each (b == 13)
   where
@@ -98,11 +91,11 @@ last_some (b ∷ line) e = refl
 is_long : (b : Bool) (x : List ℕ) → b ≡ false → (if b then Bytes x else Long) ≡ Long
 is_long b x e = ap (λ t. if t then Bytes x else Long) e
 
-above : (n : ℕ) → 65536 < n → nat_le n 65536 ≡ false
+above : (n : ℕ) → max_line < n → nat_le n max_line ≡ false
 above n h = grind (arith, nat_tests)
 
-pub long_line : (bytes : List ℕ) → 65536 < length bytes → line_of bytes ≡ Long
-long_line bytes h = is_long (nat_le (length bytes) 65536) bytes (above (length bytes) h)
+pub long_line : (bytes : List ℕ) → max_line < length bytes → line_of bytes ≡ Long
+long_line bytes h = is_long (nat_le (length bytes) max_line) bytes (above (length bytes) h)
 
 shorter : (t : Bool) (c : ℕ) (bytes : List ℕ) → length (c ∷ bytes) ≤ length (cond (t && is_empty bytes) [] (c ∷ without_cr bytes)) + 1
 shorter t c [] = elim t as (λ v. length (c ∷ []) ≤ length (cond (v && true) [] (c ∷ [])) + 1) [ true ↦ omega arith | false ↦ omega arith ]
@@ -114,18 +107,18 @@ without_cr-length : (bytes : List ℕ) → length bytes ≤ length (without_cr b
 without_cr-length [] = omega arith
 without_cr-length (c ∷ bytes) = shorter (c == 13) c bytes
 
-pub long_before_end : (pending : List ℕ) → 65538 ≤ length pending → line_of (without_cr pending) ≡ Long
+pub long_before_end : (pending : List ℕ) → max_line + 2 ≤ length pending → line_of (without_cr pending) ≡ Long
 long_before_end pending h = long_line (without_cr pending) (omega (arith, without_cr-length pending))
 
-last_long : (pending : List ℕ) → 65538 ≤ length pending → last_line pending ≡ Long ∷ []
+last_long : (pending : List ℕ) → max_line + 2 ≤ length pending → last_line pending ≡ Long ∷ []
 last_long [] h = absurd (omega arith)
 last_long (b ∷ pending) h = ap (λ l. l ∷ []) (long_line (b ∷ pending) (omega arith))
 
-pushed : (pending : List ℕ) (b : ℕ) → 65538 ≤ length pending → 65538 ≤ length (pending ++ b ∷ [])
+pushed : (pending : List ℕ) (b : ℕ) → max_line + 2 ≤ length pending → max_line + 2 ≤ length (pending ++ b ∷ [])
 pushed pending b h = omega (arith, length-append pending (b ∷ []))
 
 -- a byte more is not missed
-pub long_more : (pending : List ℕ) (b : ℕ) (more : List ℕ) → 65538 ≤ length pending → lines_from (pending ++ b ∷ []) more ≡ lines_from pending more
+pub long_more : (pending : List ℕ) (b : ℕ) (more : List ℕ) → max_line + 2 ≤ length pending → lines_from (pending ++ b ∷ []) more ≡ lines_from pending more
 long_more pending b [] h = last_long (pending ++ b ∷ []) (pushed pending b h) ∙ sym (last_long pending h)
 long_more pending b (c ∷ more) h =
     by_cases (c == 10)
@@ -134,5 +127,5 @@ long_more pending b (c ∷ more) h =
     (λ e. from_byte (pending ++ b ∷ []) more c e ∙ long_more (pending ++ b ∷ []) c more (pushed pending b h) ∙ long_more pending b more h
     ∙ sym (long_more pending c more h) ∙ sym (from_byte pending more c e))
 
-pub skips : (pending more : List ℕ) (b : ℕ) → (b == 10) ≡ false → 65538 ≤ length pending → lines_from pending (b ∷ more) ≡ lines_from pending more
+pub skips : (pending more : List ℕ) (b : ℕ) → (b == 10) ≡ false → max_line + 2 ≤ length pending → lines_from pending (b ∷ more) ≡ lines_from pending more
 skips pending more b e h = from_byte pending more b e ∙ long_more pending b more h

@@ -1,7 +1,7 @@
 -- Runs on a stored feed.
 use Rattle.std.proofs.Common.{refl, ◌≡◌, ℕ, ◌≤◌, inl, inr, List, ap, cond, subst, sym, ◌∙◌, arith}
 use Rattle.std.proofs.Math.Nat.{eq-or-lt_of_le}
-use Rattle.std.specs.Prelude.{Some, Result, Err}
+use Rattle.std.specs.Prelude.{Some}
 use Rattle.std.specs.Cmp.{nat_cmp_total}
 use Rattle.std.proofs.lemmas.Cmp.{eq_by_cmp_equiv}
 use Rattle.std.specs.FinMap as fin
@@ -16,7 +16,6 @@ use Rattle.desk_stored.specs.declared.fault.OpenFault.{OpenFault}
 use Rattle.desk_stored.specs.declared.fault.OpenFault.TheVariants as openings
 use Rattle.desk_script.specs.declared.fault.LineFault.{LineFault}
 use Rattle.desk_script.specs.declared.fault.LineFault.TheVariants as lines
-use Rattle.desk_script.specs.declared.fault.RunFault.{RunFault}
 use Rattle.desk_script.specs.declared.fault.RunFault.TheVariants as faults
 use Rattle.desk_script.specs.Faults.{of_file, of_lines, of_opening}
 use Rattle.desk_script.specs.FeedRun.{one_site}

@@ -1,7 +1,7 @@
 -- Lines that were answered, one part after another.
-use Rattle.std.proofs.Common.{◌≡◌, ℕ, inl, inr, true, false, List, [], ◌∷◌, ◌++◌, Option, Some, None, refl, sym, ap, ◌∙◌, subst, append_assoc}
+use Rattle.std.proofs.Common.{◌≡◌, ℕ, inl, inr, true, false, List, [], ◌∷◌, ◌++◌, Option, refl, sym, ap, ◌∙◌, subst, append_assoc}
 use Rattle.std.specs.Io.KnownBytes.{Appends, Keeps}
-use Rattle.std.proofs.KnownBytes.{Appends-trans}
+use Rattle.std.proofs.KnownBytes.{Appends-kept, Appends-nil, Appends-trans}
 use Rattle.std.proofs.lemmas.List.{append-nil}
 use Rattle.desk_answers.specs.Reply.{ReplyValues, Refused, is_long}
 use Rattle.desk_answers.specs.declared.text.Refusal.{Refusal}
@@ -13,15 +13,11 @@ use Rattle.desk_steps.specs.Line.{Allows, Bytes, Line, Long}
 use Rattle.desk_stored.specs.Sending.{WritesFront}
 use Rattle.desk_script.specs.Script.{Script, Turn, Fronts, StopsBefore, IsTold}
 
-pub appends_none : (a : Option (List ℕ)) → Appends a a []
-appends_none None = tt
-appends_none (Some xs) = sym (append-nil xs)
-
 pub no_turn : (old : Desk) (a : Option (List ℕ)) → Turn old old a a []
-no_turn old a = ([], refl, appends_none a)
+no_turn old a = ([], refl, Appends-nil a)
 
 pub no_front : (old : Desk) (last : Shelf) (a : Option (List ℕ)) (lines : List Line) → Stays old.shelf last → Fronts old last a a lines
-no_front old last a lines still = ([], lines, refl, old, still, [], refl, ([], [], appends_none a, refl))
+no_front old last a lines still = ([], lines, refl, old, still, [], refl, ([], [], Appends-nil a, refl))
 
 -- a refusal is not long
 never : (P : Type 0) (reply : ReplyValues) (why : Refusal) → reply ≡ Refused why → is_long reply ≡ true → P
@@ -73,14 +69,8 @@ turn_before old mid last a b c ls ms turn (front, tail, next, split, new, still,
 
 -- ---- a writer that lets out what it held back
 
-appends_keeps : (a b c : Option (List ℕ)) (bytes : List ℕ) → Appends a b bytes → Keeps b c → Appends a c bytes
-appends_keeps None b c bytes h k = tt
-appends_keeps (Some xs) None c bytes h k = absurd h
-appends_keeps (Some xs) (Some ys) None bytes h k = absurd k
-appends_keeps (Some xs) (Some ys) (Some zs) bytes h k = k ∙ h
-
 pub turn_kept : (old new : Desk) (a b c : Option (List ℕ)) (ls : List Line) → Turn old new a b ls → Keeps b c → Turn old new a c ls
-turn_kept old new a b c ls (rs, first, written) k = (rs, first, appends_keeps a b c (output rs) written k)
+turn_kept old new a b c ls (rs, first, written) k = (rs, first, Appends-kept a b c (output rs) written k)
 
 -- all of the first lines were answered, and what comes after them was not
 pub turn_stops : (old new : Desk) (last : Shelf) (a b : Option (List ℕ)) (ls more : List Line) → Stays new.shelf last → Turn old new a b ls → Fronts old last a b (ls ++ more)

@@ -1,3 +1,4 @@
+-- The words of what a script is made of stay reachable from here, used in the repository or not.
 pub use Rattle.desk_files.specs.Files
 pub use Rattle.desk_stored.specs.Sending
 pub use Rattle.desk_world.specs.Sites

@@ -5,6 +5,7 @@ mod fault;
 mod feed_run;
 mod stream;
 
+// The names of what a script is made of stay reachable from here, used in the repository or not.
 pub use desk_answers::{Refusal, Reply, put};
 pub use desk_commands::{
     Command, ParseError, law_of_copy, law_of_longest_runs, law_of_spelling, parse,

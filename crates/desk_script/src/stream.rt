@@ -9,7 +9,6 @@ ghost use Rattle.desk_answers.specs.Text.{text};
 ghost use Rattle.desk_world.specs.Sites.{Sites, no_sites};
 ghost use Rattle.desk_steps.specs.Desk.{KeepsSites, desk};
 ghost use Rattle.desk_files.specs.Files.{Stays};
-ghost use Rattle.desk_steps.specs.Line.{Allows};
 ghost use Rattle.desk_script.specs.Script.{Turn, Fronts, StopsBefore, Answers, AnswersBefore, AnswersFront, IsTold};
 ghost use Rattle.desk_stored.specs.Sending.{WritesFront};
 ghost use Rattle.desk_script.specs.Faults.{IsOfLines};
@@ -20,7 +19,7 @@ use desk_answers::{Reply, put, short};
 use desk_files::Files;
 use desk_inputs::Memory;
 use desk_ops::NoMemory;
-use desk_steps::answer;
+use desk_steps::{MAX_LINE, answer};
 use desk_stored::let_out;
 use desk_world::World;
 use std::alloc::{Allocator, Global};
@@ -30,7 +29,7 @@ use std::io::{Read, Write};
 pub const MAX_READS: u32 = 268_435_456;
 
 /// No more of a line is kept: with more bytes than these it is too long, however it ends.
-const PENDING_LIMIT: usize = 65_538;
+const PENDING_LIMIT: usize = MAX_LINE + 2;
 
 /// The bytes that most long answers fit in.
 const USUAL: usize = 64;

@@ -7,14 +7,6 @@ use desk_script::{RunFault, run_on_feed};
 use std::alloc::{AllocError, Global};
 use std::test::Fail;
 
-/// Whether a file of that name has these bytes.
-fn holds(files: &TrialFiles<Global>, name: &str, bytes: &[u8]) -> bool {
-    match files.bytes_of(name) {
-        Some(kept) => kept == bytes,
-        None => false,
-    }
-}
-
 /// What a run on the feed `a.feed` is answered.
 fn answered_on(
     alloc: Global,
@@ -51,7 +43,7 @@ fn full_set_and_stored_feed(rt: HostRuntime) -> Result<(), Fail> {
         b"insert 3 0 r\"x\"\nsite 4\ninsert 4 0 r\"y\"\n",
     )?;
     assert_eq!(rt; first.as_slice(), b"ok 1.3\nok\nok 1.4\n".as_slice());
-    assert!(rt; holds(&files, "a.feed", ONE_INSERT));
+    assert!(rt; files.holds("a.feed", ONE_INSERT));
     assert!(rt; files.bytes_of("a.feed.new").is_none());
     Ok(())
 }
@@ -71,8 +63,8 @@ fn one_run_at_a_time(rt: HostRuntime) -> Result<(), Fail> {
     let mut files = files.for_next_run();
     let second = answered_on(rt.alloc(), &mut files, 3, b"show 3\n")?;
     assert_eq!(rt; second.as_slice(), first.as_slice());
-    assert!(rt; holds(&files, "a.feed", ONE_INSERT));
-    assert!(rt; holds(&files, "a.feed.new", b"left over"));
+    assert!(rt; files.holds("a.feed", ONE_INSERT));
+    assert!(rt; files.holds("a.feed.new", b"left over"));
     Ok(())
 }
 
@@ -110,7 +102,7 @@ fn refused_on(
         "a.feed",
         3,
     );
-    if !writer.written().is_empty() || !holds(&files, "a.feed", bytes) {
+    if !writer.written().is_empty() || !files.holds("a.feed", bytes) {
         return Ok(None);
     }
     Ok(result.err())
@@ -171,7 +163,7 @@ fn feed_stored_after_stopped_run(rt: HostRuntime) -> Result<(), Fail> {
     );
     assert_eq!(rt; result, Err(RunFault::Write));
     assert_eq!(rt; writer.written(), b"ok 2.".as_slice());
-    assert!(rt; holds(&files, "a.feed", ONE_INSERT));
+    assert!(rt; files.holds("a.feed", ONE_INSERT));
     assert!(rt; files.bytes_of("a.feed.new").is_none());
     Ok(())
 }
@@ -201,7 +193,7 @@ fn not_stored_at(alloc: Global, failing_call: u64, beside: Option<&[u8]>) -> Res
         3,
     );
     let device = Err(RunFault::File(FileRefusal::Device));
-    let right = end == device && files.failures() == 1 && holds(&files, "a.feed", ONE_INSERT);
+    let right = end == device && files.failures() == 1 && files.holds("a.feed", ONE_INSERT);
     if !right || writer.written() != b"ok 2.3\n".as_slice() {
         return Err(Fail::new("another end"));
     }
@@ -210,7 +202,7 @@ fn not_stored_at(alloc: Global, failing_call: u64, beside: Option<&[u8]>) -> Res
     }
     let mut files = files.for_next_run();
     answered_on(alloc, &mut files, 3, b"delete 3 0\n")?;
-    if !holds(&files, "a.feed", ONE_DELETED) || files.bytes_of("a.feed.new").is_some() {
+    if !files.holds("a.feed", ONE_DELETED) || files.bytes_of("a.feed.new").is_some() {
         return Err(Fail::new("the next run has not stored its feed"));
     }
     Ok(())
@@ -253,7 +245,7 @@ fn stored_after_a_failed_read(rt: HostRuntime) -> Result<(), Fail> {
         b"ok 1.3\nrefused file device\n".as_slice()
     );
     assert_eq!(rt; files.failures(), 1);
-    assert!(rt; holds(&files, "a.feed", ONE_INSERT));
+    assert!(rt; files.holds("a.feed", ONE_INSERT));
 
     let mut files = TrialFiles::new(rt.alloc()).failing_at_call(3);
     let mut writer = TrialWriter::new(rt.alloc()).with_room(20, AtEnd::Fails);

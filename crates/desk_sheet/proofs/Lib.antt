@@ -1,4 +1,3 @@
 pub mod Cutting
 pub mod Telling
-pub mod Reading
 pub mod Taking

@@ -1,9 +1,9 @@
 -- Why a sheet was not carried out, by the phase in which it stopped.
+use Rattle.desk_files.specs.declared.input.ReaderFault.TheVariants as readers
 use Rattle.desk_script.specs.Faults.{of_file, of_opening}
 use Rattle.desk_script.specs.declared.fault.RunFault.TheVariants as runs
 use Rattle.desk_sheet.specs.declared.fault.AnswerFault.{AnswerFault}
 use Rattle.desk_sheet.specs.declared.fault.AnswerFault.TheVariants as answers
-use Rattle.desk_sheet.specs.declared.fault.InputFault.TheVariants as inputs
 use Rattle.desk_sheet.specs.declared.fault.SheetFault.{SheetFault}
 use Rattle.desk_sheet.specs.declared.fault.SheetFault.TheVariants as faults
 use Rattle.desk_sheet.specs.declared.fault.TakeFault.{TakeFault}
@@ -12,9 +12,9 @@ use Rattle.desk_sheet.specs.declared.fault.TakeFault.TheVariants as takes
 -- the fault of a run, by that of the phase
 
 abbrev pub of_answers : AnswerFault → SheetFault
-of_answers (answers.Input inputs.Read) = faults.Run runs.Read
-of_answers (answers.Input inputs.TooLong) = faults.Run runs.TooLong
-of_answers (answers.Input inputs.NoMemory) = faults.Run runs.NoMemory
+of_answers (answers.Input readers.Failed) = faults.Run runs.Read
+of_answers (answers.Input readers.TooLong) = faults.Run runs.TooLong
+of_answers (answers.Input readers.NoMemory) = faults.Run runs.NoMemory
 of_answers answers.NoMemory = faults.Run runs.NoMemory
 of_answers answers.Write = faults.Run runs.Write
 of_answers (answers.Line k) = faults.Line k

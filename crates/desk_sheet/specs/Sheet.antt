@@ -1,9 +1,10 @@
 -- A sheet of commands: how its lines are answered, and where a strict run stops.
-use Rattle.std.specs.Prelude.{◌≡◌, ◌<◌, ◌≤◌, ℕ, ◌+◌, ◌==◌, ◌&&◌, Bool, true, false, MatchBool, List, [], ◌∷◌, ◌++◌, length, codes, Option, None, Some, IfSome, if◌then◌else◌}
+use Rattle.std.specs.Prelude.{◌≡◌, ℕ, ◌+◌, ◌==◌, ◌&&◌, Bool, true, false, MatchBool, List, [], ◌∷◌, ◌++◌, length, codes, Option, None, Some, if◌then◌else◌}
 use Rattle.std.specs.Fmt.{decimal}
-use Rattle.std.specs.Io.KnownBytes.{Appends, Consumes, IsAtEnd}
+use Rattle.std.specs.Io.KnownBytes.{Appends, IsAtEnd}
 use Rattle.desk_answers.specs.Reply.{ReplyValues, Done, Made, MadeMany, Counted, Copy, Feed, Faults, Settings, Ribbon, NoRibbon, Lines, Refused, Stopped}
 use Rattle.desk_answers.specs.Text.{text}
+use Rattle.desk_files.specs.Input.{HasTaken, IsInput, IsNotWhole, IsReadTo}
 use Rattle.desk_steps.specs.Desk.{Desk}
 use Rattle.desk_steps.specs.Line.{Line, Bytes, Long, Allows}
 use Rattle.desk_stored.specs.Sending.{WritesFront}
@@ -11,8 +12,6 @@ use Rattle.desk_script.specs.Lines.{lines}
 use Rattle.desk_sheet.specs.Phases.{of_answers}
 use Rattle.desk_sheet.specs.declared.fault.AnswerFault.{AnswerFault}
 use Rattle.desk_sheet.specs.declared.fault.AnswerFault.TheVariants as answers
-use Rattle.desk_sheet.specs.declared.fault.InputFault.{InputFault}
-use Rattle.desk_sheet.specs.declared.fault.InputFault.TheVariants as inputs
 use Rattle.desk_sheet.specs.declared.fault.SheetFault.{SheetFault}
 use Rattle.desk_sheet.specs.declared.sheet.Mode.{Mode}
 
@@ -87,30 +86,10 @@ Ends mode old before lines (Some k) new after = StopsAt mode old before lines k 
 abbrev pub max_sheet : ℕ
 max_sheet = 67108864
 
--- all that a reader has left, where that is known
-abbrev pub IsInput : Option (List ℕ) → List ℕ → Type 0
-IsInput input bytes = IfSome input (λ known. bytes ≡ known)
-
--- why a sheet was not read whole
-abbrev pub IsUnread : Option (List ℕ) → InputFault → Type 0
-IsUnread input inputs.Read = Unit {0}
-IsUnread input inputs.TooLong = IfSome input (λ known. max_sheet < length known)
-IsUnread input inputs.NoMemory = Unit {0}
-
--- some bytes were read, and no more than a sheet may have
-abbrev pub HasTaken : Option (List ℕ) → Option (List ℕ) → Type 0
-HasTaken before after = (read : List ℕ) × Consumes before after read × (0 < length read) × (length read ≤ max_sheet)
-
--- Where a read failed, no more had been read before it than a sheet may have; where a sheet is too long, more had; and where memory ran out, some bytes had.
-abbrev pub IsReadTo : Option (List ℕ) → Option (List ℕ) → InputFault → Type 0
-IsReadTo before after inputs.Read = (read : List ℕ) × Consumes before after read × (length read ≤ max_sheet)
-IsReadTo before after inputs.TooLong = (read : List ℕ) × Consumes before after read × (max_sheet < length read)
-IsReadTo before after inputs.NoMemory = HasTaken before after
-
 -- how far a reader was read whose sheet was not answered to its end
 abbrev pub IsLeft : Option (List ℕ) → Option (List ℕ) → AnswerFault → Type 0
-IsLeft before after (answers.Input why) = IsReadTo before after why
-IsLeft before after answers.NoMemory = HasTaken before after
+IsLeft before after (answers.Input why) = IsReadTo max_sheet before after why
+IsLeft before after answers.NoMemory = HasTaken max_sheet before after
 IsLeft before after answers.Write = IsAtEnd after
 IsLeft before after (answers.Line k) = IsAtEnd after
 
@@ -125,7 +104,7 @@ IsDone mode old new input before after = (told : List ℕ) × IsTold mode old ne
 -- Why a sheet was not answered to its end, and what was written: nothing; a prefix of the answers; or all of them up to that of the line that stopped the run.
 -- Where the sheet could not be read, no line was carried out.
 abbrev pub IsUnanswered : Mode → Desk → Desk → Option (List ℕ) → Option (List ℕ) → Option (List ℕ) → AnswerFault → Type 0
-IsUnanswered mode old new input before after (answers.Input why) = (new ≡ old) × (after ≡ before) × IsUnread input why
+IsUnanswered mode old new input before after (answers.Input why) = (new ≡ old) × (after ≡ before) × IsNotWhole max_sheet input why
 IsUnanswered mode old new input before after answers.NoMemory = after ≡ before
 IsUnanswered mode old new input before after answers.Write =
     (end : Option ℕ) × (told : List ℕ) × IsTold mode old new input end told × WritesFront before after told

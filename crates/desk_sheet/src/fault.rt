@@ -8,7 +8,7 @@ ghost use Rattle.desk_sheet.specs.declared.fault.AnswerFault.TheVariants as answ
 ghost use Rattle.desk_sheet.specs.declared.fault.SheetFault.TheVariants as faults;
 ghost use Rattle.desk_sheet.specs.declared.fault.TakeFault.TheVariants as takes;
 
-use desk_files::FileRefusal;
+use desk_files::{FileRefusal, ReaderFault};
 use desk_ops::NoMemory;
 use desk_script::RunFault;
 use desk_stored::{OpenFault, Unsent};
@@ -16,22 +16,11 @@ use thiserror::Error;
 
 // ---- the phases
 
-/// Why a sheet was not read whole.
-#[derive(Clone, Copy, Debug, PartialEq, Eq)]
-pub enum InputFault {
-    /// The reader failed.
-    Read,
-    /// It has more than `MAX_SHEET` bytes.
-    TooLong,
-    /// Its bytes were not kept.
-    NoMemory,
-}
-
 /// Why a sheet was not answered to its end.
 #[derive(Clone, Copy, Debug, PartialEq, Eq)]
 pub enum AnswerFault {
-    /// It was not read, and no line was carried out.
-    Input(InputFault),
+    /// It was not read whole, and no line was carried out.
+    Input(ReaderFault),
     /// It was read, and its answers were not kept.
     NoMemory,
     /// The answers were there, and the writer failed, or took no byte.
@@ -66,10 +55,10 @@ pub enum SheetFault {
 
 // ---- what the cause of a phase is
 
-impl From<InputFault> for AnswerFault {
+impl From<ReaderFault> for AnswerFault {
     ghost from_gives = { λ why fault. fault ≡ answers.Input why };
 
-    fn from(why: InputFault) -> AnswerFault {
+    fn from(why: ReaderFault) -> AnswerFault {
         AnswerFault::Input(why)
     }
 }
@@ -125,9 +114,9 @@ impl From<AnswerFault> for SheetFault {
 
     fn from(why: AnswerFault) -> SheetFault {
         match why {
-            AnswerFault::Input(InputFault::Read) => SheetFault::Run(RunFault::Read),
-            AnswerFault::Input(InputFault::TooLong) => SheetFault::Run(RunFault::TooLong),
-            AnswerFault::Input(InputFault::NoMemory) => SheetFault::Run(RunFault::NoMemory),
+            AnswerFault::Input(ReaderFault::Failed) => SheetFault::Run(RunFault::Read),
+            AnswerFault::Input(ReaderFault::TooLong) => SheetFault::Run(RunFault::TooLong),
+            AnswerFault::Input(ReaderFault::NoMemory) => SheetFault::Run(RunFault::NoMemory),
             AnswerFault::NoMemory => SheetFault::Run(RunFault::NoMemory),
             AnswerFault::Write => SheetFault::Run(RunFault::Write),
             AnswerFault::Line(number) => SheetFault::Line(number),

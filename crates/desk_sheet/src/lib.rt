@@ -2,11 +2,10 @@
 #![tactic(auto)]
 
 mod fault;
-mod input;
+mod lines;
 mod sheet;
 mod stored_sheet;
 
 pub use fault::SheetFault;
-pub use input::MAX_SHEET;
-pub use sheet::{Mode, run_sheet};
+pub use sheet::{MAX_SHEET, Mode, run_sheet};
 pub use stored_sheet::run_sheet_on_feed;

@@ -11,19 +11,19 @@ ghost use Rattle.desk_world.specs.Sites.{Sites, no_sites};
 ghost use Rattle.desk_sheet.specs.Sheet.{Ends, IsDone, IsLeft, IsStopped, IsUnanswered, LeavesOff, Stops, Tells, answer_line, head, is_passed_over, is_refusal};
 
 use crate::fault::{AnswerFault, SheetFault};
-use crate::input::{next_line, read_whole};
+use crate::lines::next_line;
 use desk_answers::{Reply, put};
-use desk_files::Files;
+use desk_files::{Files, read_whole};
 use desk_inputs::Memory;
 use desk_ops::NoMemory;
-use desk_steps::answer;
+use desk_steps::{MAX_LINE, answer};
 use desk_stored::write_out;
 use desk_world::World;
 use std::alloc::{AllocError, Allocator, Global};
 use std::io::{Read, Write};
 
-/// A longer line is no command, and none that is passed over.
-const MAX_LINE: usize = 65_536;
+/// The most bytes of a sheet.
+pub const MAX_SHEET: usize = 67_108_864;
 
 /// How a sheet is carried out and answered.
 #[derive(Clone, Copy, Debug, PartialEq, Eq)]
@@ -146,7 +146,7 @@ pub fn answer_sheet<R: Read, W: Write, F: Files, A: Allocator + Copy>(
     ensures end { OnOk result (IsAtEnd (R.remaining reader.new)) }
     ensures left { IfErr result (IsLeft (R.remaining reader.old) (R.remaining reader.new)) }
 {
-    let input = read_whole(memory.own, reader)?;
+    let input = read_whole(memory.own, reader, MAX_SHEET)?;
     let mut told = String::new(memory.own);
     let end = tell_lines(memory, mode, world, files, &mut told, &input)?;
     write_out(writer, told.as_bytes())?;

@@ -19,14 +19,6 @@ const X: &[u8] = b"MFD2\x01\0\0\0\0\0\0\0\x01\0\x03\0\0\0\0\0\0\0\0\0\0\0\0\0\0x
 /// Makes the feed above of none.
 const MAKES_X: &[u8] = b"# by hand\ninsert 3 0 r\"x\"\n";
 
-/// Whether a file of that name has these bytes.
-fn holds(files: &TrialFiles<Global>, name: &str, bytes: &[u8]) -> bool {
-    match files.bytes_of(name) {
-        Some(kept) => kept == bytes,
-        None => false,
-    }
-}
-
 /// Files of which the k-th call fails, with a feed and one that is refused.
 fn rooms(alloc: Global, k: u64) -> Result<TrialFiles<Global>, AllocError> {
     let mut files = TrialFiles::new(alloc).failing_at_call(k);
@@ -55,7 +47,7 @@ fn stored_after_a_whole_sheet(rt: HostRuntime) -> Result<(), Fail> {
     let mut files = rooms(rt.alloc(), 0)?;
     let end = ended(rt.alloc(), &mut files, "new.feed", MAKES_X, b"2 ok 1.3\n")?;
     assert_eq!(rt; end, None);
-    assert!(rt; holds(&files, "new.feed", X));
+    assert!(rt; files.holds("new.feed", X));
     assert!(rt; files.bytes_of("new.feed.new").is_none());
     let mut files = files.for_next_run();
     let end = ended(
@@ -66,7 +58,7 @@ fn stored_after_a_whole_sheet(rt: HostRuntime) -> Result<(), Fail> {
         b"1 copy r\"x\"\n",
     )?;
     assert_eq!(rt; end, None);
-    assert!(rt; holds(&files, "new.feed", X));
+    assert!(rt; files.holds("new.feed", X));
     Ok(())
 }
 
@@ -78,7 +70,7 @@ fn not_stored_after_a_stop(rt: HostRuntime) -> Result<(), Fail> {
     let want = b"2 ok 2.3\n3 refused place\n";
     let end = ended(rt.alloc(), &mut files, "x.feed", input, want)?;
     assert_eq!(rt; end, Some(SheetFault::Line(3)));
-    assert!(rt; holds(&files, "x.feed", X));
+    assert!(rt; files.holds("x.feed", X));
     assert!(rt; files.bytes_of("x.feed.new").is_none());
     let device = SheetFault::Run(RunFault::File(FileRefusal::Device));
     assert_eq!(rt;
@@ -115,7 +107,7 @@ fn files_that_refuse(rt: HostRuntime) -> Result<(), Fail> {
         let want: &[u8] = if call < 3 { b"" } else { b"1 ok 2.3\n" };
         let end = ended(rt.alloc(), &mut files, "x.feed", b"insert 3 0 r\"y\"", want)?;
         assert_eq!(rt; end, Some(device));
-        assert!(rt; holds(&files, "x.feed", X));
+        assert!(rt; files.holds("x.feed", X));
     }
     Ok(())
 }
@@ -138,7 +130,7 @@ fn closed_output(rt: HostRuntime) -> Result<(), Fail> {
     );
     assert_eq!(rt; end, Err(SheetFault::Run(RunFault::Write)));
     assert_eq!(rt; writer.written(), b"1 ok 2.3\n2 c".as_slice());
-    assert!(rt; holds(&files, "x.feed", X));
+    assert!(rt; files.holds("x.feed", X));
     Ok(())
 }
 
@@ -173,7 +165,7 @@ fn is_refused(alloc: Global, cut: usize) -> Result<bool, Fail> {
         Err(SheetFault::Line(2)) => told == b"2 refused memory\n".as_slice(),
         Err(_) => false,
     };
-    let is_stored = holds(&files, "n.feed", X);
+    let is_stored = files.holds("n.feed", X);
     if !is_right || is_stored != end.is_ok() {
         return Err(Fail::new("another end or another feed"));
     }

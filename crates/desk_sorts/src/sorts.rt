@@ -1,6 +1,6 @@
 //! The sorts that a copy needs.
 
-ghost use Rattle.std.specs.Prelude.{◌≡◌, ◌+◌, ◌<◌, ◌≤◌, ◌^◌, IfOk, IfSome, OnOk};
+ghost use Rattle.std.specs.Prelude.{◌≡◌, ◌+◌, ◌<◌, ◌^◌, IfOk, IfSome, OnOk};
 ghost use Rattle.std.specs.BTreeMap.{get};
 ghost use Rattle.desk_sorts.specs.Sorts.{AreSortsOf, symbol_cmp};
 ghost use Rattle.desk_sorts.specs.Counting.{AreTallies, Counts, counted};

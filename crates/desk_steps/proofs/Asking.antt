@@ -1,6 +1,6 @@
 -- Where an answer may be long no site has changed, and no file; and no device has failed.
-use Rattle.std.proofs.Common.{◌≡◌, ℕ, ◌+◌, ◌∙◌, ◌⊎◌, inl, inr, List, [], ◌∷◌, Bool, true, false, refl, ap, sym}
-use Rattle.std.specs.Prelude.{Option, Some, None, Result, Ok, Err, MatchBool, MatchOption, length, nat_le, nat_lt, if◌then◌else◌}
+use Rattle.std.proofs.Common.{◌≡◌, ℕ, ◌+◌, ◌∙◌, inl, inr, List, [], ◌∷◌, Bool, true, false, refl, ap, sym}
+use Rattle.std.specs.Prelude.{Option, Some, None, Result, Ok, Err, length, nat_le, nat_lt, if◌then◌else◌}
 use Rattle.desk_ops.specs.declared.op.Op.{Op}
 use Rattle.desk_ops.specs.declared.op.Stamp.{Stamp}
 use Rattle.desk_ops.specs.declared.op.Symbol.{Symbol}
@@ -13,7 +13,7 @@ use Rattle.desk_replica.specs.declared.Refusal.{Refusal as EditRefusal}
 use Rattle.desk_replica.specs.declared.Refusal.TheVariants as edits
 use Rattle.desk_commands.specs.Grammar.{command_of}
 use Rattle.desk_commands.specs.Command.{CommandValues, Site, Insert, Delete, SetTo, Take, Send, Merge, Show, Faults, Settings, Feed, Ribbon, Cast, Restart}
-use Rattle.desk_answers.specs.NotDone.{edit_refused, event_reply, stopped, stopped_after}
+use Rattle.desk_answers.specs.NotDone.{edit_refused, event_reply, stopped_after}
 use Rattle.desk_answers.specs.Reply.{ReplyValues, Refused, Stopped, is_long}
 use Rattle.desk_answers.specs.Reply as replies
 use Rattle.desk_answers.specs.declared.text.Refusal.{Refusal}

@@ -13,7 +13,7 @@ use Rattle.desk_inputs.specs.Job.{IsJobByFiles, JobLacksMemory}
 use Rattle.desk_inputs.specs.declared.job.Wanted.{Wanted}
 use Rattle.desk_world.specs.Sites.{Sites}
 use Rattle.desk_steps.specs.Act.{Jobs, LacksMemory, Refuses}
-use Rattle.desk_steps.specs.Desk.{Desk, desk}
+use Rattle.desk_steps.specs.Desk.{desk}
 use Rattle.desk_steps.specs.Event.{set_of}
 
 lacked : (of_case of_wedge : List ℕ) (before after : Shelf) → JobLacksMemory of_case of_wedge before after → after ≡ before

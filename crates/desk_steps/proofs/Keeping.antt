@@ -1,6 +1,6 @@
 -- No event, no command and no line takes a site away.
-use Rattle.std.proofs.Common.{◌≡◌, ℕ, ◌+◌, ◌∙◌, ◌⊎◌, inl, inr, List, [], ◌∷◌, Bool, true, false, cond, refl, ap, subst, sym}
-use Rattle.std.specs.Prelude.{Option, Some, None, Result, Ok, Err, MatchBool, MatchOption, MatchResult, length, nat_le, nat_lt}
+use Rattle.std.proofs.Common.{◌≡◌, ℕ, ◌+◌, ◌∙◌, inl, inr, List, [], ◌∷◌, Bool, true, false, cond, refl, ap}
+use Rattle.std.specs.Prelude.{Option, Some, None, Result, Ok, Err, MatchBool, MatchOption, length, nat_le, nat_lt}
 use Rattle.std.specs.FinMap as fin
 use Rattle.std.specs.Cmp.{nat_cmp_total}
 use Rattle.desk_ops.specs.declared.op.Op.{Op}
@@ -22,9 +22,9 @@ use Rattle.desk_world.specs.declared.world.Answer.{Answer}
 use Rattle.desk_world.specs.declared.world.LocalEdit.{LocalEdit}
 use Rattle.desk_world.specs.declared.world.LocalEdit.TheVariants as kinds
 use Rattle.desk_world.specs.declared.world.StepRefusal.{StepRefusal}
-use Rattle.desk_steps.specs.Act.{Does, GivesPart, IsBrought, Jobs, Performs, Takes, sent}
+use Rattle.desk_steps.specs.Act.{Does, GivesPart, Jobs, Performs, Takes, sent}
 use Rattle.desk_steps.specs.Desk.{Desk, KeepsSites}
-use Rattle.desk_steps.specs.Event.{Happens, Says, set_of}
+use Rattle.desk_steps.specs.Event.{Happens, set_of}
 use Rattle.desk_steps.specs.Insert.{Inserts, all_symbols, first_of, made_of}
 use Rattle.desk_steps.specs.Line.{Allows, IsAnswered, Bytes, Line, Long}
 

@@ -1,6 +1,6 @@
 -- A part of a list, by its places.
 use Rattle.std.proofs.Common.{◌≡◌, ℕ, ◌-◌, ◌<◌, ◌≤◌, ◌∙◌, Bool, true, false, List, ap, arith, length, take, drop}
-use Rattle.std.specs.Prelude.{Option, Some, None, ◌&&◌, nat_le, if◌then◌else◌}
+use Rattle.std.specs.Prelude.{Some, None, ◌&&◌, nat_le, if◌then◌else◌}
 use Rattle.std.proofs.lemmas.Bool.{le-leb, lt-leb}
 use Rattle.desk_ops.specs.declared.op.Op.{Op}
 use Rattle.desk_steps.specs.Act.{sent}

@@ -1,7 +1,7 @@
 -- What each command answers and does.
 use Rattle.std.specs.Prelude.{◌≡◌, ◌-◌, ◌⊎◌, take, drop, ◌&&◌, length, nat_le, ℕ, nat_lt, List, Option, Some, None, Result, MatchOption, MatchBool, if◌then◌else◌}
 use Rattle.desk_ops.specs.declared.op.Op.{Op}
-use Rattle.desk_ops.specs.OpSet.{OpSet, in_order}
+use Rattle.desk_ops.specs.OpSet.{in_order}
 use Rattle.desk_ops.specs.Shown.{copy_of}
 use Rattle.desk_ops.specs.Faults.{faults_of}
 use Rattle.desk_codec.specs.Feed.{IsFeed}

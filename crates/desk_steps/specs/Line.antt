@@ -6,13 +6,17 @@ use Rattle.desk_commands.specs.Grammar.{command_of}
 use Rattle.desk_steps.specs.Act.{LacksMemory, Performs, Refuses}
 use Rattle.desk_steps.specs.Desk.{Desk}
 
--- a line without its end: its bytes, where they are at most 65,536
+-- the most bytes of a command's line, without its end
+abbrev pub max_line : ℕ
+max_line = 65536
+
+-- a line without its end: its bytes, where they are no more than that
 pub data Line : Type 0 where
   Bytes : List ℕ → Line
   Long : Line
 
 abbrev pub line_of : List ℕ → Line
-line_of bytes = if nat_le (length bytes) 65536 then Bytes bytes else Long
+line_of bytes = if nat_le (length bytes) max_line then Bytes bytes else Long
 
 -- the answer of a line for which there is memory, and what it leaves
 abbrev pub IsAnswered : Desk → Line → ReplyValues → Desk → Type 0

@@ -5,7 +5,6 @@ ghost use Rattle.desk_answers.specs.NotDone.{reply_to};
 ghost use Rattle.desk_commands.specs.Command as commands;
 ghost use Rattle.desk_commands.specs.Command.{command_values};
 ghost use Rattle.desk_files.specs.Files.{Stays};
-ghost use Rattle.desk_inputs.specs.Job.{IsJobByFiles};
 ghost use Rattle.desk_ops.specs.Op.{IsLawful};
 ghost use Rattle.desk_ops.specs.OpSet.{in_order};
 ghost use Rattle.desk_steps.specs.Act.{Attempts, Does, IsBrought, IsNoPart, Jobs, Lacks, LacksMemory, Takes, Tries, sent};

@@ -6,4 +6,4 @@ mod event;
 mod insert;
 mod line;
 
-pub use line::answer;
+pub use line::{MAX_LINE, answer};

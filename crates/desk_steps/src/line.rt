@@ -15,8 +15,8 @@ use desk_inputs::Memory;
 use desk_world::World;
 use std::alloc::Allocator;
 
-/// A longer line is no command.
-const MAX_LINE: usize = 65_536;
+/// The most bytes of a command's line, without its end: a longer one is refused.
+pub const MAX_LINE: usize = 65_536;
 
 /// Does what a line says.
 fn do_line<F: Files, A: Allocator + Copy>(

@@ -1,9 +1,9 @@
-use Rattle.std.proofs.Common.{◌≡◌, ◌≤◌}
+use Rattle.std.proofs.Common.{◌≡◌, ◌≤◌, take}
 use Rattle.desk_check.specs.Sorts.{sorts}
 use Rattle.desk_check.proofs.cases.sorts.Given as goal
 
 abbrev pub invariant-loop-place : goal.invariant-loop-place
 invariant-loop-place l = record {
-  counted : l.count ≡ sorts (l.case).grid l.place;
+  counted : l.count ≡ sorts (take l.place (l.case).grid);
   small : l.count ≤ l.place;
 }

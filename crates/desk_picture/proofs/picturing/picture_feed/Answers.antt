@@ -1,23 +1,21 @@
-use Rattle.std.proofs.Common.{ap, inr, subst}
+use Rattle.std.proofs.Common.{ap, inl, inr, subst}
 use Rattle.std.proofs.lemmas.Result.{err_from_is_err_and}
 use Rattle.std.specs.Prelude.{Err, string_bytes}
 use Rattle.desk_files.specs.Files.{IsReplaced, Shelf}
 use Rattle.desk_files.proofs.Shelves.{holds_on}
 use Rattle.desk_stored.specs.Faults.{IsNotStored}
-use Rattle.desk_preview.specs.Sources.{sources}
-use Rattle.desk_picture.proofs.Refusing.{unpictured}
 use Rattle.desk_picture.proofs.picturing.picture_feed.Goals as goal
 
 pub returns-in_err-replica-clause-err : goal.returns-in_err-replica-clause-err
 returns-in_err-replica-clause-err g c =
     let p = err_from_is_err_and c.from_residual.result c.from_residual.ensures.1 in
-    rw p.1 (rw p.2 (unpictured (sources c.args.feed.now c.args.case.now c.args.wedge.now) c.args.trial.now c.args.target.now (g.F.Files.shelf c.args.files.now) (g.F.Files.shelf c.take_in.new.files) c.in_err-replica.field-0.0 c.take_in.ensures.stays c.in_err-replica.ensures.err))
+    rw p.1 (inl (c.take_in.ensures.stays, c.in_err-replica.field-0.0, p.2, c.in_err-replica.ensures.err))
 
 pub returns-in_err-drawn-clause-err : goal.returns-in_err-drawn-clause-err
 returns-in_err-drawn-clause-err g c =
     let t = c.in_ok-replica in
     let p = err_from_is_err_and c.from_residual-in_err-drawn.result c.from_residual-in_err-drawn.ensures.1 in
-    rw p.1 (rw p.2 (inr (t.ensures.still, t.replica.ops, t.case, t.wedge, t.ensures.ok)))
+    rw p.1 (inr (inl (p.2, t.ensures.still, (t.replica.ops, t.case, t.wedge, t.ensures.ok))))
 
 pub returns-in_err-store-clause-err : goal.returns-in_err-store-clause-err
 returns-in_err-store-clause-err g c =
@@ -28,7 +26,7 @@ returns-in_err-store-clause-err g c =
     let why = c.in_err-store.field-0.0 in
     let unstored : IsNotStored c.args.target.now mid last why = (e.err, e.small, (λ is. e.missing (ap Err is)), e.counted) in
     let p = err_from_is_err_and c.from_residual-in_err-store.result c.from_residual-in_err-store.ensures.1 in
-    rw p.1 (rw p.2 (string_bytes c.in_ok-drawn.drawn, (t.replica.ops, t.case, t.wedge, t.ensures.ok, c.in_ok-drawn.ensures), subst (λ (s : Shelf). IsNotStored c.args.target.now s last why) t.ensures.still unstored))
+    rw p.1 (inr (inr (why, p.2, string_bytes c.in_ok-drawn.drawn, (t.replica.ops, t.case, t.wedge, t.ensures.ok, c.in_ok-drawn.ensures), subst (λ (s : Shelf). IsNotStored c.args.target.now s last why) t.ensures.still unstored)))
 
 pub returns-clause-ok : goal.returns-clause-ok
 returns-clause-ok g c =

@@ -62,7 +62,7 @@ returns-in_err-tell-in-Err-Faults-clause-err g c =
 pub returns-clause-err : goal.returns-clause-err
 returns-clause-err g c =
     let t = c.in_ok-replica in
-    (refl, inr (t.ensures.still, t.replica.ops, t.case, t.wedge, t.ensures.ok))
+    (refl, inr (t.ensures.still, (t.replica.ops, t.case, t.wedge, t.ensures.ok)))
 
 pub returns-in_err-store-in-Ok-clause-held : goal.returns-in_err-store-in-Ok-clause-held
 returns-in_err-store-in-Ok-clause-held g c =

@@ -1,14 +1,14 @@
-use Rattle.std.proofs.Common.{◌≡◌, ℕ, ◌≤◌, List, ◌++◌, drop, length}
+use Rattle.std.proofs.Common.{◌≡◌, ℕ, ◌+◌, ◌≤◌, List, ◌++◌, drop, length}
 use Rattle.desk_files.specs.Files.{Stays}
 use Rattle.desk_steps.specs.Desk.{KeepsSites, desk}
-use Rattle.desk_steps.specs.Line.{Line}
+use Rattle.desk_steps.specs.Line.{Line, max_line}
 use Rattle.desk_script.specs.Script.{Turn}
 use Rattle.desk_script.specs.Pending.{lines_from}
 use Rattle.desk_script.proofs.stream.take_each.Given as goal
 
 abbrev pub invariant-loop-b : goal.invariant-loop-b
 invariant-loop-b g l = record {
-  kept : length l.line.items ≤ 65538;
+  kept : length l.line.items ≤ max_line + 2;
   stays : Stays (g.F.Files.shelf l.fn.files) (g.F.Files.shelf l.files);
   sites : KeepsSites l.fn.world l.world;
   moves : (done : List Line) × Turn (desk l.fn.world (g.F.Files.shelf l.fn.files)) (desk l.world (g.F.Files.shelf l.files)) (g.W.Write.contents l.fn.writer) (g.W.Write.contents l.writer) done

@@ -1,4 +1,4 @@
-use Rattle.std.proofs.Common.{◌≡◌, ◌∙◌, inl, length, refl, sym, ap}
+use Rattle.std.proofs.Common.{◌∙◌, inl, length, refl, sym, ap}
 use Rattle.std.specs.Prelude.{Some}
 use Rattle.desk_ops.specs.OpSet.{in_order}
 use Rattle.desk_held.proofs.Ranges.{length-in_order}

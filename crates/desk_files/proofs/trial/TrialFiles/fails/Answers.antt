@@ -1,5 +1,5 @@
 use Rattle.std.proofs.Common.{rules}
 use Rattle.desk_files.proofs.trial.TrialFiles.fails.Goals as goal
 
-pub returns-clause-told : goal.returns-clause-told
-returns-clause-told g c = search rules steps 2000000
+pub returns-clause-answer : goal.returns-clause-answer
+returns-clause-answer g c = search rules steps 2000000
