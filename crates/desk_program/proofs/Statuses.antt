@@ -1,29 +1,24 @@
 -- What a status says of a run.
-use Rattle.std.proofs.Common.{◌≡◌, ◌⊎◌, inl, inr, ℕ, Bool, true, false, refl, sym, ◌∙◌, arith}
+use Rattle.std.proofs.Common.{◌≡◌, ◌⊎◌, inl, inr, ℕ, Bool, true, false, refl, arith}
 use Rattle.std.specs.Prelude.{Result, Ok, Err, MatchBool, MatchResult, IfErr, IfOk, OnErr, OnOk}
+
+-- a status is not both
+apart : {X : Type 0} (status : ℕ) → status ≡ 0 → status ≡ 1 → X
+apart status none one = absurd (omega (arith, none, one))
 
 -- the status 0
 pub done_of : {A E X : Type 0} (r : Result A E) (status : ℕ) → MatchResult r (λ _. status ≡ 0) (λ _. status ≡ 1) → OnOk r X → status ≡ 0 → X
 done_of (Ok a) status told x zero = x
-done_of (Err e) status told x zero =
-    let one : status ≡ 1 = told in
-    let bad : 1 ≡ 0 = sym one ∙ zero in
-    absurd (omega arith)
+done_of (Err e) status told x zero = apart status zero told
 
 -- the status 1, of a fault
 pub halt_of : {A E : Type 0} (r : Result A E) (Why : E → Type 0) (status : ℕ) → MatchResult r (λ _. status ≡ 0) (λ _. status ≡ 1) → IfErr r Why → status ≡ 1 → (e : E) × Why e
-halt_of (Ok a) Why status told why one =
-    let none : status ≡ 0 = told in
-    let bad : 0 ≡ 1 = sym none ∙ one in
-    absurd (omega arith)
+halt_of (Ok a) Why status told why one = apart status told one
 halt_of (Err e) Why status told why one = (e, why)
 
 -- the same, where what is left does not go by the fault
 pub left_of : {A E X : Type 0} (r : Result A E) (status : ℕ) → MatchResult r (λ _. status ≡ 0) (λ _. status ≡ 1) → OnErr r X → status ≡ 1 → X
-left_of (Ok a) status told x one =
-    let none : status ≡ 0 = told in
-    let bad : 0 ≡ 1 = sym none ∙ one in
-    absurd (omega arith)
+left_of (Ok a) status told x one = apart status told one
 left_of (Err e) status told x one = x
 
 -- the status of an answer that is yes or no
@@ -33,21 +28,12 @@ TellsOf r status = MatchResult r (λ (yes : Bool). (yes ≡ true → status ≡ 
 -- the status 0: yes
 pub yes_of : {E : Type 0} (r : Result Bool E) (X : Bool → Type 0) (status : ℕ) → TellsOf r status → IfOk r X → status ≡ 0 → X true
 yes_of (Ok true) X status told x zero = x
-yes_of (Ok false) X status told x zero =
-    let one : status ≡ 1 = told.1 refl in
-    let bad : 1 ≡ 0 = sym one ∙ zero in
-    absurd (omega arith)
-yes_of (Err e) X status told x zero =
-    let one : status ≡ 1 = told in
-    let bad : 1 ≡ 0 = sym one ∙ zero in
-    absurd (omega arith)
+yes_of (Ok false) X status told x zero = apart status zero (told.1 refl)
+yes_of (Err e) X status told x zero = apart status zero told
 
 -- the status 1: no, or a fault
 pub no_of : {E : Type 0} (r : Result Bool E) (X : Bool → Type 0) (Why : E → Type 0) (status : ℕ) → TellsOf r status → IfOk r X → IfErr r Why → status ≡ 1 → X false ⊎ ((e : E) × Why e)
-no_of (Ok true) X Why status told x why one =
-    let none : status ≡ 0 = told.0 refl in
-    let bad : 0 ≡ 1 = sym none ∙ one in
-    absurd (omega arith)
+no_of (Ok true) X Why status told x why one = apart status (told.0 refl) one
 no_of (Ok false) X Why status told x why one = inl x
 no_of (Err e) X Why status told x why one = inr (e, why)
 

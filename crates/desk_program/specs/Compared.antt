@@ -1,11 +1,11 @@
--- What a difference has told, and what it left.
+-- What a difference has written, and what it left.
 use Rattle.std.specs.Prelude.{◌⊎◌, ℕ, Bool, true, false, List, Option}
 use Rattle.clap.specs.Words.{Text}
 use Rattle.desk_files.specs.Files.{Shelf, Stays}
 use Rattle.desk_difference.specs.Telling.{IsTold, IsUntold}
 use Rattle.desk_difference.specs.declared.fault.DifferenceFault.{DifferenceFault}
 
--- what is told of two feeds was written, they hold the same or not; no file has changed
+-- what is said of two feeds was written, they hold the same or not; no file has changed
 abbrev pub IsCompared : (one other : Text) → Shelf → Shelf → Option (List ℕ) → Option (List ℕ) → Bool → Type 0
 IsCompared one other first last before after same = Stays first last × IsTold one other first before after same
 
@@ -13,7 +13,7 @@ IsCompared one other first last before after same = Stays first last × IsTold o
 abbrev pub AreOne : (one other : Text) → Shelf → Shelf → Option (List ℕ) → Option (List ℕ) → Type 0
 AreOne one other first last before after = IsCompared one other first last before after true
 
--- they do not; or it was not told
+-- they do not; or it was not written
 abbrev pub AreNotOne : (one other : Text) → Shelf → Shelf → Option (List ℕ) → Option (List ℕ) → Type 0
 AreNotOne one other first last before after =
     IsCompared one other first last before after false ⊎ (Stays first last × (fault : DifferenceFault) × IsUntold one other first last before after fault)

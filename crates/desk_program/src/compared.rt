@@ -5,8 +5,8 @@ ghost use Rattle.desk_program.specs.Compared.{AreNotOne, AreOne};
 
 use crate::telling::{Cause, feed_cause, told};
 use desk_difference::{DifferenceFault, tell_difference};
+use desk_files::Files;
 use desk_host::Explains;
-use desk_script::Files;
 use std::alloc::Global;
 use std::io::Write;
 

@@ -5,8 +5,9 @@ ghost use Rattle.std.specs.Prelude.{◌≡◌, ◌≤◌, ◌↔◌, IfSome, IsN
 ghost use Rattle.desk_job.specs.Answer.{AreValues};
 ghost use Rattle.desk_program.specs.Previews.{IsInFile, IsInNoFile, IsPictureAbsent, IsPictureThere, IsSeen, IsSeenBy, IsShown, IsSource, IsUnseen, IsUnseenBy, IsUnshown, TakesSource, extent_of};
 
-use crate::telling::{explain_feed, stopped};
+use crate::telling::{explain_feed, stopped, tell_no_memory, tell_target};
 use desk_answers::Refusal;
+use desk_files::{FileRefusal, Files};
 use desk_hand::FeedTrouble;
 use desk_host::Explains;
 use desk_inputs::Memory;
@@ -14,7 +15,7 @@ use desk_picture::picture_feed;
 use desk_preview::{PreviewFault, proof_feed, punch_feed};
 use desk_proof::Extent;
 use desk_replica::Settings;
-use desk_script::{FileRefusal, Files, RunFault};
+use desk_script::RunFault;
 use desk_trial::{TrialFault, trial_of};
 use desk_words::Sources;
 use std::alloc::Global;
@@ -104,8 +105,7 @@ fn unseen<E: Write, F: Explains>(
     ensures { result ≡ 1 }
 {
     if lacks_memory(fault) {
-        let _ = writeln!(faults, "copydesk: {}", RunFault::NoMemory);
-        let _ = writeln!(faults, "{}: out of memory", from.feed);
+        tell_no_memory(faults, from.feed);
         return 1;
     }
     let _ = writeln!(faults, "copydesk: {fault}");
@@ -273,8 +273,7 @@ fn takes_source<E: Write>(faults: &mut E, from: &Sources<'_>, picture: Option<&s
     if !is_source(from, target) {
         return false;
     }
-    let _ = writeln!(faults, "copydesk: {}", RunFault::File(FileRefusal::Device));
-    let _ = writeln!(faults, "{target}: the picture would take its place");
+    tell_target(faults, target, "picture");
     true
 }
 
@@ -319,8 +318,7 @@ pub fn punched<W: Write, E: Write, F: Files + Explains>(
     ensures stopped { result ≡ 1 → IsInNoFile from.now target.now (F.shelf files.old) (F.shelf files.new) (W.contents writer.old) (W.contents writer.new) }
 {
     if is_source(from, target) {
-        let _ = writeln!(faults, "copydesk: {}", RunFault::File(FileRefusal::Device));
-        let _ = writeln!(faults, "{target}: the ribbon would take its place");
+        tell_target(faults, target, "ribbon");
         return 1;
     }
     let outcome = punch_feed(

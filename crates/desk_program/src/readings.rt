@@ -7,13 +7,13 @@ ghost use Rattle.desk_reading.specs.Sources.{sources};
 ghost use Rattle.desk_sorts.specs.Sources as of_sorts;
 
 use crate::previews::{explain_input, memory_of};
-use crate::telling::explain_feed;
+use crate::telling::{explain_feed, tell_no_memory, tell_target};
 use desk_answers::Refusal;
+use desk_files::{FileRefusal, Files};
 use desk_hand::FeedTrouble;
 use desk_holes::draw_ribbon;
 use desk_host::Explains;
 use desk_reading::{ReadingFault, read_job};
-use desk_script::{FileRefusal, Files, RunFault};
 use desk_sorts::{SortsFault, tell_sorts};
 use std::alloc::Global;
 use std::io::{self, Write};
@@ -68,8 +68,7 @@ fn tell_reading<E: Write, F: Explains>(
     fault: ReadingFault,
 ) {
     if lacks_memory(fault) {
-        let _ = writeln!(faults, "copydesk: {}", RunFault::NoMemory);
-        let _ = writeln!(faults, "{ribbon}: out of memory");
+        tell_no_memory(faults, ribbon);
     } else {
         let _ = writeln!(faults, "copydesk: {}", reading_words(fault));
         let _ = explain_reading(faults, files, ribbon, case, wedge, target, fault);
@@ -146,8 +145,7 @@ fn takes_source<E: Write>(
     if !is_source(ribbon, case, wedge, target) {
         return false;
     }
-    let _ = writeln!(faults, "copydesk: {}", RunFault::File(FileRefusal::Device));
-    let _ = writeln!(faults, "{target}: the picture would take its place");
+    tell_target(faults, target, "picture");
     true
 }
 
@@ -216,8 +214,7 @@ fn unlisted<E: Write, F: Explains>(
     ensures { result ≡ 1 }
 {
     if are_for_memory(fault) {
-        let _ = writeln!(faults, "copydesk: {}", RunFault::NoMemory);
-        let _ = writeln!(faults, "{feed}: out of memory");
+        tell_no_memory(faults, feed);
         return 1;
     }
     let _ = writeln!(faults, "copydesk: {fault}");

@@ -4,8 +4,9 @@ ghost use Rattle.std.specs.Prelude.{◌≡◌, ◌≤◌, MatchResult};
 ghost use Rattle.desk_program.specs.Sheets.{IsOffDesk, IsOnDesk, IsScripted, IsUnscripted, is_sheet};
 
 use crate::telling::{explain, status_of, status_on};
+use desk_files::Files;
 use desk_host::Explains;
-use desk_script::{Files, run, run_on_feed};
+use desk_script::{run, run_on_feed};
 use desk_sheet::{Mode, SheetFault, run_sheet, run_sheet_on_feed};
 use desk_words::Manner;
 use std::alloc::Global;

@@ -4,9 +4,10 @@ ghost use Rattle.std.specs.Prelude.{◌≡◌, ◌↔◌, ◌⊎◌, MatchResult
 ghost use Rattle.std.specs.IoError.{error_kind};
 
 use desk_codec::FeedFault;
+use desk_files::FileRefusal;
 use desk_hand::{FeedTrouble, MAX_TEXT};
 use desk_host::Explains;
-use desk_script::{FileRefusal, RunFault};
+use desk_script::RunFault;
 use std::fmt::Display;
 use std::io::{self, ErrorKind, Write};
 
@@ -168,7 +169,19 @@ pub fn told<E: Write, F: Explains, T: Display>(
     1
 }
 
-/// Tells why the words could not be read, and gives the status of it: 1 where memory ran out, as of a run, and else 2, as of
+/// Writes two lines on memory that ran out over a file.
+pub fn tell_no_memory<E: Write>(faults: &mut E, name: &str) {
+    let _ = writeln!(faults, "copydesk: {}", RunFault::NoMemory);
+    let _ = writeln!(faults, "{name}: out of memory");
+}
+
+/// Writes two lines on a target that would take the place of what it is made of: its name, and what it would be.
+pub fn tell_target<E: Write>(faults: &mut E, target: &str, made: &str) {
+    let _ = writeln!(faults, "copydesk: {}", RunFault::File(FileRefusal::Device));
+    let _ = writeln!(faults, "{target}: the {made} would take its place");
+}
+
+/// Says why the words could not be read, and gives the status of it: 1 where memory ran out, as of a run, and else 2, as of
 /// words that `clap` refuses. A failure to write the line changes no status.
 pub fn unread<E: Write>(faults: &mut E, error: &io::Error) -> u8
     ensures within { (result ≡ 1) ⊎ (result ≡ 2) }

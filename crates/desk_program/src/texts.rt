@@ -6,12 +6,13 @@ ghost use Rattle.desk_replace.specs.Replacing.{IsReplaced};
 ghost use Rattle.desk_program.specs.Texts.{AreFound, AreNotInOrder, IsUnchanged, exchange};
 
 use crate::by_hand::{keep_cause, revision_cause, take_cause};
+use crate::previews::memory_of;
 use crate::telling::{Cause, stopped, told};
 use desk_check::{CheckFault, check_files};
+use desk_files::Files;
 use desk_host::Explains;
-use desk_inputs::Memory;
 use desk_replace::{Exchange, ExchangeFault, PlaceFault, ReplaceFault, replace_text};
-use desk_script::{Files, RunFault};
+use desk_script::RunFault;
 use std::alloc::Global;
 use std::io::Write;
 
@@ -87,10 +88,6 @@ pub fn checked<W: Write, E: Write, F: Files + Explains>(
     ensures done { result ≡ 0 → AreFound (texts_of names.now) (F.shelf files.old) (F.shelf files.new) (W.contents writer.old) (W.contents writer.new) }
     ensures stopped { result ≡ 1 → AreNotInOrder (texts_of names.now) (F.shelf files.old) (F.shelf files.new) (W.contents writer.old) (W.contents writer.new) }
 {
-    let memory = Memory {
-        own: alloc,
-        global: alloc,
-    };
-    let outcome = check_files(memory, writer, files, names);
+    let outcome = check_files(memory_of(alloc), writer, files, names);
     check_status(faults, outcome)
 }

@@ -1,5 +1,5 @@
+use desk_files::{FileRefusal, Files, store};
 use desk_host::{HostFiles, Progress};
-use desk_script::{FileRefusal, Files, store};
 use std::alloc::{AllocError, Global};
 use std::fs::{self, File, OpenFile};
 use std::io;

@@ -1,7 +1,7 @@
+use desk_files::trial::{AtEnd, TrialFiles, TrialReader, TrialWriter};
+use desk_files::{Files, NoFiles};
 use desk_host::Explains;
 use desk_program::program;
-use desk_script::trial::{AtEnd, TrialFiles, TrialReader, TrialWriter};
-use desk_script::{Files, NoFiles};
 use std::alloc::{AllocError, Global};
 use std::test::Fail;
 
@@ -200,14 +200,6 @@ fn feeds_are_compared(rt: HostRuntime) -> Result<(), Fail> {
 /// One insert, 1.3.
 const ONE_INSERT: &[u8] = b"MFD2\x01\0\0\0\0\0\0\0\x01\0\x03\0\0\0\0\0\0\0\0\0\0\0\0\0\0x";
 
-/// Whether a file of that name has these bytes.
-fn holds(files: &TrialFiles<Global>, name: &str, bytes: &[u8]) -> bool {
-    match files.bytes_of(name) {
-        Some(kept) => kept == bytes,
-        None => false,
-    }
-}
-
 /// A sheet whose fourth line is refused, and one that is not.
 const REFUSED_SHEET: &[u8] = b"site 1\n\n# a note\ninsert 1 9 r\"a\"\nshow 1\n";
 
@@ -242,7 +234,7 @@ fn sheets_are_strict(rt: HostRuntime) -> Result<(), Fail> {
         got.written.written(),
         b"2 ok 1.3\n3 copy r\"x\"\n".as_slice()
     );
-    assert!(rt; holds(&files, "a.feed", ONE_INSERT));
+    assert!(rt; files.holds("a.feed", ONE_INSERT));
     Ok(())
 }
 
@@ -266,7 +258,7 @@ fn stopped_sheets_store_nothing(rt: HostRuntime) -> Result<(), Fail> {
         got.faults.written(),
         b"copydesk: line 2 refused\nstandard input: the answer to line 2 says why; a.feed is as it was\n".as_slice()
     );
-    assert!(rt; holds(&files, "a.feed", ONE_INSERT));
+    assert!(rt; files.holds("a.feed", ONE_INSERT));
     Ok(())
 }
 
@@ -287,7 +279,7 @@ fn full_set_and_stored_feed(rt: HostRuntime) -> Result<(), Fail> {
     )?;
     assert_eq!(rt; got.status, 0);
     assert_eq!(rt; got.written.written(), b"ok 1.3\n".as_slice());
-    assert!(rt; holds(&files, "a.feed", ONE_INSERT));
+    assert!(rt; files.holds("a.feed", ONE_INSERT));
     let mut files = files.for_next_run();
     let got = tried_on(rt.alloc(), "desk a.feed --site=3", b"show 3\n", &mut files)?;
     assert_eq!(rt; got.status, 0);
@@ -307,7 +299,7 @@ fn refused_stored_feed(rt: HostRuntime) -> Result<(), Fail> {
         got.faults.written(),
         b"copydesk: feed refused\n".as_slice()
     );
-    assert!(rt; holds(&files, "a.feed", b"MF"));
+    assert!(rt; files.holds("a.feed", b"MF"));
     let mut files = files.for_next_run();
     let got = tried_on(rt.alloc(), "desk a.feed --site 3 --why", b"", &mut files)?;
     assert_eq!(rt; got.status, 1);
@@ -339,7 +331,7 @@ fn too_many_stored(rt: HostRuntime) -> Result<(), Fail> {
     assert_eq!(rt; got.status, 1);
     assert_eq!(rt; got.written.written(), b"".as_slice());
     assert_eq!(rt; got.faults.written(), b"copydesk: not opened\n".as_slice());
-    assert!(rt; holds(&files, "a.feed", &feed));
+    assert!(rt; files.holds("a.feed", &feed));
     Ok(())
 }
 
@@ -365,7 +357,7 @@ fn feed_stored_after_stopped_run(rt: HostRuntime) -> Result<(), Fail> {
     assert_eq!(rt; got.status, 1);
     assert_eq!(rt; got.written.written(), b"ok 2.".as_slice());
     assert_eq!(rt; got.faults.written(), b"copydesk: write fault\n".as_slice());
-    assert!(rt; holds(&files, "a.feed", ONE_INSERT));
+    assert!(rt; files.holds("a.feed", ONE_INSERT));
     Ok(())
 }
 
@@ -388,8 +380,8 @@ fn feeds_are_merged(rt: HostRuntime) -> Result<(), Fail> {
         b"b.feed ok new 1 known 0\na.feed ok new 0 known 1\nfaults none\n".as_slice()
     );
     assert_eq!(rt; got.faults.written(), b"".as_slice());
-    assert!(rt; holds(&files, "a.feed", BOTH_INSERTS));
-    assert!(rt; holds(&files, "b.feed", ANOTHER_INSERT));
+    assert!(rt; files.holds("a.feed", BOTH_INSERTS));
+    assert!(rt; files.holds("b.feed", ANOTHER_INSERT));
     Ok(())
 }
 
@@ -412,7 +404,7 @@ fn refused_merge(rt: HostRuntime) -> Result<(), Fail> {
         got.faults.written(),
         b"copydesk: file fault\nc.feed: a call failed\n".as_slice()
     );
-    assert!(rt; holds(&files, "a.feed", ONE_INSERT));
+    assert!(rt; files.holds("a.feed", ONE_INSERT));
     Ok(())
 }
 
@@ -472,7 +464,7 @@ fn refused_text(rt: HostRuntime) -> Result<(), Fail> {
         got.faults.written(),
         b"copydesk: line 2, column 1: a backslash that escapes nothing\n".as_slice()
     );
-    assert!(rt; holds(&files, "a.feed", ONE_INSERT));
+    assert!(rt; files.holds("a.feed", ONE_INSERT));
     Ok(())
 }
 

@@ -1,5 +1,4 @@
 use Rattle.std.proofs.Common.{subst}
-use Rattle.std.specs.Prelude.{IfErr, IfOk}
 use Rattle.desk_preview.specs.Proofing.{IsProofed, IsUnproofed}
 use Rattle.desk_preview.specs.Sources.{sources}
 use Rattle.desk_program.proofs.previews.shown.Goals as goal
