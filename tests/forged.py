@@ -3,7 +3,8 @@
 
 Each set of operations is taken in every order, one operation a line: the copy, the faults and the settings are the same
 after each. A feed cut anywhere has the fault that the format says. The counter next to the last leaves room for one
-symbol. A full site tells each operation and each edit what is due. And the worst orders of a large feed: each is opened
+symbol. A full site tells each operation and each edit what is due, and a text, a merge and a look at feeds that are full or
+more than full are refused as such. And the worst orders of a large feed: each is opened
 in at most ten times what an honest feed of its size takes, lists that fork stamps of their own are taken so too, and a
 script of a million refused commands is read at the speed of its bytes.
 """
@@ -117,6 +118,36 @@ def full_set(program, folder):
     print("full set: each answer")
 
 
+def full_by_hand(program, folder):
+    """A text, a merge and a look where a feed has as many operations as may be, or one more: refused as full, nothing changed."""
+
+    def feed(name, first, last, site):
+        with open(f"{folder}/{name}.feed", "wb") as file:
+            file.write(b"MFD2" + b"".join(b"\x03" + n.to_bytes(8, "big") + site.to_bytes(2, "big") + b"\x01\x00\x00\x00\x90" for n in range(first, last + 1)))
+
+    feed("full", 1, LIMIT, 1)
+    feed("over", 1, LIMIT + 1, 1)
+    feed("one", 1, 1, 2)
+    held, full = "copydesk: as many operations are held as may be", "copydesk: full"
+    asked = [
+        (["import", "full.feed", "--site", "1"], held, "full.feed"),
+        (["replace", "full.feed", "--site", "1", "", "x"], held, "full.feed"),
+        (["merge", "full.feed", "one.feed"], full, "one.feed"),
+        (["merge", "over.feed", "one.feed"], full, "over.feed"),
+        (["export", "over.feed"], full, "over.feed"),
+        (["diff", "over.feed", "full.feed"], full, "over.feed"),
+        (["diff", "full.feed", "over.feed"], full, "over.feed"),
+    ]
+    before = [open(f"{folder}/{name}.feed", "rb").read() for name in ("full", "over", "one")]
+    for words, fault, name in asked:
+        run = subprocess.run([program, *words], input="x\n", capture_output=True, text=True, cwd=folder)
+        lines = run.stderr.splitlines()
+        causes = [line[: len(name) + 2] for line in lines[1:]]
+        check(" ".join(words), (run.returncode, run.stdout, lines[:1], causes), (1, "", [fault], [f"{name}: "]))
+    check("the feeds after it", [open(f"{folder}/{name}.feed", "rb").read() for name in ("full", "over", "one")] == before, True)
+    print(f"full by hand: {len(asked)} runs are refused as full, and change nothing")
+
+
 def seconds(program, folder, name, ops):
     """The processor time to open a stored feed, in seconds, the lesser of two runs."""
     path = f"{folder}/{name}.feed"
@@ -196,6 +227,7 @@ def main():
     prefixes(program)
     with tempfile.TemporaryDirectory() as folder:
         full_set(program, folder)
+        full_by_hand(program, folder)
         hostile(program, folder, int(sys.argv[2]) if len(sys.argv) > 2 else LARGE)
     forks_in_lists(program, 40000, 1000)
     refused_commands(program, 1000000)
