@@ -1,12 +1,13 @@
 -- Reading in loops.
-use Rattle.std.proofs.Common.{◌≡◌, ℕ, ◌+◌, ◌≤◌, ◌<◌, List, [], ◌∷◌, ◌++◌, Option, Some, None, refl, sym, ap, ◌∙◌, append_assoc, length, drop, get_or}
-use Rattle.std.specs.Prelude.{option_to_list}
-use Rattle.std.proofs.lemmas.List.{append-nil, at_drop_more, at_drop_all}
+use Rattle.std.proofs.Common.{◌≡◌, ℕ, ◌+◌, ◌≤◌, ◌<◌, List, [], ◌∷◌, ◌++◌, Option, Some, None, refl, sym, ap, ◌∙◌, append_assoc, length, length-drop, take, drop, get_or, arith}
+use Rattle.std.specs.Prelude.{◌≢◌, ◌*◌, ◌-◌, option_to_list}
+use Rattle.std.proofs.lemmas.List.{append-nil, at_drop_more, at_drop_all, length-take, take_all}
 use Rattle.desk_ops.specs.declared.op.Symbol.{Symbol}
 use Rattle.desk_commands.specs.declared.copy.Place.{Place}
 use Rattle.desk_commands.specs.declared.copy.Place.TheVariants.{Run, Quote, Opened, Inside, Escape, Closed}
-use Rattle.desk_commands.specs.Reading.{◌>>=◌}
+use Rattle.desk_commands.specs.Reading.{◌>>=◌, nibble, pairs}
 use Rattle.desk_commands.specs.Copy.{step, ends, copy_from}
+use Rattle.desk_commands.specs.Memory.{first_symbol, symbol_or}
 use Rattle.std.specs.Str.{IsUtf8, is_utf8}
 use Rattle.std.proofs.Common.{Bool, true, false}
 use Rattle.std.proofs.lemmas.Str.{is_utf8-from_IsUtf8, IsUtf8-from_is_utf8}
@@ -63,6 +64,61 @@ open_end front (Opened style) other = refl
 open_end front (Inside style) other = refl
 open_end front (Escape style) other = refl
 open_end front Closed other = absurd (other refl)
+
+-- the first of the symbols that were read
+abbrev pub first_of : List Symbol → Option Symbol
+first_of [] = None
+first_of (s ∷ symbols) = Some s
+
+first_regroup : (front : List Symbol) (o later : Option Symbol) → symbol_or (first_of (front ++ option_to_list o)) later ≡ symbol_or (first_of front) (symbol_or o later)
+first_regroup [] None later = refl
+first_regroup [] (Some s) later = refl
+first_regroup (x ∷ front) o later = refl
+
+first_go : (place : Place) (c : ℕ) (cs : List ℕ) (next : Place × Option Symbol) → step place c ≡ Some next
+    → first_symbol place (c ∷ cs) ≡ symbol_or next.1 (first_symbol next.0 cs)
+first_go place c cs next p = rw p refl
+
+first_at : (front : List Symbol) (place : Place) (cs : List ℕ) (n c : ℕ) (next : Place × Option Symbol) (total : Option Symbol)
+    → (n < length cs) × (c ≡ get_or cs n c) → step place c ≡ Some next → symbol_or (first_of front) (first_symbol place (drop n cs)) ≡ total
+    → symbol_or (first_of front) (symbol_or next.1 (first_symbol next.0 (drop (n + 1) cs))) ≡ total
+first_at front place cs n c next total at p so_far =
+    ap (symbol_or (first_of front)) (sym (first_go place c (drop (n + 1) cs) next p))
+    ∙ ap (λ xs. symbol_or (first_of front) (first_symbol place xs)) (sym (drop-at cs n c at)) ∙ so_far
+
+-- what a loop keeps of the first symbol
+pub first_more : (front items : List Symbol) (o : Option Symbol) (place new : Place) (cs : List ℕ) (n m c : ℕ) (total : Option Symbol)
+    → (n < length cs) × (c ≡ get_or cs n c) → step place c ≡ Some (new, o) → items ≡ front ++ option_to_list o → m ≡ n + 1
+    → symbol_or (first_of front) (first_symbol place (drop n cs)) ≡ total → symbol_or (first_of items) (first_symbol new (drop m cs)) ≡ total
+first_more front items o place new cs n m c total at p same next so_far =
+    rw (same, next) (first_regroup front o (first_symbol new (drop (n + 1) cs)) ∙ first_at front place cs n c (new, o) total at p so_far)
+
+some_first : (o : Option Symbol) (s : Symbol) (later : Option Symbol) → symbol_or o (symbol_or (Some s) later) ≢ None
+some_first None s later e = cc
+some_first (Some x) s later e = cc
+
+-- a symbol was read
+pub first_comes : (front : List Symbol) (place new : Place) (s : Symbol) (cs : List ℕ) (n c : ℕ) (total : Option Symbol)
+    → (n < length cs) × (c ≡ get_or cs n c) → step place c ≡ Some (new, Some s) → symbol_or (first_of front) (first_symbol place (drop n cs)) ≡ total → total ≢ None
+first_comes front place new s cs n c total at p so_far none =
+    some_first (first_of front) s (first_symbol new (drop (n + 1) cs)) (first_at front place cs n c (new, Some s) total at p so_far ∙ none)
+
+-- what a loop keeps, with one pair more
+pairs_more : (front items : List ℕ) (a b high low : ℕ) (rest : List ℕ) (total : Option (List ℕ)) → nibble a ≡ Some high → nibble b ≡ Some low
+    → items ≡ front ++ (high * 16 + low) ∷ [] → with_front front (pairs (a ∷ b ∷ rest)) ≡ total → with_front items (pairs rest) ≡ total
+pairs_more front items a b high low rest total first second same so_far =
+    rw same (sym (regroup front ((high * 16 + low) ∷ []) (pairs rest)) ∙ (rw (first, second) at so_far))
+
+-- after a pair at the front of what is left
+pub pairs_turn : (front items left : List ℕ) (high low : ℕ) (total : Option (List ℕ)) → 2 ≤ length left → nibble (get_or left 0 0) ≡ Some high → nibble (get_or left 1 0) ≡ Some low
+    → items ≡ front ++ (high * 16 + low) ∷ [] → with_front front (pairs left) ≡ total → with_front items (pairs (take (length left - 2) (drop 2 left))) ≡ total
+pairs_turn front items [] high low total two first second same so_far = absurd (omega arith)
+pairs_turn front items (a ∷ []) high low total two first second same so_far = absurd (omega arith)
+pairs_turn front items (a ∷ b ∷ rest) high low total two first second same so_far =
+    rw (take_all (length (a ∷ b ∷ rest) - 2) rest (omega arith)) (pairs_more front items a b high low rest total first second same so_far)
+
+pub pairs_within : (left word : List ℕ) → length left ≤ length word → length (take (length left - 2) (drop 2 left)) ≤ length word
+pairs_within left word within = omega (arith, length-take (length left - 2) (drop 2 left), length-drop 2 left)
 
 pub command_of-text : (line : List ℕ) → IsUtf8 line → command_of line ≡ words_of line
 unfolding command_of

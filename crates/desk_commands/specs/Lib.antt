@@ -5,3 +5,4 @@ pub mod Grammar
 pub mod Writing
 pub mod Spelling
 pub mod Laws
+pub mod Memory

@@ -2,6 +2,7 @@ ghost use Rattle.std.specs.Prelude.{◌≡◌};
 ghost use Rattle.std.specs.Str.{chars};
 ghost use Rattle.desk_commands.specs.Reading.{Gives};
 ghost use Rattle.desk_commands.specs.Copy.{style_of, escaped, step, copy_from};
+ghost use Rattle.desk_commands.specs.Memory.{ComesToSymbol};
 
 use crate::command::ParseError;
 use desk_ops::{Style, Symbol};
@@ -68,7 +69,8 @@ fn step(place: Place, c: char) -> Option<(Place, Option<Symbol>)>
 
 /// The symbols of a COPY.
 pub fn copy_of<A: Allocator + Copy>(alloc: A, text: &str) -> Result<Vec<Symbol, A>, ParseError>
-    ensures { Gives (λ v. v.items) result (copy_from Place.Run (chars text.now)) }
+    ensures value { Gives (λ v. v.items) result (copy_from Place.Run (chars text.now)) }
+    ensures memory { result ≡ Err ParseError.NoMemory → ComesToSymbol text.now }
 {
     let mut symbols = Vec::new(alloc);
     let mut place = Place::Run;

@@ -1,5 +1,6 @@
-ghost use Rattle.std.specs.Prelude.{◌≡◌, ◌≤◌, ◌<◌, length, IfOk};
+ghost use Rattle.std.specs.Prelude.{◌≡◌, ◌≤◌, ◌<◌, ◌≢◌, length, IfOk};
 ghost use Rattle.desk_commands.specs.Reading.{Gives, number_of, value_from, nibble, pairs};
+ghost use Rattle.desk_commands.specs.Memory.{MayHoldByte};
 
 use crate::command::ParseError;
 use std::alloc::Allocator;
@@ -7,7 +8,8 @@ use std::alloc::Allocator;
 /// A number of 1 to 10 digits.
 #[tactic(auto, unfolding(crate::specs::Reading::number_of))]
 pub fn number_of(word: &[u8]) -> Result<u32, ParseError>
-    ensures { Gives (λ n. n) result (number_of word.now) }
+    ensures value { Gives (λ n. n) result (number_of word.now) }
+    ensures memory { result ≢ Err ParseError.NoMemory }
 {
     if word.is_empty() || word.len() > 10 {
         return Err(ParseError::Form);
@@ -21,7 +23,8 @@ pub fn number_of(word: &[u8]) -> Result<u32, ParseError>
 
 fn value_of(word: &[u8]) -> Result<u64, ParseError>
     requires { length word.now ≤ 10 }
-    ensures { Gives (λ n. n) result (value_from 0 word.now) }
+    ensures value { Gives (λ n. n) result (value_from 0 word.now) }
+    ensures memory { result ≢ Err ParseError.NoMemory }
 {
     let mut n: u64 = 0;
     for &b in word {
@@ -38,6 +41,7 @@ fn value_of(word: &[u8]) -> Result<u64, ParseError>
 fn nibble(b: u8) -> Result<u8, ParseError>
     ensures value { Gives (λ n. n) result (nibble b) }
     ensures small { IfOk result (λ n. n < 16) }
+    ensures memory { result ≢ Err ParseError.NoMemory }
 {
     match b {
         b'0'..=b'9' => Ok(b - b'0'),
@@ -49,7 +53,8 @@ fn nibble(b: u8) -> Result<u8, ParseError>
 
 /// The bytes that pairs of hexadecimal digits spell.
 pub fn bytes_of<A: Allocator + Copy>(alloc: A, word: &[u8]) -> Result<Vec<u8, A>, ParseError>
-    ensures { Gives (λ v. v.items) result (pairs word.now) }
+    ensures value { Gives (λ v. v.items) result (pairs word.now) }
+    ensures memory { result ≡ Err ParseError.NoMemory → MayHoldByte word.now }
 {
     let mut out = Vec::with_capacity(alloc, word.len() / 2)?;
     let mut left = word;

@@ -1,7 +1,8 @@
-ghost use Rattle.std.specs.Prelude.{◌≡◌, ℕ, List};
+ghost use Rattle.std.specs.Prelude.{◌≡◌, ◌≢◌, ℕ, List, IsSomeAnd};
 ghost use Rattle.std.specs.Option.{option_copied};
 ghost use Rattle.desk_commands.specs.Reading.{Gives, word_at, number_at, file_at, range_of, range_at, hex_at, at_end, dotted};
 ghost use Rattle.desk_commands.specs.Copy.{copy_at};
+ghost use Rattle.desk_commands.specs.Memory.{AsksMemory, ComesToSymbol, FormAsksMemory, MayHoldByte, WordsAskMemory, copy_behind, feed_behind};
 ghost use Rattle.desk_commands.specs.Command.{CommandValues, command_values};
 ghost use Rattle.desk_commands.specs.Command as commands;
 ghost use Rattle.desk_commands.specs.Grammar.{verb_of, key_of, one_site, insert_form, two_numbers, set_form, take_form, send_form, two_files, form_of, words_of, command_of};
@@ -33,7 +34,8 @@ pub enum Verb {
 
 #[tactic(auto, unfolding(crate::specs::Reading::word_at))]
 fn word_at(rest: Option<&str>) -> Result<(&str, Option<&str>), ParseError>
-    ensures { Gives (λ x. (x.0.now, option_copied x.1)) result (word_at (option_copied rest.entry)) }
+    ensures value { Gives (λ x. (x.0.now, option_copied x.1)) result (word_at (option_copied rest.entry)) }
+    ensures memory { result ≢ Err ParseError.NoMemory }
 {
     let Some(text) = rest else {
         return Err(ParseError::Form);
@@ -46,7 +48,8 @@ fn word_at(rest: Option<&str>) -> Result<(&str, Option<&str>), ParseError>
 
 #[tactic(auto, unfolding(crate::specs::Reading::number_at))]
 fn number_at(rest: Option<&str>) -> Result<(u32, Option<&str>), ParseError>
-    ensures { Gives (λ x. (x.0, option_copied x.1)) result (number_at (option_copied rest.entry)) }
+    ensures value { Gives (λ x. (x.0, option_copied x.1)) result (number_at (option_copied rest.entry)) }
+    ensures memory { result ≢ Err ParseError.NoMemory }
 {
     let (word, rest) = word_at(rest)?;
     Ok((number_of(word.as_bytes())?, rest))
@@ -54,7 +57,8 @@ fn number_at(rest: Option<&str>) -> Result<(u32, Option<&str>), ParseError>
 
 #[tactic(auto, unfolding(crate::specs::Reading::file_at))]
 fn file_at(rest: Option<&str>) -> Result<(&str, Option<&str>), ParseError>
-    ensures { Gives (λ x. (x.0.now, option_copied x.1)) result (file_at (option_copied rest.entry)) }
+    ensures value { Gives (λ x. (x.0.now, option_copied x.1)) result (file_at (option_copied rest.entry)) }
+    ensures memory { result ≢ Err ParseError.NoMemory }
 {
     let (word, rest) = word_at(rest)?;
     if word.is_empty() || word.len() > 255 {
@@ -102,7 +106,8 @@ fn key_of(word: &str) -> Option<Key>
 
 /// The number behind a dot.
 fn dotted(word: &[u8]) -> Result<u32, ParseError>
-    ensures { Gives (λ n. n) result (dotted word.now) }
+    ensures value { Gives (λ n. n) result (dotted word.now) }
+    ensures memory { result ≢ Err ParseError.NoMemory }
 {
     match word {
         [b'.', digits @ ..] => number_of(digits),
@@ -112,7 +117,8 @@ fn dotted(word: &[u8]) -> Result<u32, ParseError>
 
 #[tactic(auto, unfolding(crate::specs::Reading::range_of))]
 fn range_of(word: &str) -> Result<(u32, u32), ParseError>
-    ensures { Gives (λ x. x) result (range_of word.now) }
+    ensures value { Gives (λ x. x) result (range_of word.now) }
+    ensures memory { result ≢ Err ParseError.NoMemory }
 {
     let Some((from, to)) = word.split_once('.') else {
         return Err(ParseError::Form);
@@ -124,7 +130,8 @@ fn range_of(word: &str) -> Result<(u32, u32), ParseError>
 
 #[tactic(auto, unfolding(crate::specs::Reading::range_at))]
 fn range_at(rest: Option<&str>) -> Result<Option<(u32, u32)>, ParseError>
-    ensures { Gives (λ x. x) result (range_at (option_copied rest.entry)) }
+    ensures value { Gives (λ x. x) result (range_at (option_copied rest.entry)) }
+    ensures memory { result ≢ Err ParseError.NoMemory }
 {
     match rest {
         None => Ok(None),
@@ -134,7 +141,8 @@ fn range_at(rest: Option<&str>) -> Result<Option<(u32, u32)>, ParseError>
 
 #[tactic(auto, unfolding(crate::specs::Reading::hex_at))]
 fn hex_at<A: Allocator + Copy>(alloc: A, rest: Option<&str>) -> Result<Vec<u8, A>, ParseError>
-    ensures { Gives (λ v. v.items) result (hex_at (option_copied rest.entry)) }
+    ensures value { Gives (λ v. v.items) result (hex_at (option_copied rest.entry)) }
+    ensures memory { result ≡ Err ParseError.NoMemory → IsSomeAnd (option_copied rest.entry) MayHoldByte }
 {
     match rest {
         None | Some("") => Err(ParseError::Form),
@@ -144,7 +152,8 @@ fn hex_at<A: Allocator + Copy>(alloc: A, rest: Option<&str>) -> Result<Vec<u8, A
 
 #[tactic(auto, unfolding(crate::specs::Copy::copy_at))]
 fn copy_at<A: Allocator + Copy>(alloc: A, rest: Option<&str>) -> Result<Vec<Symbol, A>, ParseError>
-    ensures { Gives (λ v. v.items) result (copy_at (option_copied rest.entry)) }
+    ensures value { Gives (λ v. v.items) result (copy_at (option_copied rest.entry)) }
+    ensures memory { result ≡ Err ParseError.NoMemory → IsSomeAnd (option_copied rest.entry) ComesToSymbol }
 {
     match rest {
         None => Err(ParseError::Form),
@@ -154,7 +163,8 @@ fn copy_at<A: Allocator + Copy>(alloc: A, rest: Option<&str>) -> Result<Vec<Symb
 
 /// Nothing may follow.
 fn end(rest: Option<&str>) -> Result<(), ParseError>
-    ensures { Gives (λ x. x) result (at_end (option_copied rest.entry) tt) }
+    ensures value { Gives (λ x. x) result (at_end (option_copied rest.entry) tt) }
+    ensures memory { result ≢ Err ParseError.NoMemory }
 {
     match rest {
         None => Ok(()),
@@ -164,7 +174,8 @@ fn end(rest: Option<&str>) -> Result<(), ParseError>
 
 #[tactic(auto, unfolding(crate::specs::Grammar::one_site))]
 fn one_site(rest: Option<&str>) -> Result<u32, ParseError>
-    ensures { (make : ℕ → CommandValues) → Gives (make) result (one_site make (option_copied rest.entry)) }
+    ensures value { (make : ℕ → CommandValues) → Gives (make) result (one_site make (option_copied rest.entry)) }
+    ensures memory { result ≢ Err ParseError.NoMemory }
 {
     let (site, rest) = number_at(rest)?;
     end(rest)?;
@@ -173,7 +184,8 @@ fn one_site(rest: Option<&str>) -> Result<u32, ParseError>
 
 #[tactic(auto, unfolding(crate::specs::Grammar::two_numbers))]
 fn two_numbers(rest: Option<&str>) -> Result<(u32, u32), ParseError>
-    ensures { (make : ℕ → ℕ → CommandValues) → Gives (λ x. make x.0 x.1) result (two_numbers make (option_copied rest.entry)) }
+    ensures value { (make : ℕ → ℕ → CommandValues) → Gives (λ x. make x.0 x.1) result (two_numbers make (option_copied rest.entry)) }
+    ensures memory { result ≢ Err ParseError.NoMemory }
 {
     let (first, rest) = number_at(rest)?;
     let (second, rest) = number_at(rest)?;
@@ -181,9 +193,10 @@ fn two_numbers(rest: Option<&str>) -> Result<(u32, u32), ParseError>
     Ok((first, second))
 }
 
-#[tactic(auto, unfolding(crate::specs::Grammar::insert_form))]
+#[tactic(auto, unfolding(crate::specs::Grammar::insert_form, crate::specs::Memory::copy_behind))]
 fn insert<A: Allocator + Copy>(alloc: A, rest: Option<&str>) -> Result<Command<'_, A>, ParseError>
-    ensures { Gives command_values result (insert_form (option_copied rest.entry)) }
+    ensures value { Gives command_values result (insert_form (option_copied rest.entry)) }
+    ensures memory { result ≡ Err ParseError.NoMemory → IsSomeAnd (copy_behind (option_copied rest.entry)) ComesToSymbol }
 {
     let (site, rest) = number_at(rest)?;
     let (place, rest) = number_at(rest)?;
@@ -193,7 +206,8 @@ fn insert<A: Allocator + Copy>(alloc: A, rest: Option<&str>) -> Result<Command<'
 
 #[tactic(auto, unfolding(crate::specs::Grammar::set_form))]
 fn set<A: Allocator + Copy>(rest: Option<&str>) -> Result<Command<'_, A>, ParseError>
-    ensures { Gives command_values result (set_form (option_copied rest.entry)) }
+    ensures value { Gives command_values result (set_form (option_copied rest.entry)) }
+    ensures memory { result ≢ Err ParseError.NoMemory }
 {
     let (site, rest) = number_at(rest)?;
     let (word, rest) = word_at(rest)?;
@@ -205,9 +219,10 @@ fn set<A: Allocator + Copy>(rest: Option<&str>) -> Result<Command<'_, A>, ParseE
     Ok(Command::Set { site, key, value })
 }
 
-#[tactic(auto, unfolding(crate::specs::Grammar::take_form))]
+#[tactic(auto, unfolding(crate::specs::Grammar::take_form, crate::specs::Memory::feed_behind))]
 fn take<A: Allocator + Copy>(alloc: A, rest: Option<&str>) -> Result<Command<'_, A>, ParseError>
-    ensures { Gives command_values result (take_form (option_copied rest.entry)) }
+    ensures value { Gives command_values result (take_form (option_copied rest.entry)) }
+    ensures memory { result ≡ Err ParseError.NoMemory → IsSomeAnd (feed_behind (option_copied rest.entry)) MayHoldByte }
 {
     let (site, rest) = number_at(rest)?;
     let feed = hex_at(alloc, rest)?;
@@ -216,7 +231,8 @@ fn take<A: Allocator + Copy>(alloc: A, rest: Option<&str>) -> Result<Command<'_,
 
 #[tactic(auto, unfolding(crate::specs::Grammar::send_form))]
 fn send<A: Allocator + Copy>(rest: Option<&str>) -> Result<Command<'_, A>, ParseError>
-    ensures { Gives command_values result (send_form (option_copied rest.entry)) }
+    ensures value { Gives command_values result (send_form (option_copied rest.entry)) }
+    ensures memory { result ≢ Err ParseError.NoMemory }
 {
     let (from, rest) = number_at(rest)?;
     let (to, rest) = number_at(rest)?;
@@ -226,7 +242,8 @@ fn send<A: Allocator + Copy>(rest: Option<&str>) -> Result<Command<'_, A>, Parse
 
 #[tactic(auto, unfolding(crate::specs::Grammar::two_files))]
 fn two_files(rest: Option<&str>) -> Result<(u32, &str, &str), ParseError>
-    ensures { (make : ℕ → List ℕ → List ℕ → CommandValues) → Gives (λ x. make x.0 x.1.now x.2.now) result (two_files make (option_copied rest.entry)) }
+    ensures value { (make : ℕ → List ℕ → List ℕ → CommandValues) → Gives (λ x. make x.0 x.1.now x.2.now) result (two_files make (option_copied rest.entry)) }
+    ensures memory { result ≢ Err ParseError.NoMemory }
 {
     let (site, rest) = number_at(rest)?;
     let (case, rest) = file_at(rest)?;
@@ -240,7 +257,8 @@ fn form_of<A: Allocator + Copy>(
     verb: Verb,
     rest: Option<&str>,
 ) -> Result<Command<'_, A>, ParseError>
-    ensures { Gives command_values result (form_of verb (option_copied rest.entry)) }
+    ensures value { Gives command_values result (form_of verb (option_copied rest.entry)) }
+    ensures memory { result ≡ Err ParseError.NoMemory → FormAsksMemory verb (option_copied rest.entry) }
 {
     match verb {
         Verb::Site => Ok(Command::Site(one_site(rest)?)),
@@ -272,9 +290,10 @@ fn form_of<A: Allocator + Copy>(
     }
 }
 
-#[tactic(auto, unfolding(crate::specs::Grammar::words_of))]
+#[tactic(auto, unfolding(crate::specs::Grammar::words_of, crate::specs::Memory::WordsAskMemory))]
 fn words_of<A: Allocator + Copy>(alloc: A, line: &str) -> Result<Command<'_, A>, ParseError>
-    ensures { Gives command_values result (words_of line.now) }
+    ensures value { Gives command_values result (words_of line.now) }
+    ensures memory { result ≡ Err ParseError.NoMemory → WordsAskMemory line.now }
 {
     let (word, rest) = word_at(Some(line))?;
     let Some(verb) = verb_of(word) else {
@@ -286,7 +305,8 @@ fn words_of<A: Allocator + Copy>(alloc: A, line: &str) -> Result<Command<'_, A>,
 /// The command that a line is.
 #[tactic(auto, unfolding(crate::specs::Grammar::command_of))]
 pub fn parse<A: Allocator + Copy>(alloc: A, line: &[u8]) -> Result<Command<'_, A>, ParseError>
-    ensures { Gives command_values result (command_of line.now) }
+    ensures value { Gives command_values result (command_of line.now) }
+    ensures memory { result ≡ Err ParseError.NoMemory → AsksMemory line.now }
 {
     let Ok(line) = std::str::from_utf8(line) else {
         return Err(ParseError::Form);

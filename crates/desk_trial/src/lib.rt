@@ -3,6 +3,7 @@
 
 ghost use Rattle.std.specs.Prelude.{◌≡◌, ◌≢◌, ◌≤◌, length, Err, IfErr, IfOk, IfSome, None, Some, option_map, string_bytes};
 ghost use Rattle.desk_commands.specs.Command.{command_values};
+ghost use Rattle.desk_commands.specs.Memory.{AsksMemory};
 ghost use Rattle.desk_job.specs.Answer.{AreValues};
 ghost use Rattle.desk_ops.specs.Op.{IsValue};
 ghost use Rattle.desk_trial.specs.Trial.{HasLine, HasPlace, NothingIsAsSet, line_of, no_trial, set_by, set_in, trial_of, tried_by, tried_with, value_or, with_value};
@@ -123,6 +124,7 @@ fn set_by<A: Allocator + Copy>(command: &Command<'_, A>) -> Option<(Key, u32)>
 fn set_in<A: Allocator + Copy>(alloc: A, line: &str) -> Result<Option<(Key, u32)>, NoMemory>
     ensures value { IfOk result (λ t. set_in line.now ≡ t) }
     ensures lawful { IfOk result (λ t. IfSome t (λ p. IsValue p.0 p.1)) }
+    ensures memory { IfErr result (λ _. AsksMemory line.now) }
 {
     match parse(alloc, line.as_bytes()) {
         Ok(command) => Ok(set_by(&command)),
