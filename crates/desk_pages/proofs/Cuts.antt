@@ -3,8 +3,9 @@ use Rattle.std.proofs.Common.{◌≡◌, ℕ, zero, suc, ◌+◌, ◌-◌, ◌*�
 use Rattle.std.specs.List.{insert}
 use Rattle.std.proofs.lemmas.List.{get_or_read, length-set, set-append_left, set-append_right, drop-drop, drop_at, take_at, drop-append-le, take-append-le, get_or_append_left, get_or-append-add, take-append-drop, append-nil}
 use Rattle.std.proofs.lemmas.Bool.{cases_lt}
-use Rattle.std.proofs.lemmas.List.Edits.{insert-append_left, insert-append_right, length-insert}
-use Rattle.desk_pages.specs.Pages.{joined, start_of, IsSpot, IsSpotOrEnd, IsGap, AreHalfFull, IsHalfFull, IsClosed, cut_at, spare_of, IsKept}
+use Rattle.std.proofs.lemmas.List.Edits.{insert-append_left, insert-append_right, length-insert, insert_end}
+use Rattle.desk_pages.specs.Pages.{joined, start_of, IsSpot, IsSpotOrEnd, IsGap, AreHalfFull, IsHalfFull, IsClosed, spare_of, IsKept}
+use Rattle.desk_shelf.specs.Shelf.{cut_at}
 
 -- ---- places
 
@@ -98,11 +99,6 @@ closed-last (r ∷ s ∷ pages) (suc k) l h = closed-last (s ∷ pages) k (omega
 
 -- ---- a page is cut in two
 
-pub cut-is : {X : Type 0} (pages : List (List X)) (p : ℕ) → p < length pages → insert (set pages p (take 128 (get_or pages p []))) (suc p) (drop 128 (get_or pages p [])) ≡ cut_at pages p
-cut-is [] p l = absurd (omega arith)
-cut-is (r ∷ pages) zero l = refl
-cut-is (r ∷ pages) (suc p) l = ap (λ x. r ∷ x) (cut-is pages p (omega arith))
-
 pub cut-joined : {X : Type 0} (pages : List (List X)) (p : ℕ) → joined (cut_at pages p) ≡ joined pages
 cut-joined [] p = refl
 cut-joined (r ∷ pages) zero = sym (append_assoc (take 128 r) (drop 128 r) (joined pages)) ∙ ap (λ x. x ++ joined pages) (take-append-drop 128 r)
@@ -195,6 +191,10 @@ gap-insert pages i p j x g = joined-insert pages p j x g.within g.inside ∙ ap 
 pub gap-half : {X : Type 0} (pages : List (List X)) (i p j : ℕ) (x : X) → IsGap pages i p j → IsHalfFull pages → IsHalfFull (set pages p (insert (get_or pages p []) j x))
 gap-half pages i p j x g h = let e = length-insert (get_or pages p []) j x g.inside in half-grow pages p (insert (get_or pages p []) j x) h (omega arith)
 
+-- put behind all
+pub insert-behind : {X : Type 0} (pages : List X) (n : ℕ) (r : X) → n ≡ length pages → insert pages n r ≡ pages ++ r ∷ []
+insert-behind pages n r e = ap (λ (k : ℕ). insert pages k r) e ∙ insert_end pages r
+
 pub joined-push : {X : Type 0} (pages : List (List X)) (r : List X) → joined (pages ++ r ∷ []) ≡ joined pages ++ r
 joined-push [] r = append-nil r
 joined-push (s ∷ pages) r = ap (λ x. s ++ x) (joined-push pages r) ∙ sym (append_assoc s (joined pages) r)
@@ -207,26 +207,13 @@ end-gap pages p l f =
     let e = ap length (joined-past pages (suc p) (omega arith)) in
     record { within = w; inside = omega arith; has_room = f; is = omega arith }
 
--- what a page that was read tells of the list of pages
-pub full-page : {X : Type 0} (pages : List (List X)) (p n : ℕ) (r : List X) → p < length pages → r ≡ get_or pages p r → n ≡ length r → n ≤ 256 → 256 ≤ n → length (get_or pages p []) ≡ 256
-full-page pages p n r w e l a b = let q = ap length (get_or_read pages p r w e []) in omega arith
-
-pub page-length : {X : Type 0} (pages : List (List X)) (p n : ℕ) (r : List X) → p < length pages → r ≡ get_or pages p r → n ≡ length r → n ≡ length (get_or pages p [])
-page-length pages p n r w e l = let q = ap length (get_or_read pages p r w e []) in omega arith
-
 pub spot-gap : {X : Type 0} (pages : List (List X)) (i p j : ℕ) → IsSpot pages i p j → length (get_or pages p []) < 256 → IsGap pages i p j
 spot-gap pages i p j s l = let a = s.inside in record { within = s.within; inside = omega arith; has_room = l; is = s.is }
 
--- one more in a page that was read and written
-pub gap-put : {X : Type 0} (pages : List (List X)) (i p j : ℕ) (x : X) (r y : List X) → IsGap pages i p j → r ≡ get_or pages p r → y ≡ insert r j x → y ≡ insert (get_or pages p []) j x
-gap-put pages i p j x r y g e q = q ∙ ap (λ (z : List _). insert z j x) (get_or_read pages p r g.within e [])
-
-pub kept-more : {X : Type 0} (old new : List (List X)) (i len free all a b : ℕ) (x : X) → len ≡ length (joined old) → i ≤ len → joined new ≡ insert (joined old) i x → IsHalfFull new → all ≤ a → all ≤ b → all ≤ 2199023255552 → 1 ≤ spare_of free all len → IsKept new (len + 1) all a b
-kept-more old new i len free all a b x e l put h ra rb few spare = record {
+pub kept-more : {X : Type 0} (old new : List (List X)) (i len free all : ℕ) (x : X) → len ≡ length (joined old) → i ≤ len → joined new ≡ insert (joined old) i x → IsHalfFull new → all ≤ 2199023255552 → 1 ≤ spare_of free all len → IsKept new (len + 1) all
+kept-more old new i len free all x e l put h few spare = record {
   is_len = let m = ap length put ∙ length-insert (joined old) i x (omega arith) in omega arith;
   half = h;
-  room = ra;
-  back = rb;
   few = few;
   fits = omega arith;
 }

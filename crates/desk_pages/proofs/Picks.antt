@@ -5,7 +5,7 @@ use Rattle.std.proofs.lemmas.Bool.{true≢false, cases_lt}
 use Rattle.std.proofs.lemmas.List.Sums.{sum_by-append, count_by-le-length, count_by_more_no}
 use Rattle.std.proofs.lemmas.List.{get_or_read, take-append-drop, length-take-le}
 use Rattle.desk_pages.specs.Pages.{joined, start_of, IsSpot, AreHalfFull, IsHalfFull, ends_in, IsEdge, IsNth, IsShort}
-use Rattle.desk_pages.proofs.Cuts.{start-more, start-le, take-joined, take-start, entry-joined, joined-past, page-length}
+use Rattle.desk_pages.proofs.Cuts.{start-more, start-le, take-joined, take-start, entry-joined, joined-past}
 
 pub joined-more : {X : Type 0} (pages : List (List X)) (n : ℕ) → n < length pages → joined (take (suc n) pages) ≡ joined (take n pages) ++ get_or pages n []
 joined-more [] n l = absurd (omega arith)
@@ -89,9 +89,8 @@ short-page picks pages p j n left l k h = rw add-one (
 pub next-page : {X : Type 0} (pages : List (List X)) (p : ℕ) → p < length pages → start_of pages (p + 1) ≡ start_of pages p + length (get_or pages p [])
 next-page pages p l = rw add-one (start-more pages p l)
 
-pub next-start : {X : Type 0} (pages : List (List X)) (from p j n : ℕ) (r : List X) → IsSpot pages from p j → r ≡ get_or pages p r → n ≡ length r → from - j + n ≡ start_of pages (p + 1)
-next-start pages from p j n r s e l =
-    let k = page-length pages p n r s.within e l in
+pub next-start : {X : Type 0} (pages : List (List X)) (from p j n : ℕ) → IsSpot pages from p j → n ≡ length (get_or pages p []) → from - j + n ≡ start_of pages (p + 1)
+next-start pages from p j n s k =
     let m = next-page pages p s.within in
     let is = s.is in
     omega arith

@@ -1,10 +1,10 @@
 -- A page that has become short.
 use Rattle.std.proofs.Common.{◌≡◌, ℕ, zero, suc, ◌+◌, ◌-◌, ◌<◌, ◌≤◌, List, [], ◌∷◌, ◌++◌, length, get_or, take, drop, set, refl, sym, ap, ◌∙◌, arith, append_assoc, length-append, length-drop}
 use Rattle.std.specs.List.{insert, remove}
-use Rattle.std.proofs.lemmas.List.{take-append-drop, length-take-le}
+use Rattle.std.proofs.lemmas.List.{take-append-drop, length-take-le, nil_from_length, append-nil}
 use Rattle.std.proofs.lemmas.List.Edits.{remove-append_left, remove-append_right}
 use Rattle.desk_pages.specs.Pages.{joined, start_of, HasMore, AreHalfFull, AreShortAt, IsHalfFull, IsShortAt}
-use Rattle.desk_pages.proofs.Cuts.{half-cons, past-page}
+use Rattle.desk_pages.proofs.Cuts.{half-cons, past-page, joined-push}
 use Rattle.desk_pages.proofs.Picks.{halves-some}
 
 halves-rest : {X : Type 0} (r : List X) (pages : List (List X)) → AreHalfFull (r ∷ pages) → AreHalfFull pages
@@ -144,3 +144,29 @@ joined-remove (r ∷ pages) (suc p) j l k =
     ap (λ y. r ++ y) (joined-remove pages p j (omega arith) k)
     ∙ ap (λ (n : ℕ). r ++ remove (joined pages) n) (sym less)
     ∙ sym (remove-append_right r (joined pages) (length r) (start_of (r ∷ pages) (suc p) + j) refl (omega arith))
+
+-- ---- a page is closed, joined with the next, or shares its entries
+
+pub last-off : {X : Type 0} (pages : List (List X)) (p : ℕ) → p + 1 ≡ length pages → pages ≡ remove pages p ++ get_or pages p [] ∷ []
+last-off [] p e = absurd (omega arith)
+last-off (r ∷ []) zero e = refl
+last-off (r ∷ []) (suc p) e = absurd (omega arith)
+last-off (r ∷ s ∷ pages) zero e = absurd (omega arith)
+last-off (r ∷ s ∷ pages) (suc p) e = ap (λ (z : List (List _)). r ∷ z) (last-off (s ∷ pages) p (omega arith))
+
+pub last-empty : {X : Type 0} (pages : List (List X)) (p : ℕ) → p + 1 ≡ length pages → length (get_or pages p []) ≡ 0 → joined (remove pages p) ≡ joined pages
+last-empty pages p e z =
+    let n = nil_from_length (get_or pages p []) z in
+    sym (ap joined (last-off pages p e) ∙ joined-push (remove pages p) (get_or pages p []) ∙ ap (λ (l : List _). joined (remove pages p) ++ l) n ∙ append-nil (joined (remove pages p)))
+
+pub join-is : {X : Type 0} (pages : List (List X)) (p : ℕ) (a : List X) → suc p < length pages → remove (set pages p a) (suc p) ≡ set (remove pages (suc p)) p a
+join-is [] p a l = absurd (omega arith)
+join-is (r ∷ []) p a l = absurd (omega arith)
+join-is (r ∷ s ∷ pages) zero a l = refl
+join-is (r ∷ s ∷ pages) (suc p) a l = ap (λ (z : List (List _)). r ∷ z) (join-is (s ∷ pages) p a (omega arith))
+
+pub share-is : {X : Type 0} (pages : List (List X)) (p : ℕ) (a b : List X) → suc p < length pages → set (set pages p a) (suc p) b ≡ insert (set (remove pages (suc p)) p a) (suc p) b
+share-is [] p a b l = absurd (omega arith)
+share-is (r ∷ []) p a b l = absurd (omega arith)
+share-is (r ∷ s ∷ pages) zero a b l = refl
+share-is (r ∷ s ∷ pages) (suc p) a b l = ap (λ (z : List (List _)). r ∷ z) (share-is (s ∷ pages) p a b (omega arith))

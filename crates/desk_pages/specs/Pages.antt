@@ -66,23 +66,15 @@ IsClosed [] = Unit {0}
 IsClosed (r ∷ []) = length r ≡ 256
 IsClosed (r ∷ s ∷ pages) = IsClosed (s ∷ pages)
 
--- page p cut in two
-abbrev pub cut_at : {X : Type 0} → List (List X) → ℕ → List (List X)
-cut_at [] p = []
-cut_at (r ∷ pages) zero = take 128 r ∷ drop 128 r ∷ pages
-cut_at (r ∷ pages) (suc p) = r ∷ cut_at pages p
-
 -- how many more fit with no new memory, whichever pages they come to: as many as pages are free, since each cuts one page
 -- at most, or, where that is more, as many as all pages but two have room for when each is half full; and 2 ^ 47 entries at most
 abbrev pub spare_of : (free all len : ℕ) → ℕ
 spare_of free all len = min (max free (128 * (all - 2) - len)) (2 ^ 47 - len)
 
 -- what the pages in use keep: all is the number of pages, the free ones with them
-pub record IsKept {X : Type 0} (pages : List (List X)) (len all used_room free_room : ℕ) : Type 0 where
+pub record IsKept {X : Type 0} (pages : List (List X)) (len all : ℕ) : Type 0 where
   pub is_len : len ≡ length (joined pages)
   pub half : IsHalfFull pages
-  pub room : all ≤ used_room
-  pub back : all ≤ free_room
   pub few : all ≤ 2 ^ 41
   pub fits : len < 2 ^ 48
 

@@ -3,9 +3,9 @@ ghost use Rattle.std.specs.Prelude.{◌≡◌, ◌≢◌, ◌+◌, ◌*◌, ◌�
 ghost use Rattle.std.specs.List.{insert, remove};
 ghost use Rattle.desk_pages.specs.Pages.{joined, start_of, HasMore, IsGap, IsHalfFull, IsSums, IsGroups};
 
-use crate::page::{Page, Summary};
 use crate::pages::read;
 use crate::starts::{GROUP, find_starts, lower, raise};
+use desk_shelf::{Shelf, Summary};
 use std::alloc::{AllocError, Allocator};
 
 /// Where each group of pages begins, and a summary of each, as far as there is room to keep it.
@@ -28,20 +28,20 @@ impl<S: Copy, A: Allocator> Groups<S, A> {
 
 /// Finds where each group begins, and sums each up.
 pub fn find_groups<T: Copy, S: Summary<T>, A: Allocator>(
-    pages: &[Page<T, S, A>],
+    pages: &Shelf<T, S, A>,
     groups: &mut Groups<S, A>,
 )
-    requires { length (joined pages.now) < 2 ^ 48 }
-    ensures { IsGroups S.tells pages.now groups.new.starts.items groups.new.sums.items }
+    requires { length (joined pages.now.pages) < 2 ^ 48 }
+    ensures { IsGroups S.tells pages.now.pages groups.new.starts.items groups.new.sums.items }
 {
     find_starts(pages, &mut groups.starts);
     find_sums(pages, &mut groups.sums);
 }
 
 /// Sums up each whole group, as far as there is room to keep it.
-fn find_sums<T: Copy, S: Summary<T>, A: Allocator>(pages: &[Page<T, S, A>], sums: &mut Vec<S, A>)
-    requires { length (joined pages.now) < 2 ^ 48 }
-    ensures { IsSums S.tells pages.now sums.new.items }
+fn find_sums<T: Copy, S: Summary<T>, A: Allocator>(pages: &Shelf<T, S, A>, sums: &mut Vec<S, A>)
+    requires { length (joined pages.now.pages) < 2 ^ 48 }
+    ensures { IsSums S.tells pages.now.pages sums.new.items }
 {
     sums.truncate(0);
     while sums.len() < pages.len() / GROUP && sums.len() < sums.capacity() {
@@ -51,38 +51,39 @@ fn find_sums<T: Copy, S: Summary<T>, A: Allocator>(pages: &[Page<T, S, A>], sums
 }
 
 /// The summary of a whole group.
-fn sum_of<T: Copy, S: Summary<T>, A: Allocator>(pages: &[Page<T, S, A>], g: usize) -> S
-    requires within { 32 * g + 32 ≤ length pages.now }
-    requires fits { length (joined pages.now) < 2 ^ 48 }
-    ensures { S.tells result (joined (take 32 (drop (32 * g) pages.now))) }
+fn sum_of<T: Copy, S: Summary<T>, A: Allocator>(pages: &Shelf<T, S, A>, g: usize) -> S
+    requires within { 32 * g + 32 ≤ length pages.now.pages }
+    requires number { 32 * g < 2 ^ 64 }
+    requires fits { length (joined pages.now.pages) < 2 ^ 48 }
+    ensures { S.tells result (joined (take 32 (drop (32 * g) pages.now.pages))) }
 {
     let first = GROUP * g;
     let mut sum = S::of(&[]);
     for k in 0..GROUP {
-        sum = sum.join(pages[first + k].summary());
+        sum = sum.join(pages.summary(first + k));
     }
     sum
 }
 
 /// Puts an entry where a page has room: each group behind it begins one later.
 pub fn put_inside<T: Copy, S: Summary<T>, A: Allocator>(
-    pages: &mut Vec<Page<T, S, A>, A>,
+    pages: &mut Shelf<T, S, A>,
     groups: &mut Groups<S, A>,
     q: usize,
     k: usize,
     x: T,
 )
-    requires gap { IsGap pages.old.items (start_of pages.old.items q + k) q k }
-    requires half { IsHalfFull pages.old.items }
-    requires groups { IsGroups S.tells pages.old.items groups.old.starts.items groups.old.sums.items }
-    requires fits { length (joined pages.old.items) < 2 ^ 48 }
-    ensures put { joined pages.new.items ≡ insert (joined pages.old.items) (start_of pages.old.items q + k) x }
-    ensures half { IsHalfFull pages.new.items }
-    ensures groups { IsGroups S.tells pages.new.items groups.new.starts.items groups.new.sums.items }
-    ensures len { vec_len pages.new ≡ vec_len pages.old }
-    ensures capacity { vec_capacity pages.new ≡ vec_capacity pages.old }
+    requires gap { IsGap pages.old.pages (start_of pages.old.pages q + k) q k }
+    requires half { IsHalfFull pages.old.pages }
+    requires groups { IsGroups S.tells pages.old.pages groups.old.starts.items groups.old.sums.items }
+    requires fits { length (joined pages.old.pages) < 2 ^ 48 }
+    ensures put { joined pages.new.pages ≡ insert (joined pages.old.pages) (start_of pages.old.pages q + k) x }
+    ensures half { IsHalfFull pages.new.pages }
+    ensures groups { IsGroups S.tells pages.new.pages groups.new.starts.items groups.new.sums.items }
+    ensures len { length pages.new.pages ≡ length pages.old.pages }
+    ensures free { pages.new.free ≡ pages.old.free }
 {
-    pages[q].insert(k, x);
+    pages.insert(q, k, x);
     raise(&mut groups.starts, q / GROUP + 1);
     sum_with(&mut groups.sums, q / GROUP, x);
 }
@@ -100,25 +101,25 @@ fn sum_with<T: Copy, S: Summary<T>, A: Allocator>(sums: &mut Vec<S, A>, g: usize
 
 /// Writes another entry over the j-th of page p.
 pub fn set<T: Copy, S: Summary<T>, A: Allocator>(
-    pages: &mut Vec<Page<T, S, A>, A>,
+    pages: &mut Shelf<T, S, A>,
     groups: &mut Groups<S, A>,
     p: usize,
     j: usize,
     x: T,
 )
-    requires within { p < vec_len pages.old }
-    requires inside { j < length (slice_index_or pages.old.items p []) }
-    requires half { IsHalfFull pages.old.items }
-    requires groups { IsGroups S.tells pages.old.items groups.old.starts.items groups.old.sums.items }
-    requires fits { length (joined pages.old.items) < 2 ^ 48 }
-    ensures set { joined pages.new.items ≡ slice_set (joined pages.old.items) (start_of pages.old.items p + j) x }
-    ensures groups { IsGroups S.tells pages.new.items groups.new.starts.items groups.new.sums.items }
-    ensures half { IsHalfFull pages.new.items }
-    ensures len { vec_len pages.new ≡ vec_len pages.old }
-    ensures capacity { vec_capacity pages.new ≡ vec_capacity pages.old }
+    requires within { p < length pages.old.pages }
+    requires inside { j < length (slice_index_or pages.old.pages p []) }
+    requires half { IsHalfFull pages.old.pages }
+    requires groups { IsGroups S.tells pages.old.pages groups.old.starts.items groups.old.sums.items }
+    requires fits { length (joined pages.old.pages) < 2 ^ 48 }
+    ensures set { joined pages.new.pages ≡ slice_set (joined pages.old.pages) (start_of pages.old.pages p + j) x }
+    ensures groups { IsGroups S.tells pages.new.pages groups.new.starts.items groups.new.sums.items }
+    ensures half { IsHalfFull pages.new.pages }
+    ensures len { length pages.new.pages ≡ length pages.old.pages }
+    ensures free { pages.new.free ≡ pages.old.free }
 {
     let old = read(pages, p, j);
-    pages[p].set(j, x);
+    pages.set(p, j, x);
     sum_replaced(&mut groups.sums, p / GROUP, old, x);
 }
 
@@ -140,25 +141,25 @@ fn sum_replaced<T: Copy, S: Summary<T>, A: Allocator>(
 
 /// Takes out an entry where its page stays long enough: each group behind it begins one earlier.
 pub fn take_inside<T: Copy, S: Summary<T>, A: Allocator>(
-    pages: &mut Vec<Page<T, S, A>, A>,
+    pages: &mut Shelf<T, S, A>,
     groups: &mut Groups<S, A>,
     p: usize,
     j: usize,
 ) -> T
-    requires within { p < length pages.old.items }
-    requires inside { j < length (slice_index_or pages.old.items p []) }
-    requires more { HasMore pages.old.items p }
-    requires half { IsHalfFull pages.old.items }
-    requires groups { IsGroups S.tells pages.old.items groups.old.starts.items groups.old.sums.items }
-    requires fits { length (joined pages.old.items) < 2 ^ 48 }
-    ensures rest { joined pages.new.items ≡ remove (joined pages.old.items) (start_of pages.old.items p + j) }
-    ensures out { result ≡ slice_index_or (joined pages.old.items) (start_of pages.old.items p + j) result }
-    ensures half { IsHalfFull pages.new.items }
-    ensures groups { IsGroups S.tells pages.new.items groups.new.starts.items groups.new.sums.items }
-    ensures len { vec_len pages.new ≡ vec_len pages.old }
-    ensures capacity { vec_capacity pages.new ≡ vec_capacity pages.old }
+    requires within { p < length pages.old.pages }
+    requires inside { j < length (slice_index_or pages.old.pages p []) }
+    requires more { HasMore pages.old.pages p }
+    requires half { IsHalfFull pages.old.pages }
+    requires groups { IsGroups S.tells pages.old.pages groups.old.starts.items groups.old.sums.items }
+    requires fits { length (joined pages.old.pages) < 2 ^ 48 }
+    ensures rest { joined pages.new.pages ≡ remove (joined pages.old.pages) (start_of pages.old.pages p + j) }
+    ensures out { result ≡ slice_index_or (joined pages.old.pages) (start_of pages.old.pages p + j) result }
+    ensures half { IsHalfFull pages.new.pages }
+    ensures groups { IsGroups S.tells pages.new.pages groups.new.starts.items groups.new.sums.items }
+    ensures len { length pages.new.pages ≡ length pages.old.pages }
+    ensures free { pages.new.free ≡ pages.old.free }
 {
-    let out = pages[p].remove(j);
+    let out = pages.remove(p, j);
     lower(&mut groups.starts, p / GROUP + 1);
     sum_again(pages, &mut groups.sums, p / GROUP);
     out
@@ -166,15 +167,16 @@ pub fn take_inside<T: Copy, S: Summary<T>, A: Allocator>(
 
 /// Sums up a group again.
 fn sum_again<T: Copy, S: Summary<T>, A: Allocator>(
-    pages: &[Page<T, S, A>],
+    pages: &Shelf<T, S, A>,
     sums: &mut Vec<S, A>,
     g: usize,
 )
-    requires within { g < length sums.old.items → 32 * g + 32 ≤ length pages.now }
-    requires fits { length (joined pages.now) < 2 ^ 48 }
+    requires within { g < length sums.old.items → 32 * g + 32 ≤ length pages.now.pages }
+    requires number { 32 * g < 2 ^ 64 }
+    requires fits { length (joined pages.now.pages) < 2 ^ 48 }
     ensures len { length sums.new.items ≡ length sums.old.items }
     ensures others { (n : ℕ) (d : S) → n ≢ g → slice_index_or sums.new.items n d ≡ slice_index_or sums.old.items n d }
-    ensures summed { (d : S) → g < length sums.old.items → S.tells (slice_index_or sums.new.items g d) (joined (take 32 (drop (32 * g) pages.now))) }
+    ensures summed { (d : S) → g < length sums.old.items → S.tells (slice_index_or sums.new.items g d) (joined (take 32 (drop (32 * g) pages.now.pages))) }
 {
     if g < sums.len() {
         sums[g] = sum_of(pages, g);

@@ -7,11 +7,10 @@
 
 mod groups;
 mod list;
-mod page;
 mod pages;
 mod search;
 mod starts;
 
+pub use desk_shelf::{FULL, Summary};
 pub use list::{Pages, Placed};
-pub use page::{FULL, Summary};
 pub use search::Pick;

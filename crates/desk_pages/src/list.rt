@@ -1,13 +1,13 @@
 //! A list in pages.
-ghost use Rattle.std.specs.Prelude.{◌≡◌, ◌+◌, ◌≤◌, ◌<◌, ℕ, [], length, take, drop, slice_index_or, slice_set, vec_len, vec_capacity, IfSome, IsNone, OnOk, IfOk, IfErr, IsOk, true, false};
+ghost use Rattle.std.specs.Prelude.{◌≡◌, ◌+◌, ◌≤◌, ◌<◌, ℕ, [], length, take, drop, slice_index_or, slice_set, IfSome, IsNone, OnOk, IfOk, IfErr, IsOk, true, false};
 ghost use Rattle.std.specs.List.{insert, remove};
 ghost use Rattle.desk_pages.specs.Pages.{Kept, joined, spare_of, IsKept, IsGroups, IsNth, IsShort, IsEdge};
 
 use crate::groups::{self, Groups, find_groups};
-use crate::page::{HALF, Page, Summary};
 use crate::pages;
 use crate::search::{self, Pick};
 use crate::starts::GROUP;
+use desk_shelf::{HALF, Shelf, Summary};
 use std::alloc::{AllocError, Allocator};
 use std::marker::Model;
 
@@ -26,8 +26,7 @@ pub struct Placed {
 /// A list in pages of at most 256, seen as its entries and how many more it takes with no new memory.
 #[derive(Drop)]
 pub struct Pages<T: Copy, S: Summary<T>, A: Allocator> {
-    pages: Vec<Page<T, S, A>, A>,
-    free: Vec<Page<T, S, A>, A>,
+    pages: Shelf<T, S, A>,
     len: usize,
     groups: Groups<S, A>,
     order: Vec<usize, A>,
@@ -36,9 +35,9 @@ pub struct Pages<T: Copy, S: Summary<T>, A: Allocator> {
 impl<T: Copy, S: Summary<T>, A: Allocator> Model for Pages<T, S, A> {
     ghost Value = { Kept T };
 
-    ghost view = { λ a. record { entries = joined a.pages.items; spare = spare_of (vec_len a.free) (vec_len a.pages + vec_len a.free) a.len } };
+    ghost view = { λ a. record { entries = joined a.pages.pages; spare = spare_of a.pages.free (length a.pages.pages + a.pages.free) a.len } };
 
-    ghost invariant = { λ a. IsKept a.pages.items a.len (vec_len a.pages + vec_len a.free) (vec_capacity a.pages) (vec_capacity a.free) × IsGroups S.tells a.pages.items a.groups.starts.items a.groups.sums.items };
+    ghost invariant = { λ a. IsKept a.pages.pages a.len (length a.pages.pages + a.pages.free) × IsGroups S.tells a.pages.pages a.groups.starts.items a.groups.sums.items };
 }
 
 impl<T: Copy, S: Summary<T>, A: Allocator + Copy> Pages<T, S, A> {
@@ -46,8 +45,7 @@ impl<T: Copy, S: Summary<T>, A: Allocator + Copy> Pages<T, S, A> {
         ensures { result.entries ≡ [] }
     {
         Pages {
-            pages: Vec::new(alloc),
-            free: Vec::new(alloc),
+            pages: Shelf::new(alloc),
             len: 0,
             groups: Groups {
                 starts: Vec::new(alloc),
@@ -65,7 +63,6 @@ impl<T: Copy, S: Summary<T>, A: Allocator + Copy> Pages<T, S, A> {
             return Err(AllocError);
         }
         let pages = pages::fill(alloc, items)?;
-        let free = Vec::with_capacity(alloc, pages.len())?;
         let count = pages.len() / GROUP + 1;
         let mut groups = Groups {
             starts: Vec::with_capacity(alloc, count)?,
@@ -77,7 +74,6 @@ impl<T: Copy, S: Summary<T>, A: Allocator + Copy> Pages<T, S, A> {
         pages::find_order(&pages, &mut order, 0);
         Ok(Pages {
             pages,
-            free,
             len: items.len(),
             groups,
             order,
@@ -133,10 +129,10 @@ impl<T: Copy, S: Summary<T>, A: Allocator + Copy> Pages<T, S, A> {
     pub fn spare(&self) -> usize
         ensures { result ≡ self.now.spare }
     {
-        let all = self.pages.len() + self.free.len();
+        let all = self.pages.all();
         let half_full = (all.saturating_sub(2) * HALF).saturating_sub(self.len);
-        self.free
-            .len()
+        self.pages
+            .free()
             .max(half_full)
             .min(MOST.saturating_sub(self.len))
     }
@@ -157,7 +153,7 @@ impl<T: Copy, S: Summary<T>, A: Allocator + Copy> Pages<T, S, A> {
         let count = half_full.min(self.pages.len() + n);
         self.groups.make_room(count / GROUP + 1)?;
         pages::name_room(&mut self.order, count)?;
-        pages::stock(&mut self.pages, &mut self.free, count)
+        self.pages.stock(count)
     }
 
     /// Writes another over the i-th entry.
@@ -181,7 +177,6 @@ impl<T: Copy, S: Summary<T>, A: Allocator + Copy> Pages<T, S, A> {
         let (p, j) = pages::locate_to_end(&self.pages, &self.groups.starts, self.len, i);
         pages::put(
             &mut self.pages,
-            &mut self.free,
             &mut self.groups,
             &mut self.order,
             p,
@@ -192,7 +187,7 @@ impl<T: Copy, S: Summary<T>, A: Allocator + Copy> Pages<T, S, A> {
         self.len += 1;
         if p < count && count < self.pages.len() {
             let at = if j <= HALF { p } else { p + 1 };
-            let lower = self.pages[p].len();
+            let lower = self.pages.len_of(p);
             let cut = if lower < HALF {
                 None
             } else {
@@ -219,7 +214,6 @@ impl<T: Copy, S: Summary<T>, A: Allocator + Copy> Pages<T, S, A> {
         let (p, j) = pages::locate(&self.pages, &self.groups.starts, self.len, i);
         let out = pages::take(
             &mut self.pages,
-            &mut self.free,
             &mut self.groups,
             &mut self.order,
             p,
@@ -280,7 +274,6 @@ impl<T: Copy, S: Summary<T>, A: Allocator + Copy> Pages<T, S, A> {
         let (p, j) = search::edge(&self.pages, pick);
         pages::put(
             &mut self.pages,
-            &mut self.free,
             &mut self.groups,
             &mut self.order,
             p,
@@ -303,7 +296,6 @@ impl<T: Copy, S: Summary<T>, A: Allocator + Copy> Pages<T, S, A> {
         }
         let out = pages::take(
             &mut self.pages,
-            &mut self.free,
             &mut self.groups,
             &mut self.order,
             p,

@@ -1,12 +1,12 @@
 //! The n-th entry that is picked, found by passing pages by.
-ghost use Rattle.std.specs.Prelude.{◌≡◌, ◌+◌, ◌≤◌, ◌<◌, ◌^◌, ℕ, List, length, take, IfSome, IsSome, IfOk, IfErr, Bool};
+ghost use Rattle.std.specs.Prelude.{◌≡◌, ◌+◌, ◌≤◌, ◌<◌, ◌^◌, ℕ, List, [], length, take, slice_index_or, IfSome, IsSome, IfOk, IfErr, Bool};
 ghost use Rattle.std.specs.List.{count_by};
 ghost use Rattle.desk_pages.specs.Pages.{joined, start_of, ends_in, IsSpotOrEnd, IsHalfFull, IsGroups, IsNth, IsShort, IsEdge};
 
 use crate::groups::Groups;
-use crate::page::{Page, Summary};
 use crate::pages::locate;
 use crate::starts::GROUP;
+use desk_shelf::{Shelf, Summary};
 use std::alloc::Allocator;
 
 /// Which entries a search is for.
@@ -98,39 +98,42 @@ pub fn nth_in<T: Copy, S: Summary<T>, P: Pick<T, S>>(
     nth_by_one(items, at, pick, left)
 }
 
-/// The n-th of one page, or how many are wanting.
+/// The n-th of page p, or how many are wanting.
 fn nth_of<T: Copy, S: Summary<T>, A: Allocator, P: Pick<T, S>>(
-    page: &Page<T, S, A>,
+    pages: &Shelf<T, S, A>,
+    p: usize,
     pick: &P,
     n: usize,
 ) -> Result<usize, usize>
-    ensures found { IfOk result (λ place. IsNth (P.picked pick.now) page.now 0 n place) }
-    ensures short { IfErr result (λ left. IsShort (P.picked pick.now) page.now 0 n left) }
+    requires { p < length pages.now.pages }
+    ensures found { IfOk result (λ place. IsNth (P.picked pick.now) (slice_index_or pages.now.pages p []) 0 n place) }
+    ensures short { IfErr result (λ left. IsShort (P.picked pick.now) (slice_index_or pages.now.pages p []) 0 n left) }
 {
-    if let Some(count) = pick.count(page.summary(), page.len()) {
+    let len = pages.len_of(p);
+    if let Some(count) = pick.count(pages.summary(p), len) {
         if count <= n {
             return Err(n - count);
         }
-        if count == page.len() {
+        if count == len {
             return Ok(n);
         }
     }
-    nth_in(page.items(), 0, pick, n)
+    nth_in(pages.items(p), 0, pick, n)
 }
 
 /// How many are wanting behind a group that begins at a page, and where the next begins, where the group may be passed by.
 fn pass<T: Copy, S: Summary<T>, A: Allocator, P: Pick<T, S>>(
-    pages: &[Page<T, S, A>],
+    pages: &Shelf<T, S, A>,
     groups: &Groups<S, A>,
     at: usize,
     pick: &P,
     n: usize,
 ) -> Option<(usize, usize)>
-    requires { IsGroups S.tells pages.now groups.now.starts.items groups.now.sums.items }
-    ensures within { IsSome result → at + 32 ≤ length pages.now }
+    requires { IsGroups S.tells pages.now.pages groups.now.starts.items groups.now.sums.items }
+    ensures within { IsSome result → at + 32 ≤ length pages.now.pages }
     ensures less { IfSome result (λ r. r.0 ≤ n) }
-    ensures start { IfSome result (λ r. r.1 ≡ start_of pages.now (at + 32)) }
-    ensures count { IfSome result (λ r. count_by (P.picked pick.now) (joined (take (at + 32) pages.now)) + r.0 ≡ count_by (P.picked pick.now) (joined (take at pages.now)) + n) }
+    ensures start { IfSome result (λ r. r.1 ≡ start_of pages.now.pages (at + 32)) }
+    ensures count { IfSome result (λ r. count_by (P.picked pick.now) (joined (take (at + 32) pages.now.pages)) + r.0 ≡ count_by (P.picked pick.now) (joined (take at pages.now.pages)) + n) }
 {
     let _ = pages;
     let g = at / GROUP;
@@ -150,19 +153,19 @@ fn pass<T: Copy, S: Summary<T>, A: Allocator, P: Pick<T, S>>(
 
 /// The n-th from a page on, or how many are wanting.
 fn nth_from<T: Copy, S: Summary<T>, A: Allocator, P: Pick<T, S>>(
-    pages: &[Page<T, S, A>],
+    pages: &Shelf<T, S, A>,
     groups: &Groups<S, A>,
     p: usize,
     start: usize,
     pick: &P,
     n: usize,
 ) -> Result<usize, usize>
-    requires within { p ≤ length pages.now }
-    requires start { start ≡ start_of pages.now p }
-    requires groups { IsGroups S.tells pages.now groups.now.starts.items groups.now.sums.items }
-    requires fits { length (joined pages.now) < 2 ^ 64 }
-    ensures found { IfOk result (λ place. IsNth (P.picked pick.now) (joined pages.now) start n place) }
-    ensures short { IfErr result (λ left. IsShort (P.picked pick.now) (joined pages.now) start n left) }
+    requires within { p ≤ length pages.now.pages }
+    requires start { start ≡ start_of pages.now.pages p }
+    requires groups { IsGroups S.tells pages.now.pages groups.now.starts.items groups.now.sums.items }
+    requires fits { length (joined pages.now.pages) < 2 ^ 64 }
+    ensures found { IfOk result (λ place. IsNth (P.picked pick.now) (joined pages.now.pages) start n place) }
+    ensures short { IfErr result (λ left. IsShort (P.picked pick.now) (joined pages.now.pages) start n left) }
 {
     let mut left = n;
     let mut start = start;
@@ -174,11 +177,11 @@ fn nth_from<T: Copy, S: Summary<T>, A: Allocator, P: Pick<T, S>>(
             at += GROUP;
             continue;
         }
-        match nth_of(&pages[at], pick, left) {
+        match nth_of(pages, at, pick, left) {
             Ok(j) => return Ok(start + j),
             Err(rest) => left = rest,
         }
-        start += pages[at].len();
+        start += pages.len_of(at);
         at += 1;
     }
     Err(left)
@@ -186,27 +189,27 @@ fn nth_from<T: Copy, S: Summary<T>, A: Allocator, P: Pick<T, S>>(
 
 /// The n-th from a place on, or how many are wanting.
 pub fn nth<T: Copy, S: Summary<T>, A: Allocator, P: Pick<T, S>>(
-    pages: &[Page<T, S, A>],
+    pages: &Shelf<T, S, A>,
     groups: &Groups<S, A>,
     len: usize,
     from: usize,
     pick: &P,
     n: usize,
 ) -> Result<usize, usize>
-    requires len { len ≡ length (joined pages.now) }
-    requires within { from < length (joined pages.now) }
-    requires groups { IsGroups S.tells pages.now groups.now.starts.items groups.now.sums.items }
-    requires fits { length (joined pages.now) < 2 ^ 64 }
-    ensures found { IfOk result (λ place. IsNth (P.picked pick.now) (joined pages.now) from n place) }
-    ensures short { IfErr result (λ left. IsShort (P.picked pick.now) (joined pages.now) from n left) }
+    requires len { len ≡ length (joined pages.now.pages) }
+    requires within { from < length (joined pages.now.pages) }
+    requires groups { IsGroups S.tells pages.now.pages groups.now.starts.items groups.now.sums.items }
+    requires fits { length (joined pages.now.pages) < 2 ^ 64 }
+    ensures found { IfOk result (λ place. IsNth (P.picked pick.now) (joined pages.now.pages) from n place) }
+    ensures short { IfErr result (λ left. IsShort (P.picked pick.now) (joined pages.now.pages) from n left) }
 {
     let (p, j) = locate(pages, &groups.starts, len, from);
     if j == 0 {
         return nth_from(pages, groups, p, from, pick, n);
     }
-    match nth_in(pages[p].items(), j, pick, n) {
+    match nth_in(pages.items(p), j, pick, n) {
         Ok(k) => Ok(from - j + k),
-        Err(left) => nth_from(pages, groups, p + 1, from - j + pages[p].len(), pick, left),
+        Err(left) => nth_from(pages, groups, p + 1, from - j + pages.len_of(p), pick, left),
     }
 }
 
@@ -246,17 +249,17 @@ pub fn edge_in<T: Copy, S: Summary<T>, P: Pick<T, S>>(
 /// The first page whose last entry is not picked, as far as the one before it tells. What is newest stands last in most
 /// lists, so the last page is looked at first; and then the first one, where what comes in falling order belongs.
 fn edge_page<T: Copy, S: Summary<T>, A: Allocator, P: Pick<T, S>>(
-    pages: &[Page<T, S, A>],
+    pages: &Shelf<T, S, A>,
     pick: &P,
 ) -> usize
-    requires { IsHalfFull pages.now }
-    ensures { IsEdge (ends_in (P.picked pick.now)) pages.now result }
+    requires { IsHalfFull pages.now.pages }
+    ensures { IsEdge (ends_in (P.picked pick.now)) pages.now.pages result }
 {
     let count = pages.len();
-    if count > 0 && pick.picks(pages[count - 1].last()) {
+    if count > 0 && pick.picks(pages.last(count - 1)) {
         return count;
     }
-    if count > 0 && !pick.picks(pages[0].last()) {
+    if count > 0 && !pick.picks(pages.last(0)) {
         return 0;
     }
     edge_by_halves(pages, pick)
@@ -264,17 +267,17 @@ fn edge_page<T: Copy, S: Summary<T>, A: Allocator, P: Pick<T, S>>(
 
 /// The same, by halving what is left.
 fn edge_by_halves<T: Copy, S: Summary<T>, A: Allocator, P: Pick<T, S>>(
-    pages: &[Page<T, S, A>],
+    pages: &Shelf<T, S, A>,
     pick: &P,
 ) -> usize
-    requires { IsHalfFull pages.now }
-    ensures { IsEdge (ends_in (P.picked pick.now)) pages.now result }
+    requires { IsHalfFull pages.now.pages }
+    ensures { IsEdge (ends_in (P.picked pick.now)) pages.now.pages result }
 {
     let mut low = 0;
     let mut high = pages.len();
     while low < high {
         let mid = low + (high - low) / 2;
-        if pick.picks(pages[mid].last()) {
+        if pick.picks(pages.last(mid)) {
             low = mid + 1;
         } else {
             high = mid;
@@ -285,32 +288,32 @@ fn edge_by_halves<T: Copy, S: Summary<T>, A: Allocator, P: Pick<T, S>>(
 
 /// Where those that are picked end.
 pub fn edge<T: Copy, S: Summary<T>, A: Allocator, P: Pick<T, S>>(
-    pages: &[Page<T, S, A>],
+    pages: &Shelf<T, S, A>,
     pick: &P,
 ) -> (usize, usize)
-    requires { IsHalfFull pages.now }
-    ensures spot { IsSpotOrEnd pages.now result.0 result.1 }
-    ensures edge { IsEdge (P.picked pick.now) (joined pages.now) (start_of pages.now result.0 + result.1) }
+    requires { IsHalfFull pages.now.pages }
+    ensures spot { IsSpotOrEnd pages.now.pages result.0 result.1 }
+    ensures edge { IsEdge (P.picked pick.now) (joined pages.now.pages) (start_of pages.now.pages result.0 + result.1) }
 {
     let p = edge_page(pages, pick);
     if p == pages.len() {
         return (p, 0);
     }
     let guess = guess_in(pages, p, pick);
-    (p, edge_in(pages[p].items(), pick, guess))
+    (p, edge_in(pages.items(p), pick, guess))
 }
 
 /// Where in a page those that are picked may end: a hint. In the first page that is its front.
 fn guess_in<T: Copy, S: Summary<T>, A: Allocator, P: Pick<T, S>>(
-    pages: &[Page<T, S, A>],
+    pages: &Shelf<T, S, A>,
     p: usize,
     pick: &P,
 ) -> Option<usize>
-    requires half { IsHalfFull pages.now }
-    requires within { p < length pages.now }
+    requires half { IsHalfFull pages.now.pages }
+    requires within { p < length pages.now.pages }
 {
     if p == 0 {
         return Some(0);
     }
-    pick.guess(pages[p - 1].last(), pages[p].last(), pages[p].len())
+    pick.guess(pages.last(p - 1), pages.last(p), pages.len_of(p))
 }

@@ -2,7 +2,7 @@
 ghost use Rattle.std.specs.Prelude.{◌≡◌, ◌+◌, ◌-◌, ◌≤◌, ◌<◌, ◌^◌, ℕ, length, slice_index_or};
 ghost use Rattle.desk_pages.specs.Pages.{joined, start_of, IsStarts};
 
-use crate::page::{Page, Summary};
+use desk_shelf::{Shelf, Summary};
 use std::alloc::Allocator;
 
 /// How many pages are in a group.
@@ -10,13 +10,13 @@ pub const GROUP: usize = 32;
 
 /// The first page of the last group that is known to begin no later, and where it begins.
 pub fn group_before<T: Copy, S: Summary<T>, A: Allocator>(
-    pages: &[Page<T, S, A>],
+    pages: &Shelf<T, S, A>,
     starts: &[usize],
     i: usize,
 ) -> (usize, usize)
-    requires { IsStarts pages.now starts.now }
-    ensures within { result.0 ≤ length pages.now }
-    ensures start { result.1 ≡ start_of pages.now result.0 }
+    requires { IsStarts pages.now.pages starts.now }
+    ensures within { result.0 ≤ length pages.now.pages }
+    ensures start { result.1 ≡ start_of pages.now.pages result.0 }
     ensures before { result.1 ≤ i }
 {
     let g = starts
@@ -30,13 +30,13 @@ pub fn group_before<T: Copy, S: Summary<T>, A: Allocator>(
 
 /// The first page of a page's group, and where it begins.
 fn group_of<T: Copy, S: Summary<T>, A: Allocator>(
-    pages: &[Page<T, S, A>],
+    pages: &Shelf<T, S, A>,
     starts: &[usize],
     p: usize,
 ) -> (usize, usize)
-    requires { IsStarts pages.now starts.now }
+    requires { IsStarts pages.now.pages starts.now }
     ensures within { result.0 ≤ p }
-    ensures start { result.1 ≡ start_of pages.now result.0 }
+    ensures start { result.1 ≡ start_of pages.now.pages result.0 }
 {
     let g = p / GROUP;
     if g < starts.len() {
@@ -47,34 +47,34 @@ fn group_of<T: Copy, S: Summary<T>, A: Allocator>(
 
 /// Where page p begins.
 pub fn start_at<T: Copy, S: Summary<T>, A: Allocator>(
-    pages: &[Page<T, S, A>],
+    pages: &Shelf<T, S, A>,
     starts: &[usize],
     p: usize,
 ) -> usize
-    requires starts { IsStarts pages.now starts.now }
-    requires within { p ≤ length pages.now }
-    requires fits { length (joined pages.now) < 2 ^ 64 }
-    ensures { result ≡ start_of pages.now p }
+    requires starts { IsStarts pages.now.pages starts.now }
+    requires within { p ≤ length pages.now.pages }
+    requires fits { length (joined pages.now.pages) < 2 ^ 64 }
+    ensures { result ≡ start_of pages.now.pages p }
 {
     let (first, before) = group_of(pages, starts, p);
     let mut start = before;
     for at in first..p {
-        start += pages[at].len();
+        start += pages.len_of(at);
     }
     start
 }
 
 /// Keeps where page p begins, where it is the first of the next group and there is room.
 fn keep_start<T: Copy, S: Summary<T>, A: Allocator>(
-    pages: &[Page<T, S, A>],
+    pages: &Shelf<T, S, A>,
     starts: &mut Vec<usize, A>,
     p: usize,
     start: usize,
 )
-    requires starts { IsStarts pages.now starts.old.items }
-    requires within { p ≤ length pages.now }
-    requires start { start ≡ start_of pages.now p }
-    ensures { IsStarts pages.now starts.new.items }
+    requires starts { IsStarts pages.now.pages starts.old.items }
+    requires within { p ≤ length pages.now.pages }
+    requires start { start ≡ start_of pages.now.pages p }
+    ensures { IsStarts pages.now.pages starts.new.items }
 {
     let _ = pages;
     if p % GROUP == 0 && p / GROUP == starts.len() && starts.len() < starts.capacity() {
@@ -84,17 +84,17 @@ fn keep_start<T: Copy, S: Summary<T>, A: Allocator>(
 
 /// Finds where each group begins, as far as there is room to keep it.
 pub fn find_starts<T: Copy, S: Summary<T>, A: Allocator>(
-    pages: &[Page<T, S, A>],
+    pages: &Shelf<T, S, A>,
     starts: &mut Vec<usize, A>,
 )
-    requires { length (joined pages.now) < 2 ^ 64 }
-    ensures { IsStarts pages.now starts.new.items }
+    requires { length (joined pages.now.pages) < 2 ^ 64 }
+    ensures { IsStarts pages.now.pages starts.new.items }
 {
     starts.truncate(0);
     let mut start = 0;
     for p in 0..pages.len() {
         keep_start(pages, starts, p, start);
-        start += pages[p].len();
+        start += pages.len_of(p);
     }
 }
 

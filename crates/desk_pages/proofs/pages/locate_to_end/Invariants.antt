@@ -3,7 +3,7 @@ use Rattle.desk_pages.specs.Pages.{start_of}
 use Rattle.desk_pages.proofs.pages.locate_to_end.Given as goal
 
 abbrev pub invariant-loop-p : goal.invariant-loop-p
-invariant-loop-p g l = record { within : l.p ≤ length l.pages; is : l.i ≡ start_of l.pages l.p + l.left }
+invariant-loop-p g l = record { within : l.p ≤ length l.pages.pages; is : l.i ≡ start_of l.pages.pages l.p + l.left }
 
 abbrev pub decreases-loop-p : goal.decreases-loop-p
-decreases-loop-p g l = length l.pages - l.p
+decreases-loop-p g l = length l.pages.pages - l.p

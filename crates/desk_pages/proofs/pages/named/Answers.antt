@@ -1,5 +1,4 @@
-use Rattle.std.proofs.Common.{◌≡◌, ◌<◌, ◌+◌, ◌∙◌, [], length, get_or, arith}
-use Rattle.std.proofs.lemmas.List.{get_or_read}
+use Rattle.std.proofs.Common.{◌≡◌, ◌<◌, ◌+◌, length, get_or, arith}
 use Rattle.desk_pages.specs.Pages.{start_of}
 use Rattle.desk_pages.proofs.Cuts.{spot, spot-stretch}
 use Rattle.desk_pages.proofs.Picks.{half-some}
@@ -7,9 +6,8 @@ use Rattle.desk_pages.proofs.pages.named.Goals as goal
 
 pub returns : goal.returns
 returns g c =
-    let pages = c.args.pages.now in
+    let pages = c.args.pages.now.pages in
     let p = get_or c.args.order.now c.args.name 0 in
-    let l : p < length pages = c.if-p-pages.false in
-    let e = get_or_read pages p c.index-pages-p.result l c.index-pages-p.is [] in
+    let l : p < length pages = omega (arith, c.if-p-len.false, c.len.ensures) in
     let i : start_of pages p + 0 ≡ c.start_at.result = omega (arith, c.start_at.ensures) in
-    rw (← i) (spot-stretch pages (start_of pages p + 0) p 0 c.items.result.now (spot pages p 0 l (half-some pages p c.requires.half l)) (c.items.ensures ∙ e))
+    rw (← i) (spot-stretch pages (start_of pages p + 0) p 0 c.items.result.now (spot pages p 0 l (half-some pages p c.requires.half l)) c.items.ensures)

@@ -3,7 +3,7 @@ use Rattle.desk_pages.proofs.Cuts.{half-first}
 use Rattle.desk_pages.proofs.pages.open_first.Goals as goal
 
 pub returns-clause-put : goal.returns-clause-put
-returns-clause-put g c = rw (c.insert_reserved.ensures.items, c.fill.ensures) refl
+returns-clause-put g c = rw c.open.ensures.put refl
 
 pub returns-clause-half : goal.returns-clause-half
-returns-clause-half g c = rw (c.insert_reserved.ensures.items, c.fill.ensures) (half-first c.args.pages.now.items (c.args.x ∷ []) (omega arith) c.requires.half c.requires.full)
+returns-clause-half g c = rw c.open.ensures.put (half-first c.args.pages.now.pages (c.args.x ∷ []) (omega arith) c.requires.half c.requires.full)

@@ -1,11 +1,10 @@
-use Rattle.std.proofs.Common.{◌∙◌, ap, drop, [], List}
-use Rattle.std.proofs.lemmas.List.{get_or_read}
+use Rattle.std.proofs.Common.{◌∙◌, ap, drop, List}
 use Rattle.desk_pages.proofs.Cuts.{spot-stretch}
 use Rattle.desk_pages.proofs.pages.stretch.Goals as goal
 
 pub returns-clause-is : goal.returns-clause-is
 returns-clause-is g c =
-    let pages = c.args.pages.now in
-    let s = c.locate-p.ensures in
+    let pages = c.args.pages.now.pages in
+    let s = c.locate-p.ensures.spot in
     spot-stretch pages c.args.i c.locate-p.result.0 c.locate-p.result.1 c.split_at.result.1.now s
-    (c.split_at.ensures.back ∙ ap (λ (l : List _). drop c.locate-p.result.1 l) (c.items.ensures ∙ get_or_read pages c.locate-p.result.0 c.index-pages-p.result s.within c.index-pages-p.is []))
+    (c.split_at.ensures.back ∙ ap (λ (l : List _). drop c.locate-p.result.1 l) c.items.ensures)

@@ -6,15 +6,13 @@ use Rattle.desk_pages.proofs.pages.take.Goals as goal
 
 pub returns-then-has_more-clause-kept : goal.returns-then-has_more-clause-kept
 returns-then-has_more-clause-kept g c =
-    let pages = c.args.pages.now.items in
+    let pages = c.args.pages.now.pages in
     let k = c.requires.kept in
     let n = length-remove (joined pages) (start_of pages c.args.p + c.args.j) (page-within pages c.args.p c.args.j c.requires.within c.requires.inside) in
     let m = ap length c.take_inside.ensures.rest in
     record {
       is_len = omega (arith, k.is_len);
       half = c.take_inside.ensures.half;
-      room = omega (arith, k.room, c.take_inside.ensures.len, c.take_inside.ensures.capacity);
-      back = omega (arith, k.back, c.take_inside.ensures.len);
-      few = omega (arith, k.few, c.take_inside.ensures.len);
+      few = omega (arith, k.few, c.take_inside.ensures.len, c.take_inside.ensures.free);
       fits = omega (arith, k.fits);
     }

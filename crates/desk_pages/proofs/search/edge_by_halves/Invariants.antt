@@ -5,9 +5,9 @@ use Rattle.desk_pages.proofs.search.edge_by_halves.Given as goal
 abbrev pub invariant-loop-low : goal.invariant-loop-low
 invariant-loop-low g l = record {
   low : l.low ≤ l.high;
-  high : l.high ≤ length l.pages;
-  below : (d : _) → 0 < l.low → ends_in (g.P.Pick.picked l.pick) (get_or l.pages (l.low - 1) d) ≡ true;
-  stops : (d : _) → l.high < length l.pages → ends_in (g.P.Pick.picked l.pick) (get_or l.pages l.high d) ≡ false;
+  high : l.high ≤ length l.pages.pages;
+  below : (d : _) → 0 < l.low → ends_in (g.P.Pick.picked l.pick) (get_or l.pages.pages (l.low - 1) d) ≡ true;
+  stops : (d : _) → l.high < length l.pages.pages → ends_in (g.P.Pick.picked l.pick) (get_or l.pages.pages l.high d) ≡ false;
 }
 
 abbrev pub decreases-loop-low : goal.decreases-loop-low

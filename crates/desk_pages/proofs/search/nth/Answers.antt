@@ -1,9 +1,7 @@
 use Rattle.std.proofs.Common.{◌≡◌, ◌+◌, ◌-◌, [], ℕ, get_or, take, ap, arith, Result, Ok, Err}
 use Rattle.std.specs.Prelude.{IfOk, IfErr}
 use Rattle.std.specs.List.{count_by}
-use Rattle.std.proofs.lemmas.List.{get_or_read}
 use Rattle.desk_pages.specs.Pages.{joined, start_of, IsNth, IsShort}
-use Rattle.desk_pages.proofs.Cuts.{page-length}
 use Rattle.desk_pages.proofs.Picks.{nth-joined, nth-later, short-page, page-within, page-fits, count-at, next-start, next-page}
 use Rattle.desk_pages.proofs.search.nth.Goals as goal
 
@@ -17,33 +15,31 @@ if-err (Err e) P Q f h = f e h
 
 pub overflow_add-result : goal.overflow_add-result
 overflow_add-result g c =
-    let pages = c.args.pages.now in
-    let s = c.locate-p.ensures in
-    let e = get_or_read pages c.locate-p.result.0 c.index-pages-p.result s.within c.index-pages-p.is [] in
-    let h : IsNth (g.P.Pick.picked c.args.pick.now) (get_or pages c.locate-p.result.0 []) c.locate-p.result.1 c.args.n c.in-Ok.k = rw (c.items.ensures, e) at c.in-Ok.ensures.found in
+    let pages = c.args.pages.now.pages in
+    let s = c.locate-p.ensures.spot in
+    let h : IsNth (g.P.Pick.picked c.args.pick.now) (get_or pages c.locate-p.result.0 []) c.locate-p.result.1 c.args.n c.in-Ok.k = rw c.items.ensures at c.in-Ok.ensures.found in
     let w = page-within pages c.locate-p.result.0 c.in-Ok.k s.within h.within in
     omega (arith, s.is, c.requires.fits)
 
 pub overflow_add-from : goal.overflow_add-from
 overflow_add-from g c =
-    let pages = c.args.pages.now in
-    let s = c.locate-p.ensures in
-    let n = page-length pages c.locate-p.result.0 c.len.result c.index-pages-p-in-Err.result s.within c.index-pages-p-in-Err.is c.len.ensures.len in
+    let pages = c.args.pages.now.pages in
+    let s = c.locate-p.ensures.spot in
+    let n = c.len_of.ensures.len in
     let w = page-fits pages c.locate-p.result.0 s.within in
     omega (arith, s.is, c.requires.fits)
 
 pub nth_from-requires-in-Err-clause-start : goal.nth_from-requires-in-Err-clause-start
-nth_from-requires-in-Err-clause-start g c = next-start c.args.pages.now c.args.from c.locate-p.result.0 c.locate-p.result.1 c.len.result c.index-pages-p-in-Err.result c.locate-p.ensures c.index-pages-p-in-Err.is c.len.ensures.len
+nth_from-requires-in-Err-clause-start g c = next-start c.args.pages.now.pages c.args.from c.locate-p.result.0 c.locate-p.result.1 c.len_of.result c.locate-p.ensures.spot c.len_of.ensures.len
 
 pub returns-in-Ok-clause-found : goal.returns-in-Ok-clause-found
 returns-in-Ok-clause-found g c =
-    let pages = c.args.pages.now in
+    let pages = c.args.pages.now.pages in
     let picks = g.P.Pick.picked c.args.pick.now in
-    let s = c.locate-p.ensures in
+    let s = c.locate-p.ensures.spot in
     let p = c.locate-p.result.0 in
     let j = c.locate-p.result.1 in
-    let e = get_or_read pages p c.index-pages-p.result s.within c.index-pages-p.is [] in
-    let h : IsNth picks (get_or pages p []) j c.args.n c.in-Ok.k = rw (c.items.ensures, e) at c.in-Ok.ensures.found in
+    let h : IsNth picks (get_or pages p []) j c.args.n c.in-Ok.k = rw c.items.ensures at c.in-Ok.ensures.found in
     let q : c.args.from - j + c.in-Ok.k ≡ start_of pages p + c.in-Ok.k = omega (arith, s.is) in
     let f = ap (λ (m : ℕ). count_by picks (take m (joined pages))) s.is in
     let t = count-at picks pages p j s.within (omega (arith, s.inside)) in
@@ -51,14 +47,13 @@ returns-in-Ok-clause-found g c =
 
 pub returns-in-Err-clause-found : goal.returns-in-Err-clause-found
 returns-in-Err-clause-found g c =
-    let pages = c.args.pages.now in
+    let pages = c.args.pages.now.pages in
     let picks = g.P.Pick.picked c.args.pick.now in
-    let s = c.locate-p.ensures in
+    let s = c.locate-p.ensures.spot in
     let p = c.locate-p.result.0 in
     let j = c.locate-p.result.1 in
-    let e = get_or_read pages p c.index-pages-p.result s.within c.index-pages-p.is [] in
-    let h : IsShort picks (get_or pages p []) j c.args.n c.in-Err.left = rw (c.items.ensures, e) at c.in-Err.ensures.short in
-    let start = next-start pages c.args.from p j c.len.result c.index-pages-p-in-Err.result s c.index-pages-p-in-Err.is c.len.ensures.len in
+    let h : IsShort picks (get_or pages p []) j c.args.n c.in-Err.left = rw c.items.ensures at c.in-Err.ensures.short in
+    let start = next-start pages c.args.from p j c.len_of.result s c.len_of.ensures.len in
     let up = next-page pages p s.within in
     let f = ap (λ (m : ℕ). count_by picks (take m (joined pages))) s.is in
     let t = short-page picks pages p j c.args.n c.in-Err.left s.within (omega (arith, s.inside)) h in
@@ -66,14 +61,13 @@ returns-in-Err-clause-found g c =
 
 pub returns-in-Err-clause-short : goal.returns-in-Err-clause-short
 returns-in-Err-clause-short g c =
-    let pages = c.args.pages.now in
+    let pages = c.args.pages.now.pages in
     let picks = g.P.Pick.picked c.args.pick.now in
-    let s = c.locate-p.ensures in
+    let s = c.locate-p.ensures.spot in
     let p = c.locate-p.result.0 in
     let j = c.locate-p.result.1 in
-    let e = get_or_read pages p c.index-pages-p.result s.within c.index-pages-p.is [] in
-    let h : IsShort picks (get_or pages p []) j c.args.n c.in-Err.left = rw (c.items.ensures, e) at c.in-Err.ensures.short in
-    let start = next-start pages c.args.from p j c.len.result c.index-pages-p-in-Err.result s c.index-pages-p-in-Err.is c.len.ensures.len in
+    let h : IsShort picks (get_or pages p []) j c.args.n c.in-Err.left = rw c.items.ensures at c.in-Err.ensures.short in
+    let start = next-start pages c.args.from p j c.len_of.result s c.len_of.ensures.len in
     let f = ap (λ (m : ℕ). count_by picks (take m (joined pages))) s.is in
     let t = short-page picks pages p j c.args.n c.in-Err.left s.within (omega (arith, s.inside)) h in
     if-err c.nth_from-in-Err.result _ _ (λ (left : ℕ) r. (let q : IsShort picks (joined pages) (start_of pages (p + 1)) c.in-Err.left left = rw start at r in (omega (arith, q.0, h.0), omega (arith, q.1)))) c.nth_from-in-Err.ensures.short

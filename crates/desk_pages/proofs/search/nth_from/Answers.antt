@@ -1,29 +1,26 @@
 use Rattle.std.proofs.Common.{◌<◌, [], length, get_or, ap, refl, add-one, arith}
 use Rattle.std.specs.List.{count_by}
-use Rattle.std.proofs.lemmas.List.{get_or_read}
 use Rattle.desk_pages.specs.Pages.{start_of, IsNth, IsShort}
-use Rattle.desk_pages.proofs.Cuts.{start-more, page-length, joined-past}
+use Rattle.desk_pages.proofs.Cuts.{start-more, joined-past}
 use Rattle.desk_pages.proofs.Picks.{nth-joined, page-within, page-fits, count-page, count-start}
 use Rattle.desk_pages.proofs.Sums.{start-grows}
 use Rattle.desk_pages.proofs.search.nth_from.Goals as goal
 
 pub overflow_add-result : goal.overflow_add-result
 overflow_add-result g c =
-    let pages = c.args.pages.now in
-    let l : c.loop-at.at < length pages = c.loop-at-test.true in
-    let e = get_or_read pages c.loop-at.at c.index-pages-at.result l c.index-pages-at.is [] in
-    let h : IsNth (g.P.Pick.picked c.args.pick.now) (get_or pages c.loop-at.at []) 0 c.loop-at.left c.in-Ok.j = rw e at c.in-Ok.ensures.found in
+    let pages = c.args.pages.now.pages in
+    let l : c.loop-at.at < length pages = omega (arith, c.loop-at-test.true, c.len.ensures) in
+    let h : IsNth (g.P.Pick.picked c.args.pick.now) (get_or pages c.loop-at.at []) 0 c.loop-at.left c.in-Ok.j = c.in-Ok.ensures.found in
     let w = page-within pages c.loop-at.at c.in-Ok.j l h.within in
     let i = c.loop-at.invariant.is in
     omega (arith, c.requires.fits)
 
 pub returns-in-Ok-clause-found : goal.returns-in-Ok-clause-found
 returns-in-Ok-clause-found g c =
-    let pages = c.args.pages.now in
+    let pages = c.args.pages.now.pages in
     let picks = g.P.Pick.picked c.args.pick.now in
-    let l : c.loop-at.at < length pages = c.loop-at-test.true in
-    let e = get_or_read pages c.loop-at.at c.index-pages-at.result l c.index-pages-at.is [] in
-    let h : IsNth picks (get_or pages c.loop-at.at []) 0 c.loop-at.left c.in-Ok.j = rw e at c.in-Ok.ensures.found in
+    let l : c.loop-at.at < length pages = omega (arith, c.loop-at-test.true, c.len.ensures) in
+    let h : IsNth picks (get_or pages c.loop-at.at []) 0 c.loop-at.left c.in-Ok.j = c.in-Ok.ensures.found in
     let i = c.loop-at.invariant in
     let s = count-start picks pages c.args.p in
     let q = c.requires.start in
@@ -31,21 +28,20 @@ returns-in-Ok-clause-found g c =
 
 pub overflow_add-start : goal.overflow_add-start
 overflow_add-start g c =
-    let pages = c.args.pages.now in
-    let l : c.loop-at.at < length pages = c.loop-at-test.true in
-    let n = page-length pages c.loop-at.at c.len-start.result c.index-pages-at-in-loop-at.result l c.index-pages-at-in-loop-at.is c.len-start.ensures.len in
+    let pages = c.args.pages.now.pages in
+    let l : c.loop-at.at < length pages = omega (arith, c.loop-at-test.true, c.len.ensures) in
+    let n = c.len_of-start.ensures.len in
     let w = page-fits pages c.loop-at.at l in
     let i = c.loop-at.invariant.is in
     omega (arith, c.requires.fits)
 
 pub loop-at-preserved : goal.loop-at-preserved
 loop-at-preserved g c =
-    let pages = c.args.pages.now in
+    let pages = c.args.pages.now.pages in
     let picks = g.P.Pick.picked c.args.pick.now in
-    let l : c.loop-at.at < length pages = c.loop-at-test.true in
-    let e = get_or_read pages c.loop-at.at c.index-pages-at.result l c.index-pages-at.is [] in
-    let h : IsShort picks (get_or pages c.loop-at.at []) 0 c.loop-at.left c.in-Err.rest = rw e at c.in-Err.ensures.short in
-    let n = page-length pages c.loop-at.at c.len-start.result c.index-pages-at-in-loop-at.result l c.index-pages-at-in-loop-at.is c.len-start.ensures.len in
+    let l : c.loop-at.at < length pages = omega (arith, c.loop-at-test.true, c.len.ensures) in
+    let h : IsShort picks (get_or pages c.loop-at.at []) 0 c.loop-at.left c.in-Err.rest = c.in-Err.ensures.short in
+    let n = c.len_of-start.ensures.len in
     let i = c.loop-at.invariant in
     let s = start-more pages c.loop-at.at l in
     let k = count-page picks pages c.loop-at.at l in
@@ -60,17 +56,17 @@ loop-at-preserved g c =
 
 pub returns-clause-short : goal.returns-clause-short
 returns-clause-short g c =
-    let pages = c.args.pages.now in
+    let pages = c.args.pages.now.pages in
     let picks = g.P.Pick.picked c.args.pick.now in
     let i = c.loop-at.invariant in
     let s = count-start picks pages c.args.p in
-    let a = ap (count_by picks) (joined-past pages c.loop-at.at c.loop-at-test.false) in
+    let a = ap (count_by picks) (joined-past pages c.loop-at.at (omega (arith, c.loop-at-test.false, c.len.ensures))) in
     let q = c.requires.start in
     (i.less, rw q (omega (arith, i.count)))
 
 pub loop-at-preserved-in-Some : goal.loop-at-preserved-in-Some
 loop-at-preserved-in-Some g c =
-    let pages = c.args.pages.now in
+    let pages = c.args.pages.now.pages in
     let i = c.loop-at.invariant in
     let e = c.in-Some.ensures in
     let m = start-grows pages c.loop-at.at 32 in

@@ -17,11 +17,11 @@ returns-then-count-n-clause-start g c =
     let starts = c.args.groups.now.starts.items in
     let l : k < length starts = omega (arith, c.if-len-g.false, c.args.groups.now.starts.ok.0) in
     let q : 32 * k ≡ c.args.at + 32 = omega (arith, c.if-at-ne0.false) in
-    get_or_read starts k c.index-next.result.now l c.index-next.ensures 0 ∙ c.requires.0.is k l ∙ ap (λ (n : ℕ). start_of c.args.pages.now n) q
+    get_or_read starts k c.index-next.result.now l c.index-next.ensures 0 ∙ c.requires.0.is k l ∙ ap (λ (n : ℕ). start_of c.args.pages.now.pages n) q
 
 pub returns-then-count-n-clause-count : goal.returns-then-count-n-clause-count
 returns-then-count-n-clause-count g c =
-    let pages = c.args.pages.now in
+    let pages = c.args.pages.now.pages in
     let h = c.args.at / 32 in
     let starts = c.args.groups.now.starts.items in
     let w : h < length c.args.groups.now.sums.items = omega (arith, c.if-g-len.false, c.args.groups.now.sums.ok.0) in

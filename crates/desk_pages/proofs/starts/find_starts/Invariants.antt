@@ -4,6 +4,6 @@ use Rattle.desk_pages.proofs.starts.find_starts.Given as goal
 
 abbrev pub invariant-loop-p : goal.invariant-loop-p
 invariant-loop-p g l = record {
-  start : l.start ≡ start_of l.pages l.p;
-  starts : IsStarts l.pages l.starts.items;
+  start : l.start ≡ start_of l.pages.pages l.p;
+  starts : IsStarts l.pages.pages l.starts.items;
 }

@@ -3,4 +3,4 @@ use Rattle.desk_pages.specs.Pages.{start_of}
 use Rattle.desk_pages.proofs.starts.start_at.Given as goal
 
 abbrev pub invariant-loop-at : goal.invariant-loop-at
-invariant-loop-at g l = l.start ≡ start_of l.pages l.at
+invariant-loop-at g l = l.start ≡ start_of l.pages.pages l.at

@@ -4,8 +4,8 @@ use Rattle.desk_pages.proofs.list.Pages.insert_in_order.Goals as goal
 
 pub returns-clause-put : goal.returns-clause-put
 returns-clause-put g c =
-    let pages = c.self.inside.pages.items in
+    let pages = c.self.inside.pages.pages in
     let p = c.edge-p.result.0 in
     let j = c.edge-p.result.1 in
-    let e : IsEdge (g.P.Pick.picked c.args.pick.now) (joined pages) (start_of pages p + j) = rw c.deref.ensures.value at c.edge-p.ensures.edge in
+    let e : IsEdge (g.P.Pick.picked c.args.pick.now) (joined pages) (start_of pages p + j) = c.edge-p.ensures.edge in
     rw (← c.self.view_is) (start_of pages p + j, e, c.put.ensures.put)

@@ -1,0 +1,12 @@
+//! Pages of a long list, in frames of one piece of memory that grows.
+//!
+//! A frame has room for 256 entries. A page is the first so many of a frame, so that a frame which no page has needed yet is
+//! not touched, and opening a page asks for no memory that was not promised.
+#![tactic(auto)]
+
+mod frame;
+mod shelf;
+mod summary;
+
+pub use shelf::Shelf;
+pub use summary::{FULL, HALF, Summary};
