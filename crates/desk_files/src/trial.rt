@@ -1,8 +1,11 @@
 //! A reader, a writer and files in memory, which fail where a test wants it. For tests.
 
-ghost use Rattle.std.specs.Prelude.{◌≡◌, ◌≤◌, ◌<◌, ◌≢◌, IfErr, IfOk, IsErrOf, IsFalse, IsTrue, ◌+◌, min, nat_eq, Some, length, option_map, string_bytes};
-ghost use Rattle.desk_files.specs.Files.{Free, HasRisen, IsGone, IsRenamed, max_file, shelf, touched};
-ghost use Rattle.desk_files.specs.Trial.{IsPut, bytes_in, held_in, kept_in};
+ghost use Rattle.std.specs.Prelude.{◌≡◌, ◌≤◌, ◌<◌, ◌≢◌, ◌⊎◌, ◌↔◌, ◌-◌, [], IfErr, IfOk, IsErr, IsErrOf, IsFalse, IsOk, IsTrue, nat_eq, Some, length, option_map, string_bytes};
+ghost use Rattle.std.specs.Io.{ReadsAtMost, WritesAtMost};
+ghost use Rattle.std.specs.IoError.{error_kind};
+ghost use Rattle.std.specs.Io.KnownBytes.{Keeps, ReadConsumes, WriteAppends};
+ghost use Rattle.desk_files.specs.Files.{Counts, Free, HasRisen, IsGone, IsNowHeld, IsNowhere, IsRenamed, IsThere, IsWritten, Reads, Spares, Stays, bytes_read, max_file, touched};
+ghost use Rattle.desk_files.specs.Trial.{HasFailed, IsDue, IsPut, IsTurn, TakesMemory, bytes_in, held_in, kept_in, most_given, most_taken, one_more, shelf_in};
 
 use crate::files::{FileRefusal, Files, MAX_FILE};
 use std::alloc::{AllocError, Allocator};
@@ -19,7 +22,11 @@ pub struct TrialReader<'a> {
 
 impl<'a> TrialReader<'a> {
     /// Gives the bytes, as many in each call as fit, and never fails.
-    pub fn new(bytes: &'a [u8]) -> Self {
+    pub fn new(bytes: &'a [u8]) -> Self
+        ensures bytes { result.bytes ≡ bytes.entry }
+        ensures step { result.step ≡ usize.MAX }
+        ensures fine { (result.calls ≡ 0) × (result.failing_call ≡ 0) }
+    {
         TrialReader {
             bytes,
             step: usize::MAX,
@@ -29,15 +36,16 @@ impl<'a> TrialReader<'a> {
     }
 
     /// Gives no more than `step` bytes in each call, and at least one.
-    pub fn in_steps_of(self, step: usize) -> Self {
-        TrialReader {
-            step: step.max(1),
-            ..self
-        }
+    pub fn in_steps_of(self, step: usize) -> Self
+        ensures { result ≡ record self.entry { step = step } }
+    {
+        TrialReader { step, ..self }
     }
 
     /// Fails at the k-th call, counted from 1.
-    pub fn failing_at_call(self, k: u64) -> Self {
+    pub fn failing_at_call(self, k: u64) -> Self
+        ensures { result ≡ record self.entry { failing_call = k } }
+    {
         TrialReader {
             failing_call: k,
             ..self
@@ -46,12 +54,22 @@ impl<'a> TrialReader<'a> {
 }
 
 impl<'a> Read for TrialReader<'a> {
-    fn read(&mut self, buf: &mut [u8]) -> io::Result<usize> {
+    ghost remaining = { λ r. Some r.bytes.now };
+
+    fn read(&mut self, buf: &mut [u8]) -> io::Result<usize>
+        ensures bound { ReadsAtMost result buf.new }
+        ensures bytes { ReadConsumes (Some self.old.bytes.now) (Some self.new.bytes.now) result buf.new }
+        ensures calls { self.new.calls ≡ one_more self.old.calls }
+        ensures failed { IsErr result ↔ (self.new.calls ≡ self.old.failing_call) }
+        ensures kind { IfErr result (λ e. error_kind e ≢ ErrorKind.Interrupted) }
+        ensures count { IfOk result (λ n. n ≡ most_given self.old.step self.old.bytes.now buf.old) }
+        ensures kept { (self.new.step ≡ self.old.step) × (self.new.failing_call ≡ self.old.failing_call) }
+    {
         self.calls = self.calls.saturating_add(1);
         if self.calls == self.failing_call {
             return Err(io::Error::from(ErrorKind::Other));
         }
-        let n = buf.len().min(self.step).min(self.bytes.len());
+        let n = buf.len().min(self.step.max(1)).min(self.bytes.len());
         let (now, later) = self.bytes.split_at(n);
         buf[..n].copy_from_slice(now);
         self.bytes = later;
@@ -78,7 +96,10 @@ pub struct TrialWriter<A: Allocator + Copy> {
 
 impl<A: Allocator + Copy> TrialWriter<A> {
     /// Takes all that is written.
-    pub fn new(alloc: A) -> Self {
+    pub fn new(alloc: A) -> Self
+        ensures empty { result.written.items ≡ [] }
+        ensures room { (result.room ≡ usize.MAX) × (result.calls ≡ u64.MAX) }
+    {
         TrialWriter {
             written: Vec::new(alloc),
             room: usize::MAX,
@@ -88,7 +109,9 @@ impl<A: Allocator + Copy> TrialWriter<A> {
     }
 
     /// Takes that many bytes, and then ends.
-    pub fn with_room(self, bytes: usize, at_end: AtEnd) -> Self {
+    pub fn with_room(self, bytes: usize, at_end: AtEnd) -> Self
+        ensures { result ≡ record self { room = bytes; at_end = at_end } }
+    {
         TrialWriter {
             room: bytes,
             at_end,
@@ -97,7 +120,9 @@ impl<A: Allocator + Copy> TrialWriter<A> {
     }
 
     /// Takes that many calls, and then ends.
-    pub fn with_calls(self, calls: u64, at_end: AtEnd) -> Self {
+    pub fn with_calls(self, calls: u64, at_end: AtEnd) -> Self
+        ensures { result ≡ record self { calls = calls; at_end = at_end } }
+    {
         TrialWriter {
             calls,
             at_end,
@@ -106,7 +131,9 @@ impl<A: Allocator + Copy> TrialWriter<A> {
     }
 
     /// What was written.
-    pub fn written(&self) -> &[u8] {
+    pub fn written(&self) -> &[u8]
+        ensures { result.now ≡ self.now.written.items }
+    {
         &self.written
     }
 }
@@ -114,7 +141,16 @@ impl<A: Allocator + Copy> TrialWriter<A> {
 impl<A: Allocator + Copy> Write for TrialWriter<A> {
     ghost contents = { λ w. Some w.written.items };
 
-    fn write(&mut self, buf: &[u8]) -> io::Result<usize> {
+    fn write(&mut self, buf: &[u8]) -> io::Result<usize>
+        ensures bound { WritesAtMost result buf.now }
+        ensures bytes { WriteAppends (Some self.old.written.items) (Some self.new.written.items) result buf.now }
+        ensures count { IfOk result (λ n. n ≡ most_taken self.old.calls self.old.room buf.now) }
+        ensures room { IfOk result (λ n. self.new.room ≡ self.old.room - n) }
+        ensures calls { IfOk result (λ n. 0 < n → self.new.calls ≡ self.old.calls - 1) }
+        ensures failed { IfErr result (λ _. HasFailed self.old buf.now) }
+        ensures kind { IfErr result (λ e. error_kind e ≢ ErrorKind.Interrupted) }
+        ensures kept { self.new.at_end ≡ self.old.at_end }
+    {
         let n = buf.len().min(self.room);
         if self.calls == 0 || (n == 0 && !buf.is_empty()) {
             return match self.at_end {
@@ -128,7 +164,11 @@ impl<A: Allocator + Copy> Write for TrialWriter<A> {
         Ok(n)
     }
 
-    fn flush(&mut self) -> io::Result<()> {
+    fn flush(&mut self) -> io::Result<()>
+        ensures bytes { Keeps (Some self.old.written.items) (Some self.new.written.items) }
+        ensures ok { IsOk result }
+        ensures same { self.new ≡ self.old }
+    {
         Ok(())
     }
 }
@@ -187,7 +227,11 @@ pub struct TrialFiles<A: Allocator + Copy> {
 
 impl<A: Allocator + Copy> TrialFiles<A> {
     /// No file is there, and no call fails.
-    pub fn new(alloc: A) -> Self {
+    pub fn new(alloc: A) -> Self
+        ensures files { result.changes.items ≡ [] }
+        ensures free { held_in result.held ≡ Free }
+        ensures fine { (result.calls ≡ 0) × (result.failing_call ≡ 0) × (result.failures ≡ 0) }
+    {
         TrialFiles {
             alloc,
             changes: Vec::new(alloc),
@@ -199,7 +243,9 @@ impl<A: Allocator + Copy> TrialFiles<A> {
     }
 
     /// Fails at the k-th call, counted from 1. That call changes no file.
-    pub fn failing_at_call(self, k: u64) -> Self {
+    pub fn failing_at_call(self, k: u64) -> Self
+        ensures { result ≡ record self { failing_call = k } }
+    {
         TrialFiles {
             failing_call: k,
             ..self
@@ -210,6 +256,7 @@ impl<A: Allocator + Copy> TrialFiles<A> {
     pub fn for_next_run(self) -> Self
         ensures free { held_in result.held ≡ Free }
         ensures files { result.changes ≡ self.changes }
+        ensures same { result ≡ record self { held = result.held } }
     {
         TrialFiles { held: None, ..self }
     }
@@ -252,6 +299,7 @@ impl<A: Allocator + Copy> TrialFiles<A> {
     fn count_failure(&mut self)
         ensures risen { HasRisen self.old.failures self.new.failures }
         ensures counted { self.old.failures ≤ self.new.failures }
+        ensures once { self.new.failures ≡ one_more self.old.failures }
         ensures same { self.new ≡ record self.old { failures = self.new.failures } }
     {
         self.failures = self.failures.saturating_add(1);
@@ -260,9 +308,10 @@ impl<A: Allocator + Copy> TrialFiles<A> {
     /// Counts a call, and answers whether it fails.
     fn fails(&mut self) -> bool
         ensures answer { result ≡ nat_eq self.new.calls self.old.failing_call }
-        ensures calls { self.new.calls ≡ min (self.old.calls + 1) 18446744073709551615 }
+        ensures calls { self.new.calls ≡ one_more self.old.calls }
         ensures same { self.new.failing_call ≡ self.old.failing_call }
         ensures failed { IsTrue result → HasRisen self.old.failures self.new.failures }
+        ensures once { IsTrue result → self.new.failures ≡ one_more self.old.failures }
         ensures fine { IsFalse result → self.new.failures ≡ self.old.failures }
         ensures counted { self.old.failures ≤ self.new.failures }
         ensures kept { self.new.changes ≡ self.old.changes }
@@ -292,6 +341,7 @@ impl<A: Allocator + Copy> TrialFiles<A> {
     fn move_file(&mut self, from: &str, to: &str) -> Result<(), FileRefusal>
         ensures device { IfErr result (λ e. (e ≢ FileRefusal.Device) × (e ≢ FileRefusal.Large)) }
         ensures missing { IsErrOf result FileRefusal.Missing → IsGone (kept_in self.old.changes.items from.now) }
+        ensures memory { IsErrOf result FileRefusal.NoMemory → IsThere (kept_in self.old.changes.items from.now) }
         ensures failures { self.new.failures ≡ self.old.failures }
         ensures calls { (self.new.calls ≡ self.old.calls) × (self.new.failing_call ≡ self.old.failing_call) }
         ensures held { self.new.held ≡ self.old.held }
@@ -315,13 +365,22 @@ impl<A: Allocator + Copy> TrialFiles<A> {
 }
 
 impl<A: Allocator + Copy> Files for TrialFiles<A> {
-    ghost shelf = { λ f. shelf (kept_in f.changes.items) f.failures (held_in f.held) };
+    ghost shelf = { shelf_in };
 
     fn failures(&self) -> u64 {
         self.failures
     }
 
-    fn hold(&mut self, name: &str) -> Result<(), FileRefusal> {
+    fn hold(&mut self, name: &str) -> Result<(), FileRefusal>
+        ensures counted { Counts result (shelf_in self.old) (shelf_in self.new) }
+        ensures small { IfErr result (λ e. e ≢ FileRefusal.Large) }
+        ensures missing { IsErrOf result FileRefusal.Missing → IsNowhere (kept_in self.old.changes.items name.now) }
+        ensures taken { IfOk result (λ _. IsNowHeld name.now (shelf_in self.old) (shelf_in self.new)) }
+        ensures refused { IfErr result (λ _. Stays (shelf_in self.old) (shelf_in self.new)) }
+        ensures changes { self.new.changes ≡ self.old.changes }
+        ensures device { IsErrOf result FileRefusal.Device → IsDue self.old ⊎ (held_in self.old.held ≢ Free) }
+        ensures turn { IsTurn result self.old self.new }
+    {
         if self.fails() {
             return Err(FileRefusal::Device);
         }
@@ -339,11 +398,17 @@ impl<A: Allocator + Copy> Files for TrialFiles<A> {
         Ok(())
     }
 
-    fn read<B: Allocator + Copy>(
-        &mut self,
-        alloc: B,
-        name: &str,
-    ) -> Result<Vec<u8, B>, FileRefusal> {
+    fn read<B: Allocator + Copy>(&mut self, alloc: B, name: &str) -> Result<Vec<u8, B>, FileRefusal>
+        ensures counted { Counts result (shelf_in self.old) (shelf_in self.new) }
+        ensures kept { kept_in self.new.changes.items ≡ kept_in self.old.changes.items }
+        ensures changes { self.new.changes ≡ self.old.changes }
+        ensures held { held_in self.new.held ≡ held_in self.old.held }
+        ensures within { IfOk result (λ v. length v.items ≤ max_file) }
+        ensures given { Reads (kept_in self.old.changes.items name.now) (bytes_read (λ v. v.items) result) }
+        ensures device { IsErrOf result FileRefusal.Device → IsDue self.old }
+        ensures memory { IsErrOf result FileRefusal.NoMemory → TakesMemory (kept_in self.old.changes.items name.now) }
+        ensures turn { IsTurn result self.old self.new }
+    {
         if self.fails() {
             return Err(FileRefusal::Device);
         }
@@ -353,7 +418,17 @@ impl<A: Allocator + Copy> Files for TrialFiles<A> {
         }
     }
 
-    fn write_new(&mut self, name: &str, bytes: &[u8]) -> Result<(), FileRefusal> {
+    fn write_new(&mut self, name: &str, bytes: &[u8]) -> Result<(), FileRefusal>
+        ensures counted { Counts result (shelf_in self.old) (shelf_in self.new) }
+        ensures small { IfErr result (λ e. e ≢ FileRefusal.Large) }
+        ensures missing { IsErrOf result FileRefusal.Missing → IsNowhere (kept_in self.old.changes.items name.now) }
+        ensures written { IfOk result (λ _. IsWritten bytes.now (kept_in self.old.changes.items name.now) (kept_in self.new.changes.items name.now)) }
+        ensures held { held_in self.new.held ≡ touched (held_in self.old.held) }
+        ensures others { Spares name.now (kept_in self.old.changes.items) (kept_in self.new.changes.items) }
+        ensures device { IsErrOf result FileRefusal.Device → IsDue self.old }
+        ensures refused { IfErr result (λ _. self.new.changes.items ≡ self.old.changes.items) }
+        ensures turn { IsTurn result self.old self.new }
+    {
         self.touch();
         if self.fails() {
             return Err(FileRefusal::Device);
@@ -364,7 +439,17 @@ impl<A: Allocator + Copy> Files for TrialFiles<A> {
         }
     }
 
-    fn rename(&mut self, from: &str, to: &str) -> Result<(), FileRefusal> {
+    fn rename(&mut self, from: &str, to: &str) -> Result<(), FileRefusal>
+        ensures counted { Counts result (shelf_in self.old) (shelf_in self.new) }
+        ensures small { IfErr result (λ e. e ≢ FileRefusal.Large) }
+        ensures missing { IsErrOf result FileRefusal.Missing → IsGone (kept_in self.old.changes.items from.now) ⊎ IsNowhere (kept_in self.old.changes.items to.now) }
+        ensures renamed { IfOk result (λ _. IsRenamed from.now to.now (kept_in self.old.changes.items) (kept_in self.new.changes.items)) }
+        ensures held { held_in self.new.held ≡ touched (held_in self.old.held) }
+        ensures refused { IfErr result (λ _. kept_in self.new.changes.items ≡ kept_in self.old.changes.items) }
+        ensures device { IsErrOf result FileRefusal.Device → IsDue self.old }
+        ensures memory { IsErrOf result FileRefusal.NoMemory → IsThere (kept_in self.old.changes.items from.now) }
+        ensures turn { IsTurn result self.old self.new }
+    {
         self.touch();
         if self.fails() {
             return Err(FileRefusal::Device);
@@ -378,6 +463,7 @@ fn copied<A: Allocator + Copy>(alloc: A, bytes: &[u8]) -> Result<Vec<u8, A>, Fil
     ensures bytes { IfOk result (λ v. v.items ≡ bytes.now) }
     ensures within { IfOk result (λ v. length v.items ≤ max_file) }
     ensures large { IsErrOf result FileRefusal.Large → max_file < length bytes.now }
+    ensures memory { IsErrOf result FileRefusal.NoMemory → (0 < length bytes.now) × (length bytes.now ≤ max_file) }
     ensures other { IfErr result (λ e. (e ≢ FileRefusal.Device) × (e ≢ FileRefusal.Missing)) }
 {
     if bytes.len() > MAX_FILE {

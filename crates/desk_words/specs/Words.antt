@@ -110,7 +110,7 @@ check_app = with_rule (new_app (codes "check")) files_rule
 
 abbrev pub no_subcommand : App
 no_subcommand = record {
-  top = record (new_app (codes "copydesk")).top { no_binary_name = true; subcommand_required = true; has_version = true };
+  top = record (new_app (codes "copydesk")).top { no_binary_name = true; subcommand_required = true };
   subs = [];
 }
 
@@ -119,10 +119,14 @@ abbrev pub with_correcting : App
 with_correcting = with_subcommand (with_subcommand (with_subcommand (with_subcommand (with_subcommand (with_subcommand (with_subcommand no_subcommand
     script_app.top) desk_app.top) merge_app.top) diff_app.top) export_app.top) import_app.top) replace_app.top
 
+-- with a version
+abbrev pub with_version : App → App
+with_version app = record app { top = record app.top { has_version = true } }
+
 -- the program with its subcommands: and with those that look at what will be cast
 abbrev pub copydesk : App
-copydesk = with_subcommand (with_subcommand (with_subcommand (with_subcommand (with_subcommand with_correcting
-    check_app.top) proof_app.top) punch_app.top) read_app.top) sorts_app.top
+copydesk = with_version (with_subcommand (with_subcommand (with_subcommand (with_subcommand (with_subcommand with_correcting
+    check_app.top) proof_app.top) punch_app.top) read_app.top) sorts_app.top)
 
 -- ---- what a subcommand's matches hold
 

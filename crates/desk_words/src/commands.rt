@@ -4,12 +4,12 @@ ghost use Rattle.std.specs.Prelude.{◌≡◌, Some, IfOk, codes, false};
 ghost use Rattle.clap.specs.Words.{app_of, new_app, rule_of, with_rule};
 ghost use Rattle.clap.specs.declared.builder.command.Command.TheViews.{out-Command};
 ghost use Rattle.desk_words.specs.Help.{HasTexts, IsShown, version_of};
-ghost use Rattle.desk_words.specs.Words.{check_app, choice_rule, copydesk, desk_app, diff_app, each_rule, export_app, feed_rule, file_rule, flag_rule, import_app, merge_app, names_rule, no_subcommand, proof_app, punch_app, read_app, replace_app, ribbon_app, script_app, site_rule, sorts_app, sources_app, target_rule, text_rule, with_correcting};
+ghost use Rattle.desk_words.specs.Words.{check_app, choice_rule, copydesk, desk_app, diff_app, each_rule, export_app, feed_rule, file_rule, flag_rule, import_app, merge_app, names_rule, no_subcommand, proof_app, punch_app, read_app, replace_app, ribbon_app, script_app, site_rule, sorts_app, sources_app, target_rule, text_rule, with_correcting, with_version};
 
 use crate::help::{
-    ABOUT, COMMANDS, FEED, NUMBER, ON_A_FEED, ON_CHECK, ON_DIFF, ON_EXPORT, ON_IMPORT, ON_MERGE,
-    ON_PROOF, ON_PUNCH, ON_READ, ON_REPLACE, ON_SORTS, ON_SUBCOMMANDS, SITE, STRICT, TARGET,
-    VERSION,
+    ABOUT, CHECK, COMMANDS, DESK, DIFF, EXPORT, FEED, IMPORT, MERGE, NUMBER, ON_A_FEED, ON_CHECK,
+    ON_DIFF, ON_EXPORT, ON_IMPORT, ON_MERGE, ON_PROOF, ON_PUNCH, ON_READ, ON_REPLACE, ON_SORTS,
+    ON_SUBCOMMANDS, PROOF, PUNCH, READ, REPLACE, SCRIPT, SITE, SORTS, STRICT, TARGET, VERSION,
 };
 use clap::{Arg, ArgAction, Command, value_parser};
 use std::alloc::{AllocError, Global};
@@ -117,26 +117,21 @@ fn target_arg<'a>(alloc: Global) -> Arg<'a>
     with_help(target, TARGET)
 }
 
-/// A command with what is told of it: in one line, and below its help.
-fn with_texts<'a>(alloc: Global, name: &'a str, about: &'a str, help: &'a str) -> Command<'a>
-    ensures app { app_of result ≡ new_app name.now }
-    ensures local { (out-Command result).has_globals ≡ false }
+/// The command with what is told of it: in one line, and below its help.
+fn with_texts<'a>(command: Command<'a>, about: &'a str, help: &'a str) -> Command<'a>
+    ensures app { app_of result ≡ app_of command.entry }
+    ensures local { (out-Command result).has_globals ≡ (out-Command command.entry).has_globals }
     ensures texts { HasTexts result about.now help.now }
 {
-    Command::new(alloc, name).about(about).after_help(help)
+    command.about(about).after_help(help)
 }
 
 /// A subcommand with a feed.
-fn on_feed<'a>(
-    alloc: Global,
-    name: &'a str,
-    about: &'a str,
-    help: &'a str,
-) -> Result<Command<'a>, AllocError>
+fn on_feed<'a>(alloc: Global, name: &'a str) -> Result<Command<'a>, AllocError>
     ensures app { IfOk result (λ c. app_of c ≡ with_rule (new_app name.now) feed_rule) }
     ensures local { IfOk result (λ c. (out-Command c).has_globals ≡ false) }
 {
-    with_texts(alloc, name, about, help).arg(feed_arg(alloc))
+    Command::new(alloc, name).arg(feed_arg(alloc))
 }
 
 fn strict_arg<'a>(alloc: Global) -> Arg<'a>
@@ -158,9 +153,22 @@ fn number_arg<'a>(alloc: Global) -> Arg<'a>
 fn script_command<'a>(alloc: Global) -> Result<Command<'a>, AllocError>
     ensures app { IfOk result (λ c. app_of c ≡ script_app) }
     ensures local { IfOk result (λ c. (out-Command c).has_globals ≡ false) }
+    ensures texts { IfOk result (λ c. HasTexts c SCRIPT.now COMMANDS.now) }
 {
-    let about = "Runs commands from standard input to standard output.";
-    with_texts(alloc, "script", about, COMMANDS)
+    let script = Command::new(alloc, "script")
+        .arg(strict_arg(alloc))?
+        .arg(number_arg(alloc))?;
+    Ok(with_texts(script, SCRIPT, COMMANDS))
+}
+
+/// The subcommand `desk` with its arguments.
+fn desk_arguments<'a>(alloc: Global) -> Result<Command<'a>, AllocError>
+    ensures app { IfOk result (λ c. app_of c ≡ desk_app) }
+    ensures local { IfOk result (λ c. (out-Command c).has_globals ≡ false) }
+{
+    on_feed(alloc, "desk")?
+        .arg(site_arg(alloc))?
+        .arg(flag_arg(alloc, "why", "Says in a second line why a run stopped."))?
         .arg(strict_arg(alloc))?
         .arg(number_arg(alloc))
 }
@@ -168,126 +176,110 @@ fn script_command<'a>(alloc: Global) -> Result<Command<'a>, AllocError>
 fn desk_command<'a>(alloc: Global) -> Result<Command<'a>, AllocError>
     ensures app { IfOk result (λ c. app_of c ≡ desk_app) }
     ensures local { IfOk result (λ c. (out-Command c).has_globals ≡ false) }
+    ensures texts { IfOk result (λ c. HasTexts c DESK.now ON_A_FEED.now) }
 {
-    on_feed(
-        alloc,
-        "desk",
-        "Runs commands from standard input to standard output on a stored feed.",
-        ON_A_FEED,
-    )?
-    .arg(site_arg(alloc))?
-    .arg(flag_arg(alloc, "why", "Says in a second line why a run stopped."))?
-    .arg(strict_arg(alloc))?
-    .arg(number_arg(alloc))
+    let desk = desk_arguments(alloc)?;
+    Ok(with_texts(desk, DESK, ON_A_FEED))
 }
 
 fn merge_command<'a>(alloc: Global) -> Result<Command<'a>, AllocError>
     ensures app { IfOk result (λ c. app_of c ≡ merge_app) }
     ensures local { IfOk result (λ c. (out-Command c).has_globals ≡ false) }
+    ensures texts { IfOk result (λ c. HasTexts c MERGE.now ON_MERGE.now) }
 {
-    on_feed(
-        alloc,
-        "merge",
-        "Merges the feeds of other files into a stored feed.",
-        ON_MERGE,
-    )?
-    .arg(names_arg(
+    let merge = on_feed(alloc, "merge")?.arg(names_arg(
         alloc,
         "other",
         "The names of the files whose feeds are merged into it, in this order.",
-    ))
+    ))?;
+    Ok(with_texts(merge, MERGE, ON_MERGE))
 }
 
 fn diff_command<'a>(alloc: Global) -> Result<Command<'a>, AllocError>
     ensures app { IfOk result (λ c. app_of c ≡ diff_app) }
     ensures local { IfOk result (λ c. (out-Command c).has_globals ≡ false) }
+    ensures texts { IfOk result (λ c. HasTexts c DIFF.now ON_DIFF.now) }
 {
-    on_feed(
+    let diff = on_feed(alloc, "diff")?.arg(text_arg(
         alloc,
-        "diff",
-        "Says what each of two stored feeds has alone, and which words of their copies differ.",
-        ON_DIFF,
-    )?
-    .arg(text_arg(alloc, "other", "The name of the other feed's file."))
+        "other",
+        "The name of the other feed's file.",
+    ))?;
+    Ok(with_texts(diff, DIFF, ON_DIFF))
 }
 
 fn export_command<'a>(alloc: Global) -> Result<Command<'a>, AllocError>
     ensures app { IfOk result (λ c. app_of c ≡ export_app) }
     ensures local { IfOk result (λ c. (out-Command c).has_globals ≡ false) }
+    ensures texts { IfOk result (λ c. HasTexts c EXPORT.now ON_EXPORT.now) }
 {
-    on_feed(
-        alloc,
-        "export",
-        "Writes the copy of a stored feed to standard output as text.",
-        ON_EXPORT,
-    )
+    let export = on_feed(alloc, "export")?;
+    Ok(with_texts(export, EXPORT, ON_EXPORT))
 }
 
 fn import_command<'a>(alloc: Global) -> Result<Command<'a>, AllocError>
     ensures app { IfOk result (λ c. app_of c ≡ import_app) }
     ensures local { IfOk result (λ c. (out-Command c).has_globals ≡ false) }
+    ensures texts { IfOk result (λ c. HasTexts c IMPORT.now ON_IMPORT.now) }
 {
-    on_feed(
-        alloc,
-        "import",
-        "Makes the copy of a stored feed the text of standard input.",
-        ON_IMPORT,
-    )?
-    .arg(site_arg(alloc))?
-    .arg(flag_arg(
-        alloc,
-        "plain",
-        "Takes every character as Roman: the text has no marks.",
-    ))
+    let import = on_feed(alloc, "import")?
+        .arg(site_arg(alloc))?
+        .arg(flag_arg(
+            alloc,
+            "plain",
+            "Takes every character as Roman: the text has no marks.",
+        ))?;
+    Ok(with_texts(import, IMPORT, ON_IMPORT))
+}
+
+/// The subcommand `replace` with its arguments.
+fn replace_arguments<'a>(alloc: Global) -> Result<Command<'a>, AllocError>
+    ensures app { IfOk result (λ c. app_of c ≡ replace_app) }
+    ensures local { IfOk result (λ c. (out-Command c).has_globals ≡ false) }
+{
+    on_feed(alloc, "replace")?
+        .arg(site_arg(alloc))?
+        .arg(flag_arg(
+            alloc,
+            "plain",
+            "Takes every character of both texts as Roman: they have no marks.",
+        ))?
+        .arg(text_arg(
+            alloc,
+            "old",
+            "The text that stands in the copy, with marks.",
+        ))?
+        .arg(text_arg(alloc, "new", "The text that takes its place, with marks."))
 }
 
 fn replace_command<'a>(alloc: Global) -> Result<Command<'a>, AllocError>
     ensures app { IfOk result (λ c. app_of c ≡ replace_app) }
     ensures local { IfOk result (λ c. (out-Command c).has_globals ≡ false) }
+    ensures texts { IfOk result (λ c. HasTexts c REPLACE.now ON_REPLACE.now) }
 {
-    on_feed(
-        alloc,
-        "replace",
-        "Makes a text of the copy of a stored feed another, where it stands once.",
-        ON_REPLACE,
-    )?
-    .arg(site_arg(alloc))?
-    .arg(flag_arg(
-        alloc,
-        "plain",
-        "Takes every character of both texts as Roman: they have no marks.",
-    ))?
-    .arg(text_arg(
-        alloc,
-        "old",
-        "The text that stands in the copy, with marks.",
-    ))?
-    .arg(text_arg(alloc, "new", "The text that takes its place, with marks."))
+    let replace = replace_arguments(alloc)?;
+    Ok(with_texts(replace, REPLACE, ON_REPLACE))
 }
 
 fn check_command<'a>(alloc: Global) -> Result<Command<'a>, AllocError>
     ensures app { IfOk result (λ c. app_of c ≡ check_app) }
     ensures local { IfOk result (λ c. (out-Command c).has_globals ≡ false) }
+    ensures texts { IfOk result (λ c. HasTexts c CHECK.now ON_CHECK.now) }
 {
-    let about = "Says of files what they are, and what is wrong in them.";
-    with_texts(alloc, "check", about, ON_CHECK).arg(names_arg(
+    let check = Command::new(alloc, "check").arg(names_arg(
         alloc,
         "file",
         "The names of feeds, ribbons, cases and wedges.",
-    ))
+    ))?;
+    Ok(with_texts(check, CHECK, ON_CHECK))
 }
 
 /// A subcommand with a feed, a case and a wedge.
-fn on_sources<'a>(
-    alloc: Global,
-    name: &'a str,
-    about: &'a str,
-    help: &'a str,
-) -> Result<Command<'a>, AllocError>
+fn on_sources<'a>(alloc: Global, name: &'a str) -> Result<Command<'a>, AllocError>
     ensures app { IfOk result (λ c. app_of c ≡ sources_app name.now) }
     ensures local { IfOk result (λ c. (out-Command c).has_globals ≡ false) }
 {
-    on_feed(alloc, name, about, help)?
+    on_feed(alloc, name)?
         .arg(file_arg(alloc, "case", "The name of the case file."))?
         .arg(file_arg(alloc, "wedge", "The name of the wedge file."))
 }
@@ -295,37 +287,30 @@ fn on_sources<'a>(
 fn proof_command<'a>(alloc: Global) -> Result<Command<'a>, AllocError>
     ensures app { IfOk result (λ c. app_of c ≡ proof_app) }
     ensures local { IfOk result (λ c. (out-Command c).has_globals ≡ false) }
+    ensures texts { IfOk result (λ c. HasTexts c PROOF.now ON_PROOF.now) }
 {
-    on_sources(
-        alloc,
-        "proof",
-        "Writes the galley of a stored feed, and each fault at its text.",
-        ON_PROOF,
-    )?
-    .arg(flag_arg(alloc, "faults", "Writes the faults alone."))?
-    .arg(choice_arg(
-        alloc,
-        "svg",
-        "Stores a picture of the galley in this file too.",
-    ))?
-    .arg(each_arg(
-        alloc,
-        "set",
-        "Tries a setting, as loose=200, in place of the copy's; nothing is stored.",
-    ))
+    let proof = on_sources(alloc, "proof")?
+        .arg(flag_arg(alloc, "faults", "Writes the faults alone."))?
+        .arg(choice_arg(
+            alloc,
+            "svg",
+            "Stores a picture of the galley in this file too.",
+        ))?
+        .arg(each_arg(
+            alloc,
+            "set",
+            "Tries a setting, as loose=200, in place of the copy's; nothing is stored.",
+        ))?;
+    Ok(with_texts(proof, PROOF, ON_PROOF))
 }
 
 fn punch_command<'a>(alloc: Global) -> Result<Command<'a>, AllocError>
     ensures app { IfOk result (λ c. app_of c ≡ punch_app) }
     ensures local { IfOk result (λ c. (out-Command c).has_globals ≡ false) }
+    ensures texts { IfOk result (λ c. HasTexts c PUNCH.now ON_PUNCH.now) }
 {
-    on_sources(
-        alloc,
-        "punch",
-        "Stores the ribbon of a stored feed in a file.",
-        ON_PUNCH,
-    )?
-    .arg(target_arg(alloc))
+    let punch = on_sources(alloc, "punch")?.arg(target_arg(alloc))?;
+    Ok(with_texts(punch, PUNCH, ON_PUNCH))
 }
 
 /// The subcommand with a ribbon, a case and a wedge.
@@ -333,8 +318,7 @@ fn on_ribbon<'a>(alloc: Global) -> Result<Command<'a>, AllocError>
     ensures app { IfOk result (λ c. app_of c ≡ ribbon_app) }
     ensures local { IfOk result (λ c. (out-Command c).has_globals ≡ false) }
 {
-    let about = "Writes what a caster would cast of a stored ribbon.";
-    with_texts(alloc, "read", about, ON_READ)
+    Command::new(alloc, "read")
         .arg(text_arg(
             alloc,
             "ribbon",
@@ -347,38 +331,43 @@ fn on_ribbon<'a>(alloc: Global) -> Result<Command<'a>, AllocError>
 fn read_command<'a>(alloc: Global) -> Result<Command<'a>, AllocError>
     ensures app { IfOk result (λ c. app_of c ≡ read_app) }
     ensures local { IfOk result (λ c. (out-Command c).has_globals ≡ false) }
+    ensures texts { IfOk result (λ c. HasTexts c READ.now ON_READ.now) }
 {
-    on_ribbon(alloc)?.arg(choice_arg(
+    let read = on_ribbon(alloc)?.arg(choice_arg(
         alloc,
         "svg",
         "Stores a picture of the ribbon in this file too.",
-    ))
+    ))?;
+    Ok(with_texts(read, READ, ON_READ))
 }
 
 fn sorts_command<'a>(alloc: Global) -> Result<Command<'a>, AllocError>
     ensures app { IfOk result (λ c. app_of c ≡ sorts_app) }
     ensures local { IfOk result (λ c. (out-Command c).has_globals ≡ false) }
+    ensures texts { IfOk result (λ c. HasTexts c SORTS.now ON_SORTS.now) }
 {
-    on_feed(
-        alloc,
-        "sorts",
-        "Writes which sorts the copy of a stored feed wants, and which the case lacks.",
-        ON_SORTS,
-    )?
-    .arg(file_arg(alloc, "case", "The name of the case file."))?
-    .arg(flag_arg(alloc, "layout", "Writes the layout of the case too."))
+    let sorts = on_feed(alloc, "sorts")?
+        .arg(file_arg(alloc, "case", "The name of the case file."))?
+        .arg(flag_arg(alloc, "layout", "Writes the layout of the case too."))?;
+    Ok(with_texts(sorts, SORTS, ON_SORTS))
 }
 
 /// The program's command without its subcommands.
 fn bare_command<'a>(alloc: Global) -> Command<'a>
-    ensures app { app_of result ≡ no_subcommand }
+    ensures { app_of result ≡ no_subcommand }
+{
+    Command::new(alloc, "copydesk")
+        .no_binary_name(true)
+        .subcommand_required(true)
+}
+
+/// The program's command with its version and what is told of it.
+fn with_version<'a>(command: Command<'a>) -> Command<'a>
+    ensures app { app_of result ≡ with_version (app_of command.entry) }
     ensures version { version_of result ≡ Some VERSION.now }
     ensures texts { HasTexts result ABOUT.now ON_SUBCOMMANDS.now }
 {
-    with_texts(alloc, "copydesk", ABOUT, ON_SUBCOMMANDS)
-        .version(VERSION)
-        .no_binary_name(true)
-        .subcommand_required(true)
+    with_texts(command, ABOUT, ON_SUBCOMMANDS).version(VERSION)
 }
 
 /// The program's command with the subcommands that key and correct.
@@ -403,7 +392,9 @@ fn correcting<'a>(alloc: Global) -> Result<Command<'a>, AllocError>
 
 /// The program's command, with its subcommands.
 pub fn command<'a>(alloc: Global) -> Result<Command<'a>, AllocError>
-    ensures { IfOk result (λ c. app_of c ≡ copydesk) }
+    ensures app { IfOk result (λ c. app_of c ≡ copydesk) }
+    ensures version { IfOk result (λ c. version_of c ≡ Some VERSION.now) }
+    ensures texts { IfOk result (λ c. HasTexts c ABOUT.now ON_SUBCOMMANDS.now) }
 {
     let correcting = correcting(alloc)?;
     let check = check_command(alloc)?;
@@ -415,5 +406,6 @@ pub fn command<'a>(alloc: Global) -> Result<Command<'a>, AllocError>
     let read = read_command(alloc)?;
     let with_read = with_punch.subcommand(read)?;
     let sorts = sorts_command(alloc)?;
-    with_read.subcommand(sorts)
+    let with_sorts = with_read.subcommand(sorts)?;
+    Ok(with_version(with_sorts))
 }

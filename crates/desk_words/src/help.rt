@@ -6,6 +6,34 @@ pub const VERSION: &str = "0.2.0";
 /// What the program is.
 pub const ABOUT: &str = "A copy desk for Monotype composition.";
 
+/// What each subcommand does, in one line.
+pub const SCRIPT: &str = "Runs commands from standard input to standard output.";
+
+pub const DESK: &str = "Runs commands from standard input to standard output on a stored feed.";
+
+pub const MERGE: &str = "Merges the feeds of other files into a stored feed.";
+
+pub const DIFF: &str =
+    "Says what each of two stored feeds has alone, and which words of their copies differ.";
+
+pub const EXPORT: &str = "Writes the copy of a stored feed to standard output as text.";
+
+pub const IMPORT: &str = "Makes the copy of a stored feed the text of standard input.";
+
+pub const REPLACE: &str =
+    "Makes a text of the copy of a stored feed another, where it stands once.";
+
+pub const CHECK: &str = "Says of files what they are, and what is wrong in them.";
+
+pub const PROOF: &str = "Writes the galley of a stored feed, and each fault at its text.";
+
+pub const PUNCH: &str = "Stores the ribbon of a stored feed in a file.";
+
+pub const READ: &str = "Writes what a caster would cast of a stored ribbon.";
+
+pub const SORTS: &str =
+    "Writes which sorts the copy of a stored feed wants, and which the case lacks.";
+
 /// What the feed of a subcommand is.
 pub const FEED: &str = "The name of the file that the feed is stored in.";
 

@@ -9,7 +9,7 @@ top_of a = a.top
 
 pub returns : goal.returns
 returns c =
-    let begun : app_of c.bare_command.result ≡ no_subcommand = c.bare_command.ensures.app in
+    let begun : app_of c.bare_command.result ≡ no_subcommand = c.bare_command.ensures in
     let one = c.in_ok-with_script.ensures.shape c.in_ok-script.ensures.local ∙ ap₂ with_subcommand begun (ap top_of c.in_ok-script.ensures.app) in
     let two = c.in_ok-with_desk.ensures.shape c.in_ok-desk.ensures.local ∙ ap₂ with_subcommand one (ap top_of c.in_ok-desk.ensures.app) in
     let three = c.in_ok-with_merge.ensures.shape c.in_ok-merge.ensures.local ∙ ap₂ with_subcommand two (ap top_of c.in_ok-merge.ensures.app) in
