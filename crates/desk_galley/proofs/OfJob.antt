@@ -1,5 +1,5 @@
 -- The job by its galley.
-use Rattle.std.proofs.Common.{◌≡◌, ℕ, ◌≤◌, ◌^◌, List, [], ◌∷◌, length, refl, sym, ap, ◌∙◌, subst, arith, Option, Ok}
+use Rattle.std.proofs.Common.{◌≡◌, ℕ, ◌≤◌, List, [], ◌∷◌, length, refl, sym, ap, ◌∙◌, subst, arith, Option, Ok}
 use Rattle.std.specs.List.{All, flat_map}
 use Rattle.desk_ops.specs.declared.op.Symbol.{Symbol}
 use Rattle.desk_ops.specs.declared.op.Key.{Key}
@@ -7,6 +7,7 @@ use Rattle.desk_signals.specs.declared.RibbonRow.{RibbonRow}
 use Rattle.desk_wedge.specs.Wedge.{WedgeValues}
 use Rattle.desk_case.specs.Case.{CaseValues}
 use Rattle.desk_ribbon.specs.Ribbon.{head_row}
+use Rattle.desk_lines.specs.Words.{most_symbols}
 use Rattle.desk_job.specs.Job.{Terms, job, job_of, lacking, line_faults, lines, or_faults, rows_of, rows_or, terms_fault, terms_of, values_of}
 use Rattle.desk_job.specs.declared.JobFault.{JobFault}
 use Rattle.desk_job.specs.declared.terms.Values.{Values}
@@ -63,7 +64,7 @@ job_is copy settings case wedge values terms lack found given is fits lacks are 
     ∙ sym (ends copy terms (terms_of case wedge values) lack (lacking case 0 copy) found is lacks are)))
 
 pub stand_is : (copy : List Symbol) (case : CaseValues) (wedge : WedgeValues) (values : Values) (terms : Terms) (found : List LineValues) →
-    terms ≡ terms_of case wedge values → found ≡ galley_of terms copy → length copy ≤ 2 ^ 20 → All (Stands copy case) found
+    terms ≡ terms_of case wedge values → found ≡ galley_of terms copy → length copy ≤ most_symbols → All (Stands copy case) found
 stand_is copy case wedge values terms found is are small =
     subst (λ (c : CaseValues). All (Stands copy c) found) (ap (λ (t : Terms). t.case) is)
     (subst (λ (l : List LineValues). All (Stands copy terms.case) l) (sym are) (galley_stands terms copy small))

@@ -1,5 +1,5 @@
 -- The lines of a galley have words that stand in the copy.
-use Rattle.std.proofs.Common.{◌≡◌, ℕ, zero, suc, ◌-◌, ◌≤◌, ◌^◌, List, [], ◌∷◌, length, take, drop, ◌∙◌, subst, arith, length-take, length-drop}
+use Rattle.std.proofs.Common.{◌≡◌, ℕ, zero, suc, ◌-◌, ◌≤◌, List, [], ◌∷◌, length, take, drop, ◌∙◌, subst, arith, length-take, length-drop}
 use Rattle.std.specs.Prelude.{ℤ, pos, IfSome}
 use Rattle.std.specs.List.{All, AllByRecursion}
 use Rattle.std.proofs.lemmas.List.{length-map}
@@ -7,7 +7,7 @@ use Rattle.std.proofs.lemmas.List.Elements.{All-from_recursion, recursion_from_A
 use Rattle.desk_ops.specs.declared.op.Symbol.{Symbol}
 use Rattle.desk_lines.specs.declared.words.Word.{Word}
 use Rattle.desk_lines.specs.declared.groups.Group.{Group}
-use Rattle.desk_lines.specs.Words.{spelled, words_of}
+use Rattle.desk_lines.specs.Words.{spelled, words_of, most_symbols}
 use Rattle.desk_lines.specs.Groups.{groups_of}
 use Rattle.desk_job.specs.Job.{Terms, measure, tight_space, widths, word_width, rest}
 use Rattle.desk_job.specs.Making.{AreWordsOf, IsRange}
@@ -87,7 +87,7 @@ numbered_stand terms copy n (placed ∷ ps) each = (
   numbered_stand terms copy (suc n) ps each.1,
 )
 
-pub galley_stands : (terms : Terms) (copy : List Symbol) → length copy ≤ 2 ^ 20 → All (Stands copy terms.case) (galley_of terms copy)
+pub galley_stands : (terms : Terms) (copy : List Symbol) → length copy ≤ most_symbols → All (Stands copy terms.case) (galley_of terms copy)
 galley_stands terms copy small =
     All-from_recursion (Stands copy terms.case) (galley_of terms copy)
     (numbered_stand terms copy 1 (all_placed terms copy (words_of copy))

@@ -1,8 +1,8 @@
 //! The galley of a copy: all its lines, one by one.
 
-ghost use Rattle.std.specs.Prelude.{◌≡◌, ◌+◌, ◌≤◌, ◌<◌, ◌^◌, ◌∷◌, [], length, All, OnOk, IfOk, IfErr, IsErrOf};
+ghost use Rattle.std.specs.Prelude.{◌≡◌, ◌+◌, ◌≤◌, ◌<◌, ◌∷◌, [], length, All, OnOk, IfOk, IfErr, IsErrOf};
 ghost use Rattle.desk_lines.specs.Groups.{AreWidths};
-ghost use Rattle.desk_lines.specs.Words.{joined};
+ghost use Rattle.desk_lines.specs.Words.{joined, most_symbols, most_words};
 ghost use Rattle.desk_job.specs.Answer.{AreValues, by_key};
 ghost use Rattle.desk_job.specs.Job as job;
 ghost use Rattle.desk_job.specs.Making.{AreWordsOf, IsRange};
@@ -115,7 +115,7 @@ fn add_groups<A: Allocator + Copy>(
     widths: &[Atoms],
     groups: &[Group],
 ) -> Result<(), NoMemory>
-    requires number { length words.now ≤ 2 ^ 20 + 1 }
+    requires number { length words.now ≤ most_words }
     requires widths { widths.now ≡ job.widths terms.now (words_at copy.now words.now) }
     requires within { AreWidths widths.now }
     requires ranges { All (IsRange (length words.now)) groups.now }
@@ -140,8 +140,8 @@ fn add_paragraph<A: Allocator + Copy>(
     copy: &[Symbol],
     words: &[Word],
 ) -> Result<(), NoMemory>
-    requires copy { length copy.now ≤ 2 ^ 20 }
-    requires number { length words.now ≤ 2 ^ 20 + 1 }
+    requires copy { length copy.now ≤ most_symbols }
+    requires number { length words.now ≤ most_words }
     requires words { All (IsWord copy.now) words.now }
     ensures ok { OnOk result (lines.new.items ≡ with_lines terms.now copy.now lines.old.items (placed_in terms.now copy.now words.now)) }
     // No words take no memory.
@@ -160,7 +160,7 @@ fn add_paragraphs<A: Allocator + Copy>(
     copy: &[Symbol],
     found: &[Paragraph<A>],
 ) -> Result<(), NoMemory>
-    requires copy { length copy.now ≤ 2 ^ 20 }
+    requires copy { length copy.now ≤ most_symbols }
     requires words { All (AreWordsOf copy.now) found.now }
     ensures ok { OnOk result (lines.new.items ≡ with_lines terms.now copy.now lines.old.items (all_placed terms.now copy.now found.now)) }
     // Paragraphs without a word take no memory.
@@ -178,7 +178,7 @@ fn all_lines<A: Allocator + Copy>(
     terms: &Terms,
     copy: &[Symbol],
 ) -> Result<Vec<Line<A>, A>, NoMemory>
-    requires { length copy.now ≤ 2 ^ 20 }
+    requires { length copy.now ≤ most_symbols }
     ensures ok { IfOk result (λ lines. lines.items ≡ galley_of terms.now copy.now) }
     // No symbols take no memory.
     ensures memory { IfErr result (λ _. 1 ≤ length copy.now) }
@@ -199,7 +199,7 @@ pub fn make_galley<'a, A: Allocator + Copy>(
     case: &'a MatrixCase,
     wedge: &'a Wedge,
 ) -> Result<Galley<'a, A>, GalleyRefusal>
-    requires copy { length copy.now ≤ 2 ^ 20 }
+    requires copy { length copy.now ≤ most_symbols }
     requires settings { AreValues settings.now }
     ensures ok { IfOk result (IsGalley copy.now (by_key settings.now) case.now wedge.now) }
     // The job has the faults of the galley, and where these are none the rows of its lines.

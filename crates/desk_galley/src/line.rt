@@ -2,9 +2,11 @@
 
 ghost use Rattle.std.specs.Prelude.{◌≡◌, ◌+◌, ◌-◌, ◌*◌, ◌≤◌, ◌^◌, pos, ◌+ℤ◌, ◌-ℤ◌, ◌*ℤ◌, ◌≤ℤ◌, int_lt, length, drop, option_and_then, IfOk};
 ghost use Rattle.desk_lines.specs.Groups.{AreWidths};
+ghost use Rattle.desk_lines.specs.Words.{most_words};
 ghost use Rattle.desk_justify.specs.Positions.{sum_of};
 ghost use Rattle.desk_job.specs.Job as job;
 ghost use Rattle.desk_job.specs.Setting.{listed, words_at};
+ghost use Rattle.desk_job.specs.Terms.{longest_measure};
 ghost use Rattle.desk_job.specs.Making.{IsRange, group_words};
 ghost use Rattle.desk_galley.specs.Line.{next_at, sum_if, values_of};
 ghost use Rattle.desk_galley.specs.Galley.{is_faulty};
@@ -154,7 +156,7 @@ impl<A: Allocator> Line<A> {
 
 /// The atoms of words and spaces, with the wedges at neutral.
 fn neutral_width(terms: &Terms, words: u64, spaces: usize) -> u64
-    requires spaces { spaces ≤ 2 ^ 20 + 1 }
+    requires spaces { spaces ≤ most_words }
     requires words { words ≤ 2 ^ 61 }
     ensures { result ≡ words + spaces * job.space_width terms.now }
 {
@@ -164,7 +166,7 @@ fn neutral_width(terms: &Terms, words: u64, spaces: usize) -> u64
 /// The number at which so many spaces take up what is left; it is a wedge sum where the wedges reach it.
 fn sum_at(left: Atoms, spaces: usize) -> Option<i64>
     requires spaces { spaces ≤ 2 ^ 32 }
-    requires limit { left ≤ℤ pos 12960000 }
+    requires limit { left ≤ℤ pos longest_measure }
     ensures { result ≡ sum_if spaces (sum_of left spaces) }
 {
     if spaces == 0 {
@@ -191,7 +193,7 @@ fn fault_at(
     left: Atoms,
 ) -> Option<JobFault>
     requires spaces { spaces ≤ 2 ^ 32 }
-    requires limit { left ≤ℤ pos 12960000 }
+    requires limit { left ≤ℤ pos longest_measure }
     ensures { listed result ≡ job.sum_fault terms.now number filled spaces (sum_of left spaces) }
 {
     let Some(sum) = sum_at(left, spaces) else {
@@ -213,10 +215,10 @@ fn fault_at(
 
 /// The measure less words of this width, with a space after each, at tight.
 fn free(terms: &Terms, words: usize, width: u64) -> Atoms
-    requires words { words ≤ 2 ^ 20 + 1 }
+    requires words { words ≤ most_words }
     requires width { width ≤ 2 ^ 61 }
     ensures value { result ≡ pos (job.measure terms.now) -ℤ (pos width +ℤ pos words *ℤ job.tight_space terms.now) }
-    ensures high { result ≤ℤ pos 12960000 }
+    ensures high { result ≤ℤ pos longest_measure }
     ensures low { pos 0 ≤ℤ (result +ℤ pos (2 ^ 62)) }
 {
     let taken = width + words as u64 * whole(terms.tight_space());
@@ -227,7 +229,7 @@ fn free(terms: &Terms, words: usize, width: u64) -> Atoms
 fn next_word(free: Atoms, after: &[Word], widths: &[Atoms]) -> Option<Next>
     requires number { length after.now ≡ length widths.now }
     requires within { AreWidths widths.now }
-    requires high { free ≤ℤ pos 12960000 }
+    requires high { free ≤ℤ pos longest_measure }
     requires low { pos 0 ≤ℤ (free +ℤ pos (2 ^ 62)) }
     ensures { result ≡ next_at free after.now widths.now }
 {
@@ -252,7 +254,7 @@ pub fn set_out<A: Allocator>(
     group: &Group,
     filled: bool,
 ) -> Result<Line<A>, NoMemory>
-    requires number { length words.now ≤ 2 ^ 20 + 1 }
+    requires number { length words.now ≤ most_words }
     requires group { IsRange (length words.now) group.now }
     requires widths { widths.now ≡ job.widths terms.now (words_at copy.now words.now) }
     requires within { AreWidths widths.now }

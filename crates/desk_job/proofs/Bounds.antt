@@ -1,5 +1,5 @@
 -- A ribbon has fewer than 2 ^ 32 rows.
-use Rattle.std.proofs.Common.{◌≡◌, ℕ, zero, suc, ◌+◌, ◌-◌, ◌*◌, ◌/◌, ◌≤◌, ◌^◌, Bool, true, false, List, [], ◌∷◌, ◌++◌, map, length, take, drop, replicate, ap, ◌∙◌, arith, length-drop, length-take, length-append, Option, Some, None}
+use Rattle.std.proofs.Common.{◌≡◌, ℕ, zero, suc, ◌+◌, ◌-◌, ◌*◌, ◌/◌, ◌≤◌, Bool, true, false, List, [], ◌∷◌, ◌++◌, map, length, take, drop, replicate, ap, ◌∙◌, arith, length-drop, length-take, length-append, Option, Some, None}
 use Rattle.std.specs.Prelude.{ℤ, pos, negsuc, unsigned_abs, ◌≤ℤ◌, if◌then◌else◌}
 use Rattle.std.specs.List.{AllByRecursion, flat_map, zip}
 use Rattle.std.proofs.lemmas.Int.{ints}
@@ -19,7 +19,7 @@ use Rattle.desk_signals.specs.declared.RibbonRow.TheVariants.{Coarse, FineOut}
 use Rattle.desk_wedge.specs.Wedge.{units_of_row}
 use Rattle.desk_case.specs.Names.{IsCell}
 use Rattle.desk_ops.specs.Op.{is_line_feed, is_space}
-use Rattle.desk_lines.specs.Words.{words, paragraphs, words_of, drop_empty_last}
+use Rattle.desk_lines.specs.Words.{words, paragraphs, words_of, drop_empty_last, most_symbols}
 use Rattle.desk_lines.specs.Groups.{groups}
 use Rattle.desk_lines.proofs.WordLaws.{span, span_is, split_is}
 use Rattle.desk_units.specs.WedgeSum.{pair_of}
@@ -251,7 +251,7 @@ copy_few terms copy is =
     few_more terms (lines terms copy) (span (paragraphs copy)) (length copy + 1) (omega (arith, a, b)) (paragraphs_few terms (paragraphs copy) is)
 
 -- The lines of a copy can be added.
-pub copy_room : (terms : Terms) (copy : List Symbol) → IsUsable terms → length copy ≤ 2 ^ 20 →
+pub copy_room : (terms : Terms) (copy : List Symbol) → IsUsable terms → length copy ≤ most_symbols →
     CanAdd terms (all_lines terms copy (words_of copy)) (record { next = 1; faults = []; rows = [] })
 copy_room terms copy is small =
     let few = copy_few terms copy is in

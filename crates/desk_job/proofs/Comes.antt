@@ -1,5 +1,5 @@
 -- The ribbon of a job, cast, is the copy line by line.
-use Rattle.std.proofs.Common.{◌≡◌, ℕ, ◌≤◌, ◌^◌, List, [], ◌∷◌, map, length, refl, sym, ap, ◌∙◌, subst, arith, Option, Result, Ok, Err}
+use Rattle.std.proofs.Common.{◌≡◌, ℕ, ◌≤◌, List, [], ◌∷◌, map, length, refl, sym, ap, ◌∙◌, subst, arith, Option, Result, Ok, Err}
 use Rattle.std.specs.Prelude.{IfOk}
 use Rattle.desk_ops.specs.declared.op.Symbol.{Symbol}
 use Rattle.desk_ops.specs.declared.op.Key.{Key}
@@ -10,6 +10,7 @@ use Rattle.desk_ribbon.specs.Ribbon as ribbon
 use Rattle.desk_caster.specs.Caster.{cast}
 use Rattle.desk_caster.specs.Lines.{line_cast}
 use Rattle.desk_caster.proofs.CastLaw.{lines_come_back}
+use Rattle.desk_lines.specs.Words.{most_symbols}
 use Rattle.desk_job.specs.Job.{Terms, lines, line_faults, lacking, rows_of, rows_or, or_faults, terms_of, values_of}
 use Rattle.desk_job.specs.Terms.{IsUsable}
 use Rattle.desk_job.specs.Answer.{IsMade, set_copy}
@@ -31,7 +32,7 @@ neither_list : (a b : List JobFault) → or_faults a b ≡ [] → (a ≡ []) × 
 neither_list [] b none = (refl, none)
 neither_list (fault ∷ faults) b none = absurd (one_fault fault faults none)
 
-comes_back : (terms : Terms) (copy : List Symbol) (bytes : List ℕ) → IsUsable terms → length copy ≤ 2 ^ 20 →
+comes_back : (terms : Terms) (copy : List Symbol) (bytes : List ℕ) → IsUsable terms → length copy ≤ most_symbols →
     lacking terms.case 0 copy ≡ [] → line_faults terms 1 (lines terms copy) ≡ [] → bytes ≡ ribbon.ribbon (rows_of terms (lines terms copy)) →
     CastsLines terms (lines terms copy) bytes
 comes_back terms copy bytes usable small known none is =
@@ -48,7 +49,7 @@ comes_back terms copy bytes usable small known none is =
     }
 
 -- Bytes that are the ribbon of a copy by its terms, cast, are the copy.
-pub set_comes : (terms : Terms) (copy : List Symbol) (bytes : List ℕ) → IsUsable terms → length copy ≤ 2 ^ 20 → IsMade bytes (set_copy terms copy) →
+pub set_comes : (terms : Terms) (copy : List Symbol) (bytes : List ℕ) → IsUsable terms → length copy ≤ most_symbols → IsMade bytes (set_copy terms copy) →
     CastsLines terms (lines terms copy) bytes
 set_comes terms copy bytes usable small made =
     let none = no_faults bytes (rows_of terms (lines terms copy)) (or_faults (lacking terms.case 0 copy) (line_faults terms 1 (lines terms copy))) made in

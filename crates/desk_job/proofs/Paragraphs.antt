@@ -1,5 +1,5 @@
 -- The lines of a copy, by the places of its words.
-use Rattle.std.proofs.Common.{◌≡◌, ℕ, ◌+◌, ◌-◌, ◌<◌, ◌≤◌, ◌^◌, Bool, false, List, [], ◌∷◌, ◌++◌, length, take, drop, refl, sym, ap, ◌∙◌, arith, length-drop, length-take, length-append, get_or, drop-cons, add-one, subst}
+use Rattle.std.proofs.Common.{◌≡◌, ℕ, ◌+◌, ◌-◌, ◌<◌, ◌≤◌, Bool, false, List, [], ◌∷◌, ◌++◌, length, take, drop, refl, sym, ap, ◌∙◌, arith, length-drop, length-take, length-append, get_or, drop-cons, add-one, subst}
 use Rattle.std.specs.Prelude.{◌||◌, ◌==◌, ℤ, pos}
 use Rattle.std.specs.List.{All, AllByRecursion, flat_map}
 use Rattle.std.proofs.lemmas.List.{length-map, drop-drop}
@@ -9,7 +9,7 @@ use Rattle.desk_ops.specs.declared.op.Symbol.{Symbol}
 use Rattle.desk_lines.specs.declared.words.Word.{Word}
 use Rattle.desk_lines.specs.declared.groups.Group.{Group}
 use Rattle.desk_ops.specs.Op.{is_line_feed, is_space}
-use Rattle.desk_lines.specs.Words.{spelled, words, words_of, AreSplit, StandInTurn, joined, drop_empty_last}
+use Rattle.desk_lines.specs.Words.{spelled, words, words_of, AreSplit, StandInTurn, joined, drop_empty_last, most_symbols, most_words}
 use Rattle.desk_lines.specs.Groups.{AreGroups, groups, groups_of, ranges}
 use Rattle.desk_lines.proofs.GroupLaws.{groups_are_groups}
 use Rattle.desk_lines.proofs.WordLaws.{words_are_words, split_only}
@@ -168,7 +168,7 @@ few_words copy here (word ∷ ws) low turn =
     let a = turn.0 in let b = turn.1 in
     omega (arith, more, a, b)
 
-all_words : (copy : List Symbol) (found : List (List Word)) → AllByRecursion (IsWord copy) (joined found) → length (joined found) ≤ 2 ^ 20 + 1 →
+all_words : (copy : List Symbol) (found : List (List Word)) → AllByRecursion (IsWord copy) (joined found) → length (joined found) ≤ most_words →
     AllByRecursion (AreWordsOf copy) found
 all_words copy [] each few = tt
 all_words copy (ws ∷ found) each few =
@@ -177,7 +177,7 @@ all_words copy (ws ∷ found) each few =
     (record { number = omega (arith, few, long); each = All-from_recursion (IsWord copy) ws parts.0 }, all_words copy found parts.1 (omega (arith, few, long)))
 
 -- the words found stand in the copy
-pub words_stand : (copy : List Symbol) → length copy ≤ 2 ^ 20 → All (AreWordsOf copy) (words_of copy)
+pub words_stand : (copy : List Symbol) → length copy ≤ most_symbols → All (AreWordsOf copy) (words_of copy)
 words_stand copy small =
     let are = (words_are_words copy).0 in
     let few = few_words copy 0 (joined (words_of copy)) (omega arith) are.places in

@@ -17,7 +17,7 @@ use Rattle.desk_units.specs.declared.Pica.TheVariants.{Sixth, American}
 use Rattle.desk_justify.specs.Filled.{ArePositive, Descend}
 use Rattle.desk_caster.specs.Caster.{row_width}
 use Rattle.desk_job.specs.Job.{Terms, widths_of, fill_widths}
-use Rattle.desk_job.specs.Terms.{IsUsable, IsSmall}
+use Rattle.desk_job.specs.Terms.{IsUsable, IsSmall, widest_at_neutral}
 
 pub units_in : (w : WedgeValues) (cell : Cell) → IsWedge w → IsCell cell → IsUnits (units_of_row w cell.row)
 units_in w cell is cell_is = All-get_or IsUnits w.units (cell.row - 1) 0 (let n = is.units.rows in omega (arith, n, cell_is.0, cell_is.1)) is.units.each
@@ -82,7 +82,7 @@ fills_positive terms is = all_positive terms.wedge terms.case.fill is.wedge (rec
 pub fills_descend : (terms : Terms) → IsUsable terms → Descend (fill_widths terms)
 fills_descend terms is = all_descend terms.wedge terms.case.fill is.wedge is.descend
 
-width_high : (w : WedgeValues) (cell : Cell) → IsWedge w → IsCell cell → row_width w cell.row ≤ 576000
+width_high : (w : WedgeValues) (cell : Cell) → IsWedge w → IsCell cell → row_width w cell.row ≤ widest_at_neutral
 width_high w cell is cell_is =
     let some = units_in w cell is cell_is in
     let e = row_width_is w cell.row in

@@ -3,6 +3,7 @@ use Rattle.std.specs.Prelude.{◌≡◌, ℕ, ◌+◌, ◌-◌, ◌^◌, ◌<◌
 use Rattle.std.specs.List.{All, AllByRecursion, flat_map}
 use Rattle.desk_ops.specs.declared.op.Symbol.{Symbol}
 use Rattle.desk_signals.specs.declared.RibbonRow.{RibbonRow}
+use Rattle.desk_lines.specs.Words.{most_words}
 use Rattle.desk_lines.specs.declared.words.Word.{Word}
 use Rattle.desk_lines.specs.declared.groups.Group.{Group}
 use Rattle.desk_job.specs.Job.{Terms, SetLine, line_rows, line_faults, lines_of_words}
@@ -52,5 +53,5 @@ pub record IsRange (words : ℕ) (group : Group) : Type 0 where
 
 -- words of a copy of a paragraph's
 pub record AreWordsOf (copy : List Symbol) (words : List Word) : Type 0 where
-  pub number : length words ≤ 2 ^ 20 + 1
+  pub number : length words ≤ most_words
   pub each : All (IsWord copy) words

@@ -1,6 +1,8 @@
 -- What holds of the terms of every job that has no fault before its symbols.
-use Rattle.std.specs.Prelude.{◌≡◌, ◌≤◌, true, ℤ, pos, ◌≤ℤ◌, ◌<ℤ◌}
+use Rattle.std.specs.Prelude.{◌≡◌, ℕ, ◌≤◌, true, ℤ, pos, ◌≤ℤ◌, ◌<ℤ◌}
 use Rattle.desk_units.specs.WedgeSum.{IsWedgeSum}
+use Rattle.desk_units.specs.Widths.{measure_width, units_width}
+use Rattle.desk_units.specs.declared.Pica.TheVariants.{Sixth}
 use Rattle.desk_wedge.specs.Wedge.{IsWedge}
 use Rattle.desk_case.specs.Case.{IsCase}
 use Rattle.desk_case.specs.File.{is_descending, units_of_cells}
@@ -8,6 +10,14 @@ use Rattle.desk_ops.specs.Op.{IsValue}
 use Rattle.desk_ops.specs.declared.op.Key.TheVariants.{Measure, Tight, Loose}
 use Rattle.desk_job.specs.declared.terms.Values.{Values}
 use Rattle.desk_job.specs.Job.{Terms, tight_space}
+
+-- the longest measure: 720 points, by the longer pica
+abbrev pub longest_measure : ℕ
+longest_measure = measure_width 720 Sixth
+
+-- the widest matrix at neutral: 24 units, at the greatest set and by the longer pica
+abbrev pub widest_at_neutral : ℕ
+widest_at_neutral = units_width 24 96 Sixth
 
 -- the case and the wedge are lawful, the values are in their ranges, the fills descend, and a space at tight is wider than 0
 pub record IsUsable (terms : Terms) : Type 0 where
@@ -22,7 +32,7 @@ pub record IsUsable (terms : Terms) : Type 0 where
 -- The width is that of one matrix at neutral.
 pub record IsSmall (width : ℤ) : Type 0 where
   pub some : pos 1 ≤ℤ width
-  pub limit : width ≤ℤ pos 576000
+  pub limit : width ≤ℤ pos widest_at_neutral
 
 -- The values are in their ranges.
 pub record AreLawful (values : Values) : Type 0 where

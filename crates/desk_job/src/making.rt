@@ -2,11 +2,11 @@
 //!
 //! Each line is set once, for its fault or for its rows; after the first fault no more rows are punched.
 
-ghost use Rattle.std.specs.Prelude.{◌≡◌, ◌+◌, ◌≤◌, ◌<◌, ◌^◌, ◌∷◌, [], ◌-◌, ◌||◌, ◌==◌, length, drop, All, Err, OnOk, IfOk, IfErr};
+ghost use Rattle.std.specs.Prelude.{◌≡◌, ◌+◌, ◌≤◌, ◌<◌, ◌∷◌, [], ◌-◌, ◌||◌, ◌==◌, length, drop, All, Err, OnOk, IfOk, IfErr};
 ghost use Rattle.desk_ribbon.specs.Ribbon.{head_row, ribbon};
 ghost use Rattle.desk_job.specs.Answer.{IsMade, IsRefused, HasFaults, set_copy};
 ghost use Rattle.desk_lines.specs.Groups.{AreWidths};
-ghost use Rattle.desk_lines.specs.Words.{joined};
+ghost use Rattle.desk_lines.specs.Words.{joined, most_symbols, most_words};
 ghost use Rattle.desk_job.specs.Job as job;
 ghost use Rattle.desk_job.specs.declared.JobRefusal.TheVariants as refusal;
 ghost use Rattle.desk_job.specs.Terms.{IsUsable};
@@ -48,7 +48,7 @@ pub fn word_widths<A: Allocator>(
     copy: &[Symbol],
     words: &[Word],
 ) -> Result<Vec<Atoms, A>, NoMemory>
-    requires copy { length copy.now ≤ 2 ^ 20 }
+    requires copy { length copy.now ≤ most_symbols }
     requires words { All (IsWord copy.now) words.now }
     ensures value { IfOk result (λ widths. widths.items ≡ job.widths terms.now (words_at copy.now words.now)) }
     ensures within { IfOk result (λ widths. AreWidths widths.items) }
@@ -94,7 +94,7 @@ impl<A: Allocator + Copy> Making<A> {
         filled: bool,
     ) -> Result<(), NoMemory>
         requires some { 1 ≤ length words.now }
-        requires number { length words.now ≤ 2 ^ 20 + 1 }
+        requires number { length words.now ≤ most_words }
         requires words { All (IsWord copy.now) words.now }
         requires widths { widths.now ≡ job.widths terms.now (words_at copy.now words.now) }
         requires within { AreWidths widths.now }
@@ -125,7 +125,7 @@ impl<A: Allocator + Copy> Making<A> {
         widths: &[Atoms],
         groups: &[Group],
     ) -> Result<(), NoMemory>
-        requires number { length words.now ≤ 2 ^ 20 + 1 }
+        requires number { length words.now ≤ most_words }
         requires words { All (IsWord copy.now) words.now }
         requires widths { widths.now ≡ job.widths terms.now (words_at copy.now words.now) }
         requires within { AreWidths widths.now }
@@ -152,8 +152,8 @@ impl<A: Allocator + Copy> Making<A> {
         copy: &[Symbol],
         words: &[Word],
     ) -> Result<(), NoMemory>
-        requires copy { length copy.now ≤ 2 ^ 20 }
-        requires number { length words.now ≤ 2 ^ 20 + 1 }
+        requires copy { length copy.now ≤ most_symbols }
+        requires number { length words.now ≤ most_words }
         requires words { All (IsWord copy.now) words.now }
         requires can_add { CanAdd terms.now (paragraph_lines terms.now copy.now words.now) self.old }
         ensures ok { OnOk result (Adds terms.now (paragraph_lines terms.now copy.now words.now) self.old self.new) }
@@ -173,7 +173,7 @@ impl<A: Allocator + Copy> Making<A> {
         copy: &[Symbol],
         found: &[Paragraph<A>],
     ) -> Result<(), NoMemory>
-        requires copy { length copy.now ≤ 2 ^ 20 }
+        requires copy { length copy.now ≤ most_symbols }
         requires words { All (AreWordsOf copy.now) found.now }
         requires can_add { CanAdd terms.now (all_lines terms.now copy.now found.now) self.old }
         ensures ok { OnOk result (Adds terms.now (all_lines terms.now copy.now found.now) self.old self.new) }
@@ -234,7 +234,7 @@ fn make_lines<A: Allocator + Copy>(
     copy: &[Symbol],
 ) -> Result<Making<A>, NoMemory>
     requires usable { IsUsable terms.now }
-    requires copy { length copy.now ≤ 2 ^ 20 }
+    requires copy { length copy.now ≤ most_symbols }
     ensures ok { IfOk result (λ making. Adds terms.now (job.lines terms.now copy.now) (record { next = 1; faults = []; rows = [] }) making) }
     // No symbols take no memory.
     ensures memory { IfErr result (λ _. 1 ≤ length copy.now) }
@@ -251,7 +251,7 @@ pub fn set_copy<A: Allocator + Copy>(
     terms: &Terms,
     copy: &[Symbol],
 ) -> Result<Vec<u8, A>, JobRefusal<A>>
-    requires { length copy.now ≤ 2 ^ 20 }
+    requires { length copy.now ≤ most_symbols }
     ensures ok { IfOk result (λ bytes. IsMade bytes.items (set_copy terms.now copy.now)) }
     ensures err { IfErr result (λ refusal. IsRefused refusal (set_copy terms.now copy.now)) }
 {

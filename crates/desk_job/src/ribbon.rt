@@ -1,8 +1,9 @@
 //! The ribbon of a replica's copy.
 
-ghost use Rattle.std.specs.Prelude.{◌≡◌, ◌≤◌, ◌^◌, ◌∷◌, [], length, IfOk, IfErr};
+ghost use Rattle.std.specs.Prelude.{◌≡◌, ◌≤◌, ◌∷◌, [], length, IfOk, IfErr};
 ghost use Rattle.desk_ops.specs.Settings.{setting_of};
 ghost use Rattle.desk_ops.specs.Shown.{copy_of};
+ghost use Rattle.desk_lines.specs.Words.{most_symbols};
 ghost use Rattle.desk_job.specs.Job as job;
 ghost use Rattle.desk_job.specs.Reading.{CastsCopy};
 ghost use Rattle.desk_job.specs.Answer.{AreValues, IsMade, IsRefused, HasFaults, by_key};
@@ -69,7 +70,7 @@ pub fn make_from<A: Allocator + Copy>(
     case: &MatrixCase,
     wedge: &Wedge,
 ) -> Result<Vec<u8, A>, JobRefusal<A>>
-    requires copy { length copy.now ≤ 2 ^ 20 }
+    requires copy { length copy.now ≤ most_symbols }
     requires settings { AreValues settings.now }
     ensures ok { IfOk result (λ bytes. IsMade bytes.items (job.job copy.now (by_key settings.now) case.now wedge.now)) }
     ensures err { IfErr result (λ refusal. IsRefused refusal (job.job copy.now (by_key settings.now) case.now wedge.now)) }

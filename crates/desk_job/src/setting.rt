@@ -5,10 +5,11 @@
 
 ghost use Rattle.std.specs.Prelude.{◌≡◌, ◌+◌, ◌-◌, ◌*◌, ◌≤◌, ◌^◌, [], false, pos, ◌+ℤ◌, ◌-ℤ◌, ◌*ℤ◌, ◌≤ℤ◌, int_le, unsigned_abs, sum_by, length, All, if◌then◌else◌, ◌&&◌};
 ghost use Rattle.desk_lines.specs.Groups.{AreWidths};
+ghost use Rattle.desk_lines.specs.Words.{most_words};
 ghost use Rattle.desk_justify.specs.Filled.{fills_of, taken};
 ghost use Rattle.desk_justify.specs.Positions.{sum_of};
 ghost use Rattle.desk_job.specs.Job as job;
-ghost use Rattle.desk_job.specs.Terms.{IsSmall};
+ghost use Rattle.desk_job.specs.Terms.{IsSmall, longest_measure};
 ghost use Rattle.desk_job.specs.Setting.{Fits, Sets, SetsAt, line_at, words_at};
 
 use crate::JobFault;
@@ -29,7 +30,7 @@ pub struct Setting {
 
 /// The sum of the widths of words.
 pub fn total(widths: &[Atoms]) -> u64
-    requires words { length widths.now ≤ 2 ^ 20 + 1 }
+    requires words { length widths.now ≤ most_words }
     requires widths { AreWidths widths.now }
     ensures value { result ≡ sum_by unsigned_abs widths.now }
     ensures limit { result ≤ length widths.now * 2 ^ 40 }
@@ -43,7 +44,7 @@ pub fn total(widths: &[Atoms]) -> u64
 
 /// Whether so many words of this width, each with a space after it, fit at tight.
 fn has_room(terms: &Terms, words: usize, width: u64) -> bool
-    requires words { words ≤ 2 ^ 20 + 1 }
+    requires words { words ≤ most_words }
     requires width { width ≤ 2 ^ 61 }
     ensures { result ≡ int_le (pos width +ℤ pos words *ℤ job.tight_space terms.now) (pos (job.measure terms.now)) }
 {
@@ -53,10 +54,10 @@ fn has_room(terms: &Terms, words: usize, width: u64) -> bool
 
 /// The measure less words of this width and so many spaces at neutral.
 pub fn rest(terms: &Terms, width: u64, spaces: usize) -> Atoms
-    requires spaces { spaces ≤ 2 ^ 20 + 1 }
+    requires spaces { spaces ≤ most_words }
     requires width { width ≤ 2 ^ 61 }
     ensures value { result ≡ pos (job.measure terms.now) -ℤ pos (width + spaces * job.space_width terms.now) }
-    ensures limit { result ≤ℤ pos 12960000 }
+    ensures limit { result ≤ℤ pos longest_measure }
     ensures least { pos 0 ≤ℤ (result +ℤ pos (2 ^ 62)) }
 {
     let taken = width + spaces as u64 * terms.space();
@@ -65,7 +66,7 @@ pub fn rest(terms: &Terms, width: u64, spaces: usize) -> Atoms
 
 /// How often each fill is used: none in a line that is not to be filled.
 pub fn fills(terms: &Terms, rest: Atoms, filled: bool) -> ArrayVec<u32, 4>
-    requires { rest ≤ℤ pos 12960000 }
+    requires { rest ≤ℤ pos longest_measure }
     ensures value { result.items ≡ (if filled then fills_of rest (job.fill_widths terms.now) else []) }
     ensures number { length result.items ≤ length (job.fill_widths terms.now) }
 {
@@ -94,7 +95,7 @@ fn taken(counts: &[u32], widths: &[Atoms]) -> u64
 /// What the spaces are to take up: the rest, less the fills.
 pub fn left(terms: &Terms, rest: Atoms, counts: &[u32]) -> Atoms
     requires number { length counts.now ≤ length (job.fill_widths terms.now) }
-    requires limit { rest ≤ℤ pos 12960000 }
+    requires limit { rest ≤ℤ pos longest_measure }
     requires least { pos 0 ≤ℤ (rest +ℤ pos (2 ^ 62)) }
     ensures { result ≡ rest -ℤ pos (taken counts.now (job.fill_widths terms.now)) }
 {
@@ -127,7 +128,7 @@ fn line_sum(
 
 /// Whether one space is added after the words of a line.
 pub fn has_added(terms: &Terms, words: usize, width: u64, filled: bool) -> bool
-    requires words { words ≤ 2 ^ 20 + 1 }
+    requires words { words ≤ most_words }
     requires width { width ≤ 2 ^ 61 }
     ensures { result ≡ filled && int_le (pos width +ℤ pos words *ℤ job.tight_space terms.now) (pos (job.measure terms.now)) }
 {
@@ -152,7 +153,7 @@ pub fn set_line(
     filled: bool,
 ) -> Result<Setting, JobFault>
     requires some { 1 ≤ length words.now }
-    requires number { length words.now ≤ 2 ^ 20 + 1 }
+    requires number { length words.now ≤ most_words }
     requires widths { widths.now ≡ job.widths terms.now (words_at copy.now words.now) }
     requires within { AreWidths widths.now }
     requires fits { Fits terms.now (line_at copy.now words.now filled) }

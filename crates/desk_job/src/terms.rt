@@ -1,13 +1,14 @@
 //! What the lines of a job are set by, and the widths that follow. What is kept in `Terms` is tested once, when they are made.
 
-ghost use Rattle.std.specs.Prelude.{◌≡◌, ◌≤◌, ◌^◌, ◌*◌, ◌+ℤ◌, ◌≤ℤ◌, ℤ, pos, length, take, All, [], ◌∷◌, IfOk, IfErr, OnOk};
+ghost use Rattle.std.specs.Prelude.{◌≡◌, ◌≤◌, ◌*◌, ◌+ℤ◌, ◌≤ℤ◌, ℤ, pos, length, take, All, [], ◌∷◌, IfOk, IfErr, OnOk};
 ghost use Rattle.desk_units.specs.WedgeSum.{IsWedgeSum, widening};
 ghost use Rattle.desk_caster.specs.Caster.{row_width};
 ghost use Rattle.desk_wedge.specs.Wedge.{IsWedge};
 ghost use Rattle.desk_job.specs.Job as job;
-ghost use Rattle.desk_job.specs.Terms.{AreLawful, IsSmall, IsUsable};
+ghost use Rattle.desk_job.specs.Terms.{AreLawful, IsSmall, IsUsable, longest_measure, widest_at_neutral};
 ghost use Rattle.desk_job.specs.Setting.{listed};
-ghost use Rattle.desk_lines.specs.Groups.{IsWidth};
+ghost use Rattle.desk_lines.specs.Groups.{IsWidth, widest_matrix};
+ghost use Rattle.desk_lines.specs.Words.{most_symbols};
 ghost use Rattle.desk_justify.specs.Filled.{ArePositive, Descend};
 
 use crate::JobFault;
@@ -85,7 +86,7 @@ pub struct Values {
 fn widened(space: Atoms, sum: WedgeSum) -> Atoms
     requires { IsSmall space }
     ensures value { result ≡ space +ℤ widening sum }
-    ensures limit { result ≤ℤ pos (2 ^ 20) }
+    ensures limit { result ≤ℤ pos widest_matrix }
 {
     Atoms::new(space.get() + sum.widening().get())
 }
@@ -150,7 +151,7 @@ impl<'a> Terms<'a> {
     /// The measure.
     pub fn measure(&self) -> Atoms
         ensures value { result ≡ pos (job.measure self.now) }
-        ensures limit { job.measure self.now ≤ 12960000 }
+        ensures limit { job.measure self.now ≤ longest_measure }
     {
         measure(self.points, self.wedge.pica())
     }
@@ -158,7 +159,7 @@ impl<'a> Terms<'a> {
     /// A space at neutral.
     pub fn space(&self) -> u64
         ensures value { result ≡ job.space_width self.now }
-        ensures limit { result ≤ 576000 }
+        ensures limit { result ≤ widest_at_neutral }
     {
         whole(cell_width(self.wedge, &self.case.space()))
     }
@@ -167,7 +168,7 @@ impl<'a> Terms<'a> {
     pub fn tight_space(&self) -> Atoms
         ensures value { result ≡ job.tight_space self.now }
         ensures some { pos 1 ≤ℤ result }
-        ensures limit { result ≤ℤ pos (2 ^ 20) }
+        ensures limit { result ≤ℤ pos widest_matrix }
     {
         widened(cell_width(self.wedge, &self.case.space()), self.tight)
     }
@@ -198,7 +199,7 @@ impl<'a> Terms<'a> {
     /// The width of a symbol; one that the case lacks has none.
     pub fn symbol_width(&self, symbol: Symbol) -> u64
         ensures value { result ≡ job.symbol_width self.now symbol }
-        ensures limit { result ≤ 2 ^ 20 }
+        ensures limit { result ≤ widest_matrix }
     {
         match self.case.cell_of(symbol) {
             Some(cell) => whole(cell_width(self.wedge, &cell)),
@@ -208,7 +209,7 @@ impl<'a> Terms<'a> {
 
     /// The width of symbols one after the other.
     pub fn symbols_width(&self, symbols: &[Symbol]) -> Atoms
-        requires { length symbols.now ≤ 2 ^ 20 }
+        requires { length symbols.now ≤ most_symbols }
         ensures value { result ≡ pos (job.word_width self.now symbols.now) }
         ensures within { IsWidth result }
     {

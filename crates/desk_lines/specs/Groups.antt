@@ -3,6 +3,10 @@ use Rattle.std.specs.Prelude.{◌≡◌, ℕ, zero, suc, ◌+◌, ◌^◌, ◌<�
 use Rattle.std.specs.List.{All}
 use Rattle.desk_lines.specs.declared.groups.Group.{Group}
 
+-- no matrix is cast wider, in atoms
+abbrev pub widest_matrix : ℕ
+widest_matrix = 2 ^ 20
+
 -- the width of words and their inner spaces
 abbrev pub group_width : (space : ℤ) → List ℤ → ℤ
 group_width space [] = pos 0

@@ -2,8 +2,17 @@
 use Rattle.std.specs.Prelude.{◌≡◌, ℕ, ◌+◌, ◌-◌, ◌≤◌, Bool, true, false, ◌&&◌, ◌==◌, List, [], ◌∷◌, ◌++◌, length, map, take, drop}
 use Rattle.std.specs.List.{slice_split, All}
 use Rattle.desk_ops.specs.Op.{is_line_feed, is_space}
+use Rattle.desk_ops.specs.OpSet.{max_ops}
 use Rattle.desk_ops.specs.declared.op.Symbol.{Symbol}
 use Rattle.desk_lines.specs.declared.words.Word.{Word}
+
+-- no copy has more symbols: each is of an operation of its own
+abbrev pub most_symbols : ℕ
+most_symbols = max_ops
+
+-- no copy has more words
+abbrev pub most_words : ℕ
+most_words = most_symbols + 1
 
 abbrev pub unless_empty : {A : Type 0} → List A → List (List A)
 unless_empty [] = []

@@ -4,7 +4,7 @@
 //! change a line that is punched. So one pass over the words is enough.
 
 ghost use Rattle.std.specs.Prelude.{◌≡◌, ◌≤◌, ◌^◌, pos, ◌+ℤ◌, ◌≤ℤ◌, ◌<ℤ◌, IfErr, IfOk, MatchBool, length};
-ghost use Rattle.desk_lines.specs.Groups.{AreWidths, IsWidth, groups_of};
+ghost use Rattle.desk_lines.specs.Groups.{AreWidths, IsWidth, groups_of, widest_matrix};
 
 use desk_ops::NoMemory;
 use desk_units::Atoms;
@@ -21,7 +21,7 @@ pub struct Group {
 fn with_word(width: Atoms, space: Atoms, word: Atoms) -> Atoms
     requires width { IsWidth width }
     requires space_low { pos 1 ≤ℤ space }
-    requires space_high { space ≤ℤ pos (2 ^ 20) }
+    requires space_high { space ≤ℤ pos widest_matrix }
     requires word { IsWidth word }
     ensures { result ≡ (width +ℤ space) +ℤ word }
 {
@@ -38,7 +38,7 @@ fn fits(width: Atoms, measure: Atoms) -> bool
 /// The groups of a paragraph's words, by their widths: each is the longest prefix of the words left that fits in the
 /// measure with its inner spaces, or the first word alone where that does not fit.
 ///
-/// Words and the measure are 0 to 2^40 atoms wide, a space 1 to 2^20.
+/// Words and the measure are 0 to 2^40 atoms wide, a space 1 to 2^20, as no matrix is wider.
 pub fn break_lines<A: Allocator>(
     alloc: A,
     words: &[Atoms],
@@ -47,7 +47,7 @@ pub fn break_lines<A: Allocator>(
 ) -> Result<Vec<Group, A>, NoMemory>
     requires widths { AreWidths words.now }
     requires space_low { pos 1 ≤ℤ space }
-    requires space_high { space ≤ℤ pos (2 ^ 20) }
+    requires space_high { space ≤ℤ pos widest_matrix }
     requires measure_low { pos 0 ≤ℤ measure }
     requires measure_high { measure ≤ℤ pos (2 ^ 40) }
     ensures ok { IfOk result (λ groups. groups.items ≡ groups_of space measure words.now) }
