@@ -44,12 +44,22 @@ def sources(crate):
     return SEEN[crate]
 
 
+def without_parameters(said):
+    """What follows the parameters in angle brackets that a text begins with."""
+    said, depth = said.lstrip(), 0
+    for place, letter in enumerate(said):
+        depth += {"<": 1, ">": -1}.get(letter, 0)
+        if depth == 0:
+            return said[place + 1:] if letter == ">" else said
+    return said
+
+
 def owners(text):
     """The type or trait of each `impl` and `trait` block, with the places of its braces."""
     out = []
     for found in re.finditer(r"^(?:pub )?(?:impl|trait)\b([^{;]*)\{", text, re.M):
         said = re.sub(r"\bwhere\b.*", "", found.group(1), flags=re.S)
-        said = re.sub(r"^\s*<[^>]*(?:<[^>]*>[^>]*)*>", "", said).split(" for ")[-1]
+        said = without_parameters(said).split(" for ")[-1]
         name = re.match(r"\s*(?:\w+::)*(\w+)", said)
         end = re.compile(r"^\}", re.M).search(text, found.end())
         out.append((name.group(1) if name else "", found.end(), end.start() if end else len(text)))
