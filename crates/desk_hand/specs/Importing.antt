@@ -1,10 +1,12 @@
 -- The copy of a stored feed, made a text that is read.
-use Rattle.std.specs.Prelude.{◌≡◌, ◌≢◌, ◌≤◌, ◌<◌, ℕ, Bool, List, Option, IfSome, Result, Ok, Err, length}
+use Rattle.std.specs.Prelude.{◌≡◌, ◌≢◌, ◌≤◌, ◌<◌, ◌⊎◌, ℕ, Bool, List, Option, IfSome, Result, Ok, Err, length}
+use Rattle.std.specs.Io.KnownBytes.{Consumes, IsAtEnd}
 use Rattle.desk_ops.specs.declared.op.Symbol.{Symbol}
 use Rattle.desk_ops.specs.OpSet.{OpSet}
 use Rattle.desk_text.specs.Reading.{reading}
 use Rattle.desk_files.specs.Files.{Shelf}
-use Rattle.desk_files.specs.Input.{IsInput}
+use Rattle.desk_files.specs.Input.{HasTaken, IsInput, IsReadTo}
+use Rattle.desk_files.specs.declared.input.ReaderFault.TheVariants as readers
 use Rattle.desk_files.specs.declared.files.FileRefusal.{FileRefusal}
 use Rattle.desk_hand.specs.Editing.{IsRevised, IsUnrevised}
 use Rattle.desk_hand.specs.Keeping.{IsKept, IsUnkept, edited_line}
@@ -36,6 +38,17 @@ IsNoText plain input inputs.TooLong = IfSome input (λ known. max_text < length 
 IsNoText plain input (inputs.Text why) = (bytes : List ℕ) × FitsText input bytes × (reading plain bytes ≡ Err why)
 IsNoText plain input inputs.NoMemory = Unit {0}
 
+-- the reader was read to its end, and had no more than a text may have
+abbrev pub IsReadOut : Option (List ℕ) → Option (List ℕ) → Type 0
+IsReadOut before after = (read : List ℕ) × Consumes before after read × (length read ≤ max_text) × IsAtEnd after
+
+-- How far a reader was read that gave no copy: up to where it failed, or beyond what a text may have; to its end, where the text is refused. Where memory ran out, on the way, with some bytes read and no more than a text may have, or at its end.
+abbrev pub IsLeft : Option (List ℕ) → Option (List ℕ) → InputFault → Type 0
+IsLeft before after inputs.Read = IsReadTo max_text before after readers.Failed
+IsLeft before after inputs.TooLong = IsReadTo max_text before after readers.TooLong
+IsLeft before after (inputs.Text why) = IsReadOut before after
+IsLeft before after inputs.NoMemory = HasTaken max_text before after ⊎ IsReadOut before after
+
 -- the copy of a set is now what a reader had, by operations of a site
 abbrev pub TakesText : ℕ → Bool → Option (List ℕ) → OpSet → OpSet → ℕ → ℕ → Type 0
 TakesText site plain input old now inserted deleted = (text : List Symbol) × IsReadAs plain input text × IsRevised site old now text inserted deleted
@@ -59,3 +72,10 @@ IsUnimported name site plain first last input before after (imports.Revision why
 IsUnimported name site plain first last input before after (imports.Keep why) =
     (held : Shelf) × (read : Result (List ℕ) FileRefusal) × (old : OpSet) × IsOpened name first held read old
     × (set : OpSet) × (inserted deleted : ℕ) × TakesText site plain input old set inserted deleted × IsUnkept name (edited_line inserted deleted) held last before after why
+
+-- how far the reader of an import that stopped was read: not at all, where the feed was not taken; as no text was read; or to its end, where the text was read
+abbrev pub LeavesOff : Option (List ℕ) → Option (List ℕ) → ImportFault → Type 0
+LeavesOff before after (imports.Take why) = after ≡ before
+LeavesOff before after (imports.Input why) = IsLeft before after why
+LeavesOff before after (imports.Revision why) = IsReadOut before after
+LeavesOff before after (imports.Keep why) = IsReadOut before after

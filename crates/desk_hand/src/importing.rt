@@ -3,7 +3,7 @@
 ghost use Rattle.std.specs.Prelude.{◌≡◌, ◌≤◌, ◌⊎◌, IfErr, IfOk, OnOk};
 ghost use Rattle.desk_files.specs.Files.{IsHeldAlone, Stays};
 ghost use Rattle.desk_text.specs.Laws.{AreLawful};
-ghost use Rattle.desk_hand.specs.Importing.{IsImported, IsNoText, IsReadAs, IsUnimported};
+ghost use Rattle.desk_hand.specs.Importing.{IsImported, IsLeft, IsNoText, IsReadAs, IsReadOut, IsUnimported, LeavesOff};
 
 use crate::editing::revise;
 use crate::fault::{ImportFault, InputFault};
@@ -28,6 +28,8 @@ fn text_from<R: Read, A: Allocator + Copy>(
     ensures ok { IfOk result (λ v. IsReadAs plain (R.remaining reader.old) v.items) }
     ensures lawful { IfOk result (λ v. AreLawful v.items) }
     ensures err { IfErr result (IsNoText plain (R.remaining reader.old)) }
+    ensures end { OnOk result (IsReadOut (R.remaining reader.old) (R.remaining reader.new)) }
+    ensures left { IfErr result (IsLeft (R.remaining reader.old) (R.remaining reader.new)) }
 {
     let bytes = read_whole(alloc, reader, MAX_TEXT)?;
     Ok(read_text(alloc, &bytes, plain)?)
@@ -53,6 +55,8 @@ pub fn import_text<R: Read, W: Write, F: Files, A: Allocator + Copy>(
     ensures ok { OnOk result (IsImported name.now site plain (F.shelf files.old) (F.shelf files.new) (R.remaining reader.old) (W.contents writer.old) (W.contents writer.new)) }
     ensures err { IfErr result (IsUnimported name.now site plain (F.shelf files.old) (F.shelf files.new) (R.remaining reader.old) (W.contents writer.old) (W.contents writer.new)) }
     ensures held { IsHeldAlone name.now (F.shelf files.old) (F.shelf files.new) ⊎ ((reader.new ≡ reader.old) × (writer.new ≡ writer.old) × Stays (F.shelf files.old) (F.shelf files.new)) }
+    ensures end { OnOk result (IsReadOut (R.remaining reader.old) (R.remaining reader.new)) }
+    ensures left { IfErr result (LeavesOff (R.remaining reader.old) (R.remaining reader.new)) }
 {
     let (old, mut replica) = take_feed(alloc, files, name, site)?;
     let text = text_from(alloc, reader, plain)?;

@@ -47,3 +47,18 @@ returns-in_err-tell_and_keep-clause-held g c =
 pub returns-clause-held : goal.returns-clause-held
 returns-clause-held g c =
     inl (held_alone c.args.name.now (g.F.Files.shelf c.args.files.now) (g.F.Files.shelf c.take_feed.new.files) (g.F.Files.shelf c.tell_and_keep.new.files) c.in_ok-old.ensures.ok.0 c.tell_and_keep.ensures.held)
+
+pub returns-in_err-text-clause-left : goal.returns-in_err-text-clause-left
+returns-in_err-text-clause-left g c =
+    let p = err_from_is_err_and c.from_residual-in_err-text.result c.from_residual-in_err-text.ensures.1 in
+    rw p.1 (rw p.2 c.in_err-text.ensures.left)
+
+pub returns-in_err-tally-clause-left : goal.returns-in_err-tally-clause-left
+returns-in_err-tally-clause-left g c =
+    let p = err_from_is_err_and c.from_residual-in_err-tally.result c.from_residual-in_err-tally.ensures.1 in
+    rw p.1 (rw p.2 c.in_ok-text.ensures.end)
+
+pub returns-in_err-tell_and_keep-clause-left : goal.returns-in_err-tell_and_keep-clause-left
+returns-in_err-tell_and_keep-clause-left g c =
+    let p = err_from_is_err_and c.from_residual-in_err-tell_and_keep.result c.from_residual-in_err-tell_and_keep.ensures.1 in
+    rw p.1 (rw p.2 c.in_ok-text.ensures.end)
