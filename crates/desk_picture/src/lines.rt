@@ -2,6 +2,7 @@
 
 ghost use Rattle.std.specs.Prelude.{◌≡◌, ◌+◌, ◌++◌, ◌≤◌, ◌^◌, length, All, IfOk, OnOk, string_bytes};
 ghost use Rattle.std.specs.Fmt.{decimal};
+ghost use Rattle.desk_lines.specs.Words.{most_symbols};
 ghost use Rattle.desk_galley.specs.Galley.{Stands};
 ghost use Rattle.desk_picture.specs.Lines.{class_of, fault_text, line_at, line_boxes, line_text, line_words, lines_text, margin_text, number_text, text_at, text_end, words_at, words_end};
 
@@ -105,7 +106,7 @@ fn put_line_words<A: Allocator + Copy>(
     y: u128,
     line: &Line<A>,
 ) -> Result<u128, AllocError>
-    requires copy { length copy.now ≤ 2 ^ 20 }
+    requires copy { length copy.now ≤ most_symbols }
     requires line { Stands copy.now terms.now.case line.now }
     ensures text { OnOk result (string_bytes out.new ≡ string_bytes out.old ++ line_words terms.now copy.now sheet y line.now) }
     ensures end { IfOk result (λ end. end ≡ words_end terms.now copy.now line.now) }
@@ -165,7 +166,7 @@ fn put_line_at<A: Allocator + Copy>(
     y: u128,
     line: &Line<A>,
 ) -> Result<(), AllocError>
-    requires copy { length copy.now ≤ 2 ^ 20 }
+    requires copy { length copy.now ≤ most_symbols }
     requires line { Stands copy.now terms.now.case line.now }
     ensures { OnOk result (string_bytes out.new ≡ string_bytes out.old ++ line_at terms.now copy.now sheet y line.now) }
 {
@@ -183,7 +184,7 @@ fn put_line<A: Allocator + Copy>(
     sheet: Sheet,
     line: &Line<A>,
 ) -> Result<(), AllocError>
-    requires copy { length copy.now ≤ 2 ^ 20 }
+    requires copy { length copy.now ≤ most_symbols }
     requires top { sheet.top ≤ 2 ^ 100 }
     requires line { Stands copy.now terms.now.case line.now }
     ensures { OnOk result (string_bytes out.new ≡ string_bytes out.old ++ line_text terms.now copy.now sheet line.now) }
@@ -200,7 +201,7 @@ pub fn put_lines<A: Allocator + Copy>(
     sheet: Sheet,
     lines: &[Line<A>],
 ) -> Result<(), AllocError>
-    requires copy { length copy.now ≤ 2 ^ 20 }
+    requires copy { length copy.now ≤ most_symbols }
     requires top { sheet.top ≤ 2 ^ 100 }
     requires lines { All (Stands copy.now terms.now.case) lines.now }
     ensures { OnOk result (string_bytes out.new ≡ string_bytes out.old ++ lines_text terms.now copy.now sheet lines.now) }

@@ -1,6 +1,7 @@
 //! A galley as a picture.
 
 ghost use Rattle.std.specs.Prelude.{◌≡◌, ◌+◌, ◌*◌, ◌++◌, ◌≤◌, ◌^◌, length, All, OnOk, string_bytes};
+ghost use Rattle.desk_lines.specs.Words.{most_symbols};
 ghost use Rattle.desk_galley.specs.Galley.{Stands};
 ghost use Rattle.desk_picture.specs.Picture.{begin_text, frame_height, frame_text, galley_frame, galley_height, group_text, looks_text, no_galley_picture, page_height, page_text, page_width, picture_on, picture_text, points_text, sheet_of, size_text, why_text, why_words};
 
@@ -113,7 +114,7 @@ fn put_group<'a, A: Allocator + Copy>(
     sheet: Sheet,
     galley: &Galley<'a, A>,
 ) -> Result<(), AllocError>
-    requires copy { length copy.now ≤ 2 ^ 20 }
+    requires copy { length copy.now ≤ most_symbols }
     requires top { sheet.top ≤ 2 ^ 100 }
     requires lines { All (Stands copy.now galley.now.terms.case) galley.now.lines }
     ensures { OnOk result (string_bytes out.new ≡ string_bytes out.old ++ group_text copy.now sheet galley.now) }
@@ -183,7 +184,7 @@ fn put_picture_on<'a, A: Allocator + Copy>(
     galley: &Galley<'a, A>,
     sheet: Sheet,
 ) -> Result<(), AllocError>
-    requires copy { length copy.now ≤ 2 ^ 20 }
+    requires copy { length copy.now ≤ most_symbols }
     requires top { sheet.top ≤ 2 ^ 100 }
     requires lines { All (Stands copy.now galley.now.terms.case) galley.now.lines }
     ensures { OnOk result (string_bytes out.new ≡ string_bytes out.old ++ picture_on copy.now faults.now galley.now sheet) }
@@ -203,7 +204,7 @@ pub fn put_picture<'a, A: Allocator + Copy>(
     faults: &[CopyFault],
     galley: &Galley<'a, A>,
 ) -> Result<(), NoMemory>
-    requires copy { length copy.now ≤ 2 ^ 20 }
+    requires copy { length copy.now ≤ most_symbols }
     requires lines { All (Stands copy.now galley.now.terms.case) galley.now.lines }
     ensures { OnOk result (string_bytes out.new ≡ string_bytes out.old ++ picture_text copy.now faults.now galley.now) }
 {

@@ -1,7 +1,8 @@
 //! The picture of a stored feed's galley, stored under a name.
 
-ghost use Rattle.std.specs.Prelude.{◌≡◌, ◌≤◌, ◌^◌, length, All, IfErr, IfOk, OnOk, string_bytes};
+ghost use Rattle.std.specs.Prelude.{◌≡◌, ◌≤◌, length, All, IfErr, IfOk, OnOk, string_bytes};
 ghost use Rattle.desk_files.specs.Files.{HoldsOn};
+ghost use Rattle.desk_lines.specs.Words.{most_symbols};
 ghost use Rattle.desk_galley.specs.Galley.{Stands};
 ghost use Rattle.desk_job.specs.Answer.{AreValues};
 ghost use Rattle.desk_preview.specs.Sources.{sources};
@@ -30,7 +31,7 @@ fn picture_of<'a, A: Allocator + Copy>(
     faults: &[CopyFault],
     galley: &Galley<'a, A>,
 ) -> Result<String<A>, NoMemory>
-    requires copy { length copy.now ≤ 2 ^ 20 }
+    requires copy { length copy.now ≤ most_symbols }
     requires lines { All (Stands copy.now galley.now.terms.case) galley.now.lines }
     ensures { IfOk result (λ s. string_bytes s ≡ picture_text copy.now faults.now galley.now) }
 {

@@ -1,6 +1,7 @@
 //! Where the characters of a line stand: each where its matrix begins, one matrix after the other.
 
 ghost use Rattle.std.specs.Prelude.{◌≡◌, ◌+◌, ◌++◌, ◌≤◌, ◌^◌, length, IfOk, OnOk, string_bytes};
+ghost use Rattle.desk_lines.specs.Words.{most_symbols};
 ghost use Rattle.desk_picture.specs.Places.{after_word, next_place, place_text, symbol_places, word_places};
 
 use crate::sheet::across;
@@ -44,7 +45,7 @@ fn put_symbol_places<A: Allocator + Copy>(
     word: &[Symbol],
 ) -> Result<u128, AllocError>
     requires here { here ≤ 2 ^ 110 }
-    requires short { length word.now ≤ 2 ^ 20 }
+    requires short { length word.now ≤ most_symbols }
     ensures text { OnOk result (string_bytes out.new ≡ string_bytes out.old ++ symbol_places terms.now pica here word.now) }
     ensures end { IfOk result (λ end. end ≡ after_word terms.now here word.now) }
     ensures limit { IfOk result (λ end. end ≤ here + 2 ^ 40) }
@@ -66,7 +67,7 @@ pub fn put_word_places<A: Allocator + Copy>(
     word: &[Symbol],
 ) -> Result<u128, AllocError>
     requires here { here ≤ 2 ^ 110 }
-    requires short { length word.now ≤ 2 ^ 20 }
+    requires short { length word.now ≤ most_symbols }
     ensures text { OnOk result (string_bytes out.new ≡ string_bytes out.old ++ word_places terms.now pica here word.now) }
     ensures end { IfOk result (λ end. end ≡ after_word terms.now here word.now) }
     ensures limit { IfOk result (λ end. end ≤ here + 2 ^ 40) }

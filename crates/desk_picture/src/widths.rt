@@ -1,6 +1,7 @@
 //! The widths of a line as it is drawn, in atoms.
 
 ghost use Rattle.std.specs.Prelude.{◌≡◌, ◌+◌, ◌≤◌, ◌^◌, max, length};
+ghost use Rattle.desk_lines.specs.Groups.{widest_matrix};
 ghost use Rattle.desk_job.specs.Job as job;
 ghost use Rattle.desk_picture.specs.Widths.{drawn_space, frame_or, reach, space_at, widest, widest_from};
 
@@ -13,7 +14,7 @@ use std::alloc::Allocator;
 /// A space as it is cast at these positions of the wedges, at neutral where there are none.
 fn space_at(terms: &Terms, positions: Option<(Position, Position)>) -> u64
     ensures value { result ≡ space_at terms.now positions }
-    ensures limit { result ≤ 2 ^ 20 }
+    ensures limit { result ≤ widest_matrix }
 {
     let Some((coarse, fine)) = positions else {
         return terms.space();
@@ -26,7 +27,7 @@ fn space_at(terms: &Terms, positions: Option<(Position, Position)>) -> u64
 /// A space of a line: at its wedge sum, or at neutral where the wedges do not reach it.
 pub fn drawn_space<A: Allocator>(terms: &Terms, line: &Line<A>) -> u64
     ensures value { result ≡ drawn_space terms.now line.now }
-    ensures limit { result ≤ 2 ^ 20 }
+    ensures limit { result ≤ widest_matrix }
 {
     space_at(terms, line.positions())
 }

@@ -1,6 +1,8 @@
 //! The words of a line: each character where its matrix stands.
 
 ghost use Rattle.std.specs.Prelude.{◌≡◌, ◌+◌, ◌++◌, ◌≤◌, ◌^◌, length, All, IfOk, OnOk, string_bytes};
+ghost use Rattle.desk_lines.specs.Groups.{widest_matrix};
+ghost use Rattle.desk_lines.specs.Words.{most_symbols};
 ghost use Rattle.desk_job.specs.Setting.{IsWord};
 ghost use Rattle.desk_picture.specs.Places.{after_word};
 ghost use Rattle.desk_picture.specs.Words.{after_words, word_text, words_text};
@@ -22,7 +24,7 @@ fn put_word<A: Allocator + Copy>(
     word: &[Symbol],
 ) -> Result<u128, AllocError>
     requires here { here ≤ 2 ^ 110 }
-    requires short { length word.now ≤ 2 ^ 20 }
+    requires short { length word.now ≤ most_symbols }
     ensures text { OnOk result (string_bytes out.new ≡ string_bytes out.old ++ word_text terms.now pica here word.now) }
     ensures end { IfOk result (λ end. end ≡ after_word terms.now here word.now) }
     ensures limit { IfOk result (λ end. end ≤ here + 2 ^ 40) }
@@ -44,9 +46,9 @@ pub fn put_words<A: Allocator + Copy>(
     space: u64,
     words: &[Word],
 ) -> Result<u128, AllocError>
-    requires copy { length copy.now ≤ 2 ^ 20 }
+    requires copy { length copy.now ≤ most_symbols }
     requires words { All (IsWord copy.now) words.now }
-    requires space { space ≤ 2 ^ 20 }
+    requires space { space ≤ widest_matrix }
     ensures text { OnOk result (string_bytes out.new ≡ string_bytes out.old ++ words_text terms.now copy.now pica space 0 words.now) }
     ensures end { IfOk result (λ end. end ≡ after_words terms.now copy.now space 0 words.now) }
     ensures limit { IfOk result (λ end. end ≤ 2 ^ 106) }

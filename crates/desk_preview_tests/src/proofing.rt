@@ -1,4 +1,4 @@
-use crate::rooms::{OLD, holds, memory, rooms};
+use crate::rooms::{OLD, memory, rooms};
 use desk_answers::Refusal;
 use desk_files::FileRefusal;
 use desk_files::trial::{AtEnd, TrialWriter};
@@ -44,7 +44,7 @@ fn proofed(
         &no_trial(),
         extent,
     );
-    if !holds(&files, "a.ribbon", OLD) || files.bytes_of("a.ribbon.new").is_some() {
+    if !files.holds("a.ribbon", OLD) || files.bytes_of("a.ribbon.new").is_some() {
         return Err(Fail::new("a file changed"));
     }
     match ended {

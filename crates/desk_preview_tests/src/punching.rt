@@ -1,4 +1,4 @@
-use crate::rooms::{OLD, holds, memory, rooms};
+use crate::rooms::{OLD, memory, rooms};
 use desk_answers::Refusal;
 use desk_files::FileRefusal;
 use desk_files::trial::{AtEnd, TrialFiles, TrialWriter};
@@ -34,7 +34,7 @@ fn punched(
         wedge,
         "a.ribbon",
     );
-    if !holds(files, "a.ribbon", target) {
+    if !files.holds("a.ribbon", target) {
         return Err(Fail::new("the target has other bytes"));
     }
     Ok((written, ended))
@@ -127,7 +127,7 @@ fn closed_output_of_a_punch(rt: HostRuntime) -> Result<(), Fail> {
     );
     assert_eq!(rt; ended, Err(PreviewFault::Write));
     assert!(rt; LINE.starts_with(writer.written()));
-    assert!(rt; holds(&files, "a.ribbon", OLD));
+    assert!(rt; files.holds("a.ribbon", OLD));
     Ok(())
 }
 
@@ -172,7 +172,7 @@ fn is_refused(alloc: Global, cut: usize) -> Result<bool, Fail> {
     };
     drop(ballast);
     let wanted: &[u8] = if refused { OLD } else { RIBBON };
-    if !written.is_empty() || !holds(&files, "a.ribbon", wanted) {
+    if !written.is_empty() || !files.holds("a.ribbon", wanted) {
         return Err(Fail::new("another ribbon"));
     }
     Ok(refused)

@@ -87,11 +87,3 @@ pub fn memory(alloc: Global) -> Memory<Global> {
         global: alloc,
     }
 }
-
-/// Whether a file of that name has these bytes.
-pub fn holds(files: &TrialFiles<Global>, name: &str, bytes: &[u8]) -> bool {
-    match files.bytes_of(name) {
-        Some(kept) => kept == bytes,
-        None => false,
-    }
-}
