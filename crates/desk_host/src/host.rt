@@ -1,6 +1,7 @@
 //! Files of the machine.
 
-ghost use Rattle.std.specs.Prelude.{◌≡◌, ◌≢◌, ◌<◌, ◌≤◌, Err, IfOk, IfSome, IsErrAnd, IsNone, MatchOption, MatchResult, None, Ok, Some, length, string_bytes};
+ghost use Rattle.std.specs.Prelude.{◌≡◌, ◌≢◌, ◌<◌, ◌≤◌, Err, IfErr, IfOk, IfSome, IsErrAnd, IsNone, IsSomeAnd, MatchOption, MatchResult, None, Ok, Some, length, string_bytes};
+ghost use Rattle.std.specs.Fs.{metadata_mode};
 ghost use Rattle.std.specs.IoError.{error_kind};
 ghost use Rattle.desk_files.specs.Files.{Counts, Free, IsCounted, Unknown, max_file, shelf, touched};
 ghost use Rattle.desk_host.specs.Host.{IsToldOf, LeadsTo, held_in};
@@ -10,7 +11,7 @@ use crate::progress::{Progress, Step, Watched};
 use crate::trouble::{Asked, Explains, Trouble, write_trouble};
 use desk_files::{FileRefusal, Files, MAX_FILE};
 use std::alloc::Allocator;
-use std::fs::{self, File, OpenFile, OpenOptions};
+use std::fs::{self, File, Metadata, OpenFile, OpenOptions};
 use std::io::{self, ErrorKind, Read, Write};
 use std::os::unix::fs::{OpenOptionsExt, PermissionsExt};
 use std::path::Path;
@@ -76,17 +77,29 @@ impl<'a> HostFiles<'a> {
         }
     }
 
-    /// The mode that a file is written with: that of the held feed's file, where it will take its place.
-    fn mode_of(&self, name: &str) -> io::Result<Option<u32>>
-        ensures { MatchOption self.now.hold (result ≡ Ok None) (λ hold. name.now ≢ string_bytes hold.new → result ≡ Ok None) }
+    /// The file whose mode a writing takes: that of the held feed, where the writing will take its place.
+    fn model_of<'b>(&'b self, name: &str) -> Option<&'b str>
+        ensures writing { IfSome self.now.hold (λ hold. name.now ≡ string_bytes hold.new → IsSomeAnd result (λ place. place.now ≡ string_bytes hold.place)) }
+        ensures other { MatchOption self.now.hold (IsNone result) (λ hold. name.now ≢ string_bytes hold.new → IsNone result) }
     {
         match &self.hold {
             Some(hold) => {
                 if name != hold.new.as_str() {
-                    return Ok(None);
+                    return None;
                 }
-                mode_at(self.host, hold.place.as_str())
+                Some(hold.place.as_str())
             }
+            None => None,
+        }
+    }
+
+    /// The mode that a file is written with: that of the held feed's file, where it will take its place.
+    fn mode_of(&self, name: &str) -> io::Result<Option<u32>>
+        ensures other { MatchOption self.now.hold (result ≡ Ok None) (λ hold. name.now ≢ string_bytes hold.new → result ≡ Ok None) }
+        ensures missing { IfErr result (λ error. error_kind error ≢ ErrorKind.NotFound) }
+    {
+        match self.model_of(name) {
+            Some(place) => mode_in(fs::metadata(self.host, place)),
             None => Ok(None),
         }
     }
@@ -97,6 +110,7 @@ impl<'a> HostFiles<'a> {
         read: io::Result<Option<Vec<u8, A>>>,
     ) -> Result<Vec<u8, A>, FileRefusal>
         ensures given { MatchResult read (λ o. MatchOption o (result ≡ Err FileRefusal.Large) (λ bytes. result ≡ Ok bytes)) (λ error. IsErrAnd result (IsToldOf (error_kind error))) }
+        ensures kept { MatchResult read (λ o. MatchOption o (self.new.trouble ≡ None) (λ _. self.new.trouble ≡ self.old.trouble)) (λ error. IsSomeAnd self.new.trouble (λ t. (t.asked ≡ Asked.Read) × (t.error ≡ error))) }
         ensures counted { Counts result (shelf (λ _. Unknown) self.old.failures Free) (shelf (λ _. Unknown) self.new.failures Free) }
         ensures held { self.new.hold ≡ self.old.hold }
     {
@@ -121,15 +135,19 @@ impl<'a> HostFiles<'a> {
     }
 }
 
-/// The mode of a file, if one is there.
-fn mode_at(host: &HostRuntime, place: &str) -> io::Result<Option<u32>> {
-    match fs::metadata(host, place) {
-        Ok(found) => Ok(Some(found.permissions().mode())),
-        Err(error) => {
-            if error.kind() == ErrorKind::NotFound {
+/// The mode that the system tells of a file, if one is there.
+fn mode_in(found: io::Result<Metadata>) -> io::Result<Option<u32>>
+    ensures there { IfOk found (λ file. result ≡ Ok (Some (metadata_mode file))) }
+    ensures missing { IfErr found (λ error. error_kind error ≡ ErrorKind.NotFound → result ≡ Ok None) }
+    ensures failed { IfErr found (λ error. error_kind error ≢ ErrorKind.NotFound → result ≡ Err error) }
+{
+    match found {
+        Ok(file) => Ok(Some(file.permissions().mode())),
+        Err(why) => {
+            if why.kind() == ErrorKind::NotFound {
                 return Ok(None);
             }
-            Err(error)
+            Err(why)
         }
     }
 }
