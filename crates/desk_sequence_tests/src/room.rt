@@ -219,11 +219,11 @@ fn refused_growths_of_room(rt: HostRuntime) -> Result<(), Fail> {
     let mut unmade = 0u32;
     for cut in 0..128usize {
         let left = if cut < 80 {
-            cut * 32
+            cut * 128
         } else {
-            cut * 2048 - 161_280
+            cut * 2048 - 153_600
         };
-        let (one, more) = refusals_in_heap(rt.alloc(), 213_000 - left)?;
+        let (one, more) = refusals_in_heap(rt.alloc(), 250_000 - left)?;
         refused = refused.saturating_add(one);
         unmade = unmade.saturating_add(more);
     }
