@@ -78,7 +78,8 @@ cast 1 case12.toml wedge5.toml
 show 2
 """
 # an insert that crosses pages; lists of which the last operation forks a stamp, so that all is made anew after the others
-# have found room (after a fork there is none, so an insert makes some); and the long insert again, with memory
+# have found room (after a fork there is none, so an insert makes some); the long insert again, with memory; and a gift of more
+# than a site has room for
 STOPPED = """site 1
 site 2
 insert 1 0 r"{word}"
@@ -90,6 +91,9 @@ insert 2 0 r"y"
 take 2 4d46443101000000000000000a00080000000000000008000800000000720100000000000000080008000000000000000000000000000073
 merge 1 2
 insert 1 0 r"{word}"
+site 3
+insert 3 0 r"abcdefgh"
+send 1 3 1..400
 faults 1
 faults 2
 """.format(word="and so on; " * 109)
