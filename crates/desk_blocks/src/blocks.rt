@@ -1,6 +1,7 @@
 //! A sequence in pages.
 ghost use Rattle.std.specs.Prelude.{◌≡◌, ◌<◌, ◌≤◌, ◌+◌, length, min, IfSome};
-ghost use Rattle.desk_blocks.specs.Tally.{IsAt};
+ghost use Rattle.std.specs.List.{count_by};
+ghost use Rattle.desk_blocks.specs.Tally.{IsAt, is_shown};
 
 use crate::index::Index;
 use crate::slot::{Slot, add_shown, slots_of};
@@ -16,13 +17,16 @@ use std::marker::Model;
 pub struct Blocks<A: Allocator> {
     pages: Pages<Slot, Tally, A>,
     index: Index<A>,
+    shown: usize,
 }
 
 impl<A: Allocator> Model for Blocks<A> {
-    ghost use Rattle.std.specs.Prelude.{min};
+    ghost use Rattle.std.specs.Prelude.{◌≡◌, min};
+    ghost use Rattle.std.specs.List.{count_by};
     ghost use Rattle.desk_seq.specs.Entries.{Listing, listing_code, AreDistinct, stamps_of};
     ghost use Rattle.desk_seq.specs.contracts.Entry as entry;
     ghost use Rattle.desk_blocks.specs.Rank.{Knows};
+    ghost use Rattle.desk_blocks.specs.Tally.{is_shown};
 
     ghost Value = { Listing };
 
@@ -30,7 +34,7 @@ impl<A: Allocator> Model for Blocks<A> {
 
     ghost view = { λ a. record { entries = a.pages.entries; spare = min a.pages.spare a.index.spare } };
 
-    ghost invariant = { λ a. AreDistinct a.pages.entries × Knows a.index.stamps (stamps_of a.pages.entries) };
+    ghost invariant = { λ a. AreDistinct a.pages.entries × Knows a.index.stamps (stamps_of a.pages.entries) × (a.shown ≡ count_by is_shown a.pages.entries) };
 }
 
 impl<A: Allocator + Copy> Blocks<A> {
@@ -55,6 +59,7 @@ impl<A: Allocator + Copy> Sequence for Blocks<A> {
         Blocks {
             pages: Pages::new(alloc),
             index: Index::new(alloc),
+            shown: 0,
         }
     }
 
@@ -95,6 +100,9 @@ impl<A: Allocator + Copy> Sequence for Blocks<A> {
     fn put(&mut self, i: usize, entry: Entry) {
         let placed = self.pages.insert(i, Slot::of(entry));
         self.index.put(entry.stamp, placed.page);
+        if !entry.deleted {
+            self.shown += 1;
+        }
         if let Some(from) = placed.cut
             && from < self.pages.len()
         {
@@ -106,6 +114,9 @@ impl<A: Allocator + Copy> Sequence for Blocks<A> {
     fn mark(&mut self, i: usize) {
         let slot = self.pages.entry(i);
         self.pages.set(i, slot.marked());
+        if !slot.is_deleted() {
+            self.shown -= 1;
+        }
     }
 
     fn first_below(&self, from: usize, stamp: Stamp) -> usize {
@@ -116,18 +127,14 @@ impl<A: Allocator + Copy> Sequence for Blocks<A> {
     }
 
     fn shown_place(&self, i: usize) -> Option<usize> {
-        match self.pages.nth(0, &Shown, i) {
+        match self.pages.nth_of_all(&Shown, self.shown, i) {
             Ok(place) => Some(place),
             Err(_) => None,
         }
     }
 
     fn shown_len(&self) -> usize {
-        let most = self.pages.len();
-        match self.pages.nth(0, &Shown, most) {
-            Ok(_) => most,
-            Err(left) => most - left,
-        }
+        self.shown
     }
 
     fn symbols(&self, alloc: A) -> Result<Vec<Symbol, A>, AllocError> {
@@ -147,8 +154,20 @@ impl<A: Allocator + Copy> Sequence for Blocks<A> {
         Ok(Blocks {
             pages: Pages::from_slice(alloc, &slots)?,
             index,
+            shown: shown_in(list),
         })
     }
+}
+
+/// How many of these are shown.
+fn shown_in(list: &[Entry]) -> usize
+    ensures { result ≡ count_by is_shown list.now }
+{
+    let mut shown: usize = 0;
+    for i in 0..list.len() {
+        shown += !list[i].deleted as usize;
+    }
+    shown
 }
 
 /// A place of the stamp in a page: what was put last is most often asked for, and most often stands last.

@@ -1,11 +1,21 @@
 -- How many are picked, page by page.
-use Rattle.std.proofs.Common.{◌≡◌, Bool, true, false, ℕ, ◌⊎◌, inl, inr, zero, suc, ◌+◌, ◌-◌, ◌<◌, ◌≤◌, List, [], ◌∷◌, ◌++◌, length, get_or, take, drop, refl, sym, ap, ◌∙◌, subst, arith, append_assoc, append-nil, add-one, cond, length-drop}
+use Rattle.std.proofs.Common.{◌≡◌, Bool, true, false, ℕ, ◌⊎◌, inl, inr, zero, suc, ◌+◌, ◌-◌, ◌<◌, ◌≤◌, List, [], ◌∷◌, ◌++◌, length, get_or, take, drop, refl, sym, ap, ◌∙◌, subst, arith, append_assoc, append-nil, add-one, cond, length-drop, Result, Ok, Err}
+use Rattle.std.specs.Prelude.{IfOk, IfErr}
 use Rattle.std.specs.List.{count_by}
 use Rattle.std.proofs.lemmas.Bool.{true≢false, cases_lt}
 use Rattle.std.proofs.lemmas.List.Sums.{sum_by-append, count_by-le-length, count_by_more_no}
 use Rattle.std.proofs.lemmas.List.{get_or_read, take-append-drop, length-take-le}
 use Rattle.desk_pages.specs.Pages.{joined, start_of, IsSpot, AreHalfFull, IsHalfFull, ends_in, IsEdge, IsNth, IsShort}
 use Rattle.desk_pages.proofs.Cuts.{start-more, start-le, take-joined, take-start, entry-joined, joined-past}
+
+-- what follows for what is found, or for what is wanting
+pub if-ok : {A E : Type 0} (r : Result A E) (P Q : A → Type 0) → ((x : A) → P x → Q x) → IfOk r P → IfOk r Q
+if-ok (Ok x) P Q f h = f x h
+if-ok (Err e) P Q f h = tt
+
+pub if-err : {A E : Type 0} (r : Result A E) (P Q : E → Type 0) → ((e : E) → P e → Q e) → IfErr r P → IfErr r Q
+if-err (Ok x) P Q f h = tt
+if-err (Err e) P Q f h = f e h
 
 pub joined-more : {X : Type 0} (pages : List (List X)) (n : ℕ) → n < length pages → joined (take (suc n) pages) ≡ joined (take n pages) ++ get_or pages n []
 joined-more [] n l = absurd (omega arith)

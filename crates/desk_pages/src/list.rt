@@ -1,6 +1,6 @@
 //! A list in pages.
 ghost use Rattle.std.specs.Prelude.{◌≡◌, ◌+◌, ◌≤◌, ◌<◌, ℕ, [], length, take, drop, slice_index_or, slice_set, IfSome, IsNone, OnOk, IfOk, IfErr, IsOk, true, false};
-ghost use Rattle.std.specs.List.{insert, remove};
+ghost use Rattle.std.specs.List.{count_by, insert, remove};
 ghost use Rattle.desk_pages.specs.Pages.{Kept, joined, spare_of, IsKept, IsGroups, IsNth, IsShort, IsEdge};
 
 use crate::groups::{self, Groups, find_groups};
@@ -234,6 +234,19 @@ impl<T: Copy, S: Summary<T>, A: Allocator + Copy> Pages<T, S, A> {
             return Err(n);
         }
         search::nth(&self.pages, &self.groups, self.len, from, pick, n)
+    }
+
+    /// The place of the n-th of all that is picked, or how many are wanting, where it is known how many are picked: looked
+    /// for from the nearer end.
+    pub fn nth_of_all<P: Pick<T, S>>(&self, pick: &P, all: usize, n: usize) -> Result<usize, usize>
+        requires { all ≡ count_by (P.picked pick.now) self.now.entries }
+        ensures found { IfOk result (λ place. IsNth (P.picked pick.now) self.now.entries 0 n place) }
+        ensures short { IfErr result (λ left. IsShort (P.picked pick.now) self.now.entries 0 n left) }
+    {
+        if n < all / 2 {
+            return self.nth(0, pick, n);
+        }
+        search::nth_from_end(&self.pages, &self.groups, self.len, pick, all, n)
     }
 
     /// The first that is not picked, where those that are picked stand first.

@@ -1,5 +1,5 @@
 //! The n-th entry that is picked, found by passing pages by.
-ghost use Rattle.std.specs.Prelude.{◌≡◌, ◌+◌, ◌≤◌, ◌<◌, ◌^◌, ℕ, List, [], length, take, slice_index_or, IfSome, IsSome, IfOk, IfErr, Bool};
+ghost use Rattle.std.specs.Prelude.{◌≡◌, ◌+◌, ◌-◌, ◌≤◌, ◌<◌, ◌^◌, ℕ, List, [], length, take, slice_index_or, IfSome, IsSome, IfOk, IfErr, Bool};
 ghost use Rattle.std.specs.List.{count_by};
 ghost use Rattle.desk_pages.specs.Pages.{joined, start_of, ends_in, IsSpotOrEnd, IsHalfFull, IsGroups, IsNth, IsShort, IsEdge};
 
@@ -211,6 +211,106 @@ pub fn nth<T: Copy, S: Summary<T>, A: Allocator, P: Pick<T, S>>(
         Ok(k) => Ok(from - j + k),
         Err(left) => nth_from(pages, groups, p + 1, from - j + pages.len_of(p), pick, left),
     }
+}
+
+/// How many of page p are picked.
+fn count_in<T: Copy, S: Summary<T>, A: Allocator, P: Pick<T, S>>(
+    pages: &Shelf<T, S, A>,
+    p: usize,
+    pick: &P,
+) -> usize
+    requires { p < length pages.now.pages }
+    ensures { result ≡ count_by (P.picked pick.now) (slice_index_or pages.now.pages p []) }
+{
+    let len = pages.len_of(p);
+    match pick.count(pages.summary(p), len) {
+        Some(count) => count,
+        None => count_between(pages.items(p), 0, len, pick),
+    }
+}
+
+/// How many are picked in the group that ends before a page, and where it begins, where its summary tells.
+fn group_before<T: Copy, S: Summary<T>, A: Allocator, P: Pick<T, S>>(
+    pages: &Shelf<T, S, A>,
+    groups: &Groups<S, A>,
+    at: usize,
+    end: usize,
+    pick: &P,
+) -> Option<(usize, usize)>
+    requires groups { IsGroups S.tells pages.now.pages groups.now.starts.items groups.now.sums.items }
+    requires end { end ≡ start_of pages.now.pages at }
+    ensures within { IsSome result → 32 ≤ at }
+    ensures start { IfSome result (λ r. r.1 ≡ start_of pages.now.pages (at - 32)) }
+    ensures count { IfSome result (λ r. count_by (P.picked pick.now) (joined (take at pages.now.pages)) ≡ count_by (P.picked pick.now) (joined (take (at - 32) pages.now.pages)) + r.0) }
+{
+    let _ = pages;
+    if at < GROUP || at % GROUP != 0 {
+        return None;
+    }
+    let g = at / GROUP - 1;
+    if g >= groups.sums.len() || g >= groups.starts.len() {
+        return None;
+    }
+    let start = groups.starts[g];
+    let Some(count) = pick.count(groups.sums[g], end - start) else {
+        return None;
+    };
+    Some((count, start))
+}
+
+/// A page before which n are picked at most, where it begins, and how many are picked before it: the last such, or the first
+/// of its group.
+fn page_before<T: Copy, S: Summary<T>, A: Allocator, P: Pick<T, S>>(
+    pages: &Shelf<T, S, A>,
+    groups: &Groups<S, A>,
+    len: usize,
+    pick: &P,
+    all: usize,
+    n: usize,
+) -> (usize, usize, usize)
+    requires len { len ≡ length (joined pages.now.pages) }
+    requires all { all ≡ count_by (P.picked pick.now) (joined pages.now.pages) }
+    requires groups { IsGroups S.tells pages.now.pages groups.now.starts.items groups.now.sums.items }
+    ensures within { result.0 ≤ length pages.now.pages }
+    ensures start { result.1 ≡ start_of pages.now.pages result.0 }
+    ensures count { result.2 ≡ count_by (P.picked pick.now) (joined (take result.0 pages.now.pages)) }
+    ensures few { result.2 ≤ n }
+{
+    let mut at = pages.len();
+    let mut start = len;
+    let mut before = all;
+    while before > n {
+        if let Some((count, first)) = group_before(pages, groups, at, start, pick) {
+            at -= GROUP;
+            start = first;
+            before -= count;
+            continue;
+        }
+        at -= 1;
+        start -= pages.len_of(at);
+        before -= count_in(pages, at, pick);
+    }
+    (at, start, before)
+}
+
+/// The n-th of all, or how many are wanting: looked for from the end, by how many are picked in all.
+pub fn nth_from_end<T: Copy, S: Summary<T>, A: Allocator, P: Pick<T, S>>(
+    pages: &Shelf<T, S, A>,
+    groups: &Groups<S, A>,
+    len: usize,
+    pick: &P,
+    all: usize,
+    n: usize,
+) -> Result<usize, usize>
+    requires len { len ≡ length (joined pages.now.pages) }
+    requires all { all ≡ count_by (P.picked pick.now) (joined pages.now.pages) }
+    requires groups { IsGroups S.tells pages.now.pages groups.now.starts.items groups.now.sums.items }
+    requires fits { length (joined pages.now.pages) < 2 ^ 64 }
+    ensures found { IfOk result (λ place. IsNth (P.picked pick.now) (joined pages.now.pages) 0 n place) }
+    ensures short { IfErr result (λ left. IsShort (P.picked pick.now) (joined pages.now.pages) 0 n left) }
+{
+    let (p, start, before) = page_before(pages, groups, len, pick, all, n);
+    nth_from(pages, groups, p, start, pick, n - before)
 }
 
 /// So many entries from a guess on a search looks at entries ever farther from it; then it halves what is left.

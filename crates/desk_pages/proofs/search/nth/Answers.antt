@@ -1,17 +1,8 @@
-use Rattle.std.proofs.Common.{◌≡◌, ◌+◌, ◌-◌, [], ℕ, get_or, take, ap, arith, Result, Ok, Err}
-use Rattle.std.specs.Prelude.{IfOk, IfErr}
+use Rattle.std.proofs.Common.{◌≡◌, ◌+◌, ◌-◌, [], ℕ, get_or, take, ap, arith}
 use Rattle.std.specs.List.{count_by}
 use Rattle.desk_pages.specs.Pages.{joined, start_of, IsNth, IsShort}
-use Rattle.desk_pages.proofs.Picks.{nth-joined, nth-later, short-page, page-within, page-fits, count-at, next-start, next-page}
+use Rattle.desk_pages.proofs.Picks.{if-ok, if-err, nth-joined, nth-later, short-page, page-within, page-fits, count-at, next-start, next-page}
 use Rattle.desk_pages.proofs.search.nth.Goals as goal
-
-if-ok : {A E : Type 0} (r : Result A E) (P Q : A → Type 0) → ((x : A) → P x → Q x) → IfOk r P → IfOk r Q
-if-ok (Ok x) P Q f h = f x h
-if-ok (Err e) P Q f h = tt
-
-if-err : {A E : Type 0} (r : Result A E) (P Q : E → Type 0) → ((e : E) → P e → Q e) → IfErr r P → IfErr r Q
-if-err (Ok x) P Q f h = tt
-if-err (Err e) P Q f h = f e h
 
 pub overflow_add-result : goal.overflow_add-result
 overflow_add-result g c =
