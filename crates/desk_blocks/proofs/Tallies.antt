@@ -1,6 +1,7 @@
 -- What a page's tally says.
 use Rattle.std.proofs.Common.{◌≡◌, Bool, true, false, cond, ℕ, zero, suc, ◌+◌, ◌-◌, ◌<◌, List, [], ◌∷◌, ◌++◌, length, get_or, take, drop, set, refl, sym, ap, ◌∙◌, subst, arith}
 use Rattle.std.specs.List.{count_by, AllByRecursion, insert}
+use mir.Val.{bool_byte}
 use Rattle.std.proofs.lemmas.Bool.{true≢false}
 use Rattle.std.proofs.lemmas.List.{take_more}
 use Rattle.std.proofs.lemmas.List.Edits.{insert_end}
@@ -9,6 +10,7 @@ use Rattle.desk_ops.specs.declared.op.Stamp.{Stamp}
 use Rattle.desk_ops.specs.Stamp.{before, same}
 use Rattle.desk_ops.proofs.Stamps.{by_cases, before-trans, before-other, before-irrefl, same-true}
 use Rattle.desk_seq.specs.declared.Entry.{Entry}
+use Rattle.desk_seq.specs.Entries.{marked}
 use Rattle.desk_blocks.specs.declared.tally.Tally.{Tally}
 use Rattle.desk_blocks.specs.Tally.{is_shown, is_smaller, IsTally}
 
@@ -80,3 +82,18 @@ none-smaller t s es h b = go es h.least
     go : (xs : List Entry) → AllByRecursion (λ (e : Entry). before e.stamp t.least ≡ false) xs → count_by (is_smaller s) xs ≡ 0
     go [] a = refl
     go (x ∷ xs) a = sum_by-cons (λ (y : Entry). cond (is_smaller s y) 1 0) x xs ∙ ap (λ (b : Bool). cond b 1 0 + count_by (is_smaller s) xs) (higher x.stamp t.least s a.0 b) ∙ ap (λ (n : ℕ). 0 + n) (go xs a.1)
+
+bit : (b : Bool) → bool_byte b ≡ cond {A = ℕ} b 1 0
+bit true = refl
+bit false = refl
+
+-- how many are shown, with one more, with a mark and among the first
+pub shown-insert : (es : List Entry) (i : ℕ) (e : Entry) → count_by is_shown (insert es i e) ≡ count_by is_shown es + bool_byte (is_shown e)
+shown-insert es i e = let s = sum_by-insert (λ (y : Entry). cond (is_shown y) 1 0) es i e in let b = bit (is_shown e) in omega (arith, s, b)
+
+pub shown-mark : (es : List Entry) (i : ℕ) (d : Entry) → i < length es → d ≡ get_or es i d → count_by is_shown (set es i (marked d)) + bool_byte (is_shown d) ≡ count_by is_shown es
+shown-mark es i d l e =
+    let s = sum_by-set (λ (y : Entry). cond (is_shown y) 1 0) es i (marked d) d l in
+    let b = bit (is_shown d) in
+    let q : cond {A = ℕ} (is_shown d) 1 0 ≡ cond {A = ℕ} (is_shown (get_or es i d)) 1 0 = ap (λ (y : Entry). cond {A = ℕ} (is_shown y) 1 0) e in
+    omega (arith, s, b, q)

@@ -100,9 +100,7 @@ impl<A: Allocator + Copy> Sequence for Blocks<A> {
     fn put(&mut self, i: usize, entry: Entry) {
         let placed = self.pages.insert(i, Slot::of(entry));
         self.index.put(entry.stamp, placed.page);
-        if !entry.deleted {
-            self.shown += 1;
-        }
+        self.shown += !entry.deleted as usize;
         if let Some(from) = placed.cut
             && from < self.pages.len()
         {
@@ -114,9 +112,7 @@ impl<A: Allocator + Copy> Sequence for Blocks<A> {
     fn mark(&mut self, i: usize) {
         let slot = self.pages.entry(i);
         self.pages.set(i, slot.marked());
-        if !slot.is_deleted() {
-            self.shown -= 1;
-        }
+        self.shown -= !slot.is_deleted() as usize;
     }
 
     fn first_below(&self, from: usize, stamp: Stamp) -> usize {

@@ -1,5 +1,5 @@
 //! A list in pages.
-ghost use Rattle.std.specs.Prelude.{◌≡◌, ◌+◌, ◌≤◌, ◌<◌, ℕ, [], length, take, drop, slice_index_or, slice_set, IfSome, IsNone, OnOk, IfOk, IfErr, IsOk, true, false};
+ghost use Rattle.std.specs.Prelude.{◌≡◌, ◌+◌, ◌≤◌, ◌<◌, ◌^◌, ℕ, [], length, take, drop, slice_index_or, slice_set, IfSome, IsNone, OnOk, IfOk, IfErr, IsOk, true, false};
 ghost use Rattle.std.specs.List.{count_by, insert, remove};
 ghost use Rattle.desk_pages.specs.Pages.{Kept, joined, spare_of, IsKept, IsGroups, IsNth, IsShort, IsEdge};
 
@@ -172,6 +172,7 @@ impl<T: Copy, S: Summary<T>, A: Allocator + Copy> Pages<T, S, A> {
         requires spare { 1 ≤ self.old.spare }
         ensures put { self.new.entries ≡ insert self.old.entries i x }
         ensures spare { self.old.spare ≤ self.new.spare + 1 }
+        ensures few { length self.new.entries < 2 ^ 48 }
     {
         let count = self.pages.len();
         let (p, j) = pages::locate_to_end(&self.pages, &self.groups.starts, self.len, i);

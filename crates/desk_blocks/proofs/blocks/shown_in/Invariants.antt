@@ -1,0 +1,10 @@
+use Rattle.std.proofs.Common.{◌≡◌, ◌≤◌, take}
+use Rattle.std.specs.List.{count_by}
+use Rattle.desk_blocks.specs.Tally.{is_shown}
+use Rattle.desk_blocks.proofs.blocks.shown_in.Given as goal
+
+abbrev pub invariant-loop-i : goal.invariant-loop-i
+invariant-loop-i l = record {
+  few : l.shown ≤ l.i;
+  count : l.shown ≡ count_by is_shown (take l.i l.list);
+}
