@@ -26,24 +26,31 @@ impl<S: Copy, A: Allocator> Groups<S, A> {
     }
 }
 
-/// Finds where each group begins, and sums each up.
+/// Finds where each group begins, and sums each up. What is known of the first `kept` groups is still right.
 pub fn find_groups<T: Copy, S: Summary<T>, A: Allocator>(
     pages: &Shelf<T, S, A>,
     groups: &mut Groups<S, A>,
+    kept: usize,
 )
-    requires { length (joined pages.now.pages) < 2 ^ 48 }
+    requires fits { length (joined pages.now.pages) < 2 ^ 48 }
+    requires kept { IsGroups S.tells pages.now.pages (take kept groups.old.starts.items) (take kept groups.old.sums.items) }
     ensures { IsGroups S.tells pages.now.pages groups.new.starts.items groups.new.sums.items }
 {
-    find_starts(pages, &mut groups.starts);
-    find_sums(pages, &mut groups.sums);
+    find_starts(pages, &mut groups.starts, kept);
+    find_sums(pages, &mut groups.sums, kept);
 }
 
-/// Sums up each whole group, as far as there is room to keep it.
-fn find_sums<T: Copy, S: Summary<T>, A: Allocator>(pages: &Shelf<T, S, A>, sums: &mut Vec<S, A>)
-    requires { length (joined pages.now.pages) < 2 ^ 48 }
+/// Sums up each whole group but the first `kept`, as far as there is room to keep it.
+fn find_sums<T: Copy, S: Summary<T>, A: Allocator>(
+    pages: &Shelf<T, S, A>,
+    sums: &mut Vec<S, A>,
+    kept: usize,
+)
+    requires fits { length (joined pages.now.pages) < 2 ^ 48 }
+    requires kept { IsSums S.tells pages.now.pages (take kept sums.old.items) }
     ensures { IsSums S.tells pages.now.pages sums.new.items }
 {
-    sums.truncate(0);
+    sums.truncate(kept);
     while sums.len() < pages.len() / GROUP && sums.len() < sums.capacity() {
         let sum = sum_of(pages, sums.len());
         sums.push_reserved(sum);

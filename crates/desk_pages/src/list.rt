@@ -68,7 +68,7 @@ impl<T: Copy, S: Summary<T>, A: Allocator + Copy> Pages<T, S, A> {
             starts: Vec::with_capacity(alloc, count)?,
             sums: Vec::with_capacity(alloc, count)?,
         };
-        find_groups(&pages, &mut groups);
+        find_groups(&pages, &mut groups, 0);
         let mut order = Vec::new(alloc);
         order.resize(pages.len(), 0)?;
         pages::find_order(&pages, &mut order, 0);

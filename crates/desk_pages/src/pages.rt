@@ -5,7 +5,7 @@ ghost use Rattle.desk_pages.specs.Pages.{joined, start_of, HasMore, IsShortAt, I
 ghost use Rattle.desk_shelf.specs.Shelf.{cut_at};
 
 use crate::groups::{Groups, find_groups, put_inside, take_inside};
-use crate::starts::{group_before, start_at};
+use crate::starts::{GROUP, group_before, start_at};
 use desk_shelf::{FULL, HALF, Shelf, Summary};
 use std::alloc::{AllocError, Allocator};
 
@@ -103,6 +103,8 @@ fn gap<T: Copy, S: Summary<T>, A: Allocator>(
     ensures half { IsHalfFull pages.new.pages }
     ensures count { length pages.new.pages + pages.new.free ≡ length pages.old.pages + pages.old.free }
     ensures fewer { pages.old.free ≤ pages.new.free + 1 }
+    ensures before { take p pages.new.pages ≡ take p pages.old.pages }
+    ensures behind { p ≤ result.0 }
 {
     if pages.len_of(p) < FULL {
         return (p, j);
@@ -115,6 +117,7 @@ fn gap<T: Copy, S: Summary<T>, A: Allocator>(
 fn end<T: Copy, S: Summary<T>, A: Allocator>(pages: &Shelf<T, S, A>) -> Option<(usize, usize)>
     ensures gap { IfSome result (λ s. IsGap pages.now.pages (length (joined pages.now.pages)) s.0 s.1) }
     ensures closed { IsNone result → IsClosed pages.now.pages }
+    ensures last { IfSome result (λ s. s.0 + 1 ≡ length pages.now.pages) }
 {
     let count = pages.len();
     if count == 0 {
@@ -137,6 +140,7 @@ fn open<T: Copy, S: Summary<T>, A: Allocator>(pages: &mut Shelf<T, S, A>, x: T)
     ensures half { IsHalfFull pages.new.pages }
     ensures count { length pages.new.pages + pages.new.free ≡ length pages.old.pages + pages.old.free }
     ensures fewer { pages.old.free ≤ pages.new.free + 1 }
+    ensures before { take (length pages.old.pages) pages.new.pages ≡ pages.old.pages }
 {
     pages.open(pages.len(), x);
 }
@@ -170,6 +174,7 @@ fn put_anywhere<T: Copy, S: Summary<T>, A: Allocator>(
     ensures put { joined pages.new.pages ≡ insert (joined pages.old.pages) (start_of pages.old.pages p + j) x }
     ensures count { length pages.new.pages + pages.new.free ≡ length pages.old.pages + pages.old.free }
     ensures fewer { pages.old.free ≤ pages.new.free + 1 }
+    ensures before { take (p - 1) pages.new.pages ≡ take (p - 1) pages.old.pages }
 {
     if p < pages.len() {
         if p == 0 && j == 0 && pages.len_of(0) == FULL {
@@ -229,7 +234,7 @@ pub fn put<T: Copy, S: Summary<T>, A: Allocator>(
         Some((q, k)) => put_inside(pages, groups, q, k, x),
         None => {
             put_anywhere(pages, p, j, len, x);
-            find_groups(pages, groups);
+            find_groups(pages, groups, p.saturating_sub(1) / GROUP);
             find_order(pages, order, p);
         }
     }
@@ -282,6 +287,7 @@ fn level<T: Copy, S: Summary<T>, A: Allocator>(pages: &mut Shelf<T, S, A>, p: us
     ensures half { IsHalfFull pages.new.pages }
     ensures count { length pages.new.pages + pages.new.free ≡ length pages.old.pages + pages.old.free }
     ensures freed { pages.old.free ≤ pages.new.free }
+    ensures before { take p pages.new.pages ≡ take p pages.old.pages }
 {
     let count = pages.len();
     let len = pages.len_of(p);
@@ -341,7 +347,7 @@ pub fn take<T: Copy, S: Summary<T>, A: Allocator>(
         return take_inside(pages, groups, p, j);
     }
     let out = take_short(pages, p, j, len);
-    find_groups(pages, groups);
+    find_groups(pages, groups, p / GROUP);
     find_order(pages, order, p);
     out
 }
@@ -361,6 +367,7 @@ fn take_short<T: Copy, S: Summary<T>, A: Allocator>(
     ensures out { result ≡ slice_index_or (joined pages.old.pages) (start_of pages.old.pages p + j) result }
     ensures count { length pages.new.pages + pages.new.free ≡ length pages.old.pages + pages.old.free }
     ensures freed { pages.old.free ≤ pages.new.free }
+    ensures before { take p pages.new.pages ≡ take p pages.old.pages }
 {
     let out = pages.remove(p, j);
     level(pages, p);

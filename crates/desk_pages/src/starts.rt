@@ -1,5 +1,5 @@
 //! Where the groups of pages begin, so that a look-up by place goes over few pages.
-ghost use Rattle.std.specs.Prelude.{◌≡◌, ◌+◌, ◌-◌, ◌≤◌, ◌<◌, ◌^◌, ℕ, length, slice_index_or};
+ghost use Rattle.std.specs.Prelude.{◌≡◌, ◌+◌, ◌-◌, ◌≤◌, ◌<◌, ◌^◌, ℕ, length, take, slice_index_or};
 ghost use Rattle.desk_pages.specs.Pages.{joined, start_of, IsStarts};
 
 use desk_shelf::{Shelf, Summary};
@@ -82,17 +82,21 @@ fn keep_start<T: Copy, S: Summary<T>, A: Allocator>(
     }
 }
 
-/// Finds where each group begins, as far as there is room to keep it.
+/// Finds where each group begins, as far as there is room to keep it. Of the groups as they were, the first `kept` still
+/// begin where they did.
 pub fn find_starts<T: Copy, S: Summary<T>, A: Allocator>(
     pages: &Shelf<T, S, A>,
     starts: &mut Vec<usize, A>,
+    kept: usize,
 )
-    requires { length (joined pages.now.pages) < 2 ^ 64 }
+    requires fits { length (joined pages.now.pages) < 2 ^ 64 }
+    requires kept { IsStarts pages.now.pages (take kept starts.old.items) }
     ensures { IsStarts pages.now.pages starts.new.items }
 {
-    starts.truncate(0);
-    let mut start = 0;
-    for p in 0..pages.len() {
+    starts.truncate(kept);
+    let (first, before) = group_before(pages, starts, usize::MAX);
+    let mut start = before;
+    for p in first..pages.len() {
         keep_start(pages, starts, p, start);
         start += pages.len_of(p);
     }

@@ -1,6 +1,7 @@
 use Rattle.std.proofs.Common.{◌≡◌, ◌+◌, ap, length, get_or, [], arith}
 use Rattle.desk_pages.specs.Pages.{start_of}
 use Rattle.desk_pages.proofs.Cuts.{spot, spot-gap, cut-joined, cut-length, cut-half, gap-lower, gap-upper}
+use Rattle.desk_pages.proofs.Kept.{take-cut}
 use Rattle.desk_pages.proofs.pages.gap.Goals as goal
 
 pub returns-then-len_of-lt-FULL-clause-gap : goal.returns-then-len_of-lt-FULL-clause-gap
@@ -50,3 +51,9 @@ returns-else-j-le-HALF-clause-count g c =
     let n = ap length c.cut-next.ensures.cut in
     let m = cut-length c.args.pages.now.pages c.args.p c.requires.within in
     omega (arith, n, m, c.cut-next.ensures.free)
+
+pub returns-then-j-le-HALF-clause-before : goal.returns-then-j-le-HALF-clause-before
+returns-then-j-le-HALF-clause-before g c = rw c.cut-next.ensures.cut (take-cut c.args.pages.now.pages c.args.p)
+
+pub returns-else-j-le-HALF-clause-before : goal.returns-else-j-le-HALF-clause-before
+returns-else-j-le-HALF-clause-before g c = rw c.cut-next.ensures.cut (take-cut c.args.pages.now.pages c.args.p)

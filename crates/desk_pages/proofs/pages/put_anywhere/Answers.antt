@@ -1,9 +1,10 @@
-use Rattle.std.proofs.Common.{◌+◌, ◌∙◌, [], sym, ap, List, length, get_or, arith}
+use Rattle.std.proofs.Common.{◌+◌, ◌-◌, ◌∙◌, [], sym, ap, List, length, get_or, arith}
 use Rattle.std.specs.List.{insert}
-use Rattle.std.proofs.lemmas.List.{length-set}
+use Rattle.std.proofs.lemmas.List.{length-set, take-set-le}
 use Rattle.std.proofs.lemmas.List.Edits.{insert_end}
 use Rattle.desk_pages.specs.Pages.{joined, start_of, IsHalfFull}
 use Rattle.desk_pages.proofs.Cuts.{free-some, gap-insert, gap-half, kept-more, end-is, end-le}
+use Rattle.desk_pages.proofs.Kept.{take-fewer}
 use Rattle.desk_pages.proofs.pages.put_anywhere.Goals as goal
 
 pub gap-q-requires-clause-some : goal.gap-q-requires-clause-some
@@ -46,6 +47,13 @@ returns-then-p-len-clause-kept g c =
     let all = returns-then-p-len-clause-count g c in
     let half : IsHalfFull c.insert.new.self.pages = rw c.insert.ensures.put (gap-half c.gap-q.new.pages.pages i c.gap-q.result.0 c.gap-q.result.1 c.args.x gap c.gap-q.ensures.half) in
     kept-more pages c.insert.new.self.pages i c.args.len c.args.pages.now.free (length c.insert.new.self.pages + c.insert.new.self.free) c.args.x k.is_len (end-le pages c.args.p c.args.j c.args.len c.requires.spot k.is_len) put half (omega (arith, k.few, all)) (omega (arith, c.requires.spare, all))
+
+pub returns-then-p-len-clause-before : goal.returns-then-p-len-clause-before
+returns-then-p-len-clause-before g c =
+    let cut = c.gap-q.new.pages.pages in
+    let p = c.args.p in
+    let y = insert (get_or cut c.gap-q.result.0 []) c.gap-q.result.1 c.args.x in
+    rw c.insert.ensures.put (take-set-le (p - 1) cut c.gap-q.result.0 y (omega (arith, c.gap-q.ensures.behind)) ∙ take-fewer (p - 1) p cut c.args.pages.now.pages (omega arith) c.gap-q.ensures.before)
 
 pub returns-in-Some-clause-put : goal.returns-in-Some-clause-put
 returns-in-Some-clause-put g c =

@@ -1,7 +1,8 @@
-use Rattle.std.proofs.Common.{◌+◌, ap, length, arith}
+use Rattle.std.proofs.Common.{◌+◌, ◌/◌, ap, length, arith}
 use Rattle.std.proofs.lemmas.List.Edits.{length-remove}
 use Rattle.desk_pages.specs.Pages.{joined, start_of}
 use Rattle.desk_pages.proofs.Picks.{page-within}
+use Rattle.desk_pages.proofs.Kept.{kept-groups}
 use Rattle.desk_pages.proofs.pages.take.Goals as goal
 
 pub returns-then-has_more-clause-kept : goal.returns-then-has_more-clause-kept
@@ -16,3 +17,9 @@ returns-then-has_more-clause-kept g c =
       few = omega (arith, k.few, c.take_inside.ensures.len, c.take_inside.ensures.free);
       fits = omega (arith, k.fits);
     }
+
+pub find_groups-requires-clause-kept : goal.find_groups-requires-clause-kept
+find_groups-requires-clause-kept g c =
+    let groups = c.args.groups.now in
+    let p = c.args.p in
+    kept-groups g.S.Summary.tells c.take_short-out.new.pages.pages c.args.pages.now.pages groups.starts.items groups.sums.items (p / 32) p (omega arith) c.take_short-out.ensures.before c.requires.groups

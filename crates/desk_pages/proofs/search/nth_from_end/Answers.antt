@@ -1,6 +1,6 @@
-use Rattle.std.proofs.Common.{◌≡◌, ◌+◌, ◌-◌, ℕ, take, ap, arith, ◌∙◌, sym}
+use Rattle.std.proofs.Common.{◌≡◌, ◌-◌, ℕ, take, ap, arith, ◌∙◌, sym}
 use Rattle.std.specs.List.{count_by}
-use Rattle.desk_pages.specs.Pages.{joined, start_of, IsNth, IsShort}
+use Rattle.desk_pages.specs.Pages.{joined, IsShort}
 use Rattle.desk_pages.proofs.Picks.{nth-later, count-start, if-ok, if-err}
 use Rattle.desk_pages.proofs.search.nth_from_end.Goals as goal
 
