@@ -150,6 +150,7 @@ impl MatrixCase {
     pub fn symbol_at(&self, cell: Cell) -> Option<Symbol>
         ensures value { result ≡ symbol_at self.now cell }
         ensures back { IfSome result (λ symbol. cell_of self.now symbol ≡ Some cell) }
+        ensures lawful { IsCase self.now }
     {
         read::held(self.grid.as_slice(), &cell)
     }

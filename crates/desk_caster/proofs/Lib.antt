@@ -1,4 +1,4 @@
 pub mod CastLaw
-mod Ribbons
+pub mod Ribbons
 mod Running
 mod Totals

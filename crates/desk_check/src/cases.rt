@@ -1,6 +1,7 @@
 //! What is said of the bytes of a case file.
 
 ghost use Rattle.std.specs.Prelude.{◌≡◌, ◌≤◌, ◌<◌, ◌*◌, ◌++◌, Err, IfOk, Ok, OnOk, Some, false, option_map, string_bytes, true};
+ghost use Rattle.desk_case.specs.Case.{IsCase};
 ghost use Rattle.desk_check.specs.Lines.{SaysCase};
 ghost use Rattle.desk_check.specs.Sorts.{sort_at, sorts};
 ghost use Rattle.desk_check.specs.Texts.{cells_in, fault_holders};
@@ -20,6 +21,7 @@ fn sort_at(case: &MatrixCase, place: usize) -> usize
     requires { place < ROWS * COLUMNS }
     ensures value { result ≡ sort_at (case.now).grid place }
     ensures small { result ≤ 1 }
+    ensures lawful { IsCase case.now }
 {
     if case.symbol_at(cell_of_place(place)).is_some() {
         1
@@ -32,7 +34,6 @@ fn sort_at(case: &MatrixCase, place: usize) -> usize
 fn sorts(case: &MatrixCase) -> usize
     ensures { result ≡ sorts (case.now).grid }
 {
-    let _lawful = case.fill();
     let mut count: usize = 0;
     for place in 0..ROWS * COLUMNS {
         count += sort_at(case, place);

@@ -11,7 +11,7 @@ use Rattle.desk_job.specs.Answer.{IsMade}
 use Rattle.desk_job.specs.Reading.{CastsCopy}
 use Rattle.desk_caster.specs.Caster.{Line, cast}
 use Rattle.desk_caster.specs.Reading.{IsRibbon, Tells}
-use Rattle.desk_caster.specs.ReadingLaws.{RibbonsHaveNoFault, RibbonsHaveOneReading}
+use Rattle.desk_caster.proofs.Ribbons.{ribbons_have_no_fault, ribbons_have_one_reading}
 use Rattle.desk_caster.specs.declared.RibbonFault.{RibbonFault}
 use Rattle.desk_caster.specs.declared.RibbonFault.TheVariants as ribbons
 use Rattle.desk_caster.specs.declared.CastFault.{CastFault}
@@ -35,5 +35,9 @@ pub castable : (copy : List Symbol) (settings : Key → Option ℕ) (case : Case
 castable copy settings case wedge bytes slice e h = (h.rows, subst (λ b. IsRibbon b h.rows) (sym e) h.is, (h.got, h.casts))
 
 -- a ribbon has no fault
-pub no_fault : (bytes : List ℕ) (why : RibbonFault) → RibbonsHaveNoFault → why ≢ ribbons.NoMemory → (rows : List RibbonRow) × IsRibbon bytes rows → Tells bytes why → ⊥
-no_fault bytes why law other h told = law bytes h.0 why other h.1 told
+pub no_fault : (bytes : List ℕ) (why : RibbonFault) → why ≢ ribbons.NoMemory → (rows : List RibbonRow) × IsRibbon bytes rows → Tells bytes why → ⊥
+no_fault bytes why other h told = ribbons_have_no_fault bytes h.0 why other h.1 told
+
+-- the rows that were read are cast as those that the bytes are the ribbon of
+pub one_reading : (case : CaseValues) (wedge : WedgeValues) (bytes : List ℕ) (rows : List RibbonRow) → ((rows : List RibbonRow) × IsRibbon bytes rows × ((lines : List Line) × (cast case wedge rows ≡ Ok lines))) → IsRibbon bytes rows → (lines : List Line) × (cast case wedge rows ≡ Ok lines)
+one_reading case wedge bytes rows h is = subst (λ (r : List RibbonRow). (lines : List Line) × (cast case wedge r ≡ Ok lines)) (ribbons_have_one_reading bytes h.0 rows h.1 is) h.2

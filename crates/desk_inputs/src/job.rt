@@ -15,7 +15,6 @@ use crate::memory::Memory;
 use desk_answers::{NotDone, Reply};
 use desk_blocks::Blocks;
 use desk_case::MatrixCase;
-use desk_caster::laws::{ribbons_have_no_fault, ribbons_have_one_reading};
 use desk_caster::{CastFault, CastLine, RibbonFault, cast, read_ribbon};
 use desk_files::Files;
 use desk_job::{JobRefusal, make};
@@ -30,7 +29,6 @@ fn rows_in<A: Allocator + Copy>(alloc: A, bytes: &[u8]) -> Result<Vec<RibbonRow,
     requires { (rows : List RibbonRow) × IsRibbon bytes.now rows }
     ensures { IfOk result (λ rows. IsRibbon bytes.now rows.items) }
 {
-    ribbons_have_no_fault();
     match read_ribbon(alloc, bytes) {
         Ok(rows) => Ok(rows),
         Err(RibbonFault::NoMemory) => Err(NoMemory),
@@ -70,7 +68,6 @@ fn cast_bytes<A: Allocator + Copy>(
     requires { (rows : List RibbonRow) × IsRibbon bytes.now rows × ((lines : List Line) × (cast case.now wedge.now rows ≡ Ok lines)) }
     ensures { IfOk result (λ a. TellsCast case.now wedge.now bytes.now (reply_values a)) }
 {
-    ribbons_have_one_reading();
     let rows = rows_in(memory.own, bytes)?;
     let lines = lines_in(memory.own, &rows, case, wedge)?;
     Ok(Reply::Lines(lines))

@@ -1,7 +1,8 @@
 //! Galleys: what is known of each line of a copy, and its matrices. Wanted values are worked out by hand from the rules: at
 //! a set of 12 points and the old pica a unit is 12,000 atoms, a step 648, and the measure of 120 points 2,160,000.
 
-ghost use Rattle.std.specs.Prelude.{◌≤◌, ◌^◌, All, length};
+ghost use Rattle.std.specs.Prelude.{◌≤◌, All, length};
+ghost use Rattle.desk_lines.specs.Words.{most_symbols};
 ghost use Rattle.desk_job.specs.Answer.{AreValues};
 ghost use Rattle.desk_galley.specs.Galley.{Stands};
 
@@ -183,7 +184,7 @@ fn galley_in(
     case: &MatrixCase,
     wedge: &Wedge,
 ) -> Result<String, Fail>
-    requires copy { length copy.now ≤ 2 ^ 20 }
+    requires copy { length copy.now ≤ most_symbols }
     requires low { 16 ≤ loose }
     requires high { loose ≤ 240 }
 {

@@ -1,6 +1,7 @@
 //! The galleys of the tests, and their pictures.
 
-ghost use Rattle.std.specs.Prelude.{◌≤◌, ◌^◌, length};
+ghost use Rattle.std.specs.Prelude.{◌≤◌, length};
+ghost use Rattle.desk_lines.specs.Words.{most_symbols};
 
 use desk_case::MatrixCase;
 use desk_galley::make_galley;
@@ -62,7 +63,7 @@ pub fn drawn(
     faults: &[CopyFault],
     loose: u32,
 ) -> Result<String, Fail>
-    requires copy { length copy.now ≤ 2 ^ 20 }
+    requires copy { length copy.now ≤ most_symbols }
     requires low { 16 ≤ loose }
     requires high { loose ≤ 240 }
 {

@@ -1,4 +1,5 @@
-ghost use Rattle.std.specs.Prelude.{◌≤◌, ◌^◌, length};
+ghost use Rattle.std.specs.Prelude.{◌≤◌, length};
+ghost use Rattle.desk_lines.specs.Words.{most_symbols};
 
 use crate::galleys::{drawn, roman, styled};
 use desk_job::JobFault;
@@ -41,7 +42,7 @@ fn shows(
     loose: u32,
     text: &str,
 ) -> Result<bool, Fail>
-    requires copy { length copy.now ≤ 2 ^ 20 }
+    requires copy { length copy.now ≤ most_symbols }
     requires low { 16 ≤ loose }
     requires high { loose ≤ 240 }
 {

@@ -5,10 +5,10 @@ use Rattle.desk_inputs.proofs.job.rows_in.Goals as goal
 
 pub unreachable-requires : goal.unreachable-requires
 unreachable-requires g c =
-    no_fault c.args.bytes.now c.in-Err-Magic.field-0 c.ribbons_have_no_fault.ensures
+    no_fault c.args.bytes.now c.in-Err-Magic.field-0
     (λ e. let k : c.in-Err-Magic.field-0 ≡ fault.Magic = c.in-Err-Magic.field-0-is in let f : c.in-Err-Magic.field-0 ≡ fault.NoMemory = e in cc) c.requires c.in-Err-Magic.ensures.fault
 
 pub unreachable-requires-in-Err-Count : goal.unreachable-requires-in-Err-Count
 unreachable-requires-in-Err-Count g c =
-    no_fault c.args.bytes.now c.in-Err-Count.field-0 c.ribbons_have_no_fault.ensures
+    no_fault c.args.bytes.now c.in-Err-Count.field-0
     (λ e. let k : c.in-Err-Count.field-0 ≡ fault.Count = c.in-Err-Count.field-0-is in let f : c.in-Err-Count.field-0 ≡ fault.NoMemory = e in cc) c.requires c.in-Err-Count.ensures.fault
