@@ -6,8 +6,9 @@ usage: wrong_bodies.py [--built] [--named] [--anew] [CRATE ..]    of every crate
 A wrong body is a bug written into a function on purpose, a file as of must-fail. A check reads a crate and all that it stands
 on before it looks at a goal, and a caller knows of a function what its contract says and no more. So wrong bodies of different
 functions are put into one copy of their crate, and only these functions are checked, with those that they call: each must have
-a goal of its own that is not proved, and not only a callee that is not. One that this does not show is tried again alone, the
-whole crate by the rule of `rt must-fail`: the prover reads the text, and does not prove it.
+a goal of its own that is not proved, and not only a callee that is not. Those of which only names of goals are gone, so that an
+answer has none, are named at the end. One that this does not show is tried again alone, the whole crate by the rule of
+`rt must-fail`: the prover reads the text, and does not prove it.
 
 `rt ci` tries those of `crates/NAME/must-fail`, and this those of `crates/NAME/wrong-bodies`; with --named both.
 With --built the libraries are those that `rt ci` has just proved in this tree, as in the gate; else those that are not built,
@@ -37,6 +38,9 @@ OWNER = re.compile(r"^(?:impl|(?:pub )?trait)\b([^{;]*)", re.M)
 # What a check says of a function where its own goals, and not only its callees, are what is lacking: a goal that is not
 # proved, or an answer of its own that is refused (then an error stands in the folder of its proof).
 OWN = re.compile(r"no proof: expected|not proved$")
+# What is said of an answer whose goal has another name in the wrong body, and of the answers that use it: that the goal is
+# gone is a refusal, but no reason why the body is wrong.
+GONE = re.compile(r"has no `[^`]*` that can be named from here|has no field|which was rejected, were not checked")
 # What a text that the prover cannot read gives rise to.
 UNREAD = re.compile(r"is not in scope|has no field|is no name|operand is missing|expected the end|cannot continue")
 
@@ -157,6 +161,7 @@ class Wrong:
         self.text = path.read_bytes()
         self.pairs = pairs_of(self.text.decode("utf-8"))
         self.functions, self.bad = set(), None if self.pairs else "it has no 'old:' and 'new:' pair"
+        self.by_name = False
         for file, old, _ in self.pairs:
             text = pathlib.Path(crate.folder, file).read_text(encoding="utf-8")
             if text.count(old) != 1:
@@ -167,16 +172,30 @@ class Wrong:
             self.functions = set()
 
     def is_refused(self, crate, lines):
-        """Whether one of its functions has a goal of its own that is not proved."""
+        """Whether one of its functions has a goal of its own that is not proved; `by_name` where only names of goals are gone."""
+        self.by_name = False
         for _, shape in self.functions:
             told = [it for it in (re.match(r"fn %s::(%s): (.*)" % (crate.name, shape), line) for line in lines) if it]
             if len(told) != 1:
                 continue
             folder = "./proofs/%s/" % told[0][1].replace("::", "/")
-            has_error = any(it.startswith(folder) and ": error: " in it for it in lines)
-            if OWN.match(told[0][2]) or told[0][2].startswith("not proved; ") and has_error:
+            errors = [it for it in messages(lines) if it.startswith(folder) and ": error: " in it]
+            if OWN.match(told[0][2]) or told[0][2].startswith("not proved; ") and not all(GONE.search(it) for it in errors):
+                self.by_name = False
                 return True
-        return False
+            self.by_name = self.by_name or told[0][2].startswith("not proved; ") and bool(errors)
+        return self.by_name
+
+
+def messages(lines):
+    """What a check says, each message with the lines that go on with it."""
+    out = []
+    for line in lines:
+        if line.startswith("  ") and out:
+            out[-1] += line
+        else:
+            out.append(line)
+    return out
 
 
 def groups_of(wrongs):
@@ -223,7 +242,8 @@ def refused_alone(rtlib, crate, wrong, kept):
 
 
 def tried(rtlib, crate, wrongs, refused):
-    """The wrong bodies that are not refused with what was said, and how many checks it took."""
+    """The wrong bodies that are not refused with what was said, how many checks it took, how many were tried before, and those
+    that are refused by names alone."""
     faults, alone, checks = [(it.name, it.bad) for it in wrongs if it.bad], [], 0
     keys = {it: refused.key(crate, it) for it in wrongs}
     wrongs = [it for it in wrongs if not it.bad and not refused.has(keys[it])]
@@ -253,7 +273,7 @@ def tried(rtlib, crate, wrongs, refused):
     for it in wrongs:
         if it.name not in lost and refused.key(crate, it) == keys[it]:
             refused.keep(keys[it])
-    return faults, checks, len(keys) - len(wrongs)
+    return faults, checks, len(keys) - len(wrongs), [it.name for it in wrongs if it.by_name and it.name not in lost]
 
 
 def lanes():
@@ -289,18 +309,20 @@ def main(words):
             if dep.build_rlib(["--jobs", "1"], anew=False):
                 print("wrong_bodies: %s is not proved\n0 passed, 1 failed" % dep.name)
                 return 1
-    began, count, faults = time.time(), 0, []
+    began, count, faults, by_name = time.time(), 0, [], []
     # (the dearest first, so that no lane is left alone with one at the end)
     work.sort(key=lambda it: -it[0].count(rb"\n"))
     with concurrent.futures.ThreadPoolExecutor(lanes()) as pool:
         given = {pool.submit(tried, rtlib, crate, wrongs, refused): (crate, wrongs) for crate, wrongs in work}
         for it in concurrent.futures.as_completed(given):
             crate, wrongs = given[it]
-            bad, checks, known = it.result()
-            count, faults = count + len(wrongs), faults + bad
+            bad, checks, known, named = it.result()
+            count, faults, by_name = count + len(wrongs), faults + bad, by_name + named
             print("%s: %d wrong bodies, %d refused, in %d checks (%d kept from earlier runs)" % (crate.name, len(wrongs), len(wrongs) - len(bad), checks, known), flush=True)
     used = resource.getrusage(resource.RUSAGE_CHILDREN)
     print("%d wrong bodies, %d not refused, in %d seconds, %.1f minutes of processor" % (count, len(faults), time.time() - began, (used.ru_utime + used.ru_stime) / 60))
+    for name in sorted(by_name):
+        print("wrong body refused by names of goals alone: %s" % name)
     for name, why in faults:
         print("wrong body not refused: %s: %s" % (name, why))
     print("%d passed, %d failed" % (count - len(faults), len(faults)))
