@@ -422,6 +422,8 @@ const CORNERS_OF_WORDS: &[(&str, &str)] = &[
     ("send 9 1 0..x", "refused command"),
     ("jump", "refused command"),
     ("faults 1 1", "refused command"),
+    ("site 100000000000000000000", "refused command"),
+    ("show 18446744073709551617", "refused command"),
 ];
 
 /// Words are separated by one space, and numbers are ASCII digits.
