@@ -12,3 +12,8 @@ pub unreachable-requires-in-Err-Count : goal.unreachable-requires-in-Err-Count
 unreachable-requires-in-Err-Count g c =
     no_fault c.args.bytes.now c.in-Err-Count.field-0
     (λ e. let k : c.in-Err-Count.field-0 ≡ fault.Count = c.in-Err-Count.field-0-is in let f : c.in-Err-Count.field-0 ≡ fault.NoMemory = e in cc) c.requires c.in-Err-Count.ensures.fault
+
+pub unreachable-requires-in-Err-Row : goal.unreachable-requires-in-Err-Row
+unreachable-requires-in-Err-Row g c =
+    no_fault c.args.bytes.now c.in-Err-Row.field-0
+    (λ e. let k : c.in-Err-Row.field-0 ≡ fault.Row c.in-Err-Row.field-0-0 c.in-Err-Row.field-0-1 = c.in-Err-Row.field-0-is in let f : c.in-Err-Row.field-0 ≡ fault.NoMemory = e in cc) c.requires c.in-Err-Row.ensures.fault
