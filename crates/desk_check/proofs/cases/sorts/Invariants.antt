@@ -1,4 +1,5 @@
-use Rattle.std.proofs.Common.{◌≡◌, ◌≤◌, take}
+use Rattle.std.proofs.Common.{◌≡◌, ◌≤◌, ◌<◌, take}
+use Rattle.desk_case.specs.Case.{IsCase}
 use Rattle.desk_check.specs.Sorts.{sorts}
 use Rattle.desk_check.proofs.cases.sorts.Given as goal
 
@@ -6,4 +7,5 @@ abbrev pub invariant-loop-place : goal.invariant-loop-place
 invariant-loop-place l = record {
   counted : l.count ≡ sorts (take l.place (l.case).grid);
   small : l.count ≤ l.place;
+  lawful : 0 < l.place → IsCase l.case;
 }
