@@ -6,7 +6,7 @@
 #![tactic(auto)]
 
 ghost use Rattle.std.specs.Prelude.{◌≡◌, ◌+◌, ◌-◌, ◌≤◌, ◌<◌, ◌↔◌, ◌⊎◌, ◌++◌, ◌^◌, [], drop, All, IfOk, IfErr, IfSome, IsNone, IsOk, OnOk, OnErr, IsErrOf, length, take, true, false};
-ghost use Rattle.std.specs.List.{list_all};
+ghost use Rattle.std.specs.List.{AllByRecursion, list_all};
 ghost use Rattle.desk_ops.specs.Op.{IsLawful};
 ghost use Rattle.desk_ops.specs.OpSet.{no_ops, has_op, with_op, with_all, union, in_order, size, AllLawful};
 ghost use Rattle.desk_ops.specs.Op.{stamp_of};
@@ -17,8 +17,9 @@ ghost use Rattle.desk_ops.specs.Faults.{faults_of};
 ghost use Rattle.std.specs.List.Sorted.{IsPermutation};
 ghost use Rattle.desk_codec.specs.Feed.{IsFeed};
 ghost use Rattle.desk_codec.specs.Runs.{runs_ops, set_feed};
-ghost use Rattle.desk_replica.specs.JobSettings.{settings_of};
-ghost use Rattle.desk_walk.specs.Following.{entries_of, IsWaiting};
+ghost use Rattle.desk_replica.specs.JobSettings.{AreKept, settings_of};
+ghost use Rattle.desk_registers.specs.Registers.{kept};
+ghost use Rattle.desk_walk.specs.Following.{entries_of, IsSettled, IsWaiting};
 ghost use Rattle.desk_replica.specs.Orders.{KeepsOrder, ShareOneOrder};
 ghost use Rattle.desk_replica.specs.Edits.{new_stamp, parent_at, stamp_at, edit_refusal, insert_refusal, delete_refusal, set_refusal, IsInserted, IsDeleted, IsSetTo};
 
@@ -29,7 +30,7 @@ use desk_ops::{CopyFault, Key, NoMemory, Op, Stamp, Symbol};
 use desk_registers::Registers;
 use desk_room::Room;
 use desk_seq::{Entry, Sequence};
-use desk_walk::{enter, made_of};
+use desk_walk::{enter, made_of, made_of_list};
 use faults::faults_of;
 use settings::{keep, kept_in};
 use std::alloc::Allocator;
@@ -290,6 +291,29 @@ impl<Q: Sequence> Replica<Q> {
         self.near = enter(&mut self.sequence, &mut self.room, op, near);
     }
 
+    /// Holds this set, with what was made of it, in place of its own.
+    fn replace(
+        &mut self,
+        held: Held<Q::Memory>,
+        registers: Registers,
+        sequence: Q,
+        room: Room<Q::Memory>,
+    )
+        requires lawful { AllByRecursion IsLawful (in_order held.ops) }
+        requires few { size held.ops ≤ LIMIT }
+        requires kept { AreKept held.ops (kept registers) }
+        requires settled { IsSettled held.ops (Q.entries sequence) room.ops }
+        requires waiting { size room.ops ≤ size held.ops }
+        requires free { size room.ops ≤ Q.free sequence }
+        ensures site { self.new.site ≡ self.old.site }
+        ensures ops { self.new.ops ≡ held.ops }
+    {
+        self.registers = registers;
+        self.held = held;
+        self.sequence = sequence;
+        self.room = room;
+    }
+
     /// Holds this set in place of its own, by the list of its operations in order: all is made anew, whole before it replaces
     /// the old; false where memory does not allow it.
     fn lay_out(&mut self, held: Held<Q::Memory>, list: &[Op]) -> bool
@@ -304,10 +328,27 @@ impl<Q: Sequence> Replica<Q> {
         let Ok((sequence, room)) = made_of(self.alloc, &held, list) else {
             return false;
         };
-        self.registers = kept_in(&held, list);
-        self.held = held;
-        self.sequence = sequence;
-        self.room = room;
+        let registers = kept_in(&held, list);
+        self.replace(held, registers, sequence, room);
+        true
+    }
+
+    /// The same by a list that is made here, and gone before the sequence is made.
+    fn hold_anew(&mut self, held: Held<Q::Memory>) -> bool
+        requires few { size held.ops ≤ LIMIT }
+        ensures site { self.new.site ≡ self.old.site }
+        ensures whole { result ≡ true → self.new.ops ≡ held.ops }
+        ensures none { result ≡ false → self.new.ops ≡ self.old.ops }
+        ensures spare { result ≡ false → self.new.spare ≡ self.old.spare }
+    {
+        let Ok(list) = held.in_order() else {
+            return false;
+        };
+        let registers = kept_in(&held, &list);
+        let Ok((sequence, room)) = made_of_list(self.alloc, &held, list) else {
+            return false;
+        };
+        self.replace(held, registers, sequence, room);
         true
     }
 
@@ -342,10 +383,7 @@ impl<Q: Sequence> Replica<Q> {
         let Some(held) = self.held.joined(ops) else {
             return false;
         };
-        let Ok(list) = held.in_order() else {
-            return false;
-        };
-        self.lay_out(held, &list)
+        self.hold_anew(held)
     }
 
     /// Adds an operation to what is held.

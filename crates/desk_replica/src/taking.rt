@@ -1,12 +1,12 @@
 //! Lists of operations, taken in one by one or all at once.
-ghost use Rattle.std.specs.Prelude.{◌≡◌, ◌+◌, ◌≤◌, ◌⊎◌, All, IfErr, IfOk, IsOk, OnOk, length, take, true, false, vec_len};
+ghost use Rattle.std.specs.Prelude.{◌≡◌, ◌+◌, ◌≤◌, ◌⊎◌, All, IfErr, IfOk, IfSome, IsOk, OnOk, length, take, true, false, vec_len};
 ghost use Rattle.desk_ops.specs.Op.{IsLawful};
 ghost use Rattle.desk_ops.specs.OpSet.{with_all, size};
 ghost use Rattle.desk_replica.specs.Orders.{KeepsOrder};
 
 use crate::apart::are_apart;
 use crate::{Count, Replica, Stopped};
-use desk_held::LIMIT;
+use desk_held::{Held, LIMIT};
 use desk_ops::Op;
 use desk_seq::Sequence;
 
@@ -57,6 +57,15 @@ impl<Q: Sequence> Replica<Q> {
         }
     }
 
+    /// The set with the operations of a list that rises and of which none is held; the list is gone then.
+    fn joined(&self, ops: Vec<Op, Q::Memory>) -> Option<Held<Q::Memory>>
+        requires { All IsLawful ops.items }
+        ensures ops { IfSome result (λ held. held.ops ≡ with_all self.now.ops ops.items) }
+        ensures within { IfSome result (λ held. size held.ops ≤ LIMIT) }
+    {
+        self.held.joined(&ops)
+    }
+
     /// Takes in the operations of a list that rises and of which none is held: where they are many, or one of them forks a
     /// stamp, by making all anew; else one by one, once there is room for all. False where memory does not allow it: then
     /// the set stays.
@@ -70,7 +79,13 @@ impl<Q: Sequence> Replica<Q> {
     {
         let are_many = ops.len() >= MANY && ops.len() >= self.held.len() / PART;
         if are_many || !are_apart(&self.held, &ops) {
-            return self.join(&ops);
+            if self.held.is_empty() {
+                return self.begin(&ops);
+            }
+            return match self.joined(ops) {
+                Some(held) => self.hold_anew(held),
+                None => false,
+            };
         }
         let Ok(()) = self.reserve(ops.len()) else {
             return false;

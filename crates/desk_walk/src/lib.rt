@@ -10,12 +10,14 @@ ghost use Rattle.desk_ops.specs.declared.op.Op.{Op};
 ghost use Rattle.desk_ops.specs.Op.{target_of};
 ghost use Rattle.desk_ops.specs.OpSet.{OpSet, has_op, with_op, in_order, size, AllLawful};
 ghost use Rattle.desk_seq.specs.Entries.{stamps_of, AreDistinct, IsAbsent, IsFirstBelow};
+ghost use Rattle.desk_walk.specs.Tree.{AreSettled};
 ghost use Rattle.desk_walk.specs.Following.{places, place_at, new_entry, IsActed, CanAct, IsDraining, IsSettled, IsArrival};
 
 use desk_held::Held;
 use desk_ops::{NoMemory, Op, Stamp, Symbol};
 use desk_room::Room;
 use desk_seq::{Entry, Sequence};
+use std::alloc::Allocator;
 use tree::settled_lists;
 
 mod tree;
@@ -210,6 +212,37 @@ pub fn enter<Q: Sequence>(
     }
 }
 
+/// A sequence of the entries of a set's walk, and a room of what waits.
+fn laid_out<Q: Sequence>(
+    alloc: Q::Memory,
+    held: &Held<Q::Memory>,
+    entries: &[Entry],
+    waiting: &[Op],
+) -> Result<(Q, Room<Q::Memory>), NoMemory>
+    requires { AreSettled held.now.ops entries.now waiting.now }
+    ensures settled { IfOk result (λ r. IsSettled held.now.ops (Q.entries r.0) r.1.ops) }
+    ensures few { IfOk result (λ r. size r.1.ops ≤ size held.now.ops) }
+    ensures free { IfOk result (λ r. size r.1.ops ≤ Q.free r.0) }
+{
+    let _ = held;
+    let mut sequence = Q::from_entries(alloc, entries)?;
+    let room = Room::from_ops(alloc, waiting)?;
+    sequence.reserve(room.len())?;
+    Ok((sequence, room))
+}
+
+/// The entries of a set's walk, and what waits, by the list of the set, which is gone then.
+fn lists_of<A: Allocator + Copy>(
+    alloc: A,
+    held: &Held<A>,
+    ops: Vec<Op, A>,
+) -> Result<(Vec<Entry, A>, Vec<Op, A>), NoMemory>
+    requires { ops.items ≡ in_order held.now.ops }
+    ensures { IfOk result (λ r. AreSettled held.now.ops r.0.items r.1.items) }
+{
+    settled_lists(alloc, held, &ops)
+}
+
 /// The sequence and the room of a set, made anew from the list of its operations in their order.
 pub fn made_of<Q: Sequence>(
     alloc: Q::Memory,
@@ -222,8 +255,20 @@ pub fn made_of<Q: Sequence>(
     ensures free { IfOk result (λ r. size r.1.ops ≤ Q.free r.0) }
 {
     let (entries, waiting) = settled_lists(alloc, held, ops)?;
-    let mut sequence = Q::from_entries(alloc, &entries)?;
-    let room = Room::from_ops(alloc, &waiting)?;
-    sequence.reserve(room.len())?;
-    Ok((sequence, room))
+    laid_out(alloc, held, &entries, &waiting)
+}
+
+/// The same of a list that nobody wants any more: it is gone before the sequence is made.
+pub fn made_of_list<Q: Sequence>(
+    alloc: Q::Memory,
+    held: &Held<Q::Memory>,
+    ops: Vec<Op, Q::Memory>,
+) -> Result<(Q, Room<Q::Memory>), NoMemory>
+    requires { ops.items ≡ in_order held.now.ops }
+    ensures settled { IfOk result (λ r. IsSettled held.now.ops (Q.entries r.0) r.1.ops) }
+    ensures few { IfOk result (λ r. size r.1.ops ≤ size held.now.ops) }
+    ensures free { IfOk result (λ r. size r.1.ops ≤ Q.free r.0) }
+{
+    let (entries, waiting) = lists_of(alloc, held, ops)?;
+    laid_out(alloc, held, &entries, &waiting)
 }

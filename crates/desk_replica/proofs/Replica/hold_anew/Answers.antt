@@ -1,0 +1,8 @@
+use Rattle.std.proofs.Common.{subst}
+use Rattle.std.specs.List.{AllByRecursion}
+use Rattle.desk_ops.specs.Op.{IsLawful}
+use Rattle.desk_replica.proofs.Sets.{each-of-all}
+use Rattle.desk_replica.proofs.Replica.hold_anew.Goals as goal
+
+pub replace-requires-clause-lawful : goal.replace-requires-clause-lawful
+replace-requires-clause-lawful g c = subst (AllByRecursion IsLawful) c.in-Ok.ensures.items (each-of-all c.in-Ok.list.items c.in-Ok.ensures.lawful)
