@@ -1,5 +1,5 @@
 -- The bits of an image and the signals that it shows.
-use Rattle.std.proofs.Common.{◌≡◌, ℕ, zero, suc, ◌+◌, ◌-◌, ◌*◌, ◌%◌, ◌^◌, ◌<◌, ◌≤◌, max, Bool, true, false, cond, ◌&&◌, ◌||◌, eqb, List, [], ◌∷◌, ◌++◌, length, get_or, take, refl, sym, ap, ap₂, subst, ◌∙◌, eqb-true, eq-eqb, le-ltb, mod-eq_of_lt, replicate, ltb, arith}
+use Rattle.std.proofs.Common.{◌≡◌, ℕ, zero, suc, ◌+◌, ◌-◌, ◌*◌, ◌%◌, ◌^◌, ◌<◌, ◌≤◌, max, Bool, true, false, cond, ◌&&◌, ◌||◌, eqb, List, [], ◌∷◌, ◌++◌, append_assoc, length, get_or, take, refl, sym, ap, ap₂, subst, ◌∙◌, eqb-true, eq-eqb, le-ltb, mod-eq_of_lt, replicate, ltb, arith}
 use Rattle.std.specs.Prelude.{bit_or, slice_index}
 use Rattle.std.specs.Int.{bit_at}
 use Rattle.std.specs.List.{filter, range_with_len}
@@ -7,10 +7,10 @@ use Rattle.std.proofs.lemmas.List.FromFn.{get_or-range_with_len}
 use Rattle.std.proofs.lemmas.List.Sums.{AllPass-from_list_all}
 use Rattle.std.proofs.lemmas.List.{take_all}
 use Rattle.std.proofs.lemmas.List.Folds.{list_any_more}
-use Rattle.std.proofs.lemmas.List.Elements.{filter_more}
-use Rattle.std.proofs.lemmas.Nat.{or_lt}
+use Rattle.std.proofs.lemmas.Nat.{or_lt, pow_pos, pow-add}
 use Rattle.std.proofs.Math.Pow.{pow-lt}
-use Rattle.std.proofs.lemmas.Nat.Bits.{bit_at-zero, bit_at_or, bit_at-pow_same, bit_at-pow_other, bit_at-lt, same_from_bits_below}
+use Rattle.std.proofs.Math.Nat.{lt_of_not-le, pow-le-pow_right}
+use Rattle.std.proofs.lemmas.Nat.Bits.{bit_at-zero, bit_at_or, bit_at-pow_same, bit_at-pow_other, bit_at-lt, same_from_bits_below, bit_at_above, bit_at_cat_low, bit_at_cat_high}
 use Rattle.std.proofs.lemmas.Bool.{or_parts, or_from}
 use Rattle.std.proofs.Math.Bool.{and-true}
 use Rattle.desk_signals.specs.declared.Signal.{Signal}
@@ -87,17 +87,17 @@ has_each signal.Coarse = refl
 has_each signal.S = refl
 
 -- a set bit is that of a signal
-signal_of : (i : ℕ) → i < 31 → bit (get_or the_signals (30 - i) signal.S) ≡ i
-signal_of i below =
+signal_of : (i : ℕ) (d : Signal) → i < 31 → bit (get_or the_signals (30 - i) d) ≡ i
+signal_of i d below =
     let is : get_or (range_with_len 0 31) i 0 ≡ i = get_or-range_with_len 0 31 i 0 below ∙ omega arith in
     eqb-true _ _
-    (subst (λ (k : ℕ). eqb (bit (get_or the_signals (30 - k) signal.S)) k ≡ true) is
-    (AllPass-from_list_all (λ (k : ℕ). eqb (bit (get_or the_signals (30 - k) signal.S)) k) (range_with_len 0 31) refl i 0 below))
+    (subst (λ (k : ℕ). eqb (bit (get_or the_signals (30 - k) d)) k ≡ true) is
+    (AllPass-from_list_all (λ (k : ℕ). eqb (bit (get_or the_signals (30 - k) d)) k) (range_with_len 0 31) refl i 0 below))
 
 same_bits : (n m : ℕ) → n < 2 ^ 31 → m < 2 ^ 31 → ((x : Signal) → bit_at n (bit x) ≡ bit_at m (bit x)) → n ≡ m
 same_bits n m below_n below_m e =
     same_from_bits_below 31 n m below_n below_m
-    (λ i below. subst (λ (k : ℕ). bit_at n k ≡ bit_at m k) (signal_of i below) (e (get_or the_signals (30 - i) signal.S)))
+    (λ i below. subst (λ (k : ℕ). bit_at n k ≡ bit_at m k) (signal_of i signal.S below) (e (get_or the_signals (30 - i) signal.S)))
 
 pub one_image : (n m : ℕ) (xs : List Signal) → Shows n xs → Shows m xs → n ≡ m
 one_image n m xs (below_n, shows_n) (below_m, shows_m) = same_bits n m below_n below_m (λ x. shows_n x ∙ sym (shows_m x))
@@ -189,7 +189,83 @@ dots k below =
 pub no_hole_yet : (k b : ℕ) → k < 31 → slice_index (replicate 31 46) k ≡ cond (ltb k 0 && eqb b 1) 79 46
 no_hole_yet k b below = dots k below ∙ ap (λ (t : Bool). cond (t && eqb b 1) 79 46) (sym (le-ltb k 0 (omega arith)))
 
-pub found_more : (p : Signal → Bool) (found xs : List Signal) (i : ℕ) (d : Signal) (b : Bool) → i < length xs → p (get_or xs i d) ≡ b → found ≡ filter p (take i xs) →
-    found ++ cond b (get_or xs i d ∷ []) [] ≡ filter p (take (i + 1) xs)
-found_more p found xs i d b below passes so_far =
-    ap₂ (λ (ys zs : List Signal). ys ++ zs) so_far (ap (λ (b : Bool). cond b (get_or xs i d ∷ []) []) (sym passes)) ∙ sym (filter_more p xs i d below)
+-- two tests that agree on each element keep the same
+filter_alike : (p q : Signal → Bool) (xs : List Signal) (d : Signal) → ((i : ℕ) → i < length xs → p (get_or xs i d) ≡ q (get_or xs i d)) →
+    filter p xs ≡ filter q xs
+filter_alike p q [] d e = refl
+filter_alike p q (x ∷ xs) d e =
+    ap₂ (λ (b : Bool) (ys : List Signal). cond b (x ∷ ys) ys) (e 0 (omega arith))
+    (filter_alike p q xs d (λ i below. e (suc i) (omega (arith, below))))
+
+-- the first that p keeps stands at place k, and q keeps exactly what p keeps behind it
+filter_first : (p q : Signal → Bool) (xs : List Signal) (k : ℕ) (d : Signal) → k < length xs → ((i : ℕ) → i < k → p (get_or xs i d) ≡ false) →
+    p (get_or xs k d) ≡ true → ((i : ℕ) → i ≤ k → q (get_or xs i d) ≡ false) →
+    ((i : ℕ) → k < i → i < length xs → p (get_or xs i d) ≡ q (get_or xs i d)) → filter p xs ≡ get_or xs k d ∷ filter q xs
+filter_first p q [] k d below before here none behind = absurd (omega (arith, below))
+filter_first p q (x ∷ xs) zero d below before here none behind =
+    ap₂ (λ (b : Bool) (ys : List Signal). cond b (x ∷ ys) ys) here
+    (filter_alike p q xs d (λ i within. behind (suc i) (omega arith) (omega (arith, within))))
+    ∙ ap (λ (b : Bool). x ∷ cond b (x ∷ filter q xs) (filter q xs)) (sym (none 0 (omega arith)))
+filter_first p q (x ∷ xs) (suc k) d below before here none behind =
+    ap (λ (b : Bool). cond b (x ∷ filter p xs) (filter p xs)) (before 0 (omega arith))
+    ∙ (filter_first p q xs k d (omega (arith, below)) (λ i low. before (suc i) (omega (arith, low))) here
+    (λ i low. none (suc i) (omega (arith, low))) (λ i high within. behind (suc i) (omega (arith, high)) (omega (arith, within)))
+    ∙ ap (λ (b : Bool). get_or xs k d ∷ cond b (x ∷ filter q xs) (filter q xs)) (sym (none 0 (omega arith))))
+
+-- the test of a signal by its place
+test_at : (n i b : ℕ) (d : Signal) → i < 31 → bit_at n (30 - i) ≡ b → eqb (bit_at n (bit (get_or the_signals i d))) 1 ≡ eqb b 1
+test_at n i b d below e =
+    let back : 30 - (30 - i) ≡ i = omega (arith, below) in
+    let at = subst (λ (k : ℕ). bit (get_or the_signals k d) ≡ 30 - i) back (signal_of (30 - i) d (omega arith)) in
+    ap (λ (k : ℕ). eqb (bit_at n k) 1) at ∙ ap (λ (k : ℕ). eqb k 1) e
+
+-- a number by its highest bit
+top_bit : (j m : ℕ) → m < 2 ^ j → bit_at (1 * 2 ^ j + m) j ≡ 1
+top_bit j m small =
+    let none : j - j ≡ 0 = omega arith in
+    bit_at_cat_high 1 j m j small (omega arith) ∙ ap (λ (k : ℕ). bit_at 1 k) none
+
+-- the first signal and those behind it, of a number given as its highest bit and the bits below
+first_of : (j m : ℕ) (d : Signal) → j < 31 → m < 2 ^ j → 1 * 2 ^ j + m < 2 ^ (j + 1) →
+    signals_in (1 * 2 ^ j + m) ≡ get_or the_signals (30 - j) d ∷ signals_in m
+first_of j m d below small whole =
+    let n = 1 * 2 ^ j + m in
+    let back : 30 - (30 - j) ≡ j = omega (arith, below) in
+    filter_first (λ x. eqb (bit_at n (bit x)) 1) (λ x. eqb (bit_at m (bit x)) 1) the_signals (30 - j) d (omega arith)
+    (λ i low. test_at n i 0 d (omega (arith, low)) (bit_at_above n (j + 1) (30 - i) whole (omega (arith, low, below))))
+    (test_at n (30 - j) 1 d (omega arith) (ap (λ (k : ℕ). bit_at n k) back ∙ top_bit j m small))
+    (λ i low. test_at m i 0 d (omega (arith, low)) (bit_at_above m j (30 - i) small (omega (arith, low, below))))
+    (λ i high within. test_at n i (bit_at m (30 - i)) d within (bit_at_cat_low 1 j m (30 - i) (omega (arith, high, within, below)))
+    ∙ sym (test_at m i (bit_at m (30 - i)) d within refl))
+
+-- the highest bit shows the first signal, and the other bits those behind it
+highest_first : (n j : ℕ) (d : Signal) → j < 31 → 2 ^ j ≤ n → n < 2 * 2 ^ j →
+    signals_in n ≡ get_or the_signals (30 - j) d ∷ signals_in (n - 2 ^ j)
+highest_first n j d below low high =
+    let split : 1 * 2 ^ j + (n - 2 ^ j) ≡ n = omega (arith, low) in
+    let small : n - 2 ^ j < 2 ^ j = omega (arith, low, high, pow_pos j) in
+    let whole : 1 * 2 ^ j + (n - 2 ^ j) < 2 ^ (j + 1) = omega (arith, split, high, pow-add 2 j 1) in
+    subst (λ (k : ℕ). signals_in k ≡ get_or the_signals (30 - j) d ∷ signals_in (n - 2 ^ j)) split
+    (first_of j (n - 2 ^ j) d below small whole)
+
+-- a number with a bit at j stands below 2 ^ k only where j is below k
+pub bit_within : (n j k : ℕ) → 2 ^ j ≤ n → n < 2 ^ k → j < k
+bit_within n j k low high =
+    lt_of_not-le (λ (above : k ≤ j). let more = pow-le-pow_right {n = 2} (omega arith) {i = k} {j = j} above in omega (arith, low, high, more))
+
+-- what is left fits the room that is left
+pub rest_below : (n j k : ℕ) → 2 ^ j ≤ n → n < 2 * 2 ^ j → j < k → n - 2 ^ j < 2 ^ (k - 1)
+rest_below n j k low high within =
+    let more = pow-le-pow_right {n = 2} (omega arith) {i = j} {j = k - 1} (omega (arith, within)) in
+    omega (arith, low, high, more, pow_pos j)
+
+-- one step of the loop over the set bits
+pub found_more : (n left j m : ℕ) (d : Signal) (found more : List Signal) → j < 31 → 2 ^ j ≤ left → left < 2 * 2 ^ j → m ≡ 2 ^ j →
+    signals_in n ≡ found ++ signals_in left → more ≡ found ++ get_or the_signals (30 - j) d ∷ [] →
+    signals_in n ≡ more ++ signals_in (left - m)
+found_more n left j m d found more below low high is so_far one_more =
+    let x = get_or the_signals (30 - j) d in
+    so_far
+    ∙ (ap (λ (ys : List Signal). found ++ ys) (highest_first left j d below low high)
+    ∙ (sym (append_assoc found (x ∷ []) (signals_in (left - 2 ^ j)))
+    ∙ ap₂ (λ (ys : List Signal) (k : ℕ). ys ++ signals_in (left - k)) (sym one_more) (sym is)))

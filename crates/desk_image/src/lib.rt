@@ -121,21 +121,19 @@ impl Image {
         Image::new(bits)
     }
 
-    fn has(self, signal: Signal) -> bool
-        ensures { result ≡ (bit_at self (bit signal) == 1) }
-    {
-        (self.0 >> bit(signal)) & 1 == 1
-    }
-
-    /// The signals whose bits are set, in signal order.
+    /// The signals whose bits are set, in signal order. It takes one step for each of them, from the highest bit down.
     fn signals(self) -> ArrayVec<Signal, 31>
+        requires { self < 2 ^ 31 }
         ensures { result.items ≡ signals_in self }
     {
+        // A reference: an index into the constant itself copies it whole at each step.
+        let table = &SIGNALS;
         let mut signals: ArrayVec<Signal, 31> = ArrayVec::new();
-        for &signal in &SIGNALS {
-            if self.has(signal) {
-                signals.push(signal);
-            }
+        let mut rest = self.0;
+        while rest != 0 {
+            let high = rest.ilog2();
+            signals.push(table[30 - high as usize]);
+            rest -= 1 << high;
         }
         signals
     }

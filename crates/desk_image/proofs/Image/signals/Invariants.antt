@@ -1,13 +1,14 @@
-use Rattle.std.proofs.Common.{◌≡◌, ◌≤◌, length, take}
-use Rattle.std.specs.Prelude.{◌==◌}
-use Rattle.std.specs.Int.{bit_at}
-use Rattle.std.specs.List.{filter}
-use Rattle.desk_signals.specs.Rows.{the_signals}
-use Rattle.desk_image.specs.Images.{bit}
+use Rattle.std.proofs.Common.{◌≡◌, ◌≤◌, ◌<◌, ◌-◌, ◌^◌, ◌++◌, length}
+use Rattle.desk_image.specs.Images.{signals_in}
 use Rattle.desk_image.proofs.Image.signals.Given as goal
 
-abbrev pub invariant-loop-signal : goal.invariant-loop-signal
-invariant-loop-signal l = record {
-  room : length l.signals.items ≤ l.signal-index;
-  found : l.signals.items ≡ filter (λ x. bit_at l.fn.self (bit x) == 1) (take l.signal-index the_signals);
+-- the signals found and those of the bits that are left are all, and there is room for as many as there are bits left
+abbrev pub invariant-loop-rest : goal.invariant-loop-rest
+invariant-loop-rest l = record {
+  found : signals_in l.fn.self ≡ l.signals.items ++ signals_in l.rest;
+  room : length l.signals.items ≤ 31;
+  left : l.rest < 2 ^ (31 - length l.signals.items);
 }
+
+abbrev pub decreases-loop-rest : goal.decreases-loop-rest
+decreases-loop-rest l = l.rest
