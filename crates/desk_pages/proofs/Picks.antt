@@ -99,6 +99,11 @@ short-page picks pages p j n left l k h = rw add-one (
 pub next-page : {X : Type 0} (pages : List (List X)) (p : ℕ) → p < length pages → start_of pages (p + 1) ≡ start_of pages p + length (get_or pages p [])
 next-page pages p l = rw add-one (start-more pages p l)
 
+-- the page before one
+pub page-back : {X : Type 0} (pages : List (List X)) (at : ℕ) → at ≤ length pages → 0 < at → (at - 1 + 1 ≡ at) × (at - 1 < length pages) × (start_of pages at ≡ start_of pages (at - 1) + length (get_or pages (at - 1) []))
+page-back pages zero l p = absurd (omega arith)
+page-back pages (suc q) l p = let e : suc q - 1 ≡ q = omega arith in (omega arith, omega arith, rw e (start-more pages q (omega arith)))
+
 pub next-start : {X : Type 0} (pages : List (List X)) (from p j n : ℕ) → IsSpot pages from p j → n ≡ length (get_or pages p []) → from - j + n ≡ start_of pages (p + 1)
 next-start pages from p j n s k =
     let m = next-page pages p s.within in

@@ -35,7 +35,54 @@ fn locate_last<T: Copy, S: Summary<T>, A: Allocator>(
     }
 }
 
-/// The page of the i-th entry, and its place there; the number of pages at the end. The last page is looked at first.
+/// The page of the i-th entry and its place there, looked for from a page backwards, which begins behind it.
+fn locate_back<T: Copy, S: Summary<T>, A: Allocator>(
+    pages: &Shelf<T, S, A>,
+    behind: usize,
+    end: usize,
+    i: usize,
+) -> (usize, usize)
+    requires within { behind ≤ length pages.now.pages }
+    requires end { end ≡ start_of pages.now.pages behind }
+    requires before { i < end }
+    ensures spot { IsSpotOrEnd pages.now.pages result.0 result.1 }
+    ensures is { i ≡ start_of pages.now.pages result.0 + result.1 }
+{
+    let mut p = behind - 1;
+    let mut start = end - pages.len_of(p);
+    while i < start {
+        p -= 1;
+        start -= pages.len_of(p);
+    }
+    (p, i - start)
+}
+
+/// The page of the i-th entry and its place there, looked for from a page onwards, which begins no later.
+fn locate_on<T: Copy, S: Summary<T>, A: Allocator>(
+    pages: &Shelf<T, S, A>,
+    first: usize,
+    start: usize,
+    i: usize,
+) -> (usize, usize)
+    requires within { first ≤ length pages.now.pages }
+    requires start { start ≡ start_of pages.now.pages first }
+    requires behind { start ≤ i }
+    requires before { i ≤ length (joined pages.now.pages) }
+    ensures spot { IsSpotOrEnd pages.now.pages result.0 result.1 }
+    ensures is { i ≡ start_of pages.now.pages result.0 + result.1 }
+{
+    let count = pages.len();
+    let mut left = i - start;
+    let mut p = first;
+    while p < count && left >= pages.len_of(p) {
+        left -= pages.len_of(p);
+        p += 1;
+    }
+    (p, left)
+}
+
+/// The page of the i-th entry, and its place there; the number of pages at the end. The last page is looked at first, and
+/// then its group, from the nearer end.
 pub fn locate_to_end<T: Copy, S: Summary<T>, A: Allocator>(
     pages: &Shelf<T, S, A>,
     starts: &[usize],
@@ -53,14 +100,15 @@ pub fn locate_to_end<T: Copy, S: Summary<T>, A: Allocator>(
     if let Some(spot) = locate_last(pages, len, i) {
         return spot;
     }
-    let (first, before) = group_before(pages, starts, i);
-    let mut left = i - before;
-    let mut p = first;
-    while p < count && left >= pages.len_of(p) {
-        left -= pages.len_of(p);
-        p += 1;
+    let (first, start) = group_before(pages, starts, i);
+    let next = first / GROUP + 1;
+    if count - first >= GROUP && next < starts.len() {
+        let end = starts[next];
+        if i < end && i - start > end - i {
+            return locate_back(pages, GROUP * next, end, i);
+        }
     }
-    (p, left)
+    locate_on(pages, first, start, i)
 }
 
 /// The page of the i-th entry, and its place there.

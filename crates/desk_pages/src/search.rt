@@ -313,8 +313,66 @@ pub fn nth_from_end<T: Copy, S: Summary<T>, A: Allocator, P: Pick<T, S>>(
     nth_from(pages, groups, p, start, pick, n - before)
 }
 
-/// So many entries from a guess on a search looks at entries ever farther from it; then it halves what is left.
+/// So many from a guess on a search looks ever farther from it; then it halves what is left.
 const NEAR: usize = 32;
+
+/// A search for where those that are picked end: from `low` up to `high`, and where it looks next.
+#[derive(Clone, Copy)]
+struct Probe {
+    low: usize,
+    high: usize,
+    at: usize,
+    step: usize,
+}
+
+impl Probe {
+    /// Among the first `high`: near a guess first, where there is one.
+    fn new(high: usize, guess: Option<usize>) -> Probe
+        ensures low { result.low ≡ 0 }
+        ensures high { result.high ≡ high }
+    {
+        Probe {
+            low: 0,
+            high,
+            at: guess.unwrap_or(0),
+            step: if guess.is_some() { 1 } else { NEAR },
+        }
+    }
+
+    /// The place to look at.
+    fn place(&self) -> usize
+        requires { self.now.low < self.now.high }
+        ensures low { self.now.low ≤ result }
+        ensures high { result < self.now.high }
+    {
+        if self.step < NEAR {
+            self.at.clamp(self.low, self.high - 1)
+        } else {
+            self.low + (self.high - self.low) / 2
+        }
+    }
+
+    /// What stands at the place is picked.
+    fn rise(&mut self, place: usize)
+        requires { place < self.old.high }
+        ensures low { self.new.low ≡ place + 1 }
+        ensures high { self.new.high ≡ self.old.high }
+    {
+        self.low = place + 1;
+        self.at = place.saturating_add(self.step);
+        self.step = self.step.saturating_mul(2);
+    }
+
+    /// What stands at the place is not picked.
+    fn fall(&mut self, place: usize)
+        ensures low { self.new.low ≡ self.old.low }
+        ensures high { self.new.high ≡ place }
+    {
+        self.high = place;
+        self.at = place.saturating_sub(self.step);
+        self.step = self.step.saturating_mul(2);
+    }
+}
 
 /// Where those that are picked end, in one page: looked for near a guess first, where there is one.
 pub fn edge_in<T: Copy, S: Summary<T>, P: Pick<T, S>>(
@@ -324,26 +382,16 @@ pub fn edge_in<T: Copy, S: Summary<T>, P: Pick<T, S>>(
 ) -> usize
     ensures { IsEdge (P.picked pick.now) items.now result }
 {
-    let mut low = 0;
-    let mut high = items.len();
-    let mut step = if guess.is_some() { 1 } else { NEAR };
-    let mut at = guess.unwrap_or(0);
-    while low < high {
-        let mid = if step < NEAR {
-            at.clamp(low, high - 1)
+    let mut probe = Probe::new(items.len(), guess);
+    while probe.low < probe.high {
+        let place = probe.place();
+        if pick.picks(items[place]) {
+            probe.rise(place);
         } else {
-            low + (high - low) / 2
-        };
-        if pick.picks(items[mid]) {
-            low = mid + 1;
-            at = mid.saturating_add(step);
-        } else {
-            high = mid;
-            at = mid.saturating_sub(step);
+            probe.fall(place);
         }
-        step = step.saturating_mul(2);
     }
-    low
+    probe.low
 }
 
 /// The first page whose last entry is not picked, as far as the one before it tells. What is newest stands last in most
@@ -362,28 +410,46 @@ fn edge_page<T: Copy, S: Summary<T>, A: Allocator, P: Pick<T, S>>(
     if count > 0 && !pick.picks(pages.last(0)) {
         return 0;
     }
-    edge_by_halves(pages, pick)
+    edge_among(pages, pick, guess_among(pages, pick))
 }
 
-/// The same, by halving what is left.
-fn edge_by_halves<T: Copy, S: Summary<T>, A: Allocator, P: Pick<T, S>>(
+/// The number of the page that is looked for: a hint, as if all entries were one page of the last of each. A few pages are
+/// sooner halved than guessed at.
+fn guess_among<T: Copy, S: Summary<T>, A: Allocator, P: Pick<T, S>>(
     pages: &Shelf<T, S, A>,
     pick: &P,
+) -> Option<usize>
+    requires { IsHalfFull pages.now.pages }
+{
+    let count = pages.len();
+    if count < NEAR {
+        return None;
+    }
+    match pick.guess(pages.last(0), pages.last(count - 1), count - 1) {
+        Some(behind) => Some(behind.saturating_add(2)),
+        None => None,
+    }
+}
+
+/// The first page whose last entry is not picked: looked for near a guess first, where there is one.
+fn edge_among<T: Copy, S: Summary<T>, A: Allocator, P: Pick<T, S>>(
+    pages: &Shelf<T, S, A>,
+    pick: &P,
+    guess: Option<usize>,
 ) -> usize
     requires { IsHalfFull pages.now.pages }
     ensures { IsEdge (ends_in (P.picked pick.now)) pages.now.pages result }
 {
-    let mut low = 0;
-    let mut high = pages.len();
-    while low < high {
-        let mid = low + (high - low) / 2;
-        if pick.picks(pages.last(mid)) {
-            low = mid + 1;
+    let mut probe = Probe::new(pages.len(), guess);
+    while probe.low < probe.high {
+        let place = probe.place();
+        if pick.picks(pages.last(place)) {
+            probe.rise(place);
         } else {
-            high = mid;
+            probe.fall(place);
         }
     }
-    low
+    probe.low
 }
 
 /// Where those that are picked end.

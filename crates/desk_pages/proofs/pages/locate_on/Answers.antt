@@ -1,6 +1,6 @@
 use Rattle.std.proofs.Common.{◌<◌, length, add-one, arith}
 use Rattle.desk_pages.proofs.Cuts.{start-more}
-use Rattle.desk_pages.proofs.pages.locate_to_end.Goals as goal
+use Rattle.desk_pages.proofs.pages.locate_on.Goals as goal
 
 pub loop-p-preserved : goal.loop-p-preserved
 loop-p-preserved g c =
