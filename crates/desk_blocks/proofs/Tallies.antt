@@ -87,7 +87,7 @@ bit : (b : Bool) → bool_byte b ≡ cond {A = ℕ} b 1 0
 bit true = refl
 bit false = refl
 
--- how many are shown, with one more, with a mark and among the first
+-- how many are shown, with one more and with a mark
 pub shown-insert : (es : List Entry) (i : ℕ) (e : Entry) → count_by is_shown (insert es i e) ≡ count_by is_shown es + bool_byte (is_shown e)
 shown-insert es i e = let s = sum_by-insert (λ (y : Entry). cond (is_shown y) 1 0) es i e in let b = bit (is_shown e) in omega (arith, s, b)
 
