@@ -1,5 +1,5 @@
 //! The n-th entry that is picked, found by passing pages by.
-ghost use Rattle.std.specs.Prelude.{◌≡◌, ◌+◌, ◌-◌, ◌≤◌, ◌<◌, ◌^◌, ℕ, List, [], length, take, slice_index_or, IfSome, IsSome, IfOk, IfErr, Bool};
+ghost use Rattle.std.specs.Prelude.{◌≡◌, ◌+◌, ◌-◌, ◌≤◌, ◌<◌, ◌^◌, ℕ, List, [], length, take, slice_index_or, IfSome, IsSome, IfOk, IfErr, Bool, true};
 ghost use Rattle.std.specs.List.{count_by};
 ghost use Rattle.desk_pages.specs.Pages.{joined, start_of, ends_in, IsSpotOrEnd, IsHalfFull, IsGroups, IsNth, IsShort, IsEdge};
 
@@ -98,7 +98,51 @@ pub fn nth_in<T: Copy, S: Summary<T>, P: Pick<T, S>>(
     nth_by_one(items, at, pick, left)
 }
 
-/// The n-th of page p, or how many are wanting.
+/// The n-th from the end of those that stand before a place of one page, counted from 1, entry by entry.
+fn nth_back_by_one<T: Copy, S: Summary<T>, P: Pick<T, S>>(
+    items: &[T],
+    before: usize,
+    pick: &P,
+    n: usize,
+) -> usize
+    requires within { before ≤ length items.now }
+    requires some { 1 ≤ n }
+    requires enough { n ≤ count_by (P.picked pick.now) (take before items.now) }
+    ensures within { result < length items.now }
+    ensures picked { (d : T) → P.picked pick.now (slice_index_or items.now result d) ≡ true }
+    ensures count { count_by (P.picked pick.now) (take result items.now) + n ≡ count_by (P.picked pick.now) (take before items.now) }
+{
+    let mut left = n;
+    let mut at = before;
+    while left > 0 {
+        at -= 1;
+        left -= pick.picks(items[at]) as usize;
+    }
+    at
+}
+
+/// The same of all of one page: strides that do not reach it are counted.
+fn nth_back<T: Copy, S: Summary<T>, P: Pick<T, S>>(items: &[T], pick: &P, n: usize) -> usize
+    requires some { 1 ≤ n }
+    requires enough { n ≤ count_by (P.picked pick.now) items.now }
+    ensures within { result < length items.now }
+    ensures picked { (d : T) → P.picked pick.now (slice_index_or items.now result d) ≡ true }
+    ensures count { count_by (P.picked pick.now) (take result items.now) + n ≡ count_by (P.picked pick.now) items.now }
+{
+    let mut left = n;
+    let mut at = items.len();
+    while at >= STRIDE {
+        let count = count_between(items, at - STRIDE, at, pick);
+        if count >= left {
+            break;
+        }
+        left -= count;
+        at -= STRIDE;
+    }
+    nth_back_by_one(items, at, pick, left)
+}
+
+/// The n-th of page p, or how many are wanting: counted from the nearer end, where it is known how many there are.
 fn nth_of<T: Copy, S: Summary<T>, A: Allocator, P: Pick<T, S>>(
     pages: &Shelf<T, S, A>,
     p: usize,
@@ -116,6 +160,9 @@ fn nth_of<T: Copy, S: Summary<T>, A: Allocator, P: Pick<T, S>>(
         }
         if count == len {
             return Ok(n);
+        }
+        if n >= count / 2 {
+            return Ok(nth_back(pages.items(p), pick, count - n));
         }
     }
     nth_in(pages.items(p), 0, pick, n)
