@@ -112,6 +112,13 @@ IsNowhere Nowhere = Unit {0}
 IsNowhere Absent = ⊥
 IsNowhere (Holds kept) = ⊥
 
+-- a file can have the name, as far as that is known of the files
+abbrev pub CanBe : Kept → Type 0
+CanBe Unknown = Unit {0}
+CanBe Nowhere = ⊥
+CanBe Absent = Unit {0}
+CanBe (Holds kept) = Unit {0}
+
 -- the name may stand for a file, as far as that is known of the files
 abbrev pub IsThere : Kept → Type 0
 IsThere Unknown = Unit {0}

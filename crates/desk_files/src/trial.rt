@@ -4,7 +4,7 @@ ghost use Rattle.std.specs.Prelude.{◌≡◌, ◌≤◌, ◌<◌, ◌≢◌, �
 ghost use Rattle.std.specs.Io.{ReadsAtMost, WritesAtMost};
 ghost use Rattle.std.specs.IoError.{error_kind};
 ghost use Rattle.std.specs.Io.KnownBytes.{Keeps, ReadConsumes, WriteAppends};
-ghost use Rattle.desk_files.specs.Files.{Counts, Free, HasRisen, IsGone, IsNowHeld, IsNowhere, IsRenamed, IsThere, IsWritten, Reads, Spares, Stays, bytes_read, max_file, touched};
+ghost use Rattle.desk_files.specs.Files.{CanBe, Counts, Free, HasRisen, IsGone, IsNowHeld, IsNowhere, IsRenamed, IsThere, IsWritten, Reads, Spares, Stays, bytes_read, max_file, touched};
 ghost use Rattle.desk_files.specs.Trial.{HasFailed, IsDue, IsPut, IsTurn, TakesMemory, bytes_in, held_in, kept_in, most_given, most_taken, one_more, shelf_in};
 
 use crate::files::{FileRefusal, Files, MAX_FILE};
@@ -375,6 +375,7 @@ impl<A: Allocator + Copy> Files for TrialFiles<A> {
         ensures counted { Counts result (shelf_in self.old) (shelf_in self.new) }
         ensures small { IfErr result (λ e. e ≢ FileRefusal.Large) }
         ensures missing { IsErrOf result FileRefusal.Missing → IsNowhere (kept_in self.old.changes.items name.now) }
+        ensures memory { IsErrOf result FileRefusal.NoMemory → CanBe (kept_in self.old.changes.items name.now) }
         ensures taken { IfOk result (λ _. IsNowHeld name.now (shelf_in self.old) (shelf_in self.new)) }
         ensures refused { IfErr result (λ _. Stays (shelf_in self.old) (shelf_in self.new)) }
         ensures changes { self.new.changes ≡ self.old.changes }
@@ -422,6 +423,7 @@ impl<A: Allocator + Copy> Files for TrialFiles<A> {
         ensures counted { Counts result (shelf_in self.old) (shelf_in self.new) }
         ensures small { IfErr result (λ e. e ≢ FileRefusal.Large) }
         ensures missing { IsErrOf result FileRefusal.Missing → IsNowhere (kept_in self.old.changes.items name.now) }
+        ensures memory { IsErrOf result FileRefusal.NoMemory → CanBe (kept_in self.old.changes.items name.now) }
         ensures written { IfOk result (λ _. IsWritten bytes.now (kept_in self.old.changes.items name.now) (kept_in self.new.changes.items name.now)) }
         ensures held { held_in self.new.held ≡ touched (held_in self.old.held) }
         ensures others { Spares name.now (kept_in self.old.changes.items) (kept_in self.new.changes.items) }
@@ -447,7 +449,8 @@ impl<A: Allocator + Copy> Files for TrialFiles<A> {
         ensures held { held_in self.new.held ≡ touched (held_in self.old.held) }
         ensures refused { IfErr result (λ _. kept_in self.new.changes.items ≡ kept_in self.old.changes.items) }
         ensures device { IsErrOf result FileRefusal.Device → IsDue self.old }
-        ensures memory { IsErrOf result FileRefusal.NoMemory → IsThere (kept_in self.old.changes.items from.now) }
+        ensures memory { IsErrOf result FileRefusal.NoMemory → CanBe (kept_in self.old.changes.items from.now) × CanBe (kept_in self.old.changes.items to.now) }
+        ensures kept { IsErrOf result FileRefusal.NoMemory → IsThere (kept_in self.old.changes.items from.now) }
         ensures turn { IsTurn result self.old self.new }
     {
         self.touch();
