@@ -4,6 +4,7 @@
 # lost. `git diff` shows the copies as text.
 set -euo pipefail
 program=$(realpath "${1:-$(dirname "$0")/../crates/copydesk/out/copydesk}")
+guide=$(realpath "$(dirname "$0")/../docs/GUIDE.md")
 folder=$(mktemp -d)
 trap 'rm -rf "$folder"' EXIT
 cd "$folder"
@@ -15,13 +16,15 @@ git config --global user.name "A keyboard room"
 git config --global user.email room@example.org
 git config --global init.defaultBranch main
 git config --global pull.rebase false
-git config --global merge.feed.driver 'copydesk merge %A %B > /dev/null && rm -f %A.lock'
-git config --global diff.feed.textconv 'copydesk export'
 
 fail() {
   echo "git: $*" >&2
   exit 1
 }
+
+# The guide's lines for a clone, in the clone that one stands in.
+lines=$(sed -n '/^## Rooms that exchange feeds by git$/,/^## Faults/{/^```sh$/,/^```$/{/^```/!p}}' "$guide")
+[[ $(grep -c . <<< "$lines") -eq 3 ]] || fail "the guide has no three lines for a clone"
 
 # The licence of the test: a text of many lines.
 text() {
@@ -33,15 +36,14 @@ text() {
 git init -q --bare server.git
 git clone -q server.git one 2> /dev/null
 cd one
-printf '*.feed merge=feed diff=feed\n*.lock -merge\n' > .gitattributes
-printf '*.lock\n*.new\n' > .gitignore
+eval "$lines"
 text | copydesk import copy.feed --site 1 > /dev/null
 git add .gitattributes .gitignore copy.feed
 git commit -qm "The copy as keyed"
 git push -q origin main
 cd ..
-git clone -q server.git two
-git clone -q server.git three
+git clone -q server.git two && (cd two && eval "$lines")
+git clone -q server.git three && (cd three && eval "$lines")
 
 # Each room corrects the text in an editor, at another place, and one place is corrected by two.
 correct() {
@@ -65,6 +67,7 @@ cmp one/copy.feed three/copy.feed || fail "two feeds differ"
 # The same corrections, merged in another order, by branches of one clone.
 git clone -q server.git order
 cd order
+eval "$lines"
 first=$(git rev-list --max-parents=0 HEAD)
 for room in 1 2 3; do
   git branch "room$room" "$(git log --format=%H --grep="Corrections of room $room")"
