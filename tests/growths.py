@@ -6,7 +6,7 @@ first K operations stand; each other answer is that of the independent program, 
 does the front of the second. The lines of the first script and of the stored feed stand twice, so that what was refused is
 asked again with memory. The run goes on: it ends with status 1 and `copydesk: no memory` only before the first answer, or
 where the next line is longer than all before it, so that there was no memory to keep it, and what it wrote then is whole
-lines. Then all growths from one on are refused, for each twentieth, and the same holds. No want of memory is told as another
+lines. Then all growths from one on are refused, for each twentieth, and the same holds. Out of memory is never reported as another
 refusal, of the wedge or the case file too, whose text `toml` reads with the global allocator. On a stored feed a run may end
 so also at its end, where it stores; the file holds the old feed then, and the followed one after an end with status 0. Words
 that are refused or ask for help keep their status, or end in that way too. A merge, an export and an import are done as with
@@ -329,7 +329,7 @@ def words(program, folder, library):
 
 
 def by_hand(program, folder, library):
-    """What is done by hand and a strict sheet: done as undisturbed, or ended for want of memory with the stored feed as it was."""
+    """What is done by hand and a strict sheet: done as undisturbed, or ended out of memory with the stored feed as it was."""
     path = os.path.join(folder, "hand.feed")
     for name, text in (("hand.feed", "Send _word_\nby noon.\n"), ("other.feed", "Word was sent.\n")):
         site = "1" if name == "hand.feed" else "2"
@@ -381,7 +381,7 @@ LACKED = 'insert 1 0 r"%s"\n' % ("n~ |" * 12)
 
 
 def previews(program, folder, library):
-    """A proof, a punch, a reading and a list of sorts: done as undisturbed, or ended for want of memory, and then no ribbon or
+    """A proof, a punch, a reading and a list of sorts: done as undisturbed, or ended out of memory, and then no ribbon or
     picture is there."""
     ribbon = os.path.join(folder, "preview.rib")
     for feed, commands in (("preview.feed", SETTINGS), ("lacking.feed", LACKED)):
@@ -416,7 +416,7 @@ def previews(program, folder, library):
     return sweep
 
 
-# the commands that a run of the script was seen to refuse for want of memory, and those that it stopped
+# the commands that a run of the script was seen to refuse as out of memory, and those that it stopped
 LACKING = {(name, False) for name in ("site", "insert", "take", "send", "merge", "show", "faults", "settings", "feed", "ribbon", "cast", "restart")}
 LACKING |= {(name, True) for name in ("insert", "take", "send", "merge")}
 

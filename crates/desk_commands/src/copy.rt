@@ -1,3 +1,5 @@
+//! How the COPY of a command is read: quoted runs of symbols, each after the letter of its style.
+
 ghost use Rattle.std.specs.Prelude.{◌≡◌};
 ghost use Rattle.std.specs.Str.{chars};
 ghost use Rattle.desk_commands.specs.Reading.{Gives};

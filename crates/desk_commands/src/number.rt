@@ -1,3 +1,5 @@
+//! How a decimal number and the bytes of a hexadecimal word are read.
+
 ghost use Rattle.std.specs.Prelude.{◌≡◌, ◌≤◌, ◌<◌, ◌≢◌, length, IfOk};
 ghost use Rattle.desk_commands.specs.Reading.{Gives, number_of, value_from, nibble, pairs};
 ghost use Rattle.desk_commands.specs.Memory.{MayHoldByte};

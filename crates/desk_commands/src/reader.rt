@@ -1,3 +1,5 @@
+//! How a line is read as a command, word by word from the left.
+
 ghost use Rattle.std.specs.Prelude.{◌≡◌, ◌≢◌, ℕ, List, IsSomeAnd};
 ghost use Rattle.std.specs.Option.{option_copied};
 ghost use Rattle.desk_commands.specs.Reading.{Gives, word_at, number_at, file_at, range_of, range_at, hex_at, at_end, dotted};

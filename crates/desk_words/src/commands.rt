@@ -117,7 +117,7 @@ fn target_arg<'a>(alloc: Global) -> Arg<'a>
     with_help(target, TARGET)
 }
 
-/// The command with what is told of it: in one line, and below its help.
+/// The command with its texts: in one line, and below its help.
 fn with_texts<'a>(command: Command<'a>, about: &'a str, help: &'a str) -> Command<'a>
     ensures app { app_of result ≡ app_of command.entry }
     ensures local { (out-Command result).has_globals ≡ (out-Command command.entry).has_globals }
@@ -361,7 +361,7 @@ fn bare_command<'a>(alloc: Global) -> Command<'a>
         .subcommand_required(true)
 }
 
-/// The program's command with its version and what is told of it.
+/// The program's command with its version and its texts.
 fn with_version<'a>(command: Command<'a>) -> Command<'a>
     ensures app { app_of result ≡ with_version (app_of command.entry) }
     ensures version { version_of result ≡ Some VERSION.now }

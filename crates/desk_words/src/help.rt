@@ -76,7 +76,7 @@ As in:
                                             the sorts that the copy wants, and those that are missing
 
 Status: 0 done; 1 it stopped, with a line on standard error; 2 the words were refused.
-`copydesk SUBCOMMAND --help` tells more; `copydesk script --help` tells the commands.";
+`copydesk SUBCOMMAND --help` says more; `copydesk script --help` lists the commands.";
 
 /// What the commands of a script are.
 pub const COMMANDS: &str = "\
@@ -111,7 +111,7 @@ With `--strict` a sheet of commands is stored as a whole or not at all: the firs
 its number stands on standard error, and the feed is as it was.
 
 Status: 0 done; 1 the run stopped, with one line on standard error; 2 the words were refused.
-`copydesk script --help` tells the commands.";
+`copydesk script --help` lists the commands.";
 
 /// What a merge is.
 pub const ON_MERGE: &str = "\
@@ -170,7 +170,7 @@ Status: 0 the feed is stored; 1 it is not, and nothing has changed: standard err
 pub const ON_CHECK: &str = "\
 As in: copydesk check one.feed case12.toml wedge5.toml one.rib
 
-Each file is told by its content as a feed, a ribbon, a case or a wedge, and has a line: what is in it, or its
+Each file is known by its content as a feed, a ribbon, a case or a wedge, and has a line: what is in it, or its
 first fault with its place. Nothing changes.
 
 Status: 0 all files are in order; 1 one is not, or a line was not written, and standard error says why; 2 the words
