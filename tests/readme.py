@@ -9,11 +9,13 @@ What is checked is named by the words behind a block's back quotes:
   text letter  the same, of commands and answers that stand in examples/letter.script and letter.answers, in their order
   text day     lines that stand in examples/day.answers, one after the other
   rust NAME    lines that stand in the program crates/NAME, one after the other
-  sh           in README.md the two commands that do all the setting up: the main job and the tests
+  toml NAME    lines that stand in examples/NAME, one after the other
+  sh           in README.md the two commands that do all the setting up: the main job and the tests; in the guide the line
+               that makes the copy of examples/, which is run with another folder, and the lines that tests/git.sh runs
 
 In what is written a line may end in `..`, where more follows, and a line `..` stands for any lines. Links to files of
-the repository must lead to one, README.md has at most 1,500 words, and docs/FORMATS.md names each subcommand and option
-that the help has, and no other.
+the repository must lead to one, README.md has at most 1,500 words and names the kit that is here, and docs/FORMATS.md
+names each subcommand and option that the help has, and no other.
 """
 import os
 import re
@@ -121,17 +123,30 @@ def day(lines):
     return None
 
 
-def library(lines, name):
-    with open(os.path.join(ROOT, "crates", name, "src", "main.rt"), encoding="utf-8") as file:
-        real = file.read().split("\n")
+def stands_in(lines, name):
+    real = text_of(name).split("\n")
     if not any(lines == real[k:k + len(lines)] for k in range(len(real))):
         return "these lines do not stand in %s" % name
     return None
 
 
+def copied(lines):
+    """The guide's line that makes a copy of examples/ and goes there, in another folder than the one that it names."""
+    with tempfile.TemporaryDirectory() as folder:
+        room = os.path.join(folder, "room")
+        done = subprocess.run(["bash", "-c", "\n".join(lines).replace("/tmp/room", room) + "\npwd && LC_ALL=C ls"], cwd=ROOT, stdout=subprocess.PIPE, encoding="utf-8")
+        if done.stdout.split("\n")[:-1] != [room] + sorted(os.listdir(os.path.join(ROOT, "examples"))):
+            return "it makes no copy of examples"
+    return None
+
+
 def fault_of(kind, lines, folder, program):
     if kind.startswith("rust "):
-        return library(lines, kind[5:])
+        return stands_in(lines, "crates/%s/src/main.rt" % kind[5:])
+    if kind.startswith("toml "):
+        return stands_in(lines, "examples/" + kind[5:])
+    if kind == "sh":
+        return copied(lines)
     if kind == "console":
         return session(lines, folder, program)
     if kind == "text script":
@@ -173,7 +188,7 @@ def main():
         with tempfile.TemporaryDirectory() as folder:
             shutil.copytree(os.path.join(ROOT, "examples"), folder, dirs_exist_ok=True)
             for kind, number, lines in blocks(text):
-                if kind.startswith("rust ") or kind in KINDS and kind != "sh":
+                if kind.startswith(("rust ", "toml ")) or kind in KINDS and (kind != "sh" or lines[0].startswith("cp -r examples ")):
                     fault = fault_of(kind, lines, folder, program)
                     faults += ["%s:%d: %s" % (page, number, fault)] if fault else []
                     checked += 1
@@ -181,6 +196,9 @@ def main():
     readme = text_of("README.md")
     if [kind for kind, _, _ in blocks(readme)].count("sh") != 2 or "bash .ci/run" not in readme:
         faults.append("README.md: the two commands, the main job and the tests, are not there")
+    kit = re.search(r"`rt version` begins with `([^`]+)`", readme)
+    if not kit or not run(["rt", "version"], ROOT, program)[0].startswith(kit[1]):
+        faults.append("README.md: it does not name the kit that is here")
     words = sum(any(c.isalnum() for c in word) for word in readme.split())
     if words > WORDS:
         faults.append("README.md has %d words, of at most %d" % (words, WORDS))
