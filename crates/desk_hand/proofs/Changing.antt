@@ -21,10 +21,7 @@ use Rattle.desk_replica.specs.Edits.{IsDeleted, IsInserted, delete_refusal, edit
 use Rattle.desk_replica.specs.State.{State}
 use Rattle.desk_replica.specs.declared.Refusal.{Refusal}
 use Rattle.desk_replica.specs.declared.Refusal.TheVariants as refusals
-use Rattle.desk_hand.specs.Faults.{refusal_of}
-use Rattle.desk_hand.specs.declared.fault.RevisionFault.{RevisionFault}
-use Rattle.desk_hand.specs.declared.fault.RevisionFault.TheVariants as revisions
-use Rattle.desk_hand.specs.Editing.{AreMade, IsMade, IsRefusedAmong, IsRefusedBy, IsRevised, IsSparing, IsUnrevised, change_refusal, deletes_of, insert_count, delete_count, inserts_of}
+use Rattle.desk_hand.specs.Editing.{AreMade, IsMade, IsRefusedAmong, IsRefusedBy, IsRevised, IsSparing, change_refusal, deletes_of, insert_count, delete_count, inserts_of}
 use Rattle.desk_hand.proofs.Sites.{all_counted, deletes_more, deletes_of_more, extends_more, inserts_more, inserts_of_more, own_more}
 
 -- ---- one change
@@ -172,13 +169,6 @@ never_placeless site old now text made makes (front, tail, next, is, ops, all, i
 pub placed : (site : ℕ) (old now : OpSet) (text : List Symbol) (made : List Change) (why : Refusal) → all_changed made (copy_of old) ≡ Some text → IsRefusedAmong site old now made why → why ≢ refusals.Place
 placed site old now text made why makes among place = never_placeless site old now text made makes (subst (λ w. IsRefusedAmong site old now made w) place among)
 
-pub unrevised : (site : ℕ) (old now : OpSet) (text : List Symbol) (made : List Change) (fault : RevisionFault) → all_changed made (copy_of old) ≡ Some text
-    → AreSparing (copy_of old) text made → IsRefusedAmong site old now made (refusal_of fault) → IsUnrevised site old now text fault
-unrevised site old now text made revisions.NoMemory makes sparing among = inr (made, makes, sparing, among)
-unrevised site old now text made revisions.Full makes sparing among = (made, makes, sparing, among)
-unrevised site old now text made revisions.ClockFull makes sparing among = (made, makes, sparing, among)
-unrevised site old now text made revisions.Value makes sparing among = (made, makes, sparing, among)
-
 -- so many operations are made as there are changes, and these are sparing
 pub sparing_made : (from to : List Symbol) (made : List Change) (inserted deleted : ℕ) → inserted ≡ inserts_of made → deleted ≡ deletes_of made → AreSparing from to made → IsSparing from to (inserted + deleted)
 sparing_made from to made inserted deleted is are sparing =
@@ -221,9 +211,3 @@ valueless site old now text made why lawful adds (front, tail, next, is, ops, al
 pub none_made : (site : ℕ) (old now : OpSet) (made : List Change) (ops : List Op) → made ≡ [] → AreMade site old now made ops → now ≡ old
 none_made site old now made [] none all = all.gained
 none_made site old now made (op ∷ ops) none all = absurd (let e : length (op ∷ ops) ≡ 0 = all.count ∙ ap length none in omega (arith, e))
-
-pub none_refused : (site : ℕ) (old now : OpSet) (made : List Change) (why : Refusal) → made ≡ [] → IsRefusedAmong site old now made why → ⊥
-none_refused site old now made why none (front, tail, next, is, ops, all, refused) =
-    let e : length (front ++ next ∷ tail) ≡ 0 = ap length (sym is ∙ none) in
-    let l = length-append front (next ∷ tail) in
-    omega (arith, e, l)

@@ -6,11 +6,9 @@ use Rattle.desk_ops.specs.OpSet.{OpSet, max_ops, no_ops, size, with_all}
 use Rattle.desk_files.specs.Files.{Shelf}
 use Rattle.desk_held.specs.declared.AddRefusal.{AddRefusal}
 use Rattle.desk_held.specs.declared.AddRefusal.TheVariants as adds
-use Rattle.desk_stored.specs.declared.fault.OpenFault.{OpenFault}
-use Rattle.desk_stored.specs.declared.fault.OpenFault.TheVariants as openings
 use Rattle.desk_hand.specs.Exporting.{IsClosedBy}
-use Rattle.desk_hand.specs.Faults.{of_adding, of_opening}
-use Rattle.desk_hand.specs.Merging.{IsBarredBy, IsFeedOf, IsShut, Refuses}
+use Rattle.desk_hand.specs.Faults.{of_adding}
+use Rattle.desk_hand.specs.Merging.{IsFeedOf, Refuses}
 use Rattle.desk_hand.specs.declared.fault.FeedTrouble.{FeedTrouble}
 use Rattle.desk_hand.specs.declared.fault.FeedTrouble.TheVariants as troubles
 
@@ -24,9 +22,3 @@ pub crowded : (name : List ℕ) (before after : Shelf) (ops : List Op) (why : Ad
     → IsClosedBy name before after (of_adding why)
 crowded name before after ops adds.Full feed counted full = (ops, feed, counted, full refl)
 crowded name before after ops adds.NoMemory feed counted full = (feed.0, (feed.1, counted), inr (ops, feed.2))
-
--- why a stored feed that was read is not opened
-pub shut : (name : List ℕ) (held last : Shelf) (why : OpenFault) → IsShut name held last why → IsBarredBy name held last (of_opening why)
-shut name held last (openings.Feed fault) is = is
-shut name held last (openings.Opening stop) is = (stop, is)
-shut name held last openings.NoMemory is = is

@@ -50,9 +50,7 @@ fn put_edits<A: Allocator + Copy>(
     ensures refused { IfErr result (IsRefusedAmong replica.old.site replica.old.ops replica.new.ops made.now) }
 {
     for change in made {
-        if let Err(why) = put_edit(replica, change) {
-            return Err(why);
-        }
+        put_edit(replica, change)?;
     }
     Ok(())
 }
@@ -108,8 +106,6 @@ pub fn revise<A: Allocator + Copy>(
 {
     let copy = replica.copy()?;
     let made = changes(alloc, &copy, text)?;
-    if let Err(why) = put_edits(replica, &made) {
-        return Err(fault_of(why));
-    }
+    put_edits(replica, &made).map_err(fault_of)?;
     Ok(tally_of(&made))
 }

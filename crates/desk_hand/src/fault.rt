@@ -3,6 +3,7 @@
 ghost use Rattle.std.specs.Prelude.{◌≡◌};
 ghost use Rattle.desk_hand.specs.Faults.{of_adding, of_opening, of_reader, of_text};
 ghost use Rattle.desk_hand.specs.declared.fault.FeedTrouble.TheVariants as troubles;
+ghost use Rattle.desk_hand.specs.declared.fault.TakeFault.TheVariants as takes;
 ghost use Rattle.desk_hand.specs.declared.fault.KeepFault.TheVariants as keeps;
 ghost use Rattle.desk_hand.specs.declared.fault.RevisionFault.TheVariants as revisions;
 ghost use Rattle.desk_hand.specs.declared.fault.ExportFault.TheVariants as exports;
@@ -182,6 +183,22 @@ impl From<NoMemory> for FeedTrouble {
 
     fn from(_: NoMemory) -> FeedTrouble {
         FeedTrouble::NoMemory
+    }
+}
+
+impl From<FeedTrouble> for TakeFault {
+    ghost from_gives = { λ why fault. fault ≡ takes.Feed why };
+
+    fn from(why: FeedTrouble) -> TakeFault {
+        TakeFault::Feed(why)
+    }
+}
+
+impl From<OpenFault> for TakeFault {
+    ghost from_gives = { λ why fault. fault ≡ takes.Feed (of_opening why) };
+
+    fn from(why: OpenFault) -> TakeFault {
+        TakeFault::Feed(FeedTrouble::from(why))
     }
 }
 

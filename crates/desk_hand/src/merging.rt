@@ -118,17 +118,10 @@ pub fn take_feed<F: Files, A: Allocator + Copy>(
     ensures err { IfErr result (IsBarred name.now (F.shelf files.old) (F.shelf files.new)) }
     ensures held { IsHeldAlone name.now (F.shelf files.old) (F.shelf files.new) ⊎ Stays (F.shelf files.old) (F.shelf files.new) }
 {
-    if let Err(why) = files.hold(name) {
-        return Err(TakeFault::Untaken(why));
-    }
-    let old = match stored_bytes(alloc, files, name) {
-        Ok(old) => old,
-        Err(why) => return Err(TakeFault::Feed(FeedTrouble::File(why))),
-    };
-    match open_replica(alloc, &old, site) {
-        Ok(replica) => Ok((old, replica)),
-        Err(why) => Err(TakeFault::Feed(FeedTrouble::from(why))),
-    }
+    files.hold(name).map_err(TakeFault::Untaken)?;
+    let old = stored_bytes(alloc, files, name).map_err(FeedTrouble::File)?;
+    let replica = open_replica(alloc, &old, site)?;
+    Ok((old, replica))
 }
 
 /// Writes the line of the copy's faults at the end.

@@ -4,6 +4,8 @@ use Rattle.desk_ops.specs.declared.op.Symbol.{Symbol}
 use Rattle.desk_ops.specs.OpSet.{OpSet}
 use Rattle.desk_ops.specs.Shown.{copy_of}
 use Rattle.desk_text.specs.Reading.{reading}
+use Rattle.desk_text.specs.declared.fault.TextFault.{TextFault}
+use Rattle.desk_text.specs.declared.fault.TextFault.TheVariants as texts
 use Rattle.desk_files.specs.Files.{Shelf}
 use Rattle.desk_files.specs.declared.files.FileRefusal.{FileRefusal}
 use Rattle.desk_places.specs.Places.{places_of}
@@ -29,6 +31,11 @@ abbrev pub AreUnread : Exchange → ExchangeFault → Type 0
 AreUnread exchange (exchanges.Old why) = reading exchange.plain (exchange.from).now ≡ Err why
 AreUnread exchange (exchanges.New why) = ((old : List Symbol) × (reading exchange.plain (exchange.from).now ≡ Ok old)) × (reading exchange.plain (exchange.to).now ≡ Err why)
 AreUnread exchange exchanges.NoMemory = Unit {0}
+
+-- the fault of a text that is not read: the one that names the text, unless memory ran out
+abbrev pub fault_of : TextFault → ExchangeFault → ExchangeFault
+fault_of (texts.At line column cause) named = named
+fault_of texts.NoMemory named = exchanges.NoMemory
 
 -- ---- in a copy
 

@@ -1,8 +1,8 @@
 //! The text that is to be replaced, and the one that is to take its place.
 
-ghost use Rattle.std.specs.Prelude.{IfErr, IfOk};
+ghost use Rattle.std.specs.Prelude.{◌≡◌, IfErr, IfOk};
 ghost use Rattle.desk_text.specs.Laws.{AreLawful};
-ghost use Rattle.desk_replace.specs.Replacing.{AreRead, AreUnread};
+ghost use Rattle.desk_replace.specs.Replacing.{AreRead, AreUnread, fault_of};
 
 use crate::fault::ExchangeFault;
 use desk_ops::Symbol;
@@ -18,6 +18,16 @@ pub struct Exchange<'a> {
     pub plain: bool,
 }
 
+/// The fault of a text that is not read: the one that names the text, unless memory ran out.
+fn fault_of(why: TextFault, named: ExchangeFault) -> ExchangeFault
+    ensures { result ≡ fault_of why named }
+{
+    match why {
+        TextFault::At { .. } => named,
+        TextFault::NoMemory => ExchangeFault::NoMemory,
+    }
+}
+
 /// The symbols of both.
 pub fn read_both<A: Allocator + Copy>(
     alloc: A,
@@ -27,14 +37,9 @@ pub fn read_both<A: Allocator + Copy>(
     ensures lawful { IfOk result (λ t. AreLawful t.1.items) }
     ensures err { IfErr result (AreUnread exchange.now) }
 {
-    let old = match read_text(alloc, exchange.from.as_bytes(), exchange.plain) {
-        Ok(old) => old,
-        Err(TextFault::NoMemory) => return Err(ExchangeFault::NoMemory),
-        Err(why) => return Err(ExchangeFault::Old(why)),
-    };
-    match read_text(alloc, exchange.to.as_bytes(), exchange.plain) {
-        Ok(new) => Ok((old, new)),
-        Err(TextFault::NoMemory) => Err(ExchangeFault::NoMemory),
-        Err(why) => Err(ExchangeFault::New(why)),
-    }
+    let read = read_text(alloc, exchange.from.as_bytes(), exchange.plain);
+    let old = read.map_err(|why| fault_of(why, ExchangeFault::Old(why)))?;
+    let read = read_text(alloc, exchange.to.as_bytes(), exchange.plain);
+    let new = read.map_err(|why| fault_of(why, ExchangeFault::New(why)))?;
+    Ok((old, new))
 }
