@@ -1,3 +1,4 @@
 pub mod Text
 pub mod Reply
+pub mod Failure
 pub mod NotDone

@@ -4,9 +4,9 @@ use Rattle.std.specs.Prelude.{◌≢◌, Option, Some, None, Result, Ok, Err}
 use Rattle.toml.specs.Errors.{IsBlank}
 use Rattle.desk_answers.specs.declared.text.Refusal.{Refusal}
 use Rattle.desk_answers.specs.declared.text.Refusal.TheVariants as refusals
-use Rattle.desk_answers.specs.declared.not_done.NotDone.{NotDone}
-use Rattle.desk_answers.specs.declared.not_done.NotDone.TheVariants as ends
-use Rattle.desk_answers.specs.NotDone.{case_refused, file_refused, not_done, wedge_refused}
+use Rattle.desk_answers.specs.declared.failure.Failure.{Failure}
+use Rattle.desk_answers.specs.declared.failure.Failure.TheVariants as failures
+use Rattle.desk_answers.specs.Failure.{case_refused, failure, file_refused, wedge_refused}
 use Rattle.desk_case.specs.Case.{CaseValues}
 use Rattle.desk_case.specs.File.{case_of}
 use Rattle.desk_case.specs.declared.CaseFault.{CaseFault}
@@ -42,7 +42,7 @@ stays_by (Err files.NoMemory) before after kept held counts = (kept, omega arith
 -- it was not read
 pub unread : {V E : Type 0} (meaning : List ℕ → Result V E) (refused : E → Option Refusal) (name : List ℕ) (before after : Shelf) (why : FileRefusal)
     → Stays before after → Reads (before.kept name) (Err why) → IsCounted why before after
-    → Answers (λ given. FileGives meaning refused name before given after) (FileLacksMemory name before after) (Err (not_done (file_refused why)))
+    → Answers (λ given. FileGives meaning refused name before given after) (FileLacksMemory name before after) (Err (failure (file_refused why)))
 unread meaning refused name before after files.Missing stays reads counts = (stays, Err files.Missing, reads, counts, (refusals.FileMissing, refl, refl))
 unread meaning refused name before after files.Device stays reads counts = (stays, Err files.Device, reads, counts, (refusals.FileDevice, refl, refl))
 unread meaning refused name before after files.Large stays reads counts = (stays, Err files.Large, reads, counts, (refusals.FileLarge, refl, refl))
@@ -59,10 +59,10 @@ read_as {V} {E} meaning refused name before after bytes slice value stays reads 
 pub misread : {V E : Type 0} (meaning : List ℕ → Result V E) (refused : E → Option Refusal) (name : List ℕ) (before after : Shelf) (bytes slice : List ℕ) (fault : E)
     → Stays before after → Reads (before.kept name) (Ok bytes) → after.failures ≡ before.failures → slice ≡ bytes
     → ((told : Refusal) → refused fault ≡ Some told → meaning slice ≡ Err fault) → (refused fault ≡ None → ¬ IsBlank slice)
-    → Answers (λ given. FileGives meaning refused name before given after) (FileLacksMemory name before after) (Err (not_done (refused fault)))
+    → Answers (λ given. FileGives meaning refused name before given after) (FileLacksMemory name before after) (Err (failure (refused fault)))
 misread {V} {E} meaning refused name before after bytes slice fault stays reads counts same means more = by (refused fault) refl
   where
-    by : (o : Option Refusal) → refused fault ≡ o → Answers (λ given. FileGives meaning refused name before given after) (FileLacksMemory name before after) (Err (not_done o))
+    by : (o : Option Refusal) → refused fault ≡ o → Answers (λ given. FileGives meaning refused name before given after) (FileLacksMemory name before after) (Err (failure o))
     by None is = (same_shelf before after stays counts, Ok bytes, reads, subst (λ l. ¬ IsBlank l) same (more is))
     by (Some told) is =
         let P : Result V E → Type 0 = λ r. Tells refused r (Err told) in
@@ -94,19 +94,17 @@ no_number_wedge wedges.NoMemory is = refl
 -- ---- both
 
 -- no case, for this
-pub no_case : (of_case of_wedge : List ℕ) (before after : Shelf) (end : NotDone) → Answers (λ given. FileGives case_of case_refused of_case before given after) (FileLacksMemory of_case before after) (Err end)
+pub no_case : (of_case of_wedge : List ℕ) (before after : Shelf) (end : Failure) → Answers (λ given. FileGives case_of case_refused of_case before given after) (FileLacksMemory of_case before after) (Err end)
     → Answers (λ given. BothGive of_case of_wedge before given after) (BothLackMemory of_case of_wedge before after) (Err end)
-no_case of_case of_wedge before after (ends.Refused why) given = (Err why, (after, given, (refl, refl)))
-no_case of_case of_wedge before after (ends.Stopped taken why) given = absurd given
-no_case of_case of_wedge before after ends.NoMemory given = inl given
+no_case of_case of_wedge before after (failures.Refused why) given = (Err why, (after, given, (refl, refl)))
+no_case of_case of_wedge before after failures.NoMemory given = inl given
 
 -- a case, and no wedge, for this
-pub no_wedge : (of_case of_wedge : List ℕ) (before mid after : Shelf) (case : CaseValues) (end : NotDone) → mid ≡ before → FileGives case_of case_refused of_case before (Ok case) mid
+pub no_wedge : (of_case of_wedge : List ℕ) (before mid after : Shelf) (case : CaseValues) (end : Failure) → mid ≡ before → FileGives case_of case_refused of_case before (Ok case) mid
     → Answers (λ given. FileGives wedge_of wedge_refused of_wedge mid given after) (FileLacksMemory of_wedge mid after) (Err end)
     → Answers (λ given. BothGive of_case of_wedge before given after) (BothLackMemory of_case of_wedge before after) (Err end)
-no_wedge of_case of_wedge before mid after case (ends.Refused why) same first given = (Ok case, (mid, first, (Err why, given, refl)))
-no_wedge of_case of_wedge before mid after case (ends.Stopped taken why) same first given = absurd given
-no_wedge of_case of_wedge before mid after case ends.NoMemory same first given =
+no_wedge of_case of_wedge before mid after case (failures.Refused why) same first given = (Ok case, (mid, first, (Err why, given, refl)))
+no_wedge of_case of_wedge before mid after case failures.NoMemory same first given =
     inr (case, subst (λ (s : Shelf). FileGives case_of case_refused of_case before (Ok case) s) same first, subst (λ (s : Shelf). FileLacksMemory of_wedge s after) same given)
 
 -- a case and a wedge
@@ -116,10 +114,9 @@ case_and_wedge of_case of_wedge before mid after case wedge first second = (Ok c
 
 -- ---- out of memory
 
-pub lacking : {V : Type 0} (Holds : Result V Refusal → Type 0) (Lacks : Type 0) (end : NotDone) → Answers {V = V} Holds Lacks (Err end) → end ≡ ends.NoMemory → Lacks
-lacking Holds Lacks (ends.Refused why) given is = let e : ends.Refused why ≡ ends.NoMemory = is in cc
-lacking Holds Lacks (ends.Stopped taken why) given is = absurd given
-lacking Holds Lacks ends.NoMemory given is = given
+pub lacking : {V : Type 0} (Holds : Result V Refusal → Type 0) (Lacks : Type 0) (end : Failure) → Answers {V = V} Holds Lacks (Err end) → end ≡ failures.NoMemory → Lacks
+lacking Holds Lacks (failures.Refused why) given is = let e : failures.Refused why ≡ failures.NoMemory = is in cc
+lacking Holds Lacks failures.NoMemory given is = given
 
 -- ---- where a file gives a value nothing has changed, and nothing failed
 

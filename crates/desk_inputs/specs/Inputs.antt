@@ -6,19 +6,18 @@ use Rattle.desk_case.specs.File.{case_of}
 use Rattle.desk_wedge.specs.Wedge.{WedgeValues}
 use Rattle.desk_wedge.specs.File.{wedge_of}
 use Rattle.desk_answers.specs.declared.text.Refusal.{Refusal}
-use Rattle.desk_answers.specs.NotDone.{case_refused, file_refused, wedge_refused}
-use Rattle.desk_answers.specs.declared.not_done.NotDone.{NotDone}
-use Rattle.desk_answers.specs.declared.not_done.NotDone.TheVariants as ends
+use Rattle.desk_answers.specs.Failure.{case_refused, file_refused, wedge_refused}
+use Rattle.desk_answers.specs.declared.failure.Failure.{Failure}
+use Rattle.desk_answers.specs.declared.failure.Failure.TheVariants as failures
 use Rattle.desk_files.specs.declared.files.FileRefusal.{FileRefusal}
 use Rattle.desk_files.specs.declared.files.FileRefusal.TheVariants as files
 use Rattle.desk_files.specs.Files.{Counts, Reads, Shelf, Stays}
 
 -- the one holds of what was returned or refused, and the other where memory ran out
-abbrev pub Answers : {V : Type 0} → (Result V Refusal → Type 0) → Type 0 → Result V NotDone → Type 0
+abbrev pub Answers : {V : Type 0} → (Result V Refusal → Type 0) → Type 0 → Result V Failure → Type 0
 Answers Holds Lacks (Ok value) = Holds (Ok value)
-Answers Holds Lacks (Err (ends.Refused why)) = Holds (Err why)
-Answers Holds Lacks (Err (ends.Stopped taken why)) = ⊥
-Answers Holds Lacks (Err ends.NoMemory) = Lacks
+Answers Holds Lacks (Err (failures.Refused why)) = Holds (Err why)
+Answers Holds Lacks (Err failures.NoMemory) = Lacks
 
 -- what was read, or the refusal that says why it was not
 abbrev pub Tells : {V E : Type 0} → (E → Option Refusal) → Result V E → Result V Refusal → Type 0

@@ -3,12 +3,12 @@
 ghost use Rattle.std.specs.Prelude.{◌≡◌, OnOk};
 ghost use Rattle.desk_case.specs.File.{case_of};
 ghost use Rattle.desk_wedge.specs.File.{wedge_of};
-ghost use Rattle.desk_answers.specs.NotDone.{case_refused, wedge_refused};
+ghost use Rattle.desk_answers.specs.Failure.{case_refused, wedge_refused};
 ghost use Rattle.desk_files.specs.Files.{Stays};
 ghost use Rattle.desk_inputs.specs.Inputs.{Answers, BothGive, BothLackMemory, FileGives, FileLacksMemory};
 
 use crate::memory::Memory;
-use desk_answers::NotDone;
+use desk_answers::Failure;
 use desk_case::MatrixCase;
 use desk_files::Files;
 use desk_wedge::Wedge;
@@ -19,7 +19,7 @@ pub fn case_in<F: Files, A: Allocator + Copy>(
     memory: Memory<A>,
     files: &mut F,
     name: &str,
-) -> Result<MatrixCase, NotDone>
+) -> Result<MatrixCase, Failure>
     ensures given { Answers (λ given. FileGives case_of case_refused name.now (F.shelf files.old) given (F.shelf files.new)) (FileLacksMemory name.now (F.shelf files.old) (F.shelf files.new)) result }
     ensures still { OnOk result (F.shelf files.new ≡ F.shelf files.old) }
     ensures stays { Stays (F.shelf files.old) (F.shelf files.new) }
@@ -34,7 +34,7 @@ fn wedge_in<F: Files, A: Allocator + Copy>(
     memory: Memory<A>,
     files: &mut F,
     name: &str,
-) -> Result<Wedge, NotDone>
+) -> Result<Wedge, Failure>
     ensures given { Answers (λ given. FileGives wedge_of wedge_refused name.now (F.shelf files.old) given (F.shelf files.new)) (FileLacksMemory name.now (F.shelf files.old) (F.shelf files.new)) result }
     ensures still { OnOk result (F.shelf files.new ≡ F.shelf files.old) }
     ensures stays { Stays (F.shelf files.old) (F.shelf files.new) }
@@ -52,7 +52,7 @@ pub fn both<F: Files, A: Allocator + Copy>(
     files: &mut F,
     case: &str,
     wedge: &str,
-) -> Result<(MatrixCase, Wedge), NotDone>
+) -> Result<(MatrixCase, Wedge), Failure>
     ensures given { Answers (λ given. BothGive case.now wedge.now (F.shelf files.old) given (F.shelf files.new)) (BothLackMemory case.now wedge.now (F.shelf files.old) (F.shelf files.new)) result }
     ensures still { OnOk result (F.shelf files.new ≡ F.shelf files.old) }
     ensures stays { Stays (F.shelf files.old) (F.shelf files.new) }

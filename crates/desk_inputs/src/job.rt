@@ -5,14 +5,13 @@ ghost use Rattle.desk_signals.specs.declared.RibbonRow.{RibbonRow};
 ghost use Rattle.desk_caster.specs.Caster.{Line, cast};
 ghost use Rattle.desk_caster.specs.Reading.{IsRibbon};
 ghost use Rattle.desk_files.specs.Files.{Stays};
-ghost use Rattle.desk_answers.specs.NotDone.{IfReplied};
-ghost use Rattle.desk_answers.specs.declared.not_done.NotDone.TheVariants as ends;
+ghost use Rattle.desk_answers.specs.Failure.{IfReplied};
 ghost use Rattle.desk_answers.specs.Reply.{reply_values};
 ghost use Rattle.desk_inputs.specs.Job.{IsJobByFiles, JobLacksMemory, TellsCast, TellsJob, job_of};
 
 use crate::inputs::both;
 use crate::memory::Memory;
-use desk_answers::{NotDone, Reply};
+use desk_answers::{Failure, Reply};
 use desk_blocks::Blocks;
 use desk_case::MatrixCase;
 use desk_caster::{CastFault, CastLine, RibbonFault, cast, read_ribbon};
@@ -109,9 +108,9 @@ pub fn job_by_files<F: Files, A: Allocator + Copy>(
     case: &str,
     wedge: &str,
     wanted: Wanted,
-) -> Result<Reply<A>, NotDone>
+) -> Result<Reply<A>, Failure>
     ensures made { IfReplied result (λ reply. IsJobByFiles wanted replica.now.ops case.now wedge.now (F.shelf files.old) reply (F.shelf files.new)) }
-    ensures memory { IfErr result (λ end. end ≡ ends.NoMemory → JobLacksMemory case.now wedge.now (F.shelf files.old) (F.shelf files.new)) }
+    ensures memory { IfErr result (λ end. end ≡ Failure.NoMemory → JobLacksMemory case.now wedge.now (F.shelf files.old) (F.shelf files.new)) }
     ensures stays { Stays (F.shelf files.old) (F.shelf files.new) }
 {
     let (case, wedge) = both(memory, files, case, wedge)?;

@@ -4,8 +4,8 @@ use Rattle.std.specs.Prelude.{Option, Err}
 use Rattle.desk_ops.specs.OpSet.{OpSet}
 use Rattle.desk_case.specs.Case.{CaseValues}
 use Rattle.desk_wedge.specs.Wedge.{WedgeValues}
-use Rattle.desk_answers.specs.declared.not_done.NotDone.{NotDone}
-use Rattle.desk_answers.specs.declared.not_done.NotDone.TheVariants as ends
+use Rattle.desk_answers.specs.declared.failure.Failure.{Failure}
+use Rattle.desk_answers.specs.declared.failure.Failure.TheVariants as failures
 use Rattle.desk_files.specs.Files.{Shelf, Stays}
 use Rattle.desk_hand.specs.Exporting.{IsSetOf}
 use Rattle.desk_inputs.specs.Inputs.{Answers, BothGive, BothLackMemory}
@@ -15,11 +15,10 @@ use Rattle.desk_preview.specs.declared.fault.SourcesFault.{SourcesFault}
 use Rattle.desk_preview.specs.declared.fault.SourcesFault.TheVariants as refusals
 
 -- the case or the wedge is not given, where nothing changed as the feed was opened
-pub no_inputs : (from : Sources) (set : OpSet) (first mid last : Shelf) (end : NotDone) → mid ≡ first → IsSetOf from.feed first set
+pub no_inputs : (from : Sources) (set : OpSet) (first mid last : Shelf) (end : Failure) → mid ≡ first → IsSetOf from.feed first set
     → Answers {V = CaseValues × WedgeValues} (λ given. BothGive from.case from.wedge mid given last) (BothLackMemory from.case from.wedge mid last) (Err end) → AreRefused from first last (of_input end)
-no_inputs from set first mid last (ends.Refused why) same is given = (set, is, subst (λ (s : Shelf). BothGive from.case from.wedge s (Err why) last) same given)
-no_inputs from set first mid last (ends.Stopped taken why) same is given = absurd given
-no_inputs from set first mid last ends.NoMemory same is given = (set, is, subst (λ (s : Shelf). BothLackMemory from.case from.wedge s last) same given)
+no_inputs from set first mid last (failures.Refused why) same is given = (set, is, subst (λ (s : Shelf). BothGive from.case from.wedge s (Err why) last) same given)
+no_inputs from set first mid last failures.NoMemory same is given = (set, is, subst (λ (s : Shelf). BothLackMemory from.case from.wedge s last) same given)
 
 -- no ribbon, where the three give nothing
 pub unpunched : (from : Sources) (target : List ℕ) (first last : Shelf) (told : Option (List ℕ)) (why : SourcesFault) → Stays first last → AreRefused from first last why

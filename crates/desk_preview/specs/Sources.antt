@@ -3,8 +3,8 @@ use Rattle.std.specs.Prelude.{◌≡◌, ◌⊎◌, ℕ, List, Ok, Err}
 use Rattle.desk_ops.specs.OpSet.{OpSet}
 use Rattle.desk_case.specs.Case.{CaseValues}
 use Rattle.desk_wedge.specs.Wedge.{WedgeValues}
-use Rattle.desk_answers.specs.declared.not_done.NotDone.{NotDone}
-use Rattle.desk_answers.specs.declared.not_done.NotDone.TheVariants as ends
+use Rattle.desk_answers.specs.declared.failure.Failure.{Failure}
+use Rattle.desk_answers.specs.declared.failure.Failure.TheVariants as failures
 use Rattle.desk_files.specs.Files.{Shelf}
 use Rattle.desk_hand.specs.Exporting.{IsClosedBy, IsSetOf}
 use Rattle.desk_inputs.specs.Inputs.{BothGive, BothLackMemory}
@@ -14,10 +14,9 @@ use Rattle.desk_preview.specs.declared.fault.SourcesFault.{SourcesFault}
 use Rattle.desk_preview.specs.declared.fault.SourcesFault.TheVariants as refusals
 
 -- what a case or a wedge that is not given is for the sources of a preview
-abbrev pub of_input : NotDone → SourcesFault
-of_input (ends.Refused why) = refusals.Input why
-of_input (ends.Stopped taken why) = refusals.Input why
-of_input ends.NoMemory = refusals.NoMemory
+abbrev pub of_input : Failure → SourcesFault
+of_input (failures.Refused why) = refusals.Input why
+of_input failures.NoMemory = refusals.NoMemory
 
 -- what sources that give nothing are for a preview
 abbrev pub of_sources : SourcesFault → PreviewFault

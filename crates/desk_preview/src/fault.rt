@@ -7,7 +7,7 @@ ghost use Rattle.desk_preview.specs.declared.fault.LineFault.TheVariants as line
 ghost use Rattle.desk_preview.specs.declared.fault.PreviewFault.TheVariants as faults;
 ghost use Rattle.desk_preview.specs.declared.fault.SourcesFault.TheVariants as refusals;
 
-use desk_answers::{NotDone, Refusal};
+use desk_answers::{Failure, Refusal};
 use desk_files::FileRefusal;
 use desk_hand::FeedTrouble;
 use desk_memory::NoMemory;
@@ -69,13 +69,13 @@ impl From<FeedTrouble> for SourcesFault {
     }
 }
 
-impl From<NotDone> for SourcesFault {
+impl From<Failure> for SourcesFault {
     ghost from_gives = { λ end fault. fault ≡ of_input end };
 
-    fn from(end: NotDone) -> SourcesFault {
+    fn from(end: Failure) -> SourcesFault {
         match end {
-            NotDone::Refused(why) | NotDone::Stopped(_, why) => SourcesFault::Input(why),
-            NotDone::NoMemory => SourcesFault::NoMemory,
+            Failure::Refused(why) => SourcesFault::Input(why),
+            Failure::NoMemory => SourcesFault::NoMemory,
         }
     }
 }

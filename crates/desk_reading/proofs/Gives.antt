@@ -3,8 +3,8 @@ use Rattle.std.proofs.Common.{◌≡◌, List, ℕ, inl, inr, subst}
 use Rattle.std.specs.Prelude.{Ok, Err}
 use Rattle.desk_case.specs.Case.{CaseValues}
 use Rattle.desk_wedge.specs.Wedge.{WedgeValues}
-use Rattle.desk_answers.specs.declared.not_done.NotDone.{NotDone}
-use Rattle.desk_answers.specs.declared.not_done.NotDone.TheVariants as ends
+use Rattle.desk_answers.specs.declared.failure.Failure.{Failure}
+use Rattle.desk_answers.specs.declared.failure.Failure.TheVariants as failures
 use Rattle.desk_files.specs.Files.{IsCounted, Reads, Shelf, Stays}
 use Rattle.desk_files.specs.declared.files.FileRefusal.{FileRefusal}
 use Rattle.desk_files.specs.declared.files.FileRefusal.TheVariants as files
@@ -20,8 +20,7 @@ no_ribbon from first last files.Large stays reads counts = ((λ e. cc), reads, c
 no_ribbon from first last files.NoMemory stays reads counts = inl (reads, same_shelf first last stays counts)
 
 -- the case or the wedge is not given, where nothing changed as the ribbon was read
-pub no_inputs : (from : Sources) (bytes : List ℕ) (first mid last : Shelf) (end : NotDone) → mid ≡ first → Reads (first.kept from.ribbon) (Ok bytes)
+pub no_inputs : (from : Sources) (bytes : List ℕ) (first mid last : Shelf) (end : Failure) → mid ≡ first → Reads (first.kept from.ribbon) (Ok bytes)
     → Answers {V = CaseValues × WedgeValues} (λ given. BothGive from.case from.wedge mid given last) (BothLackMemory from.case from.wedge mid last) (Err end) → AreRefused from first last (of_input end)
-no_inputs from bytes first mid last (ends.Refused why) same is given = (bytes, is, subst (λ (s : Shelf). BothGive from.case from.wedge s (Err why) last) same given)
-no_inputs from bytes first mid last (ends.Stopped taken why) same is given = absurd given
-no_inputs from bytes first mid last ends.NoMemory same is given = inr (bytes, is, subst (λ (s : Shelf). BothLackMemory from.case from.wedge s last) same given)
+no_inputs from bytes first mid last (failures.Refused why) same is given = (bytes, is, subst (λ (s : Shelf). BothGive from.case from.wedge s (Err why) last) same given)
+no_inputs from bytes first mid last failures.NoMemory same is given = inr (bytes, is, subst (λ (s : Shelf). BothLackMemory from.case from.wedge s last) same given)

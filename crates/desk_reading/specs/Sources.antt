@@ -2,8 +2,8 @@
 use Rattle.std.specs.Prelude.{◌≡◌, ◌≢◌, ◌⊎◌, ℕ, List, Ok, Err}
 use Rattle.desk_case.specs.Case.{CaseValues}
 use Rattle.desk_wedge.specs.Wedge.{WedgeValues}
-use Rattle.desk_answers.specs.declared.not_done.NotDone.{NotDone}
-use Rattle.desk_answers.specs.declared.not_done.NotDone.TheVariants as ends
+use Rattle.desk_answers.specs.declared.failure.Failure.{Failure}
+use Rattle.desk_answers.specs.declared.failure.Failure.TheVariants as failures
 use Rattle.desk_files.specs.Files.{IsCounted, Reads, Shelf}
 use Rattle.desk_files.specs.declared.files.FileRefusal.{FileRefusal}
 use Rattle.desk_files.specs.declared.files.FileRefusal.TheVariants as files
@@ -21,10 +21,9 @@ of_ribbon files.Large = refusals.Ribbon files.Large
 of_ribbon files.NoMemory = refusals.NoMemory
 
 -- what a case or a wedge that is not given is for them
-abbrev pub of_input : NotDone → SourcesFault
-of_input (ends.Refused why) = refusals.Input why
-of_input (ends.Stopped taken why) = refusals.Input why
-of_input ends.NoMemory = refusals.NoMemory
+abbrev pub of_input : Failure → SourcesFault
+of_input (failures.Refused why) = refusals.Input why
+of_input failures.NoMemory = refusals.NoMemory
 
 -- what sources that give nothing are for a reading
 abbrev pub of_sources : SourcesFault → ReadingFault

@@ -4,7 +4,7 @@ ghost use Rattle.std.specs.Prelude.{◌≡◌};
 ghost use Rattle.desk_reading.specs.Sources.{of_input, of_ribbon, of_sources};
 ghost use Rattle.desk_reading.specs.declared.fault.ReadingFault.TheVariants as faults;
 
-use desk_answers::{NotDone, Refusal};
+use desk_answers::{Failure, Refusal};
 use desk_files::FileRefusal;
 use desk_memory::NoMemory;
 use desk_stored::Unsent;
@@ -57,13 +57,13 @@ impl From<FileRefusal> for SourcesFault {
     }
 }
 
-impl From<NotDone> for SourcesFault {
+impl From<Failure> for SourcesFault {
     ghost from_gives = { λ end fault. fault ≡ of_input end };
 
-    fn from(end: NotDone) -> SourcesFault {
+    fn from(end: Failure) -> SourcesFault {
         match end {
-            NotDone::Refused(why) | NotDone::Stopped(_, why) => SourcesFault::Input(why),
-            NotDone::NoMemory => SourcesFault::NoMemory,
+            Failure::Refused(why) => SourcesFault::Input(why),
+            Failure::NoMemory => SourcesFault::NoMemory,
         }
     }
 }

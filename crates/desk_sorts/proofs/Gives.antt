@@ -4,9 +4,9 @@ use Rattle.std.specs.Prelude.{Bool, Option, Err}
 use Rattle.desk_ops.specs.OpSet.{OpSet}
 use Rattle.desk_case.specs.Case.{CaseValues}
 use Rattle.desk_case.specs.File.{case_of}
-use Rattle.desk_answers.specs.NotDone.{case_refused}
-use Rattle.desk_answers.specs.declared.not_done.NotDone.{NotDone}
-use Rattle.desk_answers.specs.declared.not_done.NotDone.TheVariants as ends
+use Rattle.desk_answers.specs.Failure.{case_refused}
+use Rattle.desk_answers.specs.declared.failure.Failure.{Failure}
+use Rattle.desk_answers.specs.declared.failure.Failure.TheVariants as failures
 use Rattle.desk_files.specs.Files.{Shelf}
 use Rattle.desk_hand.specs.Exporting.{IsSetOf}
 use Rattle.desk_inputs.specs.Inputs.{Answers, FileGives, FileLacksMemory}
@@ -16,11 +16,10 @@ use Rattle.desk_sorts.specs.declared.fault.SourcesFault.{SourcesFault}
 use Rattle.desk_sorts.specs.declared.fault.SourcesFault.TheVariants as refusals
 
 -- the case is not given, where nothing changed as the feed was opened
-pub no_inputs : (from : Sources) (set : OpSet) (first mid last : Shelf) (end : NotDone) → mid ≡ first → IsSetOf from.feed first set
+pub no_inputs : (from : Sources) (set : OpSet) (first mid last : Shelf) (end : Failure) → mid ≡ first → IsSetOf from.feed first set
     → Answers {V = CaseValues} (λ given. FileGives case_of case_refused from.case mid given last) (FileLacksMemory from.case mid last) (Err end) → AreRefused from first last (of_input end)
-no_inputs from set first mid last (ends.Refused why) same is given = (set, is, subst (λ (s : Shelf). FileGives case_of case_refused from.case s (Err why) last) same given)
-no_inputs from set first mid last (ends.Stopped taken why) same is given = absurd given
-no_inputs from set first mid last ends.NoMemory same is given = (set, is, subst (λ (s : Shelf). FileLacksMemory from.case s last) same given)
+no_inputs from set first mid last (failures.Refused why) same is given = (set, is, subst (λ (s : Shelf). FileGives case_of case_refused from.case s (Err why) last) same given)
+no_inputs from set first mid last failures.NoMemory same is given = (set, is, subst (λ (s : Shelf). FileLacksMemory from.case s last) same given)
 
 -- no list, where the two give nothing
 pub unlisted : (from : Sources) (layout : Bool) (first last : Shelf) (told : Option (List ℕ)) (why : SourcesFault) → AreRefused from first last why → AreUnlisted from layout first last told told (of_sources why)

@@ -3,9 +3,9 @@ use Rattle.std.specs.Prelude.{◌≡◌, ◌⊎◌, ℕ, List, Ok, Err}
 use Rattle.desk_ops.specs.OpSet.{OpSet}
 use Rattle.desk_case.specs.Case.{CaseValues}
 use Rattle.desk_case.specs.File.{case_of}
-use Rattle.desk_answers.specs.NotDone.{case_refused}
-use Rattle.desk_answers.specs.declared.not_done.NotDone.{NotDone}
-use Rattle.desk_answers.specs.declared.not_done.NotDone.TheVariants as ends
+use Rattle.desk_answers.specs.Failure.{case_refused}
+use Rattle.desk_answers.specs.declared.failure.Failure.{Failure}
+use Rattle.desk_answers.specs.declared.failure.Failure.TheVariants as failures
 use Rattle.desk_files.specs.Files.{Shelf}
 use Rattle.desk_hand.specs.Exporting.{IsClosedBy, IsSetOf}
 use Rattle.desk_inputs.specs.Inputs.{FileGives, FileLacksMemory}
@@ -15,10 +15,9 @@ use Rattle.desk_sorts.specs.declared.fault.SourcesFault.{SourcesFault}
 use Rattle.desk_sorts.specs.declared.fault.SourcesFault.TheVariants as refusals
 
 -- what a case that is not given is for the sources of a list
-abbrev pub of_input : NotDone → SourcesFault
-of_input (ends.Refused why) = refusals.Input why
-of_input (ends.Stopped taken why) = refusals.Input why
-of_input ends.NoMemory = refusals.NoMemory
+abbrev pub of_input : Failure → SourcesFault
+of_input (failures.Refused why) = refusals.Input why
+of_input failures.NoMemory = refusals.NoMemory
 
 -- what sources that give nothing are for a list of sorts
 abbrev pub of_sources : SourcesFault → SortsFault

@@ -5,7 +5,7 @@ ghost use Rattle.desk_sorts.specs.Sources.{of_input, of_sources};
 ghost use Rattle.desk_sorts.specs.declared.fault.SortsFault.TheVariants as faults;
 ghost use Rattle.desk_sorts.specs.declared.fault.SourcesFault.TheVariants as refusals;
 
-use desk_answers::{NotDone, Refusal};
+use desk_answers::{Failure, Refusal};
 use desk_hand::FeedTrouble;
 use desk_memory::NoMemory;
 use desk_stored::Unsent;
@@ -61,13 +61,13 @@ impl From<FeedTrouble> for SourcesFault {
     }
 }
 
-impl From<NotDone> for SourcesFault {
+impl From<Failure> for SourcesFault {
     ghost from_gives = { λ end fault. fault ≡ of_input end };
 
-    fn from(end: NotDone) -> SourcesFault {
+    fn from(end: Failure) -> SourcesFault {
         match end {
-            NotDone::Refused(why) | NotDone::Stopped(_, why) => SourcesFault::Input(why),
-            NotDone::NoMemory => SourcesFault::NoMemory,
+            Failure::Refused(why) => SourcesFault::Input(why),
+            Failure::NoMemory => SourcesFault::NoMemory,
         }
     }
 }

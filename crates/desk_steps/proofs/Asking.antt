@@ -9,11 +9,9 @@ use Rattle.desk_ops.specs.OpSet.{OpSet, in_order}
 use Rattle.desk_ops.specs.Shown.{copy_of}
 use Rattle.desk_held.specs.declared.AddRefusal.{AddRefusal}
 use Rattle.desk_held.specs.declared.AddRefusal.TheVariants as adds
-use Rattle.desk_replica.specs.declared.Refusal.{Refusal as EditRefusal}
-use Rattle.desk_replica.specs.declared.Refusal.TheVariants as edits
 use Rattle.desk_commands.specs.Grammar.{command_of}
 use Rattle.desk_commands.specs.Command.{CommandValues, Site, Insert, Delete, SetTo, Take, Send, Merge, Show, Faults, Settings, Feed, Ribbon, Cast, Restart}
-use Rattle.desk_answers.specs.NotDone.{edit_refused, event_reply, stopped_after}
+use Rattle.desk_answers.specs.NotDone.{event_reply, stopped_after}
 use Rattle.desk_answers.specs.Reply.{ReplyValues, Refused, Stopped, is_long}
 use Rattle.desk_answers.specs.Reply as replies
 use Rattle.desk_answers.specs.declared.text.Refusal.{Refusal}
@@ -45,13 +43,6 @@ halted_short : (taken : ℕ) (why : AddRefusal) → is_long (stopped_after taken
 halted_short taken adds.Full = stopped_short _ taken refusals.Full
 halted_short taken adds.NoMemory = stopped_short _ taken refusals.Memory
 
-edit_short : (why : EditRefusal) → is_long (edit_refused why) ≡ false
-edit_short edits.Full = refl
-edit_short edits.ClockFull = refl
-edit_short edits.Place = refl
-edit_short edits.Value = refl
-edit_short edits.NoMemory = refl
-
 event_short : (result : Result Answer StepRefusal) → is_long (event_reply result) ≡ false
 event_short (Ok (answers.Made op)) = refl
 event_short (Ok (answers.Taken count)) = refl
@@ -61,7 +52,7 @@ event_short (Err steps.KnownSite) = refl
 event_short (Err steps.TooManySites) = refl
 event_short (Err steps.NoSite) = refl
 event_short (Err steps.Strange) = refl
-event_short (Err (steps.Edit why)) = edit_short why
+event_short (Err (steps.Edit why)) = refl
 event_short (Err (steps.Stopped stop)) = halted_short stop.taken stop.why
 event_short (Err steps.NoMemory) = refl
 

@@ -14,8 +14,8 @@ use Rattle.desk_inputs.specs.Job.{IsJobByFiles}
 use Rattle.desk_inputs.specs.declared.job.Wanted.{Wanted}
 use Rattle.desk_inputs.specs.declared.job.Wanted.TheVariants as wants
 use Rattle.desk_answers.specs.NotDone.{event_reply}
-use Rattle.desk_answers.specs.declared.not_done.NotDone.{NotDone}
-use Rattle.desk_answers.specs.declared.not_done.NotDone.TheVariants as ends
+use Rattle.desk_answers.specs.declared.failure.Failure.{Failure}
+use Rattle.desk_answers.specs.declared.failure.Failure.TheVariants as failures
 use Rattle.desk_answers.specs.declared.text.Refusal.{Refusal}
 use Rattle.desk_answers.specs.declared.text.Refusal.TheVariants as refusals
 use Rattle.desk_answers.specs.Reply.{ReplyValues, Copy, Refused}
@@ -45,8 +45,8 @@ sent ops None = Some ops
 sent ops (Some range) = if nat_le range.0 range.1 && nat_le range.1 (length ops) then Some (take (range.1 - range.0) (drop range.0 ops)) else None
 
 -- there is no part: the places are refused, or no memory was left for it
-abbrev pub IsNoPart : NotDone → Option (List Op) → Type 0
-IsNoPart end part = ((end ≡ ends.Refused refusals.Place) × (part ≡ None)) ⊎ (end ≡ ends.NoMemory)
+abbrev pub IsNoPart : Failure → Option (List Op) → Type 0
+IsNoPart end part = ((end ≡ failures.Refused refusals.Place) × (part ≡ None)) ⊎ (end ≡ failures.NoMemory)
 
 -- a site is given the operations at the places, or the places are refused
 abbrev pub GivesPart : Sites → List Op → Option (ℕ × ℕ) → ℕ → ReplyValues → Sites → Type 0

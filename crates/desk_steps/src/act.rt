@@ -12,7 +12,7 @@ ghost use Rattle.desk_steps.specs.Desk.{desk};
 
 use crate::event::{happen, number_of, replica_of};
 use crate::insert::insert;
-use desk_answers::{NotDone, Refusal, Reply};
+use desk_answers::{Failure, NotDone, Refusal, Reply};
 use desk_blocks::Blocks;
 use desk_codec::{ReadFault, read_feed};
 use desk_commands::Command;
@@ -27,7 +27,7 @@ fn add_site<A: Allocator + Copy>(world: &mut World<A>, site: u32) -> Result<Repl
     ensures { Does world.old (commands.Site site) (reply_to result) world.new }
 {
     let Ok(number) = u16::try_from(site) else {
-        return Err(NotDone::Refused(Refusal::Number));
+        return Err(NotDone::from(Refusal::Number));
     };
     happen(world, &Event::Site(number))
 }
@@ -87,8 +87,8 @@ fn take_feed<A: Allocator + Copy>(
 {
     match read_feed(alloc, feed) {
         Ok(ops) => bring(world, site, &ops),
-        Err(ReadFault::Fault(fault)) => Err(NotDone::Refused(Refusal::Feed(fault))),
-        Err(ReadFault::NoMemory) => Err(NotDone::NoMemory),
+        Err(ReadFault::Fault(fault)) => Err(NotDone::from(Refusal::Feed(fault))),
+        Err(ReadFault::NoMemory) => Err(NotDone::Failed(Failure::NoMemory)),
         Err(ReadFault::Failed) => unreachable!(),
     }
 }
@@ -109,7 +109,7 @@ fn take<A: Allocator + Copy>(
 fn part_of<A: Allocator + Copy>(
     replica: &Replica<Blocks<A>>,
     range: Option<(u32, u32)>,
-) -> Result<Vec<Op, A>, NotDone>
+) -> Result<Vec<Op, A>, Failure>
     ensures part { IfOk result (λ part. Some part.items ≡ sent (in_order replica.now.ops) range) }
     ensures lawful { IfOk result (λ part. All IsLawful part.items) }
     ensures refused { IfErr result (λ end. IsNoPart end (sent (in_order replica.now.ops) range)) }
@@ -120,7 +120,7 @@ fn part_of<A: Allocator + Copy>(
     if from <= to && to as usize <= replica.len() {
         Ok(replica.range(from as usize, to as usize)?)
     } else {
-        Err(NotDone::Refused(Refusal::Place))
+        Err(Failure::Refused(Refusal::Place))
     }
 }
 
@@ -189,7 +189,7 @@ fn job_at<F: Files, A: Allocator + Copy>(
     ensures stays { Stays (F.shelf files.old) (F.shelf files.new) }
 {
     let replica = replica_of(world, site)?;
-    job_by_files(memory, replica, files, case, wedge, wanted)
+    Ok(job_by_files(memory, replica, files, case, wedge, wanted)?)
 }
 
 /// Does what a command says.

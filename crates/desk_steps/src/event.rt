@@ -6,7 +6,7 @@ ghost use Rattle.desk_answers.specs.NotDone.{reply_to};
 ghost use Rattle.desk_steps.specs.Event.{Happens, set_of};
 ghost use Rattle.desk_world.specs.World.{IsSound, event_values};
 
-use desk_answers::{NotDone, Refusal, Reply};
+use desk_answers::{Failure, NotDone, Refusal, Reply};
 use desk_blocks::Blocks;
 use desk_replica::Replica;
 use desk_world::{Event, World};
@@ -16,25 +16,25 @@ use std::alloc::Allocator;
 pub fn replica_of<A: Allocator + Copy>(
     world: &World<A>,
     site: u32,
-) -> Result<&Replica<Blocks<A>>, NotDone>
+) -> Result<&Replica<Blocks<A>>, Failure>
     ensures there { MatchResult result (λ replica. Some replica.now.ops ≡ set_of world.now site) (λ _. None ≡ set_of world.now site) }
     ensures number { IfOk result (λ replica. replica.now.site ≡ site) }
-    ensures refused { IfErr result (λ end. end ≡ NotDone.Refused Refusal.Site) }
+    ensures refused { IfErr result (λ end. end ≡ Failure.Refused Refusal.Site) }
 {
     let Ok(number) = u16::try_from(site) else {
-        return Err(NotDone::Refused(Refusal::Site));
+        return Err(Failure::Refused(Refusal::Site));
     };
     match world.replica(number) {
         Some(replica) => Ok(replica),
-        None => Err(NotDone::Refused(Refusal::Site)),
+        None => Err(Failure::Refused(Refusal::Site)),
     }
 }
 
 /// The number of a site that is there.
-pub fn number_of<A: Allocator + Copy>(world: &World<A>, site: u32) -> Result<u16, NotDone>
+pub fn number_of<A: Allocator + Copy>(world: &World<A>, site: u32) -> Result<u16, Failure>
     ensures there { MatchResult result (λ _. (set : OpSet) × (Some set ≡ set_of world.now site)) (λ _. None ≡ set_of world.now site) }
     ensures number { IfOk result (λ number. number ≡ site) }
-    ensures refused { IfErr result (λ end. end ≡ NotDone.Refused Refusal.Site) }
+    ensures refused { IfErr result (λ end. end ≡ Failure.Refused Refusal.Site) }
 {
     let replica = replica_of(world, site)?;
     Ok(replica.site())

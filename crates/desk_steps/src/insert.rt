@@ -19,8 +19,7 @@ fn after(count: usize, end: NotDone) -> NotDone
     ensures { reply_of result ≡ after count (reply_of end) }
 {
     match end {
-        NotDone::Refused(why) if count > 0 => NotDone::Stopped(count, why),
-        NotDone::NoMemory if count > 0 => NotDone::Stopped(count, Refusal::Memory),
+        NotDone::Failed(why) if count > 0 => NotDone::Stopped(count, Refusal::from(why)),
         other => other,
     }
 }
@@ -100,10 +99,10 @@ pub fn insert<A: Allocator + Copy>(
     let replica = replica_of(world, site)?;
     let number = replica.site();
     if place as usize > replica.copy_len() {
-        return Err(NotDone::Refused(Refusal::Place));
+        return Err(NotDone::from(Refusal::Place));
     }
     if !all_symbols(copy) {
-        return Err(NotDone::Refused(Refusal::Value));
+        return Err(NotDone::from(Refusal::Value));
     }
     insert_all(world, number, place as usize, copy)
 }

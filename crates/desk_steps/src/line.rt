@@ -29,7 +29,7 @@ fn do_line<F: Files, A: Allocator + Copy>(
     ensures stays { Stays (F.shelf files.old) (F.shelf files.new) }
 {
     if line.len() > MAX_LINE {
-        return Err(NotDone::Refused(Refusal::Line));
+        return Err(NotDone::from(Refusal::Line));
     }
     let command = parse(memory.own, line)?;
     act(memory, world, files, command)
@@ -52,8 +52,7 @@ pub fn answer<F: Files, A: Allocator + Copy>(
 {
     match do_line(memory, world, files, line) {
         Ok(reply) => reply,
-        Err(NotDone::Refused(why)) => Reply::Refused(why),
+        Err(NotDone::Failed(why)) => Reply::Refused(Refusal::from(why)),
         Err(NotDone::Stopped(taken, why)) => Reply::Stopped(taken, why),
-        Err(NotDone::NoMemory) => Reply::Refused(Refusal::Memory),
     }
 }

@@ -1,7 +1,7 @@
 use Rattle.std.proofs.Common.{◌∙◌}
 use Rattle.std.proofs.lemmas.Result.{err_from_is_err_and}
 use Rattle.std.specs.Prelude.{Ok}
-use Rattle.desk_answers.specs.NotDone.{case_refused}
+use Rattle.desk_answers.specs.Failure.{case_refused}
 use Rattle.desk_case.specs.File.{case_of}
 use Rattle.desk_files.specs.Files.{Shelf}
 use Rattle.desk_inputs.proofs.Gives.{same_shelf, still_at}

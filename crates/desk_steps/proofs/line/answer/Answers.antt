@@ -1,5 +1,5 @@
+use Rattle.desk_answers.specs.Failure.{refusal_of}
 use Rattle.desk_answers.specs.Reply.{Refused, Stopped, reply_values}
-use Rattle.desk_answers.specs.declared.text.Refusal.TheVariants as refusals
 use Rattle.desk_steps.specs.Desk.{desk}
 use Rattle.desk_steps.specs.Line.{line_of}
 use Rattle.desk_steps.proofs.Asking.{allows_same}
@@ -10,10 +10,10 @@ pub returns-in-Ok-clause-sites : goal.returns-in-Ok-clause-sites
 returns-in-Ok-clause-sites g c =
     allows_keep (desk c.args.world.now (g.F.Files.shelf c.args.files.now)) (desk c.do_line.new.world (g.F.Files.shelf c.do_line.new.files)) (line_of c.args.line.now) (reply_values c.in-Ok.reply) c.in-Ok.ensures.done
 
-pub returns-in-Err-Refused-clause-sites : goal.returns-in-Err-Refused-clause-sites
-returns-in-Err-Refused-clause-sites g c =
-    allows_keep (desk c.args.world.now (g.F.Files.shelf c.args.files.now)) (desk c.do_line.new.world (g.F.Files.shelf c.do_line.new.files)) (line_of c.args.line.now) (Refused c.in-Err-Refused.why)
-    (rw c.in-Err-Refused.field-0-is at c.in-Err-Refused.ensures.done)
+pub returns-in-Err-Failed-clause-sites : goal.returns-in-Err-Failed-clause-sites
+returns-in-Err-Failed-clause-sites g c =
+    allows_keep (desk c.args.world.now (g.F.Files.shelf c.args.files.now)) (desk c.do_line.new.world (g.F.Files.shelf c.do_line.new.files)) (line_of c.args.line.now) (Refused (refusal_of c.in-Err-Failed.why))
+    (rw c.in-Err-Failed.field-0-is at c.in-Err-Failed.ensures.done)
 
 pub returns-in-Err-Stopped-clause-sites : goal.returns-in-Err-Stopped-clause-sites
 returns-in-Err-Stopped-clause-sites g c =
@@ -27,8 +27,3 @@ returns-in-Ok-clause-unchanged g c long =
 pub returns-in-Ok-clause-still : goal.returns-in-Ok-clause-still
 returns-in-Ok-clause-still g c long =
     (allows_same (desk c.args.world.now (g.F.Files.shelf c.args.files.now)) (desk c.do_line.new.world (g.F.Files.shelf c.do_line.new.files)) (line_of c.args.line.now) (reply_values c.in-Ok.reply) long c.in-Ok.ensures.done).1
-
-pub returns-in-Err-NoMemory-clause-sites : goal.returns-in-Err-NoMemory-clause-sites
-returns-in-Err-NoMemory-clause-sites g c =
-    allows_keep (desk c.args.world.now (g.F.Files.shelf c.args.files.now)) (desk c.do_line.new.world (g.F.Files.shelf c.do_line.new.files)) (line_of c.args.line.now) (Refused refusals.Memory)
-    (rw c.in-Err-NoMemory.field-0-is at c.in-Err-NoMemory.ensures.done)
