@@ -8,6 +8,7 @@ use crate::told::Told;
 use desk_answers::{Reply, put};
 use desk_blocks::Blocks;
 use desk_codec::{FeedFault, FeedWhy};
+use desk_held::LIMIT;
 use desk_memory::NoMemory;
 use desk_ops::Unlawful;
 use desk_replica::Replica;
@@ -112,7 +113,8 @@ fn crowded_told<A: Allocator + Copy>(alloc: A) -> Result<Told<A>, NoMemory>
     ensures text { IfOk result (λ t. string_bytes t.text ≡ crowded_words) }
     ensures well { IfOk result (λ t. t.well ≡ false) }
 {
-    let text = String::from_str(alloc, "feed refused: more than 1048576 operations")?;
+    let mut text = String::new(alloc);
+    write!(text, "feed refused: more than {LIMIT} operations")?;
     Ok(Told { text, well: false })
 }
 

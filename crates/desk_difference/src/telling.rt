@@ -31,14 +31,8 @@ pub fn tell_difference<W: Write, F: Files, A: Allocator + Copy>(
     ensures err { IfErr result (IsUntold one.now other.now (F.shelf files.old) (F.shelf files.new) (W.contents writer.old) (W.contents writer.new)) }
     ensures stays { Stays (F.shelf files.old) (F.shelf files.new) }
 {
-    let first = match open_feed(alloc, files, one) {
-        Ok(first) => first,
-        Err(why) => return Err(DifferenceFault::One(why)),
-    };
-    let second = match open_feed(alloc, files, other) {
-        Ok(second) => second,
-        Err(why) => return Err(DifferenceFault::Other(why)),
-    };
+    let first = open_feed(alloc, files, one).map_err(DifferenceFault::One)?;
+    let second = open_feed(alloc, files, other).map_err(DifferenceFault::Other)?;
     let (text, same) = told_of(alloc, one, other, &first, &second)?;
     write_out(writer, &text)?;
     Ok(same)

@@ -8,9 +8,8 @@ use Rattle.desk_ops.specs.declared.fault.FaultKind.TheVariants as kinds
 use Rattle.desk_ops.specs.Words.{copy_fault_words, style_words}
 use Rattle.desk_job.specs.declared.JobFault.{JobFault}
 use Rattle.desk_job.specs.declared.JobFault.TheVariants as jobs
-use Rattle.desk_job.specs.declared.terms.Values.{Values}
-use Rattle.desk_galley.specs.Values.{GalleyValues, LineValues}
-use Rattle.desk_proof.specs.Proof.{faulty_lines}
+use Rattle.desk_galley.specs.Values.{GalleyValues}
+use Rattle.desk_proof.specs.Proof.{head_words}
 use Rattle.desk_proof.specs.Faults.{cause_text, code_text}
 use Rattle.desk_svg.specs.Escape.{escaped_char}
 use Rattle.desk_picture.specs.Lines.{text_at, text_end}
@@ -32,18 +31,6 @@ copy_fault y fault = text_at (codes "c") 1000 y ++ (copy_fault_words fault ++ (m
 abbrev pub copy_faults : ℕ → List CopyFault → List ℕ
 copy_faults number [] = []
 copy_faults number (fault ∷ faults) = copy_fault (head_y number) fault ++ copy_faults (number + 1) faults
-
--- how many lines there are, and how many are at fault
-abbrev pub counts_text : List LineValues → List ℕ
-counts_text lines = decimal (length lines) ++ codes " lines, " ++ decimal (faulty_lines lines) ++ codes " at fault, "
-
--- what the lines are set by
-abbrev pub values_text : Values → List ℕ
-values_text values =
-    codes "measure " ++ decimal values.measure ++ codes " points, tight " ++ decimal values.tight ++ codes ", loose " ++ decimal values.loose
-
-abbrev pub head_words : GalleyValues → List ℕ
-head_words galley = counts_text galley.lines ++ values_text galley.values
 
 abbrev pub head : (y : ℕ) → GalleyValues → List ℕ
 head y galley = text_at (codes "h") 1000 y ++ (head_words galley ++ text_end)

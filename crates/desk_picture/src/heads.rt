@@ -1,16 +1,13 @@
 //! What stands above the galley: the faults of the copy, the head, and the symbols that the case lacks.
 
 ghost use Rattle.std.specs.Prelude.{◌≡◌, ◌+◌, ◌++◌, ◌≤◌, ◌<◌, ◌^◌, length, OnOk, Some, slice_get, string_bytes};
-ghost use Rattle.desk_proof.specs.Faults.{code_text};
-ghost use Rattle.desk_proof.specs.Proof.{faulty_lines};
-ghost use Rattle.desk_picture.specs.Heads.{copy_fault, copy_faults, counts_text, head, head_count, head_words, head_y, heads_text, lack, lacking_at, lacking_of, lacks, meaning_text, name_if, name_text, values_text};
+ghost use Rattle.desk_picture.specs.Heads.{copy_fault, copy_faults, head, head_count, head_y, heads_text, lack, lacking_at, lacking_of, lacks, meaning_text, name_if, name_text};
 
 use crate::lines::{put_text_at, text_end};
-use desk_galley::{Galley, Line};
+use desk_galley::Galley;
 use desk_job::JobFault;
-use desk_job::terms::Values;
 use desk_ops::{CopyFault, FaultKind, Symbol};
-use desk_proof::cause;
+use desk_proof::{cause, put_code, put_head_words};
 use desk_svg::put_escaped;
 use std::alloc::{AllocError, Allocator};
 
@@ -60,46 +57,6 @@ pub fn put_copy_faults<A: Allocator + Copy>(
     Ok(())
 }
 
-/// How many lines have a fault.
-fn faulty_lines<A: Allocator>(lines: &[Line<A>]) -> usize
-    ensures { result ≡ faulty_lines lines.now }
-{
-    let mut count = 0;
-    for line in lines {
-        if line.is_faulty() {
-            count += 1;
-        }
-    }
-    count
-}
-
-/// Writes how many lines there are, and how many are at fault.
-fn put_counts<A: Allocator + Copy>(out: &mut String<A>, lines: &[Line<A>]) -> Result<(), AllocError>
-    ensures { OnOk result (string_bytes out.new ≡ string_bytes out.old ++ counts_text lines.now) }
-{
-    let count = lines.len();
-    let faulty = faulty_lines(lines);
-    write!(out, "{count} lines, {faulty} at fault, ")
-}
-
-/// Writes what the lines are set by.
-fn put_values<A: Allocator + Copy>(out: &mut String<A>, values: Values) -> Result<(), AllocError>
-    ensures { OnOk result (string_bytes out.new ≡ string_bytes out.old ++ values_text values) }
-{
-    write!(out, "measure {} points, ", values.measure)?;
-    write!(out, "tight {}, loose {}", values.tight, values.loose)
-}
-
-fn put_head_words<'a, A: Allocator + Copy>(
-    out: &mut String<A>,
-    galley: &Galley<'a, A>,
-) -> Result<(), AllocError>
-    ensures { OnOk result (string_bytes out.new ≡ string_bytes out.old ++ head_words galley.now) }
-{
-    put_counts(out, galley.lines())?;
-    put_values(out, galley.values())
-}
-
 fn put_head<'a, A: Allocator + Copy>(
     out: &mut String<A>,
     y: u128,
@@ -110,14 +67,6 @@ fn put_head<'a, A: Allocator + Copy>(
     put_text_at(out, "h", 1_000, y)?;
     put_head_words(out, galley)?;
     out.push_str(text_end())
-}
-
-/// Writes a character's code.
-fn put_code<A: Allocator + Copy>(out: &mut String<A>, ch: char) -> Result<(), AllocError>
-    ensures { OnOk result (string_bytes out.new ≡ string_bytes out.old ++ code_text ch) }
-{
-    let code = ch as u32;
-    write!(out, "U+{code:04X}")
 }
 
 /// Writes a symbol by its style, its character and its code.

@@ -15,6 +15,10 @@ one_more out before after n ch so_far pushed =
     pushed ∙ ap (λ xs. xs ++ encode ch) so_far ∙ append_assoc out (many n ch) (encode ch)
     ∙ ap (λ xs. out ++ xs) (sym (encodes-append (replicate n ch) (ch ∷ []) ∙ ap (λ xs. many n ch ++ xs) (append-nil (encode ch))) ∙ ap encode_utf8_all (sym (replicate_next n ch)))
 
+-- one text after another
+joined : (a b c x y : List ℕ) → b ≡ a ++ x → c ≡ b ++ y → c ≡ a ++ (x ++ y)
+joined a b c x y first last = last ∙ ap (λ l. l ++ y) first ∙ append_assoc a x y
+
 -- texts that are written one after the other
 
 pub two : {E : Type 0} (r : Result (Unit {0}) E) (a b c x y : List ℕ) → b ≡ a ++ x → OnOk r (c ≡ b ++ y) → OnOk r (c ≡ a ++ (x ++ y))
@@ -25,3 +29,8 @@ three r a b c d x y z first second last = two r a b d x (y ++ z) first (two r b 
 
 pub four : {E : Type 0} (r : Result (Unit {0}) E) (a b c d e x y z w : List ℕ) → b ≡ a ++ x → c ≡ b ++ y → d ≡ c ++ z → OnOk r (e ≡ d ++ w) → OnOk r (e ≡ a ++ (x ++ (y ++ (z ++ w))))
 four r a b c d e x y z w first second third last = two r a b e x (y ++ (z ++ w)) first (three r b c d e y z w second third last)
+
+-- five, each joined to those before it
+pub five_in_turn : {E : Type 0} (r : Result (Unit {0}) E) (a b c d e f x y z w v : List ℕ) → b ≡ a ++ x → c ≡ b ++ y → d ≡ c ++ z → e ≡ d ++ w → OnOk r (f ≡ e ++ v) → OnOk r (f ≡ a ++ ((((x ++ y) ++ z) ++ w) ++ v))
+five_in_turn r a b c d e f x y z w v first second third fourth last =
+    two r a e f (((x ++ y) ++ z) ++ w) v (joined a d e ((x ++ y) ++ z) w (joined a c d (x ++ y) z (joined a b c x y first second) third) fourth) last

@@ -13,6 +13,7 @@ use Rattle.desk_ops.specs.declared.fault.FaultKind.{FaultKind}
 use Rattle.desk_ops.specs.declared.fault.FaultKind.TheVariants as kinds
 use Rattle.desk_lines.specs.declared.words.Word.{Word}
 use Rattle.desk_units.specs.declared.Pica.{Pica}
+use Rattle.desk_units.specs.WedgeSum.{greatest}
 use Rattle.desk_job.specs.declared.JobFault.{JobFault}
 use Rattle.desk_job.specs.declared.JobFault.TheVariants as jobs
 use Rattle.desk_galley.specs.declared.line.Next.{Next}
@@ -46,10 +47,14 @@ cause_text (jobs.CannotFill line) = codes "cannot be filled"
 abbrev pub limit_text : Option ℤ → (before : List ℕ) → (limit : ℕ) → (after : List ℕ) → List ℕ
 limit_text sum before limit after = codes " (wedge sum " ++ (sum_text sum ++ (before ++ (decimal limit ++ after)))
 
+-- the wedge sum, and the limits between which a line is filled: tight, and the greatest wedge sum
+abbrev pub filling_text : Option ℤ → (tight : ℕ) → List ℕ
+filling_text sum tight = limit_text sum (codes ", limits ") tight (codes " and ") ++ (decimal greatest ++ codes ")")
+
 -- the wedge sum, and the limits that it passes
 abbrev pub limits_text : Scale → Option ℤ → JobFault → List ℕ
 limits_text scale sum (jobs.TooLoose line) = limit_text sum (codes ", limit ") scale.loose (codes ")")
-limits_text scale sum (jobs.CannotFill line) = limit_text sum (codes ", limits ") scale.tight (codes " and 240)")
+limits_text scale sum (jobs.CannotFill line) = filling_text sum scale.tight
 limits_text scale sum (jobs.MissingSetting key) = []
 limits_text scale sum jobs.OtherCase = []
 limits_text scale sum jobs.OtherWedge = []

@@ -24,15 +24,19 @@ faulty_lines (line ∷ lines) = (if is_faulty line then 1 else 0) + faulty_lines
 
 -- how many lines there are, and how many are at fault
 abbrev pub counts_text : List LineValues → List ℕ
-counts_text lines = codes "GALLEY " ++ decimal (length lines) ++ codes " lines, " ++ decimal (faulty_lines lines) ++ codes " at fault, "
+counts_text lines = decimal (length lines) ++ codes " lines, " ++ decimal (faulty_lines lines) ++ codes " at fault, "
 
 -- what the lines are set by
 abbrev pub values_text : Values → List ℕ
 values_text values =
-    codes "measure " ++ decimal values.measure ++ codes " points, tight " ++ decimal values.tight ++ codes ", loose " ++ decimal values.loose ++ codes "\n"
+    codes "measure " ++ decimal values.measure ++ codes " points, tight " ++ decimal values.tight ++ codes ", loose " ++ decimal values.loose
+
+-- both
+abbrev pub head_words : GalleyValues → List ℕ
+head_words galley = counts_text galley.lines ++ values_text galley.values
 
 abbrev pub head_text : GalleyValues → List ℕ
-head_text galley = counts_text galley.lines ++ values_text galley.values
+head_text galley = codes "GALLEY " ++ (head_words galley ++ codes "\n")
 
 -- the rows, under the names of their columns
 abbrev pub whole_text : List Symbol → Scale → List LineValues → List ℕ

@@ -2,10 +2,11 @@
 
 ghost use Rattle.std.specs.Prelude.{◌≡◌, ◌++◌, All, OnOk, IfSome, string_bytes, unsigned_abs};
 ghost use Rattle.std.specs.Fmt.{decimal};
+ghost use Rattle.desk_units.specs.WedgeSum.{greatest};
 ghost use Rattle.desk_job.specs.Setting.{IsWord};
 ghost use Rattle.desk_proof.specs.Parts.{points_down, points_up};
 ghost use Rattle.desk_proof.specs.Rows.{HasWords};
-ghost use Rattle.desk_proof.specs.Faults.{cause_text, copy_fault_text, copy_faults_text, fault_if_any, fault_text, free_text, is_loose, lead_text, limit_text, limits_text, line_faults_text, meaning_text, missing_text, next_text, next_word_text, over_text, places_text, rest_text, shorter_text, shown_text, spaces_text, title_text, told_cause, way_line, way_text, wider_text};
+ghost use Rattle.desk_proof.specs.Faults.{cause_text, copy_fault_text, copy_faults_text, fault_if_any, fault_text, filling_text, free_text, is_loose, lead_text, limit_text, limits_text, line_faults_text, meaning_text, missing_text, next_text, next_word_text, over_text, places_text, rest_text, shorter_text, shown_text, spaces_text, title_text, told_cause, way_line, way_text, wider_text};
 
 use crate::parts::{begin_of, end_of, put_points_down, put_points_up, put_word};
 use crate::rows::{put_set, put_sum};
@@ -14,7 +15,8 @@ use desk_galley::{Line, Next};
 use desk_job::JobFault;
 use desk_lines::Word;
 use desk_ops::{CopyFault, FaultKind, Key, Symbol};
-use desk_units::{Atoms, Pica};
+use desk_signals::Position;
+use desk_units::{Atoms, Pica, WedgeSum};
 use std::alloc::{AllocError, Allocator};
 
 /// That a setting has no value.
@@ -77,6 +79,26 @@ fn put_limit<A: Allocator + Copy>(
     put_bound(out, before, limit, after)
 }
 
+/// The greatest wedge sum, with both wedges at their last position.
+fn greatest() -> u32
+    ensures { result ≡ greatest }
+{
+    let last = Position::new(15).unwrap();
+    WedgeSum::of_positions(last, last).get() as u32
+}
+
+/// Writes the wedge sum, and the limits between which a line is filled: tight, and the greatest wedge sum.
+fn put_filling<A: Allocator + Copy>(
+    out: &mut String<A>,
+    sum: Option<i64>,
+    tight: u32,
+) -> Result<(), AllocError>
+    ensures { OnOk result (string_bytes out.new ≡ string_bytes out.old ++ filling_text sum tight) }
+{
+    put_limit(out, sum, ", limits ", tight, " and ")?;
+    put_bound(out, "", greatest(), ")")
+}
+
 /// Writes the wedge sum, and the limits that it passes.
 fn put_limits<A: Allocator + Copy>(
     out: &mut String<A>,
@@ -88,7 +110,7 @@ fn put_limits<A: Allocator + Copy>(
 {
     match fault {
         JobFault::TooLoose(_) => put_limit(out, sum, ", limit ", scale.loose, ")"),
-        JobFault::CannotFill(_) => put_limit(out, sum, ", limits ", scale.tight, " and 240)"),
+        JobFault::CannotFill(_) => put_filling(out, sum, scale.tight),
         JobFault::MissingSetting(_)
         | JobFault::OtherCase
         | JobFault::OtherWedge

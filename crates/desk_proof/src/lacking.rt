@@ -19,7 +19,7 @@ fn style_word(style: Style) -> &'static str
 }
 
 /// Writes a character's code.
-fn put_code<A: Allocator + Copy>(out: &mut String<A>, ch: char) -> Result<(), AllocError>
+pub fn put_code<A: Allocator + Copy>(out: &mut String<A>, ch: char) -> Result<(), AllocError>
     ensures { OnOk result (string_bytes out.new ≡ string_bytes out.old ++ code_text ch) }
 {
     let code = ch as u32;

@@ -9,10 +9,10 @@ mod rows;
 mod scale;
 
 pub use faults::{cause, put_cause, put_copy_faults};
-pub use lacking::{put_around, put_name};
+pub use lacking::{put_around, put_code, put_name};
 pub use parts::{
     begin_of, end_of, put_fills, put_left, put_many, put_number, put_points_down, put_points_up,
     put_right, put_symbols, put_word, put_words,
 };
-pub use proof::{Extent, put_no_galley, put_proof, scale_of};
+pub use proof::{Extent, put_head_words, put_no_galley, put_proof, scale_of};
 pub use scale::Scale;

@@ -2,7 +2,7 @@
 
 ghost use Rattle.std.specs.Prelude.{◌≡◌, ◌++◌, All, OnOk, string_bytes};
 ghost use Rattle.desk_proof.specs.Rows.{HasWords, columns_text};
-ghost use Rattle.desk_proof.specs.Proof.{body_text, counts_text, faulty_lines, head_text, no_galley_text, proof_text, scale_of, values_text, whole_text};
+ghost use Rattle.desk_proof.specs.Proof.{body_text, counts_text, faulty_lines, head_text, head_words, no_galley_text, proof_text, scale_of, values_text, whole_text};
 
 use crate::faults::{cause, put_copy_faults, put_line_faults};
 use crate::lacking::put_lacking;
@@ -54,7 +54,7 @@ fn put_counts<A: Allocator + Copy>(out: &mut String<A>, lines: &[Line<A>]) -> Re
 {
     let count = lines.len();
     let faulty = faulty_lines(lines);
-    write!(out, "GALLEY {count} lines, {faulty} at fault, ")
+    write!(out, "{count} lines, {faulty} at fault, ")
 }
 
 /// Writes what the lines are set by.
@@ -62,7 +62,18 @@ fn put_values<A: Allocator + Copy>(out: &mut String<A>, values: Values) -> Resul
     ensures { OnOk result (string_bytes out.new ≡ string_bytes out.old ++ values_text values) }
 {
     write!(out, "measure {} points, ", values.measure)?;
-    write!(out, "tight {}, loose {}\n", values.tight, values.loose)
+    write!(out, "tight {}, loose {}", values.tight, values.loose)
+}
+
+/// Writes how many lines a galley has, how many of them are at fault, and what they are set by.
+pub fn put_head_words<'a, A: Allocator + Copy>(
+    out: &mut String<A>,
+    galley: &Galley<'a, A>,
+) -> Result<(), AllocError>
+    ensures { OnOk result (string_bytes out.new ≡ string_bytes out.old ++ head_words galley.now) }
+{
+    put_counts(out, galley.lines())?;
+    put_values(out, galley.values())
 }
 
 fn put_head<'a, A: Allocator + Copy>(
@@ -71,8 +82,9 @@ fn put_head<'a, A: Allocator + Copy>(
 ) -> Result<(), AllocError>
     ensures { OnOk result (string_bytes out.new ≡ string_bytes out.old ++ head_text galley.now) }
 {
-    put_counts(out, galley.lines())?;
-    put_values(out, galley.values())
+    out.push_str("GALLEY ")?;
+    put_head_words(out, galley)?;
+    out.push_str("\n")
 }
 
 /// The names of the columns.
