@@ -9,7 +9,7 @@ use Rattle.desk_held.specs.declared.AddRefusal.TheVariants as adds
 use Rattle.desk_replica.specs.State.{IsCounted, IsStopped}
 use Rattle.desk_replica.specs.declared.Count.{Count}
 use Rattle.desk_replica.specs.declared.Stopped.{Stopped}
-use Rattle.desk_hand.specs.Faults.{of_adding}
+use Rattle.desk_hand.specs.Fault.{of_adding}
 use Rattle.desk_hand.specs.declared.fault.FeedTrouble.{FeedTrouble}
 use Rattle.desk_hand.specs.Merging.{AreFeeds, IsFeedOf, IsJoined, Joins, Refuses, StopsAt, counted_line, line_of, lines_of, news, with_lists}
 

@@ -7,7 +7,7 @@ use Rattle.desk_files.specs.Files.{Shelf}
 use Rattle.desk_held.specs.declared.AddRefusal.{AddRefusal}
 use Rattle.desk_held.specs.declared.AddRefusal.TheVariants as adds
 use Rattle.desk_hand.specs.Exporting.{IsClosedBy}
-use Rattle.desk_hand.specs.Faults.{of_adding}
+use Rattle.desk_hand.specs.Fault.{of_adding}
 use Rattle.desk_hand.specs.Merging.{IsFeedOf, Refuses}
 use Rattle.desk_hand.specs.declared.fault.FeedTrouble.{FeedTrouble}
 use Rattle.desk_hand.specs.declared.fault.FeedTrouble.TheVariants as troubles

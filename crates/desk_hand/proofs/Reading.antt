@@ -7,7 +7,7 @@ use Rattle.desk_files.specs.declared.input.ReaderFault.TheVariants as readers
 use Rattle.desk_text.specs.Reading.{Fails, reading}
 use Rattle.desk_text.specs.declared.fault.TextFault.{TextFault}
 use Rattle.desk_text.specs.declared.fault.TextFault.TheVariants as texts
-use Rattle.desk_hand.specs.Faults.{of_reader, of_text}
+use Rattle.desk_hand.specs.Fault.{of_reader, of_text}
 use Rattle.desk_hand.specs.Importing.{FitsText, IsNoText, max_text}
 
 -- the reader was not read to its end

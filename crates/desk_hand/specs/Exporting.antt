@@ -7,7 +7,7 @@ use Rattle.desk_ops.specs.Shown.{copy_of}
 use Rattle.desk_codec.specs.Fault.{IsFirstFault}
 use Rattle.desk_text.specs.Writing.{text_bytes}
 use Rattle.desk_files.specs.Files.{IsCounted, Reads, Shelf}
-use Rattle.desk_stored.specs.Faults.{AskMemory}
+use Rattle.desk_stored.specs.Fault.{AskMemory}
 use Rattle.desk_stored.specs.Sending.{WritesFront}
 use Rattle.desk_hand.specs.Merging.{GaveBytes, IsFeedOf}
 use Rattle.desk_hand.specs.declared.fault.FeedTrouble.{FeedTrouble}

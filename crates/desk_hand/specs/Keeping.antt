@@ -6,7 +6,7 @@ use Rattle.desk_ops.specs.OpSet.{OpSet}
 use Rattle.desk_codec.specs.Runs.{set_feed}
 use Rattle.desk_files.specs.Files.{Shelf}
 use Rattle.desk_files.specs.declared.files.FileRefusal.{FileRefusal}
-use Rattle.desk_stored.specs.Faults.{IsNotStored}
+use Rattle.desk_stored.specs.Fault.{IsNotStored}
 use Rattle.desk_stored.specs.Sending.{WritesFront}
 use Rattle.desk_stored.specs.Stored.{IsStoredAs}
 use Rattle.desk_hand.specs.declared.fault.KeepFault.{KeepFault}

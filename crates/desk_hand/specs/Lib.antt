@@ -1,4 +1,4 @@
-pub mod Faults
+pub mod Fault
 pub mod Keeping
 pub mod Merging
 pub mod Editing

@@ -11,7 +11,7 @@ use Rattle.desk_answers.specs.Reply.{Counted, Faults}
 use Rattle.desk_answers.specs.Text.{text}
 use Rattle.desk_files.specs.Files.{Counts, IsCounted, IsNowHeld, Kept, Names, Reads, Shelf, Stays}
 use Rattle.desk_files.specs.declared.files.FileRefusal.{FileRefusal}
-use Rattle.desk_stored.specs.Faults.{AskMemory, IsUnopened, IsUnread, IsUntaken}
+use Rattle.desk_stored.specs.Fault.{AskMemory, IsUnopened, IsUnread, IsUntaken}
 use Rattle.desk_stored.specs.Stored.{Opens}
 use Rattle.desk_stored.specs.declared.fault.OpenFault.{OpenFault}
 use Rattle.desk_stored.specs.declared.fault.OpenFault.TheVariants as openings

@@ -3,7 +3,7 @@
 ghost use Rattle.std.specs.Prelude.{◌≡◌, ◌≢◌, ◌+◌, ◌≤◌, IfErr, IfOk, List, OnErr, OnOk, length};
 ghost use Rattle.desk_ops.specs.declared.op.Op.{Op};
 ghost use Rattle.desk_ops.specs.Shown.{copy_of};
-ghost use Rattle.desk_hand.specs.Faults.{refusal_of};
+ghost use Rattle.desk_hand.specs.Fault.{refusal_of};
 ghost use Rattle.desk_text.specs.Laws.{AreLawful};
 ghost use Rattle.desk_hand.specs.Editing.{AreMade, IsMade, IsRefusedAmong, IsRefusedBy, IsRevised, IsSparing, IsUnrevised, deletes_of, inserts_of};
 

@@ -1,7 +1,7 @@
 //! Why what one asked for was not done, by the phase in which it stopped.
 
 ghost use Rattle.std.specs.Prelude.{◌≡◌};
-ghost use Rattle.desk_hand.specs.Faults.{of_adding, of_opening, of_reader, of_text};
+ghost use Rattle.desk_hand.specs.Fault.{of_adding, of_opening, of_reader, of_text};
 ghost use Rattle.desk_hand.specs.declared.fault.FeedTrouble.TheVariants as troubles;
 ghost use Rattle.desk_hand.specs.declared.fault.TakeFault.TheVariants as takes;
 ghost use Rattle.desk_hand.specs.declared.fault.KeepFault.TheVariants as keeps;

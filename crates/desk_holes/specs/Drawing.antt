@@ -8,7 +8,7 @@ use Rattle.desk_caster.specs.declared.RibbonFault.{RibbonFault}
 use Rattle.desk_caster.specs.declared.RibbonFault.TheVariants as ribbons
 use Rattle.desk_files.specs.Files.{IsReplaced, Shelf, Stays}
 use Rattle.desk_files.specs.declared.files.FileRefusal.{FileRefusal}
-use Rattle.desk_stored.specs.Faults.{IsNotStored}
+use Rattle.desk_stored.specs.Fault.{IsNotStored}
 use Rattle.desk_reading.specs.Sources.{AreRefused, Give, GiveAll, Sources, of_sources}
 use Rattle.desk_reading.specs.declared.fault.ReadingFault.{ReadingFault}
 use Rattle.desk_reading.specs.declared.fault.ReadingFault.TheVariants as faults

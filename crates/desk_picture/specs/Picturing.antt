@@ -12,7 +12,7 @@ use Rattle.desk_galley.specs.Values.{GalleyValues}
 use Rattle.desk_galley.specs.Galley.{IsGalley}
 use Rattle.desk_files.specs.Files.{IsReplaced, Shelf, Stays}
 use Rattle.desk_files.specs.declared.files.FileRefusal.{FileRefusal}
-use Rattle.desk_stored.specs.Faults.{IsNotStored}
+use Rattle.desk_stored.specs.Fault.{IsNotStored}
 use Rattle.desk_preview.specs.Proofing.{LacksGalley}
 use Rattle.desk_preview.specs.Sources.{AreRefused, Give, GiveAll, Sources, of_sources}
 use Rattle.desk_preview.specs.declared.fault.PreviewFault.{PreviewFault}

@@ -10,7 +10,7 @@ use Rattle.desk_job.specs.declared.JobFault.{JobFault}
 use Rattle.desk_answers.specs.Reply.{NoRibbon}
 use Rattle.desk_answers.specs.Text.{text}
 use Rattle.desk_files.specs.Files.{IsReplaced, Shelf, Stays}
-use Rattle.desk_stored.specs.Faults.{IsNotStored}
+use Rattle.desk_stored.specs.Fault.{IsNotStored}
 use Rattle.desk_stored.specs.Sending.{WritesFront}
 use Rattle.desk_inputs.specs.Job.{job_of}
 use Rattle.desk_preview.specs.Sources.{AreRefused, Give, LackMemory, Sources}

@@ -5,7 +5,7 @@ ghost use Rattle.std.specs.FinMap as fin;
 ghost use Rattle.std.specs.Io.KnownBytes.{IsAtEnd};
 ghost use Rattle.desk_ops.specs.declared.op.Op.{Op};
 ghost use Rattle.desk_ops.specs.OpSet.{OpSet, max_ops, no_ops, size, with_all};
-ghost use Rattle.desk_stored.specs.Faults.{IsNotStored, IsUnopened};
+ghost use Rattle.desk_stored.specs.Fault.{IsNotStored, IsUnopened};
 ghost use Rattle.desk_files.specs.Files.{HasFailed, HoldsOn, IsHeldAlone, Stays};
 ghost use Rattle.desk_steps.specs.Desk.{desk};
 ghost use Rattle.desk_stored.specs.Stored.{Stores, was_read};

@@ -3,7 +3,7 @@ use Rattle.std.specs.Prelude.{◌≡◌, ◌⊎◌, ℕ, List, Option, Result}
 use Rattle.std.specs.Io.KnownBytes.{IsAtEnd}
 use Rattle.desk_files.specs.declared.files.FileRefusal.{FileRefusal}
 use Rattle.desk_files.specs.Files.{IsNowHeld, Shelf, Stays}
-use Rattle.desk_stored.specs.Faults.{IsNotStored, IsUnread, IsUntaken}
+use Rattle.desk_stored.specs.Fault.{IsNotStored, IsUnread, IsUntaken}
 use Rattle.desk_script.specs.Faults.{of_file}
 use Rattle.desk_script.specs.FeedRun.{IsClosed, IsStart, IsStored}
 use Rattle.desk_steps.specs.Desk.{Desk}

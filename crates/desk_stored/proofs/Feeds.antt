@@ -11,7 +11,7 @@ use Rattle.desk_files.specs.declared.files.FileRefusal.{FileRefusal}
 use Rattle.desk_files.specs.declared.files.FileRefusal.TheVariants as refusals
 use Rattle.desk_files.specs.Files.{Counts, HasNoPlace, Shelf, Spares, new_name}
 use Rattle.desk_stored.specs.declared.fault.OpenFault.TheVariants as openings
-use Rattle.desk_stored.specs.Faults.{AsksMemory, IsCrowded, IsNotStored, IsUnopened, of_stop}
+use Rattle.desk_stored.specs.Fault.{AsksMemory, IsCrowded, IsNotStored, IsUnopened, of_stop}
 use Rattle.desk_stored.specs.Stored.{Stores}
 
 none_crowds : (ops : List Op) → ops ≡ [] → max_ops < size (with_all no_ops ops) → ⊥

@@ -1,3 +1,3 @@
 pub mod Stored
-pub mod Faults
+pub mod Fault
 pub mod Sending

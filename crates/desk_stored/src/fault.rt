@@ -1,7 +1,7 @@
 //! Why a stored feed was not opened.
 
 ghost use Rattle.std.specs.Prelude.{◌≡◌};
-ghost use Rattle.desk_stored.specs.Faults.{of_stop};
+ghost use Rattle.desk_stored.specs.Fault.{of_stop};
 ghost use Rattle.desk_stored.specs.declared.fault.OpenFault.TheVariants as openings;
 
 use desk_codec::FeedFault;

@@ -5,7 +5,7 @@ ghost use Rattle.desk_codec.specs.Runs.{set_feed};
 ghost use Rattle.desk_ops.specs.Op.{IsLawful};
 ghost use Rattle.desk_ops.specs.OpSet.{max_ops, size};
 ghost use Rattle.desk_files.specs.Files.{Counts, HoldsOn, Reads, Stays};
-ghost use Rattle.desk_stored.specs.Faults.{IsNotStored, IsUnopened, IsUnread};
+ghost use Rattle.desk_stored.specs.Fault.{IsNotStored, IsUnopened, IsUnread};
 ghost use Rattle.desk_stored.specs.Stored.{IsStoredAs, Opens, Stores, was_read};
 
 use crate::fault::OpenFault;

@@ -1,6 +1,6 @@
 use Rattle.std.proofs.Common.{false, refl, subst, true}
 use Rattle.std.specs.Prelude.{Ok, Err}
-use Rattle.desk_stored.specs.Faults.{IsUnopened}
+use Rattle.desk_stored.specs.Fault.{IsUnopened}
 use Rattle.desk_check.specs.Lines.{SaysFeed}
 use Rattle.desk_check.specs.Words.{Crowded, Wrong, crowded_words, feed_fault_words, set_words}
 use Rattle.desk_check.proofs.Said.{crowded, first_fault, said}

@@ -2,7 +2,7 @@ use Rattle.std.proofs.Common.{ap, inl, inr, refl, rules, subst}
 use Rattle.std.proofs.lemmas.Result.{err_from_is_err_and}
 use Rattle.std.specs.Prelude.{Err, string_bytes}
 use Rattle.desk_files.specs.Files.{Shelf}
-use Rattle.desk_stored.specs.Faults.{IsNotStored}
+use Rattle.desk_stored.specs.Fault.{IsNotStored}
 use Rattle.desk_holes.specs.Drawing.{IsPicture}
 use Rattle.desk_holes.proofs.drawing.draw_ribbon.Goals as goal
 

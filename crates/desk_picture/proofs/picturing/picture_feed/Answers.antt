@@ -3,7 +3,7 @@ use Rattle.std.proofs.lemmas.Result.{err_from_is_err_and}
 use Rattle.std.specs.Prelude.{Err, string_bytes}
 use Rattle.desk_files.specs.Files.{IsReplaced, Shelf}
 use Rattle.desk_files.proofs.Shelves.{holds_on}
-use Rattle.desk_stored.specs.Faults.{IsNotStored}
+use Rattle.desk_stored.specs.Fault.{IsNotStored}
 use Rattle.desk_picture.proofs.picturing.picture_feed.Goals as goal
 
 pub returns-in_err-replica-clause-err : goal.returns-in_err-replica-clause-err

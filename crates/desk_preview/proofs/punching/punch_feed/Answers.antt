@@ -6,7 +6,7 @@ use Rattle.desk_files.specs.Files.{IsReplaced, Shelf}
 use Rattle.desk_files.proofs.Shelves.{holds_on}
 use Rattle.desk_ribbon.specs.Ribbon.{ribbon}
 use Rattle.desk_job.specs.Answer.{IsRefused}
-use Rattle.desk_stored.specs.Faults.{IsNotStored}
+use Rattle.desk_stored.specs.Fault.{IsNotStored}
 use Rattle.desk_inputs.specs.Job.{job_of}
 use Rattle.desk_preview.specs.Punching.{IsUntold, no_ribbon_line}
 use Rattle.desk_preview.specs.Sources.{sources}
