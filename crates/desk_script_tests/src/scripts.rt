@@ -376,7 +376,7 @@ fn refused_commands(rt: HostRuntime) -> Result<(), Fail> {
 }
 
 #[test]
-fn always_want_of_memory(rt: HostRuntime) -> Result<(), Fail> {
+fn always_out_of_memory(rt: HostRuntime) -> Result<(), Fail> {
     let heap = LocalHeap::new(rt.alloc(), 1 << 20)?;
     let got = answers(&heap, rt.alloc(), TWO_SITES, 100)?;
     same(&got, TWO_SITES_ANSWERS)
