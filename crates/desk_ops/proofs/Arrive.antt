@@ -18,11 +18,11 @@ use Rattle.desk_ops.specs.Scan.{IsAscending, with_insert, scan_insert}
 use Rattle.desk_ops.specs.Held.{bearing, is_one, is_clear, is_borne, clear_ops, clear_inserts}
 use Rattle.desk_ops.specs.Lists.{Among}
 use Rattle.desk_ops.proofs.Lists.{Each, Each-weaker, each-among, each-from_among, each-filter, among-filter, among-filter_from, among-filter_map_from}
-use Rattle.desk_ops.proofs.Stamps.{same-refl, same-symm, by_cases, before-irrefl, before-trans, before-asym, before-other}
+use Rattle.desk_ops.proofs.Stamps.{same-refl, same-symm, by_cases, before-irrefl, before-trans, before-asym, before-other, is_equal}
 use Rattle.desk_ops.proofs.Scans.{place-walk, with-later, with-here}
 use Rattle.desk_ops.specs.OrderLaws.{op_total, op_antisymmetric}
 use Rattle.desk_ops.proofs.Unions.{has_op-with_op}
-use Rattle.desk_ops.proofs.Means.{IsOrdered, ordered, among-any, any-among, IsClearInsert, clear_insert, clear_one, insert_stamp, some-same, clear_ascending, clear_grows, insert_parent, counter-before, equal}
+use Rattle.desk_ops.proofs.Means.{IsOrdered, ordered, among-any, any-among, IsClearInsert, clear_insert, clear_one, insert_stamp, some-same, clear_ascending, clear_grows, insert_parent, counter-before}
 use Rattle.desk_ops.proofs.Tree.{walk-clear}
 
 -- ---- ascending lists
@@ -104,7 +104,7 @@ among-with_op h o p m = go (sym (has_op-with_op h o p) ∙ fin.contains_key-keys
   where
     go : (eq_by_cmp op_cmp p o || has_op h p) ≡ true → (o ≡ p) ⊎ Among p (in_order h)
     go e = by_cases (eq_by_cmp op_cmp p o)
-        (λ k. inl (sym (op_antisymmetric p o (equal (op_cmp p o) k))))
+        (λ k. inl (sym (op_antisymmetric p o (is_equal (op_cmp p o) k))))
         (λ k. inr (any-among p (in_order h) (sym (fin.contains_key-keys h p) ∙ sym (ap (λ b. b || has_op h p) k) ∙ e)))
 
 pub with_op-among : (h : OpSet) (o p : Op) → (o ≡ p) ⊎ Among p (in_order h) → Among p (in_order (with_op h o))

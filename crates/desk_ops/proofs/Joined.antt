@@ -109,6 +109,13 @@ is_borne-with_op h o s = same_bool (is_borne_in (with_op h o) s) (same (stamp_of
 pub has_op-with_op_own : (h : OpSet) (o : Op) → has_op (with_op h o) o ≡ true
 has_op-with_op_own h o = held_among (with_op h o) o (with_op-among h o o (inl refl))
 
+pub with-cases : (h : OpSet) (o q : Op) → has_op (with_op h o) q ≡ true → (o ≡ q) ⊎ (has_op h q ≡ true)
+with-cases h o q e = go (among-with_op h o q (among_held (with_op h o) q e))
+  where
+    go : (o ≡ q) ⊎ Among q (in_order h) → (o ≡ q) ⊎ (has_op h q ≡ true)
+    go (inl i) = inl i
+    go (inr m) = inr (held_among h q m)
+
 pub within-with_op : (h : OpSet) (o : Op) → IsWithin h (with_op h o)
 within-with_op h o p e = held_among (with_op h o) p (with_op-among h o p (inr (among_held h p e)))
 

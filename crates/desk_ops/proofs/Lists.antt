@@ -1,6 +1,6 @@
 -- Lists: what holds of each, what is among them, what a filter keeps.
-use Rattle.std.proofs.Common.{◌≡◌, Bool, true, false, cond, List, [], ◌∷◌, ◌++◌, refl, sym, ap, ◌∙◌, subst, ◌⊎◌, inl, inr, Option, Some, None}
-use Rattle.std.specs.List.{AllByRecursion, filter, filter_map, cons_option}
+use Rattle.std.proofs.Common.{◌≡◌, ℕ, zero, suc, ◌<◌, length, take, drop, get_or, arith, Bool, true, false, cond, List, [], ◌∷◌, ◌++◌, refl, sym, ap, ◌∙◌, subst, ◌⊎◌, inl, inr, Option, Some, None}
+use Rattle.std.specs.List.{AllByRecursion, insert, filter, filter_map, cons_option}
 use Rattle.desk_ops.specs.Lists.{Among, Precedes}
 
 abbrev pub Each : {A : Type 0} → (A → Type 0) → List A → Type 0
@@ -26,6 +26,34 @@ each-among P (y ∷ ys) x h (inr m) = each-among P ys x h.1 m
 pub each-from_among : {A : Type 0} (P : A → Type 0) (xs : List A) → ((x : A) → Among x xs → P x) → Each P xs
 each-from_among P [] f = tt
 each-from_among P (y ∷ ys) f = (f y (inl refl), each-from_among P ys (λ x m. f x (inr m)))
+
+-- what stands at a place
+pub each-at : {A : Type 0} (P : A → Type 0) (xs : List A) (i : ℕ) (d : A) → Each P xs → i < length xs → P (get_or xs i d)
+each-at P [] i d h lt = absurd (omega arith)
+each-at P (x ∷ xs) zero d h lt = h.0
+each-at P (x ∷ xs) (suc i) d h lt = each-at P xs i d h.1 (omega arith)
+
+pub among-at : {A : Type 0} (xs : List A) (i : ℕ) (d : A) → i < length xs → Among (get_or xs i d) xs
+among-at [] i d lt = absurd (omega arith)
+among-at (x ∷ xs) zero d lt = inl refl
+among-at (x ∷ xs) (suc i) d lt = inr (among-at xs i d (omega arith))
+
+pub Each-take : {A : Type 0} (P : A → Type 0) (n : ℕ) (xs : List A) → Each P xs → Each P (take n xs)
+Each-take P zero [] h = tt
+Each-take P zero (x ∷ xs) h = tt
+Each-take P (suc n) [] h = tt
+Each-take P (suc n) (x ∷ xs) h = (h.0, Each-take P n xs h.1)
+
+pub Each-drop : {A : Type 0} (P : A → Type 0) (n : ℕ) (xs : List A) → Each P xs → Each P (drop n xs)
+Each-drop P zero [] h = tt
+Each-drop P zero (x ∷ xs) h = h
+Each-drop P (suc n) [] h = tt
+Each-drop P (suc n) (x ∷ xs) h = Each-drop P n xs h.1
+
+pub Each-insert : {A : Type 0} (P : A → Type 0) (xs : List A) (i : ℕ) (x : A) → Each P xs → P x → Each P (insert xs i x)
+Each-insert P xs zero x h k = (k, h)
+Each-insert P [] (suc i) x h k = (k, tt)
+Each-insert P (y ∷ ys) (suc i) x h k = (h.0, Each-insert P ys i x h.1 k)
 
 pub among-filter : {A : Type 0} (p : A → Bool) (xs : List A) (x : A) → Among x (filter p xs) → Among x xs × (p x ≡ true)
 among-filter p [] x m = absurd m

@@ -1,9 +1,10 @@
 -- The inserts of a set of lawful operations: in order, and alike in a larger set.
-use Rattle.std.proofs.Common.{◌≡◌, ◌<◌, Bool, true, false, not, cond, ◌&&◌, ◌||◌, T, List, [], ◌∷◌, map, refl, sym, ap, ◌∙◌, subst, subst₂, inl, inr, Some, None, Option, arith}
+use Rattle.std.proofs.Common.{◌≡◌, ◌<◌, Bool, true, false, not, cond, ◌||◌, T, List, [], ◌∷◌, map, refl, sym, ap, ◌∙◌, subst, subst₂, inl, inr, Some, None, Option, arith}
 use Rattle.std.specs.List.{filter, filter_map, list_any, cons_option}
 use Rattle.std.specs.Option.{unwrap_or}
 use Rattle.std.specs.Ordering.{ordering_then, is_eq, is_lt, eq_by_cmp, nat_cmp}
 use Rattle.std.specs.Cmp.Lexicographic.{slice_cmp}
+use Rattle.std.specs.Cmp.{first_so, second_so}
 use Rattle.std.proofs.lemmas.Cmp.{tied_itself}
 use Rattle.std.proofs.lemmas.Bool.Decides.{nat_tests}
 use Rattle.std.proofs.lemmas.Bool.{true≢false}
@@ -25,7 +26,7 @@ use Rattle.desk_ops.specs.Walk.{walk}
 use Rattle.desk_ops.specs.Shown.{is_deleted, shown}
 use Rattle.desk_ops.specs.Lists.{Among, Precedes}
 use Rattle.desk_ops.proofs.Lists.{Each, each-among, each-from_among, among-filter, among-filter_from, among-filter_map, each-filter, precedes-filter, precedes-filter_from}
-use Rattle.desk_ops.proofs.Stamps.{stamp_tied, same-refl, same-from, by_cases}
+use Rattle.desk_ops.proofs.Stamps.{stamp_tied, same-refl, same-from, by_cases, is_less, is_equal}
 use Rattle.desk_ops.specs.OrderLaws.{op_total, op_antisymmetric}
 use Rattle.desk_ops.proofs.Kept.{Agree, Grows, order-kept}
 
@@ -35,30 +36,17 @@ abbrev pub IsOrdered : List Op → Type 0
 IsOrdered [] = Unit {0}
 IsOrdered (o ∷ os) = Each (λ p. op_cmp o p ≡ Less) os × IsOrdered os
 
-less : (r : Ordering) → is_lt r ≡ true → r ≡ Less
-less Less e = refl
-less Equal e = absurd (true≢false (sym e))
-less Greater e = absurd (true≢false (sym e))
-
-both-left : (a b : Bool) → (a && b) ≡ true → a ≡ true
-both-left true b e = refl
-both-left false b e = e
-
-both-right : (a b : Bool) → (a && b) ≡ true → b ≡ true
-both-right true b e = e
-both-right false b e = absurd (true≢false (sym e))
-
 pub of-T : (b : Bool) → T b → b ≡ true
 of-T true t = refl
 of-T false t = absurd t
 
 ordered_below : (o : Op) (es : List (Op × Unit {0})) → below_all op_cmp o es ≡ true → Each (λ p. op_cmp o p ≡ Less) (map (λ (e : Op × Unit {0}). e.0) es)
 ordered_below o [] h = tt
-ordered_below o (e ∷ es) h = (less (op_cmp o e.0) (both-left (is_lt (op_cmp o e.0)) (below_all op_cmp o es) h), ordered_below o es (both-right (is_lt (op_cmp o e.0)) (below_all op_cmp o es) h))
+ordered_below o (e ∷ es) h = (is_less (op_cmp o e.0) (first_so (is_lt (op_cmp o e.0)) (below_all op_cmp o es) h), ordered_below o es (second_so (is_lt (op_cmp o e.0)) (below_all op_cmp o es) h))
 
 pub ordered_entries : (es : List (Op × Unit {0})) → is_sorted op_cmp es ≡ true → IsOrdered (map (λ (e : Op × Unit {0}). e.0) es)
 ordered_entries [] h = tt
-ordered_entries (e ∷ es) h = (ordered_below e.0 es (both-left (below_all op_cmp e.0 es) (is_sorted op_cmp es) h), ordered_entries es (both-right (below_all op_cmp e.0 es) (is_sorted op_cmp es) h))
+ordered_entries (e ∷ es) h = (ordered_below e.0 es (first_so (below_all op_cmp e.0 es) (is_sorted op_cmp es) h), ordered_entries es (second_so (below_all op_cmp e.0 es) (is_sorted op_cmp es) h))
 
 pub ordered : (h : OpSet) → IsOrdered (in_order h)
 ordered h = ordered_entries (fin.entries h) (of-T (is_sorted op_cmp (fin.entries h)) (fin.entries_sorted h))
@@ -68,16 +56,11 @@ among-any q [] m = absurd m
 among-any q (o ∷ os) (inl e) = ap (λ b. b || list_any (eq_by_cmp op_cmp q) os) (ap is_eq (ap (op_cmp q) e ∙ tied_itself op_total q))
 among-any q (o ∷ os) (inr m) = ap (λ b. eq_by_cmp op_cmp q o || b) (among-any q os m) ∙ or-true (eq_by_cmp op_cmp q o)
 
-pub equal : (r : Ordering) → is_eq r ≡ true → r ≡ Equal
-equal Less e = absurd (true≢false (sym e))
-equal Equal e = refl
-equal Greater e = absurd (true≢false (sym e))
-
 pub any-among : (q : Op) (os : List Op) → list_any (eq_by_cmp op_cmp q) os ≡ true → Among q os
 any-among q [] h = absurd (true≢false (sym h))
 any-among q (o ∷ os) h =
     by_cases (eq_by_cmp op_cmp q o)
-    (λ e. inl (sym (op_antisymmetric q o (equal (op_cmp q o) e))))
+    (λ e. inl (sym (op_antisymmetric q o (is_equal (op_cmp q o) e))))
     (λ e. inr (any-among q os (sym (ap (λ b. b || list_any (eq_by_cmp op_cmp q) os) e) ∙ h)))
 
 pub within : (h g : OpSet) → IsWithin h g → (o : Op) → Among o (in_order h) → Among o (in_order g)

@@ -23,17 +23,17 @@ use Rattle.desk_ops.proofs.Means.{clear_ascending, clear_grows, clear_insert, Is
 use Rattle.desk_ops.proofs.Tree.{live-walk, walk-live}
 use Rattle.desk_ops.proofs.Arrive.{insert_clear}
 
-one-of-more : (os : List Op) (o : Op) → Among o os → is_more os ≡ false → is_one os ≡ true
+pub one-of-more : (os : List Op) (o : Op) → Among o os → is_more os ≡ false → is_one os ≡ true
 one-of-more [] o m h = absurd m
 one-of-more (a ∷ []) o m h = refl
 one-of-more (a ∷ b ∷ os) o m h = absurd (true≢false h)
 
-unforked-clear : (g : OpSet) → IsUnforked g → (o : Op) → Among o (in_order g) → is_clear (in_order g) (stamp_of o) ≡ true
+pub unforked-clear : (g : OpSet) → IsUnforked g → (o : Op) → Among o (in_order g) → is_clear (in_order g) (stamp_of o) ≡ true
 unfolding is_clear is_forked
 unforked-clear g u o m = one-of-more (bearing (in_order g) (stamp_of o)) o (among-filter_from (λ p. same (stamp_of p) (stamp_of o)) (in_order g) o m (same-refl (stamp_of o)))
     (each-among (λ o. is_more (bearing (in_order g) (stamp_of o)) ≡ false) (in_order g) o u m)
 
-order-filter : (p : Stamp → List Stamp) (f : Insertion → Bool) (xs : List Insertion) → InPathOrder p xs → InPathOrder p (filter f xs)
+pub order-filter : (p : Stamp → List Stamp) (f : Insertion → Bool) (xs : List Insertion) → InPathOrder p xs → InPathOrder p (filter f xs)
 order-filter p f [] h = tt
 order-filter p f (x ∷ xs) h = elim (f x) as (λ b. InPathOrder p (cond b (x ∷ filter f xs) (filter f xs))) [
   | true ↦ (each-filter (λ y. path_cmp (p x.stamp) (p y.stamp) ≡ Less) f xs h.0, order-filter p f xs h.1)

@@ -1,7 +1,7 @@
 -- Parts of a set in which no stamp is forked and each operation hangs on what is live.
-use Rattle.std.proofs.Common.{◌≡◌, ℕ, zero, suc, ◌<◌, true, false, List, [], ◌∷◌, map, refl, sym, ap, ◌∙◌, subst, ◌⊎◌, inl, inr, Some, None, arith}
+use Rattle.std.proofs.Common.{◌≡◌, ℕ, zero, suc, ◌<◌, true, false, List, [], ◌∷◌, map, refl, sym, ap, ◌∙◌, subst, ◌⊎◌, inl, inr, Some, arith}
 use Rattle.std.specs.Prelude.{slice_index_or, not}
-use Rattle.std.specs.Option.{is_some, unwrap_or}
+use Rattle.std.specs.Option.{unwrap_or}
 use Rattle.std.proofs.lemmas.Bool.{true≢false}
 use Rattle.desk_ops.specs.declared.op.Stamp.{Stamp}
 use Rattle.desk_ops.specs.declared.op.Op.{Op}
@@ -13,38 +13,30 @@ use Rattle.desk_ops.specs.Stamp.{head, same}
 use Rattle.desk_ops.specs.Op.{stamp_of, target_of, IsLawful, Insertion}
 use Rattle.desk_ops.specs.OpSet.{OpSet, has_op, in_order, IsWithin, AllLawful}
 use Rattle.desk_ops.specs.Lists.{Among}
-use Rattle.desk_ops.specs.Held.{bearing, is_one, is_more, is_clear, is_forked, is_clear_in, is_borne_in, is_forked_in, clear_inserts_of, live_inserts_of, IsUnforked}
+use Rattle.desk_ops.specs.Held.{is_forked, is_clear_in, is_borne_in, is_forked_in, clear_inserts_of, live_inserts_of, IsUnforked}
 use Rattle.desk_ops.specs.Live.{insert_of, IsClearOp, IsOfLiveInsert, IsLiveOp}
 use Rattle.desk_ops.specs.Shown.{is_deleted_in, shown, shown_of}
 use Rattle.desk_ops.specs.Walk.{walk_of}
 use Rattle.desk_ops.specs.Faults.{EndsAt, stops, goes, IsStuck, HasFault, faults_of}
-use Rattle.desk_ops.proofs.Lists.{each-among, each-from_among, among-filter, among-filter_from}
+use Rattle.desk_ops.proofs.Lists.{each-among, each-from_among, among-filter}
 use Rattle.desk_ops.proofs.Stamps.{same-from, same-refl, by_cases}
 use Rattle.desk_ops.proofs.Means.{clear_one, not-head}
 use Rattle.desk_ops.proofs.Tree.{walk-live}
 use Rattle.desk_ops.proofs.Ends.{among_held, insert_from_op, op_from_insert, op_from_live, live_from_op}
 use Rattle.desk_ops.proofs.Bearers.{borne_op, forked_two}
+use Rattle.desk_ops.proofs.Faulty.{none-some}
+use Rattle.desk_ops.proofs.One.{unforked-clear}
 use Rattle.desk_ops.proofs.Stuck.{fault_listed}
 use Rattle.desk_ops.proofs.Joined.{same_bool}
 use Rattle.desk_ops.proofs.Unions.{same-set}
 
-some-stamp : (p t : Stamp) → Some p ≡ Some t → p ≡ t
+pub some-stamp : (p t : Stamp) → Some p ≡ Some t → p ≡ t
 some-stamp p t e = ap (λ r. unwrap_or r p) e
-
-none_some : (t : Stamp) → None ≡ Some t → ⊥
-none_some t e = true≢false (sym (ap is_some e))
 
 -- ---- no stamp is forked
 
-one_of_more : (os : List Op) (o : Op) → Among o os → is_more os ≡ false → is_one os ≡ true
-one_of_more [] o m h = absurd m
-one_of_more (a ∷ []) o m h = refl
-one_of_more (a ∷ b ∷ os) o m h = absurd (true≢false h)
-
 pub unforked_clear : (g : OpSet) → IsUnforked g → (o : Op) → has_op g o ≡ true → is_clear_in g (stamp_of o) ≡ true
-unfolding is_clear is_forked
-unforked_clear g u o k = one_of_more (bearing (in_order g) (stamp_of o)) o (among-filter_from (λ p. same (stamp_of p) (stamp_of o)) (in_order g) o (among_held g o k) (same-refl (stamp_of o)))
-    (each-among (λ p. is_more (bearing (in_order g) (stamp_of p)) ≡ false) (in_order g) o u (among_held g o k))
+unforked_clear g u o k = unforked-clear g u o (among_held g o k)
 
 -- one stamp, one operation
 pub unforked_one : (g : OpSet) → IsUnforked g → (o p : Op) → has_op g o ≡ true → has_op g p ≡ true → stamp_of o ≡ stamp_of p → o ≡ p
@@ -163,7 +155,7 @@ module _ (h g : OpSet) (lh : AllLawful h) (lg : AllLawful g) (u : IsUnforked g) 
             last : (t ≡ head) ⊎ IsOfLiveInsert h t → IsOfLiveInsert h p
             last (inl i) = absurd (true≢false (sym (same-from p head (some-stamp p t e ∙ i)) ∙ not-head p l.1))
             last (inr x) = (x.0, x.1, x.2 ∙ sym (some-stamp p t e))
-        live (Set s k v) t c e l i = absurd (none_some t e)
+        live (Set s k v) t c e l i = absurd (none-some t e)
 
         down : (t : Stamp) → (t ≡ head) ⊎ IsOfLiveInsert g t → (t ≡ head) ⊎ IsOfLiveInsert h t
         down t k = subst (λ e. (t ≡ head) ⊎ IsOfLiveInsert e t) (same-set g h (λ q. same_bool (has_op g q) (has_op h q) (v q) (w q))) k

@@ -10,6 +10,7 @@ use Rattle.std.specs.declared.cmp.Ordering.{Ordering}
 use Rattle.std.specs.declared.cmp.Ordering.TheVariants.{Less, Equal, Greater}
 use Rattle.desk_ops.specs.declared.op.Stamp.{Stamp}
 use Rattle.desk_ops.specs.Stamp.{stamp_cmp, same, before}
+use Rattle.desk_ops.specs.OrderLaws.{then_tie}
 
 pub by_cases : {G : Type 0} (b : Bool) → (b ≡ true → G) → (b ≡ false → G) → G
 by_cases true t f = t refl
@@ -22,11 +23,6 @@ stamp_total = then_total (on_total (λ (s : Stamp). s.counter) nat_cmp_total) (o
 pub stamp_tied : (a b : Stamp) → stamp_cmp a b ≡ Equal → a ≡ b
 unfolding stamp_cmp
 stamp_tied a b e = grind (arith, nat_tests)
-
-then_tie : (r o : Ordering) → is_eq (ordering_then r o) ≡ (is_eq r && is_eq o)
-then_tie Less o = refl
-then_tie Equal o = refl
-then_tie Greater o = refl
 
 -- the same is what neither order tells apart
 pub same-cmp : (a b : Stamp) → is_eq (stamp_cmp a b) ≡ same a b
@@ -74,6 +70,13 @@ before-other a b p q = rw (stamp_total.antisymm b a) (go (stamp_cmp a b) p (same
     go Less p q = absurd (true≢false p)
     go Equal p q = absurd (true≢false q)
     go Greater p q = refl
+
+-- what is before the one and not after the other, which are in that order
+pub before-squeeze : (a b c : Stamp) → before a c ≡ true → before b c ≡ false → before a b ≡ true
+before-squeeze a b c early late =
+    by_cases (same b c)
+    (λ e. ap (before a) (same-true b c e) ∙ early)
+    (λ e. before-trans a c b early (before-other b c late e))
 
 pub before-apart : (a b : Stamp) → before a b ≡ true → same b a ≡ false
 before-apart a b p = by_cases (same b a) (λ e. absurd (before-irrefl a (rw (same-true b a e) at p))) (λ e. e)

@@ -8,8 +8,9 @@ use Rattle.std.specs.FinMap as fin
 use Rattle.std.proofs.Math.Bool.{or_comm, or_self}
 use Rattle.desk_ops.specs.declared.op.Op.{Op}
 use Rattle.desk_ops.specs.Order.{op_cmp}
-use Rattle.desk_ops.specs.OpSet.{OpSet, has_op, with_op, with_all, union, in_order, size}
+use Rattle.desk_ops.specs.OpSet.{OpSet, no_ops, has_op, with_op, with_all, union, in_order, size}
 use Rattle.desk_ops.specs.OrderLaws.{op_total, op_antisymmetric}
+use Rattle.desk_ops.proofs.OpSets.{none-held}
 
 -- ---- sets
 
@@ -30,25 +31,29 @@ unit-some (Some u) (Some v) e = refl
 pub same-set : (h g : OpSet) → ((q : Op) → has_op h q ≡ has_op g q) → h ≡ g
 same-set h g e = fin.same_map op_total op_antisymmetric h g (λ q. unit-some (fin.get h q) (fin.get g q) (e q))
 
-or-assoc : (a b c : Bool) → (a || (b || c)) ≡ (b || (a || c))
-or-assoc true true c = refl
-or-assoc true false c = refl
-or-assoc false b c = refl
+pub or-swap : (a b c : Bool) → (a || (b || c)) ≡ (b || (a || c))
+or-swap true true c = refl
+or-swap true false c = refl
+or-swap false b c = refl
 
-or-group : (a b c : Bool) → ((a || b) || c) ≡ (a || (b || c))
+pub or-group : (a b c : Bool) → ((a || b) || c) ≡ (a || (b || c))
 or-group true b c = refl
 or-group false b c = refl
 
 pub has_op-with_all : (h : OpSet) (os : List Op) (q : Op) → has_op (with_all h os) q ≡ (list_any (eq_by_cmp op_cmp q) os || has_op h q)
 has_op-with_all h [] q = refl
 has_op-with_all h (o ∷ os) q = has_op-with_all (with_op h o) os q ∙ ap (λ b. list_any (eq_by_cmp op_cmp q) os || b) (has_op-with_op h o q)
-    ∙ or-assoc (list_any (eq_by_cmp op_cmp q) os) (eq_by_cmp op_cmp q o) (has_op h q) ∙ sym (or-group (eq_by_cmp op_cmp q o) (list_any (eq_by_cmp op_cmp q) os) (has_op h q))
+    ∙ or-swap (list_any (eq_by_cmp op_cmp q) os) (eq_by_cmp op_cmp q o) (has_op h q) ∙ sym (or-group (eq_by_cmp op_cmp q o) (list_any (eq_by_cmp op_cmp q) os) (has_op h q))
 
 pub has_op-union : (h g : OpSet) (q : Op) → has_op (union h g) q ≡ (has_op h q || has_op g q)
 has_op-union h g q = has_op-with_all h (in_order g) q ∙ ap (λ b. b || has_op h q) (sym (fin.contains_key-keys g q)) ∙ or_comm (has_op g q) (has_op h q)
 
 pub union-comm : (h g : OpSet) → union h g ≡ union g h
 union-comm h g = same-set (union h g) (union g h) (λ q. has_op-union h g q ∙ or_comm (has_op h q) (has_op g q) ∙ sym (has_op-union g h q))
+
+-- a set is what its operations make of none
+pub with_all-in_order : (h : OpSet) → with_all no_ops (in_order h) ≡ h
+with_all-in_order h = same-set (with_all no_ops (in_order h)) h (λ q. has_op-union no_ops h q ∙ ap (λ b. b || has_op h q) (none-held q))
 
 pub union-same : (h : OpSet) → union h h ≡ h
 union-same h = same-set (union h h) h (λ q. has_op-union h h q ∙ or_self (has_op h q))
@@ -76,7 +81,7 @@ with_all-take h (o ∷ os) (suc k) d lt = let e : suc k + 1 ≡ suc (k + 1) = om
 pub with_op-comm : (h : OpSet) (o p : Op) → with_op (with_op h o) p ≡ with_op (with_op h p) o
 with_op-comm h o p = same-set (with_op (with_op h o) p) (with_op (with_op h p) o)
     (λ q. has_op-with_op (with_op h o) p q ∙ ap (λ b. eq_by_cmp op_cmp q p || b) (has_op-with_op h o q)
-    ∙ or-assoc (eq_by_cmp op_cmp q p) (eq_by_cmp op_cmp q o) (has_op h q)
+    ∙ or-swap (eq_by_cmp op_cmp q p) (eq_by_cmp op_cmp q o) (has_op h q)
     ∙ sym (has_op-with_op (with_op h p) o q ∙ ap (λ b. eq_by_cmp op_cmp q o || b) (has_op-with_op h p q)))
 
 pub size-with_op : (h : OpSet) (o : Op) → size (with_op h o) ≡ cond (has_op h o) (size h) (size h + 1)

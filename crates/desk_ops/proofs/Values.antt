@@ -1,8 +1,7 @@
 -- The live set of a key with the greatest stamp.
 use Rattle.std.proofs.Common.{◌≡◌, ℕ, ◌==◌, true, false, cond, List, [], ◌∷◌, refl, sym, ap, ◌∙◌, subst, ◌⊎◌, inl, inr, Option, Some, None, arith}
 use Rattle.std.specs.List.{filter, filter_map, cons_option}
-use Rattle.std.specs.Option.{is_some, unwrap_or}
-use Rattle.std.proofs.lemmas.Bool.{true≢false}
+use Rattle.std.specs.Option.{unwrap_or}
 use Rattle.std.proofs.lemmas.Bool.Decides.{nat_tests}
 use Rattle.desk_ops.specs.declared.op.Stamp.{Stamp}
 use Rattle.desk_ops.specs.declared.op.Key.{Key}
@@ -22,6 +21,7 @@ use Rattle.desk_ops.proofs.Stamps.{by_cases}
 use Rattle.desk_ops.proofs.Lists.{Each, each-among, each-from_among, among-filter, among-filter_map_from}
 use Rattle.desk_ops.proofs.Means.{IsOrdered, ordered, clear_apart, before-less}
 use Rattle.desk_ops.proofs.Ends.{clear_from_op, op_from_clear}
+use Rattle.desk_ops.proofs.Faulty.{none-some}
 
 -- each stamp is greater than those before it
 abbrev pub IsByStamp : List Op → Type 0
@@ -48,9 +48,6 @@ clear_by_stamp h = by_stamp_clear (in_order h) (in_order h) (λ o m. m) (ordered
 -- o has the value v, and whatever else has one is older
 abbrev IsLast : (Op → Option ℕ) → List Op → ℕ → Op → Type 0
 IsLast f os v o = Among o os × (f o ≡ Some v) × ((p : Op) → Among p os → (n : ℕ) → f p ≡ Some n → (p ≡ o) ⊎ (before (stamp_of p) (stamp_of o) ≡ true))
-
-none-some : {A B : Type 0} (x : A) → None ≡ Some x → B
-none-some x e = absurd (true≢false (sym (ap is_some e)))
 
 last_some : (f : Op → Option ℕ) (os : List Op) → IsByStamp os → (v : ℕ) → last (filter_map f os) ≡ Some v → (o : Op) × IsLast f os v o
 last_some f [] up v e = none-some v e

@@ -15,7 +15,8 @@ use Rattle.desk_ops.specs.Order.{op_cmp}
 use Rattle.desk_ops.specs.OpSet.{OpSet, no_ops, has_op, in_order, AllLawful}
 use Rattle.desk_ops.proofs.Stamps.{by_cases}
 use Rattle.desk_ops.proofs.Lists.{each-among, each-from_among}
-use Rattle.desk_ops.proofs.Means.{equal, of-T}
+use Rattle.desk_ops.proofs.Means.{of-T}
+use Rattle.desk_ops.proofs.Stamps.{is_equal as equal}
 use Rattle.desk_ops.proofs.Ends.{among_held, held_among}
 use Rattle.desk_ops.proofs.Unions.{has_op-union}
 use Rattle.desk_world.specs.Sites.{Sites, is_held}
