@@ -16,8 +16,6 @@ pub fn read_words<'a>(alloc: Global, words: &'a [String]) -> Result<Option<Wish<
     ensures wish { IfOk result (IsAsked (map string_bytes words.entry.now)) }
 {
     let command = command(alloc)?;
-    match command.try_get_matches_from(words) {
-        Ok(matches) => Ok(wish_of(alloc, &matches)?),
-        Err(error) => Err(error),
-    }
+    let matches = command.try_get_matches_from(words)?;
+    Ok(wish_of(alloc, &matches)?)
 }
