@@ -76,7 +76,6 @@ impl<A: Allocator + Copy> Sequence for Blocks<A> {
         let Some(hint) = self.index.get(stamp) else {
             return None;
         };
-        let _len = self.pages.len();
         if let Some((start, items)) = self.pages.named(hint) {
             if let Some(j) = spot_in(items, stamp) {
                 return Some(start + j);

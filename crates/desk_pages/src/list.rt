@@ -114,7 +114,8 @@ impl<T: Copy, S: Summary<T>, A: Allocator + Copy> Pages<T, S, A> {
 
     /// The page of that number, and the place of its first entry.
     pub fn named(&self, name: usize) -> Option<(usize, &[T])>
-        ensures { IfSome result (λ r. r.1.now ≡ take (length r.1.now) (drop r.0 self.now.entries)) }
+        ensures is { IfSome result (λ r. r.1.now ≡ take (length r.1.now) (drop r.0 self.now.entries)) }
+        ensures few { length self.now.entries < 2 ^ 48 }
     {
         pages::named(
             &self.pages,

@@ -1,6 +1,6 @@
 //! A sequence in one vector.
 ghost use Rattle.std.specs.Prelude.{◌≡◌, ◌-◌, vec_capacity, vec_len};
-ghost use Rattle.std.specs.Prelude.{IfSome, IsNone, ◌≤◌, ◌<◌, ◌+◌, length};
+ghost use Rattle.std.specs.Prelude.{IfSome, IsNone, ◌≤◌, ◌<◌, ◌+◌, ◌^◌, length};
 ghost use Rattle.std.specs.List.{insert};
 ghost use Rattle.desk_seq.specs.Entries.{Listing, listing_code, AreDistinct, IsFoundAt, IsFirstBelow, stamps_of, IsAbsent};
 ghost use Rattle.desk_seq.specs.contracts.Entry as entry;
@@ -75,6 +75,7 @@ impl<A: Allocator + Copy> Sequence for Flat<A> {
 /// The first place that bears the stamp.
 fn find_in(items: &[Entry], stamp: Stamp) -> Option<usize>
     ensures found { IfSome result (λ i. IsFoundAt (stamps_of items.now) stamp i) }
+    ensures fits { IfSome result (λ i. i + 1 < 2 ^ 64) }
     ensures none { IsNone result → IsAbsent stamp items.now }
 {
     let mut at = 0;

@@ -1,7 +1,7 @@
 //! The elements of a copy in their order, those that were deleted among them, and the scan that puts a new one in.
 #![tactic(auto)]
 
-ghost use Rattle.std.specs.Prelude.{◌≡◌, ℕ, ◌+◌, ◌≤◌, ◌<◌, List, [], length, IfSome, IfOk, IsNone, OnOk, IsOk, slice_index_or};
+ghost use Rattle.std.specs.Prelude.{◌≡◌, ℕ, ◌+◌, ◌≤◌, ◌<◌, ◌^◌, List, [], length, IfSome, IfOk, IsNone, OnOk, IsOk, slice_index_or};
 ghost use Rattle.std.specs.List.{insert};
 ghost use Rattle.desk_seq.specs.Entries.{stamps_of, IsAbsent, AreDistinct, IsFoundAt, IsFirstBelow, with_mark, shown_in, shown_symbols, IsShownAt};
 ghost use Rattle.desk_seq.specs.declared.Entry.{Entry};
@@ -49,6 +49,7 @@ pub trait Sequence: Drop {
     /// Where the entry with the stamp stands.
     fn find(&self, stamp: Stamp) -> Option<usize>
         ensures found { IfSome result (λ i. IsFoundAt (stamps_of (entries self.now)) stamp i) }
+        ensures fits { IfSome result (λ i. i + 1 < 2 ^ 64) }
         ensures none { IsNone result → IsAbsent stamp (entries self.now) };
 
     /// How many more can be put with no new memory.

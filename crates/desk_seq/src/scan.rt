@@ -22,10 +22,7 @@ fn start_of<Q: Sequence>(sequence: &Q, parent: Stamp) -> usize
         return 0;
     }
     match sequence.find(parent) {
-        Some(k) => {
-            let _ = sequence.len();
-            k + 1
-        }
+        Some(k) => k + 1,
         None => unreachable!(),
     }
 }
