@@ -4,4 +4,3 @@ pub mod Sites
 pub mod Changing
 pub mod Reading
 pub mod Opening
-pub mod Behind

@@ -1,5 +1,5 @@
 -- The files of a command.
-use Rattle.std.proofs.Common.{◌≡◌, ℕ, ◌∙◌, List, ap, ap₂, arith, inl, inr, refl, subst, sym}
+use Rattle.std.proofs.Common.{◌≡◌, ℕ, ◌∙◌, List, ap, arith, inl, inr, refl, subst, sym}
 use Rattle.std.specs.Prelude.{◌≢◌, Option, Some, None, Result, Ok, Err}
 use Rattle.toml.specs.Errors.{IsBlank}
 use Rattle.desk_answers.specs.declared.text.Refusal.{Refusal}
@@ -17,14 +17,11 @@ use Rattle.desk_wedge.specs.declared.WedgeFault.{WedgeFault}
 use Rattle.desk_wedge.specs.declared.WedgeFault.TheVariants as wedges
 use Rattle.desk_files.specs.declared.files.FileRefusal.{FileRefusal}
 use Rattle.desk_files.specs.declared.files.FileRefusal.TheVariants as files
-use Rattle.desk_files.specs.Files.{Counts, IsCounted, Reads, Shelf, Stays, shelf}
+use Rattle.desk_files.specs.Files.{Counts, IsCounted, Reads, Shelf, Stays}
+use Rattle.desk_files.proofs.Shelves.{same_shelf}
 use Rattle.desk_inputs.specs.Inputs.{Answers, BothGive, BothLackMemory, FileGives, FileLacksMemory, Tells, TellsBytes, ThenWedge, with_case}
 
 -- ---- where nothing has changed
-
--- and nothing failed
-pub same_shelf : (before after : Shelf) → Stays before after → after.failures ≡ before.failures → after ≡ before
-same_shelf before after stays fails = ap (λ kept. shelf kept after.failures after.held) stays.0 ∙ ap₂ (shelf before.kept) fails stays.2
 
 -- what holds from one to another holds at the first
 pub still_at : (P : Shelf → Shelf → Type 0) (first mid last : Shelf) → mid ≡ first → last ≡ mid → P mid last → P first first

@@ -9,7 +9,7 @@ use Rattle.desk_files.specs.Files.{IsCounted, Reads, Shelf, Stays}
 use Rattle.desk_files.specs.declared.files.FileRefusal.{FileRefusal}
 use Rattle.desk_files.specs.declared.files.FileRefusal.TheVariants as files
 use Rattle.desk_inputs.specs.Inputs.{Answers, BothGive, BothLackMemory}
-use Rattle.desk_inputs.proofs.Gives.{same_shelf}
+use Rattle.desk_files.proofs.Shelves.{same_shelf}
 use Rattle.desk_reading.specs.Sources.{AreRefused, Sources, of_input, of_ribbon}
 
 -- the ribbon is not read

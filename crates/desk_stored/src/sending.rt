@@ -32,10 +32,7 @@ pub fn send<W: Write>(writer: &mut W, bytes: &[u8]) -> Result<(), Unsent>
 pub fn let_out<W: Write>(writer: &mut W) -> Result<(), Unsent>
     ensures { Keeps (W.contents writer.old) (W.contents writer.new) }
 {
-    match writer.flush() {
-        Ok(()) => Ok(()),
-        Err(_) => Err(Unsent),
-    }
+    writer.flush().map_err(|_| Unsent)
 }
 
 /// Writes a text whole, and lets it out. After an `Err` a prefix of it was written.

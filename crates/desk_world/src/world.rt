@@ -271,10 +271,8 @@ impl<A: Allocator + Copy> World<A> {
         ensures { IfOk result (λ w. w ≡ fin.insert no_sites replica.site replica.ops) }
     {
         let mut sites = IndexMap::new(alloc);
-        match sites.insert(replica.site(), replica) {
-            Ok(_) => Ok(World { alloc, sites }),
-            Err(_) => Err(NoMemory),
-        }
+        sites.insert(replica.site(), replica)?;
+        Ok(World { alloc, sites })
     }
 
     /// The replica of a site, if it is there. In an honest world it has no forked and no void fault, and none at all where

@@ -4,8 +4,8 @@ use Rattle.std.specs.Io.KnownBytes.{Appends}
 use Rattle.desk_files.specs.Files.{Shelf}
 use Rattle.desk_stored.specs.Sending.{WritesFront}
 use Rattle.desk_hand.specs.Exporting.{IsClosedBy, IsSetOf}
-use Rattle.desk_hand.proofs.Behind.{err_behind, ok_behind}
-use Rattle.desk_hand.proofs.Shelves.{same_shelf}
+use Rattle.desk_files.proofs.Behind.{err_behind, ok_behind}
+use Rattle.desk_files.proofs.Shelves.{same_shelf}
 use Rattle.desk_difference.proofs.telling.tell_difference.Goals as goal
 
 pub returns-in_err-first-clause-err : goal.returns-in_err-first-clause-err

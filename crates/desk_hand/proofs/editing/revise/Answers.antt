@@ -7,7 +7,7 @@ use Rattle.desk_changes.specs.Changes.{AreSparing, all_changed}
 use Rattle.desk_changes.specs.declared.making.Change.{Change}
 use Rattle.desk_hand.specs.Fault.{refusal_of}
 use Rattle.desk_hand.specs.Editing.{AreMade, IsRefusedAmong, deletes_of, inserts_of}
-use Rattle.desk_hand.proofs.Behind.{err_behind, ok_behind}
+use Rattle.desk_files.proofs.Behind.{err_behind, ok_behind}
 use Rattle.desk_hand.proofs.Changing.{few_made, none_made, placed, revised, sparing_made, valueless}
 use Rattle.desk_hand.proofs.editing.revise.Goals as goal
 

@@ -1,7 +1,6 @@
 use Rattle.std.proofs.Common.{◌∙◌}
-use Rattle.desk_files.proofs.Shelves.{stays_trans}
+use Rattle.desk_files.proofs.Shelves.{same_shelf, stays_trans}
 use Rattle.desk_hand.proofs.Joining.{more_joined, stops_at}
-use Rattle.desk_hand.proofs.Shelves.{same_shelf}
 use Rattle.desk_hand.proofs.merging.join_files.Goals as goal
 
 pub returns-in-Err-clause-err : goal.returns-in-Err-clause-err

@@ -2,11 +2,10 @@ use Rattle.std.proofs.Common.{◌++◌, ◌∙◌, inl, refl, subst}
 use Rattle.std.specs.Prelude.{string_bytes}
 use Rattle.std.proofs.lemmas.Result.{err_from_is_err_and}
 use Rattle.desk_files.specs.Files.{Shelf}
-use Rattle.desk_files.proofs.Shelves.{held_alone, holds_on}
+use Rattle.desk_files.proofs.Shelves.{held_alone, holds_on, same_shelf}
 use Rattle.desk_stored.specs.Stored.{was_read}
 use Rattle.desk_hand.specs.Keeping.{IsKept, IsUnkept}
 use Rattle.desk_hand.specs.Merging.{faults_line}
-use Rattle.desk_hand.proofs.Shelves.{same_shelf}
 use Rattle.desk_hand.proofs.merging.merge_feeds.Goals as goal
 
 pub returns-in_err-old-clause-err : goal.returns-in_err-old-clause-err

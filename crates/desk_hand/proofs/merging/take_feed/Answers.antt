@@ -1,8 +1,9 @@
 use Rattle.std.proofs.Common.{sym, subst}
 use Rattle.desk_files.specs.Files.{Counts, IsNowHeld, Reads, Shelf}
 use Rattle.desk_stored.specs.Stored.{was_read}
-use Rattle.desk_hand.proofs.Behind.{ok_behind}
-use Rattle.desk_hand.proofs.Shelves.{read_counts, same_shelf}
+use Rattle.desk_files.proofs.Behind.{ok_behind}
+use Rattle.desk_files.proofs.Shelves.{same_shelf}
+use Rattle.desk_hand.proofs.Shelves.{read_counts}
 use Rattle.desk_hand.proofs.merging.take_feed.Goals as goal
 
 pub returns-clause-ok : goal.returns-clause-ok

@@ -3,7 +3,8 @@ use Rattle.std.proofs.lemmas.Result.{err_from_is_err_and}
 use Rattle.std.specs.Prelude.{Err}
 use Rattle.desk_answers.specs.Failure.{wedge_refused}
 use Rattle.desk_wedge.specs.File.{wedge_of}
-use Rattle.desk_inputs.proofs.Gives.{misread, no_memory_wedge, no_number_wedge, read_as, same_shelf, stays_by, unread}
+use Rattle.desk_files.proofs.Shelves.{same_shelf}
+use Rattle.desk_inputs.proofs.Gives.{misread, no_memory_wedge, no_number_wedge, read_as, stays_by, unread}
 use Rattle.desk_inputs.proofs.inputs.wedge_in.Goals as goal
 
 pub returns-in_err-bytes-clause-given : goal.returns-in_err-bytes-clause-given

@@ -2,7 +2,8 @@ use Rattle.std.proofs.Common.{◌∙◌}
 use Rattle.std.proofs.lemmas.Result.{err_from_is_err_and}
 use Rattle.std.specs.Prelude.{Ok}
 use Rattle.desk_files.specs.Files.{Shelf}
-use Rattle.desk_inputs.proofs.Gives.{same_shelf, stays_by, still_at}
+use Rattle.desk_files.proofs.Shelves.{same_shelf}
+use Rattle.desk_inputs.proofs.Gives.{stays_by, still_at}
 use Rattle.desk_inputs.specs.Inputs.{BothGive}
 use Rattle.desk_reading.specs.Sources.{sources}
 use Rattle.desk_reading.proofs.Gives.{no_inputs, no_ribbon}

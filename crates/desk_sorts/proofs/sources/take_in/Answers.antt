@@ -4,7 +4,8 @@ use Rattle.std.specs.Prelude.{Ok}
 use Rattle.desk_answers.specs.Failure.{case_refused}
 use Rattle.desk_case.specs.File.{case_of}
 use Rattle.desk_files.specs.Files.{Shelf}
-use Rattle.desk_inputs.proofs.Gives.{same_shelf, still_at}
+use Rattle.desk_files.proofs.Shelves.{same_shelf}
+use Rattle.desk_inputs.proofs.Gives.{still_at}
 use Rattle.desk_inputs.specs.Inputs.{FileGives}
 use Rattle.desk_sorts.specs.Sources.{sources}
 use Rattle.desk_sorts.proofs.Gives.{no_inputs}

@@ -11,11 +11,11 @@ pub invariant_of-result : goal.invariant_of-result
 invariant_of-result g c =
     let empty = c.new-sites.ensures.empty in
     let none : lookup (nat_eq c.site.result) c.new-sites.result.entries ≡ None = ap (lookup (nat_eq c.site.result)) empty in
-    kept_added c.new-sites.result.entries c.insert.new.self.entries c.site.result c.args.replica (subst IsKept (sym empty) nothing_kept) none c.in-Ok.ensures.updates.0 c.in-Ok.ensures.unique
-    (c.in-Ok.ensures.len ∙ ap (λ o. length c.new-sites.result.entries + cond (is_some o) 0 1) (c.in-Ok.ensures.old ∙ none)) (sym c.site.ensures.value) c.site.ensures.lawful
+    kept_added c.new-sites.result.entries c.insert.new.self.entries c.site.result c.args.replica (subst IsKept (sym empty) nothing_kept) none c.in_ok-insert.ensures.updates.0 c.in_ok-insert.ensures.unique
+    (c.in_ok-insert.ensures.len ∙ ap (λ o. length c.new-sites.result.entries + cond (is_some o) 0 1) (c.in_ok-insert.ensures.old ∙ none)) (sym c.site.ensures.value) c.site.ensures.lawful
 
-pub returns-in-Ok : goal.returns-in-Ok
-returns-in-Ok g c =
-    sites_of-updated c.new-sites.result.entries c.insert.new.self.entries c.site.result c.args.replica c.in-Ok.ensures.updates.0
+pub returns : goal.returns
+returns g c =
+    sites_of-updated c.new-sites.result.entries c.insert.new.self.entries c.site.result c.args.replica c.in_ok-insert.ensures.updates.0
     ∙ ap (λ es. fin.insert (sites_of es) c.site.result c.args.replica.ops) c.new-sites.ensures.empty
     ∙ ap (λ n. fin.insert no_sites n c.args.replica.ops) c.site.ensures.value
