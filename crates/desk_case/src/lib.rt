@@ -20,7 +20,7 @@ use desk_ops::Symbol;
 use desk_signals::Cell;
 use desk_wedge::Wedge;
 use indexmap::IndexMap;
-use std::alloc::Global;
+use std::alloc::{AllocError, Global};
 use std::marker::Model;
 use thiserror::Error;
 
@@ -106,6 +106,17 @@ impl From<TableFault> for CaseFault {
             TableFault::NotToml => CaseFault::NotToml,
             TableFault::NoMemory => CaseFault::NoMemory,
         }
+    }
+}
+
+impl From<AllocError> for CaseFault {
+    ghost use Rattle.std.specs.Prelude.{◌≡◌};
+    ghost use Rattle.desk_case.specs.declared.CaseFault.TheVariants as fault;
+
+    ghost from_gives = { λ _ why. why ≡ fault.NoMemory };
+
+    fn from(_: AllocError) -> CaseFault {
+        CaseFault::NoMemory
     }
 }
 

@@ -70,10 +70,8 @@ fn fill_at(alloc: Global, columns: usize, table: &Table) -> Result<Vec<Cell>, Ca
     ensures { Gives (λ v. v.items) (at_key CaseKey.Fill (fill_of columns) (table_view table.now)) result }
 {
     let value = member(table, CaseKey::Fill.name()).ok_or(CaseFault::Missing(CaseKey::Fill))?;
-    match fill(alloc, columns, value) {
-        Ok(fill) => fill.ok_or(CaseFault::Shape(CaseKey::Fill)),
-        Err(_) => Err(CaseFault::NoMemory),
-    }
+    let fill = fill(alloc, columns, value)?;
+    fill.ok_or(CaseFault::Shape(CaseKey::Fill))
 }
 
 /// Adds blanks.
@@ -167,10 +165,8 @@ fn sheet_at(alloc: Global, table: &Table) -> Result<FileRows, CaseFault>
     ensures { Gives sheet_seen (at_key CaseKey.Rows sheet_of (table_view table.now)) result }
 {
     let value = member(table, CaseKey::Rows.name()).ok_or(CaseFault::Missing(CaseKey::Rows))?;
-    match sheet(alloc, value) {
-        Ok(sheet) => sheet.ok_or(CaseFault::Shape(CaseKey::Rows)),
-        Err(_) => Err(CaseFault::NoMemory),
-    }
+    let sheet = sheet(alloc, value)?;
+    sheet.ok_or(CaseFault::Shape(CaseKey::Rows))
 }
 
 /// What the cells hold, where each text is blank or a symbol.

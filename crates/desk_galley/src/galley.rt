@@ -9,6 +9,7 @@ ghost use Rattle.desk_job.specs.Making.{AreWordsOf, IsRange};
 ghost use Rattle.desk_job.specs.Setting.{IsWord, words_at};
 ghost use Rattle.desk_galley.specs.Answer.{IsOfTerms, IsRefused, no_terms, rows_of_galley};
 ghost use Rattle.desk_galley.specs.Galley.{IsGalley, Stands, all_placed, galley_faults, galley_of, placed_at, placed_in, with_lines};
+ghost use Rattle.desk_job.specs.declared.JobFault.TheVariants.{MissingSetting};
 ghost use Rattle.desk_galley.specs.declared.galley.GalleyRefusal.TheVariants as refusal;
 
 use crate::line::{Line, set_out};
@@ -17,7 +18,7 @@ use desk_job::making::{is_filled, lacking, word_widths};
 use desk_job::terms::{Terms, Values};
 use desk_job::{JobFault, given};
 use desk_lines::{Group, Paragraph, Word, break_lines, paragraphs};
-use desk_ops::{NoMemory, Symbol};
+use desk_ops::{Key, NoMemory, Symbol};
 use desk_replica::Settings;
 use desk_units::Atoms;
 use desk_wedge::Wedge;
@@ -57,6 +58,15 @@ impl From<JobFault> for GalleyRefusal {
 
     fn from(fault: JobFault) -> GalleyRefusal {
         GalleyRefusal::Fault(fault)
+    }
+}
+
+// The key of a setting that is missing.
+impl From<Key> for GalleyRefusal {
+    ghost from_gives = { λ key why. why ≡ refusal.Fault (MissingSetting key) };
+
+    fn from(key: Key) -> GalleyRefusal {
+        GalleyRefusal::Fault(JobFault::MissingSetting(key))
     }
 }
 
@@ -210,10 +220,7 @@ pub fn make_galley<'a, A: Allocator + Copy>(
     // No symbols take no memory.
     ensures memory { IsErrOf result refusal.NoMemory → 1 ≤ length copy.now }
 {
-    let values = match given(settings) {
-        Ok(values) => values,
-        Err(key) => return Err(GalleyRefusal::Fault(JobFault::MissingSetting(key))),
-    };
+    let values = given(settings)?;
     let terms = Terms::new(case, wedge, values)?;
     let lacking = lacking(alloc, case, copy)?;
     let lines = all_lines(alloc, &terms, copy)?;
