@@ -6,7 +6,7 @@ ghost use Rattle.desk_lines.specs.Words.{most_words};
 ghost use Rattle.desk_justify.specs.Positions.{sum_of};
 ghost use Rattle.desk_job.specs.Job as job;
 ghost use Rattle.desk_job.specs.Setting.{listed, words_at};
-ghost use Rattle.desk_job.specs.Terms.{longest_measure};
+ghost use Rattle.desk_job.specs.Terms.{longest_measure, most_over};
 ghost use Rattle.desk_job.specs.Making.{IsRange, group_words};
 ghost use Rattle.desk_galley.specs.Line.{next_at, sum_if, values_of};
 ghost use Rattle.desk_galley.specs.Galley.{is_faulty};
@@ -219,7 +219,7 @@ fn free(terms: &Terms, words: usize, width: u64) -> Atoms
     requires width { width ≤ 2 ^ 61 }
     ensures value { result ≡ pos (job.measure terms.now) -ℤ (pos width +ℤ pos words *ℤ job.tight_space terms.now) }
     ensures high { result ≤ℤ pos longest_measure }
-    ensures low { pos 0 ≤ℤ (result +ℤ pos (2 ^ 62)) }
+    ensures low { pos 0 ≤ℤ (result +ℤ pos most_over) }
 {
     let taken = width + words as u64 * whole(terms.tight_space());
     Atoms::new(whole(terms.measure()) as i64 - taken as i64)
@@ -230,7 +230,7 @@ fn next_word(free: Atoms, after: &[Word], widths: &[Atoms]) -> Option<Next>
     requires number { length after.now ≡ length widths.now }
     requires within { AreWidths widths.now }
     requires high { free ≤ℤ pos longest_measure }
-    requires low { pos 0 ≤ℤ (free +ℤ pos (2 ^ 62)) }
+    requires low { pos 0 ≤ℤ (free +ℤ pos most_over) }
     ensures { result ≡ next_at free after.now widths.now }
 {
     let [word, ..] = after else {

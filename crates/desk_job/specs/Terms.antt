@@ -1,5 +1,5 @@
 -- What holds of the terms of every job that has no fault before its symbols.
-use Rattle.std.specs.Prelude.{◌≡◌, ℕ, ◌≤◌, true, ℤ, pos, ◌≤ℤ◌, ◌<ℤ◌}
+use Rattle.std.specs.Prelude.{◌≡◌, ℕ, ◌^◌, ◌≤◌, true, ℤ, pos, ◌≤ℤ◌, ◌<ℤ◌}
 use Rattle.desk_units.specs.WedgeSum.{IsWedgeSum}
 use Rattle.desk_units.specs.Widths.{measure_width, units_width}
 use Rattle.desk_units.specs.declared.Pica.TheVariants.{Sixth}
@@ -14,6 +14,10 @@ use Rattle.desk_job.specs.Job.{Terms, tight_space}
 -- the longest measure: 720 points, by the longer pica
 abbrev pub longest_measure : ℕ
 longest_measure = measure_width 720 Sixth
+
+-- a bound of what is left of a measure, below zero: words are wider than the measure by no more
+abbrev pub most_over : ℕ
+most_over = 2 ^ 62
 
 -- the widest matrix at neutral: 24 units, at the greatest set and by the longer pica
 abbrev pub widest_at_neutral : ℕ

@@ -9,7 +9,7 @@ ghost use Rattle.desk_lines.specs.Words.{most_words};
 ghost use Rattle.desk_justify.specs.Filled.{fills_of, taken};
 ghost use Rattle.desk_justify.specs.Positions.{sum_of};
 ghost use Rattle.desk_job.specs.Job as job;
-ghost use Rattle.desk_job.specs.Terms.{IsSmall, longest_measure};
+ghost use Rattle.desk_job.specs.Terms.{IsSmall, longest_measure, most_over};
 ghost use Rattle.desk_job.specs.Setting.{Fits, Sets, SetsAt, line_at, words_at};
 
 use crate::JobFault;
@@ -58,7 +58,7 @@ pub fn rest(terms: &Terms, width: u64, spaces: usize) -> Atoms
     requires width { width ≤ 2 ^ 61 }
     ensures value { result ≡ pos (job.measure terms.now) -ℤ pos (width + spaces * job.space_width terms.now) }
     ensures limit { result ≤ℤ pos longest_measure }
-    ensures least { pos 0 ≤ℤ (result +ℤ pos (2 ^ 62)) }
+    ensures least { pos 0 ≤ℤ (result +ℤ pos most_over) }
 {
     let taken = width + spaces as u64 * terms.space();
     Atoms::new(whole(terms.measure()) as i64 - taken as i64)
@@ -96,7 +96,7 @@ fn taken(counts: &[u32], widths: &[Atoms]) -> u64
 pub fn left(terms: &Terms, rest: Atoms, counts: &[u32]) -> Atoms
     requires number { length counts.now ≤ length (job.fill_widths terms.now) }
     requires limit { rest ≤ℤ pos longest_measure }
-    requires least { pos 0 ≤ℤ (rest +ℤ pos (2 ^ 62)) }
+    requires least { pos 0 ≤ℤ (rest +ℤ pos most_over) }
     ensures { result ≡ rest -ℤ pos (taken counts.now (job.fill_widths terms.now)) }
 {
     Atoms::new(rest.get() - taken(counts, terms.fill_widths()) as i64)
