@@ -16,7 +16,7 @@ use Rattle.desk_trial.specs.Trial.{tried, tried_with}
 use Rattle.desk_galley.specs.Answer.{no_terms}
 use Rattle.desk_galley.specs.Galley.{IsGalley, Stands}
 use Rattle.desk_galley.specs.Values.{GalleyValues, LineValues}
-use Rattle.desk_proof.specs.Rows.{HasWords}
+use Rattle.desk_proof.specs.Lines.{HasWords}
 use Rattle.desk_preview.specs.Proofing.{LacksGalley}
 
 -- lines that stand in a copy have their words in it

@@ -4,7 +4,7 @@ ghost use Rattle.std.specs.Prelude.{◌≡◌, All, IfErr, IfOk, OnOk, string_by
 ghost use Rattle.desk_files.specs.Files.{Stays};
 ghost use Rattle.desk_job.specs.Answer.{AreValues};
 ghost use Rattle.desk_proof.specs.Proof.{no_galley_text, proof_text};
-ghost use Rattle.desk_proof.specs.Rows.{HasWords};
+ghost use Rattle.desk_proof.specs.Lines.{HasWords};
 ghost use Rattle.desk_preview.specs.Proofing.{IsProofed, IsTold, IsUnproofed, are_set, is_clean};
 ghost use Rattle.desk_preview.specs.Sources.{sources};
 

@@ -20,7 +20,7 @@ use Rattle.desk_galley.specs.declared.line.Next.{Next}
 use Rattle.desk_galley.specs.Values.{LineValues}
 use Rattle.desk_proof.specs.declared.scale.Scale.{Scale}
 use Rattle.desk_proof.specs.Parts.{symbols_text, word_text, begin_of, end_of, points_down, points_up}
-use Rattle.desk_proof.specs.Rows.{set_text, sum_text}
+use Rattle.desk_proof.specs.Lines.{set_text, sum_text}
 
 -- ---- causes
 
@@ -97,7 +97,7 @@ shorter_text pica rest = codes "; " ++ (points_down pica (unsigned_abs rest) ++ 
 abbrev pub rest_text : Pica → ℤ → List ℕ
 rest_text pica rest = if int_lt rest (pos 0) then wider_text pica rest else shorter_text pica rest
 
--- a line that is too loose may take a part of the next word; of any other fault the width is told
+-- a line that is too loose may take a part of the next word; of any other fault the width is written
 abbrev pub is_loose : JobFault → Bool
 is_loose (jobs.TooLoose line) = true
 is_loose (jobs.CannotFill line) = false

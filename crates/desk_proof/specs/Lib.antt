@@ -1,4 +1,4 @@
 pub mod Parts
-pub mod Rows
+pub mod Lines
 pub mod Faults
 pub mod Proof

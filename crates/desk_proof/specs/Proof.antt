@@ -10,10 +10,10 @@ use Rattle.desk_galley.specs.Galley.{is_faulty}
 use Rattle.desk_proof.specs.declared.proof.Extent.{Extent}
 use Rattle.desk_proof.specs.declared.proof.Extent.TheVariants as extents
 use Rattle.desk_proof.specs.declared.scale.Scale.{Scale}
-use Rattle.desk_proof.specs.Rows.{columns_text, rows_text}
+use Rattle.desk_proof.specs.Lines.{columns_text, lines_text}
 use Rattle.desk_proof.specs.Faults.{cause_text, copy_faults_text, lacking_text, line_faults_text}
 
--- what the figures of a galley are told by
+-- what the figures of a galley are written by
 abbrev pub scale_of : GalleyValues → Scale
 scale_of galley = record { pica = (galley.wedge).pica; tight = (galley.values).tight; loose = (galley.values).loose }
 
@@ -38,16 +38,16 @@ head_words galley = counts_text galley.lines ++ values_text galley.values
 abbrev pub head_text : GalleyValues → List ℕ
 head_text galley = codes "GALLEY " ++ (head_words galley ++ codes "\n")
 
--- the rows, under the names of their columns
+-- the lines with their figures, under the names of their columns
 abbrev pub whole_text : List Symbol → Scale → List LineValues → List ℕ
-whole_text copy scale lines = columns_text ++ rows_text copy scale lines
+whole_text copy scale lines = columns_text ++ lines_text copy scale lines
 
--- the rows, where they are wanted
+-- the lines with their figures, where they are wanted
 abbrev pub body_text : List Symbol → GalleyValues → Extent → List ℕ
 body_text copy galley extents.Whole = whole_text copy (scale_of galley) galley.lines
 body_text copy galley extents.Faults = []
 
--- the faults of the copy above all, the head, the symbols that the case lacks, the rows, and the faults of lines
+-- the faults of the copy above all, the head, the symbols that the case lacks, the lines with their figures, and the faults of lines
 abbrev pub proof_text : List Symbol → List CopyFault → GalleyValues → Extent → List ℕ
 proof_text copy faults galley extent =
     copy_faults_text faults ++ head_text galley ++ lacking_text copy galley.lacking ++ body_text copy galley extent

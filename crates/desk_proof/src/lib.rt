@@ -3,9 +3,9 @@
 
 mod faults;
 mod lacking;
+mod lines;
 mod parts;
 mod proof;
-mod rows;
 mod scale;
 
 pub use faults::{cause, put_cause, put_copy_faults};

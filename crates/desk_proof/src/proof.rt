@@ -1,12 +1,12 @@
 //! A galley as text.
 
 ghost use Rattle.std.specs.Prelude.{◌≡◌, ◌++◌, All, OnOk, string_bytes};
-ghost use Rattle.desk_proof.specs.Rows.{HasWords, columns_text};
+ghost use Rattle.desk_proof.specs.Lines.{HasWords, columns_text};
 ghost use Rattle.desk_proof.specs.Proof.{body_text, counts_text, faulty_lines, head_text, head_words, no_galley_text, proof_text, scale_of, values_text, whole_text};
 
 use crate::faults::{cause, put_copy_faults, put_line_faults};
 use crate::lacking::put_lacking;
-use crate::rows::put_rows;
+use crate::lines::put_lines;
 use crate::scale::Scale;
 use desk_galley::{Galley, Line};
 use desk_job::JobFault;
@@ -94,7 +94,7 @@ fn columns() -> &'static str
     "\n  line   place   c/f    sum  tight ...... loose\n"
 }
 
-/// Writes the rows of lines, under the names of their columns.
+/// Writes the lines with their figures, under the names of their columns.
 fn put_whole<A: Allocator + Copy>(
     out: &mut String<A>,
     copy: &[Symbol],
@@ -105,10 +105,10 @@ fn put_whole<A: Allocator + Copy>(
     ensures { OnOk result (string_bytes out.new ≡ string_bytes out.old ++ whole_text copy.now scale lines.now) }
 {
     out.push_str(columns())?;
-    put_rows(out, copy, scale, lines)
+    put_lines(out, copy, scale, lines)
 }
 
-/// Writes the rows, where they are wanted.
+/// Writes the lines with their figures, where they are wanted.
 fn put_body<'a, A: Allocator + Copy>(
     out: &mut String<A>,
     copy: &[Symbol],

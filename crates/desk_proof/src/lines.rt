@@ -1,8 +1,8 @@
-//! The rows of a galley as text.
+//! The lines of a galley as text, each with its figures.
 
 ghost use Rattle.std.specs.Prelude.{◌≡◌, ◌++◌, ◌≤◌, All, OnOk, option_and_then, string_bytes};
 ghost use Rattle.desk_job.specs.Setting.{IsWord};
-ghost use Rattle.desk_proof.specs.Rows.{HasWords, figures_text, gauge_text, hand, hand_text, mark_text, pair_text, place_between, row_text, rows_text, set_text, sum_text};
+ghost use Rattle.desk_proof.specs.Lines.{HasWords, figures_text, gauge_text, hand, hand_text, mark_text, pair_text, place_between, line_text, lines_text, set_text, sum_text};
 ghost use Rattle.desk_proof.specs.Parts.{right};
 
 use crate::parts::{begin_of, put_fills, put_left, put_many, put_number, put_right, put_words};
@@ -150,33 +150,33 @@ pub fn put_set<A: Allocator + Copy>(
     out.push_str("\n")
 }
 
-/// Writes the row of a line.
-fn put_row<A: Allocator + Copy>(
+/// Writes a line with its figures.
+fn put_line<A: Allocator + Copy>(
     out: &mut String<A>,
     copy: &[Symbol],
     scale: Scale,
     line: &Line<A>,
 ) -> Result<(), AllocError>
     requires { All (IsWord copy.now) (line.now).words }
-    ensures { OnOk result (string_bytes out.new ≡ string_bytes out.old ++ row_text copy.now scale line.now) }
+    ensures { OnOk result (string_bytes out.new ≡ string_bytes out.old ++ line_text copy.now scale line.now) }
 {
     put_figures(out, scale, line)?;
     out.push_str(mark(line.is_faulty()))?;
     put_set(out, copy, line)
 }
 
-/// Writes the rows of lines.
-pub fn put_rows<A: Allocator + Copy>(
+/// Writes lines with their figures.
+pub fn put_lines<A: Allocator + Copy>(
     out: &mut String<A>,
     copy: &[Symbol],
     scale: Scale,
     lines: &[Line<A>],
 ) -> Result<(), AllocError>
     requires { All (HasWords copy.now) lines.now }
-    ensures { OnOk result (string_bytes out.new ≡ string_bytes out.old ++ rows_text copy.now scale lines.now) }
+    ensures { OnOk result (string_bytes out.new ≡ string_bytes out.old ++ lines_text copy.now scale lines.now) }
 {
     for line in lines {
-        put_row(out, copy, scale, line)?;
+        put_line(out, copy, scale, line)?;
     }
     Ok(())
 }

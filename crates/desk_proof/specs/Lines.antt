@@ -1,4 +1,4 @@
--- The row of a line in a galley as text.
+-- A line of a galley as text, with its figures.
 use Rattle.std.specs.Prelude.{ℕ, ◌-◌, ◌*◌, ◌/◌, Bool, true, false, ℤ, pos, int_le, int_lt, unsigned_abs, List, [], ◌∷◌, ◌++◌, Option, Some, None, IfSome, option_and_then, codes, if◌then◌else◌}
 use Rattle.std.specs.Fmt.{decimal, signed_decimal}
 use Rattle.std.specs.Char.{encode_utf8}
@@ -40,7 +40,7 @@ abbrev pub gauge_text : Scale → Option ℤ → List ℕ
 gauge_text scale None = many 21 46
 gauge_text scale (Some sum) = hand_text (place_between scale.tight scale.loose sum) (hand scale.tight scale.loose sum)
 
--- ---- rows
+-- ---- lines
 
 -- The words of a line stand in the copy, and so does the word after it.
 pub record HasWords (copy : List Symbol) (line : LineValues) : Type 0 where
@@ -63,13 +63,13 @@ abbrev pub set_text : List Symbol → LineValues → List ℕ
 set_text copy line = words_text copy line.words ++ fills_text line.fills ++ codes "\n"
 
 -- the figures of a line, the mark of a fault, its words and fills
-abbrev pub row_text : List Symbol → Scale → LineValues → List ℕ
-row_text copy scale line = figures_text scale line ++ mark_text (is_faulty line) ++ set_text copy line
+abbrev pub line_text : List Symbol → Scale → LineValues → List ℕ
+line_text copy scale line = figures_text scale line ++ mark_text (is_faulty line) ++ set_text copy line
 
-abbrev pub rows_text : List Symbol → Scale → List LineValues → List ℕ
-rows_text copy scale [] = []
-rows_text copy scale (line ∷ lines) = row_text copy scale line ++ rows_text copy scale lines
+abbrev pub lines_text : List Symbol → Scale → List LineValues → List ℕ
+lines_text copy scale [] = []
+lines_text copy scale (line ∷ lines) = line_text copy scale line ++ lines_text copy scale lines
 
--- what stands above the rows
+-- what stands above the lines
 abbrev pub columns_text : List ℕ
 columns_text = codes "\n  line   place   c/f    sum  tight ...... loose\n"
