@@ -21,6 +21,7 @@ use Rattle.desk_codec.proofs.FieldLaws.{bytes_of-fields}
 use Rattle.desk_codec.proofs.ItemLaws.{symbols_bytes, item_length}
 use Rattle.desk_codec.proofs.HereLaws.{FieldsHere, stamp_here, insert_here, delete_here, set_here, judged, run_judged, marks_here, rest_bytes, begins, run_stands, run_there, run_unlawful}
 use Rattle.desk_codec.proofs.FaultLaws.{not_both, one_fault, fronts_not_both, wrong_once}
+use Rattle.desk_codec.proofs.PieceLaws.{short_magic}
 
 -- ---- an item at the front, or something wrong
 
@@ -201,18 +202,15 @@ four_of Runs bytes rest e =
     let len : length bytes ≡ 4 + length rest = ap (λ (l : List ℕ). length l) e ∙ length-append (magic_of Runs) rest in
     (omega (arith, len), ap (λ (l : List ℕ). get_or l 0 0) e, ap (λ (l : List ℕ). get_or l 1 0) e, ap (λ (l : List ℕ). get_or l 2 0) e, inr (ap (λ (l : List ℕ). get_or l 3 0) e))
 
-too_short : (form : FeedForm) (bytes rest : List ℕ) → length bytes < 4 → bytes ≡ magic_of form ++ rest → ⊥
-too_short form bytes rest short e = let four = (four_of form bytes rest e).0 in omega (arith, short, four)
-
 neither : (n : ℕ) → (n ≡ 49 → ⊥) → (n ≡ 50 → ⊥) → (n ≡ 49) ⊎ (n ≡ 50) → ⊥
 neither n f g (inl e) = f e
 neither n f g (inr e) = g e
 
 has_magic : (bytes : List ℕ) → HasMagic bytes
-has_magic [] = inr (λ form rest e. too_short form [] rest (omega arith) e)
-has_magic (a ∷ []) = inr (λ form rest e. too_short form (a ∷ []) rest (omega arith) e)
-has_magic (a ∷ b ∷ []) = inr (λ form rest e. too_short form (a ∷ b ∷ []) rest (omega arith) e)
-has_magic (a ∷ b ∷ c ∷ []) = inr (λ form rest e. too_short form (a ∷ b ∷ c ∷ []) rest (omega arith) e)
+has_magic [] = inr (λ form rest e. short_magic form [] rest (omega arith) e)
+has_magic (a ∷ []) = inr (λ form rest e. short_magic form (a ∷ []) rest (omega arith) e)
+has_magic (a ∷ b ∷ []) = inr (λ form rest e. short_magic form (a ∷ b ∷ []) rest (omega arith) e)
+has_magic (a ∷ b ∷ c ∷ []) = inr (λ form rest e. short_magic form (a ∷ b ∷ c ∷ []) rest (omega arith) e)
 has_magic (a ∷ b ∷ c ∷ d ∷ rest) =
     elim (cases_eq a 77) [
       | inr n ↦ inr (λ form more e. n ((four_of form (a ∷ b ∷ c ∷ d ∷ rest) more e).1))

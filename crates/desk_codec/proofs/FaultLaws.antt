@@ -15,7 +15,7 @@ use Rattle.desk_codec.specs.Items.{Item, item_spelling}
 use Rattle.desk_codec.specs.Feed.{IsRunLength, Stands, Spells, IsFeed}
 use Rattle.desk_codec.specs.Fault.{bytes_of, Mark, mark_bytes, ItemFields, OneOf, RunOf, item_fields, item_bytes, MayStand, item_cause, HasNoKind, BeginsRun, IsNoRun, IsCutOp, IsCut, IsUnlawful, IsWrong, GoesWrong, IsFirstFault}
 use Rattle.desk_codec.proofs.ItemLaws.{item_fields_same, item_bytes-fields, stands_values, may_stand, stands_cause, marks_length}
-use Rattle.desk_codec.proofs.Grammar.{stands_free, one_form}
+use Rattle.desk_codec.proofs.Grammar.{stands_free, one_form, no_item}
 
 -- ---- kinds and counts
 
@@ -201,15 +201,12 @@ nothing_wrong form why.Run h = let e = h.front.front in absurd cc
 
 -- ---- a whole feed, and a first fault
 
-no_spelling : (item : Item) (rest : List ℕ) → [] ≡ item_spelling item ++ rest → ⊥
-no_spelling item rest e = no_item_fields (item_fields item) rest (fields_there [] rest item e)
-
 -- no list spells what goes wrong
 pub never_spelled : (form : FeedForm) (bytes front rest : List ℕ) (items before : List Item) (w : FeedWhy) → Spells form bytes items → Spells form front before → bytes ≡ front ++ rest → IsWrong form rest w → ⊥
 never_spelled form bytes front rest [] [] w f g e h =
     let none : rest ≡ [] = cc in nothing_wrong form w (subst (λ (l : List ℕ). IsWrong form l w) none h)
 never_spelled form bytes front rest [] (y ∷ ys) w f g e h =
-    no_spelling y (g.1.0 ++ rest) (sym f ∙ e ∙ ap (λ (l : List ℕ). l ++ rest) g.1.1 ∙ append_assoc (item_spelling y) g.1.0 rest)
+    no_item y (g.1.0 ++ rest) (sym f ∙ e ∙ ap (λ (l : List ℕ). l ++ rest) g.1.1 ∙ append_assoc (item_spelling y) g.1.0 rest)
 never_spelled form bytes front rest (x ∷ xs) [] w f g e h =
     let whole : bytes ≡ rest = e ∙ ap (λ (l : List ℕ). l ++ rest) g in
     item_not_wrong form bytes f.1.0 x w f.0 f.1.1 (subst (λ (l : List ℕ). IsWrong form l w) (sym whole) h)

@@ -13,10 +13,12 @@ use Rattle.desk_ops.specs.declared.op.Op.{Op}
 use Rattle.desk_ops.specs.declared.op.Op.TheVariants as ops
 use Rattle.desk_ops.specs.Op.{verdict}
 use Rattle.desk_ops.specs.Order.{style_code, key_code}
+use Rattle.desk_ops.specs.OrderLaws.{style_code_exact, key_code_exact}
+use Rattle.desk_ops.proofs.Symbols.{symbol_exact}
 use Rattle.desk_codec.specs.declared.fields.Fields.{Fields}
 use Rattle.desk_codec.specs.declared.fields.Fields.TheVariants.{Insert, Delete, Set}
 use Rattle.desk_codec.specs.Spelling.{spelling, stamp_spelling, IsValue}
-use Rattle.desk_codec.proofs.Numbers.{number_same_4, stamp_same, symbol_exact, style_exact, key_exact}
+use Rattle.desk_codec.proofs.Numbers.{number_same_4, stamp_same}
 use Rattle.desk_codec.specs.Fault.{fields_of, bytes_of, AreValues, style_of, key_of, is_character, no_symbol, symbol_in, setting_cause, cause}
 
 -- ---- the numbers of styles and keys
@@ -94,11 +96,11 @@ pub op_exact : (a b : Op) → fields_of a ≡ fields_of b → a ≡ b
 op_exact (ops.Insert s p y) (ops.Insert t q z) e =
     let style : style_code y.style ≡ style_code z.style = cc in
     let ch : y.ch ≡ z.ch = cc in
-    let symbol : y ≡ z = symbol_exact y z (style_exact y.style z.style style) ch in cc
+    let symbol : y ≡ z = symbol_exact y z (style_code_exact y.style z.style style) ch in cc
 op_exact (ops.Delete s p) (ops.Delete t q) e = cc
 op_exact (ops.Set s k v) (ops.Set t j w) e =
     let code : key_code k ≡ key_code j = cc in
-    let key : k ≡ j = key_exact k j code in cc
+    let key : k ≡ j = key_code_exact k j code in cc
 op_exact (ops.Insert s p y) (ops.Delete t q) e = absurd cc
 op_exact (ops.Insert s p y) (ops.Set t k v) e = absurd cc
 op_exact (ops.Delete s p) (ops.Insert t q z) e = absurd cc

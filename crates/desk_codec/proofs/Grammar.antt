@@ -41,7 +41,7 @@ stands_free form a b x y f g e = prefix_free a b x y (stands_values form a f) (s
 
 -- ---- lists of items
 
-no_item : (item : Item) (rest : List ℕ) → [] ≡ item_spelling item ++ rest → ⊥
+pub no_item : (item : Item) (rest : List ℕ) → [] ≡ item_spelling item ++ rest → ⊥
 no_item (One op) rest e = cc
 no_item (Run s p ys) rest e = cc
 

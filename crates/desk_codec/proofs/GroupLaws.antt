@@ -17,7 +17,7 @@ use Rattle.desk_ops.specs.declared.op.Op.TheVariants.{Insert, Delete, Set}
 use Rattle.desk_ops.specs.Op.{stamp_of, Insertion}
 use Rattle.desk_ops.specs.Order.{op_cmp}
 use Rattle.desk_ops.specs.OpSet.{OpSet, no_ops, with_all, has_op, in_order, entries_of, is_rising}
-use Rattle.desk_ops.proofs.OpSets.{no_ops-from_rising, in_order-from_rising}
+use Rattle.desk_ops.proofs.OpSets.{none-held, less-apart}
 use Rattle.desk_ops.proofs.Unions.{same-set, has_op-with_all}
 use Rattle.desk_ops.specs.Held.{bears, bearing, sole}
 use Rattle.desk_ops.specs.Stamp.{same}
@@ -33,7 +33,6 @@ use Rattle.desk_codec.specs.Feed.{ops_in, Stands, IsFeed}
 use Rattle.desk_codec.proofs.Grammar.{spells}
 use Rattle.desk_codec.specs.Runs.{insert_in, clear_insert, child_of, next_insert, chain, item_of, item_at, is_among, items_from, items, runs_feed, runs_ops}
 use Rattle.desk_codec.specs.RunLaws.{RunsAreRead}
-use Rattle.desk_codec.proofs.RunPlaces.{less-apart}
 use Rattle.desk_codec.proofs.RunChains.{sole-bears, item-at, chain-none, chain-some, item-ops}
 use Rattle.desk_codec.proofs.RunSteps.{items-skip, items-take, items-end}
 
@@ -450,15 +449,12 @@ entries-keys (e ∷ es) = ap (λ (l : List (Op × Unit {0})). e ∷ l) (entries-
 pub set_rises : (h : OpSet) → T (is_rising (in_order h))
 set_rises h = subst (λ (es : List (Op × Unit {0})). T (fin.is_sorted op_cmp es)) (sym (entries-keys (fin.entries h))) (fin.entries_sorted h)
 
-has_none : (q : Op) → has_op no_ops q ≡ false
-has_none q = fin.contains_key-keys no_ops q ∙ ap (list_any (eq_by_cmp op_cmp q)) (ap in_order (sym no_ops-from_rising) ∙ in_order-from_rising [] tt)
-
 -- what is read of the feed of a set is the set
 pub runs_set : (h : OpSet) → with_all no_ops (runs_ops (in_order h)) ≡ h
 runs_set h = same-set (with_all no_ops (runs_ops (in_order h))) h
     (λ q. has_op-with_all no_ops (runs_ops (in_order h)) q
     ∙ ap (λ (b : Bool). b || has_op no_ops q) (sym (list_any-IsPermutation (eq_by_cmp op_cmp q) (in_order h) (runs_ops (in_order h)) (runs_permutation (in_order h) (set_rises h))))
-    ∙ ap (λ (b : Bool). list_any (eq_by_cmp op_cmp q) (in_order h) || b) (has_none q)
+    ∙ ap (λ (b : Bool). list_any (eq_by_cmp op_cmp q) (in_order h) || b) (none-held q)
     ∙ or-false (list_any (eq_by_cmp op_cmp q) (in_order h))
     ∙ sym (fin.contains_key-keys h q))
 

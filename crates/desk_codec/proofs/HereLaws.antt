@@ -17,6 +17,7 @@ use Rattle.desk_ops.specs.declared.op.Unlawful.TheVariants as unlawful
 use Rattle.desk_ops.specs.Op.{verdict}
 use Rattle.desk_ops.specs.Order.{style_code}
 use Rattle.desk_ops.specs.Stamp.{is_counter}
+use Rattle.desk_ops.proofs.Lawful.{lawful_from, lawful_true}
 use Rattle.desk_codec.specs.declared.form.FeedForm.{FeedForm}
 use Rattle.desk_codec.specs.declared.fields.Fields.{Fields}
 use Rattle.desk_codec.specs.declared.fields.Fields.TheVariants.{Insert, Delete, Set}
@@ -26,7 +27,6 @@ use Rattle.desk_codec.specs.Feed.{HasRuns, IsRunLength, Stands}
 use Rattle.desk_codec.specs.Fault.{fields_of, bytes_of, AreValues, style_of, key_of, is_character, no_symbol, symbol_in, setting_cause, cause, then_cause, run_cause, Mark, mark_of, mark_bytes, IsMarkValue, RunOf, BeginsRun, IsUnlawful}
 use Rattle.desk_codec.proofs.Numbers.{IsBytes, IsBytes-drop, IsBytes-take, number_there_4, stamp_there}
 use Rattle.desk_codec.proofs.FieldLaws.{insert_back, set_back, held_cause}
-use Rattle.desk_codec.proofs.LawfulAsTold.{lawful_from, lawful_true}
 
 -- ---- fields stand at the front of bytes enough
 

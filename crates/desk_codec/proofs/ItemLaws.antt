@@ -9,6 +9,9 @@ use Rattle.desk_ops.specs.declared.op.Symbol.{Symbol}
 use Rattle.desk_ops.specs.declared.op.Op.{Op}
 use Rattle.desk_ops.specs.declared.op.Op.TheVariants as ops
 use Rattle.desk_ops.specs.Order.{style_code}
+use Rattle.desk_ops.specs.OrderLaws.{style_code_exact}
+use Rattle.desk_ops.proofs.Lawful.{lawful_true}
+use Rattle.desk_ops.proofs.Symbols.{symbol_exact}
 use Rattle.desk_codec.specs.declared.form.FeedForm.{FeedForm}
 use Rattle.desk_codec.specs.declared.fields.Fields.{Fields}
 use Rattle.desk_codec.specs.declared.fields.Fields.TheVariants.{Insert, Delete, Set}
@@ -16,9 +19,8 @@ use Rattle.desk_codec.specs.Spelling.{stamp_spelling, IsHeld}
 use Rattle.desk_codec.specs.Items.{Item, One, Run, run_ops, next_stamp, symbol_spelling, item_spelling}
 use Rattle.desk_codec.specs.Feed.{Stands}
 use Rattle.desk_codec.specs.Fault.{fields_of, cause, run_cause, Mark, mark_of, mark_bytes, IsMarkValue, ItemFields, OneOf, RunOf, item_fields, item_bytes, AreItemValues, MayStand, item_cause}
-use Rattle.desk_codec.proofs.Numbers.{number_same_4, stamp_same, symbol_exact, style_exact}
+use Rattle.desk_codec.proofs.Numbers.{number_same_4, stamp_same}
 use Rattle.desk_codec.proofs.FieldLaws.{fields_same, op_exact, bytes_of-fields, values_of, held_cause, style_fits, scalar_fits}
-use Rattle.desk_codec.proofs.LawfulAsTold.{lawful_true}
 
 -- ---- the numbers of a run's symbols
 
@@ -56,7 +58,7 @@ symbols_exact (a ∷ xs) (b ∷ zs) e =
     let mark : mark_of a ≡ mark_of b = cc in
     let style : style_code a.style ≡ style_code b.style = ap (λ (m : Mark). m.style) mark in
     let ch : a.ch ≡ b.ch = ap (λ (m : Mark). m.ch) mark in
-    let one : a ≡ b = symbol_exact a b (style_exact a.style b.style style) ch in
+    let one : a ≡ b = symbol_exact a b (style_code_exact a.style b.style style) ch in
     let rest : map mark_of xs ≡ map mark_of zs = cc in
     let others : xs ≡ zs = symbols_exact xs zs rest in
     cc

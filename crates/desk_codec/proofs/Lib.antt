@@ -1,4 +1,3 @@
-pub mod LawfulAsTold
 pub mod Numbers
 pub mod FieldLaws
 pub mod ItemLaws

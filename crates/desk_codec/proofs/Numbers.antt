@@ -1,16 +1,11 @@
 -- A number, a stamp, a style and a key are known by their bytes.
-use Rattle.std.proofs.Common.{◌≡◌, ℕ, ◌+◌, ◌^◌, ◌<◌, ◌≤◌, length, get_or, cond, ◌==◌, List, ◌++◌, take, drop, refl, sym, ap, ◌∙◌, arith, inl, inr}
+use Rattle.std.proofs.Common.{◌≡◌, ℕ, ◌+◌, ◌^◌, ◌<◌, ◌≤◌, length, get_or, List, ◌++◌, take, drop, refl, sym, ap, ◌∙◌, arith, inl, inr}
 use Rattle.std.specs.Int.{w16, w32, w64, to_be_bytes, from_be_bytes}
 use Rattle.std.proofs.lemmas.Nat.{be_bytes_2, be_bytes_4, be_bytes_8, from_be_bytes-to_be_bytes_2, from_be_bytes-to_be_bytes_4, from_be_bytes-to_be_bytes_8}
 use Rattle.std.proofs.lemmas.Bool.{cases_lt}
 use Rattle.std.proofs.lemmas.List.{length-take, length-drop, get_or-drop, get_or-take, get_or_past, take-append-drop}
 use Rattle.desk_ops.specs.declared.op.Stamp.{Stamp}
-use Rattle.desk_ops.specs.declared.op.Symbol.{Symbol}
-use Rattle.desk_ops.specs.declared.op.Style.{Style}
-use Rattle.desk_ops.specs.declared.op.Style.TheVariants.{Roman, Italic, SmallCap}
-use Rattle.desk_ops.specs.declared.op.Key.{Key}
-use Rattle.desk_ops.specs.declared.op.Key.TheVariants.{Measure, Tight, Loose, Case, Wedge}
-use Rattle.desk_ops.specs.Order.{style_code, key_code}
+use Rattle.desk_ops.specs.OrderLaws.{stamp_exact}
 use Rattle.desk_codec.specs.Spelling.{stamp_spelling, IsStampValue}
 
 pub number_same_2 : (m n : ℕ) (x y : List ℕ) → m < 2 ^ 16 → n < 2 ^ 16 → to_be_bytes w16 m ++ x ≡ to_be_bytes w16 n ++ y → (m ≡ n) × (x ≡ y)
@@ -25,43 +20,11 @@ pub number_same_8 : (m n : ℕ) (x y : List ℕ) → m < 2 ^ 64 → n < 2 ^ 64 �
 number_same_8 m n x y p q e =
     (sym (from_be_bytes-to_be_bytes_8 m p) ∙ ap (λ (b : List ℕ). from_be_bytes w64 (take 8 b)) e ∙ from_be_bytes-to_be_bytes_8 n q, ap (λ (b : List ℕ). drop 8 b) e)
 
-pub stamp_exact : (s t : Stamp) → s.counter ≡ t.counter → s.site ≡ t.site → s ≡ t
-stamp_exact s t a b i = record { counter = a i; site = b i }
-
-pub symbol_exact : (y z : Symbol) → y.style ≡ z.style → y.ch ≡ z.ch → y ≡ z
-symbol_exact y z a b i = record { style = a i; ch = b i }
-
 pub stamp_same : (s t : Stamp) (x y : List ℕ) → IsStampValue s → IsStampValue t → stamp_spelling s ++ x ≡ stamp_spelling t ++ y → (s ≡ t) × (x ≡ y)
 stamp_same s t x y p q e =
     let c = number_same_8 s.counter t.counter (to_be_bytes w16 s.site ++ x) (to_be_bytes w16 t.site ++ y) p.0 q.0 e in
     let d = number_same_2 s.site t.site x y p.1 q.1 c.1 in
     (stamp_exact s t c.0 d.0, d.1)
-
-style_at : ℕ → Style
-style_at n = cond (n == 0) Roman (cond (n == 1) Italic SmallCap)
-
-style_back : (s : Style) → style_at (style_code s) ≡ s
-unfolding style_at
-style_back Roman = refl
-style_back Italic = refl
-style_back SmallCap = refl
-
-pub style_exact : (x y : Style) → style_code x ≡ style_code y → x ≡ y
-style_exact x y e = sym (style_back x) ∙ ap style_at e ∙ style_back y
-
-key_at : ℕ → Key
-key_at n = cond (n == 1) Measure (cond (n == 2) Tight (cond (n == 3) Loose (cond (n == 4) Case Wedge)))
-
-key_back : (k : Key) → key_at (key_code k) ≡ k
-unfolding key_at
-key_back Measure = refl
-key_back Tight = refl
-key_back Loose = refl
-key_back Case = refl
-key_back Wedge = refl
-
-pub key_exact : (x y : Key) → key_code x ≡ key_code y → x ≡ y
-key_exact x y e = sym (key_back x) ∙ ap key_at e ∙ key_back y
 
 -- ---- numbers at the front of bytes
 

@@ -215,7 +215,7 @@ first_read bytes ops s (inr d) begun none =
 pub whole_feed : (bytes : List ℕ) (ops : List Op) (s : Reader) → Takes fresh bytes ops s → IsWhole s → IsFeed bytes ops
 whole_feed bytes ops s t w = first_read bytes ops s t.read w.begun w.none
 
-short_magic : (form : FeedForm) (bytes rest : List ℕ) → length bytes < 4 → bytes ≡ magic_of form ++ rest → ⊥
+pub short_magic : (form : FeedForm) (bytes rest : List ℕ) → length bytes < 4 → bytes ≡ magic_of form ++ rest → ⊥
 short_magic form bytes rest short e =
     let len : length bytes ≡ length (magic_of form) + length rest = ap (λ (l : List ℕ). length l) e ∙ length-append (magic_of form) rest in
     let four = magic_length form in

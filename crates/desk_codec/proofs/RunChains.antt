@@ -18,10 +18,12 @@ use Rattle.desk_ops.specs.Lists.{Among}
 use Rattle.desk_ops.proofs.Stamps.{by_cases, same-true, same-refl, before_true}
 use Rattle.desk_ops.proofs.Means.{among-any, any-among}
 use Rattle.desk_ops.proofs.Lists.{among-filter}
+use Rattle.desk_ops.proofs.OpSets.{less-apart}
+use Rattle.desk_ops.proofs.Unions.{or-group}
 use Rattle.desk_codec.specs.Items.{One, next_stamp, run_ops, item_ops}
 use Rattle.desk_codec.specs.Runs.{insert_in, clear_insert, child_of, next_insert, chain, item_of, item_at, is_among}
 use Rattle.desk_codec.specs.RunSteps.{IsAt, IsNextAt, MarksAlso}
-use Rattle.desk_codec.proofs.RunPlaces.{less-at, less-apart}
+use Rattle.desk_codec.proofs.RunPlaces.{less-at}
 
 -- ---- the next insert
 
@@ -104,13 +106,9 @@ pub among-end : (os : List Op) (o : Op) → Among o (os ++ o ∷ [])
 among-end [] o = inl refl
 among-end (p ∷ os) o = inr (among-end os o)
 
-or-assoc : (a b c : Bool) → ((a || b) || c) ≡ (a || (b || c))
-or-assoc true b c = refl
-or-assoc false b c = refl
-
 pub is_among-append : (q : Op) (os ps : List Op) → is_among q (os ++ ps) ≡ (is_among q os || is_among q ps)
 is_among-append q [] ps = refl
-is_among-append q (o ∷ os) ps = ap (λ b. eq_by_cmp op_cmp q o || b) (is_among-append q os ps) ∙ sym (or-assoc (eq_by_cmp op_cmp q o) (is_among q os) (is_among q ps))
+is_among-append q (o ∷ os) ps = ap (λ b. eq_by_cmp op_cmp q o || b) (is_among-append q os ps) ∙ sym (or-group (eq_by_cmp op_cmp q o) (is_among q os) (is_among q ps))
 
 pub not-among : (q o : Op) → (q ≡ o → ⊥) → is_among q (o ∷ []) ≡ false
 not-among q o n = by_cases (is_among q (o ∷ [])) (λ e. absurd (go (any-among q (o ∷ []) e))) (λ e. e)

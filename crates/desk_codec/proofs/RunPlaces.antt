@@ -1,29 +1,23 @@
 -- Where the bearers of a stamp stand among operations that rise.
 use Rattle.std.proofs.Common.{◌≡◌, ℕ, zero, suc, ◌+◌, ◌-◌, ◌<◌, ◌≤◌, ◌⊎◌, inl, inr, Bool, true, false, cond, All, List, [], ◌∷◌, length, take, drop, get_or, refl, sym, ap, subst, ◌∙◌, arith}
 use Rattle.std.specs.Prelude.{T, Some, None}
-use Rattle.std.specs.Ordering.{is_lt}
 use Rattle.std.specs.declared.cmp.Ordering.TheVariants.{Less}
-use Rattle.std.specs.Cmp.{second_so}
-use Rattle.std.specs.FinMap.Entries.{below_all}
 use Rattle.std.proofs.Math.Nat.{eq-or-lt_of_le}
 use Rattle.std.proofs.lemmas.Bool.{true≢false, cases_lt}
-use Rattle.std.proofs.lemmas.Cmp.{tied_itself}
-use Rattle.std.proofs.lemmas.List.{take-append-drop, get_or_default, drop_all}
+use Rattle.std.proofs.lemmas.List.{take-append-drop, get_or_default, drop_all, drop_more}
 use Rattle.std.proofs.lemmas.List.Elements.{recursion_from_All}
 use Rattle.desk_ops.specs.declared.op.Stamp.{Stamp}
 use Rattle.desk_ops.specs.declared.op.Op.{Op}
 use Rattle.desk_ops.specs.declared.op.Op.TheVariants.{Insert, Delete, Set}
 use Rattle.desk_ops.specs.Op.{stamp_of, IsLawful}
 use Rattle.desk_ops.specs.Order.{op_cmp}
-use Rattle.desk_ops.specs.OrderLaws.{op_total}
-use Rattle.desk_ops.specs.OpSet.{is_rising, entries_of}
+use Rattle.desk_ops.specs.OpSet.{is_rising}
 use Rattle.desk_ops.specs.Held.{bears, bearing, is_more, sole}
 use Rattle.desk_ops.specs.Stamp.{same, before, max_counter}
 use Rattle.desk_ops.specs.Lists.{Among}
-use Rattle.desk_ops.proofs.Stamps.{by_cases, same-true, same-refl, same-symm, before-trans, before-other}
-use Rattle.desk_ops.proofs.OpSets.{rising_less}
-use Rattle.desk_ops.proofs.Means.{of-T}
-use Rattle.desk_ops.proofs.Lists.{Each, among-filter_from}
+use Rattle.desk_ops.proofs.Stamps.{by_cases, same-true, same-refl, same-symm, before-other, before-squeeze}
+use Rattle.desk_ops.proofs.OpSets.{rising_less, rising-drop, less-apart}
+use Rattle.desk_ops.proofs.Lists.{Each, among-filter_from, each-at, among-at}
 use Rattle.desk_ops.proofs.Tree.{filter-hit}
 use Rattle.desk_ops.proofs.Joined.{more_from}
 use Rattle.desk_ops.proofs.Bearers.{stamp_not_before, ordered_rising, bearing-older, bearing-first}
@@ -31,21 +25,11 @@ use Rattle.desk_codec.specs.RunSteps.{IsAt}
 
 -- ---- places
 
-pub among-at : (ops : List Op) (i : ℕ) (d : Op) → i < length ops → Among (get_or ops i d) ops
-among-at [] i d lt = absurd (omega arith)
-among-at (o ∷ ops) zero d lt = inl refl
-among-at (o ∷ ops) (suc i) d lt = inr (among-at ops i d (omega arith))
-
 pub at-among : (ops : List Op) (i : ℕ) (op : Op) → IsAt ops i op → Among op ops
 at-among ops i op h = subst (λ (o : Op). Among o ops) (h.is op) (among-at ops i op h.within)
 
 pub is_at : (ops : List Op) (i : ℕ) (d : Op) → i < length ops → IsAt ops i (get_or ops i d)
 is_at ops i d lt = record { within = lt; is = λ e. get_or_default ops i e d lt }
-
-pub drop-at : (ops : List Op) (i : ℕ) (d : Op) → i < length ops → drop i ops ≡ get_or ops i d ∷ drop (i + 1) ops
-drop-at [] i d lt = absurd (omega arith)
-drop-at (y ∷ ops) zero d lt = refl
-drop-at (y ∷ ops) (suc i) d lt = let e : suc (i + 1) ≡ suc i + 1 = omega arith in drop-at ops i d (omega arith) ∙ ap (λ n. get_or ops i d ∷ drop n (y ∷ ops)) e
 
 -- whether an operation bears the stamp of the one at a place, by any stand-in for what lies outside
 pub neighbour : (ops : List Op) (i j : ℕ) (op e f : Op) (a b : Stamp) (r : Bool) → IsAt ops i op → j < length ops → a ≡ stamp_of (get_or ops j e) → b ≡ stamp_of (get_or ops i f) → r ≡ same a b → (d : Op) → same (stamp_of (get_or ops j d)) (stamp_of op) ≡ r
@@ -56,27 +40,15 @@ neighbour ops i j op e f a b r h lt left right is d =
     ∙ ap (λ (s : Stamp). same a s) (sym right)
     ∙ sym is
 
-rising-drop : (ops : List Op) (i : ℕ) → T (is_rising ops) → T (is_rising (drop i ops))
-rising-drop [] zero h = tt
-rising-drop [] (suc i) h = tt
-rising-drop (y ∷ ops) zero h = h
-rising-drop (y ∷ ops) (suc i) h = rising-drop ops i (subst T (sym (second_so (below_all op_cmp y (entries_of ops)) (is_rising ops) (of-T _ h))) tt)
-
 each-take : (P : Op → Type 0) (ops : List Op) (i : ℕ) → ((k : ℕ) (d : Op) → k < i → k < length ops → P (get_or ops k d)) → Each P (take i ops)
 each-take P [] zero all = tt
 each-take P [] (suc i) all = tt
 each-take P (y ∷ ops) zero all = tt
 each-take P (y ∷ ops) (suc i) all = (all 0 y (omega arith) (omega arith), each-take P ops i (λ k d low high. all (suc k) d (omega arith) (omega arith)))
 
-pub less-apart : (a b : Op) → op_cmp a b ≡ Less → a ≡ b → ⊥
-less-apart a b l e = true≢false (sym (ap is_lt (subst (λ o. op_cmp o b ≡ Less) e l)) ∙ ap is_lt (tied_itself op_total b))
-
 -- the earlier of two with different stamps has the smaller one
 stamp-before : (a b : Op) → op_cmp a b ≡ Less → same (stamp_of a) (stamp_of b) ≡ false → before (stamp_of a) (stamp_of b) ≡ true
 stamp-before a b l n = before-other (stamp_of b) (stamp_of a) (stamp_not_before a b l) (same-symm (stamp_of b) (stamp_of a) ∙ n)
-
-squeeze : (a b c : Stamp) → before a c ≡ true → before b c ≡ false → before a b ≡ true
-squeeze a b c early late = by_cases (same b c) (λ e. ap (before a) (same-true b c e) ∙ early) (λ e. before-trans a c b early (before-other b c late e))
 
 -- ---- bearers
 
@@ -107,7 +79,7 @@ module _ (ops : List Op) (rising : T (is_rising ops)) where
           go (inl e) = ap (λ n. before (stamp_of (get_or ops n d)) s) e ∙ last d (omega arith)
           go (inr l) = by_cases (before (stamp_of (get_or ops k d)) s)
               (λ h. h)
-              (λ h. absurd (true≢false (sym (squeeze (stamp_of (get_or ops (i - 1) d)) (stamp_of (get_or ops k d)) s (last d (omega arith)) h) ∙ stamp_not_before (get_or ops k d) (get_or ops (i - 1) d) (less-at k (i - 1) d l (omega arith)))))
+              (λ h. absurd (true≢false (sym (before-squeeze (stamp_of (get_or ops (i - 1) d)) (stamp_of (get_or ops k d)) s (last d (omega arith)) h) ∙ stamp_not_before (get_or ops k d) (get_or ops (i - 1) d) (less-at k (i - 1) d l (omega arith)))))
 
   -- none from a place on bears s where the first of them is younger
   younger : (i : ℕ) (s : Stamp) → ((d : Op) → i < length ops → before (stamp_of (get_or ops i d)) s ≡ false) → ((d : Op) → i < length ops → same (stamp_of (get_or ops i d)) s ≡ false) → bearing (drop i ops) s ≡ []
@@ -123,7 +95,7 @@ module _ (ops : List Op) (rising : T (is_rising ops)) where
 
           at : Op → bearing (drop i ops) s ≡ []
           at d =
-              let split : drop i ops ≡ get_or ops i d ∷ drop (i + 1) ops = drop-at ops i d lt in
+              let split : drop i ops ≡ get_or ops i d ∷ drop (i + 1) ops = drop_more ops i d lt in
               ap (λ (os : List Op). bearing os s) split
               ∙ bearing-first s (get_or ops i d) (drop (i + 1) ops) (ordered_rising (get_or ops i d ∷ drop (i + 1) ops) (subst (λ (os : List Op). T (is_rising os)) split (rising-drop ops i rising))) (late d lt) (other d lt)
 
@@ -136,7 +108,7 @@ module _ (ops : List Op) (rising : T (is_rising ops)) where
   alone-sole i op h left right =
       let s = stamp_of op in
       let lt : i < length ops = h.within in
-      let split : drop i ops ≡ op ∷ drop (i + 1) ops = drop-at ops i op lt ∙ ap (λ (o : Op). o ∷ drop (i + 1) ops) (h.is op) in
+      let split : drop i ops ≡ op ∷ drop (i + 1) ops = drop_more ops i op lt ∙ ap (λ (o : Op). o ∷ drop (i + 1) ops) (h.is op) in
       ap sole (older i s (omega arith) (λ d some. stamp-before (get_or ops (i - 1) d) op (subst (λ (o : Op). op_cmp (get_or ops (i - 1) d) o ≡ Less) (h.is d) (less-at (i - 1) i d (omega arith) lt)) (left d some))
       ∙ ap (λ (os : List Op). bearing os s) split
       ∙ filter-hit (bears s) op (drop (i + 1) ops) (same-refl s)
@@ -158,11 +130,6 @@ lawful-counter : (op : Op) → IsLawful op → (stamp_of op).counter ≤ max_cou
 lawful-counter (Insert s p y) h = h.0.1
 lawful-counter (Delete s t) h = h.0.1
 lawful-counter (Set s k v) h = h.0.1
-
-each-at : (P : Op → Type 0) (ops : List Op) (i : ℕ) (d : Op) → Each P ops → i < length ops → P (get_or ops i d)
-each-at P [] i d a lt = absurd (omega arith)
-each-at P (o ∷ ops) zero d a lt = a.0
-each-at P (o ∷ ops) (suc i) d a lt = each-at P ops i d a.1 (omega arith)
 
 -- a counter that is borne has a next
 pub small-counter : (ops : List Op) (i : ℕ) (s : Stamp) → All IsLawful ops → i < length ops → ((d : Op) → stamp_of (get_or ops i d) ≡ s) → s.counter < 9223372036854775808

@@ -1,13 +1,12 @@
 -- From one item to the next.
 use Rattle.std.proofs.Common.{◌≡◌, ℕ, ◌+◌, ◌≤◌, Bool, true, false, ◌||◌, List, [], ◌∷◌, ◌++◌, length, drop, get_or, refl, sym, ap, ◌∙◌, append_assoc}
 use Rattle.std.specs.List.{flat_map}
-use Rattle.std.proofs.lemmas.List.{append-nil, drop_all}
+use Rattle.std.proofs.lemmas.List.{append-nil, drop_all, drop_more}
 use Rattle.std.proofs.lemmas.List.Concat.{flat_map-cons}
 use Rattle.desk_ops.specs.declared.op.Op.{Op}
 use Rattle.desk_codec.specs.Items.{Item, item_ops, item_spelling}
 use Rattle.desk_codec.specs.Runs.{is_among, item_at, items_from, runs_feed}
 use Rattle.desk_codec.specs.RunSteps.{IsAt, IsWrittenTo, MarksAlso}
-use Rattle.desk_codec.proofs.RunPlaces.{drop-at}
 use Rattle.desk_codec.proofs.RunChains.{is_among-append}
 
 pub items-skip : (ops done rest : List Op) (op : Op) → is_among op done ≡ true → items_from ops done (op ∷ rest) ≡ items_from ops done rest
@@ -23,7 +22,7 @@ unfolding items_from
 items-end ops done = refl
 
 split-at : (ops : List Op) (i : ℕ) (op : Op) → IsAt ops i op → drop i ops ≡ op ∷ drop (i + 1) ops
-split-at ops i op h = drop-at ops i op h.within ∙ ap (λ (o : Op). o ∷ drop (i + 1) ops) (h.is op)
+split-at ops i op h = drop_more ops i op h.within ∙ ap (λ (o : Op). o ∷ drop (i + 1) ops) (h.is op)
 
 -- the operation at the place is written already
 pub at-written : (ops : List Op) (marks : List Bool) (bytes : List ℕ) (i : ℕ) (op : Op) → IsAt ops i op → IsWrittenTo ops marks bytes i → get_or marks i false ≡ true → IsWrittenTo ops marks bytes (i + 1)

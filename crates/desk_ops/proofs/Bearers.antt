@@ -1,5 +1,5 @@
 -- Who bears a stamp: in a set, and in a list of operations that rises.
-use Rattle.std.proofs.Common.{◌≡◌, suc, ◌<◌, ◌≤◌, ◌-◌, length, get_or, max, true, false, ◌++◌, T, List, [], ◌∷◌, refl, sym, ap, ◌∙◌, subst, ◌⊎◌, inl, inr, Some, None, arith}
+use Rattle.std.proofs.Common.{◌≡◌, suc, ◌<◌, ◌≤◌, ◌-◌, length, get_or, max, true, false, ◌++◌, T, List, [], ◌∷◌, refl, sym, ap, ◌∙◌, subst, ◌⊎◌, inl, inr, Some, arith}
 use Rattle.std.specs.Option.{is_some, unwrap_or}
 use Rattle.std.specs.Prelude.{nat_le}
 use Rattle.std.specs.Ordering.{nat_cmp, ordering_then, is_lt}
@@ -24,6 +24,7 @@ use Rattle.desk_ops.proofs.Tree.{filter-miss}
 use Rattle.desk_ops.proofs.Means.{IsOrdered, ordered, ordered_entries, of-T, by_stamp, clear_one}
 use Rattle.desk_ops.proofs.Arrive.{clear_from, ordered_filter}
 use Rattle.desk_ops.proofs.Ends.{among_held, held_among}
+use Rattle.desk_ops.proofs.Faulty.{none-some}
 use Rattle.desk_ops.proofs.Deletes.{any_some, some_any}
 use Rattle.desk_ops.proofs.OpSets.{keys-entries_of}
 use Rattle.desk_ops.proofs.Joined.{more_from}
@@ -79,9 +80,6 @@ sole_clear h s r = subst (λ t. is_clear (in_order h) t ≡ true) r.2 (clear_fro
 
 some-inner : (o p : Op) → Some o ≡ Some p → o ≡ p
 some-inner o p e = ap (λ r. unwrap_or r o) e
-
-none-some : {B : Type 0} (o : Op) → None ≡ Some o → B
-none-some o e = absurd (true≢false (sym (ap is_some e)))
 
 pub sole_op : (h : OpSet) (s : Stamp) (o : Op) → clear_op_in h s ≡ Some o → (stamp_of o ≡ s) × IsClearOp h o
 unfolding is_clear

@@ -1,5 +1,6 @@
 -- Lists: what holds of each, what is among them, what a filter keeps.
-use Rattle.std.proofs.Common.{◌≡◌, ℕ, zero, suc, ◌<◌, length, take, drop, get_or, arith, Bool, true, false, cond, List, [], ◌∷◌, ◌++◌, refl, sym, ap, ◌∙◌, subst, ◌⊎◌, inl, inr, Option, Some, None}
+use Rattle.std.proofs.Common.{◌≡◌, ℕ, zero, suc, ◌+◌, ◌<◌, length, take, drop, get_or, arith, Bool, true, false, cond, List, [], ◌∷◌, ◌++◌, refl, sym, ap, ◌∙◌, subst, ◌⊎◌, inl, inr, Option, Some, None}
+use Rattle.std.proofs.lemmas.List.{drop_more}
 use Rattle.std.specs.List.{AllByRecursion, insert, filter, filter_map, cons_option}
 use Rattle.desk_ops.specs.Lists.{Among, Precedes}
 
@@ -37,6 +38,9 @@ pub among-at : {A : Type 0} (xs : List A) (i : ℕ) (d : A) → i < length xs �
 among-at [] i d lt = absurd (omega arith)
 among-at (x ∷ xs) zero d lt = inl refl
 among-at (x ∷ xs) (suc i) d lt = inr (among-at xs i d (omega arith))
+
+pub drop-at : {A : Type 0} (xs : List A) (i : ℕ) (x d : A) → i < length xs → x ≡ get_or xs i d → drop i xs ≡ x ∷ drop (i + 1) xs
+drop-at xs i x d lt is = drop_more xs i d lt ∙ ap (λ y. y ∷ drop (i + 1) xs) (sym is)
 
 pub Each-take : {A : Type 0} (P : A → Type 0) (n : ℕ) (xs : List A) → Each P xs → Each P (take n xs)
 Each-take P zero [] h = tt

@@ -1,70 +1,30 @@
 -- Where a text stands: what the tests say, and what a list of all places has.
-use Rattle.std.proofs.Common.{◌≡◌, ℕ, suc, zero, ◌+◌, ◌-◌, ◌<◌, ◌≤◌, Bool, true, false, ◌&&◌, cond, List, [], ◌∷◌, ◌++◌, length, take, drop, refl, sym, ap, ap₂, Vec, ◌∙◌, inl, inr, arith, add-one, add-zero, eq-eqb}
+use Rattle.std.proofs.Common.{◌≡◌, ℕ, suc, zero, ◌+◌, ◌-◌, ◌<◌, ◌≤◌, Bool, true, false, ◌&&◌, cond, List, [], ◌∷◌, ◌++◌, length, take, drop, refl, sym, ap, ap₂, Vec, ◌∙◌, inl, inr, arith, add-one, add-zero}
 use Rattle.std.specs.Prelude.{◌==◌}
 use Rattle.std.specs.List.{filter, range_with_len}
 use Rattle.std.specs.Cmp.Lexicographic.{pointwise}
 use Rattle.std.proofs.Math.Nat.{eq-or-lt_of_le}
 use Rattle.std.proofs.lemmas.Bool.{and_parts, false≢true}
-use Rattle.std.proofs.lemmas.Bool.Decides.{nat_tests}
 use Rattle.std.proofs.lemmas.List.{append-nil, length-drop, take_rest}
 use Rattle.std.proofs.lemmas.List.Elements.{filter-append}
 use Rattle.desk_ops.proofs.Lists.{among-filter, among-filter_from}
+use Rattle.desk_ops.proofs.Symbols.{style_is, same_symbols}
 use Rattle.desk_ops.specs.Lists.{Among}
-use Rattle.desk_ops.specs.declared.op.Style.{Style}
-use Rattle.desk_ops.specs.declared.op.Style.TheVariants.{Roman, Italic, SmallCap}
 use Rattle.desk_ops.specs.declared.op.Symbol.{Symbol}
-use Rattle.desk_ops.specs.contracts.op.StylePartialEq.TheImpl as style_eq
 use Rattle.desk_ops.specs.contracts.op.SymbolPartialEq.TheImpl as symbol_eq
-use Rattle.desk_text.specs.Marks.{same_style}
 use Rattle.desk_places.specs.Places.{IsPlace, begins, places_of, same_symbol, stands}
 use Rattle.desk_places.specs.Laws.{AreAllPlaces, RiseFrom}
 
 -- ---- the tests
 
-style_is : (x y : Style) → (style_eq.ghosts).eq x y ≡ same_style x y
-style_is Roman Roman = refl
-style_is Roman Italic = refl
-style_is Roman SmallCap = refl
-style_is Italic Roman = refl
-style_is Italic Italic = refl
-style_is Italic SmallCap = refl
-style_is SmallCap Roman = refl
-style_is SmallCap Italic = refl
-style_is SmallCap SmallCap = refl
-
 symbol_is : (s t : Symbol) → (symbol_eq.eq-value).it s t ≡ same_symbol s t
 symbol_is s t = ap (λ b. b && (s.ch == t.ch)) (style_is s.style t.style)
 
-style_same : (x y : Style) → same_style x y ≡ true → x ≡ y
-style_same Roman Roman e = refl
-style_same Roman Italic e = absurd (false≢true e)
-style_same Roman SmallCap e = absurd (false≢true e)
-style_same Italic Roman e = absurd (false≢true e)
-style_same Italic Italic e = refl
-style_same Italic SmallCap e = absurd (false≢true e)
-style_same SmallCap Roman e = absurd (false≢true e)
-style_same SmallCap Italic e = absurd (false≢true e)
-style_same SmallCap SmallCap e = refl
-
-style_itself : (x : Style) → same_style x x ≡ true
-style_itself Roman = refl
-style_itself Italic = refl
-style_itself SmallCap = refl
-
-abbrev made : Style → ℕ → Symbol
-made s c = record { style = s; ch = c }
-
-same_made : (s t : Style) (c d : ℕ) → s ≡ t → c ≡ d → made s c ≡ made t d
-same_made s t c d p q = cc
-
 symbol_same : (s t : Symbol) → same_symbol s t ≡ true → s ≡ t
-symbol_same s t e =
-    let parts = and_parts (same_style s.style t.style) (s.ch == t.ch) e in
-    let chars : s.ch ≡ t.ch = grind (arith, nat_tests, parts.1) in
-    same_made s.style t.style s.ch t.ch (style_same s.style t.style parts.0) chars
+symbol_same s t e = (same_symbols s t).0 (symbol_is s t ∙ e)
 
 symbol_itself : (s : Symbol) → same_symbol s s ≡ true
-symbol_itself s = rw (style_itself s.style, eq-eqb s.ch s.ch refl)
+symbol_itself s = sym (symbol_is s s) ∙ (same_symbols s s).1 refl
 
 begins_is : (text copy : List Symbol) → pointwise (symbol_eq.eq-value).it text (take (length text) copy) ≡ begins text copy
 begins_is [] copy = refl

@@ -2,7 +2,7 @@
 use Rattle.std.specs.Prelude.{◌≡◌, ◌≤◌, ℕ, ◌+◌, Bool, true, false, ◌&&◌, ◌==◌, List, [], ◌∷◌, length, take, drop}
 use Rattle.std.specs.List.{filter, range_with_len}
 use Rattle.desk_ops.specs.declared.op.Symbol.{Symbol}
-use Rattle.desk_text.specs.Marks.{same_style}
+use Rattle.desk_ops.specs.Op.{same_style}
 
 -- A text stands at a place of a copy where it ends within it, and the symbols from there on are its own, by style and character.
 abbrev pub IsPlace : List Symbol → List Symbol → ℕ → Type 0

@@ -1,31 +1,15 @@
 -- The greatest stamp wins.
-use Rattle.std.proofs.Common.{◌≡◌, ◌==◌, ◌⊎◌, inl, inr, ℕ, true, false, cond, List, [], ◌∷◌, Option, Some, None, refl, sym, ap, subst, ◌∙◌, eq-eqb}
+use Rattle.std.proofs.Common.{◌≡◌, ◌==◌, ◌⊎◌, inl, inr, ℕ, true, false, List, [], ◌∷◌, Option, Some, None, refl, sym, ap, subst, ◌∙◌, eq-eqb}
 use Rattle.std.proofs.lemmas.Bool.{eqb-true}
 use Rattle.desk_ops.specs.declared.op.Stamp.{Stamp}
 use Rattle.desk_ops.specs.declared.op.Key.{Key}
-use Rattle.desk_ops.specs.declared.op.Key.TheVariants.{Measure, Tight, Loose, Case, Wedge}
 use Rattle.desk_ops.specs.Order.{key_code}
 use Rattle.desk_ops.specs.Stamp.{before, same}
+use Rattle.desk_ops.specs.OrderLaws.{key_code_exact}
 use Rattle.desk_ops.proofs.Stamps.{by_cases, same-true, before-trans, before-other, before-asym}
 use Rattle.desk_registers.specs.declared.Kept.{Kept}
 use Rattle.desk_registers.specs.Registers.{greater, kept_with, nothing, IsGreatestOf}
 use Rattle.desk_registers.specs.Laws.{Setting, kept_after, IsSet, GreatestIsKept, HasOneValue, OneGreatest}
-
--- ---- keys by their numbers
-
-key_at : ℕ → Key
-key_at n = cond (n == 1) Measure (cond (n == 2) Tight (cond (n == 3) Loose (cond (n == 4) Case Wedge)))
-
-key_back : (k : Key) → key_at (key_code k) ≡ k
-unfolding key_at
-key_back Measure = refl
-key_back Tight = refl
-key_back Loose = refl
-key_back Case = refl
-key_back Wedge = refl
-
-key_exact : (x y : Key) → key_code x ≡ key_code y → x ≡ y
-key_exact x y e = sym (key_back x) ∙ ap key_at e ∙ key_back y
 
 -- ---- the greatest of the settings that a predicate holds of
 
@@ -71,7 +55,7 @@ other_key a b f e = let t = same_codes a b (sym e) in let c : true ≡ false = s
 pub step : (P : Stamp → ℕ → Type 0) (first : Key → Option Kept) (s : Setting) (key : Key) → IsGreatestOf P (first key) → IsGreatestOf (Or P (Is s key)) (kept_with first s.stamp s.key s.value key)
 step P first s key h =
     by_cases (key_code key == key_code s.key)
-    (λ t. rw t (taken P s key (first key) (key_exact s.key key (sym (eqb-true (key_code key) (key_code s.key) t))) h))
+    (λ t. rw t (taken P s key (first key) (key_code_exact s.key key (sym (eqb-true (key_code key) (key_code s.key) t))) h))
     (λ f. rw f (passed P s key (first key) (other_key key s.key f) h))
 
 -- ---- lists of settings

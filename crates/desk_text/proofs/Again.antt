@@ -7,6 +7,7 @@ use Rattle.std.proofs.Math.Utf8.{scalar, scalars}
 use Rattle.std.proofs.lemmas.Bool.Decides.{nat_tests}
 use Rattle.std.proofs.lemmas.List.{append-nil, replicate_more}
 use Rattle.std.proofs.lemmas.Str.{chars-encodes}
+use Rattle.std.proofs.lemmas.Bool.{eqb-true, ne_eqb}
 use Rattle.desk_ops.specs.declared.op.Style.{Style}
 use Rattle.desk_ops.specs.declared.op.Style.TheVariants.{Roman, Italic, SmallCap}
 use Rattle.desk_ops.specs.declared.op.Symbol.{Symbol}
@@ -19,16 +20,8 @@ use Rattle.desk_text.specs.Marks.{mark, is_mark}
 use Rattle.desk_text.specs.Writing.{spaces, quoted, turn, text_from, text_of, text_bytes}
 use Rattle.desk_text.specs.Reading.{marked, step, after, start, read_from, reading}
 use Rattle.desk_text.specs.Laws.{AreLawful, AreCharacters, AreRoman}
+use Rattle.desk_text.specs.Grammar.{symbol}
 use Rattle.desk_text.proofs.Loops.{whole_read}
-
-pub is_same : (c d : ℕ) → (c == d) ≡ true → c ≡ d
-is_same c d e = grind (arith, nat_tests)
-
-pub not_same : (c d : ℕ) → (c ≡ d → ⊥) → (c == d) ≡ false
-not_same c d n = grind (arith, nat_tests)
-
-abbrev pub symbol : Style → ℕ → Symbol
-symbol style c = record { style = style; ch = c }
 
 -- in a style the characters are read as the copy, wherever they stand
 abbrev pub Reads : Bool → Style → List ℕ → List Symbol → Type 0
@@ -101,17 +94,17 @@ no_mark c e = (grind (arith, nat_tests), grind (arith, nat_tests), grind (arith,
 pub no_return : (s : Symbol) → IsSymbol s → (s.ch == 13) ≡ false
 no_return s (inl (roman, inl e)) = rw e refl
 no_return s (inl (roman, inr e)) = rw e refl
-no_return s (inr (more, wide)) = not_same s.ch 13 (λ e. omega (arith, e, more))
+no_return s (inr (more, wide)) = ne_eqb s.ch 13 (λ e. omega (arith, e, more))
 
 pub is_feed : (s : Symbol) → IsSymbol s → (s.ch == 10) ≡ true → s ≡ line_feed
 is_feed s (inl (roman, inl e)) same = λ i. record { style = roman i; ch = e i }
-is_feed s (inl (roman, inr e)) same = absurd (omega (arith, e, is_same s.ch 10 same))
-is_feed s (inr (more, wide)) same = absurd (omega (arith, more, is_same s.ch 10 same))
+is_feed s (inl (roman, inr e)) same = absurd (omega (arith, e, eqb-true s.ch 10 same))
+is_feed s (inr (more, wide)) same = absurd (omega (arith, more, eqb-true s.ch 10 same))
 
 pub is_blank : (s : Symbol) → IsSymbol s → (s.ch == 32) ≡ true → s ≡ space
 is_blank s (inl (roman, inr e)) same = λ i. record { style = roman i; ch = e i }
-is_blank s (inl (roman, inl e)) same = absurd (omega (arith, e, is_same s.ch 32 same))
-is_blank s (inr (more, wide)) same = absurd (omega (arith, more, is_same s.ch 32 same))
+is_blank s (inl (roman, inl e)) same = absurd (omega (arith, e, eqb-true s.ch 32 same))
+is_blank s (inr (more, wide)) same = absurd (omega (arith, more, eqb-true s.ch 32 same))
 
 -- a symbol that is no space and no line feed stands for itself where its character is no mark
 pub stands : (plain : Bool) (s : Symbol) → IsSymbol s → (s.ch == 32) ≡ false → (s.ch == 10) ≡ false → is_mark s.ch ≡ false → (here : Place) → step plain (Within s.style) here s.ch ≡ Ok (Within s.style, Some s)

@@ -16,8 +16,9 @@ use Rattle.desk_text.specs.Marks.{mark, is_mark}
 use Rattle.desk_text.specs.Reading.{◌>>=◌, Step, line_end, taken, turned, marked, step, after, ends, start, read_from, reading}
 use Rattle.desk_text.specs.Grammar.{symbol, IsText, Nothing, Line, ReturnedLine, Space, Itself, Escaped, Opens, Closes}
 use Rattle.std.specs.Str.{IsUtf8, chars}
+use Rattle.std.proofs.lemmas.Bool.{eqb-true, ne_eqb}
 use Rattle.desk_text.proofs.Loops.{whole_read}
-use Rattle.desk_text.proofs.Again.{Reads, opens, closes, is_same, not_same, steps_on, feed_read, nothing_left, one_space, escaped_read, stands}
+use Rattle.desk_text.proofs.Again.{Reads, opens, closes, steps_on, feed_read, nothing_left, one_space, escaped_read, stands}
 
 -- ---- what the cases allow is read
 
@@ -33,7 +34,7 @@ returned cs copy reads here = rw (reads (after (after here 13) 10)) refl
 
 itself : (style : Style) (c : ℕ) (cs : List ℕ) (copy : List Symbol) → 32 < c → is_mark c ≡ false → IsSymbol (symbol style c) → Reads false style cs copy → Reads false style (c ∷ cs) (symbol style c ∷ copy)
 itself style c cs copy more m lawful reads =
-    steps_on false style style c (Some (symbol style c)) cs copy (stands false (symbol style c) lawful (not_same c 32 (λ e. omega (arith, e, more))) (not_same c 10 (λ e. omega (arith, e, more))) m) reads
+    steps_on false style style c (Some (symbol style c)) cs copy (stands false (symbol style c) lawful (ne_eqb c 32 (λ e. omega (arith, e, more))) (ne_eqb c 10 (λ e. omega (arith, e, more))) m) reads
 
 pub text_read : (style : Style) (cs : List ℕ) (copy : List Symbol) → IsText style cs copy → Reads false style cs copy
 text_read _ _ _ Nothing = nothing_left
@@ -95,24 +96,24 @@ no_mark c p q r = rw (p, q, r) refl
 
 taken_allowed : (style : Style) (here : Place) (c : ℕ) → (c == 10) ≡ false → is_mark c ≡ false → Allowed (Within style) c (taken style here c)
 taken_allowed style here c p m =
-    by_cases (c == 32) (λ e. subst (λ n. Allowed (Within style) n (taken style here n)) (sym (is_same c 32 e)) (λ cs copy rest. Space rest))
+    by_cases (c == 32) (λ e. subst (λ n. Allowed (Within style) n (taken style here n)) (sym (eqb-true c 32 e)) (λ cs copy rest. Space rest))
     (λ q. by_cases (is_symbol (symbol style c)) (λ e. rw (q, e) (λ cs copy rest. Itself (wide style c (symbol_from (symbol style c) e) p q) m (symbol_from (symbol style c) e) rest)) (λ e. rw (q, e) tt))
 
 marked_allowed : (style : Style) (here : Place) (c : ℕ) → (c == 10) ≡ false → Allowed (Within style) c (marked style here c)
 unfolding marked
 marked_allowed style here c p =
-    by_cases (c == 92) (λ q. subst (λ n. Allowed (Within style) n (marked style here n)) (sym (is_same c 92 q)) (λ cs copy rest. rest))
-    (λ q. by_cases (c == 95) (λ r. rw (q, r) (turn_allowed Italic style c here (ap (λ n. n ∷ []) (sym (is_same c 95 r)))))
-    (λ r. by_cases (c == 94) (λ s. rw (q, r, s) (turn_allowed SmallCap style c here (ap (λ n. n ∷ []) (sym (is_same c 94 s))))) (λ s. rw (q, r, s) (taken_allowed style here c p (no_mark c q r s)))))
+    by_cases (c == 92) (λ q. subst (λ n. Allowed (Within style) n (marked style here n)) (sym (eqb-true c 92 q)) (λ cs copy rest. rest))
+    (λ q. by_cases (c == 95) (λ r. rw (q, r) (turn_allowed Italic style c here (ap (λ n. n ∷ []) (sym (eqb-true c 95 r)))))
+    (λ r. by_cases (c == 94) (λ s. rw (q, r, s) (turn_allowed SmallCap style c here (ap (λ n. n ∷ []) (sym (eqb-true c 94 s))))) (λ s. rw (q, r, s) (taken_allowed style here c p (no_mark c q r s)))))
 
 step_allowed : (state : State) (here : Place) (c : ℕ) → Allowed state c (step false state here c)
 unfolding step
 step_allowed (Within style) here c =
-    by_cases (c == 10) (λ p. rw p (subst (λ n. Allowed (Within style) n (line_end style here)) (sym (is_same c 10 p)) (line_allowed style here)))
-    (λ p. by_cases (c == 13) (λ q. subst (λ n. Allowed (Within style) n (step false (Within style) here n)) (sym (is_same c 13 q)) (λ cs copy rest. rest)) (λ q. rw (p, q) (marked_allowed style here c p)))
+    by_cases (c == 10) (λ p. rw p (subst (λ n. Allowed (Within style) n (line_end style here)) (sym (eqb-true c 10 p)) (line_allowed style here)))
+    (λ p. by_cases (c == 13) (λ q. subst (λ n. Allowed (Within style) n (step false (Within style) here n)) (sym (eqb-true c 13 q)) (λ cs copy rest. rest)) (λ q. rw (p, q) (marked_allowed style here c p)))
 step_allowed (Escape style back) here c = by_cases (is_mark c) (λ m. rw m (λ cs copy rest. Escaped m rest)) (λ m. rw m tt)
 step_allowed (Return style back) here c =
-    by_cases (c == 10) (λ p. rw p (subst (λ n. Allowed (Return style back) n (line_end style back)) (sym (is_same c 10 p)) (return_allowed style back))) (λ p. rw p tt)
+    by_cases (c == 10) (λ p. rw p (subst (λ n. Allowed (Return style back) n (line_end style back)) (sym (eqb-true c 10 p)) (return_allowed style back))) (λ p. rw p tt)
 
 at_end : (state : State) (here : Place) (copy : List Symbol) → (ends true state here >>= λ end. Ok []) ≡ Ok copy → TextAt state [] copy
 at_end (Within Roman) here copy h =

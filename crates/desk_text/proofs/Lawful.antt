@@ -7,14 +7,14 @@ use Rattle.std.proofs.lemmas.Bool.Decides.{nat_tests}
 use Rattle.desk_ops.specs.declared.op.Style.{Style}
 use Rattle.desk_ops.specs.declared.op.Style.TheVariants.{Roman, Italic, SmallCap}
 use Rattle.desk_ops.specs.declared.op.Symbol.{Symbol}
-use Rattle.desk_ops.specs.Op.{IsSymbol, is_symbol}
+use Rattle.desk_ops.specs.Op.{IsSymbol, is_symbol, same_style}
 use Rattle.desk_ops.proofs.Lawful.{symbol_from}
 use Rattle.desk_ops.proofs.Stamps.{by_cases}
 use Rattle.desk_text.specs.declared.fault.Place.{Place}
 use Rattle.desk_text.specs.declared.fault.TextFault.{TextFault}
 use Rattle.desk_text.specs.declared.reader.State.{State}
 use Rattle.desk_text.specs.declared.reader.State.TheVariants.{Within, Escape, Return}
-use Rattle.desk_text.specs.Marks.{is_mark, same_style}
+use Rattle.desk_text.specs.Marks.{is_mark}
 use Rattle.desk_text.specs.Reading.{◌>>=◌, Gives, Step, symbol_of, line_end, taken, turned, marked, step, after, ends, start, read_from, reading}
 use Rattle.desk_text.specs.Laws.{AreLawful}
 

@@ -5,9 +5,10 @@ use Rattle.std.specs.Str.{IsUtf8, chars}
 use Rattle.std.specs.Str.Lossy.{utf8_valid_len}
 use Rattle.std.proofs.lemmas.Bool.Decides.{nat_tests}
 use Rattle.std.proofs.lemmas.Str.{utf8_valid_len-IsUtf8}
-use Rattle.std.proofs.lemmas.List.{append-nil, at_drop_more, at_drop_all}
+use Rattle.std.proofs.lemmas.List.{append-nil, at_drop_all}
 use Rattle.desk_ops.specs.declared.op.Symbol.{Symbol}
 use Rattle.desk_ops.proofs.Stamps.{by_cases}
+use Rattle.desk_ops.proofs.Lists.{drop-at}
 use Rattle.desk_text.specs.declared.fault.Place.{Place}
 use Rattle.desk_text.specs.declared.fault.TextFault.{TextFault}
 use Rattle.desk_text.specs.declared.fault.TextFault.TheVariants.{At, NoMemory}
@@ -24,9 +25,6 @@ regroup : {A : Type 0} (front back : List A) (read : Result (List A) TextFault) 
 regroup front back (Err e) = refl
 regroup front back (Ok xs) = ap Ok (sym (append_assoc front back xs))
 
-drop-at : (cs : List ℕ) (n c : ℕ) → (n < length cs) × (c ≡ get_or cs n c) → drop n cs ≡ c ∷ drop (n + 1) cs
-drop-at cs n c h = at_drop_more (λ xs. xs) cs n c h.0 ∙ ap (λ x. x ∷ drop (n + 1) cs) (sym h.1)
-
 -- a character is read on
 pub read_on : (plain whole : Bool) (front items : List Symbol) (state : State) (here there : Place) (cs : List ℕ) (n m c : ℕ) (to : State) (o : Option Symbol) (total : Result (List Symbol) TextFault)
     → (n < length cs) × (c ≡ get_or cs n c) → step plain state here c ≡ Ok (to, o) → items ≡ front ++ option_to_list o → there ≡ after here c → m ≡ n + 1
@@ -36,7 +34,7 @@ read_on plain whole front items state here there cs n m c to o total at stepped 
     let go : read_from plain whole state here (c ∷ drop (n + 1) cs) ≡ (read_from plain whole to (after here c) (drop (n + 1) cs) >>= λ more. Ok (option_to_list o ++ more)) = rw stepped refl in
     let ahead : with_front items (read_from plain whole to there (drop m cs)) ≡ with_front (front ++ option_to_list o) (read_from plain whole to (after here c) (drop (n + 1) cs)) = rw (same, moved, next) refl in
     ahead ∙ sym (regroup front (option_to_list o) (read_from plain whole to (after here c) (drop (n + 1) cs)))
-    ∙ ap (with_front front) (sym go) ∙ ap (λ xs. with_front front (read_from plain whole state here xs)) (sym (drop-at cs n c at)) ∙ so_far
+    ∙ ap (with_front front) (sym go) ∙ ap (λ xs. with_front front (read_from plain whole state here xs)) (sym (drop-at cs n c c at.0 at.1)) ∙ so_far
 
 -- a character is at fault
 pub read_halt : (plain whole : Bool) (front : List Symbol) (state : State) (here : Place) (cs : List ℕ) (n c : ℕ) (e : TextFault) (total : Result (List Symbol) TextFault)
@@ -44,7 +42,7 @@ pub read_halt : (plain whole : Bool) (front : List Symbol) (state : State) (here
     → with_front front (read_from plain whole state here (drop n cs)) ≡ total → total ≡ Err e
 read_halt plain whole front state here cs n c e total at stepped so_far =
     let go : read_from plain whole state here (c ∷ drop (n + 1) cs) ≡ Err e = rw stepped refl in
-    sym so_far ∙ ap (λ xs. with_front front (read_from plain whole state here xs)) (drop-at cs n c at) ∙ ap (with_front front) go
+    sym so_far ∙ ap (λ xs. with_front front (read_from plain whole state here xs)) (drop-at cs n c c at.0 at.1) ∙ ap (with_front front) go
 
 pub read_end : (plain whole : Bool) (front : List Symbol) (state : State) (here : Place) (cs : List ℕ) (n : ℕ) (total : Result (List Symbol) TextFault)
     → length cs ≤ n → with_front front (read_from plain whole state here (drop n cs)) ≡ total

@@ -1,16 +1,17 @@
 -- Writing a copy, symbol by symbol.
-use Rattle.std.proofs.Common.{◌≡◌, ℕ, ◌+◌, ◌<◌, ◌==◌, false, List, [], ◌∷◌, ◌++◌, refl, sym, ap, ◌∙◌, append_assoc, length, drop, get_or, arith}
+use Rattle.std.proofs.Common.{◌≡◌, ℕ, ◌+◌, ◌<◌, false, List, [], ◌∷◌, ◌++◌, refl, sym, ap, ◌∙◌, append_assoc, length, drop, get_or}
 use Rattle.std.proofs.Math.Utf8.{encode}
-use Rattle.std.proofs.lemmas.Bool.Decides.{nat_tests}
-use Rattle.std.proofs.lemmas.List.{at_drop_more}
 use Rattle.std.proofs.lemmas.Grind.{replicate_next}
 use Rattle.std.proofs.lemmas.Str.{encodes-append}
 use Rattle.std.specs.Prelude.{Result, OnOk}
 use Rattle.std.proofs.lemmas.Result.{on_ok_weaker}
+use Rattle.std.proofs.lemmas.Bool.{ne_eqb}
 use Rattle.std.specs.Str.{encode_utf8_all}
 use Rattle.desk_ops.specs.declared.op.Style.{Style}
 use Rattle.desk_ops.specs.declared.op.Symbol.{Symbol}
-use Rattle.desk_text.specs.Marks.{mark, same_style}
+use Rattle.desk_ops.specs.Op.{same_style}
+use Rattle.desk_ops.proofs.Lists.{drop-at}
+use Rattle.desk_text.specs.Marks.{mark}
 use Rattle.desk_text.specs.Writing.{spaces, quoted, turn, text_from}
 
 pub space_put : (out before after : List ℕ) (n : ℕ) → before ≡ out ++ encode_utf8_all (spaces n) → after ≡ before ++ encode 32 → after ≡ out ++ encode_utf8_all (spaces (n + 1))
@@ -19,12 +20,6 @@ space_put out before after n so_far pushed =
     pushed ∙ ap (λ xs. xs ++ 32 ∷ []) so_far ∙ append_assoc out (encode_utf8_all (spaces n)) (32 ∷ [])
     ∙ ap (λ xs. out ++ xs) (sym (encodes-append (spaces n) (32 ∷ [])) ∙ ap encode_utf8_all (sym (replicate_next n 32)))
 
-drop-at : (copy : List Symbol) (i : ℕ) (s d : Symbol) → i < length copy → s ≡ get_or copy i d → drop i copy ≡ s ∷ drop (i + 1) copy
-drop-at copy i s d lt is = at_drop_more (λ xs. xs) copy i d lt ∙ ap (λ x. x ∷ drop (i + 1) copy) (sym is)
-
-not_same : (a b : ℕ) → (a ≡ b → ⊥) → (a == b) ≡ false
-not_same a b n = grind (arith, nat_tests)
-
 -- another symbol is written, with the spaces before it
 pub symbol_put : (out turned after whole : List ℕ) (run : Style) (count : ℕ) (copy : List Symbol) (i : ℕ) (s d : Symbol) → i < length copy → s ≡ get_or copy i d → (s.ch ≡ 32 → ⊥)
     → turned ≡ out ++ encode_utf8_all (turn run count s.style) → after ≡ turned ++ encode_utf8_all (quoted s.ch)
@@ -32,7 +27,7 @@ pub symbol_put : (out turned after whole : List ℕ) (run : Style) (count : ℕ)
     → after ++ encode_utf8_all (text_from s.style 0 (drop (i + 1) copy)) ≡ whole
 symbol_put out turned after whole run count copy i s d lt is other turns quotes so_far =
     let rest = encode_utf8_all (text_from s.style 0 (drop (i + 1) copy)) in
-    let here : text_from run count (s ∷ drop (i + 1) copy) ≡ (turn run count s.style ++ quoted s.ch) ++ text_from s.style 0 (drop (i + 1) copy) = rw (not_same s.ch 32 other) refl in
+    let here : text_from run count (s ∷ drop (i + 1) copy) ≡ (turn run count s.style ++ quoted s.ch) ++ text_from s.style 0 (drop (i + 1) copy) = rw (ne_eqb s.ch 32 other) refl in
     let all : encode_utf8_all ((turn run count s.style ++ quoted s.ch) ++ text_from s.style 0 (drop (i + 1) copy)) ≡ (encode_utf8_all (turn run count s.style) ++ encode_utf8_all (quoted s.ch)) ++ rest
     = encodes-append (turn run count s.style ++ quoted s.ch) _ ∙ ap (λ xs. xs ++ rest) (encodes-append (turn run count s.style) (quoted s.ch)) in
     let ahead : after ++ rest ≡ out ++ ((encode_utf8_all (turn run count s.style) ++ encode_utf8_all (quoted s.ch)) ++ rest) = rw (quotes, turns) (simp append_assoc) in

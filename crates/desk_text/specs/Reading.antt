@@ -5,7 +5,7 @@ use Rattle.std.specs.Str.Lossy.{utf8_valid_len}
 use Rattle.desk_ops.specs.declared.op.Style.{Style}
 use Rattle.desk_ops.specs.declared.op.Style.TheVariants.{Roman, Italic, SmallCap}
 use Rattle.desk_ops.specs.declared.op.Symbol.{Symbol}
-use Rattle.desk_ops.specs.Op.{is_symbol, space, line_feed}
+use Rattle.desk_ops.specs.Op.{is_symbol, space, line_feed, same_style}
 use Rattle.desk_text.specs.declared.fault.Place.{Place}
 use Rattle.desk_text.specs.declared.fault.Cause.{Cause}
 use Rattle.desk_text.specs.declared.fault.Cause.TheVariants as causes
@@ -13,7 +13,7 @@ use Rattle.desk_text.specs.declared.fault.TextFault.{TextFault}
 use Rattle.desk_text.specs.declared.fault.TextFault.TheVariants.{At, NoMemory}
 use Rattle.desk_text.specs.declared.reader.State.{State}
 use Rattle.desk_text.specs.declared.reader.State.TheVariants.{Within, Escape, Return}
-use Rattle.desk_text.specs.Marks.{is_mark, same_style}
+use Rattle.desk_text.specs.Marks.{is_mark}
 
 -- What a function returned, seen by view, is what reading gives, unless memory ran out.
 abbrev pub Fails : {Y : Type 0} → TextFault → Result Y TextFault → Type 0

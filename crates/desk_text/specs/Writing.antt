@@ -4,7 +4,8 @@ use Rattle.std.specs.Str.{encode_utf8_all}
 use Rattle.desk_ops.specs.declared.op.Style.{Style}
 use Rattle.desk_ops.specs.declared.op.Style.TheVariants.{Roman}
 use Rattle.desk_ops.specs.declared.op.Symbol.{Symbol}
-use Rattle.desk_text.specs.Marks.{mark, is_mark, same_style}
+use Rattle.desk_ops.specs.Op.{same_style}
+use Rattle.desk_text.specs.Marks.{mark, is_mark}
 
 abbrev pub spaces : ℕ → List ℕ
 spaces count = replicate count 32

@@ -1,7 +1,8 @@
 //! Marks of styles.
 
 ghost use Rattle.std.specs.Prelude.{◌≡◌};
-ghost use Rattle.desk_text.specs.Marks.{is_mark, same_style};
+ghost use Rattle.desk_ops.specs.Op.{same_style};
+ghost use Rattle.desk_text.specs.Marks.{is_mark};
 
 use desk_ops::Style;
 

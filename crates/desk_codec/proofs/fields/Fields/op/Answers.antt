@@ -1,8 +1,8 @@
 use Rattle.std.proofs.Common.{◌≡◌, sym, ap, ◌∙◌, Ok, subst, rules}
 use Rattle.desk_codec.specs.Spelling.{IsValue}
 use Rattle.desk_ops.specs.Op.{verdict}
+use Rattle.desk_ops.proofs.Lawful.{lawful_from}
 use Rattle.desk_codec.specs.Fault.{fields_of}
-use Rattle.desk_codec.proofs.LawfulAsTold.{lawful_from}
 use Rattle.desk_codec.proofs.FieldLaws.{insert_back, set_back}
 use Rattle.desk_codec.proofs.fields.Fields.op.Goals.{in-Insert, in-Delete, in-Set+in-Some}
 use Rattle.desk_codec.proofs.fields.Fields.op.Goals as goal
