@@ -14,7 +14,7 @@ use Rattle.desk_ops.proofs.OpSets.{no_ops-from_rising, in_order-from_rising}
 use Rattle.desk_ops.proofs.Stamps.{by_cases}
 use Rattle.desk_ops.proofs.Unions.{with_all-take, with_all_push, with_all-append, with_op-comm, same-set, has_op-with_all, size-with_op, union-comm}
 
-no_ops-in_order : in_order no_ops ≡ []
+pub no_ops-in_order : in_order no_ops ≡ []
 no_ops-in_order = ap in_order (sym no_ops-from_rising) ∙ in_order-from_rising [] tt
 
 -- a set is what its operations make of none

@@ -2,7 +2,7 @@
 ghost use Rattle.std.specs.Prelude.{◌≡◌, ◌++◌, ◌∷◌, [], if◌then◌else◌, T, All, IfOk, OnOk};
 ghost use Rattle.std.specs.List.{list_all};
 ghost use Rattle.desk_ops.specs.Op.{IsLawful};
-ghost use Rattle.desk_ops.specs.OpSet.{has_op, is_rising};
+ghost use Rattle.desk_ops.specs.OpSet.{has_op, is_rising, AllLawful};
 ghost use Rattle.desk_held.specs.Passing.{missing_of, IsMissing, IsInTurn};
 
 use crate::Held;
@@ -62,7 +62,9 @@ fn add_missing<A: Allocator>(
 
 impl<A: Allocator + Copy> Held<A> {
     /// Whether a list is so short that a search for each of its operations costs less than a pass.
-    fn is_sparse(&self, ops: &[Op]) -> bool {
+    fn is_sparse(&self, ops: &[Op]) -> bool
+        ensures { AllLawful self.now.ops }
+    {
         ops.len() < self.len() / SPARSE
     }
 
@@ -120,7 +122,6 @@ impl<A: Allocator + Copy> Held<A> {
         ensures missing { IfOk result (λ v. IsMissing self.now.ops ops.now v.items) }
         ensures lawful { All IsLawful ops.now → IfOk result (λ v. All IsLawful v.items) }
     {
-        let _len = self.len();
         if is_rising(ops) {
             return self.missing_of_rising(ops);
         }
@@ -134,7 +135,8 @@ impl<A: Allocator + Copy> Held<A> {
     /// Those of a list that rises.
     fn missing_of_rising(&self, ops: &[Op]) -> Result<Vec<Op, A>, NoMemory>
         requires { T (is_rising ops.now) }
-        ensures { IfOk result (λ v. v.items ≡ missing_of self.now.ops ops.now) }
+        ensures missing { IfOk result (λ v. v.items ≡ missing_of self.now.ops ops.now) }
+        ensures lawful { AllLawful self.now.ops }
     {
         if self.is_sparse(ops) {
             return self.missing_of_few(ops);

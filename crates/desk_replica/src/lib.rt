@@ -270,7 +270,6 @@ impl<Q: Sequence> Replica<Q> {
         ensures room { OnOk result (n ≤ self.new.spare) }
         ensures enough { n ≤ self.old.spare → IsOk result }
     {
-        let _len = self.held.len();
         reserve_all(&mut self.held, &mut self.sequence, &mut self.room, n)
     }
 
