@@ -22,11 +22,11 @@ some_not_none : {A : Type 0} {x : A} → Some x ≡ None → ⊥
 some_not_none e = cc
 
 -- a test passes at a symbol alone
-held_is : (s : Symbol) (m : Option Symbol) → is_held s m ≡ true → m ≡ Some s
+pub held_is : (s : Symbol) (m : Option Symbol) → is_held s m ≡ true → m ≡ Some s
 held_is s None e = absurd (false≢true e)
 held_is s (Some t) e = ap Some (sym (symbol_same s t e))
 
-held_itself : (s : Symbol) (m : Option Symbol) → m ≡ Some s → is_held s m ≡ true
+pub held_itself : (s : Symbol) (m : Option Symbol) → m ≡ Some s → is_held s m ≡ true
 held_itself s m e = rw e (symbol_itself s)
 
 -- the first place that holds a symbol, in a grid whose first place has the number k

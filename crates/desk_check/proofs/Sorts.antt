@@ -1,13 +1,10 @@
 -- How many cells of a grid hold a symbol, counted one after the other.
-use Rattle.std.proofs.Common.{◌≡◌, ◌∙◌, ℕ, zero, suc, ◌+◌, ◌<◌, List, [], ◌∷◌, length, take, Option, Some, None, refl, sym, ap, arith}
+use Rattle.std.proofs.Common.{◌≡◌, ◌∙◌, ℕ, zero, suc, ◌+◌, ◌<◌, [], ◌∷◌, length, take, Some, None, refl, sym, ap, arith}
 use Rattle.std.specs.Prelude.{cond, is_some, slice_get}
 use Rattle.std.specs.Option.{option_flatten}
-use Rattle.desk_ops.specs.declared.op.Symbol.{Symbol}
 use Rattle.desk_case.proofs.Cells.{place_back}
+use Rattle.desk_case.proofs.Grids.{Grid}
 use Rattle.desk_check.specs.Sorts.{sort_at, sorts}
-
-abbrev Grid : Type 0
-Grid = List (Option Symbol)
 
 abbrev one_at : Grid → ℕ → ℕ
 one_at grid n = cond (is_some (option_flatten (slice_get grid n))) 1 0

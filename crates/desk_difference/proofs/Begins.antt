@@ -4,13 +4,14 @@ use Rattle.std.specs.List.{slice_range}
 use Rattle.std.proofs.Math.Seq.{drop-append_seam}
 use Rattle.std.proofs.lemmas.Bool.{cases_lt, true≢false}
 use Rattle.std.proofs.lemmas.List.{at_drop_more, get_or-drop, get_or-take, length-drop, length-take-le}
+use Rattle.desk_ops.proofs.Symbols.{same_symbols}
 use Rattle.desk_ops.specs.contracts.op.SymbolPartialEq.TheImpl as symbol_eq
 use Rattle.desk_ops.specs.declared.op.Symbol.{Symbol}
 use Rattle.desk_difference.specs.declared.stretch.Point.{Point}
 use Rattle.desk_difference.specs.declared.stretches.Front.{Front}
 use Rattle.desk_difference.specs.Walking.{IsAlike, IsAlong, IsParted, IsStep}
 use Rattle.desk_difference.specs.Stretches.{BeginsApart, IsReached, is_whole, of_one, of_other}
-use Rattle.desk_difference.proofs.Parts.{none_between, range_join, same_farther, same_symbols}
+use Rattle.desk_difference.proofs.Parts.{none_between, range_join, same_farther}
 
 -- ---- a part of a list
 

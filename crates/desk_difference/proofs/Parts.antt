@@ -1,14 +1,10 @@
 -- What is said of two copies, from point to point.
-use Rattle.std.proofs.Common.{◌≡◌, ◌∙◌, ◌≤◌, ◌<◌, ℕ, ◌+◌, ◌-◌, false, true, inl, List, [], ◌∷◌, ◌++◌, length, take, drop, refl, sym, ap, ap₂, subst, arith}
+use Rattle.std.proofs.Common.{◌≡◌, ◌∙◌, ◌≤◌, ◌<◌, ℕ, ◌+◌, ◌-◌, true, List, [], ◌∷◌, ◌++◌, length, take, drop, refl, sym, ap, ap₂, subst, arith}
 use Rattle.std.specs.List.{slice_range}
 use Rattle.std.proofs.Math.Seq.{take-add}
 use Rattle.std.proofs.lemmas.List.{drop-drop}
-use Rattle.std.specs.Bool.{Decides}
 use Rattle.std.specs.Prelude.{◌≢◌}
-use Rattle.desk_ops.proofs.Stamps.{by_cases}
-use Rattle.desk_ops.specs.contracts.op.SymbolPartialEq.TheImpl as symbol_eq
 use Rattle.desk_ops.specs.declared.op.Symbol.{Symbol}
-use Rattle.desk_changes.proofs.Shared.{are_one, not_there}
 use Rattle.desk_difference.specs.declared.stretch.Point.{Point}
 use Rattle.desk_difference.specs.declared.stretch.Stretch.{Stretch}
 use Rattle.desk_difference.specs.Walking.{EndBefore}
@@ -49,13 +45,6 @@ told_farther one other from a b (s ∷ stretches) told same = (told.0, told.1, t
 pub told_stretch : (one other : List Symbol) (from : Point) (next : Stretch) (stretches : List Stretch) → DifferIn one other from stretches next.from → Differ one other next → DifferIn one other from (stretches ++ next ∷ []) next.to
 told_stretch one other from next [] told differ = (told, differ, none_between one other next.from next.to differ.reached)
 told_stretch one other from next (s ∷ stretches) told differ = (told.0, told.1, told_stretch one other s.to next stretches told.2 differ)
-
--- `==` on symbols says whether they are one
-pub same_symbols : (s t : Symbol) → Decides ((symbol_eq.eq-value).it s t) (s ≡ t)
-same_symbols s t = (are_one s t ((symbol_eq.eq-value).it s t) refl, λ same. by_cases ((symbol_eq.eq-value).it s t) (λ e. e) (λ e. absurd (not_other same e)))
-  where
-    not_other : s ≡ t → (symbol_eq.eq-value).it s t ≡ false → ⊥
-    not_other same e = not_there (s ∷ []) (t ∷ []) 1 0 0 (ap (λ (x : Symbol). x ∷ []) same) (omega arith) (omega arith) (omega arith) (omega arith) s ((symbol_eq.eq-value).it s t) refl e (inl (omega arith)) refl
 
 -- ---- a stretch that is closed
 

@@ -1,5 +1,5 @@
 -- Two lists that rise, passed over at once.
-use Rattle.std.proofs.Common.{◌≡◌, ℕ, zero, suc, ◌+◌, ◌<◌, Bool, true, false, not, cond, ◌&&◌, ◌||◌, List, [], ◌∷◌, ◌++◌, length, drop, get_or, map, refl, sym, ap, ap₂, subst, ◌∙◌, append_assoc, add-one, drop-cons}
+use Rattle.std.proofs.Common.{◌≡◌, ℕ, ◌+◌, ◌<◌, Bool, true, false, not, cond, ◌||◌, List, [], ◌∷◌, ◌++◌, length, drop, get_or, map, refl, sym, ap, ap₂, subst, ◌∙◌, append_assoc, add-one, drop-cons}
 use Rattle.std.specs.Prelude.{T, if◌then◌else◌, Some, slice_get}
 use Rattle.std.specs.Ordering.{eq_by_cmp, is_eq, is_lt, ordering_reverse}
 use Rattle.std.specs.declared.cmp.Ordering.{Ordering}
@@ -13,31 +13,20 @@ use Rattle.desk_ops.specs.Stamp.{head}
 use Rattle.desk_ops.specs.Order.{op_cmp}
 use Rattle.desk_ops.specs.OrderLaws.{op_total}
 use Rattle.desk_ops.specs.OpSet.{entries_of, is_rising}
+use Rattle.desk_ops.proofs.OpSets.{T_first, T_second, less_from_T, rising-drop}
 use Rattle.desk_ops.proofs.Stamps.{is_less}
+use Rattle.desk_codec.specs.Runs.{is_among}
 use Rattle.desk_difference.specs.declared.alone.SiteStamp.{SiteStamp}
-use Rattle.desk_difference.specs.Alone.{alone, alone_stamp, among, begins, site_stamp, skip}
+use Rattle.desk_difference.specs.Alone.{alone, alone_stamp, begins, site_stamp, skip}
 
 -- each of the operations comes after one
 abbrev pub AllAbove : Op → List Op → Type 0
 AllAbove op [] = Unit {0}
 AllAbove op (y ∷ ys) = (op_cmp op y ≡ Less) × AllAbove op ys
 
-T_first : (a b : Bool) → T (a && b) → T a
-T_first true b h = tt
-T_first false b h = absurd h
-
-T_second : (a b : Bool) → T (a && b) → T b
-T_second true b h = h
-T_second false b h = absurd h
-
-less : (o : Ordering) → T (is_lt o) → o ≡ Less
-less Less h = refl
-less Equal h = absurd h
-less Greater h = absurd h
-
 above_of : (op : Op) (ys : List Op) → T (below_all op_cmp op (entries_of ys)) → AllAbove op ys
 above_of op [] h = tt
-above_of op (y ∷ ys) h = (less (op_cmp op y) (T_first _ _ h), above_of op ys (T_second (is_lt (op_cmp op y)) _ h))
+above_of op (y ∷ ys) h = (less_from_T (op_cmp op y) (T_first _ _ h), above_of op ys (T_second (is_lt (op_cmp op y)) _ h))
 
 -- an operation of a list that rises comes before those behind it, and they rise
 rising_above : (op : Op) (ys : List Op) → T (is_rising (op ∷ ys)) → AllAbove op ys
@@ -45,12 +34,6 @@ rising_above op ys h = above_of op ys (T_first _ _ h)
 
 rising_rest : (op : Op) (ys : List Op) → T (is_rising (op ∷ ys)) → T (is_rising ys)
 rising_rest op ys h = T_second (below_all op_cmp op (entries_of ys)) _ h
-
-rising_drop : (k : ℕ) (ys : List Op) → T (is_rising ys) → T (is_rising (drop k ys))
-rising_drop zero [] h = h
-rising_drop (suc k) [] h = h
-rising_drop zero (y ∷ ys) h = h
-rising_drop (suc k) (y ∷ ys) h = rising_drop k ys (rising_rest y ys h)
 
 after_skip : (op y : Op) (ys : List Op) (b : Bool) → T (is_rising (skip op ys)) → T (is_rising (y ∷ ys)) → T (is_rising (if b then skip op ys else y ∷ ys))
 after_skip op y ys true rest all = rest
@@ -72,12 +55,12 @@ IsBelow op x = (y : Op) → op_cmp y op ≡ Less → op_cmp y x ≡ Less
 not_tied : (x y : Op) → op_cmp y x ≡ Less → eq_by_cmp op_cmp x y ≡ false
 not_tied x y e = ap is_eq (op_total.antisymm x y ∙ ap ordering_reverse e)
 
-skipped : (op x y : Op) (ys : List Op) (b : Bool) → (b ≡ true → eq_by_cmp op_cmp x y ≡ false) → among x (skip op ys) ≡ among x ys
-    → among x (if b then skip op ys else y ∷ ys) ≡ among x (y ∷ ys)
-skipped op x y ys true apart rest = rest ∙ ap (λ (t : Bool). t || among x ys) (sym (apart refl))
+skipped : (op x y : Op) (ys : List Op) (b : Bool) → (b ≡ true → eq_by_cmp op_cmp x y ≡ false) → is_among x (skip op ys) ≡ is_among x ys
+    → is_among x (if b then skip op ys else y ∷ ys) ≡ is_among x (y ∷ ys)
+skipped op x y ys true apart rest = rest ∙ ap (λ (t : Bool). t || is_among x ys) (sym (apart refl))
 skipped op x y ys false apart rest = refl
 
-among_skip : (op x : Op) → IsBelow op x → (ys : List Op) → among x (skip op ys) ≡ among x ys
+among_skip : (op x : Op) → IsBelow op x → (ys : List Op) → is_among x (skip op ys) ≡ is_among x ys
 among_skip op x below [] = refl
 among_skip op x below (y ∷ ys) = skipped op x y ys (is_lt (op_cmp y op)) (λ e. not_tied x y (below y (is_less (op_cmp y op) e))) (among_skip op x below ys)
 
@@ -95,25 +78,25 @@ all_above : (op y : Op) (ys : List Op) → op_cmp op y ≡ Less → AllAbove y y
 all_above op y [] e above = tt
 all_above op y (z ∷ ys) e above = (op_total.trans op y z e above.0, all_above op y ys e above.1)
 
-none_above : (op : Op) (ys : List Op) → AllAbove op ys → among op ys ≡ false
+none_above : (op : Op) (ys : List Op) → AllAbove op ys → is_among op ys ≡ false
 none_above op [] above = refl
-none_above op (y ∷ ys) above = ap (λ (o : Ordering). is_eq o || among op ys) above.0 ∙ none_above op ys above.1
+none_above op (y ∷ ys) above = ap (λ (o : Ordering). is_eq o || is_among op ys) above.0 ∙ none_above op ys above.1
 
-first_or : (op y : Op) (ys : List Op) (o : Ordering) → op_cmp op y ≡ o → AllAbove y ys → is_lt (op_cmp y op) ≡ false → is_eq o ≡ (is_eq o || among op ys)
+first_or : (op y : Op) (ys : List Op) (o : Ordering) → op_cmp op y ≡ o → AllAbove y ys → is_lt (op_cmp y op) ≡ false → is_eq o ≡ (is_eq o || is_among op ys)
 first_or op y ys Less e above low = sym (none_above op ys (all_above op y ys e above))
 first_or op y ys Equal e above low = refl
 first_or op y ys Greater e above low = absurd (true≢false (sym (ap is_lt (op_total.antisymm y op ∙ ap ordering_reverse e)) ∙ low))
 
-first_tells : (op y : Op) (ys : List Op) (b : Bool) → is_lt (op_cmp y op) ≡ b → T (is_rising (y ∷ ys)) → begins op (skip op ys) ≡ among op (skip op ys)
-    → begins op (if b then skip op ys else y ∷ ys) ≡ among op (if b then skip op ys else y ∷ ys)
+first_tells : (op y : Op) (ys : List Op) (b : Bool) → is_lt (op_cmp y op) ≡ b → T (is_rising (y ∷ ys)) → begins op (skip op ys) ≡ is_among op (skip op ys)
+    → begins op (if b then skip op ys else y ∷ ys) ≡ is_among op (if b then skip op ys else y ∷ ys)
 first_tells op y ys true e h rest = rest
 first_tells op y ys false e h rest = first_or op y ys (op_cmp op y) refl (rising_above y ys h) e
 
-begins_skip : (op : Op) (ys : List Op) → T (is_rising ys) → begins op (skip op ys) ≡ among op (skip op ys)
+begins_skip : (op : Op) (ys : List Op) → T (is_rising ys) → begins op (skip op ys) ≡ is_among op (skip op ys)
 begins_skip op [] h = refl
 begins_skip op (y ∷ ys) h = first_tells op y ys (is_lt (op_cmp y op)) refl h (begins_skip op ys (rising_rest y ys h))
 
-held_there : (op : Op) (ys : List Op) → T (is_rising ys) → among op ys ≡ begins op (skip op ys)
+held_there : (op : Op) (ys : List Op) → T (is_rising ys) → is_among op ys ≡ begins op (skip op ys)
 held_there op ys h = sym (among_skip op op (λ y e. e) ys) ∙ sym (begins_skip op ys h)
 
 -- ---- a step over both lists
@@ -133,7 +116,7 @@ stamps_step one ys k d stamps whole rising h lt same =
     let op : Op = get_or one k d in
     let rest : List Op = drop (k + 1) one in
     let front : drop k one ≡ op ∷ rest = rw (add-one, drop-cons one k d) refl in
-    let above : T (is_rising (op ∷ rest)) = subst (λ (l : List Op). T (is_rising l)) front (rising_drop k one rising) in
+    let above : T (is_rising (op ∷ rest)) = subst (λ (l : List Op). T (is_rising l)) front (rising-drop one k rising) in
     append_assoc stamps (alone_stamp op (begins op (skip op ys))) (map site_stamp (alone rest (skip op ys)))
     ∙ ap (λ (l : List SiteStamp). stamps ++ l) (sym (stamps_kept op (alone rest (skip op ys)) (begins op (skip op ys))) ∙ ap (map site_stamp) (sym (alone_step op rest ys above h)) ∙ ap (λ (l : List Op). map site_stamp (alone l ys)) (sym front))
     ∙ same

@@ -16,8 +16,9 @@ use Rattle.desk_ops.specs.OpSet.{from_rising, has_op, is_rising}
 use Rattle.desk_ops.proofs.Ends.{among_held, held_among}
 use Rattle.desk_ops.proofs.Lists.{among-filter, among-filter_from}
 use Rattle.desk_ops.proofs.OpSets.{has_op-from_rising, in_order-from_rising}
+use Rattle.desk_codec.specs.Runs.{is_among}
 use Rattle.desk_difference.specs.declared.alone.SiteStamp.{SiteStamp}
-use Rattle.desk_difference.specs.Alone.{AreAlone, IsAlone, alone, among, site_cmp, site_stamp}
+use Rattle.desk_difference.specs.Alone.{AreAlone, IsAlone, alone, site_cmp, site_stamp}
 
 site_total : IsTotalOrder site_cmp
 site_total = then_total (on_total (λ (s : SiteStamp). s.site) nat_cmp_total) (on_total (λ (s : SiteStamp). s.counter) nat_cmp_total)
@@ -75,13 +76,13 @@ alone_told one other stamp first second = (there, back)
     there : Among stamp (map site_stamp (alone one other)) → IsAlone (from_rising one) (from_rising other) stamp
     there m =
         let r = among_map site_stamp (alone one other) stamp m in
-        let f = among-filter (λ (op : Op). not (among op other)) one r.0 r.1 in
-        (r.0, held_in one r.0 first f.0, has_op-from_rising other r.0 second ∙ not-true (among r.0 other) f.1, r.2)
+        let f = among-filter (λ (op : Op). not (is_among op other)) one r.0 r.1 in
+        (r.0, held_in one r.0 first f.0, has_op-from_rising other r.0 second ∙ not-true (is_among r.0 other) f.1, r.2)
 
     back : IsAlone (from_rising one) (from_rising other) stamp → Among stamp (map site_stamp (alone one other))
     back h =
         among_map_from site_stamp (alone one other) h.0 stamp
-        (among-filter_from (λ (op : Op). not (among op other)) one h.0 (in_held one h.0 first h.1) (ap not (sym (has_op-from_rising other h.0 second) ∙ h.2))) h.3
+        (among-filter_from (λ (op : Op). not (is_among op other)) one h.0 (in_held one h.0 first h.1) (ap not (sym (has_op-from_rising other h.0 second) ∙ h.2))) h.3
 
 -- ---- sorted, and each once
 

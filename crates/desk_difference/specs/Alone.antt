@@ -1,6 +1,6 @@
 -- The operations that one set holds and another does not, by the stamps that they bear.
 use Rattle.std.specs.Prelude.{◌≡◌, ◌↔◌, Bool, true, false, not, if◌then◌else◌, List, [], ◌∷◌}
-use Rattle.std.specs.List.{filter, list_any}
+use Rattle.std.specs.List.{filter}
 use Rattle.std.specs.List.Sorted.{IsStrictlySortedBy}
 use Rattle.std.specs.Ordering.{eq_by_cmp, is_lt, nat_cmp, ordering_then}
 use Rattle.std.specs.declared.cmp.Ordering.{Ordering}
@@ -9,6 +9,7 @@ use Rattle.desk_ops.specs.Lists.{Among}
 use Rattle.desk_ops.specs.Op.{stamp_of}
 use Rattle.desk_ops.specs.OpSet.{OpSet, has_op}
 use Rattle.desk_ops.specs.Order.{op_cmp}
+use Rattle.desk_codec.specs.Runs.{is_among}
 use Rattle.desk_difference.specs.declared.alone.SiteStamp.{SiteStamp}
 
 -- by site, and then by counter
@@ -29,12 +30,9 @@ pub record AreAlone (one other : OpSet) (stamps : List SiteStamp) : Type 0 where
 
 -- ---- of lists
 
-abbrev pub among : Op → List Op → Bool
-among op ops = list_any (eq_by_cmp op_cmp op) ops
-
 -- the operations of one list that another has not
 abbrev pub alone : List Op → List Op → List Op
-alone one other = filter (λ op. not (among op other)) one
+alone one other = filter (λ op. not (is_among op other)) one
 
 -- the stamp of an operation, unless it is held
 abbrev pub alone_stamp : Op → Bool → List SiteStamp

@@ -1,15 +1,12 @@
 -- Bytes read up to a limit.
-use Rattle.std.proofs.Common.{◌≡◌, ℕ, ◌+◌, ◌≤◌, Bool, true, false, List, [], ◌++◌, Option, Some, None, length, take, nat_le, refl, subst, ◌∙◌, arith}
+use Rattle.std.proofs.Common.{◌≡◌, ℕ, ◌+◌, ◌≤◌, true, false, List, [], ◌++◌, Option, Some, None, length, take, nat_le, subst, ◌∙◌, arith, inl, inr}
 use Rattle.std.specs.Prelude.{IfSome, option_map}
+use Rattle.std.proofs.lemmas.Bool.{cases_Bool}
 use Rattle.std.proofs.lemmas.Bool.Decides.{nat_tests}
 use Rattle.std.proofs.lemmas.List.{length-take-le, take_all}
 
-by_cases : {G : Type 0} (b : Bool) → (b ≡ true → G) → (b ≡ false → G) → G
-by_cases true hit miss = hit refl
-by_cases false hit miss = miss refl
-
 short : (n : ℕ) (input : List ℕ) → length (take (n + 1) input) ≤ n → length input ≤ n
-short n input few = by_cases (nat_le (n + 1) (length input)) long (λ e. at_most n (length input) e)
+short n input few = elim (cases_Bool (nat_le (n + 1) (length input))) [ inl e ↦ long e | inr e ↦ at_most n (length input) e ]
   where
     more : (x y : ℕ) → nat_le x y ≡ true → x ≤ y
     more x y e = grind (arith, nat_tests)

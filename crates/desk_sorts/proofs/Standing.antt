@@ -1,10 +1,9 @@
 -- Where a symbol stands, by the list of its places.
 use Rattle.std.proofs.Common.{◌≡◌, ℕ, zero, suc, ◌+◌, ◌<◌, ◌≤◌, Bool, true, false, cond, List, [], ◌∷◌, ◌++◌, length, take, get_or, refl, sym, ap, ◌∙◌, subst, inl, inr, arith, add-one, add-zero}
-use Rattle.std.specs.Prelude.{Option, Some, None, slice_get}
+use Rattle.std.specs.Prelude.{Some, slice_get}
 use Rattle.std.specs.List.{filter, range_with_len}
 use Rattle.std.proofs.Math.Nat.{eq-or-lt_of_le}
 use Rattle.std.proofs.Math.Seq.{take-length}
-use Rattle.std.proofs.lemmas.Bool.{false≢true}
 use Rattle.std.proofs.lemmas.List.{length-append}
 use Rattle.std.proofs.lemmas.Option.{slice_get_within, slice_get-get_or}
 use Rattle.desk_ops.proofs.Lists.{among-filter, among-filter_from}
@@ -12,7 +11,8 @@ use Rattle.desk_ops.specs.Lists.{Among}
 use Rattle.desk_ops.specs.declared.op.Style.TheVariants.{Roman}
 use Rattle.desk_ops.specs.declared.op.Symbol.{Symbol}
 use Rattle.desk_case.specs.Case.{is_held, same_symbol}
-use Rattle.desk_case.proofs.Symbols.{symbol_same, symbol_itself}
+use Rattle.desk_case.proofs.Grids.{held_is, held_itself}
+use Rattle.desk_case.proofs.Symbols.{symbol_same}
 use Rattle.desk_sorts.specs.Laws.{AreAllPlaces, RiseFrom}
 use Rattle.desk_sorts.specs.Places.{places_of, places_to}
 use Rattle.desk_sorts.specs.Sorts.{StandsAt, wanted_of}
@@ -39,13 +39,6 @@ among_range : (a n k : ℕ) → a ≤ k → k < a + n → Among k (range_with_le
 among_range a zero k low high = absurd (omega (arith, low, high))
 among_range a (suc n) k low high = elim (eq-or-lt_of_le low) [ inl e ↦ inl e | inr lt ↦ inr (among_range (a + 1) n k (omega (arith, lt)) (omega (arith, high))) ]
 
-held_is : (symbol : Symbol) (o : Option Symbol) → is_held symbol o ≡ true → o ≡ Some symbol
-held_is symbol None e = absurd (false≢true e)
-held_is symbol (Some held) e = ap Some (sym (symbol_same symbol held e))
-
-is_held_of : (symbol : Symbol) (o : Option Symbol) → o ≡ Some symbol → is_held symbol o ≡ true
-is_held_of symbol o e = ap (is_held symbol) e ∙ symbol_itself symbol
-
 stands : (copy : List Symbol) (symbol : Symbol) (place : ℕ) → Among place (places_of copy symbol) → StandsAt copy symbol place
 unfolding places_to
 stands copy symbol place m =
@@ -57,7 +50,7 @@ unfolding places_to
 among copy symbol place is =
     let within = slice_get_within copy place symbol is in
     among-filter_from (λ at. is_held symbol (slice_get copy at)) (range_with_len 0 (length copy)) place (among_range 0 (length copy) place (omega arith) (omega (arith, within)))
-    (is_held_of symbol (slice_get copy place) is)
+    (held_itself symbol (slice_get copy place) is)
 
 -- ---- they are as many as it is wanted
 

@@ -1,5 +1,5 @@
 use Rattle.std.proofs.lemmas.Slice.Eq.{slice_eq-Decides}
-use Rattle.desk_difference.proofs.Parts.{same_symbols}
+use Rattle.desk_ops.proofs.Symbols.{same_symbols}
 use Rattle.desk_difference.proofs.stretches.are_same.Goals as goal
 
 pub returns : goal.returns

@@ -1,7 +1,8 @@
 use Rattle.std.proofs.Common.{◌∙◌, sym}
 use Rattle.std.proofs.lemmas.Bool.{true≢false}
 use Rattle.std.proofs.lemmas.Slice.Eq.{slice_eq-Decides}
-use Rattle.desk_difference.proofs.Parts.{no_stretches, same_symbols}
+use Rattle.desk_ops.proofs.Symbols.{same_symbols}
+use Rattle.desk_difference.proofs.Parts.{no_stretches}
 use Rattle.desk_difference.proofs.stretches.stretches_of.Goals as goal
 
 pub returns-then-eq : goal.returns-then-eq
