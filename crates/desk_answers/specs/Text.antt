@@ -3,7 +3,7 @@ use Rattle.std.specs.Prelude.{ℕ, ℤ, length, ◌+◌, ◌/◌, ◌%◌, nat_l
 use Rattle.std.specs.Fmt.{decimal, signed_decimal}
 use Rattle.desk_commands.specs.Writing.{copy_text}
 use Rattle.desk_ops.specs.declared.op.Symbol.{Symbol}
-use Rattle.desk_ops.specs.Words.{stamp_words, kind_words, key_words}
+use Rattle.desk_ops.specs.Words.{copy_fault_words, key_words, stamp_words}
 use Rattle.desk_ops.specs.declared.op.Unlawful.{Unlawful}
 use Rattle.desk_ops.specs.declared.op.Unlawful.TheVariants as causes
 use Rattle.desk_codec.specs.declared.fault.FeedWhy.{FeedWhy}
@@ -75,13 +75,9 @@ abbrev pub list_text : {T : Type 0} → (T → List ℕ) → Bool → List T →
 list_text words is_first [] = []
 list_text words is_first (x ∷ xs) = separator is_first ++ words x ++ list_text words false xs
 
--- `KIND STAMP`
-abbrev pub copy_fault_text : CopyFault → List ℕ
-copy_fault_text f = kind_words f.kind ++ codes " " ++ stamp_words f.stamp
-
 abbrev pub faults_text : List CopyFault → List ℕ
 faults_text [] = codes "faults none"
-faults_text (f ∷ faults) = codes "faults" ++ list_text copy_fault_text true (f ∷ faults)
+faults_text (f ∷ faults) = codes "faults" ++ list_text copy_fault_words true (f ∷ faults)
 
 abbrev pub value_text : Option ℕ → List ℕ
 value_text None = codes "-"

@@ -4,10 +4,10 @@ ghost use Rattle.std.specs.Prelude.{◌≡◌, ◌+◌, ◌<◌, ◌≤◌, ◌+
 ghost use Rattle.std.specs.Fmt.{decimal, signed_decimal};
 ghost use Rattle.std.specs.Io.{StartsWith};
 ghost use Rattle.arrayvec.specs.ArrayString.{array_string_len};
-ghost use Rattle.desk_ops.specs.Words.{stamp_words};
+ghost use Rattle.desk_ops.specs.Words.{copy_fault_words, stamp_words};
 ghost use Rattle.desk_answers.specs.Reply.{is_long, reply_values, lines_told};
 ghost use Rattle.desk_answers.specs.Reply as replies;
-ghost use Rattle.desk_answers.specs.Text.{hex_digit, hex_text, refusal_text, cause_number, fault_text, separator, list_text, copy_fault_text, faults_text, value_text, settings_text, job_fault_text, lines_text, text};
+ghost use Rattle.desk_answers.specs.Text.{hex_digit, hex_text, refusal_text, cause_number, fault_text, separator, list_text, faults_text, value_text, settings_text, job_fault_text, lines_text, text};
 
 use arrayvec::ArrayString;
 use desk_caster::CastLine;
@@ -267,7 +267,7 @@ trait Entry: Copy {
 }
 
 impl Entry for CopyFault {
-    ghost words = { copy_fault_text };
+    ghost words = { copy_fault_words };
 
     #[tactic(auto, using(desk_commands::proofs::Fronts::fronts))]
     fn put_words<A: Allocator + Copy>(self, out: &mut String<A>) -> Result<(), AllocError> {

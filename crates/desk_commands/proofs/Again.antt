@@ -1,6 +1,6 @@
 -- What is written for a copy is read again as that copy.
-use Rattle.std.proofs.Common.{◌≡◌, ℕ, ◌==◌, true, false, List, [], ◌∷◌, ◌++◌, Option, Some, None, refl, ap, ◌∙◌, arith}
-use Rattle.std.proofs.lemmas.Bool.Decides.{nat_tests}
+use Rattle.std.proofs.Common.{◌≡◌, ℕ, ◌==◌, false, List, [], ◌∷◌, ◌++◌, Option, Some, None, refl, ap, ◌∙◌}
+use Rattle.std.proofs.lemmas.Bool.{eqb-true}
 use Rattle.desk_ops.specs.declared.op.Style.{Style}
 use Rattle.desk_ops.specs.declared.op.Style.TheVariants.{Roman, Italic, SmallCap}
 use Rattle.desk_ops.specs.declared.op.Symbol.{Symbol}
@@ -9,9 +9,6 @@ use Rattle.desk_commands.specs.Reading.{◌>>=◌}
 use Rattle.desk_commands.specs.Copy.{symbol, step, copy_from}
 use Rattle.desk_commands.specs.Writing.{opening, quoted, turn, copy_chars_from}
 use Rattle.desk_ops.proofs.Stamps.{by_cases}
-
-pub is_same : (c d : ℕ) → (c == d) ≡ true → c ≡ d
-is_same c d e = grind (arith, nat_tests)
 
 abbrev pub onto : Style → ℕ → Option (List Symbol) → Option (List Symbol)
 onto style c read = read >>= λ more. Some (symbol style c ∷ more)
@@ -32,17 +29,17 @@ itself_first style c rest p q = rw (q, p) refl
 in_quotes : (style : Style) (c : ℕ) (rest : List ℕ) → copy_from (Inside style) (quoted c ++ rest) ≡ onto style c (copy_from (Inside style) rest)
 unfolding step
 in_quotes style c rest =
-    by_cases (c == 10) (λ e. rw (is_same c 10 e) (nothing (onto style 10 (copy_from (Inside style) rest))))
-    (λ p. by_cases (c == 92) (λ e. rw (is_same c 92 e) (nothing (onto style 92 (copy_from (Inside style) rest))))
-    (λ q. by_cases (c == 34) (λ e. rw (is_same c 34 e) (nothing (onto style 34 (copy_from (Inside style) rest))))
+    by_cases (c == 10) (λ e. rw (eqb-true c 10 e) (nothing (onto style 10 (copy_from (Inside style) rest))))
+    (λ p. by_cases (c == 92) (λ e. rw (eqb-true c 92 e) (nothing (onto style 92 (copy_from (Inside style) rest))))
+    (λ q. by_cases (c == 34) (λ e. rw (eqb-true c 34 e) (nothing (onto style 34 (copy_from (Inside style) rest))))
     (λ r. rw (p, q, r) (itself style c rest q r))))
 
 first_in_quotes : (style : Style) (c : ℕ) (rest : List ℕ) → copy_from (Opened style) (quoted c ++ rest) ≡ onto style c (copy_from (Inside style) rest)
 unfolding step
 first_in_quotes style c rest =
-    by_cases (c == 10) (λ e. rw (is_same c 10 e) (nothing (onto style 10 (copy_from (Inside style) rest))))
-    (λ p. by_cases (c == 92) (λ e. rw (is_same c 92 e) (nothing (onto style 92 (copy_from (Inside style) rest))))
-    (λ q. by_cases (c == 34) (λ e. rw (is_same c 34 e) (nothing (onto style 34 (copy_from (Inside style) rest))))
+    by_cases (c == 10) (λ e. rw (eqb-true c 10 e) (nothing (onto style 10 (copy_from (Inside style) rest))))
+    (λ p. by_cases (c == 92) (λ e. rw (eqb-true c 92 e) (nothing (onto style 92 (copy_from (Inside style) rest))))
+    (λ q. by_cases (c == 34) (λ e. rw (eqb-true c 34 e) (nothing (onto style 34 (copy_from (Inside style) rest))))
     (λ r. rw (p, q, r) (itself_first style c rest q r))))
 
 opened : (style : Style) (rest : List ℕ) → copy_from Run (opening style ++ rest) ≡ copy_from (Opened style) rest

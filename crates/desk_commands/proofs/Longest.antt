@@ -1,41 +1,27 @@
 -- What is written for a copy is runs, each the longest of its style.
 use Rattle.std.proofs.Common.{◌≡◌, ℕ, ◌==◌, true, false, List, [], ◌∷◌, ◌++◌, Some, None, refl, sym, ap, subst, ◌∙◌, append_assoc, inl, inr}
 use Rattle.std.specs.Prelude.{◌≢◌, ◌⊎◌}
+use Rattle.std.proofs.lemmas.Bool.{eqb-true}
 use Rattle.desk_ops.specs.declared.op.Style.{Style}
 use Rattle.desk_ops.specs.declared.op.Style.TheVariants.{Roman, Italic, SmallCap}
 use Rattle.desk_ops.specs.declared.op.Symbol.{Symbol}
+use Rattle.desk_ops.specs.Op.{same_style}
 use Rattle.desk_commands.specs.Copy.{symbol, style_of}
-use Rattle.desk_commands.specs.Writing.{opening, same_style, quoted, copy_chars_from}
+use Rattle.desk_commands.specs.Writing.{opening, quoted, copy_chars_from}
 use Rattle.desk_commands.specs.Spelling.{StandsFor, SpellsInside, IsRun, RunOf, joined, AreRuns}
 use Rattle.desk_commands.specs.Laws.{AreLongest}
 use Rattle.desk_ops.proofs.Stamps.{by_cases}
-use Rattle.desk_commands.proofs.Again.{is_same}
+use Rattle.desk_ops.proofs.Symbols.{style_itself, style_same}
 use Rattle.desk_commands.proofs.Spelling.{is_not}
 
-same_is : (a b : Style) → same_style a b ≡ true → a ≡ b
-same_is Roman Roman e = refl
-same_is Italic Italic e = refl
-same_is SmallCap SmallCap e = refl
-same_is Roman Italic e = absurd (let f : false ≡ true = e in cc)
-same_is Roman SmallCap e = absurd (let f : false ≡ true = e in cc)
-same_is Italic Roman e = absurd (let f : false ≡ true = e in cc)
-same_is Italic SmallCap e = absurd (let f : false ≡ true = e in cc)
-same_is SmallCap Roman e = absurd (let f : false ≡ true = e in cc)
-same_is SmallCap Italic e = absurd (let f : false ≡ true = e in cc)
-
-own_style : (a : Style) → same_style a a ≡ true
-own_style Roman = refl
-own_style Italic = refl
-own_style SmallCap = refl
-
 other_is : (a b : Style) → same_style a b ≡ false → a ≢ b
-other_is a b e same = absurd (let f : true ≡ false = sym (own_style a) ∙ ap (same_style a) same ∙ e in cc)
+other_is a b e same = absurd (let f : true ≡ false = sym (style_itself a) ∙ ap (same_style a) same ∙ e in cc)
 
 stands : (c : ℕ) → StandsFor (quoted c) c
 stands c =
-    by_cases (c == 10) (λ e. rw (is_same c 10 e) (inr (110, refl, refl)))
-    (λ p. by_cases (c == 92) (λ e. rw (is_same c 92 e) (inr (92, refl, refl)))
-    (λ q. by_cases (c == 34) (λ e. rw (is_same c 34 e) (inr (34, refl, refl)))
+    by_cases (c == 10) (λ e. rw (eqb-true c 10 e) (inr (110, refl, refl)))
+    (λ p. by_cases (c == 92) (λ e. rw (eqb-true c 92 e) (inr (92, refl, refl)))
+    (λ q. by_cases (c == 34) (λ e. rw (eqb-true c 34 e) (inr (34, refl, refl)))
     (λ r. rw (p, q, r) (inl (refl, is_not c 34 r, is_not c 92 q)))))
 
 -- ---- what follows a symbol of an open run
@@ -129,7 +115,7 @@ written : (s : Symbol) (ys : List Symbol) → Written s ys (copy_chars_from (Som
 written s [] = record { more = []; runs = []; inside = []; left = []; split = refl; spelled = refl; then_runs = inl (refl, refl); longest = tt; all = refl }
 written s (y ∷ ys) =
     by_cases (same_style s.style y.style)
-    (λ e. rw e (joins s y ys (copy_chars_from (Some y.style) ys) (same_is s.style y.style e) (written y ys)))
+    (λ e. rw e (joins s y ys (copy_chars_from (Some y.style) ys) (style_same s.style y.style e) (written y ys)))
     (λ e. rw e (begins s y ys (copy_chars_from (Some y.style) ys) (other_is s.style y.style e) (written y ys)))
 
 pub longest : (s : Symbol) (symbols : List Symbol) → (runs : List RunOf) × (s ∷ symbols ≡ joined runs) × AreRuns (copy_chars_from None (s ∷ symbols)) runs × AreLongest runs

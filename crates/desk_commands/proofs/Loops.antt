@@ -1,6 +1,7 @@
 -- Reading in loops.
 use Rattle.std.proofs.Common.{◌≡◌, ℕ, ◌+◌, ◌≤◌, ◌<◌, List, [], ◌∷◌, ◌++◌, Option, Some, None, refl, sym, ap, ◌∙◌, append_assoc, length, length-drop, take, drop, get_or, arith}
 use Rattle.std.specs.Prelude.{◌≢◌, ◌*◌, ◌-◌, option_to_list}
+use Rattle.std.proofs.lemmas.Bool.{false_from_ne_true}
 use Rattle.std.proofs.lemmas.List.{append-nil, at_drop_more, at_drop_all, length-take, take_all}
 use Rattle.desk_ops.specs.declared.op.Symbol.{Symbol}
 use Rattle.desk_commands.specs.declared.copy.Place.{Place}
@@ -9,7 +10,6 @@ use Rattle.desk_commands.specs.Reading.{◌>>=◌, nibble, pairs}
 use Rattle.desk_commands.specs.Copy.{step, ends, copy_from}
 use Rattle.desk_commands.specs.Memory.{first_symbol, symbol_or}
 use Rattle.std.specs.Str.{IsUtf8, is_utf8}
-use Rattle.std.proofs.Common.{Bool, true, false}
 use Rattle.std.proofs.lemmas.Str.{is_utf8-from_IsUtf8, IsUtf8-from_is_utf8}
 use Rattle.desk_commands.specs.Grammar.{words_of, command_of}
 
@@ -124,10 +124,6 @@ pub command_of-text : (line : List ℕ) → IsUtf8 line → command_of line ≡ 
 unfolding command_of
 command_of-text line text = rw (is_utf8-from_IsUtf8 line text) refl
 
-not_true : (b : Bool) → (b ≡ true → ⊥) → b ≡ false
-not_true true n = absurd (n refl)
-not_true false n = refl
-
 pub command_of-bytes : (line : List ℕ) → (IsUtf8 line → ⊥) → command_of line ≡ None
 unfolding command_of
-command_of-bytes line other = rw (not_true (is_utf8 line) (λ e. other (IsUtf8-from_is_utf8 line e))) refl
+command_of-bytes line other = rw (false_from_ne_true (is_utf8 line) (λ e. other (IsUtf8-from_is_utf8 line e))) refl

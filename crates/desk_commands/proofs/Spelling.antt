@@ -1,5 +1,6 @@
 -- The machine that reads COPY reads its spelling.
 use Rattle.std.proofs.Common.{◌≡◌, ℕ, ◌==◌, true, false, List, [], ◌∷◌, ◌++◌, Option, Some, None, refl, sym, ap, subst, ◌∙◌, append_assoc, arith, inl, inr}
+use Rattle.std.proofs.lemmas.Bool.{eqb-true, ne_eqb}
 use Rattle.std.proofs.lemmas.Bool.Decides.{nat_tests}
 use Rattle.std.proofs.lemmas.List.{append-nil}
 use Rattle.std.specs.Prelude.{◌≢◌, ◌⊎◌}
@@ -10,13 +11,10 @@ use Rattle.desk_commands.specs.declared.copy.Place.TheVariants.{Run, Quote, Open
 use Rattle.desk_commands.specs.Copy.{symbol, style_of, escaped, step, copy_from}
 use Rattle.desk_commands.specs.Spelling.{StandsFor, SpellsInside, IsRun, RunOf, joined, AreRuns, IsCopy}
 use Rattle.desk_ops.proofs.Stamps.{by_cases}
-use Rattle.desk_commands.proofs.Again.{is_same, onto, nothing, itself, itself_first}
+use Rattle.desk_commands.proofs.Again.{onto, nothing, itself, itself_first}
 
 pub is_not : (c d : ℕ) → (c == d) ≡ false → c ≢ d
 is_not c d e = grind (arith, nat_tests)
-
-not_is : (c d : ℕ) → c ≢ d → (c == d) ≡ false
-not_is c d e = grind (arith, nat_tests)
 
 -- ---- how the machine goes on
 
@@ -175,22 +173,22 @@ spelled Run (c ∷ cs) ys h = at (λ style. spelled (Quote style) cs ys) (style_
     at more None e = no _ ys (run_not c cs e) h
     at more (Some style) e = copy_more c style cs ys e (more style (sym (run_on c cs style e) ∙ h))
 spelled (Quote style) (c ∷ cs) ys h =
-    by_cases (c == 34) (λ e. (cs, ap (λ x. x ∷ cs) (is_same c 34 e), spelled (Opened style) cs ys (sym (quote_on style c cs e) ∙ h)))
+    by_cases (c == 34) (λ e. (cs, ap (λ x. x ∷ cs) (eqb-true c 34 e), spelled (Opened style) cs ys (sym (quote_on style c cs e) ∙ h)))
     (λ e. no _ ys (quote_not style c cs e) h)
 spelled (Opened style) (c ∷ cs) ys h =
     by_cases (c == 34) (λ e. no _ ys (opened_not style c cs e) h)
     (λ p. by_cases (c == 92)
     (λ q. let r = spelled (Escape style) cs ys (sym (opened_escape style c cs p q) ∙ h) in
-    record { ch = r.ch; front = 92 ∷ r.c ∷ []; rest = r.rest; more = r.more; split = ap (λ x. x ∷ cs) (is_same c 92 q) ∙ ap (λ l. 92 ∷ l) r.split; stands = inr (r.c, refl, r.means); then_inside = r.then_inside; all = r.all })
+    record { ch = r.ch; front = 92 ∷ r.c ∷ []; rest = r.rest; more = r.more; split = ap (λ x. x ∷ cs) (eqb-true c 92 q) ∙ ap (λ l. 92 ∷ l) r.split; stands = inr (r.c, refl, r.means); then_inside = r.then_inside; all = r.all })
     (λ q. let r = onto_some style c (copy_from (Inside style) cs) ys (sym (itself_first style c cs q p) ∙ h) in
     record { ch = c; front = c ∷ []; rest = cs; more = r.0; split = refl; stands = inl (refl, is_not c 34 p, is_not c 92 q); then_inside = spelled (Inside style) cs r.0 r.1; all = r.2 }))
 spelled (Inside style) (c ∷ cs) ys h =
     by_cases (c == 34)
-    (λ e. record { own = []; others = ys; inside = []; left = cs; split = ap (λ x. x ∷ cs) (is_same c 34 e); spelled = refl; then_rest = spelled Closed cs ys (sym (inside_close style c cs e) ∙ h); all = refl })
+    (λ e. record { own = []; others = ys; inside = []; left = cs; split = ap (λ x. x ∷ cs) (eqb-true c 34 e); spelled = refl; then_rest = spelled Closed cs ys (sym (inside_close style c cs e) ∙ h); all = refl })
     (λ p. by_cases (c == 92)
     (λ q. let r = spelled (Escape style) cs ys (sym (inside_escape style c cs p q) ∙ h) in
     let more = inside_more style r.ch (92 ∷ r.c ∷ []) r.rest r.more (inr (r.c, refl, r.means)) r.then_inside in
-    subst (λ l. InsideRest style l ys) (ap (λ l. 92 ∷ l) (sym r.split) ∙ ap (λ x. x ∷ cs) (sym (is_same c 92 q))) (subst (λ l. InsideRest style (92 ∷ r.c ∷ r.rest) l) (sym r.all) more))
+    subst (λ l. InsideRest style l ys) (ap (λ l. 92 ∷ l) (sym r.split) ∙ ap (λ x. x ∷ cs) (sym (eqb-true c 92 q))) (subst (λ l. InsideRest style (92 ∷ r.c ∷ r.rest) l) (sym r.all) more))
     (λ q. let r = onto_some style c (copy_from (Inside style) cs) ys (sym (itself style c cs q p) ∙ h) in
     subst (λ l. InsideRest style (c ∷ cs) l) (sym r.2) (inside_more style c (c ∷ []) cs r.0 (inl (refl, is_not c 34 p, is_not c 92 q)) (spelled (Inside style) cs r.0 r.1))))
 spelled (Escape style) (c ∷ cs) ys h = at (λ more. spelled (Inside style) cs more) (escaped c) refl
@@ -201,17 +199,17 @@ spelled (Escape style) (c ∷ cs) ys h = at (λ more. spelled (Inside style) cs 
         let r = onto_some style ch (copy_from (Inside style) cs) ys (sym (escape_on style c ch cs e) ∙ h) in
         record { c = c; ch = ch; rest = cs; more = r.0; split = refl; means = e; then_inside = inside r.0 r.1; all = r.2 }
 spelled Closed (c ∷ cs) ys h =
-    by_cases (c == 32) (λ e. inr (cs, ap (λ x. x ∷ cs) (is_same c 32 e), spelled Run cs ys (sym (closed_on c cs e) ∙ h)))
+    by_cases (c == 32) (λ e. inr (cs, ap (λ x. x ∷ cs) (eqb-true c 32 e), spelled Run cs ys (sym (closed_on c cs e) ∙ h)))
     (λ e. no _ ys (closed_not c cs e) h)
 
 -- ---- what is spelled is read
 
 stands_read : (style : Style) (ch : ℕ) (front rest : List ℕ) → StandsFor front ch → copy_from (Inside style) (front ++ rest) ≡ onto style ch (copy_from (Inside style) rest)
-stands_read style ch front rest (inl (is, p, q)) = ap (λ l. copy_from (Inside style) (l ++ rest)) is ∙ itself style ch rest (not_is ch 92 q) (not_is ch 34 p)
+stands_read style ch front rest (inl (is, p, q)) = ap (λ l. copy_from (Inside style) (l ++ rest)) is ∙ itself style ch rest (ne_eqb ch 92 q) (ne_eqb ch 34 p)
 stands_read style ch front rest (inr (c, is, e)) = ap (λ l. copy_from (Inside style) (l ++ rest)) is ∙ inside_escape style 92 (c ∷ rest) refl refl ∙ escape_on style c ch rest e
 
 stands_first : (style : Style) (ch : ℕ) (front rest : List ℕ) → StandsFor front ch → copy_from (Opened style) (front ++ rest) ≡ onto style ch (copy_from (Inside style) rest)
-stands_first style ch front rest (inl (is, p, q)) = ap (λ l. copy_from (Opened style) (l ++ rest)) is ∙ itself_first style ch rest (not_is ch 92 q) (not_is ch 34 p)
+stands_first style ch front rest (inl (is, p, q)) = ap (λ l. copy_from (Opened style) (l ++ rest)) is ∙ itself_first style ch rest (ne_eqb ch 92 q) (ne_eqb ch 34 p)
 stands_first style ch front rest (inr (c, is, e)) = ap (λ l. copy_from (Opened style) (l ++ rest)) is ∙ opened_escape style 92 (c ∷ rest) refl refl ∙ escape_on style c ch rest e
 
 inside_read : (style : Style) (own : List Symbol) (inside left : List ℕ) (others : List Symbol) → SpellsInside style inside own → copy_from Closed left ≡ Some others

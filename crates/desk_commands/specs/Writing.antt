@@ -1,26 +1,16 @@
 -- How a copy is written.
-use Rattle.std.specs.Prelude.{ℕ, Bool, true, false, ◌==◌, List, [], ◌∷◌, ◌++◌, Option, Some, None, codes, if◌then◌else◌}
+use Rattle.std.specs.Prelude.{ℕ, ◌==◌, List, [], ◌∷◌, ◌++◌, Option, Some, None, codes, if◌then◌else◌}
 use Rattle.std.specs.Str.{encode_utf8_all}
 use Rattle.desk_ops.specs.declared.op.Style.{Style}
 use Rattle.desk_ops.specs.declared.op.Style.TheVariants.{Roman, Italic, SmallCap}
 use Rattle.desk_ops.specs.declared.op.Symbol.{Symbol}
+use Rattle.desk_ops.specs.Op.{same_style}
 
 -- the letter of a style, and a quote
 abbrev pub opening : Style → List ℕ
 opening Roman = codes "r\""
 opening Italic = codes "i\""
 opening SmallCap = codes "s\""
-
-abbrev pub same_style : Style → Style → Bool
-same_style Roman Roman = true
-same_style Italic Italic = true
-same_style SmallCap SmallCap = true
-same_style Roman Italic = false
-same_style Roman SmallCap = false
-same_style Italic Roman = false
-same_style Italic SmallCap = false
-same_style SmallCap Roman = false
-same_style SmallCap Italic = false
 
 -- a character inside quotes: three are always escaped
 abbrev pub quoted : ℕ → List ℕ

@@ -3,11 +3,8 @@ use Rattle.std.proofs.Common.{◌≡◌, ◌⊎◌, inl, inr, ℕ, ◌+◌, true
 use Rattle.std.proofs.lemmas.List.{take_more}
 use Rattle.desk_ops.specs.declared.op.Op.{Op}
 use Rattle.desk_ops.specs.Op.{stamp_of}
-use Rattle.desk_ops.specs.OpSet.{OpSet, has_op, in_order, with_all, with_op}
-use Rattle.desk_ops.specs.Lists.{Among}
-use Rattle.desk_ops.proofs.Arrive.{among-with_op}
-use Rattle.desk_ops.proofs.Ends.{among_held, held_among}
-use Rattle.desk_ops.proofs.Joined.{within-with_op}
+use Rattle.desk_ops.specs.OpSet.{OpSet, has_op, with_all, with_op}
+use Rattle.desk_ops.proofs.Joined.{with-cases, within-with_op}
 use Rattle.desk_changes.specs.declared.making.Change.{Change}
 use Rattle.desk_changes.specs.declared.making.Change.TheVariants as changes
 use Rattle.desk_hand.specs.Editing.{AreOwn, Extends, delete_count, delete_count_of, deletes_in, deletes_of, insert_count, insert_count_of, inserts_in, inserts_of, stamp_after}
@@ -18,17 +15,10 @@ own_more site set (o ∷ ops) op own one = (own.0, own_more site (with_op set o)
 
 -- ---- what was held is held
 
-with_cases : (set : OpSet) (op other : Op) → has_op (with_op set op) other ≡ true → (op ≡ other) ⊎ (has_op set other ≡ true)
-with_cases set op other held = go (among-with_op set op other (among_held (with_op set op) other held))
-  where
-    go : (op ≡ other) ⊎ Among other (in_order set) → (op ≡ other) ⊎ (has_op set other ≡ true)
-    go (inl same) = inl same
-    go (inr among) = inr (held_among set other among)
-
 pub extends_more : (site : ℕ) (old mid now : OpSet) (op : Op) → Extends site old mid → now ≡ with_op mid op → (stamp_of op).site ≡ site → Extends site old now
 extends_more site old mid now op extends gained by = record {
   kept = λ other held. subst (λ (s : OpSet). has_op s other ≡ true) (sym gained) (within-with_op mid op other (extends.kept other held));
-  own = λ other held. go other (with_cases mid op other (subst (λ (s : OpSet). has_op s other ≡ true) gained held));
+  own = λ other held. go other (with-cases mid op other (subst (λ (s : OpSet). has_op s other ≡ true) gained held));
 }
   where
     go : (other : Op) → (op ≡ other) ⊎ (has_op mid other ≡ true) → (has_op old other ≡ true) ⊎ ((stamp_of other).site ≡ site)

@@ -11,8 +11,9 @@ use Rattle.std.specs.Map.{lookup}
 use Rattle.desk_ops.specs.declared.op.Op.{Op}
 use Rattle.desk_ops.specs.OpSet.{OpSet, has_op}
 use Rattle.desk_replica.specs.State.{State}
-use Rattle.std.proofs.lemmas.Bool.{true≢false, and_from}
+use Rattle.std.proofs.lemmas.Bool.{true≢false, and_from, and_parts, or_right}
 use Rattle.desk_ops.proofs.Stamps.{by_cases}
+use Rattle.desk_ops.proofs.Unions.{or-swap}
 use Rattle.desk_world.specs.Sites.{Sites, sites_of, is_held, all_held}
 use Rattle.desk_world.proofs.Sites.{get-sites_of}
 
@@ -20,11 +21,6 @@ abbrev by_order : {A : Type 0} → Ordering → A → A → A → A
 by_order Less a b c = a
 by_order Equal a b c = b
 by_order Greater a b c = c
-
-swap : (a b c : Bool) → (a || (b || c)) ≡ (b || (a || c))
-swap true true c = refl
-swap true false c = refl
-swap false b c = refl
 
 abbrev any_set : (OpSet → Bool) → List (ℕ × OpSet) → Bool
 any_set p xs = list_any p (map (λ e. e.1) xs)
@@ -38,7 +34,7 @@ any_put p k v (e ∷ es) none = at (λ h. any_put p k v es h) (nat_cmp k e.0) no
         → any_set p (by_order r ((k, v) ∷ e ∷ es) ((e.0, v) ∷ es) (e ∷ fin.put nat_cmp k v es)) ≡ (p v || (p e.1 || any_set p es))
     at rest Less h = refl
     at rest Equal h = absurd (let f : Some e.1 ≡ None = h in cc)
-    at rest Greater h = ap (λ b. p e.1 || b) (rest h) ∙ swap (p e.1) (p v) (any_set p es)
+    at rest Greater h = ap (λ b. p e.1 || b) (rest h) ∙ or-swap (p e.1) (p v) (any_set p es)
 
 none_in : (p : OpSet → Bool) (xs : List (ℕ × OpSet)) → length xs ≡ 0 → any_set p xs ≡ false
 none_in p [] e = refl
@@ -62,19 +58,11 @@ held_at es s op b distinct view is = is ∙ held_is (λ set. has_op set op) es d
 
 -- ---- all of a list at one of them
 
-and_both : (a b : Bool) → (a && b) ≡ true → (a ≡ true) × (b ≡ true)
-and_both true b h = (refl, h)
-and_both false b h = absurd (true≢false (sym h))
-
 any-weaker : (p q : State → Bool) (xs : List State) → ((x : State) → p x ≡ true → q x ≡ true) → list_any p xs ≡ true → list_any q xs ≡ true
 any-weaker p q [] f h = absurd (true≢false (sym h))
 any-weaker p q (x ∷ xs) f h = by_cases (p x)
     (λ e. ap (λ b. b || list_any q xs) (f x e))
-    (λ e. ap (λ b. q x || b) (any-weaker p q xs f (sym (ap (λ b. b || list_any p xs) e) ∙ h)) ∙ or-true (q x))
-  where
-    or-true : (a : Bool) → (a || true) ≡ true
-    or-true true = refl
-    or-true false = refl
+    (λ e. ap (λ b. q x || b) (any-weaker p q xs f (sym (ap (λ b. b || list_any p xs) e) ∙ h)) ∙ or_right (q x) true refl)
 
 pub one-holds_all : (es : List (ℕ × State)) (s : Sites) (ops : List Op) (b : Bool) → IsDistinct nat_eq (map (λ e. e.0) es) → sites_of es ≡ s → b ≡ list_any (λ t. list_all (has_op t.ops) ops) (map (λ e. e.1) es) → b ≡ true → all_held s ops ≡ true
 one-holds_all es s ops b distinct view is all = go ops (sym is ∙ all)
@@ -83,5 +71,5 @@ one-holds_all es s ops b distinct view is all = go ops (sym is ∙ all)
     go [] h = refl
     go (o ∷ os) h = and_from (is_held s o) (all_held s os)
         (sym (held_at es s o (list_any (λ t. has_op t.ops o) (map (λ e. e.1) es)) distinct view refl)
-        ∙ any-weaker (λ t. has_op t.ops o && list_all (has_op t.ops) os) (λ t. has_op t.ops o) (map (λ e. e.1) es) (λ t e. (and_both (has_op t.ops o) (list_all (has_op t.ops) os) e).0) h)
-        (go os (any-weaker (λ t. has_op t.ops o && list_all (has_op t.ops) os) (λ t. list_all (has_op t.ops) os) (map (λ e. e.1) es) (λ t e. (and_both (has_op t.ops o) (list_all (has_op t.ops) os) e).1) h))
+        ∙ any-weaker (λ t. has_op t.ops o && list_all (has_op t.ops) os) (λ t. has_op t.ops o) (map (λ e. e.1) es) (λ t e. (and_parts (has_op t.ops o) (list_all (has_op t.ops) os) e).0) h)
+        (go os (any-weaker (λ t. has_op t.ops o && list_all (has_op t.ops) os) (λ t. list_all (has_op t.ops) os) (map (λ e. e.1) es) (λ t e. (and_parts (has_op t.ops o) (list_all (has_op t.ops) os) e).1) h))

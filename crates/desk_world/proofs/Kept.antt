@@ -1,5 +1,6 @@
 -- Worlds that stay as they are kept, and what their events answer.
-use Rattle.std.proofs.Common.{◌||◌, ◌≡◌, ℕ, ◌+◌, ◌==◌, Bool, true, false, cond, List, [], map, length, refl, sym, ap, ◌∙◌, subst, nat_eq, arith, ◌≤◌, ◌<◌}
+use Rattle.std.proofs.Common.{◌≡◌, ℕ, ◌+◌, ◌==◌, Bool, true, false, cond, List, [], map, length, refl, sym, ap, ◌∙◌, subst, nat_eq, arith, ◌≤◌, ◌<◌}
+use Rattle.std.proofs.lemmas.Bool.{le-leb, lt-leb}
 use Rattle.std.proofs.lemmas.Bool.Decides.{nat_tests}
 use Rattle.std.specs.List.{IsDistinct}
 use Rattle.std.specs.Prelude.{All, Option, Some, None, Result, Ok, Err, option_map, is_some, IfSome, MatchOption, MatchBool, nat_le}
@@ -9,9 +10,8 @@ use Rattle.std.specs.Cmp.{nat_cmp_total}
 use Rattle.std.specs.Map.{lookup}
 use Rattle.desk_ops.specs.declared.op.Op.{Op}
 use Rattle.desk_ops.specs.Op.{IsLawful}
-use Rattle.desk_ops.specs.OpSet.{OpSet, no_ops, with_all, in_order, has_op, size, max_ops, AllLawful}
-use Rattle.desk_ops.specs.Order.{op_cmp}
-use Rattle.desk_ops.proofs.Unions.{same-set, has_op-union}
+use Rattle.desk_ops.specs.OpSet.{OpSet, no_ops, with_all, in_order, size, max_ops, AllLawful}
+use Rattle.desk_ops.proofs.Unions.{with_all-in_order}
 use Rattle.desk_held.specs.declared.AddRefusal.TheVariants as adds
 use Rattle.desk_replica.specs.declared.Stopped.{Stopped}
 use Rattle.desk_replica.specs.declared.Count.{Count}
@@ -29,12 +29,6 @@ use Rattle.desk_world.proofs.Gained.{gains_lawful, edits_lawful}
 
 same_number : (n q : ℕ) → nat_eq n q ≡ true → n ≡ q
 same_number n q e = grind (arith, nat_tests)
-
-le_true : (m n : ℕ) → m ≤ n → nat_le m n ≡ true
-le_true m n h = grind (arith, nat_tests)
-
-le_false : (m n : ℕ) → n < m → nat_le m n ≡ false
-le_false m n h = grind (arith, nat_tests)
 
 pub nothing_kept : IsKept []
 unfolding IsDistinct
@@ -109,10 +103,10 @@ pub len_is : (es : List (ℕ × State)) (s : Sites) → IsKept es → sites_of e
 len_is es s kept view = ap fin.len (sym view) ∙ kept.counted
 
 pub is_many : (es : List (ℕ × State)) (s : Sites) (k : ℕ) → IsKept es → sites_of es ≡ s → k ≡ length es → 16 ≤ k → nat_le 16 (fin.len s) ≡ true
-is_many es s k kept view is many = ap (nat_le 16) (len_is es s kept view ∙ sym is) ∙ le_true 16 k many
+is_many es s k kept view is many = ap (nat_le 16) (len_is es s kept view ∙ sym is) ∙ le-leb 16 k many
 
 pub is_few : (es : List (ℕ × State)) (s : Sites) (k : ℕ) → IsKept es → sites_of es ≡ s → k ≡ length es → k < 16 → nat_le 16 (fin.len s) ≡ false
-is_few es s k kept view is few = ap (nat_le 16) (len_is es s kept view ∙ sym is) ∙ le_false 16 k few
+is_few es s k kept view is few = ap (nat_le 16) (len_is es s kept view ∙ sym is) ∙ lt-leb 16 k few
 
 pub many_refused : (old : Sites) (n : ℕ) → (n == 0) ≡ false → fin.contains_key old n ≡ false → nat_le 16 (fin.len old) ≡ true → site_refusal old n ≡ Some refusals.TooManySites
 many_refused old n a b d = rw (a, b, d) refl
@@ -256,9 +250,5 @@ reopened es fs n r old view h = at (lookup (nat_eq n) es) refl h
         let set : fin.get old n ≡ Some s.ops = ap (λ m. fin.get m n) (sym view) ∙ get-sites_of es n ∙ ap (option_map (λ x. x.ops)) e in
         subst (ReopensTo old r (sites_of fs)) (sym set) (g.3, same_sites es fs n s g.0 g.1 g.2 ∙ view)
 
--- what a set holds, taken in anew
-pub anew : (set : OpSet) → with_all no_ops (in_order set) ≡ set
-anew set = same-set (with_all no_ops (in_order set)) set (λ q. has_op-union no_ops set q ∙ ap (λ b. b || has_op set q) (ap is_some (fin.get-empty op_cmp q)))
-
 pub only_full : (set : OpSet) (stop : Stopped) → (stop.why ≡ adds.Full → max_ops < size (with_all no_ops (in_order set))) → stop.why ≡ adds.Full → max_ops < size set
-only_full set stop full is = subst (λ g. max_ops < size g) (anew set) (full is)
+only_full set stop full is = subst (λ g. max_ops < size g) (with_all-in_order set) (full is)

@@ -1,32 +1,28 @@
 -- The union of the sites' sets: what it holds, and how it grows.
-use Rattle.std.proofs.Common.{◌≡◌, ℕ, Bool, true, false, cond, ◌||◌, List, [], ◌∷◌, map, refl, sym, ap, ◌∙◌, subst, ◌⊎◌, inl, inr, Some, ◌&&◌}
+use Rattle.std.proofs.Common.{◌≡◌, ℕ, Bool, true, false, cond, ◌||◌, List, [], ◌∷◌, map, refl, sym, ap, ◌∙◌, subst, ◌⊎◌, inl, inr, Some}
 use Rattle.std.specs.Option.{is_some, unwrap_or}
 use Rattle.std.specs.List.{list_any}
 use Rattle.std.specs.Ordering.{nat_cmp, eq_by_cmp, is_eq, is_lt}
-use Rattle.std.specs.Cmp.{nat_cmp_total}
+use Rattle.std.specs.Cmp.{first_so, nat_cmp_total, second_so}
 use Rattle.std.specs.FinMap as fin
 use Rattle.std.specs.FinMap.Entries.{is_sorted, below_all}
 use Rattle.std.specs.FinSet.{nat_cmp-IsAntisymmetric}
-use Rattle.std.proofs.lemmas.Bool.{true≢false}
+use Rattle.std.proofs.lemmas.Bool.{true≢false, or_right}
 use Rattle.std.proofs.lemmas.Cmp.{tied_itself}
 use Rattle.desk_ops.specs.declared.op.Op.{Op}
 use Rattle.desk_ops.specs.Op.{IsLawful}
-use Rattle.desk_ops.specs.Order.{op_cmp}
-use Rattle.desk_ops.specs.OpSet.{OpSet, no_ops, has_op, in_order, AllLawful}
-use Rattle.desk_ops.proofs.Stamps.{by_cases}
+use Rattle.desk_ops.specs.OpSet.{OpSet, has_op, in_order, AllLawful}
+use Rattle.desk_ops.proofs.Stamps.{by_cases, is_equal}
 use Rattle.desk_ops.proofs.Lists.{each-among, each-from_among}
 use Rattle.desk_ops.proofs.Means.{of-T}
-use Rattle.desk_ops.proofs.Stamps.{is_equal as equal}
+use Rattle.desk_ops.proofs.OpSets.{none-held}
 use Rattle.desk_ops.proofs.Ends.{among_held, held_among}
 use Rattle.desk_ops.proofs.Unions.{has_op-union}
 use Rattle.desk_world.specs.Sites.{Sites, is_held}
 use Rattle.desk_world.specs.Honest.{union_of, all_ops, IsHeldAt}
 
-holds_none : (op : Op) → has_op no_ops op ≡ false
-holds_none op = ap is_some (fin.get-empty op_cmp op)
-
 union_holds : (sets : List OpSet) (op : Op) → has_op (union_of sets) op ≡ list_any (λ set. has_op set op) sets
-union_holds [] op = holds_none op
+union_holds [] op = none-held op
 union_holds (set ∷ sets) op = has_op-union set (union_of sets) op ∙ ap (λ b. has_op set op || b) (union_holds sets op)
 
 -- the union holds what some site holds
@@ -34,10 +30,6 @@ pub all_held_by : (sites : Sites) (op : Op) → has_op (all_ops sites) op ≡ is
 all_held_by sites op = union_holds (fin.values sites) op
 
 -- ---- entries
-
-or-true : (a : Bool) → (a || true) ≡ true
-or-true true = refl
-or-true false = refl
 
 some-set : (h g : OpSet) → Some h ≡ Some g → h ≡ g
 some-set h g e = ap (λ r. unwrap_or r h) e
@@ -47,38 +39,30 @@ found-any p n set [] f h = absurd (true≢false (sym (ap is_some f)))
 found-any p n set (e ∷ es) f h =
     by_cases (is_eq (nat_cmp n e.0))
     (λ k. ap (λ b. b || list_any p (map (λ (e : ℕ × OpSet). e.1) es)) (ap p (some-set e.1 set (sym (ap (λ b. cond b (Some e.1) (fin.find nat_cmp n es)) k) ∙ f)) ∙ h))
-    (λ k. ap (λ b. p e.1 || b) (found-any p n set es (sym (ap (λ b. cond b (Some e.1) (fin.find nat_cmp n es)) k) ∙ f) h) ∙ or-true (p e.1))
-
-both-left : (a b : Bool) → (a && b) ≡ true → a ≡ true
-both-left true b e = refl
-both-left false b e = e
-
-both-right : (a b : Bool) → (a && b) ≡ true → b ≡ true
-both-right true b e = e
-both-right false b e = absurd (true≢false (sym e))
+    (λ k. ap (λ b. p e.1 || b) (found-any p n set es (sym (ap (λ b. cond b (Some e.1) (fin.find nat_cmp n es)) k) ∙ f) h) ∙ or_right (p e.1) true refl)
 
 -- what is found further on has a greater number
 found-above : (k n : ℕ) (set : OpSet) (es : List (ℕ × OpSet)) → below_all nat_cmp k es ≡ true → fin.find nat_cmp n es ≡ Some set → is_lt (nat_cmp k n) ≡ true
 found-above k n set [] b f = absurd (true≢false (sym (ap is_some f)))
 found-above k n set (e ∷ es) b f =
     by_cases (is_eq (nat_cmp n e.0))
-    (λ t. subst (λ m. is_lt (nat_cmp k m) ≡ true) (sym (nat_cmp-IsAntisymmetric n e.0 (equal (nat_cmp n e.0) t))) (both-left (is_lt (nat_cmp k e.0)) (below_all nat_cmp k es) b))
-    (λ t. found-above k n set es (both-right (is_lt (nat_cmp k e.0)) (below_all nat_cmp k es) b) (sym (ap (λ b. cond b (Some e.1) (fin.find nat_cmp n es)) t) ∙ f))
+    (λ t. subst (λ m. is_lt (nat_cmp k m) ≡ true) (sym (nat_cmp-IsAntisymmetric n e.0 (is_equal (nat_cmp n e.0) t))) (first_so (is_lt (nat_cmp k e.0)) (below_all nat_cmp k es) b))
+    (λ t. found-above k n set es (second_so (is_lt (nat_cmp k e.0)) (below_all nat_cmp k es) b) (sym (ap (λ b. cond b (Some e.1) (fin.find nat_cmp n es)) t) ∙ f))
 
 any-found : (p : OpSet → Bool) (es : List (ℕ × OpSet)) → is_sorted nat_cmp es ≡ true → list_any p (map (λ (e : ℕ × OpSet). e.1) es) ≡ true → (n : ℕ) × (set : OpSet) × (fin.find nat_cmp n es ≡ Some set) × (p set ≡ true)
 any-found p [] up h = absurd (true≢false (sym h))
 any-found p (e ∷ es) up h =
     by_cases (p e.1)
     (λ k. (e.0, e.1, ap (λ b. cond b (Some e.1) (fin.find nat_cmp e.0 es)) (ap is_eq (tied_itself nat_cmp_total e.0)), k))
-    (λ k. later (any-found p es (both-right (below_all nat_cmp e.0 es) (is_sorted nat_cmp es) up) (sym (ap (λ b. b || list_any p (map (λ (e : ℕ × OpSet). e.1) es)) k) ∙ h)))
+    (λ k. later (any-found p es (second_so (below_all nat_cmp e.0 es) (is_sorted nat_cmp es) up) (sym (ap (λ b. b || list_any p (map (λ (e : ℕ × OpSet). e.1) es)) k) ∙ h)))
   where
     apart : (n : ℕ) → is_lt (nat_cmp e.0 n) ≡ true → is_eq (nat_cmp n e.0) ≡ false
     apart n l = by_cases (is_eq (nat_cmp n e.0))
-        (λ t. absurd (true≢false (sym l ∙ ap is_lt (ap (nat_cmp e.0) (nat_cmp-IsAntisymmetric n e.0 (equal (nat_cmp n e.0) t)) ∙ tied_itself nat_cmp_total e.0))))
+        (λ t. absurd (true≢false (sym l ∙ ap is_lt (ap (nat_cmp e.0) (nat_cmp-IsAntisymmetric n e.0 (is_equal (nat_cmp n e.0) t)) ∙ tied_itself nat_cmp_total e.0))))
         (λ t. t)
 
     later : ((n : ℕ) × (set : OpSet) × (fin.find nat_cmp n es ≡ Some set) × (p set ≡ true)) → (n : ℕ) × (set : OpSet) × (fin.find nat_cmp n (e ∷ es) ≡ Some set) × (p set ≡ true)
-    later r = (r.0, r.1, ap (λ b. cond b (Some e.1) (fin.find nat_cmp r.0 es)) (apart r.0 (found-above e.0 r.0 r.1 es (both-left (below_all nat_cmp e.0 es) (is_sorted nat_cmp es) up) r.2)) ∙ r.2, r.3)
+    later r = (r.0, r.1, ap (λ b. cond b (Some e.1) (fin.find nat_cmp r.0 es)) (apart r.0 (found-above e.0 r.0 r.1 es (first_so (below_all nat_cmp e.0 es) (is_sorted nat_cmp es) up) r.2)) ∙ r.2, r.3)
 
 -- ---- members
 
@@ -108,7 +92,7 @@ module _ (old : Sites) (n : ℕ) (after : OpSet) where
   get_apart m e = fin.get-insert nat_cmp_total old n after m ∙ ap (λ b. cond b (Some after) (fin.get old m)) e
 
   same_number : (m : ℕ) → eq_by_cmp nat_cmp m n ≡ true → m ≡ n
-  same_number m e = nat_cmp-IsAntisymmetric m n (equal (nat_cmp m n) e)
+  same_number m e = nat_cmp-IsAntisymmetric m n (is_equal (nat_cmp m n) e)
 
   pub held_new : (op : Op) → has_op after op ≡ true → IsHeldAt (fin.insert old n after) n op
   held_new op k = (after, get_same n (ap is_eq (tied_itself nat_cmp_total n)), k)

@@ -1,9 +1,10 @@
 -- What events leave of an honest world, and what it says of a site.
-use Rattle.std.proofs.Common.{◌≡◌, ℕ, zero, suc, ◌==◌, Bool, true, false, ◌&&◌, List, [], ◌∷◌, refl, sym, ap, ◌∙◌, subst, ◌⊎◌, inl, inr}
+use Rattle.std.proofs.Common.{◌≡◌, ℕ, zero, suc, ◌==◌, Bool, true, false, List, [], ◌∷◌, refl, sym, ap, ◌∙◌, subst, ◌⊎◌, inl, inr}
 use Rattle.std.specs.Prelude.{Option, Some, None, Result, Ok, Err, MatchOption, MatchBool, IfSome, option_map}
 use Rattle.std.specs.Option.{is_some, unwrap_or}
 use Rattle.std.specs.Borrow.{Bor}
 use Rattle.std.specs.FinMap as fin
+use Rattle.std.specs.Cmp.{first_so, second_so}
 use Rattle.std.specs.Ordering.{nat_cmp}
 use Rattle.std.proofs.lemmas.Bool.{true≢false}
 use Rattle.desk_ops.specs.declared.op.Stamp.{Stamp}
@@ -18,7 +19,8 @@ use Rattle.desk_ops.specs.Shown.{shown_of}
 use Rattle.desk_ops.specs.Faults.{faults_of}
 use Rattle.desk_ops.proofs.Stamps.{by_cases}
 use Rattle.desk_ops.proofs.One.{one_order}
-use Rattle.desk_ops.proofs.Parts.{one_unforked, place_live, waits, whole}
+use Rattle.desk_ops.proofs.Faulty.{none-some}
+use Rattle.desk_ops.proofs.Parts.{one_unforked, place_live, some-stamp, waits, whole}
 use Rattle.desk_replica.specs.declared.Count.{Count}
 use Rattle.desk_replica.specs.State.{State}
 use Rattle.desk_replica.specs.Edits.{new_stamp, parent_at, stamp_at}
@@ -37,9 +39,6 @@ use Rattle.desk_world.proofs.Kept.{known_refused}
 use Rattle.desk_world.proofs.Members.{at_all, all_at, all_held_by, all_lawful}
 use Rattle.desk_world.proofs.Honest.{honest_gained, honest_made}
 
-none_is : {A B : Type 0} (x : A) → None ≡ Some x → B
-none_is x e = absurd (true≢false (sym (ap is_some e)))
-
 lawful_of : (sites : Sites) → AreLawful sites → (n : ℕ) (set : OpSet) → fin.get sites n ≡ Some set → AllLawful set
 lawful_of sites lawful n set at = subst (λ o. IfSome o AllLawful) at (lawful n)
 
@@ -56,14 +55,14 @@ honest_none = record {
     nothing o k = go (all_at no_sites o k)
       where
         go : (n : ℕ) × IsHeldAt no_sites n o → ⊥
-        go r = let h : IsHeldAt no_sites r.0 o = r.1 in none_is h.0 (sym (fin.get-empty nat_cmp r.0) ∙ h.1)
+        go r = let h : IsHeldAt no_sites r.0 o = r.1 in none-some h.0 (sym (fin.get-empty nat_cmp r.0) ∙ h.1)
 
 -- ---- a site that is added
 
 free_number : (old : Sites) (n : ℕ) → site_refusal old n ≡ None → (set : OpSet) → fin.get old n ≡ Some set → ⊥
 free_number old n free set at = by_cases (n == 0)
-    (λ z. none_is refusals.Number (sym free ∙ zero_refused z))
-    (λ z. none_is refusals.KnownSite (sym free ∙ known_refused old n z (ap is_some at)))
+    (λ z. none-some refusals.Number (sym free ∙ zero_refused z))
+    (λ z. none-some refusals.KnownSite (sym free ∙ known_refused old n z (ap is_some at)))
   where
     zero_refused : (n == 0) ≡ true → site_refusal old n ≡ Some refusals.Number
     zero_refused z = rw z refl
@@ -82,16 +81,8 @@ honest_adds old new n (Err why) honest free h = subst IsHonest (sym h.1) honest
 
 all_of_held : (sites : Sites) (ops : List Op) → all_held sites ops ≡ true → (op : Op) → Among op ops → is_held sites op ≡ true
 all_of_held sites [] h op m = absurd m
-all_of_held sites (o ∷ ops) h op (inl e) = subst (λ p. is_held sites p ≡ true) e (left (is_held sites o) (all_held sites ops) h)
-  where
-    left : (a b : Bool) → (a && b) ≡ true → a ≡ true
-    left true b e = refl
-    left false b e = e
-all_of_held sites (o ∷ ops) h op (inr m) = all_of_held sites ops (right (is_held sites o) (all_held sites ops) h) op m
-  where
-    right : (a b : Bool) → (a && b) ≡ true → b ≡ true
-    right true b e = e
-    right false b e = absurd (true≢false (sym e))
+all_of_held sites (o ∷ ops) h op (inl e) = subst (λ p. is_held sites p ≡ true) e (first_so (is_held sites o) (all_held sites ops) h)
+all_of_held sites (o ∷ ops) h op (inr m) = all_of_held sites ops (second_so (is_held sites o) (all_held sites ops) h) op m
 
 pub honest_brings : (old new : Sites) (n : ℕ) (ops : List Op) (r : Result Count StepRefusal) → IsHonest old → all_held old ops ≡ true → Brings old n ops r new → IsHonest new
 honest_brings old new n ops r honest held h = at (fin.get old n) refl h
@@ -115,9 +106,6 @@ parent_live : (set : OpSet) (n place : ℕ) → (parent_at (shown_of set) place 
 parent_live set n zero = inl refl
 parent_live set n (suc i) = place_live set i
 
-some-stamp : (s t : Stamp) → Some s ≡ Some t → s ≡ t
-some-stamp s t e = ap (λ q. unwrap_or q s) e
-
 -- the operation made bears the site's next stamp, is lawful, and hangs on the head or on what is shown
 edited : (n : ℕ) (set after : OpSet) (edit : LocalEdit) (op : Op) → IsEdited (site_with n set) (site_with n after) edit op
     → (stamp_of op ≡ new_stamp (site_with n set)) × IsLawful op × (after ≡ with_op set op) × Hangs set op
@@ -129,7 +117,7 @@ edited n set after (kinds.Delete place) op e = (ap stamp_of e.is, e.lawful, e.ga
   where
     hangs : Hangs set op
     hangs t k = subst (λ (s : Stamp). (s ≡ head) ⊎ IsOfLiveInsert set s) (some-stamp (stamp_at (shown_of set) place) t (sym (ap target_of e.is) ∙ k)) (place_live set place)
-edited n set after (kinds.Set key value) op e = (ap stamp_of e.is, e.lawful, e.gained, λ t k. none_is t (sym (ap target_of e.is) ∙ k))
+edited n set after (kinds.Set key value) op e = (ap stamp_of e.is, e.lawful, e.gained, λ t k. none-some t (sym (ap target_of e.is) ∙ k))
 
 honest_edits : (old new : Sites) (n : ℕ) (edit : LocalEdit) (r : Result Answer StepRefusal) → IsHonest old → AreLawful old → EditsSite old n edit r new → IsHonest new
 honest_edits old new n edit r honest lawful h = at (fin.get old n) refl h

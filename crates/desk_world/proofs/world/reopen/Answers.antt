@@ -1,11 +1,12 @@
 use Rattle.std.proofs.Common.{◌<◌, refl, ap, subst, ◌∙◌}
 use Rattle.std.proofs.lemmas.Result.{err_from_is_err_and}
 use Rattle.desk_ops.specs.OpSet.{no_ops, with_all, size, max_ops}
-use Rattle.desk_world.proofs.Kept.{anew, only_full}
+use Rattle.desk_ops.proofs.Unions.{with_all-in_order}
+use Rattle.desk_world.proofs.Kept.{only_full}
 use Rattle.desk_world.proofs.world.reopen.Goals as goal
 
 pub returns-clause-ops : goal.returns-clause-ops
-returns-clause-ops g c = c.in_ok-anew.ensures.ops ∙ ap (with_all no_ops) (c.deref.ensures.value ∙ c.in-Ok.ensures.items) ∙ anew c.args.replica.now.ops
+returns-clause-ops g c = c.in_ok-anew.ensures.ops ∙ ap (with_all no_ops) (c.deref.ensures.value ∙ c.in-Ok.ensures.items) ∙ with_all-in_order c.args.replica.now.ops
 
 pub returns-in_err-anew-clause-answer : goal.returns-in_err-anew-clause-answer
 returns-in_err-anew-clause-answer g c =
