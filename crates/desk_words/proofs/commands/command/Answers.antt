@@ -1,10 +1,8 @@
 use Rattle.std.proofs.Common.{◌≡◌, ap, ap₂, ◌∙◌}
-use Rattle.clap.specs.Words.{App, Shape, app_of, with_subcommand}
+use Rattle.clap.specs.Words.{app_of, with_subcommand}
 use Rattle.desk_words.specs.Words.{with_correcting, with_version}
+use Rattle.desk_words.proofs.Shapes.{top_of}
 use Rattle.desk_words.proofs.commands.command.Goals as goal
-
-abbrev top_of : App → Shape
-top_of a = a.top
 
 pub returns-clause-app : goal.returns-clause-app
 returns-clause-app c =

@@ -1,11 +1,9 @@
 use Rattle.std.proofs.Common.{◌≡◌, ap, ap₂, ◌∙◌}
 use Rattle.std.proofs.lemmas.Result.{IfOk-weaker}
-use Rattle.clap.specs.Words.{App, Shape, app_of, with_subcommand}
+use Rattle.clap.specs.Words.{app_of, with_subcommand}
 use Rattle.desk_words.specs.Words.{no_subcommand}
+use Rattle.desk_words.proofs.Shapes.{top_of}
 use Rattle.desk_words.proofs.commands.correcting.Goals as goal
-
-abbrev top_of : App → Shape
-top_of a = a.top
 
 pub returns : goal.returns
 returns c =
