@@ -17,6 +17,7 @@ use Rattle.desk_ops.proofs.Ends.{among_held, held_among}
 use Rattle.desk_ops.proofs.Lists.{among-filter, among-filter_from}
 use Rattle.desk_ops.proofs.OpSets.{has_op-from_rising, in_order-from_rising}
 use Rattle.desk_codec.specs.Runs.{is_among}
+use Rattle.desk_walk.proofs.Lists.{among-map}
 use Rattle.desk_difference.specs.declared.alone.SiteStamp.{SiteStamp}
 use Rattle.desk_difference.specs.Alone.{AreAlone, IsAlone, alone, site_cmp, site_stamp}
 
@@ -54,11 +55,6 @@ among_at (y ∷ ys) x (inr m) = let c = among_at ys x m in (suc c.0, omega (arit
 
 -- ---- what is among the stamps of operations
 
-among_map : {A B : Type 0} (f : A → B) (xs : List A) (y : B) → Among y (map f xs) → (x : A) × Among x xs × (f x ≡ y)
-among_map f [] y m = absurd m
-among_map f (x ∷ xs) y (inl e) = (x, inl refl, e)
-among_map f (x ∷ xs) y (inr m) = let r = among_map f xs y m in (r.0, inr r.1, r.2)
-
 among_map_from : {A B : Type 0} (f : A → B) (xs : List A) (x : A) (y : B) → Among x xs → f x ≡ y → Among y (map f xs)
 among_map_from f [] x y m e = absurd m
 among_map_from f (z ∷ xs) x y (inl h) e = inl (ap f h ∙ e)
@@ -75,7 +71,7 @@ alone_told one other stamp first second = (there, back)
   where
     there : Among stamp (map site_stamp (alone one other)) → IsAlone (from_rising one) (from_rising other) stamp
     there m =
-        let r = among_map site_stamp (alone one other) stamp m in
+        let r = among-map site_stamp (alone one other) stamp m in
         let f = among-filter (λ (op : Op). not (is_among op other)) one r.0 r.1 in
         (r.0, held_in one r.0 first f.0, has_op-from_rising other r.0 second ∙ not-true (is_among r.0 other) f.1, r.2)
 
