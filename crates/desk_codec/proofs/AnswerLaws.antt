@@ -11,7 +11,7 @@ use Rattle.desk_codec.specs.declared.fault.ReadFault.TheVariants.{Fault, Failed,
 use Rattle.desk_codec.specs.Spelling.{IsHeld}
 use Rattle.desk_codec.specs.Feed.{IsFeed}
 use Rattle.desk_codec.specs.Fault.{IsFirstFault}
-use Rattle.desk_codec.specs.Reading.{Tells, Answers}
+use Rattle.desk_codec.specs.Reading.{Reports, Answers}
 use Rattle.desk_codec.specs.Pieces.{Reader, fresh, Takes, RefusesEnd}
 use Rattle.desk_codec.proofs.PieceLaws.{end_fault}
 use Rattle.desk_codec.proofs.Grammar.{one_list, one_feed}
@@ -23,14 +23,14 @@ done ops = Ok ops
 failed : FeedFault → Result (List Op) FeedFault
 failed fault = Err fault
 
-pub answers_list : {V : Type 0} (view : V → List Op) (bytes : List ℕ) (r : Result V ReadFault) → IfOk r (λ v. IsFeed bytes (view v)) → IfErr r (λ fault. Tells bytes fault) → (ops : List Op) → IsFeed bytes ops → Answers view r (Ok ops)
+pub answers_list : {V : Type 0} (view : V → List Op) (bytes : List ℕ) (r : Result V ReadFault) → IfOk r (λ v. IsFeed bytes (view v)) → IfErr r (λ fault. Reports bytes fault) → (ops : List Op) → IsFeed bytes ops → Answers view r (Ok ops)
 unfolding done
 answers_list view bytes (Ok v) f g ops h = ap done (one_list bytes ops (view v) h f)
 answers_list view bytes (Err (Fault fault)) f g ops h = absurd (not_both bytes ops fault h g)
 answers_list view bytes (Err Failed) f g ops h = absurd g
 answers_list view bytes (Err NoMemory) f g ops h = tt
 
-pub answers_fault : {V : Type 0} (view : V → List Op) (bytes : List ℕ) (r : Result V ReadFault) → IfOk r (λ v. IsFeed bytes (view v)) → IfErr r (λ fault. Tells bytes fault) → (fault : FeedFault) → IsFirstFault bytes fault → Answers view r (Err fault)
+pub answers_fault : {V : Type 0} (view : V → List Op) (bytes : List ℕ) (r : Result V ReadFault) → IfOk r (λ v. IsFeed bytes (view v)) → IfErr r (λ fault. Reports bytes fault) → (fault : FeedFault) → IsFirstFault bytes fault → Answers view r (Err fault)
 unfolding failed
 answers_fault view bytes (Ok v) f g fault h = absurd (not_both bytes (view v) fault f h)
 answers_fault view bytes (Err (Fault told)) f g fault h = ap failed (one_fault bytes fault told h g)
@@ -47,7 +47,7 @@ all_lawful view bytes (Err fault) f = tt
 
 -- ---- one piece of all bytes
 
-pub tells_end : (bytes : List ℕ) (ops : List Op) (fault : ReadFault) (s : Reader) → Takes fresh bytes ops s → RefusesEnd s fault → Tells bytes fault
-tells_end bytes ops (Fault fault) s t h = end_fault bytes ops s fault t h
-tells_end bytes ops Failed s t h = let e = t.answers_on in absurd cc
-tells_end bytes ops NoMemory s t h = absurd h
+pub reports_end : (bytes : List ℕ) (ops : List Op) (fault : ReadFault) (s : Reader) → Takes fresh bytes ops s → RefusesEnd s fault → Reports bytes fault
+reports_end bytes ops (Fault fault) s t h = end_fault bytes ops s fault t h
+reports_end bytes ops Failed s t h = let e = t.answers_on in absurd cc
+reports_end bytes ops NoMemory s t h = absurd h

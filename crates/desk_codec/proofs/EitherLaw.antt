@@ -15,7 +15,7 @@ use Rattle.desk_codec.specs.Spelling.{size_of_kind, stamp_spelling, spelling, Is
 use Rattle.desk_codec.specs.Items.{Item, One, Run, symbol_spelling, item_spelling}
 use Rattle.desk_codec.specs.Feed.{magic_of, HasRuns, IsRunLength, Stands, Spells, ops_in, IsFeed}
 use Rattle.desk_codec.specs.Fault.{bytes_of, Mark, mark_of, mark_bytes, OneOf, IsWrong, IsFirstFault}
-use Rattle.desk_codec.specs.Laws.{Fronts, FeedOrFault}
+use Rattle.desk_codec.specs.Laws.{ItemOrFault, FeedOrFault}
 use Rattle.desk_codec.proofs.Numbers.{IsBytes}
 use Rattle.desk_codec.proofs.FieldLaws.{bytes_of-fields}
 use Rattle.desk_codec.proofs.ItemLaws.{symbols_bytes, item_length}
@@ -23,7 +23,7 @@ use Rattle.desk_codec.proofs.HereLaws.{FieldsHere, stamp_here, insert_here, dele
 use Rattle.desk_codec.proofs.FaultLaws.{not_both, one_fault, fronts_not_both, wrong_once}
 use Rattle.desk_codec.proofs.PieceLaws.{short_magic}
 
--- ---- an item at the front, or something wrong
+-- ---- an item at the start, or something wrong
 
 record ItemHere (form : FeedForm) (bytes : List ℕ) : Type 0 where
   item : Item
@@ -71,7 +71,7 @@ front_of form k size bytes e make =
       | inr long ↦ from_fields form (k ∷ bytes) (make long)
     ]
 
--- ---- a run at the front, or something wrong
+-- ---- a run at the start, or something wrong
 
 record FrontHere (bytes : List ℕ) : Type 0 where
   stamp : Stamp
@@ -259,8 +259,8 @@ each_front : (form : FeedForm) (bytes : List ℕ) → IsFront form bytes → ((i
 each_front form bytes (inl h) = inl (h.item, h.stands, (h.rest, h.front))
 each_front form bytes (inr h) = inr h
 
-pub fronts : Fronts
-fronts = record {
+pub item_or_fault : ItemOrFault
+item_or_fault = record {
   either = λ form bytes all some. each_front form bytes (front form bytes (all_bytes bytes all) some);
   not_both = fronts_not_both;
   one = wrong_once;

@@ -36,7 +36,7 @@ append_tail (a ∷ xs) (b ∷ bs) x y n e =
     let rest : xs ++ x ≡ bs ++ y = cc in
     append_tail xs bs x y (omega (arith, n)) rest
 
--- a run's front has one count
+-- a run's prefix has one count
 pub one_count : (bytes : List ℕ) (m n : ℕ) (x y : List ℕ) → BeginsRun bytes m x → BeginsRun bytes n y → (m ≡ n) × (x ≡ y)
 one_count bytes m n x y f g =
     let both : 4 ∷ f.stamps ++ m ∷ x ≡ 4 ∷ g.stamps ++ n ∷ y = sym f.front ∙ g.front in
@@ -55,7 +55,7 @@ begins_length bytes count rest h =
 pub run_begins : (bytes : List ℕ) (s p : Stamp) (marks : List Mark) (rest : List ℕ) → bytes ≡ item_bytes (RunOf s p marks) ++ rest → BeginsRun bytes (length marks) (flat_map mark_bytes marks ++ rest)
 run_begins bytes s p marks rest e = record { stamps = stamp_spelling s ++ stamp_spelling p; twenty = refl; front = e }
 
--- ---- what stands at the front is one thing
+-- ---- what stands at the start is one thing
 
 fields_sized : (f : Fields) (rest t : List ℕ) (k : ℕ) → bytes_of f ++ rest ≡ k ∷ t → size_of_kind k ≡ Some (length (bytes_of f))
 fields_sized (Insert s p y c) rest t k e = let one : 1 ≡ k = cc in subst (λ (n : ℕ). size_of_kind n ≡ Some 26) one refl

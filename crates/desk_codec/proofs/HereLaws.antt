@@ -1,4 +1,4 @@
--- The fields of an operation and of a run stand at the front of bytes enough, and are lawful or have a cause.
+-- The fields of an operation and of a run stand at the start of bytes enough, and are lawful or have a cause.
 use Rattle.std.proofs.Common.{◌≡◌, ℕ, zero, suc, ◌+◌, ◌*◌, ◌^◌, ◌<◌, ◌≤◌, ◌==◌, Bool, true, false, cond, not, List, [], ◌∷◌, ◌++◌, length, map, get_or, take, drop, Option, Some, None, Result, Ok, Err, refl, sym, ap, subst, ◌∙◌, ◌⊎◌, inl, inr, length-append, arith}
 use Rattle.std.specs.Int.{w16, w32, w64, to_be_bytes, from_be_bytes}
 use Rattle.std.specs.List.{flat_map, AllByRecursion}
@@ -28,7 +28,7 @@ use Rattle.desk_codec.specs.Fault.{fields_of, bytes_of, AreValues, style_of, key
 use Rattle.desk_codec.proofs.Numbers.{IsBytes, IsBytes-drop, IsBytes-take, number_there_4, stamp_there}
 use Rattle.desk_codec.proofs.FieldLaws.{insert_back, set_back, held_cause}
 
--- ---- fields stand at the front of bytes enough
+-- ---- fields stand at the start of bytes enough
 
 below_2 : (bytes : List ℕ) → IsBytes bytes → from_be_bytes w16 bytes < 2 ^ 16
 below_2 bytes fits = omega (arith, fits 0, fits 1)
@@ -246,7 +246,7 @@ run_judged (mark ∷ marks) stamp parent s p h =
           ]
     ]
 
--- ---- the symbols of a run stand at the front of bytes enough
+-- ---- the symbols of a run stand at the start of bytes enough
 
 pub rest_bytes : (bytes front rest : List ℕ) → IsBytes bytes → bytes ≡ front ++ rest → IsBytes rest
 rest_bytes bytes front rest fits e i = let h = fits (length front + i) in rw (ap (λ (l : List ℕ). get_or l (length front + i) 0) e ∙ get_or-append-add front rest i 0) at h
@@ -273,9 +273,9 @@ marks_here (suc count) bytes fits long =
     let rest : IsBytes n.rest = rest_bytes bytes (n.byte ∷ to_be_bytes w32 n.number) n.rest fits n.front in
     mark_before count bytes n.rest n.byte n.number n.byte_value n.value n.front (marks_here count n.rest rest (omega (arith, len, long)))
 
--- ---- the front of a run and its symbols are a run, or one that is not lawful
+-- ---- the prefix of a run and its symbols are a run, or one that is not lawful
 
--- the front of a run
+-- the prefix of a run
 pub begins : (bytes : List ℕ) (stamp parent : Stamp) (count : ℕ) (body : List ℕ) → bytes ≡ 4 ∷ stamp_spelling stamp ++ stamp_spelling parent ++ count ∷ body → BeginsRun bytes count body
 begins bytes stamp parent count body e = record { stamps = stamp_spelling stamp ++ stamp_spelling parent; twenty = refl; front = e }
 

@@ -26,7 +26,7 @@ stamp_same s t x y p q e =
     let d = number_same_2 s.site t.site x y p.1 q.1 c.1 in
     (stamp_exact s t c.0 d.0, d.1)
 
--- ---- numbers at the front of bytes
+-- ---- numbers at the start of bytes
 
 abbrev pub IsBytes : List ℕ → Type 0
 IsBytes bytes = (i : ℕ) → get_or bytes i 0 < 256

@@ -86,7 +86,7 @@ goes_astray form place bytes fault wrong whole =
 pub holds_more : (form : FeedForm) (bytes : List ℕ) → 16 ≤ length bytes → MayHoldMore (Some form) bytes
 holds_more form bytes long = record { form = form; body = bytes; split = refl; long = long }
 
--- ---- an item whose front was kept
+-- ---- an item whose prefix was kept
 
 front_of : (kept end front rest : List ℕ) → length front ≤ length kept → kept ++ end ≡ front ++ rest → kept ≡ front ++ drop (length front) kept
 front_of kept end [] rest le e = refl
@@ -97,7 +97,7 @@ front_of (k ∷ kept) end (f ∷ front) rest le e =
     let rest_is = front_of kept end front rest (omega (arith, le)) others in
     ap (λ (l : List ℕ). k ∷ l) rest_is ∙ ap (λ (n : ℕ). n ∷ front ++ drop (length front) kept) first
 
--- the front is shorter than the item
+-- the prefix is shorter than the item
 cut_shorter : (form : FeedForm) (kept end rest : List ℕ) (item : Item) → IsCut form kept → Stands form item → kept ++ end ≡ item_spelling item ++ rest → length kept < length (item_spelling item)
 cut_shorter form kept end rest item cut stands e =
     elim (cases_lt (length kept) (length (item_spelling item))) [

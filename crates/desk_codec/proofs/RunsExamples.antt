@@ -4,7 +4,7 @@ use Rattle.desk_ops.specs.declared.op.Op.{Op}
 use Rattle.desk_ops.specs.declared.op.Style.TheVariants.{Roman}
 use Rattle.desk_ops.specs.declared.op.Symbol.{Symbol}
 use Rattle.desk_ops.specs.Stamp.{same, head}
-use Rattle.desk_ops.specs.Rows.{at, typed}
+use Rattle.desk_ops.specs.Worked.{at, typed}
 use Rattle.desk_codec.specs.Items.{One, Run}
 use Rattle.desk_codec.specs.Runs.{chain, item_at, items_from, items, runs_feed}
 

@@ -134,7 +134,7 @@ item_cause (RunOf stamp parent marks) = run_cause stamp parent marks
 
 -- ---- faults
 
--- the byte at the front begins no item of the form
+-- the byte at the start begins no item of the form
 pub record HasNoKind (form : FeedForm) (bytes : List ℕ) : Type 0 where
   pub kind : ℕ
   pub rest : List ℕ
@@ -142,7 +142,7 @@ pub record HasNoKind (form : FeedForm) (bytes : List ℕ) : Type 0 where
   pub none : size_of_kind kind ≡ None
   pub no_run : HasRuns form → kind ≡ 4 → ⊥
 
--- the front of a run: its kind, the twenty bytes of its two stamps, and its count
+-- the prefix of a run: its kind, the twenty bytes of its two stamps, and its count
 pub record BeginsRun (bytes : List ℕ) (count : ℕ) (rest : List ℕ) : Type 0 where
   pub stamps : List ℕ
   pub twenty : length stamps ≡ 20
@@ -156,7 +156,7 @@ pub record IsNoRun (form : FeedForm) (bytes : List ℕ) : Type 0 where
   pub front : BeginsRun bytes count rest
   pub out : IsRunLength count → ⊥
 
--- the byte at the front begins an operation, and the bytes end inside it
+-- the byte at the start begins an operation, and the bytes end inside it
 pub record IsCutOp (bytes : List ℕ) : Type 0 where
   pub kind : ℕ
   pub rest : List ℕ
@@ -185,7 +185,7 @@ pub record IsCutRun (form : FeedForm) (bytes : List ℕ) : Type 0 where
 abbrev pub IsCut : FeedForm → List ℕ → Type 0
 IsCut form bytes = IsCutOp bytes ⊎ (IsCutFront form bytes ⊎ IsCutRun form bytes)
 
--- the bytes of an item's fields stand at the front, and this is the first cause why they are not lawful
+-- the bytes of an item's fields stand at the start, and this is the first cause why they are not lawful
 pub record IsUnlawful (form : FeedForm) (bytes : List ℕ) (first : Unlawful) : Type 0 where
   pub fields : ItemFields
   pub values : AreItemValues fields
@@ -194,7 +194,7 @@ pub record IsUnlawful (form : FeedForm) (bytes : List ℕ) (first : Unlawful) : 
   pub front : bytes ≡ item_bytes fields ++ rest
   pub is : item_cause fields ≡ Err first
 
--- what is wrong at the front of bytes in a feed of the form
+-- what is wrong at the start of bytes in a feed of the form
 abbrev pub IsWrong : FeedForm → List ℕ → FeedWhy → Type 0
 IsWrong form bytes why.Magic = ⊥
 IsWrong form bytes why.Kind = HasNoKind form bytes
@@ -212,7 +212,7 @@ pub record GoesWrong (form : FeedForm) (place : ℕ) (bytes : List ℕ) (fault :
   pub there : fault.at ≡ place + length front
   pub wrong : IsWrong form rest fault.why
 
--- no magic stands at the front
+-- no magic stands at the start
 pub record HasNoMagic (bytes : List ℕ) (fault : FeedFault) : Type 0 where
   pub none : (form : FeedForm) (rest : List ℕ) → bytes ≡ magic_of form ++ rest → ⊥
   pub is : fault ≡ record { «at» = 0; why = why.Magic }

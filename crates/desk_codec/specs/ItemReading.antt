@@ -13,14 +13,14 @@ use Rattle.desk_codec.specs.Pieces.{IsUnended}
 use Rattle.desk_codec.specs.Gathered.{Adds}
 use Rattle.desk_codec.specs.Fault.{Mark, mark_bytes, IsMarkValue, run_cause}
 
--- an item stands at the front, whose operations come after those before
+-- an item stands at the start, whose operations come after those before
 pub record GivesItem (form : FeedForm) (bytes : List ℕ) (before after : Option (List Op)) (rest : List ℕ) : Type 0 where
   pub item : Item
   pub stands : Stands form item
   pub is : Adds before after (item_ops item)
   pub front : bytes ≡ item_spelling item ++ rest
 
--- items stand at the front, whose operations come after those before
+-- items stand at the start, whose operations come after those before
 pub record GivesItems (form : FeedForm) (bytes : List ℕ) (before after : Option (List Op)) (rest : List ℕ) : Type 0 where
   pub items : List Item
   pub front : List ℕ
@@ -28,19 +28,19 @@ pub record GivesItems (form : FeedForm) (bytes : List ℕ) (before after : Optio
   pub is : Adds before after (ops_in items)
   pub split : bytes ≡ front ++ rest
 
--- items stand at the front, and no whole one after them
+-- items stand at the start, and no whole one after them
 pub record GivesRest (form : FeedForm) (bytes : List ℕ) (before : Option (List Op)) (read : FeedForm) (after : Option (List Op)) (kept : List ℕ) : Type 0 where
   pub same : form ≡ read
   pub items : GivesItems form bytes before after kept
   pub unended : IsUnended form kept
 
--- a run's kind, its stamps and its count stand at the front
+-- a run's kind, its stamps and its count stand at the start
 pub record RunFront (bytes : List ℕ) (stamp parent : Stamp) (count : ℕ) (rest : List ℕ) : Type 0 where
   pub front : bytes ≡ 4 ∷ stamp_spelling stamp ++ stamp_spelling parent ++ count ∷ rest
   pub stamp_value : IsStampValue stamp
   pub parent_value : IsStampValue parent
 
--- so many symbols stand at the front, and the inserts of a run of them are lawful, and come after the operations before
+-- so many symbols stand at the start, and the inserts of a run of them are lawful, and come after the operations before
 pub record GivesInserts (stamp parent : Stamp) (count : ℕ) (bytes : List ℕ) (before after : Option (List Op)) (rest : List ℕ) : Type 0 where
   pub symbols : List Symbol
   pub many : length symbols ≡ count
@@ -48,7 +48,7 @@ pub record GivesInserts (stamp parent : Stamp) (count : ℕ) (bytes : List ℕ) 
   pub is : Adds before after (run_ops stamp parent symbols)
   pub front : bytes ≡ flat_map symbol_spelling symbols ++ rest
 
--- so many symbols' numbers stand at the front, and this is the first cause of the first insert of a run of them that is not lawful
+-- so many symbols' numbers stand at the start, and this is the first cause of the first insert of a run of them that is not lawful
 pub record HasUnlawful (stamp parent : Stamp) (count : ℕ) (bytes : List ℕ) (first : Unlawful) : Type 0 where
   pub marks : List Mark
   pub many : length marks ≡ count

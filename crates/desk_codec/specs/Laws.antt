@@ -39,8 +39,8 @@ pub record OneFeed : Type 0 where
   pub bytes : (rest : List ℕ) (ops : List Op) → IsFeed (magic ++ rest) ops → magic ++ rest ≡ feed ops
   pub held : (bytes : List ℕ) (ops : List Op) → IsFeed bytes ops → AllByRecursion IsHeld ops
 
--- at the front of bytes an item stands or one thing is wrong, and never both
-pub record Fronts : Type 0 where
+-- at the start of bytes an item stands or one thing is wrong, and never both
+pub record ItemOrFault : Type 0 where
   pub either : (form : FeedForm) (bytes : List ℕ) → All (λ b. b < 256) bytes → 0 < length bytes
       → ((item : Item) × Stands form item × ((rest : List ℕ) × (bytes ≡ item_spelling item ++ rest))) ⊎ ((w : FeedWhy) × IsWrong form bytes w)
   pub not_both : (form : FeedForm) (item : Item) (rest : List ℕ) (w : FeedWhy) → Stands form item → IsWrong form (item_spelling item ++ rest) w → ⊥

@@ -43,6 +43,6 @@ abbrev pub kept_after : Bool → List ℕ → List ℕ → List ℕ
 kept_after true kept rest = kept ++ rest
 kept_after false kept rest = rest
 
--- an item stands at the front of bytes, and so many come after it
+-- an item stands at the start of bytes, and so many come after it
 abbrev pub LeavesSo : FeedForm → List ℕ → Option (List Op) → Option (List Op) → ℕ → Type 0
 LeavesSo form bytes before after n = (rest : List ℕ) × GivesItem form bytes before after rest × (length rest ≡ n)

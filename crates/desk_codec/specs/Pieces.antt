@@ -65,7 +65,7 @@ pub record Reads (before : Option FeedForm) (bytes : List ℕ) (ops : List Op) (
 abbrev pub IsRead : Option FeedForm → List ℕ → List Op → Option FeedForm → List ℕ → Type 0
 IsRead before bytes ops after kept = AwaitsMagic before bytes ops after kept ⊎ ((form : FeedForm) × (after ≡ Some form) × Reads before bytes ops form kept)
 
--- four bytes stand at the front of the feed, and are no magic
+-- four bytes stand at the start of the feed, and are no magic
 pub record IsNotMagic (before : Option FeedForm) (bytes : List ℕ) (fault : FeedFault) : Type 0 where
   pub front : before ≡ None
   pub long : 4 ≤ length bytes

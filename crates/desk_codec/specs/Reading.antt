@@ -8,11 +8,11 @@ use Rattle.desk_codec.specs.declared.form.FeedForm.{FeedForm}
 use Rattle.desk_codec.specs.Feed.{magic_of}
 use Rattle.desk_codec.specs.Fault.{IsFirstFault}
 
--- a fault told of bytes is their first; Failed is never told, and out of memory may be told of any
-abbrev pub Tells : List ℕ → ReadFault → Type 0
-Tells bytes (Fault fault) = IsFirstFault bytes fault
-Tells bytes Failed = ⊥
-Tells bytes NoMemory = Unit {0}
+-- a fault reported of bytes is their first; Failed is never reported, and out of memory may be reported of any
+abbrev pub Reports : List ℕ → ReadFault → Type 0
+Reports bytes (Fault fault) = IsFirstFault bytes fault
+Reports bytes Failed = ⊥
+Reports bytes NoMemory = Unit {0}
 
 -- What a call returned, its value seen as operations, is this answer, unless memory ran out.
 abbrev pub Answers : {V : Type 0} → (V → List Op) → Result V ReadFault → Result (List Op) FeedFault → Type 0

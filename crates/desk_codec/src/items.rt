@@ -60,7 +60,7 @@ fn take_front(bytes: &[u8]) -> (Stamp, Stamp, u8, &[u8])
     (stamp, parent, count, rest)
 }
 
-/// Appends the inserts of the run at the front of bytes, and gives the bytes after it; or what is wrong there.
+/// Appends the inserts of the run at the start of bytes, and gives the bytes after it; or what is wrong there.
 fn next_run<'a, A: Allocator>(bytes: &'a [u8], ops: &mut Gathered<A>) -> Result<&'a [u8], FeedWhy>
     requires kind { get_or bytes.now 0 0 ≡ 4 }
     requires some { 0 < length bytes.now }
@@ -83,7 +83,7 @@ fn next_run<'a, A: Allocator>(bytes: &'a [u8], ops: &mut Gathered<A>) -> Result<
     Ok(rest)
 }
 
-/// Appends the operations of the item at the front of bytes, and gives the bytes after it; or what is wrong there.
+/// Appends the operations of the item at the start of bytes, and gives the bytes after it; or what is wrong there.
 pub fn next_item<'a, A: Allocator>(
     form: FeedForm,
     bytes: &'a [u8],

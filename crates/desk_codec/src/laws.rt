@@ -1,6 +1,6 @@
 //! What holds of feeds, whoever writes or reads them.
 
-ghost use Rattle.desk_codec.specs.Laws.{Sizes, PrefixFree, OneList, OneFeed, Fronts, FeedOrFault};
+ghost use Rattle.desk_codec.specs.Laws.{Sizes, PrefixFree, OneList, OneFeed, ItemOrFault, FeedOrFault};
 ghost use Rattle.desk_codec.specs.Order.{OrderOfBytes};
 ghost use Rattle.desk_codec.specs.PieceSteps.{PiecesAreTheFeed};
 
@@ -27,9 +27,9 @@ pub fn law_of_one_feed()
     ensures { OneFeed }
 {}
 
-/// At the front of bytes an operation stands or one thing is wrong, and never both.
-pub fn law_of_fronts()
-    ensures { Fronts }
+/// At the start of bytes an operation stands or one thing is wrong, and never both.
+pub fn law_of_item_or_fault()
+    ensures { ItemOrFault }
 {}
 
 /// Any bytes are a feed or have a first fault, and never both; and they have one first fault.

@@ -18,7 +18,7 @@ mod writing;
 
 pub use fault::{FeedFault, FeedWhy, ReadFault};
 pub use laws::{
-    law_of_feed_or_fault, law_of_fronts, law_of_one_feed, law_of_one_list, law_of_order,
+    law_of_feed_or_fault, law_of_item_or_fault, law_of_one_feed, law_of_one_list, law_of_order,
     law_of_pieces, law_of_prefixes, law_of_sizes,
 };
 pub use reader::FeedReader;

@@ -209,7 +209,7 @@ fn join(front: &[u8], end: &[u8]) -> ArrayVec<u8, 4>
     all
 }
 
-/// The form of the feed whose magic the front of the piece makes whole, and what follows it, or none where other bytes stand.
+/// The form of the feed whose magic the start of the piece makes whole, and what follows it, or none where other bytes stand.
 fn after_magic<'a>(kept: &[u8], piece: &'a [u8]) -> Option<(FeedForm, &'a [u8])>
     requires few { length kept.now < 4 }
     requires enough { 4 ≤ length kept.now + length piece.now }
@@ -223,7 +223,7 @@ fn after_magic<'a>(kept: &[u8], piece: &'a [u8]) -> Option<(FeedForm, &'a [u8])>
     }
 }
 
-/// Appends the operations of the item at the front of these bytes, and gives how many bytes come after it; or what is
+/// Appends the operations of the item at the start of these bytes, and gives how many bytes come after it; or what is
 /// wrong.
 fn item_in<A: Allocator>(
     form: FeedForm,
@@ -239,7 +239,7 @@ fn item_in<A: Allocator>(
     Ok(rest.len())
 }
 
-/// Appends the operations of the item whose front was kept and that the piece makes whole, and gives the rest of the piece; or
+/// Appends the operations of the item whose prefix was kept and that the piece makes whole, and gives the rest of the piece; or
 /// what is wrong, `Cut` where it is not whole yet. What was kept stays.
 fn first_item<'a, A: Allocator>(
     form: FeedForm,
@@ -263,7 +263,7 @@ fn first_item<'a, A: Allocator>(
     Ok(&piece[size - left..])
 }
 
-/// Appends the operations of the items at the front of the bytes at a place, and gives the bytes of no whole item after them.
+/// Appends the operations of the items at the start of the bytes at a place, and gives the bytes of no whole item after them.
 fn read_whole<'a, A: Allocator>(
     form: FeedForm,
     place: u64,
@@ -290,7 +290,7 @@ fn read_whole<'a, A: Allocator>(
     Ok(rest)
 }
 
-/// The operations given before and those of the items at the front of the bytes at a place, and the bytes to be kept after.
+/// The operations given before and those of the items at the start of the bytes at a place, and the bytes to be kept after.
 fn read_rest<'a, A: Allocator>(
     form: FeedForm,
     place: u64,

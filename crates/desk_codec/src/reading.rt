@@ -6,7 +6,7 @@ ghost use Rattle.desk_ops.specs.Op.{IsLawful};
 ghost use Rattle.desk_codec.specs.Spelling.{spelling, IsHeld};
 ghost use Rattle.desk_codec.specs.Feed.{IsFeed};
 ghost use Rattle.desk_codec.specs.Fault.{IsWrong, IsFirstFault};
-ghost use Rattle.desk_codec.specs.Reading.{Tells, Answers, MayHoldOne};
+ghost use Rattle.desk_codec.specs.Reading.{Reports, Answers, MayHoldOne};
 ghost use Rattle.desk_codec.specs.declared.form.FeedForm.TheVariants.{Singles};
 ghost use Rattle.desk_codec.specs.declared.fault.FeedFault.{FeedFault};
 ghost use Rattle.desk_codec.specs.declared.fault.ReadFault.TheVariants as fault;
@@ -18,7 +18,7 @@ use crate::reader::FeedReader;
 use desk_ops::Op;
 use std::alloc::Allocator;
 
-/// The operation at the front of bytes and the bytes after it, or what is wrong there. No run is read.
+/// The operation at the start of bytes and the bytes after it, or what is wrong there. No run is read.
 pub fn next_op(bytes: &[u8]) -> Result<(Op, &[u8]), FeedWhy>
     requires { 0 < length bytes.now }
     ensures op { IfOk result (λ next. IsHeld next.0 × (bytes.now ≡ spelling next.0 ++ next.1.now)) }
@@ -39,7 +39,7 @@ pub fn next_op(bytes: &[u8]) -> Result<(Op, &[u8]), FeedWhy>
 /// One `feed` of all bytes, and one `finish`.
 fn operations_of<A: Allocator>(alloc: A, bytes: &[u8]) -> Result<Vec<Op, A>, ReadFault>
     ensures feed { IfOk result (λ ops. IsFeed bytes.now ops.items) }
-    ensures fault { IfErr result (λ fault. Tells bytes.now fault) }
+    ensures fault { IfErr result (λ fault. Reports bytes.now fault) }
     ensures memory { result ≡ Err fault.NoMemory → MayHoldOne bytes.now }
 {
     let mut reader = FeedReader::new();
@@ -53,7 +53,7 @@ pub fn read_feed<A: Allocator>(alloc: A, bytes: &[u8]) -> Result<Vec<Op, A>, Rea
     ensures feed { IfOk result (λ ops. IsFeed bytes.now ops.items) }
     ensures lawful { IfOk result (λ ops. All IsLawful ops.items) }
     // A fault is the first from the left.
-    ensures fault { IfErr result (λ fault. Tells bytes.now fault) }
+    ensures fault { IfErr result (λ fault. Reports bytes.now fault) }
     // The feed of a list is read as that list, and bytes with a first fault are refused with it, unless memory runs out.
     ensures only { (ops : List Op) → IsFeed bytes.now ops → Answers (λ v. v.items) result (Ok ops) }
     ensures first { (fault : FeedFault) → IsFirstFault bytes.now fault → Answers (λ v. v.items) result (Err fault) }

@@ -121,7 +121,7 @@ fn rising_lists_are_laid_out(rt: HostRuntime) -> Result<(), Fail> {
     Ok(())
 }
 
-/// Whether what is missing of a list in falling order was not told where so many bytes are left of a heap, and whether it
+/// Whether what is missing of a list in falling order was not reported where so many bytes are left of a heap, and whether it
 /// was not joined.
 fn are_refused_in<'a>(
     heap: &'a LocalHeap,

@@ -220,7 +220,7 @@ const KEY_AND_COUNTER: [u8; 16] = [3, 0, 0, 0, 0, 0, 0, 0, 0, 0, 1, 6, 0, 0, 0, 
 /// Bytes that are cut off, and have a site of 0.
 const CUT_AND_SITE: [u8; 15] = [3, 0, 0, 0, 0, 0, 0, 0, 5, 0, 0, 1, 0, 0, 0];
 
-/// Which cause is told where several hold, and of numbers that are no symbol's and no key's.
+/// Which cause is reported where several hold, and of numbers that are no symbol's and no key's.
 #[test]
 fn causes_in_order(rt: HostRuntime) {
     assert!(rt; is_cause(&SURROGATE, FeedWhy::Unlawful(Unlawful::Symbol)));
@@ -327,7 +327,7 @@ const WORDS: [(FeedWhy, &str); 4] = [
     (FeedWhy::Run, "at byte 7: no run has so many"),
 ];
 
-/// Whether a cause at byte 7 is told in these words.
+/// Whether a cause at byte 7 is written in these words.
 fn is_cause_told(alloc: Global, why: FeedWhy, text: &str) -> Result<bool, Fail> {
     is_told(alloc, &fault(7, why), text)
 }

@@ -241,7 +241,7 @@ fn is_halted_in(alloc: Global, heap: &LocalHeap, left: usize, falls: bool) -> Re
     Ok(halt.is_some())
 }
 
-/// Whether a halt, where there is one, is for memory, and so many are held as it tells, or all.
+/// Whether a halt, where there is one, is for memory, and so many are held as it says, or all.
 fn is_halt<A: Allocator + Copy>(held: &Held<A>, halt: Option<Halt>, falls: bool) -> bool {
     let (added, is_right) = match halt {
         None => (600, true),

@@ -46,7 +46,7 @@ fn is_tab_refused(stamp: Stamp, parent: Stamp, why: Unlawful) -> bool {
     is_refused(typed(stamp, parent, '\t'), why)
 }
 
-/// Of several causes the first in their order is told.
+/// Of several causes the first in their order is reported.
 #[test]
 fn first_cause_is_told(rt: HostRuntime) {
     let last = typed(at(MAX_COUNTER, 65535), at(1, 1), '\n');
@@ -165,29 +165,29 @@ fn stamps_and_targets(rt: HostRuntime) {
     }
 }
 
-/// Whether a value is told in these words.
+/// Whether a value is written in these words.
 pub fn is_told<T: Display>(alloc: Global, value: &T, text: &str) -> Result<bool, Fail> {
     Ok(format!(in alloc; "{value}")?.as_str() == text)
 }
 
-/// Whether 10.1 and the last stamp of all are told so.
+/// Whether 10.1 and the last stamp of all are written so.
 fn are_stamps_told(alloc: Global, text: &str) -> Result<bool, Fail> {
     let (most, first) = (at(MAX_COUNTER, 65535), at(10, 1));
     Ok(format!(in alloc; "{first} {most}")?.as_str() == text)
 }
 
-/// Whether a symbol is told so, and its style by its name.
+/// Whether a symbol is written so, and its style by its name.
 fn is_symbol_told(alloc: Global, symbol: Symbol, text: &str) -> Result<bool, Fail> {
     let style = symbol.style;
     Ok(is_told(alloc, &symbol, text)? && is_told(alloc, &style, style.name())?)
 }
 
-/// Whether the name of a key is this, and is told.
+/// Whether the name of a key is this, and is written.
 fn is_key_told(alloc: Global, key: Key, text: &str) -> Result<bool, Fail> {
     Ok(key.name() == text && is_told(alloc, &key, text)?)
 }
 
-/// Whether a fault of 10.1 is told so, and begins with the name of its kind.
+/// Whether a fault of 10.1 is written so, and begins with the name of its kind.
 fn is_fault_told(alloc: Global, kind: FaultKind, text: &str) -> Result<bool, Fail> {
     let stamp = at(10, 1);
     let fault = CopyFault { stamp, kind };

@@ -55,7 +55,7 @@ const A_AND_NINE: [u8; 31] = [
     0, 0x61, 9,
 ];
 
-/// Whether a kind that there is not is told, in whichever piece it stands.
+/// Whether a kind that there is not is reported, in whichever piece it stands.
 fn kinds_are_told(alloc: Global) -> bool {
     let nothing: Answer<'_> = Ok(&AB[..0]);
     let first: Answer<'_> = Err(fault(4, FeedWhy::Kind));
@@ -75,7 +75,7 @@ fn kinds_are_told(alloc: Global) -> bool {
     are_answered(alloc, one) && are_answered(alloc, two) && are_answered(alloc, three)
 }
 
-/// Whether other magic is told with the fourth byte, or at the end.
+/// Whether other magic is reported with the fourth byte, or at the end.
 fn magic_is_told(alloc: Global) -> bool {
     let nothing: Answer<'_> = Ok(&AB[..0]);
     let magic = Err(fault(0, FeedWhy::Magic));
@@ -89,7 +89,7 @@ fn magic_is_told(alloc: Global) -> bool {
     are_answered(alloc, none) && are_answered(alloc, short) && are_answered(alloc, other)
 }
 
-/// Whether the end of a feed without operations is none, and that of one that is cut off is told.
+/// Whether the end of a feed without operations is none, and that of one that is cut off is reported.
 fn ends_are_told(alloc: Global) -> bool {
     let nothing: Answer<'_> = Ok(&AB[..0]);
     let empty: Row<'_> = ([b"MFD1", b"", b""], [nothing; 3], Ok(()));
@@ -255,7 +255,7 @@ const A_AND_65: [u8; 52] = [
     0, 0x61, 4, 0, 0, 0, 0, 0, 0, 0, 2, 0, 1, 0, 0, 0, 0, 0, 0, 0, 1, 0, 1, 65,
 ];
 
-/// Whether the fault of a piece is told, where so many of its bytes came before, and after it `Failed`.
+/// Whether the fault of a piece is reported, where so many of its bytes came before, and after it `Failed`.
 fn is_told<A: Allocator + Copy>(alloc: A, before: usize, bytes: &[u8], want: ReadFault) -> bool {
     if bytes.len() > 100 {
         return false;
@@ -267,7 +267,7 @@ fn is_told<A: Allocator + Copy>(alloc: A, before: usize, bytes: &[u8], want: Rea
         && is_answered(&mut reader, alloc, b"", FAILED)
 }
 
-/// Whether a fault is told of a piece alone, and of one behind so many bytes that were kept.
+/// Whether a fault is reported of a piece alone, and of one behind so many bytes that were kept.
 fn is_told_twice<A: Allocator + Copy>(
     alloc: A,
     before: usize,
@@ -277,7 +277,7 @@ fn is_told_twice<A: Allocator + Copy>(
     is_told(alloc, 0, bytes, want) && is_told(alloc, before, bytes, want)
 }
 
-/// Whether each fault is told, of a piece alone and of one behind bytes that were kept.
+/// Whether each fault is reported, of a piece alone and of one behind bytes that were kept.
 fn are_told<A: Allocator + Copy>(alloc: A) -> bool {
     let no_key = FeedWhy::Unlawful(Unlawful::Key);
     is_told_twice(alloc, 19, &A_AND_NINE, fault(30, FeedWhy::Kind))
@@ -286,7 +286,7 @@ fn are_told<A: Allocator + Copy>(alloc: A) -> bool {
         && is_told_twice(alloc, 3, &FEED_AB[1..], fault(0, FeedWhy::Magic))
 }
 
-/// Whether a cut heap refuses the room of one operation. There, and with memory, each fault is told.
+/// Whether a cut heap refuses the room of one operation. There, and with memory, each fault is reported.
 fn is_told_in_want(alloc: Global, cut: usize) -> Result<bool, Fail> {
     let heap = LocalHeap::new(alloc, 512)?;
     let ballast = ballast(&heap, cut);
@@ -324,7 +324,7 @@ fn refused_rooms(alloc: Global) -> Result<u32, Fail> {
 }
 
 /// A piece that was refused memory was not taken: given again with memory it is answered as it would have been. One that shows
-/// a fault is told by it, with memory or without.
+/// a fault is reported by it, with memory or without.
 #[test]
 fn growth_refused_in_pieces(rt: HostRuntime) -> Result<(), Fail> {
     for place in 0..56usize {

@@ -30,7 +30,7 @@ const LAST_COUNTER: [u8; 31] = [
     0x62,
 ];
 
-/// Places and the bytes from there on, and the cause. A count of 1 is told before its symbol is there, and one of 0 whatever
+/// Places and the bytes from there on, and the cause. A count of 1 is reported before its symbol is there, and one of 0 whatever
 /// follows; a cut comes before what is not lawful.
 static CUT_RUNS: [(usize, &[u8], FeedWhy); 6] = [
     (25, &[1], FeedWhy::Run),
@@ -181,7 +181,7 @@ fn each_cut_of_runs(rt: HostRuntime) {
     }
 }
 
-/// A run's count is told with its byte, and its inserts are given with its last.
+/// A run's count is reported with its byte, and its inserts are given with its last.
 #[test]
 fn runs_in_bytes(rt: HostRuntime) {
     let all = match read_bytes(rt.alloc(), &MIXED_AND_NINE[..136]) {

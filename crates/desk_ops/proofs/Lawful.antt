@@ -155,8 +155,8 @@ lawful-stamp (Insert s p y) h = h.0
 lawful-stamp (Delete s p) h = h.0
 lawful-stamp (Set s k v) h = h.0
 
-pub lawful_told : (op : Op) → (verdict op ≡ Ok tt) ↔ IsLawful op
-lawful_told op = (lawful_from op, lawful_true op)
+pub lawful_by_tests : (op : Op) → (verdict op ≡ Ok tt) ↔ IsLawful op
+lawful_by_tests op = (lawful_from op, lawful_true op)
 
-pub symbol_told : (y : Symbol) → (symbol_verdict y ≡ Ok tt) ↔ IsSymbol y
-symbol_told y = (λ e. symbol_from y (all_true ((is_symbol y, unlawful.Symbol) ∷ []) e).0, λ h. true_all ((is_symbol y, unlawful.Symbol) ∷ []) (symbol_true y h, tt))
+pub symbol_by_tests : (y : Symbol) → (symbol_verdict y ≡ Ok tt) ↔ IsSymbol y
+symbol_by_tests y = (λ e. symbol_from y (all_true ((is_symbol y, unlawful.Symbol) ∷ []) e).0, λ h. true_all ((is_symbol y, unlawful.Symbol) ∷ []) (symbol_true y h, tt))

@@ -34,7 +34,7 @@ length-stamps : (w : List Insertion) → length (stamps w) ≡ length w
 length-stamps [] = refl
 length-stamps (x ∷ w) = ap suc (length-stamps w)
 
--- the scan puts e at the place that the stamps tell
+-- the scan puts e at the place that the stamps say
 pub scan-at : (e : Insertion) (w : List Insertion) (i : ℕ) → IsPlace (stamps w) e.parent e.stamp i → scan_insert e w ≡ insert w i e
 scan-at e w i p = go p.starts
   where

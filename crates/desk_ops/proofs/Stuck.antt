@@ -34,7 +34,7 @@ module _ (h : OpSet) (lawful : AllLawful h) where
     ends = ends h lawful u;
   }
 
-  -- from the fault that the end tells
+  -- from the fault that the end says
   from_end : (o : Op) (s u : Stamp) (k : FaultKind) → stamp_of o ≡ s → IsClearOp h o → target_of o ≡ Some u → (IsLiveOp h o → end_of (in_order h) u ≡ head) → fault_of_end (in_order h) (end_of (in_order h) u) ≡ Some k → HasFault h s k
   from_end o s u k b c t live f =
       by_cases (same (end_of (in_order h) u) head)

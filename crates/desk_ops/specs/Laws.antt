@@ -31,7 +31,7 @@ use Rattle.desk_ops.specs.Place.{IsPlace}
 use Rattle.desk_ops.specs.Drain.{IsThere, IsTakenIn, IsDrained}
 
 -- an operation is lawful exactly where the list of causes finds none, and each test says what it is named for
-pub record LawfulIsTold : Type 0 where
+pub record LawfulByTests : Type 0 where
   pub op : (op : Op) → (verdict op ≡ Ok tt) ↔ IsLawful op
   pub stamp : (s : Stamp) → (is_stamp s ≡ true) ↔ IsStamp s
   pub head : (s : Stamp) → (is_head s ≡ true) ↔ (s ≡ head)
@@ -50,7 +50,7 @@ pub record OrderGoesByStamp : Type 0 where
   pub equal : (s t : Stamp) → (stamp_eq.ghosts).eq s t ≡ same s t
 
 -- what a set says of a stamp
-pub record HeldIsTold : Type 0 where
+pub record HeldByMembers : Type 0 where
   pub borne : (h : OpSet) (s : Stamp) → (is_borne_in h s ≡ true) ↔ ((o : Op) × (has_op h o ≡ true) × (stamp_of o ≡ s))
   pub clear : (h : OpSet) (s : Stamp) → (is_clear_in h s ≡ true) ↔ ((o : Op) × (has_op h o ≡ true) × (stamp_of o ≡ s) × ((p : Op) → has_op h p ≡ true → stamp_of p ≡ s → p ≡ o))
   pub forked : (h : OpSet) (s : Stamp) → (is_forked_in h s ≡ true) ↔ ((o : Op) × (p : Op) × (has_op h o ≡ true) × (has_op h p ≡ true) × (stamp_of o ≡ s) × (stamp_of p ≡ s) × (o ≡ p → ⊥))
@@ -109,7 +109,7 @@ ScanGivesWalk = (h : OpSet) (o : Op) (x : Insertion) → AllLawful h → IsLawfu
     → AllByRecursion (λ y. same y.parent x.stamp ≡ false) (clear_inserts (in_order h)) → walk (in_order (with_op h o)) ≡ scan_insert x (walk (in_order h))
 
 -- of inserts in ascending order, with one more whose stamp is new, on which none hangs, and whose parent is older:
--- put at the place that the walk's stamps tell, it gives the walk with it
+-- put at the place that the walk's stamps say, it gives the walk with it
 abbrev pub PlaceGivesWalk : Type 0
 PlaceGivesWalk = (xs : List Insertion) (e : Insertion) (i : ℕ) → IsAscending xs → AllByRecursion (λ x. same x.stamp head ≡ false) xs → IsNext e xs
     → IsPlace (map (λ x. x.stamp) (walk_from xs head)) e.parent e.stamp i → walk_from (with_insert e xs) head ≡ insert (walk_from xs head) i e

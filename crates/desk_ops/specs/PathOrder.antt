@@ -1,4 +1,4 @@
--- The order of the elements of a walk, told by their paths.
+-- The order of the elements of a walk, by their paths.
 use Rattle.std.specs.Prelude.{◌≡◌, true, false, List, [], ◌∷◌, ◌++◌, reverse}
 use Rattle.std.specs.List.{AllByRecursion}
 use Rattle.std.specs.Ordering.{flip_args}

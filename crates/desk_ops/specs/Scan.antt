@@ -32,7 +32,7 @@ abbrev pub IsAscending : List Insertion → Type 0
 IsAscending [] = Unit {0}
 IsAscending (x ∷ later) = AllByRecursion (λ y. before x.stamp y.stamp ≡ true) later × IsAscending later
 
--- what the scan is told: nothing bears e's stamp or hangs on it, and its parent is older
+-- what the scan takes as given: nothing bears e's stamp or hangs on it, and its parent is older
 pub record IsNext (e : Insertion) (xs : List Insertion) : Type 0 where
   pub parent_older : before e.parent e.stamp ≡ true
   pub fresh : AllByRecursion (λ x. same x.stamp e.stamp ≡ false) xs

@@ -2,18 +2,18 @@
 ghost use Rattle.std.specs.Prelude.{◌≡◌, ◌^◌};
 ghost use Rattle.desk_ops.specs.Stamp.{head, max_counter};
 ghost use Rattle.desk_ops.specs.Op.{line_feed, space};
-ghost use Rattle.desk_ops.specs.Rows.{ConcurrentDeleteAndInsert, FiveArrivals, ForkedStamp, LaterSiblingFirst, SettingsByStamps, TombstonesKept, WaitingThenLive};
-ghost use Rattle.desk_ops.specs.Laws.{DrainGivesWalk, FaultsByEnds, HeldIsTold, LawfulIsTold, LiveByParents, MergingIsUnion, NewestActs, OneOrder, OrderGoesByStamp, OrderIsKept, PlaceGivesWalk, ScanGivesWalk, SettingsByStamp, ShownIsWhatIsLeft, WalkGoesByKids, WalkHoldsTheLive};
+ghost use Rattle.desk_ops.specs.Worked.{ConcurrentDeleteAndInsert, FiveArrivals, ForkedStamp, LaterSiblingFirst, SettingsByStamps, TombstonesKept, WaitingThenLive};
+ghost use Rattle.desk_ops.specs.Laws.{DrainGivesWalk, FaultsByEnds, HeldByMembers, LawfulByTests, LiveByParents, MergingIsUnion, NewestActs, OneOrder, OrderGoesByStamp, OrderIsKept, PlaceGivesWalk, ScanGivesWalk, SettingsByStamp, ShownIsWhatIsLeft, WalkGoesByKids, WalkHoldsTheLive};
 
 use crate::op::{MAX_COUNTER, Stamp, Symbol};
 
 /// An operation is lawful exactly where no cause against it is found.
-pub fn lawful_is_told()
-    ensures { LawfulIsTold }
+pub fn lawful_goes_by_tests()
+    ensures { LawfulByTests }
 {}
 
 /// The constants are the head, the space, the line feed and the greatest counter, 2^62.
-pub fn constants_are_told()
+pub fn constants_have_their_values()
     ensures head { Stamp.HEAD ≡ head }
     ensures space { Symbol.SPACE ≡ space }
     ensures line_feed { Symbol.LINE_FEED ≡ line_feed }
@@ -26,8 +26,8 @@ pub fn order_goes_by_stamp()
 {}
 
 /// Which operations of a set bear a stamp, and the greatest counter that it holds.
-pub fn held_is_told()
-    ensures { HeldIsTold }
+pub fn held_goes_by_members()
+    ensures { HeldByMembers }
 {}
 
 /// An insert is live exactly if it is clear and its parent is the head or a live insert.
@@ -75,7 +75,7 @@ pub fn scan_gives_walk()
     ensures { ScanGivesWalk }
 {}
 
-/// The place that the walk's stamps tell gives the walk with one insert more.
+/// The place that the walk's stamps say gives the walk with one insert more.
 pub fn place_gives_walk()
     ensures { PlaceGivesWalk }
 {}

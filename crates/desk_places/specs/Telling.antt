@@ -1,4 +1,4 @@
--- The places of a text, told with what surrounds each.
+-- The places of a text, each with what surrounds it, as lines.
 use Rattle.std.specs.Prelude.{ℕ, ◌+◌, ◌-◌, ◌==◌, List, [], ◌∷◌, ◌++◌, length, map, take, drop, codes, if◌then◌else◌}
 use Rattle.std.specs.Fmt.{decimal}
 use Rattle.desk_ops.specs.declared.op.Symbol.{Symbol}

@@ -1,7 +1,7 @@
 //! A copy as text in UTF-8 with marks for its styles, and text read as a copy.
 //!
 //! What is written is one text for each copy, and is read as that copy again. What is read may be any text with its marks in
-//! order, so that people may write it with the editor that they have; the first fault is told by its line and column.
+//! order, so that people may write it with the editor that they have; the first fault is reported by its line and column.
 #![tactic(auto)]
 
 mod fault;

@@ -1,13 +1,13 @@
-use Rattle.desk_ops.proofs.Rows as rows
+use Rattle.desk_ops.proofs.Worked as worked
 use Rattle.desk_ops.proofs.laws.worked_sets.Goals as goal
 
 pub returns : goal.returns
 returns c = record {
-  later_sibling_first = rows.later_sibling_first;
-  five_arrivals = rows.five_arrivals;
-  forked_stamp = rows.forked_stamp;
-  waiting_then_live = rows.waiting_then_live;
-  tombstones_kept = rows.tombstones_kept;
-  concurrent_delete_and_insert = rows.concurrent_delete_and_insert;
-  settings_by_stamp = rows.settings_by_stamp;
+  later_sibling_first = worked.later_sibling_first;
+  five_arrivals = worked.five_arrivals;
+  forked_stamp = worked.forked_stamp;
+  waiting_then_live = worked.waiting_then_live;
+  tombstones_kept = worked.tombstones_kept;
+  concurrent_delete_and_insert = worked.concurrent_delete_and_insert;
+  settings_by_stamp = worked.settings_by_stamp;
 }

@@ -14,7 +14,7 @@ use Rattle.desk_ops.specs.Walk.{walk_from, walk}
 use Rattle.desk_ops.specs.Shown.{is_deleted, shown, copy}
 use Rattle.desk_ops.specs.Settings.{setting, setting_of}
 use Rattle.desk_ops.specs.Faults.{copy_faults, faults_of}
-use Rattle.desk_ops.specs.Rows.{at, typed, held, text, LaterSiblingFirst, FiveArrivals, ForkedStamp, WaitingThenLive, TombstonesKept, ConcurrentDeleteAndInsert, SettingsByStamps}
+use Rattle.desk_ops.specs.Worked.{at, typed, held, text, LaterSiblingFirst, FiveArrivals, ForkedStamp, WaitingThenLive, TombstonesKept, ConcurrentDeleteAndInsert, SettingsByStamps}
 
 -- ---- a set from its list of arrivals
 

@@ -1,5 +1,5 @@
 use Rattle.desk_ops.proofs.Bearers.{borne_op, op_borne, clear_sole, sole_clear, forked_two, two_forked, sole_op, op_sole, counter_within, counter_reached}
-use Rattle.desk_ops.proofs.laws.held_is_told.Goals as goal
+use Rattle.desk_ops.proofs.laws.held_goes_by_members.Goals as goal
 
 pub returns : goal.returns
 returns c = record {
