@@ -3,7 +3,7 @@ use Rattle.std.proofs.Common.{◌≡◌, ℕ, zero, suc, ◌+◌, ◌-◌, ◌*�
 use Rattle.std.specs.Prelude.{ℤ, pos, unsigned_abs}
 use Rattle.desk_justify.specs.Filled.{fill_counts, room, taken, OneFilling}
 
-counts_number : (left : ℕ) (widths : List ℤ) → length (fill_counts left widths) ≡ length widths
+pub counts_number : (left : ℕ) (widths : List ℤ) → length (fill_counts left widths) ≡ length widths
 counts_number left [] = refl
 counts_number left (width ∷ widths) = ap suc (counts_number (left - left / unsigned_abs width * unsigned_abs width) widths)
 
