@@ -12,7 +12,7 @@ use Rattle.desk_case.specs.Names.{place, cell_of_place, IsCell}
 use Rattle.desk_case.specs.Case.{CaseValues, symbol_at, is_held, place_in, cell_of, StandsAt, IsDistinct, IsCase}
 use Rattle.desk_case.specs.File.{or_else, doubled_after, first_doubled}
 use Rattle.desk_case.specs.Laws.{IsDoubledAt, IsFirstDoubled, DoubledIsFirst, CellsAndSymbolsAreInverse}
-use Rattle.desk_case.proofs.Symbols.{symbol_same, symbol_itself}
+use Rattle.desk_ops.proofs.Symbols.{symbol_same, symbol_itself}
 use Rattle.desk_case.proofs.Cells.{place_is_cell, place_back, cell_back}
 
 abbrev pub Grid : Type 0

@@ -1,5 +1,4 @@
 pub mod Columns
-pub mod Symbols
 pub mod Cells
 pub mod Grids
 pub mod Indexes

@@ -22,9 +22,7 @@ use Rattle.desk_case.specs.Laws.{NarrowCasesLackColumns}
 use Rattle.desk_case.proofs.Columns.{index_small}
 use Rattle.desk_case.proofs.Grids.{Grid}
 use Rattle.desk_case.proofs.Lawful.{at_key_read}
-
-abbrev Matrices : Type 0
-Matrices = List (Option (Option Symbol))
+use Rattle.desk_case.proofs.Rows.{Matrices}
 
 -- what stands in a list of two parts, and in a list of one thing
 behind_front : {A : Type 0} (xs ys : List A) (n i : ℕ) → n ≡ length xs + i → slice_get (xs ++ ys) n ≡ slice_get ys i

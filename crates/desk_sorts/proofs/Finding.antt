@@ -9,7 +9,7 @@ use Rattle.std.proofs.lemmas.List.{append-nil}
 use Rattle.std.proofs.lemmas.List.Elements.{filter-append}
 use Rattle.desk_ops.specs.declared.op.Symbol.{Symbol}
 use Rattle.desk_case.specs.Case.{CaseValues, is_held, same_symbol}
-use Rattle.desk_case.proofs.Symbols.{symbol_same, symbol_itself}
+use Rattle.desk_ops.proofs.Symbols.{symbol_same, symbol_itself}
 use Rattle.desk_sorts.specs.Sorts.{symbol_cmp}
 use Rattle.desk_sorts.specs.Places.{Adds, AreFoundTo, lacks, places_to}
 use Rattle.desk_sorts.proofs.Tallies.{ordered_same, other_too}

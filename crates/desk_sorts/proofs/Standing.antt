@@ -12,7 +12,7 @@ use Rattle.desk_ops.specs.declared.op.Style.TheVariants.{Roman}
 use Rattle.desk_ops.specs.declared.op.Symbol.{Symbol}
 use Rattle.desk_case.specs.Case.{is_held, same_symbol}
 use Rattle.desk_case.proofs.Grids.{held_is, held_itself}
-use Rattle.desk_case.proofs.Symbols.{symbol_same}
+use Rattle.desk_ops.proofs.Symbols.{symbol_same}
 use Rattle.desk_sorts.specs.Laws.{AreAllPlaces, RiseFrom}
 use Rattle.desk_sorts.specs.Places.{places_of, places_to}
 use Rattle.desk_sorts.specs.Sorts.{StandsAt, wanted_of}

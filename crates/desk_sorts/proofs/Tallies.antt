@@ -14,7 +14,7 @@ use Rattle.desk_ops.specs.Op.{is_line_feed}
 use Rattle.desk_ops.specs.contracts.op.SymbolOrd.TheImpl.Laws.{matches_eq-law, total-law}
 use Rattle.std.proofs.lemmas.Bool.{cases_lt, false≢true}
 use Rattle.desk_case.specs.Case.{same_symbol}
-use Rattle.desk_case.proofs.Symbols.{symbol_same, symbol_itself}
+use Rattle.desk_ops.proofs.Symbols.{symbol_same, symbol_itself}
 use Rattle.desk_sorts.specs.declared.sorts.Sort.{Sort}
 use Rattle.desk_sorts.specs.Sorts.{AreSortsOf, HasSort, IsSortOf, StandsAt, symbol_cmp, wanted_of}
 use Rattle.desk_sorts.specs.Counting.{AreTallies, Counts, IsKnown, IsTallied, counted}
