@@ -8,6 +8,7 @@ use Rattle.std.proofs.lemmas.Bool.Decides.{nat_tests}
 use Rattle.std.proofs.lemmas.List.{length-map}
 use Rattle.std.proofs.Math.Nat.{mul-le-mul_left}
 use Rattle.desk_ops.specs.declared.op.Symbol.{Symbol}
+use Rattle.desk_ops.proofs.Lists.{Each, Each-append}
 use Rattle.desk_units.specs.Widths.{step, floor_div, steps_of}
 use Rattle.desk_units.specs.WedgeSum.{neutral, widening}
 use Rattle.desk_lines.specs.Words.{paragraphs, words}
@@ -19,11 +20,7 @@ use Rattle.desk_job.specs.Job.{Terms, measure, widths, word_width, tight_space, 
 use Rattle.desk_job.specs.Setting.{Fits}
 use Rattle.desk_job.proofs.LineSizes.{one_more, none_of, width_is}
 use Rattle.desk_job.proofs.Parts.{take_map, drop_map}
-use Rattle.desk_job.proofs.SetLaws.{each_append}
 use Rattle.desk_job.proofs.ShortLaws.{scaled}
-
-abbrev Each : {A : Type 0} → (A → Type 0) → List A → Type 0
-Each P xs = AllByRecursion P xs
 
 -- The sizes are those of groups.
 abbrev pub Fitting : Terms → List ℕ → List (List Symbol) → Type 0
@@ -76,7 +73,7 @@ fits_words terms ws =
 fits_paragraphs : (terms : Terms) (ps : List (List Symbol)) → Each (Fits terms) (flat_map (λ p. lines_of_words terms (words p)) ps)
 fits_paragraphs terms [] = tt
 fits_paragraphs terms (p ∷ ps) =
-    each_append (Fits terms) (lines_of_words terms (words p)) (flat_map (λ p. lines_of_words terms (words p)) ps)
+    Each-append (Fits terms) (lines_of_words terms (words p)) (flat_map (λ p. lines_of_words terms (words p)) ps)
     (fits_words terms (words p)) (fits_paragraphs terms ps)
 
 pub copy_fits : (terms : Terms) (copy : List Symbol) → AllByRecursion (Fits terms) (lines terms copy)

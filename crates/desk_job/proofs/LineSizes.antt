@@ -1,5 +1,5 @@
 -- The numbers of a line: the width of its words, its spaces, its rest.
-use Rattle.std.proofs.Common.{◌≡◌, ℕ, suc, ◌+◌, ◌-◌, ◌*◌, ◌/◌, ◌≤◌, Bool, true, false, List, [], ◌∷◌, length, refl, sym, ap, ◌∙◌, arith}
+use Rattle.std.proofs.Common.{◌≡◌, ℕ, suc, ◌+◌, ◌-◌, ◌*◌, ◌≤◌, Bool, true, false, List, [], ◌∷◌, length, refl, sym, ap, ◌∙◌, arith}
 use Rattle.std.specs.Prelude.{ℤ, pos, negsuc, ◌+ℤ◌, ◌-ℤ◌, ◌*ℤ◌, int_le, unsigned_abs, sum_by, ◌&&◌, if◌then◌else◌}
 use Rattle.std.proofs.lemmas.Int.{ints}
 use Rattle.std.proofs.lemmas.List.{length-map}
@@ -7,8 +7,9 @@ use Rattle.desk_caster.specs.Caster.{row_width}
 use Rattle.std.proofs.lemmas.List.Sums.{sum_by-cons}
 use Rattle.desk_ops.specs.declared.op.Symbol.{Symbol}
 use Rattle.desk_lines.specs.Groups.{group_width}
-use Rattle.desk_justify.specs.Filled.{fills_of, fill_counts, taken, room}
+use Rattle.desk_justify.specs.Filled.{fills_of, taken, room}
 use Rattle.desk_justify.specs.Positions.{sum_of}
+use Rattle.desk_justify.proofs.Fills.{counts_number}
 use Rattle.desk_job.specs.Job.{Terms, SetLine, widths, word_width, tight_space, space_width, fill_widths, measure, has_added, spaces, rest, fills, left, wedge_sum, sum_fault, line_fault}
 use Rattle.desk_lines.specs.declared.words.Word.{Word}
 use Rattle.desk_job.specs.Setting.{words_at}
@@ -103,6 +104,10 @@ numbers_are terms ws filled width added count rem counts gap sum m so is_rem is_
       sum_found = is_sum ∙ (ap (λ (z : ℤ). sum_of z count) l ∙ ap (λ (n : ℕ). sum_of (left terms line) n) s);
     }
 
+-- what fills leave of a rest, by counts that are the same
+pub left_of : (gap rem : ℤ) (counts given : List ℕ) (found : List ℤ) → given ≡ counts → gap ≡ rem -ℤ pos (taken given found) → gap ≡ rem -ℤ pos (taken counts found)
+left_of gap rem counts given found same is = rw same at is
+
 pub faulted : (terms : Terms) (n : ℕ) (line : SetLine) (count : ℕ) (added : Bool) (counts : List ℕ) (sum : ℤ) (faults : List JobFault) →
     HasNumbers terms line count added counts sum → faults ≡ sum_fault terms n line.filled count sum → line_fault terms n line ≡ faults
 faulted terms n line count added counts sum faults h told =
@@ -110,10 +115,6 @@ faulted terms n line count added counts sum faults h told =
 
 pub too_wide : (terms : Terms) (n : ℕ) (line : SetLine) (count : ℕ) → count ≡ spaces terms line → count ≡ 0 → line_fault terms n line ≡ TooWide n ∷ []
 too_wide terms n line count s none = ap (λ (k : ℕ). sum_fault terms n line.filled k (wedge_sum terms line)) (sym s ∙ none)
-
-counts_number : (rem : ℕ) (found : List ℤ) → length (fill_counts rem found) ≡ length found
-counts_number rem [] = refl
-counts_number rem (width ∷ found) = ap suc (counts_number (rem - rem / unsigned_abs width * unsigned_abs width) found)
 
 pub fills_number : (terms : Terms) (rem : ℤ) (filled : Bool) → length (if filled then fills_of rem (fill_widths terms) else []) ≤ length (fill_widths terms)
 fills_number terms rem true = let e = counts_number (room rem) (fill_widths terms) in omega (arith, e)

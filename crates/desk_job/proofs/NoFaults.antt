@@ -1,12 +1,13 @@
 -- Where a job has no fault, each of its lines can be set.
-use Rattle.std.proofs.Common.{◌≡◌, ℕ, zero, suc, Bool, true, false, List, [], ◌∷◌, ◌++◌, length, take, drop, refl, sym, ap, ◌∙◌, arith}
+use Rattle.std.proofs.Common.{◌≡◌, ℕ, suc, Bool, true, false, List, [], ◌∷◌, ◌++◌, length, drop, refl, sym, ap, ◌∙◌, arith}
 use Rattle.std.specs.Prelude.{ℤ, pos, ◌≤ℤ◌, int_lt, not, ◌||◌, ◌==◌, is_some}
-use Rattle.std.specs.List.{slice_split, onto_first, flat_map, AllByRecursion}
+use Rattle.std.specs.List.{slice_split, onto_first, flat_map}
 use Rattle.std.proofs.lemmas.Int.{ints, by_lt_z}
-use Rattle.std.proofs.lemmas.Bool.{false≢true}
+use Rattle.std.proofs.lemmas.Bool.{false≢true, or_parts}
 use Rattle.std.proofs.lemmas.Bool.Decides.{nat_tests}
 use Rattle.std.proofs.lemmas.List.Splits.{slice_split-cons_yes, slice_split-cons_no}
 use Rattle.desk_ops.specs.declared.op.Symbol.{Symbol}
+use Rattle.desk_ops.proofs.Lists.{Each, Each-append, Each-drop, Each-take, Each-weaker}
 use Rattle.desk_units.specs.WedgeSum.{greatest}
 use Rattle.desk_case.specs.Case.{CaseValues, cell_of}
 use Rattle.desk_ops.specs.Op.{is_line_feed, is_space}
@@ -20,12 +21,9 @@ use Rattle.desk_job.specs.declared.JobFault.TheVariants.{NoMatrix}
 use Rattle.desk_job.proofs.Adding.{none_before}
 use Rattle.desk_job.proofs.Fitting.{copy_fits, ordinary_low}
 use Rattle.desk_job.proofs.ReadLaws.{Has, WordsHave}
-use Rattle.desk_job.proofs.SetLaws.{CanBeSet, each_append}
+use Rattle.desk_job.proofs.SetLaws.{CanBeSet}
 
 -- ---- symbols
-
-abbrev pub Each : {A : Type 0} → (A → Type 0) → List A → Type 0
-Each P xs = AllByRecursion P xs
 
 -- P, and no separator
 abbrev pub Inside : {A : Type 0} → (A → Bool) → (A → Type 0) → A → Type 0
@@ -50,25 +48,11 @@ drop_last_each Q ([] ∷ []) each = tt
 drop_last_each Q ((x ∷ xs) ∷ []) each = each
 drop_last_each Q (part ∷ next ∷ parts) each = (each.0, drop_last_each Q (next ∷ parts) each.1)
 
-each_of : {A : Type 0} (P Q : A → Type 0) (xs : List A) → ((x : A) → P x → Q x) → Each P xs → Each Q xs
-each_of P Q [] f each = tt
-each_of P Q (x ∷ xs) f each = (f x each.0, each_of P Q xs f each.1)
-
-take_each : {A : Type 0} (Q : A → Type 0) (n : ℕ) (xs : List A) → Each Q xs → Each Q (take n xs)
-take_each Q zero xs each = tt
-take_each Q (suc n) [] each = tt
-take_each Q (suc n) (x ∷ xs) each = (each.0, take_each Q n xs each.1)
-
-drop_each : {A : Type 0} (Q : A → Type 0) (n : ℕ) (xs : List A) → Each Q xs → Each Q (drop n xs)
-drop_each Q zero xs each = each
-drop_each Q (suc n) [] each = tt
-drop_each Q (suc n) (x ∷ xs) each = drop_each Q n xs each.1
-
 none_if : (b : Bool) (fault : JobFault) → fault_if b fault ≡ [] → b ≡ false
 none_if true fault none = absurd (let e : 1 ≡ 0 = ap length none in omega (arith, e))
 none_if false fault none = refl
 
-none_after : {A : Type 0} (xs ys : List A) → xs ++ ys ≡ [] → ys ≡ []
+pub none_after : {A : Type 0} (xs ys : List A) → xs ++ ys ≡ [] → ys ≡ []
 none_after [] ys none = none
 none_after (x ∷ xs) ys none = absurd (let e : length (x ∷ (xs ++ ys)) ≡ 0 = ap length none in omega (arith, e))
 
@@ -93,12 +77,12 @@ words_have : (case : CaseValues) (copy : List Symbol) → lacking case 0 copy �
 words_have case copy none =
     let known = none_lacking case 0 copy none in
     let parts = drop_last_each (Each (Inside is_line_feed (Known case))) (slice_split is_line_feed copy) (split_each is_line_feed (Known case) copy known) in
-    each_of (Each (Inside is_line_feed (Known case))) (λ p. WordsHave case (words p)) (paragraphs copy)
-    (λ p each. (each_of (Each (Inside is_space (Inside is_line_feed (Known case)))) (Each (Has case)) (words p)
-    (λ w inside. (each_of (Inside is_space (Inside is_line_feed (Known case))) (Has case) w
-    (λ y h. (has_known (is_space y) (is_line_feed y) (is_some (cell_of case y)) h.0.0 h.0.1 h.1)) inside))
-    (split_each is_space (Inside is_line_feed (Known case)) p each)))
-    parts
+    Each-weaker (Each (Inside is_line_feed (Known case))) (λ p. WordsHave case (words p))
+    (λ p each. (Each-weaker (Each (Inside is_space (Inside is_line_feed (Known case)))) (Each (Has case))
+    (λ w inside. (Each-weaker (Inside is_space (Inside is_line_feed (Known case))) (Has case)
+    (λ y h. (has_known (is_space y) (is_line_feed y) (is_some (cell_of case y)) h.0.0 h.0.1 h.1)) w inside))
+    (words p) (split_each is_space (Inside is_line_feed (Known case)) p each)))
+    (paragraphs copy) parts
 
 -- ---- lines
 
@@ -108,17 +92,17 @@ HasWords terms line = WordsHave terms.case line.words
 
 has_marked : (terms : Terms) (sizes : List ℕ) (ws : List (List Symbol)) → WordsHave terms.case ws → Each (HasWords terms) (marked (cut sizes ws))
 has_marked terms [] ws has = tt
-has_marked terms (size ∷ []) ws has = (take_each (Each (Has terms.case)) size ws has, tt)
+has_marked terms (size ∷ []) ws has = (Each-take (Each (Has terms.case)) size ws has, tt)
 has_marked terms (size ∷ next ∷ sizes) ws has = (
-  take_each (Each (Has terms.case)) size ws has,
-  has_marked terms (next ∷ sizes) (drop size ws) (drop_each (Each (Has terms.case)) size ws has),
+  Each-take (Each (Has terms.case)) size ws has,
+  has_marked terms (next ∷ sizes) (drop size ws) (Each-drop (Each (Has terms.case)) size ws has),
 )
 
 has_paragraphs : (terms : Terms) (ps : List (List Symbol)) → Each (λ p. WordsHave terms.case (words p)) ps →
     Each (HasWords terms) (flat_map (λ p. lines_of_words terms (words p)) ps)
 has_paragraphs terms [] each = tt
 has_paragraphs terms (p ∷ ps) each =
-    each_append (HasWords terms) (lines_of_words terms (words p)) (flat_map (λ p. lines_of_words terms (words p)) ps)
+    Each-append (HasWords terms) (lines_of_words terms (words p)) (flat_map (λ p. lines_of_words terms (words p)) ps)
     (has_marked terms (groups (tight_space terms) (pos (measure terms)) (widths terms (words p))) (words p) each.0) (has_paragraphs terms ps each.1)
 
 -- ---- faults of lines
@@ -127,10 +111,6 @@ not_less : (a b : ℤ) → int_lt a b ≡ false → b ≤ℤ a
 not_less a b e =
     by_lt_z a b (λ h. absurd (false≢true (sym e ∙ (let t : int_lt a b ≡ true = grind (arith, ints) in t)))) (λ h. h)
 
-neither : (a b : Bool) → (a || b) ≡ false → (a ≡ false) × (b ≡ false)
-neither true b e = absurd (false≢true (sym e))
-neither false b e = (refl, e)
-
 set_filled : (terms : Terms) (n : ℕ) (words : List (List Symbol)) (b : Bool) → b ≡ (spaces terms (record { words = words; filled = true }) == 0) → IsUsable terms →
     HasWords terms (record { words = words; filled = true }) → line_fault terms n (record { words = words; filled = true }) ≡ [] →
     CanBeSet terms (record { words = words; filled = true })
@@ -138,7 +118,7 @@ set_filled terms n words true is usable has none = absurd (let e = rw (← is) a
 set_filled terms n words false is usable has none =
     let line : SetLine = record { words = words; filled = true } in
     let e = rw (← is) at none in
-    let both = neither (int_lt (wedge_sum terms line) (pos terms.tight)) (int_lt (pos greatest) (wedge_sum terms line)) (none_if _ _ e) in
+    let both = or_parts (int_lt (wedge_sum terms line) (pos terms.tight)) (int_lt (pos greatest) (wedge_sum terms line)) (none_if _ _ e) in
     let low = not_less (wedge_sum terms line) (pos terms.tight) both.0 in
     let high = not_less (pos greatest) (wedge_sum terms line) both.1 in
     let tight = usable.tight.0 in

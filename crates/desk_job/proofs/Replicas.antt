@@ -1,7 +1,6 @@
 -- What a replica shows is no longer than what it holds, and its settings are in their ranges.
 use Rattle.std.proofs.Common.{◌≡◌, ◌⊎◌, inl, inr, ℕ, suc, ◌≤◌, Bool, true, false, cond, List, [], ◌∷◌, length, refl, sym, ap, ◌∙◌, Option, Some, None, subst, arith}
 use Rattle.std.specs.Prelude.{not, IfSome}
-use Rattle.std.specs.FinMap as fin
 use Rattle.desk_ops.specs.declared.op.Key.TheVariants.{Measure, Tight, Loose}
 use Rattle.desk_ops.proofs.Ends.{among_held}
 use Rattle.desk_replica.specs.JobSettings.{settings_of}
@@ -22,6 +21,7 @@ use Rattle.desk_ops.specs.Walk.{walk}
 use Rattle.desk_ops.specs.Shown.{is_deleted, shown, copy_of}
 use Rattle.desk_ops.specs.Settings.{setting_of, IsSetting}
 use Rattle.desk_ops.proofs.Lists.{each-among}
+use Rattle.desk_ops.proofs.OpSets.{length-in_order}
 use Rattle.desk_ops.proofs.Stamps.{same-refl}
 use Rattle.desk_ops.proofs.Tree.{walk-apart, walk-live}
 use Rattle.desk_ops.proofs.Values.{is_setting}
@@ -96,9 +96,6 @@ shown_few : (ops : List Op) → length (shown ops) ≤ length (walk ops)
 unfolding shown
 shown_few ops = filter_length (λ (x : Insertion). not (is_deleted ops x.stamp)) (walk ops)
 
-ops_number : (h : OpSet) → length (in_order h) ≡ size h
-ops_number h = length-map (fin.entries h) (λ e. e.0) ∙ sym (fin.len-entries h)
-
 -- the copy is no longer than the set
 pub copy_short : (h : OpSet) → AllLawful h → length (copy_of h) ≤ size h
 copy_short h lawful =
@@ -107,7 +104,7 @@ copy_short h lawful =
     let b = shown_few ops in
     let c = apart_few (walk ops) (live_inserts ops) (walk-apart h lawful) (walk-live ops) in
     let d = live_few ops in
-    let e = ops_number h in
+    let e = length-in_order h in
     omega (arith, a, b, c, d, e)
 
 -- a setting is in its key's range

@@ -3,9 +3,11 @@ use Rattle.std.proofs.Common.{◌≡◌, ℕ, zero, suc, ◌≤◌, Bool, true, 
 use Rattle.std.specs.Prelude.{ℤ, pos, negsuc, ◌≤ℤ◌, nat_le, ◌||◌, is_some}
 use Rattle.std.specs.List.{flat_map, zip, list_any, AllByRecursion}
 use Rattle.std.proofs.lemmas.Int.{ints}
+use Rattle.std.proofs.lemmas.Bool.{or_right}
 use Rattle.std.proofs.lemmas.Bool.Decides.{nat_tests}
 use Rattle.std.proofs.lemmas.List.Elements.{recursion_from_All}
 use Rattle.desk_ops.specs.declared.op.Symbol.{Symbol}
+use Rattle.desk_ops.proofs.Lists.{Each-append}
 use Rattle.desk_signals.specs.declared.Cell.{Cell}
 use Rattle.desk_signals.specs.declared.RibbonRow.{RibbonRow}
 use Rattle.desk_signals.specs.Rows.{IsRow}
@@ -63,13 +65,9 @@ same_cell-refl cell = eq-eqb (place cell) (place cell) refl
 or_first : (a b : Bool) → a ≡ true → (a || b) ≡ true
 or_first a b e = rw e refl
 
-or_second : (a b : Bool) → b ≡ true → (a || b) ≡ true
-or_second true b e = refl
-or_second false b e = e
-
 has_space : (case : CaseValues) → has_matrix case case.space ≡ true
 has_space case =
-    or_second (is_some (symbol_at case case.space)) (same_cell case.space case.space || list_any (same_cell case.space) case.fill)
+    or_right (is_some (symbol_at case case.space)) (same_cell case.space case.space || list_any (same_cell case.space) case.fill)
     (or_first (same_cell case.space case.space) (list_any (same_cell case.space) case.fill) (same_cell-refl case.space))
 
 each_map : {A : Type 0} (P Q : A → Type 0) (xs : List A) → ((x : A) → P x → Q x) → AllByRecursion P xs → AllByRecursion Q xs
@@ -81,7 +79,7 @@ self_any [] = tt
 self_any (c ∷ cells) = (
   or_first (same_cell c c) (list_any (same_cell c) cells) (same_cell-refl c),
   each_map (λ d. list_any (same_cell d) cells ≡ true) (λ d. list_any (same_cell d) (c ∷ cells) ≡ true) cells
-      (λ d e. or_second (same_cell d c) (list_any (same_cell d) cells) e) (self_any cells),
+      (λ d e. or_right (same_cell d c) (list_any (same_cell d) cells) e) (self_any cells),
 )
 
 both_each : {A : Type 0} (P Q : A → Type 0) (xs : List A) → AllByRecursion P xs → AllByRecursion Q xs → AllByRecursion (λ x. P x × Q x) xs
@@ -92,8 +90,8 @@ fills_in : (case : CaseValues) → IsCase case → AllByRecursion (IsIn case) ca
 fills_in case is =
     both_each (λ c. has_matrix case c ≡ true) IsCell case.fill
     (each_map (λ c. list_any (same_cell c) case.fill ≡ true) (λ c. has_matrix case c ≡ true) case.fill
-    (λ c e. or_second (is_some (symbol_at case c)) (same_cell case.space c || list_any (same_cell c) case.fill)
-    (or_second (same_cell case.space c) (list_any (same_cell c) case.fill) e)) (self_any case.fill))
+    (λ c e. or_right (is_some (symbol_at case c)) (same_cell case.space c || list_any (same_cell c) case.fill)
+    (or_right (same_cell case.space c) (list_any (same_cell c) case.fill) e)) (self_any case.fill))
     (recursion_from_All IsCell case.fill is.fill)
 
 pub case_sound : (case : CaseValues) → IsCase case → IsSound case
@@ -174,10 +172,6 @@ pub record ArePunched (terms : Terms) (ls : List SetLine) : Type 0 where
   pub read : AreLines terms ls (map (line_cast terms.case terms.wedge) punched)
   pub lawful : AllByRecursion IsRow (flat_map (line_rows terms) ls)
 
-pub each_append : {A : Type 0} (P : A → Type 0) (xs ys : List A) → AllByRecursion P xs → AllByRecursion P ys → AllByRecursion P (xs ++ ys)
-each_append P [] ys a b = b
-each_append P (x ∷ xs) ys a b = (a.0, each_append P xs ys a.1 b)
-
 pub lines_punched : (terms : Terms) (ls : List SetLine) → IsCase terms.case → AllByRecursion (CanBeSet terms) ls → ArePunched terms ls
 lines_punched terms [] is each = record { punched = []; rows = refl; have = tt; read = tt; lawful = tt }
 lines_punched terms (line ∷ ls) is each =
@@ -193,6 +187,6 @@ lines_punched terms (line ∷ ls) is each =
       rows = rw (here, more.rows) refl;
       have = (has_all terms.case (punches terms line) (line_in terms line is), more.have);
       read = (record { reads = line_reads terms line found.coarse found.fine sound set.has; not_over = short.0; short = short.1 }, more.read);
-      lawful = rw here (each_append IsRow (ribbon.line_rows one) (flat_map (line_rows terms) ls)
+      lawful = rw here (Each-append IsRow (ribbon.line_rows one) (flat_map (line_rows terms) ls)
           (rows_are terms.case (punches terms line) _ (line_in terms line is) (found.coarse_in, (found.fine_in, tt))) more.lawful);
     }

@@ -1,9 +1,9 @@
 -- The widths of a case's fills: all more than 0, and each less than the one before it.
-use Rattle.std.proofs.Common.{◌≡◌, ℕ, suc, ◌-◌, ◌*◌, ◌≤◌, ◌<◌, Bool, true, false, ◌&&◌, List, [], ◌∷◌, refl, arith}
+use Rattle.std.proofs.Common.{◌≡◌, ℕ, suc, ◌-◌, ◌*◌, ◌≤◌, ◌<◌, true, List, [], ◌∷◌, arith}
 use Rattle.std.specs.Prelude.{nat_lt}
 use Rattle.std.specs.List.{All, AllByRecursion}
 use Rattle.std.proofs.lemmas.Int.{ints}
-use Rattle.std.proofs.lemmas.Bool.{false≢true}
+use Rattle.std.proofs.lemmas.Bool.{and_parts}
 use Rattle.std.proofs.lemmas.Bool.Decides.{nat_tests}
 use Rattle.std.proofs.lemmas.List.Elements.{All-get_or, recursion_from_All, All-from_recursion}
 use Rattle.std.proofs.Math.Nat.{mul-le-mul_left}
@@ -54,11 +54,6 @@ all_positive w (cell ∷ cells) is cells_are =
     let e : 1 ≤ row_width w cell.row = omega (arith, low, some) in
     (omega (arith, ints, e), all_positive w cells is cells_are.1)
 
-both_true : (a b : Bool) → (a && b) ≡ true → (a ≡ true) × (b ≡ true)
-both_true true true e = (refl, refl)
-both_true true false e = absurd (false≢true e)
-both_true false b e = absurd (false≢true e)
-
 less_width : (n u v : ℕ) → 1 ≤ n → v < u → v * n < u * n
 less_width n u v some below =
     let more = mul-le-mul_left {m = suc v} {n = u} n below in omega (arith, some, more)
@@ -67,7 +62,7 @@ pub all_descend : (w : WedgeValues) (cells : List Cell) → IsWedge w → is_des
 all_descend w [] is told = tt
 all_descend w (cell ∷ []) is told = tt
 all_descend w (cell ∷ next ∷ cells) is told =
-    let parts = both_true (nat_lt (units_of_row w next.row) (units_of_row w cell.row)) (is_descending (units_of_cells w (next ∷ cells))) told in
+    let parts = and_parts (nat_lt (units_of_row w next.row) (units_of_row w cell.row)) (is_descending (units_of_cells w (next ∷ cells))) told in
     let test = parts.0 in
     let below : units_of_row w next.row < units_of_row w cell.row = grind (arith, nat_tests) in
     let less = less_width (unit_width w) (units_of_row w cell.row) (units_of_row w next.row) (unit_some w is) below in

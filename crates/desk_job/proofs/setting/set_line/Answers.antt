@@ -4,15 +4,11 @@ use Rattle.desk_job.specs.Setting.{Sets, line_at, words_at}
 use Rattle.desk_job.specs.declared.JobFault.{JobFault}
 use Rattle.desk_job.specs.declared.setting.Setting.{Setting}
 use Rattle.desk_job.proofs.Fitting.{reaches}
-use Rattle.desk_job.proofs.LineSizes.{measured_at, spaces_at, spaces_are, numbers_are, faulted, too_wide, fill_number}
-use Rattle.std.proofs.Common.{◌≡◌, ℕ, List, [], ◌∷◌}
-use Rattle.std.specs.Prelude.{ℤ, pos, ◌-ℤ◌, Result, Ok, Err, IsErrAnd}
-use Rattle.desk_justify.specs.Filled.{taken}
+use Rattle.desk_job.proofs.LineSizes.{left_of, measured_at, spaces_at, spaces_are, numbers_are, faulted, too_wide, fill_number}
+use Rattle.std.proofs.Common.{◌≡◌, ℕ, [], ◌∷◌}
+use Rattle.std.specs.Prelude.{Result, Ok, Err, IsErrAnd}
 use Rattle.desk_units.specs.WedgeSum.{pair_of}
 use Rattle.desk_job.proofs.setting.set_line.Goals as goal
-
-left_of : (gap rem : ℤ) (counts given : List ℕ) (widths : List ℤ) → given ≡ counts → gap ≡ rem -ℤ pos (taken given widths) → gap ≡ rem -ℤ pos (taken counts widths)
-left_of gap rem counts given widths same is = rw same at is
 
 -- a fault that `?` hands on
 handed_on : (terms : Terms) (n : ℕ) (line : SetLine) (r : Result Setting JobFault) (fault : JobFault) →
