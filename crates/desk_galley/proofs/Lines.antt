@@ -1,5 +1,5 @@
 -- The lines of a galley are those of the job.
-use Rattle.std.proofs.Common.{◌≡◌, ℕ, suc, Bool, true, false, List, [], ◌∷◌, ◌++◌, map, length, arith, refl, sym, ap, ◌∙◌, Some, None, if◌then◌else◌, ◌==◌}
+use Rattle.std.proofs.Common.{◌≡◌, ℕ, suc, Bool, true, false, List, [], ◌∷◌, ◌++◌, map, refl, sym, ap, ◌∙◌, Some, None, if◌then◌else◌, ◌==◌}
 use Rattle.std.specs.Prelude.{ℤ, pos, option_and_then}
 use Rattle.std.specs.List.{flat_map}
 use Rattle.desk_ops.specs.declared.op.Symbol.{Symbol}
@@ -17,6 +17,7 @@ use Rattle.desk_job.specs.Making.{all_lines, lines_at, paragraph_lines}
 use Rattle.desk_job.specs.declared.JobFault.{JobFault}
 use Rattle.desk_job.specs.declared.JobFault.TheVariants.{TooWide}
 use Rattle.desk_job.proofs.Adding.{none_before}
+use Rattle.desk_job.proofs.NoFaults.{none_after}
 use Rattle.desk_job.proofs.Paragraphs.{copy_is, paragraph_is}
 use Rattle.desk_galley.specs.Values.{LineValues}
 use Rattle.desk_galley.specs.Line.{Placed, line_of, values_of}
@@ -63,10 +64,6 @@ pub faults_are_of_job : (terms : Terms) (copy : List Symbol) →
     flat_map (λ (line : LineValues). line.faults) (galley_of terms copy) ≡ line_faults terms 1 (lines terms copy)
 faults_are_of_job terms copy =
     numbered_faults terms copy 1 (all_placed terms copy (words_of copy)) ∙ ap (line_faults terms 1) (copy_placed terms copy)
-
-pub none_after : {A : Type 0} (xs ys : List A) → xs ++ ys ≡ [] → ys ≡ []
-none_after [] ys none = none
-none_after (x ∷ xs) ys none = absurd (let e : length (x ∷ (xs ++ ys)) ≡ 0 = ap length none in omega (arith, e))
 
 -- a line without a fault has a space, and so the number that drives it
 rows_by_space : (b : Bool) (n : ℕ) (more : List JobFault) (ps : List Punch) (z : ℤ) → (if b then TooWide n ∷ [] else more) ≡ [] →

@@ -86,9 +86,6 @@ pub next_rest : (room : ℤ) (words : List Word) (found : List ℤ) (n : ℕ) �
     next_at room (take (length words - n) (drop n words)) (take (length found - n) (drop n found)) ≡ next_at room (drop n words) (drop n found)
 next_rest room words found n = rw (rest_is words n, rest_is found n) refl
 
-pub left_of : (gap rem : ℤ) (counts given : List ℕ) (found : List ℤ) → given ≡ counts → gap ≡ rem -ℤ pos (taken given found) → gap ≡ rem -ℤ pos (taken counts found)
-left_of gap rem counts given found same is = rw same at is
-
 pub set_out_is : (terms : Terms) (copy : List Symbol) (words : List Word) (found : List ℤ) (group : Group) (filled : Bool) (n width : ℕ) (added : Bool)
     (count : ℕ) (rem : ℤ) (counts : List ℕ) (gap room : ℤ) (v : LineValues) →
     Finds terms copy words found group filled n width added count rem counts gap room →

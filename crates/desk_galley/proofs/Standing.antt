@@ -1,10 +1,11 @@
 -- The lines of a galley have words that stand in the copy.
-use Rattle.std.proofs.Common.{◌≡◌, ℕ, zero, suc, ◌-◌, ◌≤◌, List, [], ◌∷◌, length, take, drop, ◌∙◌, subst, arith, length-take, length-drop}
+use Rattle.std.proofs.Common.{◌≡◌, ℕ, suc, ◌-◌, ◌≤◌, List, [], ◌∷◌, length, drop, ◌∙◌, subst, arith, length-take, length-drop}
 use Rattle.std.specs.Prelude.{ℤ, pos, IfSome}
-use Rattle.std.specs.List.{All, AllByRecursion}
+use Rattle.std.specs.List.{All}
 use Rattle.std.proofs.lemmas.List.{length-map}
 use Rattle.std.proofs.lemmas.List.Elements.{All-from_recursion, recursion_from_All}
 use Rattle.desk_ops.specs.declared.op.Symbol.{Symbol}
+use Rattle.desk_ops.proofs.Lists.{Each, Each-append, Each-drop, Each-take}
 use Rattle.desk_lines.specs.declared.words.Word.{Word}
 use Rattle.desk_lines.specs.declared.groups.Group.{Group}
 use Rattle.desk_lines.specs.Words.{spelled, words_of, most_symbols}
@@ -14,23 +15,9 @@ use Rattle.desk_job.specs.Making.{AreWordsOf, IsRange}
 use Rattle.desk_job.specs.Setting.{IsWord, words_at}
 use Rattle.desk_job.proofs.LineSizes.{fill_number, fills_number}
 use Rattle.desk_job.proofs.Paragraphs.{groups_in_range, words_stand}
-use Rattle.desk_job.proofs.SetLaws.{each_append}
 use Rattle.desk_galley.specs.declared.line.Next.{Next}
 use Rattle.desk_galley.specs.Line.{Placed, free, line_of, next_at}
 use Rattle.desk_galley.specs.Galley.{Stands, all_placed, galley_of, numbered, placed_at, placed_in}
-
-abbrev Each : {A : Type 0} → (A → Type 0) → List A → Type 0
-Each P xs = AllByRecursion P xs
-
-take_each : {A : Type 0} (Q : A → Type 0) (n : ℕ) (xs : List A) → Each Q xs → Each Q (take n xs)
-take_each Q zero xs each = tt
-take_each Q (suc n) [] each = tt
-take_each Q (suc n) (x ∷ xs) each = (each.0, take_each Q n xs each.1)
-
-drop_each : {A : Type 0} (Q : A → Type 0) (n : ℕ) (xs : List A) → Each Q xs → Each Q (drop n xs)
-drop_each Q zero xs each = each
-drop_each Q (suc n) [] each = tt
-drop_each Q (suc n) (x ∷ xs) each = drop_each Q n xs each.1
 
 -- The place has words of the copy.
 record IsPlace (copy : List Symbol) (placed : Placed) : Type 0 where
@@ -48,8 +35,8 @@ groups_stand copy words (group ∷ groups) each ranges =
     let b = length-drop group.from words in (
       record {
         some = omega (arith, order, within, a, b);
-        words = take_each (IsWord copy) (group.to - group.from) (drop group.from words) (drop_each (IsWord copy) group.from words each);
-        after = drop_each (IsWord copy) group.to words each;
+        words = Each-take (IsWord copy) (group.to - group.from) (drop group.from words) (Each-drop (IsWord copy) group.from words each);
+        after = Each-drop (IsWord copy) group.to words each;
       },
       groups_stand copy words groups each ranges.1,
     )
@@ -67,7 +54,7 @@ paragraph_stands terms copy words are =
 paragraphs_stand : (terms : Terms) (copy : List Symbol) (found : List (List Word)) → Each (AreWordsOf copy) found → Each (IsPlace copy) (all_placed terms copy found)
 paragraphs_stand terms copy [] each = tt
 paragraphs_stand terms copy (words ∷ found) each =
-    each_append (IsPlace copy) (placed_in terms copy words) (all_placed terms copy found) (paragraph_stands terms copy words each.0) (paragraphs_stand terms copy found each.1)
+    Each-append (IsPlace copy) (placed_in terms copy words) (all_placed terms copy found) (paragraph_stands terms copy words each.0) (paragraphs_stand terms copy found each.1)
 
 next_stands : (copy : List Symbol) (room : ℤ) (after : List Word) (found : List ℤ) → Each (IsWord copy) after →
     IfSome (next_at room after found) (λ (next : Next). IsWord copy next.word)

@@ -1,5 +1,6 @@
 use Rattle.std.proofs.Common.{refl, ◌∙◌}
-use Rattle.desk_galley.proofs.SetOut.{left_of, next_rest, set_out_is}
+use Rattle.desk_job.proofs.LineSizes.{left_of}
+use Rattle.desk_galley.proofs.SetOut.{next_rest, set_out_is}
 use Rattle.desk_galley.proofs.line.set_out.Goals as goal
 
 pub returns : goal.returns
