@@ -69,7 +69,7 @@ module _ (one other : List Symbol) where
   abbrev pub IsBegun : Front → Point → ℕ → Type 0
   IsBegun front point limit = IsAlike one other front point limit ⊎ BeginsApart one other front.open (length one)
 
-  -- a front begins where no word was compared
+  -- it begins where no word was compared
   pub begun_here : (point at : Point) (limit : ℕ) → IsReached one other at point → limit ≤ point.one + 1 → IsBegun (record { «open» = point; last = point }) point limit
   begun_here point at limit r le = inl (record { same = none_between one other at point r; last = refl; apart = λ p whole s lt in_limit same. omega (arith, le, lt, in_limit) })
 

@@ -1,5 +1,5 @@
 -- Stamps by site and then by counter, each once.
-use Rattle.std.proofs.Common.{◌≡◌, ◌∙◌, ℕ, zero, suc, ◌<◌, Bool, true, not, ◌&&◌, List, [], ◌∷◌, length, get_or, map, refl, sym, ap, subst, inl, inr, arith, IsPermutation}
+use Rattle.std.proofs.Common.{◌≡◌, ◌∙◌, ℕ, zero, suc, ◌<◌, Bool, true, not, ◌&&◌, List, [], ◌∷◌, length, get_or, map, sym, ap, subst, inl, inr, arith, IsPermutation}
 use Rattle.std.specs.Prelude.{◌↔◌, ◌==◌, T}
 use Rattle.std.specs.List.{Contains, dedup}
 use Rattle.std.specs.List.Sorted.{IsSorted, IsStrictlySortedBy}

@@ -6,7 +6,7 @@ use Rattle.desk_difference.specs.declared.stretch.Stretch.{Stretch}
 use Rattle.desk_difference.specs.declared.stretches.Front.{Front}
 use Rattle.desk_difference.specs.Stretches.{AreApart, AreSame, BeginsApart, DifferIn, IsReached, is_whole, of_one, of_other, start}
 
--- no front of what two copies have behind a point is the same
+-- no prefix of what two copies have behind a point is the same
 abbrev pub IsParted : List Symbol → List Symbol → Point → Type 0
 IsParted one other from = (point : Point) → IsReached one other from point → from.one < point.one → of_one one from point ≢ of_other other from point
 

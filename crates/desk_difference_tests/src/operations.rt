@@ -2,7 +2,7 @@ use crate::rooms::{Letter, keyed, lettered, tells, told};
 use desk_files::trial::TrialFiles;
 use std::test::Fail;
 
-/// What is told where neither feed has anything alone.
+/// What is said where neither feed has anything alone.
 const NONE: &str = "one.feed alone none\ntwo.feed alone none\n";
 
 #[test]
@@ -89,7 +89,7 @@ fn stamps_with_two_contents(rt: HostRuntime) -> Result<(), Fail> {
     Ok(())
 }
 
-/// A forked stamp is told once, and neither of its inserts is shown.
+/// A forked stamp is reported once, and neither of its inserts is shown.
 #[test]
 fn forked_stamps(rt: HostRuntime) -> Result<(), Fail> {
     let fork: [Letter; 2] = [(1, 1, b'a'), (1, 1, b'b')];
@@ -114,7 +114,7 @@ fn deletes_that_one_has_alone(rt: HostRuntime) -> Result<(), Fail> {
     Ok(())
 }
 
-/// Names are told as they were given.
+/// Names are written as they were given.
 #[test]
 fn names_of_the_feeds(rt: HostRuntime) -> Result<(), Fail> {
     let mut files = TrialFiles::new(rt.alloc());

@@ -35,7 +35,7 @@ fn fault_of(
     Ok(left.ended.err())
 }
 
-/// The first feed is told before the other.
+/// The first feed is reported before the other.
 #[test]
 fn feeds_that_are_not_opened(rt: HostRuntime) -> Result<(), Fail> {
     let missing = FeedTrouble::File(FileRefusal::Missing);

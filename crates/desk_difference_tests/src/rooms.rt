@@ -1,4 +1,4 @@
-//! Feeds of texts, and what is told of two.
+//! Feeds of texts, and what is said of two.
 
 use desk_difference::{DifferenceFault, tell_difference};
 use desk_files::trial::{TrialFiles, TrialReader};
@@ -72,7 +72,7 @@ pub struct Left {
     pub ended: Result<bool, DifferenceFault>,
 }
 
-/// What is told of two feeds of some files.
+/// What is said of two feeds of some files.
 pub fn told(
     alloc: Global,
     files: &mut TrialFiles<Global>,
@@ -84,7 +84,7 @@ pub fn told(
     Ok(Left { text, ended })
 }
 
-/// Whether this is told of the two feeds.
+/// Whether this is said of the two feeds.
 pub fn tells(
     alloc: Global,
     files: &mut TrialFiles<Global>,

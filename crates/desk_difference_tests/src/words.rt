@@ -28,7 +28,7 @@ fn behind_two(text: &[u8]) -> &[u8] {
     &[]
 }
 
-/// Whether these lines are told of two copies.
+/// Whether these lines are written of two copies.
 fn is_so(alloc: Global, row: Row) -> Result<bool, Fail> {
     let (one, other, lines) = row;
     let mut files = keyed(alloc, one.as_bytes(), other.as_bytes())?;
@@ -36,7 +36,7 @@ fn is_so(alloc: Global, row: Row) -> Result<bool, Fail> {
     Ok(left.ended.is_ok() && behind_two(&left.text) == lines.as_bytes())
 }
 
-/// Words are told whole, and stretches that touch as one.
+/// Words are written whole, and stretches that touch as one.
 #[test]
 fn words_that_differ(rt: HostRuntime) -> Result<(), Fail> {
     let rows: [Row; 10] = [

@@ -96,7 +96,7 @@ fn files_that_fail_under_a_drawing(rt: HostRuntime) -> Result<(), Fail> {
 /// The bytes of the heap of the next test.
 const HEAP: usize = 65_536;
 
-/// Whether a fault tells of memory.
+/// Whether a fault is of memory.
 fn is_of_memory(fault: ReadingFault) -> bool {
     match fault {
         ReadingFault::NoMemory => true,

@@ -135,7 +135,7 @@ impl<'a> HostFiles<'a> {
     }
 }
 
-/// The mode that the system tells of a file, if one is there.
+/// The mode that the system reports of a file, if one is there.
 fn mode_in(found: io::Result<Metadata>) -> io::Result<Option<u32>>
     ensures there { IfOk found (λ file. result ≡ Ok (Some (metadata_mode file))) }
     ensures missing { IfErr found (λ error. error_kind error ≡ ErrorKind.NotFound → result ≡ Ok None) }

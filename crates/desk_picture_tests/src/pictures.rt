@@ -61,7 +61,7 @@ fn line_with_its_fills(rt: HostRuntime) -> Result<(), Fail> {
 }
 
 /// Italic and small capitals stand in spans, one for each run; a symbol that the case lacks stands in one of its own, has no
-/// width, and is told above, where `<` is escaped.
+/// width, and is reported above, where `<` is escaped.
 #[test]
 fn styles_and_escapes(rt: HostRuntime) -> Result<(), Fail> {
     let copy = [

@@ -20,7 +20,7 @@ pub made_rows : (bytes : List ℕ) (made : Result (List RibbonRow) (List JobFaul
 made_rows bytes (Ok rows) is = (rows, refl, is)
 made_rows bytes (Err found) is = absurd is
 
--- where the faults of a job are not told
+-- where the faults of a job are not reported
 pub untold_faults : (from : Sources) (target : List ℕ) (first last : Shelf) (before after : Option (List ℕ)) (set : OpSet) (case : CaseValues) (wedge : WedgeValues) (found : List JobFault) (why : LineFault)
     → Give from first set case wedge → job_of set case wedge ≡ Err found → last ≡ first → IsUntold found before after why → IsUnpunched from target first last before after (of_line why)
 untold_faults from target first last before after set case wedge found lines.NoMemory give refused same untold = (untold, inr (same, (set, case, wedge, give)))

@@ -43,16 +43,16 @@ abbrev pub LacksGalley : OpSet → CaseValues → WedgeValues → Settings → J
 LacksGalley set case wedge trial why =
     (no_terms case wedge (values_of (tried trial set)) ≡ why ∷ []) × (job (copy_of set) (tried trial set) case wedge ≡ Err (why ∷ []))
 
--- it is told why there is none
+-- it says why there is none
 abbrev pub HasNoGalley : OpSet → CaseValues → WedgeValues → Settings → List ℕ → Bool → Type 0
 HasNoGalley set case wedge trial told clean =
     (why : JobFault) × LacksGalley set case wedge trial why × (told ≡ no_galley_text (faults_of set) why) × (clean ≡ false)
 
--- what is told of a set by a case and a wedge
+-- what is said of a set by a case and a wedge
 abbrev pub IsTold : OpSet → CaseValues → WedgeValues → Settings → Extent → List ℕ → Bool → Type 0
 IsTold set case wedge trial extent told clean = HasProof set case wedge trial extent told clean ⊎ HasNoGalley set case wedge trial told clean
 
--- what is told of what the sources give
+-- what is said of what the sources give
 abbrev pub IsProofOf : Sources → Shelf → Settings → Extent → List ℕ → Bool → Type 0
 IsProofOf from shelf trial extent told clean = (set : OpSet) × (case : CaseValues) × (wedge : WedgeValues) × Give from shelf set case wedge × IsTold set case wedge trial extent told clean
 

@@ -134,7 +134,7 @@ fn closed_output_of_a_punch(rt: HostRuntime) -> Result<(), Fail> {
 /// The bytes of the heap of the next test.
 const HEAP: usize = 1_048_576;
 
-/// Whether a fault tells of memory.
+/// Whether a fault is of memory.
 fn is_of_memory(fault: PreviewFault) -> bool {
     match fault {
         PreviewFault::NoMemory => true,

@@ -27,7 +27,7 @@ mode_of manner = record { strict = manner.strict; number = manner.number }
 abbrev pub IsAnswered : Shelf → Shelf → Option (List ℕ) → Option (List ℕ) → Option (List ℕ) → Type 0
 IsAnswered first last input before after = IfSome input (λ bytes. (new : Sites) × Answers (desk no_sites first) (desk new last) bytes before after)
 
--- a front of it was
+-- a prefix of it was
 abbrev pub IsCutOff : Shelf → Shelf → Option (List ℕ) → Option (List ℕ) → Option (List ℕ) → Type 0
 IsCutOff first last input before after = IfSome input (λ bytes. AnswersFront (desk no_sites first) last bytes before after)
 

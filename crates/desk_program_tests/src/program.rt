@@ -5,7 +5,7 @@ use desk_program::program;
 use std::alloc::{AllocError, Global};
 use std::test::Fail;
 
-/// A status, what was written, and what was told of faults.
+/// A status, what was written, and what was said of faults.
 #[derive(Drop)]
 struct Outcome {
     status: u8,
@@ -77,7 +77,7 @@ fn two_sites_show_ab(rt: HostRuntime) -> Result<(), Fail> {
     Ok(())
 }
 
-/// Refused words have the status 2; something is told of them, and nothing is written.
+/// Refused words have the status 2; something is said of them, and nothing is written.
 fn is_refused(got: &Outcome) -> bool {
     got.status == 2 && got.written.written().is_empty() && !got.faults.written().is_empty()
 }
@@ -118,7 +118,7 @@ fn refused_words(rt: HostRuntime) -> Result<(), Fail> {
     Ok(())
 }
 
-/// Help has the status 0 and is written; nothing is told of faults.
+/// Help has the status 0 and is written; nothing is said of faults.
 fn is_help(got: &Outcome) -> bool {
     got.status == 0 && !got.written.written().is_empty() && got.faults.written().is_empty()
 }
@@ -498,7 +498,7 @@ fn set(alloc: Global, files: &mut TrialFiles<Global>) -> Result<bool, AllocError
     Ok(got.status == 0)
 }
 
-/// Whether a run ended with this status, and this was written and told.
+/// Whether a run ended with this status, and this was written and said.
 fn ended(got: &Outcome, status: u8, written: &[u8], told: &[u8]) -> bool {
     got.status == status && got.written.written() == written && got.faults.written() == told
 }

@@ -41,7 +41,7 @@ fn read(
     }
 }
 
-/// Whether a ribbon is told so by a wedge, and is whole or not.
+/// Whether this is said of a ribbon by a wedge, and it is whole or not.
 fn is_told(
     alloc: Global,
     ribbon: &str,
@@ -96,7 +96,7 @@ fn first_fault_is_told(rt: HostRuntime) -> Result<(), Fail> {
     Ok(())
 }
 
-/// Why nothing is told.
+/// Why nothing is written.
 fn fault_of(
     alloc: Global,
     k: u64,

@@ -102,7 +102,7 @@ fn sorts_are_told(rt: HostRuntime) -> Result<(), Fail> {
     Ok(())
 }
 
-/// Why nothing is told.
+/// Why nothing is written.
 fn fault_of(alloc: Global, k: u64, names: (&str, &str)) -> Result<Option<SortsFault>, Fail> {
     Ok(told(alloc, k, names, true)?.err())
 }

@@ -71,7 +71,7 @@ Lacks rows subcommands.Punch = (from : Sources) (target : Text) → NamesSources
 Lacks rows subcommands.Read = (ribbon case wedge : Text) → NamesRibbon rows ribbon case wedge → ⊥
 Lacks rows subcommands.Sorts = (feed case : Text) → NamesFeed rows feed → Names (codes "case") rows case → ⊥
 
--- no wish is told by matches that lack what its subcommand wants
+-- matches that lack what its subcommand wants ask for no wish
 none_told : (rows : List Row) (wish : Wish) → Lacks rows (subcommand_asked wish) → Tells rows wish → ⊥
 none_told rows (wishes.Script manner) lacks tells = lacks
 none_told rows (wishes.Desk feed site why manner) lacks tells = lacks feed.now site tells.0

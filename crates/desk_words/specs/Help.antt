@@ -1,4 +1,4 @@
--- What the help and the version tell.
+-- What the help and the version say.
 use Rattle.std.specs.Prelude.{◌≡◌, Option, Some, false, option_map}
 use Rattle.clap.specs.Words.{Text}
 use Rattle.clap.specs.declared.builder.arg.Arg.{Arg}
@@ -16,7 +16,7 @@ pub record IsShown (argument : Arg) (help : Text) : Type 0 where
 abbrev pub version_of : Command → Option Text
 version_of command = option_map (λ s. s.now) (out-Command command).version
 
--- what the help tells of a command: this in one line, and this below
+-- what the help says of a command: this in one line, and this below
 pub record HasTexts (command : Command) (about help : Text) : Type 0 where
   pub above : option_map (λ s. s.now) (out-Command command).about ≡ Some about
   pub below : option_map (λ s. s.now) (out-Command command).after_help ≡ Some help

@@ -32,7 +32,7 @@ pub struct Sources<'a> {
     pub wedge: &'a str,
 }
 
-/// How commands are to be carried out and told, as the flags say.
+/// How commands are to be carried out and answered, as the flags say.
 #[derive(Clone, Copy, Debug, PartialEq, Eq)]
 pub struct Manner {
     /// The run ends at the first line that is refused.
@@ -83,7 +83,7 @@ pub enum Wish<'a> {
         new: &'a str,
         plain: bool,
     },
-    /// Files, told by their content.
+    /// Files, known by their content.
     Check {
         files: Vec<&'a str>,
     },
