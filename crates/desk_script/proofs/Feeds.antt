@@ -17,7 +17,7 @@ use Rattle.desk_stored.specs.declared.fault.OpenFault.TheVariants as openings
 use Rattle.desk_script.specs.declared.fault.LineFault.{LineFault}
 use Rattle.desk_script.specs.declared.fault.LineFault.TheVariants as lines
 use Rattle.desk_script.specs.declared.fault.RunFault.TheVariants as faults
-use Rattle.desk_script.specs.Faults.{of_file, of_lines, of_opening}
+use Rattle.desk_script.specs.Fault.{of_file, of_lines, of_opening}
 use Rattle.desk_script.specs.FeedRun.{one_site}
 
 -- the site of the feed is there to the end

@@ -5,7 +5,7 @@ use Rattle.desk_ops.specs.declared.op.Op.{Op}
 use Rattle.desk_ops.specs.OpSet.{OpSet, max_ops, no_ops, size, with_all}
 use Rattle.desk_codec.specs.Runs.{set_feed}
 use Rattle.desk_files.specs.Files.{Counts, IsNowHeld, Reads, Shelf, Stays}
-use Rattle.desk_script.specs.Faults.{of_file, of_lines, of_opening}
+use Rattle.desk_script.specs.Fault.{of_file, of_lines, of_opening}
 use Rattle.desk_stored.specs.Fault.{IsNotStored, IsUnopened, IsUnread, IsUntaken}
 use Rattle.desk_stored.specs.Stored.{IsStoredAs, Stores}
 use Rattle.desk_stored.specs.declared.fault.OpenFault.{OpenFault}

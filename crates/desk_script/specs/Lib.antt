@@ -18,5 +18,5 @@ pub mod Lines
 pub mod Examples
 pub mod Script
 pub mod FeedRun
-pub mod Faults
+pub mod Fault
 pub mod Pending

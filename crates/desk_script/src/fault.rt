@@ -1,7 +1,7 @@
 //! Why a run of a script stopped, by the phase in which it did.
 
 ghost use Rattle.std.specs.Prelude.{◌≡◌};
-ghost use Rattle.desk_script.specs.Faults.{of_file, of_lines, of_opening};
+ghost use Rattle.desk_script.specs.Fault.{of_file, of_lines, of_opening};
 ghost use Rattle.desk_script.specs.declared.fault.LineFault.TheVariants as lines;
 
 use desk_codec::FeedFault;

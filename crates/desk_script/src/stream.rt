@@ -11,7 +11,7 @@ ghost use Rattle.desk_steps.specs.Desk.{KeepsSites, desk};
 ghost use Rattle.desk_files.specs.Files.{Stays};
 ghost use Rattle.desk_script.specs.Script.{Turn, Fronts, StopsBefore, Answers, AnswersBefore, AnswersFront, IsTold};
 ghost use Rattle.desk_stored.specs.Sending.{WritesFront};
-ghost use Rattle.desk_script.specs.Faults.{IsOfLines};
+ghost use Rattle.desk_script.specs.Fault.{IsOfLines};
 ghost use Rattle.desk_script.specs.Pending.{Moves, lines_from, last_line};
 
 use crate::fault::{LineFault, RunFault};

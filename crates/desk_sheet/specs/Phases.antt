@@ -1,6 +1,6 @@
 -- Why a sheet was not carried out, by the phase in which it stopped.
 use Rattle.desk_files.specs.declared.input.ReaderFault.TheVariants as readers
-use Rattle.desk_script.specs.Faults.{of_file, of_opening}
+use Rattle.desk_script.specs.Fault.{of_file, of_opening}
 use Rattle.desk_script.specs.declared.fault.RunFault.TheVariants as runs
 use Rattle.desk_sheet.specs.declared.fault.AnswerFault.{AnswerFault}
 use Rattle.desk_sheet.specs.declared.fault.AnswerFault.TheVariants as answers

@@ -4,7 +4,7 @@ use Rattle.std.specs.Io.KnownBytes.{IsAtEnd}
 use Rattle.desk_files.specs.declared.files.FileRefusal.{FileRefusal}
 use Rattle.desk_files.specs.Files.{IsNowHeld, Shelf, Stays}
 use Rattle.desk_stored.specs.Fault.{IsNotStored, IsUnread, IsUntaken}
-use Rattle.desk_script.specs.Faults.{of_file}
+use Rattle.desk_script.specs.Fault.{of_file}
 use Rattle.desk_script.specs.FeedRun.{IsClosed, IsStart, IsStored}
 use Rattle.desk_steps.specs.Desk.{Desk}
 use Rattle.desk_sheet.specs.Phases.{of_taking}

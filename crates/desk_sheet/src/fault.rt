@@ -1,7 +1,7 @@
 //! Why a sheet was not carried out, by the phase in which it stopped.
 
 ghost use Rattle.std.specs.Prelude.{◌≡◌};
-ghost use Rattle.desk_script.specs.Faults.{of_file};
+ghost use Rattle.desk_script.specs.Fault.{of_file};
 ghost use Rattle.desk_stored.specs.declared.fault.OpenFault.TheVariants as openings;
 ghost use Rattle.desk_sheet.specs.Phases.{of_answers, of_taking};
 ghost use Rattle.desk_sheet.specs.declared.fault.AnswerFault.TheVariants as answers;
