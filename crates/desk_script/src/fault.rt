@@ -8,6 +8,7 @@ use desk_codec::FeedFault;
 use desk_files::FileRefusal;
 use desk_replica::Stopped;
 use desk_stored::{OpenFault, Unsent};
+use std::alloc::AllocFailed;
 use thiserror::Error;
 
 /// Why a run stopped before its end.
@@ -47,6 +48,14 @@ pub enum LineFault {
     TooLong,
     /// A line could not be kept.
     NoMemory,
+}
+
+impl<T: Drop> From<AllocFailed<T>> for LineFault {
+    ghost from_gives = { λ _ fault. fault ≡ lines.NoMemory };
+
+    fn from(_error: AllocFailed<T>) -> LineFault {
+        LineFault::NoMemory
+    }
 }
 
 impl From<Unsent> for LineFault {

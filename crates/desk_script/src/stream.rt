@@ -128,10 +128,7 @@ fn keep<A: Allocator + Copy>(line: &mut Vec<u8, A>, byte: u8) -> Result<(), Line
     if line.len() == PENDING_LIMIT {
         return Ok(());
     }
-    match line.push(byte) {
-        Ok(()) => Ok(()),
-        Err(_) => Err(LineFault::NoMemory),
-    }
+    Ok(line.push(byte)?)
 }
 
 /// Takes the next byte, and answers the line that it ends.

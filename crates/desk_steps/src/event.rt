@@ -24,10 +24,10 @@ pub fn replica_of<A: Allocator + Copy>(
     let Ok(number) = u16::try_from(site) else {
         return Err(Failure::Refused(Refusal::Site));
     };
-    match world.replica(number) {
-        Some(replica) => Ok(replica),
-        None => Err(Failure::Refused(Refusal::Site)),
-    }
+    let Some(replica) = world.replica(number) else {
+        return Err(Failure::Refused(Refusal::Site));
+    };
+    Ok(replica)
 }
 
 /// The number of a site that is there.
