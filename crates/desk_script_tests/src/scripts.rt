@@ -132,7 +132,7 @@ fn written_up_to(alloc: Global, k: usize, kind: Option<ErrorKind>) -> Result<(),
 }
 
 /// How many bytes the first lines of a text have.
-fn front(text: &[u8], lines: usize) -> usize {
+fn length_of_lines(text: &[u8], lines: usize) -> usize {
     let mut left = lines;
     for (k, byte) in text.iter().enumerate() {
         if left == 0 {
@@ -207,8 +207,8 @@ fn read_up_to(alloc: Global, failing_call: usize, kind: ErrorKind) -> Result<(),
     let read = calls.saturating_sub(1).min(TWO_SITES.len());
     let lines = ended(&TWO_SITES[..read]);
     let answers = TWO_SITES_ANSWERS;
-    let told = front(answers, lines).min(answers.len());
-    same(&written, &answers[..told])
+    let length = length_of_lines(answers, lines).min(answers.len());
+    same(&written, &answers[..length])
 }
 
 #[test]

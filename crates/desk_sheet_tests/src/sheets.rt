@@ -142,7 +142,7 @@ fn breaks(
     same(writer.written(), want)
 }
 
-/// Nothing is written where the reader fails, and a prefix where the writer does; a stop is not told then.
+/// Nothing is written where the reader fails, and a prefix where the writer does; a stop is not reported then.
 #[test]
 fn failing_reader_and_writer(rt: HostRuntime) -> Result<(), Fail> {
     let alloc = rt.alloc();
