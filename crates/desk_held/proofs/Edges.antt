@@ -1,29 +1,26 @@
 -- Where a search among rising operations ends, and what it says of the set.
 use Rattle.std.proofs.Common.{◌≡◌, ℕ, zero, suc, ◌+◌, ◌-◌, ◌<◌, ◌≤◌, ◌⊎◌, inl, inr, Bool, true, false, not, List, [], ◌∷◌, length, take, drop, get_or, refl, sym, ap, subst, ◌∙◌, arith}
 use Rattle.std.specs.Prelude.{T, Some, None}
-use Rattle.std.specs.Ordering.{is_lt, is_eq, eq_by_cmp, ordering_reverse}
+use Rattle.std.specs.Ordering.{is_lt, is_eq, eq_by_cmp}
 use Rattle.std.specs.declared.cmp.Ordering.{Ordering}
 use Rattle.std.specs.declared.cmp.Ordering.TheVariants.{Less, Equal, Greater}
-use Rattle.std.specs.Cmp.{second_so}
-use Rattle.std.specs.List.{insert, list_any, AllByRecursion, AllWithin}
+use Rattle.std.specs.List.{list_any, AllByRecursion, AllWithin}
 use Rattle.std.specs.List.Sorted.{IsPartitionedBy}
-use Rattle.std.specs.FinMap.Entries.{below_all}
 use Rattle.std.proofs.Math.Nat.{eq-or-lt_of_le}
-use Rattle.std.proofs.lemmas.Bool.{true≢false, cases_lt}
+use Rattle.std.proofs.lemmas.Bool.{true≢false, cases_lt, not-true, not_from_false}
 use Rattle.std.proofs.lemmas.Cmp.{tied_itself}
-use Rattle.std.proofs.lemmas.List.{take-append-drop, get_or_default, drop_all}
+use Rattle.std.proofs.lemmas.List.{take-append-drop, get_or_default, drop_all, drop_more}
 use Rattle.desk_ops.specs.declared.op.Stamp.{Stamp}
 use Rattle.desk_ops.specs.declared.op.Op.{Op}
 use Rattle.desk_ops.specs.Op.{stamp_of}
 use Rattle.desk_ops.specs.Order.{op_cmp}
 use Rattle.desk_ops.specs.OrderLaws.{op_total}
-use Rattle.desk_ops.specs.OpSet.{is_rising, from_rising, has_op, entries_of}
+use Rattle.desk_ops.specs.OpSet.{is_rising, from_rising, has_op}
 use Rattle.desk_ops.specs.Held.{bears, bearing, sole, is_borne}
 use Rattle.desk_ops.specs.Stamp.{same, before}
 use Rattle.desk_ops.specs.Lists.{Among}
-use Rattle.desk_ops.proofs.Stamps.{by_cases, is_less, is_equal, same-true, before-trans, before-other}
-use Rattle.desk_ops.proofs.OpSets.{IsGap, rising_less, has_op-from_rising, absent_from_gap, present_at}
-use Rattle.desk_ops.proofs.Means.{of-T}
+use Rattle.desk_ops.proofs.Stamps.{by_cases, is_less, is_equal, same-true, before-squeeze}
+use Rattle.desk_ops.proofs.OpSets.{IsGap, rising_less, has_op-from_rising, absent_from_gap, present_at, greater, lesser, rising-drop}
 use Rattle.desk_ops.proofs.Lists.{among-filter, among-filter_from}
 use Rattle.desk_ops.proofs.Deletes.{any_some, some_any}
 use Rattle.desk_ops.proofs.Tree.{filter-hit}
@@ -54,12 +51,6 @@ module _ (p : Op → Bool) (ops : List Op) (part : IsPartitionedBy p ops) (i : �
   pub picked-all : AllByRecursion (λ y. p y ≡ true) (take i ops)
   picked-all = taken (λ y. p y ≡ true) ops i (λ k d low high. picked-at k d high) edge.within
 
-greater : (x y : Op) → op_cmp y x ≡ Less → op_cmp x y ≡ Greater
-greater x y e = op_total.antisymm x y ∙ ap ordering_reverse e
-
-lesser : (x y : Op) → op_cmp y x ≡ Greater → op_cmp x y ≡ Less
-lesser x y e = op_total.antisymm x y ∙ ap ordering_reverse e
-
 abbrev pub earlier : Op → Op → Bool
 earlier op x = is_lt (op_cmp x op)
 
@@ -76,27 +67,14 @@ earlier-first op ops rising i j d le lt e = go (eq-or-lt_of_le le)
     go (inl q) = ap (λ k. earlier op (get_or ops k d)) q ∙ e
     go (inr l) = ap is_lt (op_total.trans (get_or ops i d) (get_or ops j d) op (rising_less ops i j d rising l lt) (is_less (op_cmp (get_or ops j d) op) e))
 
-not-true : (b : Bool) → b ≡ false → not b ≡ true
-not-true b e = ap not e
-
-not-false : (b : Bool) → not b ≡ true → b ≡ false
-not-false true e = absurd (true≢false (sym e))
-not-false false e = refl
-
 pub up_to-first : (op : Op) (ops : List Op) → T (is_rising ops) → IsPartitionedBy (up_to op) ops
 up_to-first op ops rising i j d le lt e = go (eq-or-lt_of_le le)
   where
     go : (i ≡ j) ⊎ (i < j) → up_to op (get_or ops i d) ≡ true
     go (inl q) = ap (λ k. up_to op (get_or ops k d)) q ∙ e
     go (inr l) = by_cases (is_lt (op_cmp op (get_or ops i d)))
-        (λ h. absurd (true≢false (sym (ap is_lt (op_total.trans op (get_or ops i d) (get_or ops j d) (is_less (op_cmp op (get_or ops i d)) h) (rising_less ops i j d rising l lt))) ∙ not-false (is_lt (op_cmp op (get_or ops j d))) e)))
-        (λ h. not-true (is_lt (op_cmp op (get_or ops i d))) h)
-
-squeeze : (a b c : Stamp) → before a c ≡ true → before b c ≡ false → before a b ≡ true
-squeeze a b c early late =
-    by_cases (same b c)
-    (λ e. ap (before a) (same-true b c e) ∙ early)
-    (λ e. before-trans a c b early (before-other b c late e))
+        (λ h. absurd (true≢false (sym (ap is_lt (op_total.trans op (get_or ops i d) (get_or ops j d) (is_less (op_cmp op (get_or ops i d)) h) (rising_less ops i j d rising l lt))) ∙ not-true (is_lt (op_cmp op (get_or ops j d))) e)))
+        (λ h. not_from_false (is_lt (op_cmp op (get_or ops i d))) h)
 
 pub below-first : (s : Stamp) (ops : List Op) → T (is_rising ops) → IsPartitionedBy (below s) ops
 below-first s ops rising i j d le lt e = go (eq-or-lt_of_le le)
@@ -106,7 +84,7 @@ below-first s ops rising i j d le lt e = go (eq-or-lt_of_le le)
     go (inr l) =
         by_cases (below s (get_or ops i d))
         (λ h. h)
-        (λ h. absurd (true≢false (sym (squeeze (stamp_of (get_or ops j d)) (stamp_of (get_or ops i d)) s e h)
+        (λ h. absurd (true≢false (sym (before-squeeze (stamp_of (get_or ops j d)) (stamp_of (get_or ops i d)) s e h)
         ∙ stamp_not_before (get_or ops i d) (get_or ops j d) (rising_less ops i j d rising l lt))))
 
 -- ---- an operation's place
@@ -149,17 +127,6 @@ module _ (op : Op) (ops : List Op) (rising : T (is_rising ops)) (i : ℕ) (edge 
 
 -- ---- who bears a stamp
 
-pub rising-drop : (ops : List Op) (i : ℕ) → T (is_rising ops) → T (is_rising (drop i ops))
-rising-drop [] zero h = tt
-rising-drop [] (suc i) h = tt
-rising-drop (y ∷ ops) zero h = h
-rising-drop (y ∷ ops) (suc i) h = rising-drop ops i (subst T (sym (second_so (below_all op_cmp y (entries_of ops)) (is_rising ops) (of-T _ h))) tt)
-
-pub drop-at : (ops : List Op) (i : ℕ) (d : Op) → i < length ops → drop i ops ≡ get_or ops i d ∷ drop (i + 1) ops
-drop-at [] i d lt = absurd (omega arith)
-drop-at (y ∷ ops) zero d lt = refl
-drop-at (y ∷ ops) (suc i) d lt = let e : suc (i + 1) ≡ suc i + 1 = omega arith in drop-at ops i d (omega arith) ∙ ap (λ n. get_or ops i d ∷ drop n (y ∷ ops)) e
-
 no_bearers : (s : Stamp) (ops : List Op) → bearing ops s ≡ [] → false ≡ is_borne ops s
 unfolding is_borne
 no_bearers s ops e =
@@ -180,14 +147,14 @@ module _ (s : Stamp) (ops : List Op) (rising : T (is_rising ops)) (i : ℕ) (edg
   -- the first is not one of them
   pub other-bears : (x : Op) → i < length ops → x ≡ get_or ops i x → same (stamp_of x) s ≡ false → bearing ops s ≡ []
   other-bears x lt is other =
-      let split : drop i ops ≡ x ∷ drop (i + 1) ops = drop-at ops i x lt ∙ ap (λ (y : Op). y ∷ drop (i + 1) ops) (sym is) in
+      let split : drop i ops ≡ x ∷ drop (i + 1) ops = drop_more ops i x lt ∙ ap (λ (y : Op). y ∷ drop (i + 1) ops) (sym is) in
       bearers-from ∙ ap (λ (os : List Op). bearing os s) split
       ∙ bearing-first s x (drop (i + 1) ops) (ordered_rising (x ∷ drop (i + 1) ops) (subst (λ (os : List Op). T (is_rising os)) split (rising-drop ops i rising))) (ap (below s) is ∙ edge.stops x lt) other
 
   -- the first is
   pub one-bears : (x : Op) → i < length ops → x ≡ get_or ops i x → same (stamp_of x) s ≡ true → bearing ops s ≡ x ∷ bearing (drop (i + 1) ops) s
   one-bears x lt is e =
-      bearers-from ∙ ap (λ (os : List Op). bearing os s) (drop-at ops i x lt ∙ ap (λ (y : Op). y ∷ drop (i + 1) ops) (sym is)) ∙ filter-hit (bears s) x (drop (i + 1) ops) e
+      bearers-from ∙ ap (λ (os : List Op). bearing os s) (drop_more ops i x lt ∙ ap (λ (y : Op). y ∷ drop (i + 1) ops) (sym is)) ∙ filter-hit (bears s) x (drop (i + 1) ops) e
 
   none-sole : bearing ops s ≡ [] → None ≡ sole (bearing ops s)
   none-sole e = sym (ap sole e)
@@ -202,7 +169,7 @@ module _ (s : Stamp) (ops : List Op) (rising : T (is_rising ops)) (i : ℕ) (edg
   pub two-clear : (x y : Op) → i < length ops → x ≡ get_or ops i x → same (stamp_of x) s ≡ true → i + 1 < length ops → y ≡ get_or ops (i + 1) y → same (stamp_of y) s ≡ true → None ≡ sole (bearing ops s)
   two-clear x y lt is e more at f =
       sym (ap sole (one-bears x lt is e ∙ ap (λ (os : List Op). x ∷ os)
-      (ap (λ (os : List Op). bearing os s) (drop-at ops (i + 1) y more ∙ ap (λ (z : Op). z ∷ drop (i + 1 + 1) ops) (sym at)) ∙ filter-hit (bears s) y (drop (i + 1 + 1) ops) f)))
+      (ap (λ (os : List Op). bearing os s) (drop_more ops (i + 1) y more ∙ ap (λ (z : Op). z ∷ drop (i + 1 + 1) ops) (sym at)) ∙ filter-hit (bears s) y (drop (i + 1 + 1) ops) f)))
 
   -- nothing stands behind it
   pub last-clear : (x : Op) → i < length ops → x ≡ get_or ops i x → same (stamp_of x) s ≡ true → i + 1 ≡ length ops → Some x ≡ sole (bearing ops s)
@@ -211,7 +178,7 @@ module _ (s : Stamp) (ops : List Op) (rising : T (is_rising ops)) (i : ℕ) (edg
   -- the one behind it bears another stamp
   pub one-clear : (x y : Op) → i < length ops → x ≡ get_or ops i x → same (stamp_of x) s ≡ true → i + 1 < length ops → y ≡ get_or ops (i + 1) y → same (stamp_of y) s ≡ false → Some x ≡ sole (bearing ops s)
   one-clear x y lt is e more at f =
-      let split : drop (i + 1) ops ≡ y ∷ drop (i + 1 + 1) ops = drop-at ops (i + 1) y more ∙ ap (λ (z : Op). z ∷ drop (i + 1 + 1) ops) (sym at) in
+      let split : drop (i + 1) ops ≡ y ∷ drop (i + 1 + 1) ops = drop_more ops (i + 1) y more ∙ ap (λ (z : Op). z ∷ drop (i + 1 + 1) ops) (sym at) in
       let less : op_cmp x y ≡ Less = ap (λ (z : Op). op_cmp z y) (is ∙ sym (get_or_default ops i y x lt)) ∙ ap (op_cmp (get_or ops i y)) at ∙ rising_less ops i (i + 1) y rising (omega arith) more in
       let late : before (stamp_of y) s ≡ false = ap (before (stamp_of y)) (sym (same-true (stamp_of x) s e)) ∙ stamp_not_before x y less in
       sym (ap sole (one-bears x lt is e ∙ ap (λ (os : List Op). x ∷ os)
@@ -232,7 +199,7 @@ pub next-to : (ops : List Op) (i k : ℕ) (x : Op) → T (is_rising ops) → i <
 next-to ops i k x rising lt is edge = go (cases_lt (i + 1) k)
   where
     over : k ≤ i → ⊥
-    over le = true≢false (sym (not-true (is_lt (op_cmp x (get_or ops i x))) (ap is_lt (ap (op_cmp x) (sym is) ∙ tied_itself op_total x))) ∙ stops-at (up_to x) ops (up_to-first x ops rising) k edge i x le lt)
+    over le = true≢false (sym (not_from_false (is_lt (op_cmp x (get_or ops i x))) (ap is_lt (ap (op_cmp x) (sym is) ∙ tied_itself op_total x))) ∙ stops-at (up_to x) ops (up_to-first x ops rising) k edge i x le lt)
 
     under : i + 1 < k → ⊥
     under l =
@@ -247,15 +214,3 @@ next-to ops i k x rising lt is edge = go (cases_lt (i + 1) k)
     go : (i + 1 < k) ⊎ (k ≤ i + 1) → k ≡ i + 1
     go (inl l) = absurd (under l)
     go (inr h) = last (eq-or-lt_of_le h)
-
--- ---- each of some operations
-
-pub each-at : (P : Op → Type 0) (ops : List Op) (i : ℕ) (d : Op) → AllByRecursion P ops → i < length ops → P (get_or ops i d)
-each-at P [] i d a lt = absurd (omega arith)
-each-at P (o ∷ ops) zero d a lt = a.0
-each-at P (o ∷ ops) (suc i) d a lt = each-at P ops i d a.1 (omega arith)
-
-pub all-insert : (P : Op → Type 0) (ops : List Op) (i : ℕ) (x : Op) → AllByRecursion P ops → P x → AllByRecursion P (insert ops i x)
-all-insert P ops zero x a h = (h, a)
-all-insert P [] (suc i) x a h = (h, tt)
-all-insert P (y ∷ ys) (suc i) x a h = (a.0, all-insert P ys i x a.1 h)

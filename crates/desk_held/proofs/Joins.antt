@@ -12,14 +12,10 @@ use Rattle.desk_ops.specs.Order.{op_cmp}
 use Rattle.desk_ops.specs.OpSet.{OpSet, no_ops, has_op, with_op, with_all, in_order, size, is_rising, from_rising}
 use Rattle.desk_ops.proofs.OpSets.{no_ops-from_rising, in_order-from_rising}
 use Rattle.desk_ops.proofs.Stamps.{by_cases}
-use Rattle.desk_ops.proofs.Unions.{with_all-take, with_all_push, with_all-append, with_op-comm, same-set, has_op-with_all, size-with_op, union-comm}
+use Rattle.desk_ops.proofs.Unions.{with_all-take, with_all_push, with_all-append, with_op-comm, same-set, has_op-with_all, size-with_op, with_all-in_order}
 
 pub no_ops-in_order : in_order no_ops ≡ []
 no_ops-in_order = ap in_order (sym no_ops-from_rising) ∙ in_order-from_rising [] tt
-
--- a set is what its operations make of none
-pub of_none : (h : OpSet) → with_all no_ops (in_order h) ≡ h
-of_none h = union-comm no_ops h ∙ ap (with_all h) no_ops-in_order
 
 -- one operation of the list more
 pub gained-more : (old now after : OpSet) (ops : List Op) (i : ℕ) (op : Op) → i < length ops → op ≡ get_or ops i op → now ≡ with_all old (take i ops) → after ≡ with_op now op → after ≡ with_all old (take (i + 1) ops)
@@ -48,11 +44,11 @@ no_list (o ∷ os) z = absurd (omega (arith, z))
 
 -- a set of no operations is none
 pub none_held : (h : OpSet) → size h ≡ 0 → h ≡ no_ops
-none_held h e = sym (of_none h) ∙ ap (with_all no_ops) (no_list (in_order h) (length-map (fin.entries h) (λ o. o.0) ∙ sym (fin.len-entries h) ∙ e))
+none_held h e = sym (with_all-in_order h) ∙ ap (with_all no_ops) (no_list (in_order h) (length-map (fin.entries h) (λ o. o.0) ∙ sym (fin.len-entries h) ∙ e))
 
 -- the set of a list that rises
 pub of_rising_list : (ops : List Op) → T (is_rising ops) → from_rising ops ≡ with_all no_ops ops
-of_rising_list ops rising = sym (of_none (from_rising ops)) ∙ ap (with_all no_ops) (in_order-from_rising ops rising)
+of_rising_list ops rising = sym (with_all-in_order (from_rising ops)) ∙ ap (with_all no_ops) (in_order-from_rising ops rising)
 
 -- ---- two lists in one order
 

@@ -1,32 +1,33 @@
 -- What a set lacks of a list.
 use Rattle.std.proofs.Common.{◌≡◌, ℕ, suc, ◌+◌, ◌<◌, ◌≤◌, ◌||◌, inl, Bool, true, false, not, cond, List, [], ◌∷◌, ◌++◌, length, take, get_or, refl, sym, ap, subst, ◌∙◌, arith}
 use Rattle.std.specs.Prelude.{T, All}
-use Rattle.std.specs.List.{filter, list_any, list_all, dedup, dedup_from}
+use Rattle.std.specs.List.{list_any, list_all, dedup, dedup_from}
 use Rattle.std.specs.List.Sorted.{IsStrictlySortedBy}
 use Rattle.std.specs.Ordering.{is_lt, eq_by_cmp}
 use Rattle.std.specs.declared.cmp.Ordering.TheVariants.{Less}
 use Rattle.std.specs.FinMap as fin
 use Rattle.std.specs.FinMap.Entries.{below_all}
-use Rattle.std.proofs.lemmas.Bool.{true≢false, and_from}
+use Rattle.std.proofs.lemmas.Bool.{true≢false, and_from, not-true}
 use Rattle.std.proofs.lemmas.List.{append-nil}
 use Rattle.std.proofs.lemmas.List.Elements.{filter_more}
 use Rattle.std.proofs.lemmas.List.Folds.{list_all_more}
+use Rattle.std.proofs.Math.Bool.{or-true}
 use Rattle.desk_ops.specs.declared.op.Op.{Op}
 use Rattle.desk_ops.specs.Op.{IsLawful}
 use Rattle.desk_ops.specs.Order.{op_cmp}
 use Rattle.desk_ops.specs.OrderLaws.{op_antisymmetric}
 use Rattle.desk_ops.specs.OpSet.{OpSet, no_ops, has_op, with_op, with_all, in_order, is_rising, entries_of, AllLawful}
 use Rattle.desk_ops.specs.Lists.{Among}
-use Rattle.desk_ops.proofs.Lists.{Each, each-among, each-from_among, among-filter, each-filter}
+use Rattle.desk_ops.proofs.Lists.{Each, each-among, each-from_among, among-filter, each-at}
 use Rattle.desk_ops.proofs.Means.{IsOrdered, among-any, any-among}
 use Rattle.desk_ops.proofs.Bearers.{ordered_rising}
 use Rattle.desk_ops.proofs.Stamps.{by_cases, is_equal}
 use Rattle.desk_ops.proofs.Tree.{filter-hit, filter-miss}
 use Rattle.desk_ops.proofs.Unions.{same-set, has_op-with_all}
 use Rattle.desk_ops.proofs.Joined.{lawful-with_op}
-use Rattle.desk_ops.proofs.OpSets.{with_op-known, no_ops-from_rising, has_op-from_rising}
+use Rattle.desk_ops.proofs.OpSets.{with_op-known, none-held}
+use Rattle.desk_ops.proofs.Arrive.{ordered_filter}
 use Rattle.desk_held.specs.Passing.{missing_of, IsMissing}
-use Rattle.desk_held.proofs.Edges.{each-at}
 
 same-op : (o p : Op) → eq_by_cmp op_cmp o p ≡ true → o ≡ p
 same-op o p e = op_antisymmetric o p (is_equal (op_cmp o p) e)
@@ -56,9 +57,6 @@ module _ (h : OpSet) (ops : List Op) (i : ℕ) (o : Op) (lt : i < length ops) (a
 
 -- ---- of no operations
 
-none-held : (o : Op) → has_op no_ops o ≡ false
-none-held o = ap (λ (s : OpSet). has_op s o) (sym no_ops-from_rising) ∙ has_op-from_rising [] o tt
-
 pub missing-of_none : (h : OpSet) (ops : List Op) → h ≡ no_ops → missing_of h ops ≡ ops
 missing-of_none h [] e = refl
 missing-of_none h (o ∷ ops) e = filter-hit (λ op. not (has_op h op)) o ops (ap not (ap (λ (s : OpSet). has_op s o) e ∙ none-held o)) ∙ ap (λ (l : List Op). o ∷ l) (missing-of_none h ops e)
@@ -76,20 +74,12 @@ kept-any h q (o ∷ ops) none =
     other : has_op h o ≡ true → eq_by_cmp op_cmp q o ≡ false
     other e = by_cases (eq_by_cmp op_cmp q o) (λ k. absurd (true≢false (sym e ∙ ap (has_op h) (sym (same-op q o k)) ∙ none))) (λ k. k)
 
-or-true : (a : Bool) → (a || true) ≡ true
-or-true true = refl
-or-true false = refl
-
 missing-whole : (h : OpSet) (ops : List Op) → with_all h (missing_of h ops) ≡ with_all h ops
 missing-whole h ops = same-set (with_all h (missing_of h ops)) (with_all h ops)
     (λ q. has_op-with_all h (missing_of h ops) q ∙ by_cases (has_op h q)
     (λ e. ap (λ b. list_any (eq_by_cmp op_cmp q) (missing_of h ops) || b) e ∙ or-true (list_any (eq_by_cmp op_cmp q) (missing_of h ops)) ∙ sym (ap (λ b. list_any (eq_by_cmp op_cmp q) ops || b) e ∙ or-true (list_any (eq_by_cmp op_cmp q) ops)))
     (λ e. ap (λ b. b || has_op h q) (kept-any h q ops e))
     ∙ sym (has_op-with_all h ops q))
-
-not-back : (b : Bool) → not b ≡ true → b ≡ false
-not-back true e = absurd (true≢false (sym e))
-not-back false e = refl
 
 pub all-of-each : (P : Op → Type 0) (ops : List Op) → Each P ops → All P ops
 all-of-each P ops each i d lt = each-at P ops i d each lt
@@ -99,14 +89,7 @@ each-of-all P [] a = tt
 each-of-all P (o ∷ ops) a = (a 0 o (omega arith), each-of-all P ops (λ k d l. a (suc k) d (omega (arith, l))))
 
 missing-none : (h : OpSet) (ops : List Op) → Each (λ op. has_op h op ≡ false) (missing_of h ops)
-missing-none h ops = each-from_among (λ op. has_op h op ≡ false) (missing_of h ops) (λ x m. not-back (has_op h x) (among-filter (λ op. not (has_op h op)) ops x m).1)
-
-ordered-filter : (p : Op → Bool) (ops : List Op) → IsOrdered ops → IsOrdered (filter p ops)
-ordered-filter p [] up = tt
-ordered-filter p (o ∷ ops) up =
-    by_cases (p o)
-    (λ e. subst IsOrdered (sym (filter-hit p o ops e)) (each-filter (λ q. op_cmp o q ≡ Less) p ops up.0, ordered-filter p ops up.1))
-    (λ e. subst IsOrdered (sym (filter-miss p o ops e)) (ordered-filter p ops up.1))
+missing-none h ops = each-from_among (λ op. has_op h op ≡ false) (missing_of h ops) (λ x m. not-true (has_op h x) (among-filter (λ op. not (has_op h op)) ops x m).1)
 
 below-each : (o : Op) (ops : List Op) → Each (λ q. op_cmp o q ≡ Less) ops → below_all op_cmp o (entries_of ops) ≡ true
 below-each o [] each = refl
@@ -131,7 +114,7 @@ pub missing-of_rising : (h : OpSet) (ops : List Op) → T (is_rising ops) → Is
 missing-of_rising h ops rising = record {
   whole = missing-whole h ops;
   none = all-of-each (λ op. has_op h op ≡ false) (missing_of h ops) (missing-none h ops);
-  rising = rising-from_ordered (missing_of h ops) (ordered-filter (λ op. not (has_op h op)) ops (ordered_rising ops rising));
+  rising = rising-from_ordered (missing_of h ops) (ordered_filter (λ op. not (has_op h op)) ops (ordered_rising ops rising));
   few = missing-few h ops;
 }
 

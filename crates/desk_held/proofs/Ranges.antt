@@ -3,10 +3,8 @@ use Rattle.std.proofs.Common.{◌≡◌, ℕ, ◌+◌, ◌-◌, ◌≤◌, ◌�
 use Rattle.std.proofs.Math.Seq.{take-add}
 use Rattle.std.specs.Prelude.{Result, Ok, Err, IfOk}
 use Rattle.std.proofs.lemmas.List.{take_all, take-take, drop-drop}
-use Rattle.std.specs.FinMap as fin
-use Rattle.std.proofs.lemmas.Map.Entries.{length-keys_of}
 use Rattle.desk_ops.specs.declared.op.Op.{Op}
-use Rattle.desk_ops.specs.OpSet.{OpSet, in_order, size}
+pub use Rattle.desk_ops.proofs.OpSets.{length-in_order}
 
 -- the first n of a list that are the first of what follows a place are copied behind what was copied up to it
 pub copied-more : (ops list part : List Op) (from at n : ℕ) → from ≤ at → n ≤ length part → part ≡ take (length part) (drop at ops) → list ≡ take (at - from) (drop from ops) → list ++ take n part ≡ take (at + n - from) (drop from ops)
@@ -21,7 +19,3 @@ copied-more ops list part from at n l w p h =
 pub copied-all : {V E : Type 0} (r : Result V E) (items : V → List Op) (ops : List Op) (n : ℕ) → n ≡ length ops → IfOk r (λ v. items v ≡ take (n - 0) (drop 0 ops)) → IfOk r (λ v. items v ≡ ops)
 copied-all (Ok v) items ops n e h = h ∙ take_all (n - 0) ops (omega (arith, e))
 copied-all (Err x) items ops n e h = tt
-
--- the list of a set is as long as the set is large
-pub length-in_order : (h : OpSet) → length (in_order h) ≡ size h
-length-in_order h = length-keys_of (fin.entries h) ∙ sym (fin.len-entries h)

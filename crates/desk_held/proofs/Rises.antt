@@ -5,18 +5,17 @@ use Rattle.std.specs.Ordering.{is_lt}
 use Rattle.std.specs.declared.cmp.Ordering.TheVariants.{Less}
 use Rattle.std.specs.List.{AllByRecursion}
 use Rattle.std.proofs.Math.Seq.{take-add}
-use Rattle.std.proofs.lemmas.Bool.{true≢false}
+use Rattle.std.proofs.lemmas.Bool.{true≢false, and_parts}
 use Rattle.std.proofs.lemmas.Cmp.{tied_itself}
-use Rattle.std.proofs.lemmas.List.{take-append-drop}
+use Rattle.std.proofs.lemmas.List.{take-append-drop, drop_more}
 use Rattle.desk_ops.specs.declared.op.Stamp.{Stamp}
 use Rattle.desk_ops.specs.declared.op.Op.{Op}
-use Rattle.desk_ops.specs.declared.op.Op.TheVariants.{Insert, Delete, Set}
 use Rattle.desk_ops.specs.Op.{stamp_of, IsLawful}
 use Rattle.desk_ops.specs.Order.{op_cmp}
 use Rattle.desk_ops.specs.OrderLaws.{op_total}
 use Rattle.desk_ops.specs.OpSet.{has_op, is_rising, from_rising}
 use Rattle.desk_ops.specs.Held.{IsUnforked}
-use Rattle.desk_ops.specs.Stamp.{before, same, head, IsStamp}
+use Rattle.desk_ops.specs.Stamp.{before, same, head}
 use Rattle.desk_ops.specs.Lists.{Among}
 use Rattle.desk_ops.proofs.Stamps.{by_cases, same-true, before-trans, before-irrefl, before-other, before_true}
 use Rattle.desk_ops.proofs.OpSets.{in_order-from_rising}
@@ -25,12 +24,8 @@ use Rattle.desk_ops.proofs.Means.{IsOrdered}
 use Rattle.desk_ops.proofs.Ends.{among_held, held_among}
 use Rattle.desk_ops.proofs.Bearers.{stamp_not_before, ordered_rising}
 use Rattle.desk_ops.proofs.Parts.{unforked_one, one_unforked}
+use Rattle.desk_ops.proofs.Lawful.{lawful-stamp}
 use Rattle.desk_held.specs.Rising.{rise_from, last_from}
-use Rattle.desk_held.proofs.Edges.{drop-at}
-
-both : (a b : Bool) → (a && b) ≡ true → (a ≡ true) × (b ≡ true)
-both true b e = (refl, e)
-both false b e = absurd (true≢false (sym e))
 
 -- ---- lists put together
 
@@ -76,7 +71,7 @@ module _ (s last : Stamp) (ops part : List Op) (at : ℕ) (there : part ≡ take
 
 -- one of them alone
 pub alone : (ops : List Op) (i : ℕ) (x : Op) → i < length ops → x ≡ get_or ops i x → x ∷ [] ≡ take 1 (drop i ops)
-alone ops i x lt is = ap (λ (y : Op). y ∷ []) is ∙ sym (ap (take 1) (drop-at ops i x lt))
+alone ops i x lt is = ap (λ (y : Op). y ∷ []) is ∙ sym (ap (take 1) (drop_more ops i x lt))
 
 -- ---- what it says
 
@@ -84,15 +79,15 @@ alone ops i x lt is = ap (λ (y : Op). y ∷ []) is ∙ sym (ap (take 1) (drop-a
 later : (s : Stamp) (ops : List Op) → rise_from s ops ≡ true → Each (λ o. before s (stamp_of o) ≡ true) ops
 later s [] up = tt
 later s (x ∷ xs) up =
-    let b = both (before s (stamp_of x)) (rise_from (stamp_of x) xs) up in
+    let b = and_parts (before s (stamp_of x)) (rise_from (stamp_of x) xs) up in
     (b.0, Each-weaker (λ o. before (stamp_of x) (stamp_of o) ≡ true) (λ o. before s (stamp_of o) ≡ true) (λ o e. before-trans s (stamp_of x) (stamp_of o) b.0 e) xs (later (stamp_of x) xs b.1))
 
 one-each : (s : Stamp) (ops : List Op) → rise_from s ops ≡ true → (o p : Op) → Among o ops → Among p ops → stamp_of o ≡ stamp_of p → o ≡ p
 one-each s [] up o p m n e = absurd m
-one-each s (x ∷ xs) up o p m n e = go (λ k l. one-each (stamp_of x) xs (both (before s (stamp_of x)) (rise_from (stamp_of x) xs) up).1 o p k l e) m n
+one-each s (x ∷ xs) up o p m n e = go (λ k l. one-each (stamp_of x) xs (and_parts (before s (stamp_of x)) (rise_from (stamp_of x) xs) up).1 o p k l e) m n
   where
     on : rise_from (stamp_of x) xs ≡ true
-    on = (both (before s (stamp_of x)) (rise_from (stamp_of x) xs) up).1
+    on = (and_parts (before s (stamp_of x)) (rise_from (stamp_of x) xs) up).1
 
     apart : (q : Op) → Among q xs → stamp_of x ≡ stamp_of q → ⊥
     apart q k f = before-irrefl (stamp_of x) (subst (λ (t : Stamp). before (stamp_of x) t ≡ true) (sym f) (each-among (λ q. before (stamp_of x) (stamp_of q) ≡ true) xs q (later (stamp_of x) xs on) k))
@@ -123,11 +118,6 @@ rise-each s (x ∷ xs) up late one =
     each-from : (os : List Op) → ((o : Op) → Among o os → Among o xs) → Each (λ o. op_cmp x o ≡ Less) os → Each (λ o. before (stamp_of x) (stamp_of o) ≡ true) os
     each-from [] within h = tt
     each-from (o ∷ os) within h = (after o (within o (inl refl)) h.0, each-from os (λ q m. within q (inr m)) h.1)
-
-lawful-stamp : (o : Op) → IsLawful o → IsStamp (stamp_of o)
-lawful-stamp (Insert s p y) l = l.0
-lawful-stamp (Delete s t) l = l.0
-lawful-stamp (Set s k v) l = l.0
 
 lawful-late : (ops : List Op) → AllByRecursion IsLawful ops → Each (λ o. before head (stamp_of o) ≡ true) ops
 lawful-late [] l = tt

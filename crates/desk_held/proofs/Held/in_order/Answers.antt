@@ -1,6 +1,7 @@
 use Rattle.std.proofs.Common.{◌∙◌, sym}
 use Rattle.desk_ops.specs.OpSet.{in_order}
-use Rattle.desk_held.proofs.Ranges.{copied-all, length-in_order}
+use Rattle.desk_ops.proofs.OpSets.{length-in_order}
+use Rattle.desk_held.proofs.Ranges.{copied-all}
 use Rattle.desk_held.proofs.Held.in_order.Goals as goal
 
 pub returns-clause-items : goal.returns-clause-items

@@ -2,8 +2,8 @@ use Rattle.std.proofs.Common.{sym, subst, ◌<◌, ◌∙◌, ap}
 use Rattle.desk_ops.specs.Op.{IsLawful}
 use Rattle.desk_ops.specs.OpSet.{size}
 use Rattle.desk_ops.proofs.OpSets.{size-from_rising}
+use Rattle.desk_ops.proofs.Lists.{each-at}
 use Rattle.desk_held.specs.Holding.{Holding}
-use Rattle.desk_held.proofs.Edges.{each-at}
 use Rattle.desk_held.proofs.Held.op.Goals as goal
 
 pub returns-clause-lawful : goal.returns-clause-lawful
