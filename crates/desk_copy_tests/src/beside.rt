@@ -14,7 +14,8 @@ fn lacks<A: Allocator + Copy>(held: &Held<A>, ops: &[Op], missing: &[Op]) -> Res
     Ok(held.missing(ops)?.as_slice() == missing && held.has_all(ops) == missing.is_empty())
 }
 
-/// Whether a set lacks nothing of its own operations, and of a list of these and others, whatever its order, the others.
+/// Whether a set lacks nothing of its own operations, and of a list of these and others, whatever its order, the
+/// others.
 fn lacks_the_others<A: Allocator + Copy>(
     held: &Held<A>,
     own: &[Op],
@@ -121,8 +122,8 @@ fn rising_lists_are_laid_out(rt: HostRuntime) -> Result<(), Fail> {
     Ok(())
 }
 
-/// Whether what is missing of a list in falling order was not reported where so many bytes are left of a heap, and whether it
-/// was not joined.
+/// Whether what is missing of a list in falling order was not reported where so many bytes are left of a heap, and
+/// whether it was not joined.
 fn are_refused_in<'a>(
     heap: &'a LocalHeap,
     held: &Held<&'a LocalHeap>,

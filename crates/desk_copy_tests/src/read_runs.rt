@@ -30,8 +30,8 @@ const LAST_COUNTER: [u8; 31] = [
     0x62,
 ];
 
-/// Places and the bytes from there on, and the cause. A count of 1 is reported before its symbol is there, and one of 0 whatever
-/// follows; a cut comes before what is not lawful.
+/// Places and the bytes from there on, and the cause. A count of 1 is reported before its symbol is there, and one of 0
+/// whatever follows; a cut comes before what is not lawful.
 static CUT_RUNS: [(usize, &[u8], FeedWhy); 6] = [
     (25, &[1], FeedWhy::Run),
     (25, &[0x41], FeedWhy::Run),

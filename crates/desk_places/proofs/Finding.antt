@@ -1,19 +1,19 @@
 -- Where a text stands: what the tests say, and what a list of all places has.
-use Rattle.std.proofs.Common.{◌≡◌, ℕ, suc, zero, ◌+◌, ◌-◌, ◌<◌, ◌≤◌, Bool, true, false, ◌&&◌, cond, List, [], ◌∷◌, ◌++◌, length, take, drop, refl, sym, ap, ap₂, Vec, ◌∙◌, inl, inr, arith, add-one, add-zero}
+use Rattle.std.proofs.Common.{◌≡◌, ℕ, ◌+◌, ◌-◌, ◌≤◌, Bool, true, false, ◌&&◌, cond, List, [], ◌∷◌, ◌++◌, length, take, drop, refl, sym, ap, ap₂, Vec, ◌∙◌, arith, add-one}
 use Rattle.std.specs.Prelude.{◌==◌}
 use Rattle.std.specs.List.{filter, range_with_len}
 use Rattle.std.specs.Cmp.Lexicographic.{pointwise}
-use Rattle.std.proofs.Math.Nat.{eq-or-lt_of_le}
 use Rattle.std.proofs.lemmas.Bool.{and_parts, false≢true}
 use Rattle.std.proofs.lemmas.List.{append-nil, length-drop, take_rest}
 use Rattle.std.proofs.lemmas.List.Elements.{filter-append}
 use Rattle.desk_ops.proofs.Lists.{among-filter, among-filter_from}
 use Rattle.desk_ops.proofs.Symbols.{style_is, same_symbols}
+use Rattle.desk_ops.proofs.Ranges.{range_suc, rise_of, range_among, among_range}
 use Rattle.desk_ops.specs.Lists.{Among}
 use Rattle.desk_ops.specs.declared.op.Symbol.{Symbol}
 use Rattle.desk_ops.specs.contracts.op.SymbolPartialEq.TheImpl as symbol_eq
 use Rattle.desk_places.specs.Places.{IsPlace, begins, places_of, same_symbol, stands}
-use Rattle.desk_places.specs.Laws.{AreAllPlaces, RiseFrom}
+use Rattle.desk_places.specs.Laws.{AreAllPlaces}
 
 -- ---- the tests
 
@@ -36,12 +36,6 @@ stands_is text copy place = ap (λ l. pointwise (symbol_eq.eq-value).it text (ta
 
 -- ---- the list of all places
 
-range_suc : (a n : ℕ) → range_with_len a (suc n) ≡ range_with_len a n ++ (a + n) ∷ []
-range_suc a zero = rw add-zero refl
-range_suc a (suc n) =
-    let e : a + 1 + n ≡ a + suc n = omega arith in
-    ap (λ l. a ∷ l) (range_suc (a + 1) n ∙ ap (λ k. range_with_len (a + 1) n ++ k ∷ []) e)
-
 filter_more : (p : ℕ → Bool) (n : ℕ) → filter p (range_with_len 0 (n + 1)) ≡ filter p (range_with_len 0 n) ++ cond (p n) (n ∷ []) []
 filter_more p n = let e : 0 + n ≡ n = omega arith in ap (λ k. filter p (range_with_len 0 k)) (add-one n) ∙ ap (filter p) (range_suc 0 n) ∙ filter-append p (range_with_len 0 n) ((0 + n) ∷ []) ∙ rw e refl
 
@@ -61,27 +55,6 @@ unfolding places_of
 found_all text copy places n e is = is ∙ ap (λ k. filter (stands text copy) (range_with_len 0 (k + 1))) e
 
 -- ---- what the list has
-
-rise_from_less : (low : ℕ) (numbers : List ℕ) → RiseFrom (low + 1) numbers → RiseFrom low numbers
-rise_from_less low [] rise = tt
-rise_from_less low (n ∷ numbers) rise = (omega (arith, rise.0), rise.1)
-
-rise_of : (p : ℕ → Bool) (a n : ℕ) → RiseFrom a (filter p (range_with_len a n))
-rise_of p a zero = tt
-rise_of p a (suc n) =
-    elim (p a) as (λ b. RiseFrom a (cond b (a ∷ filter p (range_with_len (a + 1) n)) (filter p (range_with_len (a + 1) n)))) [
-      | true ↦ (omega arith, rise_of p (a + 1) n)
-      | false ↦ rise_from_less a (filter p (range_with_len (a + 1) n)) (rise_of p (a + 1) n)
-    ]
-
-range_among : (a n k : ℕ) → Among k (range_with_len a n) → (a ≤ k) × (k < a + n)
-range_among a zero k m = absurd m
-range_among a (suc n) k (inl e) = (omega (arith, e), omega (arith, e))
-range_among a (suc n) k (inr m) = let h = range_among (a + 1) n k m in (omega (arith, h), omega (arith, h))
-
-among_range : (a n k : ℕ) → a ≤ k → k < a + n → Among k (range_with_len a n)
-among_range a zero k low high = absurd (omega (arith, low, high))
-among_range a (suc n) k low high = elim (eq-or-lt_of_le low) [ inl e ↦ inl e | inr lt ↦ inr (among_range (a + 1) n k (omega (arith, lt)) (omega (arith, high))) ]
 
 begins_true : (text copy : List Symbol) → begins text copy ≡ true → (length text ≤ length copy) × (take (length text) copy ≡ text)
 begins_true [] copy e = (omega arith, refl)

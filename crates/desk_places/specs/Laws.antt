@@ -1,13 +1,8 @@
 -- What holds of the places of a text.
-use Rattle.std.specs.Prelude.{◌≤◌, ◌↔◌, ℕ, ◌+◌, List, [], ◌∷◌}
+use Rattle.std.specs.Prelude.{◌↔◌, ℕ, List}
 use Rattle.desk_ops.specs.declared.op.Symbol.{Symbol}
-use Rattle.desk_ops.specs.Lists.{Among}
+use Rattle.desk_ops.specs.Lists.{Among, RiseFrom}
 use Rattle.desk_places.specs.Places.{IsPlace, places_of}
-
--- numbers from one on, each greater than those before it
-abbrev pub RiseFrom : ℕ → List ℕ → Type 0
-RiseFrom low [] = Unit {0}
-RiseFrom low (n ∷ numbers) = (low ≤ n) × RiseFrom (n + 1) numbers
 
 -- the places that are found rise, and are those at which the text stands
 abbrev pub AreAllPlaces : Type 0
