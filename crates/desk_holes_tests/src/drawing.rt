@@ -42,34 +42,46 @@ fn is_drawn(files: &TrialFiles<Global>) -> bool {
     }
 }
 
-/// How a drawing ends, if the target has the picture after `Ok(true)` alone.
+/// How a drawing ends.
+#[derive(Clone, Copy, Debug, PartialEq, Eq)]
+enum End {
+    Drawn,
+    NoRibbon,
+    Fault(ReadingFault),
+}
+
+/// Draws a ribbon, after which the target has the picture where it is drawn, and else what it had.
 fn drawn(
     alloc: Global,
     k: u64,
     names: (&str, &str, &str),
-) -> Result<Result<bool, ReadingFault>, Fail> {
+) -> Result<End, Fail> {
     let (ribbon, case, wedge) = names;
     let mut files = rooms(alloc, k)?;
-    let ended = draw_ribbon(memory(alloc), &mut files, ribbon, case, wedge, "a.svg");
-    let kept = match ended {
-        Ok(true) => is_drawn(&files) && files.bytes_of("a.svg.new").is_none(),
+    let end = match draw_ribbon(memory(alloc), &mut files, ribbon, case, wedge, "a.svg") {
+        Ok(true) => End::Drawn,
+        Ok(false) => End::NoRibbon,
+        Err(fault) => End::Fault(fault),
+    };
+    let kept = match end {
+        End::Drawn => is_drawn(&files) && files.bytes_of("a.svg.new").is_none(),
         _ => files.holds("a.svg", OLD),
     };
     if !kept {
         return Err(Fail::new("another target"));
     }
-    Ok(ended)
+    Ok(end)
 }
 
 #[test]
 fn picture_is_drawn(rt: HostRuntime) -> Result<(), Fail> {
-    assert_eq!(rt; drawn(rt.alloc(), 0, ("ribbon", "c", "w"))?, Ok(true));
+    assert_eq!(rt; drawn(rt.alloc(), 0, ("ribbon", "c", "w"))?, End::Drawn);
     Ok(())
 }
 
 #[test]
 fn no_ribbon_is_not_drawn(rt: HostRuntime) -> Result<(), Fail> {
-    assert_eq!(rt; drawn(rt.alloc(), 0, ("cut", "c", "w"))?, Ok(false));
+    assert_eq!(rt; drawn(rt.alloc(), 0, ("cut", "c", "w"))?, End::NoRibbon);
     Ok(())
 }
 
@@ -77,18 +89,18 @@ fn no_ribbon_is_not_drawn(rt: HostRuntime) -> Result<(), Fail> {
 fn files_that_fail_under_a_drawing(rt: HostRuntime) -> Result<(), Fail> {
     let names = ("ribbon", "c", "w");
     let missing = ReadingFault::Ribbon(FileRefusal::Missing);
-    assert_eq!(rt; drawn(rt.alloc(), 0, ("none", "c", "w"))?, Err(missing));
+    assert_eq!(rt; drawn(rt.alloc(), 0, ("none", "c", "w"))?, End::Fault(missing));
     let no_case = ReadingFault::Input(Refusal::FileMissing);
-    assert_eq!(rt; drawn(rt.alloc(), 0, ("ribbon", "d", "w"))?, Err(no_case));
+    assert_eq!(rt; drawn(rt.alloc(), 0, ("ribbon", "d", "w"))?, End::Fault(no_case));
     let device = ReadingFault::Ribbon(FileRefusal::Device);
-    assert_eq!(rt; drawn(rt.alloc(), 1, names)?, Err(device));
+    assert_eq!(rt; drawn(rt.alloc(), 1, names)?, End::Fault(device));
     for k in 2..4u64 {
         let input = ReadingFault::Input(Refusal::FileDevice);
-        assert_eq!(rt; drawn(rt.alloc(), k, names)?, Err(input));
+        assert_eq!(rt; drawn(rt.alloc(), k, names)?, End::Fault(input));
     }
     for k in 4..6u64 {
         let unstored = ReadingFault::Unstored(FileRefusal::Device);
-        assert_eq!(rt; drawn(rt.alloc(), k, names)?, Err(unstored));
+        assert_eq!(rt; drawn(rt.alloc(), k, names)?, End::Fault(unstored));
     }
     Ok(())
 }

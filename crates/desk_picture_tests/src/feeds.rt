@@ -54,14 +54,14 @@ fn ends_with(files: &TrialFiles<Global>, bytes: &[u8]) -> bool {
     }
 }
 
-/// What becomes of a picture whose k-th call fails, where the target ends with these bytes afterwards.
+/// Why a picture whose k-th call fails is not stored; where it is, the target ends with these bytes afterwards.
 fn pictured<A: Allocator + Copy>(
     alloc: Global,
     own: A,
     k: u64,
     feed: &str,
     end: &[u8],
-) -> Result<Result<(), PreviewFault>, Fail> {
+) -> Result<Option<PreviewFault>, Fail> {
     let mut files = rooms(alloc, k)?;
     let memory = Memory { own, global: alloc };
     let ended = picture_feed(memory, &mut files, feed, "c", "w", &no_trial(), "a.svg");
@@ -69,7 +69,7 @@ fn pictured<A: Allocator + Copy>(
     if !ends_with(&files, wanted) {
         return Err(Fail::new("another picture"));
     }
-    Ok(ended)
+    Ok(ended.err())
 }
 
 #[test]
@@ -77,11 +77,11 @@ fn pictures_are_stored(rt: HostRuntime) -> Result<(), Fail> {
     let alloc = rt.alloc();
     assert_eq!(rt;
         pictured(alloc, alloc, 0, "set.feed", LINE.as_bytes())?,
-        Ok(())
+        None
     );
     assert_eq!(rt;
         pictured(alloc, alloc, 0, "none.feed", NONE.as_bytes())?,
-        Ok(())
+        None
     );
     Ok(())
 }
@@ -90,12 +90,12 @@ fn pictures_are_stored(rt: HostRuntime) -> Result<(), Fail> {
 fn files_that_fail_under_a_picture(rt: HostRuntime) -> Result<(), Fail> {
     let alloc = rt.alloc();
     let missing = PreviewFault::Feed(FeedTrouble::File(FileRefusal::Missing));
-    assert_eq!(rt; pictured(alloc, alloc, 0, "b.feed", b"")?, Err(missing));
+    assert_eq!(rt; pictured(alloc, alloc, 0, "b.feed", b"")?, Some(missing));
     let input = PreviewFault::Input(Refusal::FileDevice);
-    assert_eq!(rt; pictured(alloc, alloc, 2, "set.feed", b"")?, Err(input));
+    assert_eq!(rt; pictured(alloc, alloc, 2, "set.feed", b"")?, Some(input));
     let unstored = PreviewFault::Unstored(FileRefusal::Device);
     for k in 4..6u64 {
-        assert_eq!(rt; pictured(alloc, alloc, k, "set.feed", b"")?, Err(unstored));
+        assert_eq!(rt; pictured(alloc, alloc, k, "set.feed", b"")?, Some(unstored));
     }
     Ok(())
 }
@@ -112,11 +112,11 @@ fn growth_of_a_picture_refused(rt: HostRuntime) -> Result<(), Fail> {
         ballast.push(part)?;
     }
     let ended = pictured(rt.alloc(), &heap, 0, "set.feed", LINE.as_bytes())?;
-    assert!(rt; ended.is_err());
+    assert!(rt; ended.is_some());
     drop(ballast);
     assert_eq!(rt;
         pictured(rt.alloc(), &heap, 0, "set.feed", LINE.as_bytes())?,
-        Ok(())
+        None
     );
     Ok(())
 }

@@ -24,13 +24,20 @@ const LOOSE: &str = "GALLEY 2 lines, 1 at fault, measure 120 points, tight 38, l
 /// The settings are missing.
 const NONE: &str = "no galley: the setting measure has no value\n";
 
-/// What a proof writes, if the files stay.
+/// What a proof writes, and how it ends.
+#[derive(Drop)]
+struct Proofed {
+    written: Vec<u8, Global>,
+    ended: Result<bool, PreviewFault>,
+}
+
+/// Writes a proof, of which nothing is written where it ends with a fault; the files stay.
 fn proofed(
     alloc: Global,
     k: u64,
     names: (&str, &str, &str),
     extent: Extent,
-) -> Result<Result<(Vec<u8, Global>, bool), PreviewFault>, Fail> {
+) -> Result<Proofed, Fail> {
     let (feed, case, wedge) = names;
     let mut files = rooms(alloc, k)?;
     let mut written = Vec::new(alloc);
@@ -47,11 +54,10 @@ fn proofed(
     if !files.holds("a.ribbon", OLD) || files.bytes_of("a.ribbon.new").is_some() {
         return Err(Fail::new("a file changed"));
     }
-    match ended {
-        Ok(clean) => Ok(Ok((written, clean))),
-        Err(_) if !written.is_empty() => Err(Fail::new("bytes before a fault")),
-        Err(fault) => Ok(Err(fault)),
+    if ended.is_err() && !written.is_empty() {
+        return Err(Fail::new("bytes before a fault"));
     }
+    Ok(Proofed { written, ended })
 }
 
 /// Whether a feed has this proof, and is clean or not.
@@ -62,12 +68,8 @@ fn has_proof(
     text: &str,
     clean: bool,
 ) -> Result<bool, Fail> {
-    match proofed(alloc, 0, (feed, "c", "w"), extent)? {
-        Ok((written, is_clean)) => {
-            Ok(written.as_slice() == text.as_bytes() && is_clean == clean)
-        }
-        Err(_) => Ok(false),
-    }
+    let proof = proofed(alloc, 0, (feed, "c", "w"), extent)?;
+    Ok(proof.written.as_slice() == text.as_bytes() && proof.ended == Ok(clean))
 }
 
 #[test]
@@ -81,10 +83,8 @@ fn proofs_are_written(rt: HostRuntime) -> Result<(), Fail> {
 /// A symbol that the case lacks is a fault, though its line is set.
 #[test]
 fn lacking_symbol_is_not_clean(rt: HostRuntime) -> Result<(), Fail> {
-    match proofed(rt.alloc(), 0, ("lacking.feed", "c", "w"), Extent::Faults)? {
-        Ok((_, clean)) => assert!(rt; !clean),
-        Err(_) => return Err(Fail::new("no proof")),
-    }
+    let proof = proofed(rt.alloc(), 0, ("lacking.feed", "c", "w"), Extent::Faults)?;
+    assert_eq!(rt; proof.ended, Ok(false));
     Ok(())
 }
 
@@ -94,7 +94,8 @@ fn fault_of(
     k: u64,
     names: (&str, &str, &str),
 ) -> Result<Option<PreviewFault>, Fail> {
-    Ok(proofed(alloc, k, names, Extent::Whole)?.err())
+    let proof = proofed(alloc, k, names, Extent::Whole)?;
+    Ok(proof.ended.err())
 }
 
 #[test]

@@ -24,21 +24,27 @@ const SPACE: &str = "RIBBON 1 lines, 4 rows, longest -1.1 points\n\
 const HEAD: &str = "RIBBON 0 lines, 1 rows, longest 0.0 points\n\
 \n  line    c/f     points   short  text\n";
 
-/// What a reading writes.
+/// What a reading writes, and how it ends.
+#[derive(Drop)]
+struct Reading {
+    written: Vec<u8, Global>,
+    ended: Result<bool, ReadingFault>,
+}
+
+/// Reads a ribbon: where it ends with a fault nothing is written.
 fn read(
     alloc: Global,
     k: u64,
     names: (&str, &str, &str),
-) -> Result<Result<(Vec<u8, Global>, bool), ReadingFault>, Fail> {
+) -> Result<Reading, Fail> {
     let (ribbon, case, wedge) = names;
     let mut files = rooms(alloc, k)?;
     let mut written = Vec::new(alloc);
     let ended = read_job(memory(alloc), &mut written, &mut files, ribbon, case, wedge);
-    match ended {
-        Ok(whole) => Ok(Ok((written, whole))),
-        Err(_) if !written.is_empty() => Err(Fail::new("bytes before a fault")),
-        Err(fault) => Ok(Err(fault)),
+    if ended.is_err() && !written.is_empty() {
+        return Err(Fail::new("bytes before a fault"));
     }
+    Ok(Reading { written, ended })
 }
 
 /// Whether this is said of a ribbon by a wedge, and it is whole or not.
@@ -49,12 +55,8 @@ fn is_told(
     text: &str,
     whole: bool,
 ) -> Result<bool, Fail> {
-    match read(alloc, 0, (ribbon, "c", wedge))? {
-        Ok((written, is_whole)) => {
-            Ok(written.as_slice() == text.as_bytes() && is_whole == whole)
-        }
-        Err(_) => Ok(false),
-    }
+    let reading = read(alloc, 0, (ribbon, "c", wedge))?;
+    Ok(reading.written.as_slice() == text.as_bytes() && reading.ended == Ok(whole))
 }
 
 #[test]
@@ -102,7 +104,8 @@ fn fault_of(
     k: u64,
     names: (&str, &str, &str),
 ) -> Result<Option<ReadingFault>, Fail> {
-    Ok(read(alloc, k, names)?.err())
+    let reading = read(alloc, k, names)?;
+    Ok(reading.ended.err())
 }
 
 #[test]

@@ -60,21 +60,28 @@ const WHOLE: &str = "SORTS 1 kinds, 2 wanted, 0 missing\n\
 /// No symbol at all.
 const NONE: &str = "SORTS 0 kinds, 0 wanted, 0 missing\n\n  cell   wanted  sort\n";
 
-/// What is written of a feed, where the k-th call of the files fails.
+/// What is written of a feed, and how that ends.
+#[derive(Drop)]
+struct Told {
+    written: Vec<u8, Global>,
+    ended: Result<bool, SortsFault>,
+}
+
+/// Writes the list of a feed, where the k-th call of the files fails: after a fault nothing is written.
 fn told(
     alloc: Global,
     k: u64,
     names: (&str, &str),
     layout: bool,
-) -> Result<Result<(Vec<u8, Global>, bool), SortsFault>, Fail> {
+) -> Result<Told, Fail> {
     let (feed, case) = names;
     let mut files = rooms(alloc, k)?;
     let mut written = Vec::new(alloc);
-    match tell_sorts(memory(alloc), &mut written, &mut files, feed, case, layout) {
-        Ok(complete) => Ok(Ok((written, complete))),
-        Err(_) if !written.is_empty() => Err(Fail::new("bytes before a fault")),
-        Err(fault) => Ok(Err(fault)),
+    let ended = tell_sorts(memory(alloc), &mut written, &mut files, feed, case, layout);
+    if ended.is_err() && !written.is_empty() {
+        return Err(Fail::new("bytes before a fault"));
     }
+    Ok(Told { written, ended })
 }
 
 /// Whether a feed has this list, and the case each of its sorts or not.
@@ -85,12 +92,8 @@ fn has_list(
     text: &str,
     complete: bool,
 ) -> Result<bool, Fail> {
-    match told(alloc, 0, (feed, "c"), layout)? {
-        Ok((written, is_complete)) => {
-            Ok(written.as_slice() == text.as_bytes() && is_complete == complete)
-        }
-        Err(_) => Ok(false),
-    }
+    let list = told(alloc, 0, (feed, "c"), layout)?;
+    Ok(list.written.as_slice() == text.as_bytes() && list.ended == Ok(complete))
 }
 
 #[test]
@@ -104,7 +107,8 @@ fn sorts_are_told(rt: HostRuntime) -> Result<(), Fail> {
 
 /// Why nothing is written.
 fn fault_of(alloc: Global, k: u64, names: (&str, &str)) -> Result<Option<SortsFault>, Fail> {
-    Ok(told(alloc, k, names, true)?.err())
+    let list = told(alloc, k, names, true)?;
+    Ok(list.ended.err())
 }
 
 #[test]
