@@ -155,7 +155,7 @@ module _ (h g : OpSet) (lh : AllLawful h) (lg : AllLawful g) (u : IsUnforked g) 
             last : (t ≡ head) ⊎ IsOfLiveInsert h t → IsOfLiveInsert h p
             last (inl i) = absurd (true≢false (sym (same-from p head (some-stamp p t e ∙ i)) ∙ not-head p l.1))
             last (inr x) = (x.0, x.1, x.2 ∙ sym (some-stamp p t e))
-        live (Set s k v) t c e l i = absurd (none-some t e)
+        live (Set s k v) t c e l i = none-some t e
 
         down : (t : Stamp) → (t ≡ head) ⊎ IsOfLiveInsert g t → (t ≡ head) ⊎ IsOfLiveInsert h t
         down t k = subst (λ e. (t ≡ head) ⊎ IsOfLiveInsert e t) (same-set g h (λ q. same_bool (has_op g q) (has_op h q) (v q) (w q))) k
