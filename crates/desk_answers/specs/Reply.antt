@@ -44,7 +44,7 @@ reply_values (replies.Lines lines) = Lines (lines_told lines.items)
 reply_values (replies.Refused why) = Refused why
 reply_values (replies.Stopped taken why) = Stopped taken why
 
--- an answer that tells what there is, at any length; the others are refusals, or tell what a command did
+-- an answer that says what there is, at any length; the others are refusals, or say what a command did
 abbrev pub is_long : ReplyValues → Bool
 is_long Done = false
 is_long (Made stamp) = false

@@ -476,7 +476,7 @@ fn done() -> Short
 }
 
 /// An answer's text without its end of line, where it is a refusal or says what a command did: it takes no memory. The
-/// other answers tell what there is, at any length.
+/// other answers say what there is, at any length.
 pub fn short<A: Allocator + Copy>(answer: &Reply<A>) -> Option<Short>
     ensures text { IfSome result (λ s. s.bytes ≡ text (reply_values answer.now)) }
     ensures len { IfSome result (λ s. array_string_len s < SHORT) }

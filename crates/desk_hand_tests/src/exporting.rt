@@ -22,8 +22,15 @@ fn rooms(alloc: Global, k: u64) -> Result<TrialFiles<Global>, AllocError> {
     Ok(files)
 }
 
-/// What an export writes, if the files stay.
-fn exported(alloc: Global, k: u64, name: &str) -> Result<Result<Vec<u8>, ExportFault>, Fail> {
+/// What an export writes, or why it writes nothing.
+#[derive(Drop)]
+enum Exported {
+    Text(Vec<u8>),
+    Nothing(ExportFault),
+}
+
+/// How an export ends, if the files stay.
+fn exported(alloc: Global, k: u64, name: &str) -> Result<Exported, Fail> {
     let mut files = rooms(alloc, k)?;
     let mut written = Vec::new(alloc);
     let ended = export_feed(alloc, &mut written, &mut files, name);
@@ -31,23 +38,26 @@ fn exported(alloc: Global, k: u64, name: &str) -> Result<Result<Vec<u8>, ExportF
         return Err(Fail::new("a file changed"));
     }
     match ended {
-        Ok(()) => Ok(Ok(written)),
+        Ok(()) => Ok(Exported::Text(written)),
         Err(_) if !written.is_empty() => Err(Fail::new("bytes before a fault")),
-        Err(fault) => Ok(Err(fault)),
+        Err(fault) => Ok(Exported::Nothing(fault)),
     }
 }
 
 /// Whether an export writes this text.
 fn writes(alloc: Global, name: &str, text: &[u8]) -> Result<bool, Fail> {
     match exported(alloc, 0, name)? {
-        Ok(written) => Ok(written.as_slice() == text),
-        Err(_) => Ok(false),
+        Exported::Text(written) => Ok(written.as_slice() == text),
+        Exported::Nothing(_) => Ok(false),
     }
 }
 
 /// Why an export writes nothing.
 fn fault_of(alloc: Global, k: u64, name: &str) -> Result<Option<ExportFault>, Fail> {
-    Ok(exported(alloc, k, name)?.err())
+    match exported(alloc, k, name)? {
+        Exported::Text(_) => Ok(None),
+        Exported::Nothing(fault) => Ok(Some(fault)),
+    }
 }
 
 #[test]

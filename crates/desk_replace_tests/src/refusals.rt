@@ -77,7 +77,7 @@ fn fault_of(
     Ok(fault)
 }
 
-/// The first text is told before the other.
+/// The first text is reported before the other.
 #[test]
 fn texts_that_are_none(rt: HostRuntime) -> Result<(), Fail> {
     let old = old_fault(text_fault(1, 2, Cause::Symbol));

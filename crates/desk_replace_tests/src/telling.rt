@@ -5,7 +5,7 @@ use desk_text::read_text;
 use std::alloc::Global;
 use std::test::Fail;
 
-/// A copy as text, what is looked for, what is told, and how it ends.
+/// A copy as text, what is looked for, what is said, and how it ends.
 type Row = (&'static str, &'static str, &'static str, PlaceFault);
 
 /// Whether a row is so, and the copy stays.
@@ -82,7 +82,7 @@ fn texts_that_stand_at_several_places(rt: HostRuntime) -> Result<(), Fail> {
     Ok(())
 }
 
-/// How many lines are told of a letter in a copy of so many, and whether the last is this one.
+/// How many lines are written of a letter in a copy of so many, and whether the last is this one.
 fn lines_of(alloc: Global, count: usize, last: &[u8]) -> Result<Option<u32>, Fail> {
     let mut text = Vec::with_capacity(alloc, count)?;
     text.resize(count, b'a')?;
@@ -136,7 +136,7 @@ fn places_of_texts(rt: HostRuntime) -> Result<(), Fail> {
     Ok(())
 }
 
-/// What is told of places that are given.
+/// What is said of places that are given.
 #[test]
 fn given_places_are_told(rt: HostRuntime) -> Result<(), Fail> {
     let copy = read_text(rt.alloc(), b"_ab_ c", false)?;

@@ -1,4 +1,4 @@
--- What some site holds, told by the entries.
+-- What some site holds, by the entries.
 use Rattle.std.proofs.Common.{◌≡◌, ℕ, Bool, true, false, cond, ◌||◌, ◌&&◌, List, [], ◌∷◌, map, length, refl, sym, ap, ◌∙◌, nat_eq, arith}
 use Rattle.std.specs.Prelude.{Some, None, option_map}
 use Rattle.std.specs.List.{IsDistinct, AllByRecursion, list_all, list_any}

@@ -57,7 +57,7 @@ lawful_after es fs n t kept same new q = lawful_at (nat_eq n q) t (lookup (nat_e
 pub lawful_there : (es : List (ℕ × State)) (n : ℕ) (s : State) → IsKept es → lookup (nat_eq n) es ≡ Some s → AllLawful s.ops
 lawful_there es n s kept there = subst (λ o. IfSome o (λ x. AllLawful x.ops)) there (kept.lawful n)
 
--- what each site holds, told by the sites
+-- what each site holds, by the sites
 pub lawful_sites : (es : List (ℕ × State)) (sites : Sites) → IsKept es → sites_of es ≡ sites → AreLawful sites
 lawful_sites es sites kept view n = subst (λ o. IfSome o AllLawful) (sym (get-sites_of es n) ∙ ap (λ m. fin.get m n) view) (at (lookup (nat_eq n) es) (kept.lawful n))
   where

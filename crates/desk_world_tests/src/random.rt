@@ -57,7 +57,7 @@ fn len_at(world: &World<Global>, site: u16) -> usize {
     }
 }
 
-/// An edit of a site, told by the seed: mostly an insert.
+/// An edit of a site, by the seed: mostly an insert.
 fn edit(world: &mut World<Global>, site: u16, seed: u64) -> Result<Answer, StepRefusal> {
     let len = len_at(world, site);
     let place = pick(next(seed), len.saturating_add(1));
@@ -76,7 +76,7 @@ fn edit(world: &mut World<Global>, site: u16, seed: u64) -> Result<Answer, StepR
     }
 }
 
-/// One event, told by the seed: an edit, a gift within the site's half of the world, or a restart.
+/// One event, by the seed: an edit, a gift within the site's half of the world, or a restart.
 fn happen(world: &mut World<Global>, seed: u64) -> Result<bool, Fail> {
     let site = site_of(next(seed));
     let more = next(next(seed));
