@@ -8,7 +8,7 @@ use Rattle.desk_job.specs.Job.{Terms, fill_widths}
 use Rattle.desk_galley.specs.Values.{LineValues}
 use Rattle.desk_galley.specs.Galley.{is_faulty}
 use Rattle.desk_proof.specs.Parts.{begin_of}
-use Rattle.desk_proof.specs.Faults.{told_cause}
+use Rattle.desk_proof.specs.Faults.{cause_and_limits}
 use Rattle.desk_svg.specs.Number.{attribute_text}
 use Rattle.desk_picture.specs.Sheet.{across, foot}
 use Rattle.desk_picture.specs.Widths.{drawn_space, frame_or}
@@ -57,7 +57,7 @@ line_boxes terms copy sheet y line = fills_text sheet y (words_end terms copy li
 abbrev pub fault_text : Terms → Sheet → (y : ℕ) → LineValues → List JobFault → List ℕ
 fault_text terms sheet y line [] = []
 fault_text terms sheet y line (fault ∷ more) =
-    text_at (codes "c") (across sheet.scale.pica (frame_or terms line) + 600) y ++ (told_cause sheet.scale line.wedge_sum fault ++ text_end)
+    text_at (codes "c") (across sheet.scale.pica (frame_or terms line) + 600) y ++ (cause_and_limits sheet.scale line.wedge_sum fault ++ text_end)
 
 -- a line that stands here
 abbrev pub line_at : Terms → List Symbol → Sheet → (y : ℕ) → LineValues → List ℕ

@@ -117,8 +117,8 @@ way_text copy scale line fault =
 -- ---- faults of lines
 
 -- what a fault is, and the limits that the wedge sum passes
-abbrev pub told_cause : Scale → Option ℤ → JobFault → List ℕ
-told_cause scale sum fault = cause_text fault ++ limits_text scale sum fault
+abbrev pub cause_and_limits : Scale → Option ℤ → JobFault → List ℕ
+cause_and_limits scale sum fault = cause_text fault ++ limits_text scale sum fault
 
 abbrev pub lead_text : ℕ → List ℕ
 lead_text number = codes "\nline " ++ decimal number ++ codes ": "
@@ -128,7 +128,7 @@ places_text words = codes ", places " ++ decimal (begin_of words) ++ codes ".." 
 
 -- the number of a line, its fault and its places
 abbrev pub title_text : Scale → LineValues → JobFault → List ℕ
-title_text scale line fault = lead_text line.number ++ (told_cause scale line.wedge_sum fault ++ places_text line.words)
+title_text scale line fault = lead_text line.number ++ (cause_and_limits scale line.wedge_sum fault ++ places_text line.words)
 
 abbrev pub shown_text : List Symbol → LineValues → List ℕ
 shown_text copy line = codes "  | " ++ set_text copy line

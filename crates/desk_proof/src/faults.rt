@@ -6,7 +6,7 @@ ghost use Rattle.desk_units.specs.WedgeSum.{greatest};
 ghost use Rattle.desk_job.specs.Setting.{IsWord};
 ghost use Rattle.desk_proof.specs.Parts.{points_down, points_up};
 ghost use Rattle.desk_proof.specs.Lines.{HasWords};
-ghost use Rattle.desk_proof.specs.Faults.{cause_text, copy_fault_text, copy_faults_text, fault_if_any, fault_text, filling_text, free_text, is_loose, lead_text, limit_text, limits_text, line_faults_text, meaning_text, missing_text, next_text, next_word_text, over_text, places_text, rest_text, shorter_text, shown_text, spaces_text, title_text, told_cause, way_line, way_text, wider_text};
+ghost use Rattle.desk_proof.specs.Faults.{cause_and_limits, cause_text, copy_fault_text, copy_faults_text, fault_if_any, fault_text, filling_text, free_text, is_loose, lead_text, limit_text, limits_text, line_faults_text, meaning_text, missing_text, next_text, next_word_text, over_text, places_text, rest_text, shorter_text, shown_text, spaces_text, title_text, way_line, way_text, wider_text};
 
 use crate::lines::{put_set, put_sum};
 use crate::parts::{begin_of, end_of, put_points_down, put_points_up, put_word};
@@ -297,7 +297,7 @@ pub fn put_cause<A: Allocator + Copy>(
     sum: Option<i64>,
     fault: JobFault,
 ) -> Result<(), AllocError>
-    ensures { OnOk result (string_bytes out.new ≡ string_bytes out.old ++ told_cause scale sum fault) }
+    ensures { OnOk result (string_bytes out.new ≡ string_bytes out.old ++ cause_and_limits scale sum fault) }
 {
     out.push_str(cause(fault))?;
     put_limits(out, scale, sum, fault)
