@@ -11,7 +11,7 @@ use Rattle.desk_blocks.specs.Rank.{homes_of, IsRising, IsRank, IsNoneOf, Knows}
 use Rattle.desk_pages.specs.Pages.{IsEdge}
 use Rattle.desk_ops.proofs.Stamps.{by_cases}
 use Rattle.desk_seq.specs.declared.Entry.{Entry}
-use Rattle.desk_seq.specs.Entries.{stamps_of, IsAbsent, with_mark}
+use Rattle.desk_seq.specs.Entries.{stamps_of, IsAbsent}
 use Rattle.desk_seq.proofs.Entries.{absent-at, absent-from, length-stamps}
 
 pub home-at : (hs : List Home) (k : ℕ) (d : Home) → k < length hs → get_or (homes_of hs) k head ≡ (get_or hs k d).stamp
@@ -108,11 +108,6 @@ absent-none s es a = λ k l. absent-at s es k a (subst (λ (n : ℕ). k < n) (le
 
 pub none-absent : (s : Stamp) (es : List Entry) → IsNoneOf s (stamps_of es) → IsAbsent s es
 none-absent s es a = absent-from s es (λ k l. a k (subst (λ (n : ℕ). k < n) (sym (length-stamps es)) l))
-
-pub stamps-mark : (es : List Entry) (i : ℕ) → stamps_of (with_mark es i) ≡ stamps_of es
-stamps-mark [] i = refl
-stamps-mark (e ∷ es) zero = refl
-stamps-mark (e ∷ es) (suc i) = ap (λ l. e.stamp ∷ l) (stamps-mark es i)
 
 -- the edge of those below s is the rank of s
 pub edge-rank : (hs : List Home) (s : Stamp) (i : ℕ) → IsRising (homes_of hs) → IsEdge (λ (h : Home). before h.stamp s) hs i → IsRank (homes_of hs) s i

@@ -9,6 +9,7 @@ use Rattle.std.proofs.lemmas.List.Sums.{sum_by-append, sum_by-cons, sum_by-inser
 use Rattle.desk_ops.specs.declared.op.Stamp.{Stamp}
 use Rattle.desk_ops.specs.Stamp.{before, same}
 use Rattle.desk_ops.proofs.Stamps.{by_cases, before-trans, before-other, before-irrefl, same-true}
+use Rattle.desk_ops.proofs.Lists.{Each-append}
 use Rattle.desk_seq.specs.declared.Entry.{Entry}
 use Rattle.desk_seq.specs.Entries.{marked}
 use Rattle.desk_blocks.specs.declared.tally.Tally.{Tally}
@@ -48,10 +49,6 @@ each-set P [] i y a = tt
 each-set P (x ∷ xs) zero y a = (a.0, a.1.1)
 each-set P (x ∷ xs) (suc i) y a = (a.0, each-set P xs i y a.1)
 
-each-append : {A : Type 0} (P : A → Type 0) (xs ys : List A) → AllByRecursion P xs → AllByRecursion P ys → AllByRecursion P (xs ++ ys)
-each-append P [] ys a b = b
-each-append P (x ∷ xs) ys a b = (a.0, each-append P xs ys a.1 b)
-
 -- one more, and the one that it stands for is counted no more
 pub tally-replace : (t u : Tally) (xs : List Entry) (i : ℕ) (new old : Entry) → i < length xs → old ≡ get_or xs i old → IsTally t (insert xs i new) → u.least ≡ t.least → u.shown ≡ t.shown - cond (is_shown old) 1 0 → IsTally u (set xs i new)
 tally-replace t u xs i new old l e h n m = record {
@@ -68,7 +65,7 @@ tally-replace t u xs i new old l e h n m = record {
 pub tally-join : (t v u : Tally) (xs ys : List Entry) → IsTally t xs → IsTally v ys → u.shown ≡ t.shown + v.shown → ((s : Stamp) → before s t.least ≡ false → before s u.least ≡ false) → ((s : Stamp) → before s v.least ≡ false → before s u.least ≡ false) → IsTally u (xs ++ ys)
 tally-join t v u xs ys h k e f g = record {
   shown = let a = sum_by-append (λ (y : Entry). cond (is_shown y) 1 0) xs ys in let b = h.shown in let c = k.shown in omega arith;
-  least = each-append (λ (y : Entry). before y.stamp u.least ≡ false) xs ys
+  least = Each-append (λ (y : Entry). before y.stamp u.least ≡ false) xs ys
       (each-map (λ (y : Entry). before y.stamp t.least ≡ false) (λ (y : Entry). before y.stamp u.least ≡ false) (λ y. f y.stamp) xs h.least)
       (each-map (λ (y : Entry). before y.stamp v.least ≡ false) (λ (y : Entry). before y.stamp u.least ≡ false) (λ y. g y.stamp) ys k.least);
 }

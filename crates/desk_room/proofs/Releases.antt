@@ -15,11 +15,13 @@ use Rattle.desk_ops.specs.Order.{op_cmp}
 use Rattle.desk_ops.specs.OrderLaws.{op_total, op_antisymmetric}
 use Rattle.desk_ops.specs.OpSet.{OpSet, has_op, with_op}
 use Rattle.desk_ops.proofs.Stamps.{by_cases, is_equal, same-refl, same-symm, before-other}
+use Rattle.desk_ops.proofs.Joined.{has_op-with_op_own}
+use Rattle.desk_ops.proofs.Lists.{each-at}
 use Rattle.desk_pages.specs.Pages.{IsEdge}
 use Rattle.desk_room.specs.Waiting.{HasTarget, is_some_same, waits_for, waiting_at, IsReleased}
 use Rattle.desk_room.specs.Turn.{target_or_head, turn_cmp, IsInTurn, IsKept, set_of}
-use Rattle.desk_room.proofs.Turns.{IsDown, earlier-down, above-down, edge-below, behind, after, all-at, absent-at_edge, apart-remove, each-remove, turn-remove, has-target, no_one-waits, first-waits}
-use Rattle.desk_room.proofs.Sets.{set-remove, set-absent, set-among, added-held, no_one-held, list-first}
+use Rattle.desk_room.proofs.Turns.{IsDown, earlier-down, above-down, edge-below, behind, after, absent-at_edge, apart-remove, each-remove, turn-remove, has-target, no_one-waits, first-waits}
+use Rattle.desk_room.proofs.Sets.{set-remove, set-absent, set-among, no_one-held, list-first}
 
 abbrev pub earlier : Op → Op → Bool
 earlier op x = is_lt (turn_cmp x op)
@@ -45,7 +47,7 @@ has-at xs op x i t edge l is = by_cases (eq_by_cmp op_cmp x op) here other
     here : eq_by_cmp op_cmp x op ≡ true → eq_by_cmp op_cmp x op ≡ has_op (set_of xs) op
     here e =
         let same_one : op ≡ get_or xs i x = sym (op_antisymmetric x op (is_equal (op_cmp x op) e)) ∙ is in
-        let held : has_op (set_of xs) (get_or xs i x) ≡ true = ap (λ (h : OpSet). has_op h (get_or xs i x)) (set-remove xs i x l) ∙ added-held (set_of (remove xs i)) (get_or xs i x) in
+        let held : has_op (set_of xs) (get_or xs i x) ≡ true = ap (λ (h : OpSet). has_op h (get_or xs i x)) (set-remove xs i x l) ∙ has_op-with_op_own (set_of (remove xs i)) (get_or xs i x) in
         e ∙ sym (ap (has_op (set_of xs)) same_one ∙ held)
 
     other : eq_by_cmp op_cmp x op ≡ false → eq_by_cmp op_cmp x op ≡ has_op (set_of xs) op
@@ -90,13 +92,13 @@ released-at s xs i d k edge l t =
     let y : Op = get_or xs i d in
     let rest : set_of xs ≡ with_op (set_of (remove xs i)) y = set-remove xs i d l in
     let gone : has_op (set_of (remove xs i)) y ≡ false = set-absent (remove xs i) y (apart-remove xs i d k.in_turn l) in
-    let target : target_of y ≡ Some s = has-target s y (all-at HasTarget xs i d k.targets l) t in
+    let target : target_of y ≡ Some s = has-target s y (each-at HasTarget xs i d k.targets l) t in
     let first : (o : Op) → has_op (set_of xs) o ≡ true → waits_for s o ≡ true → (o ≡ y) ⊎ (op_cmp y o ≡ Less) = λ o h w. first-waits s xs i d k.in_turn l (picked (above s) (above-down s) xs i k.in_turn edge) t o (set-among xs o h) w in
     let at : waiting_at (with_op (set_of (remove xs i)) y) s ≡ y ∷ waiting_at (set_of (remove xs i)) s = list-first s (set_of (remove xs i)) y (ap (is_some_same s) target ∙ same-refl s) gone (λ o h w. first o (ap (λ (h : OpSet). has_op h o) rest ∙ h) w) in
     record {
-      held = ap (λ (h : OpSet). has_op h y) rest ∙ added-held (set_of (remove xs i)) y;
+      held = ap (λ (h : OpSet). has_op h y) rest ∙ has_op-with_op_own (set_of (remove xs i)) y;
       target = target;
-      lawful = all-at IsLawful xs i d k.lawful l;
+      lawful = each-at IsLawful xs i d k.lawful l;
       gone = gone;
       rest = rest;
       first = first;

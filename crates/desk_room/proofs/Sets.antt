@@ -1,6 +1,5 @@
 -- The set of a list of waiting operations.
 use Rattle.std.proofs.Common.{◌≡◌, ℕ, zero, suc, ◌+◌, ◌<◌, ◌⊎◌, inl, inr, ◌||◌, Bool, true, false, cond, List, [], ◌∷◌, map, length, take, get_or, refl, sym, ap, ◌∙◌, arith, All}
-use Rattle.std.specs.Option.{is_some}
 use Rattle.std.specs.List.{insert, remove, filter, list_any, AllByRecursion}
 use Rattle.std.specs.FinMap as fin
 use Rattle.std.specs.FinMap.Entries.{by_order}
@@ -17,10 +16,10 @@ use Rattle.desk_ops.specs.OpSet.{OpSet, no_ops, has_op, with_op, with_all, in_or
 use Rattle.desk_ops.specs.Lists.{Among}
 use Rattle.desk_ops.proofs.Stamps.{by_cases, is_equal}
 use Rattle.desk_ops.proofs.Lists.{Each-weaker, each-among}
-use Rattle.desk_ops.proofs.Means.{among-any}
 use Rattle.desk_ops.proofs.Tree.{filter-hit, filter-miss}
-use Rattle.desk_ops.proofs.OpSets.{with_op-known}
+use Rattle.desk_ops.proofs.OpSets.{with_op-known, none-held}
 use Rattle.desk_ops.proofs.Unions.{has_op-with_op, with_op-comm, size-with_op, with_all-take, same-set, has_op-with_all}
+use Rattle.desk_ops.proofs.Ends.{held_among}
 use Rattle.std.specs.List.Sorted.{IsPermutation}
 use Rattle.std.proofs.lemmas.List.Sorted.{list_any-IsPermutation, All-permutation}
 use Rattle.std.proofs.Math.Bool.{or-false}
@@ -28,9 +27,6 @@ use Rattle.desk_ops.specs.Op.{IsLawful}
 use Rattle.desk_room.specs.Waiting.{waits_for, waiting_at, HasTarget}
 use Rattle.desk_room.specs.Turn.{turn_cmp, IsInTurn, set_of, IsKept}
 use Rattle.desk_room.proofs.Turns.{apart-left}
-
-none-held : (q : Op) → has_op no_ops q ≡ false
-none-held q = ap is_some (fin.get-empty op_cmp q)
 
 pub set-insert : (xs : List Op) (i : ℕ) (x : Op) → set_of (insert xs i x) ≡ with_op (set_of xs) x
 set-insert xs zero x = refl
@@ -61,9 +57,6 @@ set-among (x ∷ xs) q h = by_cases (eq_by_cmp op_cmp q x)
 same-op : (q : Op) → eq_by_cmp op_cmp q q ≡ true
 same-op q = ap is_eq (tied_itself op_total q)
 
-pub added-held : (h : OpSet) (x : Op) → has_op (with_op h x) x ≡ true
-added-held h x = has_op-with_op h x x ∙ ap (λ b. b || has_op h x) (same-op x)
-
 pub set-size : (xs : List Op) → IsInTurn xs → size (set_of xs) ≡ length xs
 set-size [] t = fin.len-empty op_cmp (Unit {0})
 set-size (x ∷ xs) t =
@@ -80,11 +73,8 @@ filter-none : (p : Op → Bool) (xs : List Op) → ((x : Op) → Among x xs → 
 filter-none p [] f = refl
 filter-none p (x ∷ xs) f = filter-miss p x xs (f x (inl refl)) ∙ filter-none p xs (λ y m. f y (inr m))
 
-among-held : (h : OpSet) (q : Op) → Among q (in_order h) → has_op h q ≡ true
-among-held h q m = fin.contains_key-keys h q ∙ among-any q (in_order h) m
-
 pub no_list : (s : Stamp) (h : OpSet) → ((op : Op) → has_op h op ≡ true → waits_for s op ≡ false) → waiting_at h s ≡ []
-no_list s h f = filter-none (waits_for s) (in_order h) (λ q m. f q (among-held h q m))
+no_list s h f = filter-none (waits_for s) (in_order h) (λ q m. f q (held_among h q m))
 
 abbrev keys : List (Op × Unit {0}) → List Op
 keys es = map (λ (e : Op × Unit {0}). e.0) es
@@ -113,7 +103,7 @@ list-first s h x w gone first =
   where
     apart : (y : Op) → Among y (in_order h) → eq_by_cmp op_cmp x y ≡ false
     apart y m = by_cases (eq_by_cmp op_cmp x y)
-        (λ e. absurd (true≢false (sym (ap (has_op h) (op_antisymmetric x y (is_equal (op_cmp x y) e)) ∙ among-held h y m) ∙ gone)))
+        (λ e. absurd (true≢false (sym (ap (has_op h) (op_antisymmetric x y (is_equal (op_cmp x y) e)) ∙ held_among h y m) ∙ gone)))
         (λ e. e)
 
     or_true : (a : Bool) → (a || true) ≡ true
@@ -121,7 +111,7 @@ list-first s h x w gone first =
     or_true false = refl
 
     less : (y : Op) → Among y (in_order h) → waits_for s y ≡ true → op_cmp x y ≡ Less
-    less y m k = go (first y (has_op-with_op h x y ∙ ap (λ b. eq_by_cmp op_cmp y x || b) (among-held h y m) ∙ or_true (eq_by_cmp op_cmp y x)) k)
+    less y m k = go (first y (has_op-with_op h x y ∙ ap (λ b. eq_by_cmp op_cmp y x || b) (held_among h y m) ∙ or_true (eq_by_cmp op_cmp y x)) k)
       where
         go : (y ≡ x) ⊎ (op_cmp x y ≡ Less) → op_cmp x y ≡ Less
         go (inl e) = absurd (true≢false (sym (ap (λ (z : Op). eq_by_cmp op_cmp x z) e ∙ same-op x) ∙ apart y m))

@@ -18,7 +18,7 @@ use Rattle.desk_ops.specs.Order.{op_cmp}
 use Rattle.desk_ops.specs.OrderLaws.{op_total, op_antisymmetric}
 use Rattle.desk_ops.specs.Lists.{Among}
 use Rattle.desk_ops.proofs.Stamps.{by_cases, stamp_total, stamp_tied, is_equal, is_less, same-cmp, same-true, before-trans, before-apart, before-apart_left}
-use Rattle.desk_ops.proofs.Lists.{Each-weaker, Each-both, each-among}
+use Rattle.desk_ops.proofs.Lists.{Each-weaker, Each-both, each-among, each-at, Each-insert}
 use Rattle.desk_room.specs.Waiting.{HasTarget, is_some_same, waits_for}
 use Rattle.desk_room.specs.Turn.{target_or_head, turn_cmp, IsInTurn}
 
@@ -75,11 +75,6 @@ then-apart s t r e = go (stamp_cmp s t) (same-cmp s t ∙ e)
 
 -- ---- searches
 
-pub all-at : (P : Op → Type 0) (xs : List Op) (k : ℕ) (d : Op) → AllByRecursion P xs → k < length xs → P (get_or xs k d)
-all-at P [] k d a l = absurd (omega arith)
-all-at P (x ∷ xs) zero d a l = a.0
-all-at P (x ∷ xs) (suc k) d a l = all-at P xs k d a.1 (omega arith)
-
 -- the ones that are picked stand first
 abbrev pub IsDown : (Op → Bool) → Type 0
 IsDown p = (x y : Op) → turn_cmp x y ≡ Less → p y ≡ true → p x ≡ true
@@ -105,7 +100,7 @@ edge-below p down (x ∷ xs) (suc i) t l h = (first (cases_eq i 0), edge-below p
 
     first : (i ≡ 0) ⊎ (i ≡ 0 → ⊥) → p x ≡ true
     first (inl q) = let e : suc i - 1 ≡ 0 = omega arith in ap (λ (n : ℕ). p (get_or (x ∷ xs) n x)) (sym e) ∙ h x (omega arith)
-    first (inr q) = down x (get_or xs (i - 1) x) (all-at (λ y. turn_cmp x y ≡ Less) xs (i - 1) x t.0 (omega arith)) (last x (omega arith))
+    first (inr q) = down x (get_or xs (i - 1) x) (each-at (λ y. turn_cmp x y ≡ Less) xs (i - 1) x t.0 (omega arith)) (last x (omega arith))
 
 pub edge-above : (p : Op → Bool) → IsDown p → (xs : List Op) (i : ℕ) → IsInTurn xs → ((d : Op) → i < length xs → p (get_or xs i d) ≡ false) → AllByRecursion (λ y. p y ≡ false) (drop i xs)
 edge-above p down [] zero t h = tt
@@ -125,16 +120,11 @@ behind p xs i j d a w h l = true≢false (sym (in-take p xs i j d a l w) ∙ h)
 
 -- ---- an entry more, and one less
 
-pub all-insert : (P : Op → Type 0) (xs : List Op) (i : ℕ) (x : Op) → AllByRecursion P xs → P x → AllByRecursion P (insert xs i x)
-all-insert P xs zero x a h = (h, a)
-all-insert P [] (suc i) x a h = (h, tt)
-all-insert P (y ∷ ys) (suc i) x a h = (a.0, all-insert P ys i x a.1 h)
-
 pub turn-insert : (xs : List Op) (i : ℕ) (x : Op) → IsInTurn xs → AllByRecursion (λ y. turn_cmp y x ≡ Less) (take i xs) → AllByRecursion (λ y. turn_cmp x y ≡ Less) (drop i xs) → IsInTurn (insert xs i x)
 turn-insert [] zero x t b a = (tt, tt)
 turn-insert [] (suc i) x t b a = (tt, tt)
 turn-insert (y ∷ ys) zero x t b a = (a, t)
-turn-insert (y ∷ ys) (suc i) x t b a = (all-insert (λ z. turn_cmp y z ≡ Less) ys i x t.0 b.0, turn-insert ys i x t.1 b.1 a)
+turn-insert (y ∷ ys) (suc i) x t b a = (Each-insert (λ z. turn_cmp y z ≡ Less) ys i x t.0 b.0, turn-insert ys i x t.1 b.1 a)
 
 pub each-remove : (P : Op → Type 0) (xs : List Op) (i : ℕ) → AllByRecursion P xs → AllByRecursion P (remove xs i)
 each-remove P [] zero a = tt
@@ -168,7 +158,7 @@ absent-at_edge op (x ∷ xs) (suc i) t b a = (apart-right x op (is_less (turn_cm
 pub apart-remove : (xs : List Op) (i : ℕ) (d : Op) → IsInTurn xs → i < length xs → AllByRecursion (λ y. eq_by_cmp op_cmp (get_or xs i d) y ≡ false) (remove xs i)
 apart-remove [] i d t l = absurd (omega arith)
 apart-remove (x ∷ xs) zero d t l = Each-weaker (λ y. turn_cmp x y ≡ Less) (λ y. eq_by_cmp op_cmp x y ≡ false) (apart-left x) xs t.0
-apart-remove (x ∷ xs) (suc i) d t l = (apart-right x (get_or xs i d) (all-at (λ y. turn_cmp x y ≡ Less) xs i d t.0 (omega arith)), apart-remove xs i d t.1 (omega arith))
+apart-remove (x ∷ xs) (suc i) d t l = (apart-right x (get_or xs i d) (each-at (λ y. turn_cmp x y ≡ Less) xs i d t.0 (omega arith)), apart-remove xs i d t.1 (omega arith))
 
 -- ---- who waits
 

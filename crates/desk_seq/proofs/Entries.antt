@@ -62,6 +62,11 @@ pub length-stamps : (es : List Entry) → length (stamps_of es) ≡ length es
 length-stamps [] = refl
 length-stamps (e ∷ es) = ap suc (length-stamps es)
 
+pub stamps-mark : (es : List Entry) (i : ℕ) → stamps_of (with_mark es i) ≡ stamps_of es
+stamps-mark [] i = refl
+stamps-mark (e ∷ es) zero = refl
+stamps-mark (e ∷ es) (suc i) = ap (λ l. e.stamp ∷ l) (stamps-mark es i)
+
 pub start-head : (ts : List Stamp) (p : Stamp) → same head p ≡ true → IsStart ts p 0
 start-head ts p h = inl (sym (same-true head p h), refl)
 

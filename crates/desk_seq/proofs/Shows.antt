@@ -6,7 +6,7 @@ use Rattle.desk_ops.specs.declared.op.Symbol.{Symbol}
 use Rattle.desk_seq.specs.declared.Entry.{Entry}
 use Rattle.desk_seq.specs.Entries.{is_shown, shown_symbols}
 
-abbrev symbols : List Entry → List Symbol
+abbrev pub symbols : List Entry → List Symbol
 symbols es = map (λ (e : Entry). e.symbol) es
 
 pub symbols-append : (xs ys : List Entry) → shown_symbols (xs ++ ys) ≡ shown_symbols xs ++ shown_symbols ys

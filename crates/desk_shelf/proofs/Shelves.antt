@@ -2,7 +2,7 @@
 use Rattle.std.proofs.Common.{◌≡◌, ℕ, zero, suc, ◌+◌, ◌-◌, ◌<◌, ◌≤◌, Bool, true, false, cond, eqb, eq-eqb, List, [], ◌∷◌, ◌++◌, length, get_or, take, drop, set, refl, sym, ap, subst, ◌∙◌, arith, ◌*◌, replicate}
 use Rattle.std.specs.List.{insert, remove, All}
 use Rattle.std.proofs.lemmas.List.{get_or-set_other, get_or_append_left, get_or-drop, get_or-take, length-set, length-append, length-drop, length-take, length-map, drop-drop, take_all, take-take, drop_at, append-nil, get_or_push, take-append-le, drop-append-le, nil_from_length, ext_get_or}
-use Rattle.std.proofs.lemmas.Bool.{eqb-false, eqb-true}
+use Rattle.std.proofs.lemmas.Bool.{eqb-false, eqb-true, false_from_ne_true}
 use Rattle.std.proofs.lemmas.List.Edits.{length-insert, length-remove}
 use Rattle.std.proofs.lemmas.List.Elements.{All-push}
 use Rattle.std.proofs.lemmas.List.Sums.{sum_by-cons, sum_by_push}
@@ -263,12 +263,8 @@ first-of cells pages heads k p n h at l = sym (ap (λ (z : List _). take n z) at
 
 -- ---- a page is opened, or closed
 
-not-true : (t : Bool) → (t ≡ true → ⊥) → t ≡ false
-not-true true h = absurd (h refl)
-not-true false h = refl
-
 lt-not-eq : (n f : ℕ) → n < f → eqb n f ≡ false
-lt-not-eq n f l = not-true (eqb n f) (λ e. let x = eqb-true n f e in absurd (omega arith))
+lt-not-eq n f l = false_from_ne_true (eqb n f) (λ e. let x = eqb-true n f e in absurd (omega arith))
 
 uses-none : {X S : Type 0} (tells : S → List X → Type 0) (frames : List (List X)) (heads : List (Head X S)) (f : ℕ) → AreHeads tells frames heads → length frames ≤ f → uses f heads ≡ 0
 uses-none tells frames [] f a l = refl

@@ -1,22 +1,17 @@
 -- What follows a set of which nothing was looked at yet: all clear inserts and deletes wait.
-use Rattle.std.proofs.Common.{◌≡◌, ℕ, ◌<◌, true, false, List, [], length, refl, sym, ap, ◌∙◌, subst, ◌⊎◌, inl, inr, arith}
+use Rattle.std.proofs.Common.{◌≡◌, ℕ, ◌<◌, true, false, List, [], refl, sym, ap, ◌∙◌, subst, ◌⊎◌, inl, inr, arith}
 use Rattle.std.proofs.lemmas.Bool.{true≢false}
-use Rattle.std.proofs.lemmas.List.{length-map}
-use Rattle.std.specs.FinMap as fin
 use Rattle.desk_ops.specs.declared.op.Op.{Op}
 use Rattle.desk_ops.specs.Op.{IsLawful}
 use Rattle.desk_ops.specs.OpSet.{OpSet, no_ops, has_op, in_order, size, AllLawful}
 use Rattle.desk_ops.specs.Live.{IsClearOp}
 use Rattle.desk_ops.specs.Walk.{walk_from}
 use Rattle.desk_ops.proofs.Lists.{Each}
-use Rattle.desk_ops.proofs.OpSets.{no_ops-from_rising, has_op-from_rising, size-from_rising, in_order-from_rising}
+use Rattle.desk_ops.proofs.OpSets.{no_ops-from_rising, size-from_rising, in_order-from_rising, none-held}
 use Rattle.desk_room.specs.Waiting.{HasTarget}
 use Rattle.desk_seq.specs.declared.Entry.{Entry}
 use Rattle.desk_walk.specs.Following.{IsDraining, IsSettled}
 use Rattle.desk_walk.proofs.Drains.{ends}
-
-pub none-held : (q : Op) → has_op no_ops q ≡ false
-none-held q = ap (λ h. has_op h q) (sym no_ops-from_rising) ∙ has_op-from_rising [] q tt
 
 pub none-size : size no_ops ≡ 0
 none-size = ap size (sym no_ops-from_rising) ∙ size-from_rising [] tt
@@ -61,7 +56,3 @@ settled-none h es w e f k =
 
     nothing : IsSettled no_ops [] no_ops
     nothing = ends no_ops lawful no_ops no_ops [] 0 0 (begins no_ops no_ops (λ q. ((λ e. absurd (none q e)), (λ c. absurd (none q c.0.0)))) [] refl) (omega arith) tt (omega arith) (λ q e. absurd (none q e))
-
--- a set's number is that of its row
-pub number : (h : OpSet) → length (in_order h) ≡ size h
-number h = length-map (fin.entries h) (λ e. e.0) ∙ sym (fin.len-entries h)

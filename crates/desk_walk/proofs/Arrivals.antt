@@ -16,9 +16,8 @@ use Rattle.desk_ops.proofs.Stamps.{by_cases, same-true, same-from}
 use Rattle.desk_ops.proofs.Lists.{each-among}
 use Rattle.desk_ops.proofs.Means.{not-head, live_ascending, live-parts}
 use Rattle.desk_ops.proofs.Tree.{live-walk, walk-live}
-use Rattle.desk_ops.proofs.Arrive.{among-with_op}
-use Rattle.desk_ops.proofs.Ends.{among_held, held_among, insert_from_op, op_from_insert, live_from_end, end_from_live, live_from_op, op_from_live}
-use Rattle.desk_ops.proofs.Joined.{has_op-with_op_own, within-with_op, is_clear-with_op_new, is_clear-with_op_apart}
+use Rattle.desk_ops.proofs.Ends.{among_held, insert_from_op, op_from_insert, live_from_end, end_from_live, live_from_op, op_from_live}
+use Rattle.desk_ops.proofs.Joined.{has_op-with_op_own, within-with_op, is_clear-with_op_new, is_clear-with_op_apart, with-cases}
 use Rattle.desk_ops.proofs.Bearers.{op_borne}
 use Rattle.desk_ops.proofs.Deletes.{delete_live, deleted_from, deleted_by}
 use Rattle.desk_room.specs.Waiting.{HasTarget}
@@ -66,13 +65,6 @@ pub record IsAdded (w waits : Op → Bool) (o : Op) : Type 0 where
   pub from : (q : Op) → w q ≡ true → waits q ≡ true
   pub own : HasTarget o → waits o ≡ true
   pub target : waits o ≡ true → HasTarget o
-
-pub with-cases : (h : OpSet) (o q : Op) → has_op (with_op h o) q ≡ true → (o ≡ q) ⊎ (has_op h q ≡ true)
-with-cases h o q e = go (among-with_op h o q (among_held (with_op h o) q e))
-  where
-    go : (o ≡ q) ⊎ Among q (in_order h) → (o ≡ q) ⊎ (has_op h q ≡ true)
-    go (inl i) = inl i
-    go (inr m) = inr (held_among h q m)
 
 -- put into what waits
 pub added-put : (w : OpSet) (o : Op) → HasTarget o → IsAdded (has_op w) (has_op (with_op w o)) o

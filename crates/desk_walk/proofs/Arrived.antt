@@ -10,13 +10,14 @@ use Rattle.desk_ops.specs.Op.{target_of}
 use Rattle.desk_ops.specs.OpSet.{OpSet, has_op, with_op, AllLawful}
 use Rattle.desk_ops.specs.Lists.{Among}
 use Rattle.desk_ops.proofs.Stamps.{by_cases}
-use Rattle.desk_ops.proofs.Joined.{lawful-with_op, has_op-with_op_own, within-with_op}
+use Rattle.desk_ops.proofs.Joined.{lawful-with_op, has_op-with_op_own, within-with_op, with-cases}
 use Rattle.desk_room.specs.Waiting.{HasTarget}
 use Rattle.desk_seq.specs.declared.Entry.{Entry}
 use Rattle.desk_seq.specs.Entries.{stamps_of, AreDistinct, IsAbsent, IsFirstBelow, with_mark}
+use Rattle.desk_seq.proofs.Entries.{map-insert, stamps-mark}
 use Rattle.desk_walk.specs.Following.{places, place_at, IsSettled, IsFollowing, IsFree, IsDraining, IsArrival, IsWithout, new_entry}
-use Rattle.desk_walk.proofs.Lists.{among-at, length-insert, insert-low, insert-high, stamps-mark, map-insert}
-use Rattle.desk_walk.proofs.Arrivals.{IsAdded, added-put, added-none, not-held, following, old-free, with-cases, delete-target}
+use Rattle.desk_walk.proofs.Lists.{among-at, length-insert, insert-low, insert-high}
+use Rattle.desk_walk.proofs.Arrivals.{IsAdded, added-put, added-none, not-held, following, old-free, delete-target}
 use Rattle.desk_walk.proofs.Drains.{settled-entries, settled-waits, absent, put, mark}
 
 -- a place is the head's, or an entry's

@@ -1,25 +1,23 @@
 -- Operations in their order: their stamps do not fall, and those of one stamp stand side by side.
 use Rattle.std.proofs.Common.{◌≡◌, ℕ, zero, suc, ◌+◌, ◌-◌, ◌<◌, ◌≤◌, Bool, true, false, not, nat_eq, List, [], ◌∷◌, length, get_or, take, refl, sym, ap, ◌∙◌, subst, ◌⊎◌, inl, inr, arith}
 use Rattle.std.specs.declared.cmp.Ordering.TheVariants.{Less}
-use Rattle.std.specs.Ordering.{is_lt}
 use Rattle.std.proofs.lemmas.Bool.{true≢false, cases_order}
 use Rattle.std.proofs.lemmas.Bool.Decides.{nat_tests}
-use Rattle.std.proofs.lemmas.Cmp.{tied_itself}
 use Rattle.std.proofs.lemmas.List.{get_or_default}
 use Rattle.desk_ops.specs.declared.op.Stamp.{Stamp}
 use Rattle.desk_ops.specs.declared.op.Op.{Op}
 use Rattle.desk_ops.specs.Stamp.{same, before}
 use Rattle.desk_ops.specs.Op.{stamp_of}
 use Rattle.desk_ops.specs.Order.{op_cmp}
-use Rattle.desk_ops.specs.OrderLaws.{op_total}
 use Rattle.desk_ops.specs.OpSet.{OpSet, has_op, in_order}
 use Rattle.desk_ops.specs.Lists.{Among}
 use Rattle.desk_ops.specs.Held.{is_clear_in}
 use Rattle.desk_ops.proofs.Stamps.{by_cases, same-true, same-from, before-trans, before-irrefl, before-other}
-use Rattle.desk_ops.proofs.Lists.{Each}
+use Rattle.desk_ops.proofs.Lists.{each-at}
 use Rattle.desk_ops.proofs.Means.{IsOrdered, ordered, clear_one}
 use Rattle.desk_ops.proofs.Ends.{among_held, held_among}
 use Rattle.desk_ops.proofs.Bearers.{stamp_not_before, sole_clear}
+use Rattle.desk_ops.proofs.OpSets.{less-apart}
 use Rattle.desk_walk.specs.Tree.{no_op, op_at}
 
 -- ---- by place
@@ -47,21 +45,13 @@ index-taken (y ∷ xs) d zero x m = absurd m
 index-taken (y ∷ xs) d (suc i) x (inl e) = (0, omega arith, omega arith, e)
 index-taken (y ∷ xs) d (suc i) x (inr m) = let r = index-taken xs d i x m in let l : r.0 < i = r.1 in let k : r.0 < length xs = r.2 in (suc r.0, omega arith, omega arith, r.3)
 
-pub each-at : {A : Type 0} (P : A → Type 0) (xs : List A) (d : A) (j : ℕ) → Each P xs → j < length xs → P (get_or xs j d)
-each-at P [] d j h lt = absurd (omega arith)
-each-at P (x ∷ xs) d zero h lt = h.0
-each-at P (x ∷ xs) d (suc j) h lt = each-at P xs d j h.1 (omega arith)
-
 -- ---- in order
 
 pub less-at : (ops : List Op) → IsOrdered ops → (j k : ℕ) → j < k → k < length ops → op_cmp (op_at ops j) (op_at ops k) ≡ Less
 less-at [] up j k l lt = absurd (omega arith)
 less-at (o ∷ ops) up j zero l lt = absurd (omega arith)
-less-at (o ∷ ops) up zero (suc k) l lt = each-at (λ p. op_cmp o p ≡ Less) ops no_op k up.0 (omega arith)
+less-at (o ∷ ops) up zero (suc k) l lt = each-at (λ p. op_cmp o p ≡ Less) ops k no_op up.0 (omega arith)
 less-at (o ∷ ops) up (suc j) (suc k) l lt = less-at ops up.1 j k (omega arith) (omega arith)
-
-pub not-itself : (o q : Op) → op_cmp o q ≡ Less → o ≡ q → ⊥
-not-itself o q less e = true≢false (sym (ap is_lt less) ∙ ap (λ p. is_lt (op_cmp o p)) (sym e) ∙ ap is_lt (tied_itself op_total o))
 
 -- what is no greater than what is smaller is smaller
 pub below-it : (a b s : Stamp) → before b a ≡ false → before b s ≡ true → before a s ≡ true
@@ -89,8 +79,8 @@ module _ (h : OpSet) where
     where
       go : (j ≡ k) ⊎ ((j < k) ⊎ (k < j)) → j ≡ k
       go (inl i) = i
-      go (inr (inl l)) = absurd (not-itself (op_at (in_order h) j) (op_at (in_order h) k) (less-at (in_order h) (ordered h) j k l lk) e)
-      go (inr (inr l)) = absurd (not-itself (op_at (in_order h) k) (op_at (in_order h) j) (less-at (in_order h) (ordered h) k j l lj) (sym e))
+      go (inr (inl l)) = absurd (less-apart (op_at (in_order h) j) (op_at (in_order h) k) (less-at (in_order h) (ordered h) j k l lk) e)
+      go (inr (inr l)) = absurd (less-apart (op_at (in_order h) k) (op_at (in_order h) j) (less-at (in_order h) (ordered h) k j l lj) (sym e))
 
   -- a clear one is the only one of its stamp
   pub clear-index : (j k : ℕ) → j < length (in_order h) → k < length (in_order h) → is_clear_in h (stamp_of (op_at (in_order h) k)) ≡ true → stamp_of (op_at (in_order h) j) ≡ stamp_of (op_at (in_order h) k) → j ≡ k

@@ -21,7 +21,7 @@ use Rattle.desk_ops.proofs.Lists.{each-among, each-from_among}
 use Rattle.desk_ops.proofs.Means.{clear_one, clear_grows, some-same}
 use Rattle.desk_ops.proofs.Arrive.{among-with_insert, with_insert-among}
 use Rattle.desk_ops.proofs.Ends.{among_held, insert_from_op, op_from_insert}
-use Rattle.desk_ops.proofs.Joined.{same_bool, within-with_op}
+use Rattle.desk_ops.proofs.Joined.{same_bool, within-with_op, with-cases}
 use Rattle.desk_ops.proofs.Unions.{size-with_op}
 use Rattle.desk_ops.proofs.Deletes.{deleted_from, deleted_by}
 use Rattle.desk_ops.proofs.Drains.{drained, taken_in, walk_taken}
@@ -29,9 +29,10 @@ use Rattle.desk_ops.proofs.Places.{scan-at}
 use Rattle.desk_room.specs.Waiting.{IsReleased, waits_for}
 use Rattle.desk_seq.specs.declared.Entry.{Entry}
 use Rattle.desk_seq.specs.Entries.{stamps_of, IsAbsent, AreDistinct, IsFirstBelow, with_mark}
+use Rattle.desk_seq.proofs.Entries.{map-insert, length-stamps, stamps-mark}
 use Rattle.desk_walk.specs.Following.{entries_of, bare, bare_of, places, place_at, new_entry, IsWaiting, IsSettled, IsFollowing, IsFree, IsDraining, IsWithout, IsActed, CanAct}
-use Rattle.desk_walk.proofs.Lists.{among-map, map-among, among-insert, insert-among, among-at, at-among, among-walk_from, length-stamps, length-insert, insert-low, insert-high, bare-mark, stamps-mark, stamps-walk, map-insert, entries-are, absent-from, one-place, among-mark}
-use Rattle.desk_walk.proofs.Arrivals.{delete-target, live-by_target, with-cases}
+use Rattle.desk_walk.proofs.Lists.{among-map, map-among, among-insert, insert-among, among-at, at-among, among-walk_from, length-insert, insert-low, insert-high, bare-mark, stamps-walk, entries-are, absent-from, one-place, among-mark}
+use Rattle.desk_walk.proofs.Arrivals.{delete-target, live-by_target}
 
 -- two clear operations of one stamp are one
 pub one-clear : (h : OpSet) (a b : Op) → IsClearOp h a → IsClearOp h b → stamp_of a ≡ stamp_of b → a ≡ b

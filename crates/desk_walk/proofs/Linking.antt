@@ -18,16 +18,16 @@ use Rattle.desk_ops.proofs.Stamps.{by_cases, same-true, before-trans, before-irr
 use Rattle.desk_ops.proofs.Lists.{each-among, among-filter}
 use Rattle.desk_ops.proofs.Means.{among-any, any-among, counter-before}
 use Rattle.desk_ops.proofs.Unions.{has_op-with_all}
+use Rattle.desk_ops.proofs.OpSets.{none-held}
 use Rattle.desk_seq.specs.declared.Entry.{Entry}
 use Rattle.desk_seq.specs.Entries.{stamps_of, AreDistinct, IsFirstBelow, with_mark}
-use Rattle.desk_seq.proofs.Entries.{distinct-insert, distinct-mark}
+use Rattle.desk_seq.proofs.Entries.{distinct-insert, distinct-mark, map-insert, length-stamps, stamps-mark}
 use Rattle.desk_walk.specs.declared.tree.Node.{Node}
 use Rattle.desk_walk.specs.Following.{place_at, new_entry, IsFollowing, IsWithout}
 use Rattle.desk_walk.specs.Tree.{no_op, op_at, symbol_of, order, stamp_at, entry_at, walked, passed, linked, crossed, IsActing, hangs, waits_at, IsClearAt, IsTree, IsLinking, IsPlaceOf}
-use Rattle.desk_walk.proofs.Lists.{map-insert, among-insert, length-stamps, stamps-mark, absent-from}
+use Rattle.desk_walk.proofs.Lists.{among-insert, absent-from}
 use Rattle.desk_walk.proofs.Arrivals.{delete-target}
 use Rattle.desk_walk.proofs.Drains.{put, mark}
-use Rattle.desk_walk.proofs.Anew.{none-held}
 use Rattle.desk_walk.proofs.Beside.{index-of, at-index, taken-index, index-taken, held-at, one-index, older-at}
 use Rattle.desk_walk.proofs.Links.{length-passed, length-crossed, length-linked}
 use Rattle.desk_walk.proofs.Trees.{walked-passed, tree-passed, place-of, place-stamp, entry-node, tree-crossed, walked-crossed, tree-linked, walked-linked}

@@ -15,6 +15,7 @@ use Rattle.desk_ops.proofs.Stamps.{same-from}
 use Rattle.desk_ops.proofs.Scans.{walk-each}
 use Rattle.desk_seq.specs.declared.Entry.{Entry}
 use Rattle.desk_seq.specs.Entries.{stamps_of, IsAbsent, AreDistinct, with_mark}
+use Rattle.desk_seq.proofs.Entries.{length-stamps}
 use Rattle.desk_walk.specs.Following.{entry_of, bare, bare_of, places, place_at}
 
 -- ---- membership
@@ -59,10 +60,6 @@ at-among (s ∷ ts) t (inr m) = let r = at-among ts t m in let l : r.0 < length 
 pub among-walk_from : (xs : List Insertion) (s : Stamp) (y : Insertion) → Among y (walk_from xs s) → Among y xs
 among-walk_from xs s y m = each-among (λ z. Among z xs) (walk_from xs s) y (walk-each (λ z. Among z xs) xs s (each-from_among (λ z. Among z xs) xs (λ z n. n))) m
 
-pub length-stamps : (es : List Entry) → length (stamps_of es) ≡ length es
-length-stamps [] = refl
-length-stamps (e ∷ es) = ap suc (length-stamps es)
-
 pub length-insert : {A : Type 0} (xs : List A) (i : ℕ) (x : A) → length (insert xs i x) ≡ suc (length xs)
 length-insert xs zero x = refl
 length-insert [] (suc i) x = refl
@@ -91,11 +88,6 @@ bare-mark [] i = refl
 bare-mark (e ∷ es) zero = refl
 bare-mark (e ∷ es) (suc i) = ap (λ l. bare e ∷ l) (bare-mark es i)
 
-pub stamps-mark : (es : List Entry) (i : ℕ) → stamps_of (with_mark es i) ≡ stamps_of es
-stamps-mark [] i = refl
-stamps-mark (e ∷ es) zero = refl
-stamps-mark (e ∷ es) (suc i) = ap (λ l. e.stamp ∷ l) (stamps-mark es i)
-
 pub stamps-bare : (es : List Entry) → stamps_of es ≡ map (λ (b : Stamp × Symbol). b.0) (map bare es)
 stamps-bare [] = refl
 stamps-bare (e ∷ es) = ap (λ l. e.stamp ∷ l) (stamps-bare es)
@@ -106,11 +98,6 @@ bare-stamps (x ∷ w) = ap (λ l. x.stamp ∷ l) (bare-stamps w)
 
 pub stamps-walk : (es : List Entry) (w : List Insertion) → map bare es ≡ map bare_of w → stamps_of es ≡ map (λ (x : Insertion). x.stamp) w
 stamps-walk es w e = stamps-bare es ∙ ap (map (λ (b : Stamp × Symbol). b.0)) e ∙ bare-stamps w
-
-pub map-insert : {A B : Type 0} (f : A → B) (xs : List A) (i : ℕ) (x : A) → map f (insert xs i x) ≡ insert (map f xs) i (f x)
-map-insert f xs zero x = refl
-map-insert f [] (suc i) x = refl
-map-insert f (y ∷ xs) (suc i) x = ap (λ l. f y ∷ l) (map-insert f xs i x)
 
 -- entries of a walk with the marks of the set are the set's
 pub entries-are : (h : OpSet) (es : List Entry) (w : List Insertion) → map bare es ≡ map bare_of w → ((e : Entry) → Among e es → e.deleted ≡ is_deleted_in h e.stamp) → es ≡ map (entry_of h) w

@@ -10,10 +10,11 @@ use Rattle.desk_ops.specs.Lists.{Among}
 use Rattle.desk_ops.proofs.Lists.{Each, each-among, each-from_among, Each-weaker}
 use Rattle.desk_seq.specs.declared.Entry.{Entry}
 use Rattle.desk_seq.specs.Entries.{stamps_of, with_mark, marked}
+use Rattle.desk_seq.proofs.Entries.{map-insert}
 use Rattle.desk_walk.specs.declared.tree.Node.{Node}
 use Rattle.desk_walk.specs.Following.{place_at, new_entry}
 use Rattle.desk_walk.specs.Tree.{op_at, symbol_of, node_at, order, stamp_at, entry_at, walked, IsApart, passed, linked, crossed, IsClearAt, IsTree, IsPlaceOf}
-use Rattle.desk_walk.proofs.Lists.{among-map, map-insert, among-insert, insert-among}
+use Rattle.desk_walk.proofs.Lists.{among-map, among-insert, insert-among}
 use Rattle.desk_walk.proofs.Beside.{index-of}
 use Rattle.desk_walk.proofs.Links.{each-insert, apart-insert, map-alike, map-marked, links-alike, length-passed, passed-at, passed-new, length-crossed, crossed-here, crossed-other, crossed-next, crossed-linked, length-linked, linked-new, linked-linked, linked-deleted, links-insert}
 

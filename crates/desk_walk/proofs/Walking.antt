@@ -3,7 +3,7 @@ use Rattle.std.proofs.Common.{◌≡◌, ℕ, zero, suc, ◌+◌, ◌-◌, ◌<�
 use Rattle.std.specs.Prelude.{Result, Ok, Err, OnOk}
 use Rattle.std.specs.List.{filter}
 use Rattle.std.specs.Option.{is_some}
-use Rattle.std.proofs.lemmas.Bool.{true≢false}
+use Rattle.std.proofs.lemmas.Bool.{true≢false, and_parts}
 use Rattle.std.proofs.lemmas.List.{get_or_read}
 use Rattle.desk_ops.specs.declared.op.Stamp.{Stamp}
 use Rattle.desk_ops.specs.declared.op.Op.{Op}
@@ -16,6 +16,7 @@ use Rattle.desk_ops.specs.Live.{insert_of, IsClearOp}
 use Rattle.desk_ops.proofs.Lists.{Each, each-among, each-from_among, among-filter, among-filter_from}
 use Rattle.desk_ops.proofs.Ends.{among_held, held_among}
 use Rattle.desk_ops.proofs.Unions.{size-with_op}
+use Rattle.desk_ops.proofs.OpSets.{length-in_order}
 use Rattle.desk_room.specs.Waiting.{HasTarget}
 use Rattle.desk_seq.specs.declared.Entry.{Entry}
 use Rattle.desk_walk.specs.declared.tree.Node.{Node}
@@ -23,20 +24,12 @@ use Rattle.desk_walk.specs.Following.{places, place_at, IsFollowing, IsFree}
 use Rattle.desk_walk.specs.Tree.{no_op, op_at, no_node, node_at, next_of, links, order, entry_at, walked, hangs, IsClearAt, IsTree, IsLinking, IsPlaceOf, AreSettled}
 use Rattle.desk_walk.proofs.Arrived.{place-is}
 use Rattle.desk_walk.proofs.Drains.{settled-entries, settled-waits}
-use Rattle.desk_walk.proofs.Anew.{none-size, HoldsClear, begins, number}
+use Rattle.desk_walk.proofs.Anew.{none-size, HoldsClear, begins}
 use Rattle.desk_walk.proofs.Beside.{at-index, index-taken, clear-index}
 use Rattle.desk_walk.proofs.Trees.{standing, positive}
 use Rattle.desk_walk.proofs.Linking.{held-all, all-held}
 
 -- ---- before the first operation
-
-and-left : (a b : Bool) → (a && b) ≡ true → a ≡ true
-and-left true b e = refl
-and-left false b e = e
-
-and-right : (a b : Bool) → (a && b) ≡ true → b ≡ true
-and-right true b e = e
-and-right false b e = absurd (true≢false (sym e))
 
 pub hangs-from : (h : OpSet) (o : Op) → is_clear_in h (stamp_of o) ≡ true → HasTarget o → hangs h o ≡ true
 hangs-from h o c t = ap (λ b. b && is_some (target_of o)) c ∙ t
@@ -47,7 +40,7 @@ holds-clear h = λ q. (to q, from q)
     to : (q : Op) → has_op (with_all no_ops (filter (hangs h) (in_order h))) q ≡ true → IsClearOp h q × HasTarget q
     to q e =
         let r = among-filter (hangs h) (in_order h) q (held-all (filter (hangs h) (in_order h)) q e) in
-        ((held_among h q r.0, and-left (is_clear_in h (stamp_of q)) (is_some (target_of q)) r.1), and-right (is_clear_in h (stamp_of q)) (is_some (target_of q)) r.1)
+        ((held_among h q r.0, (and_parts (is_clear_in h (stamp_of q)) (is_some (target_of q)) r.1).0), (and_parts (is_clear_in h (stamp_of q)) (is_some (target_of q)) r.1).1)
 
     from : (q : Op) → IsClearOp h q × HasTarget q → has_op (with_all no_ops (filter (hangs h) (in_order h))) q ≡ true
     from q c = all-held (filter (hangs h) (in_order h)) q (among-filter_from (hangs h) (in_order h) q (among_held h q c.0.0) (hangs-from h q c.0.1 c.1))
@@ -147,7 +140,7 @@ linking-all h i is nodes count waiting l = record {
   distinct = l.distinct;
   lawful = each-from_among IsLawful waiting (λ o m. law o (index-taken (in_order h) no_op i o (l.seen o m)));
   targets = each-from_among HasTarget waiting (λ o m. f.targets o (all-held waiting o m));
-  few = omega (arith, l.few, number h);
+  few = omega (arith, l.few, length-in_order h);
 }
   where
     es : List Entry

@@ -2,7 +2,7 @@ use Rattle.std.proofs.Common.{◌≡◌, ℕ, List, ◌≤◌, ◌<◌, ◌-◌,
 use Rattle.std.proofs.lemmas.List.{take_all, get_or_default}
 use Rattle.desk_ops.specs.declared.op.Op.{Op}
 use Rattle.desk_ops.specs.OpSet.{OpSet, has_op, with_all, in_order, size}
-use Rattle.desk_walk.proofs.Anew.{number}
+use Rattle.desk_ops.proofs.OpSets.{length-in_order}
 use Rattle.desk_held.proofs.Joins.{gained-more}
 use Rattle.desk_replica.proofs.Sets.{count-new, count-known, counted, drop-none, take-none, halt-next, halt-full, rest-refused, room-rest}
 use Rattle.desk_replica.specs.State.{HasRoom, IsCounted}
@@ -14,7 +14,7 @@ ended os n end at a b c = omega (arith, a, b, c)
 pub returns-in-Err-clause-stopped : goal.returns-in-Err-clause-stopped
 returns-in-Err-clause-stopped g c =
     let list = in_order c.args.ops.now.ops in
-    let n : length list ≡ size c.args.ops.now.ops = number c.args.ops.now.ops in
+    let n : length list ≡ size c.args.ops.now.ops = length-in_order c.args.ops.now.ops in
     let lt : c.loop-taken.taken < length list = omega (arith, n, c.loop-taken-test.true, c.len-taken-end.ensures.value) in
     let h = c.loop-taken.self.ops in
     let new : has_op h c.op.result ≡ false = halt-next c.in-Err.why (has_op h c.op.result) _ _ c.in-Err.ensures.full c.in-Err.ensures.memory in
@@ -28,7 +28,7 @@ returns-in-Err-clause-stopped g c =
 pub loop-taken-preserved : goal.loop-taken-preserved
 loop-taken-preserved g c =
     let list = in_order c.args.ops.now.ops in
-    let n : length list ≡ size c.args.ops.now.ops = number c.args.ops.now.ops in
+    let n : length list ≡ size c.args.ops.now.ops = length-in_order c.args.ops.now.ops in
     let lt : c.loop-taken.taken < length list = omega (arith, n, c.loop-taken-test.true, c.len-taken-end.ensures.value) in
     record {
       gained = gained-more c.args.self.now.ops c.loop-taken.self.ops _ list c.loop-taken.taken c.op.result lt c.op.ensures.value c.loop-taken.invariant.gained c.in_default.ensures.ok;
@@ -49,28 +49,28 @@ loop-taken-init g c =
 pub returns-in-Err-clause-room : goal.returns-in-Err-clause-room
 returns-in-Err-clause-room g c = λ r.
     let list = in_order c.args.ops.now.ops in
-    let n : length list ≡ size c.args.ops.now.ops = number c.args.ops.now.ops in
+    let n : length list ≡ size c.args.ops.now.ops = length-in_order c.args.ops.now.ops in
     let lt : c.loop-taken.taken < length list = omega (arith, n, c.loop-taken-test.true, c.len-taken-end.ensures.value) in
     absurd (rest-refused c.loop-taken.self.ops c.loop-taken.self.spare list c.loop-taken.taken c.op.result c.in-Err.why lt c.op.ensures.value (c.loop-taken.invariant.room r) c.in-Err.ensures.full c.in-Err.ensures.memory)
 
 pub returns-clause-ok : goal.returns-clause-ok
 returns-clause-ok g c =
     let list = in_order c.args.ops.now.ops in
-    let n : length list ≡ size c.args.ops.now.ops = number c.args.ops.now.ops in
+    let n : length list ≡ size c.args.ops.now.ops = length-in_order c.args.ops.now.ops in
     let le : length list ≤ c.loop-taken.taken = omega (arith, n, c.loop-taken-test.false, c.len-taken-end.ensures.value) in
     c.loop-taken.invariant.gained ∙ ap (with_all c.args.self.now.ops) (take_all c.loop-taken.taken list le)
 
 pub overflow_sub-new : goal.overflow_sub-new
-overflow_sub-new g c = count-new c.args.self.now.ops c.loop-taken.self.ops (in_order c.args.ops.now.ops) c.len-before.result c.len.result (c.loop-taken.invariant.gained ∙ ap (with_all c.args.self.now.ops) (take_all c.loop-taken.taken (in_order c.args.ops.now.ops) (ended (in_order c.args.ops.now.ops) _ _ _ (number c.args.ops.now.ops) c.len-taken-end.ensures.value c.loop-taken-test.false))) c.len-before.ensures.value c.len.ensures.value
+overflow_sub-new g c = count-new c.args.self.now.ops c.loop-taken.self.ops (in_order c.args.ops.now.ops) c.len-before.result c.len.result (c.loop-taken.invariant.gained ∙ ap (with_all c.args.self.now.ops) (take_all c.loop-taken.taken (in_order c.args.ops.now.ops) (ended (in_order c.args.ops.now.ops) _ _ _ (length-in_order c.args.ops.now.ops) c.len-taken-end.ensures.value c.loop-taken-test.false))) c.len-before.ensures.value c.len.ensures.value
 
 pub overflow_sub-result : goal.overflow_sub-result
 overflow_sub-result g c =
-    let n : length (in_order c.args.ops.now.ops) ≡ size c.args.ops.now.ops = number c.args.ops.now.ops in
-    let k = count-known c.args.self.now.ops c.loop-taken.self.ops (in_order c.args.ops.now.ops) c.len-before.result c.len.result (c.loop-taken.invariant.gained ∙ ap (with_all c.args.self.now.ops) (take_all c.loop-taken.taken (in_order c.args.ops.now.ops) (ended (in_order c.args.ops.now.ops) _ _ _ (number c.args.ops.now.ops) c.len-taken-end.ensures.value c.loop-taken-test.false))) c.len-before.ensures.value c.len.ensures.value in
+    let n : length (in_order c.args.ops.now.ops) ≡ size c.args.ops.now.ops = length-in_order c.args.ops.now.ops in
+    let k = count-known c.args.self.now.ops c.loop-taken.self.ops (in_order c.args.ops.now.ops) c.len-before.result c.len.result (c.loop-taken.invariant.gained ∙ ap (with_all c.args.self.now.ops) (take_all c.loop-taken.taken (in_order c.args.ops.now.ops) (ended (in_order c.args.ops.now.ops) _ _ _ (length-in_order c.args.ops.now.ops) c.len-taken-end.ensures.value c.loop-taken-test.false))) c.len-before.ensures.value c.len.ensures.value in
     omega (arith, n, k, c.len-2.ensures.value)
 
 pub returns-clause-counts : goal.returns-clause-counts
 returns-clause-counts g c =
-    let n : length (in_order c.args.ops.now.ops) ≡ c.len-2.result = number c.args.ops.now.ops ∙ sym c.len-2.ensures.value in
+    let n : length (in_order c.args.ops.now.ops) ≡ c.len-2.result = length-in_order c.args.ops.now.ops ∙ sym c.len-2.ensures.value in
     subst (λ m. IsCounted c.args.self.now.ops c.loop-taken.self.ops (in_order c.args.ops.now.ops) (record { new = c.len.result - c.len-before.result; known = m - (c.len.result - c.len-before.result) })) n
-    (counted c.args.self.now.ops c.loop-taken.self.ops (in_order c.args.ops.now.ops) c.len-before.result c.len.result (c.loop-taken.invariant.gained ∙ ap (with_all c.args.self.now.ops) (take_all c.loop-taken.taken (in_order c.args.ops.now.ops) (ended (in_order c.args.ops.now.ops) _ _ _ (number c.args.ops.now.ops) c.len-taken-end.ensures.value c.loop-taken-test.false))) c.len-before.ensures.value c.len.ensures.value)
+    (counted c.args.self.now.ops c.loop-taken.self.ops (in_order c.args.ops.now.ops) c.len-before.result c.len.result (c.loop-taken.invariant.gained ∙ ap (with_all c.args.self.now.ops) (take_all c.loop-taken.taken (in_order c.args.ops.now.ops) (ended (in_order c.args.ops.now.ops) _ _ _ (length-in_order c.args.ops.now.ops) c.len-taken-end.ensures.value c.loop-taken-test.false))) c.len-before.ensures.value c.len.ensures.value)

@@ -7,11 +7,11 @@ use Rattle.desk_ops.specs.Op.{IsLawful}
 use Rattle.desk_ops.specs.Order.{op_cmp}
 use Rattle.desk_ops.specs.OpSet.{has_op, with_op}
 use Rattle.desk_ops.proofs.Stamps.{is_less}
-use Rattle.desk_ops.proofs.Lists.{Each-weaker}
+use Rattle.desk_ops.proofs.Lists.{Each-weaker, Each-insert}
 use Rattle.desk_pages.specs.Pages.{IsEdge}
 use Rattle.desk_room.specs.Waiting.{Waiting, HasTarget}
 use Rattle.desk_room.specs.Turn.{turn_cmp, IsKept, set_of}
-use Rattle.desk_room.proofs.Turns.{edge-below, edge-above, earlier-down, above-all, all-insert, turn-insert}
+use Rattle.desk_room.proofs.Turns.{edge-below, edge-above, earlier-down, above-all, turn-insert}
 use Rattle.desk_room.proofs.Sets.{set-insert, absent-set}
 use Rattle.desk_room.proofs.Room.put.Goals as goal
 
@@ -26,7 +26,7 @@ invariant_of-self g c =
     let below : AllByRecursion (λ (y : Op). is_lt (turn_cmp y op) ≡ true) (take put.0 xs) = edge-below (λ (x : Op). is_lt (turn_cmp x op)) (earlier-down op) xs put.0 kept.in_turn edge.within edge.below in
     let above : AllByRecursion (λ (y : Op). turn_cmp op y ≡ Less) (drop put.0 xs) = above-all op xs put.0 (edge-above (λ (x : Op). is_lt (turn_cmp x op)) (earlier-down op) xs put.0 kept.in_turn edge.stops) absent in
     let less : AllByRecursion (λ (y : Op). turn_cmp y op ≡ Less) (take put.0 xs) = Each-weaker (λ (y : Op). is_lt (turn_cmp y op) ≡ true) (λ (y : Op). turn_cmp y op ≡ Less) (λ y h. is_less (turn_cmp y op) h) (take put.0 xs) below in
-    let is : IsKept (insert xs put.0 op) = record { in_turn = turn-insert xs put.0 op kept.in_turn less above; lawful = all-insert IsLawful xs put.0 op kept.lawful c.requires.lawful; targets = all-insert HasTarget xs put.0 op kept.targets c.requires.target } in
+    let is : IsKept (insert xs put.0 op) = record { in_turn = turn-insert xs put.0 op kept.in_turn less above; lawful = Each-insert IsLawful xs put.0 op kept.lawful c.requires.lawful; targets = Each-insert HasTarget xs put.0 op kept.targets c.requires.target } in
     subst IsKept (sym put.2) is
 
 pub returns-clause-put : goal.returns-clause-put

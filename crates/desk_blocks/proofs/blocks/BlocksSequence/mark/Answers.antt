@@ -2,9 +2,8 @@ use Rattle.std.proofs.Common.{◌≡◌, ◌<◌, ◌∙◌, ap, sym, subst, Lis
 use Rattle.desk_ops.specs.declared.op.Stamp.{Stamp}
 use Rattle.desk_seq.specs.declared.Entry.{Entry}
 use Rattle.desk_seq.specs.Entries.{Listing, stamps_of, marked, with_mark, AreDistinct}
-use Rattle.desk_seq.proofs.Entries.{distinct-mark, set-mark}
+use Rattle.desk_seq.proofs.Entries.{distinct-mark, set-mark, stamps-mark}
 use Rattle.desk_blocks.specs.Rank.{Knows}
-use Rattle.desk_blocks.proofs.Ranks.{stamps-mark}
 use Rattle.desk_blocks.proofs.Tallies.{shown-mark}
 use Rattle.desk_blocks.proofs.blocks.BlocksSequence.mark.Goals as goal
 

@@ -8,20 +8,20 @@ use Rattle.desk_ops.specs.Lists.{Among}
 use Rattle.desk_seq.specs.Entries.{stamps_of}
 use Rattle.desk_ops.specs.Op.{target_of}
 use Rattle.desk_ops.specs.OpSet.{in_order}
+use Rattle.desk_ops.proofs.OpSets.{length-in_order}
 use Rattle.desk_walk.specs.declared.tree.Node.{Node}
 use Rattle.desk_walk.specs.Tree.{op_at, walked, IsLinking}
 use Rattle.desk_walk.proofs.Beside.{op-read}
 use Rattle.desk_walk.proofs.Trees.{there-node}
-use Rattle.desk_walk.proofs.Anew.{number}
 use Rattle.desk_walk.proofs.Linking.{step-waits, acts}
 use Rattle.desk_walk.proofs.Walking.{hangs-from, on-ok_both, of_target}
 use Rattle.desk_walk.proofs.tree.Tree.hang.Goals as goal
 
 pub act-requires-clause-few : goal.act-requires-clause-few
-act-requires-clause-few g c = omega (arith, c.requires.linking.long, c.requires.within, c.requires.linking.small, number c.args.held.now.ops)
+act-requires-clause-few g c = omega (arith, c.requires.linking.long, c.requires.within, c.requires.linking.small, length-in_order c.args.held.now.ops)
 
 pub act-requires-clause-count : goal.act-requires-clause-count
-act-requires-clause-count g c = omega (arith, c.requires.linking.counted, c.requires.within, c.requires.linking.small, number c.args.held.now.ops)
+act-requires-clause-count g c = omega (arith, c.requires.linking.counted, c.requires.within, c.requires.linking.small, length-in_order c.args.held.now.ops)
 
 pub returns-in-Some : goal.returns-in-Some
 returns-in-Some g c =
