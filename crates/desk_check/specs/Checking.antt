@@ -3,7 +3,7 @@ use Rattle.std.specs.Prelude.{◌≡◌, ℕ, Bool, true, false, ◌&&◌, List,
 use Rattle.std.specs.Io.KnownBytes.{Appends}
 use Rattle.desk_files.specs.Files.{Counts, Reads, Shelf, Stays}
 use Rattle.desk_files.specs.declared.files.FileRefusal.{FileRefusal}
-use Rattle.desk_stored.specs.Sending.{WritesFront}
+use Rattle.desk_stored.specs.Sending.{WritesPrefix}
 use Rattle.desk_check.specs.Lines.{SaysBytes, line_of}
 use Rattle.desk_check.specs.Words.{refusal_words}
 use Rattle.desk_check.specs.declared.fault.CheckFault.{CheckFault}
@@ -41,7 +41,7 @@ IsRead name before after = (read : Result (List ℕ) FileRefusal) × Reads (befo
 
 -- why a line was not written: a prefix of it was, or nothing, where memory ran out
 abbrev pub IsUnsaid : List ℕ → Shelf → Shelf → Option (List ℕ) → Option (List ℕ) → CheckFault → Type 0
-IsUnsaid name before after held written faults.Write = (line : List ℕ) × (well : Bool) × IsLine name before after line well × WritesFront held written line
+IsUnsaid name before after held written faults.Write = (line : List ℕ) × (well : Bool) × IsLine name before after line well × WritesPrefix held written line
 IsUnsaid name before after held written faults.NoMemory = Stays before after × (written ≡ held) × IsRead name before after
 
 -- the lines of the names before were written, and then the line of one was not

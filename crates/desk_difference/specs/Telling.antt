@@ -3,7 +3,7 @@ use Rattle.std.specs.Prelude.{◌≡◌, ℕ, Bool, List, Option}
 use Rattle.std.specs.Io.KnownBytes.{Appends}
 use Rattle.desk_ops.specs.OpSet.{OpSet}
 use Rattle.desk_files.specs.Files.{Shelf}
-use Rattle.desk_stored.specs.Sending.{WritesFront}
+use Rattle.desk_stored.specs.Sending.{WritesPrefix}
 use Rattle.desk_hand.specs.Exporting.{IsClosedBy, IsSetOf}
 use Rattle.desk_difference.specs.Told.{Tells}
 use Rattle.desk_difference.specs.declared.fault.DifferenceFault.{DifferenceFault}
@@ -23,6 +23,6 @@ abbrev pub IsUntold : List ℕ → List ℕ → Shelf → Shelf → Option (List
 IsUntold one other first last before after (faults.One why) = (after ≡ before) × IsClosedBy one first last why
 IsUntold one other first last before after (faults.Other why) =
     (after ≡ before) × (set : OpSet) × IsSetOf one first set × IsClosedBy other first last why
-IsUntold one other first last before after faults.Write = (last.failures ≡ first.failures) × (told : List ℕ) × (same : Bool) × IsDifference one other first told same × WritesFront before after told
+IsUntold one other first last before after faults.Write = (last.failures ≡ first.failures) × (told : List ℕ) × (same : Bool) × IsDifference one other first told same × WritesPrefix before after told
 IsUntold one other first last before after faults.NoMemory =
     (after ≡ before) × (last.failures ≡ first.failures) × (set others : OpSet) × IsSetOf one first set × IsSetOf other first others

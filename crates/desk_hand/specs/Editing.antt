@@ -104,7 +104,7 @@ IsRefusedBy set change why = (change_refusal set change ≡ Some why) ⊎ ((why 
 -- so many of the changes were made, by which the old set became this one, and the next one is refused in it
 abbrev pub IsRefusedAmong : ℕ → OpSet → OpSet → List Change → Refusal → Type 0
 IsRefusedAmong site old now made why =
-    (front tail : List Change) × (next : Change) × (made ≡ front ++ next ∷ tail) × (ops : List Op) × AreMade site old now front ops × IsRefusedBy now next why
+    (prefix tail : List Change) × (next : Change) × (made ≡ prefix ++ next ∷ tail) × (ops : List Op) × AreMade site old now prefix ops × IsRefusedBy now next why
 
 -- ---- a copy that becomes a text
 

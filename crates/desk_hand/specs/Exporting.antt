@@ -8,7 +8,7 @@ use Rattle.desk_codec.specs.Fault.{IsFirstFault}
 use Rattle.desk_text.specs.Writing.{text_bytes}
 use Rattle.desk_files.specs.Files.{IsCounted, Reads, Shelf}
 use Rattle.desk_stored.specs.Fault.{AskMemory}
-use Rattle.desk_stored.specs.Sending.{WritesFront}
+use Rattle.desk_stored.specs.Sending.{WritesPrefix}
 use Rattle.desk_hand.specs.Merging.{GaveBytes, IsFeedOf}
 use Rattle.desk_hand.specs.declared.fault.FeedTrouble.{FeedTrouble}
 use Rattle.desk_hand.specs.declared.fault.FeedTrouble.TheVariants as troubles
@@ -33,5 +33,5 @@ IsClosedBy name before after troubles.NoMemory = (bytes : List ℕ) × GaveBytes
 -- why not all of the text was written, and what was: nothing, or under Write a prefix; out of memory only once the feed was opened
 abbrev pub IsUnexported : List ℕ → Shelf → Shelf → Option (List ℕ) → Option (List ℕ) → ExportFault → Type 0
 IsUnexported name first last before after (exports.Feed why) = (after ≡ before) × IsClosedBy name first last why
-IsUnexported name first last before after exports.Write = (set : OpSet) × IsSetOf name first set × WritesFront before after (text_bytes (copy_of set)) × (last.failures ≡ first.failures)
+IsUnexported name first last before after exports.Write = (set : OpSet) × IsSetOf name first set × WritesPrefix before after (text_bytes (copy_of set)) × (last.failures ≡ first.failures)
 IsUnexported name first last before after exports.NoMemory = (after ≡ before) × (set : OpSet) × IsSetOf name first set × (last.failures ≡ first.failures)

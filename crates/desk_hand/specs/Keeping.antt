@@ -7,7 +7,7 @@ use Rattle.desk_codec.specs.Runs.{set_feed}
 use Rattle.desk_files.specs.Files.{Shelf}
 use Rattle.desk_files.specs.declared.files.FileRefusal.{FileRefusal}
 use Rattle.desk_stored.specs.Fault.{IsNotStored}
-use Rattle.desk_stored.specs.Sending.{WritesFront}
+use Rattle.desk_stored.specs.Sending.{WritesPrefix}
 use Rattle.desk_stored.specs.Stored.{IsStoredAs}
 use Rattle.desk_hand.specs.declared.fault.KeepFault.{KeepFault}
 use Rattle.desk_hand.specs.declared.fault.KeepFault.TheVariants as keeps
@@ -22,6 +22,6 @@ IsKept name set text read held last before after = Appends before after text × 
 
 -- why it was not stored, and what was written: a prefix under Write, all of the text under Unstored, or nothing; out of memory only where all files are as they were and the device has not failed
 abbrev pub IsUnkept : List ℕ → List ℕ → Shelf → Shelf → Option (List ℕ) → Option (List ℕ) → KeepFault → Type 0
-IsUnkept name text held last before after keeps.Write = (last ≡ held) × WritesFront before after text
+IsUnkept name text held last before after keeps.Write = (last ≡ held) × WritesPrefix before after text
 IsUnkept name text held last before after (keeps.Unstored why) = Appends before after text × IsNotStored name held last why
 IsUnkept name text held last before after keeps.NoMemory = (last ≡ held) × (after ≡ before)

@@ -104,8 +104,8 @@ Refuses set name before after troubles.NoMemory = (bytes : List ℕ) × GaveByte
 -- the feeds of the first names were joined, so many, and the next was refused: no file has changed, nor has the device failed, before that one was read
 abbrev pub StopsAt : List (List ℕ) → OpSet → Shelf → Shelf → ℕ → FeedTrouble → Type 0
 StopsAt names old before after at why =
-    (front tail : List (List ℕ)) × (name : List ℕ) × (names ≡ front ++ name ∷ tail) × (length front ≡ at) × (set : OpSet) × (told : List ℕ)
-    × IsJoined before.kept front old set told × Refuses set name before after why
+    (prefix tail : List (List ℕ)) × (name : List ℕ) × (names ≡ prefix ++ name ∷ tail) × (length prefix ≡ at) × (set : OpSet) × (told : List ℕ)
+    × IsJoined before.kept prefix old set told × Refuses set name before after why
 
 -- what was read of a stored feed was not opened
 abbrev pub IsShut : List ℕ → Shelf → Shelf → OpenFault → Type 0

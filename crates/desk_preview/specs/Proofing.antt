@@ -14,7 +14,7 @@ use Rattle.desk_galley.specs.Answer.{no_terms}
 use Rattle.desk_proof.specs.Proof.{no_galley_text, proof_text}
 use Rattle.desk_proof.specs.declared.proof.Extent.{Extent}
 use Rattle.desk_files.specs.Files.{Shelf}
-use Rattle.desk_stored.specs.Sending.{WritesFront}
+use Rattle.desk_stored.specs.Sending.{WritesPrefix}
 use Rattle.desk_replica.specs.declared.settings.Settings.{Settings}
 use Rattle.desk_job.specs.Job.{job, values_of}
 use Rattle.desk_trial.specs.Trial.{tried}
@@ -65,4 +65,4 @@ abbrev pub IsUnproofed : Sources → Settings → Extent → Shelf → Shelf →
 IsUnproofed from trial extent first last before after fault =
     ((after ≡ before) × (why : SourcesFault) × (fault ≡ of_sources why) × AreRefused from first last why)
     ⊎ ((after ≡ before) × (fault ≡ faults.NoMemory) × (last ≡ first) × GiveAll from first)
-    ⊎ ((fault ≡ faults.Write) × (last ≡ first) × (told : List ℕ) × (clean : Bool) × IsProofOf from first trial extent told clean × WritesFront before after told)
+    ⊎ ((fault ≡ faults.Write) × (last ≡ first) × (told : List ℕ) × (clean : Bool) × IsProofOf from first trial extent told clean × WritesPrefix before after told)

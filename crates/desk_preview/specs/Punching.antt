@@ -11,7 +11,7 @@ use Rattle.desk_answers.specs.Reply.{NoRibbon}
 use Rattle.desk_answers.specs.Text.{text}
 use Rattle.desk_files.specs.Files.{IsReplaced, Shelf, Stays}
 use Rattle.desk_stored.specs.Fault.{IsNotStored}
-use Rattle.desk_stored.specs.Sending.{WritesFront}
+use Rattle.desk_stored.specs.Sending.{WritesPrefix}
 use Rattle.desk_inputs.specs.Job.{job_of}
 use Rattle.desk_preview.specs.Sources.{AreRefused, Give, LackMemory, Sources}
 use Rattle.desk_preview.specs.declared.fault.LineFault.{LineFault}
@@ -40,7 +40,7 @@ IsPunched from target before after = (rows : List RibbonRow) × IsJobOf from bef
 -- the line of faults was not written: a prefix of it was, or memory ran out before
 abbrev pub IsUntold : List JobFault → Option (List ℕ) → Option (List ℕ) → LineFault → Type 0
 IsUntold found before after lines.NoMemory = after ≡ before
-IsUntold found before after lines.Write = WritesFront before after (no_ribbon_line found)
+IsUntold found before after lines.Write = WritesPrefix before after (no_ribbon_line found)
 
 -- Why no ribbon was stored, and what was written. No file has changed but, where the ribbon was not stored, that of the writing.
 abbrev pub IsUnpunched : Sources → List ℕ → Shelf → Shelf → Option (List ℕ) → Option (List ℕ) → PreviewFault → Type 0
@@ -49,7 +49,7 @@ IsUnpunched from target first last before after (faults.Input why) = (after ≡ 
 IsUnpunched from target first last before after faults.Faulty =
     (last ≡ first) × (found : List JobFault) × IsJobOf from first (Err found) × Appends before after (no_ribbon_line found)
 IsUnpunched from target first last before after faults.Write =
-    (last ≡ first) × (found : List JobFault) × IsJobOf from first (Err found) × WritesFront before after (no_ribbon_line found)
+    (last ≡ first) × (found : List JobFault) × IsJobOf from first (Err found) × WritesPrefix before after (no_ribbon_line found)
 IsUnpunched from target first last before after (faults.Unstored why) =
     (after ≡ before) × (rows : List RibbonRow) × IsJobOf from first (Ok rows) × IsNotStored target first last why
 IsUnpunched from target first last before after faults.NoMemory = (after ≡ before) × LackMemory from first last

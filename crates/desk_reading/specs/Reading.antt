@@ -4,7 +4,7 @@ use Rattle.std.specs.Io.KnownBytes.{Appends}
 use Rattle.desk_case.specs.Case.{CaseValues}
 use Rattle.desk_wedge.specs.Wedge.{WedgeValues}
 use Rattle.desk_files.specs.Files.{Shelf}
-use Rattle.desk_stored.specs.Sending.{WritesFront}
+use Rattle.desk_stored.specs.Sending.{WritesPrefix}
 use Rattle.desk_reading.specs.Sources.{AreRefused, Give, GiveAll, Sources, of_sources}
 use Rattle.desk_reading.specs.Told.{IsTold}
 use Rattle.desk_reading.specs.declared.fault.ReadingFault.{ReadingFault}
@@ -25,4 +25,4 @@ abbrev pub IsUnread : Sources → Shelf → Shelf → Option (List ℕ) → Opti
 IsUnread from first last before after fault =
     ((after ≡ before) × (why : SourcesFault) × (fault ≡ of_sources why) × AreRefused from first last why)
     ⊎ ((after ≡ before) × (fault ≡ faults.NoMemory) × (last ≡ first) × GiveAll from first)
-    ⊎ ((fault ≡ faults.Write) × (last ≡ first) × (told : List ℕ) × (whole : Bool) × IsReadingOf from first told whole × WritesFront before after told)
+    ⊎ ((fault ≡ faults.Write) × (last ≡ first) × (told : List ℕ) × (whole : Bool) × IsReadingOf from first told whole × WritesPrefix before after told)

@@ -2,7 +2,7 @@
 use Rattle.std.specs.Prelude.{◌≡◌, ◌≢◌, ℕ, ◌<◌, List, [], Option, length}
 use Rattle.std.specs.Io.KnownBytes.{Appends}
 use Rattle.desk_ops.specs.declared.op.Symbol.{Symbol}
-use Rattle.desk_stored.specs.Sending.{WritesFront}
+use Rattle.desk_stored.specs.Sending.{WritesPrefix}
 use Rattle.desk_places.specs.Places.{places_of}
 use Rattle.desk_places.specs.Telling.{told_of}
 use Rattle.desk_replace.specs.declared.fault.PlaceFault.{PlaceFault}
@@ -12,5 +12,5 @@ use Rattle.desk_replace.specs.declared.fault.PlaceFault.TheVariants as faults
 abbrev pub IsTold : List Symbol → List Symbol → Option (List ℕ) → Option (List ℕ) → PlaceFault → Type 0
 IsTold old copy before after faults.NoPlace = (places_of old copy ≡ []) × Appends before after (told_of old copy)
 IsTold old copy before after (faults.ManyPlaces count) = (1 < count) × (length (places_of old copy) ≡ count) × Appends before after (told_of old copy)
-IsTold old copy before after faults.Write = (length (places_of old copy) ≢ 1) × WritesFront before after (told_of old copy)
+IsTold old copy before after faults.Write = (length (places_of old copy) ≢ 1) × WritesPrefix before after (told_of old copy)
 IsTold old copy before after faults.NoMemory = after ≡ before

@@ -11,7 +11,7 @@ use desk_places::{places_of, told_places};
 use std::alloc::Allocator;
 use std::io::Write;
 
-/// Tells the places of a text, which are not exactly one.
+/// Writes what is said of the places of a text, which are not exactly one.
 fn tell<W: Write, A: Allocator + Copy>(
     alloc: A,
     writer: &mut W,

@@ -10,7 +10,7 @@ use Rattle.desk_answers.specs.Text.{text, output}
 use Rattle.desk_files.specs.Files.{Shelf, Stays}
 use Rattle.desk_steps.specs.Desk.{Desk}
 use Rattle.desk_steps.specs.Line.{Allows, Bytes, Line, Long}
-use Rattle.desk_stored.specs.Sending.{WritesFront}
+use Rattle.desk_stored.specs.Sending.{WritesPrefix}
 use Rattle.desk_script.specs.Script.{Script, Turn, Fronts, StopsBefore, IsTold}
 
 pub no_turn : (old : Desk) (a : Option (List ℕ)) → Turn old old a a []
@@ -33,7 +33,7 @@ told_allowed old new Long reply told (inr lacks) same (inr h) = absurd lacks.0
 pub one_turn : (old new : Desk) (a b : Option (List ℕ)) (line : Line) (bytes : List ℕ) (reply : ReplyValues) → Allows old line reply new → bytes ≡ text reply ++ 10 ∷ [] → Appends a b bytes → Turn old new a b (line ∷ [])
 one_turn old new a b line bytes reply allowed is written = (reply ∷ [], (new, allowed, refl), subst (Appends a b) is written)
 
-pub one_front : (old new : Desk) (last : Shelf) (a b : Option (List ℕ)) (line : Line) (bytes : List ℕ) (reply : ReplyValues) (more : List Line) → Stays new.shelf last → Allows old line reply new → bytes ≡ text reply ++ 10 ∷ [] → WritesFront a b bytes → Fronts old last a b (line ∷ more)
+pub one_front : (old new : Desk) (last : Shelf) (a b : Option (List ℕ)) (line : Line) (bytes : List ℕ) (reply : ReplyValues) (more : List Line) → Stays new.shelf last → Allows old line reply new → bytes ≡ text reply ++ 10 ∷ [] → WritesPrefix a b bytes → Fronts old last a b (line ∷ more)
 one_front old new last a b line bytes reply more still allowed is (done, rest, written, split) =
     (line ∷ [], more, refl, new, still, reply ∷ [], (new, allowed, refl), (done, rest, written, sym is ∙ split))
 

@@ -9,7 +9,7 @@ use Rattle.desk_answers.specs.Text.{output}
 use Rattle.desk_files.specs.Files.{Shelf, Stays}
 use Rattle.desk_steps.specs.Desk.{Desk}
 use Rattle.desk_steps.specs.Line.{Allows}
-use Rattle.desk_stored.specs.Sending.{WritesFront}
+use Rattle.desk_stored.specs.Sending.{WritesPrefix}
 
 -- what is written for a reply: it, or if it is a long one and its text finds no memory, that refusal
 abbrev pub IsTold : ReplyValues → ReplyValues → Type 0
@@ -30,7 +30,7 @@ Turn old new before after lines = (replies : List ReplyValues) × Script old lin
 abbrev pub Fronts : Desk → Shelf → Option (List ℕ) → Option (List ℕ) → List Line → Type 0
 Fronts old last before after lines =
     (front tail : List Line) × (lines ≡ front ++ tail) × (new : Desk) × Stays new.shelf last × (replies : List ReplyValues) × Script old front replies new
-    × WritesFront before after (output replies)
+    × WritesPrefix before after (output replies)
 
 -- the first lines were answered and each answer was written, no file has changed since, and a line comes after them
 abbrev pub StopsBefore : Desk → Shelf → Option (List ℕ) → Option (List ℕ) → List Line → Type 0

@@ -10,7 +10,7 @@ ghost use Rattle.desk_world.specs.Sites.{Sites, no_sites};
 ghost use Rattle.desk_steps.specs.Desk.{KeepsSites, desk};
 ghost use Rattle.desk_files.specs.Files.{Stays};
 ghost use Rattle.desk_script.specs.Script.{Turn, Fronts, StopsBefore, Answers, AnswersBefore, AnswersFront, IsTold};
-ghost use Rattle.desk_stored.specs.Sending.{WritesFront};
+ghost use Rattle.desk_stored.specs.Sending.{WritesPrefix};
 ghost use Rattle.desk_script.specs.Fault.{IsOfLines};
 ghost use Rattle.desk_script.specs.Pending.{Moves, lines_from, last_line};
 
@@ -43,7 +43,7 @@ const CHUNK: usize = 8192;
 /// Writes the bytes.
 fn send<W: Write>(writer: &mut W, bytes: &[u8]) -> Result<(), LineFault>
     ensures ok { OnOk result (Appends (W.contents writer.old) (W.contents writer.new) bytes.now) }
-    ensures err { OnErr result (WritesFront (W.contents writer.old) (W.contents writer.new) bytes.now) }
+    ensures err { OnErr result (WritesPrefix (W.contents writer.old) (W.contents writer.new) bytes.now) }
     ensures fault { IfErr result (λ fault. fault ≡ LineFault.Write) }
 {
     Ok(desk_stored::send(writer, bytes)?)
@@ -75,7 +75,7 @@ fn tell<W: Write, A: Allocator + Copy>(
     answer: &Reply<A>,
 ) -> Result<(), LineFault>
     ensures ok { OnOk result ((r : ReplyValues) × IsTold (reply_values answer.now) r × Appends (W.contents writer.old) (W.contents writer.new) (text r ++ 10 ∷ [])) }
-    ensures err { OnErr result ((r : ReplyValues) × IsTold (reply_values answer.now) r × WritesFront (W.contents writer.old) (W.contents writer.new) (text r ++ 10 ∷ [])) }
+    ensures err { OnErr result ((r : ReplyValues) × IsTold (reply_values answer.now) r × WritesPrefix (W.contents writer.old) (W.contents writer.new) (text r ++ 10 ∷ [])) }
     ensures fault { IfErr result (λ fault. fault ≡ LineFault.Write) }
 {
     if let Some(mut line) = short(answer) {

@@ -7,7 +7,7 @@ use Rattle.desk_answers.specs.Text.{text}
 use Rattle.desk_files.specs.Input.{HasTaken, IsInput, IsNotWhole, IsReadTo}
 use Rattle.desk_steps.specs.Desk.{Desk}
 use Rattle.desk_steps.specs.Line.{Line, Bytes, Long, Allows}
-use Rattle.desk_stored.specs.Sending.{WritesFront}
+use Rattle.desk_stored.specs.Sending.{WritesPrefix}
 use Rattle.desk_script.specs.Lines.{lines}
 use Rattle.desk_sheet.specs.Phases.{of_answers}
 use Rattle.desk_sheet.specs.declared.fault.AnswerFault.{AnswerFault}
@@ -107,7 +107,7 @@ abbrev pub IsUnanswered : Mode → Desk → Desk → Option (List ℕ) → Optio
 IsUnanswered mode old new input before after (answers.Input why) = (new ≡ old) × (after ≡ before) × IsNotWhole max_sheet input why
 IsUnanswered mode old new input before after answers.NoMemory = after ≡ before
 IsUnanswered mode old new input before after answers.Write =
-    (end : Option ℕ) × (told : List ℕ) × IsTold mode old new input end told × WritesFront before after told
+    (end : Option ℕ) × (told : List ℕ) × IsTold mode old new input end told × WritesPrefix before after told
 IsUnanswered mode old new input before after (answers.Line k) = (told : List ℕ) × IsTold mode old new input (Some k) told × Appends before after told
 
 -- ---- by the fault of the run

@@ -5,7 +5,7 @@ use Rattle.desk_ops.specs.OpSet.{OpSet}
 use Rattle.desk_ops.specs.Shown.{copy_of}
 use Rattle.desk_case.specs.Case.{CaseValues}
 use Rattle.desk_files.specs.Files.{Shelf}
-use Rattle.desk_stored.specs.Sending.{WritesFront}
+use Rattle.desk_stored.specs.Sending.{WritesPrefix}
 use Rattle.desk_sorts.specs.declared.fault.SortsFault.{SortsFault}
 use Rattle.desk_sorts.specs.declared.fault.SortsFault.TheVariants as faults
 use Rattle.desk_sorts.specs.declared.fault.SourcesFault.TheVariants as refusals
@@ -25,5 +25,5 @@ abbrev pub AreUnlisted : Sources → Bool → Shelf → Shelf → Option (List �
 AreUnlisted from layout first last before after (faults.Feed why) = (after ≡ before) × AreRefused from first last (refusals.Feed why)
 AreUnlisted from layout first last before after (faults.Input why) = (after ≡ before) × AreRefused from first last (refusals.Input why)
 AreUnlisted from layout first last before after faults.Write =
-    (last ≡ first) × (told : List ℕ) × (complete : Bool) × IsListOf from first layout told complete × WritesFront before after told
+    (last ≡ first) × (told : List ℕ) × (complete : Bool) × IsListOf from first layout told complete × WritesPrefix before after told
 AreUnlisted from layout first last before after faults.NoMemory = (after ≡ before) × LackMemory from first last

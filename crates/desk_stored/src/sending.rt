@@ -2,7 +2,7 @@
 
 ghost use Rattle.std.specs.Prelude.{OnErr, OnOk};
 ghost use Rattle.std.specs.Io.KnownBytes.{Appends, Keeps};
-ghost use Rattle.desk_stored.specs.Sending.{WritesFront};
+ghost use Rattle.desk_stored.specs.Sending.{WritesPrefix};
 
 use std::io::Write;
 use thiserror::Error;
@@ -15,7 +15,7 @@ pub struct Unsent;
 /// Writes the bytes. A write of no bytes is a failure. After an `Err` a prefix of them was written.
 pub fn send<W: Write>(writer: &mut W, bytes: &[u8]) -> Result<(), Unsent>
     ensures ok { OnOk result (Appends (W.contents writer.old) (W.contents writer.new) bytes.now) }
-    ensures err { OnErr result (WritesFront (W.contents writer.old) (W.contents writer.new) bytes.now) }
+    ensures err { OnErr result (WritesPrefix (W.contents writer.old) (W.contents writer.new) bytes.now) }
 {
     let mut sent = 0;
     while sent < bytes.len() {
@@ -38,7 +38,7 @@ pub fn let_out<W: Write>(writer: &mut W) -> Result<(), Unsent>
 /// Writes a text whole, and lets it out. After an `Err` a prefix of it was written.
 pub fn write_out<W: Write>(writer: &mut W, text: &[u8]) -> Result<(), Unsent>
     ensures ok { OnOk result (Appends (W.contents writer.old) (W.contents writer.new) text.now) }
-    ensures err { OnErr result (WritesFront (W.contents writer.old) (W.contents writer.new) text.now) }
+    ensures err { OnErr result (WritesPrefix (W.contents writer.old) (W.contents writer.new) text.now) }
 {
     send(writer, text)?;
     let_out(writer)

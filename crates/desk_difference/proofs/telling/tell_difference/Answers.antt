@@ -2,7 +2,7 @@ use Rattle.std.proofs.Common.{◌≡◌, ◌∙◌, List, refl, subst, ℕ}
 use Rattle.std.proofs.lemmas.Result.{err_from_is_err_and}
 use Rattle.std.specs.Io.KnownBytes.{Appends}
 use Rattle.desk_files.specs.Files.{Shelf}
-use Rattle.desk_stored.specs.Sending.{WritesFront}
+use Rattle.desk_stored.specs.Sending.{WritesPrefix}
 use Rattle.desk_hand.specs.Exporting.{IsClosedBy, IsSetOf}
 use Rattle.desk_files.proofs.Behind.{err_behind, ok_behind}
 use Rattle.desk_files.proofs.Shelves.{same_shelf}
@@ -54,7 +54,7 @@ returns-in_err-write_out-clause-err g c =
     let other = ok_behind (λ r. IsSetOf c.args.other.now mid r.ops) _ c.open_feed-2.result c.map_err-2.result c.in_ok-second.second c.map_err-2.ensures.cases c.map_err-2.ensures.variant c.in_ok-second.was c.open_feed-2.ensures.ok in
     let other_counted = ok_behind (λ _. last.failures ≡ mid.failures) _ c.open_feed-2.result c.map_err-2.result c.in_ok-second.second c.map_err-2.ensures.cases c.map_err-2.ensures.variant c.in_ok-second.was c.open_feed-2.ensures.counted in
     let second = subst (λ (s : Shelf). IsSetOf c.args.other.now s c.in_ok-second.second.ops) same other in
-    let front = subst (λ (l : List ℕ). WritesFront (g.W.Write.contents c.args.writer.now) (g.W.Write.contents c.write_out.new.writer) l) c.deref.ensures.value c.in_err-write_out.ensures.err in
+    let front = subst (λ (l : List ℕ). WritesPrefix (g.W.Write.contents c.args.writer.now) (g.W.Write.contents c.write_out.new.writer) l) c.deref.ensures.value c.in_err-write_out.ensures.err in
     let p = err_from_is_err_and c.from_residual-in_err-write_out.result c.from_residual-in_err-write_out.ensures.1 in
     rw p.1 (rw p.2 (other_counted ∙ one_counted, c.in_ok-text.text.items, c.in_ok-text.same, (c.in_ok-first.first.ops, c.in_ok-second.second.ops, one, second, c.in_ok-text.ensures), front))
 

@@ -1,7 +1,7 @@
 use Rattle.std.proofs.Common.{◌∙◌, refl, subst}
 use Rattle.std.specs.Io.KnownBytes.{Appends}
 use Rattle.std.proofs.lemmas.Result.{err_from_is_err_and}
-use Rattle.desk_stored.specs.Sending.{WritesFront}
+use Rattle.desk_stored.specs.Sending.{WritesPrefix}
 use Rattle.desk_hand.proofs.exporting.export_feed.Goals as goal
 
 pub returns-in_err-replica-clause-err : goal.returns-in_err-replica-clause-err
@@ -17,7 +17,7 @@ returns-in_err-text-clause-err g c =
 pub returns-in_err-write_out-clause-err : goal.returns-in_err-write_out-clause-err
 returns-in_err-write_out-clause-err g c =
     let p = err_from_is_err_and c.from_residual-in_err-write_out.result c.from_residual-in_err-write_out.ensures.1 in
-    let front = subst (λ t. WritesFront (g.W.Write.contents c.args.writer.now) (g.W.Write.contents c.write_out.new.writer) t) (c.deref.ensures.value ∙ c.in_ok-text.ensures) c.in_err-write_out.ensures.err in
+    let front = subst (λ t. WritesPrefix (g.W.Write.contents c.args.writer.now) (g.W.Write.contents c.write_out.new.writer) t) (c.deref.ensures.value ∙ c.in_ok-text.ensures) c.in_err-write_out.ensures.err in
     rw p.1 (rw p.2 (c.in_ok-replica.replica.ops, c.in_ok-replica.ensures.ok, front, c.in_ok-replica.ensures.counted))
 
 pub returns-clause-ok : goal.returns-clause-ok

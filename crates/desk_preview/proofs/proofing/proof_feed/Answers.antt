@@ -2,7 +2,7 @@ use Rattle.std.proofs.Common.{inl, inr, refl, subst}
 use Rattle.std.proofs.lemmas.Result.{err_from_is_err_and}
 use Rattle.std.specs.Io.KnownBytes.{Appends}
 use Rattle.std.specs.Prelude.{string_bytes}
-use Rattle.desk_stored.specs.Sending.{WritesFront}
+use Rattle.desk_stored.specs.Sending.{WritesPrefix}
 use Rattle.desk_preview.proofs.proofing.proof_feed.Goals as goal
 
 pub returns-in_err-replica-clause-err : goal.returns-in_err-replica-clause-err
@@ -20,7 +20,7 @@ pub returns-in_err-write_out-clause-err : goal.returns-in_err-write_out-clause-e
 returns-in_err-write_out-clause-err g c =
     let t = c.in_ok-replica in
     let text = string_bytes c.in_ok-text.text in
-    let front = subst (λ l. WritesFront (g.W.Write.contents c.args.writer.now) (g.W.Write.contents c.write_out.new.writer) l) c.as_bytes.ensures.value c.in_err-write_out.ensures.err in
+    let front = subst (λ l. WritesPrefix (g.W.Write.contents c.args.writer.now) (g.W.Write.contents c.write_out.new.writer) l) c.as_bytes.ensures.value c.in_err-write_out.ensures.err in
     let p = err_from_is_err_and c.from_residual-in_err-write_out.result c.from_residual-in_err-write_out.ensures.1 in
     rw p.1 (inr (inr (p.2, t.ensures.still, text, c.in_ok-text.clean, (t.replica.ops, t.case, t.wedge, t.ensures.ok, c.in_ok-text.ensures), front)))
 
