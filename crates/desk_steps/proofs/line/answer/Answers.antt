@@ -27,3 +27,6 @@ returns-in-Ok-clause-unchanged g c long =
 pub returns-in-Ok-clause-still : goal.returns-in-Ok-clause-still
 returns-in-Ok-clause-still g c long =
     (allows_same (desk c.args.world.now (g.F.Files.shelf c.args.files.now)) (desk c.do_line.new.world (g.F.Files.shelf c.do_line.new.files)) (line_of c.args.line.now) (reply_values c.in-Ok.reply) long c.in-Ok.ensures.done).1
+
+pub returns-in-Err-Failed-clause-answered : goal.returns-in-Err-Failed-clause-answered
+returns-in-Err-Failed-clause-answered g c = rw c.from.ensures (rw c.in-Err-Failed.field-0-is at c.in-Err-Failed.ensures.done)
