@@ -1,4 +1,4 @@
-use crate::ops::is_told;
+use crate::ops::is_written;
 use crate::read_runs::RUN_AB;
 use desk_codec::{FeedFault, FeedWhy, ReadFault, next_op, read_feed, write_feed, write_op};
 use desk_ops::{Key, NoMemory, Op, Stamp, Style, Symbol, Unlawful};
@@ -328,18 +328,18 @@ const WORDS: [(FeedWhy, &str); 4] = [
 ];
 
 /// Whether a cause at byte 7 is written in these words.
-fn is_cause_told(alloc: Global, why: FeedWhy, text: &str) -> Result<bool, Fail> {
-    is_told(alloc, &fault(7, why), text)
+fn is_cause_written(alloc: Global, why: FeedWhy, text: &str) -> Result<bool, Fail> {
+    is_written(alloc, &fault(7, why), text)
 }
 
 #[test]
 fn names_its_faults(rt: HostRuntime) -> Result<(), Fail> {
     for &(why, text) in &WORDS {
-        assert!(rt; is_cause_told(rt.alloc(), why, text)?, "{text}");
+        assert!(rt; is_cause_written(rt.alloc(), why, text)?, "{text}");
     }
     let key = FeedWhy::Unlawful(Unlawful::Key);
-    assert!(rt; is_cause_told(rt.alloc(), key, "at byte 7: unlawful: no such key")?);
-    assert!(rt; is_told(rt.alloc(), &ReadFault::Failed, "the reading has ended")?);
-    assert!(rt; is_told(rt.alloc(), &ReadFault::NoMemory, "no memory")?);
+    assert!(rt; is_cause_written(rt.alloc(), key, "at byte 7: unlawful: no such key")?);
+    assert!(rt; is_written(rt.alloc(), &ReadFault::Failed, "the reading has ended")?);
+    assert!(rt; is_written(rt.alloc(), &ReadFault::NoMemory, "no memory")?);
     Ok(())
 }

@@ -1,7 +1,7 @@
 ghost use Rattle.std.specs.Prelude.{IfOk, All};
 ghost use Rattle.desk_ops.specs.Op.{IsLawful};
 
-use crate::ops::is_told;
+use crate::ops::is_written;
 use desk_held::{AddRefusal, Added, Halt, Held, LIMIT};
 use desk_ops::{Key, NoMemory, Op, Stamp, Style, Symbol};
 use linked_list_allocator::LocalHeap;
@@ -441,7 +441,7 @@ fn names_its_faults(rt: HostRuntime) -> Result<(), Fail> {
         (AddRefusal::Full, "as many operations are held as may be"),
         (AddRefusal::NoMemory, "no memory"),
     ] {
-        assert!(rt; is_told(rt.alloc(), &fault, text)?, "{text}");
+        assert!(rt; is_written(rt.alloc(), &fault, text)?, "{text}");
     }
     Ok(())
 }

@@ -48,7 +48,7 @@ fn is_tab_refused(stamp: Stamp, parent: Stamp, why: Unlawful) -> bool {
 
 /// Of several causes the first in their order is reported.
 #[test]
-fn first_cause_is_told(rt: HostRuntime) {
+fn first_cause_is_reported(rt: HostRuntime) {
     let last = typed(at(MAX_COUNTER, 65535), at(1, 1), '\n');
     assert!(rt; last.check().is_ok());
     for &(counter, site, before, other, why) in &TABS {
@@ -166,32 +166,32 @@ fn stamps_and_targets(rt: HostRuntime) {
 }
 
 /// Whether a value is written in these words.
-pub fn is_told<T: Display>(alloc: Global, value: &T, text: &str) -> Result<bool, Fail> {
+pub fn is_written<T: Display>(alloc: Global, value: &T, text: &str) -> Result<bool, Fail> {
     Ok(format!(in alloc; "{value}")?.as_str() == text)
 }
 
 /// Whether 10.1 and the last stamp of all are written so.
-fn are_stamps_told(alloc: Global, text: &str) -> Result<bool, Fail> {
+fn are_stamps_written(alloc: Global, text: &str) -> Result<bool, Fail> {
     let (most, first) = (at(MAX_COUNTER, 65535), at(10, 1));
     Ok(format!(in alloc; "{first} {most}")?.as_str() == text)
 }
 
 /// Whether a symbol is written so, and its style by its name.
-fn is_symbol_told(alloc: Global, symbol: Symbol, text: &str) -> Result<bool, Fail> {
+fn is_symbol_written(alloc: Global, symbol: Symbol, text: &str) -> Result<bool, Fail> {
     let style = symbol.style;
-    Ok(is_told(alloc, &symbol, text)? && is_told(alloc, &style, style.name())?)
+    Ok(is_written(alloc, &symbol, text)? && is_written(alloc, &style, style.name())?)
 }
 
 /// Whether the name of a key is this, and is written.
-fn is_key_told(alloc: Global, key: Key, text: &str) -> Result<bool, Fail> {
-    Ok(key.name() == text && is_told(alloc, &key, text)?)
+fn is_key_written(alloc: Global, key: Key, text: &str) -> Result<bool, Fail> {
+    Ok(key.name() == text && is_written(alloc, &key, text)?)
 }
 
 /// Whether a fault of 10.1 is written so, and begins with the name of its kind.
-fn is_fault_told(alloc: Global, kind: FaultKind, text: &str) -> Result<bool, Fail> {
+fn is_fault_written(alloc: Global, kind: FaultKind, text: &str) -> Result<bool, Fail> {
     let stamp = at(10, 1);
     let fault = CopyFault { stamp, kind };
-    Ok(is_told(alloc, &fault, text)? && text.starts_with(kind.name()))
+    Ok(is_written(alloc, &fault, text)? && text.starts_with(kind.name()))
 }
 
 /// Symbols, each by its style and its character, in words.
@@ -218,18 +218,18 @@ const FAULTS: [(FaultKind, &str); 3] = [
 /// Stamps, styles, symbols, settings and faults of the copy, in words.
 #[test]
 fn values_in_words(rt: HostRuntime) -> Result<(), Fail> {
-    assert!(rt; are_stamps_told(rt.alloc(), "10.1 4611686018427387904.65535")?);
+    assert!(rt; are_stamps_written(rt.alloc(), "10.1 4611686018427387904.65535")?);
     for &(style, ch, text) in &SYMBOLS {
         assert!(rt;
-            is_symbol_told(rt.alloc(), Symbol { style, ch }, text)?,
+            is_symbol_written(rt.alloc(), Symbol { style, ch }, text)?,
             "{text}"
         );
     }
     for &(key, text) in &KEYS {
-        assert!(rt; is_key_told(rt.alloc(), key, text)?, "{text}");
+        assert!(rt; is_key_written(rt.alloc(), key, text)?, "{text}");
     }
     for &(kind, text) in &FAULTS {
-        assert!(rt; is_fault_told(rt.alloc(), kind, text)?, "{text}");
+        assert!(rt; is_fault_written(rt.alloc(), kind, text)?, "{text}");
     }
     Ok(())
 }
@@ -246,9 +246,9 @@ const CAUSES: [(Unlawful, &str); 6] = [
 #[test]
 fn names_its_faults(rt: HostRuntime) -> Result<(), Fail> {
     for &(fault, text) in &CAUSES {
-        assert!(rt; is_told(rt.alloc(), &fault, text)?, "{text}");
+        assert!(rt; is_written(rt.alloc(), &fault, text)?, "{text}");
     }
     let no_memory = NoMemory::from(std::alloc::AllocError);
-    assert!(rt; is_told(rt.alloc(), &no_memory, "no memory")?);
+    assert!(rt; is_written(rt.alloc(), &no_memory, "no memory")?);
     Ok(())
 }

@@ -56,7 +56,7 @@ const A_AND_NINE: [u8; 31] = [
 ];
 
 /// Whether a kind that there is not is reported, in whichever piece it stands.
-fn kinds_are_told(alloc: Global) -> bool {
+fn kinds_are_reported(alloc: Global) -> bool {
     let nothing: Answer<'_> = Ok(&AB[..0]);
     let first: Answer<'_> = Err(fault(4, FeedWhy::Kind));
     let kind: Answer<'_> = Err(fault(30, FeedWhy::Kind));
@@ -76,7 +76,7 @@ fn kinds_are_told(alloc: Global) -> bool {
 }
 
 /// Whether other magic is reported with the fourth byte, or at the end.
-fn magic_is_told(alloc: Global) -> bool {
+fn magic_is_reported(alloc: Global) -> bool {
     let nothing: Answer<'_> = Ok(&AB[..0]);
     let magic = Err(fault(0, FeedWhy::Magic));
     let none: Row<'_> = ([b"", b"", b""], [nothing; 3], magic);
@@ -90,7 +90,7 @@ fn magic_is_told(alloc: Global) -> bool {
 }
 
 /// Whether the end of a feed without operations is none, and that of one that is cut off is reported.
-fn ends_are_told(alloc: Global) -> bool {
+fn ends_are_reported(alloc: Global) -> bool {
     let nothing: Answer<'_> = Ok(&AB[..0]);
     let empty: Row<'_> = ([b"MFD1", b"", b""], [nothing; 3], Ok(()));
     let cut: Row<'_> = (
@@ -103,9 +103,9 @@ fn ends_are_told(alloc: Global) -> bool {
 
 #[test]
 fn feed_in_pieces(rt: HostRuntime) {
-    assert!(rt; kinds_are_told(rt.alloc()));
-    assert!(rt; magic_is_told(rt.alloc()));
-    assert!(rt; ends_are_told(rt.alloc()));
+    assert!(rt; kinds_are_reported(rt.alloc()));
+    assert!(rt; magic_is_reported(rt.alloc()));
+    assert!(rt; ends_are_reported(rt.alloc()));
     assert!(rt; FeedReader::new().finish() == Err(fault(0, FeedWhy::Magic)));
 }
 
@@ -256,7 +256,12 @@ const A_AND_65: [u8; 52] = [
 ];
 
 /// Whether the fault of a piece is reported, where so many of its bytes came before, and after it `Failed`.
-fn is_told<A: Allocator + Copy>(alloc: A, before: usize, bytes: &[u8], want: ReadFault) -> bool {
+fn is_reported<A: Allocator + Copy>(
+    alloc: A,
+    before: usize,
+    bytes: &[u8],
+    want: ReadFault,
+) -> bool {
     if bytes.len() > 100 {
         return false;
     }
@@ -268,26 +273,26 @@ fn is_told<A: Allocator + Copy>(alloc: A, before: usize, bytes: &[u8], want: Rea
 }
 
 /// Whether a fault is reported of a piece alone, and of one behind so many bytes that were kept.
-fn is_told_twice<A: Allocator + Copy>(
+fn is_reported_twice<A: Allocator + Copy>(
     alloc: A,
     before: usize,
     bytes: &[u8],
     want: ReadFault,
 ) -> bool {
-    is_told(alloc, 0, bytes, want) && is_told(alloc, before, bytes, want)
+    is_reported(alloc, 0, bytes, want) && is_reported(alloc, before, bytes, want)
 }
 
 /// Whether each fault is reported, of a piece alone and of one behind bytes that were kept.
-fn are_told<A: Allocator + Copy>(alloc: A) -> bool {
+fn are_reported<A: Allocator + Copy>(alloc: A) -> bool {
     let no_key = FeedWhy::Unlawful(Unlawful::Key);
-    is_told_twice(alloc, 19, &A_AND_NINE, fault(30, FeedWhy::Kind))
-        && is_told_twice(alloc, 19, &A_AND_NO_KEY, fault(30, no_key))
-        && is_told_twice(alloc, 19, &A_AND_65, fault(30, FeedWhy::Run))
-        && is_told_twice(alloc, 3, &FEED_AB[1..], fault(0, FeedWhy::Magic))
+    is_reported_twice(alloc, 19, &A_AND_NINE, fault(30, FeedWhy::Kind))
+        && is_reported_twice(alloc, 19, &A_AND_NO_KEY, fault(30, no_key))
+        && is_reported_twice(alloc, 19, &A_AND_65, fault(30, FeedWhy::Run))
+        && is_reported_twice(alloc, 3, &FEED_AB[1..], fault(0, FeedWhy::Magic))
 }
 
 /// Whether a cut heap refuses the room of one operation. There, and with memory, each fault is reported.
-fn is_told_in_want(alloc: Global, cut: usize) -> Result<bool, Fail> {
+fn is_reported_without_memory(alloc: Global, cut: usize) -> Result<bool, Fail> {
     let heap = LocalHeap::new(alloc, 512)?;
     let ballast = ballast(&heap, cut);
     let mut reader = FeedReader::new();
@@ -297,9 +302,9 @@ fn is_told_in_want(alloc: Global, cut: usize) -> Result<bool, Fail> {
         &A_AND_NINE[..30],
         Err(ReadFault::NoMemory),
     );
-    let told = are_told(&heap);
+    let reported = are_reported(&heap);
     drop(ballast);
-    if !told || !are_told(&heap) {
+    if !reported || !are_reported(&heap) {
         return Err(Fail::new("another answer"));
     }
     Ok(refused)
@@ -318,7 +323,7 @@ fn refused_at(alloc: Global, place: usize) -> Result<u32, Fail> {
 fn refused_rooms(alloc: Global) -> Result<u32, Fail> {
     let mut refused = 0u32;
     for cut in 0..16usize {
-        refused = refused.saturating_add(u32::from(is_told_in_want(alloc, cut)?));
+        refused = refused.saturating_add(u32::from(is_reported_without_memory(alloc, cut)?));
     }
     Ok(refused)
 }
