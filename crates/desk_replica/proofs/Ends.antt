@@ -3,7 +3,7 @@ use Rattle.std.proofs.Common.{◌≡◌, ℕ, zero, suc, ◌+◌, ◌<◌, ◌�
 use Rattle.std.specs.Prelude.{Option, Some, None, Result, Ok, Err, OnOk}
 use Rattle.std.specs.List.{filter, filter_map, cons_option, list_any}
 use Rattle.std.specs.Option.{unwrap_or}
-use Rattle.std.proofs.lemmas.Bool.{true≢false}
+use Rattle.std.proofs.lemmas.Bool.{true≢false, or_parts}
 use Rattle.std.proofs.lemmas.List.{take_all, take_more, take-append-drop, append-nil, map-append}
 use Rattle.std.proofs.lemmas.List.Elements.{filter_map-append}
 use Rattle.std.specs.declared.cmp.Ordering.TheVariants.{Less}
@@ -23,7 +23,7 @@ use Rattle.desk_ops.specs.Held.{bears, bearing, is_one, is_clear, is_borne, clea
 use Rattle.desk_ops.specs.Scan.{IsAscending}
 use Rattle.desk_ops.specs.Faults.{stamps, fault_of, fault_of_end, fault_among, marked, copy_faults}
 use Rattle.desk_ops.proofs.Stamps.{by_cases, same-true, same-symm, same-refl, before-irrefl, before-other, before-apart_left}
-use Rattle.desk_ops.proofs.Lists.{Each, each-among, each-from_among, among-filter, among-filter_from, among-filter_map}
+use Rattle.desk_ops.proofs.Lists.{Each, each-among, each-from_among, among-filter, among-filter_from, among-filter_map, among-at, each-at}
 use Rattle.desk_ops.proofs.Paths.{way-absent, Each-reverse}
 use Rattle.desk_ops.proofs.Means.{IsOrdered, ordered, clear_ascending, insert_stamp, counter-before}
 use Rattle.desk_ops.proofs.Bearers.{stamp_not_before}
@@ -31,7 +31,7 @@ use Rattle.desk_ops.proofs.Ends.{on, held_among, insert_from_op}
 use Rattle.desk_ops.proofs.Faulty.{fault_at, end_head, end_borne, end_bare}
 use Rattle.desk_replica.specs.declared.faults.Way.{Way}
 use Rattle.desk_replica.specs.Ways.{kind_at, way_of, ways_before, faults_before, way_at, AreRising, IsNone, AreWays, ends_with, ways_with, AreTold}
-use Rattle.desk_replica.proofs.Passes.{clear_before, clear_before-clear, clear_before-other, filter-last, each-taken, earlier_all, below_it, among-at, each-at}
+use Rattle.desk_replica.proofs.Passes.{clear_before, clear_before-clear, clear_before-other, filter-last, each-taken, earlier_all, below_it}
 use Rattle.desk_replica.proofs.Passes.{inserts-last}
 
 -- ---- a target that no clear insert bears
@@ -86,10 +86,6 @@ or_left : (a b : Bool) → (a || b) ≡ true → b ≡ false → a ≡ true
 or_left true b e f = refl
 or_left false b e f = absurd (true≢false (sym e ∙ f))
 
-neither : (a b : Bool) → (a || b) ≡ false → (a ≡ false) × (b ≡ false)
-neither true b e = absurd (true≢false e)
-neither false b e = (refl, e)
-
 abbrev unlike : Op → Stamp → Bool
 unlike x s = not (same s (stamp_of x))
 
@@ -97,7 +93,7 @@ stamps-new : (xs : List Op) (o : Op) → is_borne xs (stamp_of o) ≡ false → 
 unfolding is_borne
 stamps-new [] o b = refl
 stamps-new (x ∷ xs) o b =
-    let n = neither (same (stamp_of x) (stamp_of o)) (list_any (bears (stamp_of o)) xs) b in
+    let n = or_parts (same (stamp_of x) (stamp_of o)) (list_any (bears (stamp_of o)) xs) b in
     ap (λ ss. stamp_of x ∷ filter (unlike x) ss) (stamps-new xs o n.1)
     ∙ ap (λ ss. stamp_of x ∷ ss) (filter-last (unlike x) (stamps xs) (stamp_of o) ∙ ap (λ c. filter (unlike x) (stamps xs) ++ cond (not c) (stamp_of o ∷ []) []) (same-symm (stamp_of o) (stamp_of x) ∙ n.0))
 

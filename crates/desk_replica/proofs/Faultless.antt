@@ -19,7 +19,7 @@ use Rattle.desk_ops.proofs.Faulty.{ends}
 use Rattle.desk_ops.proofs.Stuck.{fault_listed, listed_fault}
 use Rattle.desk_ops.proofs.Bearers.{forked_two}
 use Rattle.desk_ops.proofs.Parts.{unforked_one}
-use Rattle.desk_held.proofs.Ranges.{length-in_order}
+use Rattle.desk_ops.proofs.OpSets.{length-in_order}
 use Rattle.desk_walk.specs.Following.{IsWaiting}
 
 nothing : (fs : List CopyFault) → ((f : CopyFault) → Among f fs → ⊥) → fs ≡ []

@@ -1,7 +1,7 @@
 -- A new operation is lawful, and newer than all that is held.
 use Rattle.std.proofs.Common.{◌≡◌, ℕ, zero, suc, ◌+◌, ◌<◌, ◌≤◌, Bool, true, false, not, cond, List, [], ◌∷◌, length, refl, sym, ap, ◌∙◌, subst, ◌⊎◌, inl, inr, arith}
 use Rattle.std.specs.Prelude.{◌≢◌, ◌==◌, nat_le, Option, Some, None, Result, Ok, Err, IfOk, OnOk, is_err}
-use Rattle.std.proofs.lemmas.Bool.Decides.{nat_tests}
+use Rattle.std.proofs.lemmas.Bool.{ne_eqb, lt-leb}
 use Rattle.desk_ops.proofs.Stamps.{by_cases}
 use Rattle.desk_ops.specs.declared.op.Unlawful.TheVariants as unlawful
 use Rattle.desk_replica.specs.declared.Refusal.{Refusal}
@@ -11,7 +11,7 @@ use Rattle.desk_ops.specs.declared.op.Stamp.{Stamp}
 use Rattle.desk_ops.specs.declared.op.Symbol.{Symbol}
 use Rattle.desk_ops.specs.declared.op.Key.{Key}
 use Rattle.desk_ops.specs.declared.op.Op.{Op}
-use Rattle.desk_ops.specs.declared.op.Op.TheVariants.{Insert, Delete, Set}
+use Rattle.desk_ops.specs.declared.op.Op.TheVariants.{Delete, Set}
 use Rattle.desk_ops.specs.Stamp.{head, IsStamp, max_counter}
 use Rattle.desk_ops.specs.Op.{Insertion, stamp_of, is_symbol, is_value, symbol_verdict, IsLawful}
 use Rattle.desk_ops.specs.OpSet.{OpSet, with_op, in_order, size, AllLawful, max_ops}
@@ -23,7 +23,7 @@ use Rattle.desk_ops.proofs.Lists.{Each, Each-both, each-filter}
 use Rattle.desk_ops.proofs.Scans.{walk-each}
 use Rattle.desk_ops.proofs.Means.{insert_stamp}
 use Rattle.desk_ops.proofs.Tree.{walk-clear}
-use Rattle.desk_ops.proofs.Lawful.{symbol_from, value_from}
+use Rattle.desk_ops.proofs.Lawful.{symbol_from, value_from, lawful-stamp}
 use Rattle.desk_ops.specs.Held.{greatest_counter, greatest_counter_of}
 use Rattle.desk_replica.specs.State.{State, IsKept}
 use Rattle.desk_ops.specs.Settings.{setting_of}
@@ -32,14 +32,6 @@ use Rattle.desk_replica.specs.Edits.{new_stamp, parent_at, stamp_at, new_insert,
 use Rattle.desk_replica.proofs.Passes.{each-insert}
 use Rattle.desk_ops.proofs.Newest.{insert_shows, delete_shows, set_shows}
 use Rattle.desk_ops.proofs.NewValues.{setting_new, setting_stays}
-
--- ---- numbers
-
-ne-from : (a b : ℕ) → a ≢ b → (a == b) ≡ false
-ne-from a b e = grind (arith, nat_tests)
-
-le-false : (a b : ℕ) → b < a → nat_le a b ≡ false
-le-false a b h = grind (arith, nat_tests)
 
 -- ---- counters
 
@@ -51,11 +43,6 @@ counters (o ∷ ops) g le = (omega arith, counters ops g (omega arith))
 
 abbrev IsOldStamp : ℕ → Stamp → Type 0
 IsOldStamp g s = IsStamp s × (s.counter ≤ g)
-
-lawful-stamp : (o : Op) → IsLawful o → IsStamp (stamp_of o)
-lawful-stamp (Insert s p y) l = l.0
-lawful-stamp (Delete s t) l = l.0
-lawful-stamp (Set s k v) l = l.0
 
 shown-old : (h : OpSet) → AllLawful h → Each (λ x. IsOldStamp (greatest_counter_of h) x.stamp) (shown_of h)
 unfolding shown clear_inserts clear_ops
@@ -154,10 +141,10 @@ abbrev by_size : Bool → OpSet → Option Refusal
 by_size full ops = cond full (Some refusal.Full) (cond (nat_le max_counter (greatest_counter_of ops)) (Some refusal.ClockFull) None)
 
 clock_free : (ops : OpSet) → size ops ≢ max_ops → edit_refusal ops true true ≡ by_size false ops
-clock_free ops e = let k : (size ops == max_ops) ≡ false = ne-from (size ops) max_ops e in ap (λ b. by_size b ops) k
+clock_free ops e = let k : (size ops == max_ops) ≡ false = ne_eqb (size ops) max_ops e in ap (λ b. by_size b ops) k
 
 pub refused_none : (ops : OpSet) → size ops ≢ max_ops → greatest_counter_of ops < max_counter → edit_refusal ops true true ≡ None
-refused_none ops e lt = clock_free ops e ∙ ap (λ b. cond b (Some refusal.ClockFull) None) (le-false max_counter (greatest_counter_of ops) lt)
+refused_none ops e lt = clock_free ops e ∙ ap (λ b. cond b (Some refusal.ClockFull) None) (lt-leb max_counter (greatest_counter_of ops) lt)
 
 pub symbol_is : (y : Symbol) (b : Bool) → b ≡ is_err (symbol_verdict y) → b ≡ false → is_symbol y ≡ true
 symbol_is y b e f = by_cases (is_symbol y) (λ k. k) (λ k. let g : true ≡ false = sym (ap (λ t. is_err (cond t (Ok tt) (Err unlawful.Symbol))) k) ∙ sym e ∙ f in cc)

@@ -1,7 +1,8 @@
 -- What a set shows once operations were added to it: in its order, and where no stamp is forked in one order.
-use Rattle.std.proofs.Common.{◌≡◌, ℕ, zero, suc, take, drop, length, Bool, true, false, ◌||◌, List, [], ◌∷◌, refl, sym, ap, ◌∙◌, subst, arith}
+use Rattle.std.proofs.Common.{◌≡◌, ℕ, take, drop, length, List, [], ◌∷◌, sym, ap, ◌∙◌, subst, arith}
 use Rattle.std.specs.Prelude.{Result, Ok, Err, OnOk, IfErr, All}
 use Rattle.std.specs.List.{AllByRecursion}
+use Rattle.std.proofs.lemmas.Bool.{or_right}
 use Rattle.std.proofs.lemmas.List.{take-append-drop, take_all}
 use Rattle.desk_ops.specs.declared.op.Op.{Op}
 use Rattle.desk_ops.specs.Op.{IsLawful}
@@ -9,6 +10,8 @@ use Rattle.desk_ops.specs.OpSet.{OpSet, has_op, with_op, with_all, union, in_ord
 use Rattle.desk_ops.specs.Held.{IsUnforked}
 use Rattle.desk_ops.proofs.Unions.{has_op-union, with_all-append}
 use Rattle.desk_ops.proofs.Joined.{within-with_op, lawful-with_op}
+use Rattle.desk_ops.proofs.Lists.{Each-take}
+use Rattle.desk_held.proofs.Lacking.{lawful_all}
 use Rattle.desk_replica.specs.declared.Count.{Count}
 use Rattle.desk_replica.specs.declared.Stopped.{Stopped}
 use Rattle.desk_replica.specs.State.{IsStopped}
@@ -19,16 +22,6 @@ use Rattle.desk_replica.proofs.Orders.{kept, total, stands}
 within_all : (h : OpSet) (os : List Op) → IsWithin h (with_all h os)
 within_all h [] o e = e
 within_all h (p ∷ os) o e = within_all (with_op h p) os o (within-with_op h p o e)
-
-lawful_all : (h : OpSet) (os : List Op) → AllLawful h → AllByRecursion IsLawful os → AllLawful (with_all h os)
-lawful_all h [] l each = l
-lawful_all h (o ∷ os) l each = lawful_all (with_op h o) os (lawful-with_op h o l each.0) each.1
-
-each-take : (P : Op → Type 0) (k : ℕ) (os : List Op) → AllByRecursion P os → AllByRecursion P (take k os)
-each-take P zero [] each = tt
-each-take P zero (o ∷ os) each = tt
-each-take P (suc k) [] each = tt
-each-take P (suc k) (o ∷ os) each = (each.0, each-take P k os each.1)
 
 -- ---- one operation, or the first of a list
 
@@ -42,13 +35,9 @@ pub kept-all : (h after : OpSet) (os : List Op) → AllLawful h → All IsLawful
 kept-all h after os l all e = subst (KeepsOrder h) (sym e) (kept_each h os l (each-of-all os all))
 
 pub kept-first : (h after : OpSet) (os : List Op) (k : ℕ) → AllLawful h → All IsLawful os → after ≡ with_all h (take k os) → KeepsOrder h after
-kept-first h after os k l all e = subst (KeepsOrder h) (sym e) (kept_each h (take k os) l (each-take IsLawful k os (each-of-all os all)))
+kept-first h after os k l all e = subst (KeepsOrder h) (sym e) (kept_each h (take k os) l (Each-take IsLawful k os (each-of-all os all)))
 
 -- ---- another set's operations, all of them or the first
-
-or-right : (a b : Bool) → b ≡ true → (a || b) ≡ true
-or-right true b e = refl
-or-right false b e = e
 
 module _ (h g after : OpSet) (lh : AllLawful h) (lg : AllLawful g) (os : List Op) (list : os ≡ in_order g) (r : Result Count Stopped)
     (ok : OnOk r (after ≡ with_all h os)) (stopped : IfErr r (λ s. IsStopped h after os s)) where
@@ -60,7 +49,7 @@ module _ (h g after : OpSet) (lh : AllLawful h) (lg : AllLawful g) (os : List Op
   part = subst (λ (l : List Op). (k : ℕ) × (after ≡ with_all h (take k l))) list (first r ok stopped)
 
   lawful : AllLawful after
-  lawful = subst AllLawful (sym part.1) (lawful_all h (take part.0 (in_order g)) lh (each-take IsLawful part.0 (in_order g) lg))
+  lawful = subst AllLawful (sym part.1) (lawful_all h (take part.0 (in_order g)) lh (Each-take IsLawful part.0 (in_order g) lg))
 
   rest : with_all (with_all h (take part.0 (in_order g))) (drop part.0 (in_order g)) ≡ union h g
   rest = sym (with_all-append h (take part.0 (in_order g)) (drop part.0 (in_order g))) ∙ ap (with_all h) (take-append-drop part.0 (in_order g))
@@ -70,13 +59,13 @@ module _ (h g after : OpSet) (lh : AllLawful h) (lg : AllLawful g) (os : List Op
       (subst (IsWithin (with_all h (take part.0 (in_order g)))) rest (within_all (with_all h (take part.0 (in_order g))) (drop part.0 (in_order g))))
 
   other-in : IsWithin g (union h g)
-  other-in o e = has_op-union h g o ∙ or-right (has_op h o) (has_op g o) e
+  other-in o e = has_op-union h g o ∙ or_right (has_op h o) (has_op g o) e
 
   union-lawful : AllLawful (union h g)
   union-lawful = lawful_all h (in_order g) lh lg
 
   pub merge-order : KeepsOrder h after
-  merge-order = subst (KeepsOrder h) (sym part.1) (kept_each h (take part.0 (in_order g)) lh (each-take IsLawful part.0 (in_order g) lg))
+  merge-order = subst (KeepsOrder h) (sym part.1) (kept_each h (take part.0 (in_order g)) lh (Each-take IsLawful part.0 (in_order g) lg))
 
   pub merge-other : OnOk r (KeepsOrder g after)
   merge-other = go r ok

@@ -1,29 +1,27 @@
 -- Elements that two sets show keep their order, and one order holds what the parts of a set without forks show.
-use Rattle.std.proofs.Common.{◌≡◌, ℕ, zero, suc, ◌<◌, Bool, true, false, not, cond, List, [], ◌∷◌, ◌++◌, reverse, map, refl, sym, ap, ◌∙◌, subst, subst₂, ◌⊎◌, inl, inr, arith}
-use Rattle.std.specs.List.{filter}
+use Rattle.std.proofs.Common.{◌≡◌, ℕ, zero, suc, ◌<◌, true, false, not, List, [], ◌∷◌, ◌++◌, reverse, map, refl, sym, ap, ◌∙◌, subst, subst₂, ◌⊎◌, inl, inr, arith}
 use Rattle.std.specs.Ordering.{ordering_reverse}
 use Rattle.std.specs.declared.cmp.Ordering.{Ordering}
 use Rattle.std.specs.declared.cmp.Ordering.TheVariants.{Less, Equal, Greater}
-use Rattle.std.proofs.lemmas.Bool.{true≢false}
 use Rattle.desk_ops.specs.declared.op.Stamp.{Stamp}
 use Rattle.desk_ops.specs.declared.op.Op.{Op}
 use Rattle.desk_ops.specs.Stamp.{same, head}
 use Rattle.desk_ops.specs.Op.{Insertion, stamp_of, IsLawful}
 use Rattle.desk_ops.specs.OpSet.{OpSet, has_op, in_order, IsWithin, AllLawful}
 use Rattle.desk_ops.specs.Lists.{Among, Precedes}
-use Rattle.desk_ops.specs.Held.{bearing, is_one, is_more, is_clear, is_forked, is_clear_in, live_inserts, live_inserts_of, IsUnforked}
+use Rattle.desk_ops.specs.Held.{bearing, is_more, is_clear, is_forked, is_clear_in, live_inserts, live_inserts_of, IsUnforked}
 use Rattle.desk_ops.specs.Live.{insert_of, IsOfLiveInsert, IsLiveOp}
 use Rattle.desk_ops.specs.Walk.{walk, walk_of}
 use Rattle.desk_ops.specs.PathOrder.{path_of, path_cmp, InPathOrder}
 use Rattle.desk_ops.specs.Shown.{is_deleted, shown, shown_of}
 use Rattle.desk_ops.proofs.Stamps.{same-refl, same-from}
-use Rattle.desk_ops.proofs.Lists.{each-among, each-filter, among-filter, among-filter_from, precedes-cases, precedes-first, precedes-second}
+use Rattle.desk_ops.proofs.Lists.{each-among, among-filter_from, precedes-cases, precedes-first, precedes-second}
 use Rattle.desk_ops.proofs.Paths.{path-absent, path_total, walk-in_order, Each-reverse}
 use Rattle.desk_ops.proofs.Kept.{not_less_itself, descends, step, among-reversed}
 use Rattle.desk_ops.proofs.Means.{live_ascending, live_grows, live_agree, shown-kept}
-use Rattle.desk_ops.proofs.Tree.{walk-live}
 use Rattle.desk_ops.proofs.Ends.{among_held, live_from_op, op_from_live}
-use Rattle.desk_ops.proofs.One.{one_order}
+use Rattle.desk_ops.proofs.One.{one_order, one-of-more, order-filter}
+use Rattle.desk_ops.proofs.Parts.{shown_live}
 use Rattle.desk_replica.specs.Orders.{shown_stamps, StandAlike, KeepsOrder, StandsBefore, IsOrderOfLive, StandsIn, OneOrderOfSets}
 
 -- ---- elements and their stamps
@@ -67,13 +65,6 @@ path-less p (x ∷ xs) o s t (inl m) = go (among-stamps xs t m.1)
     go r = subst₂ (λ a b. path_cmp (p a) (p b) ≡ Less) m.0 r.2 (each-among (λ y. path_cmp (p x.stamp) (p y.stamp) ≡ Less) xs r.0 o.0 r.1)
 path-less p (x ∷ xs) o s t (inr m) = path-less p xs o.1 s t m
 
-order-filter : (p : Stamp → List Stamp) (f : Insertion → Bool) (xs : List Insertion) → InPathOrder p xs → InPathOrder p (filter f xs)
-order-filter p f [] h = tt
-order-filter p f (x ∷ xs) h = elim (f x) as (λ b. InPathOrder p (cond b (x ∷ filter f xs) (filter f xs))) [
-  | true ↦ (each-filter (λ y. path_cmp (p x.stamp) (p y.stamp) ≡ Less) f xs h.0, order-filter p f xs h.1)
-  | false ↦ order-filter p f xs h.1
-]
-
 -- a walk stands in its set's path order, forks or not, and so does what is shown of it
 walked : (h : OpSet) → AllLawful h → InPathOrder (path_of h) (walk_of h)
 unfolding walk
@@ -94,10 +85,6 @@ not_both_in p xs o s t l b = not_less_itself (p s) (path_total.trans (p s) (p t)
 
 -- ---- what both of two sets show
 
-shown-live : (h : OpSet) (x : Insertion) → Among x (shown_of h) → Among x (live_inserts_of h)
-unfolding shown
-shown-live h x m = walk-live (in_order h) x (among-filter (λ x. not (is_deleted (in_order h) x.stamp)) (walk (in_order h)) x m).0
-
 pub kept : (h g : OpSet) → AllLawful h → AllLawful g → IsWithin h g → KeepsOrder h g
 kept h g lh lg w s t p ms mt = go (precedes-stamps (shown_of h) s t p) (among-stamps (shown_of g) s ms) (among-stamps (shown_of g) t mt)
   where
@@ -106,7 +93,7 @@ kept h g lh lg w s t p ms mt = go (precedes-stamps (shown_of h) s t p) (among-st
         (stamps-precede (shown_of g) r.0 r.1 (shown-kept h g w lg lh r.0 r.1 r.2 (there r.0 (precedes-first (shown_of h) r.0 r.1 r.2) s r.3 a) (there r.1 (precedes-second (shown_of h) r.0 r.1 r.2) t r.4 b)))
       where
         there : (x : Insertion) → Among x (shown_of h) → (s : Stamp) → x.stamp ≡ s → IsOf s (shown_of g) → Among x (shown_of g)
-        there x m s e q = subst (λ (z : Insertion). Among z (shown_of g)) (sym (live_agree h g w x q.0 (shown-live h x m) (shown-live g q.0 q.1) (same-from x.stamp q.0.stamp (e ∙ sym q.2)))) q.1
+        there x m s e q = subst (λ (z : Insertion). Among z (shown_of g)) (sym (live_agree h g w x q.0 (shown_live h x m) (shown_live g q.0 q.1) (same-from x.stamp q.0.stamp (e ∙ sym q.2)))) q.1
 
 pub either_first : (h : OpSet) (s t : Stamp) → Among s (shown_stamps h) → Among t (shown_stamps h) → (s ≡ t) ⊎ (Precedes s t (shown_stamps h) ⊎ Precedes t s (shown_stamps h))
 either_first h s t m n = go (precedes-cases (shown_stamps h) s t m n)
@@ -135,11 +122,6 @@ turned_back h g l k s t p ms mt = go (either_first h s t ms mt)
 
 -- ---- one order
 
-one-of-more : (os : List Op) (o : Op) → Among o os → is_more os ≡ false → is_one os ≡ true
-one-of-more [] o m h = absurd m
-one-of-more (a ∷ []) o m h = refl
-one-of-more (a ∷ b ∷ os) o m h = absurd (true≢false h)
-
 unforked-clear : (u : OpSet) → IsUnforked u → (o : Op) → Among o (in_order u) → is_clear_in u (stamp_of o) ≡ true
 unfolding is_clear is_forked
 unforked-clear u f o m = one-of-more (bearing (in_order u) (stamp_of o)) o (among-filter_from (λ p. same (stamp_of p) (stamp_of o)) (in_order u) o m (same-refl (stamp_of o)))
@@ -165,7 +147,7 @@ module _ (u h : OpSet) (lu : AllLawful u) (lh : AllLawful h) (f : IsUnforked u) 
 
   pub stands : StandsIn u h
   stands = record {
-    live = λ x m. live-up (suc x.stamp.counter) x (omega arith) (shown-live h x m);
+    live = λ x m. live-up (suc x.stamp.counter) x (omega arith) (shown_live h x m);
     in_order = (one_order h u lh lu f w).holds;
   }
 

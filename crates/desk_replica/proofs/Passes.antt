@@ -16,7 +16,7 @@ use Rattle.desk_ops.specs.OpSet.{OpSet, in_order}
 use Rattle.desk_ops.specs.Lists.{Among}
 use Rattle.desk_ops.specs.Held.{is_clear}
 use Rattle.desk_ops.proofs.Stamps.{by_cases, same-refl, same-symm, before-other}
-use Rattle.desk_ops.proofs.Lists.{Each, each-among, each-from_among, each-filter}
+use Rattle.desk_ops.proofs.Lists.{Each, each-among, each-from_among, each-filter, each-at, among-at}
 use Rattle.desk_ops.proofs.Means.{IsOrdered, ordered, clear_one}
 use Rattle.desk_ops.proofs.Bearers.{stamp_not_before}
 
@@ -25,16 +25,6 @@ abbrev pub clear_before : List Op → ℕ → List Op
 clear_before ops i = filter (λ op. is_clear ops (stamp_of op)) (take i ops)
 
 -- ---- what comes before an operation
-
-pub each-at : (P : Op → Type 0) (ops : List Op) (i : ℕ) (d : Op) → Each P ops → i < length ops → P (get_or ops i d)
-each-at P [] i d h lt = absurd (omega arith)
-each-at P (o ∷ ops) zero d h lt = h.0
-each-at P (o ∷ ops) (suc i) d h lt = each-at P ops i d h.1 (omega arith)
-
-pub among-at : (ops : List Op) (i : ℕ) (d : Op) → i < length ops → Among (get_or ops i d) ops
-among-at [] i d lt = absurd (omega arith)
-among-at (o ∷ ops) zero d lt = inl refl
-among-at (o ∷ ops) (suc i) d lt = inr (among-at ops i d (omega arith))
 
 pub each-taken : (P : Op → Type 0) (ops : List Op) (i : ℕ) → Each P ops → Each P (take i ops)
 each-taken P [] zero h = tt

@@ -3,7 +3,6 @@ use Rattle.std.proofs.Common.{◌≡◌, ℕ, zero, suc, ◌+◌, ◌<◌, Bool,
 use Rattle.std.specs.List.{filter}
 use Rattle.std.proofs.lemmas.List.{length-map}
 use Rattle.desk_ops.specs.declared.op.Stamp.{Stamp}
-use Rattle.desk_ops.specs.declared.op.Symbol.{Symbol}
 use Rattle.desk_ops.specs.Stamp.{head}
 use Rattle.desk_ops.specs.Op.{Insertion}
 use Rattle.desk_ops.specs.OpSet.{OpSet}
@@ -14,11 +13,9 @@ use Rattle.desk_ops.proofs.Tree.{filter-hit, filter-miss}
 use Rattle.desk_seq.specs.declared.Entry.{Entry}
 use Rattle.desk_seq.specs.Entries.{stamps_of, shown_in, is_shown, shown_symbols, IsShownAt}
 use Rattle.desk_seq.proofs.Entries.{stamps-at}
+use Rattle.desk_seq.proofs.Shows.{symbols}
 use Rattle.desk_walk.specs.Following.{entry_of, entries_of}
 use Rattle.desk_replica.specs.Edits.{stamp_at}
-
-abbrev symbols : List Entry → List Symbol
-symbols es = map (λ (e : Entry). e.symbol) es
 
 -- an element as an entry that is not deleted
 abbrev plain : Insertion → Entry

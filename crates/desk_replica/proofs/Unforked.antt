@@ -1,7 +1,7 @@
 -- Operations that bear stamps of their own.
-use Rattle.std.proofs.Common.{◌≡◌, ℕ, zero, suc, ◌+◌, ◌-◌, ◌<◌, ◌≤◌, ◌||◌, ◌⊎◌, inl, inr, Bool, true, false, not, List, [], ◌∷◌, ◌++◌, length, get_or, drop, reverse, refl, sym, ap, ◌∙◌, subst, arith}
+use Rattle.std.proofs.Common.{◌≡◌, ℕ, suc, ◌+◌, ◌-◌, ◌<◌, ◌≤◌, ◌||◌, ◌⊎◌, inl, inr, true, false, List, [], ◌∷◌, ◌++◌, length, get_or, drop, reverse, refl, sym, ap, ◌∙◌, subst, arith}
 use Rattle.std.specs.List.{list_any}
-use Rattle.std.proofs.lemmas.Bool.{true≢false, cases_eq}
+use Rattle.std.proofs.lemmas.Bool.{cases_eq, or_parts}
 use Rattle.std.proofs.lemmas.List.{get_or_default, reverse-append}
 use Rattle.desk_ops.specs.declared.op.Op.{Op}
 use Rattle.desk_ops.specs.Op.{stamp_of}
@@ -16,10 +16,6 @@ use Rattle.desk_held.proofs.Joins.{with_op-with_all}
 use Rattle.desk_replica.specs.State.{AreApart, RiseByStamp}
 use Rattle.desk_replica.proofs.Sets.{split-at, grows_by_one}
 
-neither : (a b : Bool) → (a || b) ≡ false → (a ≡ false) × (b ≡ false)
-neither true b e = absurd (true≢false e)
-neither false b e = (refl, e)
-
 rest-rise : (o : Op) (ops : List Op) → RiseByStamp (o ∷ ops) → RiseByStamp ops
 rest-rise o ops up i d lt = let e : suc i + 1 ≡ suc (i + 1) = omega arith in ap (λ (n : ℕ). before (stamp_of (get_or ops i d)) (stamp_of (get_or (o ∷ ops) n d))) (sym e) ∙ up (suc i) d (omega (arith, lt))
 
@@ -33,7 +29,7 @@ later-all o (p ∷ ops) up =
 not-borne : (h : OpSet) (o : Op) (ops : List Op) → Each (λ p. before (stamp_of o) (stamp_of p) ≡ true) ops → list_any (λ op. is_borne_in h (stamp_of op)) ops ≡ false → list_any (λ op. is_borne_in (with_op h o) (stamp_of op)) ops ≡ false
 not-borne h o [] later none = refl
 not-borne h o (p ∷ ops) later none =
-    let n = neither (is_borne_in h (stamp_of p)) (list_any (λ op. is_borne_in h (stamp_of op)) ops) none in
+    let n = or_parts (is_borne_in h (stamp_of p)) (list_any (λ op. is_borne_in h (stamp_of op)) ops) none in
     ap (λ b. b || list_any (λ op. is_borne_in (with_op h o) (stamp_of op)) ops)
     (is_borne-with_op h o (stamp_of p) ∙ ap (λ b. b || is_borne_in h (stamp_of p)) (before-apart_left (stamp_of o) (stamp_of p) later.0) ∙ n.0)
     ∙ not-borne h o ops later.1 n.1
@@ -42,12 +38,8 @@ not-borne h o (p ∷ ops) later none =
 pub apart : (h : OpSet) (ops : List Op) → RiseByStamp ops → list_any (λ op. is_borne_in h (stamp_of op)) ops ≡ false → AreApart h ops
 apart h [] up none = tt
 apart h (o ∷ ops) up none =
-    let n = neither (is_borne_in h (stamp_of o)) (list_any (λ op. is_borne_in h (stamp_of op)) ops) none in
+    let n = or_parts (is_borne_in h (stamp_of o)) (list_any (λ op. is_borne_in h (stamp_of op)) ops) none in
     (n.0, apart (with_op h o) ops (rest-rise o ops up) (not-borne h o ops (later-all o ops up) n.1))
-
-pub not-back : (b : Bool) → not b ≡ true → b ≡ false
-not-back true e = absurd (true≢false (sym e))
-not-back false e = refl
 
 -- the pair before i, and those before it
 pub rise-more : (ops : List Op) (i : ℕ) (e : Op) → 1 ≤ i → i < length ops → ((k : ℕ) (d : Op) → k + 1 < i → k + 1 < length ops → before (stamp_of (get_or ops k d)) (stamp_of (get_or ops (k + 1) d)) ≡ true) → before (stamp_of (get_or ops (i - 1) e)) (stamp_of (get_or ops i e)) ≡ true → (k : ℕ) (d : Op) → k + 1 < i + 1 → k + 1 < length ops → before (stamp_of (get_or ops k d)) (stamp_of (get_or ops (k + 1) d)) ≡ true
@@ -84,7 +76,7 @@ entered-size h after o n m e le = let a : size after ≡ size (with_op h o) = ap
 first-last : (h : OpSet) (ops : List Op) (o : Op) → is_borne_in h (stamp_of o) ≡ false → AreApart (with_op h o) ops → AreApart h (ops ++ o ∷ [])
 first-last h [] o new all = (new, tt)
 first-last h (p ∷ ops) o new all =
-    let n = neither (same (stamp_of o) (stamp_of p)) (is_borne_in h (stamp_of p)) (sym (is_borne-with_op h o (stamp_of p)) ∙ all.0) in
+    let n = or_parts (same (stamp_of o) (stamp_of p)) (is_borne_in h (stamp_of p)) (sym (is_borne-with_op h o (stamp_of p)) ∙ all.0) in
     let last : is_borne_in (with_op h p) (stamp_of o) ≡ false = is_borne-with_op h p (stamp_of o) ∙ ap (λ b. b || is_borne_in h (stamp_of o)) (same-symm (stamp_of p) (stamp_of o) ∙ n.0) ∙ new in
     (n.1, first-last (with_op h p) ops o last (subst (λ (g : OpSet). AreApart g ops) (with_op-comm h o p) all.1))
 

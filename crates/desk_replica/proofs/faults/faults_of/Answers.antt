@@ -1,6 +1,6 @@
 use Rattle.std.proofs.Common.{ℕ, ◌<◌, ◌≤◌, ◌∙◌, sym, subst}
 use Rattle.desk_ops.specs.OpSet.{in_order}
-use Rattle.desk_held.proofs.Ranges.{length-in_order}
+use Rattle.desk_ops.proofs.OpSets.{length-in_order}
 use Rattle.desk_replica.proofs.Ends.{told-all}
 use Rattle.desk_replica.proofs.faults.faults_of.Goals as goal
 

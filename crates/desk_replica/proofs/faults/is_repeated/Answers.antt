@@ -3,7 +3,7 @@ use Rattle.desk_ops.specs.Op.{stamp_of}
 use Rattle.desk_ops.specs.OpSet.{in_order}
 use Rattle.desk_ops.specs.Stamp.{same}
 use Rattle.desk_ops.proofs.Stamps.{same-fields}
-use Rattle.desk_held.proofs.Ranges.{length-in_order}
+use Rattle.desk_ops.proofs.OpSets.{length-in_order}
 use Rattle.desk_replica.specs.Ways.{ends_with}
 use Rattle.desk_replica.proofs.Ends.{ends_at}
 use Rattle.desk_replica.proofs.faults.is_repeated.Goals as goal

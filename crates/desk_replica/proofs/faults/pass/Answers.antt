@@ -1,5 +1,5 @@
 use Rattle.std.proofs.Common.{ℕ, ◌<◌, ◌∙◌, sym, subst}
-use Rattle.desk_held.proofs.Ranges.{length-in_order}
+use Rattle.desk_ops.proofs.OpSets.{length-in_order}
 use Rattle.desk_replica.proofs.Ends.{pass_ways, pass_clear, pass_known, pass_forked}
 use Rattle.desk_replica.proofs.faults.pass.Goals as goal
 
