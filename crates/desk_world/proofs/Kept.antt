@@ -141,7 +141,27 @@ given old new to ops counts there e brings = at (fin.get old to) there
     at None t = absurd (let f : false ≡ true = t in cc)
     at (Some set) t = subst (λ b. MatchBool b (Given old to ops (taken counts) new) (Refuses old refusals.Strange (taken counts) new)) (sym e) (counts, refl, brings)
 
--- what changing one entry answers
+-- ---- a change of one entry
+
+-- what it answers
+abbrev pub ChangesAt : {A : Type 0} → (State → State → Type 0) → List (ℕ × State) → List (ℕ × State) → ℕ → Result A StepRefusal → Option State → Type 0
+ChangesAt Changes es fs n r o = MatchOption o ((r ≡ Err refusals.NoSite) × (fs ≡ es)) (λ s. (t : State) × IsUpdated es fs n s t × Changes s t)
+
+-- where the entry is there
+pub changed_at : {A : Type 0} (Changes : State → State → Type 0) (es fs : List (ℕ × State)) (n : ℕ) (r : Result A StepRefusal) (s t : State) → IsUpdated es fs n s t → Changes s t
+    → ChangesAt Changes es fs n r (lookup (nat_eq n) es)
+changed_at Changes es fs n r s t up changes = subst (ChangesAt Changes es fs n r) (sym up.there) (t, up, changes)
+
+kept_changed : {A : Type 0} (Changes : State → State → Type 0) (es fs : List (ℕ × State)) (n : ℕ) (r : Result A StepRefusal) → IsKept es
+    → ((s t : State) → AllLawful s.ops → Changes s t → AllLawful t.ops) → ChangesAt Changes es fs n r (lookup (nat_eq n) es) → IsKept fs
+kept_changed Changes es fs n r kept lawful h = at (lookup (nat_eq n) es) h
+  where
+    at : (o : Option State) → ChangesAt Changes es fs n r o → IsKept fs
+    at None g = subst IsKept (sym g.1) kept
+    at (Some s) g = kept_updated es fs n s g.0 kept g.1 (lawful s g.0 (lawful_there es n s kept g.1.there) g.2)
+
+-- ---- a gain of one entry
+
 abbrev pub GainsAt : List (ℕ × State) → List (ℕ × State) → ℕ → List Op → Result Count StepRefusal → Option State → Type 0
 GainsAt es fs to ops r o = MatchOption o ((r ≡ Err refusals.NoSite) × (fs ≡ es)) (λ s. (t : State) × IsUpdated es fs to s t × Gains s.ops ops r t.ops)
 
@@ -149,11 +169,7 @@ abbrev BringsTo : Sites → ℕ → List Op → Result Count StepRefusal → Sit
 BringsTo old n ops r new o = MatchOption o ((r ≡ Err refusals.NoSite) × (new ≡ old)) (λ set. (after : OpSet) × Gains set ops r after × (new ≡ fin.insert old n after))
 
 pub kept_brought : (es fs : List (ℕ × State)) (to : ℕ) (ops : List Op) (r : Result Count StepRefusal) → IsKept es → All IsLawful ops → GainsAt es fs to ops r (lookup (nat_eq to) es) → IsKept fs
-kept_brought es fs to ops r kept lawful h = at (lookup (nat_eq to) es) h
-  where
-    at : (o : Option State) → GainsAt es fs to ops r o → IsKept fs
-    at None g = subst IsKept (sym g.1) kept
-    at (Some s) g = kept_updated es fs to s g.0 kept g.1 (gains_lawful s.ops ops r g.0.ops (lawful_there es to s kept g.1.there) lawful g.2)
+kept_brought es fs to ops r kept lawful h = kept_changed (λ s t. Gains s.ops ops r t.ops) es fs to r kept (λ s t own gains. gains_lawful s.ops ops r t.ops own lawful gains) h
 
 pub brought : (es fs : List (ℕ × State)) (to : ℕ) (ops : List Op) (r : Result Count StepRefusal) (old : Sites) → sites_of es ≡ old
     → GainsAt es fs to ops r (lookup (nat_eq to) es) → Brings old to ops r (sites_of fs)
@@ -178,11 +194,7 @@ abbrev pub EditsAt : List (ℕ × State) → List (ℕ × State) → ℕ → Loc
 EditsAt es fs n edit r o = MatchOption o ((r ≡ Err refusals.NoSite) × (fs ≡ es)) (λ s. (t : State) × IsUpdated es fs n s t × Edits s edit r t)
 
 pub kept_edited : (es fs : List (ℕ × State)) (n : ℕ) (edit : LocalEdit) (r : Result Answer StepRefusal) → IsKept es → EditsAt es fs n edit r (lookup (nat_eq n) es) → IsKept fs
-kept_edited es fs n edit r kept h = at (lookup (nat_eq n) es) h
-  where
-    at : (o : Option State) → EditsAt es fs n edit r o → IsKept fs
-    at None g = subst IsKept (sym g.1) kept
-    at (Some s) g = kept_updated es fs n s g.0 kept g.1 (edits_lawful s g.0 edit r (lawful_there es n s kept g.1.there) g.2)
+kept_edited es fs n edit r kept h = kept_changed (λ s t. Edits s edit r t) es fs n r kept (λ s t own edits. edits_lawful s t edit r own edits) h
 
 -- an edit says nothing of room
 told : (s t : State) (edit : LocalEdit) (op : Op) → IsEdited s t edit op → IsEdited (site_with s.site s.ops) (site_with t.site t.ops) edit op
@@ -220,11 +232,7 @@ abbrev pub ReopensAt : List (ℕ × State) → List (ℕ × State) → ℕ → R
 ReopensAt es fs n r o = MatchOption o ((r ≡ Err refusals.NoSite) × (fs ≡ es)) (λ s. (t : State) × IsUpdated es fs n s t × (t.ops ≡ s.ops) × IsReopened s.ops r)
 
 pub kept_reopened : (es fs : List (ℕ × State)) (n : ℕ) (r : Result Answer StepRefusal) → IsKept es → ReopensAt es fs n r (lookup (nat_eq n) es) → IsKept fs
-kept_reopened es fs n r kept h = at (lookup (nat_eq n) es) h
-  where
-    at : (o : Option State) → ReopensAt es fs n r o → IsKept fs
-    at None g = subst IsKept (sym g.1) kept
-    at (Some s) g = kept_updated es fs n s g.0 kept g.1 (subst AllLawful (sym g.2) (lawful_there es n s kept g.1.there))
+kept_reopened es fs n r kept h = kept_changed (λ s t. (t.ops ≡ s.ops) × IsReopened s.ops r) es fs n r kept (λ s t own same. subst AllLawful (sym same.0) own) h
 
 -- an entry with the same operations says the same
 same_sites : (es fs : List (ℕ × State)) (n : ℕ) (s t : State) → IsUpdated es fs n s t → t.ops ≡ s.ops → sites_of fs ≡ sites_of es

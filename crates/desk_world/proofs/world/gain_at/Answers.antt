@@ -1,15 +1,14 @@
-use Rattle.std.proofs.Common.{◌≡◌, sym, nat_eq, rules, subst}
-use Rattle.std.specs.Prelude.{Some, IsSome}
+use Rattle.std.proofs.Common.{sym, nat_eq, rules}
+use Rattle.std.specs.Prelude.{IsSome}
 use Rattle.std.specs.Map.{lookup}
-use Rattle.desk_world.proofs.Kept.{GainsAt}
+use Rattle.desk_world.specs.World.{Gains}
+use Rattle.desk_world.proofs.Kept.{changed_at}
 use Rattle.desk_world.proofs.world.gain_at.Goals as goal
 
 pub returns : goal.returns
 returns g c =
-    let s = c.in-Some.replica.now in
     let t = c.gain.new.replica in
-    let there : lookup (nat_eq c.args.to) c.args.sites.now.entries ≡ Some s = sym c.in-Some.ensures.value in
     let writes = c.get_mut.follows.holds t in
     let some : IsSome (lookup (nat_eq c.args.to) c.args.sites.now.entries) = search rules in
-    subst (GainsAt c.args.sites.now.entries _ c.args.to c.args.ops.now c.gain.result) (sym there)
-    (t, record { there = there; entries = (writes.3 some).0; distinct = writes.4; as_many = writes.2; named = c.gain.ensures.site }, c.gain.ensures.ops)
+    changed_at (λ s t. Gains s.ops c.args.ops.now c.gain.result t.ops) c.args.sites.now.entries _ c.args.to c.gain.result c.in-Some.replica.now t
+    (record { there = sym c.in-Some.ensures.value; entries = (writes.3 some).0; distinct = writes.4; as_many = writes.2; named = c.gain.ensures.site }) c.gain.ensures.ops
