@@ -78,27 +78,34 @@ fn shown<A: Allocator>(alloc: Global, lines: &[CastLine<A>]) -> Result<String, F
     Ok(text)
 }
 
-/// What the caster makes of rows, in a heap: lines as text, or its fault.
+/// What the caster makes of rows: lines as text, or its fault.
+#[derive(Drop)]
+enum Answer {
+    Lines(String),
+    Fault(CastFault),
+}
+
+/// What the caster makes of rows, in a heap.
 fn cast_in<A: Allocator + Copy>(
     alloc: Global,
     heap: A,
     rows: &[RibbonRow],
-) -> Result<Result<String, CastFault>, Fail> {
+) -> Result<Answer, Fail> {
     if rows.len() > 100 {
         return Err(Fail::new("more rows than a test has"));
     }
     let wedge = wedge_of(alloc, WEDGE)?;
     let case = case_with(alloc, FILLS)?;
     match cast(heap, rows, &case, &wedge) {
-        Ok(lines) => Ok(Ok(shown(alloc, &lines)?)),
-        Err(fault) => Ok(Err(fault)),
+        Ok(lines) => Ok(Answer::Lines(shown(alloc, &lines)?)),
+        Err(fault) => Ok(Answer::Fault(fault)),
     }
 }
 
-fn is_as(told: &Result<String, CastFault>, want: Result<&str, CastFault>) -> bool {
-    match (told, want) {
-        (Ok(text), Ok(want)) => text.as_str() == want,
-        (Err(fault), Err(want)) => *fault == want,
+fn is_as(answer: &Answer, want: Result<&str, CastFault>) -> bool {
+    match (answer, want) {
+        (Answer::Lines(text), Ok(want)) => text.as_str() == want,
+        (Answer::Fault(fault), Err(want)) => *fault == want,
         _ => false,
     }
 }
@@ -174,8 +181,8 @@ const EMPTY_PARAGRAPH: &str = "8/7 2159952 (107952)__________;";
 #[test]
 fn empty_paragraph_ribbon(rt: HostRuntime) -> Result<(), Fail> {
     let rows = empty_paragraph(rt.alloc())?;
-    let told = cast_in(rt.alloc(), rt.alloc(), &rows)?;
-    assert!(rt; is_as(&told, Ok(EMPTY_PARAGRAPH)));
+    let answer = cast_in(rt.alloc(), rt.alloc(), &rows)?;
+    assert!(rt; is_as(&answer, Ok(EMPTY_PARAGRAPH)));
     Ok(())
 }
 
@@ -292,8 +299,8 @@ fn ribbons_are_read(rt: HostRuntime) -> Result<(), Fail> {
 #[test]
 fn damaged_ribbon(rt: HostRuntime) -> Result<(), Fail> {
     let rows = read_ribbon(rt.alloc(), &FEWER)?;
-    let told = cast_in(rt.alloc(), rt.alloc(), &rows)?;
-    assert!(rt; is_as(&told, Err(CastFault::NoWedges(12))));
+    let answer = cast_in(rt.alloc(), rt.alloc(), &rows)?;
+    assert!(rt; is_as(&answer, Err(CastFault::NoWedges(12))));
     Ok(())
 }
 

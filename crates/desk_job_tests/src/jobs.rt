@@ -85,24 +85,6 @@ pub fn replica_of<A: Allocator + Copy>(
     Ok(replica)
 }
 
-/// The answer to a job with this case and this wedge.
-pub fn answer_by(
-    alloc: Global,
-    job: Job<'_>,
-    case: &MatrixCase,
-    wedge: &Wedge,
-) -> Result<Result<Vec<u8>, JobRefusal<Global>>, Refusal> {
-    let replica = replica_of(alloc, job)?;
-    Ok(make(alloc, &replica, case, wedge))
-}
-
-/// The answer to a job.
-pub fn answer(alloc: Global, job: Job<'_>) -> Result<Result<Vec<u8>, JobRefusal<Global>>, Fail> {
-    let wedge = wedge_of(alloc, WEDGE)?;
-    let case = case_with(alloc, job.fill)?;
-    Ok(answer_by(alloc, job, &case, &wedge)?)
-}
-
 /// Whether an answer is these faults, and no ribbon.
 pub fn are_faults<A: Allocator>(
     answer: &Result<Vec<u8, A>, JobRefusal<A>>,
@@ -116,7 +98,10 @@ pub fn are_faults<A: Allocator>(
 
 /// The ribbon of a job.
 pub fn ribbon(alloc: Global, job: Job<'_>) -> Result<Vec<u8>, Fail> {
-    match answer(alloc, job)? {
+    let wedge = wedge_of(alloc, WEDGE)?;
+    let case = case_with(alloc, job.fill)?;
+    let replica = replica_of(alloc, job)?;
+    match make(alloc, &replica, &case, &wedge) {
         Ok(bytes) => Ok(bytes),
         Err(_) => Err(Fail::new("no ribbon where one is")),
     }
@@ -249,14 +234,18 @@ fn widest_lines(rt: HostRuntime) -> Result<(), Fail> {
 }
 
 /// Whether a job with this text, these fills and what else is set has these faults.
-fn has_faults(
+pub fn has_faults(
     alloc: Global,
     text: &str,
     fill: &str,
     more: &[(Key, u32)],
     want: &[JobFault],
 ) -> Result<bool, Fail> {
-    Ok(are_faults(&answer(alloc, Job { text, fill, more })?, want))
+    let wedge = wedge_of(alloc, WEDGE)?;
+    let case = case_with(alloc, fill)?;
+    let replica = replica_of(alloc, Job { text, fill, more })?;
+    let made = make(alloc, &replica, &case, &wedge);
+    Ok(are_faults(&made, want))
 }
 
 /// Texts, fills and what else is set, and the faults.
@@ -311,8 +300,8 @@ fn cannot_fill(rt: HostRuntime) -> Result<(), Fail> {
 
 /// Whether an empty copy with no setting at all lacks its measure.
 fn lacks_measure(alloc: Global, case: &MatrixCase, wedge: &Wedge) -> bool {
-    let told = make(alloc, &Replica::<Flat<_>>::new(alloc, 1), case, wedge);
-    are_faults(&told, &[JobFault::MissingSetting(Key::Measure)])
+    let made = make(alloc, &Replica::<Flat<_>>::new(alloc, 1), case, wedge);
+    are_faults(&made, &[JobFault::MissingSetting(Key::Measure)])
 }
 
 /// A space of no width at tight, and no setting at all.
@@ -320,8 +309,9 @@ fn lacks_measure(alloc: Global, case: &MatrixCase, wedge: &Wedge) -> bool {
 fn space_vanishes(rt: HostRuntime) -> Result<(), Fail> {
     let wedge = wedge_of(rt.alloc(), SMALL_WEDGE)?;
     let case = case_with(rt.alloc(), FILLS)?;
-    let told = answer_by(rt.alloc(), most("", &[(Key::Tight, 16)]), &case, &wedge)?;
-    assert!(rt; are_faults(&told, &[JobFault::SpaceVanishes]));
+    let replica = replica_of(rt.alloc(), most("", &[(Key::Tight, 16)]))?;
+    let made = make(rt.alloc(), &replica, &case, &wedge);
+    assert!(rt; are_faults(&made, &[JobFault::SpaceVanishes]));
     assert!(rt; lacks_measure(rt.alloc(), &case, &wedge));
     Ok(())
 }

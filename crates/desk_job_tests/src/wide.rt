@@ -1,9 +1,9 @@
 //! A job and its cast with a case of 17 columns.
 
 use crate::cases::{FILLS, WEDGE, case_with, wedge_of, wide_case};
-use crate::jobs::{Job, answer, answer_by, are_bytes_cast_as, are_faults};
+use crate::jobs::{Job, are_bytes_cast_as, has_faults, replica_of};
 use desk_caster::{CastFault, cast, read_ribbon};
-use desk_job::JobFault;
+use desk_job::{JobFault, make};
 use desk_signals::RibbonRow;
 use std::alloc::Global;
 use std::test::Fail;
@@ -26,8 +26,9 @@ const RIBBON: [u8; 64] = [
 fn ribbon_of_a_wide_case(rt: HostRuntime) -> Result<(), Fail> {
     let wedge = wedge_of(rt.alloc(), WEDGE)?;
     let case = wide_case(rt.alloc())?;
-    let told = answer_by(rt.alloc(), ONE_WORD, &case, &wedge)?;
-    assert!(rt; matches!(&told, Ok(bytes) if bytes.as_slice() == RIBBON.as_slice()));
+    let replica = replica_of(rt.alloc(), ONE_WORD)?;
+    let made = make(rt.alloc(), &replica, &case, &wedge);
+    assert!(rt; matches!(&made, Ok(bytes) if bytes.as_slice() == RIBBON.as_slice()));
     let lines = [(11, 2_159_640)];
     assert!(rt; are_bytes_cast_as(rt.alloc(), &RIBBON, &case, &wedge, &lines));
     Ok(())
@@ -45,8 +46,8 @@ fn fault_of(alloc: Global, rows: &[RibbonRow]) -> Result<Option<CastFault>, Fail
 
 #[test]
 fn wide_rows_in_a_narrow_case(rt: HostRuntime) -> Result<(), Fail> {
-    let told = answer(rt.alloc(), ONE_WORD)?;
-    assert!(rt; are_faults(&told, &[JobFault::NoMatrix(0)]));
+    let Job { text, fill, more } = ONE_WORD;
+    assert!(rt; has_faults(rt.alloc(), text, fill, more, &[JobFault::NoMatrix(0)])?);
     let rows = read_ribbon(rt.alloc(), &RIBBON)?;
     assert!(rt; fault_of(rt.alloc(), &rows)? == Some(CastFault::NoMatrix(1)));
     Ok(())
