@@ -20,7 +20,7 @@ use Rattle.desk_codec.proofs.Numbers.{IsBytes}
 use Rattle.desk_codec.proofs.FieldLaws.{bytes_of-fields}
 use Rattle.desk_codec.proofs.ItemLaws.{symbols_bytes, item_length}
 use Rattle.desk_codec.proofs.HereLaws.{FieldsHere, stamp_here, insert_here, delete_here, set_here, judged, run_judged, marks_here, rest_bytes, begins, run_stands, run_there, run_unlawful}
-use Rattle.desk_codec.proofs.FaultLaws.{not_both, one_fault, fronts_not_both, wrong_once}
+use Rattle.desk_codec.proofs.FaultLaws.{not_both, one_fault, prefixes_not_both, wrong_once}
 use Rattle.desk_codec.proofs.PieceLaws.{short_magic}
 
 -- ---- an item at the start, or something wrong
@@ -29,18 +29,18 @@ record ItemHere (form : FeedForm) (bytes : List ℕ) : Type 0 where
   item : Item
   stands : Stands form item
   rest : List ℕ
-  front : bytes ≡ item_spelling item ++ rest
+  prefix : bytes ≡ item_spelling item ++ rest
 
-abbrev IsFront : FeedForm → List ℕ → Type 0
-IsFront form bytes = ItemHere form bytes ⊎ ((w : FeedWhy) × IsWrong form bytes w)
+abbrev IsPrefix : FeedForm → List ℕ → Type 0
+IsPrefix form bytes = ItemHere form bytes ⊎ ((w : FeedWhy) × IsWrong form bytes w)
 
-from_fields : (form : FeedForm) (bytes : List ℕ) → FieldsHere bytes → IsFront form bytes
+from_fields : (form : FeedForm) (bytes : List ℕ) → FieldsHere bytes → IsPrefix form bytes
 from_fields form bytes f =
     elim (judged f.fields f.values) [
       | inl h ↦
           let same : bytes_of f.fields ≡ spelling h.op = ap bytes_of (sym h.is) ∙ bytes_of-fields h.op in
-          inl (record { item = One h.op; stands = h.held; rest = f.rest; front = f.front ∙ ap (λ (l : List ℕ). l ++ f.rest) same })
-      | inr h ↦ inr (why.Unlawful h.0, record { fields = OneOf f.fields; values = f.values; stands = tt; rest = f.rest; front = f.front; is = h.1 })
+          inl (record { item = One h.op; stands = h.held; rest = f.rest; prefix = f.prefix ∙ ap (λ (l : List ℕ). l ++ f.rest) same })
+      | inr h ↦ inr (why.Unlawful h.0, record { fields = OneOf f.fields; values = f.values; stands = tt; rest = f.rest; prefix = f.prefix; is = h.1 })
     ]
 
 no_size : (k : ℕ) → (k ≡ 1 → ⊥) → (k ≡ 2 → ⊥) → (k ≡ 3 → ⊥) → size_of_kind k ≡ None
@@ -64,90 +64,90 @@ kind_cases k =
           ]
     ]
 
-front_of : (form : FeedForm) (k size : ℕ) (bytes : List ℕ) → size_of_kind k ≡ Some size → (size ≤ length (k ∷ bytes) → FieldsHere (k ∷ bytes)) → IsFront form (k ∷ bytes)
-front_of form k size bytes e make =
+prefix_of : (form : FeedForm) (k size : ℕ) (bytes : List ℕ) → size_of_kind k ≡ Some size → (size ≤ length (k ∷ bytes) → FieldsHere (k ∷ bytes)) → IsPrefix form (k ∷ bytes)
+prefix_of form k size bytes e make =
     elim (cases_lt (length (k ∷ bytes)) size) [
-      | inl short ↦ inr (why.Cut, inl (record { kind = k; rest = bytes; front = refl; size = size; some = e; short = short }))
+      | inl short ↦ inr (why.Cut, inl (record { kind = k; rest = bytes; prefix = refl; size = size; some = e; short = short }))
       | inr long ↦ from_fields form (k ∷ bytes) (make long)
     ]
 
 -- ---- a run at the start, or something wrong
 
-record FrontHere (bytes : List ℕ) : Type 0 where
+record PrefixHere (bytes : List ℕ) : Type 0 where
   stamp : Stamp
   stamp_value : IsStampValue stamp
   parent : Stamp
   parent_value : IsStampValue parent
   count : ℕ
   rest : List ℕ
-  front : bytes ≡ 4 ∷ stamp_spelling stamp ++ stamp_spelling parent ++ count ∷ rest
+  prefix : bytes ≡ 4 ∷ stamp_spelling stamp ++ stamp_spelling parent ++ count ∷ rest
   fits : IsBytes rest
 
-count_here : (bytes : List ℕ) (stamp parent : Stamp) (l : List ℕ) → IsStampValue stamp → IsStampValue parent → IsBytes l → 1 ≤ length l → bytes ≡ stamp_spelling stamp ++ (stamp_spelling parent ++ l) → FrontHere (4 ∷ bytes)
+count_here : (bytes : List ℕ) (stamp parent : Stamp) (l : List ℕ) → IsStampValue stamp → IsStampValue parent → IsBytes l → 1 ≤ length l → bytes ≡ stamp_spelling stamp ++ (stamp_spelling parent ++ l) → PrefixHere (4 ∷ bytes)
 count_here bytes stamp parent [] s p fits some e = absurd (omega arith)
 count_here bytes stamp parent (c ∷ rest) s p fits some e =
-    record { stamp = stamp; stamp_value = s; parent = parent; parent_value = p; count = c; rest = rest; front = ap (λ (l : List ℕ). 4 ∷ l) e; fits = λ i. fits (suc i) }
+    record { stamp = stamp; stamp_value = s; parent = parent; parent_value = p; count = c; rest = rest; prefix = ap (λ (l : List ℕ). 4 ∷ l) e; fits = λ i. fits (suc i) }
 
-front_here : (bytes : List ℕ) → IsBytes bytes → 21 ≤ length bytes → FrontHere (4 ∷ bytes)
-front_here bytes fits long =
+prefix_here : (bytes : List ℕ) → IsBytes bytes → 21 ≤ length bytes → PrefixHere (4 ∷ bytes)
+prefix_here bytes fits long =
     let s = stamp_here bytes fits (omega (arith, long)) in
     let ten = s.len in
     let p = stamp_here s.rest s.fits (omega (arith, long, ten)) in
     let twenty = p.len in
-    count_here bytes s.stamp p.stamp p.rest s.value p.value p.fits (omega (arith, long, ten, twenty)) (s.front ∙ ap (λ (l : List ℕ). stamp_spelling s.stamp ++ l) p.front)
+    count_here bytes s.stamp p.stamp p.rest s.value p.value p.fits (omega (arith, long, ten, twenty)) (s.prefix ∙ ap (λ (l : List ℕ). stamp_spelling s.stamp ++ l) p.prefix)
 
-run_here : (form : FeedForm) (bytes : List ℕ) → HasRuns form → (h : FrontHere bytes) → IsRunLength h.count → 5 * h.count ≤ length h.rest → IsFront form bytes
+run_here : (form : FeedForm) (bytes : List ℕ) → HasRuns form → (h : PrefixHere bytes) → IsRunLength h.count → 5 * h.count ≤ length h.rest → IsPrefix form bytes
 run_here form bytes runs h within long =
     let m = marks_here h.count h.rest h.fits long in
     elim (run_judged m.marks h.stamp h.parent h.stamp_value h.parent_value m.values) [
       | inl r ↦
           let many : length r.symbols ≡ h.count = sym (length-map r.symbols mark_of) ∙ ap (λ (l : List Mark). length l) r.are ∙ m.many in
-          let body : h.rest ≡ flat_map symbol_spelling r.symbols ++ m.rest = m.front ∙ ap (λ (l : List ℕ). l ++ m.rest) (ap (λ (l : List Mark). flat_map mark_bytes l) (sym r.are) ∙ symbols_bytes r.symbols) in
+          let body : h.rest ≡ flat_map symbol_spelling r.symbols ++ m.rest = m.prefix ∙ ap (λ (l : List ℕ). l ++ m.rest) (ap (λ (l : List Mark). flat_map mark_bytes l) (sym r.are) ∙ symbols_bytes r.symbols) in
           inl (record {
             item = Run h.stamp h.parent r.symbols;
             stands = run_stands form h.stamp h.parent h.count r.symbols runs within many r.each;
             rest = m.rest;
-            front = run_there bytes h.stamp h.parent h.count h.rest m.rest r.symbols h.front many body;
+            prefix = run_there bytes h.stamp h.parent h.count h.rest m.rest r.symbols h.prefix many body;
           })
-      | inr u ↦ inr (why.Unlawful u.0, run_unlawful form bytes h.stamp h.parent h.count h.rest m.rest m.marks u.0 runs h.stamp_value h.parent_value h.front within m.many m.values m.front u.1)
+      | inr u ↦ inr (why.Unlawful u.0, run_unlawful form bytes h.stamp h.parent h.count h.rest m.rest m.marks u.0 runs h.stamp_value h.parent_value h.prefix within m.many m.values m.prefix u.1)
     ]
 
-run_front : (form : FeedForm) (bytes : List ℕ) → HasRuns form → FrontHere bytes → IsFront form bytes
-run_front form bytes runs h =
-    let front = begins bytes h.stamp h.parent h.count h.rest h.front in
+run_prefix : (form : FeedForm) (bytes : List ℕ) → HasRuns form → PrefixHere bytes → IsPrefix form bytes
+run_prefix form bytes runs h =
+    let prefix = begins bytes h.stamp h.parent h.count h.rest h.prefix in
     elim (cases_lt h.count 2) [
-      | inl few ↦ inr (why.Run, record { runs = runs; count = h.count; rest = h.rest; front = front; out = λ within. let least = within.0 in omega (arith, few, least) })
+      | inl few ↦ inr (why.Run, record { runs = runs; count = h.count; rest = h.rest; prefix = prefix; out = λ within. let least = within.0 in omega (arith, few, least) })
       | inr least ↦
           elim (cases_lt 64 h.count) [
-            | inl many ↦ inr (why.Run, record { runs = runs; count = h.count; rest = h.rest; front = front; out = λ within. let most = within.1 in omega (arith, many, most) })
+            | inl many ↦ inr (why.Run, record { runs = runs; count = h.count; rest = h.rest; prefix = prefix; out = λ within. let most = within.1 in omega (arith, many, most) })
             | inr most ↦
                 elim (cases_lt (length h.rest) (5 * h.count)) [
-                  | inl short ↦ inr (why.Cut, inr (inr (record { runs = runs; count = h.count; rest = h.rest; front = front; within = (least, most); short = short })))
+                  | inl short ↦ inr (why.Cut, inr (inr (record { runs = runs; count = h.count; rest = h.rest; prefix = prefix; within = (least, most); short = short })))
                   | inr long ↦ run_here form bytes runs h (least, most) long
                 ]
           ]
     ]
 
-four_front : (form : FeedForm) (bytes : List ℕ) → IsBytes bytes → IsFront form (4 ∷ bytes)
-four_front Singles bytes fits = inr (why.Kind, record { kind = 4; rest = bytes; front = refl; none = refl; no_run = λ runs e. runs })
-four_front Runs bytes fits =
+four_prefix : (form : FeedForm) (bytes : List ℕ) → IsBytes bytes → IsPrefix form (4 ∷ bytes)
+four_prefix Singles bytes fits = inr (why.Kind, record { kind = 4; rest = bytes; prefix = refl; none = refl; no_run = λ runs e. runs })
+four_prefix Runs bytes fits =
     elim (cases_lt (length (4 ∷ bytes)) 22) [
-      | inl short ↦ inr (why.Cut, inr (inl (record { runs = tt; rest = bytes; front = refl; short = short })))
-      | inr long ↦ run_front Runs (4 ∷ bytes) tt (front_here bytes fits (omega (arith, long)))
+      | inl short ↦ inr (why.Cut, inr (inl (record { runs = tt; rest = bytes; prefix = refl; short = short })))
+      | inr long ↦ run_prefix Runs (4 ∷ bytes) tt (prefix_here bytes fits (omega (arith, long)))
     ]
 
-front : (form : FeedForm) (bytes : List ℕ) → IsBytes bytes → 0 < length bytes → IsFront form bytes
-front form [] fits some = absurd (omega arith)
-front form (k ∷ bytes) fits some =
+prefix : (form : FeedForm) (bytes : List ℕ) → IsBytes bytes → 0 < length bytes → IsPrefix form bytes
+prefix form [] fits some = absurd (omega arith)
+prefix form (k ∷ bytes) fits some =
     let rest : IsBytes bytes = λ i. fits (suc i) in
     elim (kind_cases k) [
-      | inl (inl e) ↦ subst (λ (n : ℕ). IsFront form (n ∷ bytes)) (sym e) (front_of form 1 26 bytes refl (λ long. insert_here bytes rest (omega arith)))
-      | inl (inr e) ↦ subst (λ (n : ℕ). IsFront form (n ∷ bytes)) (sym e) (front_of form 2 21 bytes refl (λ long. delete_here bytes rest (omega arith)))
-      | inr (inl e) ↦ subst (λ (n : ℕ). IsFront form (n ∷ bytes)) (sym e) (front_of form 3 16 bytes refl (λ long. set_here bytes rest (omega arith)))
+      | inl (inl e) ↦ subst (λ (n : ℕ). IsPrefix form (n ∷ bytes)) (sym e) (prefix_of form 1 26 bytes refl (λ long. insert_here bytes rest (omega arith)))
+      | inl (inr e) ↦ subst (λ (n : ℕ). IsPrefix form (n ∷ bytes)) (sym e) (prefix_of form 2 21 bytes refl (λ long. delete_here bytes rest (omega arith)))
+      | inr (inl e) ↦ subst (λ (n : ℕ). IsPrefix form (n ∷ bytes)) (sym e) (prefix_of form 3 16 bytes refl (λ long. set_here bytes rest (omega arith)))
       | inr (inr e) ↦
           elim (cases_eq k 4) [
-            | inl four ↦ subst (λ (n : ℕ). IsFront form (n ∷ bytes)) (sym four) (four_front form bytes rest)
-            | inr other ↦ inr (why.Kind, record { kind = k; rest = bytes; front = refl; none = e; no_run = λ runs four. other four })
+            | inl four ↦ subst (λ (n : ℕ). IsPrefix form (n ∷ bytes)) (sym four) (four_prefix form bytes rest)
+            | inr other ↦ inr (why.Kind, record { kind = k; rest = bytes; prefix = refl; none = e; no_run = λ runs four. other four })
           ]
     ]
 
@@ -155,10 +155,10 @@ front form (k ∷ bytes) fits some =
 
 record Stops (form : FeedForm) (bytes : List ℕ) : Type 0 where
   before : List Item
-  front : List ℕ
-  spells : Spells form front before
+  prefix : List ℕ
+  spells : Spells form prefix before
   rest : List ℕ
-  split : bytes ≡ front ++ rest
+  split : bytes ≡ prefix ++ rest
   w : FeedWhy
   wrong : IsWrong form rest w
 
@@ -166,13 +166,13 @@ abbrev IsRead : FeedForm → List ℕ → Type 0
 IsRead form bytes = ((items : List Item) × Spells form bytes items) ⊎ Stops form bytes
 
 after_item : (form : FeedForm) (bytes : List ℕ) (h : ItemHere form bytes) → IsRead form h.rest → IsRead form bytes
-after_item form bytes h (inl r) = inl (h.item ∷ r.0, (h.stands, (h.rest, h.front, r.1)))
+after_item form bytes h (inl r) = inl (h.item ∷ r.0, (h.stands, (h.rest, h.prefix, r.1)))
 after_item form bytes h (inr r) = inr (record {
   before = h.item ∷ r.before;
-  front = item_spelling h.item ++ r.front;
-  spells = (h.stands, (r.front, refl, r.spells));
+  prefix = item_spelling h.item ++ r.prefix;
+  spells = (h.stands, (r.prefix, refl, r.spells));
   rest = r.rest;
-  split = h.front ∙ ap (λ (l : List ℕ). item_spelling h.item ++ l) r.split ∙ sym (append_assoc (item_spelling h.item) r.front r.rest);
+  split = h.prefix ∙ ap (λ (l : List ℕ). item_spelling h.item ++ l) r.split ∙ sym (append_assoc (item_spelling h.item) r.prefix r.rest);
   w = r.w;
   wrong = r.wrong;
 })
@@ -182,12 +182,12 @@ read_on form zero [] le fits = inl ([], refl)
 read_on form zero (k ∷ bytes) le fits = absurd (omega arith)
 read_on form (suc n) [] le fits = inl ([], refl)
 read_on form (suc n) (k ∷ bytes) le fits =
-    elim (front form (k ∷ bytes) fits (omega arith)) [
+    elim (prefix form (k ∷ bytes) fits (omega arith)) [
       | inl h ↦
-          let len : length (k ∷ bytes) ≡ length (item_spelling h.item) + length h.rest = ap (λ (l : List ℕ). length l) h.front ∙ length-append (item_spelling h.item) h.rest in
+          let len : length (k ∷ bytes) ≡ length (item_spelling h.item) + length h.rest = ap (λ (l : List ℕ). length l) h.prefix ∙ length-append (item_spelling h.item) h.rest in
           let some = item_length h.item in
-          after_item form (k ∷ bytes) h (read_on form n h.rest (omega arith) (rest_bytes (k ∷ bytes) (item_spelling h.item) h.rest fits h.front))
-      | inr h ↦ inr (record { before = []; front = []; spells = refl; rest = k ∷ bytes; split = refl; w = h.0; wrong = h.1 })
+          after_item form (k ∷ bytes) h (read_on form n h.rest (omega arith) (rest_bytes (k ∷ bytes) (item_spelling h.item) h.rest fits h.prefix))
+      | inr h ↦ inr (record { before = []; prefix = []; spells = refl; rest = k ∷ bytes; split = refl; w = h.0; wrong = h.1 })
     ]
 
 abbrev HasMagic : List ℕ → Type 0
@@ -241,9 +241,9 @@ all_bytes bytes all i =
     ]
 
 after_magic : (form : FeedForm) (bytes rest : List ℕ) → bytes ≡ magic_of form ++ rest → IsRead form rest → ((ops : List Op) × IsFeed bytes ops) ⊎ ((fault : FeedFault) × IsFirstFault bytes fault)
-after_magic form bytes rest e (inl r) = inl (ops_in r.0, record { form = form; items = r.0; rest = rest; front = e; spells = r.1; joined = refl })
+after_magic form bytes rest e (inl r) = inl (ops_in r.0, record { form = form; items = r.0; rest = rest; prefix = e; spells = r.1; joined = refl })
 after_magic form bytes rest e (inr r) =
-    inr (record { «at» = 4 + length r.front; why = r.w }, inr (form, rest, e, record { before = r.before; front = r.front; spells = r.spells; rest = r.rest; split = r.split; there = refl; wrong = r.wrong }))
+    inr (record { «at» = 4 + length r.prefix; why = r.w }, inr (form, rest, e, record { before = r.before; prefix = r.prefix; spells = r.spells; rest = r.rest; split = r.split; there = refl; wrong = r.wrong }))
 
 either : (bytes : List ℕ) → All (λ b. b < 256) bytes → ((ops : List Op) × IsFeed bytes ops) ⊎ ((fault : FeedFault) × IsFirstFault bytes fault)
 either bytes all =
@@ -255,13 +255,13 @@ either bytes all =
 pub feed_or_fault : FeedOrFault
 feed_or_fault = record { either = either; not_both = not_both; one_fault = one_fault }
 
-each_front : (form : FeedForm) (bytes : List ℕ) → IsFront form bytes → ((item : Item) × Stands form item × ((rest : List ℕ) × (bytes ≡ item_spelling item ++ rest))) ⊎ ((w : FeedWhy) × IsWrong form bytes w)
-each_front form bytes (inl h) = inl (h.item, h.stands, (h.rest, h.front))
-each_front form bytes (inr h) = inr h
+each_prefix : (form : FeedForm) (bytes : List ℕ) → IsPrefix form bytes → ((item : Item) × Stands form item × ((rest : List ℕ) × (bytes ≡ item_spelling item ++ rest))) ⊎ ((w : FeedWhy) × IsWrong form bytes w)
+each_prefix form bytes (inl h) = inl (h.item, h.stands, (h.rest, h.prefix))
+each_prefix form bytes (inr h) = inr h
 
 pub item_or_fault : ItemOrFault
 item_or_fault = record {
-  either = λ form bytes all some. each_front form bytes (front form bytes (all_bytes bytes all) some);
-  not_both = fronts_not_both;
+  either = λ form bytes all some. each_prefix form bytes (prefix form bytes (all_bytes bytes all) some);
+  not_both = prefixes_not_both;
   one = wrong_once;
 }

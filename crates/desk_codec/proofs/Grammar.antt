@@ -65,7 +65,7 @@ one_form Runs Singles a b e = let fourth : 50 ≡ 49 = ap (λ (l : List ℕ). ge
 
 pub one_list : OneList
 one_list bytes a b f g =
-    let same = one_form f.form g.form f.rest g.rest (sym f.front ∙ g.front) in
+    let same = one_form f.form g.form f.rest g.rest (sym f.prefix ∙ g.prefix) in
     let there : Spells f.form f.rest g.items = subst (λ (l : List ℕ). Spells f.form l g.items) (sym same.1) (subst (λ (form : FeedForm). Spells form g.rest g.items) (sym same.0) g.spells) in
     let items : f.items ≡ g.items = one_spelled f.form f.rest f.items g.items f.spells there in
     f.joined ∙ ap ops_in items ∙ sym g.joined
@@ -117,11 +117,11 @@ spelled_held form bytes (item ∷ items) f =
     subst (λ (l : List Op). AllByRecursion IsHeld l) (sym (flat_map-cons item_ops item items)) (held_append (item_ops item) (ops_in items) (item_held form item f.0) (spelled_held form f.1.0 items f.1.2))
 
 feed_of : (ops : List Op) → AllByRecursion IsHeld ops → IsFeed (feed ops) ops
-feed_of ops h = record { form = Singles; items = singles ops; rest = flat_map spelling ops; front = refl; spells = singles_spelled ops h; joined = singles_ops ops }
+feed_of ops h = record { form = Singles; items = singles ops; rest = flat_map spelling ops; prefix = refl; spells = singles_spelled ops h; joined = singles_ops ops }
 
 singles_form : (rest : List ℕ) (ops : List Op) → IsFeed (magic ++ rest) ops → magic ++ rest ≡ feed ops
 singles_form rest ops f =
-    let same = one_form Singles f.form rest f.rest f.front in
+    let same = one_form Singles f.form rest f.rest f.prefix in
     let there : Spells Singles rest f.items = subst (λ (l : List ℕ). Spells Singles l f.items) (sym same.1) (subst (λ (form : FeedForm). Spells form f.rest f.items) (sym same.0) f.spells) in
     ap (λ (l : List ℕ). magic ++ l) (singles_bytes rest f.items there) ∙ ap feed (sym f.joined)
 

@@ -70,27 +70,27 @@ apart-append (o ∷ os) ps f g n = (λ m. go (among-append os ps o m), apart-app
 
 -- a member, and what stands before and behind it
 record IsSplit (q : Op) (os : List Op) : Type 0 where
-  front : List Op
+  prefix : List Op
   rest : List Op
-  is : os ≡ front ++ q ∷ rest
+  is : os ≡ prefix ++ q ∷ rest
 
 split-among : (q : Op) (os : List Op) → Among q os → IsSplit q os
 split-among q [] m = absurd m
-split-among q (o ∷ os) (inl e) = record { front = []; rest = os; is = ap (λ (p : Op). p ∷ os) e }
-split-among q (o ∷ os) (inr m) = let s = split-among q os m in record { front = o ∷ s.front; rest = s.rest; is = ap (λ (l : List Op). o ∷ l) s.is }
+split-among q (o ∷ os) (inl e) = record { prefix = []; rest = os; is = ap (λ (p : Op). p ∷ os) e }
+split-among q (o ∷ os) (inr m) = let s = split-among q os m in record { prefix = o ∷ s.prefix; rest = s.rest; is = ap (λ (l : List Op). o ∷ l) s.is }
 
-apart-without : (front rest : List Op) (q : Op) → AreApart (front ++ q ∷ rest) → AreApart (front ++ rest) × (Among q (front ++ rest) → ⊥)
+apart-without : (prefix rest : List Op) (q : Op) → AreApart (prefix ++ q ∷ rest) → AreApart (prefix ++ rest) × (Among q (prefix ++ rest) → ⊥)
 apart-without [] rest q f = (f.1, f.0)
-apart-without (o ∷ front) rest q f =
-    let h = apart-without front rest q f.1 in
-    ((λ m. f.0 (go (among-append front rest o m)), h.0), not_first h.1)
+apart-without (o ∷ prefix) rest q f =
+    let h = apart-without prefix rest q f.1 in
+    ((λ m. f.0 (go (among-append prefix rest o m)), h.0), not_first h.1)
   where
-    go : Among o front ⊎ Among o rest → Among o (front ++ q ∷ rest)
-    go (inl m) = among-left front (q ∷ rest) o m
-    go (inr m) = among-right front (q ∷ rest) o (inr m)
+    go : Among o prefix ⊎ Among o rest → Among o (prefix ++ q ∷ rest)
+    go (inl m) = among-left prefix (q ∷ rest) o m
+    go (inr m) = among-right prefix (q ∷ rest) o (inr m)
 
-    not_first : (Among q (front ++ rest) → ⊥) → Among q (o ∷ front ++ rest) → ⊥
-    not_first n (inl e) = f.0 (subst (λ (p : Op). Among p (front ++ q ∷ rest)) (sym e) (among-right front (q ∷ rest) q (inl refl)))
+    not_first : (Among q (prefix ++ rest) → ⊥) → Among q (o ∷ prefix ++ rest) → ⊥
+    not_first n (inl e) = f.0 (subst (λ (p : Op). Among p (prefix ++ q ∷ rest)) (sym e) (among-right prefix (q ∷ rest) q (inl refl)))
     not_first n (inr m) = n m
 
 -- two lists without repetition that have the same members are one another in another order
@@ -101,27 +101,27 @@ same-members (o ∷ os) ps f g there back = go (λ qs. same-members os qs f.1) (
   where
     go : ((qs : List Op) → AreApart qs → ((q : Op) → Among q os → Among q qs) → ((q : Op) → Among q qs → Among q os) → IsPermutation os qs) → IsSplit o ps → IsPermutation (o ∷ os) ps
     go rest s =
-        let h = apart-without s.front s.rest o (subst AreApart s.is g) in
+        let h = apart-without s.prefix s.rest o (subst AreApart s.is g) in
         subst (IsPermutation (o ∷ os)) (sym s.is)
-        (IsPermutation-trans (o ∷ os) (o ∷ (s.front ++ s.rest)) (s.front ++ o ∷ s.rest)
-        (IsPermutation-cons o os (s.front ++ s.rest) (rest (s.front ++ s.rest) h.0 (λ q m. onward q m (among-append s.front (o ∷ s.rest) q (subst (Among q) s.is (there q (inr m))))) (λ q m. backward q m h.1)))
-        (IsPermutation-sym (s.front ++ o ∷ s.rest) (o ∷ (s.front ++ s.rest)) (IsPermutation-middle s.front o s.rest)))
+        (IsPermutation-trans (o ∷ os) (o ∷ (s.prefix ++ s.rest)) (s.prefix ++ o ∷ s.rest)
+        (IsPermutation-cons o os (s.prefix ++ s.rest) (rest (s.prefix ++ s.rest) h.0 (λ q m. onward q m (among-append s.prefix (o ∷ s.rest) q (subst (Among q) s.is (there q (inr m))))) (λ q m. backward q m h.1)))
+        (IsPermutation-sym (s.prefix ++ o ∷ s.rest) (o ∷ (s.prefix ++ s.rest)) (IsPermutation-middle s.prefix o s.rest)))
       where
-        onward : (q : Op) → Among q os → Among q s.front ⊎ Among q (o ∷ s.rest) → Among q (s.front ++ s.rest)
-        onward q m (inl l) = among-left s.front s.rest q l
+        onward : (q : Op) → Among q os → Among q s.prefix ⊎ Among q (o ∷ s.rest) → Among q (s.prefix ++ s.rest)
+        onward q m (inl l) = among-left s.prefix s.rest q l
         onward q m (inr (inl e)) = absurd (f.0 (subst (λ (p : Op). Among p os) (sym e) m))
-        onward q m (inr (inr r)) = among-right s.front s.rest q r
+        onward q m (inr (inr r)) = among-right s.prefix s.rest q r
 
-        members : (q : Op) → Among q s.front ⊎ Among q s.rest → Among q ps
-        members q (inl l) = subst (Among q) (sym s.is) (among-left s.front (o ∷ s.rest) q l)
-        members q (inr r) = subst (Among q) (sym s.is) (among-right s.front (o ∷ s.rest) q (inr r))
+        members : (q : Op) → Among q s.prefix ⊎ Among q s.rest → Among q ps
+        members q (inl l) = subst (Among q) (sym s.is) (among-left s.prefix (o ∷ s.rest) q l)
+        members q (inr r) = subst (Among q) (sym s.is) (among-right s.prefix (o ∷ s.rest) q (inr r))
 
         other : (q : Op) → (q ≡ o → ⊥) → Among q (o ∷ os) → Among q os
         other q n (inl e) = absurd (n (sym e))
         other q n (inr m) = m
 
-        backward : (q : Op) → Among q (s.front ++ s.rest) → (Among o (s.front ++ s.rest) → ⊥) → Among q os
-        backward q m n = other q (λ e. n (subst (λ (p : Op). Among p (s.front ++ s.rest)) e m)) (back q (members q (among-append s.front s.rest q m)))
+        backward : (q : Op) → Among q (s.prefix ++ s.rest) → (Among o (s.prefix ++ s.rest) → ⊥) → Among q os
+        backward q m n = other q (λ e. n (subst (λ (p : Op). Among p (s.prefix ++ s.rest)) e m)) (back q (members q (among-append s.prefix s.rest q m)))
 
 ordered-apart : (os : List Op) → IsOrdered os → AreApart os
 ordered-apart [] up = tt
@@ -434,7 +434,7 @@ runs_read ops held = record {
   form = Runs;
   items = items ops;
   rest = flat_map item_spelling (items ops);
-  front = refl;
+  prefix = refl;
   spells = spells Runs (items ops) (each-item (Stands Runs) ops (item-stands ops held) [] ops (λ x m. m));
   joined = refl;
 }

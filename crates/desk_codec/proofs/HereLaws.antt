@@ -43,7 +43,7 @@ pub record StampHere (bytes : List ℕ) : Type 0 where
   pub stamp : Stamp
   pub value : IsStampValue stamp
   pub rest : List ℕ
-  pub front : bytes ≡ stamp_spelling stamp ++ rest
+  pub prefix : bytes ≡ stamp_spelling stamp ++ rest
   pub fits : IsBytes rest
   pub len : length rest + 10 ≡ length bytes
 
@@ -59,7 +59,7 @@ stamp_here bytes fits long =
       stamp = stamp;
       value = (below_8 one (IsBytes-take 8 bytes fits), below_2 two (IsBytes-take 2 rest rest_fits));
       rest = end;
-      front = stamp_there bytes one rest two end stamp fits long refl refl refl refl refl refl;
+      prefix = stamp_there bytes one rest two end stamp fits long refl refl refl refl refl refl;
       fits = IsBytes-drop 2 rest rest_fits;
       len = omega (arith, length-drop 2 rest, length-drop 8 bytes);
     }
@@ -68,14 +68,14 @@ pub record NumberHere (bytes : List ℕ) : Type 0 where
   pub number : ℕ
   pub value : number < 2 ^ 32
   pub rest : List ℕ
-  pub front : bytes ≡ to_be_bytes w32 number ++ rest
+  pub prefix : bytes ≡ to_be_bytes w32 number ++ rest
 
 number_here : (bytes : List ℕ) → IsBytes bytes → 4 ≤ length bytes → NumberHere bytes
 number_here bytes fits long = record {
   number = from_be_bytes w32 (take 4 bytes);
   value = below_4 (take 4 bytes) (IsBytes-take 4 bytes fits);
   rest = drop 4 bytes;
-  front = number_there_4 bytes (take 4 bytes) (drop 4 bytes) (from_be_bytes w32 (take 4 bytes)) fits long refl refl refl;
+  prefix = number_there_4 bytes (take 4 bytes) (drop 4 bytes) (from_be_bytes w32 (take 4 bytes)) fits long refl refl refl;
 }
 
 pub record ByteAndNumberHere (bytes : List ℕ) : Type 0 where
@@ -84,43 +84,43 @@ pub record ByteAndNumberHere (bytes : List ℕ) : Type 0 where
   pub number : ℕ
   pub value : number < 2 ^ 32
   pub rest : List ℕ
-  pub front : bytes ≡ byte ∷ to_be_bytes w32 number ++ rest
+  pub prefix : bytes ≡ byte ∷ to_be_bytes w32 number ++ rest
 
 pub byte_and_number_here : (bytes : List ℕ) → IsBytes bytes → 5 ≤ length bytes → ByteAndNumberHere bytes
 byte_and_number_here [] fits long = absurd (omega arith)
 byte_and_number_here (b ∷ bytes) fits long =
     let n = number_here bytes (λ i. fits (suc i)) (omega arith) in
-    record { byte = b; byte_value = fits 0; number = n.number; value = n.value; rest = n.rest; front = ap (λ (l : List ℕ). b ∷ l) n.front }
+    record { byte = b; byte_value = fits 0; number = n.number; value = n.value; rest = n.rest; prefix = ap (λ (l : List ℕ). b ∷ l) n.prefix }
 
 pub record FieldsHere (bytes : List ℕ) : Type 0 where
   pub fields : Fields
   pub values : AreValues fields
   pub rest : List ℕ
-  pub front : bytes ≡ bytes_of fields ++ rest
+  pub prefix : bytes ≡ bytes_of fields ++ rest
 
 pub insert_here : (bytes : List ℕ) → IsBytes bytes → 25 ≤ length bytes → FieldsHere (1 ∷ bytes)
 insert_here bytes fits long =
     let s = stamp_here bytes fits (omega arith) in
     let p = stamp_here s.rest s.fits (omega (arith, s.len)) in
     let n = byte_and_number_here p.rest p.fits (omega (arith, s.len, p.len)) in
-    let front : bytes ≡ stamp_spelling s.stamp ++ (stamp_spelling p.stamp ++ (n.byte ∷ to_be_bytes w32 n.number ++ n.rest)) =
-    s.front ∙ ap (λ (l : List ℕ). stamp_spelling s.stamp ++ l) (p.front ∙ ap (λ (l : List ℕ). stamp_spelling p.stamp ++ l) n.front)
+    let prefix : bytes ≡ stamp_spelling s.stamp ++ (stamp_spelling p.stamp ++ (n.byte ∷ to_be_bytes w32 n.number ++ n.rest)) =
+    s.prefix ∙ ap (λ (l : List ℕ). stamp_spelling s.stamp ++ l) (p.prefix ∙ ap (λ (l : List ℕ). stamp_spelling p.stamp ++ l) n.prefix)
     in
-    record { fields = Insert s.stamp p.stamp n.byte n.number; values = (s.value, p.value, n.byte_value, n.value); rest = n.rest; front = ap (λ (l : List ℕ). 1 ∷ l) front }
+    record { fields = Insert s.stamp p.stamp n.byte n.number; values = (s.value, p.value, n.byte_value, n.value); rest = n.rest; prefix = ap (λ (l : List ℕ). 1 ∷ l) prefix }
 
 pub delete_here : (bytes : List ℕ) → IsBytes bytes → 20 ≤ length bytes → FieldsHere (2 ∷ bytes)
 delete_here bytes fits long =
     let s = stamp_here bytes fits (omega arith) in
     let p = stamp_here s.rest s.fits (omega (arith, s.len)) in
-    let front : bytes ≡ stamp_spelling s.stamp ++ (stamp_spelling p.stamp ++ p.rest) = s.front ∙ ap (λ (l : List ℕ). stamp_spelling s.stamp ++ l) p.front in
-    record { fields = Delete s.stamp p.stamp; values = (s.value, p.value); rest = p.rest; front = ap (λ (l : List ℕ). 2 ∷ l) front }
+    let prefix : bytes ≡ stamp_spelling s.stamp ++ (stamp_spelling p.stamp ++ p.rest) = s.prefix ∙ ap (λ (l : List ℕ). stamp_spelling s.stamp ++ l) p.prefix in
+    record { fields = Delete s.stamp p.stamp; values = (s.value, p.value); rest = p.rest; prefix = ap (λ (l : List ℕ). 2 ∷ l) prefix }
 
 pub set_here : (bytes : List ℕ) → IsBytes bytes → 15 ≤ length bytes → FieldsHere (3 ∷ bytes)
 set_here bytes fits long =
     let s = stamp_here bytes fits (omega arith) in
     let n = byte_and_number_here s.rest s.fits (omega (arith, s.len)) in
-    let front : bytes ≡ stamp_spelling s.stamp ++ (n.byte ∷ to_be_bytes w32 n.number ++ n.rest) = s.front ∙ ap (λ (l : List ℕ). stamp_spelling s.stamp ++ l) n.front in
-    record { fields = Set s.stamp n.byte n.number; values = (s.value, n.byte_value, n.value); rest = n.rest; front = ap (λ (l : List ℕ). 3 ∷ l) front }
+    let prefix : bytes ≡ stamp_spelling s.stamp ++ (n.byte ∷ to_be_bytes w32 n.number ++ n.rest) = s.prefix ∙ ap (λ (l : List ℕ). stamp_spelling s.stamp ++ l) n.prefix in
+    record { fields = Set s.stamp n.byte n.number; values = (s.value, n.byte_value, n.value); rest = n.rest; prefix = ap (λ (l : List ℕ). 3 ∷ l) prefix }
 
 -- ---- fields are a lawful operation's or have a cause
 
@@ -248,36 +248,36 @@ run_judged (mark ∷ marks) stamp parent s p h =
 
 -- ---- the symbols of a run stand at the start of bytes enough
 
-pub rest_bytes : (bytes front rest : List ℕ) → IsBytes bytes → bytes ≡ front ++ rest → IsBytes rest
-rest_bytes bytes front rest fits e i = let h = fits (length front + i) in rw (ap (λ (l : List ℕ). get_or l (length front + i) 0) e ∙ get_or-append-add front rest i 0) at h
+pub rest_bytes : (bytes prefix rest : List ℕ) → IsBytes bytes → bytes ≡ prefix ++ rest → IsBytes rest
+rest_bytes bytes prefix rest fits e i = let h = fits (length prefix + i) in rw (ap (λ (l : List ℕ). get_or l (length prefix + i) 0) e ∙ get_or-append-add prefix rest i 0) at h
 
 pub record MarksHere (count : ℕ) (bytes : List ℕ) : Type 0 where
   pub marks : List Mark
   pub many : length marks ≡ count
   pub values : AllByRecursion IsMarkValue marks
   pub rest : List ℕ
-  pub front : bytes ≡ flat_map mark_bytes marks ++ rest
+  pub prefix : bytes ≡ flat_map mark_bytes marks ++ rest
 
 mark_before : (count : ℕ) (bytes rest : List ℕ) (style ch : ℕ) → style < 2 ^ 8 → ch < 2 ^ 32 → bytes ≡ style ∷ to_be_bytes w32 ch ++ rest → MarksHere count rest → MarksHere (suc count) bytes
 mark_before count bytes rest style ch f g e m =
     let mark : Mark = record { style = style; ch = ch } in
-    let all : bytes ≡ flat_map mark_bytes (mark ∷ m.marks) ++ m.rest = e ∙ ap (λ (l : List ℕ). style ∷ to_be_bytes w32 ch ++ l) m.front ∙ ap (λ (l : List ℕ). l ++ m.rest) (sym (flat_map-cons mark_bytes mark m.marks)) in
+    let all : bytes ≡ flat_map mark_bytes (mark ∷ m.marks) ++ m.rest = e ∙ ap (λ (l : List ℕ). style ∷ to_be_bytes w32 ch ++ l) m.prefix ∙ ap (λ (l : List ℕ). l ++ m.rest) (sym (flat_map-cons mark_bytes mark m.marks)) in
     let many = m.many in
-    record { marks = mark ∷ m.marks; many = cc; values = ((f, g), m.values); rest = m.rest; front = all }
+    record { marks = mark ∷ m.marks; many = cc; values = ((f, g), m.values); rest = m.rest; prefix = all }
 
 pub marks_here : (count : ℕ) (bytes : List ℕ) → IsBytes bytes → 5 * count ≤ length bytes → MarksHere count bytes
-marks_here zero bytes fits long = record { marks = []; many = refl; values = tt; rest = bytes; front = refl }
+marks_here zero bytes fits long = record { marks = []; many = refl; values = tt; rest = bytes; prefix = refl }
 marks_here (suc count) bytes fits long =
     let n = byte_and_number_here bytes fits (omega (arith, long)) in
-    let len : length bytes ≡ 5 + length n.rest = ap (λ (l : List ℕ). length l) n.front ∙ length-append (n.byte ∷ to_be_bytes w32 n.number) n.rest in
-    let rest : IsBytes n.rest = rest_bytes bytes (n.byte ∷ to_be_bytes w32 n.number) n.rest fits n.front in
-    mark_before count bytes n.rest n.byte n.number n.byte_value n.value n.front (marks_here count n.rest rest (omega (arith, len, long)))
+    let len : length bytes ≡ 5 + length n.rest = ap (λ (l : List ℕ). length l) n.prefix ∙ length-append (n.byte ∷ to_be_bytes w32 n.number) n.rest in
+    let rest : IsBytes n.rest = rest_bytes bytes (n.byte ∷ to_be_bytes w32 n.number) n.rest fits n.prefix in
+    mark_before count bytes n.rest n.byte n.number n.byte_value n.value n.prefix (marks_here count n.rest rest (omega (arith, len, long)))
 
 -- ---- the prefix of a run and its symbols are a run, or one that is not lawful
 
 -- the prefix of a run
 pub begins : (bytes : List ℕ) (stamp parent : Stamp) (count : ℕ) (body : List ℕ) → bytes ≡ 4 ∷ stamp_spelling stamp ++ stamp_spelling parent ++ count ∷ body → BeginsRun bytes count body
-begins bytes stamp parent count body e = record { stamps = stamp_spelling stamp ++ stamp_spelling parent; twenty = refl; front = e }
+begins bytes stamp parent count body e = record { stamps = stamp_spelling stamp ++ stamp_spelling parent; twenty = refl; prefix = e }
 
 pub run_stands : (form : FeedForm) (stamp parent : Stamp) (count : ℕ) (symbols : List Symbol) → HasRuns form → IsRunLength count → length symbols ≡ count → AllByRecursion IsHeld (run_ops stamp parent symbols) → Stands form (Run stamp parent symbols)
 run_stands form stamp parent count symbols runs within many each = (runs, record { count = subst (λ (n : ℕ). IsRunLength n) (sym many) within; each = each })
@@ -296,6 +296,6 @@ run_unlawful form bytes stamp parent count body rest marks first runs s p e with
       values = (s, p, omega (arith, most, many), values);
       stands = (runs, subst (λ (n : ℕ). IsRunLength n) (sym many) within);
       rest = rest;
-      front = e ∙ ap (λ (n : ℕ). 4 ∷ stamp_spelling stamp ++ stamp_spelling parent ++ n ∷ body) (sym many) ∙ ap (λ (l : List ℕ). 4 ∷ stamp_spelling stamp ++ stamp_spelling parent ++ length marks ∷ l) b;
+      prefix = e ∙ ap (λ (n : ℕ). 4 ∷ stamp_spelling stamp ++ stamp_spelling parent ++ n ∷ body) (sym many) ∙ ap (λ (l : List ℕ). 4 ∷ stamp_spelling stamp ++ stamp_spelling parent ++ length marks ∷ l) b;
       is = is;
     }

@@ -32,11 +32,11 @@ marks_same [] [] x y f g n e = (refl, e)
 marks_same [] (b ∷ zs) x y f g n e = absurd cc
 marks_same (a ∷ xs) [] x y f g n e = absurd cc
 marks_same (a ∷ xs) (b ∷ zs) x y f g n e =
-    let front : a.style ∷ to_be_bytes w32 a.ch ++ (flat_map mark_bytes xs ++ x) ≡ b.style ∷ to_be_bytes w32 b.ch ++ (flat_map mark_bytes zs ++ y) =
+    let prefix : a.style ∷ to_be_bytes w32 a.ch ++ (flat_map mark_bytes xs ++ x) ≡ b.style ∷ to_be_bytes w32 b.ch ++ (flat_map mark_bytes zs ++ y) =
     ap (λ (l : List ℕ). l ++ x) (sym (flat_map-cons mark_bytes a xs)) ∙ e ∙ ap (λ (l : List ℕ). l ++ y) (flat_map-cons mark_bytes b zs)
     in
     let style : a.style ≡ b.style = cc in
-    let one = number_same_4 a.ch b.ch (flat_map mark_bytes xs ++ x) (flat_map mark_bytes zs ++ y) f.0.1 g.0.1 (ap (λ (l : List ℕ). drop 1 l) front) in
+    let one = number_same_4 a.ch b.ch (flat_map mark_bytes xs ++ x) (flat_map mark_bytes zs ++ y) f.0.1 g.0.1 (ap (λ (l : List ℕ). drop 1 l) prefix) in
     let mark : a ≡ b = mark_exact a b style one.0 in
     let count : length xs ≡ length zs = omega (arith, n) in
     let others = marks_same xs zs x y f.1 g.1 count one.1 in

@@ -41,18 +41,18 @@ IsBytes-take n bytes h i =
       | inr le ↦ rw (get_or_past (take n bytes) i 0 (omega (arith, length-take n bytes))) (omega arith)
     ]
 
-pub number_there_2 : (bytes front rest : List ℕ) (n : ℕ) → IsBytes bytes → 2 ≤ length bytes → front ≡ take 2 bytes → rest ≡ drop 2 bytes → n ≡ from_be_bytes w16 front → bytes ≡ to_be_bytes w16 n ++ rest
-number_there_2 bytes front rest n fits long f r e =
+pub number_there_2 : (bytes prefix rest : List ℕ) (n : ℕ) → IsBytes bytes → 2 ≤ length bytes → prefix ≡ take 2 bytes → rest ≡ drop 2 bytes → n ≡ from_be_bytes w16 prefix → bytes ≡ to_be_bytes w16 n ++ rest
+number_there_2 bytes prefix rest n fits long f r e =
     let text : to_be_bytes w16 n ≡ take 2 bytes = be_bytes_2 (take 2 bytes) n (omega (arith, length-take 2 bytes)) (IsBytes-take 2 bytes fits) (e ∙ ap (λ (b : List ℕ). from_be_bytes w16 b) f) in
     sym (take-append-drop 2 bytes) ∙ rw (← text, r) refl
 
-pub number_there_4 : (bytes front rest : List ℕ) (n : ℕ) → IsBytes bytes → 4 ≤ length bytes → front ≡ take 4 bytes → rest ≡ drop 4 bytes → n ≡ from_be_bytes w32 front → bytes ≡ to_be_bytes w32 n ++ rest
-number_there_4 bytes front rest n fits long f r e =
+pub number_there_4 : (bytes prefix rest : List ℕ) (n : ℕ) → IsBytes bytes → 4 ≤ length bytes → prefix ≡ take 4 bytes → rest ≡ drop 4 bytes → n ≡ from_be_bytes w32 prefix → bytes ≡ to_be_bytes w32 n ++ rest
+number_there_4 bytes prefix rest n fits long f r e =
     let text : to_be_bytes w32 n ≡ take 4 bytes = be_bytes_4 (take 4 bytes) n (omega (arith, length-take 4 bytes)) (IsBytes-take 4 bytes fits) (e ∙ ap (λ (b : List ℕ). from_be_bytes w32 b) f) in
     sym (take-append-drop 4 bytes) ∙ rw (← text, r) refl
 
-pub number_there_8 : (bytes front rest : List ℕ) (n : ℕ) → IsBytes bytes → 8 ≤ length bytes → front ≡ take 8 bytes → rest ≡ drop 8 bytes → n ≡ from_be_bytes w64 front → bytes ≡ to_be_bytes w64 n ++ rest
-number_there_8 bytes front rest n fits long f r e =
+pub number_there_8 : (bytes prefix rest : List ℕ) (n : ℕ) → IsBytes bytes → 8 ≤ length bytes → prefix ≡ take 8 bytes → rest ≡ drop 8 bytes → n ≡ from_be_bytes w64 prefix → bytes ≡ to_be_bytes w64 n ++ rest
+number_there_8 bytes prefix rest n fits long f r e =
     let text : to_be_bytes w64 n ≡ take 8 bytes = be_bytes_8 (take 8 bytes) n (omega (arith, length-take 8 bytes)) (IsBytes-take 8 bytes fits) (e ∙ ap (λ (b : List ℕ). from_be_bytes w64 b) f) in
     sym (take-append-drop 8 bytes) ∙ rw (← text, r) refl
 

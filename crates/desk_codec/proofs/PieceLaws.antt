@@ -29,11 +29,11 @@ magic_length Singles = refl
 magic_length Runs = refl
 
 -- where a reader stands after a piece with items or none
-pub place_after : (r s : Reader) (piece : List ℕ) (form : FeedForm) (front : List ℕ) → length r.kept ≤ r.taken → s.taken ≡ r.taken + length piece → r.kept ++ piece ≡ due r.form form ++ (front ++ s.kept)
-    → (length s.kept ≤ s.taken) × (place_of s ≡ place_of r + (length (due r.form form) + length front))
-place_after r s piece form front w t e =
-    let whole : length r.kept + length piece ≡ length (due r.form form) + (length front + length s.kept) =
-    sym (length-append r.kept piece) ∙ ap (λ (l : List ℕ). length l) e ∙ length-append (due r.form form) (front ++ s.kept) ∙ ap (λ (n : ℕ). length (due r.form form) + n) (length-append front s.kept)
+pub place_after : (r s : Reader) (piece : List ℕ) (form : FeedForm) (prefix : List ℕ) → length r.kept ≤ r.taken → s.taken ≡ r.taken + length piece → r.kept ++ piece ≡ due r.form form ++ (prefix ++ s.kept)
+    → (length s.kept ≤ s.taken) × (place_of s ≡ place_of r + (length (due r.form form) + length prefix))
+place_after r s piece form prefix w t e =
+    let whole : length r.kept + length piece ≡ length (due r.form form) + (length prefix + length s.kept) =
+    sym (length-append r.kept piece) ∙ ap (λ (l : List ℕ). length l) e ∙ length-append (due r.form form) (prefix ++ s.kept) ∙ ap (λ (n : ℕ). length (due r.form form) + n) (length-append prefix s.kept)
     in
     (omega arith, omega arith)
 
@@ -44,7 +44,7 @@ far_after (Some read) form place after n kept h e = let far = h.0 in omega (arit
 
 pub awaits_after : (r s : Reader) (piece : List ℕ) (ops : List Op) → IsSound r → s.taken ≡ r.taken + length piece → AwaitsMagic r.form (r.kept ++ piece) ops s.form s.kept → IsSound s × (place_of s ≡ 0) × (place_of r ≡ 0)
 awaits_after r s piece ops h t a =
-    let here : Resumes None (place_of r) r.kept = subst (λ (o : Option FeedForm). Resumes o (place_of r) r.kept) a.front h.resumes in
+    let here : Resumes None (place_of r) r.kept = subst (λ (o : Option FeedForm). Resumes o (place_of r) r.kept) a.prefix h.resumes in
     let len : length s.kept ≡ length r.kept + length piece = ap (λ (l : List ℕ). length l) a.all ∙ length-append r.kept piece in
     let w = h.within in
     let zero = here.0 in
@@ -55,50 +55,50 @@ awaits_after r s piece ops h t a =
     (record { within = omega (arith, len, w, t); resumes = subst (λ (o : Option FeedForm). Resumes o (place_of s) s.kept) (sym a.still) (place, few) }, place, zero)
 
 pub reads_after : (r s : Reader) (piece : List ℕ) (ops : List Op) (form : FeedForm) → IsSound r → s.taken ≡ r.taken + length piece → s.form ≡ Some form → (d : Reads r.form (r.kept ++ piece) ops form s.kept)
-    → IsSound s × (4 ≤ place_of s) × (place_of s ≡ place_of r + (length (due r.form form) + length d.front))
+    → IsSound s × (4 ≤ place_of s) × (place_of s ≡ place_of r + (length (due r.form form) + length d.prefix))
 reads_after r s piece ops form h t f d =
-    let p = place_after r s piece form d.front h.within t d.split in
-    let four : 4 ≤ place_of s = far_after r.form form (place_of r) (place_of s) (length d.front) r.kept h.resumes p.1 in
+    let p = place_after r s piece form d.prefix h.within t d.split in
+    let four : 4 ≤ place_of s = far_after r.form form (place_of r) (place_of s) (length d.prefix) r.kept h.resumes p.1 in
     (record { within = p.0; resumes = subst (λ (o : Option FeedForm). Resumes o (place_of s) s.kept) (sym f) (four, d.unended) }, four, p.1)
 
 -- ---- more bytes
 
 pub begins_on : (bytes more : List ℕ) (count : ℕ) (rest : List ℕ) → BeginsRun bytes count rest → BeginsRun (bytes ++ more) count (rest ++ more)
 begins_on bytes more count rest h =
-    record { stamps = h.stamps; twenty = h.twenty; front = ap (λ (l : List ℕ). l ++ more) h.front ∙ ap (λ (l : List ℕ). 4 ∷ l) (append_assoc h.stamps (count ∷ rest) more) }
+    record { stamps = h.stamps; twenty = h.twenty; prefix = ap (λ (l : List ℕ). l ++ more) h.prefix ∙ ap (λ (l : List ℕ). 4 ∷ l) (append_assoc h.stamps (count ∷ rest) more) }
 
 -- more bytes do not mend what is wrong, unless the bytes end inside an item
 pub wrong_on : (form : FeedForm) (bytes more : List ℕ) (w : FeedWhy) → w ≢ why.Cut → IsWrong form bytes w → IsWrong form (bytes ++ more) w
 wrong_on form bytes more why.Magic n h = h
-wrong_on form bytes more why.Kind n h = record { kind = h.kind; rest = h.rest ++ more; front = ap (λ (l : List ℕ). l ++ more) h.front; none = h.none; no_run = h.no_run }
+wrong_on form bytes more why.Kind n h = record { kind = h.kind; rest = h.rest ++ more; prefix = ap (λ (l : List ℕ). l ++ more) h.prefix; none = h.none; no_run = h.no_run }
 wrong_on form bytes more (why.Unlawful u) n h =
-    record { fields = h.fields; values = h.values; stands = h.stands; rest = h.rest ++ more; front = ap (λ (l : List ℕ). l ++ more) h.front ∙ append_assoc (item_bytes h.fields) h.rest more; is = h.is }
+    record { fields = h.fields; values = h.values; stands = h.stands; rest = h.rest ++ more; prefix = ap (λ (l : List ℕ). l ++ more) h.prefix ∙ append_assoc (item_bytes h.fields) h.rest more; is = h.is }
 wrong_on form bytes more why.Cut n h = absurd (n refl)
-wrong_on form bytes more why.Run n h = record { runs = h.runs; count = h.count; rest = h.rest ++ more; front = begins_on bytes more h.count h.rest h.front; out = h.out }
+wrong_on form bytes more why.Run n h = record { runs = h.runs; count = h.count; rest = h.rest ++ more; prefix = begins_on bytes more h.count h.rest h.prefix; out = h.out }
 
 pub goes_on : (form : FeedForm) (place : ℕ) (bytes more : List ℕ) (fault : FeedFault) → fault.why ≢ why.Cut → GoesWrong form place bytes fault → GoesWrong form place (bytes ++ more) fault
 goes_on form place bytes more fault n h =
     record {
       before = h.before;
-      front = h.front;
+      prefix = h.prefix;
       spells = h.spells;
       rest = h.rest ++ more;
-      split = ap (λ (l : List ℕ). l ++ more) h.split ∙ append_assoc h.front h.rest more;
+      split = ap (λ (l : List ℕ). l ++ more) h.split ∙ append_assoc h.prefix h.rest more;
       there = h.there;
       wrong = wrong_on form h.rest more fault.why n h.wrong;
     }
 
 -- items before the place where bytes go wrong
-pub goes_after : (form : FeedForm) (place : ℕ) (front bytes : List ℕ) (items : List Item) (fault : FeedFault) → Spells form front items → GoesWrong form (place + length front) bytes fault → GoesWrong form place (front ++ bytes) fault
-goes_after form place front bytes items fault f h =
-    let len : length (front ++ h.front) ≡ length front + length h.front = length-append front h.front in
+pub goes_after : (form : FeedForm) (place : ℕ) (prefix bytes : List ℕ) (items : List Item) (fault : FeedFault) → Spells form prefix items → GoesWrong form (place + length prefix) bytes fault → GoesWrong form place (prefix ++ bytes) fault
+goes_after form place prefix bytes items fault f h =
+    let len : length (prefix ++ h.prefix) ≡ length prefix + length h.prefix = length-append prefix h.prefix in
     let there = h.there in
     record {
       before = items ++ h.before;
-      front = front ++ h.front;
-      spells = spells_append form front h.front items h.before f h.spells;
+      prefix = prefix ++ h.prefix;
+      spells = spells_append form prefix h.prefix items h.before f h.spells;
       rest = h.rest;
-      split = ap (λ (l : List ℕ). front ++ l) h.split ∙ sym (append_assoc front h.front h.rest);
+      split = ap (λ (l : List ℕ). prefix ++ l) h.split ∙ sym (append_assoc prefix h.prefix h.rest);
       there = omega (arith, len, there);
       wrong = h.wrong;
     }
@@ -132,13 +132,13 @@ both_read r s t p q xs ys form next c b =
     record {
       agrees = a.agrees;
       items = a.items ++ b.items;
-      front = a.front ++ b.front;
-      spells = spells_append next a.front b.front a.items b.items a.spells b.spells;
+      prefix = a.prefix ++ b.prefix;
+      spells = spells_append next a.prefix b.prefix a.items b.items a.spells b.spells;
       joined = joined_ops xs ys a.items b.items a.joined b.joined;
       split = sym (append_assoc r.kept p q)
           ∙ ap (λ (l : List ℕ). l ++ q) a.split
-          ∙ append_assoc (due r.form next) (a.front ++ s.kept) q
-          ∙ ap (λ (l : List ℕ). due r.form next ++ l) (append_assoc a.front s.kept q ∙ ap (λ (l : List ℕ). a.front ++ l) b.split ∙ sym (append_assoc a.front b.front t.kept));
+          ∙ append_assoc (due r.form next) (a.prefix ++ s.kept) q
+          ∙ ap (λ (l : List ℕ). due r.form next ++ l) (append_assoc a.prefix s.kept q ∙ ap (λ (l : List ℕ). a.prefix ++ l) b.split ∙ sym (append_assoc a.prefix b.prefix t.kept));
       unended = b.unended;
     }
 
@@ -148,8 +148,8 @@ then_read r s t p q ys form all b =
 
 joined_read : (r s t : Reader) (p q : List ℕ) (xs ys : List Op) → IsRead r.form (r.kept ++ p) xs s.form s.kept → IsRead s.form (s.kept ++ q) ys t.form t.kept → IsRead r.form (r.kept ++ (p ++ q)) (xs ++ ys) t.form t.kept
 joined_read r s t p q xs ys (inl a) second =
-    subst (λ (l : List Op). IsRead r.form (r.kept ++ (p ++ q)) (l ++ ys) t.form t.kept) (sym a.none) (then_read r s t p q ys (a.still ∙ sym a.front) a.all second)
-joined_read r s t p q xs ys (inr a) (inl b) = absurd (never_none a.0 s.form a.1 b.front)
+    subst (λ (l : List Op). IsRead r.form (r.kept ++ (p ++ q)) (l ++ ys) t.form t.kept) (sym a.none) (then_read r s t p q ys (a.still ∙ sym a.prefix) a.all second)
+joined_read r s t p q xs ys (inr a) (inl b) = absurd (never_none a.0 s.form a.1 b.prefix)
 joined_read r s t p q xs ys (inr a) (inr b) =
     inr (b.0, b.1, both_read r s t p q xs ys a.0 b.0 a.2 (subst (λ (o : Option FeedForm). Reads o (s.kept ++ q) ys b.0 t.kept) a.1 b.2))
 
@@ -166,29 +166,29 @@ both_astray : (r s : Reader) (p q : List ℕ) (xs : List Op) (fault : FeedFault)
 both_astray r s p q xs fault form h t f c b =
     let a : Reads r.form (r.kept ++ p) xs b.form s.kept = subst (λ (f : FeedForm). Reads r.form (r.kept ++ p) xs f s.kept) b.agrees c in
     let there = (reads_after r s p xs b.form h t (f ∙ ap (λ (g : FeedForm). Some g) b.agrees) a).2 in
-    let place : place_of s + 0 ≡ (place_of r + length (due r.form b.form)) + length a.front = omega (arith, there) in
+    let place : place_of s + 0 ≡ (place_of r + length (due r.form b.form)) + length a.prefix = omega (arith, there) in
     record {
       form = b.form;
       agrees = a.agrees;
-      body = a.front ++ b.body;
+      body = a.prefix ++ b.body;
       split = sym (append_assoc r.kept p q)
           ∙ ap (λ (l : List ℕ). l ++ q) a.split
-          ∙ append_assoc (due r.form b.form) (a.front ++ s.kept) q
-          ∙ ap (λ (l : List ℕ). due r.form b.form ++ l) (append_assoc a.front s.kept q ∙ ap (λ (l : List ℕ). a.front ++ l) b.split);
-      wrong = goes_after b.form (place_of r + length (due r.form b.form)) a.front b.body a.items fault a.spells (subst (λ (n : ℕ). GoesWrong b.form n b.body fault) place b.wrong);
+          ∙ append_assoc (due r.form b.form) (a.prefix ++ s.kept) q
+          ∙ ap (λ (l : List ℕ). due r.form b.form ++ l) (append_assoc a.prefix s.kept q ∙ ap (λ (l : List ℕ). a.prefix ++ l) b.split);
+      wrong = goes_after b.form (place_of r + length (due r.form b.form)) a.prefix b.body a.items fault a.spells (subst (λ (n : ℕ). GoesWrong b.form n b.body fault) place b.wrong);
       whole = b.whole;
     }
 
 astray_after : (r s : Reader) (p q : List ℕ) (xs : List Op) (fault : FeedFault) (form : FeedForm) → IsSound r → s.taken ≡ r.taken + length p → s.form ≡ Some form → Reads r.form (r.kept ++ p) xs form s.kept → ShowsFirst (Some form) (place_of s) (s.kept ++ q) fault
     → ShowsFirst r.form (place_of r) (r.kept ++ (p ++ q)) fault
-astray_after r s p q xs fault form h t f a (inl b) = let none = b.front in absurd cc
+astray_after r s p q xs fault form h t f a (inl b) = let none = b.prefix in absurd cc
 astray_after r s p q xs fault form h t f a (inr b) = inr (both_astray r s p q xs fault form h t f a b)
 
 joined_shows : (r s : Reader) (p q : List ℕ) (xs : List Op) (fault : FeedFault) → IsSound r → s.taken ≡ r.taken + length p → IsRead r.form (r.kept ++ p) xs s.form s.kept → ShowsFirst s.form (place_of s) (s.kept ++ q) fault → ShowsFirst r.form (place_of r) (r.kept ++ (p ++ q)) fault
 joined_shows r s p q xs fault h t (inl a) b =
     let after = awaits_after r s p xs h t a in
     let place : place_of s ≡ place_of r = after.1 ∙ sym after.2 in
-    let form : s.form ≡ r.form = a.still ∙ sym a.front in
+    let form : s.form ≡ r.form = a.still ∙ sym a.prefix in
     subst (λ (n : ℕ). ShowsFirst r.form n (r.kept ++ (p ++ q)) fault) place
     (subst (λ (o : Option FeedForm). ShowsFirst o (place_of s) (r.kept ++ (p ++ q)) fault) form (subst (λ (l : List ℕ). ShowsFirst s.form (place_of s) l fault) (regroup r s p q a.all) b))
 joined_shows r s p q xs fault h t (inr a) b = astray_after r s p q xs fault a.0 h t a.1 a.2 (subst (λ (o : Option FeedForm). ShowsFirst o (place_of s) (s.kept ++ q) fault) a.1 b)
@@ -205,8 +205,8 @@ first_read bytes ops s (inr d) begun none =
     record {
       form = d.0;
       items = d.2.items;
-      rest = d.2.front;
-      front = d.2.split ∙ ap (λ (l : List ℕ). magic_of d.0 ++ (d.2.front ++ l)) none ∙ ap (λ (l : List ℕ). magic_of d.0 ++ l) (append-nil d.2.front);
+      rest = d.2.prefix;
+      prefix = d.2.split ∙ ap (λ (l : List ℕ). magic_of d.0 ++ (d.2.prefix ++ l)) none ∙ ap (λ (l : List ℕ). magic_of d.0 ++ l) (append-nil d.2.prefix);
       spells = d.2.spells;
       joined = d.2.joined;
     }
@@ -227,16 +227,16 @@ one_some f g o a b = cc
 first_end : (bytes : List ℕ) (ops : List Op) (s : Reader) (fault : FeedFault) → s.taken ≡ 0 + length bytes → IsRead None bytes ops s.form s.kept → EndsInMagic s fault ⊎ EndsInItem s fault → IsFirstFault bytes fault
 first_end bytes ops s fault t (inl a) (inl m) = inl (record { none = λ form rest e. short_magic form bytes rest a.short e; is = m.is })
 first_end bytes ops s fault t (inl a) (inr m) = absurd (never_none m.form s.form m.begun a.still)
-first_end bytes ops s fault t (inr d) (inl m) = absurd (never_none d.0 s.form d.1 m.front)
+first_end bytes ops s fault t (inr d) (inl m) = absurd (never_none d.0 s.form d.1 m.prefix)
 first_end bytes ops s fault t (inr d) (inr m) =
-    let after = place_after fresh s bytes d.0 d.2.front (omega arith) t d.2.split in
+    let after = place_after fresh s bytes d.0 d.2.prefix (omega arith) t d.2.split in
     let place = after.1 in
     let four = magic_length d.0 in
     let told : fault.at ≡ place_of s = ap (λ (f : FeedFault). f.at) m.is in
-    let there : fault.at ≡ 4 + length d.2.front = omega (arith, told, place, four) in
+    let there : fault.at ≡ 4 + length d.2.prefix = omega (arith, told, place, four) in
     let same : m.form ≡ d.0 = one_some m.form d.0 s.form m.begun d.1 in
     let cut : IsWrong d.0 s.kept fault.why = subst (λ (f : FeedFault). IsWrong d.0 s.kept f.why) (sym m.is) (subst (λ (f : FeedForm). IsCut f s.kept) same m.cut) in
-    inr (d.0, d.2.front ++ s.kept, d.2.split, record { before = d.2.items; front = d.2.front; spells = d.2.spells; rest = s.kept; split = refl; there = there; wrong = cut })
+    inr (d.0, d.2.prefix ++ s.kept, d.2.split, record { before = d.2.items; prefix = d.2.prefix; spells = d.2.spells; rest = s.kept; split = refl; there = there; wrong = cut })
 
 -- what was read, and ends wrong, has that first fault
 pub end_fault : (bytes : List ℕ) (ops : List Op) (s : Reader) (fault : FeedFault) → Takes fresh bytes ops s → EndsWrong s fault → IsFirstFault bytes fault
@@ -259,4 +259,4 @@ shown_fault bytes more fault s = first_shown bytes more fault s.first
 
 -- a fresh reader takes no bytes and stays as it is
 pub fresh_takes : Takes fresh [] [] fresh
-fresh_takes = record { answers = refl; answers_on = refl; taken = refl; read = inl (record { front = refl; still = refl; short = omega arith; none = refl; all = refl }) }
+fresh_takes = record { answers = refl; answers_on = refl; taken = refl; read = inl (record { prefix = refl; still = refl; short = omega arith; none = refl; all = refl }) }

@@ -32,26 +32,26 @@ one_ops : (item : Item) → item_ops item ≡ ops_in (item ∷ [])
 one_ops item = sym (append-nil (item_ops item)) ∙ sym (flat_map-cons item_ops item [])
 
 pub none_given : (form : FeedForm) (bytes : List ℕ) (ops : Option (List Op)) → GivesItems form bytes ops ops bytes
-none_given form bytes ops = record { items = []; front = []; spells = refl; is = adds_none ops; split = refl }
+none_given form bytes ops = record { items = []; prefix = []; spells = refl; is = adds_none ops; split = refl }
 
 pub one_given : (form : FeedForm) (bytes rest : List ℕ) (before after : Option (List Op)) → GivesItem form bytes before after rest → GivesItems form bytes before after rest
 one_given form bytes rest before after h =
     record {
       items = h.item ∷ [];
-      front = item_spelling h.item;
+      prefix = item_spelling h.item;
       spells = (h.stands, ([], sym (append-nil (item_spelling h.item)), refl));
       is = subst (λ (l : List Op). Adds before after l) (one_ops h.item) h.is;
-      split = h.front;
+      split = h.prefix;
     }
 
 pub both_given : (form : FeedForm) (bytes middle rest : List ℕ) (before between after : Option (List Op)) → GivesItems form bytes before between middle → GivesItems form middle between after rest → GivesItems form bytes before after rest
 both_given form bytes middle rest before between after f g =
     record {
       items = f.items ++ g.items;
-      front = f.front ++ g.front;
-      spells = spells_append form f.front g.front f.items g.items f.spells g.spells;
+      prefix = f.prefix ++ g.prefix;
+      spells = spells_append form f.prefix g.prefix f.items g.items f.spells g.spells;
       is = subst (λ (l : List Op). Adds before after l) (sym (flat_map-append item_ops f.items g.items)) (adds_then before between after (ops_in f.items) (ops_in g.items) f.is g.is);
-      split = f.split ∙ ap (λ (l : List ℕ). f.front ++ l) g.split ∙ sym (append_assoc f.front g.front rest);
+      split = f.split ∙ ap (λ (l : List ℕ). f.prefix ++ l) g.split ∙ sym (append_assoc f.prefix g.prefix rest);
     }
 
 pub more_given : (form : FeedForm) (bytes middle rest : List ℕ) (before between after : Option (List Op)) → GivesItems form bytes before between middle → GivesItem form middle between after rest → GivesItems form bytes before after rest
@@ -60,23 +60,23 @@ more_given form bytes middle rest before between after f g = both_given form byt
 -- an item takes bytes
 pub item_shorter : (form : FeedForm) (bytes rest : List ℕ) (before after : Option (List Op)) → GivesItem form bytes before after rest → length rest < length bytes
 item_shorter form bytes rest before after h =
-    let len : length bytes ≡ length (item_spelling h.item) + length rest = ap (λ (l : List ℕ). length l) h.front ∙ length-append (item_spelling h.item) rest in
+    let len : length bytes ≡ length (item_spelling h.item) + length rest = ap (λ (l : List ℕ). length l) h.prefix ∙ length-append (item_spelling h.item) rest in
     let some = item_length h.item in
     omega (arith, len, some)
 
-pub given_length : (form : FeedForm) (bytes rest : List ℕ) (before after : Option (List Op)) → (h : GivesItems form bytes before after rest) → length bytes ≡ length h.front + length rest
-given_length form bytes rest before after h = ap (λ (l : List ℕ). length l) h.split ∙ length-append h.front rest
+pub given_length : (form : FeedForm) (bytes rest : List ℕ) (before after : Option (List Op)) → (h : GivesItems form bytes before after rest) → length bytes ≡ length h.prefix + length rest
+given_length form bytes rest before after h = ap (λ (l : List ℕ). length l) h.split ∙ length-append h.prefix rest
 
 -- what goes wrong after items
 pub goes_then : (form : FeedForm) (place : ℕ) (bytes rest : List ℕ) (before after : Option (List Op)) (fault : FeedFault) → GivesItems form bytes before after rest → GoesWrong form (place + (length bytes - length rest)) rest fault → GoesWrong form place bytes fault
 goes_then form place bytes rest before after fault h wrong =
     let len = given_length form bytes rest before after h in
-    let there : place + (length bytes - length rest) ≡ place + length h.front = omega (arith, len) in
-    subst (λ (l : List ℕ). GoesWrong form place l fault) (sym h.split) (goes_after form place h.front rest h.items fault h.spells (subst (λ (n : ℕ). GoesWrong form n rest fault) there wrong))
+    let there : place + (length bytes - length rest) ≡ place + length h.prefix = omega (arith, len) in
+    subst (λ (l : List ℕ). GoesWrong form place l fault) (sym h.split) (goes_after form place h.prefix rest h.items fault h.spells (subst (λ (n : ℕ). GoesWrong form n rest fault) there wrong))
 
 -- where reading stops
 pub reads_given : (form : FeedForm) (bytes rest : List ℕ) (before after : Option (List Op)) → (h : GivesItems form bytes before after rest) → IsUnended form rest → Reads (Some form) bytes (ops_in h.items) form rest
-reads_given form bytes rest before after h end = record { agrees = refl; items = h.items; front = h.front; spells = h.spells; joined = refl; split = h.split; unended = end }
+reads_given form bytes rest before after h end = record { agrees = refl; items = h.items; prefix = h.prefix; spells = h.spells; joined = refl; split = h.split; unended = end }
 
 pub goes_astray : (form : FeedForm) (place : ℕ) (bytes : List ℕ) (fault : FeedFault) → GoesWrong form place bytes fault → fault.why ≢ why.Cut → ShowsFirst (Some form) place bytes fault
 goes_astray form place bytes fault wrong whole =
@@ -88,21 +88,21 @@ holds_more form bytes long = record { form = form; body = bytes; split = refl; l
 
 -- ---- an item whose prefix was kept
 
-front_of : (kept end front rest : List ℕ) → length front ≤ length kept → kept ++ end ≡ front ++ rest → kept ≡ front ++ drop (length front) kept
-front_of kept end [] rest le e = refl
-front_of [] end (f ∷ front) rest le e = absurd (omega arith)
-front_of (k ∷ kept) end (f ∷ front) rest le e =
+prefix_of : (kept end prefix rest : List ℕ) → length prefix ≤ length kept → kept ++ end ≡ prefix ++ rest → kept ≡ prefix ++ drop (length prefix) kept
+prefix_of kept end [] rest le e = refl
+prefix_of [] end (f ∷ prefix) rest le e = absurd (omega arith)
+prefix_of (k ∷ kept) end (f ∷ prefix) rest le e =
     let first : k ≡ f = ap (λ (l : List ℕ). get_or l 0 0) e in
-    let others : kept ++ end ≡ front ++ rest = ap (λ (l : List ℕ). drop 1 l) e in
-    let rest_is = front_of kept end front rest (omega (arith, le)) others in
-    ap (λ (l : List ℕ). k ∷ l) rest_is ∙ ap (λ (n : ℕ). n ∷ front ++ drop (length front) kept) first
+    let others : kept ++ end ≡ prefix ++ rest = ap (λ (l : List ℕ). drop 1 l) e in
+    let rest_is = prefix_of kept end prefix rest (omega (arith, le)) others in
+    ap (λ (l : List ℕ). k ∷ l) rest_is ∙ ap (λ (n : ℕ). n ∷ prefix ++ drop (length prefix) kept) first
 
 -- the prefix is shorter than the item
 cut_shorter : (form : FeedForm) (kept end rest : List ℕ) (item : Item) → IsCut form kept → Stands form item → kept ++ end ≡ item_spelling item ++ rest → length kept < length (item_spelling item)
 cut_shorter form kept end rest item cut stands e =
     elim (cases_lt (length kept) (length (item_spelling item))) [
       | inl lt ↦ lt
-      | inr le ↦ absurd (item_not_wrong form kept (drop (length (item_spelling item)) kept) item why.Cut stands (front_of kept end (item_spelling item) rest le e) cut)
+      | inr le ↦ absurd (item_not_wrong form kept (drop (length (item_spelling item)) kept) item why.Cut stands (prefix_of kept end (item_spelling item) rest le e) cut)
     ]
 
 most : (k n : ℕ) → size_of_kind k ≡ Some n → n ≤ 26
@@ -113,7 +113,7 @@ pub cut_length : (form : FeedForm) (bytes : List ℕ) → IsCut form bytes → l
 cut_length form bytes (inl h) = let few = most h.kind h.size h.some in let short = h.short in omega (arith, few, short)
 cut_length form bytes (inr (inl h)) = let short = h.short in omega (arith, short)
 cut_length form bytes (inr (inr h)) =
-    let len = begins_length bytes h.count h.rest h.front in
+    let len = begins_length bytes h.count h.rest h.prefix in
     let short = h.short in
     let many = h.within.1 in
     omega (arith, len, short, many)
@@ -123,29 +123,29 @@ unended_length form bytes (inl none) = let zero : length bytes ≡ 0 = ap (λ (l
 unended_length form bytes (inr cut) = let short = cut_length form bytes cut in omega (arith, short)
 
 -- the rest of the joined bytes ends the piece
-rest_of_piece : (kept piece end beyond rest whole front : List ℕ) → piece ≡ end ++ beyond → whole ≡ kept ++ end → whole ≡ front ++ rest → length kept ≤ length front → kept ++ piece ≡ front ++ drop (length end - length rest) piece
-rest_of_piece kept piece end beyond rest whole front p w f le =
-    let lens : length kept + length end ≡ length front + length rest = sym (length-append kept end) ∙ ap (λ (l : List ℕ). length l) (sym w ∙ f) ∙ length-append front rest in
-    let n : length kept + (length end - length rest) ≡ length front + 0 = omega (arith, lens, le) in
+rest_of_piece : (kept piece end beyond rest whole prefix : List ℕ) → piece ≡ end ++ beyond → whole ≡ kept ++ end → whole ≡ prefix ++ rest → length kept ≤ length prefix → kept ++ piece ≡ prefix ++ drop (length end - length rest) piece
+rest_of_piece kept piece end beyond rest whole prefix p w f le =
+    let lens : length kept + length end ≡ length prefix + length rest = sym (length-append kept end) ∙ ap (λ (l : List ℕ). length l) (sym w ∙ f) ∙ length-append prefix rest in
+    let n : length kept + (length end - length rest) ≡ length prefix + 0 = omega (arith, lens, le) in
     let tail : drop (length end - length rest) end ≡ rest =
-    sym (drop-append-add kept end (length end - length rest)) ∙ ap (λ (m : ℕ). drop m (kept ++ end)) n ∙ ap (λ (l : List ℕ). drop (length front + 0) l) (sym w ∙ f) ∙ drop-append-add front rest 0
+    sym (drop-append-add kept end (length end - length rest)) ∙ ap (λ (m : ℕ). drop m (kept ++ end)) n ∙ ap (λ (l : List ℕ). drop (length prefix + 0) l) (sym w ∙ f) ∙ drop-append-add prefix rest 0
     in
     let within : length end - length rest ≤ length end = omega arith in
     let after : drop (length end - length rest) piece ≡ rest ++ beyond = ap (λ (l : List ℕ). drop (length end - length rest) l) p ∙ drop-append-le (length end - length rest) end beyond within ∙ ap (λ (l : List ℕ). l ++ beyond) tail in
-    ap (λ (l : List ℕ). kept ++ l) p ∙ sym (append_assoc kept end beyond) ∙ ap (λ (l : List ℕ). l ++ beyond) (sym w ∙ f) ∙ append_assoc front rest beyond ∙ ap (λ (l : List ℕ). front ++ l) (sym after)
+    ap (λ (l : List ℕ). kept ++ l) p ∙ sym (append_assoc kept end beyond) ∙ ap (λ (l : List ℕ). l ++ beyond) (sym w ∙ f) ∙ append_assoc prefix rest beyond ∙ ap (λ (l : List ℕ). prefix ++ l) (sym after)
 
 -- so much of the piece is left
 pub rest_within : (form : FeedForm) (kept end rest whole : List ℕ) (before after : Option (List Op)) → IsCut form kept → whole ≡ kept ++ end → GivesItem form whole before after rest → length rest ≤ length end
 rest_within form kept end rest whole before after cut w h =
-    let shorter = cut_shorter form kept end rest h.item cut h.stands (sym w ∙ h.front) in
-    let lens : length kept + length end ≡ length (item_spelling h.item) + length rest = sym (length-append kept end) ∙ ap (λ (l : List ℕ). length l) (sym w ∙ h.front) ∙ length-append (item_spelling h.item) rest in
+    let shorter = cut_shorter form kept end rest h.item cut h.stands (sym w ∙ h.prefix) in
+    let lens : length kept + length end ≡ length (item_spelling h.item) + length rest = sym (length-append kept end) ∙ ap (λ (l : List ℕ). length l) (sym w ∙ h.prefix) ∙ length-append (item_spelling h.item) rest in
     omega (arith, shorter, lens)
 
 pub first_given : (form : FeedForm) (kept piece end beyond rest whole left : List ℕ) (before after : Option (List Op)) → IsCut form kept → piece ≡ end ++ beyond → whole ≡ kept ++ end → left ≡ drop (length end - length rest) piece → GivesItem form whole before after rest → GivesItem form (kept ++ piece) before after left
 first_given form kept piece end beyond rest whole left before after cut p w l h =
-    let shorter = cut_shorter form kept end rest h.item cut h.stands (sym w ∙ h.front) in
-    let e = rest_of_piece kept piece end beyond rest whole (item_spelling h.item) p w h.front (omega (arith, shorter)) in
-    record { item = h.item; stands = h.stands; is = h.is; front = e ∙ ap (λ (m : List ℕ). item_spelling h.item ++ m) (sym l) }
+    let shorter = cut_shorter form kept end rest h.item cut h.stands (sym w ∙ h.prefix) in
+    let e = rest_of_piece kept piece end beyond rest whole (item_spelling h.item) p w h.prefix (omega (arith, shorter)) in
+    record { item = h.item; stands = h.stands; is = h.is; prefix = e ∙ ap (λ (m : List ℕ). item_spelling h.item ++ m) (sym l) }
 
 full_cut : (form : FeedForm) (bytes : List ℕ) → IsCut form bytes → 342 ≤ length bytes → ⊥
 full_cut form bytes h full = let short = cut_length form bytes h in omega (arith, short, full)
@@ -171,10 +171,10 @@ begun most bytes (Some ops) long h = h
 begun most bytes None long h = long h
 
 -- items with an operation take bytes
-spells_long : (form : FeedForm) (front : List ℕ) (items : List Item) → Spells form front items → 0 < length (ops_in items) → 16 ≤ length front
-spells_long form front [] h some = absurd (omega (arith, some))
-spells_long form front (item ∷ items) h some =
-    let len : length front ≡ length (item_spelling item) + length h.1.0 = ap (λ (l : List ℕ). length l) h.1.1 ∙ length-append (item_spelling item) h.1.0 in
+spells_long : (form : FeedForm) (prefix : List ℕ) (items : List Item) → Spells form prefix items → 0 < length (ops_in items) → 16 ≤ length prefix
+spells_long form prefix [] h some = absurd (omega (arith, some))
+spells_long form prefix (item ∷ items) h some =
+    let len : length prefix ≡ length (item_spelling item) + length h.1.0 = ap (λ (l : List ℕ). length l) h.1.1 ∙ length-append (item_spelling item) h.1.0 in
     let long = item_length item in
     omega (arith, len, long)
 
@@ -183,7 +183,7 @@ reads_so form bytes kept (Some before) (Some after) b h end =
     subst (λ (l : List Op). Reads (Some form) bytes l form kept) (sym (h.is ∙ ap (λ (l : List Op). l ++ ops_in h.items) b)) (reads_given form bytes kept (Some before) (Some after) h end)
 reads_so form bytes kept (Some before) None b h end =
     let len = given_length form bytes kept (Some before) None h in
-    let long = spells_long form h.front h.items h.spells h.is in
+    let long = spells_long form h.prefix h.items h.spells h.is in
     (holds_more form bytes (omega (arith, len, long)), (ops_in h.items, reads_given form bytes kept (Some before) None h end))
 reads_so form bytes kept None (Some after) b h end = absurd h.is
 reads_so form bytes kept None None b h end = (holds_more form bytes b, (ops_in h.items, reads_given form bytes kept None None h end))
@@ -249,22 +249,22 @@ fits kept end beyond whole piece size m e p w room =
 -- ---- what was read shows no fault
 
 -- where items stand, and at most a part of one after them, nothing is wrong that more bytes do not mend
-never_astray : (form : FeedForm) (place : ℕ) (front kept bytes : List ℕ) (items : List Item) (fault : FeedFault) → Spells form front items → IsUnended form kept → bytes ≡ front ++ kept → GoesWrong form place bytes fault → fault.why ≢ why.Cut → ⊥
-never_astray form place front kept bytes items fault f (inl none) e g whole =
-    let all : front ≡ g.front ++ g.rest = sym (append-nil front) ∙ ap (λ (l : List ℕ). front ++ l) (sym none) ∙ sym e ∙ g.split in
-    never_spelled form front g.front g.rest items g.before fault.why f g.spells all g.wrong
-never_astray form place front kept bytes items fault f (inr cut) e g whole =
-    whole (sym (wrong_at_once form front kept g.front g.rest items g.before why.Cut fault.why f g.spells (sym e ∙ g.split) cut g.wrong).1)
+never_astray : (form : FeedForm) (place : ℕ) (prefix kept bytes : List ℕ) (items : List Item) (fault : FeedFault) → Spells form prefix items → IsUnended form kept → bytes ≡ prefix ++ kept → GoesWrong form place bytes fault → fault.why ≢ why.Cut → ⊥
+never_astray form place prefix kept bytes items fault f (inl none) e g whole =
+    let all : prefix ≡ g.prefix ++ g.rest = sym (append-nil prefix) ∙ ap (λ (l : List ℕ). prefix ++ l) (sym none) ∙ sym e ∙ g.split in
+    never_spelled form prefix g.prefix g.rest items g.before fault.why f g.spells all g.wrong
+never_astray form place prefix kept bytes items fault f (inr cut) e g whole =
+    whole (sym (wrong_at_once form prefix kept g.prefix g.rest items g.before why.Cut fault.why f g.spells (sym e ∙ g.split) cut g.wrong).1)
 
 pub shows_none : (before : Option FeedForm) (place : ℕ) (bytes : List ℕ) (ops : List Op) (form : FeedForm) (kept : List ℕ) (fault : FeedFault) → Reads before bytes ops form kept → ShowsFirst before place bytes fault → ⊥
-shows_none None place bytes ops form kept fault h (inl m) = m.wrong.none form (h.front ++ kept) h.split
+shows_none None place bytes ops form kept fault h (inl m) = m.wrong.none form (h.prefix ++ kept) h.split
 shows_none None place bytes ops form kept fault h (inr g) =
-    let same = one_form form g.form (h.front ++ kept) g.body (sym h.split ∙ g.split) in
-    never_astray g.form (place + length (magic_of g.form)) h.front kept g.body h.items fault (subst (λ (f : FeedForm). Spells f h.front h.items) same.0 h.spells) (subst (λ (f : FeedForm). IsUnended f kept) same.0 h.unended) (sym same.1) g.wrong g.whole
-shows_none (Some read) place bytes ops form kept fault h (inl m) = let never = m.front in absurd cc
+    let same = one_form form g.form (h.prefix ++ kept) g.body (sym h.split ∙ g.split) in
+    never_astray g.form (place + length (magic_of g.form)) h.prefix kept g.body h.items fault (subst (λ (f : FeedForm). Spells f h.prefix h.items) same.0 h.spells) (subst (λ (f : FeedForm). IsUnended f kept) same.0 h.unended) (sym same.1) g.wrong g.whole
+shows_none (Some read) place bytes ops form kept fault h (inl m) = let never = m.prefix in absurd cc
 shows_none (Some read) place bytes ops form kept fault h (inr g) =
     let same : form ≡ g.form = sym h.agrees ∙ g.agrees in
-    never_astray g.form (place + 0) h.front kept g.body h.items fault (subst (λ (f : FeedForm). Spells f h.front h.items) same h.spells) (subst (λ (f : FeedForm). IsUnended f kept) same h.unended) (sym g.split ∙ h.split) g.wrong g.whole
+    never_astray g.form (place + 0) h.prefix kept g.body h.items fault (subst (λ (f : FeedForm). Spells f h.prefix h.items) same h.spells) (subst (λ (f : FeedForm). IsUnended f kept) same h.unended) (sym g.split ∙ h.split) g.wrong g.whole
 
 -- the reader, keeping these bytes
 abbrev pub with_kept : Reader → List ℕ → Reader

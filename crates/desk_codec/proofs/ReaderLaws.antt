@@ -4,7 +4,7 @@ use Rattle.std.proofs.lemmas.List.{append-nil, get_or-append-add}
 use Rattle.desk_ops.specs.declared.op.Op.{Op}
 use Rattle.desk_codec.specs.declared.form.FeedForm.{FeedForm}
 use Rattle.desk_codec.specs.Spelling.{size_of_kind}
-use Rattle.desk_codec.specs.Fault.{BeginsRun, IsCutFront, IsCutRun}
+use Rattle.desk_codec.specs.Fault.{BeginsRun, IsCutPrefix, IsCutRun}
 use Rattle.desk_codec.specs.Pieces.{Reader, place_of, IsUnended, Reads, IsRead, Takes}
 use Rattle.desk_codec.specs.PieceReading.{Lacks, Keeps, Resumes, IsReader}
 use Rattle.desk_codec.proofs.FaultLaws.{kind_is, begins_length}
@@ -31,33 +31,33 @@ sound r missing h = record { within = h.within; resumes = resumes_from r.form (p
 pub count_at : (bytes : List ℕ) (count : ℕ) (rest : List ℕ) → BeginsRun bytes count rest → get_or bytes 21 0 ≡ count
 count_at bytes count rest h =
     let twenty : length h.stamps + 0 ≡ 20 = let t = h.twenty in omega (arith, t) in
-    ap (λ (l : List ℕ). get_or l 21 0) h.front ∙ ap (λ (n : ℕ). get_or (h.stamps ++ count ∷ rest) n 0) (sym twenty) ∙ get_or-append-add h.stamps (count ∷ rest) 0 0
+    ap (λ (l : List ℕ). get_or l 21 0) h.prefix ∙ ap (λ (n : ℕ). get_or (h.stamps ++ count ∷ rest) n 0) (sym twenty) ∙ get_or-append-add h.stamps (count ∷ rest) 0 0
 
-front_on : (form : FeedForm) (bytes more : List ℕ) → IsCutFront form bytes → length bytes + length more < 22 → IsUnended form (bytes ++ more)
-front_on form bytes more h short =
+prefix_on : (form : FeedForm) (bytes more : List ℕ) → IsCutPrefix form bytes → length bytes + length more < 22 → IsUnended form (bytes ++ more)
+prefix_on form bytes more h short =
     let len = length-append bytes more in
-    inr (inr (inl (record { runs = h.runs; rest = h.rest ++ more; front = ap (λ (l : List ℕ). l ++ more) h.front; short = omega (arith, len, short) })))
+    inr (inr (inl (record { runs = h.runs; rest = h.rest ++ more; prefix = ap (λ (l : List ℕ). l ++ more) h.prefix; short = omega (arith, len, short) })))
 
 run_on : (form : FeedForm) (bytes more : List ℕ) (h : IsCutRun form bytes) → length h.rest + length more < 5 * h.count → IsUnended form (bytes ++ more)
 run_on form bytes more h short =
     let len = length-append h.rest more in
-    inr (inr (inr (record { runs = h.runs; count = h.count; rest = h.rest ++ more; front = begins_on bytes more h.count h.rest h.front; within = h.within; short = omega (arith, len, short) })))
+    inr (inr (inr (record { runs = h.runs; count = h.count; rest = h.rest ++ more; prefix = begins_on bytes more h.count h.rest h.prefix; within = h.within; short = omega (arith, len, short) })))
 
 pub lacks_run : (form : FeedForm) (bytes : List ℕ) (k : ℕ) (rest : List ℕ) (size : ℕ) → bytes ≡ k ∷ rest → size_of_kind k ≡ None → (length bytes < 22 → size ≡ 22) → (22 ≤ length bytes → size ≡ 22 + 5 * get_or bytes 21 0) → IsUnended form bytes
     → (length bytes ≤ size) × Lacks form bytes (size - length bytes)
 lacks_run form bytes k rest size e none before after (inl nil) = let never = sym nil ∙ e in absurd cc
 lacks_run form bytes k rest size e none before after (inr (inl h)) =
-    let kind : k ≡ h.kind = kind_is bytes k h.kind rest h.rest e h.front in
+    let kind : k ≡ h.kind = kind_is bytes k h.kind rest h.rest e h.prefix in
     let never = sym none ∙ ap size_of_kind kind ∙ h.some in
     absurd cc
 lacks_run form bytes k rest size e none before after (inr (inr (inl h))) =
     let short = h.short in
     let is = before short in
-    (omega (arith, short, is), record { some = omega (arith, short, is); room = omega (arith, short, is); unended = λ more lt. front_on form bytes more h (omega (arith, short, is, lt)) })
+    (omega (arith, short, is), record { some = omega (arith, short, is); room = omega (arith, short, is); unended = λ more lt. prefix_on form bytes more h (omega (arith, short, is, lt)) })
 lacks_run form bytes k rest size e none before after (inr (inr (inr h))) =
-    let len = begins_length bytes h.count h.rest h.front in
+    let len = begins_length bytes h.count h.rest h.prefix in
     let is = after (omega (arith, len)) in
-    let count = count_at bytes h.count h.rest h.front in
+    let count = count_at bytes h.count h.rest h.prefix in
     let short = h.short in
     let many = h.within.1 in
     (omega (arith, len, is, count, short), record { some = omega (arith, len, is, count, short); room = omega (arith, len, is, count, short, many); unended = λ more lt. run_on form bytes more h (omega (arith, len, is, count, short, lt)) })
@@ -101,9 +101,9 @@ kept_read : (form : Option FeedForm) (place : ℕ) (kept : List ℕ) (missing : 
 kept_read None place kept missing piece h few =
     let len = length-append kept piece in
     let four = h.2 in
-    inl (record { front = refl; still = refl; short = omega (arith, few, len, four); none = refl; all = refl })
+    inl (record { prefix = refl; still = refl; short = omega (arith, few, len, four); none = refl; all = refl })
 kept_read (Some form) place kept missing piece h few =
-    inr (form, refl, record { agrees = refl; items = []; front = []; spells = refl; joined = refl; split = refl; unended = h.1.unended piece few })
+    inr (form, refl, record { agrees = refl; items = []; prefix = []; spells = refl; joined = refl; split = refl; unended = h.1.unended piece few })
 
 pub kept_takes : (r : Reader) (missing : ℕ) (piece kept : List ℕ) (ops : List Op) → IsReader r missing → length piece < missing → kept ≡ r.kept ++ piece → ops ≡ [] → r.failed ≡ false → Takes r piece ops (keeping r r.form piece kept)
 kept_takes r missing piece kept ops h few e none f =

@@ -14,7 +14,7 @@ use Rattle.desk_codec.specs.Spelling.{spelling, IsHeld}
 use Rattle.desk_codec.specs.Items.{One, Run, next_stamp, run_ops, symbol_spelling}
 use Rattle.desk_codec.specs.Fault.{fields_of, cause, Mark, mark_bytes, IsNoRun, IsCut, IsUnlawful}
 use Rattle.desk_codec.specs.Gathered.{Adds}
-use Rattle.desk_codec.specs.ItemReading.{GivesItem, RunFront, GivesInserts, HasUnlawful}
+use Rattle.desk_codec.specs.ItemReading.{GivesItem, RunPrefix, GivesInserts, HasUnlawful}
 use Rattle.desk_codec.proofs.GatheredLaws.{adds_then}
 use Rattle.desk_codec.proofs.Numbers.{IsBytes}
 use Rattle.desk_codec.proofs.HereLaws.{InsertOf, insert_of, cause_after, cause_first, marks_here, rest_bytes, begins, run_stands, run_there, run_unlawful}
@@ -31,9 +31,9 @@ inserts_before stamp parent count bytes rest end style ch op before mid after so
       many = omega (arith, many, some);
       each = (subst (λ (o : Op). IsHeld o) i.is held, f.each);
       is = subst (λ (o : Op). Adds before after (o ∷ run_ops (next_stamp stamp) stamp f.symbols)) i.is (adds_then before mid after (op ∷ []) (run_ops (next_stamp stamp) stamp f.symbols) m f.is);
-      front = e
+      prefix = e
           ∙ ap (λ (l : List ℕ). l ++ rest) (sym first)
-          ∙ ap (λ (l : List ℕ). symbol_spelling i.symbol ++ l) f.front
+          ∙ ap (λ (l : List ℕ). symbol_spelling i.symbol ++ l) f.prefix
           ∙ sym (append_assoc (symbol_spelling i.symbol) (flat_map symbol_spelling f.symbols) end)
           ∙ ap (λ (l : List ℕ). l ++ end) (sym (flat_map-cons symbol_spelling i.symbol f.symbols));
     }
@@ -56,7 +56,7 @@ unlawful_before stamp parent count bytes rest style ch op first some s c held is
       many = omega (arith, many, some);
       values = ((s, c), h.values);
       rest = h.rest;
-      front = mark_there mark h.marks bytes rest h.rest e h.front;
+      prefix = mark_there mark h.marks bytes rest h.rest e h.prefix;
       is = cause_after stamp parent mark h.marks op first held is h.is;
     }
 
@@ -73,25 +73,25 @@ refused_first stamp parent count bytes rest style ch first some s c fits long e 
     let len : length bytes ≡ 5 + length rest = ap (λ (l : List ℕ). length l) e ∙ length-append (mark_bytes mark) rest in
     let m = marks_here (count - 1) rest (rest_bytes bytes (mark_bytes mark) rest fits e) (omega (arith, long, len, some)) in
     let many = m.many in
-    record { marks = mark ∷ m.marks; many = omega (arith, many, some); values = ((s, c), m.values); rest = m.rest; front = mark_there mark m.marks bytes rest m.rest e m.front; is = cause_first stamp parent mark m.marks first is }
+    record { marks = mark ∷ m.marks; many = omega (arith, many, some); values = ((s, c), m.values); rest = m.rest; prefix = mark_there mark m.marks bytes rest m.rest e m.prefix; is = cause_first stamp parent mark m.marks first is }
 
 -- ---- a run
 
-pub miscounted : (bytes : List ℕ) (stamp parent : Stamp) (count : ℕ) (rest : List ℕ) → RunFront bytes stamp parent count rest → (count < 2) ⊎ ((2 ≤ count) × (64 < count)) → IsNoRun Runs bytes
-miscounted bytes stamp parent count rest h (inl few) = record { runs = tt; count = count; rest = rest; front = begins bytes stamp parent count rest h.front; out = λ within. let least = within.0 in omega (arith, few, least) }
-miscounted bytes stamp parent count rest h (inr many) = record { runs = tt; count = count; rest = rest; front = begins bytes stamp parent count rest h.front; out = λ within. let most = within.1 in let out = many.1 in omega (arith, out, most) }
+pub miscounted : (bytes : List ℕ) (stamp parent : Stamp) (count : ℕ) (rest : List ℕ) → RunPrefix bytes stamp parent count rest → (count < 2) ⊎ ((2 ≤ count) × (64 < count)) → IsNoRun Runs bytes
+miscounted bytes stamp parent count rest h (inl few) = record { runs = tt; count = count; rest = rest; prefix = begins bytes stamp parent count rest h.prefix; out = λ within. let least = within.0 in omega (arith, few, least) }
+miscounted bytes stamp parent count rest h (inr many) = record { runs = tt; count = count; rest = rest; prefix = begins bytes stamp parent count rest h.prefix; out = λ within. let most = within.1 in let out = many.1 in omega (arith, out, most) }
 
-pub cut_symbols : (bytes : List ℕ) (stamp parent : Stamp) (count : ℕ) (rest : List ℕ) → RunFront bytes stamp parent count rest → 2 ≤ count → count ≤ 64 → length rest < 5 * count → IsCut Runs bytes
-cut_symbols bytes stamp parent count rest h least most short = inr (inr (record { runs = tt; count = count; rest = rest; front = begins bytes stamp parent count rest h.front; within = (least, most); short = short }))
+pub cut_symbols : (bytes : List ℕ) (stamp parent : Stamp) (count : ℕ) (rest : List ℕ) → RunPrefix bytes stamp parent count rest → 2 ≤ count → count ≤ 64 → length rest < 5 * count → IsCut Runs bytes
+cut_symbols bytes stamp parent count rest h least most short = inr (inr (record { runs = tt; count = count; rest = rest; prefix = begins bytes stamp parent count rest h.prefix; within = (least, most); short = short }))
 
-pub run_given : (bytes : List ℕ) (stamp parent : Stamp) (count : ℕ) (rest end : List ℕ) (before after : Option (List Op)) → RunFront bytes stamp parent count rest → 2 ≤ count → count ≤ 64 → GivesInserts stamp parent count rest before after end → GivesItem Runs bytes before after end
+pub run_given : (bytes : List ℕ) (stamp parent : Stamp) (count : ℕ) (rest end : List ℕ) (before after : Option (List Op)) → RunPrefix bytes stamp parent count rest → 2 ≤ count → count ≤ 64 → GivesInserts stamp parent count rest before after end → GivesItem Runs bytes before after end
 run_given bytes stamp parent count rest end before after h least most g =
-    record { item = Run stamp parent g.symbols; stands = run_stands Runs stamp parent count g.symbols tt (least, most) g.many g.each; is = g.is; front = run_there bytes stamp parent count rest end g.symbols h.front g.many g.front }
+    record { item = Run stamp parent g.symbols; stands = run_stands Runs stamp parent count g.symbols tt (least, most) g.many g.each; is = g.is; prefix = run_there bytes stamp parent count rest end g.symbols h.prefix g.many g.prefix }
 
-pub run_refused : (bytes : List ℕ) (stamp parent : Stamp) (count : ℕ) (rest : List ℕ) (first : Unlawful) → RunFront bytes stamp parent count rest → 2 ≤ count → count ≤ 64 → HasUnlawful stamp parent count rest first → IsUnlawful Runs bytes first
-run_refused bytes stamp parent count rest first h least most g = run_unlawful Runs bytes stamp parent count rest g.rest g.marks first tt h.stamp_value h.parent_value h.front (least, most) g.many g.values g.front g.is
+pub run_refused : (bytes : List ℕ) (stamp parent : Stamp) (count : ℕ) (rest : List ℕ) (first : Unlawful) → RunPrefix bytes stamp parent count rest → 2 ≤ count → count ≤ 64 → HasUnlawful stamp parent count rest first → IsUnlawful Runs bytes first
+run_refused bytes stamp parent count rest first h least most g = run_unlawful Runs bytes stamp parent count rest g.rest g.marks first tt h.stamp_value h.parent_value h.prefix (least, most) g.many g.values g.prefix g.is
 
 -- ---- an item whose kind is no run's
 
 pub op_given : (form : FeedForm) (bytes rest : List ℕ) (op : Op) (before after : Option (List Op)) → IsHeld op → bytes ≡ spelling op ++ rest → Adds before after (op ∷ []) → GivesItem form bytes before after rest
-op_given form bytes rest op before after held e is = record { item = One op; stands = held; is = is; front = e }
+op_given form bytes rest op before after held e is = record { item = One op; stands = held; is = is; prefix = e }

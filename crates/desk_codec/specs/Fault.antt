@@ -138,7 +138,7 @@ item_cause (RunOf stamp parent marks) = run_cause stamp parent marks
 pub record HasNoKind (form : FeedForm) (bytes : List ℕ) : Type 0 where
   pub kind : ℕ
   pub rest : List ℕ
-  pub front : bytes ≡ kind ∷ rest
+  pub prefix : bytes ≡ kind ∷ rest
   pub none : size_of_kind kind ≡ None
   pub no_run : HasRuns form → kind ≡ 4 → ⊥
 
@@ -146,30 +146,30 @@ pub record HasNoKind (form : FeedForm) (bytes : List ℕ) : Type 0 where
 pub record BeginsRun (bytes : List ℕ) (count : ℕ) (rest : List ℕ) : Type 0 where
   pub stamps : List ℕ
   pub twenty : length stamps ≡ 20
-  pub front : bytes ≡ 4 ∷ stamps ++ count ∷ rest
+  pub prefix : bytes ≡ 4 ∷ stamps ++ count ∷ rest
 
 -- a run begins that has no such count
 pub record IsNoRun (form : FeedForm) (bytes : List ℕ) : Type 0 where
   pub runs : HasRuns form
   pub count : ℕ
   pub rest : List ℕ
-  pub front : BeginsRun bytes count rest
+  pub prefix : BeginsRun bytes count rest
   pub out : IsRunLength count → ⊥
 
 -- the byte at the start begins an operation, and the bytes end inside it
 pub record IsCutOp (bytes : List ℕ) : Type 0 where
   pub kind : ℕ
   pub rest : List ℕ
-  pub front : bytes ≡ kind ∷ rest
+  pub prefix : bytes ≡ kind ∷ rest
   pub size : ℕ
   pub some : size_of_kind kind ≡ Some size
   pub short : length bytes < size
 
 -- a run begins, and the bytes end before its count
-pub record IsCutFront (form : FeedForm) (bytes : List ℕ) : Type 0 where
+pub record IsCutPrefix (form : FeedForm) (bytes : List ℕ) : Type 0 where
   pub runs : HasRuns form
   pub rest : List ℕ
-  pub front : bytes ≡ 4 ∷ rest
+  pub prefix : bytes ≡ 4 ∷ rest
   pub short : length bytes < 22
 
 -- a run begins, and the bytes end inside its symbols
@@ -177,13 +177,13 @@ pub record IsCutRun (form : FeedForm) (bytes : List ℕ) : Type 0 where
   pub runs : HasRuns form
   pub count : ℕ
   pub rest : List ℕ
-  pub front : BeginsRun bytes count rest
+  pub prefix : BeginsRun bytes count rest
   pub within : IsRunLength count
   pub short : length rest < 5 * count
 
 -- an item begins, and the bytes end inside it
 abbrev pub IsCut : FeedForm → List ℕ → Type 0
-IsCut form bytes = IsCutOp bytes ⊎ (IsCutFront form bytes ⊎ IsCutRun form bytes)
+IsCut form bytes = IsCutOp bytes ⊎ (IsCutPrefix form bytes ⊎ IsCutRun form bytes)
 
 -- the bytes of an item's fields stand at the start, and this is the first cause why they are not lawful
 pub record IsUnlawful (form : FeedForm) (bytes : List ℕ) (first : Unlawful) : Type 0 where
@@ -191,7 +191,7 @@ pub record IsUnlawful (form : FeedForm) (bytes : List ℕ) (first : Unlawful) : 
   pub values : AreItemValues fields
   pub stands : MayStand form fields
   pub rest : List ℕ
-  pub front : bytes ≡ item_bytes fields ++ rest
+  pub prefix : bytes ≡ item_bytes fields ++ rest
   pub is : item_cause fields ≡ Err first
 
 -- what is wrong at the start of bytes in a feed of the form
@@ -205,11 +205,11 @@ IsWrong form bytes why.Run = IsNoRun form bytes
 -- Bytes read on from a place begin with items, and then something is wrong: that is the fault, at its place.
 pub record GoesWrong (form : FeedForm) (place : ℕ) (bytes : List ℕ) (fault : FeedFault) : Type 0 where
   pub before : List Item
-  pub front : List ℕ
-  pub spells : Spells form front before
+  pub prefix : List ℕ
+  pub spells : Spells form prefix before
   pub rest : List ℕ
-  pub split : bytes ≡ front ++ rest
-  pub there : fault.at ≡ place + length front
+  pub split : bytes ≡ prefix ++ rest
+  pub there : fault.at ≡ place + length prefix
   pub wrong : IsWrong form rest fault.why
 
 -- no magic stands at the start

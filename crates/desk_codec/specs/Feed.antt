@@ -59,6 +59,6 @@ pub record IsFeed (bytes : List ℕ) (ops : List Op) : Type 0 where
   pub form : FeedForm
   pub items : List Item
   pub rest : List ℕ
-  pub front : bytes ≡ magic_of form ++ rest
+  pub prefix : bytes ≡ magic_of form ++ rest
   pub spells : Spells form rest items
   pub joined : ops ≡ ops_in items

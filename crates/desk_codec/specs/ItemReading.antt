@@ -18,15 +18,15 @@ pub record GivesItem (form : FeedForm) (bytes : List ℕ) (before after : Option
   pub item : Item
   pub stands : Stands form item
   pub is : Adds before after (item_ops item)
-  pub front : bytes ≡ item_spelling item ++ rest
+  pub prefix : bytes ≡ item_spelling item ++ rest
 
 -- items stand at the start, whose operations come after those before
 pub record GivesItems (form : FeedForm) (bytes : List ℕ) (before after : Option (List Op)) (rest : List ℕ) : Type 0 where
   pub items : List Item
-  pub front : List ℕ
-  pub spells : Spells form front items
+  pub prefix : List ℕ
+  pub spells : Spells form prefix items
   pub is : Adds before after (ops_in items)
-  pub split : bytes ≡ front ++ rest
+  pub split : bytes ≡ prefix ++ rest
 
 -- items stand at the start, and no whole one after them
 pub record GivesRest (form : FeedForm) (bytes : List ℕ) (before : Option (List Op)) (read : FeedForm) (after : Option (List Op)) (kept : List ℕ) : Type 0 where
@@ -35,8 +35,8 @@ pub record GivesRest (form : FeedForm) (bytes : List ℕ) (before : Option (List
   pub unended : IsUnended form kept
 
 -- a run's kind, its stamps and its count stand at the start
-pub record RunFront (bytes : List ℕ) (stamp parent : Stamp) (count : ℕ) (rest : List ℕ) : Type 0 where
-  pub front : bytes ≡ 4 ∷ stamp_spelling stamp ++ stamp_spelling parent ++ count ∷ rest
+pub record RunPrefix (bytes : List ℕ) (stamp parent : Stamp) (count : ℕ) (rest : List ℕ) : Type 0 where
+  pub prefix : bytes ≡ 4 ∷ stamp_spelling stamp ++ stamp_spelling parent ++ count ∷ rest
   pub stamp_value : IsStampValue stamp
   pub parent_value : IsStampValue parent
 
@@ -46,7 +46,7 @@ pub record GivesInserts (stamp parent : Stamp) (count : ℕ) (bytes : List ℕ) 
   pub many : length symbols ≡ count
   pub each : AllByRecursion IsHeld (run_ops stamp parent symbols)
   pub is : Adds before after (run_ops stamp parent symbols)
-  pub front : bytes ≡ flat_map symbol_spelling symbols ++ rest
+  pub prefix : bytes ≡ flat_map symbol_spelling symbols ++ rest
 
 -- so many symbols' numbers stand at the start, and this is the first cause of the first insert of a run of them that is not lawful
 pub record HasUnlawful (stamp parent : Stamp) (count : ℕ) (bytes : List ℕ) (first : Unlawful) : Type 0 where
@@ -54,5 +54,5 @@ pub record HasUnlawful (stamp parent : Stamp) (count : ℕ) (bytes : List ℕ) (
   pub many : length marks ≡ count
   pub values : AllByRecursion IsMarkValue marks
   pub rest : List ℕ
-  pub front : bytes ≡ flat_map mark_bytes marks ++ rest
+  pub prefix : bytes ≡ flat_map mark_bytes marks ++ rest
   pub is : run_cause stamp parent marks ≡ Err first

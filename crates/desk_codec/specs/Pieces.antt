@@ -45,7 +45,7 @@ IsUnended form bytes = (bytes ≡ []) ⊎ IsCut form bytes
 
 -- the feed begins with these bytes, which may become a magic
 pub record AwaitsMagic (before : Option FeedForm) (bytes : List ℕ) (ops : List Op) (after : Option FeedForm) (kept : List ℕ) : Type 0 where
-  pub front : before ≡ None
+  pub prefix : before ≡ None
   pub still : after ≡ None
   pub short : length bytes < 4
   pub none : ops ≡ []
@@ -55,10 +55,10 @@ pub record AwaitsMagic (before : Option FeedForm) (bytes : List ℕ) (ops : List
 pub record Reads (before : Option FeedForm) (bytes : List ℕ) (ops : List Op) (form : FeedForm) (kept : List ℕ) : Type 0 where
   pub agrees : Agrees before form
   pub items : List Item
-  pub front : List ℕ
-  pub spells : Spells form front items
+  pub prefix : List ℕ
+  pub spells : Spells form prefix items
   pub joined : ops ≡ ops_in items
-  pub split : bytes ≡ due before form ++ (front ++ kept)
+  pub split : bytes ≡ due before form ++ (prefix ++ kept)
   pub unended : IsUnended form kept
 
 -- what is read of bytes, and what is kept of them
@@ -67,7 +67,7 @@ IsRead before bytes ops after kept = AwaitsMagic before bytes ops after kept ⊎
 
 -- four bytes stand at the start of the feed, and are no magic
 pub record IsNotMagic (before : Option FeedForm) (bytes : List ℕ) (fault : FeedFault) : Type 0 where
-  pub front : before ≡ None
+  pub prefix : before ≡ None
   pub long : 4 ≤ length bytes
   pub wrong : HasNoMagic bytes fault
 
@@ -124,7 +124,7 @@ pub record IsWhole (r : Reader) : Type 0 where
 
 -- the pieces so far end inside the magic, or inside an item
 pub record EndsInMagic (r : Reader) (fault : FeedFault) : Type 0 where
-  pub front : r.form ≡ None
+  pub prefix : r.form ≡ None
   pub is : fault ≡ record { «at» = 0; why = why.Magic }
 
 pub record EndsInItem (r : Reader) (fault : FeedFault) : Type 0 where

@@ -160,8 +160,8 @@ pub fn take_u32(bytes: &[u8]) -> (u32, &[u8])
     ensures bytes { bytes.now ≡ to_be_bytes w32 result.0 ++ result.1.now }
     ensures value { result.0 < 2 ^ 32 }
 {
-    let (front, rest) = bytes.split_first_chunk::<4>().unwrap();
-    (u32::from_be_bytes(*front), rest)
+    let (prefix, rest) = bytes.split_first_chunk::<4>().unwrap();
+    (u32::from_be_bytes(*prefix), rest)
 }
 
 pub fn take_stamp(bytes: &[u8]) -> (Stamp, &[u8])

@@ -33,7 +33,7 @@ pub const MOST_SIZE: usize = 342;
 pub const RUN_KIND: u8 = 4;
 
 /// How many bytes of a run come before its symbols: its kind, its two stamps, and its count.
-pub const RUN_FRONT: usize = 22;
+pub const RUN_PREFIX: usize = 22;
 
 /// How many bytes a symbol of a run takes.
 pub const SYMBOL_SIZE: usize = 5;
@@ -66,7 +66,7 @@ impl FeedForm {
         let singles = size / LEAST_SIZE;
         match self {
             FeedForm::Singles => singles,
-            FeedForm::Runs => singles.max(size.saturating_sub(RUN_FRONT) / SYMBOL_SIZE),
+            FeedForm::Runs => singles.max(size.saturating_sub(RUN_PREFIX) / SYMBOL_SIZE),
         }
     }
 }

@@ -4,11 +4,11 @@ ghost use Rattle.std.specs.Prelude.{◌≡◌, ◌*◌, ◌≤◌, ◌<◌, leng
 ghost use Rattle.desk_codec.specs.declared.form.FeedForm.TheVariants.{Runs};
 ghost use Rattle.desk_codec.specs.declared.fault.FeedWhy.TheVariants as why;
 ghost use Rattle.desk_codec.specs.Fault.{IsWrong};
-ghost use Rattle.desk_codec.specs.ItemReading.{GivesItem, GivesInserts, HasUnlawful, RunFront};
+ghost use Rattle.desk_codec.specs.ItemReading.{GivesItem, GivesInserts, HasUnlawful, RunPrefix};
 
 use crate::fault::FeedWhy;
 use crate::fields::{Fields, take_byte, take_stamp, take_u32};
-use crate::form::{FeedForm, LEAST_RUN, MOST_RUN, RUN_FRONT, RUN_KIND, SYMBOL_SIZE};
+use crate::form::{FeedForm, LEAST_RUN, MOST_RUN, RUN_KIND, RUN_PREFIX, SYMBOL_SIZE};
 use crate::gathered::Gathered;
 use crate::reading::next_op;
 use desk_ops::{Stamp, Unlawful};
@@ -48,10 +48,10 @@ fn take_inserts<'a, A: Allocator>(
 }
 
 /// A run's first stamp, its parent and its count, and the bytes after them.
-fn take_front(bytes: &[u8]) -> (Stamp, Stamp, u8, &[u8])
+fn take_prefix(bytes: &[u8]) -> (Stamp, Stamp, u8, &[u8])
     requires kind { get_or bytes.now 0 0 ≡ 4 }
     requires whole { 22 ≤ length bytes.now }
-    ensures front { RunFront bytes.now result.0 result.1 result.2 result.3.now }
+    ensures prefix { RunPrefix bytes.now result.0 result.1 result.2 result.3.now }
 {
     let (_, rest) = take_byte(bytes);
     let (stamp, rest) = take_stamp(rest);
@@ -68,10 +68,10 @@ fn next_run<'a, A: Allocator>(bytes: &'a [u8], ops: &mut Gathered<A>) -> Result<
     ensures refused { IfErr result (λ w. IsWrong Runs bytes.now w) }
     ensures cut { result ≡ Err why.Cut → ops.new ≡ ops.old }
 {
-    if bytes.len() < RUN_FRONT {
+    if bytes.len() < RUN_PREFIX {
         return Err(FeedWhy::Cut);
     }
-    let (stamp, parent, count, rest) = take_front(bytes);
+    let (stamp, parent, count, rest) = take_prefix(bytes);
     let count = count as usize;
     if count < LEAST_RUN || count > MOST_RUN {
         return Err(FeedWhy::Run);

@@ -12,7 +12,7 @@ ghost use Rattle.desk_codec.specs.declared.fault.FeedWhy.TheVariants as why;
 ghost use Rattle.desk_codec.specs.declared.fault.ReadFault.TheVariants as fault;
 
 use crate::fault::{FeedFault, FeedWhy, ReadFault};
-use crate::form::{FeedForm, Kind, MAGIC, MOST_SIZE, RUN_FRONT, SYMBOL_SIZE};
+use crate::form::{FeedForm, Kind, MAGIC, MOST_SIZE, RUN_PREFIX, SYMBOL_SIZE};
 use crate::gathered::Gathered;
 use crate::items::next_item;
 use crate::writing::put;
@@ -174,12 +174,12 @@ fn keep(kept: &mut ArrayVec<u8, 342>, is_behind: bool, rest: &[u8])
 
 /// How many bytes a run takes that begins with these bytes, or how many come before its symbols where its count is lacking.
 fn run_size(bytes: &[u8]) -> usize
-    ensures front { length bytes.now < 22 → result ≡ 22 }
+    ensures prefix { length bytes.now < 22 → result ≡ 22 }
     ensures whole { 22 ≤ length bytes.now → result ≡ 22 + 5 * get_or bytes.now 21 0 }
 {
-    match bytes.get(RUN_FRONT - 1) {
-        Some(&count) => RUN_FRONT + SYMBOL_SIZE * count as usize,
-        None => RUN_FRONT,
+    match bytes.get(RUN_PREFIX - 1) {
+        Some(&count) => RUN_PREFIX + SYMBOL_SIZE * count as usize,
+        None => RUN_PREFIX,
     }
 }
 
@@ -199,12 +199,12 @@ fn missing_after(form: FeedForm, bytes: &[u8]) -> usize
 }
 
 /// The bytes of a magic one after the other.
-fn join(front: &[u8], end: &[u8]) -> ArrayVec<u8, 4>
-    requires { length front.now + length end.now ≤ 4 }
-    ensures { result.items ≡ front.now ++ end.now }
+fn join(prefix: &[u8], end: &[u8]) -> ArrayVec<u8, 4>
+    requires { length prefix.now + length end.now ≤ 4 }
+    ensures { result.items ≡ prefix.now ++ end.now }
 {
     let mut all = ArrayVec::new();
-    put(&mut all, front);
+    put(&mut all, prefix);
     put(&mut all, end);
     all
 }

@@ -119,7 +119,7 @@ const EACH_AND_NINE: [u8; 68] = [
 ];
 
 /// What so many of these bytes are answered in all, however they are cut.
-fn answer_of_front(len: usize) -> Answer<'static> {
+fn answer_of_prefix(len: usize) -> Answer<'static> {
     match len {
         0..=3 => Err(fault(0, FeedWhy::Magic)),
         4 => Ok(&EACH[..0]),
@@ -140,8 +140,8 @@ pub fn read_cut(
     first: usize,
     second: usize,
 ) -> Result<Vec<Op>, ReadFault> {
-    let (front, third) = bytes.split_at(second.min(bytes.len()));
-    let (one, two) = front.split_at(first.min(front.len()));
+    let (prefix, third) = bytes.split_at(second.min(bytes.len()));
+    let (one, two) = prefix.split_at(first.min(prefix.len()));
     let mut reader = FeedReader::new();
     let mut ops = reader.feed(alloc, one)?;
     ops.extend_from_slice(&reader.feed(alloc, two)?)?;
@@ -150,17 +150,17 @@ pub fn read_cut(
     Ok(ops)
 }
 
-/// Whether the front of these bytes is answered as it is to be, cut at these two places.
+/// Whether the prefix of these bytes is answered as it is to be, cut at these two places.
 fn is_cut_right(alloc: Global, len: usize, first: usize, second: usize) -> bool {
     let bytes = &EACH_AND_NINE[..len.min(68)];
-    match (read_cut(alloc, bytes, first, second), answer_of_front(len)) {
+    match (read_cut(alloc, bytes, first, second), answer_of_prefix(len)) {
         (Ok(ops), Ok(want)) => ops.as_slice() == want,
         (Err(fault), Err(want)) => fault == want,
         _ => false,
     }
 }
 
-/// Every front of the bytes in two pieces, and the feed and the feed with the 9 in three.
+/// Every prefix of the bytes in two pieces, and the feed and the feed with the 9 in three.
 #[test]
 fn each_cut_of_a_feed(rt: HostRuntime) {
     for len in 0..69usize {
@@ -232,10 +232,10 @@ fn feed_again(
 /// How many of the two pieces of `FEED_AB`, cut at this place, were refused memory in a cut heap.
 fn refused_pieces(alloc: Global, cut: usize, place: usize) -> Result<u32, Fail> {
     let heap = LocalHeap::new(alloc, 512)?;
-    let (front, end) = FEED_AB.split_at(place.min(56));
+    let (prefix, end) = FEED_AB.split_at(place.min(56));
     let (before, after) = AB.split_at(if place < 30 { 0 } else { 1 });
     let mut reader = FeedReader::new();
-    let first = feed_again(&heap, cut, &mut reader, front, before)?;
+    let first = feed_again(&heap, cut, &mut reader, prefix, before)?;
     let second = feed_again(&heap, cut, &mut reader, end, after)?;
     if reader.finish().is_err() {
         return Err(Fail::new("no whole feed"));
@@ -243,13 +243,13 @@ fn refused_pieces(alloc: Global, cut: usize, place: usize) -> Result<u32, Fail> 
     Ok(u32::from(first).saturating_add(u32::from(second)))
 }
 
-/// The front of `A_AND_NINE`, and a setting of the key 6, which there is not.
+/// The prefix of `A_AND_NINE`, and a setting of the key 6, which there is not.
 const A_AND_NO_KEY: [u8; 46] = [
     0x4d, 0x46, 0x44, 0x31, 1, 0, 0, 0, 0, 0, 0, 0, 1, 0, 1, 0, 0, 0, 0, 0, 0, 0, 0, 0, 0, 0, 0, 0,
     0, 0x61, 3, 0, 0, 0, 0, 0, 0, 0, 5, 0, 2, 6, 0, 0, 0, 0x90,
 ];
 
-/// The same insert in a feed of runs, and the front of a run of 65.
+/// The same insert in a feed of runs, and the prefix of a run of 65.
 const A_AND_65: [u8; 52] = [
     0x4d, 0x46, 0x44, 0x32, 1, 0, 0, 0, 0, 0, 0, 0, 1, 0, 1, 0, 0, 0, 0, 0, 0, 0, 0, 0, 0, 0, 0, 0,
     0, 0x61, 4, 0, 0, 0, 0, 0, 0, 0, 2, 0, 1, 0, 0, 0, 0, 0, 0, 0, 1, 0, 1, 65,
@@ -265,9 +265,9 @@ fn is_reported<A: Allocator + Copy>(
     if bytes.len() > 100 {
         return false;
     }
-    let (front, piece) = bytes.split_at(before.min(bytes.len()));
+    let (prefix, piece) = bytes.split_at(before.min(bytes.len()));
     let mut reader = FeedReader::new();
-    is_answered(&mut reader, alloc, front, Ok(&AB[..0]))
+    is_answered(&mut reader, alloc, prefix, Ok(&AB[..0]))
         && is_answered(&mut reader, alloc, piece, Err(want))
         && is_answered(&mut reader, alloc, b"", FAILED)
 }

@@ -139,7 +139,7 @@ const MIXED_AND_NINE: [u8; 137] = [
 ];
 
 /// What so many of these bytes are answered in all, however they are cut.
-fn answer_of_front(len: usize) -> Result<&'static [Op], ReadFault> {
+fn answer_of_prefix(len: usize) -> Result<&'static [Op], ReadFault> {
     match len {
         0..=3 => Err(fault(0, FeedWhy::Magic)),
         4 => Ok(&MIXED[..0]),
@@ -157,17 +157,17 @@ fn answer_of_front(len: usize) -> Result<&'static [Op], ReadFault> {
     }
 }
 
-/// Whether the front of these bytes is answered as it is to be, cut at these two places.
+/// Whether the prefix of these bytes is answered as it is to be, cut at these two places.
 fn is_cut_right(alloc: Global, len: usize, first: usize, second: usize) -> bool {
     let bytes = &MIXED_AND_NINE[..len.min(137)];
-    match (read_cut(alloc, bytes, first, second), answer_of_front(len)) {
+    match (read_cut(alloc, bytes, first, second), answer_of_prefix(len)) {
         (Ok(ops), Ok(want)) => ops.as_slice() == want,
         (Err(told), Err(want)) => told == want,
         _ => false,
     }
 }
 
-/// Every front of the bytes in two pieces, and the feed in three.
+/// Every prefix of the bytes in two pieces, and the feed in three.
 #[test]
 fn each_cut_of_runs(rt: HostRuntime) {
     for second in 0..138usize {

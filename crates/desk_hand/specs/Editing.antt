@@ -9,7 +9,7 @@ use Rattle.desk_ops.specs.OpSet.{OpSet, IsWithin, has_op, with_all, with_op}
 use Rattle.desk_ops.specs.Held.{greatest_counter_of}
 use Rattle.desk_ops.specs.Shown.{copy_of}
 use Rattle.desk_changes.specs.Changes.{AreSparing, all_changed, between, changed}
-use Rattle.desk_changes.specs.Ends.{IsSharedEnd, IsSharedFront}
+use Rattle.desk_changes.specs.Ends.{IsSharedEnd, IsSharedPrefix}
 use Rattle.desk_changes.specs.declared.making.Change.{Change}
 use Rattle.desk_changes.specs.declared.making.Change.TheVariants as changes
 use Rattle.desk_replica.specs.Edits.{delete_refusal, insert_refusal}
@@ -121,7 +121,7 @@ pub record IsRevised (site : ℕ) (old now : OpSet) (text : List Symbol) (insert
 
 -- no more than two copies have symbols between what both begin with and what both end with
 abbrev pub IsSparing : List Symbol → List Symbol → ℕ → Type 0
-IsSparing from to count = (front back : ℕ) × IsSharedFront from to front × IsSharedEnd from to front back × (count ≤ between (front + back) from + between (front + back) to)
+IsSparing from to count = (front back : ℕ) × IsSharedPrefix from to front × IsSharedEnd from to front back × (count ≤ between (front + back) from + between (front + back) to)
 
 -- of changes that make the copy a text, and leave what both begin with, one is refused with this cause; and the set is what those before it made of the old one
 abbrev pub IsRefusedIn : ℕ → OpSet → OpSet → List Symbol → Refusal → Type 0

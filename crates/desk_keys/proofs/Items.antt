@@ -12,39 +12,39 @@ use Rattle.desk_keys.specs.Items.{joined, each_of, so_many}
 
 module _ {A : Type 0} (read : Data → Option A) where
   abbrev pub after : List A → Option (List A) → Option (List A)
-  after front rest = option_map (λ xs. front ++ xs) rest
+  after prefix rest = option_map (λ xs. prefix ++ xs) rest
 
-  after-more : (front : List A) (x : A) (rest : Option (List A)) → after front (joined (Some x) rest) ≡ after (front ++ x ∷ []) rest
-  after-more front x None = refl
-  after-more front x (Some xs) = ap Some (sym (append_assoc front (x ∷ []) xs))
+  after-more : (prefix : List A) (x : A) (rest : Option (List A)) → after prefix (joined (Some x) rest) ≡ after (prefix ++ x ∷ []) rest
+  after-more prefix x None = refl
+  after-more prefix x (Some xs) = ap Some (sym (append_assoc prefix (x ∷ []) xs))
 
   nothing_after : (rest : Option (List A)) → after [] rest ≡ rest
   nothing_after None = refl
   nothing_after (Some xs) = refl
 
   -- what the items are, where those before an index have been read
-  pub record AreReadTo (vs : List Value) (i : ℕ) (front : List A) : Type 0 where
-    pub so_far : each_of read (items_view vs) ≡ after front (each_of read (items_view (drop i vs)))
+  pub record AreReadTo (vs : List Value) (i : ℕ) (prefix : List A) : Type 0 where
+    pub so_far : each_of read (items_view vs) ≡ after prefix (each_of read (items_view (drop i vs)))
 
   pub none_read : (vs : List Value) → AreReadTo vs 0 []
   none_read vs = record { so_far = sym (nothing_after (each_of read (items_view vs))) }
 
-  pub one_read : (vs : List Value) (i : ℕ) (front : List A) (v : Value) (x : A) → i < length vs → v ≡ get_or vs i v → Some x ≡ read (view v) → AreReadTo vs i front
-      → AreReadTo vs (i + 1) (front ++ x ∷ [])
-  one_read vs i front v x within is said h =
+  pub one_read : (vs : List Value) (i : ℕ) (prefix : List A) (v : Value) (x : A) → i < length vs → v ≡ get_or vs i v → Some x ≡ read (view v) → AreReadTo vs i prefix
+      → AreReadTo vs (i + 1) (prefix ++ x ∷ [])
+  one_read vs i prefix v x within is said h =
       let there : read (view (get_or vs i v)) ≡ Some x = rw (← is) (sym said) in
-      record { so_far = h.so_far ∙ rw (items_view-drop vs i v within, there) (after-more front x (each_of read (items_view (drop (i + 1) vs)))) }
+      record { so_far = h.so_far ∙ rw (items_view-drop vs i v within, there) (after-more prefix x (each_of read (items_view (drop (i + 1) vs)))) }
 
-  pub fault_read : (vs : List Value) (i : ℕ) (front : List A) (v : Value) → i < length vs → v ≡ get_or vs i v → None ≡ read (view v) → AreReadTo vs i front
+  pub fault_read : (vs : List Value) (i : ℕ) (prefix : List A) (v : Value) → i < length vs → v ≡ get_or vs i v → None ≡ read (view v) → AreReadTo vs i prefix
       → each_of read (items_view vs) ≡ None
-  fault_read vs i front v within is said h =
+  fault_read vs i prefix v within is said h =
       let there : read (view (get_or vs i v)) ≡ None = rw (← is) (sym said) in
       h.so_far ∙ rw (items_view-drop vs i v within, there)
 
-  pub all_read : (vs : List Value) (i : ℕ) (front : List A) → length vs ≤ i → AreReadTo vs i front → each_of read (items_view vs) ≡ Some front
-  all_read vs i front end h =
+  pub all_read : (vs : List Value) (i : ℕ) (prefix : List A) → length vs ≤ i → AreReadTo vs i prefix → each_of read (items_view vs) ≡ Some prefix
+  all_read vs i prefix end h =
       let none : drop i vs ≡ [] = drop_of_length-le vs end in
-      h.so_far ∙ rw (none, append-nil front)
+      h.so_far ∙ rw (none, append-nil prefix)
 
   joined_length : (o : Option A) (rest : Option (List A)) (k : ℕ) (xs : List A) → ((ys : List A) → rest ≡ Some ys → length ys ≡ k)
       → joined o rest ≡ Some xs → length xs ≡ k + 1
@@ -67,9 +67,9 @@ module _ {A : Type 0} (read : Data → Option A) where
       → None ≡ option_and_then (so_many low high) (each_of read (items_view vs))
   wrong_length vs low high fails = outside (each_of read (items_view vs)) low high (length vs) (λ xs e. each_length vs xs e) fails
 
-  pub right_length : (vs : List Value) (i low high : ℕ) (front : List A) → length vs ≤ i → AreReadTo vs i front → low ≤ length vs → length vs ≤ high
-      → Some front ≡ option_and_then (so_many low high) (each_of read (items_view vs))
-  right_length vs i low high front end h p q =
-      let all = all_read vs i front end h in
-      let long = each_length vs front all in
+  pub right_length : (vs : List Value) (i low high : ℕ) (prefix : List A) → length vs ≤ i → AreReadTo vs i prefix → low ≤ length vs → length vs ≤ high
+      → Some prefix ≡ option_and_then (so_many low high) (each_of read (items_view vs))
+  right_length vs i low high prefix end h p q =
+      let all = all_read vs i prefix end h in
+      let long = each_length vs prefix all in
       rw (all, long, le-leb low (length vs) p, le-leb (length vs) high q)

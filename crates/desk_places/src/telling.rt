@@ -31,8 +31,8 @@ fn window(count: usize, copy: &[Symbol], place: usize) -> &[Symbol]
     ensures { result.now ≡ drop (place - 20) (take (place + count + 20) copy.now) }
 {
     let until = place.saturating_add(count).saturating_add(AROUND);
-    let front = &copy[..until.min(copy.len())];
-    &front[place.saturating_sub(AROUND).min(front.len())..]
+    let prefix = &copy[..until.min(copy.len())];
+    &prefix[place.saturating_sub(AROUND).min(prefix.len())..]
 }
 
 /// The symbols as they are shown.

@@ -18,46 +18,46 @@ use Rattle.desk_text.specs.declared.reader.State.{State}
 use Rattle.desk_text.specs.Reading.{◌>>=◌, Fails, Gives, step, after, ends, start, read_from, reading}
 
 -- what was read before, and what is still read
-abbrev pub with_front : {A : Type 0} → List A → Result (List A) TextFault → Result (List A) TextFault
-with_front front read = read >>= λ more. Ok (front ++ more)
+abbrev pub with_prefix : {A : Type 0} → List A → Result (List A) TextFault → Result (List A) TextFault
+with_prefix prefix read = read >>= λ more. Ok (prefix ++ more)
 
-regroup : {A : Type 0} (front back : List A) (read : Result (List A) TextFault) → with_front front (read >>= λ more. Ok (back ++ more)) ≡ with_front (front ++ back) read
-regroup front back (Err e) = refl
-regroup front back (Ok xs) = ap Ok (sym (append_assoc front back xs))
+regroup : {A : Type 0} (prefix back : List A) (read : Result (List A) TextFault) → with_prefix prefix (read >>= λ more. Ok (back ++ more)) ≡ with_prefix (prefix ++ back) read
+regroup prefix back (Err e) = refl
+regroup prefix back (Ok xs) = ap Ok (sym (append_assoc prefix back xs))
 
 -- a character is read on
-pub read_on : (plain whole : Bool) (front items : List Symbol) (state : State) (here there : Place) (cs : List ℕ) (n m c : ℕ) (to : State) (o : Option Symbol) (total : Result (List Symbol) TextFault)
-    → (n < length cs) × (c ≡ get_or cs n c) → step plain state here c ≡ Ok (to, o) → items ≡ front ++ option_to_list o → there ≡ after here c → m ≡ n + 1
-    → with_front front (read_from plain whole state here (drop n cs)) ≡ total
-    → with_front items (read_from plain whole to there (drop m cs)) ≡ total
-read_on plain whole front items state here there cs n m c to o total at stepped same moved next so_far =
+pub read_on : (plain whole : Bool) (prefix items : List Symbol) (state : State) (here there : Place) (cs : List ℕ) (n m c : ℕ) (to : State) (o : Option Symbol) (total : Result (List Symbol) TextFault)
+    → (n < length cs) × (c ≡ get_or cs n c) → step plain state here c ≡ Ok (to, o) → items ≡ prefix ++ option_to_list o → there ≡ after here c → m ≡ n + 1
+    → with_prefix prefix (read_from plain whole state here (drop n cs)) ≡ total
+    → with_prefix items (read_from plain whole to there (drop m cs)) ≡ total
+read_on plain whole prefix items state here there cs n m c to o total at stepped same moved next so_far =
     let go : read_from plain whole state here (c ∷ drop (n + 1) cs) ≡ (read_from plain whole to (after here c) (drop (n + 1) cs) >>= λ more. Ok (option_to_list o ++ more)) = rw stepped refl in
-    let ahead : with_front items (read_from plain whole to there (drop m cs)) ≡ with_front (front ++ option_to_list o) (read_from plain whole to (after here c) (drop (n + 1) cs)) = rw (same, moved, next) refl in
-    ahead ∙ sym (regroup front (option_to_list o) (read_from plain whole to (after here c) (drop (n + 1) cs)))
-    ∙ ap (with_front front) (sym go) ∙ ap (λ xs. with_front front (read_from plain whole state here xs)) (sym (drop-at cs n c c at.0 at.1)) ∙ so_far
+    let ahead : with_prefix items (read_from plain whole to there (drop m cs)) ≡ with_prefix (prefix ++ option_to_list o) (read_from plain whole to (after here c) (drop (n + 1) cs)) = rw (same, moved, next) refl in
+    ahead ∙ sym (regroup prefix (option_to_list o) (read_from plain whole to (after here c) (drop (n + 1) cs)))
+    ∙ ap (with_prefix prefix) (sym go) ∙ ap (λ xs. with_prefix prefix (read_from plain whole state here xs)) (sym (drop-at cs n c c at.0 at.1)) ∙ so_far
 
 -- a character is at fault
-pub read_halt : (plain whole : Bool) (front : List Symbol) (state : State) (here : Place) (cs : List ℕ) (n c : ℕ) (e : TextFault) (total : Result (List Symbol) TextFault)
+pub read_halt : (plain whole : Bool) (prefix : List Symbol) (state : State) (here : Place) (cs : List ℕ) (n c : ℕ) (e : TextFault) (total : Result (List Symbol) TextFault)
     → (n < length cs) × (c ≡ get_or cs n c) → step plain state here c ≡ Err e
-    → with_front front (read_from plain whole state here (drop n cs)) ≡ total → total ≡ Err e
-read_halt plain whole front state here cs n c e total at stepped so_far =
+    → with_prefix prefix (read_from plain whole state here (drop n cs)) ≡ total → total ≡ Err e
+read_halt plain whole prefix state here cs n c e total at stepped so_far =
     let go : read_from plain whole state here (c ∷ drop (n + 1) cs) ≡ Err e = rw stepped refl in
-    sym so_far ∙ ap (λ xs. with_front front (read_from plain whole state here xs)) (drop-at cs n c c at.0 at.1) ∙ ap (with_front front) go
+    sym so_far ∙ ap (λ xs. with_prefix prefix (read_from plain whole state here xs)) (drop-at cs n c c at.0 at.1) ∙ ap (with_prefix prefix) go
 
-pub read_end : (plain whole : Bool) (front : List Symbol) (state : State) (here : Place) (cs : List ℕ) (n : ℕ) (total : Result (List Symbol) TextFault)
-    → length cs ≤ n → with_front front (read_from plain whole state here (drop n cs)) ≡ total
-    → total ≡ with_front front (ends whole state here >>= λ end. Ok [])
-read_end plain whole front state here cs n total past so_far =
-    sym so_far ∙ ap (with_front front) (at_drop_all (read_from plain whole state here) cs n past)
+pub read_end : (plain whole : Bool) (prefix : List Symbol) (state : State) (here : Place) (cs : List ℕ) (n : ℕ) (total : Result (List Symbol) TextFault)
+    → length cs ≤ n → with_prefix prefix (read_from plain whole state here (drop n cs)) ≡ total
+    → total ≡ with_prefix prefix (ends whole state here >>= λ end. Ok [])
+read_end plain whole prefix state here cs n total past so_far =
+    sym so_far ∙ ap (with_prefix prefix) (at_drop_all (read_from plain whole state here) cs n past)
 
-pub ends_well : (whole : Bool) (front : List Symbol) (state : State) (here : Place) (total : Result (List Symbol) TextFault)
-    → ends whole state here ≡ Ok tt → total ≡ with_front front (ends whole state here >>= λ end. Ok []) → total ≡ Ok front
-ends_well whole front state here total ended so_far =
-    so_far ∙ ap (λ r. with_front front (r >>= λ end. Ok [])) ended ∙ ap Ok (append-nil front)
+pub ends_well : (whole : Bool) (prefix : List Symbol) (state : State) (here : Place) (total : Result (List Symbol) TextFault)
+    → ends whole state here ≡ Ok tt → total ≡ with_prefix prefix (ends whole state here >>= λ end. Ok []) → total ≡ Ok prefix
+ends_well whole prefix state here total ended so_far =
+    so_far ∙ ap (λ r. with_prefix prefix (r >>= λ end. Ok [])) ended ∙ ap Ok (append-nil prefix)
 
-pub ends_badly : (whole : Bool) (front : List Symbol) (state : State) (here : Place) (e : TextFault) (total : Result (List Symbol) TextFault)
-    → ends whole state here ≡ Err e → total ≡ with_front front (ends whole state here >>= λ end. Ok []) → total ≡ Err e
-ends_badly whole front state here e total ended so_far = so_far ∙ ap (λ r. with_front front (r >>= λ end. Ok [])) ended
+pub ends_badly : (whole : Bool) (prefix : List Symbol) (state : State) (here : Place) (e : TextFault) (total : Result (List Symbol) TextFault)
+    → ends whole state here ≡ Err e → total ≡ with_prefix prefix (ends whole state here >>= λ end. Ok []) → total ≡ Err e
+ends_badly whole prefix state here e total ended so_far = so_far ∙ ap (λ r. with_prefix prefix (r >>= λ end. Ok [])) ended
 
 -- what is handed on by `?`
 pub handed_on : {X Y : Type 0} (view : X → Y) (result : Result X TextFault) (e : TextFault) (read : Result Y TextFault) → IsErrAnd result (λ given. given ≡ e) → read ≡ Err e → Gives view result read

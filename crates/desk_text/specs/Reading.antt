@@ -93,7 +93,7 @@ read_from plain whole state here (c ∷ cs) = do
   more ← read_from plain whole next.0 (after here c) cs
   Ok (option_to_list next.1 ++ more)
 
--- the symbols of bytes: of the longest front that is UTF-8, which is to be all of them
+-- the symbols of bytes: of the longest prefix that is UTF-8, which is to be all of them
 abbrev pub reading : Bool → List ℕ → Result (List Symbol) TextFault
 reading plain bytes =
     let valid = utf8_valid_len bytes in

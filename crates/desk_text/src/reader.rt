@@ -181,7 +181,7 @@ fn read_chars<A: Allocator + Copy>(
     Ok(symbols)
 }
 
-/// The symbols of bytes: of the longest front that is UTF-8, which is to be all of them.
+/// The symbols of bytes: of the longest prefix that is UTF-8, which is to be all of them.
 fn read_bytes<A: Allocator + Copy>(
     alloc: A,
     bytes: &[u8],
@@ -192,8 +192,8 @@ fn read_bytes<A: Allocator + Copy>(
     match std::str::from_utf8(bytes) {
         Ok(text) => read_chars(alloc, text, true, plain),
         Err(error) => {
-            let front = &bytes[..error.valid_up_to()];
-            match std::str::from_utf8(front) {
+            let prefix = &bytes[..error.valid_up_to()];
+            match std::str::from_utf8(prefix) {
                 Ok(text) => read_chars(alloc, text, false, plain),
                 Err(_) => unreachable!(),
             }

@@ -11,6 +11,6 @@ returns-in_err-op-clause-wrong c =
       values = c.take-fields.ensures.values;
       stands = tt;
       rest = c.take-fields.result.1.now;
-      front = c.take_byte-byte.ensures.bytes ∙ ap (λ (k : ℕ). k ∷ c.take_byte-byte.result.1.now) (sym c.in-Some.ensures) ∙ c.take-fields.ensures.bytes;
+      prefix = c.take_byte-byte.ensures.bytes ∙ ap (λ (k : ℕ). k ∷ c.take_byte-byte.result.1.now) (sym c.in-Some.ensures) ∙ c.take-fields.ensures.bytes;
       is = c.in_err-op.ensures.err;
     }))
