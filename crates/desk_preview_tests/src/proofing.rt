@@ -26,7 +26,7 @@ const NONE: &str = "no galley: the setting measure has no value\n";
 
 /// What a proof writes, and how it ends.
 #[derive(Drop)]
-struct Proofed {
+struct Left {
     written: Vec<u8, Global>,
     ended: Result<bool, PreviewFault>,
 }
@@ -37,7 +37,7 @@ fn proofed(
     k: u64,
     names: (&str, &str, &str),
     extent: Extent,
-) -> Result<Proofed, Fail> {
+) -> Result<Left, Fail> {
     let (feed, case, wedge) = names;
     let mut files = rooms(alloc, k)?;
     let mut written = Vec::new(alloc);
@@ -57,7 +57,7 @@ fn proofed(
     if ended.is_err() && !written.is_empty() {
         return Err(Fail::new("bytes before a fault"));
     }
-    Ok(Proofed { written, ended })
+    Ok(Left { written, ended })
 }
 
 /// Whether a feed has this proof, and is clean or not.

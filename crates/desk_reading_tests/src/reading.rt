@@ -26,7 +26,7 @@ const HEAD: &str = "RIBBON 0 lines, 1 rows, longest 0.0 points\n\
 
 /// What a reading writes, and how it ends.
 #[derive(Drop)]
-struct Reading {
+struct Left {
     written: Vec<u8, Global>,
     ended: Result<bool, ReadingFault>,
 }
@@ -36,7 +36,7 @@ fn read(
     alloc: Global,
     k: u64,
     names: (&str, &str, &str),
-) -> Result<Reading, Fail> {
+) -> Result<Left, Fail> {
     let (ribbon, case, wedge) = names;
     let mut files = rooms(alloc, k)?;
     let mut written = Vec::new(alloc);
@@ -44,7 +44,7 @@ fn read(
     if ended.is_err() && !written.is_empty() {
         return Err(Fail::new("bytes before a fault"));
     }
-    Ok(Reading { written, ended })
+    Ok(Left { written, ended })
 }
 
 /// Whether this is said of a ribbon by a wedge, and it is whole or not.

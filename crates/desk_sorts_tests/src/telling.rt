@@ -62,7 +62,7 @@ const NONE: &str = "SORTS 0 kinds, 0 wanted, 0 missing\n\n  cell   wanted  sort\
 
 /// What is written of a feed, and how that ends.
 #[derive(Drop)]
-struct Told {
+struct Left {
     written: Vec<u8, Global>,
     ended: Result<bool, SortsFault>,
 }
@@ -73,7 +73,7 @@ fn told(
     k: u64,
     names: (&str, &str),
     layout: bool,
-) -> Result<Told, Fail> {
+) -> Result<Left, Fail> {
     let (feed, case) = names;
     let mut files = rooms(alloc, k)?;
     let mut written = Vec::new(alloc);
@@ -81,7 +81,7 @@ fn told(
     if ended.is_err() && !written.is_empty() {
         return Err(Fail::new("bytes before a fault"));
     }
-    Ok(Told { written, ended })
+    Ok(Left { written, ended })
 }
 
 /// Whether a feed has this list, and the case each of its sorts or not.
