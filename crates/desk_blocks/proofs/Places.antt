@@ -10,10 +10,10 @@ use Rattle.desk_ops.specs.declared.op.Style.TheVariants.{Roman}
 use Rattle.desk_ops.specs.Stamp.{before, same, head}
 use Rattle.desk_ops.proofs.Stamps.{by_cases, same-true, same-symm}
 use Rattle.desk_seq.specs.declared.Entry.{Entry}
-use Rattle.desk_seq.specs.Entries.{stamps_of, IsAbsent, AreDistinct, IsFoundAt, IsFirstBelow, shown_in, IsShownAt}
+use Rattle.desk_seq.specs.Entries.{stamps_of, IsAbsent, AreDistinct, IsFoundAt, IsFirstBelow, shown_in, IsShownAt, is_shown}
 use Rattle.desk_seq.proofs.Entries.{length-stamps, stamps-at, absent-at}
 use Rattle.desk_pages.specs.Pages.{IsNth, IsShort}
-use Rattle.desk_blocks.specs.Tally.{is_shown, is_smaller, is_of, IsAt}
+use Rattle.desk_blocks.specs.Tally.{is_smaller, is_of, IsAt}
 
 none : Entry
 none = record { stamp = head; symbol = record { style = Roman; ch = 0 }; deleted = false }

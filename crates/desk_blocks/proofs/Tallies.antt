@@ -11,9 +11,9 @@ use Rattle.desk_ops.specs.Stamp.{before, same}
 use Rattle.desk_ops.proofs.Stamps.{by_cases, before-trans, before-other, before-irrefl, same-true}
 use Rattle.desk_ops.proofs.Lists.{Each-append}
 use Rattle.desk_seq.specs.declared.Entry.{Entry}
-use Rattle.desk_seq.specs.Entries.{marked}
+use Rattle.desk_seq.specs.Entries.{marked, is_shown}
 use Rattle.desk_blocks.specs.declared.tally.Tally.{Tally}
-use Rattle.desk_blocks.specs.Tally.{is_shown, is_smaller, IsTally}
+use Rattle.desk_blocks.specs.Tally.{is_smaller, IsTally}
 
 each-insert : {A : Type 0} (P : A → Type 0) (xs : List A) (p : ℕ) (y : A) → AllByRecursion P xs → P y → AllByRecursion P (take p xs ++ y ∷ drop p xs)
 each-insert P xs zero y a h = (h, a)

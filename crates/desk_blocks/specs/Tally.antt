@@ -1,13 +1,11 @@
 -- What a page's tally says of its entries.
-use Rattle.std.specs.Prelude.{◌≡◌, Bool, false, not, ℕ, List, length, slice_index_or, true, ◌<◌}
+use Rattle.std.specs.Prelude.{◌≡◌, Bool, false, ℕ, List, length, slice_index_or, true, ◌<◌}
 use Rattle.std.specs.List.{count_by, AllByRecursion}
 use Rattle.desk_ops.specs.declared.op.Stamp.{Stamp}
 use Rattle.desk_ops.specs.Stamp.{before, same}
 use Rattle.desk_seq.specs.declared.Entry.{Entry}
+use Rattle.desk_seq.specs.Entries.{is_shown}
 use Rattle.desk_blocks.specs.declared.tally.Tally.{Tally}
-
-abbrev pub is_shown : Entry → Bool
-is_shown e = not e.deleted
 
 abbrev pub is_smaller : Stamp → Entry → Bool
 is_smaller s e = before e.stamp s

@@ -1,7 +1,8 @@
 //! A sequence in pages.
 ghost use Rattle.std.specs.Prelude.{◌≡◌, ◌<◌, ◌≤◌, ◌+◌, length, min, IfSome};
 ghost use Rattle.std.specs.List.{count_by};
-ghost use Rattle.desk_blocks.specs.Tally.{IsAt, is_shown};
+ghost use Rattle.desk_seq.specs.Entries.{is_shown};
+ghost use Rattle.desk_blocks.specs.Tally.{IsAt};
 
 use crate::index::Index;
 use crate::slot::{Slot, add_shown, slots_of};
@@ -23,10 +24,9 @@ pub struct Blocks<A: Allocator> {
 impl<A: Allocator> Model for Blocks<A> {
     ghost use Rattle.std.specs.Prelude.{◌≡◌, min};
     ghost use Rattle.std.specs.List.{count_by};
-    ghost use Rattle.desk_seq.specs.Entries.{Listing, listing_code, AreDistinct, stamps_of};
+    ghost use Rattle.desk_seq.specs.Entries.{Listing, listing_code, AreDistinct, is_shown, stamps_of};
     ghost use Rattle.desk_seq.specs.contracts.Entry as entry;
     ghost use Rattle.desk_blocks.specs.Rank.{Knows};
-    ghost use Rattle.desk_blocks.specs.Tally.{is_shown};
 
     ghost Value = { Listing };
 

@@ -80,7 +80,7 @@ impl Summary<Slot> for Tally {
 pub struct Shown;
 
 impl Pick<Slot, Tally> for Shown {
-    ghost use Rattle.desk_blocks.specs.Tally.{is_shown};
+    ghost use Rattle.desk_seq.specs.Entries.{is_shown};
 
     ghost picked = { λ s e. is_shown e };
 

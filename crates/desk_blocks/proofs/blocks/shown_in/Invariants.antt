@@ -1,6 +1,6 @@
 use Rattle.std.proofs.Common.{◌≡◌, ◌≤◌, take}
+use Rattle.desk_seq.specs.Entries.{is_shown}
 use Rattle.std.specs.List.{count_by}
-use Rattle.desk_blocks.specs.Tally.{is_shown}
 use Rattle.desk_blocks.proofs.blocks.shown_in.Given as goal
 
 abbrev pub invariant-loop-i : goal.invariant-loop-i

@@ -4,10 +4,9 @@ use Rattle.std.specs.List.{count_by, insert}
 use Rattle.std.proofs.lemmas.List.Sums.{count_by-le-length}
 use Rattle.desk_ops.specs.declared.op.Stamp.{Stamp}
 use Rattle.desk_seq.specs.declared.Entry.{Entry}
-use Rattle.desk_seq.specs.Entries.{Listing, IsAbsent, AreDistinct, stamps_of}
+use Rattle.desk_seq.specs.Entries.{Listing, IsAbsent, AreDistinct, stamps_of, is_shown}
 use Rattle.desk_seq.proofs.Entries.{distinct-insert, map-insert, length-stamps}
 use Rattle.desk_blocks.specs.Rank.{Knows}
-use Rattle.desk_blocks.specs.Tally.{is_shown}
 use Rattle.desk_blocks.proofs.Ranks.{absent-none, knows-insert}
 use Rattle.desk_blocks.proofs.Tallies.{shown-insert}
 use Rattle.desk_blocks.proofs.blocks.BlocksSequence.put.Goals as goal

@@ -1,6 +1,6 @@
 use Rattle.std.proofs.Common.{◌≡◌, ◌+◌, ◌∙◌, cond, ap, sym, arith}
+use Rattle.desk_seq.specs.Entries.{is_shown}
 use Rattle.desk_ops.specs.Stamp.{before}
-use Rattle.desk_blocks.specs.Tally.{is_shown}
 use Rattle.desk_blocks.proofs.Tallies.{tally-with, tally-short, lower, not-before-itself}
 use Rattle.desk_blocks.proofs.tally.TallySummarySlot.with.Goals as goal
 use Rattle.desk_blocks.proofs.tally.TallySummarySlot.with.Goals.{then-is_deleted, else-is_deleted}
