@@ -203,10 +203,10 @@ fn hex_digit(n: u8) -> &'static str
 }
 
 /// Writes bytes in hexadecimal at the end.
-#[tactic(auto, using(desk_commands::proofs::Fronts::fronts))]
+#[tactic(auto, using(desk_commands::proofs::Prefixes::prefixes))]
 fn put_hex<A: Allocator + Copy>(out: &mut String<A>, bytes: &[u8]) -> Result<(), AllocError>
     ensures text { OnOk result (string_bytes out.new ≡ string_bytes out.old ++ hex_text bytes.now) }
-    ensures front { StartsWith (string_bytes out.new) (string_bytes out.old) }
+    ensures prefix { StartsWith (string_bytes out.new) (string_bytes out.old) }
 {
     for b in bytes {
         out.push_str(hex_digit(*b / 16))?;
@@ -233,13 +233,13 @@ fn stamp_of(stamp: Stamp) -> Short
 }
 
 /// Writes the faults of a copy at the end, or that there are none.
-#[tactic(auto, using(desk_commands::proofs::Fronts::fronts))]
+#[tactic(auto, using(desk_commands::proofs::Prefixes::prefixes))]
 fn put_faults<A: Allocator + Copy>(
     out: &mut String<A>,
     faults: &[CopyFault],
 ) -> Result<(), AllocError>
     ensures text { OnOk result (string_bytes out.new ≡ string_bytes out.old ++ faults_text faults.now) }
-    ensures front { StartsWith (string_bytes out.new) (string_bytes out.old) }
+    ensures prefix { StartsWith (string_bytes out.new) (string_bytes out.old) }
 {
     if faults.is_empty() {
         return out.push_str("faults none");
@@ -263,13 +263,13 @@ trait Entry: Copy {
     /// Writes it at the end.
     fn put_words<A: Allocator + Copy>(self, out: &mut String<A>) -> Result<(), AllocError>
         ensures text { OnOk result (string_bytes out.new ≡ string_bytes out.old ++ words self) }
-        ensures front { StartsWith (string_bytes out.new) (string_bytes out.old) };
+        ensures prefix { StartsWith (string_bytes out.new) (string_bytes out.old) };
 }
 
 impl Entry for CopyFault {
     ghost words = { copy_fault_words };
 
-    #[tactic(auto, using(desk_commands::proofs::Fronts::fronts))]
+    #[tactic(auto, using(desk_commands::proofs::Prefixes::prefixes))]
     fn put_words<A: Allocator + Copy>(self, out: &mut String<A>) -> Result<(), AllocError> {
         out.push_str(self.kind.name())?;
         out.push_str(" ")?;
@@ -278,13 +278,13 @@ impl Entry for CopyFault {
 }
 
 /// Writes each behind a space, or a comma and a space.
-#[tactic(auto, using(desk_commands::proofs::Fronts::fronts))]
+#[tactic(auto, using(desk_commands::proofs::Prefixes::prefixes))]
 fn put_list<A: Allocator + Copy, E: Entry>(
     out: &mut String<A>,
     entries: &[E],
 ) -> Result<(), AllocError>
     ensures text { OnOk result (string_bytes out.new ≡ string_bytes out.old ++ list_text E.words true entries.now) }
-    ensures front { StartsWith (string_bytes out.new) (string_bytes out.old) }
+    ensures prefix { StartsWith (string_bytes out.new) (string_bytes out.old) }
 {
     let mut is_first = true;
     for entry in entries {
@@ -296,20 +296,20 @@ fn put_list<A: Allocator + Copy, E: Entry>(
 }
 
 /// Writes a number at the end.
-#[tactic(auto, using(desk_commands::proofs::Fronts::fronts))]
+#[tactic(auto, using(desk_commands::proofs::Prefixes::prefixes))]
 fn put_decimal<A: Allocator + Copy, N: Integer>(out: &mut String<A>, n: N) -> Result<(), AllocError>
     ensures text { OnOk result (string_bytes out.new ≡ string_bytes out.old ++ N.text n) }
-    ensures front { StartsWith (string_bytes out.new) (string_bytes out.old) }
+    ensures prefix { StartsWith (string_bytes out.new) (string_bytes out.old) }
 {
     let mut digits = Buffer::new();
     out.push_str(digits.format(n))
 }
 
 /// Writes a setting's value at the end, or that it has none.
-#[tactic(auto, using(desk_commands::proofs::Fronts::fronts))]
+#[tactic(auto, using(desk_commands::proofs::Prefixes::prefixes))]
 fn put_value<A: Allocator + Copy>(out: &mut String<A>, value: Option<u32>) -> Result<(), AllocError>
     ensures text { OnOk result (string_bytes out.new ≡ string_bytes out.old ++ value_text value) }
-    ensures front { StartsWith (string_bytes out.new) (string_bytes out.old) }
+    ensures prefix { StartsWith (string_bytes out.new) (string_bytes out.old) }
 {
     match value {
         None => out.push_str("-"),
@@ -318,27 +318,27 @@ fn put_value<A: Allocator + Copy>(out: &mut String<A>, value: Option<u32>) -> Re
 }
 
 /// Writes a setting's name and its value at the end.
-#[tactic(auto, using(desk_commands::proofs::Fronts::fronts))]
+#[tactic(auto, using(desk_commands::proofs::Prefixes::prefixes))]
 fn put_setting<A: Allocator + Copy>(
     out: &mut String<A>,
     name: &str,
     value: Option<u32>,
 ) -> Result<(), AllocError>
     ensures text { OnOk result (string_bytes out.new ≡ string_bytes out.old ++ name.now ++ value_text value) }
-    ensures front { StartsWith (string_bytes out.new) (string_bytes out.old) }
+    ensures prefix { StartsWith (string_bytes out.new) (string_bytes out.old) }
 {
     out.push_str(name)?;
     put_value(out, value)
 }
 
 /// Writes the settings of the job at the end.
-#[tactic(auto, using(desk_commands::proofs::Fronts::fronts))]
+#[tactic(auto, using(desk_commands::proofs::Prefixes::prefixes))]
 fn put_settings<A: Allocator + Copy>(
     out: &mut String<A>,
     settings: &Settings,
 ) -> Result<(), AllocError>
     ensures text { OnOk result (string_bytes out.new ≡ string_bytes out.old ++ settings_text settings.now) }
-    ensures front { StartsWith (string_bytes out.new) (string_bytes out.old) }
+    ensures prefix { StartsWith (string_bytes out.new) (string_bytes out.old) }
 {
     put_setting(out, "measure=", settings.measure)?;
     put_setting(out, " tight=", settings.tight)?;
@@ -348,14 +348,14 @@ fn put_settings<A: Allocator + Copy>(
 }
 
 /// Writes words, and a number behind them.
-#[tactic(auto, using(desk_commands::proofs::Fronts::fronts))]
+#[tactic(auto, using(desk_commands::proofs::Prefixes::prefixes))]
 fn put_counted<A: Allocator + Copy>(
     out: &mut String<A>,
     words: &str,
     n: usize,
 ) -> Result<(), AllocError>
     ensures text { OnOk result (string_bytes out.new ≡ string_bytes out.old ++ words.now ++ decimal n) }
-    ensures front { StartsWith (string_bytes out.new) (string_bytes out.old) }
+    ensures prefix { StartsWith (string_bytes out.new) (string_bytes out.old) }
 {
     out.push_str(words)?;
     put_decimal(out, n)
@@ -364,7 +364,7 @@ fn put_counted<A: Allocator + Copy>(
 impl Entry for JobFault {
     ghost words = { job_fault_text };
 
-    #[tactic(auto, using(desk_commands::proofs::Fronts::fronts))]
+    #[tactic(auto, using(desk_commands::proofs::Prefixes::prefixes))]
     fn put_words<A: Allocator + Copy>(self, out: &mut String<A>) -> Result<(), AllocError> {
         match self {
             JobFault::MissingSetting(key) => {
@@ -384,10 +384,10 @@ impl Entry for JobFault {
     }
 }
 
-#[tactic(auto, using(desk_commands::proofs::Fronts::fronts))]
+#[tactic(auto, using(desk_commands::proofs::Prefixes::prefixes))]
 fn put_line<A: Allocator + Copy>(out: &mut String<A>, line: &CastLine<A>) -> Result<(), AllocError>
     ensures text { OnOk result (string_bytes out.new ≡ string_bytes out.old ++ codes " " ++ decimal (length line.now.matrices) ++ codes "/" ++ signed_decimal line.now.total) }
-    ensures front { StartsWith (string_bytes out.new) (string_bytes out.old) }
+    ensures prefix { StartsWith (string_bytes out.new) (string_bytes out.old) }
 {
     put_counted(out, " ", line.matrices().len())?;
     out.push_str("/")?;
@@ -395,13 +395,13 @@ fn put_line<A: Allocator + Copy>(out: &mut String<A>, line: &CastLine<A>) -> Res
 }
 
 /// Writes each line that was cast behind a space.
-#[tactic(auto, using(desk_commands::proofs::Fronts::fronts))]
+#[tactic(auto, using(desk_commands::proofs::Prefixes::prefixes))]
 fn put_lines<A: Allocator + Copy>(
     out: &mut String<A>,
     lines: &[CastLine<A>],
 ) -> Result<(), AllocError>
     ensures text { OnOk result (string_bytes out.new ≡ string_bytes out.old ++ lines_text (lines_told lines.now)) }
-    ensures front { StartsWith (string_bytes out.new) (string_bytes out.old) }
+    ensures prefix { StartsWith (string_bytes out.new) (string_bytes out.old) }
 {
     for line in lines {
         put_line(out, line)?;
@@ -500,10 +500,10 @@ pub fn short<A: Allocator + Copy>(answer: &Reply<A>) -> Option<Short>
 }
 
 /// Writes a copy, behind a space where there is one.
-#[tactic(auto, using(desk_commands::proofs::Fronts::fronts))]
+#[tactic(auto, using(desk_commands::proofs::Prefixes::prefixes))]
 fn put_shown<A: Allocator + Copy>(out: &mut String<A>, copy: &[Symbol]) -> Result<(), AllocError>
     ensures text { OnOk result (string_bytes out.new ≡ string_bytes out.old ++ text (replies.Copy copy.now)) }
-    ensures front { StartsWith (string_bytes out.new) (string_bytes out.old) }
+    ensures prefix { StartsWith (string_bytes out.new) (string_bytes out.old) }
 {
     out.push_str("copy")?;
     if !copy.is_empty() {
@@ -514,25 +514,25 @@ fn put_shown<A: Allocator + Copy>(out: &mut String<A>, copy: &[Symbol]) -> Resul
 }
 
 /// Writes bytes behind a word.
-#[tactic(auto, using(desk_commands::proofs::Fronts::fronts))]
+#[tactic(auto, using(desk_commands::proofs::Prefixes::prefixes))]
 fn put_bytes<A: Allocator + Copy>(
     out: &mut String<A>,
     word: &str,
     bytes: &[u8],
 ) -> Result<(), AllocError>
     ensures text { OnOk result (string_bytes out.new ≡ string_bytes out.old ++ word.now ++ hex_text bytes.now) }
-    ensures front { StartsWith (string_bytes out.new) (string_bytes out.old) }
+    ensures prefix { StartsWith (string_bytes out.new) (string_bytes out.old) }
 {
     out.push_str(word)?;
     put_hex(out, bytes)
 }
 
 /// Writes an answer at the end, without its end of line. Where memory is refused, what stood before still stands in
-/// front.
-#[tactic(auto, using(desk_commands::proofs::Fronts::fronts))]
+/// prefix.
+#[tactic(auto, using(desk_commands::proofs::Prefixes::prefixes))]
 pub fn put<A: Allocator + Copy>(out: &mut String<A>, answer: &Reply<A>) -> Result<(), AllocError>
     ensures text { OnOk result (string_bytes out.new ≡ string_bytes out.old ++ text (reply_values answer.now)) }
-    ensures front { StartsWith (string_bytes out.new) (string_bytes out.old) }
+    ensures prefix { StartsWith (string_bytes out.new) (string_bytes out.old) }
 {
     match answer {
         Reply::Done => out.push_str(done().as_str()),

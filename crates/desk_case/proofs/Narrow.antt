@@ -25,15 +25,15 @@ use Rattle.desk_case.proofs.Lawful.{at_key_read}
 use Rattle.desk_case.proofs.Rows.{Matrices}
 
 -- what stands in a list of two parts, and in a list of one thing
-behind_front : {A : Type 0} (xs ys : List A) (n i : ℕ) → n ≡ length xs + i → slice_get (xs ++ ys) n ≡ slice_get ys i
-behind_front [] ys n i e = ap (slice_get ys) (omega (arith, e))
-behind_front (x ∷ xs) ys zero i e = absurd (omega (arith, e))
-behind_front (x ∷ xs) ys (suc n) i e = behind_front xs ys n i (omega (arith, e))
+behind_prefix : {A : Type 0} (xs ys : List A) (n i : ℕ) → n ≡ length xs + i → slice_get (xs ++ ys) n ≡ slice_get ys i
+behind_prefix [] ys n i e = ap (slice_get ys) (omega (arith, e))
+behind_prefix (x ∷ xs) ys zero i e = absurd (omega (arith, e))
+behind_prefix (x ∷ xs) ys (suc n) i e = behind_prefix xs ys n i (omega (arith, e))
 
-in_front : {A : Type 0} (xs ys : List A) (i : ℕ) → i < length xs → slice_get (xs ++ ys) i ≡ slice_get xs i
-in_front [] ys i h = absurd (omega (arith, h))
-in_front (x ∷ xs) ys zero h = refl
-in_front (x ∷ xs) ys (suc i) h = in_front xs ys i (omega (arith, h))
+in_prefix : {A : Type 0} (xs ys : List A) (i : ℕ) → i < length xs → slice_get (xs ++ ys) i ≡ slice_get xs i
+in_prefix [] ys i h = absurd (omega (arith, h))
+in_prefix (x ∷ xs) ys zero h = refl
+in_prefix (x ∷ xs) ys (suc i) h = in_prefix xs ys i (omega (arith, h))
 
 repeated : {A : Type 0} (n i : ℕ) (x : A) → i < n → slice_get (replicate n x) i ≡ Some x
 repeated zero i x h = absurd (omega (arith, h))
@@ -54,7 +54,7 @@ row_blank columns i low high d texts e =
     record {
       long = omega (arith, low, high, a.least, a.most, length-append (map matrix_of texts) pad, long, length-replicate (17 - length texts) none_there);
       blank =
-          behind_front (map matrix_of texts) pad i (i - length texts) there
+          behind_prefix (map matrix_of texts) pad i (i - length texts) there
           ∙ repeated (17 - length texts) (i - length texts) none_there (omega (arith, a.least, a.most, low, high));
     }
   where
@@ -67,11 +67,11 @@ rows_blank i zero (r ∷ rows) small all h =
     let first = All-head (IsBlankAt i) r rows all in
     let here : 17 * 0 + i ≡ i = omega arith in
     ap (slice_get (cells_of r ++ joined_rows (map cells_of rows))) here
-    ∙ (in_front (cells_of r) (joined_rows (map cells_of rows)) i (omega (arith, first.long, small)) ∙ first.blank)
+    ∙ (in_prefix (cells_of r) (joined_rows (map cells_of rows)) i (omega (arith, first.long, small)) ∙ first.blank)
 rows_blank i (suc k) (r ∷ rows) small all h =
     let first = All-head (IsBlankAt i) r rows all in
     let there : 17 * suc k + i ≡ length (cells_of r) + (17 * k + i) = omega (arith, first.long) in
-    behind_front (cells_of r) (joined_rows (map cells_of rows)) (17 * suc k + i) (17 * k + i) there
+    behind_prefix (cells_of r) (joined_rows (map cells_of rows)) (17 * suc k + i) (17 * k + i) there
     ∙ (rows_blank i k rows small (All-tail (IsBlankAt i) r rows all) (omega (arith, h)))
 
 matrices_blank_at : (columns i k : ℕ) → columns ≤ i → i < 17 → k < 15 → (ms : Matrices) (d : Data) (o : Option (List (List (List ℕ)))) → array_of 15 15 (row_of columns) d ≡ o

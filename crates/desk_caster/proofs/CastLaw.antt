@@ -23,7 +23,7 @@ abbrev pub at_line : Option ℕ → ℕ → ℕ → ℕ → List CastMatrix → 
 at_line position started coarse fine matrices sent =
     record { fine = position; line = Some (record { started = started; coarse = coarse; fine = fine; matrices = matrices }); sent = sent }
 
--- matrices that the case has are cast onto the front of the line in progress
+-- matrices that the case has are cast onto the prefix of the line in progress
 pub cells_cast : (case : CaseValues) (wedge : WedgeValues) (place after : ℕ) (punches : List Punch) (rest : List RibbonRow)
     (position : Option ℕ) (started coarse fine : ℕ) (matrices : List CastMatrix) (sent : List Line) →
     HasAll case punches → after ≡ place + length punches →

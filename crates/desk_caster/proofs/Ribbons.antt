@@ -18,7 +18,7 @@ use Rattle.desk_ribbon.specs.Ribbon.{image_bytes}
 use Rattle.desk_caster.specs.Reading.{magic}
 use Rattle.desk_caster.specs.declared.RibbonFault.TheVariants as fault
 
--- ---- a number at the front of bytes
+-- ---- a number at the start of bytes
 
 taken_bytes : (n : ℕ) (bytes : List ℕ) → ((i : ℕ) → get_or bytes i 0 < 256) → (i : ℕ) → get_or (take n bytes) i 0 < 256
 taken_bytes n bytes h i =
@@ -27,8 +27,8 @@ taken_bytes n bytes h i =
       | inr le ↦ rw (get_or_past (take n bytes) i 0 (omega (arith, length-take n bytes))) (omega arith)
     ]
 
-pub number_there : (bytes front rest : List ℕ) (n : ℕ) → ((i : ℕ) → get_or bytes i 0 < 256) → 4 ≤ length bytes → front ≡ take 4 bytes → rest ≡ drop 4 bytes → n ≡ from_be_bytes w32 front → bytes ≡ to_be_bytes w32 n ++ rest
-number_there bytes front rest n fits long f r e =
+pub number_there : (bytes prefix rest : List ℕ) (n : ℕ) → ((i : ℕ) → get_or bytes i 0 < 256) → 4 ≤ length bytes → prefix ≡ take 4 bytes → rest ≡ drop 4 bytes → n ≡ from_be_bytes w32 prefix → bytes ≡ to_be_bytes w32 n ++ rest
+number_there bytes prefix rest n fits long f r e =
     let text : to_be_bytes w32 n ≡ take 4 bytes = be_bytes_4 (take 4 bytes) n (omega (arith, length-take 4 bytes)) (taken_bytes 4 bytes fits) (e ∙ ap (λ (b : List ℕ). from_be_bytes w32 b) f) in
     sym (take-append-drop 4 bytes) ∙ rw (← text, r) refl
 

@@ -11,7 +11,7 @@ wider_within width total wider n one many e =
     let a = one.low in let b = one.high in let c = many.low in let d = many.high in
     record { low = omega (arith, ints, a, b, c, d, e); high = omega (arith, ints, a, b, c, d, e) }
 
--- one matrix more is cast onto the front
+-- one matrix more is cast onto the prefix
 pub total_grows : (met : List CastMatrix) (m : CastMatrix) (total wider : ℤ) → IsTotal total (reverse met) → IsWithin m.width 1 → wider ≡ m.width +ℤ total → IsTotal wider (reverse (met ++ m ∷ []))
 total_grows met m total wider before one e =
     subst (IsTotal wider) (sym (reverse-append met (m ∷ [])))

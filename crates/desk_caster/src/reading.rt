@@ -17,8 +17,8 @@ fn take_number(bytes: &[u8]) -> (u32, &[u8])
     ensures bytes { bytes.now ≡ to_be_bytes w32 result.0 ++ result.1.now }
     ensures value { result.0 < 2 ^ 32 }
 {
-    let (front, rest) = bytes.split_first_chunk::<4>().unwrap();
-    (u32::from_be_bytes(*front), rest)
+    let (prefix, rest) = bytes.split_first_chunk::<4>().unwrap();
+    (u32::from_be_bytes(*prefix), rest)
 }
 
 /// The rows of so many images, of four bytes each.

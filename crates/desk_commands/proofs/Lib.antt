@@ -1,4 +1,4 @@
-pub mod Fronts
+pub mod Prefixes
 pub mod Loops
 pub mod Texts
 pub mod Again

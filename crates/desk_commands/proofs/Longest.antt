@@ -65,8 +65,8 @@ whole y cs more runs inside left split spelled follows = at runs follows
     text : opening y.style ++ (quoted y.ch ++ cs) ≡ letter y.style ∷ 34 ∷ ((quoted y.ch ++ inside) ++ 34 ∷ left)
     text = ap (λ l. l ++ (quoted y.ch ++ cs)) (opening_is y.style) ∙ ap (λ l. letter y.style ∷ 34 ∷ (quoted y.ch ++ l)) split ∙ ap (λ l. letter y.style ∷ 34 ∷ l) (sym (append_assoc (quoted y.ch) inside (34 ∷ left)))
 
-    run : (front : List ℕ) → front ≡ letter y.style ∷ 34 ∷ ((quoted y.ch ++ inside) ++ 34 ∷ []) → IsRun front y more
-    run front is = record { style = y.style; letter = letter y.style; named = letter_named y.style; inside = quoted y.ch ++ inside; is = is; spelled = (y.ch, refl, (quoted y.ch, inside, refl, stands y.ch, spelled)) }
+    run : (prefix : List ℕ) → prefix ≡ letter y.style ∷ 34 ∷ ((quoted y.ch ++ inside) ++ 34 ∷ []) → IsRun prefix y more
+    run prefix is = record { style = y.style; letter = letter y.style; named = letter_named y.style; inside = quoted y.ch ++ inside; is = is; spelled = (y.ch, refl, (quoted y.ch, inside, refl, stands y.ch, spelled)) }
 
     at : (rs : List RunOf) → Follows left rs → AreRuns (opening y.style ++ (quoted y.ch ++ cs)) ((y, more) ∷ rs)
     at [] (inl (empty, none)) = run _ (text ∙ ap (λ l. letter y.style ∷ 34 ∷ ((quoted y.ch ++ inside) ++ 34 ∷ l)) empty)

@@ -90,14 +90,14 @@ pub record InsideRest (style : Style) (cs : List ℕ) (ys : List Symbol) : Type 
   pub all : ys ≡ own ++ others
 
 -- a symbol before what is left inside
-inside_more : (style : Style) (ch : ℕ) (front rest : List ℕ) (ys : List Symbol) → StandsFor front ch → InsideRest style rest ys → InsideRest style (front ++ rest) (symbol style ch ∷ ys)
-inside_more style ch front rest ys stands r = record {
+inside_more : (style : Style) (ch : ℕ) (prefix rest : List ℕ) (ys : List Symbol) → StandsFor prefix ch → InsideRest style rest ys → InsideRest style (prefix ++ rest) (symbol style ch ∷ ys)
+inside_more style ch prefix rest ys stands r = record {
   own = symbol style ch ∷ r.own;
   others = r.others;
-  inside = front ++ r.inside;
+  inside = prefix ++ r.inside;
   left = r.left;
-  split = ap (λ l. front ++ l) r.split ∙ sym (append_assoc front r.inside (34 ∷ r.left));
-  spelled = (ch, refl, (front, r.inside, refl, stands, r.spelled));
+  split = ap (λ l. prefix ++ l) r.split ∙ sym (append_assoc prefix r.inside (34 ∷ r.left));
+  spelled = (ch, refl, (prefix, r.inside, refl, stands, r.spelled));
   then_rest = r.then_rest;
   all = ap (λ l. symbol style ch ∷ l) r.all;
 }
@@ -105,11 +105,11 @@ inside_more style ch front rest ys stands r = record {
 -- at least one symbol is left
 pub record OpenedRest (style : Style) (cs : List ℕ) (ys : List Symbol) : Type 0 where
   pub ch : ℕ
-  pub front : List ℕ
+  pub prefix : List ℕ
   pub rest : List ℕ
   pub more : List Symbol
-  pub split : cs ≡ front ++ rest
-  pub stands : StandsFor front ch
+  pub split : cs ≡ prefix ++ rest
+  pub stands : StandsFor prefix ch
   pub then_inside : InsideRest style rest more
   pub all : ys ≡ symbol style ch ∷ more
 
@@ -135,15 +135,15 @@ RestOf Closed cs ys = ClosedRest cs ys
 copy_more : (c : ℕ) (style : Style) (cs : List ℕ) (ys : List Symbol) → style_of c ≡ Some style → RestOf (Quote style) cs ys → IsCopy (c ∷ cs) ys
 copy_more c style cs ys named (opened, quote, o) =
     let i = o.then_inside in
-    let inside : List ℕ = o.front ++ i.inside in
+    let inside : List ℕ = o.prefix ++ i.inside in
     let split : c ∷ cs ≡ c ∷ 34 ∷ (inside ++ 34 ∷ i.left)
-    = ap (λ l. c ∷ l) quote ∙ ap (λ l. c ∷ 34 ∷ l) (o.split ∙ ap (λ l. o.front ++ l) i.split ∙ sym (append_assoc o.front i.inside (34 ∷ i.left))) in
-    let run : (front : List ℕ) → front ≡ c ∷ 34 ∷ (inside ++ 34 ∷ []) → IsRun front (symbol style o.ch) i.own
-    = λ front is. record { style = style; letter = c; named = named; inside = inside; is = is; spelled = (o.ch, refl, (o.front, i.inside, refl, o.stands, i.spelled)) } in
+    = ap (λ l. c ∷ l) quote ∙ ap (λ l. c ∷ 34 ∷ l) (o.split ∙ ap (λ l. o.prefix ++ l) i.split ∙ sym (append_assoc o.prefix i.inside (34 ∷ i.left))) in
+    let run : (prefix : List ℕ) → prefix ≡ c ∷ 34 ∷ (inside ++ 34 ∷ []) → IsRun prefix (symbol style o.ch) i.own
+    = λ prefix is. record { style = style; letter = c; named = named; inside = inside; is = is; spelled = (o.ch, refl, (o.prefix, i.inside, refl, o.stands, i.spelled)) } in
     let symbols : ys ≡ symbol style o.ch ∷ (i.own ++ i.others) = o.all ∙ ap (λ l. symbol style o.ch ∷ l) i.all in
     at inside i.left i.own i.others o.ch split run symbols i.then_rest
   where
-    at : (inside left : List ℕ) (own others : List Symbol) (ch : ℕ) → c ∷ cs ≡ c ∷ 34 ∷ (inside ++ 34 ∷ left) → ((front : List ℕ) → front ≡ c ∷ 34 ∷ (inside ++ 34 ∷ []) → IsRun front (symbol style ch) own)
+    at : (inside left : List ℕ) (own others : List Symbol) (ch : ℕ) → c ∷ cs ≡ c ∷ 34 ∷ (inside ++ 34 ∷ left) → ((prefix : List ℕ) → prefix ≡ c ∷ 34 ∷ (inside ++ 34 ∷ []) → IsRun prefix (symbol style ch) own)
         → ys ≡ symbol style ch ∷ (own ++ others) → ClosedRest left others → IsCopy (c ∷ cs) ys
     at inside left own others ch split run symbols (inl (empty, none)) =
         ((symbol style ch, own) ∷ [], symbols ∙ ap (λ l. symbol style ch ∷ (own ++ l)) none, run (c ∷ cs) (split ∙ ap (λ l. c ∷ 34 ∷ (inside ++ 34 ∷ l)) empty))
@@ -179,9 +179,9 @@ spelled (Opened style) (c ∷ cs) ys h =
     by_cases (c == 34) (λ e. no _ ys (opened_not style c cs e) h)
     (λ p. by_cases (c == 92)
     (λ q. let r = spelled (Escape style) cs ys (sym (opened_escape style c cs p q) ∙ h) in
-    record { ch = r.ch; front = 92 ∷ r.c ∷ []; rest = r.rest; more = r.more; split = ap (λ x. x ∷ cs) (eqb-true c 92 q) ∙ ap (λ l. 92 ∷ l) r.split; stands = inr (r.c, refl, r.means); then_inside = r.then_inside; all = r.all })
+    record { ch = r.ch; prefix = 92 ∷ r.c ∷ []; rest = r.rest; more = r.more; split = ap (λ x. x ∷ cs) (eqb-true c 92 q) ∙ ap (λ l. 92 ∷ l) r.split; stands = inr (r.c, refl, r.means); then_inside = r.then_inside; all = r.all })
     (λ q. let r = onto_some style c (copy_from (Inside style) cs) ys (sym (itself_first style c cs q p) ∙ h) in
-    record { ch = c; front = c ∷ []; rest = cs; more = r.0; split = refl; stands = inl (refl, is_not c 34 p, is_not c 92 q); then_inside = spelled (Inside style) cs r.0 r.1; all = r.2 }))
+    record { ch = c; prefix = c ∷ []; rest = cs; more = r.0; split = refl; stands = inl (refl, is_not c 34 p, is_not c 92 q); then_inside = spelled (Inside style) cs r.0 r.1; all = r.2 }))
 spelled (Inside style) (c ∷ cs) ys h =
     by_cases (c == 34)
     (λ e. record { own = []; others = ys; inside = []; left = cs; split = ap (λ x. x ∷ cs) (eqb-true c 34 e); spelled = refl; then_rest = spelled Closed cs ys (sym (inside_close style c cs e) ∙ h); all = refl })
@@ -204,35 +204,35 @@ spelled Closed (c ∷ cs) ys h =
 
 -- ---- what is spelled is read
 
-stands_read : (style : Style) (ch : ℕ) (front rest : List ℕ) → StandsFor front ch → copy_from (Inside style) (front ++ rest) ≡ onto style ch (copy_from (Inside style) rest)
-stands_read style ch front rest (inl (is, p, q)) = ap (λ l. copy_from (Inside style) (l ++ rest)) is ∙ itself style ch rest (ne_eqb ch 92 q) (ne_eqb ch 34 p)
-stands_read style ch front rest (inr (c, is, e)) = ap (λ l. copy_from (Inside style) (l ++ rest)) is ∙ inside_escape style 92 (c ∷ rest) refl refl ∙ escape_on style c ch rest e
+stands_read : (style : Style) (ch : ℕ) (prefix rest : List ℕ) → StandsFor prefix ch → copy_from (Inside style) (prefix ++ rest) ≡ onto style ch (copy_from (Inside style) rest)
+stands_read style ch prefix rest (inl (is, p, q)) = ap (λ l. copy_from (Inside style) (l ++ rest)) is ∙ itself style ch rest (ne_eqb ch 92 q) (ne_eqb ch 34 p)
+stands_read style ch prefix rest (inr (c, is, e)) = ap (λ l. copy_from (Inside style) (l ++ rest)) is ∙ inside_escape style 92 (c ∷ rest) refl refl ∙ escape_on style c ch rest e
 
-stands_first : (style : Style) (ch : ℕ) (front rest : List ℕ) → StandsFor front ch → copy_from (Opened style) (front ++ rest) ≡ onto style ch (copy_from (Inside style) rest)
-stands_first style ch front rest (inl (is, p, q)) = ap (λ l. copy_from (Opened style) (l ++ rest)) is ∙ itself_first style ch rest (ne_eqb ch 92 q) (ne_eqb ch 34 p)
-stands_first style ch front rest (inr (c, is, e)) = ap (λ l. copy_from (Opened style) (l ++ rest)) is ∙ opened_escape style 92 (c ∷ rest) refl refl ∙ escape_on style c ch rest e
+stands_first : (style : Style) (ch : ℕ) (prefix rest : List ℕ) → StandsFor prefix ch → copy_from (Opened style) (prefix ++ rest) ≡ onto style ch (copy_from (Inside style) rest)
+stands_first style ch prefix rest (inl (is, p, q)) = ap (λ l. copy_from (Opened style) (l ++ rest)) is ∙ itself_first style ch rest (ne_eqb ch 92 q) (ne_eqb ch 34 p)
+stands_first style ch prefix rest (inr (c, is, e)) = ap (λ l. copy_from (Opened style) (l ++ rest)) is ∙ opened_escape style 92 (c ∷ rest) refl refl ∙ escape_on style c ch rest e
 
 inside_read : (style : Style) (own : List Symbol) (inside left : List ℕ) (others : List Symbol) → SpellsInside style inside own → copy_from Closed left ≡ Some others
     → copy_from (Inside style) (inside ++ 34 ∷ left) ≡ Some (own ++ others)
 inside_read style [] inside left others spelled closed = ap (λ l. copy_from (Inside style) (l ++ 34 ∷ left)) spelled ∙ inside_close style 34 left refl ∙ closed
-inside_read style (y ∷ ys) inside left others (ch, is, (front, rest, split, stands, spelled)) closed =
-    ap (λ l. copy_from (Inside style) (l ++ 34 ∷ left)) split ∙ ap (copy_from (Inside style)) (append_assoc front rest (34 ∷ left)) ∙ stands_read style ch front (rest ++ 34 ∷ left) stands
+inside_read style (y ∷ ys) inside left others (ch, is, (prefix, rest, split, stands, spelled)) closed =
+    ap (λ l. copy_from (Inside style) (l ++ 34 ∷ left)) split ∙ ap (copy_from (Inside style)) (append_assoc prefix rest (34 ∷ left)) ∙ stands_read style ch prefix (rest ++ 34 ∷ left) stands
     ∙ ap (onto style ch) (inside_read style ys rest left others spelled closed) ∙ ap (λ x. Some (x ∷ (ys ++ others))) (sym is)
 
 run_read : (cs : List ℕ) (first : Symbol) (more : List Symbol) (left : List ℕ) (others : List Symbol) → IsRun cs first more → copy_from Closed left ≡ Some others → copy_from Run (cs ++ left) ≡ Some (first ∷ (more ++ others))
 run_read cs first more left others run closed = at run.spelled
   where
     at : SpellsInside run.style run.inside (first ∷ more) → copy_from Run (cs ++ left) ≡ Some (first ∷ (more ++ others))
-    at (ch, is, (front, rest, split, stands, spelled)) =
+    at (ch, is, (prefix, rest, split, stands, spelled)) =
         ap (λ l. copy_from Run (l ++ left)) run.is ∙ run_on run.letter (34 ∷ ((run.inside ++ 34 ∷ []) ++ left)) run.style run.named ∙ quote_on run.style 34 ((run.inside ++ 34 ∷ []) ++ left) refl
-        ∙ ap (copy_from (Opened run.style)) (append_assoc run.inside (34 ∷ []) left ∙ ap (λ l. l ++ 34 ∷ left) split ∙ append_assoc front rest (34 ∷ left))
-        ∙ stands_first run.style ch front (rest ++ 34 ∷ left) stands ∙ ap (onto run.style ch) (inside_read run.style more rest left others spelled closed) ∙ ap (λ x. Some (x ∷ (more ++ others))) (sym is)
+        ∙ ap (copy_from (Opened run.style)) (append_assoc run.inside (34 ∷ []) left ∙ ap (λ l. l ++ 34 ∷ left) split ∙ append_assoc prefix rest (34 ∷ left))
+        ∙ stands_first run.style ch prefix (rest ++ 34 ∷ left) stands ∙ ap (onto run.style ch) (inside_read run.style more rest left others spelled closed) ∙ ap (λ x. Some (x ∷ (more ++ others))) (sym is)
 
 runs_read : (cs : List ℕ) (runs : List RunOf) → AreRuns cs runs → copy_from Run cs ≡ Some (joined runs)
 runs_read cs [] h = absurd h
 runs_read cs (run ∷ []) h = ap (copy_from Run) (sym (append-nil cs)) ∙ run_read cs run.0 run.1 [] [] h refl
-runs_read cs (run ∷ next ∷ runs) (front, rest, split, first, others) =
-    ap (copy_from Run) split ∙ run_read front run.0 run.1 (32 ∷ rest) (joined (next ∷ runs)) first (closed_on 32 rest refl ∙ runs_read rest (next ∷ runs) others)
+runs_read cs (run ∷ next ∷ runs) (prefix, rest, split, first, others) =
+    ap (copy_from Run) split ∙ run_read prefix run.0 run.1 (32 ∷ rest) (joined (next ∷ runs)) first (closed_on 32 rest refl ∙ runs_read rest (next ∷ runs) others)
 
 pub read_whole : (cs : List ℕ) (symbols : List Symbol) → IsCopy cs symbols → copy_from Run cs ≡ Some symbols
 read_whole cs symbols (runs, is, are) = runs_read cs runs are ∙ ap Some (sym is)

@@ -18,14 +18,14 @@ fn opening(style: Style) -> &'static str
     }
 }
 
-#[tactic(auto, using(crate::proofs::Fronts::fronts))]
+#[tactic(auto, using(crate::proofs::Prefixes::prefixes))]
 fn put_turn<A: Allocator + Copy>(
     out: &mut String<A>,
     run: Option<Style>,
     style: Style,
 ) -> Result<(), AllocError>
     ensures text { OnOk result (string_bytes out.new ≡ string_bytes out.old ++ turn run style) }
-    ensures front { StartsWith (string_bytes out.new) (string_bytes out.old) }
+    ensures prefix { StartsWith (string_bytes out.new) (string_bytes out.old) }
 {
     if let Some(run) = run {
         if run == style {
@@ -36,10 +36,10 @@ fn put_turn<A: Allocator + Copy>(
     out.push_str(opening(style))
 }
 
-#[tactic(auto, using(crate::proofs::Fronts::fronts))]
+#[tactic(auto, using(crate::proofs::Prefixes::prefixes))]
 fn put_quoted<A: Allocator + Copy>(out: &mut String<A>, c: char) -> Result<(), AllocError>
     ensures text { OnOk result (string_bytes out.new ≡ string_bytes out.old ++ encode_utf8_all (quoted c)) }
-    ensures front { StartsWith (string_bytes out.new) (string_bytes out.old) }
+    ensures prefix { StartsWith (string_bytes out.new) (string_bytes out.old) }
 {
     match c {
         '\n' => out.push_str("\\n"),
@@ -49,10 +49,10 @@ fn put_quoted<A: Allocator + Copy>(out: &mut String<A>, c: char) -> Result<(), A
     }
 }
 
-#[tactic(auto, using(crate::proofs::Fronts::fronts))]
+#[tactic(auto, using(crate::proofs::Prefixes::prefixes))]
 fn put_close<A: Allocator + Copy>(out: &mut String<A>, run: Option<Style>) -> Result<(), AllocError>
     ensures text { OnOk result (string_bytes out.new ≡ string_bytes out.old ++ close run) }
-    ensures front { StartsWith (string_bytes out.new) (string_bytes out.old) }
+    ensures prefix { StartsWith (string_bytes out.new) (string_bytes out.old) }
 {
     match run {
         None => Ok(()),
@@ -60,11 +60,11 @@ fn put_close<A: Allocator + Copy>(out: &mut String<A>, run: Option<Style>) -> Re
     }
 }
 
-/// Writes a COPY at the end. Where memory is refused, what stood before still stands in front.
-#[tactic(auto, using(crate::proofs::Fronts::fronts))]
+/// Writes a COPY at the end. Where memory is refused, what stood before still stands there.
+#[tactic(auto, using(crate::proofs::Prefixes::prefixes))]
 pub fn put_copy<A: Allocator + Copy>(out: &mut String<A>, copy: &[Symbol]) -> Result<(), AllocError>
     ensures text { OnOk result (string_bytes out.new ≡ string_bytes out.old ++ copy_text copy.now) }
-    ensures front { StartsWith (string_bytes out.new) (string_bytes out.old) }
+    ensures prefix { StartsWith (string_bytes out.new) (string_bytes out.old) }
 {
     let mut run = None;
     for symbol in copy {

@@ -8,27 +8,27 @@ use Rattle.desk_galley.specs.Values.{LineValues}
 use Rattle.desk_galley.specs.Line.{Placed}
 use Rattle.desk_galley.specs.Galley.{all_placed, galley_of, numbered, placed_in, with_lines}
 
-numbered_append : (terms : Terms) (copy : List Symbol) (n : ℕ) (front back : List Placed) →
-    numbered terms copy n (front ++ back) ≡ numbered terms copy n front ++ numbered terms copy (n + length front) back
+numbered_append : (terms : Terms) (copy : List Symbol) (n : ℕ) (prefix back : List Placed) →
+    numbered terms copy n (prefix ++ back) ≡ numbered terms copy n prefix ++ numbered terms copy (n + length prefix) back
 numbered_append terms copy n [] back = let e : n + 0 ≡ n = omega arith in rw e refl
-numbered_append terms copy n (placed ∷ front) back =
-    let e : n + suc (length front) ≡ suc n + length front = omega arith in
-    rw (numbered_append terms copy (suc n) front back, e) refl
+numbered_append terms copy n (placed ∷ prefix) back =
+    let e : n + suc (length prefix) ≡ suc n + length prefix = omega arith in
+    rw (numbered_append terms copy (suc n) prefix back, e) refl
 
 numbered_length : (terms : Terms) (copy : List Symbol) (n : ℕ) (ps : List Placed) → length (numbered terms copy n ps) ≡ length ps
 numbered_length terms copy n [] = refl
 numbered_length terms copy n (placed ∷ ps) = ap suc (numbered_length terms copy (suc n) ps)
 
 -- lines that come after others come after all of them
-pub with_more : (terms : Terms) (copy : List Symbol) (done : List LineValues) (front back : List Placed) →
-    with_lines terms copy (with_lines terms copy done front) back ≡ with_lines terms copy done (front ++ back)
-with_more terms copy done front back =
-    let here = numbered terms copy (length done + 1) front in
+pub with_more : (terms : Terms) (copy : List Symbol) (done : List LineValues) (prefix back : List Placed) →
+    with_lines terms copy (with_lines terms copy done prefix) back ≡ with_lines terms copy done (prefix ++ back)
+with_more terms copy done prefix back =
+    let here = numbered terms copy (length done + 1) prefix in
     let long = length-append done here in
-    let wide = numbered_length terms copy (length done + 1) front in
-    let e : length (done ++ here) + 1 ≡ (length done + 1) + length front = omega (arith, long, wide) in
-    rw e (append_assoc done here (numbered terms copy ((length done + 1) + length front) back)
-    ∙ ap (λ (l : List LineValues). done ++ l) (sym (numbered_append terms copy (length done + 1) front back)))
+    let wide = numbered_length terms copy (length done + 1) prefix in
+    let e : length (done ++ here) + 1 ≡ (length done + 1) + length prefix = omega (arith, long, wide) in
+    rw e (append_assoc done here (numbered terms copy ((length done + 1) + length prefix) back)
+    ∙ ap (λ (l : List LineValues). done ++ l) (sym (numbered_append terms copy (length done + 1) prefix back)))
 
 -- the next paragraph, where these are still to come
 pub next_paragraph : (terms : Terms) (copy : List Symbol) (found : List (List Word)) (i : ℕ) (d ws : List Word) (done new all : List LineValues) →

@@ -13,12 +13,12 @@ pub none_before : {A : Type 0} (xs ys : List A) → xs ++ ys ≡ [] → xs ≡ [
 none_before [] ys none = refl
 none_before (x ∷ xs) ys none = absurd (let e : length (x ∷ (xs ++ ys)) ≡ 0 = ap length none in omega (arith, e))
 
-pub faults_append : (terms : Terms) (n : ℕ) (front back : List SetLine) →
-    line_faults terms n (front ++ back) ≡ line_faults terms n front ++ line_faults terms (n + length front) back
+pub faults_append : (terms : Terms) (n : ℕ) (prefix back : List SetLine) →
+    line_faults terms n (prefix ++ back) ≡ line_faults terms n prefix ++ line_faults terms (n + length prefix) back
 faults_append terms n [] back = let e : n + 0 ≡ n = omega arith in rw e refl
-faults_append terms n (line ∷ front) back =
-    let e : n + suc (length front) ≡ suc n + length front = omega arith in
-    rw (faults_append terms (suc n) front back, e) (sym (append_assoc (line_fault terms n line) (line_faults terms (suc n) front) (line_faults terms (suc n + length front) back)))
+faults_append terms n (line ∷ prefix) back =
+    let e : n + suc (length prefix) ≡ suc n + length prefix = omega arith in
+    rw (faults_append terms (suc n) prefix back, e) (sym (append_assoc (line_fault terms n line) (line_faults terms (suc n) prefix) (line_faults terms (suc n + length prefix) back)))
 
 -- both parts of a list whose elements all have P
 pub each_part : {A : Type 0} (P : A → Type 0) (xs ys : List A) → AllByRecursion P (xs ++ ys) → AllByRecursion P xs × AllByRecursion P ys

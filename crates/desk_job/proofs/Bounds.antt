@@ -204,24 +204,24 @@ cut_words : (sizes : List ℕ) (ws : List (List Symbol)) (n : ℕ) → n ≡ len
 cut_words [] ws n e fits = (tt, omega arith)
 cut_words (size ∷ sizes) ws n e fits =
     let long = length-drop size ws in
-    let front = length-take size ws in
+    let prefix = length-take size ws in
     let a = span_split size ws in
     let b = span_long (take size ws) in
     let some = fits.0 in
     let within = fits.1 in
     let more = cut_words sizes (drop size ws) (n - size) (omega (arith, e, long)) fits.2 in
     let c = more.1 in
-    ((omega (arith, b, front, some, within, e), more.0), omega (arith, a, c))
+    ((omega (arith, b, prefix, some, within, e), more.0), omega (arith, a, c))
 
 few_more : (terms : Terms) (ls : List SetLine) (n m : ℕ) → n ≤ m → AreFew terms ls n → AreFew terms ls m
 few_more terms ls n m h is = let a = is.rows in let b = is.lines in record { rows = omega (arith, a, h); lines = omega (arith, b, h) }
 
-few_both : (terms : Terms) (front back : List SetLine) (n m : ℕ) → AreFew terms front n → AreFew terms back m → AreFew terms (front ++ back) (n + m)
-few_both terms front back n m a b =
+few_both : (terms : Terms) (prefix back : List SetLine) (n m : ℕ) → AreFew terms prefix n → AreFew terms back m → AreFew terms (prefix ++ back) (n + m)
+few_both terms prefix back n m a b =
     let r = a.rows in let s = b.rows in let t = a.lines in let u = b.lines in
-    let e : length (flat_map (line_rows terms) (front ++ back)) ≡ length (flat_map (line_rows terms) front) + length (flat_map (line_rows terms) back) =
-    ap length (flat_map-append (line_rows terms) front back) ∙ length-append (flat_map (line_rows terms) front) (flat_map (line_rows terms) back) in
-    let f = length-append front back in
+    let e : length (flat_map (line_rows terms) (prefix ++ back)) ≡ length (flat_map (line_rows terms) prefix) + length (flat_map (line_rows terms) back) =
+    ap length (flat_map-append (line_rows terms) prefix back) ∙ length-append (flat_map (line_rows terms) prefix) (flat_map (line_rows terms) back) in
+    let f = length-append prefix back in
     record { rows = omega (arith, r, s, e); lines = omega (arith, t, u, f) }
 
 words_lines_few : (terms : Terms) (ws : List (List Symbol)) → IsUsable terms → AreFew terms (lines_of_words terms ws) (span ws)

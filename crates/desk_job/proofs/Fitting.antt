@@ -39,11 +39,11 @@ fitting terms here ws (size ∷ sizes) is =
     let long = length-map ws f in
     let some = is.2.some in
     let within = is.2.within in
-    let front : take size (widths terms ws) ≡ widths terms (take size ws) = take_map f size ws in
+    let prefix : take size (widths terms ws) ≡ widths terms (take size ws) = take_map f size ws in
     let back : drop size (widths terms ws) ≡ widths terms (drop size ws) = drop_map f size ws in (
       omega (arith, some, k),
       omega (arith, within, k, long),
-      rw front at (rw k at is.2.fits),
+      rw prefix at (rw k at is.2.fits),
       fitting terms (here + size) (drop size ws) sizes (rw back at (rw k at is.3)),
     )
 

@@ -23,12 +23,12 @@ pub record IsOpen (space measure : ℤ) (words : List ℤ) (from to : ℕ) (widt
   pub low : pos 0 ≤ℤ width
   pub high : width ≤ℤ pos (2 ^ 40)
 
--- the front of one word
-front_of_one : (words : List ℤ) (from : ℕ) (space : ℤ) → from < length words →
+-- the prefix of one word
+prefix_of_one : (words : List ℤ) (from : ℕ) (space : ℤ) → from < length words →
     group_width space (take 1 (drop from words)) ≡ get_or words from (pos 0)
-front_of_one [] from space below = absurd (omega arith)
-front_of_one (word ∷ words) zero space below = refl
-front_of_one (word ∷ words) (suc from) space below = front_of_one words from space (omega arith)
+prefix_of_one [] from space below = absurd (omega arith)
+prefix_of_one (word ∷ words) zero space below = refl
+prefix_of_one (word ∷ words) (suc from) space below = prefix_of_one words from space (omega arith)
 
 -- a group of one word
 pub open_one : (space measure : ℤ) (words : List ℤ) (at : ℕ) → AreWidths words → at < length words →
@@ -40,7 +40,7 @@ open_one space measure words at wide below =
       order = omega arith;
       begun = λ _. omega arith;
       within = omega arith;
-      is = rw one (sym (front_of_one words at space below));
+      is = rw one (sym (prefix_of_one words at space below));
       fits = inr refl;
       low = width.0;
       high = width.1;

@@ -6,7 +6,7 @@ use Rattle.std.proofs.lemmas.Int.{ints, by_lt_z}
 use Rattle.desk_lines.specs.Groups.{group_width, FitsIn, longest, first_group, groups, groups_upto, ranges, IsFirstGroup, AreGroups, GroupsAreGroups}
 use Rattle.desk_lines.specs.declared.groups.Group.{Group}
 
--- the front with one word more
+-- the prefix with one word more
 pub width_more : (space : ℤ) (words : List ℤ) (n : ℕ) → 1 ≤ n → n < length words →
     group_width space (take (suc n) words) ≡ (group_width space (take n words) +ℤ space) +ℤ get_or words n (pos 0)
 width_more space [] n low below = absurd (omega arith)
@@ -21,7 +21,7 @@ width_more space (word ∷ next ∷ words) (suc (suc n)) low below =
 abbrev pub NoneNegative : List ℤ → Type 0
 NoneNegative words = (i : ℕ) → i < length words → pos 0 ≤ℤ get_or words i (pos 0)
 
--- a longer front is no narrower
+-- a longer prefix is no narrower
 pub width_rises : (space : ℤ) (words : List ℤ) (n k : ℕ) → pos 0 ≤ℤ space → NoneNegative words → 1 ≤ n → n + k ≤ length words →
     group_width space (take n words) ≤ℤ group_width space (take (n + k) words)
 width_rises space words n zero room wide low within = rw add-zero (omega (arith, ints))
@@ -31,7 +31,7 @@ width_rises space words n (suc k) room wide low within =
     let next = wide (n + k) (omega arith) in
     rw add-suc (omega (arith, ints, shorter, more, next))
 
--- what the longest front of at most n + 1 words is
+-- what the longest prefix of at most n + 1 words is
 pub longest_cases : (space measure : ℤ) (words : List ℤ) (n : ℕ) →
     ((FitsIn space measure (take (suc n) words)) × (longest space measure words (suc n) ≡ suc n))
     ⊎ ((measure <ℤ group_width space (take (suc n) words)) × (longest space measure words (suc n) ≡ longest space measure words n))

@@ -18,7 +18,7 @@ use Rattle.desk_lines.proofs.WordLaws.{split_is, split_only}
 abbrev pub all_places : ℕ → List Symbol → List (List Word)
 all_places here copy = paragraph_places here (slice_split is_line_feed copy)
 
--- with words more at the front of the first paragraph
+-- with words more at the start of the first paragraph
 abbrev pub with_words : List Word → List (List Word) → List (List Word)
 with_words ws [] = []
 with_words ws (paragraph ∷ paragraphs) = (ws ++ paragraph) ∷ paragraphs
@@ -31,13 +31,13 @@ with_no_words : (found : List (List Word)) → with_words [] found ≡ found
 with_no_words [] = refl
 with_no_words (paragraph ∷ paragraphs) = refl
 
--- a front without separators is a part of the first part
-front_more : {A : Type 0} (test : A → Bool) (front xs : List A) (part : List A) (parts : List (List A)) → All (λ x. test x ≡ false) front →
-    IsSplit test xs (part ∷ parts) → IsSplit test (front ++ xs) ((front ++ part) ∷ parts)
-front_more test front xs part [] none split =
-    (ap (λ (l : List _). front ++ l) split.0, All-append (λ x. test x ≡ false) front part none split.1)
-front_more test front xs part (next ∷ parts) none split =
-    (split.0, split.1, ap (λ (l : List _). front ++ l) split.2 ∙ sym (append_assoc front part (split.0 ∷ split.1)), split.3, All-append (λ x. test x ≡ false) front part none split.4, split.5)
+-- a prefix without separators is a part of the first part
+prefix_more : {A : Type 0} (test : A → Bool) (prefix xs : List A) (part : List A) (parts : List (List A)) → All (λ x. test x ≡ false) prefix →
+    IsSplit test xs (part ∷ parts) → IsSplit test (prefix ++ xs) ((prefix ++ part) ∷ parts)
+prefix_more test prefix xs part [] none split =
+    (ap (λ (l : List _). prefix ++ l) split.0, All-append (λ x. test x ≡ false) prefix part none split.1)
+prefix_more test prefix xs part (next ∷ parts) none split =
+    (split.0, split.1, ap (λ (l : List _). prefix ++ l) split.2 ∙ sym (append_assoc prefix part (split.0 ∷ split.1)), split.3, All-append (λ x. test x ≡ false) prefix part none split.4, split.5)
 
 -- No symbol is a separator.
 abbrev pub NoFeed : List Symbol → Type 0
@@ -53,12 +53,12 @@ space_in : (here : ℕ) (part : List Symbol) (y : Symbol) (after : List Symbol) 
     ≡ with_words (record { from = here; to = here + length part } ∷ []) (all_places (here + length part + 1) after)
 space_in here part y after [] no_feed no_space miss hit is split = absurd split
 space_in here part y after (first ∷ others) no_feed no_space miss hit is split =
-    let front : NoFeed (part ++ y ∷ []) = All-append (λ x. is_line_feed x ≡ false) part (y ∷ []) no_feed
+    let prefix : NoFeed (part ++ y ∷ []) = All-append (λ x. is_line_feed x ≡ false) part (y ∷ []) no_feed
     (All-cons (λ x. is_line_feed x ≡ false) y [] miss (All-nil (λ x. is_line_feed x ≡ false))) in
     let whole : part ++ y ∷ after ≡ (part ++ y ∷ []) ++ after = sym (append_assoc part (y ∷ []) after) in
     let cut : slice_split is_line_feed (part ++ y ∷ after) ≡ ((part ++ y ∷ []) ++ first) ∷ others =
     ap (slice_split is_line_feed) whole
-    ∙ split_only is_line_feed ((part ++ y ∷ []) ++ after) (((part ++ y ∷ []) ++ first) ∷ others) (front_more is_line_feed (part ++ y ∷ []) after first others front split) in
+    ∙ split_only is_line_feed ((part ++ y ∷ []) ++ after) (((part ++ y ∷ []) ++ first) ∷ others) (prefix_more is_line_feed (part ++ y ∷ []) after first others prefix split) in
     let same : (part ++ y ∷ []) ++ first ≡ part ++ y ∷ first = append_assoc part (y ∷ []) first in
     let these : words (part ++ y ∷ first) ≡ part ∷ words first = slice_split_at is_space part y first no_space hit in
     let long : length (part ++ y ∷ first) ≡ length part + suc (length first) = length-append part (y ∷ first) in

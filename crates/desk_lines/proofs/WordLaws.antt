@@ -43,26 +43,26 @@ split_only test xs (part ∷ next ∷ parts) split =
     ap (slice_split test) split.2 ∙ slice_split_at test part split.0 split.1 split.4 split.3
     ∙ ap (λ (l : List (List _)). part ∷ l) (split_only test split.1 (next ∷ parts) split.5)
 
-take_front : {A : Type 0} (front after : List A) → take (length front) (front ++ after) ≡ front
-take_front [] after = refl
-take_front (x ∷ front) after = ap (λ (l : List _). x ∷ l) (take_front front after)
+take_prefix : {A : Type 0} (prefix after : List A) → take (length prefix) (prefix ++ after) ≡ prefix
+take_prefix [] after = refl
+take_prefix (x ∷ prefix) after = ap (λ (l : List _). x ∷ l) (take_prefix prefix after)
 
-drop_front : {A : Type 0} (front : List A) (x : A) (after : List A) → drop (length front + 1) (front ++ x ∷ after) ≡ after
-drop_front [] x after = refl
-drop_front (y ∷ front) x after = (let e : length (y ∷ front) + 1 ≡ suc (length front + 1) = omega arith in rw e (drop_front front x after))
+drop_prefix : {A : Type 0} (prefix : List A) (x : A) (after : List A) → drop (length prefix + 1) (prefix ++ x ∷ after) ≡ after
+drop_prefix [] x after = refl
+drop_prefix (y ∷ prefix) x after = (let e : length (y ∷ prefix) + 1 ≡ suc (length prefix + 1) = omega arith in rw e (drop_prefix prefix x after))
 
 -- what stands after a part and the symbol behind it
 drop_part : (copy : List Symbol) (here : ℕ) (part : List Symbol) (y : Symbol) (after : List Symbol) → drop here copy ≡ part ++ y ∷ after →
     drop (here + length part + 1) copy ≡ after
 drop_part copy here part y after is =
     let e : here + length part + 1 ≡ here + (length part + 1) = omega arith in
-    rw (e, ← drop-drop, is) (drop_front part y after)
+    rw (e, ← drop-drop, is) (drop_prefix part y after)
 
 spelled_part : (copy : List Symbol) (here : ℕ) (part after : List Symbol) → drop here copy ≡ part ++ after →
     spelled copy (record { from = here; to = here + length part }) ≡ part
 spelled_part copy here part after is =
     let e : here + length part - here ≡ length part = omega arith in
-    rw (e, is) (take_front part after)
+    rw (e, is) (take_prefix part after)
 
 -- the places of the parts, read in the copy, give the parts
 pub spelled_words : (test : Symbol → Bool) (copy : List Symbol) (here : ℕ) (xs after : List Symbol) (parts : List (List Symbol)) →

@@ -6,5 +6,5 @@ use Rattle.desk_answers.proofs.text.put_hex.Given as goal
 abbrev pub invariant-loop-b : goal.invariant-loop-b
 invariant-loop-b g l = record {
   text : string_bytes l.out ++ hex_text (drop l.b-index l.bytes) ≡ string_bytes l.fn.out ++ hex_text l.bytes;
-  front : StartsWith (string_bytes l.out) (string_bytes l.fn.out);
+  prefix : StartsWith (string_bytes l.out) (string_bytes l.fn.out);
 }

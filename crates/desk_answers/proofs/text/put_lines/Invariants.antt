@@ -7,5 +7,5 @@ use Rattle.desk_answers.proofs.text.put_lines.Given as goal
 abbrev pub invariant-loop-line : goal.invariant-loop-line
 invariant-loop-line g l = record {
   text : string_bytes l.out ++ lines_text (lines_told (drop l.line-index l.lines)) ≡ string_bytes l.fn.out ++ lines_text (lines_told l.lines);
-  front : StartsWith (string_bytes l.out) (string_bytes l.fn.out);
+  prefix : StartsWith (string_bytes l.out) (string_bytes l.fn.out);
 }

@@ -6,5 +6,5 @@ use Rattle.desk_answers.proofs.text.put_list.Given as goal
 abbrev pub invariant-loop-entry : goal.invariant-loop-entry
 invariant-loop-entry g l = record {
   text : string_bytes l.out ++ list_text g.E.Entry.words l.is_first (drop l.entry-index l.entries) ≡ string_bytes l.fn.out ++ list_text g.E.Entry.words true l.entries;
-  front : StartsWith (string_bytes l.out) (string_bytes l.fn.out);
+  prefix : StartsWith (string_bytes l.out) (string_bytes l.fn.out);
 }

@@ -7,7 +7,7 @@ use Rattle.std.specs.Str.{chars}
 use Rattle.desk_commands.specs.declared.copy.Place.TheVariants.{Run}
 use Rattle.desk_commands.specs.Copy.{copy_from, ends}
 use Rattle.desk_commands.specs.Memory.{first_symbol}
-use Rattle.desk_commands.proofs.Loops.{with_front, copy_turn, copy_halt, copy_end, copy_more, closed, open_end, first_more, first_comes}
+use Rattle.desk_commands.proofs.Loops.{with_prefix, copy_turn, copy_halt, copy_end, copy_more, closed, open_end, first_more, first_comes}
 use Rattle.desk_commands.proofs.copy.copy_of.Goals as goal
 
 pub returns-in_default-clause-value : goal.returns-in_default-clause-value
@@ -53,7 +53,7 @@ pub returns-in-Closed-clause-value : goal.returns-in-Closed-clause-value
 returns-in-Closed-clause-value g c =
     let t = YieldsList-end (YieldsList-from_chars c.args.text.now c.utf8.text cc) c.loop-c.yielded _ c.loop-c.yielded_by _ _ c.in-None.is c.next.ensures.steps in
     copy_end c.loop-c.symbols.items c.loop-c.place (chars c.args.text.now) (length c.loop-c.yielded) (copy_from Run (chars c.args.text.now)) (omega (arith, t.1)) c.loop-c.invariant.read
-    ∙ ap (λ p. with_front c.loop-c.symbols.items (ends p)) c.in-Closed.is ∙ closed c.loop-c.symbols.items
+    ∙ ap (λ p. with_prefix c.loop-c.symbols.items (ends p)) c.in-Closed.is ∙ closed c.loop-c.symbols.items
 
 pub returns-in_default-place-clause-value : goal.returns-in_default-place-clause-value
 returns-in_default-place-clause-value g c =

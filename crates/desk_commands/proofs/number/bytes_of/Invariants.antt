@@ -1,11 +1,11 @@
 use Rattle.std.proofs.Common.{◌≡◌, ◌≤◌, length}
 use Rattle.desk_commands.specs.Reading.{pairs}
-use Rattle.desk_commands.proofs.Loops.{with_front}
+use Rattle.desk_commands.proofs.Loops.{with_prefix}
 use Rattle.desk_commands.proofs.number.bytes_of.Given as goal
 
 abbrev pub invariant-pairs : goal.invariant-pairs
 invariant-pairs g l = record {
-  read : with_front l.out.items (pairs l.left) ≡ pairs l.word;
+  read : with_prefix l.out.items (pairs l.left) ≡ pairs l.word;
   within : length l.left ≤ length l.word;
 }
 

@@ -8,5 +8,5 @@ pub loop-symbol-preserved : goal.loop-symbol-preserved
 loop-symbol-preserved g c = record {
   text = copy_put (string_bytes c.loop-symbol.out) (string_bytes c.put_turn.new.out) (string_bytes c.put_quoted.new.out) (string_bytes c.args.out.now ++ copy_text c.args.copy.now)
       c.loop-symbol.run c.args.copy.now c.loop-symbol.symbol-index _ _ c.loop-symbol-test.true refl c.in_ok-put_turn.ensures.text c.in_ok-put_quoted.ensures.text c.loop-symbol.invariant.text;
-  front = starts_with_trans _ _ _ (starts_with_trans _ _ _ c.put_quoted.ensures.front c.put_turn.ensures.front) c.loop-symbol.invariant.front;
+  prefix = starts_with_trans _ _ _ (starts_with_trans _ _ _ c.put_quoted.ensures.prefix c.put_turn.ensures.prefix) c.loop-symbol.invariant.prefix;
 }

@@ -7,5 +7,5 @@ use Rattle.desk_commands.proofs.writing.put_copy.Given as goal
 abbrev pub invariant-loop-symbol : goal.invariant-loop-symbol
 invariant-loop-symbol g l = record {
   text : string_bytes l.out ++ encode_utf8_all (copy_chars_from l.run (drop l.symbol-index l.copy)) ≡ string_bytes l.fn.out ++ copy_text l.copy;
-  front : StartsWith (string_bytes l.out) (string_bytes l.fn.out);
+  prefix : StartsWith (string_bytes l.out) (string_bytes l.fn.out);
 }

@@ -8,4 +8,4 @@ pub written : (b : Bool) (now was more : List ℕ) → now ≡ cond b (was ++ mo
 written true now was more e = starts_with_of_append now was more e
 written false now was more e = starts_with_of_eq now was e
 
-pub ruleset fronts = (written, starts_with_trans, starts_with_of_append, starts_with_of_eq)
+pub ruleset prefixes = (written, starts_with_trans, starts_with_of_append, starts_with_of_eq)
