@@ -51,11 +51,7 @@ enum End {
 }
 
 /// Draws a ribbon, after which the target has the picture where it is drawn, and else what it had.
-fn drawn(
-    alloc: Global,
-    k: u64,
-    names: (&str, &str, &str),
-) -> Result<End, Fail> {
+fn drawn(alloc: Global, k: u64, names: (&str, &str, &str)) -> Result<End, Fail> {
     let (ribbon, case, wedge) = names;
     let mut files = rooms(alloc, k)?;
     let end = match draw_ribbon(memory(alloc), &mut files, ribbon, case, wedge, "a.svg") {
@@ -89,9 +85,15 @@ fn no_ribbon_is_not_drawn(rt: HostRuntime) -> Result<(), Fail> {
 fn files_that_fail_under_a_drawing(rt: HostRuntime) -> Result<(), Fail> {
     let names = ("ribbon", "c", "w");
     let missing = ReadingFault::Ribbon(FileRefusal::Missing);
-    assert_eq!(rt; drawn(rt.alloc(), 0, ("none", "c", "w"))?, End::Fault(missing));
+    assert_eq!(rt;
+        drawn(rt.alloc(), 0, ("none", "c", "w"))?,
+        End::Fault(missing)
+    );
     let no_case = ReadingFault::Input(Refusal::FileMissing);
-    assert_eq!(rt; drawn(rt.alloc(), 0, ("ribbon", "d", "w"))?, End::Fault(no_case));
+    assert_eq!(rt;
+        drawn(rt.alloc(), 0, ("ribbon", "d", "w"))?,
+        End::Fault(no_case)
+    );
     let device = ReadingFault::Ribbon(FileRefusal::Device);
     assert_eq!(rt; drawn(rt.alloc(), 1, names)?, End::Fault(device));
     for k in 2..4u64 {

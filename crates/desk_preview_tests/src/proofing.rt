@@ -32,12 +32,7 @@ struct Left {
 }
 
 /// Writes a proof, of which nothing is written where it ends with a fault; the files stay.
-fn proofed(
-    alloc: Global,
-    k: u64,
-    names: (&str, &str, &str),
-    extent: Extent,
-) -> Result<Left, Fail> {
+fn proofed(alloc: Global, k: u64, names: (&str, &str, &str), extent: Extent) -> Result<Left, Fail> {
     let (feed, case, wedge) = names;
     let mut files = rooms(alloc, k)?;
     let mut written = Vec::new(alloc);

@@ -32,11 +32,7 @@ struct Left {
 }
 
 /// Reads a ribbon: where it ends with a fault nothing is written.
-fn read(
-    alloc: Global,
-    k: u64,
-    names: (&str, &str, &str),
-) -> Result<Left, Fail> {
+fn read(alloc: Global, k: u64, names: (&str, &str, &str)) -> Result<Left, Fail> {
     let (ribbon, case, wedge) = names;
     let mut files = rooms(alloc, k)?;
     let mut written = Vec::new(alloc);

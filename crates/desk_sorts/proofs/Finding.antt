@@ -1,5 +1,5 @@
 -- Places that are found, place by place.
-use Rattle.std.proofs.Common.{◌≡◌, ℕ, zero, suc, ◌+◌, Bool, true, false, cond, List, [], ◌∷◌, ◌++◌, Vec, refl, sym, ap, ap₂, ◌∙◌, subst, arith, add-one, add-zero, zero-add}
+use Rattle.std.proofs.Common.{◌≡◌, ℕ, ◌+◌, Bool, true, false, cond, List, [], ◌∷◌, ◌++◌, Vec, refl, sym, ap, ap₂, ◌∙◌, subst, add-one, zero-add}
 use Rattle.std.specs.Prelude.{Some, None, slice_get}
 use Rattle.std.specs.List.{filter, range_with_len}
 use Rattle.std.specs.Ordering.{is_eq}
@@ -7,6 +7,7 @@ use Rattle.std.specs.BTreeMap.{BTreeMap, get}
 use Rattle.std.proofs.lemmas.Bool.{false≢true}
 use Rattle.std.proofs.lemmas.List.{append-nil}
 use Rattle.std.proofs.lemmas.List.Elements.{filter-append}
+use Rattle.desk_ops.proofs.Ranges.{range_suc}
 use Rattle.desk_ops.specs.declared.op.Symbol.{Symbol}
 use Rattle.desk_case.specs.Case.{CaseValues, is_held, same_symbol}
 use Rattle.desk_ops.proofs.Symbols.{symbol_same, symbol_itself}
@@ -15,14 +16,8 @@ use Rattle.desk_sorts.specs.Places.{Adds, AreFoundTo, lacks, places_to}
 use Rattle.desk_sorts.proofs.Tallies.{ordered_same, other_too}
 
 -- one number more
-range_more : (a n : ℕ) → range_with_len a (suc n) ≡ range_with_len a n ++ (a + n) ∷ []
-range_more a zero = ap (λ k. k ∷ []) (sym (add-zero a))
-range_more a (suc n) =
-    let e : a + 1 + n ≡ a + suc n = omega arith in
-    ap (λ l. a ∷ l) (range_more (a + 1) n ∙ ap (λ k. range_with_len (a + 1) n ++ k ∷ []) e)
-
 from_zero : (n : ℕ) → range_with_len 0 (n + 1) ≡ range_with_len 0 n ++ n ∷ []
-from_zero n = ap (range_with_len 0) (add-one n) ∙ range_more 0 n ∙ ap (λ k. range_with_len 0 n ++ k ∷ []) (zero-add n)
+from_zero n = ap (range_with_len 0) (add-one n) ∙ range_suc 0 n ∙ ap (λ k. range_with_len 0 n ++ k ∷ []) (zero-add n)
 
 -- one place more
 pub places_more : (copy : List Symbol) (n : ℕ) (q : Symbol) → places_to copy (n + 1) q ≡ places_to copy n q ++ cond (is_held q (slice_get copy n)) (n ∷ []) []

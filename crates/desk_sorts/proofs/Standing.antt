@@ -1,43 +1,25 @@
 -- Where a symbol stands, by the list of its places.
-use Rattle.std.proofs.Common.{◌≡◌, ℕ, zero, suc, ◌+◌, ◌<◌, ◌≤◌, Bool, true, false, cond, List, [], ◌∷◌, ◌++◌, length, take, get_or, refl, sym, ap, ◌∙◌, subst, inl, inr, arith, add-one, add-zero}
+use Rattle.std.proofs.Common.{◌≡◌, ℕ, zero, suc, ◌+◌, ◌<◌, ◌≤◌, Bool, true, false, cond, List, [], ◌∷◌, ◌++◌, length, take, get_or, refl, sym, ap, ◌∙◌, subst, arith, add-one, add-zero}
 use Rattle.std.specs.Prelude.{Some, slice_get}
-use Rattle.std.specs.List.{filter, range_with_len}
-use Rattle.std.proofs.Math.Nat.{eq-or-lt_of_le}
+use Rattle.std.specs.List.{range_with_len}
 use Rattle.std.proofs.Math.Seq.{take-length}
 use Rattle.std.proofs.lemmas.List.{length-append}
 use Rattle.std.proofs.lemmas.Option.{slice_get_within, slice_get-get_or}
 use Rattle.desk_ops.proofs.Lists.{among-filter, among-filter_from}
+use Rattle.desk_ops.proofs.Ranges.{among_range, rise_of}
 use Rattle.desk_ops.specs.Lists.{Among}
 use Rattle.desk_ops.specs.declared.op.Style.TheVariants.{Roman}
 use Rattle.desk_ops.specs.declared.op.Symbol.{Symbol}
 use Rattle.desk_case.specs.Case.{is_held, same_symbol}
 use Rattle.desk_case.proofs.Grids.{held_is, held_itself}
 use Rattle.desk_ops.proofs.Symbols.{symbol_same}
-use Rattle.desk_sorts.specs.Laws.{AreAllPlaces, RiseFrom}
+use Rattle.desk_sorts.specs.Laws.{AreAllPlaces}
 use Rattle.desk_sorts.specs.Places.{places_of, places_to}
 use Rattle.desk_sorts.specs.Sorts.{StandsAt, wanted_of}
 use Rattle.desk_sorts.proofs.Finding.{places_more}
 use Rattle.desk_sorts.proofs.Tallies.{wanted_no, wanted_yes}
 
--- ---- they rise
-
-rise_from_less : (low : ℕ) (numbers : List ℕ) → RiseFrom (low + 1) numbers → RiseFrom low numbers
-rise_from_less low [] rise = tt
-rise_from_less low (n ∷ numbers) rise = (omega (arith, rise.0), rise.1)
-
-rise_of : (p : ℕ → Bool) (a n : ℕ) → RiseFrom a (filter p (range_with_len a n))
-rise_of p a zero = tt
-rise_of p a (suc n) =
-    elim (p a) as (λ b. RiseFrom a (cond b (a ∷ filter p (range_with_len (a + 1) n)) (filter p (range_with_len (a + 1) n)))) [
-      | true ↦ (omega arith, rise_of p (a + 1) n)
-      | false ↦ rise_from_less a (filter p (range_with_len (a + 1) n)) (rise_of p (a + 1) n)
-    ]
-
 -- ---- they are those at which it stands
-
-among_range : (a n k : ℕ) → a ≤ k → k < a + n → Among k (range_with_len a n)
-among_range a zero k low high = absurd (omega (arith, low, high))
-among_range a (suc n) k low high = elim (eq-or-lt_of_le low) [ inl e ↦ inl e | inr lt ↦ inr (among_range (a + 1) n k (omega (arith, lt)) (omega (arith, high))) ]
 
 stands : (copy : List Symbol) (symbol : Symbol) (place : ℕ) → Among place (places_of copy symbol) → StandsAt copy symbol place
 unfolding places_to

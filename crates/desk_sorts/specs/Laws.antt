@@ -1,14 +1,9 @@
 -- What holds of the places of a symbol.
-use Rattle.std.specs.Prelude.{◌≡◌, ◌≤◌, ◌↔◌, ℕ, ◌+◌, List, [], ◌∷◌, length}
+use Rattle.std.specs.Prelude.{◌≡◌, ◌↔◌, ℕ, List, length}
 use Rattle.desk_ops.specs.declared.op.Symbol.{Symbol}
-use Rattle.desk_ops.specs.Lists.{Among}
+use Rattle.desk_ops.specs.Lists.{Among, RiseFrom}
 use Rattle.desk_sorts.specs.Sorts.{StandsAt, wanted_of}
 use Rattle.desk_sorts.specs.Places.{places_of}
-
--- numbers from one on, each greater than those before it
-abbrev pub RiseFrom : ℕ → List ℕ → Type 0
-RiseFrom low [] = Unit {0}
-RiseFrom low (n ∷ numbers) = (low ≤ n) × RiseFrom (n + 1) numbers
 
 -- The places of a symbol of a copy rise, they are those at which it stands, and they are as many as it is wanted.
 pub record ArePlacesOf (copy : List Symbol) (symbol : Symbol) (places : List ℕ) : Type 0 where

@@ -68,12 +68,7 @@ struct Left {
 }
 
 /// Writes the list of a feed, where the k-th call of the files fails: after a fault nothing is written.
-fn told(
-    alloc: Global,
-    k: u64,
-    names: (&str, &str),
-    layout: bool,
-) -> Result<Left, Fail> {
+fn told(alloc: Global, k: u64, names: (&str, &str), layout: bool) -> Result<Left, Fail> {
     let (feed, case) = names;
     let mut files = rooms(alloc, k)?;
     let mut written = Vec::new(alloc);
