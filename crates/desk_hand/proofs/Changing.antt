@@ -74,12 +74,12 @@ made_delete old now place op allowed is = record {
 
 -- ---- one change more
 
-changed-append : (front rest : List Change) (copy : List Symbol) → all_changed (front ++ rest) copy ≡ and_then (all_changed front copy) (all_changed rest)
+changed-append : (prefix rest : List Change) (copy : List Symbol) → all_changed (prefix ++ rest) copy ≡ and_then (all_changed prefix copy) (all_changed rest)
 changed-append [] rest copy = refl
-changed-append (c ∷ front) rest copy = at (changed c copy) (changed-append front rest)
+changed-append (c ∷ prefix) rest copy = at (changed c copy) (changed-append prefix rest)
   where
-    at : (o : Option (List Symbol)) → ((xs : List Symbol) → all_changed (front ++ rest) xs ≡ and_then (all_changed front xs) (all_changed rest))
-        → and_then o (all_changed (front ++ rest)) ≡ and_then (and_then o (all_changed front)) (all_changed rest)
+    at : (o : Option (List Symbol)) → ((xs : List Symbol) → all_changed (prefix ++ rest) xs ≡ and_then (all_changed prefix xs) (all_changed rest))
+        → and_then o (all_changed (prefix ++ rest)) ≡ and_then (and_then o (all_changed prefix)) (all_changed rest)
     at None each = refl
     at (Some xs) each = each xs
 
@@ -157,10 +157,10 @@ no_change set (changes.Delete place) refused =
     rw out refl
 
 never_placeless : (site : ℕ) (old now : OpSet) (text : List Symbol) (made : List Change) → all_changed made (copy_of old) ≡ Some text → IsRefusedAmong site old now made refusals.Place → ⊥
-never_placeless site old now text made makes (front, tail, next, is, ops, all, inr (memory, none)) = let e : refusals.Place ≡ refusals.NoMemory = memory in cc
-never_placeless site old now text made makes (front, tail, next, is, ops, all, inl refused) =
+never_placeless site old now text made makes (prefix, tail, next, is, ops, all, inr (memory, none)) = let e : refusals.Place ≡ refusals.NoMemory = memory in cc
+never_placeless site old now text made makes (prefix, tail, next, is, ops, all, inl refused) =
     let none : all_changed made (copy_of old) ≡ None =
-    ap (λ cs. all_changed cs (copy_of old)) is ∙ changed-append front (next ∷ tail) (copy_of old) ∙ ap (λ o. and_then o (all_changed (next ∷ tail))) all.copy
+    ap (λ cs. all_changed cs (copy_of old)) is ∙ changed-append prefix (next ∷ tail) (copy_of old) ∙ ap (λ o. and_then o (all_changed (next ∷ tail))) all.copy
     ∙ ap (λ o. and_then o (all_changed tail)) (no_change now next refused) in
     let e : Some text ≡ None = sym makes ∙ none in
     cc
@@ -172,7 +172,7 @@ placed site old now text made why makes among place = never_placeless site old n
 -- so many operations are made as there are changes, and these are sparing
 pub sparing_made : (from to : List Symbol) (made : List Change) (inserted deleted : ℕ) → inserted ≡ inserts_of made → deleted ≡ deletes_of made → AreSparing from to made → IsSparing from to (inserted + deleted)
 sparing_made from to made inserted deleted is are sparing =
-    (sparing.front, sparing.back, sparing.begins, sparing.ends, few_made made inserted deleted (between (sparing.front + sparing.back) from + between (sparing.front + sparing.back) to) is are sparing.few)
+    (sparing.prefix, sparing.back, sparing.begins, sparing.ends, few_made made inserted deleted (between (sparing.prefix + sparing.back) from + between (sparing.prefix + sparing.back) to) is are sparing.few)
 
 -- ---- a text that is lawful
 
@@ -196,15 +196,15 @@ valued set text (changes.Delete place) lawful adds refused = is_lawful set (nat_
 valued set text (changes.Insert place symbol) lawful adds refused =
     is_lawful set (nat_le place (length (shown_of set))) (is_symbol symbol) (symbol_true symbol (lawful_at text place symbol lawful adds)) refused
 
-one_of : (P : Change → Type 0) (front tail : List Change) (next : Change) → All P (front ++ next ∷ tail) → P next
+one_of : (P : Change → Type 0) (prefix tail : List Change) (next : Change) → All P (prefix ++ next ∷ tail) → P next
 one_of P [] tail next all = All-head P next tail all
-one_of P (c ∷ front) tail next all = one_of P front tail next (All-tail P c (front ++ next ∷ tail) all)
+one_of P (c ∷ prefix) tail next all = one_of P prefix tail next (All-tail P c (prefix ++ next ∷ tail) all)
 
 -- no change that inserts symbols of a lawful text is refused for its value
 pub valueless : (site : ℕ) (old now : OpSet) (text : List Symbol) (made : List Change) (why : Refusal) → AreLawful text → All (AddsOf text) made → IsRefusedAmong site old now made why → why ≢ refusals.Value
-valueless site old now text made why lawful adds (front, tail, next, is, ops, all, inr (memory, none)) value = let e : refusals.NoMemory ≡ refusals.Value = sym memory ∙ value in cc
-valueless site old now text made why lawful adds (front, tail, next, is, ops, all, inl refused) value =
-    valued now text next lawful (one_of (AddsOf text) front tail next (subst (λ (l : List Change). All (AddsOf text) l) is adds)) (refused ∙ ap Some value)
+valueless site old now text made why lawful adds (prefix, tail, next, is, ops, all, inr (memory, none)) value = let e : refusals.NoMemory ≡ refusals.Value = sym memory ∙ value in cc
+valueless site old now text made why lawful adds (prefix, tail, next, is, ops, all, inl refused) value =
+    valued now text next lawful (one_of (AddsOf text) prefix tail next (subst (λ (l : List Change). All (AddsOf text) l) is adds)) (refused ∙ ap Some value)
 
 -- ---- no changes
 

@@ -17,8 +17,8 @@ returns-in_err-text-clause-err g c =
 pub returns-in_err-write_out-clause-err : goal.returns-in_err-write_out-clause-err
 returns-in_err-write_out-clause-err g c =
     let p = err_from_is_err_and c.from_residual-in_err-write_out.result c.from_residual-in_err-write_out.ensures.1 in
-    let front = subst (λ t. WritesPrefix (g.W.Write.contents c.args.writer.now) (g.W.Write.contents c.write_out.new.writer) t) (c.deref.ensures.value ∙ c.in_ok-text.ensures) c.in_err-write_out.ensures.err in
-    rw p.1 (rw p.2 (c.in_ok-replica.replica.ops, c.in_ok-replica.ensures.ok, front, c.in_ok-replica.ensures.counted))
+    let prefix = subst (λ t. WritesPrefix (g.W.Write.contents c.args.writer.now) (g.W.Write.contents c.write_out.new.writer) t) (c.deref.ensures.value ∙ c.in_ok-text.ensures) c.in_err-write_out.ensures.err in
+    rw p.1 (rw p.2 (c.in_ok-replica.replica.ops, c.in_ok-replica.ensures.ok, prefix, c.in_ok-replica.ensures.counted))
 
 pub returns-clause-ok : goal.returns-clause-ok
 returns-clause-ok g c =
