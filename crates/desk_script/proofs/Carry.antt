@@ -10,7 +10,7 @@ use Rattle.desk_files.specs.Files.{Shelf, Stays}
 use Rattle.desk_world.specs.Sites.{Sites}
 use Rattle.desk_steps.specs.Desk.{Desk, desk}
 use Rattle.desk_script.specs.Script.{Turn, Fronts, StopsBefore, Answers, AnswersBefore, AnswersFront}
-use Rattle.desk_script.specs.Pending.{last_line, lines_from, Moves, Carries}
+use Rattle.desk_script.specs.Pending.{Breaks, BreaksBefore, Carries, Moves, Progress, last_line, lines_from}
 use Rattle.desk_script.proofs.Turns.{no_turn, turn_before, turn_turn, turn_front}
 use Rattle.desk_script.proofs.Cutting.{from_byte, from_end, line_to_come, lines-from}
 
@@ -23,34 +23,33 @@ pub line_moves : (line pending after more : List ℕ) (byte : ℕ) → (byte == 
 line_moves line pending after more byte e cut empty =
     from_end pending more byte e ∙ ap (λ l. line_of l ∷ lines_from [] more) (sym cut) ∙ ap (λ i. line_of line ∷ lines_from i more) (sym empty)
 
-pub carries_more : (w0 w1 w2 : Desk) (i l m a b c : Option (List ℕ)) (pending chunk after : List ℕ) → Carries w0 w1 i l a b pending → Consumes l m chunk → Moves w1 w2 b c pending chunk after → Carries w0 w2 i m a c after
-carries_more w0 w1 w2 None l m a b c pending chunk after h read turn = tt
-carries_more w0 w1 w2 (Some input) None m a b c pending chunk after h read turn = absurd h
-carries_more w0 w1 w2 (Some input) (Some left) None a b c pending chunk after h read turn = absurd read
-carries_more w0 w1 w2 (Some input) (Some left) (Some rest) a b c pending chunk after h read turn =
-    (h.0 ++ turn.0, turn_turn w0 w1 w2 a b c h.0 turn.0 h.1 turn.1, h.2 ∙ ap (λ l. h.0 ++ lines_from pending l) read ∙ ap (λ l. h.0 ++ l) (turn.2 rest) ∙ sym (append_assoc h.0 turn.0 (lines_from after rest)))
+pub carries_more : (w : Desk) (p q : Progress) (i l m a : Option (List ℕ)) (chunk : List ℕ) → Carries w p.state i l a p.written p.pending → Consumes l m chunk → Moves p q chunk → Carries w q.state i m a q.written q.pending
+carries_more w p q None l m a chunk h read turn = tt
+carries_more w p q (Some input) None m a chunk h read turn = absurd h
+carries_more w p q (Some input) (Some left) None a chunk h read turn = absurd read
+carries_more w p q (Some input) (Some left) (Some rest) a chunk h read turn =
+    (h.0 ++ turn.0, turn_turn w p.state q.state a p.written q.written h.0 turn.0 h.1 turn.1, h.2 ∙ ap (λ l. h.0 ++ lines_from p.pending l) read ∙ ap (λ l. h.0 ++ l) (turn.2 rest) ∙ sym (append_assoc h.0 turn.0 (lines_from q.pending rest)))
 
-pub carries_front : (w0 w1 : Desk) (last : Shelf) (i l m a b c : Option (List ℕ)) (pending chunk : List ℕ) → Carries w0 w1 i l a b pending → Consumes l m chunk → ((more : List ℕ) → Fronts w1 last b c (lines_from pending (chunk ++ more))) → IfSome i (λ input. Fronts w0 last a c (lines input))
-carries_front w0 w1 last None l m a b c pending chunk h read turn = tt
-carries_front w0 w1 last (Some input) None m a b c pending chunk h read turn = absurd h
-carries_front w0 w1 last (Some input) (Some left) None a b c pending chunk h read turn = absurd read
-carries_front w0 w1 last (Some input) (Some left) (Some rest) a b c pending chunk h read turn =
-    subst (Fronts w0 last a c) (sym (h.2 ∙ ap (λ l. h.0 ++ lines_from pending l) read) ∙ lines-from input)
-    (turn_front w0 w1 last a b c h.0 (lines_from pending (chunk ++ rest)) h.1 (turn rest))
+pub carries_front : (w : Desk) (p q : Progress) (i l m a : Option (List ℕ)) (chunk : List ℕ) → Carries w p.state i l a p.written p.pending → Consumes l m chunk → Breaks p q chunk → IfSome i (λ input. Fronts w q.state.shelf a q.written (lines input))
+carries_front w p q None l m a chunk h read turn = tt
+carries_front w p q (Some input) None m a chunk h read turn = absurd h
+carries_front w p q (Some input) (Some left) None a chunk h read turn = absurd read
+carries_front w p q (Some input) (Some left) (Some rest) a chunk h read turn =
+    subst (Fronts w q.state.shelf a q.written) (sym (h.2 ∙ ap (λ l. h.0 ++ lines_from p.pending l) read) ∙ lines-from input)
+    (turn_front w p.state q.state.shelf a p.written q.written h.0 (lines_from p.pending (chunk ++ rest)) h.1 (turn rest))
 
 -- a line that is not kept
 pub unkept : (w : Desk) (last : Shelf) (a : Option (List ℕ)) (pending more : List ℕ) (byte : ℕ) → Stays w.shelf last → (byte == 10) ≡ false → StopsBefore w last a a (lines_from pending (byte ∷ more))
 unkept w last a pending more byte still e =
     let (next, tail, is) = line_to_come pending byte more in ([], tail, next, from_byte pending more byte e ∙ is, w, still, no_turn w a)
 
-pub carries_before : (w0 w1 : Desk) (last : Shelf) (i l m a b c : Option (List ℕ)) (pending chunk : List ℕ) → Carries w0 w1 i l a b pending → Consumes l m chunk → ((more : List ℕ) → StopsBefore w1 last b c (lines_from pending (chunk ++ more)))
-    → IfSome i (λ input. StopsBefore w0 last a c (lines input))
-carries_before w0 w1 last None l m a b c pending chunk h read turn = tt
-carries_before w0 w1 last (Some input) None m a b c pending chunk h read turn = absurd h
-carries_before w0 w1 last (Some input) (Some left) None a b c pending chunk h read turn = absurd read
-carries_before w0 w1 last (Some input) (Some left) (Some rest) a b c pending chunk h read turn =
-    subst (StopsBefore w0 last a c) (sym (h.2 ∙ ap (λ l. h.0 ++ lines_from pending l) read) ∙ lines-from input)
-    (turn_before w0 w1 last a b c h.0 (lines_from pending (chunk ++ rest)) h.1 (turn rest))
+pub carries_before : (w : Desk) (p q : Progress) (i l m a : Option (List ℕ)) (chunk : List ℕ) → Carries w p.state i l a p.written p.pending → Consumes l m chunk → BreaksBefore p q chunk → IfSome i (λ input. StopsBefore w q.state.shelf a q.written (lines input))
+carries_before w p q None l m a chunk h read turn = tt
+carries_before w p q (Some input) None m a chunk h read turn = absurd h
+carries_before w p q (Some input) (Some left) None a chunk h read turn = absurd read
+carries_before w p q (Some input) (Some left) (Some rest) a chunk h read turn =
+    subst (StopsBefore w q.state.shelf a q.written) (sym (h.2 ∙ ap (λ l. h.0 ++ lines_from p.pending l) read) ∙ lines-from input)
+    (turn_before w p.state q.state.shelf a p.written q.written h.0 (lines_from p.pending (chunk ++ rest)) h.1 (turn rest))
 
 -- the reader is at its end
 pub carries_end : (w0 w1 w2 : Desk) (i l m a b c : Option (List ℕ)) (pending : List ℕ) → Carries w0 w1 i l a b pending → Consumes l m [] → IsAtEnd m → Turn w1 w2 b c (last_line pending) → IfSome i (λ input. Turn w0 w2 a c (lines input))

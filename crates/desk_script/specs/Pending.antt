@@ -1,9 +1,11 @@
 -- Lines while their bytes come in.
 use Rattle.std.specs.Prelude.{◌≡◌, ℕ, ◌==◌, true, false, List, [], ◌∷◌, ◌++◌, Option, Some, None}
+use Rattle.desk_files.specs.Files.{Shelf}
+use Rattle.desk_world.specs.Sites.{Sites}
 use Rattle.desk_steps.specs.Line.{Line, line_of}
 use Rattle.desk_script.specs.Lines.{without_cr}
-use Rattle.desk_steps.specs.Desk.{Desk}
-use Rattle.desk_script.specs.Script.{Turn}
+use Rattle.desk_steps.specs.Desk.{Desk, desk}
+use Rattle.desk_script.specs.Script.{Turn, Fronts, StopsBefore}
 
 -- a last line without an end counts if it is not empty
 abbrev pub last_line : List ℕ → List Line
@@ -16,10 +18,28 @@ lines_from pending [] = last_line pending
 lines_from pending (b ∷ bytes) =
     elim (b == 10) [ true ↦ line_of (without_cr pending) ∷ lines_from [] bytes | false ↦ lines_from (pending ++ b ∷ []) bytes ]
 
--- bytes that come after pending are answered as far as their lines are whole, and after is pending then
-abbrev pub Moves : Desk → Desk → Option (List ℕ) → Option (List ℕ) → List ℕ → List ℕ → List ℕ → Type 0
-Moves old new before after pending bytes left =
-    (done : List Line) × Turn old new before after done × ((more : List ℕ) → lines_from pending (bytes ++ more) ≡ done ++ lines_from left more)
+-- how far a run has come: its desk, what was written, and the bytes of a line that has no end yet
+pub record Progress : Type 0 where
+  pub state : Desk
+  pub written : Option (List ℕ)
+  pub pending : List ℕ
+
+abbrev pub progress : Sites → Shelf → Option (List ℕ) → List ℕ → Progress
+progress sites shelf written pending = record { state = desk sites shelf; written = written; pending = pending }
+
+-- bytes that come are answered as far as their lines are whole, and the rest of them is pending then
+abbrev pub Moves : Progress → Progress → List ℕ → Type 0
+Moves old new bytes =
+    (done : List Line) × Turn old.state new.state old.written new.written done
+    × ((more : List ℕ) → lines_from old.pending (bytes ++ more) ≡ done ++ lines_from new.pending more)
+
+-- whatever follows the bytes, the first of their lines were answered, no file has changed since, and a prefix of their answers was written
+abbrev pub Breaks : Progress → Progress → List ℕ → Type 0
+Breaks old new bytes = (more : List ℕ) → Fronts old.state new.state.shelf old.written new.written (lines_from old.pending (bytes ++ more))
+
+-- whatever follows the bytes, the first of their lines were answered and each answer was written, no file has changed since, and a line comes after them
+abbrev pub BreaksBefore : Progress → Progress → List ℕ → Type 0
+BreaksBefore old new bytes = (more : List ℕ) → StopsBefore old.state new.state.shelf old.written new.written (lines_from old.pending (bytes ++ more))
 
 -- What was answered and written, and the pending bytes and the bytes that are left, give the lines of all.
 abbrev pub Carries : Desk → Desk → Option (List ℕ) → Option (List ℕ) → Option (List ℕ) → Option (List ℕ) → List ℕ → Type 0

@@ -9,10 +9,10 @@ ghost use Rattle.desk_answers.specs.Text.{text};
 ghost use Rattle.desk_world.specs.Sites.{Sites, no_sites};
 ghost use Rattle.desk_steps.specs.Desk.{KeepsSites, desk};
 ghost use Rattle.desk_files.specs.Files.{Stays};
-ghost use Rattle.desk_script.specs.Script.{Turn, Fronts, StopsBefore, Answers, AnswersBefore, AnswersFront, IsTold};
+ghost use Rattle.desk_script.specs.Script.{Turn, Fronts, Answers, AnswersBefore, AnswersFront, IsTold};
 ghost use Rattle.desk_stored.specs.Sending.{WritesPrefix};
 ghost use Rattle.desk_script.specs.Fault.{IsOfLines};
-ghost use Rattle.desk_script.specs.Pending.{Moves, lines_from, last_line};
+ghost use Rattle.desk_script.specs.Pending.{Breaks, BreaksBefore, Moves, last_line, lines_from, progress};
 
 use crate::fault::{LineFault, RunFault};
 use desk_answers::{Reply, put, short};
@@ -142,9 +142,9 @@ fn take_byte<W: Write, F: Files, A: Allocator + Copy>(
 ) -> Result<(), LineFault>
     requires { length line.old.items ≤ PENDING_LIMIT }
     ensures kept { length line.new.items ≤ PENDING_LIMIT }
-    ensures ok { OnOk result (Moves (desk world.old (F.shelf files.old)) (desk world.new (F.shelf files.new)) (W.contents writer.old) (W.contents writer.new) line.old.items (byte ∷ []) line.new.items) }
-    ensures err { OnErr result ((more : List ℕ) → Fronts (desk world.old (F.shelf files.old)) (F.shelf files.new) (W.contents writer.old) (W.contents writer.new) (lines_from line.old.items (byte ∷ more))) }
-    ensures memory { IsErrOf result LineFault.NoMemory → (more : List ℕ) → StopsBefore (desk world.old (F.shelf files.old)) (F.shelf files.new) (W.contents writer.old) (W.contents writer.new) (lines_from line.old.items (byte ∷ more)) }
+    ensures ok { OnOk result (Moves (progress world.old (F.shelf files.old) (W.contents writer.old) line.old.items) (progress world.new (F.shelf files.new) (W.contents writer.new) line.new.items) (byte ∷ [])) }
+    ensures err { OnErr result (Breaks (progress world.old (F.shelf files.old) (W.contents writer.old) line.old.items) (progress world.new (F.shelf files.new) (W.contents writer.new) line.new.items) (byte ∷ [])) }
+    ensures memory { IsErrOf result LineFault.NoMemory → BreaksBefore (progress world.old (F.shelf files.old) (W.contents writer.old) line.old.items) (progress world.new (F.shelf files.new) (W.contents writer.new) line.new.items) (byte ∷ []) }
     ensures sites { OnOk result (KeepsSites world.old world.new) }
     ensures stays { Stays (F.shelf files.old) (F.shelf files.new) }
 {
@@ -167,9 +167,9 @@ fn take_each<W: Write, F: Files, A: Allocator + Copy>(
 ) -> Result<(), LineFault>
     requires { length line.old.items ≤ PENDING_LIMIT }
     ensures kept { length line.new.items ≤ PENDING_LIMIT }
-    ensures ok { OnOk result (Moves (desk world.old (F.shelf files.old)) (desk world.new (F.shelf files.new)) (W.contents writer.old) (W.contents writer.new) line.old.items bytes.now line.new.items) }
-    ensures err { OnErr result ((more : List ℕ) → Fronts (desk world.old (F.shelf files.old)) (F.shelf files.new) (W.contents writer.old) (W.contents writer.new) (lines_from line.old.items (bytes.now ++ more))) }
-    ensures memory { IsErrOf result LineFault.NoMemory → (more : List ℕ) → StopsBefore (desk world.old (F.shelf files.old)) (F.shelf files.new) (W.contents writer.old) (W.contents writer.new) (lines_from line.old.items (bytes.now ++ more)) }
+    ensures ok { OnOk result (Moves (progress world.old (F.shelf files.old) (W.contents writer.old) line.old.items) (progress world.new (F.shelf files.new) (W.contents writer.new) line.new.items) bytes.now) }
+    ensures err { OnErr result (Breaks (progress world.old (F.shelf files.old) (W.contents writer.old) line.old.items) (progress world.new (F.shelf files.new) (W.contents writer.new) line.new.items) bytes.now) }
+    ensures memory { IsErrOf result LineFault.NoMemory → BreaksBefore (progress world.old (F.shelf files.old) (W.contents writer.old) line.old.items) (progress world.new (F.shelf files.new) (W.contents writer.new) line.new.items) bytes.now }
     ensures sites { OnOk result (KeepsSites world.old world.new) }
     ensures stays { Stays (F.shelf files.old) (F.shelf files.new) }
 {
@@ -190,9 +190,9 @@ fn take_bytes<W: Write, F: Files, A: Allocator + Copy>(
 ) -> Result<(), LineFault>
     requires { length line.old.items ≤ PENDING_LIMIT }
     ensures kept { length line.new.items ≤ PENDING_LIMIT }
-    ensures ok { OnOk result (Moves (desk world.old (F.shelf files.old)) (desk world.new (F.shelf files.new)) (W.contents writer.old) (W.contents writer.new) line.old.items bytes.now line.new.items) }
-    ensures err { OnErr result ((more : List ℕ) → Fronts (desk world.old (F.shelf files.old)) (F.shelf files.new) (W.contents writer.old) (W.contents writer.new) (lines_from line.old.items (bytes.now ++ more))) }
-    ensures memory { IsErrOf result LineFault.NoMemory → (more : List ℕ) → StopsBefore (desk world.old (F.shelf files.old)) (F.shelf files.new) (W.contents writer.old) (W.contents writer.new) (lines_from line.old.items (bytes.now ++ more)) }
+    ensures ok { OnOk result (Moves (progress world.old (F.shelf files.old) (W.contents writer.old) line.old.items) (progress world.new (F.shelf files.new) (W.contents writer.new) line.new.items) bytes.now) }
+    ensures err { OnErr result (Breaks (progress world.old (F.shelf files.old) (W.contents writer.old) line.old.items) (progress world.new (F.shelf files.new) (W.contents writer.new) line.new.items) bytes.now) }
+    ensures memory { IsErrOf result LineFault.NoMemory → BreaksBefore (progress world.old (F.shelf files.old) (W.contents writer.old) line.old.items) (progress world.new (F.shelf files.new) (W.contents writer.new) line.new.items) bytes.now }
     ensures sites { OnOk result (KeepsSites world.old world.new) }
     ensures stays { Stays (F.shelf files.old) (F.shelf files.new) }
 {

@@ -6,7 +6,7 @@ use Rattle.std.proofs.Common.{ap}
 use Rattle.std.specs.Prelude.{Err}
 use Rattle.desk_steps.specs.Desk.{desk}
 use Rattle.desk_script.specs.Script.{Turn, Fronts}
-use Rattle.desk_script.specs.Pending.{last_line}
+use Rattle.desk_script.specs.Pending.{last_line, progress}
 use Rattle.desk_steps.proofs.Keeping.{keeps_same, keeps_trans}
 use Rattle.desk_script.proofs.Bytes.{on_err, told_fault}
 use Rattle.desk_script.proofs.Carry.{carries_before, carries_more, carries_front, carries_end, carries_end_front, carries_stop}
@@ -37,12 +37,12 @@ returns-in-Ok-eq0-clause-err g c =
 pub returns-in_err-take_bytes-in-Ok-clause-err : goal.returns-in_err-take_bytes-in-Ok-clause-err
 returns-in_err-take_bytes-in-Ok-clause-err g c =
     on_err c.from_residual.result
-    (carries_front (desk c.args.world.now (g.F.Files.shelf c.args.files.now)) (desk c.reads.world (g.F.Files.shelf c.reads.files)) (g.F.Files.shelf c.take_bytes.new.files) _ _ _ _ (g.W.Write.contents c.reads.writer) _ c.reads.line.items (take c.in-Ok.n c.read.new.buf) c.reads.invariant.carries c.in-Ok.ensures.bytes.0 c.in_err-take_bytes-in-Ok.ensures.err)
+    (carries_front (desk c.args.world.now (g.F.Files.shelf c.args.files.now)) (progress c.reads.world (g.F.Files.shelf c.reads.files) (g.W.Write.contents c.reads.writer) c.reads.line.items) (progress c.take_bytes.new.world (g.F.Files.shelf c.take_bytes.new.files) (g.W.Write.contents c.take_bytes.new.writer) c.take_bytes.new.line.items) _ _ _ _ (take c.in-Ok.n c.read.new.buf) c.reads.invariant.carries c.in-Ok.ensures.bytes.0 c.in_err-take_bytes-in-Ok.ensures.err)
 
 pub returns-in_err-take_bytes-in-Ok-clause-memory : goal.returns-in_err-take_bytes-in-Ok-clause-memory
 returns-in_err-take_bytes-in-Ok-clause-memory g c is =
     let p = err_from_is_err_and c.from_residual.result c.from_residual.ensures.1 in
-    carries_before (desk c.args.world.now (g.F.Files.shelf c.args.files.now)) (desk c.reads.world (g.F.Files.shelf c.reads.files)) (g.F.Files.shelf c.take_bytes.new.files) _ _ _ _ (g.W.Write.contents c.reads.writer) _ c.reads.line.items (take c.in-Ok.n c.read.new.buf) c.reads.invariant.carries c.in-Ok.ensures.bytes.0
+    carries_before (desk c.args.world.now (g.F.Files.shelf c.args.files.now)) (progress c.reads.world (g.F.Files.shelf c.reads.files) (g.W.Write.contents c.reads.writer) c.reads.line.items) (progress c.take_bytes.new.world (g.F.Files.shelf c.take_bytes.new.files) (g.W.Write.contents c.take_bytes.new.writer) c.take_bytes.new.line.items) _ _ _ _ (take c.in-Ok.n c.read.new.buf) c.reads.invariant.carries c.in-Ok.ensures.bytes.0
     (c.in_err-take_bytes-in-Ok.ensures.memory (ap Err (told_fault _ _ _ _ p.1 p.2 is)))
 
 pub reads-preserved : goal.reads-preserved
@@ -50,7 +50,7 @@ reads-preserved g c = record {
   kept = c.take_bytes.ensures.kept;
   stays = stays_trans c.reads.invariant.stays c.take_bytes.ensures.stays;
   sites = keeps_trans c.args.world.now c.reads.world c.take_bytes.new.world c.reads.invariant.sites c.in_ok-take_bytes-in-Ok.ensures.sites;
-  carries = carries_more (desk c.args.world.now (g.F.Files.shelf c.args.files.now)) (desk c.reads.world (g.F.Files.shelf c.reads.files)) (desk c.take_bytes.new.world (g.F.Files.shelf c.take_bytes.new.files)) _ _ _ _ (g.W.Write.contents c.reads.writer) _ c.reads.line.items (take c.in-Ok.n c.read.new.buf) c.take_bytes.new.line.items c.reads.invariant.carries c.in-Ok.ensures.bytes.0 c.in_ok-take_bytes-in-Ok.ensures.ok;
+  carries = carries_more (desk c.args.world.now (g.F.Files.shelf c.args.files.now)) (progress c.reads.world (g.F.Files.shelf c.reads.files) (g.W.Write.contents c.reads.writer) c.reads.line.items) (progress c.take_bytes.new.world (g.F.Files.shelf c.take_bytes.new.files) (g.W.Write.contents c.take_bytes.new.writer) c.take_bytes.new.line.items) _ _ _ _ (take c.in-Ok.n c.read.new.buf) c.reads.invariant.carries c.in-Ok.ensures.bytes.0 c.in_ok-take_bytes-in-Ok.ensures.ok;
 }
 
 pub returns-clause-err : goal.returns-clause-err
