@@ -47,5 +47,5 @@ IsUnsaid name before after held written faults.NoMemory = Stays before after × 
 -- the lines of the names before were written, and then the line of one was not
 abbrev pub IsUnchecked : List (List ℕ) → Shelf → Shelf → Option (List ℕ) → Option (List ℕ) → CheckFault → Type 0
 IsUnchecked names first last before after fault =
-    (front tail : List (List ℕ)) × (name : List ℕ) × (names ≡ front ++ name ∷ tail) × (mid : Shelf) × (between : Option (List ℕ)) × (well : Bool)
-    × IsChecked front first mid before between well × IsUnsaid name mid last between after fault
+    (prefix tail : List (List ℕ)) × (name : List ℕ) × (names ≡ prefix ++ name ∷ tail) × (mid : Shelf) × (between : Option (List ℕ)) × (well : Bool)
+    × IsChecked prefix first mid before between well × IsUnsaid name mid last between after fault

@@ -4,5 +4,5 @@ use Rattle.std.specs.Prelude.{OnOk, Result}
 use Rattle.desk_holes.specs.Parts.{between}
 
 -- the same number
-pub same_number : {E : Type 0} (r : Result (Unit {0}) E) (out after front back : List ℕ) (n m : ℕ) → n ≡ m → OnOk r (after ≡ out ++ between front n back) → OnOk r (after ≡ out ++ between front m back)
-same_number r out after front back n m same h = subst (λ (k : ℕ). OnOk r (after ≡ out ++ between front k back)) same h
+pub same_number : {E : Type 0} (r : Result (Unit {0}) E) (out after prefix back : List ℕ) (n m : ℕ) → n ≡ m → OnOk r (after ≡ out ++ between prefix n back) → OnOk r (after ≡ out ++ between prefix m back)
+same_number r out after prefix back n m same h = subst (λ (k : ℕ). OnOk r (after ≡ out ++ between prefix k back)) same h

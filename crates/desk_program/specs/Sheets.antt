@@ -4,7 +4,7 @@ use Rattle.clap.specs.Words.{Text}
 use Rattle.desk_files.specs.Files.{Shelf, Stays}
 use Rattle.desk_world.specs.Sites.{Sites, no_sites}
 use Rattle.desk_script.specs.Desk.{desk}
-use Rattle.desk_script.specs.Script.{Answers, AnswersFront}
+use Rattle.desk_script.specs.Script.{Answers, AnswersPrefix}
 use Rattle.desk_script.specs.FeedRun.{AnswersStored, IsStoppedOnFeed}
 use Rattle.desk_script.specs.declared.fault.RunFault.{RunFault}
 use Rattle.desk_sheet.specs.Sheet.{IsDone, IsStopped}
@@ -29,7 +29,7 @@ IsAnswered first last input before after = IfSome input (λ bytes. (new : Sites)
 
 -- a prefix of it was
 abbrev pub IsCutOff : Shelf → Shelf → Option (List ℕ) → Option (List ℕ) → Option (List ℕ) → Type 0
-IsCutOff first last input before after = IfSome input (λ bytes. AnswersFront (desk no_sites first) last bytes before after)
+IsCutOff first last input before after = IfSome input (λ bytes. AnswersPrefix (desk no_sites first) last bytes before after)
 
 -- as a sheet
 abbrev pub IsDoneSheet : Mode → Shelf → Shelf → Option (List ℕ) → Option (List ℕ) → Option (List ℕ) → Type 0

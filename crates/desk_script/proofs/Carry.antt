@@ -9,15 +9,15 @@ use Rattle.desk_answers.specs.Text.{output}
 use Rattle.desk_files.specs.Files.{Shelf, Stays}
 use Rattle.desk_world.specs.Sites.{Sites}
 use Rattle.desk_steps.specs.Desk.{Desk, desk}
-use Rattle.desk_script.specs.Script.{Turn, Fronts, StopsBefore, Answers, AnswersBefore, AnswersFront}
+use Rattle.desk_script.specs.Script.{Turn, StopsWithin, StopsBefore, Answers, AnswersBefore, AnswersPrefix}
 use Rattle.desk_script.specs.Pending.{Breaks, BreaksBefore, Carries, Moves, Progress, last_line, lines_from}
-use Rattle.desk_script.proofs.Turns.{no_turn, turn_before, turn_turn, turn_front}
+use Rattle.desk_script.proofs.Turns.{no_turn, turn_before, turn_turn, turn_prefix}
 use Rattle.desk_script.proofs.Cutting.{from_byte, from_end, line_to_come, lines-from}
 
-pub line_fronts : (old : Desk) (last : Shelf) (a b : Option (List ℕ)) (line pending more : List ℕ) (byte : ℕ) → (byte == 10) ≡ true → line ≡ without_cr pending
-    → ((rest : List Line) → Fronts old last a b (line_of line ∷ rest)) → Fronts old last a b (lines_from pending (byte ∷ more))
-line_fronts old last a b line pending more byte e cut h =
-    subst (Fronts old last a b) (ap (λ l. line_of l ∷ lines_from [] more) cut ∙ sym (from_end pending more byte e)) (h (lines_from [] more))
+pub line_prefixes : (old : Desk) (last : Shelf) (a b : Option (List ℕ)) (line pending more : List ℕ) (byte : ℕ) → (byte == 10) ≡ true → line ≡ without_cr pending
+    → ((rest : List Line) → StopsWithin old last a b (line_of line ∷ rest)) → StopsWithin old last a b (lines_from pending (byte ∷ more))
+line_prefixes old last a b line pending more byte e cut h =
+    subst (StopsWithin old last a b) (ap (λ l. line_of l ∷ lines_from [] more) cut ∙ sym (from_end pending more byte e)) (h (lines_from [] more))
 
 pub line_moves : (line pending after more : List ℕ) (byte : ℕ) → (byte == 10) ≡ true → line ≡ without_cr pending → after ≡ [] → lines_from pending (byte ∷ more) ≡ (line_of line ∷ []) ++ lines_from after more
 line_moves line pending after more byte e cut empty =
@@ -30,13 +30,13 @@ carries_more w p q (Some input) (Some left) None a chunk h read turn = absurd re
 carries_more w p q (Some input) (Some left) (Some rest) a chunk h read turn =
     (h.0 ++ turn.0, turn_turn w p.state q.state a p.written q.written h.0 turn.0 h.1 turn.1, h.2 ∙ ap (λ l. h.0 ++ lines_from p.pending l) read ∙ ap (λ l. h.0 ++ l) (turn.2 rest) ∙ sym (append_assoc h.0 turn.0 (lines_from q.pending rest)))
 
-pub carries_front : (w : Desk) (p q : Progress) (i l m a : Option (List ℕ)) (chunk : List ℕ) → Carries w p.state i l a p.written p.pending → Consumes l m chunk → Breaks p q chunk → IfSome i (λ input. Fronts w q.state.shelf a q.written (lines input))
-carries_front w p q None l m a chunk h read turn = tt
-carries_front w p q (Some input) None m a chunk h read turn = absurd h
-carries_front w p q (Some input) (Some left) None a chunk h read turn = absurd read
-carries_front w p q (Some input) (Some left) (Some rest) a chunk h read turn =
-    subst (Fronts w q.state.shelf a q.written) (sym (h.2 ∙ ap (λ l. h.0 ++ lines_from p.pending l) read) ∙ lines-from input)
-    (turn_front w p.state q.state.shelf a p.written q.written h.0 (lines_from p.pending (chunk ++ rest)) h.1 (turn rest))
+pub carries_prefix : (w : Desk) (p q : Progress) (i l m a : Option (List ℕ)) (chunk : List ℕ) → Carries w p.state i l a p.written p.pending → Consumes l m chunk → Breaks p q chunk → IfSome i (λ input. StopsWithin w q.state.shelf a q.written (lines input))
+carries_prefix w p q None l m a chunk h read turn = tt
+carries_prefix w p q (Some input) None m a chunk h read turn = absurd h
+carries_prefix w p q (Some input) (Some left) None a chunk h read turn = absurd read
+carries_prefix w p q (Some input) (Some left) (Some rest) a chunk h read turn =
+    subst (StopsWithin w q.state.shelf a q.written) (sym (h.2 ∙ ap (λ l. h.0 ++ lines_from p.pending l) read) ∙ lines-from input)
+    (turn_prefix w p.state q.state.shelf a p.written q.written h.0 (lines_from p.pending (chunk ++ rest)) h.1 (turn rest))
 
 -- a line that is not kept
 pub unkept : (w : Desk) (last : Shelf) (a : Option (List ℕ)) (pending more : List ℕ) (byte : ℕ) → Stays w.shelf last → (byte == 10) ≡ false → StopsBefore w last a a (lines_from pending (byte ∷ more))
@@ -59,15 +59,15 @@ carries_end w0 w1 w2 (Some input) (Some left) None a b c pending h read end turn
 carries_end w0 w1 w2 (Some input) (Some left) (Some rest) a b c pending h read end turn =
     subst (Turn w0 w2 a c) (sym (h.2 ∙ ap (λ l. h.0 ++ lines_from pending l) (read ∙ end)) ∙ lines-from input) (turn_turn w0 w1 w2 a b c h.0 (last_line pending) h.1 turn)
 
-pub carries_end_front : (w0 w1 : Desk) (last : Shelf) (i l m a b c : Option (List ℕ)) (pending : List ℕ) → Carries w0 w1 i l a b pending → Consumes l m [] → IsAtEnd m → Fronts w1 last b c (last_line pending) → IfSome i (λ input. Fronts w0 last a c (lines input))
-carries_end_front w0 w1 last None l m a b c pending h read end turn = tt
-carries_end_front w0 w1 last (Some input) None m a b c pending h read end turn = absurd h
-carries_end_front w0 w1 last (Some input) (Some left) None a b c pending h read end turn = absurd read
-carries_end_front w0 w1 last (Some input) (Some left) (Some rest) a b c pending h read end turn =
-    subst (Fronts w0 last a c) (sym (h.2 ∙ ap (λ l. h.0 ++ lines_from pending l) (read ∙ end)) ∙ lines-from input) (turn_front w0 w1 last a b c h.0 (last_line pending) h.1 turn)
+pub carries_end_prefix : (w0 w1 : Desk) (last : Shelf) (i l m a b c : Option (List ℕ)) (pending : List ℕ) → Carries w0 w1 i l a b pending → Consumes l m [] → IsAtEnd m → StopsWithin w1 last b c (last_line pending) → IfSome i (λ input. StopsWithin w0 last a c (lines input))
+carries_end_prefix w0 w1 last None l m a b c pending h read end turn = tt
+carries_end_prefix w0 w1 last (Some input) None m a b c pending h read end turn = absurd h
+carries_end_prefix w0 w1 last (Some input) (Some left) None a b c pending h read end turn = absurd read
+carries_end_prefix w0 w1 last (Some input) (Some left) (Some rest) a b c pending h read end turn =
+    subst (StopsWithin w0 last a c) (sym (h.2 ∙ ap (λ l. h.0 ++ lines_from pending l) (read ∙ end)) ∙ lines-from input) (turn_prefix w0 w1 last a b c h.0 (last_line pending) h.1 turn)
 
 -- what was written so far
-pub carries_stop : (w0 w1 : Desk) (last : Shelf) (i l a b : Option (List ℕ)) (pending : List ℕ) → Stays w1.shelf last → Carries w0 w1 i l a b pending → IfSome i (λ input. Fronts w0 last a b (lines input))
+pub carries_stop : (w0 w1 : Desk) (last : Shelf) (i l a b : Option (List ℕ)) (pending : List ℕ) → Stays w1.shelf last → Carries w0 w1 i l a b pending → IfSome i (λ input. StopsWithin w0 last a b (lines input))
 carries_stop w0 w1 last None l a b pending still h = tt
 carries_stop w0 w1 last (Some input) None a b pending still h = absurd h
 carries_stop w0 w1 last (Some input) (Some left) a b pending still (done, (replies, script, written), is) =
@@ -80,9 +80,9 @@ pub run_whole : (w none new : Sites) (m n : Shelf) (i a b : Option (List ℕ)) �
 run_whole w none new m n None a b e h = tt
 run_whole w none new m n (Some input) a b e h = (new, subst (λ s. Answers (desk s m) (desk new n) input a b) e h)
 
-pub run_front : (w none : Sites) (m n : Shelf) (i a b : Option (List ℕ)) → w ≡ none → IfSome i (λ input. AnswersFront (desk w m) n input a b) → IfSome i (λ input. AnswersFront (desk none m) n input a b)
-run_front w none m n None a b e h = tt
-run_front w none m n (Some input) a b e h = subst (λ s. AnswersFront (desk s m) n input a b) e h
+pub run_prefix : (w none : Sites) (m n : Shelf) (i a b : Option (List ℕ)) → w ≡ none → IfSome i (λ input. AnswersPrefix (desk w m) n input a b) → IfSome i (λ input. AnswersPrefix (desk none m) n input a b)
+run_prefix w none m n None a b e h = tt
+run_prefix w none m n (Some input) a b e h = subst (λ s. AnswersPrefix (desk s m) n input a b) e h
 
 pub run_before : (w none : Sites) (m n : Shelf) (i a b : Option (List ℕ)) → w ≡ none → IfSome i (λ input. AnswersBefore (desk w m) n input a b) → IfSome i (λ input. AnswersBefore (desk none m) n input a b)
 run_before w none m n None a b e h = tt

@@ -67,20 +67,20 @@ not_end : (c b : ℕ) (cs : List ℕ) (x y : List ℕ) → cond (c == 13 && is_e
 not_end c b [] x y = ap (λ t. cond t x y) (and-false (c == 13))
 not_end c b (d ∷ cs) x y = ap (λ t. cond t x y) (and-false (c == 13))
 
-pub without_cr-push : (front : List ℕ) (b : ℕ) → without_cr (front ++ b ∷ []) ≡ cond (b == 13) front (front ++ b ∷ [])
+pub without_cr-push : (prefix : List ℕ) (b : ℕ) → without_cr (prefix ++ b ∷ []) ≡ cond (b == 13) prefix (prefix ++ b ∷ [])
 without_cr-push [] b = ap (λ t. cond t [] (b ∷ [])) (and-true (b == 13))
-without_cr-push (c ∷ front) b =
-    not_end c b front [] (c ∷ without_cr (front ++ b ∷ [])) ∙ ap (λ l. c ∷ l) (without_cr-push front b) ∙ each (b == 13)
+without_cr-push (c ∷ prefix) b =
+    not_end c b prefix [] (c ∷ without_cr (prefix ++ b ∷ [])) ∙ ap (λ l. c ∷ l) (without_cr-push prefix b) ∙ each (b == 13)
   where
-    each : (t : Bool) → (c ∷ cond t front (front ++ b ∷ [])) ≡ cond t (c ∷ front) (c ∷ (front ++ b ∷ []))
+    each : (t : Bool) → (c ∷ cond t prefix (prefix ++ b ∷ [])) ≡ cond t (c ∷ prefix) (c ∷ (prefix ++ b ∷ []))
     each true = refl
     each false = refl
 
-pub cr_taken : (line front : List ℕ) (b : ℕ) → line ≡ front ++ b ∷ [] → b ≡ 13 → front ≡ without_cr line
-cr_taken line front b is e = sym (ap without_cr is ∙ without_cr-push front b ∙ ap (λ t. cond t front (front ++ b ∷ [])) (eq-eqb b 13 e))
+pub cr_taken : (line prefix : List ℕ) (b : ℕ) → line ≡ prefix ++ b ∷ [] → b ≡ 13 → prefix ≡ without_cr line
+cr_taken line prefix b is e = sym (ap without_cr is ∙ without_cr-push prefix b ∙ ap (λ t. cond t prefix (prefix ++ b ∷ [])) (eq-eqb b 13 e))
 
-pub cr_absent : (line front : List ℕ) (b : ℕ) → line ≡ front ++ b ∷ [] → (b ≡ 13 → ⊥) → line ≡ without_cr line
-cr_absent line front b is other = is ∙ sym (ap without_cr is ∙ without_cr-push front b ∙ ap (λ t. cond t front (front ++ b ∷ [])) (ne_eqb b 13 other))
+pub cr_absent : (line prefix : List ℕ) (b : ℕ) → line ≡ prefix ++ b ∷ [] → (b ≡ 13 → ⊥) → line ≡ without_cr line
+cr_absent line prefix b is other = is ∙ sym (ap without_cr is ∙ without_cr-push prefix b ∙ ap (λ t. cond t prefix (prefix ++ b ∷ [])) (ne_eqb b 13 other))
 
 pub last_some : (line : List ℕ) → (length line == 0) ≡ false → last_line line ≡ line_of line ∷ []
 last_some [] e = absurd (let f : true ≡ false = e in cc)

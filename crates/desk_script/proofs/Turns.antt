@@ -11,13 +11,13 @@ use Rattle.desk_files.specs.Files.{Shelf, Stays}
 use Rattle.desk_steps.specs.Desk.{Desk}
 use Rattle.desk_steps.specs.Line.{Allows, Bytes, Line, Long}
 use Rattle.desk_stored.specs.Sending.{WritesPrefix}
-use Rattle.desk_script.specs.Script.{Script, Turn, Fronts, StopsBefore, IsTold}
+use Rattle.desk_script.specs.Script.{Script, Turn, StopsWithin, StopsBefore, IsTold}
 
 pub no_turn : (old : Desk) (a : Option (List ℕ)) → Turn old old a a []
 no_turn old a = ([], refl, Appends-nil a)
 
-pub no_front : (old : Desk) (last : Shelf) (a : Option (List ℕ)) (lines : List Line) → Stays old.shelf last → Fronts old last a a lines
-no_front old last a lines still = ([], lines, refl, old, still, [], refl, ([], [], Appends-nil a, refl))
+pub no_prefix : (old : Desk) (last : Shelf) (a : Option (List ℕ)) (lines : List Line) → Stays old.shelf last → StopsWithin old last a a lines
+no_prefix old last a lines still = ([], lines, refl, old, still, [], refl, ([], [], Appends-nil a, refl))
 
 -- a refusal is not long
 never : (P : Type 0) (reply : ReplyValues) (why : Refusal) → reply ≡ Refused why → is_long reply ≡ true → P
@@ -33,8 +33,8 @@ told_allowed old new Long reply told (inr lacks) same (inr h) = absurd lacks.0
 pub one_turn : (old new : Desk) (a b : Option (List ℕ)) (line : Line) (bytes : List ℕ) (reply : ReplyValues) → Allows old line reply new → bytes ≡ text reply ++ 10 ∷ [] → Appends a b bytes → Turn old new a b (line ∷ [])
 one_turn old new a b line bytes reply allowed is written = (reply ∷ [], (new, allowed, refl), subst (Appends a b) is written)
 
-pub one_front : (old new : Desk) (last : Shelf) (a b : Option (List ℕ)) (line : Line) (bytes : List ℕ) (reply : ReplyValues) (more : List Line) → Stays new.shelf last → Allows old line reply new → bytes ≡ text reply ++ 10 ∷ [] → WritesPrefix a b bytes → Fronts old last a b (line ∷ more)
-one_front old new last a b line bytes reply more still allowed is (done, rest, written, split) =
+pub one_prefix : (old new : Desk) (last : Shelf) (a b : Option (List ℕ)) (line : Line) (bytes : List ℕ) (reply : ReplyValues) (more : List Line) → Stays new.shelf last → Allows old line reply new → bytes ≡ text reply ++ 10 ∷ [] → WritesPrefix a b bytes → StopsWithin old last a b (line ∷ more)
+one_prefix old new last a b line bytes reply more still allowed is (done, rest, written, split) =
     (line ∷ [], more, refl, new, still, reply ∷ [], (new, allowed, refl), (done, rest, written, sym is ∙ split))
 
 output-append : (rs ss : List ReplyValues) → output (rs ++ ss) ≡ output rs ++ output ss
@@ -51,21 +51,21 @@ pub turn_turn : (old mid new : Desk) (a b c : Option (List ℕ)) (ls ms : List L
 turn_turn old mid new a b c ls ms (rs, first, written) (ss, second, more) =
     (rs ++ ss, script-append old mid new ls ms rs ss first second, subst (Appends a c) (sym (output-append rs ss)) (Appends-trans a b c _ _ written more))
 
-pub turn_front : (old mid : Desk) (last : Shelf) (a b c : Option (List ℕ)) (ls ms : List Line) → Turn old mid a b ls → Fronts mid last b c ms → Fronts old last a c (ls ++ ms)
-turn_front old mid last a b c ls ms (rs, first, written) (front, tail, split, new, still, ss, second, (done, rest, more, cut)) = (
-  ls ++ front,
+pub turn_prefix : (old mid : Desk) (last : Shelf) (a b c : Option (List ℕ)) (ls ms : List Line) → Turn old mid a b ls → StopsWithin mid last b c ms → StopsWithin old last a c (ls ++ ms)
+turn_prefix old mid last a b c ls ms (rs, first, written) (prefix, tail, split, new, still, ss, second, (done, rest, more, cut)) = (
+  ls ++ prefix,
   tail,
-  ap (λ l. ls ++ l) split ∙ sym (append_assoc ls front tail),
+  ap (λ l. ls ++ l) split ∙ sym (append_assoc ls prefix tail),
   new,
   still,
   rs ++ ss,
-  script-append old mid new ls front rs ss first second,
+  script-append old mid new ls prefix rs ss first second,
   (output rs ++ done, rest, Appends-trans a b c _ _ written more, output-append rs ss ∙ ap (λ l. output rs ++ l) cut ∙ sym (append_assoc (output rs) done rest)),
 )
 
 pub turn_before : (old mid : Desk) (last : Shelf) (a b c : Option (List ℕ)) (ls ms : List Line) → Turn old mid a b ls → StopsBefore mid last b c ms → StopsBefore old last a c (ls ++ ms)
-turn_before old mid last a b c ls ms turn (front, tail, next, split, new, still, more) =
-    (ls ++ front, tail, next, ap (λ l. ls ++ l) split ∙ sym (append_assoc ls front (next ∷ tail)), new, still, turn_turn old mid new a b c ls front turn more)
+turn_before old mid last a b c ls ms turn (prefix, tail, next, split, new, still, more) =
+    (ls ++ prefix, tail, next, ap (λ l. ls ++ l) split ∙ sym (append_assoc ls prefix (next ∷ tail)), new, still, turn_turn old mid new a b c ls prefix turn more)
 
 -- ---- a writer that lets out what it held back
 
@@ -73,5 +73,5 @@ pub turn_kept : (old new : Desk) (a b c : Option (List ℕ)) (ls : List Line) �
 turn_kept old new a b c ls (rs, first, written) k = (rs, first, Appends-kept a b c (output rs) written k)
 
 -- all of the first lines were answered, and what comes after them was not
-pub turn_stops : (old new : Desk) (last : Shelf) (a b : Option (List ℕ)) (ls more : List Line) → Stays new.shelf last → Turn old new a b ls → Fronts old last a b (ls ++ more)
+pub turn_stops : (old new : Desk) (last : Shelf) (a b : Option (List ℕ)) (ls more : List Line) → Stays new.shelf last → Turn old new a b ls → StopsWithin old last a b (ls ++ more)
 turn_stops old new last a b ls more still (rs, first, written) = (ls, more, refl, new, still, rs, first, (output rs, [], written, sym (append-nil (output rs))))

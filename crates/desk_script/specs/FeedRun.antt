@@ -16,7 +16,7 @@ use Rattle.desk_files.specs.declared.files.FileRefusal.{FileRefusal}
 use Rattle.desk_script.specs.Lines.{lines}
 use Rattle.desk_world.specs.Sites.{Sites, no_sites}
 use Rattle.desk_steps.specs.Desk.{Desk}
-use Rattle.desk_script.specs.Script.{Turn, Fronts, StopsBefore}
+use Rattle.desk_script.specs.Script.{Turn, StopsWithin, StopsBefore}
 
 -- a world of one site, which holds these operations
 abbrev pub one_site : ℕ → List Op → Sites
@@ -45,7 +45,7 @@ AnswersStored name n first last input before after =
 -- a run that stopped among the lines: a prefix of the answers was written, and no file has changed; where a line was not kept, all answers before it were written
 abbrev pub IsBroken : List ℕ → ℕ → Shelf → Shelf → Option (List ℕ) → Option (List ℕ) → Option (List ℕ) → LineFault → Type 0
 IsBroken name n held last input before after why =
-    (read : Result (List ℕ) FileRefusal) × (start : Desk) × IsStart name n held read start × Stays start.shelf last × IfSome input (λ bytes. Fronts start last before after (lines bytes))
+    (read : Result (List ℕ) FileRefusal) × (start : Desk) × IsStart name n held read start × Stays start.shelf last × IfSome input (λ bytes. StopsWithin start last before after (lines bytes))
     × (why ≡ faults.NoMemory → IfSome input (λ bytes. StopsBefore start last before after (lines bytes)))
 
 -- a whole run, after which the feed was not stored

@@ -5,7 +5,7 @@ use Rattle.desk_world.specs.Sites.{Sites}
 use Rattle.desk_steps.specs.Line.{Line, line_of}
 use Rattle.desk_script.specs.Lines.{without_cr}
 use Rattle.desk_steps.specs.Desk.{Desk, desk}
-use Rattle.desk_script.specs.Script.{Turn, Fronts, StopsBefore}
+use Rattle.desk_script.specs.Script.{Turn, StopsWithin, StopsBefore}
 
 -- a last line without an end counts if it is not empty
 abbrev pub last_line : List ℕ → List Line
@@ -35,7 +35,7 @@ Moves old new bytes =
 
 -- whatever follows the bytes, the first of their lines were answered, no file has changed since, and a prefix of their answers was written
 abbrev pub Breaks : Progress → Progress → List ℕ → Type 0
-Breaks old new bytes = (more : List ℕ) → Fronts old.state new.state.shelf old.written new.written (lines_from old.pending (bytes ++ more))
+Breaks old new bytes = (more : List ℕ) → StopsWithin old.state new.state.shelf old.written new.written (lines_from old.pending (bytes ++ more))
 
 -- whatever follows the bytes, the first of their lines were answered and each answer was written, no file has changed since, and a line comes after them
 abbrev pub BreaksBefore : Progress → Progress → List ℕ → Type 0

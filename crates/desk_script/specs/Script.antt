@@ -27,15 +27,15 @@ abbrev pub Turn : Desk → Desk → Option (List ℕ) → Option (List ℕ) → 
 Turn old new before after lines = (replies : List ReplyValues) × Script old lines replies new × Appends before after (output replies)
 
 -- the first lines were answered, no file has changed since, and a prefix of their answers was written
-abbrev pub Fronts : Desk → Shelf → Option (List ℕ) → Option (List ℕ) → List Line → Type 0
-Fronts old last before after lines =
-    (front tail : List Line) × (lines ≡ front ++ tail) × (new : Desk) × Stays new.shelf last × (replies : List ReplyValues) × Script old front replies new
+abbrev pub StopsWithin : Desk → Shelf → Option (List ℕ) → Option (List ℕ) → List Line → Type 0
+StopsWithin old last before after lines =
+    (prefix tail : List Line) × (lines ≡ prefix ++ tail) × (new : Desk) × Stays new.shelf last × (replies : List ReplyValues) × Script old prefix replies new
     × WritesPrefix before after (output replies)
 
 -- the first lines were answered and each answer was written, no file has changed since, and a line comes after them
 abbrev pub StopsBefore : Desk → Shelf → Option (List ℕ) → Option (List ℕ) → List Line → Type 0
 StopsBefore old last before after lines =
-    (front tail : List Line) × (next : Line) × (lines ≡ front ++ next ∷ tail) × (new : Desk) × Stays new.shelf last × Turn old new before after front
+    (prefix tail : List Line) × (next : Line) × (lines ≡ prefix ++ next ∷ tail) × (new : Desk) × Stays new.shelf last × Turn old new before after prefix
 
 -- a whole run over these bytes
 abbrev pub Answers : Desk → Desk → List ℕ → Option (List ℕ) → Option (List ℕ) → Type 0
@@ -46,5 +46,5 @@ abbrev pub AnswersBefore : Desk → Shelf → List ℕ → Option (List ℕ) →
 AnswersBefore old last input before after = StopsBefore old last before after (lines input)
 
 -- a run over these bytes that stopped, and left the files so
-abbrev pub AnswersFront : Desk → Shelf → List ℕ → Option (List ℕ) → Option (List ℕ) → Type 0
-AnswersFront old last input before after = Fronts old last before after (lines input)
+abbrev pub AnswersPrefix : Desk → Shelf → List ℕ → Option (List ℕ) → Option (List ℕ) → Type 0
+AnswersPrefix old last input before after = StopsWithin old last before after (lines input)

@@ -9,7 +9,7 @@ ghost use Rattle.desk_answers.specs.Text.{text};
 ghost use Rattle.desk_world.specs.Sites.{Sites, no_sites};
 ghost use Rattle.desk_steps.specs.Desk.{KeepsSites, desk};
 ghost use Rattle.desk_files.specs.Files.{Stays};
-ghost use Rattle.desk_script.specs.Script.{Turn, Fronts, Answers, AnswersBefore, AnswersFront, IsTold};
+ghost use Rattle.desk_script.specs.Script.{Turn, StopsWithin, Answers, AnswersBefore, AnswersPrefix, IsTold};
 ghost use Rattle.desk_stored.specs.Sending.{WritesPrefix};
 ghost use Rattle.desk_script.specs.Fault.{IsOfLines};
 ghost use Rattle.desk_script.specs.Pending.{Breaks, BreaksBefore, Moves, last_line, lines_from, progress};
@@ -97,7 +97,7 @@ fn take_line<W: Write, F: Files, A: Allocator + Copy>(
     line: &[u8],
 ) -> Result<(), LineFault>
     ensures ok { OnOk result (Turn (desk world.old (F.shelf files.old)) (desk world.new (F.shelf files.new)) (W.contents writer.old) (W.contents writer.new) (line_of line.now ∷ [])) }
-    ensures err { OnErr result ((more : List Line) → Fronts (desk world.old (F.shelf files.old)) (F.shelf files.new) (W.contents writer.old) (W.contents writer.new) (line_of line.now ∷ more)) }
+    ensures err { OnErr result ((more : List Line) → StopsWithin (desk world.old (F.shelf files.old)) (F.shelf files.new) (W.contents writer.old) (W.contents writer.new) (line_of line.now ∷ more)) }
     ensures fault { IfErr result (λ fault. fault ≡ LineFault.Write) }
     ensures sites { OnOk result (KeepsSites world.old world.new) }
     ensures stays { Stays (F.shelf files.old) (F.shelf files.new) }
@@ -110,9 +110,9 @@ fn take_line<W: Write, F: Files, A: Allocator + Copy>(
 pub fn without_cr(line: &[u8]) -> &[u8]
     ensures { result.now ≡ without_cr line.now }
 {
-    if let Some((last, front)) = line.split_last() {
+    if let Some((last, prefix)) = line.split_last() {
         if *last == b'\r' {
-            return front;
+            return prefix;
         }
     }
     line
@@ -209,7 +209,7 @@ fn take_last<W: Write, F: Files, A: Allocator + Copy>(
     line: &[u8],
 ) -> Result<(), LineFault>
     ensures ok { OnOk result (Turn (desk world.old (F.shelf files.old)) (desk world.new (F.shelf files.new)) (W.contents writer.old) (W.contents writer.new) (line_of line.now ∷ [])) }
-    ensures err { OnErr result ((more : List Line) → Fronts (desk world.old (F.shelf files.old)) (F.shelf files.new) (W.contents writer.old) (W.contents writer.new) (line_of line.now ∷ more)) }
+    ensures err { OnErr result ((more : List Line) → StopsWithin (desk world.old (F.shelf files.old)) (F.shelf files.new) (W.contents writer.old) (W.contents writer.new) (line_of line.now ∷ more)) }
     ensures fault { IfErr result (λ fault. fault ≡ LineFault.Write) }
     ensures sites { OnOk result (KeepsSites world.old world.new) }
     ensures stays { Stays (F.shelf files.old) (F.shelf files.new) }
@@ -227,7 +227,7 @@ fn finish<W: Write, F: Files, A: Allocator + Copy>(
     line: &[u8],
 ) -> Result<(), LineFault>
     ensures ok { OnOk result (Turn (desk world.old (F.shelf files.old)) (desk world.new (F.shelf files.new)) (W.contents writer.old) (W.contents writer.new) (last_line line.now)) }
-    ensures err { OnErr result (Fronts (desk world.old (F.shelf files.old)) (F.shelf files.new) (W.contents writer.old) (W.contents writer.new) (last_line line.now)) }
+    ensures err { OnErr result (StopsWithin (desk world.old (F.shelf files.old)) (F.shelf files.new) (W.contents writer.old) (W.contents writer.new) (last_line line.now)) }
     ensures fault { IfErr result (λ fault. fault ≡ LineFault.Write) }
     ensures sites { OnOk result (KeepsSites world.old world.new) }
     ensures stays { Stays (F.shelf files.old) (F.shelf files.new) }
@@ -250,7 +250,7 @@ pub fn answer_all<R: Read, W: Write, F: Files, A: Allocator + Copy>(
     files: &mut F,
 ) -> Result<(), LineFault>
     ensures ok { OnOk result (IfSome (R.remaining reader.old) (λ input. Answers (desk world.old (F.shelf files.old)) (desk world.new (F.shelf files.new)) input (W.contents writer.old) (W.contents writer.new))) }
-    ensures err { OnErr result (IfSome (R.remaining reader.old) (λ input. AnswersFront (desk world.old (F.shelf files.old)) (F.shelf files.new) input (W.contents writer.old) (W.contents writer.new))) }
+    ensures err { OnErr result (IfSome (R.remaining reader.old) (λ input. AnswersPrefix (desk world.old (F.shelf files.old)) (F.shelf files.new) input (W.contents writer.old) (W.contents writer.new))) }
     ensures memory { IsErrOf result LineFault.NoMemory → IfSome (R.remaining reader.old) (λ input. AnswersBefore (desk world.old (F.shelf files.old)) (F.shelf files.new) input (W.contents writer.old) (W.contents writer.new)) }
     ensures sites { OnOk result (KeepsSites world.old world.new) }
     ensures stays { Stays (F.shelf files.old) (F.shelf files.new) }
@@ -279,7 +279,7 @@ pub fn run<R: Read, W: Write, F: Files, A: Allocator + Copy>(
     files: &mut F,
 ) -> Result<(), RunFault>
     ensures ok { OnOk result (IfSome (R.remaining reader.old) (λ input. (new : Sites) × Answers (desk no_sites (F.shelf files.old)) (desk new (F.shelf files.new)) input (W.contents writer.old) (W.contents writer.new))) }
-    ensures err { OnErr result (IfSome (R.remaining reader.old) (λ input. AnswersFront (desk no_sites (F.shelf files.old)) (F.shelf files.new) input (W.contents writer.old) (W.contents writer.new))) }
+    ensures err { OnErr result (IfSome (R.remaining reader.old) (λ input. AnswersPrefix (desk no_sites (F.shelf files.old)) (F.shelf files.new) input (W.contents writer.old) (W.contents writer.new))) }
     ensures memory { IsErrOf result RunFault.NoMemory → IfSome (R.remaining reader.old) (λ input. AnswersBefore (desk no_sites (F.shelf files.old)) (F.shelf files.new) input (W.contents writer.old) (W.contents writer.new)) }
     ensures stays { Stays (F.shelf files.old) (F.shelf files.new) }
     ensures own { IfErr result IsOfLines }

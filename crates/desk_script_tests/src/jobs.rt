@@ -82,13 +82,13 @@ impl Files for Shelf {
             self.failures = self.failures.saturating_add(1);
             return Err(FileRefusal::Device);
         }
-        let (front, back) = match parts(name) {
+        let (prefix, back) = match parts(name) {
             Ok(parts) => parts,
             Err(FileRefusal::Large) => return Err(FileRefusal::Large),
             Err(_) => return Err(FileRefusal::Missing),
         };
         let mut bytes = Vec::new(alloc);
-        if bytes.extend_from_slice(front).is_err() || bytes.extend_from_slice(back).is_err() {
+        if bytes.extend_from_slice(prefix).is_err() || bytes.extend_from_slice(back).is_err() {
             return Err(FileRefusal::NoMemory);
         }
         if bytes.len() > MAX_FILE {

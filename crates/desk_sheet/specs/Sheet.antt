@@ -72,8 +72,8 @@ Told mode n old before (line ∷ lines) new after =
 -- the lines before line k are answered or passed over, and that stops the run
 abbrev pub StopsAt : Mode → Desk → List ℕ → List Line → ℕ → Desk → List ℕ → Type 0
 StopsAt mode old before lines k new after =
-    (front tail : List Line) × (line : Line) × (lines ≡ front ++ line ∷ tail) × (k ≡ length front + 1)
-    × (mid : Desk) × (told : List ℕ) × Told mode 1 old before front mid told × Stops mode k mid told line new after
+    (prefix tail : List Line) × (line : Line) × (lines ≡ prefix ++ line ∷ tail) × (k ≡ length prefix + 1)
+    × (mid : Desk) × (told : List ℕ) × Told mode 1 old before prefix mid told × Stops mode k mid told line new after
 
 -- all lines are answered or passed over, or the line of this number stops the run
 abbrev pub Ends : Mode → Desk → List ℕ → List Line → Option ℕ → Desk → List ℕ → Type 0

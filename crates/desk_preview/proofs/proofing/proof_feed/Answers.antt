@@ -20,9 +20,9 @@ pub returns-in_err-write_out-clause-err : goal.returns-in_err-write_out-clause-e
 returns-in_err-write_out-clause-err g c =
     let t = c.in_ok-replica in
     let text = string_bytes c.in_ok-text.text in
-    let front = subst (λ l. WritesPrefix (g.W.Write.contents c.args.writer.now) (g.W.Write.contents c.write_out.new.writer) l) c.as_bytes.ensures.value c.in_err-write_out.ensures.err in
+    let prefix = subst (λ l. WritesPrefix (g.W.Write.contents c.args.writer.now) (g.W.Write.contents c.write_out.new.writer) l) c.as_bytes.ensures.value c.in_err-write_out.ensures.err in
     let p = err_from_is_err_and c.from_residual-in_err-write_out.result c.from_residual-in_err-write_out.ensures.1 in
-    rw p.1 (inr (inr (p.2, t.ensures.still, text, c.in_ok-text.clean, (t.replica.ops, t.case, t.wedge, t.ensures.ok, c.in_ok-text.ensures), front)))
+    rw p.1 (inr (inr (p.2, t.ensures.still, text, c.in_ok-text.clean, (t.replica.ops, t.case, t.wedge, t.ensures.ok, c.in_ok-text.ensures), prefix)))
 
 pub returns-clause-ok : goal.returns-clause-ok
 returns-clause-ok g c =

@@ -5,11 +5,11 @@ use Rattle.std.proofs.lemmas.Result.{err_from_is_err_and, on_err_weaker, on_ok_w
 use Rattle.std.proofs.Common.{ap}
 use Rattle.std.specs.Prelude.{Err}
 use Rattle.desk_steps.specs.Desk.{desk}
-use Rattle.desk_script.specs.Script.{Turn, Fronts}
+use Rattle.desk_script.specs.Script.{Turn, StopsWithin}
 use Rattle.desk_script.specs.Pending.{last_line, progress}
 use Rattle.desk_steps.proofs.Keeping.{keeps_same, keeps_trans}
 use Rattle.desk_script.proofs.Bytes.{on_err, told_fault}
-use Rattle.desk_script.proofs.Carry.{carries_before, carries_more, carries_front, carries_end, carries_end_front, carries_stop}
+use Rattle.desk_script.proofs.Carry.{carries_before, carries_more, carries_prefix, carries_end, carries_end_prefix, carries_stop}
 use Rattle.desk_script.proofs.stream.answer_all.Goals as goal
 
 pub reads-init : goal.reads-init
@@ -31,13 +31,13 @@ returns-in-Ok-eq0-clause-err g c =
     let read = subst (λ n. Consumes (g.R.Read.remaining c.reads.reader) (g.R.Read.remaining c.read.new.self) (take n c.read.new.buf)) c.in-Ok-eq0.field-0-test c.in-Ok-eq0.ensures.bytes.0 in
     let room : 0 < length c.read.new.buf = search rules in
     let end = c.in-Ok-eq0.ensures.bytes.1 c.in-Ok-eq0.field-0-test room in
-    on_err_weaker c.finish.result (λ turn. carries_end_front (desk c.args.world.now (g.F.Files.shelf c.args.files.now)) (desk c.reads.world (g.F.Files.shelf c.reads.files)) (g.F.Files.shelf c.finish.new.files) _ _ _ _ (g.W.Write.contents c.reads.writer) _ c.reads.line.items c.reads.invariant.carries read end
-    (subst (λ l. Fronts (desk c.reads.world (g.F.Files.shelf c.reads.files)) (g.F.Files.shelf c.finish.new.files) (g.W.Write.contents c.reads.writer) (g.W.Write.contents c.finish.new.writer) (last_line l)) c.deref.ensures.value turn)) c.finish.ensures.err
+    on_err_weaker c.finish.result (λ turn. carries_end_prefix (desk c.args.world.now (g.F.Files.shelf c.args.files.now)) (desk c.reads.world (g.F.Files.shelf c.reads.files)) (g.F.Files.shelf c.finish.new.files) _ _ _ _ (g.W.Write.contents c.reads.writer) _ c.reads.line.items c.reads.invariant.carries read end
+    (subst (λ l. StopsWithin (desk c.reads.world (g.F.Files.shelf c.reads.files)) (g.F.Files.shelf c.finish.new.files) (g.W.Write.contents c.reads.writer) (g.W.Write.contents c.finish.new.writer) (last_line l)) c.deref.ensures.value turn)) c.finish.ensures.err
 
 pub returns-in_err-take_bytes-in-Ok-clause-err : goal.returns-in_err-take_bytes-in-Ok-clause-err
 returns-in_err-take_bytes-in-Ok-clause-err g c =
     on_err c.from_residual.result
-    (carries_front (desk c.args.world.now (g.F.Files.shelf c.args.files.now)) (progress c.reads.world (g.F.Files.shelf c.reads.files) (g.W.Write.contents c.reads.writer) c.reads.line.items) (progress c.take_bytes.new.world (g.F.Files.shelf c.take_bytes.new.files) (g.W.Write.contents c.take_bytes.new.writer) c.take_bytes.new.line.items) _ _ _ _ (take c.in-Ok.n c.read.new.buf) c.reads.invariant.carries c.in-Ok.ensures.bytes.0 c.in_err-take_bytes-in-Ok.ensures.err)
+    (carries_prefix (desk c.args.world.now (g.F.Files.shelf c.args.files.now)) (progress c.reads.world (g.F.Files.shelf c.reads.files) (g.W.Write.contents c.reads.writer) c.reads.line.items) (progress c.take_bytes.new.world (g.F.Files.shelf c.take_bytes.new.files) (g.W.Write.contents c.take_bytes.new.writer) c.take_bytes.new.line.items) _ _ _ _ (take c.in-Ok.n c.read.new.buf) c.reads.invariant.carries c.in-Ok.ensures.bytes.0 c.in_err-take_bytes-in-Ok.ensures.err)
 
 pub returns-in_err-take_bytes-in-Ok-clause-memory : goal.returns-in_err-take_bytes-in-Ok-clause-memory
 returns-in_err-take_bytes-in-Ok-clause-memory g c is =

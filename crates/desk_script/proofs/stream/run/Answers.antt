@@ -3,7 +3,7 @@ use Rattle.std.proofs.Common.{ap}
 use Rattle.std.specs.Prelude.{Err}
 use Rattle.desk_world.specs.Sites.{no_sites}
 use Rattle.desk_script.proofs.Bytes.{on_err, told_fault}
-use Rattle.desk_script.proofs.Carry.{run_before, run_whole, run_front}
+use Rattle.desk_script.proofs.Carry.{run_before, run_whole, run_prefix}
 use Rattle.desk_script.proofs.Feeds.{line_memory}
 use Rattle.desk_script.proofs.stream.run.Goals as goal
 
@@ -14,7 +14,7 @@ returns-clause-ok g c =
 pub returns-in_err-answer_all-clause-err : goal.returns-in_err-answer_all-clause-err
 returns-in_err-answer_all-clause-err g c =
     on_err c.from_residual.result
-    (run_front c.new-world.result no_sites (g.F.Files.shelf c.args.files.now) (g.F.Files.shelf c.answer_all.new.files) (g.R.Read.remaining c.args.reader.now) _ _ c.new-world.ensures.sites c.in_err-answer_all.ensures.err)
+    (run_prefix c.new-world.result no_sites (g.F.Files.shelf c.args.files.now) (g.F.Files.shelf c.answer_all.new.files) (g.R.Read.remaining c.args.reader.now) _ _ c.new-world.ensures.sites c.in_err-answer_all.ensures.err)
 
 pub returns-in_err-answer_all-clause-own : goal.returns-in_err-answer_all-clause-own
 returns-in_err-answer_all-clause-own g c =

@@ -2,13 +2,13 @@ use Rattle.desk_files.proofs.Shelves.{stays_same, stays_trans}
 use Rattle.std.proofs.Common.{◌≡◌, ℕ, ◌+◌, ◌<◌, length, ◌++◌, ◌∷◌, [], drop, get_or, ap, ◌∙◌, sym, append_assoc, add-one, drop-cons, subst, refl}
 use Rattle.std.proofs.lemmas.List.{at_drop_all}
 use Rattle.desk_steps.specs.Desk.{desk}
-use Rattle.desk_script.specs.Script.{Fronts, StopsBefore}
+use Rattle.desk_script.specs.Script.{StopsWithin, StopsBefore}
 use Rattle.desk_script.specs.Pending.{lines_from}
 use Rattle.desk_steps.proofs.Keeping.{keeps_same, keeps_trans}
 use Rattle.std.proofs.lemmas.Result.{err_from_is_err_and}
 use Rattle.std.specs.Prelude.{Err}
 use Rattle.desk_script.proofs.Bytes.{on_err, told_fault}
-use Rattle.desk_script.proofs.Turns.{no_turn, turn_before, turn_turn, turn_front}
+use Rattle.desk_script.proofs.Turns.{no_turn, turn_before, turn_turn, turn_prefix}
 use Rattle.desk_script.proofs.stream.take_each.Goals as goal
 
 pub loop-b-init : goal.loop-b-init
@@ -20,9 +20,9 @@ returns-in_err-take_byte-clause-err g c =
     let lt : i < length c.args.bytes.now = c.loop-b-test.true in
     let step : drop i c.args.bytes.now ≡ get_or c.args.bytes.now i 0 ∷ drop (i + 1) c.args.bytes.now = rw (add-one, drop-cons c.args.bytes.now i 0) refl in
     on_err c.from_residual.result
-    (λ more. subst (Fronts (desk c.args.world.now (g.F.Files.shelf c.args.files.now)) (g.F.Files.shelf c.take_byte.new.files) (g.W.Write.contents c.args.writer.now) (g.W.Write.contents c.take_byte.new.writer))
+    (λ more. subst (StopsWithin (desk c.args.world.now (g.F.Files.shelf c.args.files.now)) (g.F.Files.shelf c.take_byte.new.files) (g.W.Write.contents c.args.writer.now) (g.W.Write.contents c.take_byte.new.writer))
     (sym (c.loop-b.invariant.moves.2 more ∙ ap (λ l. c.loop-b.invariant.moves.0 ++ lines_from c.loop-b.line.items (l ++ more)) step))
-    (turn_front _ (desk c.loop-b.world (g.F.Files.shelf c.loop-b.files)) _ _ (g.W.Write.contents c.loop-b.writer) _ c.loop-b.invariant.moves.0 _ c.loop-b.invariant.moves.1 (c.in_err-take_byte.ensures.err (drop (i + 1) c.args.bytes.now ++ more))))
+    (turn_prefix _ (desk c.loop-b.world (g.F.Files.shelf c.loop-b.files)) _ _ (g.W.Write.contents c.loop-b.writer) _ c.loop-b.invariant.moves.0 _ c.loop-b.invariant.moves.1 (c.in_err-take_byte.ensures.err (drop (i + 1) c.args.bytes.now ++ more))))
 
 pub returns-in_err-take_byte-clause-memory : goal.returns-in_err-take_byte-clause-memory
 returns-in_err-take_byte-clause-memory g c is more =
