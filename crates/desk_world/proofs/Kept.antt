@@ -232,7 +232,11 @@ abbrev pub ReopensAt : List (ℕ × State) → List (ℕ × State) → ℕ → R
 ReopensAt es fs n r o = MatchOption o ((r ≡ Err refusals.NoSite) × (fs ≡ es)) (λ s. (t : State) × IsUpdated es fs n s t × (t.ops ≡ s.ops) × IsReopened s.ops r)
 
 pub kept_reopened : (es fs : List (ℕ × State)) (n : ℕ) (r : Result Answer StepRefusal) → IsKept es → ReopensAt es fs n r (lookup (nat_eq n) es) → IsKept fs
-kept_reopened es fs n r kept h = kept_changed (λ s t. (t.ops ≡ s.ops) × IsReopened s.ops r) es fs n r kept (λ s t own same. subst AllLawful (sym same.0) own) h
+kept_reopened es fs n r kept h = at (lookup (nat_eq n) es) h
+  where
+    at : (o : Option State) → ReopensAt es fs n r o → IsKept fs
+    at None g = subst IsKept (sym g.1) kept
+    at (Some s) g = kept_updated es fs n s g.0 kept g.1 (subst AllLawful (sym g.2) (lawful_there es n s kept g.1.there))
 
 -- an entry with the same operations says the same
 same_sites : (es fs : List (ℕ × State)) (n : ℕ) (s t : State) → IsUpdated es fs n s t → t.ops ≡ s.ops → sites_of fs ≡ sites_of es
