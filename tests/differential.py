@@ -277,7 +277,7 @@ class Play:
         if self.pick.random() < 0.03:
             bad = [b"show 1", b"send 1 2", b"", b"site", b'insert 1 0 r"ab"', b"take 1 4d464433", b"take 1 4d46443109", b"take 1 4d4", b"merge 1 1", b"# a note"]
             self.lines.insert(self.pick.randrange(len(self.lines) + 1), self.pick.choice(bad))
-        self.data = b"".join(line + b"\n" for line in self.lines)
+        self.data = b"\n".join(self.lines) + self.pick.choice([b"\n", b"\n", b"\n", b""])
 
     def lawful(self, count):
         """Random operations, of which each alone is lawful."""

@@ -1,4 +1,10 @@
-"""Runs of the independent program: sheets of commands, stored feeds, and lines that memory stops, from docs/FORMATS.md."""
+#!/usr/bin/env python3
+"""Runs of the independent program: sheets of commands, stored feeds, lists of events, and lines that memory stops, from docs/FORMATS.md.
+
+usage: oracle_runs.py < LIST     writes what desk_plays is to write of a list of events, and ends with its status
+"""
+import sys
+
 import oracle
 
 
@@ -119,3 +125,13 @@ def front(world, line, count):
         ops = ops[rest[1][0]:rest[1][1]] if name == "send" and rest[1] is not None else ops
     to = rest[0] if name == "send" else site
     return len(ops) > count and world.gain(to, ops[:count]).startswith("ok ")
+
+
+def main():
+    status, text = play(sys.stdin.buffer.read())
+    sys.stdout.buffer.write(text.encode("utf-8"))
+    return status
+
+
+if __name__ == "__main__":
+    sys.exit(main())

@@ -91,8 +91,9 @@ fn tell(alloc: Global, out: &mut String, room: &Room) -> anyhow::Result<()> {
 fn main(rt: HostRuntime) -> anyhow::Result<()> {
     let alloc = rt.alloc();
     let text = io::read_to_string(alloc, rt.reader())?;
-    let Some((first, rest)) = text.split_once('\n') else {
-        bail!("the first line has no end");
+    let (first, rest) = match text.split_once('\n') {
+        Some(parts) => parts,
+        None => (text.as_str(), ""),
     };
     let mut world = world_of(alloc, first)?;
     let lines = lines_of(alloc, rest)?;
