@@ -314,9 +314,10 @@ class Play:
     def site(self):
         return self.pick.choice(list(self.world.sites)) if self.pick.random() < 0.97 else self.pick.choice([0, 9, 65535, 65536, 65537, 4294967295])
 
-    def some(self):
-        """Some of what a site holds: all, a part by stamps, or any of it in any order and some of it again."""
-        ops = sorted(self.world.sites[self.pick.choice(list(self.world.sites))], key=oracle.order)
+    def some(self, to):
+        """Some of what a site holds, mostly another than takes it: all, a part by stamps, or any of it in any order and some of it again."""
+        others = [site for site in self.world.sites if site != to and self.pick.random() < 0.9] or list(self.world.sites)
+        ops = sorted(self.world.sites[self.pick.choice(others)], key=oracle.order)
         kind = self.pick.random()
         if kind < 0.3:
             return ops
@@ -337,12 +338,12 @@ class Play:
             return (*held[:3], (0, ord(self.pick.choice("ntamz"))))
         return (*held[:2], "wedge", self.pick.randrange(1, 9)) if held[0] == "set" else held
 
-    def gift(self):
-        ops = self.some()
+    def gift(self, to):
+        ops = self.some(to)
         if self.pick.random() < 0.3:
-            ops = ops + self.some()
+            ops = ops + self.some(to)
         if self.pick.random() < 0.15:
-            ops = ops[:]
+            ops = list(ops)
             ops.insert(self.pick.randrange(len(ops) + 1), self.strange())
         return self.feed(ops)
 
@@ -363,7 +364,7 @@ class Play:
             return b"delete %d %d" % (site, self.place(site, 0))
         if kind == "set":
             return b"set %d %s" % (site, self.scripts.setting().encode())
-        return b"take %d %s" % (site, self.gift().hex().encode()) if kind == "take" else b"restart %d" % site
+        return b"take %d %s" % (site, self.gift(site).hex().encode()) if kind == "take" else b"restart %d" % site
 
     def add(self, *lines):
         for line in lines:
