@@ -46,10 +46,10 @@ pub fn number_of(site: u32) -> u16 {
 
 /// The symbol that an event inserts.
 fn symbol_of(copy: &[Symbol]) -> Result<Symbol> {
-    if copy.len() != 1 {
-        bail!("an event inserts one symbol");
+    match copy.first() {
+        Some(symbol) if copy.len() == 1 => Ok(*symbol),
+        _ => bail!("an event inserts one symbol"),
     }
-    Ok(copy[0])
 }
 
 impl Line {

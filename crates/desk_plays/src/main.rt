@@ -2,7 +2,7 @@
 #![tactic(auto)]
 
 ghost use Rattle.std.specs.Prelude.{◌≡◌, All, IfOk};
-ghost use Rattle.desk_answers.specs.NotDone.{event_reply};
+ghost use Rattle.desk_answers.specs.NotDone.{event_reply, reply_of};
 ghost use Rattle.desk_answers.specs.Reply.{reply_values};
 ghost use Rattle.desk_plays.specs.Line.{GivesLawful};
 ghost use Rattle.desk_world.specs.World.{IsSound, event_values};
@@ -30,7 +30,8 @@ fn world_of(alloc: Global, text: &str) -> anyhow::Result<World<Global>> {
     };
     let number = number_of(site);
     ensure!(number > 0, "no site has the number {site}");
-    let room = Room::open(alloc, number, &read_feed(alloc, &feed)?)?;
+    let ops = read_feed(alloc, &feed)?;
+    let room = Room::open(alloc, number, &ops)?;
     Ok(World::with_site(alloc, room)?)
 }
 
@@ -57,16 +58,23 @@ fn events_of(alloc: Global, lines: &[Line]) -> Result<Vec<Event<'_>>, AllocError
     Ok(events)
 }
 
-/// What an event returned, as an answer.
-fn reply_of(returned: Result<Answer, StepRefusal>) -> Reply<Global>
+/// The answer to what was not done.
+fn reply_of(end: NotDone) -> Reply<Global>
+    ensures { reply_values result ≡ reply_of end }
+{
+    match end {
+        NotDone::Failed(why) => Reply::Refused(Refusal::from(why)),
+        NotDone::Stopped(taken, why) => Reply::Stopped(taken, why),
+    }
+}
+
+/// The answer to what an event returned.
+fn answer_of(returned: Result<Answer, StepRefusal>) -> Reply<Global>
     ensures { reply_values result ≡ event_reply returned }
 {
     match returned {
         Ok(answer) => Reply::from(answer),
-        Err(why) => match NotDone::from(why) {
-            NotDone::Failed(why) => Reply::Refused(Refusal::from(why)),
-            NotDone::Stopped(taken, why) => Reply::Stopped(taken, why),
-        },
+        Err(why) => reply_of(NotDone::from(why)),
     }
 }
 
@@ -100,7 +108,7 @@ fn main(rt: HostRuntime) -> anyhow::Result<()> {
     let events = events_of(alloc, &lines)?;
     let mut out = String::new(alloc);
     for returned in &world.play(&events)? {
-        say(&mut out, &reply_of(*returned))?;
+        say(&mut out, &answer_of(*returned))?;
     }
     for number in 1..=u16::MAX {
         if let Some(room) = world.replica(number) {
