@@ -297,7 +297,7 @@ class Play:
             world = oracle.World()
             for line in oracle.lines(random_script(self.pick.randrange(1 << 20), 0)):
                 world.answer(line)
-            return self.feed(list(self.pick.choice(list(world.sites.values()))))
+            return self.feed(sorted(self.pick.choice(list(world.sites.values())), key=oracle.order))
         return self.feed(self.lawful(self.pick.choice([1, 3, 9, 20])))
 
     def feed(self, ops):
@@ -328,7 +328,7 @@ class Play:
 
     def strange(self):
         """An operation that no site holds, mostly: any at all, or one that is held but for its symbol, its value or its counter."""
-        held = self.pick.choice([op for ops in self.world.sites.values() for op in ops] or self.lawful(1))
+        held = self.pick.choice(sorted(set().union(*self.world.sites.values()), key=oracle.order) or self.lawful(1))
         kind = self.pick.random()
         if kind < 0.3:
             return self.lawful(1)[0]
