@@ -1,6 +1,6 @@
 -- What a job by two files leaves.
 use Rattle.std.proofs.Common.{◌≡◌, ℕ, ◌⊎◌, inl, inr, List, refl, ap, subst}
-use Rattle.std.specs.Prelude.{Some, Err, MatchOption, Unit}
+use Rattle.std.specs.Prelude.{Some, Err, MatchOption}
 use Rattle.desk_ops.specs.OpSet.{OpSet}
 use Rattle.desk_files.specs.Files.{Shelf}
 use Rattle.desk_answers.specs.Failure.{IfReplied, refusal_of}
