@@ -24,13 +24,13 @@ fn rooms(alloc: Global, k: u64) -> Result<TrialFiles<Global>, AllocError> {
 
 /// What an export writes, or why it writes nothing.
 #[derive(Drop)]
-enum Exported {
+enum End {
     Text(Vec<u8>),
     Nothing(ExportFault),
 }
 
 /// How an export ends, if the files stay.
-fn exported(alloc: Global, k: u64, name: &str) -> Result<Exported, Fail> {
+fn exported(alloc: Global, k: u64, name: &str) -> Result<End, Fail> {
     let mut files = rooms(alloc, k)?;
     let mut written = Vec::new(alloc);
     let ended = export_feed(alloc, &mut written, &mut files, name);
@@ -38,25 +38,25 @@ fn exported(alloc: Global, k: u64, name: &str) -> Result<Exported, Fail> {
         return Err(Fail::new("a file changed"));
     }
     match ended {
-        Ok(()) => Ok(Exported::Text(written)),
+        Ok(()) => Ok(End::Text(written)),
         Err(_) if !written.is_empty() => Err(Fail::new("bytes before a fault")),
-        Err(fault) => Ok(Exported::Nothing(fault)),
+        Err(fault) => Ok(End::Nothing(fault)),
     }
 }
 
 /// Whether an export writes this text.
 fn writes(alloc: Global, name: &str, text: &[u8]) -> Result<bool, Fail> {
     match exported(alloc, 0, name)? {
-        Exported::Text(written) => Ok(written.as_slice() == text),
-        Exported::Nothing(_) => Ok(false),
+        End::Text(written) => Ok(written.as_slice() == text),
+        End::Nothing(_) => Ok(false),
     }
 }
 
 /// Why an export writes nothing.
 fn fault_of(alloc: Global, k: u64, name: &str) -> Result<Option<ExportFault>, Fail> {
     match exported(alloc, k, name)? {
-        Exported::Text(_) => Ok(None),
-        Exported::Nothing(fault) => Ok(Some(fault)),
+        End::Text(_) => Ok(None),
+        End::Nothing(fault) => Ok(Some(fault)),
     }
 }
 
