@@ -6,7 +6,7 @@ use Rattle.desk_ops.specs.OpSet.{max_ops, no_ops, size, with_all}
 use Rattle.desk_codec.specs.Fault.{IsFirstFault}
 use Rattle.desk_codec.specs.Feed.{IsFeed}
 use Rattle.desk_codec.specs.declared.fault.FeedFault.{FeedFault}
-use Rattle.desk_replica.specs.declared.Stopped.{Stopped}
+use Rattle.desk_held.specs.declared.join.Stopped.{Stopped}
 use Rattle.desk_stored.specs.Fault.{IsUnopened}
 use Rattle.desk_stored.specs.declared.fault.OpenFault.TheVariants as openings
 use Rattle.desk_check.specs.declared.told.Told.{Told}

@@ -6,9 +6,10 @@ use Rattle.desk_ops.specs.OpSet.{OpSet, size, with_all}
 use Rattle.desk_files.specs.Files.{Names, Shelf}
 use Rattle.desk_held.specs.declared.AddRefusal.{AddRefusal}
 use Rattle.desk_held.specs.declared.AddRefusal.TheVariants as adds
-use Rattle.desk_replica.specs.State.{IsCounted, IsStopped}
+use Rattle.desk_held.specs.Joining.{IsStopped}
+use Rattle.desk_replica.specs.State.{IsCounted}
 use Rattle.desk_replica.specs.declared.Count.{Count}
-use Rattle.desk_replica.specs.declared.Stopped.{Stopped}
+use Rattle.desk_held.specs.declared.join.Stopped.{Stopped}
 use Rattle.desk_hand.specs.Fault.{of_adding}
 use Rattle.desk_hand.specs.declared.fault.FeedTrouble.{FeedTrouble}
 use Rattle.desk_hand.specs.Merging.{AreFeeds, IsFeedOf, IsJoined, Joins, Refuses, StopsAt, counted_line, line_of, lines_of, news, with_lists}

@@ -14,8 +14,8 @@ use Rattle.desk_held.specs.declared.AddRefusal.TheVariants.{Full, NoMemory}
 use Rattle.std.specs.Prelude.{◌↔◌, Bool, true, Result, Ok, Err, IsErrOf, All}
 use Rattle.std.proofs.lemmas.Bool.{true≢false}
 use Rattle.desk_replica.specs.declared.Took.{Took}
-use Rattle.desk_replica.specs.declared.Stopped.{Stopped}
-use Rattle.desk_replica.specs.State.{IsStopped}
+use Rattle.desk_held.specs.declared.join.Stopped.{Stopped}
+use Rattle.desk_held.specs.Joining.{IsStopped}
 use Rattle.desk_ops.proofs.Unions.{with_all-append, size-with_op}
 use Rattle.desk_ops.proofs.Stamps.{by_cases}
 use Rattle.desk_ops.proofs.OpSets.{no_ops-from_rising, in_order-from_rising}

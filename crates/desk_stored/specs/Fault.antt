@@ -7,7 +7,7 @@ use Rattle.desk_codec.specs.Feed.{IsFeed}
 use Rattle.desk_codec.specs.Reading.{MayHoldOne}
 use Rattle.desk_held.specs.declared.AddRefusal.{AddRefusal}
 use Rattle.desk_held.specs.declared.AddRefusal.TheVariants.{Full, NoMemory}
-use Rattle.desk_replica.specs.declared.Stopped.{Stopped}
+use Rattle.desk_held.specs.declared.join.Stopped.{Stopped}
 use Rattle.desk_files.specs.Files.{HasNoPlace, IsCounted, IsNowhere, Reads, Shelf, Spares, Stays, new_name}
 use Rattle.desk_files.specs.declared.files.FileRefusal.{FileRefusal}
 use Rattle.desk_files.specs.declared.files.FileRefusal.TheVariants as refusals

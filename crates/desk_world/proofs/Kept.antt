@@ -13,7 +13,7 @@ use Rattle.desk_ops.specs.Op.{IsLawful}
 use Rattle.desk_ops.specs.OpSet.{OpSet, no_ops, with_all, in_order, size, max_ops, AllLawful}
 use Rattle.desk_ops.proofs.Unions.{with_all-in_order}
 use Rattle.desk_held.specs.declared.AddRefusal.TheVariants as adds
-use Rattle.desk_replica.specs.declared.Stopped.{Stopped}
+use Rattle.desk_held.specs.declared.join.Stopped.{Stopped}
 use Rattle.desk_replica.specs.declared.Count.{Count}
 use Rattle.desk_replica.specs.State.{State}
 use Rattle.desk_world.specs.declared.world.Answer.{Answer}
