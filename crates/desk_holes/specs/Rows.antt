@@ -12,6 +12,7 @@ use Rattle.desk_signals.specs.Rows.{signals_of}
 use Rattle.desk_case.specs.Case.{CaseValues, symbol_at, is_fill}
 use Rattle.desk_case.specs.Names.{same_cell}
 use Rattle.desk_svg.specs.Escape.{escaped_char}
+use Rattle.desk_svg.specs.Text.{text_end}
 use Rattle.desk_holes.specs.Parts.{between}
 use Rattle.desk_holes.specs.Channels.{x_of}
 
@@ -85,11 +86,8 @@ number_text y place = number_place y ++ number_value place
 unfoldable pub told_place : ℕ → List ℕ
 told_place y = between (codes "<text class=\"m\" x=\"477\" y=\"") (y + 3) (codes "\">")
 
-unfoldable pub told_end : List ℕ
-told_end = codes "</text>\n"
-
 abbrev pub told_text : CaseValues → ℕ → RibbonRow → List ℕ
-told_text case y row = told_place y ++ (meaning_text case row ++ told_end)
+told_text case y row = told_place y ++ (meaning_text case row ++ text_end)
 
 -- a row that stands so far down
 abbrev pub row_at : CaseValues → ℕ → ℕ → RibbonRow → List ℕ

@@ -4,7 +4,7 @@ ghost use Rattle.std.specs.Prelude.{◌≡◌, ◌++◌, ◌+◌, ◌<◌, ◌^�
 ghost use Rattle.std.specs.Fmt.{decimal};
 ghost use Rattle.desk_case.specs.Case.{symbol_at};
 ghost use Rattle.desk_signals.specs.Rows.{signals_of};
-ghost use Rattle.desk_holes.specs.Rows.{blank_text, held_text, hole_text, hole_x, hole_y, holes_text, meaning_text, number_place, number_text, number_value, row_at, row_text, rows_text, s_text, style_text, symbol_text, told_end, told_place, told_text, y_of};
+ghost use Rattle.desk_holes.specs.Rows.{blank_text, held_text, hole_text, hole_x, hole_y, holes_text, meaning_text, number_place, number_text, number_value, row_at, row_text, rows_text, s_text, style_text, symbol_text, told_place, told_text, y_of};
 
 use crate::channels::x_of;
 use crate::parts::put_between;
@@ -12,7 +12,7 @@ use desk_case::MatrixCase;
 use desk_case::names::is_same;
 use desk_ops::{Style, Symbol};
 use desk_signals::{Cell, Position, RibbonRow, Signal};
-use desk_svg::put_escaped;
+use desk_svg::{put_escaped, text_end};
 use std::alloc::{AllocError, Allocator};
 
 /// Writes how far to the right a hole stands.
@@ -181,14 +181,6 @@ fn put_told_place<A: Allocator + Copy>(out: &mut String<A>, y: u128) -> Result<(
     put_between(out, "<text class=\"m\" x=\"477\" y=\"", y + 3, "\">")
 }
 
-/// What stands behind it.
-#[tactic(auto, unfolding(crate::specs::Rows::told_end))]
-fn told_end() -> &'static str
-    ensures { result.now ≡ told_end }
-{
-    "</text>\n"
-}
-
 /// Writes what a row means at its right.
 fn put_told<A: Allocator + Copy>(
     out: &mut String<A>,
@@ -201,7 +193,7 @@ fn put_told<A: Allocator + Copy>(
 {
     put_told_place(out, y)?;
     put_meaning(out, case, row)?;
-    out.push_str(told_end())
+    out.push_str(text_end())
 }
 
 /// Writes a row that stands so far down.

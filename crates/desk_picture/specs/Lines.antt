@@ -10,6 +10,7 @@ use Rattle.desk_galley.specs.Galley.{is_faulty}
 use Rattle.desk_proof.specs.Parts.{begin_of}
 use Rattle.desk_proof.specs.Faults.{cause_and_limits}
 use Rattle.desk_svg.specs.Number.{attribute_text}
+use Rattle.desk_svg.specs.Text.{text_end}
 use Rattle.desk_picture.specs.Sheet.{across, foot}
 use Rattle.desk_picture.specs.Widths.{drawn_space, frame_or}
 use Rattle.desk_picture.specs.Words.{words_text, after_words}
@@ -19,9 +20,6 @@ use Rattle.desk_picture.specs.declared.sheet.Sheet.{Sheet}
 -- the beginning of a text of this class that stands here
 abbrev pub text_at : (class : List ℕ) (x y : ℕ) → List ℕ
 text_at class x y = codes "<text class=\"" ++ (class ++ (codes "\"" ++ (attribute_text (codes "x") x ++ (attribute_text (codes "y") y ++ codes ">"))))
-
-abbrev pub text_end : List ℕ
-text_end = codes "</text>\n"
 
 -- a number at the margin, which ends here
 abbrev pub number_text : (x y n : ℕ) → List ℕ

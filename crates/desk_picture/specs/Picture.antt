@@ -7,9 +7,10 @@ use Rattle.desk_galley.specs.Values.{GalleyValues}
 use Rattle.desk_proof.specs.Proof.{scale_of}
 use Rattle.desk_proof.specs.Faults.{cause_text}
 use Rattle.desk_svg.specs.Number.{attribute_text, hundredths_text}
+use Rattle.desk_svg.specs.Text.{text_end}
 use Rattle.desk_picture.specs.Sheet.{across, edge, leading}
 use Rattle.desk_picture.specs.Widths.{widest}
-use Rattle.desk_picture.specs.Lines.{lines_text, text_at, text_end}
+use Rattle.desk_picture.specs.Lines.{lines_text, text_at}
 use Rattle.desk_picture.specs.Heads.{copy_faults, head_count, head_y, heads_text}
 use Rattle.desk_picture.specs.declared.sheet.Sheet.{Sheet}
 

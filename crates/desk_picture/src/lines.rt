@@ -4,7 +4,7 @@ ghost use Rattle.std.specs.Prelude.{◌≡◌, ◌+◌, ◌++◌, ◌≤◌, ◌
 ghost use Rattle.std.specs.Fmt.{decimal};
 ghost use Rattle.desk_lines.specs.Words.{most_symbols};
 ghost use Rattle.desk_galley.specs.Galley.{Stands};
-ghost use Rattle.desk_picture.specs.Lines.{class_of, fault_text, line_at, line_boxes, line_text, line_words, lines_text, margin_text, number_text, text_at, text_end, words_at, words_end};
+ghost use Rattle.desk_picture.specs.Lines.{class_of, fault_text, line_at, line_boxes, line_text, line_words, lines_text, margin_text, number_text, text_at, words_at, words_end};
 
 use crate::boxes::put_fills;
 use crate::sheet::{Sheet, across, foot};
@@ -14,16 +14,9 @@ use desk_galley::Line;
 use desk_job::terms::Terms;
 use desk_ops::Symbol;
 use desk_proof::{begin_of, put_cause};
-use desk_svg::put_attribute;
+use desk_svg::{put_attribute, text_end};
 use itoa::Buffer;
 use std::alloc::{AllocError, Allocator};
-
-/// The end of a text.
-pub fn text_end() -> &'static str
-    ensures { result.now ≡ text_end }
-{
-    "</text>\n"
-}
 
 /// Writes the beginning of a text of a class that stands here.
 pub fn put_text_at<A: Allocator + Copy>(

@@ -6,7 +6,7 @@ ghost use Rattle.desk_galley.specs.Galley.{Stands};
 ghost use Rattle.desk_picture.specs.Picture.{begin_text, frame_height, frame_text, galley_frame, galley_height, group_text, looks_text, no_galley_picture, page_height, page_text, page_width, picture_on, picture_text, points_text, sheet_of, size_text, why_text, why_words};
 
 use crate::heads::{head_count, head_y, put_copy_faults, put_heads};
-use crate::lines::{put_lines, put_text_at, text_end};
+use crate::lines::{put_lines, put_text_at};
 use crate::sheet::{EDGE, Sheet, across, leading};
 use crate::widths::widest;
 use desk_galley::Galley;
@@ -14,7 +14,7 @@ use desk_job::JobFault;
 use desk_memory::NoMemory;
 use desk_ops::{CopyFault, Symbol};
 use desk_proof::{cause, scale_of};
-use desk_svg::{put_attribute, put_hundredths};
+use desk_svg::{put_attribute, put_hundredths, text_end};
 use std::alloc::{AllocError, Allocator};
 
 /// How the classes of texts and boxes look.
