@@ -29,10 +29,8 @@ pub fn stored_bytes<F: Files, A: Allocator + Copy>(
 {
     match files.read(alloc, name) {
         Ok(bytes) => Ok(Some(bytes)),
-        Err(why) => match why {
-            FileRefusal::Missing => Ok(None),
-            other => Err(other),
-        },
+        Err(FileRefusal::Missing) => Ok(None),
+        Err(why) => Err(why),
     }
 }
 
