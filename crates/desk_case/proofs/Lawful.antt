@@ -7,6 +7,7 @@ use Rattle.toml.specs.Data.{Data, Members, as_str}
 use Rattle.desk_signals.specs.declared.Cell.{Cell}
 use Rattle.desk_signals.specs.Columns.{index}
 use Rattle.desk_ops.specs.declared.op.Symbol.{Symbol}
+use Rattle.desk_ops.proofs.Lists.{none_of}
 use Rattle.desk_keys.specs.Keys.{◌>>=◌, number_of}
 use Rattle.desk_keys.specs.Items.{array_of}
 use Rattle.desk_keys.proofs.Values.{IsReadFrom, value_read, IsArrayOf, array_read, all_read}
@@ -20,7 +21,6 @@ use Rattle.desk_case.specs.Case.{symbol_in, IsCase}
 use Rattle.desk_case.specs.File.{Sheet, key_name, row_of, joined_rows, cell_within, cell_of_data, fill_of, at_key, matrix_of, cells_of, matrices_of, or_else, sheet_in, sheet_of, grid_from, first_doubled, first_held}
 use Rattle.desk_case.proofs.Cells.{named_is}
 use Rattle.desk_case.proofs.Grids.{Grid, distinct}
-use Rattle.desk_case.proofs.Indexes.{none_of}
 
 pub at_key_read : {A : Type 0} (k : CaseKey) (read : Data → Option A) (ms : Members) (a : A) → at_key k read ms ≡ Ok a → IsReadFrom read a
 at_key_read k read ms a e = value_read (key_name k) (Missing k) (Shape k) read ms a e

@@ -184,10 +184,6 @@ brought es fs to ops r old view h = at (lookup (nat_eq to) es) refl h
         let new : sites_of fs ≡ fin.insert old to g.0.ops = sites_of-updated es fs to g.0 g.1.entries ∙ ap (λ m. fin.insert m to g.0.ops) view in
         subst (BringsTo old to ops r (sites_of fs)) (sym set) (g.0.ops, g.2, new)
 
-pub none_from : {X : Type 0} (o : Option X) → is_some o ≡ false → o ≡ None
-none_from None e = refl
-none_from (Some x) e = absurd (let f : true ≡ false = e in cc)
-
 -- ---- an edit of one entry
 
 abbrev pub EditsAt : List (ℕ × State) → List (ℕ × State) → ℕ → LocalEdit → Result Answer StepRefusal → Option State → Type 0

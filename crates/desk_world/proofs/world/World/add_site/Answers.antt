@@ -5,13 +5,14 @@ use Rattle.std.specs.Map.{lookup}
 use Rattle.std.proofs.lemmas.Bool.{ne_eqb}
 use Rattle.std.proofs.lemmas.Result.{err_from_is_err_and}
 use Rattle.desk_ops.specs.OpSet.{no_ops, AllLawful}
-use Rattle.desk_replica.proofs.Sets.{none-lawful}
+use Rattle.desk_ops.proofs.Lists.{none_of}
+use Rattle.desk_ops.proofs.OpSets.{none-lawful}
 use Rattle.desk_world.specs.Sites.{IsKept, sites_of}
 use Rattle.desk_world.specs.World.{site_refusal}
 use Rattle.desk_world.specs.declared.world.Answer.TheVariants as answers
 use Rattle.desk_world.specs.declared.world.StepRefusal.TheVariants as refusals
 use Rattle.desk_world.proofs.Sites.{is_there, sites_of-updated}
-use Rattle.desk_world.proofs.Kept.{refused, known_refused, many_refused, not_refused, added, is_many, is_few, kept_added, none_from}
+use Rattle.desk_world.proofs.Kept.{refused, known_refused, many_refused, not_refused, added, is_many, is_few, kept_added}
 use Rattle.desk_world.proofs.world.World.add_site.Goals as goal
 
 pub returns-then-contains_key : goal.returns-then-contains_key
@@ -30,7 +31,7 @@ invariant_of-self g c = subst IsKept (sym c.in_err-insert.ensures.err) c.self.in
 
 pub invariant_of-self-2 : goal.invariant_of-self-2
 invariant_of-self-2 g c =
-    let none : lookup (nat_eq c.args.site) c.self.inside.sites.entries ≡ None = none_from _ (search rules) in
+    let none : lookup (nat_eq c.args.site) c.self.inside.sites.entries ≡ None = none_of _ (search rules) in
     kept_added c.self.inside.sites.entries c.insert.new.self.entries c.args.site c.new.result c.self.invariant none c.in_ok-insert.ensures.updates.0 c.in_ok-insert.ensures.unique
     (c.in_ok-insert.ensures.len ∙ ap (λ o. length c.self.inside.sites.entries + cond (is_some o) 0 1) (c.in_ok-insert.ensures.old ∙ none)) c.new.ensures.site (subst AllLawful (sym c.new.ensures.ops) none-lawful)
 
