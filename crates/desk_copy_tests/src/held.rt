@@ -29,12 +29,22 @@ const FORK: Op = Op::Set {
     value: 120,
 };
 
+/// What the answer to an addition was.
+#[derive(Clone, Copy, PartialEq, Eq)]
+enum Answer {
+    Added(Added),
+    Refused(AddRefusal),
+}
+
 /// Adds a lawful operation.
-fn add<A: Allocator + Copy>(held: &mut Held<A>, op: Op) -> Result<Result<Added, AddRefusal>, Fail> {
+fn add<A: Allocator + Copy>(held: &mut Held<A>, op: Op) -> Result<Answer, Fail> {
     if op.check().is_err() {
         return Err(Fail::new("an unlawful operation"));
     }
-    Ok(held.add(op))
+    Ok(match held.add(op) {
+        Ok(added) => Answer::Added(added),
+        Err(why) => Answer::Refused(why),
+    })
 }
 
 /// Puts a lawful operation that is not held where there is room; whether it could.
@@ -94,7 +104,7 @@ pub fn ballast(heap: &LocalHeap, bytes: usize, left: usize) -> Option<Vec<u8, &L
 
 /// Whether adding an operation answers so.
 fn is_added<A: Allocator + Copy>(held: &mut Held<A>, op: Op, want: Added) -> Result<bool, Fail> {
-    Ok(add(held, op)? == Ok(want))
+    Ok(add(held, op)? == Answer::Added(want))
 }
 
 /// Whether what is held is this list, in its order.
@@ -290,7 +300,7 @@ fn add_in<'a>(
     held: &mut Held<&'a LocalHeap>,
     left: usize,
     op: Op,
-) -> Result<Result<Added, AddRefusal>, Fail> {
+) -> Result<Answer, Fail> {
     let ballast = ballast(heap, 131_072, left);
     let first = add(held, op);
     drop(ballast);
@@ -316,8 +326,8 @@ fn is_refused_in<'a>(
 ) -> Result<bool, Fail> {
     let has_room = held.spare() > 0 || want == Added::Known;
     match add_in(heap, held, left, op)? {
-        Ok(added) if added == want => return Ok(false),
-        Err(AddRefusal::NoMemory) if !has_room && counts(held, 2, 4) => {}
+        Answer::Added(added) if added == want => return Ok(false),
+        Answer::Refused(AddRefusal::NoMemory) if !has_room && counts(held, 2, 4) => {}
         _ => return Err(Fail::new("another answer")),
     }
     if !is_added(held, op, want)? {
