@@ -27,12 +27,12 @@ said_words (Err e) words well Q q text is = tt
 pub no_words : {l : List ℕ} → None ≡ Some l → ⊥
 no_words e = cc
 
-pub first_fault : (bytes : List ℕ) (fault : FeedFault) → IsUnopened (Ok bytes) (openings.Feed fault) → IsFirstFault bytes fault
+pub first_fault : (bytes : List ℕ) (fault : FeedFault) → IsUnopened (Some bytes) (openings.Feed fault) → IsFirstFault bytes fault
 first_fault bytes fault (other, is, first) =
     let same : other ≡ bytes = cc in
     subst (λ l. IsFirstFault l fault) same first
 
-pub crowded : (bytes : List ℕ) (stop : Stopped) → IsUnopened (Ok bytes) (openings.Opening stop) → (ops : List Op) × IsFeed bytes ops × (max_ops < size (with_all no_ops ops))
+pub crowded : (bytes : List ℕ) (stop : Stopped) → IsUnopened (Some bytes) (openings.Opening stop) → (ops : List Op) × IsFeed bytes ops × (max_ops < size (with_all no_ops ops))
 crowded bytes stop (other, is, ops, feed, many) =
     let same : other ≡ bytes = cc in
     (ops, subst (λ l. IsFeed l ops) same feed, many.0)

@@ -1,5 +1,5 @@
 -- Feeds of files, merged into a stored feed.
-use Rattle.std.specs.Prelude.{◌≡◌, ℕ, ◌-◌, List, [], ◌∷◌, ◌++◌, Option, Result, Ok, Err, codes, length}
+use Rattle.std.specs.Prelude.{◌≡◌, ℕ, ◌-◌, List, [], ◌∷◌, ◌++◌, Option, Ok, Err, codes, length}
 use Rattle.desk_ops.specs.declared.op.Op.{Op}
 use Rattle.desk_ops.specs.OpSet.{OpSet, max_ops, size, with_all}
 use Rattle.desk_ops.specs.Faults.{faults_of}
@@ -10,9 +10,8 @@ use Rattle.desk_held.specs.declared.join.Stopped.{Stopped}
 use Rattle.desk_answers.specs.Reply.{Counted, Faults}
 use Rattle.desk_answers.specs.Text.{text}
 use Rattle.desk_files.specs.Files.{Counts, IsCounted, IsNowHeld, Kept, Names, Reads, Shelf, Stays}
-use Rattle.desk_files.specs.declared.files.FileRefusal.{FileRefusal}
 use Rattle.desk_stored.specs.Fault.{AskMemory, IsUnopened, IsUnread, IsUntaken}
-use Rattle.desk_stored.specs.Stored.{Opens}
+use Rattle.desk_stored.specs.Stored.{Opens, as_read}
 use Rattle.desk_stored.specs.declared.fault.OpenFault.{OpenFault}
 use Rattle.desk_stored.specs.declared.fault.OpenFault.TheVariants as openings
 use Rattle.desk_hand.specs.Keeping.{IsKept, IsUnkept}
@@ -75,13 +74,13 @@ IsJoined kept names old after told = (lists : List (List Op)) × AreFeeds kept n
 -- ---- a merge
 
 -- the name was taken, and then a feed of this set was read under it, or no file was there
-abbrev pub IsOpened : List ℕ → Shelf → Shelf → Result (List ℕ) FileRefusal → OpSet → Type 0
-IsOpened name first held read set = IsNowHeld name first held × Reads (held.kept name) read × Opens read set
+abbrev pub IsOpened : List ℕ → Shelf → Shelf → Option (List ℕ) → OpSet → Type 0
+IsOpened name first held read set = IsNowHeld name first held × Reads (held.kept name) (as_read read) × Opens read set
 
 -- The set is that of the stored feed with the operations of all other feeds. The lines were written, and its feed stands under the name.
 abbrev pub IsMerged : List ℕ → List (List ℕ) → Shelf → Shelf → Option (List ℕ) → Option (List ℕ) → Type 0
 IsMerged name others first last before after =
-    (held : Shelf) × (read : Result (List ℕ) FileRefusal) × (old : OpSet) × IsOpened name first held read old
+    (held : Shelf) × (read : Option (List ℕ)) × (old : OpSet) × IsOpened name first held read old
     × (set : OpSet) × (told : List ℕ) × IsJoined held.kept others old set told × IsKept name set (told ++ faults_line set) read held last before after
 
 -- ---- why it stopped
@@ -109,7 +108,7 @@ StopsAt names old before after at why =
 
 -- what was read of a stored feed was not opened
 abbrev pub IsShut : List ℕ → Shelf → Shelf → OpenFault → Type 0
-IsShut name held last fault = Stays held last × (read : Result (List ℕ) FileRefusal) × Reads (held.kept name) read × Counts read held last × IsUnopened read fault
+IsShut name held last fault = Stays held last × (read : Option (List ℕ)) × Reads (held.kept name) (as_read read) × Counts (as_read read) held last × IsUnopened read fault
 
 -- why the stored feed does not come in: it was not read, or not opened; out of memory only where its bytes were read, or no file is there
 abbrev pub IsBarredBy : List ℕ → Shelf → Shelf → FeedTrouble → Type 0
@@ -127,7 +126,7 @@ IsBarred name first last (takes.Feed why) = (held : Shelf) × IsNowHeld name fir
 abbrev pub IsUnmerged : List ℕ → List (List ℕ) → Shelf → Shelf → Option (List ℕ) → Option (List ℕ) → MergeFault → Type 0
 IsUnmerged name others first last before after (merges.Take why) = (after ≡ before) × IsBarred name first last why
 IsUnmerged name others first last before after (merges.Other at why) =
-    (after ≡ before) × (held : Shelf) × (read : Result (List ℕ) FileRefusal) × (old : OpSet) × IsOpened name first held read old × Stays held last × StopsAt others old held last at why
+    (after ≡ before) × (held : Shelf) × (read : Option (List ℕ)) × (old : OpSet) × IsOpened name first held read old × Stays held last × StopsAt others old held last at why
 IsUnmerged name others first last before after (merges.Keep why) =
-    (held : Shelf) × (read : Result (List ℕ) FileRefusal) × (old : OpSet) × IsOpened name first held read old
+    (held : Shelf) × (read : Option (List ℕ)) × (old : OpSet) × IsOpened name first held read old
     × (set : OpSet) × (told : List ℕ) × IsJoined held.kept others old set told × IsUnkept name (told ++ faults_line set) held last before after why

@@ -1,5 +1,5 @@
 use Rattle.std.proofs.Common.{false, refl, subst, true}
-use Rattle.std.specs.Prelude.{Ok, Err}
+use Rattle.std.specs.Prelude.{Some, Ok, Err}
 use Rattle.desk_stored.specs.Fault.{IsUnopened}
 use Rattle.desk_check.specs.Lines.{SaysFeed}
 use Rattle.desk_check.specs.Words.{Crowded, Wrong, crowded_words, feed_fault_words, set_words}
@@ -14,10 +14,10 @@ returns-in-Ok g c =
 pub returns-in-Err-Feed : goal.returns-in-Err-Feed
 returns-in-Err-Feed g c =
     let fault = c.in-Err-Feed.fault in
-    let first = first_fault c.args.bytes.items fault (subst (IsUnopened (Ok c.args.bytes.items)) c.in-Err-Feed.field-0-is c.in-Err-Feed.ensures.err) in
+    let first = first_fault c.args.bytes.items fault (subst (IsUnopened (Some c.args.bytes.items)) c.in-Err-Feed.field-0-is c.in-Err-Feed.ensures.err) in
     said c.wrong_told.result (feed_fault_words fault) false (SaysFeed c.args.bytes.items) (Err (Wrong fault), first, refl, refl) c.wrong_told.ensures.text c.wrong_told.ensures.well
 
 pub returns-in-Err-Opening : goal.returns-in-Err-Opening
 returns-in-Err-Opening g c =
-    let many = crowded c.args.bytes.items c.in-Err-Opening.field-0-0 (subst (IsUnopened (Ok c.args.bytes.items)) c.in-Err-Opening.field-0-is c.in-Err-Opening.ensures.err) in
+    let many = crowded c.args.bytes.items c.in-Err-Opening.field-0-0 (subst (IsUnopened (Some c.args.bytes.items)) c.in-Err-Opening.field-0-is c.in-Err-Opening.ensures.err) in
     said c.crowded_told.result crowded_words false (SaysFeed c.args.bytes.items) (Err Crowded, many, refl, refl) c.crowded_told.ensures.text c.crowded_told.ensures.well
