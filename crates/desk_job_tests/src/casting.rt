@@ -110,8 +110,8 @@ fn is_as(answer: &Answer, want: Result<&str, CastFault>) -> bool {
     }
 }
 
-/// Whether the cast wanted memory where a heap has so much left, or none where its answer is another than the wanted one,
-/// then or with memory.
+/// Whether the cast asked for memory where a heap has so much left, or none where its answer is another than the wanted
+/// one, then or with memory.
 fn is_refused(
     alloc: Global,
     rows: &[RibbonRow],
@@ -131,8 +131,8 @@ fn is_refused(
     })
 }
 
-/// Of rows whose cast has each growth refused in turn: how often it wanted memory, and how often not. Its other answers
-/// are the wanted one, and so is the answer with memory.
+/// Of rows whose cast has each growth refused in turn: how often it asked for memory, and how often not. Its other
+/// answers are the wanted one, and so is the answer with memory.
 fn refusals(
     alloc: Global,
     rows: &[RibbonRow],
@@ -346,7 +346,8 @@ enum Told {
     Uncast,
 }
 
-/// What is told of rows whose images are to be these words: nothing where they are others, or the caster wants memory.
+/// What is told of rows whose images are to be these words: nothing where they are others, or the caster asks for
+/// memory.
 fn told_of_rows(
     alloc: Global,
     rows: &[RibbonRow],
@@ -427,8 +428,8 @@ fn each_bit_of_a_ribbon(rt: HostRuntime) -> Result<(), Fail> {
     Ok(())
 }
 
-/// Whether reading wanted memory where a heap has so much left, or none where its answer is another than the wanted one,
-/// then or with memory.
+/// Whether reading asked for memory where a heap has so much left, or none where its answer is another than the wanted
+/// one, then or with memory.
 fn is_reading_refused(
     alloc: Global,
     bytes: &[u8],
@@ -447,7 +448,7 @@ fn is_reading_refused(
     })
 }
 
-/// How often reading wanted memory, of 64 heaps that have ever more left. Its other answers are the wanted one.
+/// How often reading asked for memory, of 64 heaps that have ever more left. Its other answers are the wanted one.
 fn refusals_of_reading(
     alloc: Global,
     bytes: &[u8],

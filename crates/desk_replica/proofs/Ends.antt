@@ -142,13 +142,13 @@ ordered-take (suc i) (o ∷ os) up = (each-taken (λ p. op_cmp o p ≡ Less) os 
 
 -- ---- the ways of the first operations
 
-ascending-front : (xs ys : List Insertion) → IsAscending (xs ++ ys) → IsAscending xs
-ascending-front [] ys up = tt
-ascending-front (x ∷ xs) ys up = (each-front xs up.0, ascending-front xs ys up.1)
+ascending-prefix : (xs ys : List Insertion) → IsAscending (xs ++ ys) → IsAscending xs
+ascending-prefix [] ys up = tt
+ascending-prefix (x ∷ xs) ys up = (each-prefix xs up.0, ascending-prefix xs ys up.1)
   where
-    each-front : (zs : List Insertion) → Each (λ y. before x.stamp y.stamp ≡ true) (zs ++ ys) → Each (λ y. before x.stamp y.stamp ≡ true) zs
-    each-front [] all = tt
-    each-front (z ∷ zs) all = (all.0, each-front zs all.1)
+    each-prefix : (zs : List Insertion) → Each (λ y. before x.stamp y.stamp ≡ true) (zs ++ ys) → Each (λ y. before x.stamp y.stamp ≡ true) zs
+    each-prefix [] all = tt
+    each-prefix (z ∷ zs) all = (all.0, each-prefix zs all.1)
 
 way-later : (ops : List Op) (s : Stamp) (xs : List Insertion) (j : ℕ) → Each (λ y. before s y.stamp ≡ true) xs → j < length (map (way_of ops) xs) → before s (way_at (map (way_of ops) xs) j).stamp ≡ true
 way-later ops s [] j all lt = absurd (omega arith)
@@ -217,7 +217,7 @@ module _ (h : OpSet) (lawful : AllLawful h) (i : ℕ) (d o : Op) (lt : i < lengt
 
   pub are_ways : (t : Stamp) → before t (stamp_of o) ≡ true → AreWays h (ways_before (in_order h) i) t
   are_ways t older = record {
-    rising = ways-rise (in_order h) (inserts_before (in_order h) i) (ascending-front (inserts_before (in_order h) i) rest (subst IsAscending split (clear_ascending h)));
+    rising = ways-rise (in_order h) (inserts_before (in_order h) i) (ascending-prefix (inserts_before (in_order h) i) rest (subst IsAscending split (clear_ascending h)));
     kinds = ways-kinds (in_order h) (inserts_before (in_order h) i);
     whole = λ none. way-absent (reverse (clear_inserts (in_order h))) t (Each-reverse (λ x. same x.stamp t ≡ false) (clear_inserts (in_order h)) (absent none));
   }
