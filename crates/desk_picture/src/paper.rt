@@ -1,8 +1,8 @@
-//! Where things stand on the sheet, in hundredths of a point.
+//! Where things stand on the paper, in hundredths of a point.
 
 ghost use Rattle.std.specs.Prelude.{◌≡◌, ◌+◌, ◌*◌, ◌/◌, ◌≤◌, ◌^◌};
 ghost use Rattle.desk_proof.specs.Parts.{point};
-ghost use Rattle.desk_picture.specs.Sheet.{across, foot, leading};
+ghost use Rattle.desk_picture.specs.Paper.{across, foot, leading};
 
 use desk_proof::Scale;
 use desk_units::Pica;
@@ -13,7 +13,7 @@ pub const EDGE: u128 = 10_000;
 /// What a galley is drawn by: the pica and the limits of a wedge sum; the set of the wedge; and where the frame begins, from
 /// the top.
 #[derive(Clone, Copy, PartialEq, Eq, Debug)]
-pub struct Sheet {
+pub struct Paper {
     pub scale: Scale,
     /// In hundredths of a point, as the letters are high.
     pub set: u32,
@@ -42,17 +42,17 @@ pub fn across(pica: Pica, atoms: u128) -> u128
 }
 
 /// How far apart lines stand: the set of the wedge, and 4 points.
-pub fn leading(sheet: Sheet) -> u128
-    ensures value { result ≡ leading sheet }
+pub fn leading(paper: Paper) -> u128
+    ensures value { result ≡ leading paper }
     ensures limit { result ≤ 2 ^ 33 }
 {
-    sheet.set as u128 + 400
+    paper.set as u128 + 400
 }
 
 /// Where the letters of the line of a number stand, from the top.
-pub fn foot(sheet: Sheet, number: usize) -> u128
-    requires { sheet.top ≤ 2 ^ 100 }
-    ensures { result ≡ foot sheet number }
+pub fn foot(paper: Paper, number: usize) -> u128
+    requires { paper.top ≤ 2 ^ 100 }
+    ensures { result ≡ foot paper number }
 {
-    sheet.top + leading(sheet) * number as u128
+    paper.top + leading(paper) * number as u128
 }
