@@ -1,5 +1,5 @@
 -- The caster, which reads a ribbon from its last row to the first.
-use Rattle.std.specs.Prelude.{ℕ, suc, Bool, cond, if◌then◌else◌, ◌||◌, ◌==◌, is_some, ℤ, pos, ◌+ℤ◌, List, [], ◌∷◌, Option, Some, None, Result, Ok, Err}
+use Rattle.std.specs.Prelude.{ℕ, suc, Bool, cond, if◌then◌else◌, ◌||◌, is_some, ℤ, pos, ◌+ℤ◌, List, [], ◌∷◌, Option, Some, None, Result, Ok, Err}
 use Rattle.desk_units.specs.Widths.{units_width}
 use Rattle.desk_units.specs.WedgeSum.{sum_at, widening}
 use Rattle.desk_wedge.specs.Wedge.{WedgeValues, units_of_row}
