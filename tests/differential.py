@@ -3,6 +3,7 @@
 
 usage: differential.py PROGRAM [SCRIPTS [SEED]]      random ones, all commands; ends with status 1 at the first difference
        differential.py PROGRAM --stored [RUNS [SEED]] random scripts on stored feeds, strict and numbered sheets among them
+       differential.py PLAYS --plays [LISTS [SEED]]  random lists of events, each through one `World::play`; PLAYS is the program desk_plays
        differential.py PROGRAM --only WORD,WORD ..   some commands alone
        differential.py PROGRAM --jobs                the directed jobs of jobs.py, which stand at the limits of lines and wedges
        differential.py PROGRAM --large               one job of over 100,000 symbols
@@ -260,6 +261,135 @@ def compare_stored(name, run):
         name, " ".join(run.words()), ", held" if run.held else "", ("status", "output", "standard error", "the stored feed")[differs], due[differs], got[differs], run.stored, run.data)
 
 
+class Play:
+    """A random list of events over a world that begins with one site, which may hold forged operations. The list is made along with the
+    world that it makes, so that most gifts are held by some site."""
+
+    def __init__(self, seed, k):
+        self.pick = random.Random(seed * 1000039 + k)
+        self.scripts = Scripts(self.pick, None)
+        site, held = self.pick.choice([1, 1, 1, 2, 3, 65535]), self.beginning()
+        self.world, self.lines = oracle_runs.brought(site, held), [b"take %d %s" % (site, held.hex().encode())]
+        if self.pick.random() < 0.05:
+            self.add(*(b"site %d" % number for number in range(11, 28)))
+        for _ in range(self.pick.choice([4, 12, 30, 60])):
+            self.add(self.line())
+        if self.pick.random() < 0.03:
+            bad = [b"show 1", b"send 1 2", b"", b"site", b'insert 1 0 r"ab"', b"take 1 4d464433", b"take 1 4d46443109", b"take 1 4d4", b"merge 1 1", b"# a note"]
+            self.lines.insert(self.pick.randrange(len(self.lines) + 1), self.pick.choice(bad))
+        self.data = b"\n".join(self.lines) + self.pick.choice([b"\n", b"\n", b"\n", b""])
+
+    def lawful(self, count):
+        """Random operations, of which each alone is lawful."""
+        out = []
+        while len(out) < count:
+            data = self.scripts.op()
+            if not oracle.unlawful(data[0], data):
+                out.append(oracle.read_op(data))
+        return out
+
+    def beginning(self):
+        """The feed of the first site: of nothing, of a random script's site, or of lawful operations that no site may have made."""
+        kind = self.pick.random()
+        if kind < 0.4:
+            return self.pick.choice([b"MFD1", b"MFD2"])
+        if kind < 0.6:
+            world = oracle.World()
+            for line in oracle.lines(random_script(self.pick.randrange(1 << 20), 0)):
+                world.answer(line)
+            return self.feed(sorted(self.pick.choice(list(world.sites.values())), key=oracle.order))
+        return self.feed(self.lawful(self.pick.choice([1, 3, 9, 20])))
+
+    def feed(self, ops):
+        """A feed of operations: in runs, one by one in the order given, or both in turn."""
+        form = self.pick.random()
+        if form < 0.4:
+            return oracle.runs_feed(ops)
+        if form < 0.7:
+            return b"MFD1" + b"".join(map(oracle.spelling, ops))
+        size = self.pick.choice([1, 2, 5])
+        parts = [ops[at:at + size] for at in range(0, len(ops), size)]
+        return b"MFD2" + b"".join(oracle.runs_feed(part)[4:] if self.pick.random() < 0.5 else b"".join(map(oracle.spelling, part)) for part in parts)
+
+    def site(self):
+        return self.pick.choice(list(self.world.sites)) if self.pick.random() < 0.97 else self.pick.choice([0, 9, 65535, 65536, 65537, 4294967295])
+
+    def some(self, to):
+        """Some of what a site holds, mostly another than takes it: all, a part by stamps, or any of it in any order and some of it again."""
+        others = [site for site in self.world.sites if site != to and self.pick.random() < 0.9] or list(self.world.sites)
+        ops = sorted(self.world.sites[self.pick.choice(others)], key=oracle.order)
+        kind = self.pick.random()
+        if kind < 0.3:
+            return ops
+        if kind < 0.6:
+            at = self.pick.randrange(len(ops) + 1)
+            return ops[at:self.pick.randrange(at, len(ops) + 1)]
+        return self.pick.choices(ops, k=self.pick.choice([1, 2, 5, 9])) if ops else []
+
+    def strange(self):
+        """An operation that no site holds, mostly: any at all, or one that is held but for its symbol, its value or its counter."""
+        held = self.pick.choice(sorted(set().union(*self.world.sites.values()), key=oracle.order) or self.lawful(1))
+        kind = self.pick.random()
+        if kind < 0.3:
+            return self.lawful(1)[0]
+        if kind < 0.5 and held[1][0] < oracle.MAX_COUNTER:
+            return (held[0], (held[1][0] + 1, held[1][1]), *held[2:])
+        if held[0] == "insert":
+            return (*held[:3], (0, ord(self.pick.choice("ntamz"))))
+        return (*held[:2], "wedge", self.pick.randrange(1, 9)) if held[0] == "set" else held
+
+    def gift(self, to):
+        ops = self.some(to)
+        if self.pick.random() < 0.3:
+            ops = ops + self.some(to)
+        if self.pick.random() < 0.15:
+            ops = list(ops)
+            ops.insert(self.pick.randrange(len(ops) + 1), self.strange())
+        return self.feed(ops)
+
+    def place(self, site, beyond):
+        """A place of a site's copy, up to its end or to the one before; now and then one that it has not."""
+        size = len(self.world.meaning(site).shown) + beyond if site in self.world.sites else 3
+        return self.pick.choice([size, size, size + 7, 4294967295]) if size == 0 or self.pick.random() < 0.08 else self.pick.randrange(size)
+
+    def line(self):
+        kind, site = self.pick.choices(["site", "insert", "delete", "set", "take", "restart"], [3, 12, 5, 3, 9, 1])[0], self.site()
+        if kind == "site":
+            site = self.pick.choice([1, 2, 2, 3, 3, 4, 5, 0, 65535, 65536])
+            return b"site %d" % site
+        if kind == "insert":
+            symbol = self.pick.choice(LETTERS) if self.pick.random() < 0.95 else self.pick.choice("\u0085\u00a0\u00e9\\\"\U0001d510\x7f")
+            return ("insert %d %d %s" % (site, self.place(site, 1), oracle.text_of([(self.pick.choice([0, 0, 0, 1, 2]), ord(symbol))]))).encode("utf-8")
+        if kind == "delete":
+            return b"delete %d %d" % (site, self.place(site, 0))
+        if kind == "set":
+            return b"set %d %s" % (site, self.scripts.setting().encode())
+        return b"take %d %s" % (site, self.gift(site).hex().encode()) if kind == "take" else b"restart %d" % site
+
+    def add(self, *lines):
+        for line in lines:
+            oracle_runs.event(self.world, line)
+            self.lines.append(line)
+
+    def due(self, runs=oracle_runs):
+        """Its status, and what it writes."""
+        return runs.play(self.data)
+
+
+def compare_play(name, play):
+    """A list of events through both: the number of lines written, and what differs or an empty text."""
+    status, text = play.due()
+    done = subprocess.run([PROGRAM], input=play.data, capture_output=True, timeout=300)
+    wanted, got = text.encode("utf-8").split(b"\n")[:-1], done.stdout.split(b"\n")[:-1]
+    if (status, wanted, status != 0) == (done.returncode, got, done.stderr != b"") and done.stdout == text.encode("utf-8"):
+        return len(wanted), ""
+    kept = os.path.join(tempfile.gettempdir(), "differs.events")
+    with open(kept, "wb") as file:
+        file.write(play.data)
+    lines = play.lines[1:] + [b"what is held"] * len(wanted)
+    return 0, "%s differs (status %d for %d); it is kept as %s\n%s\n%s" % (name, done.returncode, status, kept, first_difference(lines, wanted, got), done.stderr.decode())
+
+
 def run(program, script, folder):
     return subprocess.run([program, "script"], input=script, stdout=subprocess.PIPE, stderr=subprocess.PIPE, cwd=folder, timeout=300)
 
@@ -307,6 +437,8 @@ def compare_all(files, named):
 
 def call(given):
     name, given = given
+    if isinstance(given, Play):
+        return compare_play(name, given)
     return compare(name, given) if isinstance(given, bytes) else compare_stored(name, given)
 
 
@@ -341,6 +473,10 @@ def main():
         count, seed = int(rest[1]) if len(rest) > 1 else 1000, int(rest[2]) if len(rest) > 2 else 1
         answers = compare_all(FILES, (("run %d of seed %d" % (k, seed), Run(seed, k)) for k in range(count)))
         what = "%d runs as sheets and on stored feeds" % count
+    elif rest and rest[0] == "--plays":
+        count, seed = int(rest[1]) if len(rest) > 1 else 1000, int(rest[2]) if len(rest) > 2 else 1
+        answers = compare_all({}, (("list %d of seed %d" % (k, seed), Play(seed, k)) for k in range(count)))
+        what = "%d lists of events" % count
     elif rest == ["--large"]:
         files, script, held = large()
         answers = compare_all(files, [("the large job", script)])

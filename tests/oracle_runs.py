@@ -1,4 +1,10 @@
-"""Runs of the independent program: sheets of commands, stored feeds, and lines that memory stops, from docs/FORMATS.md."""
+#!/usr/bin/env python3
+"""Runs of the independent program: sheets of commands, stored feeds, lists of events, and lines that memory stops, from docs/FORMATS.md.
+
+usage: oracle_runs.py < LIST     writes what desk_plays is to write of a list of events, and ends with its status
+"""
+import sys
+
 import oracle
 
 
@@ -51,6 +57,48 @@ def desk(stored, site, data, strict=False, number=False, held=False):
     return 0, written, "", oracle.runs_feed(world.sites[site])
 
 
+def is_event(command):
+    """Whether a command is an event of a list; one inserts one symbol."""
+    return command[0] in ("site", "delete", "set", "take", "restart") or command[0] == "insert" and len(command[3]) == 1
+
+
+def event(world, line):
+    """What an event is answered: `take` gives the operations of its feed, of which each is held by some site, and the others are a script's."""
+    name, site, *rest = oracle.parse(line)
+    if name != "take":
+        return world.answer(line)
+    ops = oracle.read_feed(rest[0])
+    if site not in world.sites or not all(any(op in held for held in world.sites.values()) for op in ops):
+        return "refused site"
+    return world.gain(site, ops)
+
+
+def what_is_held(world):
+    """Of each site its number, its count, its copy, its faults, its settings and its feed."""
+    for site in sorted(world.sites):
+        yield "site %d holds %d" % (site, len(world.sites[site]))
+        for word in (b"show", b"faults", b"settings", b"feed"):
+            yield world.answer(b"%s %d" % (word, site))
+
+
+def play(data):
+    """A list of events over one site, which the first line names with its feed: its status, and what it writes. It is read before it is played."""
+    try:
+        first, *lines = oracle.lines(data)
+        commands = [oracle.parse(line) for line in (first, *lines)]
+        for command in commands:
+            if command[0] == "take":
+                oracle.read_feed(command[2])
+    except (ValueError, IndexError, oracle.Feed):
+        return 1, ""
+    name, site, *rest = commands[0]
+    if name != "take" or not 1 <= site <= 65535 or not all(is_event(command) for command in commands):
+        return 1, ""
+    world = brought(site, rest[0])
+    told = [event(world, line) for line in lines]
+    return 0, "".join(line + "\n" for line in (*told, *what_is_held(world)))
+
+
 def merge(stored, others, held=False):
     """A merge of a stored feed with others, by name and bytes: its status, what it writes and says first, and what then is stored."""
     if held:
@@ -77,3 +125,13 @@ def front(world, line, count):
         ops = ops[rest[1][0]:rest[1][1]] if name == "send" and rest[1] is not None else ops
     to = rest[0] if name == "send" else site
     return len(ops) > count and world.gain(to, ops[:count]).startswith("ok ")
+
+
+def main():
+    status, text = play(sys.stdin.buffer.read())
+    sys.stdout.buffer.write(text.encode("utf-8"))
+    return status
+
+
+if __name__ == "__main__":
+    sys.exit(main())

@@ -267,6 +267,20 @@ STOPS = {
     "a stopped send comes to the giver": [("to = rest[0] if name == \"send\" else site", "to = site")],
 }
 
+# Of lists of events in one play: gifts that some site holds, or none, and what happens after a refusal.
+PLAYS = {
+    "strange operations are given": [("if site not in world.sites or not all(any(op in held for held in world.sites.values()) for op in ops):", "if site not in world.sites:")],
+    "one site holds all of a gift": [("not all(any(op in held for held in world.sites.values()) for op in ops)", "not any(all(op in held for op in ops) for held in world.sites.values())")],
+    "the first of a gift is held": [("for held in world.sites.values()) for op in ops)", "for held in world.sites.values()) for op in ops[:1])")],
+    "another site holds what is given": [("any(op in held for held in world.sites.values())", "any(op in held for number, held in world.sites.items() if number != site)")],
+    "the taker holds what is given": [("any(op in held for held in world.sites.values())", "op in world.sites[site]")],
+    "held by its stamp": [("any(op in held for held in world.sites.values())", "any(op[1] == other[1] for held in world.sites.values() for other in held)")],
+    "what is held of a strange gift is taken": [("for held in world.sites.values()) for op in ops):\n", "for held in world.sites.values()) for op in ops):\n        site in world.sites and world.gain(site, [op for op in ops if any(op in held for held in world.sites.values())])\n")],
+    "a play ends at a refusal": [("told = [event(world, line) for line in lines]", "told = []\n    for line in lines:\n        told.append(event(world, line))\n        if is_refusal(told[-1]):\n            break")],
+    "a play begins with an empty site": [("world = brought(site, rest[0])", "world = brought(site, None)")],
+    "a line that says no event is passed over": [("or not all(is_event(command) for command in commands):", "or not is_event(commands[0]):")],
+}
+
 # Of what is said of copies and galleys: texts that are read, places, the fewest changes, words that differ, proofs, sorts.
 TOLD = {
     "a tab is a symbol": [("if not oracle.is_symbol(symbol):", "if not oracle.is_symbol(symbol) and ch != \"\\t\":")],
@@ -434,6 +448,27 @@ class Stops:
                 yield "stopped lists"
 
 
+class Played:
+    """Random lists of events, each in one play."""
+
+    models = PLAYS
+
+    def __init__(self):
+        self.files = {}
+        runs = model([], self.files).runs
+        self.made = [differential.Play(1, k) for k in range(400)]
+        self.wanted = [play.due(runs) for play in self.made]
+
+    def told(self, made):
+        for play, wanted in zip(self.made, self.wanted):
+            try:
+                told = play.due(made.runs)
+            except Exception as fault:
+                told = "broke down: " + type(fault).__name__
+            if told != wanted:
+                yield "a list of events"
+
+
 class Told:
     """The feeds and the files of the fuzzer's corpus: what is said of their copies, galleys and sorts."""
 
@@ -492,7 +527,7 @@ SOURCES = []
 
 
 def main():
-    SOURCES.extend([Jobs(), Scripts(), Runs(), Stops(), Told()])
+    SOURCES.extend([Jobs(), Scripts(), Runs(), Stops(), Played(), Told()])
     bad = 0
     with multiprocessing.get_context("fork").Pool(2) as lanes:
         for name, found in lanes.imap(tell, [name for source in SOURCES for name in source.models]):
@@ -500,7 +535,7 @@ def main():
             bad += number < ENOUGH
             if COUNT or number < ENOUGH:
                 print("%5d  %s: %s" % (number, name, found if isinstance(found, str) else ", ".join("%d %s" % (n, aim) for aim, n in found.most_common(3))), flush=True)
-    print("%d wrong models of the ribbon half, %d of the copy half, %d of runs, %d of what memory stops and %d of what is said of copies, %d not told" % (*[len(source.models) for source in SOURCES], bad))
+    print("%d wrong models of the ribbon half, %d of the copy half, %d of runs, %d of what memory stops, %d of lists of events and %d of what is said of copies, %d not told" % (*[len(source.models) for source in SOURCES], bad))
     return 1 if bad else 0
 
 

@@ -26,7 +26,7 @@ module _ (wanted : Wanted) (sites : Sites) (before after : Shelf) (n : ℕ) (of_
       subst (λ o. MatchOption o (Refuses (desk sites before) refusals.Site reply (desk sites after)) (λ held. (sites ≡ sites) × IsJobByFiles wanted held of_case of_wedge before reply after)) there (refl, is)
 
   -- it is refused, or memory ran out
-  pub refused : {A : Type 0} (why : Failure) → IfReplied {A} (Err why) (λ reply. IsJobByFiles wanted set of_case of_wedge before reply after)
+  pub refused : (why : Failure) → IfReplied {A = Unit {0}} (Err why) (λ reply. IsJobByFiles wanted set of_case of_wedge before reply after)
       → (why ≡ failures.NoMemory → JobLacksMemory of_case of_wedge before after)
       → Jobs wanted (desk sites before) n of_case of_wedge (Refused (refusal_of why)) (desk sites after) ⊎ LacksMemory (desk sites before) (Refused (refusal_of why)) (desk sites after)
   refused (failures.Refused why) made memory = inl (replied (Refused why) made)

@@ -225,10 +225,14 @@ edited es fs n edit r old kept view h = at (lookup (nat_eq n) es) refl h
 -- ---- a site that is opened again
 
 abbrev pub ReopensAt : List (ℕ × State) → List (ℕ × State) → ℕ → Result Answer StepRefusal → Option State → Type 0
-ReopensAt es fs n r o = MatchOption o ((r ≡ Err refusals.NoSite) × (fs ≡ es)) (λ s. (t : State) × IsUpdated es fs n s t × ((t.ops ≡ s.ops) × IsReopened s.ops r))
+ReopensAt es fs n r o = MatchOption o ((r ≡ Err refusals.NoSite) × (fs ≡ es)) (λ s. (t : State) × IsUpdated es fs n s t × (t.ops ≡ s.ops) × IsReopened s.ops r)
 
 pub kept_reopened : (es fs : List (ℕ × State)) (n : ℕ) (r : Result Answer StepRefusal) → IsKept es → ReopensAt es fs n r (lookup (nat_eq n) es) → IsKept fs
-kept_reopened es fs n r kept h = kept_changed (λ s t. (t.ops ≡ s.ops) × IsReopened s.ops r) es fs n r kept (λ s t own same. subst AllLawful (sym same.0) own) h
+kept_reopened es fs n r kept h = at (lookup (nat_eq n) es) h
+  where
+    at : (o : Option State) → ReopensAt es fs n r o → IsKept fs
+    at None g = subst IsKept (sym g.1) kept
+    at (Some s) g = kept_updated es fs n s g.0 kept g.1 (subst AllLawful (sym g.2) (lawful_there es n s kept g.1.there))
 
 -- an entry with the same operations says the same
 same_sites : (es fs : List (ℕ × State)) (n : ℕ) (s t : State) → IsUpdated es fs n s t → t.ops ≡ s.ops → sites_of fs ≡ sites_of es
@@ -252,7 +256,7 @@ reopened es fs n r old view h = at (lookup (nat_eq n) es) refl h
         subst (ReopensTo old r (sites_of fs)) (sym none) (g.0, ap sites_of g.1 ∙ view)
     at (Some s) e g =
         let set : fin.get old n ≡ Some s.ops = ap (λ m. fin.get m n) (sym view) ∙ get-sites_of es n ∙ ap (option_map (λ x. x.ops)) e in
-        subst (ReopensTo old r (sites_of fs)) (sym set) (g.2.1, same_sites es fs n s g.0 g.1 g.2.0 ∙ view)
+        subst (ReopensTo old r (sites_of fs)) (sym set) (g.3, same_sites es fs n s g.0 g.1 g.2 ∙ view)
 
 pub only_full : (set : OpSet) (stop : Stopped) → (stop.why ≡ adds.Full → max_ops < size (with_all no_ops (in_order set))) → stop.why ≡ adds.Full → max_ops < size set
 only_full set stop full is = subst (λ g. max_ops < size g) (with_all-in_order set) (full is)

@@ -243,7 +243,7 @@ fn reopen_at<A: Allocator + Copy>(
     site: u16,
 ) -> Result<Answer, StepRefusal>
     ensures { MatchOption (lookup (nat_eq site) sites.old.entries) ((result ≡ Err StepRefusal.NoSite) × (sites.new.entries ≡ sites.old.entries))
-        (λ s. (t : State) × IsUpdated sites.old.entries sites.new.entries site s t × ((t.ops ≡ s.ops) × IsReopened s.ops result)) }
+        (λ s. (t : State) × IsUpdated sites.old.entries sites.new.entries site s t × (t.ops ≡ s.ops) × IsReopened s.ops result) }
 {
     let Some(replica) = sites.get_mut(&site) else {
         return Err(StepRefusal::NoSite);

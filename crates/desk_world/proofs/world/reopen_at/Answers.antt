@@ -1,14 +1,15 @@
-use Rattle.std.proofs.Common.{◌≡◌, sym, nat_eq, rules}
-use Rattle.std.specs.Prelude.{IsSome}
+use Rattle.std.proofs.Common.{◌≡◌, sym, nat_eq, rules, subst}
+use Rattle.std.specs.Prelude.{Some, IsSome}
 use Rattle.std.specs.Map.{lookup}
-use Rattle.desk_world.specs.World.{IsReopened}
-use Rattle.desk_world.proofs.Kept.{changed_at}
+use Rattle.desk_world.proofs.Kept.{ReopensAt}
 use Rattle.desk_world.proofs.world.reopen_at.Goals as goal
 
 pub returns : goal.returns
 returns g c =
+    let s = c.in-Some.replica.now in
     let t = c.reopen.new.replica in
+    let there : lookup (nat_eq c.args.site) c.args.sites.now.entries ≡ Some s = sym c.in-Some.ensures.value in
     let writes = c.get_mut.follows.holds t in
     let some : IsSome (lookup (nat_eq c.args.site) c.args.sites.now.entries) = search rules in
-    changed_at (λ s t. (t.ops ≡ s.ops) × IsReopened s.ops c.reopen.result) c.args.sites.now.entries _ c.args.site c.reopen.result c.in-Some.replica.now t
-    (record { there = sym c.in-Some.ensures.value; entries = (writes.3 some).0; distinct = writes.4; as_many = writes.2; named = c.reopen.ensures.site }) (c.reopen.ensures.ops, c.reopen.ensures.answer)
+    subst (ReopensAt c.args.sites.now.entries _ c.args.site c.reopen.result) (sym there)
+    (t, record { there = there; entries = (writes.3 some).0; distinct = writes.4; as_many = writes.2; named = c.reopen.ensures.site }, c.reopen.ensures.ops, c.reopen.ensures.answer)

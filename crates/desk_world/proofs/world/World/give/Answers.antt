@@ -1,6 +1,7 @@
 use Rattle.std.proofs.Common.{◌≡◌, false, true, rules, sym, subst}
 use Rattle.std.specs.Prelude.{is_some}
 use Rattle.std.specs.FinMap as fin
+use Rattle.desk_ops.proofs.Lists.{none_of}
 use Rattle.desk_world.proofs.Sites.{is_there}
 use Rattle.desk_world.proofs.Kept.{no_site, strange, given}
 use Rattle.desk_world.specs.Sites.{all_held}
