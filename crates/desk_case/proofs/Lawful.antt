@@ -50,10 +50,10 @@ rows_length columns few rows a =
 
 matrices_length_at : (columns : ℕ) → columns ≤ 17 → (ms : List (Option (Option Symbol))) (d : Data) (o : Option (List (List (List ℕ)))) → array_of 15 15 (row_of columns) d ≡ o
     → option_map (λ rows. joined_rows (map cells_of rows)) o ≡ Some ms → length ms ≡ 255
-matrices_length_at columns few ms d None told e = cc
-matrices_length_at columns few ms d (Some rows) told e =
+matrices_length_at columns few ms d None reported e = cc
+matrices_length_at columns few ms d (Some rows) reported e =
     let same : joined_rows (map cells_of rows) ≡ ms = cc in
-    ap length (sym same) ∙ rows_length columns few rows (array_read 15 15 (row_of columns) d rows told)
+    ap length (sym same) ∙ rows_length columns few rows (array_read 15 15 (row_of columns) d rows reported)
 
 matrices_length : (columns : ℕ) → columns ≤ 17 → (d : Data) (ms : List (Option (Option Symbol))) → matrices_of columns d ≡ Some ms → length ms ≡ 255
 matrices_length columns few d ms e = matrices_length_at columns few ms d (array_of 15 15 (row_of columns) d) refl e

@@ -9,16 +9,16 @@ use Rattle.desk_codec.specs.declared.fault.FeedFault.{FeedFault}
 use Rattle.desk_held.specs.declared.join.Stopped.{Stopped}
 use Rattle.desk_stored.specs.Fault.{IsUnopened}
 use Rattle.desk_stored.specs.declared.fault.OpenFault.TheVariants as openings
-use Rattle.desk_check.specs.declared.told.Told.{Told}
+use Rattle.desk_check.specs.declared.reported.Reported.{Reported}
 
 -- it holds of what is said, where it holds of the words
-pub said : {A E : Type 0} (r : Result (Told A) E) (words : List ℕ) (well : Bool) (Q : List ℕ → Bool → Type 0) → Q words well → IfOk r (λ t. string_bytes t.text ≡ words) → IfOk r (λ t. t.well ≡ well)
+pub said : {A E : Type 0} (r : Result (Reported A) E) (words : List ℕ) (well : Bool) (Q : List ℕ → Bool → Type 0) → Q words well → IfOk r (λ t. string_bytes t.text ≡ words) → IfOk r (λ t. t.well ≡ well)
     → IfOk r (λ t. Q (string_bytes t.text) t.well)
 said (Ok t) words well Q q text is = subst (λ b. Q (string_bytes t.text) b) (sym is) (subst (λ l. Q l well) (sym text) q)
 said (Err e) words well Q q text is = tt
 
 -- the same of words that there may be none of
-pub said_words : {A E : Type 0} (r : Result (Told A) E) (words : Option (List ℕ)) (well : Bool) (Q : List ℕ → Bool → Type 0) → ((l : List ℕ) → words ≡ Some l → Q l well) → IfOk r (λ t. words ≡ Some (string_bytes t.text))
+pub said_words : {A E : Type 0} (r : Result (Reported A) E) (words : Option (List ℕ)) (well : Bool) (Q : List ℕ → Bool → Type 0) → ((l : List ℕ) → words ≡ Some l → Q l well) → IfOk r (λ t. words ≡ Some (string_bytes t.text))
     → IfOk r (λ t. t.well ≡ well) → IfOk r (λ t. Q (string_bytes t.text) t.well)
 said_words (Ok t) words well Q q text is = subst (λ b. Q (string_bytes t.text) b) (sym is) (q (string_bytes t.text) text)
 said_words (Err e) words well Q q text is = tt

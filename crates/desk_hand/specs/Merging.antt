@@ -65,11 +65,11 @@ faults_line set = text (Faults (faults_of set)) ++ 10 ∷ []
 
 -- the set and the lines after the feed of a name, from those before
 abbrev pub Joins : Names → List ℕ → OpSet → OpSet → List ℕ → List ℕ → Type 0
-Joins kept name old after told_before told = (ops : List Op) × IsFeedOf (kept name) ops × (after ≡ with_all old ops) × (told ≡ told_before ++ line_of name old ops)
+Joins kept name old after reported_before reported = (ops : List Op) × IsFeedOf (kept name) ops × (after ≡ with_all old ops) × (reported ≡ reported_before ++ line_of name old ops)
 
 -- the set and the lines after the feeds of all names
 abbrev pub IsJoined : Names → List (List ℕ) → OpSet → OpSet → List ℕ → Type 0
-IsJoined kept names old after told = (lists : List (List Op)) × AreFeeds kept names lists × (after ≡ with_lists old lists) × (told ≡ lines_of old names lists)
+IsJoined kept names old after reported = (lists : List (List Op)) × AreFeeds kept names lists × (after ≡ with_lists old lists) × (reported ≡ lines_of old names lists)
 
 -- ---- a merge
 
@@ -81,7 +81,7 @@ IsOpened name first held read set = IsNowHeld name first held × Reads (held.kep
 abbrev pub IsMerged : List ℕ → List (List ℕ) → Shelf → Shelf → Option (List ℕ) → Option (List ℕ) → Type 0
 IsMerged name others first last before after =
     (held : Shelf) × (read : Option (List ℕ)) × (old : OpSet) × IsOpened name first held read old
-    × (set : OpSet) × (told : List ℕ) × IsJoined held.kept others old set told × IsKept name set (told ++ faults_line set) read held last before after
+    × (set : OpSet) × (reported : List ℕ) × IsJoined held.kept others old set reported × IsKept name set (reported ++ faults_line set) read held last before after
 
 -- ---- why it stopped
 
@@ -103,8 +103,8 @@ Refuses set name before after troubles.NoMemory = (bytes : List ℕ) × GaveByte
 -- the feeds of the first names were joined, so many, and the next was refused: no file has changed, nor has the device failed, before that one was read
 abbrev pub StopsAt : List (List ℕ) → OpSet → Shelf → Shelf → ℕ → FeedTrouble → Type 0
 StopsAt names old before after at why =
-    (prefix tail : List (List ℕ)) × (name : List ℕ) × (names ≡ prefix ++ name ∷ tail) × (length prefix ≡ at) × (set : OpSet) × (told : List ℕ)
-    × IsJoined before.kept prefix old set told × Refuses set name before after why
+    (prefix tail : List (List ℕ)) × (name : List ℕ) × (names ≡ prefix ++ name ∷ tail) × (length prefix ≡ at) × (set : OpSet) × (reported : List ℕ)
+    × IsJoined before.kept prefix old set reported × Refuses set name before after why
 
 -- what was read of a stored feed was not opened
 abbrev pub IsShut : List ℕ → Shelf → Shelf → OpenFault → Type 0
@@ -129,4 +129,4 @@ IsUnmerged name others first last before after (merges.Other at why) =
     (after ≡ before) × (held : Shelf) × (read : Option (List ℕ)) × (old : OpSet) × IsOpened name first held read old × Stays held last × StopsAt others old held last at why
 IsUnmerged name others first last before after (merges.Keep why) =
     (held : Shelf) × (read : Option (List ℕ)) × (old : OpSet) × IsOpened name first held read old
-    × (set : OpSet) × (told : List ℕ) × IsJoined held.kept others old set told × IsUnkept name (told ++ faults_line set) held last before after why
+    × (set : OpSet) × (reported : List ℕ) × IsJoined held.kept others old set reported × IsUnkept name (reported ++ faults_line set) held last before after why

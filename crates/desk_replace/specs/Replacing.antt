@@ -12,7 +12,7 @@ use Rattle.desk_hand.specs.Editing.{IsRevised, IsSparing, IsUnrevised}
 use Rattle.desk_hand.specs.Keeping.{IsKept, IsUnkept, edited_line}
 use Rattle.desk_hand.specs.Merging.{IsBarred, IsOpened}
 use Rattle.desk_hand.specs.declared.fault.RevisionFault.TheVariants as revisions
-use Rattle.desk_replace.specs.Telling.{IsTold}
+use Rattle.desk_replace.specs.Reporting.{IsReported}
 use Rattle.desk_replace.specs.declared.texts.Exchange.{Exchange}
 use Rattle.desk_replace.specs.declared.fault.ExchangeFault.{ExchangeFault}
 use Rattle.desk_replace.specs.declared.fault.ExchangeFault.TheVariants as exchanges
@@ -64,7 +64,7 @@ abbrev pub IsUnreplaced : List ℕ → ℕ → Exchange → Shelf → Shelf → 
 IsUnreplaced name site exchange first last before after (faults.Exchange why) = (after ≡ before) × (last ≡ first) × AreUnread exchange why
 IsUnreplaced name site exchange first last before after (faults.Take why) = (after ≡ before) × (old new : List Symbol) × AreRead exchange old new × IsBarred name first last why
 IsUnreplaced name site exchange first last before after (faults.Place why) =
-    (old new : List Symbol) × AreRead exchange old new × (read : Option (List ℕ)) × (was : OpSet) × IsOpened name first last read was × IsTold old (copy_of was) before after why
+    (old new : List Symbol) × AreRead exchange old new × (read : Option (List ℕ)) × (was : OpSet) × IsOpened name first last read was × IsReported old (copy_of was) before after why
 IsUnreplaced name site exchange first last before after (faults.Revision why) =
     (after ≡ before) × (old new : List Symbol) × AreRead exchange old new × (read : Option (List ℕ)) × (was : OpSet) × IsOpened name first last read was
     × (text : List Symbol) × IsExchanged old new (copy_of was) text × (now : OpSet) × IsUnrevised site was now text why

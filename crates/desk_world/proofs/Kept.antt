@@ -193,13 +193,13 @@ pub kept_edited : (es fs : List (ℕ × State)) (n : ℕ) (edit : LocalEdit) (r 
 kept_edited es fs n edit r kept h = kept_changed (λ s t. Edits s edit r t) es fs n r kept (λ s t own edits. edits_lawful s t edit r own edits) h
 
 -- an edit says nothing of room
-told : (s t : State) (edit : LocalEdit) (op : Op) → IsEdited s t edit op → IsEdited (site_with s.site s.ops) (site_with t.site t.ops) edit op
-told s t (kinds.Insert place symbol) op e = record { is = e.is; lawful = e.lawful; gained = e.gained; shows = e.shows; settings = e.settings }
-told s t (kinds.Delete place) op e = record { is = e.is; lawful = e.lawful; gained = e.gained; shows = e.shows; settings = e.settings }
-told s t (kinds.Set key value) op e = record { is = e.is; lawful = e.lawful; gained = e.gained; shows = e.shows; sets = e.sets; others = e.others }
+reported : (s t : State) (edit : LocalEdit) (op : Op) → IsEdited s t edit op → IsEdited (site_with s.site s.ops) (site_with t.site t.ops) edit op
+reported s t (kinds.Insert place symbol) op e = record { is = e.is; lawful = e.lawful; gained = e.gained; shows = e.shows; settings = e.settings }
+reported s t (kinds.Delete place) op e = record { is = e.is; lawful = e.lawful; gained = e.gained; shows = e.shows; settings = e.settings }
+reported s t (kinds.Set key value) op e = record { is = e.is; lawful = e.lawful; gained = e.gained; shows = e.shows; sets = e.sets; others = e.others }
 
 roomless : (s t : State) (edit : LocalEdit) (r : Result Answer StepRefusal) → Edits s edit r t → Edits (site_with s.site s.ops) edit r (site_with t.site t.ops)
-roomless s t edit (Ok a) e = (e.0, e.1, e.2, told s t edit e.0 e.3)
+roomless s t edit (Ok a) e = (e.0, e.1, e.2, reported s t edit e.0 e.3)
 roomless s t edit (Err why) e = e
 
 abbrev EditsTo : Sites → ℕ → LocalEdit → Result Answer StepRefusal → Sites → Option OpSet → Type 0

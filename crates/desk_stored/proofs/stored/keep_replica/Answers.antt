@@ -15,7 +15,7 @@ returns-clause-ok g c =
     let bytes = c.deref.ensures.value ∙ c.in-Ok.ensures.bytes in
     on_ok_weaker c.store.result
     (λ stored. (
-      (λ same. let told : false ≡ true = sym c.if-is_stored.false ∙ c.is_stored.ensures.1 (same ∙ ap Some (sym bytes)) in cc),
+      (λ same. let reported : false ≡ true = sym c.if-is_stored.false ∙ c.is_stored.ensures.1 (same ∙ ap Some (sym bytes)) in cc),
       (λ _. subst (λ bytes. IsReplaced c.args.name.now bytes (g.F.Files.shelf c.args.files.now).kept (g.F.Files.shelf c.store.new.files).kept) (c.deref-2.ensures.value ∙ c.in-Ok.ensures.bytes) stored.0),
       stored.1,
     )) (ok_counts _ c.store.result (g.F.Files.shelf c.args.files.now) (g.F.Files.shelf c.store.new.files) c.store.ensures.ok c.store.ensures.counted)
