@@ -96,20 +96,38 @@ fn report(alloc: Global, out: &mut String, room: &Room) -> anyhow::Result<()> {
     Ok(())
 }
 
+/// The first line of a text, and what follows it.
+fn parted(text: &str) -> (&str, &str) {
+    match text.split_once('\n') {
+        Some(parts) => parts,
+        None => (text, ""),
+    }
+}
+
+/// Plays the events of the lines at once, and writes their answers.
+fn play(
+    alloc: Global,
+    out: &mut String,
+    world: &mut World<Global>,
+    lines: &[Line],
+) -> anyhow::Result<()>
+    requires { All GivesLawful lines.now }
+{
+    let events = events_of(alloc, lines)?;
+    for returned in &world.play(&events)? {
+        say(out, &answer_of(*returned))?;
+    }
+    Ok(())
+}
+
 fn main(rt: HostRuntime) -> anyhow::Result<()> {
     let alloc = rt.alloc();
     let text = io::read_to_string(alloc, rt.reader())?;
-    let (first, rest) = match text.split_once('\n') {
-        Some(parts) => parts,
-        None => (text.as_str(), ""),
-    };
+    let (first, rest) = parted(&text);
     let mut world = world_of(alloc, first)?;
     let lines = lines_of(alloc, rest)?;
-    let events = events_of(alloc, &lines)?;
     let mut out = String::new(alloc);
-    for returned in &world.play(&events)? {
-        say(&mut out, &answer_of(*returned))?;
-    }
+    play(alloc, &mut out, &mut world, &lines)?;
     for number in 1..=u16::MAX {
         if let Some(room) = world.replica(number) {
             report(alloc, &mut out, room)?;
