@@ -11,8 +11,8 @@ use Rattle.desk_answers.specs.declared.text.Reply.{Reply}
 use Rattle.desk_answers.specs.declared.text.Reply.TheVariants as replies
 
 -- of each line how many matrices it has, and their width
-abbrev pub lines_told : List Line → List (ℕ × ℤ)
-lines_told lines = map (λ l. (length l.matrices, l.total)) lines
+abbrev pub lines_reported : List Line → List (ℕ × ℤ)
+lines_reported lines = map (λ l. (length l.matrices, l.total)) lines
 
 pub data ReplyValues : Type 0 where
   Done : ReplyValues
@@ -40,7 +40,7 @@ reply_values (replies.Faults faults) = Faults faults.items
 reply_values (replies.Settings settings) = Settings settings
 reply_values (replies.Ribbon ribbon) = Ribbon ribbon.items
 reply_values (replies.NoRibbon faults) = NoRibbon faults
-reply_values (replies.Lines lines) = Lines (lines_told lines.items)
+reply_values (replies.Lines lines) = Lines (lines_reported lines.items)
 reply_values (replies.Refused why) = Refused why
 reply_values (replies.Stopped taken why) = Stopped taken why
 

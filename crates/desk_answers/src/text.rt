@@ -5,7 +5,7 @@ ghost use Rattle.std.specs.Fmt.{decimal, signed_decimal};
 ghost use Rattle.std.specs.Io.{StartsWith};
 ghost use Rattle.arrayvec.specs.ArrayString.{array_string_len};
 ghost use Rattle.desk_ops.specs.Words.{copy_fault_words, stamp_words};
-ghost use Rattle.desk_answers.specs.Reply.{is_long, reply_values, lines_told};
+ghost use Rattle.desk_answers.specs.Reply.{is_long, reply_values, lines_reported};
 ghost use Rattle.desk_answers.specs.Reply as replies;
 ghost use Rattle.desk_answers.specs.Text.{hex_digit, hex_text, refusal_text, cause_number, fault_text, separator, list_text, faults_text, value_text, settings_text, job_fault_text, lines_text, text};
 
@@ -400,7 +400,7 @@ fn put_lines<A: Allocator + Copy>(
     out: &mut String<A>,
     lines: &[CastLine<A>],
 ) -> Result<(), AllocError>
-    ensures text { OnOk result (string_bytes out.new ≡ string_bytes out.old ++ lines_text (lines_told lines.now)) }
+    ensures text { OnOk result (string_bytes out.new ≡ string_bytes out.old ++ lines_text (lines_reported lines.now)) }
     ensures prefix { StartsWith (string_bytes out.new) (string_bytes out.old) }
 {
     for line in lines {
@@ -527,8 +527,8 @@ fn put_bytes<A: Allocator + Copy>(
     put_hex(out, bytes)
 }
 
-/// Writes an answer at the end, without its end of line. Where memory is refused, what stood before still stands in
-/// prefix.
+/// Writes an answer at the end, without its end of line. Where memory is refused, what is there begins with what stood
+/// before.
 #[tactic(auto, using(desk_commands::proofs::Prefixes::prefixes))]
 pub fn put<A: Allocator + Copy>(out: &mut String<A>, answer: &Reply<A>) -> Result<(), AllocError>
     ensures text { OnOk result (string_bytes out.new ≡ string_bytes out.old ++ text (reply_values answer.now)) }

@@ -1,4 +1,4 @@
--- What the searches tell of a sequence.
+-- What the searches say of a sequence.
 use Rattle.std.proofs.Common.{◌≡◌, Bool, true, false, not, cond, ℕ, zero, suc, ◌+◌, ◌-◌, ◌<◌, ◌≤◌, List, [], ◌∷◌, length, get_or, take, drop, refl, sym, ap, ◌∙◌, subst, arith, min, length-take, length-drop}
 use Rattle.std.specs.List.{count_by}
 use Rattle.std.proofs.lemmas.List.{take_all, take-take, get_or-take, get_or-drop}

@@ -64,7 +64,6 @@ impl<A: Allocator + Copy> Sequence for Blocks<A> {
     }
 
     fn len(&self) -> usize {
-        let _ = &self.index;
         self.pages.len()
     }
 

@@ -20,7 +20,7 @@ const NONE: Stamp = Stamp {
 impl Summary<Slot> for Tally {
     ghost use Rattle.desk_blocks.specs.Tally.{IsTally};
 
-    ghost tells = { IsTally };
+    ghost sums_up = { IsTally };
 
     fn of(page: &[Slot]) -> Tally {
         let mut tally = Tally {

@@ -23,11 +23,11 @@ descends_cons u (v ∷ us) = rw (descends_cons v us) refl
 -- the units of the first cell, before those of the others
 pub begun : (w : WedgeValues) (cells : List Cell) (first : Cell) (before : ℕ) → 1 ≤ length cells → first ≡ get_or cells 0 first → before ≡ units_of_row w first.row
     → is_descending (units_of_cells w cells) ≡ descends_from before (units_of_cells w (drop 0 (take (length cells - 1) (drop 1 cells))))
-begun w [] first before some is told = absurd (omega arith)
-begun w (c ∷ cs) first before some is told =
+begun w [] first before some is reported = absurd (omega arith)
+begun w (c ∷ cs) first before some is reported =
     let long : length (c ∷ cs) - 1 ≡ length cs = omega arith in
     let same : first ≡ c = is in
-    rw (long, take_all (length cs) cs (omega arith), told, same) (descends_cons (units_of_row w c.row) (units_of_cells w cs))
+    rw (long, take_all (length cs) cs (omega arith), reported, same) (descends_cons (units_of_row w c.row) (units_of_cells w cs))
 
 pub record AreBelow (before : ℕ) (us : List ℕ) : Type 0 where
   pub each : (k d : ℕ) → k < length us → get_or us k d < before
@@ -64,8 +64,8 @@ pairs_from before (u ∷ us) e =
 pairs : (us : List ℕ) → IsTrue (is_descending us) → AllPairs (λ a b. b < a) us
 pairs [] e = no_pairs
 pairs (u ∷ us) e =
-    let told = sym (descends_cons u us) ∙ e in
-    pairs_cons u us (all_below u us told) (pairs_from u us told)
+    let reported = sym (descends_cons u us) ∙ e in
+    pairs_cons u us (all_below u us reported) (pairs_from u us reported)
 
 tail_pairs : (u : ℕ) (us : List ℕ) → AllPairs (λ a b. b < a) (u ∷ us) → AllPairs (λ a b. b < a) us
 tail_pairs u us h i j d p q = h (suc i) (suc j) d (omega arith) (omega arith)

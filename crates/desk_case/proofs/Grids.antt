@@ -59,10 +59,10 @@ found_at : (grid : Grid) (s : Symbol) (n : ℕ) → IsFoundFrom 0 grid s n → S
 found_at grid s n h = let same : h.index ≡ n = omega (arith, h.is) in subst (λ i. StandsAt grid s i) same h.stands
 
 pub found : (grid : Grid) (s : Symbol) (n : ℕ) → place_in grid s ≡ Some n → StandsAt grid s n
-found grid s n e = let told = find_from 0 grid s in found_at grid s n (rw e at told)
+found grid s n e = let reported = find_from 0 grid s in found_at grid s n (rw e at reported)
 
 pub not_found : (grid : Grid) (s : Symbol) → place_in grid s ≡ None → IsNowhere grid s
-not_found grid s e = let told = find_from 0 grid s in rw e at told
+not_found grid s e = let reported = find_from 0 grid s in rw e at reported
 
 -- what stands in the first part of a grid, and what was put behind it
 get_left : (xs ys : Grid) (n : ℕ) → n < length xs → slice_get (xs ++ ys) n ≡ slice_get xs n
@@ -146,7 +146,7 @@ pub doubled : DoubledIsFirst
 doubled grid = doubling [] grid nothing_distinct
 
 pub distinct : (grid : Grid) → first_doubled grid ≡ None → IsDistinct grid
-distinct grid e = let told = doubled grid in rw e at told
+distinct grid e = let reported = doubled grid in rw e at reported
 
 -- from a symbol to its cell and back
 flattened : (o : Option (Option Symbol)) (s : Symbol) → option_flatten o ≡ Some s → o ≡ Some (Some s)
@@ -155,8 +155,8 @@ flattened (Some m) s e = ap Some e
 
 cell_there : (case : CaseValues) → IsCase case → (s : Symbol) (c : Cell) (o : Option ℕ) → place_in case.grid s ≡ o → option_map cell_of_place o ≡ Some c
     → (symbol_at case c ≡ Some s) × IsCell c
-cell_there case k s c None e told = absurd (some_not_none (sym told))
-cell_there case k s c (Some n) e told =
+cell_there case k s c None e reported = absurd (some_not_none (sym reported))
+cell_there case k s c (Some n) e reported =
     let at = found case.grid s n e in
     let within : n < 255 = omega (arith, slice_get_within case.grid n (Some s) at, k.cells) in
     let is : cell_of_place n ≡ c = cc in
@@ -176,10 +176,10 @@ inverse case k s c = (
   λ h. symbol_there case k s c (place_in case.grid s) refl (flattened (slice_get case.grid (place c)) s h.0) h.1,
 )
 
-pub cells_told : (case : CaseValues) → IsCase case → (s : Symbol) (o : Option Cell) → o ≡ cell_of case s → IfSome o (λ c. symbol_at case c ≡ Some s)
-cells_told case k s None e = tt
-cells_told case k s (Some c) e = ((inverse case k s c).0 (sym e)).0
+pub cells_reported : (case : CaseValues) → IsCase case → (s : Symbol) (o : Option Cell) → o ≡ cell_of case s → IfSome o (λ c. symbol_at case c ≡ Some s)
+cells_reported case k s None e = tt
+cells_reported case k s (Some c) e = ((inverse case k s c).0 (sym e)).0
 
-pub symbols_told : (case : CaseValues) → IsCase case → (c : Cell) → IsCell c → (o : Option Symbol) → o ≡ symbol_at case c → IfSome o (λ s. cell_of case s ≡ Some c)
-symbols_told case k c cell None e = tt
-symbols_told case k c cell (Some s) e = (inverse case k s c).1 (sym e, cell)
+pub symbols_reported : (case : CaseValues) → IsCase case → (c : Cell) → IsCell c → (o : Option Symbol) → o ≡ symbol_at case c → IfSome o (λ s. cell_of case s ≡ Some c)
+symbols_reported case k c cell None e = tt
+symbols_reported case k c cell (Some s) e = (inverse case k s c).1 (sym e, cell)

@@ -3,7 +3,6 @@ use Rattle.std.proofs.Common.{◌≡◌, ◌∙◌, ℕ, ◌+◌, ◌<◌, Bool,
 use Rattle.std.specs.Prelude.{is_some, option_map}
 use Rattle.std.specs.List.{position_from}
 use Rattle.std.specs.Map.{lookup}
-use Rattle.std.proofs.lemmas.Bool.{true≢false}
 use Rattle.std.proofs.lemmas.List.{drop_more, take_more, length-take-le}
 use Rattle.desk_signals.specs.declared.Cell.{Cell}
 use Rattle.desk_ops.specs.declared.op.Symbol.{Symbol}
@@ -105,7 +104,3 @@ symbol_indexed grid i es more d s within held new grown h =
           ∙ ap (λ b. or_else (if b then Some s else None) (doubled_after (take i grid ++ Some s ∷ []) (drop (i + 1) grid))) not_seen
           ∙ ap (λ g. doubled_after g (drop (i + 1) grid)) (sym taken);
     }
-
-pub none_of : {A : Type 0} (o : Option A) → is_some o ≡ false → o ≡ None
-none_of None e = refl
-none_of (Some x) e = absurd (true≢false e)

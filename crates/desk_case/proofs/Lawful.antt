@@ -7,6 +7,7 @@ use Rattle.toml.specs.Data.{Data, Members, as_str}
 use Rattle.desk_signals.specs.declared.Cell.{Cell}
 use Rattle.desk_signals.specs.Columns.{index}
 use Rattle.desk_ops.specs.declared.op.Symbol.{Symbol}
+use Rattle.desk_ops.proofs.Lists.{none_of}
 use Rattle.desk_keys.specs.Keys.{◌>>=◌, number_of}
 use Rattle.desk_keys.specs.Items.{array_of}
 use Rattle.desk_keys.proofs.Values.{IsReadFrom, value_read, IsArrayOf, array_read, all_read}
@@ -20,7 +21,6 @@ use Rattle.desk_case.specs.Case.{symbol_in, IsCase}
 use Rattle.desk_case.specs.File.{Sheet, key_name, row_of, joined_rows, cell_within, cell_of_data, fill_of, at_key, matrix_of, cells_of, matrices_of, or_else, sheet_in, sheet_of, grid_from, first_doubled, first_held}
 use Rattle.desk_case.proofs.Cells.{named_is}
 use Rattle.desk_case.proofs.Grids.{Grid, distinct}
-use Rattle.desk_case.proofs.Indexes.{none_of}
 
 pub at_key_read : {A : Type 0} (k : CaseKey) (read : Data → Option A) (ms : Members) (a : A) → at_key k read ms ≡ Ok a → IsReadFrom read a
 at_key_read k read ms a e = value_read (key_name k) (Missing k) (Shape k) read ms a e
@@ -50,10 +50,10 @@ rows_length columns few rows a =
 
 matrices_length_at : (columns : ℕ) → columns ≤ 17 → (ms : List (Option (Option Symbol))) (d : Data) (o : Option (List (List (List ℕ)))) → array_of 15 15 (row_of columns) d ≡ o
     → option_map (λ rows. joined_rows (map cells_of rows)) o ≡ Some ms → length ms ≡ 255
-matrices_length_at columns few ms d None told e = cc
-matrices_length_at columns few ms d (Some rows) told e =
+matrices_length_at columns few ms d None reported e = cc
+matrices_length_at columns few ms d (Some rows) reported e =
     let same : joined_rows (map cells_of rows) ≡ ms = cc in
-    ap length (sym same) ∙ rows_length columns few rows (array_read 15 15 (row_of columns) d rows told)
+    ap length (sym same) ∙ rows_length columns few rows (array_read 15 15 (row_of columns) d rows reported)
 
 matrices_length : (columns : ℕ) → columns ≤ 17 → (d : Data) (ms : List (Option (Option Symbol))) → matrices_of columns d ≡ Some ms → length ms ≡ 255
 matrices_length columns few d ms e = matrices_length_at columns few ms d (array_of 15 15 (row_of columns) d) refl e

@@ -76,10 +76,10 @@ rows_blank i (suc k) (r ∷ rows) small all h =
 
 matrices_blank_at : (columns i k : ℕ) → columns ≤ i → i < 17 → k < 15 → (ms : Matrices) (d : Data) (o : Option (List (List (List ℕ)))) → array_of 15 15 (row_of columns) d ≡ o
     → option_map (λ rows. joined_rows (map cells_of rows)) o ≡ Some ms → slice_get ms (17 * k + i) ≡ Some (Some None)
-matrices_blank_at columns i k low high row ms d None told e = cc
-matrices_blank_at columns i k low high row ms d (Some rows) told e =
+matrices_blank_at columns i k low high row ms d None reported e = cc
+matrices_blank_at columns i k low high row ms d (Some rows) reported e =
     let same : joined_rows (map cells_of rows) ≡ ms = cc in
-    let a = array_read 15 15 (row_of columns) d rows told in
+    let a = array_read 15 15 (row_of columns) d rows reported in
     ap (λ xs. slice_get xs (17 * k + i)) (sym same)
     ∙ rows_blank i k rows high (all_read (IsBlankAt i) (row_of columns) (row_blank columns i low high) a.items rows a.each) (omega (arith, row, a.least))
 
@@ -90,10 +90,10 @@ abbrev sheet_made : ℕ → Matrices → Sheet
 sheet_made columns ms = record { columns = columns; matrices = ms }
 
 sheet_in_blank : (columns i k : ℕ) → i < 17 → k < 15 → (d : Data) (s : Sheet) (o : Option Matrices) → matrices_of columns d ≡ o → option_map (sheet_made columns) o ≡ Some s → BlankAt i k s
-sheet_in_blank columns i k high row d s None told e = cc
-sheet_in_blank columns i k high row d s (Some ms) told e =
+sheet_in_blank columns i k high row d s None reported e = cc
+sheet_in_blank columns i k high row d s (Some ms) reported e =
     let same : sheet_made columns ms ≡ s = cc in
-    subst (BlankAt i k) same (λ low. matrices_blank_at columns i k low high row ms d (array_of 15 15 (row_of columns) d) refl told)
+    subst (BlankAt i k) same (λ low. matrices_blank_at columns i k low high row ms d (array_of 15 15 (row_of columns) d) refl reported)
 
 either_blank : (i k : ℕ) (s : Sheet) (o rest : Option Sheet) → (o ≡ Some s → BlankAt i k s) → (rest ≡ Some s → BlankAt i k s) → or_else o rest ≡ Some s → BlankAt i k s
 either_blank i k s None rest first second e = second e

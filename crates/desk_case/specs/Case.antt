@@ -1,13 +1,13 @@
 -- What a case is, as its file gives it, and what holds of every case.
 use Rattle.std.specs.Prelude.{◌≡◌, ℕ, ◌*◌, ◌≤◌, Bool, false, List, length, All, Option, Some, None, option_map, slice_get}
 use Rattle.std.specs.Option.{option_flatten}
-use Rattle.std.specs.List.{position_from}
+use Rattle.std.specs.List.{list_any, position_from}
 use Rattle.std.specs.Map.{lookup}
 use Rattle.desk_signals.specs.declared.Cell.{Cell}
 use Rattle.desk_ops.specs.declared.op.Symbol.{Symbol}
 use Rattle.desk_ops.specs.contracts.op.SymbolPartialEq.TheImpl as symbol_eq
 use Rattle.desk_case.specs.declared.TheConstants.{COLUMNS, ROWS}
-use Rattle.desk_case.specs.Names.{place, cell_of_place, IsCell}
+use Rattle.desk_case.specs.Names.{place, same_cell, cell_of_place, IsCell}
 
 -- the number, what each cell holds, row by row and column by column, the space and the fills
 pub record CaseValues : Type 0 where
@@ -42,6 +42,10 @@ symbol_at case cell = symbol_in case.grid cell
 -- the cell of a case that holds a symbol
 abbrev pub cell_of : CaseValues → Symbol → Option Cell
 cell_of case symbol = cell_in case.grid symbol
+
+-- a fill of a case is in the cell
+abbrev pub is_fill : CaseValues → Cell → Bool
+is_fill case cell = list_any (same_cell cell) case.fill
 
 -- the symbol stands at the place
 abbrev pub StandsAt : List (Option Symbol) → Symbol → ℕ → Type 0

@@ -1,5 +1,5 @@
 -- The names of cells, and their places in a grid of all columns.
-use Rattle.std.specs.Prelude.{ℕ, ◌-◌, ◌+◌, ◌*◌, ◌/◌, ◌%◌, ◌≤◌, ◌==◌, ◌&&◌, nat_le, nat_lt, if◌then◌else◌, List, [], ◌∷◌, ◌++◌, codes, Option, Some, None}
+use Rattle.std.specs.Prelude.{ℕ, Bool, ◌-◌, ◌+◌, ◌*◌, ◌/◌, ◌%◌, ◌≤◌, ◌==◌, ◌&&◌, nat_le, nat_lt, if◌then◌else◌, List, [], ◌∷◌, ◌++◌, codes, Option, Some, None}
 use Rattle.std.specs.Option.{unwrap_or}
 use Rattle.desk_signals.specs.declared.Column.{Column}
 use Rattle.desk_signals.specs.declared.Column.TheVariants as column
@@ -46,6 +46,10 @@ IsCell cell = (1 ≤ cell.row) × (cell.row ≤ ROWS)
 -- the place of a cell among all, from 0, row by row
 abbrev pub place : Cell → ℕ
 place cell = COLUMNS * (cell.row - 1) + index cell.column
+
+-- the cells are one
+abbrev pub same_cell : Cell → Cell → Bool
+same_cell a b = place a == place b
 
 -- the cell at a place
 abbrev pub cell_of_place : ℕ → Cell

@@ -11,7 +11,7 @@ mod texts;
 ghost use Rattle.std.specs.Prelude.{◌≡◌, ◌≢◌, Ok, Err, Some, None, IfOk, IfErr, IfSome, All};
 ghost use Rattle.toml.specs.Errors.{IsBlank};
 ghost use Rattle.desk_case.specs.File.{key_name, fault_number, table_fault, case_of, checked, is_descending, units_of_cells};
-ghost use Rattle.desk_case.specs.Case.{symbol_at, cell_of, IsCase};
+ghost use Rattle.desk_case.specs.Case.{symbol_at, cell_of, is_fill, IsCase};
 ghost use Rattle.desk_case.specs.Laws.{CellsAndSymbolsAreInverse, NamesAreOneToOne, DoubledIsFirst, DescentIsOfAllPairs, NarrowCasesLackColumns};
 ghost use Rattle.desk_case.specs.declared.CaseFault.TheVariants as fault;
 
@@ -181,6 +181,13 @@ impl MatrixCase {
         ensures lawful { IsCase self.now }
     {
         self.fill.as_slice()
+    }
+
+    /// Whether a fill is in the cell.
+    pub fn is_fill(&self, cell: &Cell) -> bool
+        ensures { result ≡ is_fill self.now cell.now }
+    {
+        self.fill().iter().any(|fill| names::is_same(cell, fill))
     }
 
     /// Whether the units of the fills descend strictly, and else `FillOrder`.

@@ -1,6 +1,6 @@
 //! The names and places of cells.
 ghost use Rattle.std.specs.Prelude.{◌≡◌, ◌+◌, ◌*◌, ◌<◌, IfSome};
-ghost use Rattle.desk_case.specs.Names.{column_of_letter, row_of_digits, cell_named, place, cell_of_place, IsCell};
+ghost use Rattle.desk_case.specs.Names.{column_of_letter, row_of_digits, cell_named, place, same_cell, cell_of_place, IsCell};
 
 use crate::{COLUMNS, ROWS};
 use desk_signals::{Cell, Column, RowNo};
@@ -47,6 +47,13 @@ pub fn place(cell: &Cell) -> usize
     ensures cell { IsCell cell.now }
 {
     COLUMNS * (cell.row.get() as usize - 1) + cell.column.index() as usize
+}
+
+/// Whether the cells are one.
+pub fn is_same(a: &Cell, b: &Cell) -> bool
+    ensures { result ≡ same_cell a.now b.now }
+{
+    place(a) == place(b)
 }
 
 /// The cell at a place.

@@ -53,7 +53,7 @@ length-images (r ∷ rows) =
 image_fits : (row : RibbonRow) → image row < 2 ^ 32
 image_fits row = let low = (image_shows (signals_of row)).0 in omega (arith, low)
 
--- images tell the rows
+-- images give the rows
 pub same_rows : (a b : List RibbonRow) → AllByRecursion IsRow a → AllByRecursion IsRow b → flat_map image_bytes a ≡ flat_map image_bytes b → a ≡ b
 same_rows [] [] p q e = refl
 same_rows [] (s ∷ b) p q e = let f = ap length e in let g = length-images (s ∷ b) in absurd (omega (arith, f, g))
@@ -91,15 +91,15 @@ same_body : (bytes body images : List ℕ) (n : ℕ) → bytes ≡ magic ++ body
 same_body bytes body images n e f = ap (λ (b : List ℕ). drop 4 b) (sym e ∙ f)
 
 pub ribbons_have_no_fault : RibbonsHaveNoFault
-ribbons_have_no_fault bytes rows fault.Magic other is tells = tells _ is.is
-ribbons_have_no_fault bytes rows fault.Count other is tells =
-    tells.none (length rows) (flat_map image_bytes rows)
-    (record { fits = is.number; split = same_body bytes tells.body (flat_map image_bytes rows) (length rows) tells.begins is.is; whole = length-images rows })
-ribbons_have_no_fault bytes rows (fault.Row place why) other is tells =
-    let body = same_body bytes tells.body (flat_map image_bytes rows) (length rows) tells.begins is.is in
-    let parts = number_same (length rows) tells.number (flat_map image_bytes rows) tells.images is.number tells.counted.fits (sym body ∙ tells.counted.split) in
-    no_bad tells.bad.before rows tells.bad.image tells.bad.rest why tells.bad.rows is.lawful tells.bad.fits tells.bad.bad (parts.1 ∙ tells.bad.split)
-ribbons_have_no_fault bytes rows fault.NoMemory other is tells = other refl
+ribbons_have_no_fault bytes rows fault.Magic other is reports = reports _ is.is
+ribbons_have_no_fault bytes rows fault.Count other is reports =
+    reports.none (length rows) (flat_map image_bytes rows)
+    (record { fits = is.number; split = same_body bytes reports.body (flat_map image_bytes rows) (length rows) reports.begins is.is; whole = length-images rows })
+ribbons_have_no_fault bytes rows (fault.Row place why) other is reports =
+    let body = same_body bytes reports.body (flat_map image_bytes rows) (length rows) reports.begins is.is in
+    let parts = number_same (length rows) reports.number (flat_map image_bytes rows) reports.images is.number reports.counted.fits (sym body ∙ reports.counted.split) in
+    no_bad reports.bad.before rows reports.bad.image reports.bad.rest why reports.bad.rows is.lawful reports.bad.fits reports.bad.bad (parts.1 ∙ reports.bad.split)
+ribbons_have_no_fault bytes rows fault.NoMemory other is reports = other refl
 
 pub ribbons_have_one_reading : RibbonsHaveOneReading
 ribbons_have_one_reading bytes a b p q =

@@ -87,14 +87,14 @@ stopped case wedge rows q k r state e before at is h =
     ap (λ x. x >>= (λ s. finish s.line s.sent)) (outward case wedge 0 k k rows e (omega arith) (next case wedge rows q k r state at (omega arith) is before.cast ∙ h))
 
 -- a fault that was given on
-told_fault : {V : Type 0} (result : Result V CastFault) (e given wanted : CastFault) → result ≡ Err e → e ≡ given → result ≡ Err wanted → given ≡ wanted
-told_fault result e given wanted failed same is = let f : Err e ≡ Err wanted = sym failed ∙ is in cc
+reported_fault : {V : Type 0} (result : Result V CastFault) (e given wanted : CastFault) → result ≡ Err e → e ≡ given → result ≡ Err wanted → given ≡ wanted
+reported_fault result e given wanted failed same is = let f : Err e ≡ Err wanted = sym failed ∙ is in cc
 
 -- the caster came to a row at which it takes memory
 pub grows : {V : Type 0} (case : CaseValues) (wedge : WedgeValues) (rows : List RibbonRow) (q k : ℕ) (r : RibbonRow) (state : State) (result : Result V CastFault) (e given wanted : CastFault) →
     IsCast case wedge rows q state → q ≡ suc k → r ≡ get_or rows k r → (given ≡ wanted → takes_memory case r state.line ≡ true) →
     result ≡ Err e → e ≡ given → result ≡ Err wanted → MayTakeMemory case wedge rows
-grows case wedge rows q k r state result e given wanted before at is takes failed same told =
+grows case wedge rows q k r state result e given wanted before at is takes failed same reported =
     let low = before.within in
     record {
       place = k;
@@ -103,5 +103,5 @@ grows case wedge rows q k r state result e given wanted before at is takes faile
       there = drop-cons rows k r (omega arith) ∙ ap (λ x. x ∷ drop (suc k) rows) (sym is);
       state = state;
       reached = subst (λ n. cast_rows case wedge n (drop n rows) ≡ Ok state) at before.cast;
-      takes = takes (told_fault result e given wanted failed same told);
+      takes = takes (reported_fault result e given wanted failed same reported);
     }

@@ -1,11 +1,10 @@
 -- The caster, which reads a ribbon from its last row to the first.
-use Rattle.std.specs.Prelude.{ℕ, suc, Bool, cond, if◌then◌else◌, ◌||◌, ◌==◌, is_some, ℤ, pos, ◌+ℤ◌, List, [], ◌∷◌, Option, Some, None, Result, Ok, Err}
-use Rattle.std.specs.List.{list_any}
+use Rattle.std.specs.Prelude.{ℕ, suc, Bool, cond, if◌then◌else◌, ◌||◌, is_some, ℤ, pos, ◌+ℤ◌, List, [], ◌∷◌, Option, Some, None, Result, Ok, Err}
 use Rattle.desk_units.specs.Widths.{units_width}
 use Rattle.desk_units.specs.WedgeSum.{sum_at, widening}
 use Rattle.desk_wedge.specs.Wedge.{WedgeValues, units_of_row}
-use Rattle.desk_case.specs.Case.{CaseValues, symbol_at}
-use Rattle.desk_case.specs.Names.{place}
+use Rattle.desk_case.specs.Case.{CaseValues, symbol_at, is_fill}
+use Rattle.desk_case.specs.Names.{same_cell}
 use Rattle.desk_signals.specs.declared.Cell.{Cell}
 use Rattle.desk_signals.specs.declared.RibbonRow.{RibbonRow}
 use Rattle.desk_signals.specs.declared.RibbonRow.TheVariants as row
@@ -20,12 +19,9 @@ pub record Line : Type 0 where
   pub matrices : List CastMatrix
   pub total : ℤ
 
-abbrev pub same_cell : Cell → Cell → Bool
-same_cell a b = place a == place b
-
 -- the case has a symbol, its space or a fill there
 abbrev pub has_matrix : CaseValues → Cell → Bool
-has_matrix case cell = is_some (symbol_at case cell) || (same_cell case.space cell || list_any (same_cell cell) case.fill)
+has_matrix case cell = is_some (symbol_at case cell) || (same_cell case.space cell || is_fill case cell)
 
 -- the width of the matrices of a row of the case, in atoms
 abbrev pub row_width : WedgeValues → ℕ → ℕ

@@ -57,18 +57,18 @@ pub record HasNoCount (bytes : List ℕ) : Type 0 where
   pub none : (number : ℕ) (images : List ℕ) → IsCounted body number images → ⊥
 
 -- the fault of images; out of memory may be that of any
-abbrev pub TellsRow : List ℕ → RibbonFault → Type 0
-TellsRow images fault.Magic = ⊥
-TellsRow images fault.Count = ⊥
-TellsRow images (fault.Row place why) = IsBadRow images place why
-TellsRow images fault.NoMemory = Unit {0}
+abbrev pub ReportsRow : List ℕ → RibbonFault → Type 0
+ReportsRow images fault.Magic = ⊥
+ReportsRow images fault.Count = ⊥
+ReportsRow images (fault.Row place why) = IsBadRow images place why
+ReportsRow images fault.NoMemory = Unit {0}
 
 -- the fault of bytes is their first; out of memory may be that of any
-abbrev pub Tells : List ℕ → RibbonFault → Type 0
-Tells bytes fault.Magic = (body : List ℕ) → bytes ≡ magic ++ body → ⊥
-Tells bytes fault.Count = HasNoCount bytes
-Tells bytes (fault.Row place why) = HasBadRow bytes place why
-Tells bytes fault.NoMemory = Unit {0}
+abbrev pub Reports : List ℕ → RibbonFault → Type 0
+Reports bytes fault.Magic = (body : List ℕ) → bytes ≡ magic ++ body → ⊥
+Reports bytes fault.Count = HasNoCount bytes
+Reports bytes (fault.Row place why) = HasBadRow bytes place why
+Reports bytes fault.NoMemory = Unit {0}
 
 -- the magic, a number of rows that is not 0 and as many images stand there: such bytes alone take memory
 pub record MayHoldOne (bytes : List ℕ) : Type 0 where

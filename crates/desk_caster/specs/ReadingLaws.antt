@@ -3,11 +3,11 @@ use Rattle.std.specs.Prelude.{◌≡◌, ◌≢◌, ℕ, List}
 use Rattle.desk_signals.specs.declared.RibbonRow.{RibbonRow}
 use Rattle.desk_caster.specs.declared.RibbonFault.{RibbonFault}
 use Rattle.desk_caster.specs.declared.RibbonFault.TheVariants as fault
-use Rattle.desk_caster.specs.Reading.{IsRibbon, Tells}
+use Rattle.desk_caster.specs.Reading.{IsRibbon, Reports}
 
 -- No ribbon has a fault.
 abbrev pub RibbonsHaveNoFault : Type 0
-RibbonsHaveNoFault = (bytes : List ℕ) (rows : List RibbonRow) (why : RibbonFault) → why ≢ fault.NoMemory → IsRibbon bytes rows → Tells bytes why → ⊥
+RibbonsHaveNoFault = (bytes : List ℕ) (rows : List RibbonRow) (why : RibbonFault) → why ≢ fault.NoMemory → IsRibbon bytes rows → Reports bytes why → ⊥
 
 -- Bytes are the ribbon of one list of rows at most.
 abbrev pub RibbonsHaveOneReading : Type 0

@@ -1,7 +1,6 @@
 //! The caster as a machine over rows, from the last to the first.
 ghost use Rattle.std.specs.Prelude.{◌≡◌, ◌≢◌, ◌+◌, ◌<◌, ◌&&◌, true, is_some, ◌^◌, [], ◌∷◌, ◌++◌, IfOk, IfErr, Ok, Err, Some, None, length, cond, pos, ◌+ℤ◌, ◌-ℤ◌, ◌≤ℤ◌};
-ghost use Rattle.desk_caster.specs.Caster.{idle, cast, cast_row, cast_onto, start_line, all_sent, finish, has_matrix, cast_matrix, row_width, same_cell};
-ghost use Rattle.std.specs.List.{list_any};
+ghost use Rattle.desk_caster.specs.Caster.{idle, cast, cast_row, cast_onto, start_line, all_sent, finish, has_matrix, cast_matrix, row_width};
 ghost use Rattle.desk_units.specs.WedgeSum.{widening};
 ghost use Rattle.desk_caster.specs.Bounds.{in_progress, IsWithin};
 ghost use Rattle.desk_caster.specs.Memory.{MayTakeMemory, takes_memory};
@@ -10,7 +9,7 @@ ghost use Rattle.desk_caster.specs.declared.CastFault.TheVariants as fault;
 use crate::line::Begun;
 use crate::{CastFault, CastLine, CastMatrix};
 use desk_case::MatrixCase;
-use desk_case::names::place;
+use desk_case::names::is_same;
 use desk_signals::{Cell, Position, RibbonRow, RowNo};
 use desk_units::{Atoms, WedgeSum, width};
 use desk_wedge::Wedge;
@@ -201,21 +200,7 @@ fn has_matrix(case: &MatrixCase, cell: &Cell) -> bool
     if is_same(&case.space(), cell) {
         return true;
     }
-    is_fill(case, cell)
-}
-
-/// Whether a fill of the case is in the cell.
-fn is_fill(case: &MatrixCase, cell: &Cell) -> bool
-    ensures { result ≡ list_any (same_cell cell.now) (case.now).fill }
-{
-    case.fill().iter().any(|fill| is_same(cell, fill))
-}
-
-/// Whether the cells are one.
-fn is_same(a: &Cell, b: &Cell) -> bool
-    ensures { result ≡ same_cell a.now b.now }
-{
-    place(a) == place(b)
+    case.is_fill(cell)
 }
 
 /// What a cell of the case casts at a wedge sum, with S or without.

@@ -3,7 +3,7 @@
 ghost use Rattle.std.specs.Prelude.{◌≡◌, ◌+◌, ◌*◌, ◌≤◌, ◌<◌, ◌^◌, ◌++◌, length, IfOk, IfErr, Err, List};
 ghost use Rattle.std.specs.Int.{w32, to_be_bytes};
 ghost use Rattle.desk_signals.specs.declared.RibbonRow.{RibbonRow};
-ghost use Rattle.desk_caster.specs.Reading.{AreImages, IsRibbon, TellsRow, Tells, MayHoldOne};
+ghost use Rattle.desk_caster.specs.Reading.{AreImages, IsRibbon, ReportsRow, Reports, MayHoldOne};
 ghost use Rattle.desk_caster.specs.declared.RibbonFault.TheVariants as fault;
 
 use crate::RibbonFault;
@@ -29,7 +29,7 @@ fn rows_of<A: Allocator>(
 ) -> Result<Vec<RibbonRow, A>, RibbonFault>
     requires { length images.now ≡ 4 * number }
     ensures rows { IfOk result (λ rows. AreImages rows.items images.now × (length rows.items ≡ number)) }
-    ensures fault { IfErr result (λ fault. TellsRow images.now fault) }
+    ensures fault { IfErr result (λ fault. ReportsRow images.now fault) }
     ensures memory { result ≡ Err fault.NoMemory → 0 < number }
 {
     let mut rows = Vec::with_capacity(alloc, number as usize)?;
@@ -37,11 +37,7 @@ fn rows_of<A: Allocator>(
     for place in 0..number {
         let (image, after) = take_number(rest);
         match Image::new(image).to_row() {
-            Ok(row) => {
-                if rows.push(row).is_err() {
-                    return Err(RibbonFault::NoMemory);
-                }
-            }
+            Ok(row) => rows.push(row)?,
             Err(why) => return Err(RibbonFault::Row(place, why)),
         }
         rest = after;
@@ -54,7 +50,7 @@ fn rows_of<A: Allocator>(
 /// has no meaning. Out of memory may come in place of that row, or of the rows.
 pub fn read_ribbon<A: Allocator>(alloc: A, bytes: &[u8]) -> Result<Vec<RibbonRow, A>, RibbonFault>
     ensures ribbon { IfOk result (λ rows. IsRibbon bytes.now rows.items) }
-    ensures fault { IfErr result (λ fault. Tells bytes.now fault) }
+    ensures fault { IfErr result (λ fault. Reports bytes.now fault) }
     // For other magic, another count and a ribbon of no rows the answer is never out of memory.
     ensures memory { result ≡ Err fault.NoMemory → MayHoldOne bytes.now }
 {

@@ -28,7 +28,7 @@ IsSet bytes (Err Crowded) = (ops : List Op) × IsFeed bytes ops × (max_ops < si
 -- what they mean as a ribbon
 abbrev pub AreRows : List ℕ → Result (List RibbonRow) RibbonFault → Type 0
 AreRows bytes (Ok rows) = IsRibbon bytes rows
-AreRows bytes (Err fault) = castings.Tells bytes fault × (fault ≢ ribbons.NoMemory)
+AreRows bytes (Err fault) = castings.Reports bytes fault × (fault ≢ ribbons.NoMemory)
 
 -- bytes have a meaning, this is said of it, and they are in order where it is no fault
 abbrev pub Says : {V E : Type 0} → (List ℕ → Result V E → Type 0) → (Result V E → Option (List ℕ)) → List ℕ → List ℕ → Bool → Type 0

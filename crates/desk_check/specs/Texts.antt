@@ -51,14 +51,14 @@ abbrev pub holders_of : List ℕ → Option Data → List Cell
 holders_of text None = []
 holders_of text (Some rows) = holders rows text (ROWS * COLUMNS)
 
--- the text that stands for a symbol
-abbrev pub style_mark : Style → List ℕ
-style_mark styles.Roman = []
-style_mark styles.Italic = codes "i:"
-style_mark styles.SmallCap = codes "s:"
+-- the text that stands for a symbol in a case file
+abbrev pub mark_in_file : Style → List ℕ
+mark_in_file styles.Roman = []
+mark_in_file styles.Italic = codes "i:"
+mark_in_file styles.SmallCap = codes "s:"
 
-abbrev pub symbol_text : Symbol → List ℕ
-symbol_text symbol = style_mark symbol.style ++ encode_utf8 symbol.ch
+abbrev pub text_in_file : Symbol → List ℕ
+text_in_file symbol = mark_in_file symbol.style ++ encode_utf8 symbol.ch
 
 -- ---- of a file
 
@@ -72,5 +72,5 @@ cells_in bytes = cells_of (rows_in bytes)
 
 -- the cells that hold the symbol of a fault, if it is of one
 abbrev pub fault_holders : List ℕ → CaseFault → List Cell
-fault_holders bytes (cases.Doubled symbol) = holders_of (symbol_text symbol) (rows_in bytes)
+fault_holders bytes (cases.Doubled symbol) = holders_of (text_in_file symbol) (rows_in bytes)
 fault_holders bytes other = []

@@ -7,8 +7,8 @@ ghost use Rattle.desk_check.specs.Sorts.{sort_at, sorts};
 ghost use Rattle.desk_check.specs.Texts.{cells_in, fault_holders};
 ghost use Rattle.desk_check.specs.Words.{around_words, case_fault_words, case_words, cell_fault_words, cells_words, doubled_from, doubled_words, held_words, number_words, other_words, sorts_words, twice_words};
 
+use crate::reported::Reported;
 use crate::texts::{cells_in, fault_holders};
-use crate::told::Told;
 use desk_case::names::cell_of_place;
 use desk_case::{COLUMNS, CaseFault, MatrixCase, ROWS};
 use desk_memory::NoMemory;
@@ -183,14 +183,14 @@ fn case_in_order<A: Allocator + Copy>(
     global: Global,
     bytes: &[u8],
     case: &MatrixCase,
-) -> Result<Told<A>, NoMemory>
+) -> Result<Reported<A>, NoMemory>
     ensures text { IfOk result (λ t. case_words (cells_in bytes.now) (fault_holders bytes.now) (Ok case.now) ≡ Some (string_bytes t.text)) }
     ensures well { IfOk result (λ t. t.well ≡ true) }
 {
     let mut text = String::new(alloc);
     let cells = cells_in(global, bytes)?;
     put_case(&mut text, case, cells)?;
-    Ok(Told { text, well: true })
+    Ok(Reported { text, well: true })
 }
 
 /// What is said of a case file that has a fault.
@@ -199,7 +199,7 @@ fn case_refused<A: Allocator + Copy>(
     global: Global,
     bytes: &[u8],
     fault: CaseFault,
-) -> Result<Told<A>, NoMemory>
+) -> Result<Reported<A>, NoMemory>
     ensures text { IfOk result (λ t. case_words (cells_in bytes.now) (fault_holders bytes.now) (Err fault) ≡ Some (string_bytes t.text)) }
     ensures well { IfOk result (λ t. t.well ≡ false) }
 {
@@ -207,15 +207,15 @@ fn case_refused<A: Allocator + Copy>(
     let holders = fault_holders(alloc, global, bytes, &fault)?;
     text.push_str("case refused: ")?;
     put_case_fault(&mut text, fault, &holders)?;
-    Ok(Told { text, well: false })
+    Ok(Reported { text, well: false })
 }
 
 /// What is said of a case file: what it gives, or its first fault.
-pub fn case_told<A: Allocator + Copy>(
+pub fn case_reported<A: Allocator + Copy>(
     alloc: A,
     global: Global,
     bytes: &[u8],
-) -> Result<Told<A>, NoMemory>
+) -> Result<Reported<A>, NoMemory>
     ensures { IfOk result (λ t. SaysCase bytes.now (string_bytes t.text) t.well) }
 {
     match MatrixCase::read(global, bytes) {

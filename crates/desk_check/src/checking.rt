@@ -7,7 +7,7 @@ ghost use Rattle.desk_check.specs.Lines.{line_of};
 ghost use Rattle.desk_check.specs.Words.{refusal_words};
 
 use crate::fault::CheckFault;
-use crate::told::{Told, told_of};
+use crate::reported::{Reported, reported_of};
 use desk_files::{FileRefusal, Files};
 use desk_hand::write_out;
 use desk_inputs::Memory;
@@ -28,13 +28,13 @@ fn refusal_words(why: FileRefusal) -> Option<&'static str>
 }
 
 /// That a file was not read.
-fn unread<A: Allocator + Copy>(alloc: A, why: FileRefusal) -> Result<Told<A>, NoMemory>
+fn unread<A: Allocator + Copy>(alloc: A, why: FileRefusal) -> Result<Reported<A>, NoMemory>
     ensures text { IfOk result (λ t. refusal_words why ≡ Some (string_bytes t.text)) }
     ensures well { IfOk result (λ t. t.well ≡ false) }
 {
     let words = refusal_words(why).ok_or(NoMemory)?;
     let text = String::from_str(alloc, words)?;
-    Ok(Told { text, well: false })
+    Ok(Reported { text, well: false })
 }
 
 /// The line of a file.
@@ -59,11 +59,14 @@ fn look<F: Files, A: Allocator + Copy>(
     ensures err { OnErr result (IsRead name.now (F.shelf files.old) (F.shelf files.new)) }
     ensures stays { Stays (F.shelf files.old) (F.shelf files.new) }
 {
-    let told = match files.read(memory.own, name) {
-        Ok(bytes) => told_of(memory, bytes)?,
+    let reported = match files.read(memory.own, name) {
+        Ok(bytes) => reported_of(memory, bytes)?,
         Err(why) => unread(memory.own, why)?,
     };
-    Ok((line_of(memory.own, name, told.text.as_str())?, told.well))
+    Ok((
+        line_of(memory.own, name, reported.text.as_str())?,
+        reported.well,
+    ))
 }
 
 /// Writes the line of a file, and answers whether it is in order.

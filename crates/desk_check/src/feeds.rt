@@ -4,7 +4,7 @@ ghost use Rattle.std.specs.Prelude.{◌≡◌, ◌++◌, IfOk, OnOk, false, stri
 ghost use Rattle.desk_check.specs.Lines.{SaysFeed};
 ghost use Rattle.desk_check.specs.Words.{cause_words, crowded_words, feed_fault_words, operations_words, set_words, shown_words, why_words};
 
-use crate::told::Told;
+use crate::reported::Reported;
 use desk_answers::{Reply, put};
 use desk_blocks::Blocks;
 use desk_codec::{FeedFault, FeedWhy};
@@ -86,46 +86,49 @@ fn put_set<A: Allocator + Copy>(
 }
 
 /// What is said of a replica.
-fn set_told<A: Allocator + Copy>(
+fn set_reported<A: Allocator + Copy>(
     alloc: A,
     replica: &Replica<Blocks<A>>,
-) -> Result<Told<A>, NoMemory>
+) -> Result<Reported<A>, NoMemory>
     ensures text { IfOk result (λ t. string_bytes t.text ≡ set_words replica.now.ops) }
     ensures well { IfOk result (λ t. t.well ≡ true) }
 {
     let mut text = String::new(alloc);
     put_set(&mut text, replica)?;
-    Ok(Told { text, well: true })
+    Ok(Reported { text, well: true })
 }
 
 /// What is said of a feed that has a fault.
-fn wrong_told<A: Allocator + Copy>(alloc: A, fault: FeedFault) -> Result<Told<A>, NoMemory>
+fn wrong_reported<A: Allocator + Copy>(alloc: A, fault: FeedFault) -> Result<Reported<A>, NoMemory>
     ensures text { IfOk result (λ t. string_bytes t.text ≡ feed_fault_words fault) }
     ensures well { IfOk result (λ t. t.well ≡ false) }
 {
     let mut text = String::new(alloc);
     put_feed_fault(&mut text, fault)?;
-    Ok(Told { text, well: false })
+    Ok(Reported { text, well: false })
 }
 
 /// What is said of a feed of more operations than a replica holds.
-fn crowded_told<A: Allocator + Copy>(alloc: A) -> Result<Told<A>, NoMemory>
+fn crowded_reported<A: Allocator + Copy>(alloc: A) -> Result<Reported<A>, NoMemory>
     ensures text { IfOk result (λ t. string_bytes t.text ≡ crowded_words) }
     ensures well { IfOk result (λ t. t.well ≡ false) }
 {
     let mut text = String::new(alloc);
     write!(text, "feed refused: more than {LIMIT} operations")?;
-    Ok(Told { text, well: false })
+    Ok(Reported { text, well: false })
 }
 
 /// What is said of a feed: what it holds and shows, or its first fault, or that a replica holds fewer operations.
-pub fn feed_told<A: Allocator + Copy>(alloc: A, bytes: Vec<u8, A>) -> Result<Told<A>, NoMemory>
+pub fn feed_reported<A: Allocator + Copy>(
+    alloc: A,
+    bytes: Vec<u8, A>,
+) -> Result<Reported<A>, NoMemory>
     ensures { IfOk result (λ t. SaysFeed bytes.items (string_bytes t.text) t.well) }
 {
     match open_replica(alloc, &Some(bytes), ANY_SITE) {
-        Ok(replica) => set_told(alloc, &replica),
-        Err(OpenFault::Feed(fault)) => wrong_told(alloc, fault),
-        Err(OpenFault::Opening(_)) => crowded_told(alloc),
+        Ok(replica) => set_reported(alloc, &replica),
+        Err(OpenFault::Feed(fault)) => wrong_reported(alloc, fault),
+        Err(OpenFault::Opening(_)) => crowded_reported(alloc),
         Err(OpenFault::NoMemory) => Err(NoMemory),
     }
 }

@@ -7,13 +7,13 @@ mod checking;
 mod fault;
 mod feeds;
 mod kinds;
+mod reported;
 mod ribbons;
 mod strange;
 mod texts;
-mod told;
 mod wedges;
 
 pub use checking::check_files;
 pub use fault::CheckFault;
 pub use kinds::{Kind, kind_of};
-pub use told::{Told, told_of};
+pub use reported::{Reported, reported_of};

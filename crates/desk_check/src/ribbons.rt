@@ -4,7 +4,7 @@ ghost use Rattle.std.specs.Prelude.{◌≡◌, ◌++◌, Err, IfOk, OnOk, Some, 
 ghost use Rattle.desk_check.specs.Lines.{SaysRibbon};
 ghost use Rattle.desk_check.specs.Words.{image_words, ribbon_fault_words, ribbon_words, row_fault_words, row_words, rows_words};
 
-use crate::told::Told;
+use crate::reported::Reported;
 use desk_caster::{RibbonFault, read_ribbon};
 use desk_image::BadImage;
 use desk_memory::NoMemory;
@@ -61,32 +61,35 @@ fn put_ribbon_fault<A: Allocator + Copy>(
 }
 
 /// What is said of the rows of a ribbon.
-fn rows_told<A: Allocator + Copy>(alloc: A, rows: &[RibbonRow]) -> Result<Told<A>, NoMemory>
+fn rows_reported<A: Allocator + Copy>(alloc: A, rows: &[RibbonRow]) -> Result<Reported<A>, NoMemory>
     ensures text { IfOk result (λ t. string_bytes t.text ≡ rows_words (length rows.now)) }
     ensures well { IfOk result (λ t. t.well ≡ true) }
 {
     let mut text = String::new(alloc);
     write!(&mut text, "ok: {} rows", rows.len())?;
-    Ok(Told { text, well: true })
+    Ok(Reported { text, well: true })
 }
 
 /// What is said of a ribbon that has a fault.
-fn ribbon_refused<A: Allocator + Copy>(alloc: A, fault: RibbonFault) -> Result<Told<A>, NoMemory>
+fn ribbon_refused<A: Allocator + Copy>(
+    alloc: A,
+    fault: RibbonFault,
+) -> Result<Reported<A>, NoMemory>
     ensures text { IfOk result (λ t. ribbon_words (Err fault) ≡ Some (string_bytes t.text)) }
     ensures well { IfOk result (λ t. t.well ≡ false) }
 {
     let mut text = String::new(alloc);
     text.push_str("ribbon refused: ")?;
     put_ribbon_fault(&mut text, fault)?;
-    Ok(Told { text, well: false })
+    Ok(Reported { text, well: false })
 }
 
 /// What is said of a ribbon: how many rows it has, or its first fault.
-pub fn ribbon_told<A: Allocator + Copy>(alloc: A, bytes: &[u8]) -> Result<Told<A>, NoMemory>
+pub fn ribbon_reported<A: Allocator + Copy>(alloc: A, bytes: &[u8]) -> Result<Reported<A>, NoMemory>
     ensures { IfOk result (λ t. SaysRibbon bytes.now (string_bytes t.text) t.well) }
 {
     match read_ribbon(alloc, bytes) {
-        Ok(rows) => rows_told(alloc, &rows),
+        Ok(rows) => rows_reported(alloc, &rows),
         Err(fault) => ribbon_refused(alloc, fault),
     }
 }

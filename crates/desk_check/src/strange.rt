@@ -3,7 +3,7 @@
 ghost use Rattle.std.specs.Prelude.{◌≡◌, ◌≤◌, ◌++◌, IfOk, MatchOption, OnOk, false, length, string_bytes};
 ghost use Rattle.desk_check.specs.Strange.{IsDocument, IsNone, SaysStrange, line_at, line_feeds, line_words, strange_words};
 
-use crate::told::Told;
+use crate::reported::Reported;
 use desk_memory::NoMemory;
 use std::alloc::{AllocError, Allocator, Global};
 
@@ -50,35 +50,35 @@ fn put_line<A: Allocator + Copy>(out: &mut String<A>, line: usize) -> Result<(),
 }
 
 /// That bytes are of no kind.
-fn no_kind_told<A: Allocator + Copy>(alloc: A) -> Result<Told<A>, NoMemory>
+fn no_kind_reported<A: Allocator + Copy>(alloc: A) -> Result<Reported<A>, NoMemory>
     ensures text { IfOk result (λ t. string_bytes t.text ≡ strange_words) }
     ensures well { IfOk result (λ t. t.well ≡ false) }
 {
     let text = String::from_str(alloc, "neither a feed, a ribbon, a case nor a wedge")?;
-    Ok(Told { text, well: false })
+    Ok(Reported { text, well: false })
 }
 
 /// That bytes are of no kind, and the line where they are no document.
-fn no_document_told<A: Allocator + Copy>(alloc: A, line: usize) -> Result<Told<A>, NoMemory>
+fn no_document_reported<A: Allocator + Copy>(alloc: A, line: usize) -> Result<Reported<A>, NoMemory>
     ensures text { IfOk result (λ t. string_bytes t.text ≡ strange_words ++ line_words line) }
     ensures well { IfOk result (λ t. t.well ≡ false) }
 {
     let mut text = String::from_str(alloc, "neither a feed, a ribbon, a case nor a wedge")?;
     put_line(&mut text, line)?;
-    Ok(Told { text, well: false })
+    Ok(Reported { text, well: false })
 }
 
 /// What is said of bytes of no kind.
-pub fn strange_told<A: Allocator + Copy>(
+pub fn strange_reported<A: Allocator + Copy>(
     alloc: A,
     global: Global,
     bytes: &[u8],
-) -> Result<Told<A>, NoMemory>
+) -> Result<Reported<A>, NoMemory>
     ensures text { IfOk result (λ t. SaysStrange bytes.now (string_bytes t.text)) }
     ensures well { IfOk result (λ t. t.well ≡ false) }
 {
     match fault_place(global, bytes)? {
-        Some(place) => no_document_told(alloc, line_at(bytes, place)),
-        None => no_kind_told(alloc),
+        Some(place) => no_document_reported(alloc, line_at(bytes, place)),
+        None => no_kind_reported(alloc),
     }
 }

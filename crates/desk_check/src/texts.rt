@@ -3,7 +3,7 @@
 ghost use Rattle.std.specs.Prelude.{◌≡◌, ◌≤◌, ◌++◌, ◌<◌, ◌*◌, IfOk, OnOk, Some, option_and_then, option_map, string_bytes};
 ghost use Rattle.toml.specs.View.{table_view, view};
 ghost use Rattle.desk_keys.specs.Keys.{document};
-ghost use Rattle.desk_check.specs.Texts.{cells_in, cells_of, fault_holders, holder, holders, holders_of, is_text, one_text, rows_in, style_mark, symbol_text, text_at, texts};
+ghost use Rattle.desk_check.specs.Texts.{cells_in, cells_of, fault_holders, holder, holders, holders_of, is_text, mark_in_file, one_text, rows_in, text_at, text_in_file, texts};
 
 use crate::kinds::document;
 use desk_case::names::cell_of_place;
@@ -84,8 +84,9 @@ fn holders<A: Allocator + Copy>(
     Ok(cells)
 }
 
-fn style_mark(style: Style) -> &'static str
-    ensures { result.now ≡ style_mark style }
+/// What stands before a character of a style in a case file.
+fn mark_in_file(style: Style) -> &'static str
+    ensures { result.now ≡ mark_in_file style }
 {
     match style {
         Style::Roman => "",
@@ -94,12 +95,12 @@ fn style_mark(style: Style) -> &'static str
     }
 }
 
-/// The text that stands for a symbol.
-fn symbol_text<A: Allocator + Copy>(alloc: A, symbol: Symbol) -> Result<String<A>, NoMemory>
-    ensures { IfOk result (λ s. string_bytes s ≡ symbol_text symbol) }
+/// The text that stands for a symbol in a case file.
+fn text_in_file<A: Allocator + Copy>(alloc: A, symbol: Symbol) -> Result<String<A>, NoMemory>
+    ensures { IfOk result (λ s. string_bytes s ≡ text_in_file symbol) }
 {
     let mut text = String::new(alloc);
-    text.push_str(style_mark(symbol.style))?;
+    text.push_str(mark_in_file(symbol.style))?;
     text.push(symbol.ch)?;
     Ok(text)
 }
@@ -160,9 +161,9 @@ fn symbol_holders<A: Allocator + Copy>(
     bytes: &[u8],
     symbol: Symbol,
 ) -> Result<Vec<Cell, A>, NoMemory>
-    ensures { IfOk result (λ v. v.items ≡ holders_of (symbol_text symbol) (rows_in bytes.now)) }
+    ensures { IfOk result (λ v. v.items ≡ holders_of (text_in_file symbol) (rows_in bytes.now)) }
 {
-    let text = symbol_text(alloc, symbol)?;
+    let text = text_in_file(alloc, symbol)?;
     holders_in(alloc, global, bytes, text.as_str())
 }
 

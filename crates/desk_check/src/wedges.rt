@@ -4,7 +4,7 @@ ghost use Rattle.std.specs.Prelude.{◌≡◌, ◌++◌, ◌<◌, Err, IfOk, OnO
 ghost use Rattle.desk_check.specs.Lines.{SaysWedge};
 ghost use Rattle.desk_check.specs.Words.{count_words, pica_word, points_words, quarter_words, set_q_words, values_words, wedge_fault_words, wedge_words};
 
-use crate::told::Told;
+use crate::reported::Reported;
 use desk_memory::NoMemory;
 use desk_units::{Pica, SetQ};
 use desk_wedge::{Wedge, WedgeFault};
@@ -93,32 +93,32 @@ fn put_wedge_fault<A: Allocator + Copy>(
 }
 
 /// What is said of a wedge.
-fn wedge_in_order<A: Allocator + Copy>(alloc: A, wedge: &Wedge) -> Result<Told<A>, NoMemory>
+fn wedge_in_order<A: Allocator + Copy>(alloc: A, wedge: &Wedge) -> Result<Reported<A>, NoMemory>
     ensures text { IfOk result (λ t. string_bytes t.text ≡ values_words wedge.now) }
     ensures well { IfOk result (λ t. t.well ≡ true) }
 {
     let mut text = String::new(alloc);
     put_wedge(&mut text, wedge)?;
-    Ok(Told { text, well: true })
+    Ok(Reported { text, well: true })
 }
 
 /// What is said of a wedge file that has a fault.
-fn wedge_refused<A: Allocator + Copy>(alloc: A, fault: WedgeFault) -> Result<Told<A>, NoMemory>
+fn wedge_refused<A: Allocator + Copy>(alloc: A, fault: WedgeFault) -> Result<Reported<A>, NoMemory>
     ensures text { IfOk result (λ t. wedge_words (Err fault) ≡ Some (string_bytes t.text)) }
     ensures well { IfOk result (λ t. t.well ≡ false) }
 {
     let mut text = String::new(alloc);
     text.push_str("wedge refused: ")?;
     put_wedge_fault(&mut text, fault)?;
-    Ok(Told { text, well: false })
+    Ok(Reported { text, well: false })
 }
 
 /// What is said of a wedge file: what it gives, or its first fault.
-pub fn wedge_told<A: Allocator + Copy>(
+pub fn wedge_reported<A: Allocator + Copy>(
     alloc: A,
     global: Global,
     bytes: &[u8],
-) -> Result<Told<A>, NoMemory>
+) -> Result<Reported<A>, NoMemory>
     ensures { IfOk result (λ t. SaysWedge bytes.now (string_bytes t.text) t.well) }
 {
     match Wedge::read(global, bytes) {

@@ -29,7 +29,7 @@ fn gives(alloc: Global, k: u64, names: &[&str], lines: &[&str], well: bool) -> R
 }
 
 #[test]
-fn files_are_told_in_their_order(rt: HostRuntime) -> Result<(), Fail> {
+fn files_are_reported_in_their_order(rt: HostRuntime) -> Result<(), Fail> {
     let ribbon = "b.rib ok: 0 rows\n";
     assert!(rt; gives(rt.alloc(), 0, &[], &[], true)?);
     assert!(rt; gives(rt.alloc(), 0, &["b.rib", "a.feed"], &[ribbon, FEED], true)?);

@@ -33,7 +33,7 @@ answers_list view bytes (Err NoMemory) f g ops h = tt
 pub answers_fault : {V : Type 0} (view : V → List Op) (bytes : List ℕ) (r : Result V ReadFault) → IfOk r (λ v. IsFeed bytes (view v)) → IfErr r (λ fault. Reports bytes fault) → (fault : FeedFault) → IsFirstFault bytes fault → Answers view r (Err fault)
 unfolding failed
 answers_fault view bytes (Ok v) f g fault h = absurd (not_both bytes (view v) fault f h)
-answers_fault view bytes (Err (Fault told)) f g fault h = ap failed (one_fault bytes fault told h g)
+answers_fault view bytes (Err (Fault reported)) f g fault h = ap failed (one_fault bytes fault reported h g)
 answers_fault view bytes (Err Failed) f g fault h = absurd g
 answers_fault view bytes (Err NoMemory) f g fault h = tt
 

@@ -458,5 +458,5 @@ runs_set h = same-set (with_all no_ops (runs_ops (in_order h))) h
     ∙ or-false (list_any (eq_by_cmp op_cmp q) (in_order h))
     ∙ sym (fin.contains_key-keys h q))
 
-pub runs_told : RunsAreRead
-runs_told = record { read = runs_read; same = runs_permutation; set = runs_set }
+pub runs_reported : RunsAreRead
+runs_reported = record { read = runs_read; same = runs_permutation; set = runs_set }

@@ -232,8 +232,8 @@ first_end bytes ops s fault t (inr d) (inr m) =
     let after = place_after fresh s bytes d.0 d.2.prefix (omega arith) t d.2.split in
     let place = after.1 in
     let four = magic_length d.0 in
-    let told : fault.at ≡ place_of s = ap (λ (f : FeedFault). f.at) m.is in
-    let there : fault.at ≡ 4 + length d.2.prefix = omega (arith, told, place, four) in
+    let reported : fault.at ≡ place_of s = ap (λ (f : FeedFault). f.at) m.is in
+    let there : fault.at ≡ 4 + length d.2.prefix = omega (arith, reported, place, four) in
     let same : m.form ≡ d.0 = one_some m.form d.0 s.form m.begun d.1 in
     let cut : IsWrong d.0 s.kept fault.why = subst (λ (f : FeedFault). IsWrong d.0 s.kept f.why) (sym m.is) (subst (λ (f : FeedForm). IsCut f s.kept) same m.cut) in
     inr (d.0, d.2.prefix ++ s.kept, d.2.split, record { before = d.2.items; prefix = d.2.prefix; spells = d.2.spells; rest = s.kept; split = refl; there = there; wrong = cut })

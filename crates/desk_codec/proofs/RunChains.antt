@@ -140,8 +140,8 @@ marks-more ops rising old marks more i o size at h = record {
     go k d lt (inl e) =
         let w : i < length marks = let s = h.size in let v = at.within in omega arith in
         let is : get_or ops k d ≡ o = ap (λ n. get_or ops n d) e ∙ at.is d in
-        let told : is_among (get_or ops k d) (more ++ o ∷ []) ≡ true = ap (λ (q : Op). is_among q (more ++ o ∷ [])) is ∙ among-any o (more ++ o ∷ []) (among-end more o) in
-        ap (λ n. get_or (set marks i true) n false) e ∙ get_or-set_same marks i true false w ∙ sym (ap (λ b. get_or old k false || b) told ∙ or-true (get_or old k false))
+        let reported : is_among (get_or ops k d) (more ++ o ∷ []) ≡ true = ap (λ (q : Op). is_among q (more ++ o ∷ [])) is ∙ among-any o (more ++ o ∷ []) (among-end more o) in
+        ap (λ n. get_or (set marks i true) n false) e ∙ get_or-set_same marks i true false w ∙ sym (ap (λ b. get_or old k false || b) reported ∙ or-true (get_or old k false))
     go k d lt (inr n) =
         get_or-set_other marks i k true false n ∙ h.each k d lt
         ∙ ap (λ b. get_or old k false || b) (sym (is_among-append (get_or ops k d) more (o ∷ []) ∙ ap (λ b. is_among (get_or ops k d) more || b) (not-among (get_or ops k d) o (apart ops rising i k o d at lt n)) ∙ or-false (is_among (get_or ops k d) more)))
@@ -165,8 +165,8 @@ item-run ops s p y e =
 -- the list of symbols that is taken at a clear insert
 module _ (ops : List Op) (op : Op) (s p : Stamp) (y : Symbol) (rest zs : List Symbol) (is : op ≡ Insert s p y) (list : zs ≡ y ∷ rest) where
   pub run-taken : (b : Bool) → sole (bearing ops (stamp_of op)) ≡ cond b (Some op) None → b ≡ true → rest ≡ chain 63 ops (next_insert ops s) → item_at ops op ≡ item_of op zs
-  run-taken b told clear follows =
-      let one : sole (bearing ops s) ≡ Some (Insert s p y) = ap (λ (o : Op). sole (bearing ops (stamp_of o))) (sym is) ∙ told ∙ ap (λ (v : Bool). cond v (Some op) None) clear ∙ ap Some is in
+  run-taken b reported clear follows =
+      let one : sole (bearing ops s) ≡ Some (Insert s p y) = ap (λ (o : Op). sole (bearing ops (stamp_of o))) (sym is) ∙ reported ∙ ap (λ (v : Bool). cond v (Some op) None) clear ∙ ap Some is in
       ap (item_at ops) is ∙ item-run ops s p y one ∙ ap (λ (l : List Symbol). item_of (Insert s p y) (y ∷ l)) (sym follows) ∙ ap (item_of (Insert s p y)) (sym list) ∙ ap (λ (o : Op). item_of o zs) (sym is)
 
   pub ops-taken : run_ops s p zs ≡ item_ops (item_of op zs)
@@ -179,11 +179,11 @@ no-insertion (Set s k v) n = refl
 
 -- no list is taken elsewhere
 pub other-taken : (ops : List Op) (op : Op) (b : Bool) (zs : List Symbol) → zs ≡ [] → sole (bearing ops (stamp_of op)) ≡ cond b (Some op) None → ((s p : Stamp) (y : Symbol) → op ≡ Insert s p y → ⊥) → item_at ops op ≡ item_of op zs
-other-taken ops op b zs none told other = item-alone ops op (ap insert_in told ∙ nothing b) ∙ ap (item_of op) (sym none)
+other-taken ops op b zs none reported other = item-alone ops op (ap insert_in reported ∙ nothing b) ∙ ap (item_of op) (sym none)
   where
     nothing : (v : Bool) → insert_in (cond v (Some op) None) ≡ None
     nothing true = no-insertion op other
     nothing false = refl
 
 pub forked-taken : (ops : List Op) (op : Op) (b : Bool) (zs : List Symbol) → zs ≡ [] → sole (bearing ops (stamp_of op)) ≡ cond b (Some op) None → b ≡ false → item_at ops op ≡ item_of op zs
-forked-taken ops op b zs none told forked = item-alone ops op (ap insert_in (told ∙ ap (λ (v : Bool). cond v (Some op) None) forked)) ∙ ap (item_of op) (sym none)
+forked-taken ops op b zs none reported forked = item-alone ops op (ap insert_in (reported ∙ ap (λ (v : Bool). cond v (Some op) None) forked)) ∙ ap (item_of op) (sym none)

@@ -147,12 +147,12 @@ module _ (ops : List Op) (i : ℕ) (e : Op) (s a : Stamp) (r : Bool) (lt : i < l
   another-at f d = bears-at ops i e s a r lt there is d ∙ f
 
   sole-at : (b : Bool) → r ≡ true → ((op : Op) → IsAt ops i op → sole (bearing ops (stamp_of op)) ≡ cond b (Some op) None) → sole (bearing ops s) ≡ cond b (Some (get_or ops i e)) None
-  sole-at b t told = subst (λ (u : Stamp). sole (bearing ops u) ≡ cond b (Some (get_or ops i e)) None) (same-true (stamp_of (get_or ops i e)) s (bears-at ops i e s a r lt there is e ∙ t)) (told (get_or ops i e) (is_at ops i e lt))
+  sole-at b t reported = subst (λ (u : Stamp). sole (bearing ops u) ≡ cond b (Some (get_or ops i e)) None) (same-true (stamp_of (get_or ops i e)) s (bears-at ops i e s a r lt there is e ∙ t)) (reported (get_or ops i e) (is_at ops i e lt))
 
   -- the operation at the place, which bears s, is its sole bearer
   pub clear-at : (b : Bool) → r ≡ true → ((op : Op) → IsAt ops i op → sole (bearing ops (stamp_of op)) ≡ cond b (Some op) None) → b ≡ true → Some (get_or ops i e) ≡ sole (bearing ops s)
-  clear-at b t told is_true = sym (sole-at b t told ∙ ap (λ (v : Bool). cond v (Some (get_or ops i e)) None) is_true)
+  clear-at b t reported is_true = sym (sole-at b t reported ∙ ap (λ (v : Bool). cond v (Some (get_or ops i e)) None) is_true)
 
   -- or is not
   pub forked-at : (b : Bool) → r ≡ true → ((op : Op) → IsAt ops i op → sole (bearing ops (stamp_of op)) ≡ cond b (Some op) None) → b ≡ false → None ≡ sole (bearing ops s)
-  forked-at b t told is_false = sym (sole-at b t told ∙ ap (λ (v : Bool). cond v (Some (get_or ops i e)) None) is_false)
+  forked-at b t reported is_false = sym (sole-at b t reported ∙ ap (λ (v : Bool). cond v (Some (get_or ops i e)) None) is_false)

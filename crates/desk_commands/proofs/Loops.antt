@@ -2,8 +2,9 @@
 use Rattle.std.proofs.Common.{◌≡◌, ℕ, ◌+◌, ◌≤◌, ◌<◌, List, [], ◌∷◌, ◌++◌, Option, Some, None, refl, sym, ap, ◌∙◌, append_assoc, length, length-drop, take, drop, get_or, arith}
 use Rattle.std.specs.Prelude.{◌≢◌, ◌*◌, ◌-◌, option_to_list}
 use Rattle.std.proofs.lemmas.Bool.{false_from_ne_true}
-use Rattle.std.proofs.lemmas.List.{append-nil, at_drop_more, at_drop_all, length-take, take_all}
+use Rattle.std.proofs.lemmas.List.{append-nil, at_drop_all, length-take, take_all}
 use Rattle.desk_ops.specs.declared.op.Symbol.{Symbol}
+use Rattle.desk_ops.proofs.Lists.{drop-at}
 use Rattle.desk_commands.specs.declared.copy.Place.{Place}
 use Rattle.desk_commands.specs.declared.copy.Place.TheVariants.{Run, Quote, Opened, Inside, Escape, Closed}
 use Rattle.desk_commands.specs.Reading.{◌>>=◌, nibble, pairs}
@@ -28,19 +29,16 @@ copy_go prefix place c cs next p = rw p (regroup prefix (option_to_list next.1) 
 pub copy_stop : (place : Place) (c : ℕ) (cs : List ℕ) → step place c ≡ None → copy_from place (c ∷ cs) ≡ None
 copy_stop place c cs p = rw p refl
 
-drop-at : (cs : List ℕ) (n c : ℕ) → (n < length cs) × (c ≡ get_or cs n c) → drop n cs ≡ c ∷ drop (n + 1) cs
-drop-at cs n c h = at_drop_more (λ xs. xs) cs n c h.0 ∙ ap (λ x. x ∷ drop (n + 1) cs) (sym h.1)
-
 pub copy_turn : (prefix : List Symbol) (place : Place) (cs : List ℕ) (n c : ℕ) (next : Place × Option Symbol) (total : Option (List Symbol))
     → (n < length cs) × (c ≡ get_or cs n c) → step place c ≡ Some next → with_prefix prefix (copy_from place (drop n cs)) ≡ total
     → with_prefix (prefix ++ option_to_list next.1) (copy_from next.0 (drop (n + 1) cs)) ≡ total
 copy_turn prefix place cs n c next total at p so_far =
-    sym (copy_go prefix place c (drop (n + 1) cs) next p) ∙ ap (λ xs. with_prefix prefix (copy_from place xs)) (sym (drop-at cs n c at)) ∙ so_far
+    sym (copy_go prefix place c (drop (n + 1) cs) next p) ∙ ap (λ xs. with_prefix prefix (copy_from place xs)) (sym (drop-at cs n c c at.0 at.1)) ∙ so_far
 
 pub copy_halt : (prefix : List Symbol) (place : Place) (cs : List ℕ) (n c : ℕ) (total : Option (List Symbol))
     → (n < length cs) × (c ≡ get_or cs n c) → step place c ≡ None → with_prefix prefix (copy_from place (drop n cs)) ≡ total → total ≡ None
 copy_halt prefix place cs n c total at p so_far =
-    sym so_far ∙ ap (λ xs. with_prefix prefix (copy_from place xs)) (drop-at cs n c at) ∙ ap (with_prefix prefix) (copy_stop place c (drop (n + 1) cs) p)
+    sym so_far ∙ ap (λ xs. with_prefix prefix (copy_from place xs)) (drop-at cs n c c at.0 at.1) ∙ ap (with_prefix prefix) (copy_stop place c (drop (n + 1) cs) p)
 
 pub copy_end : (prefix : List Symbol) (place : Place) (cs : List ℕ) (n : ℕ) (total : Option (List Symbol))
     → length cs ≤ n → with_prefix prefix (copy_from place (drop n cs)) ≡ total → total ≡ with_prefix prefix (ends place)
@@ -84,7 +82,7 @@ first_at : (prefix : List Symbol) (place : Place) (cs : List ℕ) (n c : ℕ) (n
     → symbol_or (first_of prefix) (symbol_or next.1 (first_symbol next.0 (drop (n + 1) cs))) ≡ total
 first_at prefix place cs n c next total at p so_far =
     ap (symbol_or (first_of prefix)) (sym (first_go place c (drop (n + 1) cs) next p))
-    ∙ ap (λ xs. symbol_or (first_of prefix) (first_symbol place xs)) (sym (drop-at cs n c at)) ∙ so_far
+    ∙ ap (λ xs. symbol_or (first_of prefix) (first_symbol place xs)) (sym (drop-at cs n c c at.0 at.1)) ∙ so_far
 
 -- what a loop keeps of the first symbol
 pub first_more : (prefix items : List Symbol) (o : Option Symbol) (place new : Place) (cs : List ℕ) (n m c : ℕ) (total : Option Symbol)

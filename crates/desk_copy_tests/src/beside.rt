@@ -47,7 +47,7 @@ fn odd<A: Allocator + Copy>(alloc: A, ops: &[Op]) -> Result<Held<A>, Fail>
 }
 
 #[test]
-fn tells_what_is_missing(rt: HostRuntime) -> Result<(), Fail> {
+fn reports_what_is_missing(rt: HostRuntime) -> Result<(), Fail> {
     let alloc = rt.alloc();
     let own = row_of(alloc, 1, 600)?;
     let other = row_of(alloc, 2, 600)?;

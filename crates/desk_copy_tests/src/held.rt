@@ -2,7 +2,7 @@ ghost use Rattle.std.specs.Prelude.{IfOk, All};
 ghost use Rattle.desk_ops.specs.Op.{IsLawful};
 
 use crate::ops::is_written;
-use desk_held::{AddRefusal, Added, Halt, Held, LIMIT};
+use desk_held::{AddRefusal, Added, Held, LIMIT, Stopped};
 use desk_ops::{Key, NoMemory, Op, Stamp, Style, Symbol};
 use linked_list_allocator::LocalHeap;
 use std::alloc::{Allocator, Global};
@@ -29,12 +29,22 @@ const FORK: Op = Op::Set {
     value: 120,
 };
 
+/// What the answer to an addition was.
+#[derive(Clone, Copy, PartialEq, Eq)]
+enum Answer {
+    Added(Added),
+    Refused(AddRefusal),
+}
+
 /// Adds a lawful operation.
-fn add<A: Allocator + Copy>(held: &mut Held<A>, op: Op) -> Result<Result<Added, AddRefusal>, Fail> {
+fn add<A: Allocator + Copy>(held: &mut Held<A>, op: Op) -> Result<Answer, Fail> {
     if op.check().is_err() {
         return Err(Fail::new("an unlawful operation"));
     }
-    Ok(held.add(op))
+    Ok(match held.add(op) {
+        Ok(added) => Answer::Added(added),
+        Err(why) => Answer::Refused(why),
+    })
 }
 
 /// Puts a lawful operation that is not held where there is room; whether it could.
@@ -67,7 +77,7 @@ fn add_row<A: Allocator + Copy>(
     first: u64,
     number: u64,
     falls: bool,
-) -> Result<Option<Halt>, Fail> {
+) -> Result<Option<Stopped>, Fail> {
     let mut ops = row_of(alloc, first, number)?;
     if falls {
         ops.reverse();
@@ -94,7 +104,7 @@ pub fn ballast(heap: &LocalHeap, bytes: usize, left: usize) -> Option<Vec<u8, &L
 
 /// Whether adding an operation answers so.
 fn is_added<A: Allocator + Copy>(held: &mut Held<A>, op: Op, want: Added) -> Result<bool, Fail> {
-    Ok(add(held, op)? == Ok(want))
+    Ok(add(held, op)? == Answer::Added(want))
 }
 
 /// Whether what is held is this list, in its order.
@@ -151,7 +161,7 @@ fn holds_what_is_added(rt: HostRuntime) -> Result<(), Fail> {
 /// Whether a set of 600 operations has no stamp that two bear, and one once the k-th of its stamps is borne by another too.
 fn is_forked_at(alloc: Global, k: u64) -> Result<bool, Fail> {
     let mut held = Held::new(alloc);
-    let halt = add_row(alloc, &mut held, 1, 600, false)?;
+    let stop = add_row(alloc, &mut held, 1, 600, false)?;
     let stamp = insert(k.saturating_mul(2).saturating_add(1)).stamp();
     let fork = Op::Set {
         stamp,
@@ -160,7 +170,7 @@ fn is_forked_at(alloc: Global, k: u64) -> Result<bool, Fail> {
     };
     let was = held.is_unforked();
     let is_added = is_added(&mut held, fork, Added::Forks)?;
-    Ok(halt.is_none() && was && is_added && !held.is_unforked())
+    Ok(stop.is_none() && was && is_added && !held.is_unforked())
 }
 
 /// A fork is found wherever it stands: a page has 256 operations.
@@ -215,60 +225,60 @@ fn add_row_in<'a>(
     held: &mut Held<&'a LocalHeap>,
     left: usize,
     falls: bool,
-) -> Result<Option<Halt>, Fail> {
+) -> Result<Option<Stopped>, Fail> {
     let ballast = ballast(heap, 262_144, left);
-    let halt = add_row(alloc, held, 1, 600, falls);
+    let stop = add_row(alloc, held, 1, 600, falls);
     drop(ballast);
-    halt
+    stop
 }
 
-/// Whether a list of 600 is halted where so many bytes are left. It is added up to the refused growth, and with memory
+/// Whether a list of 600 is stopped where so many bytes are left. It is added up to the refused growth, and with memory
 /// to its end.
-fn is_halted(alloc: Global, left: usize, falls: bool) -> Result<bool, Fail> {
+fn is_stopped(alloc: Global, left: usize, falls: bool) -> Result<bool, Fail> {
     let heap = LocalHeap::new(alloc, 262_144)?;
-    is_halted_in(alloc, &heap, left, falls)
+    is_stopped_in(alloc, &heap, left, falls)
 }
 
-fn is_halted_in(alloc: Global, heap: &LocalHeap, left: usize, falls: bool) -> Result<bool, Fail> {
+fn is_stopped_in(alloc: Global, heap: &LocalHeap, left: usize, falls: bool) -> Result<bool, Fail> {
     let mut held = Held::new(heap);
-    let halt = add_row_in(alloc, heap, &mut held, left, falls)?;
-    if !is_halt(&held, halt, falls) {
-        return Err(Fail::new("another halt"));
+    let stop = add_row_in(alloc, heap, &mut held, left, falls)?;
+    if !is_stop(&held, stop, falls) {
+        return Err(Fail::new("another stop"));
     }
     if add_row(alloc, &mut held, 1, 600, falls)?.is_some() || !counts(&held, 2, 600) {
         return Err(Fail::new("not all are held"));
     }
-    Ok(halt.is_some())
+    Ok(stop.is_some())
 }
 
-/// Whether a halt, where there is one, is for memory, and so many are held as it says, or all.
-fn is_halt<A: Allocator + Copy>(held: &Held<A>, halt: Option<Halt>, falls: bool) -> bool {
-    let (added, is_right) = match halt {
+/// Whether a stop, where there is one, is for memory, and so many are held as it says, or all.
+fn is_stop<A: Allocator + Copy>(held: &Held<A>, stop: Option<Stopped>, falls: bool) -> bool {
+    let (taken, is_right) = match stop {
         None => (600, true),
-        Some(halt) => (
-            halt.added,
-            halt.added < 600 && halt.why == AddRefusal::NoMemory,
+        Some(stop) => (
+            stop.taken,
+            stop.taken < 600 && stop.why == AddRefusal::NoMemory,
         ),
     };
-    is_right && held.len() == added && (falls || counts(held, 2, added))
+    is_right && held.len() == taken && (falls || counts(held, 2, taken))
 }
 
-/// How many of the lists of 600 are halted, in a heap of which each time more is left.
-fn halts(alloc: Global, falls: bool) -> Result<u32, Fail> {
-    let mut halts = 0u32;
+/// How many of the lists of 600 are stopped, in a heap of which each time more is left.
+fn stops(alloc: Global, falls: bool) -> Result<u32, Fail> {
+    let mut stops = 0u32;
     for cut in 0..128usize {
-        let stopped = is_halted(alloc, cut.saturating_mul(1024), falls)?;
-        halts = halts.saturating_add(u32::from(stopped));
+        let stopped = is_stopped(alloc, cut.saturating_mul(1024), falls)?;
+        stops = stops.saturating_add(u32::from(stopped));
     }
-    Ok(halts)
+    Ok(stops)
 }
 
 #[test]
 fn stopped_at_k(rt: HostRuntime) -> Result<(), Fail> {
-    let rising = halts(rt.alloc(), false)?;
-    assert!(rt; rising > 20 && rising < 120, "{rising} halts");
-    let falling = halts(rt.alloc(), true)?;
-    assert!(rt; falling > 20 && falling < 120, "{falling} halts");
+    let rising = stops(rt.alloc(), false)?;
+    assert!(rt; rising > 20 && rising < 120, "{rising} stops");
+    let falling = stops(rt.alloc(), true)?;
+    assert!(rt; falling > 20 && falling < 120, "{falling} stops");
     Ok(())
 }
 
@@ -290,7 +300,7 @@ fn add_in<'a>(
     held: &mut Held<&'a LocalHeap>,
     left: usize,
     op: Op,
-) -> Result<Result<Added, AddRefusal>, Fail> {
+) -> Result<Answer, Fail> {
     let ballast = ballast(heap, 131_072, left);
     let first = add(held, op);
     drop(ballast);
@@ -316,8 +326,8 @@ fn is_refused_in<'a>(
 ) -> Result<bool, Fail> {
     let has_room = held.spare() > 0 || want == Added::Known;
     match add_in(heap, held, left, op)? {
-        Ok(added) if added == want => return Ok(false),
-        Err(AddRefusal::NoMemory) if !has_room && counts(held, 2, 4) => {}
+        Answer::Added(added) if added == want => return Ok(false),
+        Answer::Refused(AddRefusal::NoMemory) if !has_room && counts(held, 2, 4) => {}
         _ => return Err(Fail::new("another answer")),
     }
     if !is_added(held, op, want)? {

@@ -70,7 +70,9 @@ fn is_run_of(alloc: Global, count: u8) -> Result<bool, Fail> {
     }
     let ops = match read_feed(alloc, &bytes) {
         Ok(ops) => ops,
-        Err(told) => return Ok(!(2..=64).contains(&count) && told == fault(4, FeedWhy::Run)),
+        Err(reported) => return Ok(
+            !(2..=64).contains(&count) && reported == fault(4, FeedWhy::Run),
+        ),
     };
     let mut parent = Stamp::HEAD;
     for op in ops.iter() {
@@ -162,7 +164,7 @@ fn is_cut_right(alloc: Global, len: usize, first: usize, second: usize) -> bool 
     let bytes = &MIXED_AND_NINE[..len.min(137)];
     match (read_cut(alloc, bytes, first, second), answer_of_prefix(len)) {
         (Ok(ops), Ok(want)) => ops.as_slice() == want,
-        (Err(told), Err(want)) => told == want,
+        (Err(reported), Err(want)) => reported == want,
         _ => false,
     }
 }

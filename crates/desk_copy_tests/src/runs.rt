@@ -244,7 +244,7 @@ fn growth_refused_for_runs(rt: HostRuntime) -> Result<(), Fail> {
     for cut in 0..64usize {
         match is_refused(rt.alloc(), &held, cut.saturating_mul(16))? {
             Some(true) => refused = refused.saturating_add(1),
-            told => assert!(rt; told == Some(false), "{cut}"),
+            reported => assert!(rt; reported == Some(false), "{cut}"),
         }
     }
     assert!(rt; 30 <= refused && refused <= 50, "refused {refused} times");

@@ -44,7 +44,7 @@ module _ (one other : List Symbol) where
       unlike (sym (first-range one at.one p.one d lt) ∙ ap (λ l. get_or l 0 d) same ∙ first-range other at.other p.other d (omega (arith, long, lt)))
 
   pub parted_by : (at : Point) (d : Symbol) (is : Bool) → is ≡ (symbol_eq.eq-value).it (get_or one at.one d) (get_or other at.other d) → is ≡ false → IsParted one other at
-  parted_by at d is told fails = parted at d (λ same. true≢false (sym (told ∙ (same_symbols (get_or one at.one d) (get_or other at.other d)).1 same) ∙ fails))
+  parted_by at d is reported fails = parted at d (λ same. true≢false (sym (reported ∙ (same_symbols (get_or one at.one d) (get_or other at.other d)).1 same) ∙ fails))
 
   along : (from to : Point) (d : Symbol) → IsReached one other from to → to.one ≡ from.one + 1 → to.other ≡ from.other + 1 → get_or one from.one d ≡ get_or other from.other d → IsAlong one other from to
   along from to d r far far_other same = record {
@@ -59,7 +59,7 @@ module _ (one other : List Symbol) where
 
   pub along_by : (from to : Point) (d : Symbol) (is : Bool) → IsReached one other from to → to.one ≡ from.one + 1 → to.other ≡ from.other + 1
       → is ≡ (symbol_eq.eq-value).it (get_or one from.one d) (get_or other from.other d) → is ≡ true → IsAlong one other from to
-  along_by from to d is r far far_other told holds = along from to d r far far_other ((same_symbols (get_or one from.one d) (get_or other from.other d)).0 (sym told ∙ holds))
+  along_by from to d is r far far_other reported holds = along from to d r far far_other ((same_symbols (get_or one from.one d) (get_or other from.other d)).0 (sym reported ∙ holds))
 
   point_is : (p q : Point) → p.one ≡ q.one → p.other ≡ q.other → p ≡ q
   point_is p q a b i = record { one = a i; other = b i }

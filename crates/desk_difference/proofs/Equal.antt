@@ -12,7 +12,7 @@ use Rattle.desk_difference.specs.Alone.{AreAlone}
 use Rattle.desk_difference.specs.Counters.{alone_line}
 use Rattle.desk_difference.specs.Stretches.{AreStretches}
 use Rattle.desk_difference.specs.Words.{stretches_lines}
-use Rattle.desk_difference.specs.Laws.{EqualCopiesHaveNoWords, EqualSetsAreToldSo}
+use Rattle.desk_difference.specs.Laws.{EqualCopiesHaveNoWords, EqualSetsAreReportedSo}
 
 -- a set has nothing that it has not
 none_alone : (set : OpSet) (stamps : List SiteStamp) → AreAlone set set stamps → stamps ≡ []
@@ -29,17 +29,17 @@ no_lines : (one other : List Symbol) (stretches : List Stretch) → stretches_li
 no_lines one other [] e = refl
 no_lines one other (s ∷ stretches) e = cc
 
-pub equal_copies_told : EqualCopiesHaveNoWords
-equal_copies_told first second lines (stretches, told, is) = (
-  λ none. copies_one (copy_of first) (copy_of second) (subst (AreStretches (copy_of first) (copy_of second)) (no_lines (copy_of first) (copy_of second) stretches (sym is ∙ none)) told),
-  λ same. is ∙ ap (stretches_lines (copy_of first) (copy_of second)) (told.none same),
+pub equal_copies_reported : EqualCopiesHaveNoWords
+equal_copies_reported first second lines (stretches, reported, is) = (
+  λ none. copies_one (copy_of first) (copy_of second) (subst (AreStretches (copy_of first) (copy_of second)) (no_lines (copy_of first) (copy_of second) stretches (sym is ∙ none)) reported),
+  λ same. is ∙ ap (stretches_lines (copy_of first) (copy_of second)) (reported.none same),
 )
 
-pub equal_sets_told : EqualSetsAreToldSo
-equal_sets_told one other set told same tells =
-    let t = tells.text in
+pub equal_sets_reported : EqualSetsAreReportedSo
+equal_sets_reported one other set reported same reports =
+    let t = reports.text in
     let alone = t.2 in
     let ones : alone.0 ≡ [] = none_alone set alone.0 alone.2 in
     let others : alone.1 ≡ [] = none_alone set alone.1 alone.3 in
-    let words : t.1 ≡ [] = (equal_copies_told set set t.1 t.3).1 refl in
-    (tells.are_one.1 refl, t.4 ∙ ap₂ (λ l w. l ++ w) (alone.4 ∙ ap₂ (λ l m. alone_line one l ++ alone_line other m) ones others) words ∙ append-nil (alone_line one [] ++ alone_line other []))
+    let words : t.1 ≡ [] = (equal_copies_reported set set t.1 t.3).1 refl in
+    (reports.are_one.1 refl, t.4 ∙ ap₂ (λ l w. l ++ w) (alone.4 ∙ ap₂ (λ l m. alone_line one l ++ alone_line other m) ones others) words ∙ append-nil (alone_line one [] ++ alone_line other []))

@@ -37,25 +37,25 @@ none_between one other a b r = record { reached = here one other a b r; same = n
     nothing xs k = let e : k - k ≡ 0 = omega arith in rw e refl
 
 -- the stretches up to a point are those up to a later one, where the copies are the same between the two
-pub told_farther : (one other : List Symbol) (from a b : Point) (stretches : List Stretch) → DifferIn one other from stretches a → AreSame one other a b → DifferIn one other from stretches b
-told_farther one other from a b [] told same = same_farther one other from a b told same
-told_farther one other from a b (s ∷ stretches) told same = (told.0, told.1, told_farther one other s.to a b stretches told.2 same)
+pub reported_farther : (one other : List Symbol) (from a b : Point) (stretches : List Stretch) → DifferIn one other from stretches a → AreSame one other a b → DifferIn one other from stretches b
+reported_farther one other from a b [] reported same = same_farther one other from a b reported same
+reported_farther one other from a b (s ∷ stretches) reported same = (reported.0, reported.1, reported_farther one other s.to a b stretches reported.2 same)
 
 -- and up to the end of a stretch that begins there
-pub told_stretch : (one other : List Symbol) (from : Point) (next : Stretch) (stretches : List Stretch) → DifferIn one other from stretches next.from → Differ one other next → DifferIn one other from (stretches ++ next ∷ []) next.to
-told_stretch one other from next [] told differ = (told, differ, none_between one other next.from next.to differ.reached)
-told_stretch one other from next (s ∷ stretches) told differ = (told.0, told.1, told_stretch one other s.to next stretches told.2 differ)
+pub reported_stretch : (one other : List Symbol) (from : Point) (next : Stretch) (stretches : List Stretch) → DifferIn one other from stretches next.from → Differ one other next → DifferIn one other from (stretches ++ next ∷ []) next.to
+reported_stretch one other from next [] reported differ = (reported, differ, none_between one other next.from next.to differ.reached)
+reported_stretch one other from next (s ∷ stretches) reported differ = (reported.0, reported.1, reported_stretch one other s.to next stretches reported.2 differ)
 
 -- ---- a stretch that is closed
 
 pub closed_same : (one other : List Symbol) (from to : Point) (stretches : List Stretch) → DifferIn one other start stretches from → IsReached one other from to → of_one one from to ≡ of_other other from to → DifferIn one other start stretches to
-closed_same one other from to stretches told reached same = told_farther one other start from to stretches told (record { reached = reached; same = same })
+closed_same one other from to stretches reported reached same = reported_farther one other start from to stretches reported (record { reached = reached; same = same })
 
 pub closed : (one other : List Symbol) (from to : Point) (stretches after : List Stretch) → DifferIn one other start stretches from → is_whole one other from ≡ true → is_whole one other to ≡ true → IsReached one other from to
     → of_one one from to ≢ of_other other from to → BeginsApart one other from to.one → after ≡ stretches ++ (record { from = from; to = to }) ∷ [] → DifferIn one other start after to
-closed one other from to stretches after told whole whole_to reached differ begins is =
+closed one other from to stretches after reported whole whole_to reached differ begins is =
     let next : Stretch = record { from = from; to = to } in
-    subst (λ (l : List Stretch). DifferIn one other start l to) (sym is) (told_stretch one other start next stretches told (record { reached = reached; whole = whole; whole_to = whole_to; differ = differ; begins = begins }))
+    subst (λ (l : List Stretch). DifferIn one other start l to) (sym is) (reported_stretch one other start next stretches reported (record { reached = reached; whole = whole; whole_to = whole_to; differ = differ; begins = begins }))
 
 -- two copies that are one have no stretch, and others those of a walk
 pub no_stretches : (one other : List Symbol) (stretches : List Stretch) → stretches ≡ [] → one ≡ other → AreStretches one other stretches

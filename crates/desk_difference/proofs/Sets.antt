@@ -13,7 +13,7 @@ use Rattle.desk_ops.specs.OpSet.{OpSet, from_rising, in_order, is_rising}
 use Rattle.desk_ops.proofs.OpSets.{has_op-from_rising}
 use Rattle.desk_ops.proofs.Stamps.{is_equal}
 use Rattle.desk_ops.proofs.Unions.{same-set}
-use Rattle.desk_difference.specs.Told.{TellsAlone}
+use Rattle.desk_difference.specs.Reported.{ReportsAlone}
 use Rattle.desk_codec.proofs.GroupLaws.{set_rises}
 
 -- `==` on operations says whether they are one
@@ -32,12 +32,12 @@ set_again set ops is = ap from_rising is ∙ same-set (from_rising (in_order set
 
 -- sets are one where their lists are
 pub sets_one : (first second : OpSet) (ones others : List Op) (same : Bool) → ones ≡ in_order first → others ≡ in_order second → Decides same (ones ≡ others) → (same ≡ true) ↔ (first ≡ second)
-sets_one first second ones others same is are told = (
-  λ e. sym (set_again first ones is) ∙ ap from_rising (told.0 e) ∙ set_again second others are,
-  λ e. told.1 (is ∙ ap in_order e ∙ sym are),
+sets_one first second ones others same is are reported = (
+  λ e. sym (set_again first ones is) ∙ ap from_rising (reported.0 e) ∙ set_again second others are,
+  λ e. reported.1 (is ∙ ap in_order e ∙ sym are),
 )
 
-pub tells_sets : (one other : List ℕ) (first second : OpSet) (ones others : List Op) (lines : List ℕ) → ones ≡ in_order first → others ≡ in_order second → TellsAlone one other (from_rising ones) (from_rising others) lines
-    → TellsAlone one other first second lines
-tells_sets one other first second ones others lines is are told =
-    subst (λ (set : OpSet). TellsAlone one other first set lines) (set_again second others are) (subst (λ (set : OpSet). TellsAlone one other set (from_rising others) lines) (set_again first ones is) told)
+pub reports_sets : (one other : List ℕ) (first second : OpSet) (ones others : List Op) (lines : List ℕ) → ones ≡ in_order first → others ≡ in_order second → ReportsAlone one other (from_rising ones) (from_rising others) lines
+    → ReportsAlone one other first second lines
+reports_sets one other first second ones others lines is are reported =
+    subst (λ (set : OpSet). ReportsAlone one other first set lines) (set_again second others are) (subst (λ (set : OpSet). ReportsAlone one other set (from_rising others) lines) (set_again first ones is) reported)

@@ -87,14 +87,14 @@ first_or op y ys Less e above low = sym (none_above op ys (all_above op y ys e a
 first_or op y ys Equal e above low = refl
 first_or op y ys Greater e above low = absurd (true≢false (sym (ap is_lt (op_total.antisymm y op ∙ ap ordering_reverse e)) ∙ low))
 
-first_tells : (op y : Op) (ys : List Op) (b : Bool) → is_lt (op_cmp y op) ≡ b → T (is_rising (y ∷ ys)) → begins op (skip op ys) ≡ is_among op (skip op ys)
+first_reports : (op y : Op) (ys : List Op) (b : Bool) → is_lt (op_cmp y op) ≡ b → T (is_rising (y ∷ ys)) → begins op (skip op ys) ≡ is_among op (skip op ys)
     → begins op (if b then skip op ys else y ∷ ys) ≡ is_among op (if b then skip op ys else y ∷ ys)
-first_tells op y ys true e h rest = rest
-first_tells op y ys false e h rest = first_or op y ys (op_cmp op y) refl (rising_above y ys h) e
+first_reports op y ys true e h rest = rest
+first_reports op y ys false e h rest = first_or op y ys (op_cmp op y) refl (rising_above y ys h) e
 
 begins_skip : (op : Op) (ys : List Op) → T (is_rising ys) → begins op (skip op ys) ≡ is_among op (skip op ys)
 begins_skip op [] h = refl
-begins_skip op (y ∷ ys) h = first_tells op y ys (is_lt (op_cmp y op)) refl h (begins_skip op ys (rising_rest y ys h))
+begins_skip op (y ∷ ys) h = first_reports op y ys (is_lt (op_cmp y op)) refl h (begins_skip op ys (rising_rest y ys h))
 
 held_there : (op : Op) (ys : List Op) → T (is_rising ys) → is_among op ys ≡ begins op (skip op ys)
 held_there op ys h = sym (among_skip op op (λ y e. e) ys) ∙ sym (begins_skip op ys h)
@@ -124,7 +124,7 @@ stamps_step one ys k d stamps whole rising h lt same =
 pub stamps_next : (one ys rest : List Op) (k : ℕ) (d : Op) (held : Bool) (stamps after whole : List SiteStamp) → T (is_rising one) → T (is_rising ys) → k < length one
     → rest ≡ skip (get_or one k d) ys → held ≡ begins (get_or one k d) rest → after ≡ stamps ++ alone_stamp (get_or one k d) held
     → stamps ++ map site_stamp (alone (drop k one) ys) ≡ whole → after ++ map site_stamp (alone (drop (k + 1) one) rest) ≡ whole
-stamps_next one ys rest k d held stamps after whole rising h lt is tells makes same = rw makes (rw tells (rw is (stamps_step one ys k d stamps whole rising h lt same)))
+stamps_next one ys rest k d held stamps after whole rising h lt is reports makes same = rw makes (rw reports (rw is (stamps_step one ys k d stamps whole rising h lt same)))
 
 -- the first of operations is the one that they have at 0
 pub begins_first : (op first : Op) (ops : List Op) → Some first ≡ slice_get ops 0 → eq_by_cmp op_cmp op first ≡ begins op ops

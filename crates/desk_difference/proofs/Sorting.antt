@@ -66,8 +66,8 @@ held_in ops op rising m = held_among (from_rising ops) op (subst (λ (l : List O
 in_held : (ops : List Op) (op : Op) → T (is_rising ops) → has_op (from_rising ops) op ≡ true → Among op ops
 in_held ops op rising h = subst (λ (l : List Op). Among op l) (in_order-from_rising ops rising) (among_held (from_rising ops) op h)
 
-alone_told : (one other : List Op) (stamp : SiteStamp) → T (is_rising one) → T (is_rising other) → Among stamp (map site_stamp (alone one other)) ↔ IsAlone (from_rising one) (from_rising other) stamp
-alone_told one other stamp first second = (there, back)
+alone_reported : (one other : List Op) (stamp : SiteStamp) → T (is_rising one) → T (is_rising other) → Among stamp (map site_stamp (alone one other)) ↔ IsAlone (from_rising one) (from_rising other) stamp
+alone_reported one other stamp first second = (there, back)
   where
     there : Among stamp (map site_stamp (alone one other)) → IsAlone (from_rising one) (from_rising other) stamp
     there m =
@@ -82,8 +82,8 @@ alone_told one other stamp first second = (there, back)
 
 -- ---- sorted, and each once
 
-sorted_told : (stamps sorted : List SiteStamp) (stamp : SiteStamp) → IsPermutation stamps sorted → Among stamp (dedup same_stamp sorted) ↔ Among stamp stamps
-sorted_told stamps sorted stamp moved = (
+sorted_reported : (stamps sorted : List SiteStamp) (stamp : SiteStamp) → IsPermutation stamps sorted → Among stamp (dedup same_stamp sorted) ↔ Among stamp stamps
+sorted_reported stamps sorted stamp moved = (
   λ m. among_from stamps stamp (Contains-permutation sorted stamps stamp (IsPermutation-sym stamps sorted moved) (Contains-from_dedup same_stamp sorted stamp (among_at _ stamp m))),
   λ m. among_from _ stamp (Contains-dedup same_equiv same_exact sorted stamp (Contains-permutation stamps sorted stamp moved (among_at stamps stamp m))),
 )
@@ -96,9 +96,9 @@ pub sorted_alone : (one other : List Op) (stamps sorted once : List SiteStamp) �
 sorted_alone one other stamps sorted once first second is moved up made = record {
   rise = subst (IsStrictlySortedBy site_cmp) (sym made) (sorted_once sorted up);
   all = λ stamp.
-      let kept = sorted_told stamps sorted stamp moved in
-      let told = alone_told one other stamp first second in (
-        λ m. told.0 (subst (λ (l : List SiteStamp). Among stamp l) is (kept.0 (subst (λ (l : List SiteStamp). Among stamp l) made m))),
-        λ h. subst (λ (l : List SiteStamp). Among stamp l) (sym made) (kept.1 (subst (λ (l : List SiteStamp). Among stamp l) (sym is) (told.1 h))),
+      let kept = sorted_reported stamps sorted stamp moved in
+      let reported = alone_reported one other stamp first second in (
+        λ m. reported.0 (subst (λ (l : List SiteStamp). Among stamp l) is (kept.0 (subst (λ (l : List SiteStamp). Among stamp l) made m))),
+        λ h. subst (λ (l : List SiteStamp). Among stamp l) (sym made) (kept.1 (subst (λ (l : List SiteStamp). Among stamp l) (sym is) (reported.1 h))),
       );
 }

@@ -3,6 +3,6 @@ pub mod Counters
 pub mod Stretches
 pub mod Walking
 pub mod Words
-pub mod Told
-pub mod Telling
+pub mod Reported
+pub mod Reporting
 pub mod Laws

@@ -33,8 +33,8 @@ EndBefore place [] = Unit {0}
 EndBefore place (stretch ∷ stretches) = (stretch.to.one < place) × EndBefore place stretches
 
 -- how far a walk that has come to a point has compared the copies: the stretches are those up to `open`, and `last` is the last point at which words are whole; up to the limit no words behind `open` are the same in both
-pub record HasTold (one other : List Symbol) (stretches : List Stretch) (front : Front) (point : Point) (limit : ℕ) : Type 0 where
-  pub told : DifferIn one other start stretches front.open
+pub record HasReported (one other : List Symbol) (stretches : List Stretch) (front : Front) (point : Point) (limit : ℕ) : Type 0 where
+  pub reported : DifferIn one other start stretches front.open
   pub apart : AreApart stretches
   pub behind : EndBefore front.open.one stretches
   pub open_whole : is_whole one other front.open ≡ true

@@ -3,7 +3,7 @@ use Rattle.std.specs.Prelude.{ℕ, ◌-◌, ◌&&◌, nat_lt, if◌then◌else�
 use Rattle.std.specs.List.{slice_range}
 use Rattle.std.specs.Fmt.{decimal}
 use Rattle.desk_ops.specs.declared.op.Symbol.{Symbol}
-use Rattle.desk_places.specs.Telling.{shown}
+use Rattle.desk_places.specs.Reporting.{shown}
 use Rattle.desk_text.specs.Writing.{text_bytes}
 use Rattle.desk_difference.specs.Stretches.{begins_word}
 use Rattle.desk_difference.specs.declared.stretch.Stretch.{Stretch}

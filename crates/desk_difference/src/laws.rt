@@ -1,10 +1,10 @@
 //! What holds of the differences that are reported.
 
-ghost use Rattle.desk_difference.specs.Laws.{EqualSetsAreToldSo, EqualCopiesHaveNoWords};
+ghost use Rattle.desk_difference.specs.Laws.{EqualSetsAreReportedSo, EqualCopiesHaveNoWords};
 
 /// Of two sets that are one it is reported that each has nothing alone, and nothing else; and there are lines of words exactly
 /// where the copies are not one.
 pub fn law_of_differences()
-    ensures sets { EqualSetsAreToldSo }
+    ensures sets { EqualSetsAreReportedSo }
     ensures copies { EqualCopiesHaveNoWords }
 {}

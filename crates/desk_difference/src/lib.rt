@@ -5,12 +5,12 @@ mod alone;
 mod counters;
 mod fault;
 mod laws;
+mod reported;
+mod reporting;
 mod stretch;
 mod stretches;
-mod telling;
-mod told;
 mod words;
 
 pub use fault::DifferenceFault;
 pub use laws::law_of_differences;
-pub use telling::tell_difference;
+pub use reporting::report_difference;

@@ -2,7 +2,7 @@
 
 ghost use Rattle.std.specs.Prelude.{◌≡◌, ◌↔◌, ◌⊎◌, ◌+◌, ◌<◌, IfOk, OnOk, length, true};
 ghost use Rattle.desk_difference.specs.Stretches.{AreApart, AreStretches, BeginsApart, DifferIn, IsReached, ends, is_whole, of_one, of_other, start};
-ghost use Rattle.desk_difference.specs.Walking.{EndBefore, HasTold, IsStep};
+ghost use Rattle.desk_difference.specs.Walking.{EndBefore, HasReported, IsStep};
 
 use crate::stretch::{Point, Stretch, is_whole};
 use desk_changes::{Change, changes};
@@ -78,14 +78,14 @@ fn close<A: Allocator + Copy>(
     from: Point,
     to: Point,
 ) -> Result<(), AllocError>
-    requires told { DifferIn one.now other.now start stretches.old.items from }
+    requires reported { DifferIn one.now other.now start stretches.old.items from }
     requires apart { AreApart stretches.old.items }
     requires behind { EndBefore from.one stretches.old.items }
     requires from { is_whole one.now other.now from ≡ true }
     requires to { is_whole one.now other.now to ≡ true }
     requires reached { IsReached one.now other.now from to }
     requires begins { BeginsApart one.now other.now from to.one }
-    ensures told { OnOk result (DifferIn one.now other.now start stretches.new.items to) }
+    ensures reported { OnOk result (DifferIn one.now other.now start stretches.new.items to) }
     ensures apart { OnOk result (AreApart stretches.new.items) }
     ensures behind { OnOk result (EndBefore (to.one + 1) stretches.new.items) }
 {
@@ -104,8 +104,8 @@ fn pass<A: Allocator + Copy>(
     front: Front,
     point: Point,
 ) -> Result<Front, NoMemory>
-    requires { HasTold one.now other.now stretches.old.items front point point.one }
-    ensures { IfOk result (λ f. HasTold one.now other.now stretches.new.items f point (point.one + 1)) }
+    requires { HasReported one.now other.now stretches.old.items front point point.one }
+    ensures { IfOk result (λ f. HasReported one.now other.now stretches.new.items f point (point.one + 1)) }
 {
     if !is_whole(one, other, point) {
         return Ok(front);
@@ -139,7 +139,7 @@ fn walk<A: Allocator + Copy>(
     other: &[Symbol],
     changes: &[Change],
 ) -> Result<Vec<Stretch, A>, NoMemory>
-    ensures told { IfOk result (λ v. DifferIn one.now other.now start v.items (ends one.now other.now)) }
+    ensures reported { IfOk result (λ v. DifferIn one.now other.now start v.items (ends one.now other.now)) }
     ensures apart { IfOk result (λ v. AreApart v.items) }
 {
     let mut stretches = Vec::new(alloc);

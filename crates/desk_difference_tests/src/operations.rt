@@ -1,4 +1,4 @@
-use crate::rooms::{Letter, keyed, lettered, tells, told};
+use crate::rooms::{Letter, keyed, lettered, reported, reports};
 use desk_files::trial::TrialFiles;
 use std::test::Fail;
 
@@ -8,11 +8,11 @@ const NONE: &str = "one.feed alone none\ntwo.feed alone none\n";
 #[test]
 fn feeds_that_are_one(rt: HostRuntime) -> Result<(), Fail> {
     let mut files = keyed(rt.alloc(), b"Send word.", b"Send word.")?;
-    assert!(rt; tells(rt.alloc(), &mut files, NONE, true)?);
+    assert!(rt; reports(rt.alloc(), &mut files, NONE, true)?);
     let mut none = lettered(rt.alloc(), &[], &[])?;
-    assert!(rt; tells(rt.alloc(), &mut none, NONE, true)?);
+    assert!(rt; reports(rt.alloc(), &mut none, NONE, true)?);
     // A feed and itself.
-    let left = told(rt.alloc(), &mut files, "one.feed", "one.feed")?;
+    let left = reported(rt.alloc(), &mut files, "one.feed", "one.feed")?;
     assert_eq!(rt; left.ended, Ok(true));
     let text = b"one.feed alone none\none.feed alone none\n";
     assert!(rt; left.text.as_slice() == text.as_slice());
@@ -25,7 +25,7 @@ fn feeds_of_one_set(rt: HostRuntime) -> Result<(), Fail> {
     let one: [Letter; 3] = [(1, 1, b'a'), (2, 1, b'b'), (2, 2, b'c')];
     let two: [Letter; 4] = [(2, 2, b'c'), (1, 1, b'a'), (2, 1, b'b'), (1, 1, b'a')];
     let mut files = lettered(rt.alloc(), &one, &two)?;
-    assert!(rt; tells(rt.alloc(), &mut files, NONE, true)?);
+    assert!(rt; reports(rt.alloc(), &mut files, NONE, true)?);
     Ok(())
 }
 
@@ -45,7 +45,7 @@ fn runs_of_counters(rt: HostRuntime) -> Result<(), Fail> {
     ];
     let mut files = lettered(rt.alloc(), &one, &[(1, 2, b'a')])?;
     let text = "one.feed alone 1: 20..25 31, 3: 7\ntwo.feed alone none\n- 0 aaaaaaaaa\n+ 0 a\n";
-    assert!(rt; tells(rt.alloc(), &mut files, text, false)?);
+    assert!(rt; reports(rt.alloc(), &mut files, text, false)?);
     Ok(())
 }
 
@@ -64,7 +64,7 @@ fn counters_of_several_sites(rt: HostRuntime) -> Result<(), Fail> {
     // The newest stands first.
     let text =
         "one.feed alone 4: 3..4 6, 9: 3, 65535: 4\ntwo.feed alone 9: 4..5\n- 0 zyxvw\n+ 0 pq\n";
-    assert!(rt; tells(rt.alloc(), &mut files, text, false)?);
+    assert!(rt; reports(rt.alloc(), &mut files, text, false)?);
     Ok(())
 }
 
@@ -76,7 +76,7 @@ fn counters_at_their_end(rt: HostRuntime) -> Result<(), Fail> {
     let mut files = lettered(rt.alloc(), &one, &[(last, 2, b'c')])?;
     let text =
         "one.feed alone 1: 4611686018427387903..4611686018427387904\ntwo.feed alone 2: 4611686018427387904\n- 0 ab\n+ 0 c\n";
-    assert!(rt; tells(rt.alloc(), &mut files, text, false)?);
+    assert!(rt; reports(rt.alloc(), &mut files, text, false)?);
     Ok(())
 }
 
@@ -85,7 +85,7 @@ fn counters_at_their_end(rt: HostRuntime) -> Result<(), Fail> {
 fn stamps_with_two_contents(rt: HostRuntime) -> Result<(), Fail> {
     let mut files = lettered(rt.alloc(), &[(1, 1, b'a')], &[(1, 1, b'b')])?;
     let text = "one.feed alone 1: 1\ntwo.feed alone 1: 1\n- 0 a\n+ 0 b\n";
-    assert!(rt; tells(rt.alloc(), &mut files, text, false)?);
+    assert!(rt; reports(rt.alloc(), &mut files, text, false)?);
     Ok(())
 }
 
@@ -95,10 +95,10 @@ fn forked_stamps(rt: HostRuntime) -> Result<(), Fail> {
     let fork: [Letter; 2] = [(1, 1, b'a'), (1, 1, b'b')];
     let mut files = lettered(rt.alloc(), &fork, &[])?;
     let text = "one.feed alone 1: 1\ntwo.feed alone none\n";
-    assert!(rt; tells(rt.alloc(), &mut files, text, false)?);
+    assert!(rt; reports(rt.alloc(), &mut files, text, false)?);
     let mut files = lettered(rt.alloc(), &[(1, 1, b'a')], &fork)?;
     let text = "one.feed alone none\ntwo.feed alone 1: 1\n- 0 a\n+ 0\n";
-    assert!(rt; tells(rt.alloc(), &mut files, text, false)?);
+    assert!(rt; reports(rt.alloc(), &mut files, text, false)?);
     Ok(())
 }
 
@@ -107,10 +107,10 @@ fn forked_stamps(rt: HostRuntime) -> Result<(), Fail> {
 fn deletes_that_one_has_alone(rt: HostRuntime) -> Result<(), Fail> {
     let mut files = keyed(rt.alloc(), b"Send word.", b"Send word")?;
     let text = "one.feed alone none\ntwo.feed alone 2: 11\n- 5 word.\n+ 5 word\n";
-    assert!(rt; tells(rt.alloc(), &mut files, text, false)?);
+    assert!(rt; reports(rt.alloc(), &mut files, text, false)?);
     let mut files = lettered(rt.alloc(), &[(1, 1, b'a')], &[(1, 2, b'a')])?;
     let text = "one.feed alone 1: 1\ntwo.feed alone 2: 1\n";
-    assert!(rt; tells(rt.alloc(), &mut files, text, false)?);
+    assert!(rt; reports(rt.alloc(), &mut files, text, false)?);
     Ok(())
 }
 
@@ -120,7 +120,7 @@ fn names_of_the_feeds(rt: HostRuntime) -> Result<(), Fail> {
     let mut files = TrialFiles::new(rt.alloc());
     files.put("a b/\u{e9}.feed", b"MFD2")?;
     files.put("", b"MFD2")?;
-    let left = told(rt.alloc(), &mut files, "a b/\u{e9}.feed", "")?;
+    let left = reported(rt.alloc(), &mut files, "a b/\u{e9}.feed", "")?;
     let text = "a b/\u{e9}.feed alone none\n alone none\n";
     assert!(rt; left.text.as_slice() == text.as_bytes());
     Ok(())

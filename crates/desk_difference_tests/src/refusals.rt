@@ -1,6 +1,6 @@
-use crate::rooms::{keyed, told};
+use crate::rooms::{keyed, reported};
 use desk_codec::{FeedFault, FeedWhy};
-use desk_difference::{DifferenceFault, tell_difference};
+use desk_difference::{DifferenceFault, report_difference};
 use desk_files::trial::{AtEnd, TrialFiles, TrialWriter};
 use desk_files::{FileRefusal, Files};
 use desk_hand::FeedTrouble;
@@ -28,7 +28,7 @@ fn fault_of(
     other: &str,
 ) -> Result<Option<DifferenceFault>, Fail> {
     let mut files = rooms(alloc, k)?;
-    let left = told(alloc, &mut files, one, other)?;
+    let left = reported(alloc, &mut files, one, other)?;
     if left.ended.is_err() && !left.text.is_empty() {
         return Err(Fail::new("bytes before a fault"));
     }
@@ -73,7 +73,7 @@ fn held_feeds_are_compared(rt: HostRuntime) -> Result<(), Fail> {
     files.hold("x.feed")?;
     let mut other = files.for_next_run();
     other.hold("none.feed")?;
-    let left = told(rt.alloc(), &mut other, "x.feed", "none.feed")?;
+    let left = reported(rt.alloc(), &mut other, "x.feed", "none.feed")?;
     assert_eq!(rt; left.ended, Ok(false));
     let text = b"x.feed alone 3: 1\nnone.feed alone none\n- 0 x\n+ 0\n";
     assert!(rt; left.text.as_slice() == text.as_slice());
@@ -87,7 +87,13 @@ fn closed_output_of_a_difference(rt: HostRuntime) -> Result<(), Fail> {
         for room in 0..text.len() {
             let mut files = rooms(rt.alloc(), 0)?;
             let mut writer = TrialWriter::new(rt.alloc()).with_room(room, end);
-            let ended = tell_difference(rt.alloc(), &mut writer, &mut files, "x.feed", "none.feed");
+            let ended = report_difference(
+                rt.alloc(),
+                &mut writer,
+                &mut files,
+                "x.feed",
+                "none.feed",
+            );
             assert_eq!(rt; ended, Err(DifferenceFault::Write));
             assert!(rt; text.starts_with(writer.written()));
         }
@@ -116,7 +122,7 @@ fn is_refused(alloc: Global, cut: usize) -> Result<bool, Fail> {
     let ballast: Option<Vec<u8, &LocalHeap>> = Vec::with_capacity(&heap, kept).ok();
     let mut files = keyed(alloc, b"a quick fox", b"a slow fox")?;
     let mut written = Vec::new(alloc);
-    let ended = tell_difference(&heap, &mut written, &mut files, "one.feed", "two.feed");
+    let ended = report_difference(&heap, &mut written, &mut files, "one.feed", "two.feed");
     drop(ballast);
     if let Err(fault) = ended {
         if !is_of_memory(fault) || !written.is_empty() {

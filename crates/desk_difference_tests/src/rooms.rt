@@ -1,6 +1,6 @@
 //! Feeds of texts, and what is said of two.
 
-use desk_difference::{DifferenceFault, tell_difference};
+use desk_difference::{DifferenceFault, report_difference};
 use desk_files::trial::{TrialFiles, TrialReader};
 use desk_hand::import_text;
 use std::alloc::Global;
@@ -73,24 +73,24 @@ pub struct Left {
 }
 
 /// What is said of two feeds of some files.
-pub fn told(
+pub fn reported(
     alloc: Global,
     files: &mut TrialFiles<Global>,
     one: &str,
     other: &str,
 ) -> Result<Left, Fail> {
     let mut text = Vec::new(alloc);
-    let ended = tell_difference(alloc, &mut text, files, one, other);
+    let ended = report_difference(alloc, &mut text, files, one, other);
     Ok(Left { text, ended })
 }
 
 /// Whether this is said of the two feeds.
-pub fn tells(
+pub fn reports(
     alloc: Global,
     files: &mut TrialFiles<Global>,
     text: &str,
     same: bool,
 ) -> Result<bool, Fail> {
-    let left = told(alloc, files, "one.feed", "two.feed")?;
+    let left = reported(alloc, files, "one.feed", "two.feed")?;
     Ok(left.ended == Ok(same) && left.text.as_slice() == text.as_bytes())
 }

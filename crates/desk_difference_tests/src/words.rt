@@ -1,4 +1,4 @@
-use crate::rooms::{keyed, tells, told};
+use crate::rooms::{keyed, reported, reports};
 use std::alloc::Global;
 use std::test::Fail;
 
@@ -7,7 +7,7 @@ use std::test::Fail;
 fn letter_that_was_corrected(rt: HostRuntime) -> Result<(), Fail> {
     let mut files = keyed(rt.alloc(), b"Send word.", b"Send word by noon.")?;
     let text = "one.feed alone none\ntwo.feed alone 2: 11..18\n- 5 word.\n+ 5 word by noon.\n";
-    assert!(rt; tells(rt.alloc(), &mut files, text, false)?);
+    assert!(rt; reports(rt.alloc(), &mut files, text, false)?);
     Ok(())
 }
 
@@ -32,7 +32,7 @@ fn behind_two(text: &[u8]) -> &[u8] {
 fn is_so(alloc: Global, row: Row) -> Result<bool, Fail> {
     let (one, other, lines) = row;
     let mut files = keyed(alloc, one.as_bytes(), other.as_bytes())?;
-    let left = told(alloc, &mut files, "one.feed", "two.feed")?;
+    let left = reported(alloc, &mut files, "one.feed", "two.feed")?;
     Ok(left.ended.is_ok() && behind_two(&left.text) == lines.as_bytes())
 }
 
@@ -102,6 +102,6 @@ fn word_in_a_long_copy(rt: HostRuntime) -> Result<(), Fail> {
     let other = long(rt.alloc(), 4_000, 3_900, b"dusk ")?;
     let mut files = keyed(rt.alloc(), &one, &other)?;
     let text = "one.feed alone none\ntwo.feed alone 2: 20001..20006\n- 19500 dawn\n+ 19500 dusk\n";
-    assert!(rt; tells(rt.alloc(), &mut files, text, false)?);
+    assert!(rt; reports(rt.alloc(), &mut files, text, false)?);
     Ok(())
 }

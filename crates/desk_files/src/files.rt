@@ -2,8 +2,9 @@
 
 ghost use Rattle.std.specs.Prelude.{◌≢◌, ◌≤◌, ◌⊎◌, IfErr, IfOk, IsErrOf, ◌≡◌, length};
 ghost use Rattle.desk_files.specs.Files.{CanBe, Counts, IsGone, IsNowHeld, IsNowhere, IsRenamed, IsWritten, Reads, Shelf, Spares, Stays, bytes_read, max_file, shelf, touched};
+ghost use Rattle.desk_files.specs.declared.files.FileRefusal.TheVariants as refusals;
 
-use std::alloc::Allocator;
+use std::alloc::{AllocError, AllocFailed, Allocator};
 use thiserror::Error;
 
 /// The most bytes of a file that is read.
@@ -23,6 +24,22 @@ pub enum FileRefusal {
     Large,
     #[error("no memory")]
     NoMemory,
+}
+
+impl From<AllocError> for FileRefusal {
+    ghost from_gives = { λ _ why. why ≡ refusals.NoMemory };
+
+    fn from(_error: AllocError) -> FileRefusal {
+        FileRefusal::NoMemory
+    }
+}
+
+impl<T: Drop> From<AllocFailed<T>> for FileRefusal {
+    ghost from_gives = { λ _ why. why ≡ refusals.NoMemory };
+
+    fn from(_error: AllocFailed<T>) -> FileRefusal {
+        FileRefusal::NoMemory
+    }
 }
 
 /// Where files are kept.

@@ -351,16 +351,10 @@ impl<A: Allocator + Copy> TrialFiles<A> {
         if self.bytes_of(from).is_none() {
             return Err(FileRefusal::Missing);
         }
-        let Ok(from) = String::from_str(self.alloc, from) else {
-            return Err(FileRefusal::NoMemory);
-        };
-        let Ok(to) = String::from_str(self.alloc, to) else {
-            return Err(FileRefusal::NoMemory);
-        };
-        match self.changes.insert(0, FileChange::Move { from, to }) {
-            Ok(()) => Ok(()),
-            Err(_) => Err(FileRefusal::NoMemory),
-        }
+        let from = String::from_str(self.alloc, from)?;
+        let to = String::from_str(self.alloc, to)?;
+        self.changes.insert(0, FileChange::Move { from, to })?;
+        Ok(())
     }
 }
 
@@ -389,9 +383,7 @@ impl<A: Allocator + Copy> Files for TrialFiles<A> {
             self.count_failure();
             return Err(FileRefusal::Device);
         }
-        let Ok(name) = String::from_str(self.alloc, name) else {
-            return Err(FileRefusal::NoMemory);
-        };
+        let name = String::from_str(self.alloc, name)?;
         self.held = Some(HeldName {
             name,
             is_touched: false,
@@ -435,10 +427,8 @@ impl<A: Allocator + Copy> Files for TrialFiles<A> {
         if self.fails() {
             return Err(FileRefusal::Device);
         }
-        match self.put(name, bytes) {
-            Ok(()) => Ok(()),
-            Err(_) => Err(FileRefusal::NoMemory),
-        }
+        self.put(name, bytes)?;
+        Ok(())
     }
 
     fn rename(&mut self, from: &str, to: &str) -> Result<(), FileRefusal>
@@ -473,8 +463,6 @@ fn copied<A: Allocator + Copy>(alloc: A, bytes: &[u8]) -> Result<Vec<u8, A>, Fil
         return Err(FileRefusal::Large);
     }
     let mut kept = Vec::new(alloc);
-    match kept.extend_from_slice(bytes) {
-        Ok(()) => Ok(kept),
-        Err(_) => Err(FileRefusal::NoMemory),
-    }
+    kept.extend_from_slice(bytes)?;
+    Ok(kept)
 }

@@ -6,9 +6,10 @@ use Rattle.desk_ops.specs.OpSet.{OpSet, size, with_all}
 use Rattle.desk_files.specs.Files.{Names, Shelf}
 use Rattle.desk_held.specs.declared.AddRefusal.{AddRefusal}
 use Rattle.desk_held.specs.declared.AddRefusal.TheVariants as adds
-use Rattle.desk_replica.specs.State.{IsCounted, IsStopped}
+use Rattle.desk_held.specs.Joining.{IsStopped}
+use Rattle.desk_replica.specs.State.{IsCounted}
 use Rattle.desk_replica.specs.declared.Count.{Count}
-use Rattle.desk_replica.specs.declared.Stopped.{Stopped}
+use Rattle.desk_held.specs.declared.join.Stopped.{Stopped}
 use Rattle.desk_hand.specs.Fault.{of_adding}
 use Rattle.desk_hand.specs.declared.fault.FeedTrouble.{FeedTrouble}
 use Rattle.desk_hand.specs.Merging.{AreFeeds, IsFeedOf, IsJoined, Joins, Refuses, StopsAt, counted_line, line_of, lines_of, news, with_lists}
@@ -32,9 +33,9 @@ lines_more kept set (n ∷ names) (l ∷ lists) name ops all =
     ap (λ more. line_of n set l ++ more) (lines_more kept (with_all set l) names lists name ops all.1)
     ∙ sym (append_assoc (line_of n set l) (lines_of (with_all set l) names lists) (line_of name (with_lists (with_all set l) lists) ops))
 
-pub joined_more : (kept : Names) (names : List (List ℕ)) (name : List ℕ) (old mid after : OpSet) (before told : List ℕ) → IsJoined kept names old mid before → Joins kept name mid after before told
-    → IsJoined kept (names ++ name ∷ []) old after told
-joined_more kept names name old mid after before told (lists, all, is, lines) (ops, one, more, line) = (
+pub joined_more : (kept : Names) (names : List (List ℕ)) (name : List ℕ) (old mid after : OpSet) (before reported : List ℕ) → IsJoined kept names old mid before → Joins kept name mid after before reported
+    → IsJoined kept (names ++ name ∷ []) old after reported
+joined_more kept names name old mid after before reported (lists, all, is, lines) (ops, one, more, line) = (
   lists ++ ops ∷ [],
   feeds_more kept names lists name ops all one,
   more ∙ ap (λ s. with_all s ops) is ∙ sym (lists_more old lists ops),
@@ -63,19 +64,19 @@ refused set after name before last ops stop adds.NoMemory is feed counted stoppe
 -- ---- names as they are given
 
 module _ {X : Type 0} (f : X → List ℕ) (xs : List X) (at : ℕ) (d : X) (lt : at < length xs) where
-  pub more_joined : (before mid : Names) (old set after : OpSet) (told told_after : List ℕ) → mid ≡ before → IsJoined before (map f (take at xs)) old set told → Joins mid (f (get_or xs at d)) set after told told_after
-      → IsJoined before (map f (take (at + 1) xs)) old after told_after
-  more_joined before mid old set after told told_after same joined one =
-      subst (λ ns. IsJoined before ns old after told_after) (sym (map_more f xs at d lt))
-      (joined_more before (map f (take at xs)) (f (get_or xs at d)) old set after told told_after joined (subst (λ (k : Names). Joins k (f (get_or xs at d)) set after told told_after) same one))
+  pub more_joined : (before mid : Names) (old set after : OpSet) (reported reported_after : List ℕ) → mid ≡ before → IsJoined before (map f (take at xs)) old set reported → Joins mid (f (get_or xs at d)) set after reported reported_after
+      → IsJoined before (map f (take (at + 1) xs)) old after reported_after
+  more_joined before mid old set after reported reported_after same joined one =
+      subst (λ ns. IsJoined before ns old after reported_after) (sym (map_more f xs at d lt))
+      (joined_more before (map f (take at xs)) (f (get_or xs at d)) old set after reported reported_after joined (subst (λ (k : Names). Joins k (f (get_or xs at d)) set after reported reported_after) same one))
 
   place : map f xs ≡ map f (take at xs) ++ f (get_or xs at d) ∷ map f (drop (at + 1) xs)
   place =
       let cut : drop at xs ≡ get_or xs at d ∷ drop (at + 1) xs = rw (add-one, drop-cons xs at d) refl in
       ap (map f) (sym (take-append-drop at xs)) ∙ map-append f (take at xs) (drop at xs) ∙ ap (λ l. map f (take at xs) ++ map f l) cut
 
-  pub stops_at : (old set : OpSet) (before mid after : Shelf) (told : List ℕ) (why : FeedTrouble) → IsJoined before.kept (map f (take at xs)) old set told → mid ≡ before
+  pub stops_at : (old set : OpSet) (before mid after : Shelf) (reported : List ℕ) (why : FeedTrouble) → IsJoined before.kept (map f (take at xs)) old set reported → mid ≡ before
       → Refuses set (f (get_or xs at d)) mid after why → StopsAt (map f xs) old before after at why
-  stops_at old set before mid after told why joined same refuses =
+  stops_at old set before mid after reported why joined same refuses =
       let first : Refuses set (f (get_or xs at d)) before after why = subst (λ (s : Shelf). Refuses set (f (get_or xs at d)) s after why) same refuses in
-      (map f (take at xs), map f (drop (at + 1) xs), f (get_or xs at d), place, length-map (take at xs) f ∙ length-take-le at xs (omega (arith, lt)), set, told, joined, first)
+      (map f (take at xs), map f (drop (at + 1) xs), f (get_or xs at d), place, length-map (take at xs) f ∙ length-take-le at xs (omega (arith, lt)), set, reported, joined, first)

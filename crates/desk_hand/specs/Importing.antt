@@ -1,5 +1,5 @@
 -- The copy of a stored feed, made a text that is read.
-use Rattle.std.specs.Prelude.{◌≡◌, ◌≢◌, ◌≤◌, ◌<◌, ◌⊎◌, ℕ, Bool, List, Option, IfSome, Result, Ok, Err, length}
+use Rattle.std.specs.Prelude.{◌≡◌, ◌≢◌, ◌≤◌, ◌<◌, ◌⊎◌, ℕ, Bool, List, Option, IfSome, Ok, Err, length}
 use Rattle.std.specs.Io.KnownBytes.{Consumes, IsAtEnd}
 use Rattle.desk_ops.specs.declared.op.Symbol.{Symbol}
 use Rattle.desk_ops.specs.OpSet.{OpSet}
@@ -7,7 +7,6 @@ use Rattle.desk_text.specs.Reading.{reading}
 use Rattle.desk_files.specs.Files.{Shelf}
 use Rattle.desk_files.specs.Input.{HasTaken, IsInput, IsReadTo}
 use Rattle.desk_files.specs.declared.input.ReaderFault.TheVariants as readers
-use Rattle.desk_files.specs.declared.files.FileRefusal.{FileRefusal}
 use Rattle.desk_hand.specs.Editing.{IsRevised, IsUnrevised}
 use Rattle.desk_hand.specs.Keeping.{IsKept, IsUnkept, edited_line}
 use Rattle.desk_hand.specs.Merging.{IsBarred, IsOpened}
@@ -58,19 +57,19 @@ TakesText site plain input old now inserted deleted = (text : List Symbol) × Is
 -- The set is that of the stored feed with operations of the site that make its copy the text. The line was written, and its feed stands under the name.
 abbrev pub IsImported : List ℕ → ℕ → Bool → Shelf → Shelf → Option (List ℕ) → Option (List ℕ) → Option (List ℕ) → Type 0
 IsImported name site plain first last input before after =
-    (held : Shelf) × (read : Result (List ℕ) FileRefusal) × (old : OpSet) × IsOpened name first held read old
+    (held : Shelf) × (read : Option (List ℕ)) × (old : OpSet) × IsOpened name first held read old
     × (set : OpSet) × (inserted deleted : ℕ) × TakesText site plain input old set inserted deleted × IsKept name set (edited_line inserted deleted) read held last before after
 
 -- Why an import stopped, and what it left. Until the copy was made the text nothing was written, and the files are as they were when the feed was opened. No edit is refused for its value, since what is read is lawful.
 abbrev pub IsUnimported : List ℕ → ℕ → Bool → Shelf → Shelf → Option (List ℕ) → Option (List ℕ) → Option (List ℕ) → ImportFault → Type 0
 IsUnimported name site plain first last input before after (imports.Take why) = (after ≡ before) × IsBarred name first last why
 IsUnimported name site plain first last input before after (imports.Input why) =
-    (after ≡ before) × (read : Result (List ℕ) FileRefusal) × (old : OpSet) × IsOpened name first last read old × IsNoText plain input why
+    (after ≡ before) × (read : Option (List ℕ)) × (old : OpSet) × IsOpened name first last read old × IsNoText plain input why
 IsUnimported name site plain first last input before after (imports.Revision why) =
-    (after ≡ before) × (read : Result (List ℕ) FileRefusal) × (old : OpSet) × IsOpened name first last read old
+    (after ≡ before) × (read : Option (List ℕ)) × (old : OpSet) × IsOpened name first last read old
     × (text : List Symbol) × IsReadAs plain input text × (now : OpSet) × IsUnrevised site old now text why × (why ≢ revisions.Value)
 IsUnimported name site plain first last input before after (imports.Keep why) =
-    (held : Shelf) × (read : Result (List ℕ) FileRefusal) × (old : OpSet) × IsOpened name first held read old
+    (held : Shelf) × (read : Option (List ℕ)) × (old : OpSet) × IsOpened name first held read old
     × (set : OpSet) × (inserted deleted : ℕ) × TakesText site plain input old set inserted deleted × IsUnkept name (edited_line inserted deleted) held last before after why
 
 -- how far the reader of an import that stopped was read: not at all, where the feed was not taken; as no text was read; or to its end, where the text was read

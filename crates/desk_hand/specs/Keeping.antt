@@ -1,11 +1,10 @@
 -- What was done is written, and the feed stored.
-use Rattle.std.specs.Prelude.{◌≡◌, ℕ, List, [], ◌∷◌, ◌++◌, Option, Result, codes}
+use Rattle.std.specs.Prelude.{◌≡◌, ℕ, List, [], ◌∷◌, ◌++◌, Option, codes}
 use Rattle.std.specs.Fmt.{decimal}
 use Rattle.std.specs.Io.KnownBytes.{Appends}
 use Rattle.desk_ops.specs.OpSet.{OpSet}
 use Rattle.desk_codec.specs.Runs.{set_feed}
 use Rattle.desk_files.specs.Files.{Shelf}
-use Rattle.desk_files.specs.declared.files.FileRefusal.{FileRefusal}
 use Rattle.desk_stored.specs.Fault.{IsNotStored}
 use Rattle.desk_stored.specs.Sending.{WritesPrefix}
 use Rattle.desk_stored.specs.Stored.{IsStoredAs}
@@ -17,7 +16,7 @@ abbrev pub edited_line : ℕ → ℕ → List ℕ
 edited_line inserted deleted = codes "ok inserted " ++ decimal inserted ++ codes " deleted " ++ decimal deleted ++ 10 ∷ []
 
 -- a text was written, and the feed of the set stored
-abbrev pub IsKept : List ℕ → OpSet → List ℕ → Result (List ℕ) FileRefusal → Shelf → Shelf → Option (List ℕ) → Option (List ℕ) → Type 0
+abbrev pub IsKept : List ℕ → OpSet → List ℕ → Option (List ℕ) → Shelf → Shelf → Option (List ℕ) → Option (List ℕ) → Type 0
 IsKept name set text read held last before after = Appends before after text × IsStoredAs name (set_feed set) read held last
 
 -- why it was not stored, and what was written: a prefix under Write, all of the text under Unstored, or nothing; out of memory only where all files are as they were and the device has not failed

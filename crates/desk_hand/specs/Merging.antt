@@ -1,18 +1,17 @@
 -- Feeds of files, merged into a stored feed.
-use Rattle.std.specs.Prelude.{◌≡◌, ℕ, ◌-◌, List, [], ◌∷◌, ◌++◌, Option, Result, Ok, Err, codes, length}
+use Rattle.std.specs.Prelude.{◌≡◌, ℕ, ◌-◌, List, [], ◌∷◌, ◌++◌, Option, Ok, Err, codes, length}
 use Rattle.desk_ops.specs.declared.op.Op.{Op}
 use Rattle.desk_ops.specs.OpSet.{OpSet, max_ops, size, with_all}
 use Rattle.desk_ops.specs.Faults.{faults_of}
 use Rattle.desk_codec.specs.Fault.{IsFirstFault}
 use Rattle.desk_codec.specs.Feed.{IsFeed}
-use Rattle.desk_replica.specs.State.{IsStopped}
-use Rattle.desk_replica.specs.declared.Stopped.{Stopped}
+use Rattle.desk_held.specs.Joining.{IsStopped}
+use Rattle.desk_held.specs.declared.join.Stopped.{Stopped}
 use Rattle.desk_answers.specs.Reply.{Counted, Faults}
 use Rattle.desk_answers.specs.Text.{text}
 use Rattle.desk_files.specs.Files.{Counts, IsCounted, IsNowHeld, Kept, Names, Reads, Shelf, Stays}
-use Rattle.desk_files.specs.declared.files.FileRefusal.{FileRefusal}
 use Rattle.desk_stored.specs.Fault.{AskMemory, IsUnopened, IsUnread, IsUntaken}
-use Rattle.desk_stored.specs.Stored.{Opens}
+use Rattle.desk_stored.specs.Stored.{Opens, as_read}
 use Rattle.desk_stored.specs.declared.fault.OpenFault.{OpenFault}
 use Rattle.desk_stored.specs.declared.fault.OpenFault.TheVariants as openings
 use Rattle.desk_hand.specs.Keeping.{IsKept, IsUnkept}
@@ -66,23 +65,23 @@ faults_line set = text (Faults (faults_of set)) ++ 10 ∷ []
 
 -- the set and the lines after the feed of a name, from those before
 abbrev pub Joins : Names → List ℕ → OpSet → OpSet → List ℕ → List ℕ → Type 0
-Joins kept name old after told_before told = (ops : List Op) × IsFeedOf (kept name) ops × (after ≡ with_all old ops) × (told ≡ told_before ++ line_of name old ops)
+Joins kept name old after reported_before reported = (ops : List Op) × IsFeedOf (kept name) ops × (after ≡ with_all old ops) × (reported ≡ reported_before ++ line_of name old ops)
 
 -- the set and the lines after the feeds of all names
 abbrev pub IsJoined : Names → List (List ℕ) → OpSet → OpSet → List ℕ → Type 0
-IsJoined kept names old after told = (lists : List (List Op)) × AreFeeds kept names lists × (after ≡ with_lists old lists) × (told ≡ lines_of old names lists)
+IsJoined kept names old after reported = (lists : List (List Op)) × AreFeeds kept names lists × (after ≡ with_lists old lists) × (reported ≡ lines_of old names lists)
 
 -- ---- a merge
 
 -- the name was taken, and then a feed of this set was read under it, or no file was there
-abbrev pub IsOpened : List ℕ → Shelf → Shelf → Result (List ℕ) FileRefusal → OpSet → Type 0
-IsOpened name first held read set = IsNowHeld name first held × Reads (held.kept name) read × Opens read set
+abbrev pub IsOpened : List ℕ → Shelf → Shelf → Option (List ℕ) → OpSet → Type 0
+IsOpened name first held read set = IsNowHeld name first held × Reads (held.kept name) (as_read read) × Opens read set
 
 -- The set is that of the stored feed with the operations of all other feeds. The lines were written, and its feed stands under the name.
 abbrev pub IsMerged : List ℕ → List (List ℕ) → Shelf → Shelf → Option (List ℕ) → Option (List ℕ) → Type 0
 IsMerged name others first last before after =
-    (held : Shelf) × (read : Result (List ℕ) FileRefusal) × (old : OpSet) × IsOpened name first held read old
-    × (set : OpSet) × (told : List ℕ) × IsJoined held.kept others old set told × IsKept name set (told ++ faults_line set) read held last before after
+    (held : Shelf) × (read : Option (List ℕ)) × (old : OpSet) × IsOpened name first held read old
+    × (set : OpSet) × (reported : List ℕ) × IsJoined held.kept others old set reported × IsKept name set (reported ++ faults_line set) read held last before after
 
 -- ---- why it stopped
 
@@ -104,12 +103,12 @@ Refuses set name before after troubles.NoMemory = (bytes : List ℕ) × GaveByte
 -- the feeds of the first names were joined, so many, and the next was refused: no file has changed, nor has the device failed, before that one was read
 abbrev pub StopsAt : List (List ℕ) → OpSet → Shelf → Shelf → ℕ → FeedTrouble → Type 0
 StopsAt names old before after at why =
-    (prefix tail : List (List ℕ)) × (name : List ℕ) × (names ≡ prefix ++ name ∷ tail) × (length prefix ≡ at) × (set : OpSet) × (told : List ℕ)
-    × IsJoined before.kept prefix old set told × Refuses set name before after why
+    (prefix tail : List (List ℕ)) × (name : List ℕ) × (names ≡ prefix ++ name ∷ tail) × (length prefix ≡ at) × (set : OpSet) × (reported : List ℕ)
+    × IsJoined before.kept prefix old set reported × Refuses set name before after why
 
 -- what was read of a stored feed was not opened
 abbrev pub IsShut : List ℕ → Shelf → Shelf → OpenFault → Type 0
-IsShut name held last fault = Stays held last × (read : Result (List ℕ) FileRefusal) × Reads (held.kept name) read × Counts read held last × IsUnopened read fault
+IsShut name held last fault = Stays held last × (read : Option (List ℕ)) × Reads (held.kept name) (as_read read) × Counts (as_read read) held last × IsUnopened read fault
 
 -- why the stored feed does not come in: it was not read, or not opened; out of memory only where its bytes were read, or no file is there
 abbrev pub IsBarredBy : List ℕ → Shelf → Shelf → FeedTrouble → Type 0
@@ -127,7 +126,7 @@ IsBarred name first last (takes.Feed why) = (held : Shelf) × IsNowHeld name fir
 abbrev pub IsUnmerged : List ℕ → List (List ℕ) → Shelf → Shelf → Option (List ℕ) → Option (List ℕ) → MergeFault → Type 0
 IsUnmerged name others first last before after (merges.Take why) = (after ≡ before) × IsBarred name first last why
 IsUnmerged name others first last before after (merges.Other at why) =
-    (after ≡ before) × (held : Shelf) × (read : Result (List ℕ) FileRefusal) × (old : OpSet) × IsOpened name first held read old × Stays held last × StopsAt others old held last at why
+    (after ≡ before) × (held : Shelf) × (read : Option (List ℕ)) × (old : OpSet) × IsOpened name first held read old × Stays held last × StopsAt others old held last at why
 IsUnmerged name others first last before after (merges.Keep why) =
-    (held : Shelf) × (read : Result (List ℕ) FileRefusal) × (old : OpSet) × IsOpened name first held read old
-    × (set : OpSet) × (told : List ℕ) × IsJoined held.kept others old set told × IsUnkept name (told ++ faults_line set) held last before after why
+    (held : Shelf) × (read : Option (List ℕ)) × (old : OpSet) × IsOpened name first held read old
+    × (set : OpSet) × (reported : List ℕ) × IsJoined held.kept others old set reported × IsUnkept name (reported ++ faults_line set) held last before after why

@@ -7,7 +7,7 @@ ghost use Rattle.desk_hand.specs.Importing.{IsImported, IsLeft, IsNoText, IsRead
 
 use crate::editing::revise;
 use crate::fault::{ImportFault, InputFault};
-use crate::keeping::tell_and_keep;
+use crate::keeping::report_and_keep;
 use crate::merging::take_feed;
 use desk_files::{Files, read_whole};
 use desk_ops::Symbol;
@@ -61,5 +61,5 @@ pub fn import_text<R: Read, W: Write, F: Files, A: Allocator + Copy>(
     let (old, mut replica) = take_feed(alloc, files, name, site)?;
     let text = text_from(alloc, reader, plain)?;
     let tally = revise(alloc, &mut replica, &text)?;
-    Ok(tell_and_keep(alloc, &replica, tally, writer, files, name, &old)?)
+    Ok(report_and_keep(alloc, &replica, tally, writer, files, name, &old)?)
 }

@@ -48,7 +48,7 @@ pub fn write_and_keep<W: Write, F: Files, A: Allocator + Copy>(
 }
 
 /// Writes the line of what was inserted and deleted, and stores the feed of a replica.
-pub fn tell_and_keep<W: Write, F: Files, A: Allocator + Copy>(
+pub fn report_and_keep<W: Write, F: Files, A: Allocator + Copy>(
     alloc: A,
     replica: &Replica<Blocks<A>>,
     tally: Tally,

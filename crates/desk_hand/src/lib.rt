@@ -17,5 +17,5 @@ pub use fault::{
     TakeFault,
 };
 pub use importing::{MAX_TEXT, import_text};
-pub use keeping::tell_and_keep;
+pub use keeping::report_and_keep;
 pub use merging::{merge_feeds, take_feed};

@@ -316,13 +316,13 @@ fn is_refused(alloc: Global, cut: usize) -> Result<bool, Fail> {
         false,
     );
     drop(ballast);
-    let (is_refused, is_told) = match ended {
+    let (is_refused, is_reported) = match ended {
         Ok(()) => (false, true),
         Err(ImportFault::Keep(KeepFault::Unstored(FileRefusal::NoMemory))) => (true, true),
         Err(fault) if is_of_memory(fault) => (true, false),
         Err(_) => return Err(Fail::new("another fault")),
     };
-    let line: &[u8] = if is_told {
+    let line: &[u8] = if is_reported {
         b"ok inserted 1 deleted 0\n"
     } else {
         b""

@@ -16,7 +16,7 @@ use std::fmt::Display;
 /// Whether these are the words of a fault.
 fn is_worded<T: Display>(alloc: Global, fault: &T, words: &str) -> bool {
     match format!(in alloc; "{fault}") {
-        Ok(told) => told.as_str() == words,
+        Ok(reported) => reported.as_str() == words,
         Err(AllocError) => false,
     }
 }

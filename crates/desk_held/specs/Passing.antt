@@ -12,7 +12,7 @@ pub record IsPart (ops : List Op) (start : ℕ) (part : List Op) (at : ℕ) : Ty
   pub fits : start + length part ≤ length ops
   pub place : at ≤ length part
 
--- what stands before the place comes before the operation, as far as the last of it tells
+-- what stands before the place comes before the operation, as far as the last of it shows
 abbrev pub IsPassed : List Op → ℕ → Op → Type 0
 IsPassed ops place op = (d : Op) → 0 < place → is_lt (op_cmp (slice_index_or ops (place - 1) d) op) ≡ true
 

@@ -2,7 +2,7 @@
 ghost use Rattle.std.specs.Prelude.{◌≡◌, ◌+◌, ◌≤◌, ◌++◌, All, IfOk, IfSome, IfErr, OnOk, length, take};
 ghost use Rattle.desk_ops.specs.Op.{IsLawful};
 ghost use Rattle.desk_ops.specs.OpSet.{no_ops, in_order, size, with_all};
-ghost use Rattle.desk_held.specs.Joining.{IsHalted};
+ghost use Rattle.desk_held.specs.Joining.{IsStopped};
 
 use crate::search::{are_rising, comes_before, is_rising};
 use crate::{AddRefusal, Held, LIMIT};
@@ -10,12 +10,14 @@ use desk_ops::Op;
 use desk_pages::Pages;
 use desk_slots::{Slot, add_ops, slots_of};
 use std::alloc::{AllocError, Allocator};
+use thiserror::Error;
 
-/// A list was added up to an operation that was refused.
-#[derive(Clone, Copy, Debug, PartialEq, Eq)]
-pub struct Halt {
-    /// How many operations were added.
-    pub added: usize,
+/// A list was taken in up to an operation that was refused.
+#[derive(Clone, Copy, Debug, PartialEq, Eq, Error)]
+#[error("stopped after {taken} operations: {why}")]
+pub struct Stopped {
+    /// How many operations were taken in.
+    pub taken: usize,
     pub why: AddRefusal,
 }
 
@@ -139,11 +141,11 @@ impl<A: Allocator + Copy> Held<A> {
     /// 1,048,576 operations are held and the next is not among them; out of memory only where the set has gained as
     /// many as there was room for. Where nothing is held and there is no room for all, the list is sorted, if it does not rise,
     /// and laid out at once.
-    pub fn add_all(&mut self, ops: &[Op]) -> Result<(), Halt>
+    pub fn add_all(&mut self, ops: &[Op]) -> Result<(), Stopped>
         requires { All IsLawful ops.now }
         ensures ok { OnOk result (self.new.ops ≡ with_all self.old.ops ops.now) }
-        ensures err { IfErr result (λ halt. IsHalted self.old.ops self.new.ops ops.now halt) }
-        ensures memory { IfErr result (λ halt. halt.why ≡ AddRefusal.NoMemory → self.old.spare + size self.old.ops ≤ size self.new.ops) }
+        ensures err { IfErr result (λ s. IsStopped self.old.ops self.new.ops ops.now s) }
+        ensures memory { IfErr result (λ s. s.why ≡ AddRefusal.NoMemory → self.old.spare + size self.old.ops ≤ size self.new.ops) }
         ensures spare { self.old.spare ≤ self.new.spare + length ops.now }
     {
         if self.is_empty()
@@ -157,16 +159,16 @@ impl<A: Allocator + Copy> Held<A> {
     }
 
     /// Adds the operations one by one.
-    fn add_each(&mut self, ops: &[Op]) -> Result<(), Halt>
+    fn add_each(&mut self, ops: &[Op]) -> Result<(), Stopped>
         requires { All IsLawful ops.now }
         ensures ok { OnOk result (self.new.ops ≡ with_all self.old.ops ops.now) }
-        ensures err { IfErr result (λ halt. IsHalted self.old.ops self.new.ops ops.now halt) }
-        ensures memory { IfErr result (λ halt. halt.why ≡ AddRefusal.NoMemory → self.old.spare + size self.old.ops ≤ size self.new.ops) }
+        ensures err { IfErr result (λ s. IsStopped self.old.ops self.new.ops ops.now s) }
+        ensures memory { IfErr result (λ s. s.why ≡ AddRefusal.NoMemory → self.old.spare + size self.old.ops ≤ size self.new.ops) }
         ensures spare { self.old.spare ≤ self.new.spare + length ops.now }
     {
-        for (added, op) in ops.iter().enumerate() {
+        for (taken, op) in ops.iter().enumerate() {
             if let Err(why) = self.add(*op) {
-                return Err(Halt { added, why });
+                return Err(Stopped { taken, why });
             }
         }
         Ok(())

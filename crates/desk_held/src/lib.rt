@@ -24,7 +24,7 @@ mod passing;
 mod rising;
 mod search;
 
-pub use join::Halt;
+pub use join::Stopped;
 pub use missing::put_in_turn;
 
 /// The greatest number of operations that are held.

@@ -3,6 +3,7 @@ use Rattle.std.specs.Prelude.{ℕ, ◌+◌, ◌*◌, List, [], ◌∷◌, ◌++�
 use Rattle.desk_signals.specs.declared.Signal.{Signal}
 use Rattle.desk_signals.specs.declared.Signal.TheVariants as signal
 use Rattle.desk_signals.specs.Rows.{place}
+use Rattle.desk_svg.specs.Text.{text_end}
 use Rattle.desk_holes.specs.Parts.{between}
 
 -- the name of a signal's channel
@@ -54,11 +55,8 @@ guide_end bottom = between (codes "V") bottom (codes "\" stroke=\"#d9ccab\"/>")
 unfoldable pub name_place : Signal → List ℕ
 name_place signal = between (codes "<text transform=\"translate(") (x_of signal + 3) (codes ",46) rotate(-60)\">")
 
-unfoldable pub name_end : List ℕ
-name_end = codes "</text>\n"
-
 abbrev pub channel_text : ℕ → Signal → List ℕ
-channel_text bottom signal = guide_top signal ++ (guide_end bottom ++ (name_place signal ++ (channel_name signal ++ name_end)))
+channel_text bottom signal = guide_top signal ++ (guide_end bottom ++ (name_place signal ++ (channel_name signal ++ text_end)))
 
 unfoldable pub channels_text : ℕ → List Signal → List ℕ
 channels_text bottom [] = []

@@ -3,7 +3,7 @@ use Rattle.std.specs.Prelude.{◌≡◌, ◌≢◌, ◌⊎◌, ℕ, Bool, true, 
 use Rattle.desk_signals.specs.declared.RibbonRow.{RibbonRow}
 use Rattle.desk_case.specs.Case.{CaseValues}
 use Rattle.desk_wedge.specs.Wedge.{WedgeValues}
-use Rattle.desk_caster.specs.Reading.{IsRibbon, Tells}
+use Rattle.desk_caster.specs.Reading.{IsRibbon, Reports}
 use Rattle.desk_caster.specs.declared.RibbonFault.{RibbonFault}
 use Rattle.desk_caster.specs.declared.RibbonFault.TheVariants as ribbons
 use Rattle.desk_files.specs.Files.{IsReplaced, Shelf, Stays}
@@ -25,7 +25,7 @@ IsPictureOf from shelf picture = (bytes : List ℕ) × (case : CaseValues) × (w
 
 -- bytes are no ribbon, for their first fault
 abbrev pub IsNoRibbon : List ℕ → Type 0
-IsNoRibbon bytes = (why : RibbonFault) × Tells bytes why × (why ≢ ribbons.NoMemory)
+IsNoRibbon bytes = (why : RibbonFault) × Reports bytes why × (why ≢ ribbons.NoMemory)
 
 -- those that the ribbon's name stands for are none
 abbrev pub HasNoPicture : Sources → Shelf → Type 0

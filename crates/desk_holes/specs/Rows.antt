@@ -1,6 +1,5 @@
 -- The rows of a ribbon in a picture of it.
 use Rattle.std.specs.Prelude.{ℕ, suc, ◌+◌, ◌-◌, ◌*◌, Bool, true, false, List, [], ◌∷◌, ◌++◌, Option, Some, None, codes, if◌then◌else◌}
-use Rattle.std.specs.List.{list_any}
 use Rattle.std.specs.Fmt.{decimal}
 use Rattle.desk_ops.specs.declared.op.Style.{Style}
 use Rattle.desk_ops.specs.declared.op.Style.TheVariants as styles
@@ -10,9 +9,10 @@ use Rattle.desk_signals.specs.declared.Signal.{Signal}
 use Rattle.desk_signals.specs.declared.RibbonRow.{RibbonRow}
 use Rattle.desk_signals.specs.declared.RibbonRow.TheVariants as row
 use Rattle.desk_signals.specs.Rows.{signals_of}
-use Rattle.desk_case.specs.Case.{CaseValues, symbol_at}
-use Rattle.desk_caster.specs.Caster.{same_cell}
+use Rattle.desk_case.specs.Case.{CaseValues, symbol_at, is_fill}
+use Rattle.desk_case.specs.Names.{same_cell}
 use Rattle.desk_svg.specs.Escape.{escaped_char}
+use Rattle.desk_svg.specs.Text.{text_end}
 use Rattle.desk_holes.specs.Parts.{between}
 use Rattle.desk_holes.specs.Channels.{x_of}
 
@@ -46,7 +46,7 @@ symbol_text s = escaped_char s.ch ++ style_text s.style
 
 -- what stands in a cell without a symbol
 abbrev pub blank_text : CaseValues → Cell → List ℕ
-blank_text case cell = if same_cell case.space cell then codes "space" else if list_any (same_cell cell) case.fill then codes "fill" else codes "no matrix"
+blank_text case cell = if same_cell case.space cell then codes "space" else if is_fill case cell then codes "fill" else codes "no matrix"
 
 -- what stands in a cell
 abbrev pub held_text : CaseValues → Cell → Option Symbol → List ℕ
@@ -83,18 +83,15 @@ abbrev pub number_text : ℕ → ℕ → List ℕ
 number_text y place = number_place y ++ number_value place
 
 -- what it means, at its right
-unfoldable pub told_place : ℕ → List ℕ
-told_place y = between (codes "<text class=\"m\" x=\"477\" y=\"") (y + 3) (codes "\">")
+unfoldable pub reported_place : ℕ → List ℕ
+reported_place y = between (codes "<text class=\"m\" x=\"477\" y=\"") (y + 3) (codes "\">")
 
-unfoldable pub told_end : List ℕ
-told_end = codes "</text>\n"
-
-abbrev pub told_text : CaseValues → ℕ → RibbonRow → List ℕ
-told_text case y row = told_place y ++ (meaning_text case row ++ told_end)
+abbrev pub reported_text : CaseValues → ℕ → RibbonRow → List ℕ
+reported_text case y row = reported_place y ++ (meaning_text case row ++ text_end)
 
 -- a row that stands so far down
 abbrev pub row_at : CaseValues → ℕ → ℕ → RibbonRow → List ℕ
-row_at case y place row = number_text y place ++ (holes_text y (signals_of row) ++ told_text case y row)
+row_at case y place row = number_text y place ++ (holes_text y (signals_of row) ++ reported_text case y row)
 
 abbrev pub row_text : CaseValues → ℕ → ℕ → RibbonRow → List ℕ
 row_text case count place row = row_at case (y_of count place) place row

@@ -2,10 +2,11 @@
 
 ghost use Rattle.std.specs.Prelude.{◌≡◌, ◌++◌, ◌≤◌, OnOk, string_bytes};
 ghost use Rattle.desk_signals.specs.Rows.{the_signals};
-ghost use Rattle.desk_holes.specs.Channels.{channel_name, channel_text, channels_text, guide_end, guide_top, name_end, name_place, x_of};
+ghost use Rattle.desk_holes.specs.Channels.{channel_name, channel_text, channels_text, guide_end, guide_top, name_place, x_of};
 
 use crate::parts::put_between;
 use desk_signals::Signal;
+use desk_svg::text_end;
 use std::alloc::{AllocError, Allocator};
 
 /// The signals in signal order.
@@ -123,14 +124,6 @@ fn put_name_place<A: Allocator + Copy>(
     )
 }
 
-/// What stands behind a name.
-#[tactic(auto, unfolding(crate::specs::Channels::name_end))]
-fn name_end() -> &'static str
-    ensures { result.now ≡ name_end }
-{
-    "</text>\n"
-}
-
 /// Writes a channel, down to the end of the paper.
 fn put_channel<A: Allocator + Copy>(
     out: &mut String<A>,
@@ -143,7 +136,7 @@ fn put_channel<A: Allocator + Copy>(
     put_guide_end(out, bottom)?;
     put_name_place(out, signal)?;
     out.push_str(channel_name(signal))?;
-    out.push_str(name_end())
+    out.push_str(text_end())
 }
 
 /// Writes the channels of signals.

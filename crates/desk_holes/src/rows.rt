@@ -2,19 +2,17 @@
 
 ghost use Rattle.std.specs.Prelude.{◌≡◌, ◌++◌, ◌+◌, ◌<◌, ◌^◌, length, OnOk, string_bytes};
 ghost use Rattle.std.specs.Fmt.{decimal};
-ghost use Rattle.std.specs.List.{list_any};
 ghost use Rattle.desk_case.specs.Case.{symbol_at};
 ghost use Rattle.desk_signals.specs.Rows.{signals_of};
-ghost use Rattle.desk_caster.specs.Caster.{same_cell};
-ghost use Rattle.desk_holes.specs.Rows.{blank_text, held_text, hole_text, hole_x, hole_y, holes_text, meaning_text, number_place, number_text, number_value, row_at, row_text, rows_text, s_text, style_text, symbol_text, told_end, told_place, told_text, y_of};
+ghost use Rattle.desk_holes.specs.Rows.{blank_text, held_text, hole_text, hole_x, hole_y, holes_text, meaning_text, number_place, number_text, number_value, row_at, row_text, rows_text, s_text, style_text, symbol_text, reported_place, reported_text, y_of};
 
 use crate::channels::x_of;
 use crate::parts::put_between;
 use desk_case::MatrixCase;
-use desk_case::names::place;
+use desk_case::names::is_same;
 use desk_ops::{Style, Symbol};
 use desk_signals::{Cell, Position, RibbonRow, Signal};
-use desk_svg::put_escaped;
+use desk_svg::{put_escaped, text_end};
 use std::alloc::{AllocError, Allocator};
 
 /// Writes how far to the right a hole stands.
@@ -77,20 +75,6 @@ fn put_symbol<A: Allocator + Copy>(out: &mut String<A>, symbol: Symbol) -> Resul
     out.push_str(style_text(symbol.style))
 }
 
-/// Whether the cells are one.
-fn is_same(a: &Cell, b: &Cell) -> bool
-    ensures { result ≡ same_cell a.now b.now }
-{
-    place(a) == place(b)
-}
-
-/// Whether a fill of the case is in the cell.
-fn is_fill(case: &MatrixCase, cell: &Cell) -> bool
-    ensures { result ≡ list_any (same_cell cell.now) (case.now).fill }
-{
-    case.fill().iter().any(|fill| is_same(cell, fill))
-}
-
 /// What stands in a cell without a symbol.
 fn blank_text(case: &MatrixCase, cell: &Cell) -> &'static str
     ensures { result.now ≡ blank_text case.now cell.now }
@@ -98,7 +82,7 @@ fn blank_text(case: &MatrixCase, cell: &Cell) -> &'static str
     if is_same(&case.space(), cell) {
         return "space";
     }
-    if is_fill(case, cell) {
+    if case.is_fill(cell) {
         "fill"
     } else {
         "no matrix"
@@ -189,35 +173,27 @@ fn put_number<A: Allocator + Copy>(
 }
 
 /// Writes where the meaning of a row stands.
-#[tactic(auto, unfolding(crate::specs::Rows::told_place))]
-fn put_told_place<A: Allocator + Copy>(out: &mut String<A>, y: u128) -> Result<(), AllocError>
+#[tactic(auto, unfolding(crate::specs::Rows::reported_place))]
+fn put_reported_place<A: Allocator + Copy>(out: &mut String<A>, y: u128) -> Result<(), AllocError>
     requires { y + 3 < 2 ^ 128 }
-    ensures { OnOk result (string_bytes out.new ≡ string_bytes out.old ++ told_place y) }
+    ensures { OnOk result (string_bytes out.new ≡ string_bytes out.old ++ reported_place y) }
 {
     put_between(out, "<text class=\"m\" x=\"477\" y=\"", y + 3, "\">")
 }
 
-/// What stands behind it.
-#[tactic(auto, unfolding(crate::specs::Rows::told_end))]
-fn told_end() -> &'static str
-    ensures { result.now ≡ told_end }
-{
-    "</text>\n"
-}
-
 /// Writes what a row means at its right.
-fn put_told<A: Allocator + Copy>(
+fn put_reported<A: Allocator + Copy>(
     out: &mut String<A>,
     case: &MatrixCase,
     y: u128,
     row: RibbonRow,
 ) -> Result<(), AllocError>
     requires { y + 3 < 2 ^ 128 }
-    ensures { OnOk result (string_bytes out.new ≡ string_bytes out.old ++ told_text case.now y row) }
+    ensures { OnOk result (string_bytes out.new ≡ string_bytes out.old ++ reported_text case.now y row) }
 {
-    put_told_place(out, y)?;
+    put_reported_place(out, y)?;
     put_meaning(out, case, row)?;
-    out.push_str(told_end())
+    out.push_str(text_end())
 }
 
 /// Writes a row that stands so far down.
@@ -233,7 +209,7 @@ fn put_row_at<A: Allocator + Copy>(
 {
     put_number(out, y, place)?;
     put_holes_of(out, y, *row)?;
-    put_told(out, case, y, *row)
+    put_reported(out, case, y, *row)
 }
 
 /// How far down a row of so many stands.

@@ -8,11 +8,11 @@ use Rattle.desk_files.specs.Files as files
 use Rattle.desk_host.specs.declared.hold.Hold.{Hold}
 
 -- by the kind of the error: that the file or its folder is not there, that memory ran out, or of all other kinds that the device failed
-abbrev pub IsToldOf : ErrorKind → FileRefusal → Type 0
-IsToldOf kind refusals.Missing = (kind ≡ kinds.NotFound) ⊎ (kind ≡ kinds.NotADirectory)
-IsToldOf kind refusals.Device = (kind ≢ kinds.NotFound) × (kind ≢ kinds.NotADirectory) × (kind ≢ kinds.OutOfMemory)
-IsToldOf kind refusals.Large = ⊥
-IsToldOf kind refusals.NoMemory = kind ≡ kinds.OutOfMemory
+abbrev pub IsReportedOf : ErrorKind → FileRefusal → Type 0
+IsReportedOf kind refusals.Missing = (kind ≡ kinds.NotFound) ⊎ (kind ≡ kinds.NotADirectory)
+IsReportedOf kind refusals.Device = (kind ≢ kinds.NotFound) × (kind ≢ kinds.NotADirectory) × (kind ≢ kinds.OutOfMemory)
+IsReportedOf kind refusals.Large = ⊥
+IsReportedOf kind refusals.NoMemory = kind ≡ kinds.OutOfMemory
 
 -- what is held, by the name and whether it was touched
 abbrev pub held_in : Option Hold → files.Hold

@@ -4,7 +4,7 @@ ghost use Rattle.std.specs.Prelude.{◌≡◌, ◌≢◌, ◌<◌, ◌≤◌, Er
 ghost use Rattle.std.specs.Fs.{metadata_mode};
 ghost use Rattle.std.specs.IoError.{error_kind};
 ghost use Rattle.desk_files.specs.Files.{Counts, Free, IsCounted, Unknown, max_file, shelf, touched};
-ghost use Rattle.desk_host.specs.Host.{IsToldOf, LeadsTo, held_in};
+ghost use Rattle.desk_host.specs.Host.{IsReportedOf, LeadsTo, held_in};
 
 use crate::hold::Hold;
 use crate::progress::{Progress, Step, Watched};
@@ -44,7 +44,7 @@ impl<'a> HostFiles<'a> {
 
     /// Counts a failed call, if it was the device that failed, and keeps it to be reported.
     fn refused(&mut self, trouble: Trouble) -> FileRefusal
-        ensures told { IsToldOf (error_kind trouble.error) result }
+        ensures reported { IsReportedOf (error_kind trouble.error) result }
         ensures counted { IsCounted result (shelf (λ _. Unknown) self.old.failures Free) (shelf (λ _. Unknown) self.new.failures Free) }
         ensures held { self.new.hold ≡ self.old.hold }
         ensures kept { self.new.trouble ≡ Some trouble }
@@ -109,7 +109,7 @@ impl<'a> HostFiles<'a> {
         &mut self,
         read: io::Result<Option<Vec<u8, A>>>,
     ) -> Result<Vec<u8, A>, FileRefusal>
-        ensures given { MatchResult read (λ o. MatchOption o (result ≡ Err FileRefusal.Large) (λ bytes. result ≡ Ok bytes)) (λ error. IsErrAnd result (IsToldOf (error_kind error))) }
+        ensures given { MatchResult read (λ o. MatchOption o (result ≡ Err FileRefusal.Large) (λ bytes. result ≡ Ok bytes)) (λ error. IsErrAnd result (IsReportedOf (error_kind error))) }
         ensures kept { MatchResult read (λ o. MatchOption o (self.new.trouble ≡ None) (λ _. self.new.trouble ≡ self.old.trouble)) (λ error. IsSomeAnd self.new.trouble (λ t. (t.asked ≡ Asked.Read) × (t.error ≡ error))) }
         ensures counted { Counts result (shelf (λ _. Unknown) self.old.failures Free) (shelf (λ _. Unknown) self.new.failures Free) }
         ensures held { self.new.hold ≡ self.old.hold }
@@ -154,7 +154,7 @@ fn mode_in(found: io::Result<Metadata>) -> io::Result<Option<u32>>
 
 /// What a failed call says: that something is not there, that memory ran out, or else that the device failed.
 fn refusal_of(error: &io::Error) -> FileRefusal
-    ensures { IsToldOf (error_kind error.now) result }
+    ensures { IsReportedOf (error_kind error.now) result }
 {
     match error.kind() {
         ErrorKind::NotFound => FileRefusal::Missing,

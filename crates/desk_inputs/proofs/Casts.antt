@@ -10,24 +10,24 @@ use Rattle.desk_job.specs.declared.JobFault.{JobFault}
 use Rattle.desk_job.specs.Answer.{IsMade}
 use Rattle.desk_job.specs.Reading.{CastsCopy}
 use Rattle.desk_caster.specs.Caster.{Line, cast}
-use Rattle.desk_caster.specs.Reading.{IsRibbon, Tells}
+use Rattle.desk_caster.specs.Reading.{IsRibbon, Reports}
 use Rattle.desk_caster.proofs.Ribbons.{ribbons_have_no_fault, ribbons_have_one_reading}
 use Rattle.desk_caster.specs.declared.RibbonFault.{RibbonFault}
 use Rattle.desk_caster.specs.declared.RibbonFault.TheVariants as ribbons
 use Rattle.desk_caster.specs.declared.CastFault.{CastFault}
 use Rattle.desk_caster.specs.declared.CastFault.TheVariants as casts
 use Rattle.desk_answers.specs.Reply.{ReplyValues}
-use Rattle.desk_inputs.specs.Job.{TellsCast, TellsLines}
+use Rattle.desk_inputs.specs.Job.{ReportsCast, ReportsLines}
 
-tells : (case : CaseValues) (wedge : WedgeValues) (bytes : List ℕ) (made : Result (List RibbonRow) (List JobFault)) (reply : ReplyValues) → IsMade bytes made → TellsCast case wedge bytes reply → TellsLines case wedge made reply
-tells case wedge bytes (Ok rows) reply e h = subst (λ b. TellsCast case wedge b reply) e h
-tells case wedge bytes (Err faults) reply e h = absurd e
+reports : (case : CaseValues) (wedge : WedgeValues) (bytes : List ℕ) (made : Result (List RibbonRow) (List JobFault)) (reply : ReplyValues) → IsMade bytes made → ReportsCast case wedge bytes reply → ReportsLines case wedge made reply
+reports case wedge bytes (Ok rows) reply e h = subst (λ b. ReportsCast case wedge b reply) e h
+reports case wedge bytes (Err faults) reply e h = absurd e
 
 -- the answer of the bytes is that of the job
-pub of_job : {X E : Type 0} (case : CaseValues) (wedge : WedgeValues) (bytes slice : List ℕ) (made : Result (List RibbonRow) (List JobFault)) (r : Result X E) (told : X → ReplyValues)
-    → slice ≡ bytes → IsMade bytes made → IfOk r (λ a. TellsCast case wedge slice (told a)) → IfOk r (λ a. TellsLines case wedge made (told a))
-of_job case wedge bytes slice made (Ok a) told e is h = tells case wedge bytes made (told a) is (subst (λ b. TellsCast case wedge b (told a)) e h)
-of_job case wedge bytes slice made (Err x) told e is h = tt
+pub of_job : {X E : Type 0} (case : CaseValues) (wedge : WedgeValues) (bytes slice : List ℕ) (made : Result (List RibbonRow) (List JobFault)) (r : Result X E) (reported : X → ReplyValues)
+    → slice ≡ bytes → IsMade bytes made → IfOk r (λ a. ReportsCast case wedge slice (reported a)) → IfOk r (λ a. ReportsLines case wedge made (reported a))
+of_job case wedge bytes slice made (Ok a) reported e is h = reports case wedge bytes made (reported a) is (subst (λ b. ReportsCast case wedge b (reported a)) e h)
+of_job case wedge bytes slice made (Err x) reported e is h = tt
 
 -- the bytes of a made ribbon are read, and its rows are cast
 pub castable : (copy : List Symbol) (settings : Key → Option ℕ) (case : CaseValues) (wedge : WedgeValues) (bytes slice : List ℕ) → slice ≡ bytes → CastsCopy copy settings case wedge bytes
@@ -35,8 +35,8 @@ pub castable : (copy : List Symbol) (settings : Key → Option ℕ) (case : Case
 castable copy settings case wedge bytes slice e h = (h.rows, subst (λ b. IsRibbon b h.rows) (sym e) h.is, (h.got, h.casts))
 
 -- a ribbon has no fault
-pub no_fault : (bytes : List ℕ) (why : RibbonFault) → why ≢ ribbons.NoMemory → (rows : List RibbonRow) × IsRibbon bytes rows → Tells bytes why → ⊥
-no_fault bytes why other h told = ribbons_have_no_fault bytes h.0 why other h.1 told
+pub no_fault : (bytes : List ℕ) (why : RibbonFault) → why ≢ ribbons.NoMemory → (rows : List RibbonRow) × IsRibbon bytes rows → Reports bytes why → ⊥
+no_fault bytes why other h reported = ribbons_have_no_fault bytes h.0 why other h.1 reported
 
 -- the rows that were read are cast as those that the bytes are the ribbon of
 pub one_reading : (case : CaseValues) (wedge : WedgeValues) (bytes : List ℕ) (rows : List RibbonRow) → ((rows : List RibbonRow) × IsRibbon bytes rows × ((lines : List Line) × (cast case wedge rows ≡ Ok lines))) → IsRibbon bytes rows → (lines : List Line) × (cast case wedge rows ≡ Ok lines)

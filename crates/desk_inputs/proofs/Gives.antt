@@ -19,7 +19,7 @@ use Rattle.desk_files.specs.declared.files.FileRefusal.{FileRefusal}
 use Rattle.desk_files.specs.declared.files.FileRefusal.TheVariants as files
 use Rattle.desk_files.specs.Files.{Counts, IsCounted, Reads, Shelf, Stays}
 use Rattle.desk_files.proofs.Shelves.{same_shelf}
-use Rattle.desk_inputs.specs.Inputs.{Answers, BothGive, BothLackMemory, FileGives, FileLacksMemory, Tells, TellsBytes, ThenWedge, with_case}
+use Rattle.desk_inputs.specs.Inputs.{Answers, BothGive, BothLackMemory, FileGives, FileLacksMemory, Reports, ReportsBytes, ThenWedge, with_case}
 
 -- ---- where nothing has changed
 
@@ -49,27 +49,27 @@ unread meaning refused name before after files.NoMemory stays reads counts = (sa
 pub read_as : {V E : Type 0} (meaning : List ℕ → Result V E) (refused : E → Option Refusal) (name : List ℕ) (before after : Shelf) (bytes slice : List ℕ) (value : V)
     → Stays before after → Reads (before.kept name) (Ok bytes) → after.failures ≡ before.failures → slice ≡ bytes → meaning slice ≡ Ok value → FileGives meaning refused name before (Ok value) after
 read_as {V} {E} meaning refused name before after bytes slice value stays reads counts same means =
-    let P : Result V E → Type 0 = λ r. Tells refused r (Ok value) in
+    let P : Result V E → Type 0 = λ r. Reports refused r (Ok value) in
     (stays, Ok bytes, reads, counts, subst P (sym means ∙ ap meaning same) refl)
 
 -- its bytes were read, and mean nothing, for this fault
 pub misread : {V E : Type 0} (meaning : List ℕ → Result V E) (refused : E → Option Refusal) (name : List ℕ) (before after : Shelf) (bytes slice : List ℕ) (fault : E)
     → Stays before after → Reads (before.kept name) (Ok bytes) → after.failures ≡ before.failures → slice ≡ bytes
-    → ((told : Refusal) → refused fault ≡ Some told → meaning slice ≡ Err fault) → (refused fault ≡ None → ¬ IsBlank slice)
+    → ((reported : Refusal) → refused fault ≡ Some reported → meaning slice ≡ Err fault) → (refused fault ≡ None → ¬ IsBlank slice)
     → Answers (λ given. FileGives meaning refused name before given after) (FileLacksMemory name before after) (Err (failure (refused fault)))
 misread {V} {E} meaning refused name before after bytes slice fault stays reads counts same means more = by (refused fault) refl
   where
     by : (o : Option Refusal) → refused fault ≡ o → Answers (λ given. FileGives meaning refused name before given after) (FileLacksMemory name before after) (Err (failure o))
     by None is = (same_shelf before after stays counts, Ok bytes, reads, subst (λ l. ¬ IsBlank l) same (more is))
-    by (Some told) is =
-        let P : Result V E → Type 0 = λ r. Tells refused r (Err told) in
-        (stays, Ok bytes, reads, counts, subst P (sym (means told is) ∙ ap meaning same) (told, is, refl))
+    by (Some reported) is =
+        let P : Result V E → Type 0 = λ r. Reports refused r (Err reported) in
+        (stays, Ok bytes, reads, counts, subst P (sym (means reported is) ∙ ap meaning same) (reported, is, refl))
 
-pub no_memory_case : (fault : CaseFault) (told : Refusal) → case_refused fault ≡ Some told → fault ≢ cases.NoMemory
-no_memory_case fault told is none = let e : None ≡ Some told = ap case_refused (sym none) ∙ is in cc
+pub no_memory_case : (fault : CaseFault) (reported : Refusal) → case_refused fault ≡ Some reported → fault ≢ cases.NoMemory
+no_memory_case fault reported is none = let e : None ≡ Some reported = ap case_refused (sym none) ∙ is in cc
 
-pub no_memory_wedge : (fault : WedgeFault) (told : Refusal) → wedge_refused fault ≡ Some told → fault ≢ wedges.NoMemory
-no_memory_wedge fault told is none = let e : None ≡ Some told = ap wedge_refused (sym none) ∙ is in cc
+pub no_memory_wedge : (fault : WedgeFault) (reported : Refusal) → wedge_refused fault ≡ Some reported → fault ≢ wedges.NoMemory
+no_memory_wedge fault reported is none = let e : None ≡ Some reported = ap wedge_refused (sym none) ∙ is in cc
 
 pub no_number_case : (fault : CaseFault) → case_refused fault ≡ None → fault ≡ cases.NoMemory
 no_number_case cases.NotToml is = let e : Some (refusals.Case 1) ≡ None = is in cc
@@ -118,11 +118,11 @@ lacking Holds Lacks failures.NoMemory given is = given
 -- ---- where a file gives a value nothing has changed, and nothing failed
 
 given_same : {V E : Type 0} (meaning : List ℕ → Result V E) (refused : E → Option Refusal) (name : List ℕ) (before after : Shelf) (value : V) → FileGives meaning refused name before (Ok value) after → after ≡ before
-given_same {V} {E} meaning refused name before after value (stays, read, reads, counts, tells) = by read counts tells
+given_same {V} {E} meaning refused name before after value (stays, read, reads, counts, reports) = by read counts reports
   where
-    by : (read : Result (List ℕ) FileRefusal) → Counts read before after → TellsBytes meaning refused read (Ok value) → after ≡ before
-    by (Ok bytes) counts tells = same_shelf before after stays counts
-    by (Err why) counts (told, is, e) = let k : Ok value ≡ Err told = e in cc
+    by : (read : Result (List ℕ) FileRefusal) → Counts read before after → ReportsBytes meaning refused read (Ok value) → after ≡ before
+    by (Ok bytes) counts reports = same_shelf before after stays counts
+    by (Err why) counts (reported, is, e) = let k : Ok value ≡ Err reported = e in cc
 
 wedge_same : (name : List ℕ) (mid after : Shelf) (case : CaseValues) (both : CaseValues × WedgeValues) (wedge : Result WedgeValues Refusal) → FileGives wedge_of wedge_refused name mid wedge after → Ok both ≡ with_case case wedge → after ≡ mid
 wedge_same name mid after case both (Ok wedge) given e = given_same wedge_of wedge_refused name mid after wedge given

@@ -20,20 +20,20 @@ Answers Holds Lacks (Err (failures.Refused why)) = Holds (Err why)
 Answers Holds Lacks (Err failures.NoMemory) = Lacks
 
 -- what was read, or the refusal that says why it was not
-abbrev pub Tells : {V E : Type 0} → (E → Option Refusal) → Result V E → Result V Refusal → Type 0
-Tells refused (Ok value) given = given ≡ Ok value
-Tells refused (Err why) given = (told : Refusal) × (refused why ≡ Some told) × (given ≡ Err told)
+abbrev pub Reports : {V E : Type 0} → (E → Option Refusal) → Result V E → Result V Refusal → Type 0
+Reports refused (Ok value) given = given ≡ Ok value
+Reports refused (Err why) given = (reported : Refusal) × (refused why ≡ Some reported) × (given ≡ Err reported)
 
 -- what bytes mean, or a refusal
-abbrev pub TellsBytes : {V E : Type 0} → (List ℕ → Result V E) → (E → Option Refusal) → Result (List ℕ) FileRefusal → Result V Refusal → Type 0
-TellsBytes meaning refused (Ok bytes) given = Tells refused (meaning bytes) given
-TellsBytes meaning refused (Err why) given = (told : Refusal) × (file_refused why ≡ Some told) × (given ≡ Err told)
+abbrev pub ReportsBytes : {V E : Type 0} → (List ℕ → Result V E) → (E → Option Refusal) → Result (List ℕ) FileRefusal → Result V Refusal → Type 0
+ReportsBytes meaning refused (Ok bytes) given = Reports refused (meaning bytes) given
+ReportsBytes meaning refused (Err why) given = (reported : Refusal) × (file_refused why ≡ Some reported) × (given ≡ Err reported)
 
 -- A file is read by its name, and none changes. It gives its bytes or a refusal: that of a device exactly where the device failed.
 abbrev pub FileGives : {V E : Type 0} → (List ℕ → Result V E) → (E → Option Refusal) → List ℕ → Shelf → Result V Refusal → Shelf → Type 0
 FileGives meaning refused name before given after =
     Stays before after × (read : Result (List ℕ) FileRefusal) × Reads (before.kept name) read × Counts read before after
-    × TellsBytes meaning refused read given
+    × ReportsBytes meaning refused read given
 
 -- memory ran out for the bytes of a file, or for what they mean: then they are more than blanks
 abbrev pub EndsMemory : Result (List ℕ) FileRefusal → Type 0

@@ -12,7 +12,7 @@ use Rattle.desk_caster.specs.Reading.{IsRibbon}
 use Rattle.desk_job.specs.Job.{job}
 use Rattle.desk_job.specs.declared.JobFault.{JobFault}
 use Rattle.desk_files.specs.Files.{Shelf}
-use Rattle.desk_answers.specs.Reply.{ReplyValues, Refused, lines_told}
+use Rattle.desk_answers.specs.Reply.{ReplyValues, Refused, lines_reported}
 use Rattle.desk_answers.specs.Reply as replies
 use Rattle.desk_answers.specs.declared.text.Refusal.{Refusal}
 use Rattle.desk_inputs.specs.Inputs.{BothGive, BothLackMemory}
@@ -23,26 +23,26 @@ use Rattle.desk_inputs.specs.declared.job.Wanted.TheVariants as wants
 abbrev pub job_of : OpSet → CaseValues → WedgeValues → Result (List RibbonRow) (List JobFault)
 job_of set case wedge = job (copy_of set) (setting_of set) case wedge
 
-abbrev pub TellsRibbon : Result (List RibbonRow) (List JobFault) → ReplyValues → Type 0
-TellsRibbon (Ok rows) reply = reply ≡ replies.Ribbon (ribbon rows)
-TellsRibbon (Err faults) reply = reply ≡ replies.NoRibbon faults
+abbrev pub ReportsRibbon : Result (List RibbonRow) (List JobFault) → ReplyValues → Type 0
+ReportsRibbon (Ok rows) reply = reply ≡ replies.Ribbon (ribbon rows)
+ReportsRibbon (Err faults) reply = reply ≡ replies.NoRibbon faults
 
 -- bytes are read as a ribbon, and its rows are cast
-abbrev pub TellsCast : CaseValues → WedgeValues → List ℕ → ReplyValues → Type 0
-TellsCast case wedge bytes reply =
-    (rows : List RibbonRow) × IsRibbon bytes rows × ((lines : List CastLine) × (cast case wedge rows ≡ Ok lines) × (reply ≡ replies.Lines (lines_told lines)))
+abbrev pub ReportsCast : CaseValues → WedgeValues → List ℕ → ReplyValues → Type 0
+ReportsCast case wedge bytes reply =
+    (rows : List RibbonRow) × IsRibbon bytes rows × ((lines : List CastLine) × (cast case wedge rows ≡ Ok lines) × (reply ≡ replies.Lines (lines_reported lines)))
 
-abbrev pub TellsLines : CaseValues → WedgeValues → Result (List RibbonRow) (List JobFault) → ReplyValues → Type 0
-TellsLines case wedge (Ok rows) reply = TellsCast case wedge (ribbon rows) reply
-TellsLines case wedge (Err faults) reply = reply ≡ replies.NoRibbon faults
+abbrev pub ReportsLines : CaseValues → WedgeValues → Result (List RibbonRow) (List JobFault) → ReplyValues → Type 0
+ReportsLines case wedge (Ok rows) reply = ReportsCast case wedge (ribbon rows) reply
+ReportsLines case wedge (Err faults) reply = reply ≡ replies.NoRibbon faults
 
 -- what is wanted of a job, or its faults
-abbrev pub TellsJob : Wanted → CaseValues → WedgeValues → Result (List RibbonRow) (List JobFault) → ReplyValues → Type 0
-TellsJob wants.Ribbon case wedge job reply = TellsRibbon job reply
-TellsJob wants.Lines case wedge job reply = TellsLines case wedge job reply
+abbrev pub ReportsJob : Wanted → CaseValues → WedgeValues → Result (List RibbonRow) (List JobFault) → ReplyValues → Type 0
+ReportsJob wants.Ribbon case wedge job reply = ReportsRibbon job reply
+ReportsJob wants.Lines case wedge job reply = ReportsLines case wedge job reply
 
 abbrev pub IsJobOf : Wanted → OpSet → CaseValues → WedgeValues → ReplyValues → Type 0
-IsJobOf wanted set case wedge reply = TellsJob wanted case wedge (job_of set case wedge) reply
+IsJobOf wanted set case wedge reply = ReportsJob wanted case wedge (job_of set case wedge) reply
 
 -- both files are read by their names, whatever they give, and the reply is what is wanted of the job by them, or the first refusal
 abbrev pub IsJobByFiles : Wanted → OpSet → List ℕ → List ℕ → Shelf → ReplyValues → Shelf → Type 0

@@ -7,7 +7,7 @@ ghost use Rattle.desk_caster.specs.Reading.{IsRibbon};
 ghost use Rattle.desk_files.specs.Files.{Stays};
 ghost use Rattle.desk_answers.specs.Failure.{IfReplied};
 ghost use Rattle.desk_answers.specs.Reply.{reply_values};
-ghost use Rattle.desk_inputs.specs.Job.{IsJobByFiles, JobLacksMemory, TellsCast, TellsJob, job_of};
+ghost use Rattle.desk_inputs.specs.Job.{IsJobByFiles, JobLacksMemory, ReportsCast, ReportsJob, job_of};
 
 use crate::inputs::both;
 use crate::memory::Memory;
@@ -65,7 +65,7 @@ fn cast_bytes<A: Allocator + Copy>(
     wedge: &Wedge,
 ) -> Result<Reply<A>, NoMemory>
     requires { (rows : List RibbonRow) × IsRibbon bytes.now rows × ((lines : List Line) × (cast case.now wedge.now rows ≡ Ok lines)) }
-    ensures { IfOk result (λ a. TellsCast case.now wedge.now bytes.now (reply_values a)) }
+    ensures { IfOk result (λ a. ReportsCast case.now wedge.now bytes.now (reply_values a)) }
 {
     let rows = rows_in(memory.own, bytes)?;
     let lines = lines_in(memory.own, &rows, case, wedge)?;
@@ -87,7 +87,7 @@ fn made<A: Allocator + Copy>(
     wedge: &Wedge,
     wanted: Wanted,
 ) -> Result<Reply<A>, NoMemory>
-    ensures { IfOk result (λ a. TellsJob wanted case.now wedge.now (job_of replica.now.ops case.now wedge.now) (reply_values a)) }
+    ensures { IfOk result (λ a. ReportsJob wanted case.now wedge.now (job_of replica.now.ops case.now wedge.now) (reply_values a)) }
 {
     match make(memory.own, replica, case, wedge) {
         Ok(bytes) => match wanted {

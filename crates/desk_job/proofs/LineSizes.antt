@@ -60,11 +60,11 @@ pub measured : (terms : Terms) (ws : List (List Symbol)) (filled : Bool) (width 
     1 ≤ length ws → found ≡ widths terms ws → width ≡ sum_by unsigned_abs found →
     added ≡ filled && int_le (pos width +ℤ pos (length ws) *ℤ tight_space terms) (pos (measure terms)) →
     IsMeasured terms ws filled width added
-measured terms ws filled width added found some are sum told =
+measured terms ws filled width added found some are sum reported =
     let e : width ≡ sum_by (word_width terms) ws = sum ∙ (ap (sum_by unsigned_abs) are ∙ total_is terms ws) in
     record {
       width_found = e;
-      added_found = told ∙ ap (λ (z : ℤ). filled && int_le z (pos (measure terms)))
+      added_found = reported ∙ ap (λ (z : ℤ). filled && int_le z (pos (measure terms)))
           (ap (λ (n : ℕ). pos n +ℤ pos (length ws) *ℤ tight_space terms) e ∙ room_is terms ws some);
     }
 
@@ -110,8 +110,8 @@ left_of gap rem counts given found same is = rw same at is
 
 pub faulted : (terms : Terms) (n : ℕ) (line : SetLine) (count : ℕ) (added : Bool) (counts : List ℕ) (sum : ℤ) (faults : List JobFault) →
     HasNumbers terms line count added counts sum → faults ≡ sum_fault terms n line.filled count sum → line_fault terms n line ≡ faults
-faulted terms n line count added counts sum faults h told =
-    sym (told ∙ (ap (λ (k : ℕ). sum_fault terms n line.filled k sum) h.spaces_found ∙ ap (λ (z : ℤ). sum_fault terms n line.filled (spaces terms line) z) h.sum_found))
+faulted terms n line count added counts sum faults h reported =
+    sym (reported ∙ (ap (λ (k : ℕ). sum_fault terms n line.filled k sum) h.spaces_found ∙ ap (λ (z : ℤ). sum_fault terms n line.filled (spaces terms line) z) h.sum_found))
 
 pub too_wide : (terms : Terms) (n : ℕ) (line : SetLine) (count : ℕ) → count ≡ spaces terms line → count ≡ 0 → line_fault terms n line ≡ TooWide n ∷ []
 too_wide terms n line count s none = ap (λ (k : ℕ). sum_fault terms n line.filled k (wedge_sum terms line)) (sym s ∙ none)

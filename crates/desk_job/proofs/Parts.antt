@@ -40,5 +40,5 @@ pub next_line : (terms : Terms) (copy : List Symbol) (words : List Word) (groups
     i < length groups → filled ≡ (length (drop (i + 1) groups) == 0) || ((get_or groups i d).to - (get_or groups i d).from == 1) →
     IsAdding terms (lines_at copy words (drop i groups)) all old now →
     IsAdding terms ((line_at copy (group_words words (get_or groups i d)) filled ∷ []) ++ lines_at copy words (drop (i + 1) groups)) all old now
-next_line terms copy words groups i d filled all old now below told is =
-    rw told (rw (lines_step copy words groups i d below) at is)
+next_line terms copy words groups i d filled all old now below reported is =
+    rw reported (rw (lines_step copy words groups i d below) at is)

@@ -11,14 +11,14 @@ use Rattle.desk_ops.proofs.Lists.{Each-append}
 use Rattle.desk_signals.specs.declared.Cell.{Cell}
 use Rattle.desk_signals.specs.declared.RibbonRow.{RibbonRow}
 use Rattle.desk_signals.specs.Rows.{IsRow}
-use Rattle.desk_case.specs.Names.{IsCell, place}
-use Rattle.desk_case.specs.Case.{CaseValues, IsCase, symbol_at, cell_of}
+use Rattle.desk_case.specs.Names.{IsCell, place, same_cell}
+use Rattle.desk_case.specs.Case.{CaseValues, IsCase, symbol_at, cell_of, is_fill}
 use Rattle.desk_case.proofs.Grids.{inverse}
 use Rattle.desk_units.specs.WedgeSum.{coarse_of, fine_of, greatest, least, pair_of, sum_at}
 use Rattle.desk_ribbon.specs.declared.Punch.{Punch}
 use Rattle.desk_ribbon.specs.declared.PunchLine.{PunchLine}
 use Rattle.desk_ribbon.specs.Ribbon as ribbon
-use Rattle.desk_caster.specs.Caster.{has_matrix, same_cell}
+use Rattle.desk_caster.specs.Caster.{has_matrix}
 use Rattle.desk_caster.specs.Lines.{HasAll, LinesHaveAll, line_cast}
 use Rattle.desk_job.specs.Job.{Terms, SetLine, plain, word_punches, spaced_punches, words_punches, space_punch, fill_punches, fills, punches, has_added, spaces, wedge_sum, line_rows}
 use Rattle.desk_job.specs.Reading.{AreLines}
@@ -67,8 +67,8 @@ or_first a b e = rw e refl
 
 has_space : (case : CaseValues) → has_matrix case case.space ≡ true
 has_space case =
-    or_right (is_some (symbol_at case case.space)) (same_cell case.space case.space || list_any (same_cell case.space) case.fill)
-    (or_first (same_cell case.space case.space) (list_any (same_cell case.space) case.fill) (same_cell-refl case.space))
+    or_right (is_some (symbol_at case case.space)) (same_cell case.space case.space || is_fill case case.space)
+    (or_first (same_cell case.space case.space) (is_fill case case.space) (same_cell-refl case.space))
 
 each_map : {A : Type 0} (P Q : A → Type 0) (xs : List A) → ((x : A) → P x → Q x) → AllByRecursion P xs → AllByRecursion Q xs
 each_map P Q [] f each = tt
@@ -89,9 +89,9 @@ both_each P Q (x ∷ xs) a b = ((a.0, b.0), both_each P Q xs a.1 b.1)
 fills_in : (case : CaseValues) → IsCase case → AllByRecursion (IsIn case) case.fill
 fills_in case is =
     both_each (λ c. has_matrix case c ≡ true) IsCell case.fill
-    (each_map (λ c. list_any (same_cell c) case.fill ≡ true) (λ c. has_matrix case c ≡ true) case.fill
-    (λ c e. or_right (is_some (symbol_at case c)) (same_cell case.space c || list_any (same_cell c) case.fill)
-    (or_right (same_cell case.space c) (list_any (same_cell c) case.fill) e)) (self_any case.fill))
+    (each_map (λ c. is_fill case c ≡ true) (λ c. has_matrix case c ≡ true) case.fill
+    (λ c e. or_right (is_some (symbol_at case c)) (same_cell case.space c || is_fill case c)
+    (or_right (same_cell case.space c) (is_fill case c) e)) (self_any case.fill))
     (recursion_from_All IsCell case.fill is.fill)
 
 pub case_sound : (case : CaseValues) → IsCase case → IsSound case
@@ -106,7 +106,7 @@ symbol_in case symbol None is e = tt
 symbol_in case symbol (Some cell) is e =
     let back = (inverse case is symbol cell).0 e in
     let held : is_some (symbol_at case cell) ≡ true = rw back.0 refl in
-    ((or_first (is_some (symbol_at case cell)) (same_cell case.space cell || list_any (same_cell cell) case.fill) held, back.1), tt)
+    ((or_first (is_some (symbol_at case cell)) (same_cell case.space cell || is_fill case cell) held, back.1), tt)
 
 in_append : (case : CaseValues) (a b : List Punch) → AreIn case a → AreIn case b → AreIn case (a ++ b)
 in_append case [] b h k = k

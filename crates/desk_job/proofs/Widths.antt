@@ -59,10 +59,10 @@ less_width n u v some below =
     let more = mul-le-mul_left {m = suc v} {n = u} n below in omega (arith, some, more)
 
 pub all_descend : (w : WedgeValues) (cells : List Cell) → IsWedge w → is_descending (units_of_cells w cells) ≡ true → Descend (widths_of w cells)
-all_descend w [] is told = tt
-all_descend w (cell ∷ []) is told = tt
-all_descend w (cell ∷ next ∷ cells) is told =
-    let parts = and_parts (nat_lt (units_of_row w next.row) (units_of_row w cell.row)) (is_descending (units_of_cells w (next ∷ cells))) told in
+all_descend w [] is reported = tt
+all_descend w (cell ∷ []) is reported = tt
+all_descend w (cell ∷ next ∷ cells) is reported =
+    let parts = and_parts (nat_lt (units_of_row w next.row) (units_of_row w cell.row)) (is_descending (units_of_cells w (next ∷ cells))) reported in
     let test = parts.0 in
     let below : units_of_row w next.row < units_of_row w cell.row = grind (arith, nat_tests) in
     let less = less_width (unit_width w) (units_of_row w cell.row) (units_of_row w next.row) (unit_some w is) below in

@@ -110,8 +110,8 @@ fn is_as(answer: &Answer, want: Result<&str, CastFault>) -> bool {
     }
 }
 
-/// Whether the cast wanted memory where a heap has so much left, or none where its answer is another than the wanted one,
-/// then or with memory.
+/// Whether the cast asked for memory where a heap has so much left, or none where its answer is another than the wanted
+/// one, then or with memory.
 fn is_refused(
     alloc: Global,
     rows: &[RibbonRow],
@@ -131,8 +131,8 @@ fn is_refused(
     })
 }
 
-/// Of rows whose cast has each growth refused in turn: how often it wanted memory, and how often not. Its other answers
-/// are the wanted one, and so is the answer with memory.
+/// Of rows whose cast has each growth refused in turn: how often it asked for memory, and how often not. Its other
+/// answers are the wanted one, and so is the answer with memory.
 fn refusals(
     alloc: Global,
     rows: &[RibbonRow],
@@ -335,7 +335,7 @@ fn have_images(rows: &[RibbonRow], words: &[u8]) -> bool {
 
 /// How a ribbon with one bit changed was answered.
 #[derive(Clone, Copy)]
-enum Told {
+enum Reported {
     /// Its first eight bytes were refused.
     Start,
     /// The row of the bit was refused.
@@ -346,21 +346,22 @@ enum Told {
     Uncast,
 }
 
-/// What is told of rows whose images are to be these words: nothing where they are others, or the caster wants memory.
-fn told_of_rows(
+/// What is reported of rows whose images are to be these words: nothing where they are others, or the caster asks for
+/// memory.
+fn reported_of_rows(
     alloc: Global,
     rows: &[RibbonRow],
     words: &[u8],
     case: &MatrixCase,
     wedge: &Wedge,
-) -> Option<Told> {
+) -> Option<Reported> {
     if rows.len() > 100 || !have_images(rows, words) {
         return None;
     }
     match cast(alloc, rows, case, wedge) {
-        Ok(_) => Some(Told::Cast),
+        Ok(_) => Some(Reported::Cast),
         Err(CastFault::NoMemory) => None,
-        Err(_) => Some(Told::Uncast),
+        Err(_) => Some(Reported::Uncast),
     }
 }
 
@@ -377,23 +378,23 @@ fn is_fault_of(fault: RibbonFault, bit: usize) -> bool {
     }
 }
 
-/// What is told of a ribbon in which this bit is changed, where that is right.
-fn told_of(
+/// What is reported of a ribbon in which this bit is changed, where that is right.
+fn reported_of(
     alloc: Global,
     changed: &[u8],
     bit: usize,
     case: &MatrixCase,
     wedge: &Wedge,
-) -> Option<Told> {
+) -> Option<Reported> {
     let [_, _, _, _, _, _, _, _, words @ ..] = changed else {
         return None;
     };
     match read_ribbon(alloc, changed) {
         Ok(rows) if bit < 64 => None,
-        Ok(rows) => told_of_rows(alloc, &rows, words, case, wedge),
+        Ok(rows) => reported_of_rows(alloc, &rows, words, case, wedge),
         Err(fault) if !is_fault_of(fault, bit) => None,
-        Err(RibbonFault::Row(_, _)) => Some(Told::Row),
-        Err(_) => Some(Told::Start),
+        Err(RibbonFault::Row(_, _)) => Some(Reported::Row),
+        Err(_) => Some(Reported::Start),
     }
 }
 
@@ -405,11 +406,11 @@ fn tally_of_bits(alloc: Global, bytes: &[u8]) -> Result<[u32; 4], Fail> {
     let mut tally = [0u32; 4];
     for bit in 0..bytes.len().saturating_mul(8) {
         let changed = with_bit_changed(alloc, bytes, bit)?;
-        let told = told_of(alloc, &changed, bit, &case, &wedge);
-        let Some(told) = told else {
+        let reported = reported_of(alloc, &changed, bit, &case, &wedge);
+        let Some(reported) = reported else {
             return Err(Fail::new("another answer"));
         };
-        let place = told as usize;
+        let place = reported as usize;
         tally[place] = tally[place].saturating_add(1);
     }
     Ok(tally)
@@ -427,8 +428,8 @@ fn each_bit_of_a_ribbon(rt: HostRuntime) -> Result<(), Fail> {
     Ok(())
 }
 
-/// Whether reading wanted memory where a heap has so much left, or none where its answer is another than the wanted one,
-/// then or with memory.
+/// Whether reading asked for memory where a heap has so much left, or none where its answer is another than the wanted
+/// one, then or with memory.
 fn is_reading_refused(
     alloc: Global,
     bytes: &[u8],
@@ -447,7 +448,7 @@ fn is_reading_refused(
     })
 }
 
-/// How often reading wanted memory, of 64 heaps that have ever more left. Its other answers are the wanted one.
+/// How often reading asked for memory, of 64 heaps that have ever more left. Its other answers are the wanted one.
 fn refusals_of_reading(
     alloc: Global,
     bytes: &[u8],
@@ -456,7 +457,7 @@ fn refusals_of_reading(
     let mut refused = 0u32;
     for cut in 0..64usize {
         match is_reading_refused(alloc, bytes, want, cut)? {
-            Some(told) => refused = refused.saturating_add(u32::from(told)),
+            Some(reported) => refused = refused.saturating_add(u32::from(reported)),
             None => return Err(Fail::new("another answer, then or with memory")),
         }
     }
@@ -512,7 +513,7 @@ const RIBBON_WORDS: [(RibbonFault, &str); 4] = [
 /// Whether these are the words of the caster's fault.
 fn is_cast_worded(alloc: Global, fault: CastFault, words: &str) -> bool {
     match format!(in alloc; "{fault}") {
-        Ok(told) => told.as_str() == words,
+        Ok(reported) => reported.as_str() == words,
         Err(AllocError) => false,
     }
 }
@@ -520,7 +521,7 @@ fn is_cast_worded(alloc: Global, fault: CastFault, words: &str) -> bool {
 /// Whether these are the words of a ribbon's fault.
 fn is_worded(alloc: Global, fault: RibbonFault, words: &str) -> bool {
     match format!(in alloc; "{fault}") {
-        Ok(told) => told.as_str() == words,
+        Ok(reported) => reported.as_str() == words,
         Err(AllocError) => false,
     }
 }

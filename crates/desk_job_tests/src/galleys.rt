@@ -281,7 +281,7 @@ fn causes_against_a_galley(rt: HostRuntime) -> Result<(), Fail> {
 /// Whether these are the words of a refusal.
 fn is_worded(alloc: Global, why: GalleyRefusal, words: &str) -> bool {
     match format!(in alloc; "{why}") {
-        Ok(told) => told.as_str() == words,
+        Ok(reported) => reported.as_str() == words,
         Err(AllocError) => false,
     }
 }

@@ -109,8 +109,8 @@ fn is_refused<'a>(
     }
 }
 
-/// Tells of one step of a replica in a heap: the copy's heap has so many bytes left, and then the answer's. The replica's
-/// feed stays the same.
+/// Reports one step of a replica in a heap: the copy's heap has so many bytes left, and then the answer's. The
+/// replica's feed stays the same.
 fn refuse<'a>(
     alloc: Global,
     (own, heap): (&'a LocalHeap, &'a LocalHeap),
@@ -183,8 +183,8 @@ fn refuse_each(alloc: Global, job: Job<'_>, want: Want<'_>) -> Result<Tally, Fai
     refuse_in(alloc, &own, &heap, job, (&case, &wedge), want)
 }
 
-/// What is told of the growths of a text's job, all else as it is in most. Its ribbon is that of the empty paragraph where
-/// it is one.
+/// What is reported of the growths of a text's job, all else as it is in most. Its ribbon is that of the empty paragraph
+/// where it is one.
 fn tally_of(alloc: Global, text: &str) -> Result<Tally, Fail> {
     let job = Job {
         text,
@@ -256,7 +256,7 @@ const FAULTS: [(&str, &str, &[(Key, u32)], &[JobFault]); 4] = [
     ),
 ];
 
-/// What is told of the growths of a job with these faults.
+/// What is reported of the growths of a job with these faults.
 fn tally_of_faults(
     alloc: Global,
     text: &str,

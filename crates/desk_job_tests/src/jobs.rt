@@ -338,7 +338,7 @@ const WORDS: [(JobFault, &str); 10] = [
 /// Whether these are the words of a fault.
 fn is_worded(alloc: Global, fault: JobFault, words: &str) -> bool {
     match format!(in alloc; "{fault}") {
-        Ok(told) => told.as_str() == words,
+        Ok(reported) => reported.as_str() == words,
         Err(AllocError) => false,
     }
 }

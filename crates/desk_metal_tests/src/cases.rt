@@ -132,13 +132,13 @@ pub fn is_file_faulty(
 /// Whether these are the words of a fault.
 fn is_worded(alloc: Global, fault: &CaseFault, words: &str) -> bool {
     match format!(in alloc; "{fault}") {
-        Ok(told) => told.as_str() == words,
+        Ok(reported) => reported.as_str() == words,
         Err(AllocError) => false,
     }
 }
 
 /// Whether a file of so many columns and rows answers the fault of these words, or none where there are none.
-pub fn is_file_told(
+pub fn is_file_reported(
     alloc: Global,
     head: &str,
     (columns, rows): (usize, usize),
@@ -289,7 +289,7 @@ static UNLAWFUL: [(&str, usize, Texts<'static>, &str); 5] = [
 fn unlawful_files(rt: HostRuntime) {
     for &(head, rows, texts, words) in &UNLAWFUL {
         assert!(rt;
-            is_file_told(rt.alloc(), head, (15, rows), texts, Some(words)),
+            is_file_reported(rt.alloc(), head, (15, rows), texts, Some(words)),
             "{words}"
         );
     }
@@ -667,7 +667,7 @@ static FIRST_FAULTS: [(&str, Texts<'static>, &str); 12] = [
 fn faults_in_their_order(rt: HostRuntime) -> Result<(), Fail> {
     for &(head, texts, words) in &FIRST_FAULTS {
         assert!(rt;
-            is_file_told(rt.alloc(), head, (15, 15), texts, Some(words)),
+            is_file_reported(rt.alloc(), head, (15, 15), texts, Some(words)),
             "{head}"
         );
     }
@@ -690,7 +690,7 @@ fn is_in_words(alloc: Global, column: Column, row: u8, text: &str) -> bool {
     };
     let cell = Cell { column, row };
     match format!(in alloc; "{cell}") {
-        Ok(told) => told.as_str() == text && text.starts_with(column.name()),
+        Ok(reported) => reported.as_str() == text && text.starts_with(column.name()),
         Err(AllocError) => false,
     }
 }
@@ -740,18 +740,18 @@ const KEYS: [(CaseKey, &str); 4] = [
 ];
 
 /// Whether a fault has this number, or none, and these words.
-fn is_told(alloc: Global, fault: CaseFault, number: Option<u8>, words: &str) -> bool {
+fn is_reported(alloc: Global, fault: CaseFault, number: Option<u8>, words: &str) -> bool {
     is_worded(alloc, &fault, words) && fault.number() == number
 }
 
 #[test]
 fn names_its_faults(rt: HostRuntime) {
     for &(fault, number, words) in &FAULTS {
-        assert!(rt; is_told(rt.alloc(), fault, number, words), "{words}");
+        assert!(rt; is_reported(rt.alloc(), fault, number, words), "{words}");
     }
     let bad = "cell A1 has a text that is no symbol";
     assert!(rt;
-        is_told(
+        is_reported(
             rt.alloc(),
             CaseFault::BadText(at(Column::A, 1)),
             Some(4),
@@ -760,7 +760,7 @@ fn names_its_faults(rt: HostRuntime) {
     );
     let held = "cell A1, the space or a fill, holds a symbol";
     assert!(rt;
-        is_told(
+        is_reported(
             rt.alloc(),
             CaseFault::NotBlank(at(Column::A, 1)),
             Some(6),

@@ -13,7 +13,7 @@ const DIGEST: u64 = 6_586_561_702_719_628_372;
 const COUNTS: [u32; 8] = [510, 15, 15, 75_472, 12_376, 510, 960, 30];
 
 /// Which answer a row is among the counted, and its number in the digest.
-fn told_of_row(row: &RibbonRow) -> (usize, u32) {
+fn reported_of_row(row: &RibbonRow) -> (usize, u32) {
     match row {
         RibbonRow::Cell { column, row, s } => {
             let place = 100 * column.index() as u32 + 2 * row.get() as u32;
@@ -25,9 +25,9 @@ fn told_of_row(row: &RibbonRow) -> (usize, u32) {
 }
 
 /// The same of an image.
-fn told(image: Image) -> (usize, u32) {
+fn reported(image: Image) -> (usize, u32) {
     match image.to_row() {
-        Ok(row) => told_of_row(&row),
+        Ok(row) => reported_of_row(&row),
         Err(BadImage::Row(why)) => (
             2usize.saturating_add(why.number() as usize),
             why.number() as u32,
@@ -47,17 +47,17 @@ fn few(alloc: Global) -> Result<Vec<u32>, AllocError> {
     Ok(few)
 }
 
-/// What was told of the images so far: a digest, how often each answer came, and whether each row's image is the one that
-/// it was read from.
+/// What was reported of the images so far: a digest, how often each answer came, and whether each row's image is the
+/// one that it was read from.
 struct Tally {
     digest: u64,
     counts: [u32; 8],
     alike: bool,
 }
 
-/// Adds what is told of an image.
-fn tell(tally: &mut Tally, image: Image) {
-    let (which, number) = told(image);
+/// Adds what is reported of an image.
+fn report(tally: &mut Tally, image: Image) {
+    let (which, number) = reported(image);
     tally.digest = (tally.digest ^ number as u64).wrapping_mul(1_099_511_628_211);
     if let Some(count) = tally.counts.get_mut(which) {
         *count = count.saturating_add(1);
@@ -67,16 +67,16 @@ fn tell(tally: &mut Tally, image: Image) {
     }
 }
 
-/// Adds what is told of the images of these letters and numbers.
-fn tell_of(tally: &mut Tally, letters: u32, numbers: u32) {
+/// Adds what is reported of the images of these letters and numbers.
+fn report_of(tally: &mut Tally, letters: u32, numbers: u32) {
     for last in 0..8u32 {
         let bits = letters.wrapping_shl(17) | numbers.wrapping_shl(3) | last;
-        tell(tally, Image::new(bits));
+        report(tally, Image::new(bits));
     }
 }
 
-/// What is told of all images of these masks.
-fn told_of_all(few: &[u32]) -> Tally {
+/// What is reported of all images of these masks.
+fn reported_of_all(few: &[u32]) -> Tally {
     let mut tally = Tally {
         digest: 14_695_981_039_346_656_037,
         counts: [0; 8],
@@ -84,7 +84,7 @@ fn told_of_all(few: &[u32]) -> Tally {
     };
     for letters in few {
         for numbers in few {
-            tell_of(&mut tally, *letters, *numbers);
+            report_of(&mut tally, *letters, *numbers);
         }
     }
     tally
@@ -97,7 +97,7 @@ fn every_image_of_two_letters_and_two_numbers(rt: HostRuntime) -> Result<(), Fai
         digest,
         counts,
         alike,
-    } = told_of_all(few.as_slice());
+    } = reported_of_all(few.as_slice());
     assert!(rt;
         few.len() == 106 && alike && digest == DIGEST && counts == COUNTS,
         "{digest} {counts:?}"

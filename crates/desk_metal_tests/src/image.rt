@@ -68,10 +68,10 @@ const UNLAWFUL: [(u32, BadImage, &str); 6] = [
 
 /// Whether an image is no row for this reason, in these words.
 fn is_unlawful(alloc: Global, bits: u32, why: BadImage, words: &str) -> bool {
-    let Ok(told) = format!(in alloc; "{why}") else {
+    let Ok(reported) = format!(in alloc; "{why}") else {
         return false;
     };
-    Image::new(bits).to_row() == Err(why) && told.as_str() == words
+    Image::new(bits).to_row() == Err(why) && reported.as_str() == words
 }
 
 #[test]

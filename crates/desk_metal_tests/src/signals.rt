@@ -85,9 +85,9 @@ const FAULTS: [(BadRow, u8, &str); 6] = [
 ];
 
 /// Whether a fault has this number and these words.
-fn is_told(alloc: Global, why: BadRow, number: u8, words: &str) -> bool {
+fn is_reported(alloc: Global, why: BadRow, number: u8, words: &str) -> bool {
     match format!(in alloc; "{why}") {
-        Ok(told) => why.number() == number && told.as_str() == words,
+        Ok(reported) => why.number() == number && reported.as_str() == words,
         Err(AllocError) => false,
     }
 }
@@ -95,7 +95,7 @@ fn is_told(alloc: Global, why: BadRow, number: u8, words: &str) -> bool {
 #[test]
 fn names_its_faults(rt: HostRuntime) {
     for &(why, number, words) in &FAULTS {
-        assert!(rt; is_told(rt.alloc(), why, number, words), "{words}");
+        assert!(rt; is_reported(rt.alloc(), why, number, words), "{words}");
     }
 }
 

@@ -93,6 +93,7 @@ fn sums_of_positions(rt: HostRuntime) {
         assert!(rt; is_sum(coarse, fine, sum, steps, wider), "{sum}");
     }
     assert!(rt; WedgeSum::NEUTRAL.get() == 53);
+    assert!(rt; WedgeSum::GREATEST.get() == 240);
     for &number in &[0, 15, 241, u32::MAX] {
         assert!(rt; WedgeSum::new(number).is_none(), "{number}");
     }

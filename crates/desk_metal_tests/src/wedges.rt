@@ -95,13 +95,13 @@ fn are_faulty(alloc: Global, units: &str, fault: WedgeFault) -> bool {
 const NARROW: &str =
     "wedge = 5\nset_q = 19\npica = \"sixth\"\nunits = [5, 6, 7, 8, 9, 9, 9, 10, 10, 11, 12, 13, 14, 15, 18]\n";
 
-/// Units that fall once, and the row of which that is told.
+/// Units that fall once, and the row of which that is reported.
 const FALLING: [(&str, u8); 2] = [
     ("[6, 5, 7, 8, 9, 9, 9, 10, 10, 11, 12, 13, 14, 15, 18]", 2),
     ("[5,6,7,7,5,6,7,8,9,10,11,12,13,14,13]", 5),
 ];
 
-/// Whether units are told to fall at this row.
+/// Whether units are reported to fall at this row.
 fn fall_at(alloc: Global, units: &str, number: u8) -> bool {
     match RowNo::new(number) {
         Some(row) => are_faulty(alloc, units, WedgeFault::Descending(row)),
@@ -234,7 +234,7 @@ const HOSTILE: [(&str, &str); 45] = [
 /// Whether these are the words of a fault.
 fn is_worded(alloc: Global, fault: &WedgeFault, words: &str) -> bool {
     match format!(in alloc; "{fault}") {
-        Ok(told) => told.as_str() == words,
+        Ok(reported) => reported.as_str() == words,
         Err(AllocError) => false,
     }
 }
@@ -372,18 +372,18 @@ const FAULTS: [(WedgeFault, Option<u8>, &str); 4] = [
 ];
 
 /// Whether a fault has this number, or none, and these words.
-fn is_told(alloc: Global, fault: WedgeFault, number: Option<u8>, words: &str) -> bool {
+fn is_reported(alloc: Global, fault: WedgeFault, number: Option<u8>, words: &str) -> bool {
     is_worded(alloc, &fault, words) && fault.number() == number
 }
 
 #[test]
 fn names_its_faults(rt: HostRuntime) {
     for &(fault, number, words) in &FAULTS {
-        assert!(rt; is_told(rt.alloc(), fault, number, words), "{words}");
+        assert!(rt; is_reported(rt.alloc(), fault, number, words), "{words}");
     }
     let falling = WedgeFault::Descending(row(7));
     let words = "row 7 has fewer units than the row before";
-    assert!(rt; is_told(rt.alloc(), falling, Some(4), words));
+    assert!(rt; is_reported(rt.alloc(), falling, Some(4), words));
 }
 
 /// Whether 64 MiB of text, which is its prefix, then one byte over and over, and its end, answers this fault, or none.

@@ -1,7 +1,8 @@
 //! The columns NI and NL, and cases that have them.
 
 use crate::cases::{
-    CASE_1, HEAD, Texts, at, case_with, has_symbol, is_blank, is_faulty, is_file_told, is_framed,
+    CASE_1, HEAD, Texts, at, case_with, has_symbol, is_blank, is_faulty, is_file_reported,
+    is_framed,
 };
 use crate::rows::{cell_row, coarse, is_image, is_read, shows};
 use desk_case::{CaseFault, CaseKey, MatrixCase};
@@ -236,7 +237,7 @@ static WIDE_FILES: [(&str, usize, Texts<'static>, Option<&str>); 10] = [
 fn faults_of_wide_files(rt: HostRuntime) {
     for &(head, columns, texts, words) in &WIDE_FILES {
         assert!(rt;
-            is_file_told(rt.alloc(), head, (columns, 15), texts, words),
+            is_file_reported(rt.alloc(), head, (columns, 15), texts, words),
             "{head} {columns}"
         );
     }

@@ -24,7 +24,7 @@ pub stamp_tied : (a b : Stamp) → stamp_cmp a b ≡ Equal → a ≡ b
 unfolding stamp_cmp
 stamp_tied a b e = grind (arith, nat_tests)
 
--- the same is what neither order tells apart
+-- the same is what neither order sets apart
 pub same-cmp : (a b : Stamp) → is_eq (stamp_cmp a b) ≡ same a b
 unfolding same stamp_cmp
 same-cmp a b = then_tie (nat_cmp a.counter b.counter) (nat_cmp a.site b.site) ∙ ap (λ t. t && is_eq (nat_cmp a.site b.site)) (unsigned_tied a.counter b.counter) ∙ ap (λ t. (a.counter == b.counter) && t) (unsigned_tied a.site b.site)

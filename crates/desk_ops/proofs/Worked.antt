@@ -47,8 +47,8 @@ characters ops = map (λ y. y.ch) (copy ops)
 shows : (os : List Op) → text (held os) ≡ characters (sorted os)
 shows os = ap characters (arrived os)
 
-tells : (os : List Op) → faults_of (held os) ≡ copy_faults (sorted os)
-tells os = ap copy_faults (arrived os)
+reports : (os : List Op) → faults_of (held os) ≡ copy_faults (sorted os)
+reports os = ap copy_faults (arrived os)
 
 says : (os : List Op) (key : Key) → setting_of (held os) key ≡ setting (sorted os) key
 says os key = ap (λ ops. setting ops key) (arrived os)
@@ -74,16 +74,16 @@ pub forked_stamp : ForkedStamp
 unfolding is_clear is_forked is_borne clear_ops clear_inserts way_end live_inserts walk is_deleted shown walk_from copy_faults same
 forked_stamp = record {
   shows = shows (typed (at 1 1) head 97 ∷ typed (at 2 1) (at 1 1) 98 ∷ typed (at 2 1) (at 1 1) 120 ∷ typed (at 3 2) (at 2 1) 99 ∷ []);
-  faults = tells (typed (at 1 1) head 97 ∷ typed (at 2 1) (at 1 1) 98 ∷ typed (at 2 1) (at 1 1) 120 ∷ typed (at 3 2) (at 2 1) 99 ∷ []);
+  faults = reports (typed (at 1 1) head 97 ∷ typed (at 2 1) (at 1 1) 98 ∷ typed (at 2 1) (at 1 1) 120 ∷ typed (at 3 2) (at 2 1) 99 ∷ []);
 }
 
 pub waiting_then_live : WaitingThenLive
 unfolding is_clear is_forked is_borne clear_ops clear_inserts way_end live_inserts walk is_deleted shown walk_from copy_faults same
 waiting_then_live = record {
   empty = shows (Delete (at 4 2) (at 3 1) ∷ typed (at 3 1) (at 2 1) 99 ∷ typed (at 2 1) (at 1 1) 98 ∷ []);
-  waiting = tells (Delete (at 4 2) (at 3 1) ∷ typed (at 3 1) (at 2 1) 99 ∷ typed (at 2 1) (at 1 1) 98 ∷ []);
+  waiting = reports (Delete (at 4 2) (at 3 1) ∷ typed (at 3 1) (at 2 1) 99 ∷ typed (at 2 1) (at 1 1) 98 ∷ []);
   shows = shows (Delete (at 4 2) (at 3 1) ∷ typed (at 3 1) (at 2 1) 99 ∷ typed (at 2 1) (at 1 1) 98 ∷ typed (at 1 1) head 97 ∷ []);
-  none = tells (Delete (at 4 2) (at 3 1) ∷ typed (at 3 1) (at 2 1) 99 ∷ typed (at 2 1) (at 1 1) 98 ∷ typed (at 1 1) head 97 ∷ []);
+  none = reports (Delete (at 4 2) (at 3 1) ∷ typed (at 3 1) (at 2 1) 99 ∷ typed (at 2 1) (at 1 1) 98 ∷ typed (at 1 1) head 97 ∷ []);
 }
 
 pub tombstones_kept : TombstonesKept

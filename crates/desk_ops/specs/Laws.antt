@@ -94,7 +94,7 @@ abbrev pub OrderIsKept : Type 0
 OrderIsKept = (h g : OpSet) → AllLawful h → AllLawful g → IsWithin h g → (x y : Insertion)
     → Precedes x y (shown (in_order h)) → Among x (shown (in_order g)) → Among y (shown (in_order g)) → Precedes x y (shown (in_order g))
 
--- where no stamp of the larger set is forked, its path order is total, tells its live inserts apart, and what the smaller shows stands in it
+-- where no stamp of the larger set is forked, its path order is total, sets its live inserts apart, and what the smaller shows stands in it
 pub record IsOneOrder (h g : OpSet) : Type 0 where
   pub total : IsTotalOrder path_cmp
   pub apart : (x y : Insertion) → Among x (live_inserts (in_order g)) → Among y (live_inserts (in_order g)) → path_cmp (path (in_order g) x.stamp) (path (in_order g) y.stamp) ≡ Equal → x ≡ y

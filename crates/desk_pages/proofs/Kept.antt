@@ -30,16 +30,16 @@ kept-starts new old starts kept q l e s = record {
   is = λ g w. (let n = length-take kept starts in get_or-take kept starts g 0 (omega arith) ∙ s.is g (omega arith) ∙ same-start (32 * g) q new old (omega arith) e);
 }
 
-kept-sums : {X S : Type 0} (tells : S → List X → Type 0) (new old : List (List X)) (sums : List S) (kept q : ℕ) → 32 * kept ≤ q → take q new ≡ take q old → IsSums tells old sums → IsSums tells new (take kept sums)
-kept-sums tells new old sums kept q l e s = record {
+kept-sums : {X S : Type 0} (sums_up : S → List X → Type 0) (new old : List (List X)) (sums : List S) (kept q : ℕ) → 32 * kept ≤ q → take q new ≡ take q old → IsSums sums_up old sums → IsSums sums_up new (take kept sums)
+kept-sums sums_up new old sums kept q l e s = record {
   within = λ g w. (let n = length-take kept sums in as-long (32 * g + 32) q new old (omega arith) (s.within g (omega arith)) e);
   is = λ g d w. (
       let n = length-take kept sums in
       rw (get_or-take kept sums g d (omega arith), sym (same-group g q new old (omega arith) e)) (s.is g d (omega arith)));
 }
 
-pub kept-groups : {X S : Type 0} (tells : S → List X → Type 0) (new old : List (List X)) (starts : List ℕ) (sums : List S) (kept q : ℕ) → 32 * kept ≤ q → take q new ≡ take q old → IsGroups tells old starts sums → IsGroups tells new (take kept starts) (take kept sums)
-kept-groups tells new old starts sums kept q l e s = (kept-starts new old starts kept q l e s.0, kept-sums tells new old sums kept q l e s.1)
+pub kept-groups : {X S : Type 0} (sums_up : S → List X → Type 0) (new old : List (List X)) (starts : List ℕ) (sums : List S) (kept q : ℕ) → 32 * kept ≤ q → take q new ≡ take q old → IsGroups sums_up old starts sums → IsGroups sums_up new (take kept starts) (take kept sums)
+kept-groups sums_up new old starts sums kept q l e s = (kept-starts new old starts kept q l e s.0, kept-sums sums_up new old sums kept q l e s.1)
 
 -- ---- what stands before a page that is cut
 

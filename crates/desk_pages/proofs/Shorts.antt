@@ -53,17 +53,17 @@ short-last (r ∷ pages) zero h l e = (e, h)
 short-last (r ∷ pages) (suc p) h l e = (h.0, shorts-last pages p h.1 (omega arith) e)
 
 -- without the last, which is empty
-shorts-front : {X : Type 0} (pages : List (List X)) (y : List X) (p : ℕ) → AreShortAt (pages ++ y ∷ []) p → p ≡ length pages → AreHalfFull pages
-shorts-front [] y p h e = tt
-shorts-front (r ∷ []) y zero h e = absurd (omega arith)
-shorts-front (r ∷ []) y (suc p) h e = let a : 128 ≤ length r = h.0 in let k : 1 ≤ length r = omega arith in k
-shorts-front (r ∷ s ∷ pages) y zero h e = absurd (omega arith)
-shorts-front (r ∷ s ∷ pages) y (suc p) h e = half-cons r (s ∷ pages) h.0 (shorts-front (s ∷ pages) y p h.1 (omega arith))
+shorts-prefix : {X : Type 0} (pages : List (List X)) (y : List X) (p : ℕ) → AreShortAt (pages ++ y ∷ []) p → p ≡ length pages → AreHalfFull pages
+shorts-prefix [] y p h e = tt
+shorts-prefix (r ∷ []) y zero h e = absurd (omega arith)
+shorts-prefix (r ∷ []) y (suc p) h e = let a : 128 ≤ length r = h.0 in let k : 1 ≤ length r = omega arith in k
+shorts-prefix (r ∷ s ∷ pages) y zero h e = absurd (omega arith)
+shorts-prefix (r ∷ s ∷ pages) y (suc p) h e = half-cons r (s ∷ pages) h.0 (shorts-prefix (s ∷ pages) y p h.1 (omega arith))
 
-pub short-front : {X : Type 0} (pages : List (List X)) (y : List X) (p : ℕ) → IsShortAt (pages ++ y ∷ []) p → p ≡ length pages → IsHalfFull pages
-short-front [] y p h e = tt
-short-front (r ∷ pages) y zero h e = absurd (omega arith)
-short-front (r ∷ pages) y (suc p) h e = (h.0, shorts-front pages y p h.1 (omega arith))
+pub short-prefix : {X : Type 0} (pages : List (List X)) (y : List X) (p : ℕ) → IsShortAt (pages ++ y ∷ []) p → p ≡ length pages → IsHalfFull pages
+short-prefix [] y p h e = tt
+short-prefix (r ∷ pages) y zero h e = absurd (omega arith)
+short-prefix (r ∷ pages) y (suc p) h e = (h.0, shorts-prefix pages y p h.1 (omega arith))
 
 -- joined with the next
 pub merge-joined : {X : Type 0} (pages : List (List X)) (p : ℕ) → suc p < length pages → joined (set (remove pages (suc p)) p (get_or pages p [] ++ get_or pages (suc p) [])) ≡ joined pages

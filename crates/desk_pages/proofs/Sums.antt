@@ -44,31 +44,31 @@ group-other pages g q y (inr b) =
     ∙ ap (λ (l : List (List _)). take 32 l) (drop-set-add (32 * g) pages (q - 32 * g) y)
     ∙ take-set-le 32 (drop (32 * g) pages) (q - 32 * g) y (omega arith)
 
-pub sums-set : {X S : Type 0} (tells : S → List X → Type 0) (pages : List (List X)) (q : ℕ) (y : List X) (old new : List S) → IsSums tells pages old → length new ≡ length old → ((n : ℕ) (d : S) → n ≢ q / 32 → get_or new n d ≡ get_or old n d) → ((d : S) → q / 32 < length old → tells (get_or new (q / 32) d) (joined (set (group_at pages (q / 32)) (q - 32 * (q / 32)) y))) → IsSums tells (set pages q y) new
-sums-set {X} {S} tells pages q y old new s len others own = record {
+pub sums-set : {X S : Type 0} (sums_up : S → List X → Type 0) (pages : List (List X)) (q : ℕ) (y : List X) (old new : List S) → IsSums sums_up pages old → length new ≡ length old → ((n : ℕ) (d : S) → n ≢ q / 32 → get_or new n d ≡ get_or old n d) → ((d : S) → q / 32 < length old → sums_up (get_or new (q / 32) d) (joined (set (group_at pages (q / 32)) (q - 32 * (q / 32)) y))) → IsSums sums_up (set pages q y) new
+sums-set {X} {S} sums_up pages q y old new s len others own = record {
   within = λ g w. (let a = s.within g (omega arith) in let b = length-set pages q y in omega arith);
   is = λ g d w. low g d (omega (arith, len)) (cases_lt g (q / 32));
 }
   where
-    other : (g : ℕ) (d : S) → g < length old → g ≢ q / 32 → (q < 32 * g) ⊎ (32 * g + 32 ≤ q) → tells (get_or new g d) (joined (group_at (set pages q y) g))
+    other : (g : ℕ) (d : S) → g < length old → g ≢ q / 32 → (q < 32 * g) ⊎ (32 * g + 32 ≤ q) → sums_up (get_or new g d) (joined (group_at (set pages q y) g))
     other g d w n o = rw (others g d n, group-other pages g q y o) (s.is g d w)
 
-    here : (g : ℕ) (d : S) → g < length old → q / 32 ≡ g → tells (get_or new g d) (joined (group_at (set pages q y) g))
-    here g d w e = subst (λ (n : ℕ). tells (get_or new n d) (joined (group_at (set pages q y) n))) e (rw (group-set pages (q / 32) q y (omega arith) (omega arith)) (own d (omega arith)))
+    here : (g : ℕ) (d : S) → g < length old → q / 32 ≡ g → sums_up (get_or new g d) (joined (group_at (set pages q y) g))
+    here g d w e = subst (λ (n : ℕ). sums_up (get_or new n d) (joined (group_at (set pages q y) n))) e (rw (group-set pages (q / 32) q y (omega arith) (omega arith)) (own d (omega arith)))
 
-    high : (g : ℕ) (d : S) → g < length old → q / 32 ≤ g → (q / 32 < g) ⊎ (g ≤ q / 32) → tells (get_or new g d) (joined (group_at (set pages q y) g))
+    high : (g : ℕ) (d : S) → g < length old → q / 32 ≤ g → (q / 32 < g) ⊎ (g ≤ q / 32) → sums_up (get_or new g d) (joined (group_at (set pages q y) g))
     high g d w a (inl b) = other g d w (omega arith) (inl (omega arith))
     high g d w a (inr b) = here g d w (omega arith)
 
-    low : (g : ℕ) (d : S) → g < length old → (g < q / 32) ⊎ (q / 32 ≤ g) → tells (get_or new g d) (joined (group_at (set pages q y) g))
+    low : (g : ℕ) (d : S) → g < length old → (g < q / 32) ⊎ (q / 32 ≤ g) → sums_up (get_or new g d) (joined (group_at (set pages q y) g))
     low g d w (inl a) = other g d w (omega arith) (inr (omega arith))
     low g d w (inr a) = high g d w a (cases_lt (q / 32) g)
 
 -- one more in page q
-pub sums-insert : {X S : Type 0} (tells : S → List X → Type 0) (pages : List (List X)) (q k : ℕ) (x : X) (old new : List S) → k ≤ length (get_or pages q []) → length (joined pages) < 2 ^ 48 → IsSums tells pages old → length new ≡ length old → ((n : ℕ) (d : S) → n ≢ q / 32 → get_or new n d ≡ get_or old n d) → ((xs : List X) (i : ℕ) (d : S) → q / 32 < length old → length xs < 2 ^ 48 → i ≤ length xs → tells (get_or old (q / 32) d) xs → tells (get_or new (q / 32) d) (insert xs i x)) → IsSums tells (set pages q (insert (get_or pages q []) k x)) new
-sums-insert {X} {S} tells pages q k x old new l fits s len others more = sums-set tells pages q (insert (get_or pages q []) k x) old new s len others own
+pub sums-insert : {X S : Type 0} (sums_up : S → List X → Type 0) (pages : List (List X)) (q k : ℕ) (x : X) (old new : List S) → k ≤ length (get_or pages q []) → length (joined pages) < 2 ^ 48 → IsSums sums_up pages old → length new ≡ length old → ((n : ℕ) (d : S) → n ≢ q / 32 → get_or new n d ≡ get_or old n d) → ((xs : List X) (i : ℕ) (d : S) → q / 32 < length old → length xs < 2 ^ 48 → i ≤ length xs → sums_up (get_or old (q / 32) d) xs → sums_up (get_or new (q / 32) d) (insert xs i x)) → IsSums sums_up (set pages q (insert (get_or pages q []) k x)) new
+sums-insert {X} {S} sums_up pages q k x old new l fits s len others more = sums-set sums_up pages q (insert (get_or pages q []) k x) old new s len others own
   where
-    own : (d : S) → q / 32 < length old → tells (get_or new (q / 32) d) (joined (set (group_at pages (q / 32)) (q - 32 * (q / 32)) (insert (get_or pages q []) k x)))
+    own : (d : S) → q / 32 < length old → sums_up (get_or new (q / 32) d) (joined (set (group_at pages (q / 32)) (q - 32 * (q / 32)) (insert (get_or pages q []) k x)))
     own d w =
         let grp = group_at pages (q / 32) in
         let r = q - 32 * (q / 32) in
@@ -79,13 +79,13 @@ sums-insert {X} {S} tells pages q k x old new l fits s len others more = sums-se
         let m = ap length e in
         let j : k ≤ length (get_or grp r []) = omega (arith, l) in
         let t = page-fits grp r inside in
-        subst (λ (p : List X). tells (get_or new (q / 32) d) (joined (set grp r (insert p k x)))) e (rw (joined-insert grp r k x inside j) (more (joined grp) (start_of grp r + k) d w (omega (arith, fits)) (omega arith) (s.is (q / 32) d w)))
+        subst (λ (p : List X). sums_up (get_or new (q / 32) d) (joined (set grp r (insert p k x)))) e (rw (joined-insert grp r k x inside j) (more (joined grp) (start_of grp r + k) d w (omega (arith, fits)) (omega arith) (s.is (q / 32) d w)))
 
 -- another in page q
-pub sums-write : {X S : Type 0} (tells : S → List X → Type 0) (pages : List (List X)) (q k : ℕ) (b x : X) (old new : List S) → k < length (get_or pages q []) → b ≡ get_or (get_or pages q []) k b → length (joined pages) < 2 ^ 48 → IsSums tells pages old → length new ≡ length old → ((n : ℕ) (d : S) → n ≢ q / 32 → get_or new n d ≡ get_or old n d) → ((xs : List X) (i : ℕ) (d : S) → q / 32 < length old → length xs < 2 ^ 48 → i < length xs → b ≡ get_or xs i b → tells (get_or old (q / 32) d) xs → tells (get_or new (q / 32) d) (set xs i x)) → IsSums tells (set pages q (set (get_or pages q []) k x)) new
-sums-write {X} {S} tells pages q k b x old new l is fits s len others replaced = sums-set tells pages q (set (get_or pages q []) k x) old new s len others own
+pub sums-write : {X S : Type 0} (sums_up : S → List X → Type 0) (pages : List (List X)) (q k : ℕ) (b x : X) (old new : List S) → k < length (get_or pages q []) → b ≡ get_or (get_or pages q []) k b → length (joined pages) < 2 ^ 48 → IsSums sums_up pages old → length new ≡ length old → ((n : ℕ) (d : S) → n ≢ q / 32 → get_or new n d ≡ get_or old n d) → ((xs : List X) (i : ℕ) (d : S) → q / 32 < length old → length xs < 2 ^ 48 → i < length xs → b ≡ get_or xs i b → sums_up (get_or old (q / 32) d) xs → sums_up (get_or new (q / 32) d) (set xs i x)) → IsSums sums_up (set pages q (set (get_or pages q []) k x)) new
+sums-write {X} {S} sums_up pages q k b x old new l is fits s len others replaced = sums-set sums_up pages q (set (get_or pages q []) k x) old new s len others own
   where
-    own : (d : S) → q / 32 < length old → tells (get_or new (q / 32) d) (joined (set (group_at pages (q / 32)) (q - 32 * (q / 32)) (set (get_or pages q []) k x)))
+    own : (d : S) → q / 32 < length old → sums_up (get_or new (q / 32) d) (joined (set (group_at pages (q / 32)) (q - 32 * (q / 32)) (set (get_or pages q []) k x)))
     own d w =
         let grp = group_at pages (q / 32) in
         let r = q - 32 * (q / 32) in
@@ -97,7 +97,7 @@ sums-write {X} {S} tells pages q k b x old new l is fits s len others replaced =
         let j : k < length (get_or grp r []) = omega (arith, l) in
         let t = page-within grp r k inside j in
         let at : b ≡ get_or (joined grp) (start_of grp r + k) b = is ∙ sym (entry-joined grp r k b inside j ∙ ap (λ (p : List X). get_or p k b) e) in
-        subst (λ (p : List X). tells (get_or new (q / 32) d) (joined (set grp r (set p k x)))) e (rw (joined-set grp r k x inside j) (replaced (joined grp) (start_of grp r + k) d w (omega (arith, fits)) t at (s.is (q / 32) d w)))
+        subst (λ (p : List X). sums_up (get_or new (q / 32) d) (joined (set grp r (set p k x)))) e (rw (joined-set grp r k x inside j) (replaced (joined grp) (start_of grp r + k) d w (omega (arith, fits)) t at (s.is (q / 32) d w)))
 
 -- a summary of some pages of a group, and of one more
 page-at : {X : Type 0} (pages : List (List X)) (g k : ℕ) (r : List X) → 32 * g + k < length pages → r ≡ get_or pages (32 * g + k) r → get_or (drop (32 * g) pages) k [] ≡ r
@@ -114,8 +114,8 @@ sum-fits pages g k r l e f =
     let d = drop-fits pages (32 * g) in
     omega arith
 
-pub sum-next : {X S : Type 0} (tells : S → List X → Type 0) (pages : List (List X)) (g k : ℕ) (r : List X) (s : S) → 32 * g + k < length pages → r ≡ get_or pages (32 * g + k) r → tells s (joined (take k (drop (32 * g) pages)) ++ r) → tells s (joined (take (k + 1) (drop (32 * g) pages)))
-sum-next tells pages g k r s l e t = rw (more-pages pages g k r l e) t
+pub sum-next : {X S : Type 0} (sums_up : S → List X → Type 0) (pages : List (List X)) (g k : ℕ) (r : List X) (s : S) → 32 * g + k < length pages → r ≡ get_or pages (32 * g + k) r → sums_up s (joined (take k (drop (32 * g) pages)) ++ r) → sums_up s (joined (take (k + 1) (drop (32 * g) pages)))
+sum-next sums_up pages g k r s l e t = rw (more-pages pages g k r l e) t
 
 -- how many are picked up to the end of a group
 pub group-count : {X : Type 0} (picks : X → Bool) (pages : List (List X)) (g : ℕ) → count_by picks (joined (take (32 * g + 32) pages)) ≡ count_by picks (joined (take (32 * g) pages)) + count_by picks (joined (group_at pages g))
@@ -131,5 +131,5 @@ start-grows pages n m =
     omega arith
 
 -- the group of page q summed up again
-pub sums-again : {X S : Type 0} (tells : S → List X → Type 0) (pages : List (List X)) (q : ℕ) (y : List X) (old new : List S) → IsSums tells pages old → length new ≡ length old → ((n : ℕ) (d : S) → n ≢ q / 32 → get_or new n d ≡ get_or old n d) → ((d : S) → q / 32 < length old → tells (get_or new (q / 32) d) (joined (group_at (set pages q y) (q / 32)))) → IsSums tells (set pages q y) new
-sums-again tells pages q y old new s len others summed = sums-set tells pages q y old new s len others (λ d w. subst (λ (z : List (List _)). tells (get_or new (q / 32) d) (joined z)) (group-set pages (q / 32) q y (omega arith) (omega arith)) (summed d w))
+pub sums-again : {X S : Type 0} (sums_up : S → List X → Type 0) (pages : List (List X)) (q : ℕ) (y : List X) (old new : List S) → IsSums sums_up pages old → length new ≡ length old → ((n : ℕ) (d : S) → n ≢ q / 32 → get_or new n d ≡ get_or old n d) → ((d : S) → q / 32 < length old → sums_up (get_or new (q / 32) d) (joined (group_at (set pages q y) (q / 32)))) → IsSums sums_up (set pages q y) new
+sums-again sums_up pages q y old new s len others summed = sums-set sums_up pages q y old new s len others (λ d w. subst (λ (z : List (List _)). sums_up (get_or new (q / 32) d) (joined z)) (group-set pages (q / 32) q y (omega arith) (omega arith)) (summed d w))

@@ -88,13 +88,13 @@ abbrev pub group_at : {X : Type 0} → List (List X) → ℕ → List (List X)
 group_at pages g = take 32 (drop (32 * g) pages)
 
 -- a summary of each group of 32 pages, as far as it is known
-pub record IsSums {X S : Type 0} (tells : S → List X → Type 0) (pages : List (List X)) (sums : List S) : Type 0 where
+pub record IsSums {X S : Type 0} (sums_up : S → List X → Type 0) (pages : List (List X)) (sums : List S) : Type 0 where
   pub within : (g : ℕ) → g < length sums → 32 * g + 32 ≤ length pages
-  pub is : (g : ℕ) (d : S) → g < length sums → tells (slice_index_or sums g d) (joined (group_at pages g))
+  pub is : (g : ℕ) (d : S) → g < length sums → sums_up (slice_index_or sums g d) (joined (group_at pages g))
 
 -- where each group begins, and a summary of each
 abbrev pub IsGroups : {X S : Type 0} → (S → List X → Type 0) → List (List X) → List ℕ → List S → Type 0
-IsGroups tells pages starts sums = IsStarts pages starts × IsSums tells pages sums
+IsGroups sums_up pages starts sums = IsStarts pages starts × IsSums sums_up pages sums
 
 -- a list, and how many more it takes with no new memory
 pub record Kept (X : Type 0) : Type 0 where
@@ -112,7 +112,7 @@ pub record IsNth {X : Type 0} (picks : X → Bool) (xs : List X) (from n place :
 abbrev pub IsShort : {X : Type 0} → (X → Bool) → List X → ℕ → ℕ → ℕ → Type 0
 IsShort picks xs from n left = (left ≤ n) × (count_by picks xs + left ≡ count_by picks (take from xs) + n)
 
--- those before it are picked as far as the last of them tells, and it is not
+-- those before it are picked as far as the last of them shows, and it is not
 pub record IsEdge {X : Type 0} (picks : X → Bool) (xs : List X) (i : ℕ) : Type 0 where
   pub within : i ≤ length xs
   pub below : (d : X) → 0 < i → picks (slice_index_or xs (i - 1) d) ≡ true

@@ -33,8 +33,8 @@ pub fn find_groups<T: Copy, S: Summary<T>, A: Allocator>(
     kept: usize,
 )
     requires fits { length (joined pages.now.pages) < 2 ^ 48 }
-    requires kept { IsGroups S.tells pages.now.pages (take kept groups.old.starts.items) (take kept groups.old.sums.items) }
-    ensures { IsGroups S.tells pages.now.pages groups.new.starts.items groups.new.sums.items }
+    requires kept { IsGroups S.sums_up pages.now.pages (take kept groups.old.starts.items) (take kept groups.old.sums.items) }
+    ensures { IsGroups S.sums_up pages.now.pages groups.new.starts.items groups.new.sums.items }
 {
     find_starts(pages, &mut groups.starts, kept);
     find_sums(pages, &mut groups.sums, kept);
@@ -47,8 +47,8 @@ fn find_sums<T: Copy, S: Summary<T>, A: Allocator>(
     kept: usize,
 )
     requires fits { length (joined pages.now.pages) < 2 ^ 48 }
-    requires kept { IsSums S.tells pages.now.pages (take kept sums.old.items) }
-    ensures { IsSums S.tells pages.now.pages sums.new.items }
+    requires kept { IsSums S.sums_up pages.now.pages (take kept sums.old.items) }
+    ensures { IsSums S.sums_up pages.now.pages sums.new.items }
 {
     sums.truncate(kept);
     while sums.len() < pages.len() / GROUP && sums.len() < sums.capacity() {
@@ -62,7 +62,7 @@ fn sum_of<T: Copy, S: Summary<T>, A: Allocator>(pages: &Shelf<T, S, A>, g: usize
     requires within { 32 * g + 32 ≤ length pages.now.pages }
     requires number { 32 * g < 2 ^ 64 }
     requires fits { length (joined pages.now.pages) < 2 ^ 48 }
-    ensures { S.tells result (joined (take 32 (drop (32 * g) pages.now.pages))) }
+    ensures { S.sums_up result (joined (take 32 (drop (32 * g) pages.now.pages))) }
 {
     let first = GROUP * g;
     let mut sum = S::of(&[]);
@@ -82,11 +82,11 @@ pub fn put_inside<T: Copy, S: Summary<T>, A: Allocator>(
 )
     requires gap { IsGap pages.old.pages (start_of pages.old.pages q + k) q k }
     requires half { IsHalfFull pages.old.pages }
-    requires groups { IsGroups S.tells pages.old.pages groups.old.starts.items groups.old.sums.items }
+    requires groups { IsGroups S.sums_up pages.old.pages groups.old.starts.items groups.old.sums.items }
     requires fits { length (joined pages.old.pages) < 2 ^ 48 }
     ensures put { joined pages.new.pages ≡ insert (joined pages.old.pages) (start_of pages.old.pages q + k) x }
     ensures half { IsHalfFull pages.new.pages }
-    ensures groups { IsGroups S.tells pages.new.pages groups.new.starts.items groups.new.sums.items }
+    ensures groups { IsGroups S.sums_up pages.new.pages groups.new.starts.items groups.new.sums.items }
     ensures len { length pages.new.pages ≡ length pages.old.pages }
     ensures free { pages.new.free ≡ pages.old.free }
 {
@@ -99,7 +99,7 @@ pub fn put_inside<T: Copy, S: Summary<T>, A: Allocator>(
 fn sum_with<T: Copy, S: Summary<T>, A: Allocator>(sums: &mut Vec<S, A>, g: usize, x: T)
     ensures len { length sums.new.items ≡ length sums.old.items }
     ensures others { (n : ℕ) (d : S) → n ≢ g → slice_index_or sums.new.items n d ≡ slice_index_or sums.old.items n d }
-    ensures more { (xs : List T) (i : ℕ) (d : S) → g < length sums.old.items → length xs < 2 ^ 48 → i ≤ length xs → S.tells (slice_index_or sums.old.items g d) xs → S.tells (slice_index_or sums.new.items g d) (insert xs i x) }
+    ensures more { (xs : List T) (i : ℕ) (d : S) → g < length sums.old.items → length xs < 2 ^ 48 → i ≤ length xs → S.sums_up (slice_index_or sums.old.items g d) xs → S.sums_up (slice_index_or sums.new.items g d) (insert xs i x) }
 {
     if g < sums.len() {
         sums[g] = sums[g].with(x);
@@ -117,10 +117,10 @@ pub fn set<T: Copy, S: Summary<T>, A: Allocator>(
     requires within { p < length pages.old.pages }
     requires inside { j < length (slice_index_or pages.old.pages p []) }
     requires half { IsHalfFull pages.old.pages }
-    requires groups { IsGroups S.tells pages.old.pages groups.old.starts.items groups.old.sums.items }
+    requires groups { IsGroups S.sums_up pages.old.pages groups.old.starts.items groups.old.sums.items }
     requires fits { length (joined pages.old.pages) < 2 ^ 48 }
     ensures set { joined pages.new.pages ≡ slice_set (joined pages.old.pages) (start_of pages.old.pages p + j) x }
-    ensures groups { IsGroups S.tells pages.new.pages groups.new.starts.items groups.new.sums.items }
+    ensures groups { IsGroups S.sums_up pages.new.pages groups.new.starts.items groups.new.sums.items }
     ensures half { IsHalfFull pages.new.pages }
     ensures len { length pages.new.pages ≡ length pages.old.pages }
     ensures free { pages.new.free ≡ pages.old.free }
@@ -139,7 +139,7 @@ fn sum_replaced<T: Copy, S: Summary<T>, A: Allocator>(
 )
     ensures len { length sums.new.items ≡ length sums.old.items }
     ensures others { (n : ℕ) (d : S) → n ≢ g → slice_index_or sums.new.items n d ≡ slice_index_or sums.old.items n d }
-    ensures replaced { (xs : List T) (i : ℕ) (d : S) → g < length sums.old.items → length xs < 2 ^ 48 → i < length xs → old ≡ slice_index_or xs i old → S.tells (slice_index_or sums.old.items g d) xs → S.tells (slice_index_or sums.new.items g d) (slice_set xs i new) }
+    ensures replaced { (xs : List T) (i : ℕ) (d : S) → g < length sums.old.items → length xs < 2 ^ 48 → i < length xs → old ≡ slice_index_or xs i old → S.sums_up (slice_index_or sums.old.items g d) xs → S.sums_up (slice_index_or sums.new.items g d) (slice_set xs i new) }
 {
     if g < sums.len() {
         sums[g] = sums[g].replaced(old, new);
@@ -157,12 +157,12 @@ pub fn take_inside<T: Copy, S: Summary<T>, A: Allocator>(
     requires inside { j < length (slice_index_or pages.old.pages p []) }
     requires more { HasMore pages.old.pages p }
     requires half { IsHalfFull pages.old.pages }
-    requires groups { IsGroups S.tells pages.old.pages groups.old.starts.items groups.old.sums.items }
+    requires groups { IsGroups S.sums_up pages.old.pages groups.old.starts.items groups.old.sums.items }
     requires fits { length (joined pages.old.pages) < 2 ^ 48 }
     ensures rest { joined pages.new.pages ≡ remove (joined pages.old.pages) (start_of pages.old.pages p + j) }
     ensures out { result ≡ slice_index_or (joined pages.old.pages) (start_of pages.old.pages p + j) result }
     ensures half { IsHalfFull pages.new.pages }
-    ensures groups { IsGroups S.tells pages.new.pages groups.new.starts.items groups.new.sums.items }
+    ensures groups { IsGroups S.sums_up pages.new.pages groups.new.starts.items groups.new.sums.items }
     ensures len { length pages.new.pages ≡ length pages.old.pages }
     ensures free { pages.new.free ≡ pages.old.free }
 {
@@ -183,7 +183,7 @@ fn sum_again<T: Copy, S: Summary<T>, A: Allocator>(
     requires fits { length (joined pages.now.pages) < 2 ^ 48 }
     ensures len { length sums.new.items ≡ length sums.old.items }
     ensures others { (n : ℕ) (d : S) → n ≢ g → slice_index_or sums.new.items n d ≡ slice_index_or sums.old.items n d }
-    ensures summed { (d : S) → g < length sums.old.items → S.tells (slice_index_or sums.new.items g d) (joined (take 32 (drop (32 * g) pages.now.pages))) }
+    ensures summed { (d : S) → g < length sums.old.items → S.sums_up (slice_index_or sums.new.items g d) (joined (take 32 (drop (32 * g) pages.now.pages))) }
 {
     if g < sums.len() {
         sums[g] = sum_of(pages, g);

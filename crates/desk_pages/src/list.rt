@@ -37,7 +37,7 @@ impl<T: Copy, S: Summary<T>, A: Allocator> Model for Pages<T, S, A> {
 
     ghost view = { λ a. record { entries = joined a.pages.pages; spare = spare_of a.pages.free (length a.pages.pages + a.pages.free) a.len } };
 
-    ghost invariant = { λ a. IsKept a.pages.pages a.len (length a.pages.pages + a.pages.free) × IsGroups S.tells a.pages.pages a.groups.starts.items a.groups.sums.items };
+    ghost invariant = { λ a. IsKept a.pages.pages a.len (length a.pages.pages + a.pages.free) × IsGroups S.sums_up a.pages.pages a.groups.starts.items a.groups.sums.items };
 }
 
 impl<T: Copy, S: Summary<T>, A: Allocator + Copy> Pages<T, S, A> {

@@ -269,11 +269,11 @@ pub fn put<T: Copy, S: Summary<T>, A: Allocator>(
     x: T,
 )
     requires kept { IsKept pages.old.pages len (length pages.old.pages + pages.old.free) }
-    requires groups { IsGroups S.tells pages.old.pages groups.old.starts.items groups.old.sums.items }
+    requires groups { IsGroups S.sums_up pages.old.pages groups.old.starts.items groups.old.sums.items }
     requires spot { IsSpotOrEnd pages.old.pages p j }
     requires spare { 1 ≤ spare_of pages.old.free (length pages.old.pages + pages.old.free) len }
     ensures kept { IsKept pages.new.pages (len + 1) (length pages.new.pages + pages.new.free) }
-    ensures groups { IsGroups S.tells pages.new.pages groups.new.starts.items groups.new.sums.items }
+    ensures groups { IsGroups S.sums_up pages.new.pages groups.new.starts.items groups.new.sums.items }
     ensures put { joined pages.new.pages ≡ insert (joined pages.old.pages) (start_of pages.old.pages p + j) x }
     ensures count { length pages.new.pages + pages.new.free ≡ length pages.old.pages + pages.old.free }
     ensures fewer { pages.old.free ≤ pages.new.free + 1 }
@@ -381,11 +381,11 @@ pub fn take<T: Copy, S: Summary<T>, A: Allocator>(
     len: usize,
 ) -> T
     requires kept { IsKept pages.old.pages len (length pages.old.pages + pages.old.free) }
-    requires groups { IsGroups S.tells pages.old.pages groups.old.starts.items groups.old.sums.items }
+    requires groups { IsGroups S.sums_up pages.old.pages groups.old.starts.items groups.old.sums.items }
     requires within { p < length pages.old.pages }
     requires inside { j < length (slice_index_or pages.old.pages p []) }
     ensures kept { IsKept pages.new.pages (len - 1) (length pages.new.pages + pages.new.free) }
-    ensures groups { IsGroups S.tells pages.new.pages groups.new.starts.items groups.new.sums.items }
+    ensures groups { IsGroups S.sums_up pages.new.pages groups.new.starts.items groups.new.sums.items }
     ensures rest { joined pages.new.pages ≡ remove (joined pages.old.pages) (start_of pages.old.pages p + j) }
     ensures out { result ≡ slice_index_or (joined pages.old.pages) (start_of pages.old.pages p + j) result }
     ensures count { length pages.new.pages + pages.new.free ≡ length pages.old.pages + pages.old.free }
@@ -422,7 +422,7 @@ fn take_short<T: Copy, S: Summary<T>, A: Allocator>(
     out
 }
 
-/// The page of that name, and where it starts, as far as `order` tells where it stands.
+/// The page of that name, and where it starts, as far as `order` says where it stands.
 pub fn named<'a, T: Copy, S: Summary<T>, A: Allocator>(
     pages: &'a Shelf<T, S, A>,
     starts: &[usize],

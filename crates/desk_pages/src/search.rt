@@ -16,9 +16,9 @@ pub trait Pick<T: Copy, S: Summary<T>> {
     fn picks(&self, x: T) -> bool
         ensures { result ≡ picked self.now x };
 
-    /// How many of a page, where the page's summary and length tell it.
+    /// How many of a page, where the page's summary and length say it.
     fn count(&self, _summary: S, _len: usize) -> Option<usize>
-        ensures { IfSome result (λ n. (xs : List T) → S.tells _summary xs → length xs ≡ _len → count_by (picked self.now) xs ≡ n) }
+        ensures { IfSome result (λ n. (xs : List T) → S.sums_up _summary xs → length xs ≡ _len → count_by (picked self.now) xs ≡ n) }
     {
         None
     }
@@ -176,7 +176,7 @@ fn pass<T: Copy, S: Summary<T>, A: Allocator, P: Pick<T, S>>(
     pick: &P,
     n: usize,
 ) -> Option<(usize, usize)>
-    requires { IsGroups S.tells pages.now.pages groups.now.starts.items groups.now.sums.items }
+    requires { IsGroups S.sums_up pages.now.pages groups.now.starts.items groups.now.sums.items }
     ensures within { IsSome result → at + 32 ≤ length pages.now.pages }
     ensures less { IfSome result (λ r. r.0 ≤ n) }
     ensures start { IfSome result (λ r. r.1 ≡ start_of pages.now.pages (at + 32)) }
@@ -209,7 +209,7 @@ fn nth_from<T: Copy, S: Summary<T>, A: Allocator, P: Pick<T, S>>(
 ) -> Result<usize, usize>
     requires within { p ≤ length pages.now.pages }
     requires start { start ≡ start_of pages.now.pages p }
-    requires groups { IsGroups S.tells pages.now.pages groups.now.starts.items groups.now.sums.items }
+    requires groups { IsGroups S.sums_up pages.now.pages groups.now.starts.items groups.now.sums.items }
     requires fits { length (joined pages.now.pages) < 2 ^ 64 }
     ensures found { IfOk result (λ place. IsNth (P.picked pick.now) (joined pages.now.pages) start n place) }
     ensures short { IfErr result (λ left. IsShort (P.picked pick.now) (joined pages.now.pages) start n left) }
@@ -245,7 +245,7 @@ pub fn nth<T: Copy, S: Summary<T>, A: Allocator, P: Pick<T, S>>(
 ) -> Result<usize, usize>
     requires len { len ≡ length (joined pages.now.pages) }
     requires within { from < length (joined pages.now.pages) }
-    requires groups { IsGroups S.tells pages.now.pages groups.now.starts.items groups.now.sums.items }
+    requires groups { IsGroups S.sums_up pages.now.pages groups.now.starts.items groups.now.sums.items }
     requires fits { length (joined pages.now.pages) < 2 ^ 64 }
     ensures found { IfOk result (λ place. IsNth (P.picked pick.now) (joined pages.now.pages) from n place) }
     ensures short { IfErr result (λ left. IsShort (P.picked pick.now) (joined pages.now.pages) from n left) }
@@ -276,7 +276,7 @@ fn count_in<T: Copy, S: Summary<T>, A: Allocator, P: Pick<T, S>>(
     }
 }
 
-/// How many are picked in the group that ends before a page, and where it begins, where its summary tells.
+/// How many are picked in the group that ends before a page, and where it begins, where its summary says it.
 fn group_before<T: Copy, S: Summary<T>, A: Allocator, P: Pick<T, S>>(
     pages: &Shelf<T, S, A>,
     groups: &Groups<S, A>,
@@ -284,7 +284,7 @@ fn group_before<T: Copy, S: Summary<T>, A: Allocator, P: Pick<T, S>>(
     end: usize,
     pick: &P,
 ) -> Option<(usize, usize)>
-    requires groups { IsGroups S.tells pages.now.pages groups.now.starts.items groups.now.sums.items }
+    requires groups { IsGroups S.sums_up pages.now.pages groups.now.starts.items groups.now.sums.items }
     requires end { end ≡ start_of pages.now.pages at }
     ensures within { IsSome result → 32 ≤ at }
     ensures start { IfSome result (λ r. r.1 ≡ start_of pages.now.pages (at - 32)) }
@@ -317,7 +317,7 @@ fn page_before<T: Copy, S: Summary<T>, A: Allocator, P: Pick<T, S>>(
 ) -> (usize, usize, usize)
     requires len { len ≡ length (joined pages.now.pages) }
     requires all { all ≡ count_by (P.picked pick.now) (joined pages.now.pages) }
-    requires groups { IsGroups S.tells pages.now.pages groups.now.starts.items groups.now.sums.items }
+    requires groups { IsGroups S.sums_up pages.now.pages groups.now.starts.items groups.now.sums.items }
     ensures within { result.0 ≤ length pages.now.pages }
     ensures start { result.1 ≡ start_of pages.now.pages result.0 }
     ensures count { result.2 ≡ count_by (P.picked pick.now) (joined (take result.0 pages.now.pages)) }
@@ -351,7 +351,7 @@ pub fn nth_from_end<T: Copy, S: Summary<T>, A: Allocator, P: Pick<T, S>>(
 ) -> Result<usize, usize>
     requires len { len ≡ length (joined pages.now.pages) }
     requires all { all ≡ count_by (P.picked pick.now) (joined pages.now.pages) }
-    requires groups { IsGroups S.tells pages.now.pages groups.now.starts.items groups.now.sums.items }
+    requires groups { IsGroups S.sums_up pages.now.pages groups.now.starts.items groups.now.sums.items }
     requires fits { length (joined pages.now.pages) < 2 ^ 64 }
     ensures found { IfOk result (λ place. IsNth (P.picked pick.now) (joined pages.now.pages) 0 n place) }
     ensures short { IfErr result (λ left. IsShort (P.picked pick.now) (joined pages.now.pages) 0 n left) }
@@ -441,7 +441,7 @@ pub fn edge_in<T: Copy, S: Summary<T>, P: Pick<T, S>>(
     probe.low
 }
 
-/// The first page whose last entry is not picked, as far as the one before it tells. What is newest stands last in most
+/// The first page whose last entry is not picked, as far as the one before it shows. What is newest stands last in most
 /// lists, so the last page is looked at first; and then the first one, where what comes in falling order belongs.
 fn edge_page<T: Copy, S: Summary<T>, A: Allocator, P: Pick<T, S>>(
     pages: &Shelf<T, S, A>,

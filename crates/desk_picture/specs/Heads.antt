@@ -12,7 +12,8 @@ use Rattle.desk_galley.specs.Values.{GalleyValues}
 use Rattle.desk_proof.specs.Proof.{head_words}
 use Rattle.desk_proof.specs.Faults.{cause_text, code_text}
 use Rattle.desk_svg.specs.Escape.{escaped_char}
-use Rattle.desk_picture.specs.Lines.{text_at, text_end}
+use Rattle.desk_svg.specs.Text.{text_end}
+use Rattle.desk_picture.specs.Lines.{text_at}
 
 -- where the head of this number stands, from 0
 abbrev pub head_y : ℕ → ℕ

@@ -1,4 +1,4 @@
-pub mod Sheet
+pub mod Paper
 pub mod Widths
 pub mod Places
 pub mod Letters

@@ -10,18 +10,16 @@ use Rattle.desk_galley.specs.Galley.{is_faulty}
 use Rattle.desk_proof.specs.Parts.{begin_of}
 use Rattle.desk_proof.specs.Faults.{cause_and_limits}
 use Rattle.desk_svg.specs.Number.{attribute_text}
-use Rattle.desk_picture.specs.Sheet.{across, foot}
+use Rattle.desk_svg.specs.Text.{text_end}
+use Rattle.desk_picture.specs.Paper.{across, foot}
 use Rattle.desk_picture.specs.Widths.{drawn_space, frame_or}
 use Rattle.desk_picture.specs.Words.{words_text, after_words}
 use Rattle.desk_picture.specs.Boxes.{fills_text}
-use Rattle.desk_picture.specs.declared.sheet.Sheet.{Sheet}
+use Rattle.desk_picture.specs.declared.paper.Paper.{Paper}
 
 -- the beginning of a text of this class that stands here
 abbrev pub text_at : (class : List ℕ) (x y : ℕ) → List ℕ
 text_at class x y = codes "<text class=\"" ++ (class ++ (codes "\"" ++ (attribute_text (codes "x") x ++ (attribute_text (codes "y") y ++ codes ">"))))
-
-abbrev pub text_end : List ℕ
-text_end = codes "</text>\n"
 
 -- a number at the margin, which ends here
 abbrev pub number_text : (x y n : ℕ) → List ℕ
@@ -40,9 +38,9 @@ abbrev pub words_at : (y : ℕ) → LineValues → List ℕ
 words_at y line = codes "<text class=\"" ++ (class_of (is_faulty line) ++ (codes "\"" ++ (attribute_text (codes "y") y ++ codes ">")))
 
 -- the words of a line, from the edge of the frame on
-abbrev pub line_words : Terms → List Symbol → Sheet → (y : ℕ) → LineValues → List ℕ
-line_words terms copy sheet y line =
-    words_at y line ++ (words_text terms copy sheet.scale.pica (drawn_space terms line) 0 line.words ++ text_end)
+abbrev pub line_words : Terms → List Symbol → Paper → (y : ℕ) → LineValues → List ℕ
+line_words terms copy paper y line =
+    words_at y line ++ (words_text terms copy paper.scale.pica (drawn_space terms line) 0 line.words ++ text_end)
 
 -- where they end, or the added space
 abbrev pub words_end : Terms → List Symbol → LineValues → ℕ
@@ -50,23 +48,23 @@ words_end terms copy line =
     after_words terms copy (drawn_space terms line) 0 line.words - (if line.added then 0 else drawn_space terms line)
 
 -- the boxes of its fills
-abbrev pub line_boxes : Terms → List Symbol → Sheet → (y : ℕ) → LineValues → List ℕ
-line_boxes terms copy sheet y line = fills_text sheet y (words_end terms copy line) (zip line.fills (fill_widths terms))
+abbrev pub line_boxes : Terms → List Symbol → Paper → (y : ℕ) → LineValues → List ℕ
+line_boxes terms copy paper y line = fills_text paper y (words_end terms copy line) (zip line.fills (fill_widths terms))
 
 -- its fault beside it, 6 points from the frame, or from the words where these go further
-abbrev pub fault_text : Terms → Sheet → (y : ℕ) → LineValues → List JobFault → List ℕ
-fault_text terms sheet y line [] = []
-fault_text terms sheet y line (fault ∷ more) =
-    text_at (codes "c") (across sheet.scale.pica (frame_or terms line) + 600) y ++ (cause_and_limits sheet.scale line.wedge_sum fault ++ text_end)
+abbrev pub fault_text : Terms → Paper → (y : ℕ) → LineValues → List JobFault → List ℕ
+fault_text terms paper y line [] = []
+fault_text terms paper y line (fault ∷ more) =
+    text_at (codes "c") (across paper.scale.pica (frame_or terms line) + 600) y ++ (cause_and_limits paper.scale line.wedge_sum fault ++ text_end)
 
 -- a line that stands here
-abbrev pub line_at : Terms → List Symbol → Sheet → (y : ℕ) → LineValues → List ℕ
-line_at terms copy sheet y line =
-    margin_text y line ++ (line_words terms copy sheet y line ++ (line_boxes terms copy sheet y line ++ fault_text terms sheet y line line.faults))
+abbrev pub line_at : Terms → List Symbol → Paper → (y : ℕ) → LineValues → List ℕ
+line_at terms copy paper y line =
+    margin_text y line ++ (line_words terms copy paper y line ++ (line_boxes terms copy paper y line ++ fault_text terms paper y line line.faults))
 
-abbrev pub line_text : Terms → List Symbol → Sheet → LineValues → List ℕ
-line_text terms copy sheet line = line_at terms copy sheet (foot sheet line.number) line
+abbrev pub line_text : Terms → List Symbol → Paper → LineValues → List ℕ
+line_text terms copy paper line = line_at terms copy paper (foot paper line.number) line
 
-abbrev pub lines_text : Terms → List Symbol → Sheet → List LineValues → List ℕ
-lines_text terms copy sheet [] = []
-lines_text terms copy sheet (line ∷ lines) = line_text terms copy sheet line ++ lines_text terms copy sheet lines
+abbrev pub lines_text : Terms → List Symbol → Paper → List LineValues → List ℕ
+lines_text terms copy paper [] = []
+lines_text terms copy paper (line ∷ lines) = line_text terms copy paper line ++ lines_text terms copy paper lines

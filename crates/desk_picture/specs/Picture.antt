@@ -7,11 +7,12 @@ use Rattle.desk_galley.specs.Values.{GalleyValues}
 use Rattle.desk_proof.specs.Proof.{scale_of}
 use Rattle.desk_proof.specs.Faults.{cause_text}
 use Rattle.desk_svg.specs.Number.{attribute_text, hundredths_text}
-use Rattle.desk_picture.specs.Sheet.{across, edge, leading}
+use Rattle.desk_svg.specs.Text.{text_end}
+use Rattle.desk_picture.specs.Paper.{across, edge, leading}
 use Rattle.desk_picture.specs.Widths.{widest}
-use Rattle.desk_picture.specs.Lines.{lines_text, text_at, text_end}
+use Rattle.desk_picture.specs.Lines.{lines_text, text_at}
 use Rattle.desk_picture.specs.Heads.{copy_faults, head_count, head_y, heads_text}
-use Rattle.desk_picture.specs.declared.sheet.Sheet.{Sheet}
+use Rattle.desk_picture.specs.declared.paper.Paper.{Paper}
 
 -- how the classes of texts and boxes look: letters of a line from left to right as they
 -- stand in the copy and none of them joined, italic, small capitals, and those that the case lacks; lines at fault, causes,
@@ -29,55 +30,55 @@ size_text width height =
 abbrev pub points_text : (width height : ℕ) → List ℕ
 points_text width height = hundredths_text width ++ (codes "pt\" height=\"" ++ (hundredths_text height ++ codes "pt\">\n"))
 
--- that, the looks, and a sheet of paper
+-- that, the looks, and the paper
 abbrev pub begin_text : (width height : ℕ) → List ℕ
 begin_text width height =
     size_text width height ++ (points_text width height ++ (looks_text ++ codes "<rect width=\"100%\" height=\"100%\" fill=\"#fbf9f2\"/>\n"))
 
--- the sheet of a galley below so many heads
-abbrev pub sheet_of : GalleyValues → ℕ → Sheet
-sheet_of galley heads = record { scale = scale_of galley; set = galley.wedge.set_q * 25; top = head_y heads }
+-- the paper of a galley below so many heads
+abbrev pub paper_of : GalleyValues → ℕ → Paper
+paper_of galley heads = record { scale = scale_of galley; set = galley.wedge.set_q * 25; top = head_y heads }
 
 -- how high the frame of so many lines is
-abbrev pub frame_height : Sheet → ℕ → ℕ
-frame_height sheet lines = leading sheet * lines + sheet.set / 2
+abbrev pub frame_height : Paper → ℕ → ℕ
+frame_height paper lines = leading paper * lines + paper.set / 2
 
 -- the frame of the measure
-abbrev pub frame_text : Sheet → (width height : ℕ) → List ℕ
-frame_text sheet width high =
-    codes "<rect class=\"frame\"" ++ (attribute_text (codes "x") edge ++ (attribute_text (codes "y") sheet.top
+abbrev pub frame_text : Paper → (width height : ℕ) → List ℕ
+frame_text paper width high =
+    codes "<rect class=\"frame\"" ++ (attribute_text (codes "x") edge ++ (attribute_text (codes "y") paper.top
     ++ (attribute_text (codes "width") width ++ (attribute_text (codes "height") high ++ codes "/>\n"))))
 
 -- the lines, in letters of the size of the set
-abbrev pub group_text : List Symbol → Sheet → GalleyValues → List ℕ
-group_text copy sheet galley =
-    codes "<g" ++ (attribute_text (codes "font-size") sheet.set ++ (codes ">\n" ++ (lines_text galley.terms copy sheet galley.lines ++ codes "</g>\n")))
+abbrev pub group_text : List Symbol → Paper → GalleyValues → List ℕ
+group_text copy paper galley =
+    codes "<g" ++ (attribute_text (codes "font-size") paper.set ++ (codes ">\n" ++ (lines_text galley.terms copy paper galley.lines ++ codes "</g>\n")))
 
 -- beside the frame, or the widest line, there are 270 points for the causes
-abbrev pub page_width : Sheet → GalleyValues → ℕ
-page_width sheet galley = across sheet.scale.pica (widest galley.terms galley.lines) + 27000
+abbrev pub page_width : Paper → GalleyValues → ℕ
+page_width paper galley = across paper.scale.pica (widest galley.terms galley.lines) + 27000
 
 -- the frame of a galley, as high as its lines
-abbrev pub galley_height : Sheet → GalleyValues → ℕ
-galley_height sheet galley = frame_height sheet (length galley.lines)
+abbrev pub galley_height : Paper → GalleyValues → ℕ
+galley_height paper galley = frame_height paper (length galley.lines)
 
 -- below the frame there are 10 points
-abbrev pub page_height : Sheet → GalleyValues → ℕ
-page_height sheet galley = sheet.top + (galley_height sheet galley + 1000)
+abbrev pub page_height : Paper → GalleyValues → ℕ
+page_height paper galley = paper.top + (galley_height paper galley + 1000)
 
-abbrev pub page_text : Sheet → GalleyValues → List ℕ
-page_text sheet galley = begin_text (page_width sheet galley) (page_height sheet galley)
+abbrev pub page_text : Paper → GalleyValues → List ℕ
+page_text paper galley = begin_text (page_width paper galley) (page_height paper galley)
 
-abbrev pub galley_frame : Sheet → GalleyValues → List ℕ
-galley_frame sheet galley = frame_text sheet (galley.values.measure * 100) (galley_height sheet galley)
+abbrev pub galley_frame : Paper → GalleyValues → List ℕ
+galley_frame paper galley = frame_text paper (galley.values.measure * 100) (galley_height paper galley)
 
--- a galley of a copy, with the faults of the copy, on a sheet
-abbrev pub picture_on : List Symbol → List CopyFault → GalleyValues → Sheet → List ℕ
-picture_on copy faults galley sheet =
-    page_text sheet galley ++ (heads_text copy faults galley ++ (galley_frame sheet galley ++ (group_text copy sheet galley ++ codes "</svg>\n")))
+-- a galley of a copy, with the faults of the copy, on a paper
+abbrev pub picture_on : List Symbol → List CopyFault → GalleyValues → Paper → List ℕ
+picture_on copy faults galley paper =
+    page_text paper galley ++ (heads_text copy faults galley ++ (galley_frame paper galley ++ (group_text copy paper galley ++ codes "</svg>\n")))
 
 abbrev pub picture_text : List Symbol → List CopyFault → GalleyValues → List ℕ
-picture_text copy faults galley = picture_on copy faults galley (sheet_of galley (head_count faults galley))
+picture_text copy faults galley = picture_on copy faults galley (paper_of galley (head_count faults galley))
 
 -- why there is no galley, in words
 abbrev pub why_words : JobFault → List ℕ

@@ -4,7 +4,7 @@ use Rattle.desk_ops.specs.declared.op.Symbol.{Symbol}
 use Rattle.desk_units.specs.declared.Pica.{Pica}
 use Rattle.desk_job.specs.Job.{Terms, symbol_width}
 use Rattle.desk_svg.specs.Number.{hundredths_text}
-use Rattle.desk_picture.specs.Sheet.{across}
+use Rattle.desk_picture.specs.Paper.{across}
 
 -- the place of a matrix that begins here
 abbrev pub place_text : Pica → ℕ → List ℕ

@@ -3,12 +3,12 @@
 ghost use Rattle.std.specs.Prelude.{◌≡◌, ◌+◌, ◌++◌, ◌≤◌, ◌<◌, ◌^◌, length, OnOk, Some, slice_get, string_bytes};
 ghost use Rattle.desk_picture.specs.Heads.{copy_fault, copy_faults, head, head_count, head_y, heads_text, lack, lacking_at, lacking_of, lacks, meaning_text, name_if, name_text};
 
-use crate::lines::{put_text_at, text_end};
+use crate::lines::put_text_at;
 use desk_galley::Galley;
 use desk_job::JobFault;
 use desk_ops::{CopyFault, FaultKind, Symbol};
 use desk_proof::{cause, put_code, put_head_words};
-use desk_svg::put_escaped;
+use desk_svg::{put_escaped, text_end};
 use std::alloc::{AllocError, Allocator};
 
 /// Where the head of a number stands, from 0.

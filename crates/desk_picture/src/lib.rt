@@ -6,10 +6,10 @@ mod boxes;
 mod heads;
 mod letters;
 mod lines;
+mod paper;
 mod picture;
 mod picturing;
 mod places;
-mod sheet;
 mod widths;
 mod words;
 

@@ -4,26 +4,19 @@ ghost use Rattle.std.specs.Prelude.{◌≡◌, ◌+◌, ◌++◌, ◌≤◌, ◌
 ghost use Rattle.std.specs.Fmt.{decimal};
 ghost use Rattle.desk_lines.specs.Words.{most_symbols};
 ghost use Rattle.desk_galley.specs.Galley.{Stands};
-ghost use Rattle.desk_picture.specs.Lines.{class_of, fault_text, line_at, line_boxes, line_text, line_words, lines_text, margin_text, number_text, text_at, text_end, words_at, words_end};
+ghost use Rattle.desk_picture.specs.Lines.{class_of, fault_text, line_at, line_boxes, line_text, line_words, lines_text, margin_text, number_text, text_at, words_at, words_end};
 
 use crate::boxes::put_fills;
-use crate::sheet::{Sheet, across, foot};
+use crate::paper::{Paper, across, foot};
 use crate::widths::{drawn_space, frame_or};
 use crate::words::put_words;
 use desk_galley::Line;
 use desk_job::terms::Terms;
 use desk_ops::Symbol;
 use desk_proof::{begin_of, put_cause};
-use desk_svg::put_attribute;
+use desk_svg::{put_attribute, text_end};
 use itoa::Buffer;
 use std::alloc::{AllocError, Allocator};
-
-/// The end of a text.
-pub fn text_end() -> &'static str
-    ensures { result.now ≡ text_end }
-{
-    "</text>\n"
-}
 
 /// Writes the beginning of a text of a class that stands here.
 pub fn put_text_at<A: Allocator + Copy>(
@@ -102,19 +95,19 @@ fn put_line_words<A: Allocator + Copy>(
     out: &mut String<A>,
     terms: &Terms,
     copy: &[Symbol],
-    sheet: Sheet,
+    paper: Paper,
     y: u128,
     line: &Line<A>,
 ) -> Result<u128, AllocError>
     requires copy { length copy.now ≤ most_symbols }
     requires line { Stands copy.now terms.now.case line.now }
-    ensures text { OnOk result (string_bytes out.new ≡ string_bytes out.old ++ line_words terms.now copy.now sheet y line.now) }
+    ensures text { OnOk result (string_bytes out.new ≡ string_bytes out.old ++ line_words terms.now copy.now paper y line.now) }
     ensures end { IfOk result (λ end. end ≡ words_end terms.now copy.now line.now) }
     ensures limit { IfOk result (λ end. end ≤ 2 ^ 106) }
 {
     let space = drawn_space(terms, line);
     put_words_at(out, y, line)?;
-    let after = put_words(out, terms, copy, sheet.scale.pica, space, line.words())?;
+    let after = put_words(out, terms, copy, paper.scale.pica, space, line.words())?;
     out.push_str(text_end())?;
     let beyond = if line.has_added() { 0 } else { space };
     Ok(after.saturating_sub(beyond as u128))
@@ -125,7 +118,7 @@ fn put_line_boxes<A: Allocator + Copy>(
     out: &mut String<A>,
     terms: &Terms,
     copy: &[Symbol],
-    sheet: Sheet,
+    paper: Paper,
     y: u128,
     end: u128,
     line: &Line<A>,
@@ -133,27 +126,27 @@ fn put_line_boxes<A: Allocator + Copy>(
     requires end { end ≡ words_end terms.now copy.now line.now }
     requires limit { end ≤ 2 ^ 106 }
     requires fills { length line.now.fills ≤ length terms.now.case.fill }
-    ensures { OnOk result (string_bytes out.new ≡ string_bytes out.old ++ line_boxes terms.now copy.now sheet y line.now) }
+    ensures { OnOk result (string_bytes out.new ≡ string_bytes out.old ++ line_boxes terms.now copy.now paper y line.now) }
 {
-    put_fills(out, sheet, y, end, line.fills(), terms.fill_widths())
+    put_fills(out, paper, y, end, line.fills(), terms.fill_widths())
 }
 
 /// Writes a fault beside its line.
 fn put_fault<A: Allocator + Copy>(
     out: &mut String<A>,
     terms: &Terms,
-    sheet: Sheet,
+    paper: Paper,
     y: u128,
     line: &Line<A>,
 ) -> Result<(), AllocError>
-    ensures { OnOk result (string_bytes out.new ≡ string_bytes out.old ++ fault_text terms.now sheet y line.now line.now.faults) }
+    ensures { OnOk result (string_bytes out.new ≡ string_bytes out.old ++ fault_text terms.now paper y line.now line.now.faults) }
 {
     let Some(fault) = line.fault() else {
         return Ok(());
     };
-    let x = across(sheet.scale.pica, frame_or(terms, line)) + 600;
+    let x = across(paper.scale.pica, frame_or(terms, line)) + 600;
     put_text_at(out, "c", x, y)?;
-    put_cause(out, sheet.scale, line.wedge_sum(), fault)?;
+    put_cause(out, paper.scale, line.wedge_sum(), fault)?;
     out.push_str(text_end())
 }
 
@@ -162,18 +155,18 @@ fn put_line_at<A: Allocator + Copy>(
     out: &mut String<A>,
     terms: &Terms,
     copy: &[Symbol],
-    sheet: Sheet,
+    paper: Paper,
     y: u128,
     line: &Line<A>,
 ) -> Result<(), AllocError>
     requires copy { length copy.now ≤ most_symbols }
     requires line { Stands copy.now terms.now.case line.now }
-    ensures { OnOk result (string_bytes out.new ≡ string_bytes out.old ++ line_at terms.now copy.now sheet y line.now) }
+    ensures { OnOk result (string_bytes out.new ≡ string_bytes out.old ++ line_at terms.now copy.now paper y line.now) }
 {
     put_margin(out, y, line)?;
-    let end = put_line_words(out, terms, copy, sheet, y, line)?;
-    put_line_boxes(out, terms, copy, sheet, y, end, line)?;
-    put_fault(out, terms, sheet, y, line)
+    let end = put_line_words(out, terms, copy, paper, y, line)?;
+    put_line_boxes(out, terms, copy, paper, y, end, line)?;
+    put_fault(out, terms, paper, y, line)
 }
 
 /// Writes a line.
@@ -181,16 +174,16 @@ fn put_line<A: Allocator + Copy>(
     out: &mut String<A>,
     terms: &Terms,
     copy: &[Symbol],
-    sheet: Sheet,
+    paper: Paper,
     line: &Line<A>,
 ) -> Result<(), AllocError>
     requires copy { length copy.now ≤ most_symbols }
-    requires top { sheet.top ≤ 2 ^ 100 }
+    requires top { paper.top ≤ 2 ^ 100 }
     requires line { Stands copy.now terms.now.case line.now }
-    ensures { OnOk result (string_bytes out.new ≡ string_bytes out.old ++ line_text terms.now copy.now sheet line.now) }
+    ensures { OnOk result (string_bytes out.new ≡ string_bytes out.old ++ line_text terms.now copy.now paper line.now) }
 {
-    let y = foot(sheet, line.number());
-    put_line_at(out, terms, copy, sheet, y, line)
+    let y = foot(paper, line.number());
+    put_line_at(out, terms, copy, paper, y, line)
 }
 
 /// Writes lines.
@@ -198,16 +191,16 @@ pub fn put_lines<A: Allocator + Copy>(
     out: &mut String<A>,
     terms: &Terms,
     copy: &[Symbol],
-    sheet: Sheet,
+    paper: Paper,
     lines: &[Line<A>],
 ) -> Result<(), AllocError>
     requires copy { length copy.now ≤ most_symbols }
-    requires top { sheet.top ≤ 2 ^ 100 }
+    requires top { paper.top ≤ 2 ^ 100 }
     requires lines { All (Stands copy.now terms.now.case) lines.now }
-    ensures { OnOk result (string_bytes out.new ≡ string_bytes out.old ++ lines_text terms.now copy.now sheet lines.now) }
+    ensures { OnOk result (string_bytes out.new ≡ string_bytes out.old ++ lines_text terms.now copy.now paper lines.now) }
 {
     for line in lines {
-        put_line(out, terms, copy, sheet, line)?;
+        put_line(out, terms, copy, paper, line)?;
     }
     Ok(())
 }

@@ -3,18 +3,18 @@
 ghost use Rattle.std.specs.Prelude.{◌≡◌, ◌+◌, ◌*◌, ◌++◌, ◌≤◌, ◌^◌, length, All, OnOk, string_bytes};
 ghost use Rattle.desk_lines.specs.Words.{most_symbols};
 ghost use Rattle.desk_galley.specs.Galley.{Stands};
-ghost use Rattle.desk_picture.specs.Picture.{begin_text, frame_height, frame_text, galley_frame, galley_height, group_text, looks_text, no_galley_picture, page_height, page_text, page_width, picture_on, picture_text, points_text, sheet_of, size_text, why_text, why_words};
+ghost use Rattle.desk_picture.specs.Picture.{begin_text, frame_height, frame_text, galley_frame, galley_height, group_text, looks_text, no_galley_picture, page_height, page_text, page_width, paper_of, picture_on, picture_text, points_text, size_text, why_text, why_words};
 
 use crate::heads::{head_count, head_y, put_copy_faults, put_heads};
-use crate::lines::{put_lines, put_text_at, text_end};
-use crate::sheet::{EDGE, Sheet, across, leading};
+use crate::lines::{put_lines, put_text_at};
+use crate::paper::{EDGE, Paper, across, leading};
 use crate::widths::widest;
 use desk_galley::Galley;
 use desk_job::JobFault;
 use desk_memory::NoMemory;
 use desk_ops::{CopyFault, Symbol};
 use desk_proof::{cause, scale_of};
-use desk_svg::{put_attribute, put_hundredths};
+use desk_svg::{put_attribute, put_hundredths, text_end};
 use std::alloc::{AllocError, Allocator};
 
 /// How the classes of texts and boxes look.
@@ -55,7 +55,7 @@ fn put_points<A: Allocator + Copy>(
     out.push_str("pt\">\n")
 }
 
-/// Writes the beginning of a picture, its looks, and a sheet of paper.
+/// Writes the beginning of a picture, its looks, and the paper.
 fn put_begin<A: Allocator + Copy>(
     out: &mut String<A>,
     width: u128,
@@ -69,13 +69,13 @@ fn put_begin<A: Allocator + Copy>(
     out.push_str("<rect width=\"100%\" height=\"100%\" fill=\"#fbf9f2\"/>\n")
 }
 
-/// The sheet of a galley below so many heads.
-fn sheet_of<'a, A: Allocator>(galley: &Galley<'a, A>, heads: u128) -> Sheet
+/// The paper of a galley below so many heads.
+fn paper_of<'a, A: Allocator>(galley: &Galley<'a, A>, heads: u128) -> Paper
     requires { heads ≤ 2 ^ 80 }
-    ensures value { result ≡ sheet_of galley.now heads }
+    ensures value { result ≡ paper_of galley.now heads }
     ensures limit { result.top ≤ 2 ^ 96 }
 {
-    Sheet {
+    Paper {
         scale: scale_of(galley),
         set: galley.wedge().set_q().get() as u32 * 25,
         top: head_y(heads),
@@ -83,25 +83,25 @@ fn sheet_of<'a, A: Allocator>(galley: &Galley<'a, A>, heads: u128) -> Sheet
 }
 
 /// How high the frame of so many lines is.
-fn frame_height(sheet: Sheet, lines: usize) -> u128
-    ensures value { result ≡ frame_height sheet lines }
+fn frame_height(paper: Paper, lines: usize) -> u128
+    ensures value { result ≡ frame_height paper lines }
     ensures limit { result ≤ 2 ^ 98 }
 {
-    leading(sheet) * lines as u128 + sheet.set as u128 / 2
+    leading(paper) * lines as u128 + paper.set as u128 / 2
 }
 
 /// Writes the frame of the measure.
 fn put_frame<A: Allocator + Copy>(
     out: &mut String<A>,
-    sheet: Sheet,
+    paper: Paper,
     width: u128,
     high: u128,
 ) -> Result<(), AllocError>
-    ensures { OnOk result (string_bytes out.new ≡ string_bytes out.old ++ frame_text sheet width high) }
+    ensures { OnOk result (string_bytes out.new ≡ string_bytes out.old ++ frame_text paper width high) }
 {
     out.push_str("<rect class=\"frame\"")?;
     put_attribute(out, "x", EDGE)?;
-    put_attribute(out, "y", sheet.top)?;
+    put_attribute(out, "y", paper.top)?;
     put_attribute(out, "width", width)?;
     put_attribute(out, "height", high)?;
     out.push_str("/>\n")
@@ -111,88 +111,88 @@ fn put_frame<A: Allocator + Copy>(
 fn put_group<'a, A: Allocator + Copy>(
     out: &mut String<A>,
     copy: &[Symbol],
-    sheet: Sheet,
+    paper: Paper,
     galley: &Galley<'a, A>,
 ) -> Result<(), AllocError>
     requires copy { length copy.now ≤ most_symbols }
-    requires top { sheet.top ≤ 2 ^ 100 }
+    requires top { paper.top ≤ 2 ^ 100 }
     requires lines { All (Stands copy.now galley.now.terms.case) galley.now.lines }
-    ensures { OnOk result (string_bytes out.new ≡ string_bytes out.old ++ group_text copy.now sheet galley.now) }
+    ensures { OnOk result (string_bytes out.new ≡ string_bytes out.old ++ group_text copy.now paper galley.now) }
 {
     out.push_str("<g")?;
-    put_attribute(out, "font-size", sheet.set as u128)?;
+    put_attribute(out, "font-size", paper.set as u128)?;
     out.push_str(">\n")?;
-    put_lines(out, galley.terms(), copy, sheet, galley.lines())?;
+    put_lines(out, galley.terms(), copy, paper, galley.lines())?;
     out.push_str("</g>\n")
 }
 
 /// How wide the picture of a galley is: 270 points beside the frame, or the widest line, are for the causes.
-fn page_width<'a, A: Allocator>(sheet: Sheet, galley: &Galley<'a, A>) -> u128
-    ensures { result ≡ page_width sheet galley.now }
+fn page_width<'a, A: Allocator>(paper: Paper, galley: &Galley<'a, A>) -> u128
+    ensures { result ≡ page_width paper galley.now }
 {
-    across(sheet.scale.pica, widest(galley.terms(), galley.lines())) + 27_000
+    across(paper.scale.pica, widest(galley.terms(), galley.lines())) + 27_000
 }
 
 /// How high the frame of a galley is.
-fn galley_height<'a, A: Allocator>(sheet: Sheet, galley: &Galley<'a, A>) -> u128
-    ensures value { result ≡ galley_height sheet galley.now }
+fn galley_height<'a, A: Allocator>(paper: Paper, galley: &Galley<'a, A>) -> u128
+    ensures value { result ≡ galley_height paper galley.now }
     ensures limit { result ≤ 2 ^ 98 }
 {
-    frame_height(sheet, galley.lines().len())
+    frame_height(paper, galley.lines().len())
 }
 
 /// How high the picture of a galley is.
-fn page_height<'a, A: Allocator>(sheet: Sheet, galley: &Galley<'a, A>) -> u128
-    requires { sheet.top ≤ 2 ^ 100 }
-    ensures { result ≡ page_height sheet galley.now }
+fn page_height<'a, A: Allocator>(paper: Paper, galley: &Galley<'a, A>) -> u128
+    requires { paper.top ≤ 2 ^ 100 }
+    ensures { result ≡ page_height paper galley.now }
 {
-    sheet.top + (galley_height(sheet, galley) + 1_000)
+    paper.top + (galley_height(paper, galley) + 1_000)
 }
 
 /// Writes the beginning of the picture of a galley.
 fn put_page<'a, A: Allocator + Copy>(
     out: &mut String<A>,
-    sheet: Sheet,
+    paper: Paper,
     galley: &Galley<'a, A>,
 ) -> Result<(), AllocError>
-    requires { sheet.top ≤ 2 ^ 100 }
-    ensures { OnOk result (string_bytes out.new ≡ string_bytes out.old ++ page_text sheet galley.now) }
+    requires { paper.top ≤ 2 ^ 100 }
+    ensures { OnOk result (string_bytes out.new ≡ string_bytes out.old ++ page_text paper galley.now) }
 {
-    let width = page_width(sheet, galley);
-    let height = page_height(sheet, galley);
+    let width = page_width(paper, galley);
+    let height = page_height(paper, galley);
     put_begin(out, width, height)
 }
 
 /// Writes the frame of a galley.
 fn put_galley_frame<'a, A: Allocator + Copy>(
     out: &mut String<A>,
-    sheet: Sheet,
+    paper: Paper,
     galley: &Galley<'a, A>,
 ) -> Result<(), AllocError>
-    ensures { OnOk result (string_bytes out.new ≡ string_bytes out.old ++ galley_frame sheet galley.now) }
+    ensures { OnOk result (string_bytes out.new ≡ string_bytes out.old ++ galley_frame paper galley.now) }
 {
-    let height = galley_height(sheet, galley);
+    let height = galley_height(paper, galley);
     let values = galley.values();
-    put_frame(out, sheet, values.measure as u128 * 100, height)
+    put_frame(out, paper, values.measure as u128 * 100, height)
 }
 
-/// Writes a galley on a sheet.
+/// Writes a galley on its paper.
 fn put_picture_on<'a, A: Allocator + Copy>(
     out: &mut String<A>,
     copy: &[Symbol],
     faults: &[CopyFault],
     galley: &Galley<'a, A>,
-    sheet: Sheet,
+    paper: Paper,
 ) -> Result<(), AllocError>
     requires copy { length copy.now ≤ most_symbols }
-    requires top { sheet.top ≤ 2 ^ 100 }
+    requires top { paper.top ≤ 2 ^ 100 }
     requires lines { All (Stands copy.now galley.now.terms.case) galley.now.lines }
-    ensures { OnOk result (string_bytes out.new ≡ string_bytes out.old ++ picture_on copy.now faults.now galley.now sheet) }
+    ensures { OnOk result (string_bytes out.new ≡ string_bytes out.old ++ picture_on copy.now faults.now galley.now paper) }
 {
-    put_page(out, sheet, galley)?;
+    put_page(out, paper, galley)?;
     put_heads(out, copy, faults, galley)?;
-    put_galley_frame(out, sheet, galley)?;
-    put_group(out, copy, sheet, galley)?;
+    put_galley_frame(out, paper, galley)?;
+    put_group(out, copy, paper, galley)?;
     out.push_str("</svg>\n")
 }
 
@@ -208,8 +208,8 @@ pub fn put_picture<'a, A: Allocator + Copy>(
     requires lines { All (Stands copy.now galley.now.terms.case) galley.now.lines }
     ensures { OnOk result (string_bytes out.new ≡ string_bytes out.old ++ picture_text copy.now faults.now galley.now) }
 {
-    let sheet = sheet_of(galley, head_count(faults, galley));
-    put_picture_on(out, copy, faults, galley, sheet)?;
+    let paper = paper_of(galley, head_count(faults, galley));
+    put_picture_on(out, copy, faults, galley, paper)?;
     Ok(())
 }
 

@@ -4,7 +4,7 @@ ghost use Rattle.std.specs.Prelude.{◌≡◌, ◌+◌, ◌++◌, ◌≤◌, ◌
 ghost use Rattle.desk_lines.specs.Words.{most_symbols};
 ghost use Rattle.desk_picture.specs.Places.{after_word, next_place, place_text, symbol_places, word_places};
 
-use crate::sheet::across;
+use crate::paper::across;
 use desk_job::terms::Terms;
 use desk_ops::Symbol;
 use desk_svg::put_hundredths;

@@ -40,15 +40,15 @@ filter_more : (p : ℕ → Bool) (n : ℕ) → filter p (range_with_len 0 (n + 1
 filter_more p n = let e : 0 + n ≡ n = omega arith in ap (λ k. filter p (range_with_len 0 k)) (add-one n) ∙ ap (filter p) (range_suc 0 n) ∙ filter-append p (range_with_len 0 n) ((0 + n) ∷ []) ∙ rw e refl
 
 -- the list after a place at which the test was made
-module _ {Z : Type 0} (p : ℕ → Bool) (n : ℕ) (before mid after : Vec ℕ Z) (r : Bool) (is : before.items ≡ filter p (range_with_len 0 n)) (tells : r ≡ p n) (same : after ≡ mid) where
+module _ {Z : Type 0} (p : ℕ → Bool) (n : ℕ) (before mid after : Vec ℕ Z) (r : Bool) (is : before.items ≡ filter p (range_with_len 0 n)) (reports : r ≡ p n) (same : after ≡ mid) where
   pub one_more : r ≡ true → mid.items ≡ before.items ++ n ∷ [] → after.items ≡ filter p (range_with_len 0 (n + 1))
   one_more holds more =
-      ap (λ (v : Vec ℕ Z). v.items) same ∙ more ∙ ap (λ l. l ++ n ∷ []) is ∙ sym (filter_more p n ∙ ap (λ b. filter p (range_with_len 0 n) ++ cond b (n ∷ []) []) (sym tells ∙ holds))
+      ap (λ (v : Vec ℕ Z). v.items) same ∙ more ∙ ap (λ l. l ++ n ∷ []) is ∙ sym (filter_more p n ∙ ap (λ b. filter p (range_with_len 0 n) ++ cond b (n ∷ []) []) (sym reports ∙ holds))
 
   pub none_more : r ≡ false → mid ≡ before → after.items ≡ filter p (range_with_len 0 (n + 1))
   none_more fails kept =
       ap (λ (v : Vec ℕ Z). v.items) (same ∙ kept) ∙ is
-      ∙ sym (filter_more p n ∙ ap (λ b. filter p (range_with_len 0 n) ++ cond b (n ∷ []) []) (sym tells ∙ fails) ∙ append-nil (filter p (range_with_len 0 n)))
+      ∙ sym (filter_more p n ∙ ap (λ b. filter p (range_with_len 0 n) ++ cond b (n ∷ []) []) (sym reports ∙ fails) ∙ append-nil (filter p (range_with_len 0 n)))
 
 pub found_all : (text copy : List Symbol) (places : List ℕ) (n : ℕ) → n ≡ length copy → places ≡ filter (stands text copy) (range_with_len 0 (n + 1)) → places ≡ places_of text copy
 unfolding places_of

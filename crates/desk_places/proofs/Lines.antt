@@ -4,13 +4,13 @@ use Rattle.std.specs.Prelude.{◌==◌}
 use Rattle.std.proofs.lemmas.Bool.{true≢false}
 use Rattle.std.proofs.lemmas.List.{take_min}
 use Rattle.desk_ops.specs.declared.op.Symbol.{Symbol}
-use Rattle.desk_places.specs.Telling.{more_line, place_lines, told_places}
+use Rattle.desk_places.specs.Reporting.{more_line, place_lines, reported_places}
 
 -- the lines of the first, and how many more there are
-pub told_some : (count : ℕ) (copy : List Symbol) (places none lines told : List ℕ) (first more : ℕ)
-    → false ≡ (length places == 0) → first ≡ min 100 (length places) → more ≡ length places - 100 → none ≡ [] → lines ≡ none ++ place_lines count copy (take first places) → told ≡ lines ++ more_line more
-    → told ≡ told_places count copy places
-told_some count copy [] none lines told first more some is rest empty all is_told = absurd (true≢false (sym some))
-told_some count copy (place ∷ places) none lines told first more some is rest empty all is_told =
+pub reported_some : (count : ℕ) (copy : List Symbol) (places none lines reported : List ℕ) (first more : ℕ)
+    → false ≡ (length places == 0) → first ≡ min 100 (length places) → more ≡ length places - 100 → none ≡ [] → lines ≡ none ++ place_lines count copy (take first places) → reported ≡ lines ++ more_line more
+    → reported ≡ reported_places count copy places
+reported_some count copy [] none lines reported first more some is rest empty all is_reported = absurd (true≢false (sym some))
+reported_some count copy (place ∷ places) none lines reported first more some is rest empty all is_reported =
     let begin : take first (place ∷ places) ≡ take 100 (place ∷ places) = ap (λ k. take k (place ∷ places)) is ∙ take_min 100 (place ∷ places) in
-    is_told ∙ ap₂ (λ l m. l ++ more_line m) (all ∙ ap₂ (λ l k. l ++ place_lines count copy k) empty begin) rest
+    is_reported ∙ ap₂ (λ l m. l ++ more_line m) (all ∙ ap₂ (λ l k. l ++ place_lines count copy k) empty begin) rest

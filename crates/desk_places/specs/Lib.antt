@@ -1,3 +1,3 @@
 pub mod Places
-pub mod Telling
+pub mod Reporting
 pub mod Laws

@@ -2,9 +2,9 @@
 #![tactic(auto)]
 
 mod laws;
+mod reporting;
 mod search;
-mod telling;
 
 pub use laws::law_of_places;
+pub use reporting::{all_shown, reported_places};
 pub use search::places_of;
-pub use telling::{all_shown, told_places};

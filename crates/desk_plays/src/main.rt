@@ -85,7 +85,7 @@ fn say(out: &mut String, reply: &Reply<Global>) -> Result<(), AllocError> {
 }
 
 /// Writes the number of a site and of its operations, its copy, its faults, its settings and its feed.
-fn tell(alloc: Global, out: &mut String, room: &Room) -> anyhow::Result<()> {
+fn report(alloc: Global, out: &mut String, room: &Room) -> anyhow::Result<()> {
     let number = room.site();
     let held = room.len();
     out.push_str(format!(in alloc; "site {number} holds {held}\n")?.as_str())?;
@@ -130,7 +130,7 @@ fn main(rt: HostRuntime) -> anyhow::Result<()> {
     play(alloc, &mut out, &mut world, &lines)?;
     for number in 1..=u16::MAX {
         if let Some(room) = world.replica(number) {
-            tell(alloc, &mut out, room)?;
+            report(alloc, &mut out, room)?;
         }
     }
     print!(rt; "{out}")?;

@@ -21,8 +21,8 @@ no_inputs from set first mid last (failures.Refused why) same is given = (set, i
 no_inputs from set first mid last failures.NoMemory same is given = (set, is, subst (λ (s : Shelf). BothLackMemory from.case from.wedge s last) same given)
 
 -- no ribbon, where the three give nothing
-pub unpunched : (from : Sources) (target : List ℕ) (first last : Shelf) (told : Option (List ℕ)) (why : SourcesFault) → Stays first last → AreRefused from first last why
-    → IsUnpunched from target first last told told (of_sources why)
-unpunched from target first last told (refusals.Feed why) stays refused = (refl, stays, refused)
-unpunched from target first last told (refusals.Input why) stays refused = (refl, stays, refused)
-unpunched from target first last told refusals.NoMemory stays refused = (refl, inl refused)
+pub unpunched : (from : Sources) (target : List ℕ) (first last : Shelf) (reported : Option (List ℕ)) (why : SourcesFault) → Stays first last → AreRefused from first last why
+    → IsUnpunched from target first last reported reported (of_sources why)
+unpunched from target first last reported (refusals.Feed why) stays refused = (refl, stays, refused)
+unpunched from target first last reported (refusals.Input why) stays refused = (refl, stays, refused)
+unpunched from target first last reported refusals.NoMemory stays refused = (refl, inl refused)

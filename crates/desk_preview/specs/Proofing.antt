@@ -34,9 +34,9 @@ is_clean faults galley = (length faults == 0) && ((length galley.lacking == 0) &
 
 -- the proof of a galley of the set by its settings and those that are tried, and whether it is clean
 abbrev pub HasProof : OpSet → CaseValues → WedgeValues → Settings → Extent → List ℕ → Bool → Type 0
-HasProof set case wedge trial extent told clean =
+HasProof set case wedge trial extent reported clean =
     (galley : GalleyValues) × IsGalley (copy_of set) (tried trial set) case wedge galley
-    × (told ≡ proof_text (copy_of set) (faults_of set) galley extent) × (clean ≡ is_clean (faults_of set) galley)
+    × (reported ≡ proof_text (copy_of set) (faults_of set) galley extent) × (clean ≡ is_clean (faults_of set) galley)
 
 -- There is no galley, for this fault of the settings, those that are tried among them, the case and the wedge. The job by these settings has it alone.
 abbrev pub LacksGalley : OpSet → CaseValues → WedgeValues → Settings → JobFault → Type 0
@@ -45,24 +45,24 @@ LacksGalley set case wedge trial why =
 
 -- it says why there is none
 abbrev pub HasNoGalley : OpSet → CaseValues → WedgeValues → Settings → List ℕ → Bool → Type 0
-HasNoGalley set case wedge trial told clean =
-    (why : JobFault) × LacksGalley set case wedge trial why × (told ≡ no_galley_text (faults_of set) why) × (clean ≡ false)
+HasNoGalley set case wedge trial reported clean =
+    (why : JobFault) × LacksGalley set case wedge trial why × (reported ≡ no_galley_text (faults_of set) why) × (clean ≡ false)
 
 -- what is said of a set by a case and a wedge
-abbrev pub IsTold : OpSet → CaseValues → WedgeValues → Settings → Extent → List ℕ → Bool → Type 0
-IsTold set case wedge trial extent told clean = HasProof set case wedge trial extent told clean ⊎ HasNoGalley set case wedge trial told clean
+abbrev pub IsReported : OpSet → CaseValues → WedgeValues → Settings → Extent → List ℕ → Bool → Type 0
+IsReported set case wedge trial extent reported clean = HasProof set case wedge trial extent reported clean ⊎ HasNoGalley set case wedge trial reported clean
 
 -- what is said of what the sources give
 abbrev pub IsProofOf : Sources → Shelf → Settings → Extent → List ℕ → Bool → Type 0
-IsProofOf from shelf trial extent told clean = (set : OpSet) × (case : CaseValues) × (wedge : WedgeValues) × Give from shelf set case wedge × IsTold set case wedge trial extent told clean
+IsProofOf from shelf trial extent reported clean = (set : OpSet) × (case : CaseValues) × (wedge : WedgeValues) × Give from shelf set case wedge × IsReported set case wedge trial extent reported clean
 
 -- it was written
 abbrev pub IsProofed : Sources → Settings → Extent → Shelf → Option (List ℕ) → Option (List ℕ) → Bool → Type 0
-IsProofed from trial extent shelf before after clean = (told : List ℕ) × IsProofOf from shelf trial extent told clean × Appends before after told
+IsProofed from trial extent shelf before after clean = (reported : List ℕ) × IsProofOf from shelf trial extent reported clean × Appends before after reported
 
 -- Why not all of it was written, and what was: nothing, where the sources give nothing, or memory ran out once they had given all; or a prefix, under Write.
 abbrev pub IsUnproofed : Sources → Settings → Extent → Shelf → Shelf → Option (List ℕ) → Option (List ℕ) → PreviewFault → Type 0
 IsUnproofed from trial extent first last before after fault =
     ((after ≡ before) × (why : SourcesFault) × (fault ≡ of_sources why) × AreRefused from first last why)
     ⊎ ((after ≡ before) × (fault ≡ faults.NoMemory) × (last ≡ first) × GiveAll from first)
-    ⊎ ((fault ≡ faults.Write) × (last ≡ first) × (told : List ℕ) × (clean : Bool) × IsProofOf from first trial extent told clean × WritesPrefix before after told)
+    ⊎ ((fault ≡ faults.Write) × (last ≡ first) × (reported : List ℕ) × (clean : Bool) × IsProofOf from first trial extent reported clean × WritesPrefix before after reported)

@@ -38,9 +38,9 @@ abbrev pub IsPunched : Sources → List ℕ → Shelf → Shelf → Type 0
 IsPunched from target before after = (rows : List RibbonRow) × IsJobOf from before (Ok rows) × IsReplaced target (ribbon rows) before.kept after.kept
 
 -- the line of faults was not written: a prefix of it was, or memory ran out before
-abbrev pub IsUntold : List JobFault → Option (List ℕ) → Option (List ℕ) → LineFault → Type 0
-IsUntold found before after lines.NoMemory = after ≡ before
-IsUntold found before after lines.Write = WritesPrefix before after (no_ribbon_line found)
+abbrev pub IsUnreported : List JobFault → Option (List ℕ) → Option (List ℕ) → LineFault → Type 0
+IsUnreported found before after lines.NoMemory = after ≡ before
+IsUnreported found before after lines.Write = WritesPrefix before after (no_ribbon_line found)
 
 -- Why no ribbon was stored, and what was written. No file has changed but, where the ribbon was not stored, that of the writing.
 abbrev pub IsUnpunched : Sources → List ℕ → Shelf → Shelf → Option (List ℕ) → Option (List ℕ) → PreviewFault → Type 0

@@ -5,7 +5,7 @@ ghost use Rattle.desk_files.specs.Files.{Stays};
 ghost use Rattle.desk_job.specs.Answer.{AreValues};
 ghost use Rattle.desk_proof.specs.Proof.{no_galley_text, proof_text};
 ghost use Rattle.desk_proof.specs.Lines.{HasWords};
-ghost use Rattle.desk_preview.specs.Proofing.{IsProofed, IsTold, IsUnproofed, are_set, is_clean};
+ghost use Rattle.desk_preview.specs.Proofing.{IsProofed, IsReported, IsUnproofed, are_set, is_clean};
 ghost use Rattle.desk_preview.specs.Sources.{sources};
 
 use crate::fault::PreviewFault;
@@ -75,7 +75,7 @@ fn refusal_of<A: Allocator + Copy>(
 }
 
 /// What is reported of the copy of a replica by a case and a wedge, and whether no fault stands in it.
-fn told_of<A: Allocator + Copy>(
+fn reported_of<A: Allocator + Copy>(
     alloc: A,
     replica: &Replica<Blocks<A>>,
     case: &MatrixCase,
@@ -84,7 +84,7 @@ fn told_of<A: Allocator + Copy>(
     extent: Extent,
 ) -> Result<(String<A>, bool), NoMemory>
     requires { AreValues trial.now }
-    ensures { IfOk result (λ t. IsTold replica.now.ops case.now wedge.now trial.now extent (string_bytes t.0) t.1) }
+    ensures { IfOk result (λ t. IsReported replica.now.ops case.now wedge.now trial.now extent (string_bytes t.0) t.1) }
 {
     let copy = replica.copy()?;
     let faults = replica.copy_faults()?;
@@ -125,7 +125,7 @@ pub fn proof_feed<W: Write, F: Files, A: Allocator + Copy>(
     ensures stays { Stays (F.shelf files.old) (F.shelf files.new) }
 {
     let (replica, case, wedge) = take_in(memory, files, feed, case, wedge)?;
-    let (text, clean) = told_of(memory.own, &replica, &case, &wedge, trial, extent)?;
+    let (text, clean) = reported_of(memory.own, &replica, &case, &wedge, trial, extent)?;
     write_out(writer, text.as_bytes())?;
     Ok(clean)
 }

@@ -3,7 +3,7 @@
 ghost use Rattle.std.specs.Prelude.{◌≡◌, ◌++◌, IfErr, IfOk, OnOk, string_bytes};
 ghost use Rattle.std.specs.Io.KnownBytes.{Appends};
 ghost use Rattle.desk_files.specs.Files.{HoldsOn};
-ghost use Rattle.desk_preview.specs.Punching.{IsPunched, IsUnpunched, IsUntold, no_ribbon_line};
+ghost use Rattle.desk_preview.specs.Punching.{IsPunched, IsUnpunched, IsUnreported, no_ribbon_line};
 ghost use Rattle.desk_preview.specs.Sources.{sources};
 
 use crate::fault::{LineFault, PreviewFault};
@@ -28,13 +28,13 @@ fn line_of<A: Allocator + Copy>(alloc: A, faults: JobFaults<A>) -> Result<String
 }
 
 /// Writes the line of the faults of a job.
-fn tell<W: Write, A: Allocator + Copy>(
+fn report<W: Write, A: Allocator + Copy>(
     alloc: A,
     writer: &mut W,
     faults: JobFaults<A>,
 ) -> Result<(), LineFault>
     ensures ok { OnOk result (Appends (W.contents writer.old) (W.contents writer.new) (no_ribbon_line faults)) }
-    ensures err { IfErr result (IsUntold faults (W.contents writer.old) (W.contents writer.new)) }
+    ensures err { IfErr result (IsUnreported faults (W.contents writer.old) (W.contents writer.new)) }
 {
     let line = line_of(alloc, faults)?;
     write_out(writer, line.as_bytes())?;
@@ -67,7 +67,7 @@ pub fn punch_feed<W: Write, F: Files, A: Allocator + Copy>(
             Ok(())
         }
         Err(JobRefusal::Faults(faults)) => {
-            tell(memory.own, writer, faults)?;
+            report(memory.own, writer, faults)?;
             Err(PreviewFault::Faulty)
         }
         Err(JobRefusal::NoMemory) => Err(PreviewFault::NoMemory),

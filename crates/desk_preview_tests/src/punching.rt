@@ -65,7 +65,7 @@ fn ribbon_is_punched(rt: HostRuntime) -> Result<(), Fail> {
 }
 
 #[test]
-fn faults_of_a_job_are_told(rt: HostRuntime) -> Result<(), Fail> {
+fn faults_of_a_job_are_reported(rt: HostRuntime) -> Result<(), Fail> {
     let mut files = rooms(rt.alloc(), 0)?;
     let (written, ended) = punched(rt.alloc(), &mut files, ("loose.feed", "c", "w"), OLD)?;
     assert_eq!(rt; ended, Err(PreviewFault::Faulty));

@@ -8,34 +8,34 @@ apart status none one = absurd (omega (arith, none, one))
 
 -- the status 0
 pub done_of : {A E X : Type 0} (r : Result A E) (status : ℕ) → MatchResult r (λ _. status ≡ 0) (λ _. status ≡ 1) → OnOk r X → status ≡ 0 → X
-done_of (Ok a) status told x zero = x
-done_of (Err e) status told x zero = apart status zero told
+done_of (Ok a) status reported x zero = x
+done_of (Err e) status reported x zero = apart status zero reported
 
 -- the status 1, of a fault
 pub halt_of : {A E : Type 0} (r : Result A E) (Why : E → Type 0) (status : ℕ) → MatchResult r (λ _. status ≡ 0) (λ _. status ≡ 1) → IfErr r Why → status ≡ 1 → (e : E) × Why e
-halt_of (Ok a) Why status told why one = apart status told one
-halt_of (Err e) Why status told why one = (e, why)
+halt_of (Ok a) Why status reported why one = apart status reported one
+halt_of (Err e) Why status reported why one = (e, why)
 
 -- the same, where what is left does not go by the fault
 pub left_of : {A E X : Type 0} (r : Result A E) (status : ℕ) → MatchResult r (λ _. status ≡ 0) (λ _. status ≡ 1) → OnErr r X → status ≡ 1 → X
-left_of (Ok a) status told x one = apart status told one
-left_of (Err e) status told x one = x
+left_of (Ok a) status reported x one = apart status reported one
+left_of (Err e) status reported x one = x
 
 -- the status of an answer that is yes or no
-abbrev pub TellsOf : {E : Type 0} → Result Bool E → ℕ → Type 0
-TellsOf r status = MatchResult r (λ (yes : Bool). (yes ≡ true → status ≡ 0) × (yes ≡ false → status ≡ 1)) (λ _. status ≡ 1)
+abbrev pub ReportsOf : {E : Type 0} → Result Bool E → ℕ → Type 0
+ReportsOf r status = MatchResult r (λ (yes : Bool). (yes ≡ true → status ≡ 0) × (yes ≡ false → status ≡ 1)) (λ _. status ≡ 1)
 
 -- the status 0: yes
-pub yes_of : {E : Type 0} (r : Result Bool E) (X : Bool → Type 0) (status : ℕ) → TellsOf r status → IfOk r X → status ≡ 0 → X true
-yes_of (Ok true) X status told x zero = x
-yes_of (Ok false) X status told x zero = apart status zero (told.1 refl)
-yes_of (Err e) X status told x zero = apart status zero told
+pub yes_of : {E : Type 0} (r : Result Bool E) (X : Bool → Type 0) (status : ℕ) → ReportsOf r status → IfOk r X → status ≡ 0 → X true
+yes_of (Ok true) X status reported x zero = x
+yes_of (Ok false) X status reported x zero = apart status zero (reported.1 refl)
+yes_of (Err e) X status reported x zero = apart status zero reported
 
 -- the status 1: no, or a fault
-pub no_of : {E : Type 0} (r : Result Bool E) (X : Bool → Type 0) (Why : E → Type 0) (status : ℕ) → TellsOf r status → IfOk r X → IfErr r Why → status ≡ 1 → X false ⊎ ((e : E) × Why e)
-no_of (Ok true) X Why status told x why one = apart status (told.0 refl) one
-no_of (Ok false) X Why status told x why one = inl x
-no_of (Err e) X Why status told x why one = inr (e, why)
+pub no_of : {E : Type 0} (r : Result Bool E) (X : Bool → Type 0) (Why : E → Type 0) (status : ℕ) → ReportsOf r status → IfOk r X → IfErr r Why → status ≡ 1 → X false ⊎ ((e : E) × Why e)
+no_of (Ok true) X Why status reported x why one = apart status (reported.0 refl) one
+no_of (Ok false) X Why status reported x why one = inl x
+no_of (Err e) X Why status reported x why one = inr (e, why)
 
 -- what holds of a yes, and what of a no
 pub when_so : (A B : Type 0) (b : Bool) → b ≡ true → A → MatchBool b A B

@@ -6,7 +6,7 @@ use Rattle.desk_reading.specs.Reading.{IsRead, IsUnread}
 use Rattle.desk_reading.specs.Sources.{Sources}
 use Rattle.desk_reading.specs.declared.fault.ReadingFault.{ReadingFault}
 use Rattle.desk_sorts.specs.Sources as of_sorts
-use Rattle.desk_sorts.specs.Telling.{AreListed, AreUnlisted}
+use Rattle.desk_sorts.specs.Reporting.{AreListed, AreUnlisted}
 use Rattle.desk_sorts.specs.declared.fault.SortsFault.{SortsFault}
 
 -- ---- a ribbon

@@ -18,14 +18,14 @@ abbrev pub IsUnchanged : Text → ℕ → Exchange → Shelf → Shelf → Optio
 IsUnchanged feed site exchange first last before after = (fault : ReplaceFault) × IsUnreplaced feed site exchange first last before after fault
 
 -- each file has its line, all are in order or one is not; no file has changed
-abbrev pub AreTold : List Text → Shelf → Shelf → Option (List ℕ) → Option (List ℕ) → Bool → Type 0
-AreTold names first last before after well = Stays first last × IsChecked names first last before after well
+abbrev pub AreReported : List Text → Shelf → Shelf → Option (List ℕ) → Option (List ℕ) → Bool → Type 0
+AreReported names first last before after well = Stays first last × IsChecked names first last before after well
 
 -- all are in order
 abbrev pub AreFound : List Text → Shelf → Shelf → Option (List ℕ) → Option (List ℕ) → Type 0
-AreFound names first last before after = AreTold names first last before after true
+AreFound names first last before after = AreReported names first last before after true
 
 -- one is not; or a line was not written
 abbrev pub AreNotInOrder : List Text → Shelf → Shelf → Option (List ℕ) → Option (List ℕ) → Type 0
 AreNotInOrder names first last before after =
-    AreTold names first last before after false ⊎ (Stays first last × (fault : CheckFault) × IsUnchecked names first last before after fault)
+    AreReported names first last before after false ⊎ (Stays first last × (fault : CheckFault) × IsUnchecked names first last before after fault)

@@ -2,7 +2,7 @@
 
 ghost use Rattle.std.specs.Prelude.{◌≡◌, MatchResult};
 
-use crate::telling::{Cause, feed_cause, file_cause, told};
+use crate::reporting::{Cause, feed_cause, file_cause, reported};
 use desk_hand::{
     ExportFault, ImportFault, InputFault, KeepFault, MergeFault, RevisionFault, TakeFault,
 };
@@ -22,7 +22,7 @@ fn input_cause<'a>(feed: &'a str, why: InputFault) -> Cause<'a> {
     match why {
         InputFault::Read => Cause::Input,
         InputFault::TooLong => Cause::TooLong,
-        InputFault::Text(_) => Cause::Told,
+        InputFault::Text(_) => Cause::Reported,
         InputFault::NoMemory => Cause::NoMemory(feed),
     }
 }
@@ -50,7 +50,7 @@ fn merge_cause<'a>(feed: &'a str, others: &'a [&'a str], fault: MergeFault) -> C
         MergeFault::Take(why) => take_cause(feed, why),
         MergeFault::Other { at, why } => match others.get(at) {
             Some(other) => feed_cause(other, why),
-            None => Cause::Told,
+            None => Cause::Reported,
         },
         MergeFault::Keep(why) => keep_cause(feed, why),
     }
@@ -68,7 +68,7 @@ pub fn merge_status<E: Write, F: Explains>(
 {
     match outcome {
         Ok(()) => 0,
-        Err(fault) => told(faults, files, &fault, merge_cause(feed, others, fault)),
+        Err(fault) => reported(faults, files, &fault, merge_cause(feed, others, fault)),
     }
 }
 
@@ -92,7 +92,7 @@ pub fn export_status<E: Write, F: Explains>(
 {
     match outcome {
         Ok(()) => 0,
-        Err(fault) => told(faults, files, &fault, export_cause(feed, fault)),
+        Err(fault) => reported(faults, files, &fault, export_cause(feed, fault)),
     }
 }
 
@@ -117,6 +117,6 @@ pub fn import_status<E: Write, F: Explains>(
 {
     match outcome {
         Ok(()) => 0,
-        Err(fault) => told(faults, files, &fault, import_cause(feed, fault)),
+        Err(fault) => reported(faults, files, &fault, import_cause(feed, fault)),
     }
 }

@@ -3,8 +3,8 @@
 ghost use Rattle.std.specs.Prelude.{◌≡◌, ◌≤◌, MatchResult, false, true};
 ghost use Rattle.desk_program.specs.Compared.{AreNotOne, AreOne};
 
-use crate::telling::{Cause, feed_cause, told};
-use desk_difference::{DifferenceFault, tell_difference};
+use crate::reporting::{Cause, feed_cause, reported};
+use desk_difference::{DifferenceFault, report_difference};
 use desk_files::Files;
 use desk_host::Explains;
 use std::alloc::Global;
@@ -33,7 +33,7 @@ fn difference_status<E: Write, F: Explains>(
     match outcome {
         Ok(true) => 0,
         Ok(false) => 1,
-        Err(fault) => told(faults, files, &fault, difference_cause(one, other, fault)),
+        Err(fault) => reported(faults, files, &fault, difference_cause(one, other, fault)),
     }
 }
 
@@ -50,6 +50,6 @@ pub fn compared<W: Write, E: Write, F: Files + Explains>(
     ensures done { result ≡ 0 → AreOne one.now other.now (F.shelf files.old) (F.shelf files.new) (W.contents writer.old) (W.contents writer.new) }
     ensures stopped { result ≡ 1 → AreNotOne one.now other.now (F.shelf files.old) (F.shelf files.new) (W.contents writer.old) (W.contents writer.new) }
 {
-    let outcome = tell_difference(alloc, writer, files, one, other);
+    let outcome = report_difference(alloc, writer, files, one, other);
     difference_status(faults, files, one, other, outcome)
 }

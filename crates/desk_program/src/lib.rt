@@ -5,10 +5,10 @@ mod by_hand;
 mod compared;
 mod previews;
 mod readings;
+mod reporting;
 mod runs;
 mod sheets;
-mod telling;
 mod texts;
 
+pub use reporting::unread;
 pub use runs::program;
-pub use telling::unread;

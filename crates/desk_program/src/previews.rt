@@ -5,7 +5,7 @@ ghost use Rattle.std.specs.Prelude.{◌≡◌, ◌≤◌, ◌↔◌, IfSome, IsN
 ghost use Rattle.desk_job.specs.Answer.{AreValues};
 ghost use Rattle.desk_program.specs.Previews.{IsInFile, IsInNoFile, IsPictureAbsent, IsPictureThere, IsSeen, IsSeenBy, IsShown, IsSource, IsUnseen, IsUnseenBy, IsUnshown, TakesSource, extent_of};
 
-use crate::telling::{explain_feed, stopped, tell_no_memory, tell_target};
+use crate::reporting::{explain_feed, report_no_memory, report_target, stopped};
 use desk_answers::Refusal;
 use desk_files::{FileRefusal, Files};
 use desk_hand::FeedTrouble;
@@ -105,7 +105,7 @@ fn unseen<E: Write, F: Explains>(
     ensures { result ≡ 1 }
 {
     if lacks_memory(fault) {
-        tell_no_memory(faults, from.feed);
+        report_no_memory(faults, from.feed);
         return 1;
     }
     let _ = writeln!(faults, "copydesk: {fault}");
@@ -273,7 +273,7 @@ fn takes_source<E: Write>(faults: &mut E, from: &Sources<'_>, picture: Option<&s
     if !is_source(from, target) {
         return false;
     }
-    tell_target(faults, target, "picture");
+    report_target(faults, target, "picture");
     true
 }
 
@@ -318,7 +318,7 @@ pub fn punched<W: Write, E: Write, F: Files + Explains>(
     ensures stopped { result ≡ 1 → IsInNoFile from.now target.now (F.shelf files.old) (F.shelf files.new) (W.contents writer.old) (W.contents writer.new) }
 {
     if is_source(from, target) {
-        tell_target(faults, target, "ribbon");
+        report_target(faults, target, "ribbon");
         return 1;
     }
     let outcome = punch_feed(

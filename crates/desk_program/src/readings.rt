@@ -7,14 +7,14 @@ ghost use Rattle.desk_reading.specs.Sources.{sources};
 ghost use Rattle.desk_sorts.specs.Sources as of_sorts;
 
 use crate::previews::{explain_input, memory_of};
-use crate::telling::{explain_feed, tell_no_memory, tell_target};
+use crate::reporting::{explain_feed, report_no_memory, report_target};
 use desk_answers::Refusal;
 use desk_files::{FileRefusal, Files};
 use desk_hand::FeedTrouble;
 use desk_holes::draw_ribbon;
 use desk_host::Explains;
 use desk_reading::{ReadingFault, read_job};
-use desk_sorts::{SortsFault, tell_sorts};
+use desk_sorts::{SortsFault, report_sorts};
 use std::alloc::Global;
 use std::io::{self, Write};
 
@@ -58,7 +58,7 @@ fn reading_words(fault: ReadingFault) -> &'static str {
 }
 
 /// Writes two lines on why a ribbon is not read or not drawn.
-fn tell_reading<E: Write, F: Explains>(
+fn report_reading<E: Write, F: Explains>(
     faults: &mut E,
     files: &F,
     ribbon: &str,
@@ -68,7 +68,7 @@ fn tell_reading<E: Write, F: Explains>(
     fault: ReadingFault,
 ) {
     if lacks_memory(fault) {
-        tell_no_memory(faults, ribbon);
+        report_no_memory(faults, ribbon);
     } else {
         let _ = writeln!(faults, "copydesk: {}", reading_words(fault));
         let _ = explain_reading(faults, files, ribbon, case, wedge, target, fault);
@@ -91,7 +91,7 @@ fn read_out<W: Write, E: Write, F: Files + Explains>(
     match read_job(memory_of(alloc), writer, files, ribbon, case, wedge) {
         Ok(whole) => Some(whole),
         Err(fault) => {
-            tell_reading(faults, files, ribbon, case, wedge, "", fault);
+            report_reading(faults, files, ribbon, case, wedge, "", fault);
             None
         }
     }
@@ -116,7 +116,7 @@ fn drawn<E: Write, F: Files + Explains>(
     match draw_ribbon(memory_of(alloc), files, ribbon, case, wedge, target) {
         Ok(there) => there,
         Err(fault) => {
-            tell_reading(faults, files, ribbon, case, wedge, target, fault);
+            report_reading(faults, files, ribbon, case, wedge, target, fault);
             false
         }
     }
@@ -145,7 +145,7 @@ fn takes_source<E: Write>(
     if !is_source(ribbon, case, wedge, target) {
         return false;
     }
-    tell_target(faults, target, "picture");
+    report_target(faults, target, "picture");
     true
 }
 
@@ -214,7 +214,7 @@ fn unlisted<E: Write, F: Explains>(
     ensures { result ≡ 1 }
 {
     if are_for_memory(fault) {
-        tell_no_memory(faults, feed);
+        report_no_memory(faults, feed);
         return 1;
     }
     let _ = writeln!(faults, "copydesk: {fault}");
@@ -253,6 +253,6 @@ pub fn listed<W: Write, E: Write, F: Files + Explains>(
     ensures done { result ≡ 0 → IsListed (of_sorts.sources feed.now case.now) layout (F.shelf files.old) (F.shelf files.new) (W.contents writer.old) (W.contents writer.new) true }
     ensures stopped { result ≡ 1 → IsNotListed (of_sorts.sources feed.now case.now) layout (F.shelf files.old) (F.shelf files.new) (W.contents writer.old) (W.contents writer.new) }
 {
-    let outcome = tell_sorts(memory_of(alloc), writer, files, feed, case, layout);
+    let outcome = report_sorts(memory_of(alloc), writer, files, feed, case, layout);
     sorts_status(faults, files, feed, case, outcome)
 }

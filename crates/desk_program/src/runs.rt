@@ -9,8 +9,8 @@ use crate::by_hand::{export_status, import_status, merge_status};
 use crate::compared::compared;
 use crate::previews::{proofed, punched};
 use crate::readings::{listed, read_whole};
+use crate::reporting::stopped;
 use crate::sheets::{on_desk, scripted};
-use crate::telling::stopped;
 use crate::texts::{checked, replaced};
 use clap::Error;
 use clap::error::ErrorKind;
@@ -99,7 +99,7 @@ fn refused<W: Write, E: Write>(writer: &mut W, faults: &mut E, error: &Error) ->
     ensures within { result ≤ 2 }
     ensures help { result ≡ 0 → (kind_of error.now ≡ ErrorKind.DisplayHelp) ⊎ (kind_of error.now ≡ ErrorKind.DisplayVersion) }
     ensures memory { result ≡ 1 → (kind_of error.now ≡ ErrorKind.OutOfMemory) × (writer.new ≡ writer.old) }
-    ensures told { result ≢ 1 → kind_of error.now ≢ ErrorKind.OutOfMemory }
+    ensures reported { result ≢ 1 → kind_of error.now ≢ ErrorKind.OutOfMemory }
     ensures fault { result ≡ 2 → (kind_of error.now ≢ ErrorKind.DisplayHelp) × (kind_of error.now ≢ ErrorKind.DisplayVersion) × (writer.new ≡ writer.old) }
 {
     let kind = error.kind();

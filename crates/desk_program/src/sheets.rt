@@ -3,7 +3,7 @@
 ghost use Rattle.std.specs.Prelude.{◌≡◌, ◌≤◌, MatchResult};
 ghost use Rattle.desk_program.specs.Sheets.{IsOffDesk, IsOnDesk, IsScripted, IsUnscripted, is_sheet};
 
-use crate::telling::{explain, status_of, status_on};
+use crate::reporting::{explain, status_of, status_on};
 use desk_files::Files;
 use desk_host::Explains;
 use desk_script::{run, run_on_feed};

@@ -7,7 +7,7 @@ ghost use Rattle.desk_program.specs.Texts.{AreFound, AreNotInOrder, IsUnchanged,
 
 use crate::by_hand::{keep_cause, revision_cause, take_cause};
 use crate::previews::memory_of;
-use crate::telling::{Cause, stopped, told};
+use crate::reporting::{Cause, reported, stopped};
 use desk_check::{CheckFault, check_files};
 use desk_files::Files;
 use desk_host::Explains;
@@ -20,11 +20,11 @@ use std::io::Write;
 fn replace_cause<'a>(feed: &'a str, fault: ReplaceFault) -> Cause<'a> {
     match fault {
         ReplaceFault::Exchange(ExchangeFault::NoMemory) => Cause::NoMemory(feed),
-        ReplaceFault::Exchange(_) => Cause::Told,
+        ReplaceFault::Exchange(_) => Cause::Reported,
         ReplaceFault::Take(why) => take_cause(feed, why),
         ReplaceFault::Place(PlaceFault::NoMemory) => Cause::NoMemory(feed),
         ReplaceFault::Place(PlaceFault::Write) => Cause::Output,
-        ReplaceFault::Place(_) => Cause::Told,
+        ReplaceFault::Place(_) => Cause::Reported,
         ReplaceFault::Revision(why) => revision_cause(feed, why),
         ReplaceFault::Keep(why) => keep_cause(feed, why),
     }
@@ -41,7 +41,7 @@ fn replace_status<E: Write, F: Explains>(
 {
     match outcome {
         Ok(()) => 0,
-        Err(fault) => told(faults, files, &fault, replace_cause(feed, fault)),
+        Err(fault) => reported(faults, files, &fault, replace_cause(feed, fault)),
     }
 }
 

@@ -499,8 +499,8 @@ fn set(alloc: Global, files: &mut TrialFiles<Global>) -> Result<bool, AllocError
 }
 
 /// Whether a run ended with this status, and this was written and said.
-fn ended(got: &Outcome, status: u8, written: &[u8], told: &[u8]) -> bool {
-    got.status == status && got.written.written() == written && got.faults.written() == told
+fn ended(got: &Outcome, status: u8, written: &[u8], reported: &[u8]) -> bool {
+    got.status == status && got.written.written() == written && got.faults.written() == reported
 }
 
 #[test]
@@ -598,8 +598,8 @@ fn text_is_replaced(rt: HostRuntime) -> Result<(), Fail> {
     assert!(rt; ended(&got, 1, b"no place\n", b"copydesk: no place\n"));
     let mut files = files.for_next_run();
     let got = tried_on(rt.alloc(), "replace a.feed --site 3 x \\q", b"", &mut files)?;
-    let told = b"copydesk: NEW, line 1, column 1: a backslash that escapes nothing\n";
-    assert!(rt; ended(&got, 1, b"", told));
+    let reported = b"copydesk: NEW, line 1, column 1: a backslash that escapes nothing\n";
+    assert!(rt; ended(&got, 1, b"", reported));
     Ok(())
 }
 

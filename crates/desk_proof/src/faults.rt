@@ -15,7 +15,6 @@ use desk_galley::{Line, Next};
 use desk_job::JobFault;
 use desk_lines::Word;
 use desk_ops::{CopyFault, FaultKind, Key, Symbol};
-use desk_signals::Position;
 use desk_units::{Atoms, Pica, WedgeSum};
 use std::alloc::{AllocError, Allocator};
 
@@ -79,12 +78,11 @@ fn put_limit<A: Allocator + Copy>(
     put_bound(out, before, limit, after)
 }
 
-/// The greatest wedge sum, with both wedges at their last position.
+/// The greatest wedge sum.
 fn greatest() -> u32
     ensures { result ≡ greatest }
 {
-    let last = Position::new(15).unwrap();
-    WedgeSum::of_positions(last, last).get() as u32
+    WedgeSum::GREATEST.get() as u32
 }
 
 /// Writes the wedge sum, and the limits between which a line is filled: tight, and the greatest wedge sum.

@@ -1,2 +1,2 @@
-pub mod Tellings
+pub mod Reportings
 pub mod Gives

@@ -1,5 +1,5 @@
 pub mod Lines
 pub mod Faults
-pub mod Told
+pub mod Reported
 pub mod Sources
 pub mod Reading

@@ -5,12 +5,12 @@ mod fault;
 mod faults;
 mod lines;
 mod reading;
+mod reported;
 mod sources;
-mod told;
 
 pub use fault::{ReadingFault, SourcesFault};
 pub use faults::{put_cast_fault, put_ribbon_fault};
 pub use lines::put_ribbon;
 pub use reading::read_job;
+pub use reported::reported_of;
 pub use sources::take_in;
-pub use told::told_of;

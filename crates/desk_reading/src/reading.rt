@@ -6,8 +6,8 @@ ghost use Rattle.desk_reading.specs.Reading.{IsRead, IsUnread};
 ghost use Rattle.desk_reading.specs.Sources.{sources};
 
 use crate::fault::ReadingFault;
+use crate::reported::reported_of;
 use crate::sources::take_in;
-use crate::told::told_of;
 use desk_files::Files;
 use desk_inputs::Memory;
 use desk_stored::write_out;
@@ -33,7 +33,7 @@ pub fn read_job<W: Write, F: Files, A: Allocator + Copy>(
     ensures stays { Stays (F.shelf files.old) (F.shelf files.new) }
 {
     let (bytes, case, wedge) = take_in(memory, files, ribbon, case, wedge)?;
-    let (text, whole) = told_of(memory.own, &bytes, &case, &wedge)?;
+    let (text, whole) = reported_of(memory.own, &bytes, &case, &wedge)?;
     write_out(writer, text.as_bytes())?;
     Ok(whole)
 }

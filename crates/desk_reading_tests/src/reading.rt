@@ -44,7 +44,7 @@ fn read(alloc: Global, k: u64, names: (&str, &str, &str)) -> Result<Left, Fail> 
 }
 
 /// Whether this is said of a ribbon by a wedge, and it is whole or not.
-fn is_told(
+fn is_reported(
     alloc: Global,
     ribbon: &str,
     wedge: &str,
@@ -56,10 +56,10 @@ fn is_told(
 }
 
 #[test]
-fn lines_are_told(rt: HostRuntime) -> Result<(), Fail> {
-    assert!(rt; is_told(rt.alloc(), "lines", "w", LINES, true)?);
-    assert!(rt; is_told(rt.alloc(), "space", "small", SPACE, true)?);
-    assert!(rt; is_told(rt.alloc(), "head", "w", HEAD, true)?);
+fn lines_are_reported(rt: HostRuntime) -> Result<(), Fail> {
+    assert!(rt; is_reported(rt.alloc(), "lines", "w", LINES, true)?);
+    assert!(rt; is_reported(rt.alloc(), "space", "small", SPACE, true)?);
+    assert!(rt; is_reported(rt.alloc(), "head", "w", HEAD, true)?);
     Ok(())
 }
 
@@ -87,9 +87,9 @@ const FAULTS: [(&str, &str); 7] = [
 ];
 
 #[test]
-fn first_fault_is_told(rt: HostRuntime) -> Result<(), Fail> {
+fn first_fault_is_reported(rt: HostRuntime) -> Result<(), Fail> {
     for &(ribbon, line) in &FAULTS {
-        assert!(rt; is_told(rt.alloc(), ribbon, "w", line, false)?);
+        assert!(rt; is_reported(rt.alloc(), ribbon, "w", line, false)?);
     }
     Ok(())
 }

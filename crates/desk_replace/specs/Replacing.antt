@@ -1,5 +1,5 @@
 -- A text in the copy of a stored feed, made another at the one place where it stands.
-use Rattle.std.specs.Prelude.{◌≡◌, ◌≢◌, ℕ, ◌+◌, List, [], ◌∷◌, ◌++◌, Option, Result, Ok, Err, length, take, drop}
+use Rattle.std.specs.Prelude.{◌≡◌, ◌≢◌, ℕ, ◌+◌, List, [], ◌∷◌, ◌++◌, Option, Ok, Err, length, take, drop}
 use Rattle.desk_ops.specs.declared.op.Symbol.{Symbol}
 use Rattle.desk_ops.specs.OpSet.{OpSet}
 use Rattle.desk_ops.specs.Shown.{copy_of}
@@ -7,13 +7,12 @@ use Rattle.desk_text.specs.Reading.{reading}
 use Rattle.desk_text.specs.declared.fault.TextFault.{TextFault}
 use Rattle.desk_text.specs.declared.fault.TextFault.TheVariants as texts
 use Rattle.desk_files.specs.Files.{Shelf}
-use Rattle.desk_files.specs.declared.files.FileRefusal.{FileRefusal}
 use Rattle.desk_places.specs.Places.{places_of}
 use Rattle.desk_hand.specs.Editing.{IsRevised, IsSparing, IsUnrevised}
 use Rattle.desk_hand.specs.Keeping.{IsKept, IsUnkept, edited_line}
 use Rattle.desk_hand.specs.Merging.{IsBarred, IsOpened}
 use Rattle.desk_hand.specs.declared.fault.RevisionFault.TheVariants as revisions
-use Rattle.desk_replace.specs.Telling.{IsTold}
+use Rattle.desk_replace.specs.Reporting.{IsReported}
 use Rattle.desk_replace.specs.declared.texts.Exchange.{Exchange}
 use Rattle.desk_replace.specs.declared.fault.ExchangeFault.{ExchangeFault}
 use Rattle.desk_replace.specs.declared.fault.ExchangeFault.TheVariants as exchanges
@@ -57,7 +56,7 @@ Replaces site old new was set inserted deleted = (text : List Symbol) × IsExcha
 -- The set is that of the stored feed with operations of the site that make the one text the other at the one place where it stands. The line was written, and its feed stands under the name.
 abbrev pub IsReplaced : List ℕ → ℕ → Exchange → Shelf → Shelf → Option (List ℕ) → Option (List ℕ) → Type 0
 IsReplaced name site exchange first last before after =
-    (old new : List Symbol) × AreRead exchange old new × (held : Shelf) × (read : Result (List ℕ) FileRefusal) × (was : OpSet) × IsOpened name first held read was
+    (old new : List Symbol) × AreRead exchange old new × (held : Shelf) × (read : Option (List ℕ)) × (was : OpSet) × IsOpened name first held read was
     × (set : OpSet) × (inserted deleted : ℕ) × Replaces site old new was set inserted deleted × IsKept name set (edited_line inserted deleted) read held last before after
 
 -- Why a replacement stopped, and what it left. Until the copy was changed the files are as they were when the feed was opened, and nothing was written but the places.
@@ -65,11 +64,11 @@ abbrev pub IsUnreplaced : List ℕ → ℕ → Exchange → Shelf → Shelf → 
 IsUnreplaced name site exchange first last before after (faults.Exchange why) = (after ≡ before) × (last ≡ first) × AreUnread exchange why
 IsUnreplaced name site exchange first last before after (faults.Take why) = (after ≡ before) × (old new : List Symbol) × AreRead exchange old new × IsBarred name first last why
 IsUnreplaced name site exchange first last before after (faults.Place why) =
-    (old new : List Symbol) × AreRead exchange old new × (read : Result (List ℕ) FileRefusal) × (was : OpSet) × IsOpened name first last read was × IsTold old (copy_of was) before after why
+    (old new : List Symbol) × AreRead exchange old new × (read : Option (List ℕ)) × (was : OpSet) × IsOpened name first last read was × IsReported old (copy_of was) before after why
 IsUnreplaced name site exchange first last before after (faults.Revision why) =
-    (after ≡ before) × (old new : List Symbol) × AreRead exchange old new × (read : Result (List ℕ) FileRefusal) × (was : OpSet) × IsOpened name first last read was
+    (after ≡ before) × (old new : List Symbol) × AreRead exchange old new × (read : Option (List ℕ)) × (was : OpSet) × IsOpened name first last read was
     × (text : List Symbol) × IsExchanged old new (copy_of was) text × (now : OpSet) × IsUnrevised site was now text why
     × (copy_of was ≡ text → why ≡ revisions.NoMemory) × (why ≢ revisions.Value)
 IsUnreplaced name site exchange first last before after (faults.Keep why) =
-    (old new : List Symbol) × AreRead exchange old new × (held : Shelf) × (read : Result (List ℕ) FileRefusal) × (was : OpSet) × IsOpened name first held read was
+    (old new : List Symbol) × AreRead exchange old new × (held : Shelf) × (read : Option (List ℕ)) × (was : OpSet) × IsOpened name first held read was
     × (set : OpSet) × (inserted deleted : ℕ) × Replaces site old new was set inserted deleted × IsUnkept name (edited_line inserted deleted) held last before after why

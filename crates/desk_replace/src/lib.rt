@@ -3,7 +3,7 @@
 
 mod fault;
 mod replacing;
-mod telling;
+mod reporting;
 mod texts;
 
 pub use fault::{ExchangeFault, PlaceFault, ReplaceFault};

@@ -5,14 +5,14 @@ ghost use Rattle.desk_ops.specs.Shown.{copy_of};
 ghost use Rattle.desk_files.specs.Files.{IsHeldAlone, Stays};
 ghost use Rattle.desk_text.specs.Laws.{AreLawful};
 ghost use Rattle.desk_replace.specs.Replacing.{IsExchanged, IsReplaced, IsUnreplaced, replaced};
-ghost use Rattle.desk_replace.specs.Telling.{IsTold};
+ghost use Rattle.desk_replace.specs.Reporting.{IsReported};
 
 use crate::fault::{PlaceFault, ReplaceFault};
-use crate::telling::only_place;
+use crate::reporting::only_place;
 use crate::texts::{Exchange, read_both};
 use desk_blocks::Blocks;
 use desk_files::Files;
-use desk_hand::{revise, take_feed, tell_and_keep};
+use desk_hand::{report_and_keep, revise, take_feed};
 use desk_memory::NoMemory;
 use desk_ops::Symbol;
 use desk_replica::Replica;
@@ -49,7 +49,7 @@ fn exchanged<W: Write, A: Allocator + Copy>(
     ensures ok { IfOk result (λ v. IsExchanged old.now new.now (copy_of replica.now.ops) v.items) }
     ensures lawful { AreLawful new.now → IfOk result (λ v. AreLawful v.items) }
     ensures silent { OnOk result (writer.new ≡ writer.old) }
-    ensures err { IfErr result (IsTold old.now (copy_of replica.now.ops) (W.contents writer.old) (W.contents writer.new)) }
+    ensures err { IfErr result (IsReported old.now (copy_of replica.now.ops) (W.contents writer.old) (W.contents writer.new)) }
 {
     let copy = replica.copy()?;
     let place = only_place(alloc, writer, old, &copy)?;
@@ -81,5 +81,5 @@ pub fn replace_text<W: Write, F: Files, A: Allocator + Copy>(
     let (stored, mut replica) = take_feed(alloc, files, name, site)?;
     let text = exchanged(alloc, &replica, writer, &old, &new)?;
     let tally = revise(alloc, &mut replica, &text)?;
-    Ok(tell_and_keep(alloc, &replica, tally, writer, files, name, &stored)?)
+    Ok(report_and_keep(alloc, &replica, tally, writer, files, name, &stored)?)
 }

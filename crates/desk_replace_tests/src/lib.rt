@@ -6,6 +6,6 @@ mod refusals;
 #[cfg(test)]
 mod replacing;
 #[cfg(test)]
-mod rooms;
+mod reporting;
 #[cfg(test)]
-mod telling;
+mod rooms;

@@ -25,8 +25,8 @@ type Row = (
 fn is_so(alloc: Global, row: Row, plain: bool) -> Result<bool, Fail> {
     let (text, from, to, line, after) = row;
     let left = left_by(alloc, text.as_bytes(), from, to, plain)?;
-    let is_told = left.written.as_slice() == line.as_bytes();
-    Ok(left.ended.is_ok() && is_told && left.text.as_slice() == after.as_bytes())
+    let is_reported = left.written.as_slice() == line.as_bytes();
+    Ok(left.ended.is_ok() && is_reported && left.text.as_slice() == after.as_bytes())
 }
 
 #[test]

@@ -1,4 +1,4 @@
--- Where ways end, told from the oldest operation to the newest.
+-- Where ways end, said from the oldest operation to the newest.
 use Rattle.std.proofs.Common.{◌≡◌, ℕ, zero, suc, ◌+◌, ◌<◌, ◌≤◌, Bool, true, false, not, cond, ◌||◌, List, [], ◌∷◌, ◌++◌, map, length, take, drop, get_or, reverse, refl, sym, ap, ◌∙◌, subst, ◌⊎◌, inl, inr, arith}
 use Rattle.std.specs.Prelude.{Option, Some, None, Result, Ok, Err, OnOk}
 use Rattle.std.specs.List.{filter, filter_map, cons_option, list_any}
@@ -30,7 +30,7 @@ use Rattle.desk_ops.proofs.Bearers.{stamp_not_before}
 use Rattle.desk_ops.proofs.Ends.{on, held_among, insert_from_op}
 use Rattle.desk_ops.proofs.Faulty.{fault_at, end_head, end_borne, end_bare}
 use Rattle.desk_replica.specs.declared.faults.Way.{Way}
-use Rattle.desk_replica.specs.Ways.{kind_at, way_of, ways_before, faults_before, way_at, AreRising, IsNone, AreWays, ends_with, ways_with, AreTold}
+use Rattle.desk_replica.specs.Ways.{kind_at, way_of, ways_before, faults_before, way_at, AreRising, IsNone, AreWays, ends_with, ways_with, AreReported}
 use Rattle.desk_replica.proofs.Passes.{clear_before, clear_before-clear, clear_before-other, filter-last, each-taken, earlier_all, below_it}
 use Rattle.desk_replica.proofs.Passes.{inserts-last}
 
@@ -44,14 +44,14 @@ module _ (h : OpSet) (ways : List Way) (t : Stamp) (w : AreWays h ways t) (none 
   unfolding same
   is_it = refl
 
-  pub told_head : is_head t ≡ true → None ≡ kind_at (in_order h) t
-  told_head e = sym (ends_there ∙ end_head (in_order h) t (sym is_it ∙ e))
+  pub reported_head : is_head t ≡ true → None ≡ kind_at (in_order h) t
+  reported_head e = sym (ends_there ∙ end_head (in_order h) t (sym is_it ∙ e))
 
-  pub told_borne : is_head t ≡ false → is_borne (in_order h) t ≡ true → Some Void ≡ kind_at (in_order h) t
-  told_borne e b = sym (ends_there ∙ end_borne (in_order h) t (sym is_it ∙ e) b)
+  pub reported_borne : is_head t ≡ false → is_borne (in_order h) t ≡ true → Some Void ≡ kind_at (in_order h) t
+  reported_borne e b = sym (ends_there ∙ end_borne (in_order h) t (sym is_it ∙ e) b)
 
-  pub told_bare : is_head t ≡ false → is_borne (in_order h) t ≡ false → Some Waiting ≡ kind_at (in_order h) t
-  told_bare e b = sym (ends_there ∙ end_bare (in_order h) t (sym is_it ∙ e) b)
+  pub reported_bare : is_head t ≡ false → is_borne (in_order h) t ≡ false → Some Waiting ≡ kind_at (in_order h) t
+  reported_bare e b = sym (ends_there ∙ end_bare (in_order h) t (sym is_it ∙ e) b)
 
 -- ---- the last of some operations
 
@@ -142,13 +142,13 @@ ordered-take (suc i) (o ∷ os) up = (each-taken (λ p. op_cmp o p ≡ Less) os 
 
 -- ---- the ways of the first operations
 
-ascending-front : (xs ys : List Insertion) → IsAscending (xs ++ ys) → IsAscending xs
-ascending-front [] ys up = tt
-ascending-front (x ∷ xs) ys up = (each-front xs up.0, ascending-front xs ys up.1)
+ascending-prefix : (xs ys : List Insertion) → IsAscending (xs ++ ys) → IsAscending xs
+ascending-prefix [] ys up = tt
+ascending-prefix (x ∷ xs) ys up = (each-prefix xs up.0, ascending-prefix xs ys up.1)
   where
-    each-front : (zs : List Insertion) → Each (λ y. before x.stamp y.stamp ≡ true) (zs ++ ys) → Each (λ y. before x.stamp y.stamp ≡ true) zs
-    each-front [] all = tt
-    each-front (z ∷ zs) all = (all.0, each-front zs all.1)
+    each-prefix : (zs : List Insertion) → Each (λ y. before x.stamp y.stamp ≡ true) (zs ++ ys) → Each (λ y. before x.stamp y.stamp ≡ true) zs
+    each-prefix [] all = tt
+    each-prefix (z ∷ zs) all = (all.0, each-prefix zs all.1)
 
 way-later : (ops : List Op) (s : Stamp) (xs : List Insertion) (j : ℕ) → Each (λ y. before s y.stamp ≡ true) xs → j < length (map (way_of ops) xs) → before s (way_at (map (way_of ops) xs) j).stamp ≡ true
 way-later ops s [] j all lt = absurd (omega arith)
@@ -217,7 +217,7 @@ module _ (h : OpSet) (lawful : AllLawful h) (i : ℕ) (d o : Op) (lt : i < lengt
 
   pub are_ways : (t : Stamp) → before t (stamp_of o) ≡ true → AreWays h (ways_before (in_order h) i) t
   are_ways t older = record {
-    rising = ways-rise (in_order h) (inserts_before (in_order h) i) (ascending-front (inserts_before (in_order h) i) rest (subst IsAscending split (clear_ascending h)));
+    rising = ways-rise (in_order h) (inserts_before (in_order h) i) (ascending-prefix (inserts_before (in_order h) i) rest (subst IsAscending split (clear_ascending h)));
     kinds = ways-kinds (in_order h) (inserts_before (in_order h) i);
     whole = λ none. way-absent (reverse (clear_inserts (in_order h))) t (Each-reverse (λ x. same x.stamp t ≡ false) (clear_inserts (in_order h)) (absent none));
   }
@@ -287,50 +287,50 @@ module _ (h : OpSet) (lawful : AllLawful h) (i : ℕ) (d o : Op) (lt : i < lengt
   ways-same : is_clear (in_order h) (stamp_of o) ≡ false → ways_before (in_order h) (i + 1) ≡ ways_before (in_order h) i
   ways-same c = ap (λ l. map (way_of (in_order h)) (filter_map insertion l)) (clear_before-other h i d lt (ap (λ p. is_clear (in_order h) (stamp_of p)) at ∙ c))
 
-  pub told-clear : (ways : List Way) (faults : List CopyFault) → AreTold (in_order h) i ways faults → is_clear (in_order h) (stamp_of o) ≡ true
-      → AreTold (in_order h) (i + 1) (ways ++ ways_with o (fault_of (in_order h) o)) (faults ++ cons_option (marked (stamp_of o) (fault_of (in_order h) o)) [])
-  told-clear ways faults told c = record {
-    ways_are = ap (λ l. l ++ ways_with o (fault_of (in_order h) o)) told.ways_are ∙ sym (ways-more c);
-    faults_are = ap (λ l. l ++ cons_option (marked (stamp_of o) (fault_of (in_order h) o)) []) told.faults_are ∙ sym (faults-new (fault_of (in_order h) o) (clear-new c) (bearing_one (in_order h) o c here));
+  pub reported-clear : (ways : List Way) (faults : List CopyFault) → AreReported (in_order h) i ways faults → is_clear (in_order h) (stamp_of o) ≡ true
+      → AreReported (in_order h) (i + 1) (ways ++ ways_with o (fault_of (in_order h) o)) (faults ++ cons_option (marked (stamp_of o) (fault_of (in_order h) o)) [])
+  reported-clear ways faults reported c = record {
+    ways_are = ap (λ l. l ++ ways_with o (fault_of (in_order h) o)) reported.ways_are ∙ sym (ways-more c);
+    faults_are = ap (λ l. l ++ cons_option (marked (stamp_of o) (fault_of (in_order h) o)) []) reported.faults_are ∙ sym (faults-new (fault_of (in_order h) o) (clear-new c) (bearing_one (in_order h) o c here));
   }
 
-  pub told-known : (ways : List Way) (faults : List CopyFault) → AreTold (in_order h) i ways faults → is_clear (in_order h) (stamp_of o) ≡ false → ends_with (take i (in_order h)) (stamp_of o) ≡ true → AreTold (in_order h) (i + 1) ways faults
-  told-known ways faults told c e = record {
-    ways_are = told.ways_are ∙ sym (ways-same c);
-    faults_are = told.faults_are ∙ sym (faults-old (sym last_is ∙ e));
+  pub reported-known : (ways : List Way) (faults : List CopyFault) → AreReported (in_order h) i ways faults → is_clear (in_order h) (stamp_of o) ≡ false → ends_with (take i (in_order h)) (stamp_of o) ≡ true → AreReported (in_order h) (i + 1) ways faults
+  reported-known ways faults reported c e = record {
+    ways_are = reported.ways_are ∙ sym (ways-same c);
+    faults_are = reported.faults_are ∙ sym (faults-old (sym last_is ∙ e));
   }
 
-  pub told-forked : (ways : List Way) (faults : List CopyFault) → AreTold (in_order h) i ways faults → is_clear (in_order h) (stamp_of o) ≡ false → ends_with (take i (in_order h)) (stamp_of o) ≡ false
-      → AreTold (in_order h) (i + 1) ways (faults ++ cons_option (marked (stamp_of o) (Some Forked)) [])
-  told-forked ways faults told c e = record {
-    ways_are = told.ways_are ∙ sym (ways-same c);
-    faults_are = ap (λ l. l ++ cons_option (marked (stamp_of o) (Some Forked)) []) told.faults_are ∙ sym (faults-new (Some Forked) (sym last_is ∙ e) (bearing_more (in_order h) o c here));
+  pub reported-forked : (ways : List Way) (faults : List CopyFault) → AreReported (in_order h) i ways faults → is_clear (in_order h) (stamp_of o) ≡ false → ends_with (take i (in_order h)) (stamp_of o) ≡ false
+      → AreReported (in_order h) (i + 1) ways (faults ++ cons_option (marked (stamp_of o) (Some Forked)) [])
+  reported-forked ways faults reported c e = record {
+    ways_are = reported.ways_are ∙ sym (ways-same c);
+    faults_are = ap (λ l. l ++ cons_option (marked (stamp_of o) (Some Forked)) []) reported.faults_are ∙ sym (faults-new (Some Forked) (sym last_is ∙ e) (bearing_more (in_order h) o c here));
   }
 
-pub told-all : (ops : List Op) (i : ℕ) (ways : List Way) (faults : List CopyFault) → length ops ≤ i → AreTold ops i ways faults → faults ≡ copy_faults ops
+pub reported-all : (ops : List Op) (i : ℕ) (ways : List Way) (faults : List CopyFault) → length ops ≤ i → AreReported ops i ways faults → faults ≡ copy_faults ops
 unfolding copy_faults
-told-all ops i ways faults le told = told.faults_are ∙ ap (λ l. filter_map (λ s. marked s (fault_at ops s)) (stamps l)) (take_all i ops le)
+reported-all ops i ways faults le reported = reported.faults_are ∙ ap (λ l. filter_map (λ s. marked s (fault_at ops s)) (stamps l)) (take_all i ops le)
 
 -- ---- the steps of the pass
 
-module _ (h : OpSet) (lawful : AllLawful h) (i : ℕ) (o : Op) (at : o ≡ get_or (in_order h) i o) (lt : i < length (in_order h)) (ways : List Way) (faults : List CopyFault) (told : AreTold (in_order h) i ways faults) where
+module _ (h : OpSet) (lawful : AllLawful h) (i : ℕ) (o : Op) (at : o ≡ get_or (in_order h) i o) (lt : i < length (in_order h)) (ways : List Way) (faults : List CopyFault) (reported : AreReported (in_order h) i ways faults) where
   pub pass_ways : (ws : List Way) → ws ≡ ways → (t : Stamp) → target_of o ≡ Some t → AreWays h ws t
-  pass_ways ws w t e = subst (λ ws. AreWays h ws t) (sym (w ∙ told.ways_are)) (target_ways h lawful i o o lt (sym at) t e)
+  pass_ways ws w t e = subst (λ ws. AreWays h ws t) (sym (w ∙ reported.ways_are)) (target_ways h lawful i o o lt (sym at) t e)
 
   pub pass_clear : (r : Result (Unit {0}) NoMemory) (s : Stamp) (kind : Option FaultKind) (ways_then : List Way) (faults_then : List CopyFault) → s ≡ stamp_of o → is_clear (in_order h) s ≡ true → kind ≡ fault_of (in_order h) o
-      → faults_then ≡ faults ++ cons_option (marked s kind) [] → OnOk r (ways_then ≡ ways ++ ways_with o kind) → OnOk r (AreTold (in_order h) (i + 1) ways_then faults_then)
+      → faults_then ≡ faults ++ cons_option (marked s kind) [] → OnOk r (ways_then ≡ ways ++ ways_with o kind) → OnOk r (AreReported (in_order h) (i + 1) ways_then faults_then)
   pass_clear (Ok u) s kind ways_then faults_then is c k f w =
-      subst (λ ws. AreTold (in_order h) (i + 1) ws faults_then) (sym (w ∙ ap (λ k. ways ++ ways_with o k) k))
-      (subst (AreTold (in_order h) (i + 1) (ways ++ ways_with o (fault_of (in_order h) o))) (sym (f ∙ ap (λ k. faults ++ cons_option (marked s k) []) k ∙ ap (λ s. faults ++ cons_option (marked s (fault_of (in_order h) o)) []) is))
-      (told-clear h lawful i o o lt (sym at) ways faults told (ap (is_clear (in_order h)) (sym is) ∙ c)))
+      subst (λ ws. AreReported (in_order h) (i + 1) ws faults_then) (sym (w ∙ ap (λ k. ways ++ ways_with o k) k))
+      (subst (AreReported (in_order h) (i + 1) (ways ++ ways_with o (fault_of (in_order h) o))) (sym (f ∙ ap (λ k. faults ++ cons_option (marked s k) []) k ∙ ap (λ s. faults ++ cons_option (marked s (fault_of (in_order h) o)) []) is))
+      (reported-clear h lawful i o o lt (sym at) ways faults reported (ap (is_clear (in_order h)) (sym is) ∙ c)))
   pass_clear (Err e) s kind ways_then faults_then is c k f w = tt
 
-  pub pass_known : (s : Stamp) → s ≡ stamp_of o → is_clear (in_order h) s ≡ false → ends_with (take i (in_order h)) s ≡ true → AreTold (in_order h) (i + 1) ways faults
-  pass_known s is c e = told-known h lawful i o o lt (sym at) ways faults told (ap (is_clear (in_order h)) (sym is) ∙ c) (ap (ends_with (take i (in_order h))) (sym is) ∙ e)
+  pub pass_known : (s : Stamp) → s ≡ stamp_of o → is_clear (in_order h) s ≡ false → ends_with (take i (in_order h)) s ≡ true → AreReported (in_order h) (i + 1) ways faults
+  pass_known s is c e = reported-known h lawful i o o lt (sym at) ways faults reported (ap (is_clear (in_order h)) (sym is) ∙ c) (ap (ends_with (take i (in_order h))) (sym is) ∙ e)
 
   pub pass_forked : (r : Result (Unit {0}) NoMemory) (s : Stamp) (faults_then : List CopyFault) → s ≡ stamp_of o → is_clear (in_order h) s ≡ false → ends_with (take i (in_order h)) s ≡ false
-      → OnOk r (faults_then ≡ faults ++ cons_option (marked s (Some Forked)) []) → OnOk r (AreTold (in_order h) (i + 1) ways faults_then)
+      → OnOk r (faults_then ≡ faults ++ cons_option (marked s (Some Forked)) []) → OnOk r (AreReported (in_order h) (i + 1) ways faults_then)
   pass_forked (Ok u) s faults_then is c e f =
-      subst (AreTold (in_order h) (i + 1) ways) (sym (f ∙ ap (λ s. faults ++ cons_option (marked s (Some Forked)) []) is))
-      (told-forked h lawful i o o lt (sym at) ways faults told (ap (is_clear (in_order h)) (sym is) ∙ c) (ap (ends_with (take i (in_order h))) (sym is) ∙ e))
+      subst (AreReported (in_order h) (i + 1) ways) (sym (f ∙ ap (λ s. faults ++ cons_option (marked s (Some Forked)) []) is))
+      (reported-forked h lawful i o o lt (sym at) ways faults reported (ap (is_clear (in_order h)) (sym is) ∙ c) (ap (ends_with (take i (in_order h))) (sym is) ∙ e))
   pass_forked (Err x) s faults_then is c e f = tt

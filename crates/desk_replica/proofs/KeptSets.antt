@@ -220,4 +220,4 @@ pass-all h ops is i kept le a key =
     all : clear_before (in_order h) i ≡ clear_ops (in_order h)
     all = ap (filter (λ op. is_clear (in_order h) (stamp_of op))) (take_all i (in_order h) (subst (λ os. length os ≤ i) is le))
 
--- ---- what adding told
+-- ---- what adding reported

@@ -13,8 +13,8 @@ use Rattle.desk_ops.proofs.Joined.{within-with_op, lawful-with_op}
 use Rattle.desk_ops.proofs.Lists.{Each-take}
 use Rattle.desk_held.proofs.Lacking.{lawful_all}
 use Rattle.desk_replica.specs.declared.Count.{Count}
-use Rattle.desk_replica.specs.declared.Stopped.{Stopped}
-use Rattle.desk_replica.specs.State.{IsStopped}
+use Rattle.desk_held.specs.declared.join.Stopped.{Stopped}
+use Rattle.desk_held.specs.Joining.{IsStopped}
 use Rattle.desk_replica.specs.Orders.{KeepsOrder, ShareOneOrder}
 use Rattle.desk_replica.proofs.Sets.{each-of-all}
 use Rattle.desk_replica.proofs.Orders.{kept, total, stands}

@@ -1,5 +1,5 @@
 -- Elements that two sets show keep their order, and one order holds what the parts of a set without forks show.
-use Rattle.std.proofs.Common.{◌≡◌, ℕ, zero, suc, ◌<◌, true, false, not, List, [], ◌∷◌, ◌++◌, reverse, map, refl, sym, ap, ◌∙◌, subst, subst₂, ◌⊎◌, inl, inr, arith}
+use Rattle.std.proofs.Common.{◌≡◌, ℕ, zero, suc, ◌<◌, true, false, not, List, [], ◌∷◌, ◌++◌, reverse, refl, sym, ap, ◌∙◌, subst, subst₂, ◌⊎◌, inl, inr, arith}
 use Rattle.std.specs.Ordering.{ordering_reverse}
 use Rattle.std.specs.declared.cmp.Ordering.{Ordering}
 use Rattle.std.specs.declared.cmp.Ordering.TheVariants.{Less, Equal, Greater}
@@ -16,6 +16,7 @@ use Rattle.desk_ops.specs.PathOrder.{path_of, path_cmp, InPathOrder}
 use Rattle.desk_ops.specs.Shown.{is_deleted, shown, shown_of}
 use Rattle.desk_ops.proofs.Stamps.{same-refl, same-from}
 use Rattle.desk_ops.proofs.Lists.{each-among, among-filter_from, precedes-cases, precedes-first, precedes-second}
+use Rattle.desk_ops.proofs.Places.{stamps}
 use Rattle.desk_ops.proofs.Paths.{path-absent, path_total, walk-in_order, Each-reverse}
 use Rattle.desk_ops.proofs.Kept.{not_less_itself, descends, step, among-reversed}
 use Rattle.desk_ops.proofs.Means.{live_ascending, live_grows, live_agree, shown-kept}
@@ -25,9 +26,6 @@ use Rattle.desk_ops.proofs.Parts.{shown_live}
 use Rattle.desk_replica.specs.Orders.{shown_stamps, StandAlike, KeepsOrder, StandsBefore, IsOrderOfLive, StandsIn, OneOrderOfSets}
 
 -- ---- elements and their stamps
-
-abbrev stamps : List Insertion → List Stamp
-stamps xs = map (λ x. x.stamp) xs
 
 abbrev IsOf : Stamp → List Insertion → Type 0
 IsOf s xs = (x : Insertion) × Among x xs × (x.stamp ≡ s)

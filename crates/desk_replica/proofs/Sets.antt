@@ -4,7 +4,7 @@ use Rattle.std.specs.List.{AllByRecursion}
 use Rattle.desk_ops.specs.declared.op.Op.{Op}
 use Rattle.desk_ops.specs.Op.{IsLawful, stamp_of}
 use Rattle.desk_ops.specs.Held.{is_borne_in}
-use Rattle.desk_ops.specs.OpSet.{OpSet, no_ops, has_op, with_op, with_all, in_order, size, AllLawful, max_ops}
+use Rattle.desk_ops.specs.OpSet.{OpSet, has_op, with_op, with_all, size, max_ops}
 use Rattle.desk_replica.specs.State.{IsCounted, ForksNone, HasRoom}
 use Rattle.std.proofs.lemmas.List.{take-append-drop, take_all, drop_all}
 use Rattle.std.proofs.Math.Seq.{drop-cons}
@@ -14,14 +14,10 @@ use Rattle.desk_held.specs.declared.AddRefusal.TheVariants.{Full, NoMemory}
 use Rattle.std.specs.Prelude.{◌↔◌, Bool, true, Result, Ok, Err, IsErrOf, All}
 use Rattle.std.proofs.lemmas.Bool.{true≢false}
 use Rattle.desk_replica.specs.declared.Took.{Took}
-use Rattle.desk_replica.specs.declared.Stopped.{Stopped}
-use Rattle.desk_replica.specs.State.{IsStopped}
+use Rattle.desk_held.specs.declared.join.Stopped.{Stopped}
+use Rattle.desk_held.specs.Joining.{IsStopped}
 use Rattle.desk_ops.proofs.Unions.{with_all-append, size-with_op}
 use Rattle.desk_ops.proofs.Stamps.{by_cases}
-use Rattle.desk_ops.proofs.OpSets.{no_ops-from_rising, in_order-from_rising}
-
-pub none-lawful : AllLawful no_ops
-none-lawful = subst (AllByRecursion IsLawful) (sym (ap in_order (sym no_ops-from_rising) ∙ in_order-from_rising [] tt)) tt
 
 pub each-of-all : (ops : List Op) → All IsLawful ops → AllByRecursion IsLawful ops
 each-of-all [] a = tt

@@ -64,26 +64,26 @@ count-is h es e = count es ∙ ap length (shown-all h es e) ∙ plain-length (sh
 pub copy-count : (h : OpSet) (es : List Entry) → es ≡ entries_of h → shown_in es ≡ length (copy_of h)
 copy-count h es e = count es ∙ sym (length-map (filter is_shown es) (λ (x : Entry). x.symbol)) ∙ ap length (copy-is h es e)
 
-abbrev IsTold : List Entry → ℕ → Stamp → Type 0
-IsTold fs i s = (i < length fs) × (get_or (stamps_of fs) i head ≡ s)
+abbrev IsReported : List Entry → ℕ → Stamp → Type 0
+IsReported fs i s = (i < length fs) × (get_or (stamps_of fs) i head ≡ s)
 
-told : (es : List Entry) (i at : ℕ) → at < length es → ((d : Entry) → (get_or es at d).deleted ≡ false) → shown_in (take at es) ≡ i → IsTold (filter is_shown es) i (get_or (stamps_of es) at head)
-told [] i at lt live is = absurd (omega arith)
-told (e ∷ es) i zero lt live is =
-    subst (λ (fs : List Entry). IsTold fs i e.stamp) (sym (filter-hit is_shown e es (ap not (live e))))
-    (subst (λ (n : ℕ). IsTold (e ∷ filter is_shown es) n e.stamp) is (omega arith, refl))
-told (e ∷ es) i (suc n) lt live is =
+reported : (es : List Entry) (i at : ℕ) → at < length es → ((d : Entry) → (get_or es at d).deleted ≡ false) → shown_in (take at es) ≡ i → IsReported (filter is_shown es) i (get_or (stamps_of es) at head)
+reported [] i at lt live is = absurd (omega arith)
+reported (e ∷ es) i zero lt live is =
+    subst (λ (fs : List Entry). IsReported fs i e.stamp) (sym (filter-hit is_shown e es (ap not (live e))))
+    (subst (λ (n : ℕ). IsReported (e ∷ filter is_shown es) n e.stamp) is (omega arith, refl))
+reported (e ∷ es) i (suc n) lt live is =
     by_cases e.deleted
-    (λ k. subst (λ (fs : List Entry). IsTold fs i (get_or (stamps_of es) n head)) (sym (filter-miss is_shown e es (ap not k)))
-    (told es i n (omega arith) live (sym (ap (λ b. cond b (shown_in (take n es)) (shown_in (take n es) + 1)) k) ∙ is)))
+    (λ k. subst (λ (fs : List Entry). IsReported fs i (get_or (stamps_of es) n head)) (sym (filter-miss is_shown e es (ap not k)))
+    (reported es i n (omega arith) live (sym (ap (λ b. cond b (shown_in (take n es)) (shown_in (take n es) + 1)) k) ∙ is)))
     (λ k. let e1 : shown_in (take n es) + 1 ≡ i = sym (ap (λ b. cond b (shown_in (take n es)) (shown_in (take n es) + 1)) k) ∙ is in
-    let r = told es (shown_in (take n es)) n (omega arith) live refl in
-    subst (λ (fs : List Entry). IsTold fs i (get_or (stamps_of es) n head)) (sym (filter-hit is_shown e es (ap not k)))
-    (subst (λ (m : ℕ). IsTold (e ∷ filter is_shown es) m (get_or (stamps_of es) n head)) (let f : suc (shown_in (take n es)) ≡ i = omega arith in f) (let l : shown_in (take n es) < length (filter is_shown es) = r.0 in omega arith, r.1)))
+    let r = reported es (shown_in (take n es)) n (omega arith) live refl in
+    subst (λ (fs : List Entry). IsReported fs i (get_or (stamps_of es) n head)) (sym (filter-hit is_shown e es (ap not k)))
+    (subst (λ (m : ℕ). IsReported (e ∷ filter is_shown es) m (get_or (stamps_of es) n head)) (let f : suc (shown_in (take n es)) ≡ i = omega arith in f) (let l : shown_in (take n es) < length (filter is_shown es) = r.0 in omega arith, r.1)))
 
 pub shown-stamp : (h : OpSet) (es : List Entry) → es ≡ entries_of h → (i at : ℕ) → IsShownAt es i at → (x : Entry) → x ≡ get_or es at x → (i < length (shown_of h)) × (x.stamp ≡ stamp_at (shown_of h) i)
 shown-stamp h es e i at s x is =
-    let r = told es i at s.within s.shown s.before_it in
+    let r = reported es i at s.within s.shown s.before_it in
     let l : i < length (filter is_shown es) = r.0 in
     let n : length (filter is_shown es) ≡ length (shown_of h) = ap length (shown-all h es e) ∙ plain-length (shown_of h) in (
       omega arith,

@@ -9,6 +9,7 @@ use Rattle.desk_ops.specs.Held.{is_borne_in}
 use Rattle.desk_ops.proofs.Stamps.{by_cases}
 use Rattle.desk_ops.proofs.Joined.{lawful-with_op}
 use Rattle.desk_ops.proofs.Unions.{size-with_op}
+use Rattle.desk_ops.proofs.OpSets.{none-lawful}
 use Rattle.desk_ops.proofs.Bearers.{op_borne}
 use Rattle.std.proofs.lemmas.Bool.{true≢false}
 use Rattle.desk_registers.specs.declared.Registers.{Registers}
@@ -18,7 +19,6 @@ use Rattle.desk_walk.specs.Following.{IsSettled, IsArrival}
 use Rattle.desk_walk.proofs.Anew.{settled-none, none-size}
 use Rattle.desk_replica.specs.JobSettings.{AreKept, kept_op}
 use Rattle.desk_replica.specs.Shows.{IsSound, spare_of}
-use Rattle.desk_replica.proofs.Sets.{none-lawful}
 use Rattle.desk_replica.proofs.KeptSets.{kept-new, kept-alike, kept-none}
 
 pub sound-none : (site : ℕ) (h : OpSet) (r : Registers) (es : List Entry) (w : OpSet) (free : ℕ) → 1 ≤ site → h ≡ no_ops → ((key : Key) → kept r key ≡ None) → es ≡ [] → w ≡ no_ops → IsSound site h r es w free

@@ -8,11 +8,9 @@ use Rattle.desk_ops.specs.OpSet.{OpSet, op_set_code, has_op, with_op, size, AllL
 use Rattle.desk_ops.specs.Held.{is_borne_in}
 use Rattle.desk_held.specs.declared.AddRefusal.{AddRefusal}
 use Rattle.desk_held.specs.declared.AddRefusal.TheVariants as add
-use Rattle.desk_held.specs.Joining.{IsHalted}
 use Rattle.desk_replica.specs.declared.Count.{Count}
 use Rattle.desk_replica.specs.declared.Refusal.{Refusal}
 use Rattle.desk_replica.specs.declared.Refusal.TheVariants.{Full, NoMemory}
-use Rattle.desk_replica.specs.declared.Stopped.{Stopped}
 use Rattle.desk_replica.specs.declared.Took.{Took}
 use Rattle.desk_replica.specs.declared.Took.TheVariants.{New, Known}
 
@@ -63,7 +61,3 @@ pub record HasRoom (ops : OpSet) (room : ℕ) (list : List Op) : Type 0 where
   pub below : size ops + length list ≤ max_ops
   pub spare : length list ≤ room
   pub unforked : ForksNone ops list
-
--- exactly the first operations of the list were gained, and the next is not held; it would be too many where that is the cause, and only there
-abbrev pub IsStopped : OpSet → OpSet → List Op → Stopped → Type 0
-IsStopped old after ops stop = IsHalted old after ops (record { added = stop.taken; why = stop.why })

@@ -50,7 +50,7 @@ pub record IsOne (s : Stamp) (ways : List Way) (k : ℕ) : Type 0 where
   pub within : k < length ways
   pub bears : (way_at ways k).stamp ≡ s
 
--- what the ways tell of a target: what hangs on it, if it is one of them; else the way ends there
+-- what the ways say of a target: what hangs on it, if it is one of them; else the way ends there
 pub record AreWays (h : OpSet) (ways : List Way) (target : Stamp) : Type 0 where
   pub rising : AreRising ways
   pub kinds : (k : ℕ) → k < length ways → (way_at ways k).kind ≡ kind_at (in_order h) (way_at ways k).stamp
@@ -68,7 +68,7 @@ ways_with (Insert stamp parent symbol) kind = record { stamp = stamp; kind = kin
 ways_with (Delete stamp target) kind = []
 ways_with (Set stamp key value) kind = []
 
--- what the first operations tell
-pub record AreTold (ops : List Op) (i : ℕ) (ways : List Way) (faults : List CopyFault) : Type 0 where
+-- what the first operations give
+pub record AreReported (ops : List Op) (i : ℕ) (ways : List Way) (faults : List CopyFault) : Type 0 where
   pub ways_are : ways ≡ ways_before ops i
   pub faults_are : faults ≡ faults_before ops i

@@ -5,7 +5,7 @@ ghost use Rattle.desk_ops.specs.declared.op.Stamp.{Stamp};
 ghost use Rattle.desk_ops.specs.Op.{target_of};
 ghost use Rattle.desk_ops.specs.OpSet.{in_order, AllLawful};
 ghost use Rattle.desk_ops.specs.Faults.{faults_of, fault_of, marked};
-ghost use Rattle.desk_replica.specs.Ways.{kind_at, AreRising, IsNone, IsOne, AreWays, ends_with, ways_with, AreTold};
+ghost use Rattle.desk_replica.specs.Ways.{kind_at, AreRising, IsNone, IsOne, AreWays, ends_with, ways_with, AreReported};
 
 use desk_held::Held;
 use desk_ops::{CopyFault, FaultKind, NoMemory, Op, Stamp};
@@ -75,8 +75,8 @@ fn fault_of<A: Allocator + Copy>(held: &Held<A>, ways: &[Way], op: &Op) -> Optio
     }
 }
 
-/// Tells the stamp's fault, if it has one.
-fn tell<A: Allocator>(
+/// Reports the stamp's fault, if it has one.
+fn report<A: Allocator>(
     faults: &mut Vec<CopyFault, A>,
     stamp: Stamp,
     kind: Option<FaultKind>,
@@ -106,7 +106,7 @@ fn join<A: Allocator>(
     Ok(())
 }
 
-/// Tells the operation at the place.
+/// Reports the operation at the place.
 fn pass<A: Allocator + Copy>(
     held: &Held<A>,
     place: usize,
@@ -115,20 +115,20 @@ fn pass<A: Allocator + Copy>(
 ) -> Result<(), NoMemory>
     requires lawful { AllLawful held.now.ops }
     requires within { place < length (in_order held.now.ops) }
-    requires told { AreTold (in_order held.now.ops) place ways.old.items faults.old.items }
-    ensures { OnOk result (AreTold (in_order held.now.ops) (place + 1) ways.new.items faults.new.items) }
+    requires reported { AreReported (in_order held.now.ops) place ways.old.items faults.old.items }
+    ensures { OnOk result (AreReported (in_order held.now.ops) (place + 1) ways.new.items faults.new.items) }
 {
     let op = held.op(place);
     let stamp = op.stamp();
     if held.is_clear(stamp) {
         let kind = fault_of(held, ways, &op);
-        tell(faults, stamp, kind)?;
+        report(faults, stamp, kind)?;
         return join(ways, &op, kind);
     }
     if is_repeated(held, place, stamp) {
         return Ok(());
     }
-    tell(faults, stamp, Some(FaultKind::Forked))
+    report(faults, stamp, Some(FaultKind::Forked))
 }
 
 /// The faults of a held set, by stamp.

@@ -43,6 +43,7 @@ pub mod laws;
 mod settings;
 mod taking;
 
+pub use desk_held::Stopped;
 pub use settings::Settings;
 
 /// What taking in an operation did.
@@ -88,15 +89,6 @@ impl From<AddRefusal> for Refusal {
 pub struct Count {
     pub new: usize,
     pub known: usize,
-}
-
-/// A list was taken in up to an operation that was refused.
-#[derive(Clone, Copy, Debug, PartialEq, Eq, Error)]
-#[error("stopped after {taken} operations: {why}")]
-pub struct Stopped {
-    /// How many operations were taken in.
-    pub taken: usize,
-    pub why: AddRefusal,
 }
 
 /// A site, and the operations that it holds; with them a sequence that is their walk, a room of what waits, and registers
@@ -159,7 +151,8 @@ fn is_known<A: Allocator + Copy>(held: &Held<A>, op: &Op, is_borne: bool) -> boo
 }
 
 impl<Q: Sequence> Replica<Q> {
-    ghost use Rattle.desk_replica.specs.State.{took_by, IsCounted, IsKept, IsStopped, HasRoom};
+    ghost use Rattle.desk_held.specs.Joining.{IsStopped};
+    ghost use Rattle.desk_replica.specs.State.{took_by, IsCounted, IsKept, HasRoom};
 
     /// A replica that holds nothing.
     pub fn new(alloc: Q::Memory, site: u16) -> Self

@@ -17,7 +17,8 @@ const MANY: usize = 32;
 const PART: usize = 6;
 
 impl<Q: Sequence> Replica<Q> {
-    ghost use Rattle.desk_replica.specs.State.{AreApart, HasRoom, IsCounted, IsStopped};
+    ghost use Rattle.desk_held.specs.Joining.{IsStopped};
+    ghost use Rattle.desk_replica.specs.State.{AreApart, HasRoom, IsCounted};
 
     /// Takes in the operations of a list of which none bears a stamp that is borne, where there is room for them. No memory
     /// is taken.

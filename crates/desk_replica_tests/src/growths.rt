@@ -121,8 +121,8 @@ enum Seen {
 }
 
 /// Whether the call was refused in a heap that has so many bytes left, and where; none where it answers or does anything
-/// else. What it took in then is what it told, in the order of its list; with memory it gives its answer. What a merge reads
-/// stands in a heap of its own.
+/// else. What it took in then is what it reported, in the order of its list; with memory it gives its answer. What a
+/// merge reads stands in a heap of its own.
 fn is_refused<P: Sequence, Q: Sequence>(
     ample: P::Memory,
     memory: Q::Memory,

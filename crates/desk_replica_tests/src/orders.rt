@@ -18,7 +18,8 @@ fn pick(seed: u64, n: usize) -> usize {
     ((seed >> 33) % (n.max(1) as u64)) as usize
 }
 
-/// Puts the list in another order, told by the code: each number below the factorial of its length gives one of its own.
+/// Puts the list in another order, given by the code: each number below the factorial of its length gives one of its
+/// own.
 fn reorder(ops: &mut [Op], code: usize) {
     let mut rest = code;
     for place in 0..ops.len() {

@@ -26,7 +26,7 @@ const STOPS: [(AddRefusal, &str); 2] = [
 /// Whether these are the words of a refusal.
 fn is_worded(alloc: Global, refusal: Refusal, words: &str) -> bool {
     match format!(in alloc; "{refusal}") {
-        Ok(told) => told.as_str() == words,
+        Ok(reported) => reported.as_str() == words,
         Err(AllocError) => false,
     }
 }
@@ -35,7 +35,7 @@ fn is_worded(alloc: Global, refusal: Refusal, words: &str) -> bool {
 fn is_stop_worded(alloc: Global, why: AddRefusal, words: &str) -> bool {
     let stopped = Stopped { taken: 3, why };
     match format!(in alloc; "{stopped}") {
-        Ok(told) => told.as_str() == words,
+        Ok(reported) => reported.as_str() == words,
         Err(AllocError) => false,
     }
 }

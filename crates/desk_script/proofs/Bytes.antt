@@ -11,5 +11,5 @@ on_ok (Ok x) p = p
 on_ok (Err e) p = tt
 
 -- the fault of a call that failed, by what the result is
-pub told_fault : {V E : Type 0} (result : Result V E) (fault given wanted : E) → result ≡ Err fault → fault ≡ given → result ≡ Err wanted → given ≡ wanted
-told_fault result fault given wanted failed same is = let e : Err fault ≡ Err wanted = sym failed ∙ is in cc
+pub reported_fault : {V E : Type 0} (result : Result V E) (fault given wanted : E) → result ≡ Err fault → fault ≡ given → result ≡ Err wanted → given ≡ wanted
+reported_fault result fault given wanted failed same is = let e : Err fault ≡ Err wanted = sym failed ∙ is in cc

@@ -11,7 +11,7 @@ use Rattle.desk_files.specs.Files.{Shelf, Stays}
 use Rattle.desk_steps.specs.Desk.{Desk}
 use Rattle.desk_steps.specs.Line.{Allows, Bytes, Line, Long}
 use Rattle.desk_stored.specs.Sending.{WritesPrefix}
-use Rattle.desk_script.specs.Script.{Script, Turn, StopsWithin, StopsBefore, IsTold}
+use Rattle.desk_script.specs.Script.{Script, Turn, StopsWithin, StopsBefore, IsReported}
 
 pub no_turn : (old : Desk) (a : Option (List ℕ)) → Turn old old a a []
 no_turn old a = ([], refl, Appends-nil a)
@@ -24,11 +24,11 @@ never : (P : Type 0) (reply : ReplyValues) (why : Refusal) → reply ≡ Refused
 never P reply why is long = let short : is_long reply ≡ false = ap is_long is in absurd (cc)
 
 -- A reply whose text finds no memory is that refusal, and it is allowed where nothing has changed. No reply to a line that is too long is such.
-pub told_allowed : (old new : Desk) (line : Line) (reply told : ReplyValues) → Allows old line reply new → (is_long reply ≡ true → new ≡ old) → IsTold reply told → Allows old line told new
-told_allowed old new line reply told allowed same (inl is) = subst (λ (r : ReplyValues). Allows old line r new) (sym is) allowed
-told_allowed old new (Bytes bytes) reply told allowed same (inr h) = inr (tt, (h.1, same h.0))
-told_allowed old new Long reply told (inl allowed) same (inr h) = never (Allows old Long told new) reply refusals.Line allowed.0 h.0
-told_allowed old new Long reply told (inr lacks) same (inr h) = absurd lacks.0
+pub reported_allowed : (old new : Desk) (line : Line) (reply reported : ReplyValues) → Allows old line reply new → (is_long reply ≡ true → new ≡ old) → IsReported reply reported → Allows old line reported new
+reported_allowed old new line reply reported allowed same (inl is) = subst (λ (r : ReplyValues). Allows old line r new) (sym is) allowed
+reported_allowed old new (Bytes bytes) reply reported allowed same (inr h) = inr (tt, (h.1, same h.0))
+reported_allowed old new Long reply reported (inl allowed) same (inr h) = never (Allows old Long reported new) reply refusals.Line allowed.0 h.0
+reported_allowed old new Long reply reported (inr lacks) same (inr h) = absurd lacks.0
 
 pub one_turn : (old new : Desk) (a b : Option (List ℕ)) (line : Line) (bytes : List ℕ) (reply : ReplyValues) → Allows old line reply new → bytes ≡ text reply ++ 10 ∷ [] → Appends a b bytes → Turn old new a b (line ∷ [])
 one_turn old new a b line bytes reply allowed is written = (reply ∷ [], (new, allowed, refl), subst (Appends a b) is written)

@@ -12,8 +12,8 @@ use Rattle.desk_steps.specs.Line.{Allows}
 use Rattle.desk_stored.specs.Sending.{WritesPrefix}
 
 -- what is written for a reply: it, or if it is a long one and its text finds no memory, that refusal
-abbrev pub IsTold : ReplyValues → ReplyValues → Type 0
-IsTold reply told = (told ≡ reply) ⊎ ((is_long reply ≡ true) × (told ≡ Refused refusals.Memory))
+abbrev pub IsReported : ReplyValues → ReplyValues → Type 0
+IsReported reply reported = (reported ≡ reply) ⊎ ((is_long reply ≡ true) × (reported ≡ Refused refusals.Memory))
 
 -- the answers that lines may get, one for each
 abbrev pub Script : Desk → List Line → List ReplyValues → Desk → Type 0

@@ -9,7 +9,7 @@ ghost use Rattle.desk_answers.specs.Text.{text};
 ghost use Rattle.desk_world.specs.Sites.{Sites, no_sites};
 ghost use Rattle.desk_steps.specs.Desk.{KeepsSites, desk};
 ghost use Rattle.desk_files.specs.Files.{Stays};
-ghost use Rattle.desk_script.specs.Script.{Turn, StopsWithin, Answers, AnswersBefore, AnswersPrefix, IsTold};
+ghost use Rattle.desk_script.specs.Script.{Turn, StopsWithin, Answers, AnswersBefore, AnswersPrefix, IsReported};
 ghost use Rattle.desk_stored.specs.Sending.{WritesPrefix};
 ghost use Rattle.desk_script.specs.Fault.{IsOfLines};
 ghost use Rattle.desk_script.specs.Pending.{Breaks, BreaksBefore, Moves, last_line, lines_from, progress};
@@ -69,13 +69,13 @@ fn spelled<A: Allocator + Copy>(alloc: A, answer: &Reply<A>) -> Result<String<A>
 
 /// Writes the line of an answer, which may be a long one only where nothing has changed: if there is no memory for its
 /// text, the line is refused for that. All else is written with no memory.
-fn tell<W: Write, A: Allocator + Copy>(
+fn report<W: Write, A: Allocator + Copy>(
     alloc: A,
     writer: &mut W,
     answer: &Reply<A>,
 ) -> Result<(), LineFault>
-    ensures ok { OnOk result ((r : ReplyValues) × IsTold (reply_values answer.now) r × Appends (W.contents writer.old) (W.contents writer.new) (text r ++ 10 ∷ [])) }
-    ensures err { OnErr result ((r : ReplyValues) × IsTold (reply_values answer.now) r × WritesPrefix (W.contents writer.old) (W.contents writer.new) (text r ++ 10 ∷ [])) }
+    ensures ok { OnOk result ((r : ReplyValues) × IsReported (reply_values answer.now) r × Appends (W.contents writer.old) (W.contents writer.new) (text r ++ 10 ∷ [])) }
+    ensures err { OnErr result ((r : ReplyValues) × IsReported (reply_values answer.now) r × WritesPrefix (W.contents writer.old) (W.contents writer.new) (text r ++ 10 ∷ [])) }
     ensures fault { IfErr result (λ fault. fault ≡ LineFault.Write) }
 {
     if let Some(mut line) = short(answer) {
@@ -103,7 +103,7 @@ fn take_line<W: Write, F: Files, A: Allocator + Copy>(
     ensures stays { Stays (F.shelf files.old) (F.shelf files.new) }
 {
     let reply = answer(memory, world, files, line);
-    tell(memory.own, writer, &reply)
+    report(memory.own, writer, &reply)
 }
 
 /// The line without a carriage return at its end.

@@ -288,7 +288,7 @@ const WORDS: [(RunFault, &str); 7] = [
 /// Whether these are the words of a fault.
 fn is_worded(alloc: Global, fault: RunFault, words: &str) -> bool {
     match format!(in alloc; "{fault}") {
-        Ok(told) => told.as_str() == words,
+        Ok(reported) => reported.as_str() == words,
         Err(AllocError) => false,
     }
 }

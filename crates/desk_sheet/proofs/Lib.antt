@@ -1,2 +1,2 @@
 pub mod Cutting
-pub mod Telling
+pub mod Reporting

@@ -53,8 +53,8 @@ IsAnswered mode stops n old before line new after =
     (reply : ReplyValues) × Allows old line reply new × ((mode.strict && is_refusal reply) ≡ stops) × (after ≡ before ++ answer_line mode n reply)
 
 -- line n is passed over, or answered and the run goes on
-abbrev pub Tells : Mode → ℕ → Desk → List ℕ → Line → Desk → List ℕ → Type 0
-Tells mode n old before line new after =
+abbrev pub Reports : Mode → ℕ → Desk → List ℕ → Line → Desk → List ℕ → Type 0
+Reports mode n old before line new after =
     MatchBool (mode.strict && is_passed_over line) ((new ≡ old) × (after ≡ before)) (IsAnswered mode false n old before line new after)
 
 -- line n is answered, and stops the run
@@ -64,20 +64,20 @@ Stops mode n old before line new after = ((mode.strict && is_passed_over line) �
 -- ---- all lines
 
 -- the lines from line n on are answered or passed over, and none stops the run
-abbrev pub Told : Mode → ℕ → Desk → List ℕ → List Line → Desk → List ℕ → Type 0
-Told mode n old before [] new after = (new ≡ old) × (after ≡ before)
-Told mode n old before (line ∷ lines) new after =
-    (mid : Desk) × (told : List ℕ) × Tells mode n old before line mid told × Told mode (n + 1) mid told lines new after
+abbrev pub AreReported : Mode → ℕ → Desk → List ℕ → List Line → Desk → List ℕ → Type 0
+AreReported mode n old before [] new after = (new ≡ old) × (after ≡ before)
+AreReported mode n old before (line ∷ lines) new after =
+    (mid : Desk) × (reported : List ℕ) × Reports mode n old before line mid reported × AreReported mode (n + 1) mid reported lines new after
 
 -- the lines before line k are answered or passed over, and that stops the run
 abbrev pub StopsAt : Mode → Desk → List ℕ → List Line → ℕ → Desk → List ℕ → Type 0
 StopsAt mode old before lines k new after =
     (prefix tail : List Line) × (line : Line) × (lines ≡ prefix ++ line ∷ tail) × (k ≡ length prefix + 1)
-    × (mid : Desk) × (told : List ℕ) × Told mode 1 old before prefix mid told × Stops mode k mid told line new after
+    × (mid : Desk) × (reported : List ℕ) × AreReported mode 1 old before prefix mid reported × Stops mode k mid reported line new after
 
 -- all lines are answered or passed over, or the line of this number stops the run
 abbrev pub Ends : Mode → Desk → List ℕ → List Line → Option ℕ → Desk → List ℕ → Type 0
-Ends mode old before lines None new after = Told mode 1 old before lines new after
+Ends mode old before lines None new after = AreReported mode 1 old before lines new after
 Ends mode old before lines (Some k) new after = StopsAt mode old before lines k new after
 
 -- ---- a run
@@ -94,12 +94,12 @@ IsLeft before after answers.Write = IsAtEnd after
 IsLeft before after (answers.Line k) = IsAtEnd after
 
 -- the answers to all that a reader has left, to the end or to the line of this number
-abbrev pub IsTold : Mode → Desk → Desk → Option (List ℕ) → Option ℕ → List ℕ → Type 0
-IsTold mode old new input end told = (bytes : List ℕ) × IsInput input bytes × Ends mode old [] (lines bytes) end new told
+abbrev pub IsReported : Mode → Desk → Desk → Option (List ℕ) → Option ℕ → List ℕ → Type 0
+IsReported mode old new input end reported = (bytes : List ℕ) × IsInput input bytes × Ends mode old [] (lines bytes) end new reported
 
 -- no line stopped the run, and the answers were written
 abbrev pub IsDone : Mode → Desk → Desk → Option (List ℕ) → Option (List ℕ) → Option (List ℕ) → Type 0
-IsDone mode old new input before after = (told : List ℕ) × IsTold mode old new input None told × Appends before after told
+IsDone mode old new input before after = (reported : List ℕ) × IsReported mode old new input None reported × Appends before after reported
 
 -- Why a sheet was not answered to its end, and what was written: nothing; a prefix of the answers; or all of them up to that of the line that stopped the run.
 -- Where the sheet could not be read, no line was carried out.
@@ -107,8 +107,8 @@ abbrev pub IsUnanswered : Mode → Desk → Desk → Option (List ℕ) → Optio
 IsUnanswered mode old new input before after (answers.Input why) = (new ≡ old) × (after ≡ before) × IsNotWhole max_sheet input why
 IsUnanswered mode old new input before after answers.NoMemory = after ≡ before
 IsUnanswered mode old new input before after answers.Write =
-    (end : Option ℕ) × (told : List ℕ) × IsTold mode old new input end told × WritesPrefix before after told
-IsUnanswered mode old new input before after (answers.Line k) = (told : List ℕ) × IsTold mode old new input (Some k) told × Appends before after told
+    (end : Option ℕ) × (reported : List ℕ) × IsReported mode old new input end reported × WritesPrefix before after reported
+IsUnanswered mode old new input before after (answers.Line k) = (reported : List ℕ) × IsReported mode old new input (Some k) reported × Appends before after reported
 
 -- ---- by the fault of the run
 

@@ -1,5 +1,5 @@
 -- A sheet of commands on a stored feed.
-use Rattle.std.specs.Prelude.{◌≡◌, ◌⊎◌, ℕ, List, Option, Result}
+use Rattle.std.specs.Prelude.{◌≡◌, ◌⊎◌, ℕ, List, Option}
 use Rattle.std.specs.Io.KnownBytes.{IsAtEnd}
 use Rattle.desk_files.specs.declared.files.FileRefusal.{FileRefusal}
 use Rattle.desk_files.specs.Files.{IsNowHeld, Shelf, Stays}
@@ -16,7 +16,7 @@ use Rattle.desk_sheet.specs.declared.fault.TakeFault.TheVariants as takes
 use Rattle.desk_sheet.specs.declared.sheet.Mode.{Mode}
 
 -- the name was taken for this run, and the site holds the operations of what was read of the feed while it was held
-abbrev pub IsOpened : List ℕ → ℕ → Shelf → Result (List ℕ) FileRefusal → Desk → Type 0
+abbrev pub IsOpened : List ℕ → ℕ → Shelf → Option (List ℕ) → Desk → Type 0
 IsOpened name n first read start = (held : Shelf) × IsNowHeld name first held × IsStart name n held read start
 
 -- why a stored feed was not taken, and no file has changed
@@ -28,7 +28,7 @@ IsBarred name first last (takes.Unopened why) = (held : Shelf) × IsNowHeld name
 -- the feed was opened, no line stopped the run and the answers were written, and then the feed was stored
 abbrev pub IsStoredSheet : Mode → List ℕ → ℕ → Shelf → Shelf → Option (List ℕ) → Option (List ℕ) → Option (List ℕ) → Type 0
 IsStoredSheet mode name n first last input before after =
-    (read : Result (List ℕ) FileRefusal) × (start : Desk) × IsOpened name n first read start
+    (read : Option (List ℕ)) × (start : Desk) × IsOpened name n first read start
     × (new : Desk) × IsDone mode start new input before after × Stays start.shelf new.shelf × IsStored name n new read last
 
 -- why a run on an open feed stopped, and what it left: the sheet was not carried out to its end, and no file has changed; or it was, and the feed was not stored
@@ -42,7 +42,7 @@ IsStoppedFrom mode name start last input before after fault =
 abbrev pub IsStoppedOnFeed : Mode → List ℕ → ℕ → Shelf → Shelf → Option (List ℕ) → Option (List ℕ) → Option (List ℕ) → SheetFault → Type 0
 IsStoppedOnFeed mode name n first last input before after fault =
     ((after ≡ before) × (why : TakeFault) × (fault ≡ of_taking why) × IsBarred name first last why)
-    ⊎ ((read : Result (List ℕ) FileRefusal) × (start : Desk) × IsOpened name n first read start × IsStoppedFrom mode name start last input before after fault)
+    ⊎ ((read : Option (List ℕ)) × (start : Desk) × IsOpened name n first read start × IsStoppedFrom mode name start last input before after fault)
 
 -- how far the reader of a run on a stored feed that stopped was read: not at all, where the feed was not taken; to its end, where the feed was not stored; or as the sheet was not answered
 abbrev pub LeavesOffOnFeed : Option (List ℕ) → Option (List ℕ) → SheetFault → Type 0

@@ -8,7 +8,7 @@ ghost use Rattle.desk_script.specs.Lines.{lines};
 ghost use Rattle.desk_steps.specs.Desk.{KeepsSites, desk};
 ghost use Rattle.desk_steps.specs.Line.{line_of};
 ghost use Rattle.desk_world.specs.Sites.{Sites, no_sites};
-ghost use Rattle.desk_sheet.specs.Sheet.{Ends, IsDone, IsLeft, IsStopped, IsUnanswered, LeavesOff, Stops, Tells, answer_line, head, is_passed_over, is_refusal};
+ghost use Rattle.desk_sheet.specs.Sheet.{Ends, IsDone, IsLeft, IsStopped, IsUnanswered, LeavesOff, Stops, Reports, answer_line, head, is_passed_over, is_refusal};
 
 use crate::fault::{AnswerFault, SheetFault};
 use crate::lines::next_line;
@@ -54,45 +54,45 @@ fn is_refusal<A: Allocator + Copy>(reply: &Reply<A>) -> bool
 
 /// Writes what stands before the answer of a line.
 fn put_head<A: Allocator + Copy>(
-    told: &mut String<A>,
+    reported: &mut String<A>,
     mode: Mode,
     number: u64,
 ) -> Result<(), AllocError>
-    ensures { OnOk result (string_bytes told.new ≡ string_bytes told.old ++ head mode number) }
+    ensures { OnOk result (string_bytes reported.new ≡ string_bytes reported.old ++ head mode number) }
 {
     if mode.number {
-        write!(told, "{number} ")?;
+        write!(reported, "{number} ")?;
     }
     Ok(())
 }
 
 /// Writes the answer of a line at the end.
 fn put_answer<A: Allocator + Copy>(
-    told: &mut String<A>,
+    reported: &mut String<A>,
     mode: Mode,
     number: u64,
     reply: &Reply<A>,
 ) -> Result<(), AllocError>
-    ensures { OnOk result (string_bytes told.new ≡ string_bytes told.old ++ answer_line mode number (reply_values reply.now)) }
+    ensures { OnOk result (string_bytes reported.new ≡ string_bytes reported.old ++ answer_line mode number (reply_values reply.now)) }
 {
-    put_head(told, mode, number)?;
-    put(told, reply)?;
-    told.push_str("\n")
+    put_head(reported, mode, number)?;
+    put(reported, reply)?;
+    reported.push_str("\n")
 }
 
 /// Answers a line, or passes over it, and writes the answer at the end. Returns whether the run goes on.
-fn tell_line<F: Files, A: Allocator + Copy>(
+fn report_line<F: Files, A: Allocator + Copy>(
     memory: Memory<A>,
     mode: Mode,
     world: &mut World<A>,
     files: &mut F,
-    told: &mut String<A>,
+    reported: &mut String<A>,
     number: u64,
     line: &[u8],
 ) -> Result<bool, NoMemory>
     ensures ok { IfOk result (λ (goes_on : Bool). MatchBool goes_on
-        (Tells mode number (desk world.old (F.shelf files.old)) (string_bytes told.old) (line_of line.now) (desk world.new (F.shelf files.new)) (string_bytes told.new))
-        (Stops mode number (desk world.old (F.shelf files.old)) (string_bytes told.old) (line_of line.now) (desk world.new (F.shelf files.new)) (string_bytes told.new))) }
+        (Reports mode number (desk world.old (F.shelf files.old)) (string_bytes reported.old) (line_of line.now) (desk world.new (F.shelf files.new)) (string_bytes reported.new))
+        (Stops mode number (desk world.old (F.shelf files.old)) (string_bytes reported.old) (line_of line.now) (desk world.new (F.shelf files.new)) (string_bytes reported.new))) }
     ensures sites { KeepsSites world.old world.new }
     ensures stays { Stays (F.shelf files.old) (F.shelf files.new) }
 {
@@ -100,20 +100,20 @@ fn tell_line<F: Files, A: Allocator + Copy>(
         return Ok(true);
     }
     let reply = answer(memory, world, files, line);
-    put_answer(told, mode, number, &reply)?;
+    put_answer(reported, mode, number, &reply)?;
     Ok(!(mode.strict && is_refusal(&reply)))
 }
 
 /// Answers lines up to the end, or to the one that stops the run, whose number is returned.
-fn tell_lines<F: Files, A: Allocator + Copy>(
+fn report_lines<F: Files, A: Allocator + Copy>(
     memory: Memory<A>,
     mode: Mode,
     world: &mut World<A>,
     files: &mut F,
-    told: &mut String<A>,
+    reported: &mut String<A>,
     input: &[u8],
 ) -> Result<Option<u64>, NoMemory>
-    ensures ok { IfOk result (λ end. Ends mode (desk world.old (F.shelf files.old)) (string_bytes told.old) (lines input.now) end (desk world.new (F.shelf files.new)) (string_bytes told.new)) }
+    ensures ok { IfOk result (λ end. Ends mode (desk world.old (F.shelf files.old)) (string_bytes reported.old) (lines input.now) end (desk world.new (F.shelf files.new)) (string_bytes reported.new)) }
     ensures some { OnErr result (0 < length input.now) }
     ensures sites { KeepsSites world.old world.new }
     ensures stays { Stays (F.shelf files.old) (F.shelf files.new) }
@@ -122,7 +122,7 @@ fn tell_lines<F: Files, A: Allocator + Copy>(
     let mut number = 0;
     'lines: while let Some((line, more)) = next_line(rest) {
         number += 1;
-        if !tell_line(memory, mode, world, files, told, number, line)? {
+        if !report_line(memory, mode, world, files, reported, number, line)? {
             return Ok(Some(number));
         }
         rest = more;
@@ -147,9 +147,9 @@ pub fn answer_sheet<R: Read, W: Write, F: Files, A: Allocator + Copy>(
     ensures left { IfErr result (IsLeft (R.remaining reader.old) (R.remaining reader.new)) }
 {
     let input = read_whole(memory.own, reader, MAX_SHEET)?;
-    let mut told = String::new(memory.own);
-    let end = tell_lines(memory, mode, world, files, &mut told, &input)?;
-    write_out(writer, told.as_bytes())?;
+    let mut reported = String::new(memory.own);
+    let end = report_lines(memory, mode, world, files, &mut reported, &input)?;
+    write_out(writer, reported.as_bytes())?;
     match end {
         Some(number) => Err(AnswerFault::Line(number)),
         None => Ok(()),

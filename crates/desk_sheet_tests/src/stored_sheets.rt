@@ -156,13 +156,13 @@ fn is_refused(alloc: Global, cut: usize) -> Result<bool, Fail> {
         3,
     );
     drop(ballast);
-    let told = written.as_slice();
+    let reported = written.as_slice();
     let is_right = match end {
-        Ok(()) => told == b"2 ok 1.3\n".as_slice(),
+        Ok(()) => reported == b"2 ok 1.3\n".as_slice(),
         Err(SheetFault::Run(RunFault::NoMemory)) => {
-            told.is_empty() || told == b"2 ok 1.3\n".as_slice()
+            reported.is_empty() || reported == b"2 ok 1.3\n".as_slice()
         }
-        Err(SheetFault::Line(2)) => told == b"2 refused memory\n".as_slice(),
+        Err(SheetFault::Line(2)) => reported == b"2 refused memory\n".as_slice(),
         Err(_) => false,
     };
     let is_stored = files.holds("n.feed", X);

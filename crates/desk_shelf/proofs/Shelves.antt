@@ -69,69 +69,69 @@ unused : (t : Bool) (n : ℕ) → cond t 1 0 + n ≡ 0 → t ≡ false
 unused false n e = refl
 unused true n e = absurd (omega arith)
 
-head-moved : {X S : Type 0} (tells : S → List X → Type 0) (frames new : List (List X)) (h : Head X S) → length frames ≤ length new → page_of new h ≡ page_of frames h → IsHead tells frames h → IsHead tells new h
-head-moved tells frames new h l e i = record {
+head-moved : {X S : Type 0} (sums_up : S → List X → Type 0) (frames new : List (List X)) (h : Head X S) → length frames ≤ length new → page_of new h ≡ page_of frames h → IsHead sums_up frames h → IsHead sums_up new h
+head-moved sums_up frames new h l e i = record {
   within = let w = i.within in omega arith;
   few = i.few;
-  summed = subst (λ (z : List _). tells h.summary z) (sym e) i.summed;
+  summed = subst (λ (z : List _). sums_up h.summary z) (sym e) i.summed;
   last = λ some. subst (λ (z : List _). h.last ≡ get_or z (h.len - 1) h.last) (sym e) (i.last some);
 }
 
-pub heads-set : {X S : Type 0} (tells : S → List X → Type 0) (frames : List (List X)) (heads : List (Head X S)) (f : ℕ) (r : List X) → AreHeads tells frames heads → uses f heads ≡ 0 → AreHeads tells (set frames f r) heads × (pages_of (set frames f r) heads ≡ pages_of frames heads)
-heads-set tells frames [] f r a u = (tt, refl)
-heads-set tells frames (h ∷ heads) f r a u =
+pub heads-set : {X S : Type 0} (sums_up : S → List X → Type 0) (frames : List (List X)) (heads : List (Head X S)) (f : ℕ) (r : List X) → AreHeads sums_up frames heads → uses f heads ≡ 0 → AreHeads sums_up (set frames f r) heads × (pages_of (set frames f r) heads ≡ pages_of frames heads)
+heads-set sums_up frames [] f r a u = (tt, refl)
+heads-set sums_up frames (h ∷ heads) f r a u =
     let c = uses-cons f h heads in
     let e = unused (eqb h.frame f) (uses f heads) (sym c ∙ u) in
-    let rest = heads-set tells frames heads f r a.1 (omega arith) in
+    let rest = heads-set sums_up frames heads f r a.1 (omega arith) in
     let same = other-page frames f r h e in
     let n = length-set frames f r in
-    ((head-moved tells frames (set frames f r) h (omega arith) same a.0, rest.0), ap (λ (z : List _). z ∷ pages_of (set frames f r) heads) same ∙ ap (λ (z : List (List _)). page_of frames h ∷ z) rest.1)
+    ((head-moved sums_up frames (set frames f r) h (omega arith) same a.0, rest.0), ap (λ (z : List _). z ∷ pages_of (set frames f r) heads) same ∙ ap (λ (z : List (List _)). page_of frames h ∷ z) rest.1)
 
-pub heads-push : {X S : Type 0} (tells : S → List X → Type 0) (frames : List (List X)) (heads : List (Head X S)) (r : List X) → AreHeads tells frames heads → AreHeads tells (frames ++ r ∷ []) heads × (pages_of (frames ++ r ∷ []) heads ≡ pages_of frames heads)
-heads-push tells frames [] r a = (tt, refl)
-heads-push tells frames (h ∷ heads) r a =
-    let rest = heads-push tells frames heads r a.1 in
+pub heads-push : {X S : Type 0} (sums_up : S → List X → Type 0) (frames : List (List X)) (heads : List (Head X S)) (r : List X) → AreHeads sums_up frames heads → AreHeads sums_up (frames ++ r ∷ []) heads × (pages_of (frames ++ r ∷ []) heads ≡ pages_of frames heads)
+heads-push sums_up frames [] r a = (tt, refl)
+heads-push sums_up frames (h ∷ heads) r a =
+    let rest = heads-push sums_up frames heads r a.1 in
     let same : page_of (frames ++ r ∷ []) h ≡ page_of frames h = ap (λ (z : List _). take h.len z) (get_or_append_left frames (r ∷ []) [] h.frame a.0.within) in
     let n = length-append frames (r ∷ []) in
-    ((head-moved tells frames (frames ++ r ∷ []) h (omega arith) same a.0, rest.0), ap (λ (z : List _). z ∷ pages_of (frames ++ r ∷ []) heads) same ∙ ap (λ (z : List (List _)). page_of frames h ∷ z) rest.1)
+    ((head-moved sums_up frames (frames ++ r ∷ []) h (omega arith) same a.0, rest.0), ap (λ (z : List _). z ∷ pages_of (frames ++ r ∷ []) heads) same ∙ ap (λ (z : List (List _)). page_of frames h ∷ z) rest.1)
 
 -- ---- one page
 
-pub heads-at : {X S : Type 0} (tells : S → List X → Type 0) (frames : List (List X)) (heads : List (Head X S)) (p : ℕ) (d : Head X S) → p < length heads → AreHeads tells frames heads → IsHead tells frames (get_or heads p d) × (get_or (pages_of frames heads) p [] ≡ page_of frames (get_or heads p d))
-heads-at tells frames [] p d l a = absurd (omega arith)
-heads-at tells frames (h ∷ heads) zero d l a = (a.0, refl)
-heads-at tells frames (h ∷ heads) (suc p) d l a = heads-at tells frames heads p d (omega arith) a.1
+pub heads-at : {X S : Type 0} (sums_up : S → List X → Type 0) (frames : List (List X)) (heads : List (Head X S)) (p : ℕ) (d : Head X S) → p < length heads → AreHeads sums_up frames heads → IsHead sums_up frames (get_or heads p d) × (get_or (pages_of frames heads) p [] ≡ page_of frames (get_or heads p d))
+heads-at sums_up frames [] p d l a = absurd (omega arith)
+heads-at sums_up frames (h ∷ heads) zero d l a = (a.0, refl)
+heads-at sums_up frames (h ∷ heads) (suc p) d l a = heads-at sums_up frames heads p d (omega arith) a.1
 
 -- a page is written in its frame
-pub heads-write : {X S : Type 0} (tells : S → List X → Type 0) (frames : List (List X)) (heads : List (Head X S)) (p f : ℕ) (r : List X) (h d : Head X S) → p < length heads → f ≡ (get_or heads p d).frame → uses f heads ≤ 1 → AreHeads tells frames heads → IsHead tells (set frames f r) h → AreHeads tells (set frames f r) (set heads p h) × (pages_of (set frames f r) (set heads p h) ≡ set (pages_of frames heads) p (page_of (set frames f r) h))
-heads-write tells frames [] p f r h d l e u a i = absurd (omega arith)
-heads-write tells frames (k ∷ heads) zero f r h d l e u a i =
+pub heads-write : {X S : Type 0} (sums_up : S → List X → Type 0) (frames : List (List X)) (heads : List (Head X S)) (p f : ℕ) (r : List X) (h d : Head X S) → p < length heads → f ≡ (get_or heads p d).frame → uses f heads ≤ 1 → AreHeads sums_up frames heads → IsHead sums_up (set frames f r) h → AreHeads sums_up (set frames f r) (set heads p h) × (pages_of (set frames f r) (set heads p h) ≡ set (pages_of frames heads) p (page_of (set frames f r) h))
+heads-write sums_up frames [] p f r h d l e u a i = absurd (omega arith)
+heads-write sums_up frames (k ∷ heads) zero f r h d l e u a i =
     let c = uses-cons f k heads in
     let b = yes k.frame f (sym e) in
     let z : uses f heads ≡ 0 = omega (arith, c, b, u) in
-    let rest = heads-set tells frames heads f r a.1 z in
+    let rest = heads-set sums_up frames heads f r a.1 z in
     ((i, rest.0), ap (λ (z : List (List _)). page_of (set frames f r) h ∷ z) rest.1)
-heads-write tells frames (k ∷ heads) (suc p) f r h d l e u a i =
+heads-write sums_up frames (k ∷ heads) (suc p) f r h d l e u a i =
     let c = uses-cons f k heads in
     let s : 1 ≤ uses f heads = subst (λ (n : ℕ). 1 ≤ uses n heads) (sym e) (uses-some heads p d (omega arith)) in
     let x = unused (eqb k.frame f) 0 (omega arith) in
     let same = other-page frames f r k x in
-    let rest = heads-write tells frames heads p f r h d (omega arith) e (omega arith) a.1 i in
+    let rest = heads-write sums_up frames heads p f r h d (omega arith) e (omega arith) a.1 i in
     let n = length-set frames f r in
-    ((head-moved tells frames (set frames f r) k (omega arith) same a.0, rest.0), ap (λ (z : List _). z ∷ pages_of (set frames f r) (set heads p h)) same ∙ ap (λ (z : List (List _)). page_of frames k ∷ z) rest.1)
+    ((head-moved sums_up frames (set frames f r) k (omega arith) same a.0, rest.0), ap (λ (z : List _). z ∷ pages_of (set frames f r) (set heads p h)) same ∙ ap (λ (z : List (List _)). page_of frames k ∷ z) rest.1)
 
-pub heads-insert : {X S : Type 0} (tells : S → List X → Type 0) (frames : List (List X)) (heads : List (Head X S)) (p : ℕ) (h : Head X S) → p ≤ length heads → AreHeads tells frames heads → IsHead tells frames h → AreHeads tells frames (insert heads p h) × (pages_of frames (insert heads p h) ≡ insert (pages_of frames heads) p (page_of frames h))
-heads-insert tells frames heads zero h l a i = ((i, a), refl)
-heads-insert tells frames [] (suc p) h l a i = absurd (omega arith)
-heads-insert tells frames (k ∷ heads) (suc p) h l a i =
-    let rest = heads-insert tells frames heads p h (omega arith) a.1 i in
+pub heads-insert : {X S : Type 0} (sums_up : S → List X → Type 0) (frames : List (List X)) (heads : List (Head X S)) (p : ℕ) (h : Head X S) → p ≤ length heads → AreHeads sums_up frames heads → IsHead sums_up frames h → AreHeads sums_up frames (insert heads p h) × (pages_of frames (insert heads p h) ≡ insert (pages_of frames heads) p (page_of frames h))
+heads-insert sums_up frames heads zero h l a i = ((i, a), refl)
+heads-insert sums_up frames [] (suc p) h l a i = absurd (omega arith)
+heads-insert sums_up frames (k ∷ heads) (suc p) h l a i =
+    let rest = heads-insert sums_up frames heads p h (omega arith) a.1 i in
     ((a.0, rest.0), ap (λ (z : List (List _)). page_of frames k ∷ z) rest.1)
 
-pub heads-remove : {X S : Type 0} (tells : S → List X → Type 0) (frames : List (List X)) (heads : List (Head X S)) (p : ℕ) → p < length heads → AreHeads tells frames heads → AreHeads tells frames (remove heads p) × (pages_of frames (remove heads p) ≡ remove (pages_of frames heads) p)
-heads-remove tells frames [] p l a = absurd (omega arith)
-heads-remove tells frames (k ∷ heads) zero l a = (a.1, refl)
-heads-remove tells frames (k ∷ heads) (suc p) l a =
-    let rest = heads-remove tells frames heads p (omega arith) a.1 in
+pub heads-remove : {X S : Type 0} (sums_up : S → List X → Type 0) (frames : List (List X)) (heads : List (Head X S)) (p : ℕ) → p < length heads → AreHeads sums_up frames heads → AreHeads sums_up frames (remove heads p) × (pages_of frames (remove heads p) ≡ remove (pages_of frames heads) p)
+heads-remove sums_up frames [] p l a = absurd (omega arith)
+heads-remove sums_up frames (k ∷ heads) zero l a = (a.1, refl)
+heads-remove sums_up frames (k ∷ heads) (suc p) l a =
+    let rest = heads-remove sums_up frames heads p (omega arith) a.1 in
     ((a.0, rest.0), ap (λ (z : List (List _)). page_of frames k ∷ z) rest.1)
 
 -- ---- frames of one piece of memory
@@ -189,22 +189,22 @@ pub behind : {X S : Type 0} (cells : List X) (heads : List (Head X S)) (free : L
 behind cells heads free pages v = sym (length-map heads (page_of (framed (length heads + length free) cells))) ∙ ap length v
 
 -- page p, and where it lies
-pub record At {X S : Type 0} (tells : S → List X → Type 0) (cells : List X) (pages : List (List X)) (heads : List (Head X S)) (k p : ℕ) (h : Head X S) : Type 0 where
+pub record At {X S : Type 0} (sums_up : S → List X → Type 0) (cells : List X) (pages : List (List X)) (heads : List (Head X S)) (k p : ℕ) (h : Head X S) : Type 0 where
   pub within : p < length heads
   pub frame : h.frame < k
   pub place : 256 * h.frame + 256 ≤ length cells
   pub few : h.len ≤ 256
   pub page : get_or pages p [] ≡ take h.len (frame_at cells h.frame)
   pub size : h.len ≡ length (get_or pages p [])
-  pub summed : tells h.summary (get_or pages p [])
+  pub summed : sums_up h.summary (get_or pages p [])
   pub last : 0 < h.len → h.last ≡ get_or (get_or pages p []) (h.len - 1) h.last
 
-pub shelf-at : {X S : Type 0} (tells : S → List X → Type 0) (cells : List X) (heads : List (Head X S)) (free : List ℕ) (all : ℕ) (pages : List (List X)) (p : ℕ) (h : Head X S) → pages_of (framed (length heads + length free) cells) heads ≡ pages → IsShelf tells cells heads free all → p < length pages → h ≡ get_or heads p h → At tells cells pages heads (length heads + length free) p h
-shelf-at tells cells heads free all pages p h v s m e =
+pub shelf-at : {X S : Type 0} (sums_up : S → List X → Type 0) (cells : List X) (heads : List (Head X S)) (free : List ℕ) (all : ℕ) (pages : List (List X)) (p : ℕ) (h : Head X S) → pages_of (framed (length heads + length free) cells) heads ≡ pages → IsShelf sums_up cells heads free all → p < length pages → h ≡ get_or heads p h → At sums_up cells pages heads (length heads + length free) p h
+shelf-at sums_up cells heads free all pages p h v s m e =
     let k = length heads + length free in
     let l : p < length heads = there (framed k cells) heads p (subst (λ (z : List (List _)). p < length z) (sym v) m) in
-    let a = heads-at tells (framed k cells) heads p h l s.each in
-    let i : IsHead tells (framed k cells) h = subst (λ z. IsHead tells (framed k cells) z) (sym e) a.0 in
+    let a = heads-at sums_up (framed k cells) heads p h l s.each in
+    let i : IsHead sums_up (framed k cells) h = subst (λ z. IsHead sums_up (framed k cells) z) (sym e) a.0 in
     let w : h.frame < k = let n = framed-length k cells in let b = i.within in omega arith in
     let o = s.laid in
     let same : get_or pages p [] ≡ page_of (framed k cells) h = ap (λ (z : List (List _)). get_or z p []) (sym v) ∙ a.1 ∙ ap (λ (z : Head _ _). page_of (framed k cells) z) (sym e) in
@@ -216,31 +216,31 @@ shelf-at tells cells heads free all pages p h v s m e =
       few = i.few;
       page = page;
       size = let b = ap length page in let c = length-take h.len (frame_at cells h.frame) in let d = length-take 256 (drop (256 * h.frame) cells) in let n = length-drop (256 * h.frame) cells in let f = i.few in omega arith;
-      summed = subst (λ (z : List _). tells h.summary z) (sym same) i.summed;
+      summed = subst (λ (z : List _). sums_up h.summary z) (sym same) i.summed;
       last = λ some. subst (λ (z : List _). h.last ≡ get_or z (h.len - 1) h.last) (sym same) (i.last some);
     }
 
 -- page p is written in its frame, and its head renewed
-pub shelf-put : {X S : Type 0} (tells : S → List X → Type 0) (cells new : List X) (heads : List (Head X S)) (free : List ℕ) (all : ℕ) (pages : List (List X)) (p : ℕ) (b h : Head X S) (y : List X) → pages_of (framed (length heads + length free) cells) heads ≡ pages → IsShelf tells cells heads free all → p < length pages → b ≡ get_or heads p b → IsWritten cells new b.frame → h.frame ≡ b.frame → h.len ≤ 256 → take h.len (frame_at new b.frame) ≡ y → tells h.summary y → (0 < h.len → h.last ≡ get_or y (h.len - 1) h.last) → IsShelf tells new (set heads p h) free all × (pages_of (framed (length (set heads p h) + length free) new) (set heads p h) ≡ set pages p y)
-shelf-put tells cells new heads free all pages p b h y v s l e w f few is summed last =
+pub shelf-put : {X S : Type 0} (sums_up : S → List X → Type 0) (cells new : List X) (heads : List (Head X S)) (free : List ℕ) (all : ℕ) (pages : List (List X)) (p : ℕ) (b h : Head X S) (y : List X) → pages_of (framed (length heads + length free) cells) heads ≡ pages → IsShelf sums_up cells heads free all → p < length pages → b ≡ get_or heads p b → IsWritten cells new b.frame → h.frame ≡ b.frame → h.len ≤ 256 → take h.len (frame_at new b.frame) ≡ y → sums_up h.summary y → (0 < h.len → h.last ≡ get_or y (h.len - 1) h.last) → IsShelf sums_up new (set heads p h) free all × (pages_of (framed (length (set heads p h) + length free) new) (set heads p h) ≡ set pages p y)
+shelf-put sums_up cells new heads free all pages p b h y v s l e w f few is summed last =
     let k = length heads + length free in
-    let at = shelf-at tells cells heads free all pages p b v s l e in
+    let at = shelf-at sums_up cells heads free all pages p b v s l e in
     let m = length-set heads p h in
     let r = frame_at new b.frame in
     let write : framed k new ≡ set (framed k cells) b.frame r = framed-write k cells new b.frame w at.frame in
     let page : page_of (framed k new) h ≡ y = ap (λ (z : List _). take h.len z) (ap (λ (n : ℕ). get_or (framed k new) n []) f ∙ framed-at k new b.frame at.frame) ∙ is in
-    let i : IsHead tells (framed k new) h = record {
+    let i : IsHead sums_up (framed k new) h = record {
       within = let n = framed-length k new in let c = at.frame in omega arith;
       few = few;
-      summed = subst (λ (z : List _). tells h.summary z) (sym page) summed;
+      summed = subst (λ (z : List _). sums_up h.summary z) (sym page) summed;
       last = λ some. subst (λ (z : List _). h.last ≡ get_or z (h.len - 1) h.last) (sym page) (last some);
     } in
     let one = s.apart b.frame in
-    let hs = heads-write tells (framed k cells) heads p b.frame r h b at.within (ap (λ (z : Head _ _). z.frame) e) (omega arith) s.each (subst (λ (z : List (List _)). IsHead tells z h) write i) in
-    let done : AreHeads tells (framed k new) (set heads p h) = subst (λ (z : List (List _)). AreHeads tells z (set heads p h)) (sym write) hs.0 in
+    let hs = heads-write sums_up (framed k cells) heads p b.frame r h b at.within (ap (λ (z : Head _ _). z.frame) e) (omega arith) s.each (subst (λ (z : List (List _)). IsHead sums_up z h) write i) in
+    let done : AreHeads sums_up (framed k new) (set heads p h) = subst (λ (z : List (List _)). AreHeads sums_up z (set heads p h)) (sym write) hs.0 in
     let now : pages_of (framed k new) (set heads p h) ≡ set pages p y = ap (λ (z : List (List _)). pages_of z (set heads p h)) write ∙ hs.1 ∙ ap (λ (z : List _). set (pages_of (framed k cells) heads) p z) (ap (λ (z : List (List _)). page_of z h) (sym write) ∙ page) ∙ ap (λ (z : List (List _)). set z p y) v in (
       record {
-        each = subst (λ (n : ℕ). AreHeads tells (framed (n + length free) new) (set heads p h)) (sym m) done;
+        each = subst (λ (n : ℕ). AreHeads sums_up (framed (n + length free) new) (set heads p h)) (sym m) done;
         freed = λ i d c. subst (λ (n : ℕ). get_or free i d < n + length free) (sym m) (s.freed i d c);
         apart = λ g. let u = uses-set heads p g h b at.within (f ∙ ap (λ (z : Head _ _). z.frame) e) in let z = s.apart g in omega arith;
         laid = let a = w.len in let o = s.laid in omega arith;
@@ -250,15 +250,15 @@ shelf-put tells cells new heads free all pages p b h y v s l e w f few is summed
     )
 
 -- the same, where the head says what is read of the new page
-pub shelf-renew : {X S : Type 0} (tells : S → List X → Type 0) (cells new : List X) (heads : List (Head X S)) (free : List ℕ) (all : ℕ) (pages : List (List X)) (p n : ℕ) (b h : Head X S) (items read : List X) → pages_of (framed (length heads + length free) cells) heads ≡ pages → IsShelf tells cells heads free all → p < length pages → b ≡ get_or heads p b → IsWritten cells new b.frame → read ≡ new → items ≡ take n (frame_at read b.frame) → length items ≡ n → n ≤ 256 → h.frame ≡ b.frame → h.len ≡ length items → tells h.summary items → (0 < length items → h.last ≡ get_or items (length items - 1) h.last) → IsShelf tells new (set heads p h) free all × (pages_of (framed (length (set heads p h) + length free) new) (set heads p h) ≡ set pages p items)
-shelf-renew tells cells new heads free all pages p n b h items read v s l e w same is long few f size summed last =
-    shelf-put tells cells new heads free all pages p b h items v s l e w f (omega (arith, few, size, long))
+pub shelf-renew : {X S : Type 0} (sums_up : S → List X → Type 0) (cells new : List X) (heads : List (Head X S)) (free : List ℕ) (all : ℕ) (pages : List (List X)) (p n : ℕ) (b h : Head X S) (items read : List X) → pages_of (framed (length heads + length free) cells) heads ≡ pages → IsShelf sums_up cells heads free all → p < length pages → b ≡ get_or heads p b → IsWritten cells new b.frame → read ≡ new → items ≡ take n (frame_at read b.frame) → length items ≡ n → n ≤ 256 → h.frame ≡ b.frame → h.len ≡ length items → sums_up h.summary items → (0 < length items → h.last ≡ get_or items (length items - 1) h.last) → IsShelf sums_up new (set heads p h) free all × (pages_of (framed (length (set heads p h) + length free) new) (set heads p h) ≡ set pages p items)
+shelf-renew sums_up cells new heads free all pages p n b h items read v s l e w same is long few f size summed last =
+    shelf-put sums_up cells new heads free all pages p b h items v s l e w f (omega (arith, few, size, long))
     (ap (λ (m : ℕ). take m (frame_at new b.frame)) (size ∙ long) ∙ ap (λ (z : List _). take n (frame_at z b.frame)) (sym same) ∙ sym is)
     summed
     (λ some. subst (λ (m : ℕ). h.last ≡ get_or items (m - 1) h.last) (sym size) (last (omega (arith, some, size))))
 
 -- the first n of a page are those of its frame
-pub first-of : {X S : Type 0} {tells : S → List X → Type 0} (cells : List X) (pages : List (List X)) (heads : List (Head X S)) (k p n : ℕ) (h : Head X S) → At tells cells pages heads k p h → n ≤ h.len → take n (frame_at cells h.frame) ≡ take n (get_or pages p [])
+pub first-of : {X S : Type 0} {sums_up : S → List X → Type 0} (cells : List X) (pages : List (List X)) (heads : List (Head X S)) (k p n : ℕ) (h : Head X S) → At sums_up cells pages heads k p h → n ≤ h.len → take n (frame_at cells h.frame) ≡ take n (get_or pages p [])
 first-of cells pages heads k p n h at l = sym (ap (λ (z : List _). take n z) at.page ∙ take-take n h.len (frame_at cells h.frame) l)
 
 -- ---- a page is opened, or closed
@@ -266,25 +266,25 @@ first-of cells pages heads k p n h at l = sym (ap (λ (z : List _). take n z) at
 lt-not-eq : (n f : ℕ) → n < f → eqb n f ≡ false
 lt-not-eq n f l = false_from_ne_true (eqb n f) (λ e. let x = eqb-true n f e in absurd (omega arith))
 
-uses-none : {X S : Type 0} (tells : S → List X → Type 0) (frames : List (List X)) (heads : List (Head X S)) (f : ℕ) → AreHeads tells frames heads → length frames ≤ f → uses f heads ≡ 0
-uses-none tells frames [] f a l = refl
-uses-none tells frames (h ∷ heads) f a l =
+uses-none : {X S : Type 0} (sums_up : S → List X → Type 0) (frames : List (List X)) (heads : List (Head X S)) (f : ℕ) → AreHeads sums_up frames heads → length frames ≤ f → uses f heads ≡ 0
+uses-none sums_up frames [] f a l = refl
+uses-none sums_up frames (h ∷ heads) f a l =
     let c = uses-cons f h heads in
-    let rest = uses-none tells frames heads f a.1 l in
+    let rest = uses-none sums_up frames heads f a.1 l in
     let w = a.0.within in
     let no : eqb h.frame f ≡ false = lt-not-eq h.frame f (omega arith) in
     let x : ◌≡◌ {A = ℕ} (cond (eqb h.frame f) 1 0) 0 = ap {B = ℕ} (λ (t : Bool). cond t 1 0) no in
     omega (arith, c, x, rest)
 
 -- the head of a page that has been opened
-head-new : {X S : Type 0} (tells : S → List X → Type 0) (k : ℕ) (new : List X) (f : ℕ) (h : Head X S) (items : List X) → f < k → h.frame ≡ f → h.len ≡ length items → length items ≡ 1 → items ≡ take 1 (frame_at new f) → tells h.summary items → (0 < length items → h.last ≡ get_or items (length items - 1) h.last) → IsHead tells (framed k new) h × (page_of (framed k new) h ≡ items)
-head-new tells k new f h items l e size one is summed last =
+head-new : {X S : Type 0} (sums_up : S → List X → Type 0) (k : ℕ) (new : List X) (f : ℕ) (h : Head X S) (items : List X) → f < k → h.frame ≡ f → h.len ≡ length items → length items ≡ 1 → items ≡ take 1 (frame_at new f) → sums_up h.summary items → (0 < length items → h.last ≡ get_or items (length items - 1) h.last) → IsHead sums_up (framed k new) h × (page_of (framed k new) h ≡ items)
+head-new sums_up k new f h items l e size one is summed last =
     let n = framed-length k new in
     let page : page_of (framed k new) h ≡ items = ap (λ (m : ℕ). take m (get_or (framed k new) h.frame [])) (size ∙ one) ∙ ap (λ (z : List _). take 1 z) (ap (λ (m : ℕ). get_or (framed k new) m []) e ∙ framed-at k new f l) ∙ sym is in (
       record {
         within = omega arith;
         few = omega arith;
-        summed = subst (λ (z : List _). tells h.summary z) (sym page) summed;
+        summed = subst (λ (z : List _). sums_up h.summary z) (sym page) summed;
         last = λ some. subst (λ (z : List _). h.last ≡ get_or z (h.len - 1) h.last) (sym page) (subst (λ (m : ℕ). h.last ≡ get_or items (m - 1) h.last) (sym size) (last (omega arith)));
       },
       page,
@@ -298,12 +298,12 @@ free-frame k free rest f a e =
     let long : length free ≡ length rest + 1 = ap length e ∙ length-append rest (f ∷ []) in
     subst (λ (n : ℕ). n < k) (ap (λ (z : List ℕ). get_or z (length rest) 0) e ∙ get_or_push rest f 0 (length rest) refl) (a (length rest) 0 (omega arith))
 
-pub free-place : {X S : Type 0} (tells : S → List X → Type 0) (cells : List X) (heads : List (Head X S)) (free rest : List ℕ) (all f : ℕ) → IsShelf tells cells heads free all → free ≡ rest ++ f ∷ [] → 256 * f + 256 ≤ length cells
-free-place tells cells heads free rest all f s e = let w = free-frame (length heads + length free) free rest f s.freed e in let o = s.laid in omega arith
+pub free-place : {X S : Type 0} (sums_up : S → List X → Type 0) (cells : List X) (heads : List (Head X S)) (free rest : List ℕ) (all f : ℕ) → IsShelf sums_up cells heads free all → free ≡ rest ++ f ∷ [] → 256 * f + 256 ≤ length cells
+free-place sums_up cells heads free rest all f s e = let w = free-frame (length heads + length free) free rest f s.freed e in let o = s.laid in omega arith
 
 -- in a frame that was free
-pub shelf-open : {X S : Type 0} (tells : S → List X → Type 0) (cells new : List X) (heads : List (Head X S)) (free rest : List ℕ) (all : ℕ) (pages : List (List X)) (p f : ℕ) (h : Head X S) (items : List X) → pages_of (framed (length heads + length free) cells) heads ≡ pages → IsShelf tells cells heads free all → p ≤ length pages → length heads < all → free ≡ rest ++ f ∷ [] → IsWritten cells new f → h.frame ≡ f → h.len ≡ length items → length items ≡ 1 → items ≡ take 1 (frame_at new f) → tells h.summary items → (0 < length items → h.last ≡ get_or items (length items - 1) h.last) → IsShelf tells new (insert heads p h) rest all × (pages_of (framed (length (insert heads p h) + length rest) new) (insert heads p h) ≡ insert pages p items)
-shelf-open tells cells new heads free rest all pages p f h items v s l more e w is size one read summed last =
+pub shelf-open : {X S : Type 0} (sums_up : S → List X → Type 0) (cells new : List X) (heads : List (Head X S)) (free rest : List ℕ) (all : ℕ) (pages : List (List X)) (p f : ℕ) (h : Head X S) (items : List X) → pages_of (framed (length heads + length free) cells) heads ≡ pages → IsShelf sums_up cells heads free all → p ≤ length pages → length heads < all → free ≡ rest ++ f ∷ [] → IsWritten cells new f → h.frame ≡ f → h.len ≡ length items → length items ≡ 1 → items ≡ take 1 (frame_at new f) → sums_up h.summary items → (0 < length items → h.last ≡ get_or items (length items - 1) h.last) → IsShelf sums_up new (insert heads p h) rest all × (pages_of (framed (length (insert heads p h) + length rest) new) (insert heads p h) ≡ insert pages p items)
+shelf-open sums_up cells new heads free rest all pages p f h items v s l more e w is size one read summed last =
     let k = length heads + length free in
     let long : length free ≡ length rest + 1 = ap length e ∙ length-append rest (f ∷ []) in
     let c = length-map heads (page_of (framed k cells)) in
@@ -312,13 +312,13 @@ shelf-open tells cells new heads free rest all pages p f h items v s l more e w 
     let inside : f < k = free-frame k free rest f s.freed e in
     let write : framed k new ≡ set (framed k cells) f (frame_at new f) = framed-write k cells new f w inside in
     let none : uses f heads ≡ 0 = let a = s.apart f in let b = ap (λ (z : List ℕ). frees f z) e in let d = frees-push f f rest in let y = yes f f refl in omega (arith, a, b, d, y) in
-    let kept = heads-set tells (framed k cells) heads f (frame_at new f) s.each none in
-    let there = subst (λ (z : List (List _)). AreHeads tells z heads × (pages_of z heads ≡ pages_of (framed k cells) heads)) (sym write) kept in
-    let head = head-new tells k new f h items inside is size one read summed last in
-    let done = heads-insert tells (framed k new) heads p h within there.0 head.0 in
+    let kept = heads-set sums_up (framed k cells) heads f (frame_at new f) s.each none in
+    let there = subst (λ (z : List (List _)). AreHeads sums_up z heads × (pages_of z heads ≡ pages_of (framed k cells) heads)) (sym write) kept in
+    let head = head-new sums_up k new f h items inside is size one read summed last in
+    let done = heads-insert sums_up (framed k new) heads p h within there.0 head.0 in
     let same : length (insert heads p h) + length rest ≡ k = omega arith in (
       record {
-        each = subst (λ (n : ℕ). AreHeads tells (framed n new) (insert heads p h)) (sym same) done.0;
+        each = subst (λ (n : ℕ). AreHeads sums_up (framed n new) (insert heads p h)) (sym same) done.0;
         freed = λ i d b. subst (λ (n : ℕ). get_or rest i d < n) (sym same) (subst (λ (n : ℕ). n < k) (ap (λ (z : List ℕ). get_or z i d) e ∙ get_or_append_left rest (f ∷ []) d i b) (s.freed i d (omega arith)));
         apart = λ g. let a = s.apart g in let b = ap (λ (z : List ℕ). frees g z) e in let d = frees-push g f rest in let u = uses-insert heads p g h within in let q = ap {B = ℕ} (λ (n : ℕ). cond (eqb n g) 1 0) is in omega (arith, a, b, d, u, q);
         laid = let a = w.len in let b = s.laid in omega arith;
@@ -332,29 +332,29 @@ apart-new true n l z = let e = z refl in omega arith
 apart-new false n l z = omega arith
 
 -- in a frame behind all others
-pub shelf-open-behind : {X S : Type 0} (tells : S → List X → Type 0) (cells new r : List X) (heads : List (Head X S)) (free : List ℕ) (all : ℕ) (pages : List (List X)) (p f : ℕ) (h : Head X S) (items : List X) → pages_of (framed (length heads + length free) cells) heads ≡ pages → IsShelf tells cells heads free all → p ≤ length pages → length heads < all → length free ≡ 0 → f ≡ length heads → new ≡ cells ++ r → length r ≡ 256 → h.frame ≡ f → h.len ≡ length items → length items ≡ 1 → items ≡ take 1 (frame_at new f) → tells h.summary items → (0 < length items → h.last ≡ get_or items (length items - 1) h.last) → IsShelf tells new (insert heads p h) free all × (pages_of (framed (length (insert heads p h) + length free) new) (insert heads p h) ≡ insert pages p items)
-shelf-open-behind tells cells new r heads free all pages p f h items v s l more zero-free at e wide is size one read summed last =
+pub shelf-open-behind : {X S : Type 0} (sums_up : S → List X → Type 0) (cells new r : List X) (heads : List (Head X S)) (free : List ℕ) (all : ℕ) (pages : List (List X)) (p f : ℕ) (h : Head X S) (items : List X) → pages_of (framed (length heads + length free) cells) heads ≡ pages → IsShelf sums_up cells heads free all → p ≤ length pages → length heads < all → length free ≡ 0 → f ≡ length heads → new ≡ cells ++ r → length r ≡ 256 → h.frame ≡ f → h.len ≡ length items → length items ≡ 1 → items ≡ take 1 (frame_at new f) → sums_up h.summary items → (0 < length items → h.last ≡ get_or items (length items - 1) h.last) → IsShelf sums_up new (insert heads p h) free all × (pages_of (framed (length (insert heads p h) + length free) new) (insert heads p h) ≡ insert pages p items)
+shelf-open-behind sums_up cells new r heads free all pages p f h items v s l more zero-free at e wide is size one read summed last =
     let k = length heads + length free in
     let c = length-map heads (page_of (framed k cells)) in
     let within : p ≤ length heads = let d = ap length v in omega arith in
     let m = length-insert heads p h within in
     let laid = s.laid in
     let push : framed (suc k) new ≡ framed k cells ++ r ∷ [] = ap (λ (z : List _). framed (suc k) z) e ∙ framed-push k cells r laid wide in
-    let kept = heads-push tells (framed k cells) heads r s.each in
-    let there = subst (λ (z : List (List _)). AreHeads tells z heads × (pages_of z heads ≡ pages_of (framed k cells) heads)) (sym push) kept in
-    let head = head-new tells (suc k) new f h items (omega arith) is size one read summed last in
-    let done = heads-insert tells (framed (suc k) new) heads p h within there.0 head.0 in
+    let kept = heads-push sums_up (framed k cells) heads r s.each in
+    let there = subst (λ (z : List (List _)). AreHeads sums_up z heads × (pages_of z heads ≡ pages_of (framed k cells) heads)) (sym push) kept in
+    let head = head-new sums_up (suc k) new f h items (omega arith) is size one read summed last in
+    let done = heads-insert sums_up (framed (suc k) new) heads p h within there.0 head.0 in
     let same : length (insert heads p h) + length free ≡ suc k = omega arith in
     let n = framed-length k cells in
     let none = nil_from_length free zero-free in (
       record {
-        each = subst (λ (z : ℕ). AreHeads tells (framed z new) (insert heads p h)) (sym same) done.0;
+        each = subst (λ (z : ℕ). AreHeads sums_up (framed z new) (insert heads p h)) (sym same) done.0;
         freed = λ i d b. absurd (omega arith);
         apart = λ g.
             let a = s.apart g in
             let u = uses-insert heads p g h within in
             let b = ap (λ (z : List ℕ). frees g z) none in
-            let q = apart-new (eqb h.frame g) (uses g heads) (omega arith) (λ y. uses-none tells (framed k cells) heads g s.each (let x = eqb-true h.frame g y in omega arith)) in
+            let q = apart-new (eqb h.frame g) (uses g heads) (omega arith) (λ y. uses-none sums_up (framed k cells) heads g s.each (let x = eqb-true h.frame g y in omega arith)) in
             omega (arith, u, b, q);
         laid = let a = ap length e in let b = length-append cells r in omega arith;
         most = omega arith;
@@ -362,16 +362,16 @@ shelf-open-behind tells cells new r heads free all pages p f h items v s l more 
       ap (λ (z : ℕ). pages_of (framed z new) (insert heads p h)) same ∙ done.1 ∙ ap (λ (z : List (List _)). insert z p (page_of (framed (suc k) new) h)) (there.1 ∙ v) ∙ ap (λ (z : List _). insert pages p z) head.1,
     )
 
-pub shelf-close : {X S : Type 0} (tells : S → List X → Type 0) (cells : List X) (heads : List (Head X S)) (free : List ℕ) (all : ℕ) (pages : List (List X)) (p : ℕ) (h : Head X S) → pages_of (framed (length heads + length free) cells) heads ≡ pages → IsShelf tells cells heads free all → p < length pages → h ≡ get_or heads p h → IsShelf tells cells (remove heads p) (free ++ h.frame ∷ []) all × (pages_of (framed (length (remove heads p) + length (free ++ h.frame ∷ [])) cells) (remove heads p) ≡ remove pages p)
-shelf-close tells cells heads free all pages p h v s l e =
+pub shelf-close : {X S : Type 0} (sums_up : S → List X → Type 0) (cells : List X) (heads : List (Head X S)) (free : List ℕ) (all : ℕ) (pages : List (List X)) (p : ℕ) (h : Head X S) → pages_of (framed (length heads + length free) cells) heads ≡ pages → IsShelf sums_up cells heads free all → p < length pages → h ≡ get_or heads p h → IsShelf sums_up cells (remove heads p) (free ++ h.frame ∷ []) all × (pages_of (framed (length (remove heads p) + length (free ++ h.frame ∷ [])) cells) (remove heads p) ≡ remove pages p)
+shelf-close sums_up cells heads free all pages p h v s l e =
     let k = length heads + length free in
-    let at = shelf-at tells cells heads free all pages p h v s l e in
+    let at = shelf-at sums_up cells heads free all pages p h v s l e in
     let m = length-remove heads p at.within in
     let n = length-append free (h.frame ∷ []) in
     let same : length (remove heads p) + length (free ++ h.frame ∷ []) ≡ k = omega arith in
-    let done = heads-remove tells (framed k cells) heads p at.within s.each in (
+    let done = heads-remove sums_up (framed k cells) heads p at.within s.each in (
       record {
-        each = subst (λ (z : ℕ). AreHeads tells (framed z cells) (remove heads p)) (sym same) done.0;
+        each = subst (λ (z : ℕ). AreHeads sums_up (framed z cells) (remove heads p)) (sym same) done.0;
         freed = λ i d b. subst (λ (z : ℕ). get_or (free ++ h.frame ∷ []) i d < z) (sym same) (All-push (λ (f : ℕ). f < k) free h.frame s.freed at.frame i d b);
         apart = λ g. let a = s.apart g in let u = uses-remove heads p g h at.within in let d = frees-push g h.frame free in let q = ap {B = ℕ} (λ (z : Head _ _). cond (eqb z.frame g) 1 0) e in omega (arith, a, u, d, q);
         laid = let o = s.laid in omega arith;
@@ -388,8 +388,8 @@ pub one-behind : {X : Type 0} (cells new : List X) (f : ℕ) (x : X) → new ≡
 one-behind cells new f x e l = ap (λ (z : List _). take 1 (frame_at z f)) e ∙ ap (λ (z : List _). take 1 (take 256 z)) (drop_at cells (replicate 256 x) (256 * f) l)
 
 -- there is memory for more
-pub shelf-more : {X S : Type 0} (tells : S → List X → Type 0) (cells : List X) (heads : List (Head X S)) (free : List ℕ) (all more : ℕ) → IsShelf tells cells heads free all → all ≤ more → IsShelf tells cells heads free more
-shelf-more tells cells heads free all more s l = record { each = s.each; freed = s.freed; apart = s.apart; laid = s.laid; most = let o = s.most in omega arith }
+pub shelf-more : {X S : Type 0} (sums_up : S → List X → Type 0) (cells : List X) (heads : List (Head X S)) (free : List ℕ) (all more : ℕ) → IsShelf sums_up cells heads free all → all ≤ more → IsShelf sums_up cells heads free more
+shelf-more sums_up cells heads free all more s l = record { each = s.each; freed = s.freed; apart = s.apart; laid = s.laid; most = let o = s.most in omega arith }
 
 -- ---- what two steps come to
 

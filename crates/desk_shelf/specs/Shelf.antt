@@ -37,16 +37,16 @@ abbrev pub pages_of : {X S : Type 0} → List (List X) → List (Head X S) → L
 pages_of frames heads = map (page_of frames) heads
 
 -- a head says what is true of its page
-pub record IsHead {X S : Type 0} (tells : S → List X → Type 0) (frames : List (List X)) (head : Head X S) : Type 0 where
+pub record IsHead {X S : Type 0} (sums_up : S → List X → Type 0) (frames : List (List X)) (head : Head X S) : Type 0 where
   pub within : head.frame < length frames
   pub few : head.len ≤ 256
-  pub summed : tells head.summary (page_of frames head)
+  pub summed : sums_up head.summary (page_of frames head)
   pub last : 0 < head.len → head.last ≡ slice_index_or (page_of frames head) (head.len - 1) head.last
 
 -- each of them does
 abbrev pub AreHeads : {X S : Type 0} → (S → List X → Type 0) → List (List X) → List (Head X S) → Type 0
-AreHeads tells frames [] = Unit {0}
-AreHeads tells frames (head ∷ heads) = IsHead tells frames head × AreHeads tells frames heads
+AreHeads sums_up frames [] = Unit {0}
+AreHeads sums_up frames (head ∷ heads) = IsHead sums_up frames head × AreHeads sums_up frames heads
 
 -- how many pages lie in frame f
 abbrev pub uses : {X S : Type 0} → ℕ → List (Head X S) → ℕ
@@ -57,8 +57,8 @@ abbrev pub frees : ℕ → List ℕ → ℕ
 frees f free = count_by (λ g. eqb g f) free
 
 -- each frame is free or one page's alone; all is how many frames and pages there is memory for
-pub record IsShelf {X S : Type 0} (tells : S → List X → Type 0) (cells : List X) (heads : List (Head X S)) (free : List ℕ) (all : ℕ) : Type 0 where
-  pub each : AreHeads tells (framed (length heads + length free) cells) heads
+pub record IsShelf {X S : Type 0} (sums_up : S → List X → Type 0) (cells : List X) (heads : List (Head X S)) (free : List ℕ) (all : ℕ) : Type 0 where
+  pub each : AreHeads sums_up (framed (length heads + length free) cells) heads
   pub freed : All (λ f. f < length heads + length free) free
   pub apart : (f : ℕ) → uses f heads + frees f free ≤ 1
   pub laid : length cells ≡ 256 * (length heads + length free)

@@ -26,7 +26,7 @@ impl<T: Copy, S: Summary<T>, A: Allocator> Model for Shelf<T, S, A> {
 
     ghost view = { λ s. record { pages = pages_of (framed (length s.heads.items + length s.free.items) s.cells.items) s.heads.items; free = s.all - length s.heads.items } };
 
-    ghost invariant = { λ s. IsShelf S.tells s.cells.items s.heads.items s.free.items s.all × (s.all ≤ vec_capacity s.heads) × (256 * s.all ≤ vec_capacity s.cells) × (s.all ≤ vec_capacity s.free) };
+    ghost invariant = { λ s. IsShelf S.sums_up s.cells.items s.heads.items s.free.items s.all × (s.all ≤ vec_capacity s.heads) × (256 * s.all ≤ vec_capacity s.cells) × (s.all ≤ vec_capacity s.free) };
 }
 
 impl<T: Copy, S: Summary<T>, A: Allocator + Copy> Shelf<T, S, A> {
@@ -100,7 +100,7 @@ impl<T: Copy, S: Summary<T>, A: Allocator> Shelf<T, S, A> {
 
     pub fn summary(&self, p: usize) -> S
         requires { p < length self.now.pages }
-        ensures { S.tells result (slice_index_or self.now.pages p []) }
+        ensures { S.sums_up result (slice_index_or self.now.pages p []) }
     {
         self.heads[p].summary
     }
@@ -302,7 +302,7 @@ fn head_of<T: Copy, S: Summary<T>>(frame: usize, items: &[T], otherwise: T) -> H
     requires { length items.now ≤ 256 }
     ensures frame { result.frame ≡ frame }
     ensures len { result.len ≡ length items.now }
-    ensures tells { S.tells result.summary items.now }
+    ensures sums_up { S.sums_up result.summary items.now }
     ensures last { 0 < length items.now → result.last ≡ slice_index_or items.now (length items.now - 1) result.last }
 {
     let n = items.len();

@@ -10,29 +10,29 @@ pub const HALF: usize = 128;
 /// What is kept of each page, so that a search can pass it by.
 pub trait Summary<T: Copy>: Copy {
     /// Whether it is true of a list.
-    ghost tells: { Self → List T → Type 0 };
+    ghost sums_up: { Self → List T → Type 0 };
 
     /// That of a page.
     fn of(page: &[T]) -> Self
         requires { length page.now ≤ 256 }
-        ensures { tells result page.now };
+        ensures { sums_up result page.now };
 
     /// That with one entry more, wherever it is put.
     fn with(self, x: T) -> Self
-        ensures { (xs : List T) (i : ℕ) → length xs < 2 ^ 48 → i ≤ length xs → tells self xs → tells result (insert xs i x) };
+        ensures { (xs : List T) (i : ℕ) → length xs < 2 ^ 48 → i ≤ length xs → sums_up self xs → sums_up result (insert xs i x) };
 
     /// That with one entry written over another, wherever that stands.
     fn replaced(self, old: T, new: T) -> Self
-        ensures { (xs : List T) (i : ℕ) → length xs < 2 ^ 48 → i < length xs → old ≡ slice_index_or xs i old → tells self xs → tells result (slice_set xs i new) };
+        ensures { (xs : List T) (i : ℕ) → length xs < 2 ^ 48 → i < length xs → old ≡ slice_index_or xs i old → sums_up self xs → sums_up result (slice_set xs i new) };
 
     /// That of two lists in one.
     fn join(self, other: Self) -> Self
-        ensures { (xs ys : List T) → length xs + length ys < 2 ^ 48 → tells self xs → tells other ys → tells result (xs ++ ys) };
+        ensures { (xs ys : List T) → length xs + length ys < 2 ^ 48 → sums_up self xs → sums_up other ys → sums_up result (xs ++ ys) };
 }
 
 /// Nothing is kept.
 impl<T: Copy> Summary<T> for () {
-    ghost tells = { λ s xs. Unit {0} };
+    ghost sums_up = { λ s xs. Unit {0} };
 
     fn of(_page: &[T]) -> () {}
 

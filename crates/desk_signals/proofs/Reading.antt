@@ -115,8 +115,8 @@ spelled_faultless xs row is spells =
     alike x = sym (list_any-IsPermutation (same x) (signals_of row) xs spells)
 
 -- the causes, one by one
-pub two_letters_told : (xs : List Signal) → repeats xs ≡ false → two_letters xs ≡ true → Some TwoLetters ≡ fault_of xs
-two_letters_told xs none two = rw (none, two) refl
+pub two_letters_reported : (xs : List Signal) → repeats xs ≡ false → two_letters xs ≡ true → Some TwoLetters ≡ fault_of xs
+two_letters_reported xs none two = rw (none, two) refl
 
 pub two_numbers : (xs : List Signal) → repeats xs ≡ false → two_letters xs ≡ false → 1 < length (numbers xs) → Some TwoNumbers ≡ fault_of xs
 two_numbers xs none one two = rw (none, one, lt-ltb 1 (length (numbers xs)) two) refl

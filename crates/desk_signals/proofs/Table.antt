@@ -97,7 +97,7 @@ was_none (Some why) e = absurd (cc)
 pub row_faultless : (row : RibbonRow) → IsRow row → fault_of (signals_of row) ≡ None
 row_faultless row is = was_none (fault_of (signals_of row)) (row_passes (λ row. no_fault (fault_of (signals_of row))) refl row is)
 
--- a weight of each signal, so that the sum tells the row
+-- a weight of each signal, so that the sum gives the row
 abbrev pub weight : Signal → ℕ
 weight x =
     if is_letter x then 256 * (place x + 1)

@@ -11,7 +11,7 @@ use Rattle.desk_files.specs.Files.{Shelf}
 use Rattle.desk_hand.specs.Exporting.{IsSetOf}
 use Rattle.desk_inputs.specs.Inputs.{Answers, FileGives, FileLacksMemory}
 use Rattle.desk_sorts.specs.Sources.{AreRefused, Sources, of_input, of_sources}
-use Rattle.desk_sorts.specs.Telling.{AreUnlisted}
+use Rattle.desk_sorts.specs.Reporting.{AreUnlisted}
 use Rattle.desk_sorts.specs.declared.fault.SourcesFault.{SourcesFault}
 use Rattle.desk_sorts.specs.declared.fault.SourcesFault.TheVariants as refusals
 
@@ -22,7 +22,7 @@ no_inputs from set first mid last (failures.Refused why) same is given = (set, i
 no_inputs from set first mid last failures.NoMemory same is given = (set, is, subst (λ (s : Shelf). FileLacksMemory from.case s last) same given)
 
 -- no list, where the two give nothing
-pub unlisted : (from : Sources) (layout : Bool) (first last : Shelf) (told : Option (List ℕ)) (why : SourcesFault) → AreRefused from first last why → AreUnlisted from layout first last told told (of_sources why)
-unlisted from layout first last told (refusals.Feed why) refused = (refl, refused)
-unlisted from layout first last told (refusals.Input why) refused = (refl, refused)
-unlisted from layout first last told refusals.NoMemory refused = (refl, inl refused)
+pub unlisted : (from : Sources) (layout : Bool) (first last : Shelf) (reported : Option (List ℕ)) (why : SourcesFault) → AreRefused from first last why → AreUnlisted from layout first last reported reported (of_sources why)
+unlisted from layout first last reported (refusals.Feed why) refused = (refl, refused)
+unlisted from layout first last reported (refusals.Input why) refused = (refl, refused)
+unlisted from layout first last reported refusals.NoMemory refused = (refl, inl refused)

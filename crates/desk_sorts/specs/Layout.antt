@@ -14,13 +14,13 @@ use Rattle.desk_proof.specs.Parts.{right}
 
 -- ---- a cell
 
-abbrev pub style_mark : Style → List ℕ
-style_mark Roman = codes "   "
-style_mark Italic = codes "  _"
-style_mark SmallCap = codes "  ^"
+abbrev pub mark_in_table : Style → List ℕ
+mark_in_table Roman = codes "   "
+mark_in_table Italic = codes "  _"
+mark_in_table SmallCap = codes "  ^"
 
-abbrev pub symbol_text : Symbol → List ℕ
-symbol_text symbol = style_mark symbol.style ++ encode_utf8 symbol.ch
+abbrev pub text_in_table : Symbol → List ℕ
+text_in_table symbol = mark_in_table symbol.style ++ encode_utf8 symbol.ch
 
 -- the number of the first of some fills, counted from this one, that stands in the cell
 abbrev pub fill_from : ℕ → List Cell → Cell → Option ℕ
@@ -37,7 +37,7 @@ abbrev pub blank_text : CaseValues → Cell → List ℕ
 blank_text case cell = if place case.space == place cell then codes "  sp" else fill_text (fill_from 1 case.fill cell)
 
 abbrev pub held_text : CaseValues → Cell → Option Symbol → List ℕ
-held_text case cell (Some symbol) = symbol_text symbol
+held_text case cell (Some symbol) = text_in_table symbol
 held_text case cell None = blank_text case cell
 
 -- ---- the table

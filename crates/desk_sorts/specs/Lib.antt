@@ -4,6 +4,6 @@ pub mod Laws
 pub mod Counting
 pub mod Listing
 pub mod Layout
-pub mod Told
+pub mod Reported
 pub mod Sources
-pub mod Telling
+pub mod Reporting

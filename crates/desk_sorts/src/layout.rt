@@ -2,7 +2,7 @@
 
 ghost use Rattle.std.specs.Prelude.{◌≡◌, ◌++◌, ◌<◌, OnOk, string_bytes};
 ghost use Rattle.desk_case.specs.Case.{symbol_at};
-ghost use Rattle.desk_sorts.specs.Layout.{blank_text, case_text, cells_to, fill_from, fill_text, held_text, line_text, lines_to, names_to, shown_cell, style_mark, symbol_text};
+ghost use Rattle.desk_sorts.specs.Layout.{blank_text, case_text, cells_to, fill_from, fill_text, held_text, line_text, lines_to, mark_in_table, names_to, shown_cell, text_in_table};
 
 use desk_case::{COLUMNS, MatrixCase, ROWS, names};
 use desk_ops::{Style, Symbol};
@@ -10,9 +10,9 @@ use desk_proof::{put_number, put_right};
 use desk_signals::Cell;
 use std::alloc::{AllocError, Allocator};
 
-/// What stands before a character of a style, in three places.
-fn style_mark(style: Style) -> &'static str
-    ensures { result.now ≡ style_mark style }
+/// What stands before a character of a style in a table, in three places.
+fn mark_in_table(style: Style) -> &'static str
+    ensures { result.now ≡ mark_in_table style }
 {
     match style {
         Style::Roman => "   ",
@@ -22,9 +22,9 @@ fn style_mark(style: Style) -> &'static str
 }
 
 fn put_symbol<A: Allocator + Copy>(out: &mut String<A>, symbol: Symbol) -> Result<(), AllocError>
-    ensures { OnOk result (string_bytes out.new ≡ string_bytes out.old ++ symbol_text symbol) }
+    ensures { OnOk result (string_bytes out.new ≡ string_bytes out.old ++ text_in_table symbol) }
 {
-    out.push_str(style_mark(symbol.style))?;
+    out.push_str(mark_in_table(symbol.style))?;
     out.push(symbol.ch)
 }
 

@@ -8,14 +8,14 @@ mod laws;
 mod layout;
 mod listing;
 mod places;
+mod reported;
+mod reporting;
 mod sorts;
 mod sources;
-mod telling;
-mod told;
 
 pub use fault::SortsFault;
 pub use laws::law_of_places;
 pub use layout::put_case;
 pub use listing::{missing_of, put_sorts};
+pub use reporting::report_sorts;
 pub use sorts::{Sort, sorts_of};
-pub use telling::tell_sorts;

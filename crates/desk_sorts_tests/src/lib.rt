@@ -2,8 +2,8 @@
 #![tactic(auto)]
 
 #[cfg(test)]
+mod reporting;
+#[cfg(test)]
 mod rooms;
 #[cfg(test)]
 mod sorts;
-#[cfg(test)]
-mod telling;

@@ -128,8 +128,8 @@ same_desk : (old new : Desk) → new ≡ old → (new.sites ≡ old.sites) × (n
 same_desk old new same = (ap (λ (d : Desk). d.sites) same, ap (λ (d : Desk). d.shelf) same)
 
 files_same : (wanted : Wanted) (set : OpSet) (of_case of_wedge : List ℕ) (before after : Shelf) (reply : ReplyValues) → is_long reply ≡ true → IsJobByFiles wanted set of_case of_wedge before reply after → after ≡ before
-files_same wanted set of_case of_wedge before after reply long (Ok both, gives, told) = both_same of_case of_wedge before after both gives
-files_same wanted set of_case of_wedge before after reply long (Err why, gives, told) = neither (after ≡ before) reply (ap is_long told) long
+files_same wanted set of_case of_wedge before after reply long (Ok both, gives, reported) = both_same of_case of_wedge before after both gives
+files_same wanted set of_case of_wedge before after reply long (Err why, gives, reported) = neither (after ≡ before) reply (ap is_long reported) long
 
 jobs_same : (wanted : Wanted) (old new : Desk) (n : ℕ) (of_case of_wedge : List ℕ) (reply : ReplyValues) → is_long reply ≡ true → Jobs wanted old n of_case of_wedge reply new → (new.sites ≡ old.sites) × (new.shelf ≡ old.shelf)
 jobs_same wanted old new n of_case of_wedge reply long h =

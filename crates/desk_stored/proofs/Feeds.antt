@@ -1,12 +1,12 @@
 -- Stored feeds, opened and stored anew.
 use Rattle.std.proofs.Common.{◌≡◌, ℕ, ◌<◌, List, [], ap, inr, refl, subst, arith}
-use Rattle.std.specs.Prelude.{◌≢◌, IfErr, IsErrOf, OnErr, OnOk, Result, Ok, Err}
+use Rattle.std.specs.Prelude.{◌≢◌, IfErr, IsErrOf, OnErr, OnOk, Option, Some, None, Result, Ok, Err}
 use Rattle.std.specs.FinMap as fin
 use Rattle.desk_ops.specs.declared.op.Op.{Op}
 use Rattle.desk_ops.specs.OpSet.{no_ops, size, with_all, max_ops}
 use Rattle.desk_held.specs.declared.AddRefusal.{AddRefusal}
 use Rattle.desk_held.specs.declared.AddRefusal.TheVariants as adds
-use Rattle.desk_replica.specs.declared.Stopped.{Stopped}
+use Rattle.desk_held.specs.declared.join.Stopped.{Stopped}
 use Rattle.desk_files.specs.declared.files.FileRefusal.{FileRefusal}
 use Rattle.desk_files.specs.declared.files.FileRefusal.TheVariants as refusals
 use Rattle.desk_files.specs.Files.{Counts, HasNoPlace, Shelf, Spares, new_name}
@@ -20,23 +20,17 @@ none_crowds ops none many =
     let more : max_ops < size (with_all no_ops []) = subst (λ l. max_ops < size (with_all no_ops l)) none many in
     omega arith
 
-crowded_by : (read : Result (List ℕ) FileRefusal) (ops : List Op) (stop : Stopped) → Stores read ops → IsCrowded ops stop → IsUnopened read (openings.Opening stop)
-crowded_by (Ok bytes) ops stop stores crowded = (bytes, refl, ops, stores, crowded)
-crowded_by (Err refusals.Missing) ops stop stores crowded = absurd (none_crowds ops stores crowded.0)
-crowded_by (Err refusals.Device) ops stop stores crowded = absurd stores
-crowded_by (Err refusals.Large) ops stop stores crowded = absurd stores
-crowded_by (Err refusals.NoMemory) ops stop stores crowded = absurd stores
+crowded_by : (read : Option (List ℕ)) (ops : List Op) (stop : Stopped) → Stores read ops → IsCrowded ops stop → IsUnopened read (openings.Opening stop)
+crowded_by (Some bytes) ops stop stores crowded = (bytes, refl, ops, stores, crowded)
+crowded_by None ops stop stores crowded = absurd (none_crowds ops stores crowded.0)
 
 -- for what stores operations memory is asked
-pub read_by : (read : Result (List ℕ) FileRefusal) (ops : List Op) → Stores read ops → AsksMemory read
-read_by (Ok bytes) ops stores = inr (ops, stores)
-read_by (Err refusals.Missing) ops stores = tt
-read_by (Err refusals.Device) ops stores = absurd stores
-read_by (Err refusals.Large) ops stores = absurd stores
-read_by (Err refusals.NoMemory) ops stores = absurd stores
+pub read_by : (read : Option (List ℕ)) (ops : List Op) → Stores read ops → AsksMemory read
+read_by (Some bytes) ops stores = inr (ops, stores)
+read_by None ops stores = tt
 
 -- a feed with too many operations is not opened
-pub unopened : (read : Result (List ℕ) FileRefusal) (ops : List Op) (stop : Stopped) (why : AddRefusal) → stop.why ≡ why → Stores read ops → stop.taken ≡ 0
+pub unopened : (read : Option (List ℕ)) (ops : List Op) (stop : Stopped) (why : AddRefusal) → stop.why ≡ why → Stores read ops → stop.taken ≡ 0
     → (stop.why ≡ adds.Full → max_ops < size (with_all no_ops ops)) → IsUnopened read (of_stop stop why)
 unopened read ops stop adds.Full is stores none full = crowded_by read ops stop stores (full is, is, none)
 unopened read ops stop adds.NoMemory is stores none full = read_by read ops stores

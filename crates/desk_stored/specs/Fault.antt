@@ -1,5 +1,5 @@
 -- Why a stored feed was not taken, read, opened or stored.
-use Rattle.std.specs.Prelude.{◌≡◌, ◌≢◌, ◌<◌, ◌⊎◌, ℕ, List, Result, Ok, Err}
+use Rattle.std.specs.Prelude.{◌≡◌, ◌≢◌, ◌<◌, ◌⊎◌, ℕ, List, Option, Some, None, Err}
 use Rattle.desk_ops.specs.declared.op.Op.{Op}
 use Rattle.desk_ops.specs.OpSet.{no_ops, size, with_all, max_ops}
 use Rattle.desk_codec.specs.Fault.{IsFirstFault}
@@ -7,7 +7,7 @@ use Rattle.desk_codec.specs.Feed.{IsFeed}
 use Rattle.desk_codec.specs.Reading.{MayHoldOne}
 use Rattle.desk_held.specs.declared.AddRefusal.{AddRefusal}
 use Rattle.desk_held.specs.declared.AddRefusal.TheVariants.{Full, NoMemory}
-use Rattle.desk_replica.specs.declared.Stopped.{Stopped}
+use Rattle.desk_held.specs.declared.join.Stopped.{Stopped}
 use Rattle.desk_files.specs.Files.{HasNoPlace, IsCounted, IsNowhere, Reads, Shelf, Spares, Stays, new_name}
 use Rattle.desk_files.specs.declared.files.FileRefusal.{FileRefusal}
 use Rattle.desk_files.specs.declared.files.FileRefusal.TheVariants as refusals
@@ -37,17 +37,14 @@ abbrev pub AskMemory : List ℕ → Type 0
 AskMemory bytes = MayHoldOne bytes ⊎ ((ops : List Op) × IsFeed bytes ops)
 
 -- a stored feed was read for which memory is asked: its bytes, or that no file is there, which is an empty feed
-abbrev pub AsksMemory : Result (List ℕ) FileRefusal → Type 0
-AsksMemory (Ok bytes) = AskMemory bytes
-AsksMemory (Err refusals.Missing) = Unit {0}
-AsksMemory (Err refusals.Device) = ⊥
-AsksMemory (Err refusals.Large) = ⊥
-AsksMemory (Err refusals.NoMemory) = ⊥
+abbrev pub AsksMemory : Option (List ℕ) → Type 0
+AsksMemory (Some bytes) = AskMemory bytes
+AsksMemory None = Unit {0}
 
 -- why a stored feed was not opened, by what was read of it
-abbrev pub IsUnopened : Result (List ℕ) FileRefusal → OpenFault → Type 0
-IsUnopened read (openings.Feed fault) = (bytes : List ℕ) × (read ≡ Ok bytes) × IsFirstFault bytes fault
-IsUnopened read (openings.Opening stop) = (bytes : List ℕ) × (read ≡ Ok bytes) × (ops : List Op) × IsFeed bytes ops × IsCrowded ops stop
+abbrev pub IsUnopened : Option (List ℕ) → OpenFault → Type 0
+IsUnopened read (openings.Feed fault) = (bytes : List ℕ) × (read ≡ Some bytes) × IsFirstFault bytes fault
+IsUnopened read (openings.Opening stop) = (bytes : List ℕ) × (read ≡ Some bytes) × (ops : List Op) × IsFeed bytes ops × IsCrowded ops stop
 IsUnopened read openings.NoMemory = AsksMemory read
 
 -- a feed was not stored, and nothing but what stands under the name of the writing may have changed: Missing comes only where no file can have that name or the feed's

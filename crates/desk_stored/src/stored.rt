@@ -1,12 +1,12 @@
 //! The feed of a file, before and after a replica.
 
-ghost use Rattle.std.specs.Prelude.{◌≡◌, ◌↔◌, ◌≤◌, All, IfErr, IfOk, IsTrue, Ok, OnOk};
+ghost use Rattle.std.specs.Prelude.{◌≡◌, ◌↔◌, ◌≤◌, All, IfErr, IfOk, IsTrue, OnOk, Some};
 ghost use Rattle.desk_codec.specs.Runs.{set_feed};
 ghost use Rattle.desk_ops.specs.Op.{IsLawful};
 ghost use Rattle.desk_ops.specs.OpSet.{max_ops, size};
 ghost use Rattle.desk_files.specs.Files.{Counts, HoldsOn, Reads, Stays};
 ghost use Rattle.desk_stored.specs.Fault.{IsNotStored, IsUnopened, IsUnread};
-ghost use Rattle.desk_stored.specs.Stored.{IsStoredAs, Opens, Stores, was_read};
+ghost use Rattle.desk_stored.specs.Stored.{IsStoredAs, Opens, Stores, as_read, was_read};
 
 use crate::fault::OpenFault;
 use desk_blocks::Blocks;
@@ -23,16 +23,14 @@ pub fn stored_bytes<F: Files, A: Allocator + Copy>(
     files: &mut F,
     name: &str,
 ) -> Result<Option<Vec<u8, A>>, FileRefusal>
-    ensures ok { IfOk result (λ old. Reads ((F.shelf files.old).kept name.now) (was_read old) × Counts (was_read old) (F.shelf files.old) (F.shelf files.new)) }
+    ensures ok { IfOk result (λ old. Reads ((F.shelf files.old).kept name.now) (as_read (was_read old)) × Counts (as_read (was_read old)) (F.shelf files.old) (F.shelf files.new)) }
     ensures err { IfErr result (IsUnread name.now (F.shelf files.old) (F.shelf files.new)) }
     ensures stays { Stays (F.shelf files.old) (F.shelf files.new) }
 {
     match files.read(alloc, name) {
         Ok(bytes) => Ok(Some(bytes)),
-        Err(why) => match why {
-            FileRefusal::Missing => Ok(None),
-            other => Err(other),
-        },
+        Err(FileRefusal::Missing) => Ok(None),
+        Err(why) => Err(why),
     }
 }
 
@@ -76,7 +74,7 @@ pub fn open_replica<A: Allocator + Copy>(
 
 /// Whether a feed is what was stored.
 fn is_stored<A: Allocator + Copy>(old: &Option<Vec<u8, A>>, feed: &[u8]) -> bool
-    ensures { IsTrue result ↔ was_read old.now ≡ Ok feed.now }
+    ensures { IsTrue result ↔ was_read old.now ≡ Some feed.now }
 {
     match old {
         Some(bytes) => bytes.as_slice() == feed,

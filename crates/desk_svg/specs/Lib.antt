@@ -1,3 +1,4 @@
 pub mod Escape
 pub mod Number
+pub mod Text
 pub mod Laws

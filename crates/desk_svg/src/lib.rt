@@ -1,9 +1,12 @@
-//! The parts of a picture in the form SVG that any text needs: characters as XML has them, and numbers with two decimals.
+//! The parts of a picture in the form SVG that any text needs: characters as XML has them, numbers with two decimals, and
+//! the end of a text.
 #![tactic(auto)]
 
 mod escape;
 pub mod laws;
 mod number;
+mod text;
 
 pub use escape::put_escaped;
 pub use number::{put_attribute, put_hundredths};
+pub use text::text_end;

@@ -53,10 +53,10 @@ fn taken(style: Style, here: Place, c: char) -> Result<(State, Option<Symbol>), 
     } else {
         Symbol { style, ch: c }
     };
-    match symbol.check() {
-        Ok(()) => Ok((State::Within(style), Some(symbol))),
-        Err(_) => Err(fault(here, Cause::Symbol)),
+    if symbol.check().is_err() {
+        return Err(fault(here, Cause::Symbol));
     }
+    Ok((State::Within(style), Some(symbol)))
 }
 
 /// The mark of a style, which opens it or closes it.

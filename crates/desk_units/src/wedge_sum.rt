@@ -35,6 +35,9 @@ impl WedgeSum {
     /// The sum at which a space has the width of its units: the positions 3 and 8.
     pub const NEUTRAL: WedgeSum = WedgeSum { sum: 15 * 3 + 8 };
 
+    /// The greatest sum, with both wedges at their last position.
+    pub const GREATEST: WedgeSum = WedgeSum { sum: 15 * 15 + 15 };
+
     /// The wedge sum of this number, 16 to 240, or none.
     pub fn new(sum: u32) -> Option<WedgeSum>
         ensures { SomeIff result (IsWedgeSum sum) sum }

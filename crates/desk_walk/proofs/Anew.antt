@@ -1,13 +1,11 @@
 -- What follows a set of which nothing was looked at yet: all clear inserts and deletes wait.
-use Rattle.std.proofs.Common.{◌≡◌, ℕ, ◌<◌, true, false, List, [], refl, sym, ap, ◌∙◌, subst, ◌⊎◌, inl, inr, arith}
+use Rattle.std.proofs.Common.{◌≡◌, ℕ, ◌<◌, true, List, [], refl, sym, ap, ◌∙◌, subst, ◌⊎◌, inl, inr, arith}
 use Rattle.std.proofs.lemmas.Bool.{true≢false}
 use Rattle.desk_ops.specs.declared.op.Op.{Op}
-use Rattle.desk_ops.specs.Op.{IsLawful}
-use Rattle.desk_ops.specs.OpSet.{OpSet, no_ops, has_op, in_order, size, AllLawful}
+use Rattle.desk_ops.specs.OpSet.{OpSet, no_ops, has_op, size}
 use Rattle.desk_ops.specs.Live.{IsClearOp}
 use Rattle.desk_ops.specs.Walk.{walk_from}
-use Rattle.desk_ops.proofs.Lists.{Each}
-use Rattle.desk_ops.proofs.OpSets.{no_ops-from_rising, size-from_rising, in_order-from_rising, none-held}
+use Rattle.desk_ops.proofs.OpSets.{no_ops-from_rising, size-from_rising, none-held, none-lawful}
 use Rattle.desk_room.specs.Waiting.{HasTarget}
 use Rattle.desk_seq.specs.declared.Entry.{Entry}
 use Rattle.desk_walk.specs.Following.{IsDraining, IsSettled}
@@ -48,11 +46,8 @@ pub settled-none : (h : OpSet) (es : List Entry) (w : OpSet) → h ≡ no_ops �
 settled-none h es w e f k =
     subst (λ (v : OpSet). IsSettled v es w) (sym e) (subst (λ (fs : List Entry). IsSettled no_ops fs w) (sym f) (subst (λ (v : OpSet). IsSettled no_ops [] v) (sym k) nothing))
   where
-    lawful : AllLawful no_ops
-    lawful = subst (Each IsLawful) (sym (ap in_order (sym no_ops-from_rising) ∙ in_order-from_rising [] tt)) tt
-
     none : (q : Op) → has_op no_ops q ≡ true → ⊥
     none q e = true≢false (sym e ∙ none-held q)
 
     nothing : IsSettled no_ops [] no_ops
-    nothing = ends no_ops lawful no_ops no_ops [] 0 0 (begins no_ops no_ops (λ q. ((λ e. absurd (none q e)), (λ c. absurd (none q c.0.0)))) [] refl) (omega arith) tt (omega arith) (λ q e. absurd (none q e))
+    nothing = ends no_ops none-lawful no_ops no_ops [] 0 0 (begins no_ops no_ops (λ q. ((λ e. absurd (none q e)), (λ c. absurd (none q c.0.0)))) [] refl) (omega arith) tt (omega arith) (λ q e. absurd (none q e))

@@ -95,7 +95,7 @@ module _ (h : OpSet) where
       (λ e. let i : j ≡ k = clear-index j k (omega arith) lk c (sym (same-true (stamp_of (op_at (in_order h) k)) (stamp_of (op_at (in_order h) j)) e)) in absurd (omega arith))
       (λ e. e))
 
-  -- ---- its neighbours tell whether an operation is clear
+  -- ---- its neighbours show whether an operation is clear
 
   pub forked-beside : (j i : ℕ) → (j ≡ i → ⊥) → j < length (in_order h) → i < length (in_order h) → same (stamp_of (op_at (in_order h) j)) (stamp_of (op_at (in_order h) i)) ≡ true → is_clear_in h (stamp_of (op_at (in_order h) i)) ≡ false
   forked-beside j i ne lj li e = by_cases (is_clear_in h (stamp_of (op_at (in_order h) i)))

@@ -98,4 +98,4 @@ pub law : DescentIsFirstFall
 law us = law_at us (first_descent us) (descent 1 0 us)
 
 pub none_rises : (us : List ℕ) → None ≡ first_descent us → IsNonDecreasing us
-none_rises us none = let told = law us in rw (sym none) at told
+none_rises us none = let reported = law us in rw (sym none) at reported

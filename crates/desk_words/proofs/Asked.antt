@@ -8,7 +8,7 @@ use Rattle.clap.specs.Matches.{ReadsOne}
 use Rattle.clap.specs.Words.{Row, Text, all_of, fault_of, first_value, one_of, rows_of, subcommand_of}
 use Rattle.clap.specs.declared.parser.matches.Found.{Found}
 use Rattle.clap.proofs.WalkLemmas.{first_value-rows}
-use Rattle.desk_words.specs.Words.{HasSite, IsAsked, IsTold, IsWished, Names, NamesDesk, NamesFeed, NamesRibbon, NamesSources, Tells, copydesk, name_of, subcommand_asked, texts_of}
+use Rattle.desk_words.specs.Words.{HasSite, IsAsked, IsReported, IsWished, Names, NamesDesk, NamesFeed, NamesRibbon, NamesSources, Reports, copydesk, name_of, subcommand_asked, texts_of}
 use Rattle.desk_words.specs.declared.wishes.Sources.{Sources}
 use Rattle.desk_words.specs.declared.wishes.Subcommand.{Subcommand}
 use Rattle.desk_words.specs.declared.wishes.Subcommand.TheVariants as subcommands
@@ -72,24 +72,24 @@ Lacks rows subcommands.Read = (ribbon case wedge : Text) → NamesRibbon rows ri
 Lacks rows subcommands.Sorts = (feed case : Text) → NamesFeed rows feed → Names (codes "case") rows case → ⊥
 
 -- matches that lack what its subcommand wants ask for no wish
-none_told : (rows : List Row) (wish : Wish) → Lacks rows (subcommand_asked wish) → Tells rows wish → ⊥
-none_told rows (wishes.Script manner) lacks tells = lacks
-none_told rows (wishes.Desk feed site why manner) lacks tells = lacks feed.now site tells.0
-none_told rows (wishes.Merge feed others) lacks tells = lacks feed.now (texts_of others.items) tells.0 tells.1
-none_told rows (wishes.Diff one other) lacks tells = lacks one.now other.now tells.0 tells.1
-none_told rows (wishes.Export feed) lacks tells = lacks feed.now tells
-none_told rows (wishes.Import feed site plain) lacks tells = lacks feed.now site tells.0
-none_told rows (wishes.Replace feed site old new plain) lacks tells = lacks feed.now site old.now new.now tells.0 tells.1 tells.2
-none_told rows (wishes.Check files) lacks tells =
-    let bad = sym lacks ∙ tells in
+none_reported : (rows : List Row) (wish : Wish) → Lacks rows (subcommand_asked wish) → Reports rows wish → ⊥
+none_reported rows (wishes.Script manner) lacks reports = lacks
+none_reported rows (wishes.Desk feed site why manner) lacks reports = lacks feed.now site reports.0
+none_reported rows (wishes.Merge feed others) lacks reports = lacks feed.now (texts_of others.items) reports.0 reports.1
+none_reported rows (wishes.Diff one other) lacks reports = lacks one.now other.now reports.0 reports.1
+none_reported rows (wishes.Export feed) lacks reports = lacks feed.now reports
+none_reported rows (wishes.Import feed site plain) lacks reports = lacks feed.now site reports.0
+none_reported rows (wishes.Replace feed site old new plain) lacks reports = lacks feed.now site old.now new.now reports.0 reports.1 reports.2
+none_reported rows (wishes.Check files) lacks reports =
+    let bad = sym lacks ∙ reports in
     cc
-none_told rows (wishes.Proof from faults picture sets) lacks tells = lacks from tells.0
-none_told rows (wishes.Punch from target) lacks tells = lacks from target.now tells.0 tells.1
-none_told rows (wishes.Read ribbon case wedge picture) lacks tells = lacks ribbon.now case.now wedge.now tells.0
-none_told rows (wishes.Sorts feed case layout) lacks tells = lacks feed.now case.now tells.0 tells.1
+none_reported rows (wishes.Proof from faults picture sets) lacks reports = lacks from reports.0
+none_reported rows (wishes.Punch from target) lacks reports = lacks from target.now reports.0 reports.1
+none_reported rows (wishes.Read ribbon case wedge picture) lacks reports = lacks ribbon.now case.now wedge.now reports.0
+none_reported rows (wishes.Sorts feed case layout) lacks reports = lacks feed.now case.now reports.0 reports.1
 
-pub no_wish : (rows : List Row) (subcommand : Subcommand) → Lacks rows subcommand → (wish : Wish) → subcommand_asked wish ≡ subcommand → Tells rows wish → ⊥
-no_wish rows subcommand lacks wish is = none_told rows wish (subst (λ t. Lacks rows t) (sym is) lacks)
+pub no_wish : (rows : List Row) (subcommand : Subcommand) → Lacks rows subcommand → (wish : Wish) → subcommand_asked wish ≡ subcommand → Reports rows wish → ⊥
+no_wish rows subcommand lacks wish is = none_reported rows wish (subst (λ t. Lacks rows t) (sym is) lacks)
 
 -- ---- the name of a subcommand
 
@@ -137,13 +137,13 @@ rows_in None = []
 rows_in (Some asked) = asked.1
 
 -- what the matches of a subcommand hold is what is wished
-pub wished : (asked : Option (Text × List Row)) (subcommand : Subcommand) (rows : List Row) (o : Option Wish) → asked ≡ Some (name_of subcommand, rows) → IsTold rows subcommand o → IsWished asked o
-wished asked subcommand rows (Some wish) is told = (rows, is ∙ ap (λ t. Some (name_of t, rows)) (sym told.0), told.1)
+pub wished : (asked : Option (Text × List Row)) (subcommand : Subcommand) (rows : List Row) (o : Option Wish) → asked ≡ Some (name_of subcommand, rows) → IsReported rows subcommand o → IsWished asked o
+wished asked subcommand rows (Some wish) is reported = (rows, is ∙ ap (λ t. Some (name_of t, rows)) (sym reported.0), reported.1)
 wished asked subcommand rows None is none = λ wish wishes.
     let same : Some (name_of subcommand, rows) ≡ Some (name_of (subcommand_asked wish), wishes.0) = sym is ∙ wishes.1 in
     let names : name_of subcommand ≡ name_of (subcommand_asked wish) = ap name_in same in
     let held : wishes.0 ≡ rows = sym (ap rows_in same) in
-    none wish (sym (same_subcommand subcommand (subcommand_asked wish) names)) (subst (λ (rs : List Row). Tells rs wish) held wishes.2)
+    none wish (sym (same_subcommand subcommand (subcommand_asked wish) names)) (subst (λ (rs : List Row). Reports rs wish) held wishes.2)
 
 -- ---- words without a fault
 

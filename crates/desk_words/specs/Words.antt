@@ -213,25 +213,25 @@ subcommand_asked (wishes.Read ribbon case wedge picture) = subcommands.Read
 subcommand_asked (wishes.Sorts feed case layout) = subcommands.Sorts
 
 -- its matches hold what the wish says
-abbrev pub Tells : List Row → Wish → Type 0
-Tells rows (wishes.Script manner) = HasManner rows manner
-Tells rows (wishes.Desk feed site why manner) = NamesDesk rows feed.now site × HasFlag (codes "why") rows why × HasManner rows manner
-Tells rows (wishes.Merge feed others) = NamesFeed rows feed.now × (all_of (codes "other") rows ≡ Some (texts_of others.items))
-Tells rows (wishes.Diff one other) = NamesFeed rows one.now × Names (codes "other") rows other.now
-Tells rows (wishes.Export feed) = NamesFeed rows feed.now
-Tells rows (wishes.Import feed site plain) = NamesDesk rows feed.now site × HasFlag (codes "plain") rows plain
-Tells rows (wishes.Replace feed site old new plain) =
+abbrev pub Reports : List Row → Wish → Type 0
+Reports rows (wishes.Script manner) = HasManner rows manner
+Reports rows (wishes.Desk feed site why manner) = NamesDesk rows feed.now site × HasFlag (codes "why") rows why × HasManner rows manner
+Reports rows (wishes.Merge feed others) = NamesFeed rows feed.now × (all_of (codes "other") rows ≡ Some (texts_of others.items))
+Reports rows (wishes.Diff one other) = NamesFeed rows one.now × Names (codes "other") rows other.now
+Reports rows (wishes.Export feed) = NamesFeed rows feed.now
+Reports rows (wishes.Import feed site plain) = NamesDesk rows feed.now site × HasFlag (codes "plain") rows plain
+Reports rows (wishes.Replace feed site old new plain) =
     NamesDesk rows feed.now site × Names (codes "old") rows old.now × Names (codes "new") rows new.now × HasFlag (codes "plain") rows plain
-Tells rows (wishes.Check files) = all_of (codes "file") rows ≡ Some (texts_of files.items)
-Tells rows (wishes.Proof from faults picture sets) =
+Reports rows (wishes.Check files) = all_of (codes "file") rows ≡ Some (texts_of files.items)
+Reports rows (wishes.Proof from faults picture sets) =
     NamesSources rows from × HasFlag (codes "faults") rows faults × Chooses (codes "svg") rows picture × (texts_of sets.items ≡ all_given (all_of (codes "set") rows))
-Tells rows (wishes.Punch from target) = NamesSources rows from × Names (codes "output") rows target.now
-Tells rows (wishes.Read ribbon case wedge picture) = NamesRibbon rows ribbon.now case.now wedge.now × Chooses (codes "svg") rows picture
-Tells rows (wishes.Sorts feed case layout) = NamesFeed rows feed.now × Names (codes "case") rows case.now × HasFlag (codes "layout") rows layout
+Reports rows (wishes.Punch from target) = NamesSources rows from × Names (codes "output") rows target.now
+Reports rows (wishes.Read ribbon case wedge picture) = NamesRibbon rows ribbon.now case.now wedge.now × Chooses (codes "svg") rows picture
+Reports rows (wishes.Sorts feed case layout) = NamesFeed rows feed.now × Names (codes "case") rows case.now × HasFlag (codes "layout") rows layout
 
 -- a subcommand with its matches asks for this
 abbrev pub Wishes : Option (Text × List Row) → Wish → Type 0
-Wishes asked wish = (rows : List Row) × (asked ≡ Some (name_of (subcommand_asked wish), rows)) × Tells rows wish
+Wishes asked wish = (rows : List Row) × (asked ≡ Some (name_of (subcommand_asked wish), rows)) × Reports rows wish
 
 -- the words have no fault, and ask for this
 abbrev pub AsksFor : List Text → Wish → Type 0
@@ -262,9 +262,9 @@ AreSources rows (Some from) = NamesSources rows from
 AreSources rows None = (from : Sources) → NamesSources rows from → ⊥
 
 -- what the matches of a subcommand hold, or that they hold nothing that can be done
-abbrev pub IsTold : List Row → Subcommand → Option Wish → Type 0
-IsTold rows subcommand (Some wish) = (subcommand_asked wish ≡ subcommand) × Tells rows wish
-IsTold rows subcommand None = (wish : Wish) → subcommand_asked wish ≡ subcommand → Tells rows wish → ⊥
+abbrev pub IsReported : List Row → Subcommand → Option Wish → Type 0
+IsReported rows subcommand (Some wish) = (subcommand_asked wish ≡ subcommand) × Reports rows wish
+IsReported rows subcommand None = (wish : Wish) → subcommand_asked wish ≡ subcommand → Reports rows wish → ⊥
 
 -- what a subcommand with its matches asks for, or that it asks for nothing that can be done
 abbrev pub IsWished : Option (Text × List Row) → Option Wish → Type 0

@@ -2,7 +2,7 @@
 
 ghost use Rattle.std.specs.Prelude.{◌≡◌, ◌≢◌, ℕ, IfOk, IfSome, IsNone, codes};
 ghost use Rattle.clap.specs.Words.{Text, all_of, found_of, rows_of, subcommand_rows_of};
-ghost use Rattle.desk_words.specs.Words.{AreNames, AreSources, Chooses, HasFlag, HasManner, HasSite, IsTold, IsWished, NamesDesk, all_given, name_of, texts_of};
+ghost use Rattle.desk_words.specs.Words.{AreNames, AreSources, Chooses, HasFlag, HasManner, HasSite, IsReported, IsWished, NamesDesk, all_given, name_of, texts_of};
 
 use clap::ArgMatches;
 use std::alloc::{AllocError, Global};
@@ -207,7 +207,7 @@ fn manner_of(matches: &ArgMatches<'_>) -> Manner
 }
 
 fn desk_wish<'a>(matches: &ArgMatches<'a>) -> Option<Wish<'a>>
-    ensures { IsTold (rows_of (found_of matches.now)) Subcommand.Desk result }
+    ensures { IsReported (rows_of (found_of matches.now)) Subcommand.Desk result }
 {
     match feed_and_site(matches) {
         Some((feed, site)) => Some(Wish::Desk {
@@ -235,7 +235,7 @@ fn names_of<'a>(
 }
 
 fn merge_wish<'a>(alloc: Global, matches: &ArgMatches<'a>) -> Result<Option<Wish<'a>>, AllocError>
-    ensures { IfOk result (IsTold (rows_of (found_of matches.now)) Subcommand.Merge) }
+    ensures { IfOk result (IsReported (rows_of (found_of matches.now)) Subcommand.Merge) }
 {
     let Some(feed) = matches.get_str("feed") else {
         return Ok(None);
@@ -247,7 +247,7 @@ fn merge_wish<'a>(alloc: Global, matches: &ArgMatches<'a>) -> Result<Option<Wish
 }
 
 fn diff_wish<'a>(matches: &ArgMatches<'a>) -> Option<Wish<'a>>
-    ensures { IsTold (rows_of (found_of matches.now)) Subcommand.Diff result }
+    ensures { IsReported (rows_of (found_of matches.now)) Subcommand.Diff result }
 {
     let Some(one) = matches.get_str("feed") else {
         return None;
@@ -259,7 +259,7 @@ fn diff_wish<'a>(matches: &ArgMatches<'a>) -> Option<Wish<'a>>
 }
 
 fn export_wish<'a>(matches: &ArgMatches<'a>) -> Option<Wish<'a>>
-    ensures { IsTold (rows_of (found_of matches.now)) Subcommand.Export result }
+    ensures { IsReported (rows_of (found_of matches.now)) Subcommand.Export result }
 {
     match matches.get_str("feed") {
         Some(feed) => Some(Wish::Export { feed }),
@@ -268,7 +268,7 @@ fn export_wish<'a>(matches: &ArgMatches<'a>) -> Option<Wish<'a>>
 }
 
 fn import_wish<'a>(matches: &ArgMatches<'a>) -> Option<Wish<'a>>
-    ensures { IsTold (rows_of (found_of matches.now)) Subcommand.Import result }
+    ensures { IsReported (rows_of (found_of matches.now)) Subcommand.Import result }
 {
     match feed_and_site(matches) {
         Some((feed, site)) => Some(Wish::Import {
@@ -281,7 +281,7 @@ fn import_wish<'a>(matches: &ArgMatches<'a>) -> Option<Wish<'a>>
 }
 
 fn replace_wish<'a>(matches: &ArgMatches<'a>) -> Option<Wish<'a>>
-    ensures { IsTold (rows_of (found_of matches.now)) Subcommand.Replace result }
+    ensures { IsReported (rows_of (found_of matches.now)) Subcommand.Replace result }
 {
     let Some((feed, site)) = feed_and_site(matches) else {
         return None;
@@ -305,7 +305,7 @@ fn replace_wish<'a>(matches: &ArgMatches<'a>) -> Option<Wish<'a>>
 }
 
 fn check_wish<'a>(alloc: Global, matches: &ArgMatches<'a>) -> Result<Option<Wish<'a>>, AllocError>
-    ensures { IfOk result (IsTold (rows_of (found_of matches.now)) Subcommand.Check) }
+    ensures { IfOk result (IsReported (rows_of (found_of matches.now)) Subcommand.Check) }
 {
     match names_of(alloc, matches, "file")? {
         Some(files) => Ok(Some(Wish::Check { files })),
@@ -347,7 +347,7 @@ fn sets_of<'a>(alloc: Global, matches: &ArgMatches<'a>) -> Result<Vec<&'a str>, 
 }
 
 fn proof_wish<'a>(alloc: Global, matches: &ArgMatches<'a>) -> Result<Option<Wish<'a>>, AllocError>
-    ensures { IfOk result (IsTold (rows_of (found_of matches.now)) Subcommand.Proof) }
+    ensures { IfOk result (IsReported (rows_of (found_of matches.now)) Subcommand.Proof) }
 {
     let Some(from) = sources_of(matches) else {
         return Ok(None);
@@ -364,7 +364,7 @@ fn proof_wish<'a>(alloc: Global, matches: &ArgMatches<'a>) -> Result<Option<Wish
 }
 
 fn read_wish<'a>(matches: &ArgMatches<'a>) -> Option<Wish<'a>>
-    ensures { IsTold (rows_of (found_of matches.now)) Subcommand.Read result }
+    ensures { IsReported (rows_of (found_of matches.now)) Subcommand.Read result }
 {
     let Some(ribbon) = matches.get_str("ribbon") else {
         return None;
@@ -387,7 +387,7 @@ fn read_wish<'a>(matches: &ArgMatches<'a>) -> Option<Wish<'a>>
 }
 
 fn sorts_wish<'a>(matches: &ArgMatches<'a>) -> Option<Wish<'a>>
-    ensures { IsTold (rows_of (found_of matches.now)) Subcommand.Sorts result }
+    ensures { IsReported (rows_of (found_of matches.now)) Subcommand.Sorts result }
 {
     let Some(feed) = matches.get_str("feed") else {
         return None;
@@ -402,7 +402,7 @@ fn sorts_wish<'a>(matches: &ArgMatches<'a>) -> Option<Wish<'a>>
 }
 
 fn punch_wish<'a>(matches: &ArgMatches<'a>) -> Option<Wish<'a>>
-    ensures { IsTold (rows_of (found_of matches.now)) Subcommand.Punch result }
+    ensures { IsReported (rows_of (found_of matches.now)) Subcommand.Punch result }
 {
     match sources_of(matches) {
         Some(from) => match matches.get_str("output") {
@@ -414,12 +414,12 @@ fn punch_wish<'a>(matches: &ArgMatches<'a>) -> Option<Wish<'a>>
 }
 
 /// What the matches of a subcommand hold.
-fn told<'a>(
+fn reported<'a>(
     alloc: Global,
     subcommand: Subcommand,
     matches: &ArgMatches<'a>,
 ) -> Result<Option<Wish<'a>>, AllocError>
-    ensures { IfOk result (IsTold (rows_of (found_of matches.now)) subcommand) }
+    ensures { IfOk result (IsReported (rows_of (found_of matches.now)) subcommand) }
 {
     match subcommand {
         Subcommand::Script => Ok(Some(Wish::Script {
@@ -447,7 +447,7 @@ pub fn wish_of<'a>(alloc: Global, matches: &ArgMatches<'a>) -> Result<Option<Wis
         return Ok(None);
     };
     match subcommand_named(name) {
-        Some(subcommand) => told(alloc, subcommand, inner),
+        Some(subcommand) => reported(alloc, subcommand, inner),
         None => Ok(None),
     }
 }

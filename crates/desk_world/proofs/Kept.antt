@@ -13,7 +13,7 @@ use Rattle.desk_ops.specs.Op.{IsLawful}
 use Rattle.desk_ops.specs.OpSet.{OpSet, no_ops, with_all, in_order, size, max_ops, AllLawful}
 use Rattle.desk_ops.proofs.Unions.{with_all-in_order}
 use Rattle.desk_held.specs.declared.AddRefusal.TheVariants as adds
-use Rattle.desk_replica.specs.declared.Stopped.{Stopped}
+use Rattle.desk_held.specs.declared.join.Stopped.{Stopped}
 use Rattle.desk_replica.specs.declared.Count.{Count}
 use Rattle.desk_replica.specs.State.{State}
 use Rattle.desk_world.specs.declared.world.Answer.{Answer}
@@ -184,10 +184,6 @@ brought es fs to ops r old view h = at (lookup (nat_eq to) es) refl h
         let new : sites_of fs ≡ fin.insert old to g.0.ops = sites_of-updated es fs to g.0 g.1.entries ∙ ap (λ m. fin.insert m to g.0.ops) view in
         subst (BringsTo old to ops r (sites_of fs)) (sym set) (g.0.ops, g.2, new)
 
-pub none_from : {X : Type 0} (o : Option X) → is_some o ≡ false → o ≡ None
-none_from None e = refl
-none_from (Some x) e = absurd (let f : true ≡ false = e in cc)
-
 -- ---- an edit of one entry
 
 abbrev pub EditsAt : List (ℕ × State) → List (ℕ × State) → ℕ → LocalEdit → Result Answer StepRefusal → Option State → Type 0
@@ -197,13 +193,13 @@ pub kept_edited : (es fs : List (ℕ × State)) (n : ℕ) (edit : LocalEdit) (r 
 kept_edited es fs n edit r kept h = kept_changed (λ s t. Edits s edit r t) es fs n r kept (λ s t own edits. edits_lawful s t edit r own edits) h
 
 -- an edit says nothing of room
-told : (s t : State) (edit : LocalEdit) (op : Op) → IsEdited s t edit op → IsEdited (site_with s.site s.ops) (site_with t.site t.ops) edit op
-told s t (kinds.Insert place symbol) op e = record { is = e.is; lawful = e.lawful; gained = e.gained; shows = e.shows; settings = e.settings }
-told s t (kinds.Delete place) op e = record { is = e.is; lawful = e.lawful; gained = e.gained; shows = e.shows; settings = e.settings }
-told s t (kinds.Set key value) op e = record { is = e.is; lawful = e.lawful; gained = e.gained; shows = e.shows; sets = e.sets; others = e.others }
+reported : (s t : State) (edit : LocalEdit) (op : Op) → IsEdited s t edit op → IsEdited (site_with s.site s.ops) (site_with t.site t.ops) edit op
+reported s t (kinds.Insert place symbol) op e = record { is = e.is; lawful = e.lawful; gained = e.gained; shows = e.shows; settings = e.settings }
+reported s t (kinds.Delete place) op e = record { is = e.is; lawful = e.lawful; gained = e.gained; shows = e.shows; settings = e.settings }
+reported s t (kinds.Set key value) op e = record { is = e.is; lawful = e.lawful; gained = e.gained; shows = e.shows; sets = e.sets; others = e.others }
 
 roomless : (s t : State) (edit : LocalEdit) (r : Result Answer StepRefusal) → Edits s edit r t → Edits (site_with s.site s.ops) edit r (site_with t.site t.ops)
-roomless s t edit (Ok a) e = (e.0, e.1, e.2, told s t edit e.0 e.3)
+roomless s t edit (Ok a) e = (e.0, e.1, e.2, reported s t edit e.0 e.3)
 roomless s t edit (Err why) e = e
 
 abbrev EditsTo : Sites → ℕ → LocalEdit → Result Answer StepRefusal → Sites → Option OpSet → Type 0

@@ -5,14 +5,15 @@ use Rattle.desk_ops.specs.declared.op.Op.{Op}
 use Rattle.desk_ops.specs.Op.{IsLawful}
 use Rattle.desk_ops.specs.OpSet.{OpSet, no_ops, with_all, size, max_ops}
 use Rattle.desk_replica.specs.declared.Count.{Count}
-use Rattle.desk_replica.specs.declared.Stopped.{Stopped}
+use Rattle.desk_held.specs.declared.join.Stopped.{Stopped}
 use Rattle.desk_ops.specs.declared.op.Symbol.{Symbol}
 use Rattle.desk_ops.specs.declared.op.Key.{Key}
 use Rattle.desk_held.specs.declared.AddRefusal.TheVariants as adds
 use Rattle.desk_replica.specs.declared.Refusal.{Refusal as EditRefusal}
 use Rattle.desk_replica.specs.declared.Refusal.TheVariants as edits
 use Rattle.desk_replica.specs.Edits.{insert_refusal, delete_refusal, set_refusal, IsInserted, IsDeleted, IsSetTo}
-use Rattle.desk_replica.specs.State.{State, IsCounted, IsStopped}
+use Rattle.desk_held.specs.Joining.{IsStopped}
+use Rattle.desk_replica.specs.State.{State, IsCounted}
 use Rattle.desk_world.specs.declared.world.Answer.{Answer}
 use Rattle.desk_world.specs.declared.world.Answer.TheVariants as answers
 use Rattle.desk_world.specs.declared.world.StepRefusal.{StepRefusal}

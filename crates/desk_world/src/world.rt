@@ -18,7 +18,7 @@ use desk_held::AddRefusal;
 use desk_ops::{Key, NoMemory, Op, Symbol};
 use desk_replica::{Count, Replica, Stopped};
 use indexmap::IndexMap;
-use std::alloc::Allocator;
+use std::alloc::{AllocFailed, Allocator};
 use std::hash::{BuildHasherDefault, FoldHasher};
 use std::marker::Model;
 use thiserror::Error;
@@ -116,6 +116,17 @@ impl From<Stopped> for StepRefusal {
 
     fn from(stop: Stopped) -> StepRefusal {
         StepRefusal::Stopped(stop)
+    }
+}
+
+impl<T: Drop> From<AllocFailed<T>> for StepRefusal {
+    ghost use Rattle.std.specs.Prelude.{◌≡◌};
+    ghost use Rattle.desk_world.specs.declared.world.StepRefusal.TheVariants as refusals;
+
+    ghost from_gives = { λ _ refusal. refusal ≡ refusals.NoMemory };
+
+    fn from(_error: AllocFailed<T>) -> StepRefusal {
+        StepRefusal::NoMemory
     }
 }
 
@@ -353,10 +364,8 @@ impl<A: Allocator + Copy> World<A> {
         if self.sites.len() >= MAX_SITES {
             return Err(StepRefusal::TooManySites);
         }
-        match self.sites.insert(site, Replica::new(self.alloc, site)) {
-            Ok(_) => Ok(Answer::Done),
-            Err(_) => Err(StepRefusal::NoMemory),
-        }
+        self.sites.insert(site, Replica::new(self.alloc, site))?;
+        Ok(Answer::Done)
     }
 
     /// Gives a site operations that may come from outside the world: `NoSite`, or `Stopped` after the first `taken`. No

@@ -36,7 +36,7 @@ const WORDS: [(StepRefusal, &str); 8] = [
 /// Whether these are the words of a refusal.
 fn is_worded(alloc: Global, refusal: StepRefusal, words: &str) -> bool {
     match format!(in alloc; "{refusal}") {
-        Ok(told) => told.as_str() == words,
+        Ok(reported) => reported.as_str() == words,
         Err(AllocError) => false,
     }
 }

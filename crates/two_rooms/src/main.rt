@@ -36,7 +36,7 @@ fn set_up(room: &mut Room) -> Result<()> {
 }
 
 /// Writes the copy, its faults, and how long its ribbon is, or why it has none.
-fn tell(rt: &HostRuntime, room: &Room, case: &MatrixCase, wedge: &Wedge) -> Result<()> {
+fn report(rt: &HostRuntime, room: &Room, case: &MatrixCase, wedge: &Wedge) -> Result<()> {
     let alloc = rt.alloc();
     let text = String::from_utf8(write_text(alloc, &room.copy()?)?)?;
     println!(rt; "{text}")?;
@@ -80,6 +80,6 @@ fn main(rt: HostRuntime) -> Result<()> {
         one.write_feed()? == two.write_feed()?,
         "two rooms with the same corrections have one feed"
     );
-    tell(&rt, &one, &case, &wedge)?;
-    tell(&rt, &two, &case, &wedge)
+    report(&rt, &one, &case, &wedge)?;
+    report(&rt, &two, &case, &wedge)
 }

@@ -1,10 +1,10 @@
 use Rattle.std.proofs.Common.{sym, ◌∙◌, arith}
-use Rattle.desk_signals.proofs.Reading.{two_letters_told, two_numbers, the_wedge_fault}
+use Rattle.desk_signals.proofs.Reading.{two_letters_reported, two_numbers, the_wedge_fault}
 use Rattle.desk_signals.proofs.fault.Goals as goal
 
 pub returns-then-two_letters : goal.returns-then-two_letters
 returns-then-two_letters c =
-    two_letters_told c.args.signals.now (sym c.repeats.ensures ∙ c.if-repeats.false) (sym c.two_letters.ensures ∙ c.if-two_letters.true)
+    two_letters_reported c.args.signals.now (sym c.repeats.ensures ∙ c.if-repeats.false) (sym c.two_letters.ensures ∙ c.if-two_letters.true)
 
 pub returns-then-count_numbers-gt1 : goal.returns-then-count_numbers-gt1
 returns-then-count_numbers-gt1 c =

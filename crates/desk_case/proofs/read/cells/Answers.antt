@@ -1,7 +1,8 @@
 use Rattle.std.proofs.Common.{◌∙◌, sym, ap, None, ◌++◌, ◌∷◌, []}
 use Rattle.indexmap.proofs.CallerLemmas.{insert_entry-new}
+use Rattle.desk_ops.proofs.Lists.{none_of}
 use Rattle.desk_case.specs.Case.{same_symbol}
-use Rattle.desk_case.proofs.Indexes.{blank_indexed, symbol_indexed, none_of}
+use Rattle.desk_case.proofs.Indexes.{blank_indexed, symbol_indexed}
 use Rattle.desk_case.proofs.read.cells.Goals as goal
 use Rattle.desk_case.proofs.read.cells.Goals.{in-Some+else-contains_key+in-Ok, in_default}
 

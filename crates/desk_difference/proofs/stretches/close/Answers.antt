@@ -3,9 +3,9 @@ use Rattle.std.proofs.lemmas.Bool.{true≢false}
 use Rattle.desk_difference.proofs.Parts.{apart_after, closed, closed_same, end_after, end_later}
 use Rattle.desk_difference.proofs.stretches.close.Goals as goal
 
-pub returns-in_ok-push-clause-told : goal.returns-in_ok-push-clause-told
-returns-in_ok-push-clause-told g c =
-    closed c.args.one.now c.args.other.now c.args.from c.args.to c.args.stretches.now.items c.push.new.self.items c.requires.told c.requires.from c.requires.to c.requires.reached
+pub returns-in_ok-push-clause-reported : goal.returns-in_ok-push-clause-reported
+returns-in_ok-push-clause-reported g c =
+    closed c.args.one.now c.args.other.now c.args.from c.args.to c.args.stretches.now.items c.push.new.self.items c.requires.reported c.requires.from c.requires.to c.requires.reached
     (λ same. true≢false (sym (c.are_same.ensures.1 same) ∙ c.if-not-are_same.true)) c.requires.begins c.in_ok-push.ensures.items
 
 pub returns-in_ok-push-clause-apart : goal.returns-in_ok-push-clause-apart
@@ -15,9 +15,9 @@ pub returns-in_ok-push-clause-behind : goal.returns-in_ok-push-clause-behind
 returns-in_ok-push-clause-behind g c =
     end_after c.args.stretches.now.items c.push.new.self.items (record { from = c.args.from; to = c.args.to }) c.in_ok-push.ensures.items c.requires.reached.one_rises c.requires.behind
 
-pub returns-else-not-are_same-clause-told : goal.returns-else-not-are_same-clause-told
-returns-else-not-are_same-clause-told g c =
-    closed_same c.args.one.now c.args.other.now c.args.from c.args.to c.args.stretches.now.items c.requires.told c.requires.reached (c.are_same.ensures.0 c.if-not-are_same.false)
+pub returns-else-not-are_same-clause-reported : goal.returns-else-not-are_same-clause-reported
+returns-else-not-are_same-clause-reported g c =
+    closed_same c.args.one.now c.args.other.now c.args.from c.args.to c.args.stretches.now.items c.requires.reported c.requires.reached (c.are_same.ensures.0 c.if-not-are_same.false)
 
 pub returns-else-not-are_same-clause-behind : goal.returns-else-not-are_same-clause-behind
 returns-else-not-are_same-clause-behind g c =

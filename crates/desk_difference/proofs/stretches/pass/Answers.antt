@@ -12,7 +12,7 @@ returns g c =
     let less : c.args.front.last.one + 1 ≤ c.args.point.one = omega (arith, kept.0) in
     let at = here c.args.one.now c.args.other.now c.args.front.last c.args.point c.requires.point_reached in
     record {
-      told = closed_same c.args.one.now c.args.other.now c.args.front.last c.args.point c.close.new.stretches.items c.in_ok-close.ensures.told c.requires.point_reached kept.1;
+      reported = closed_same c.args.one.now c.args.other.now c.args.front.last c.args.point c.close.new.stretches.items c.in_ok-close.ensures.reported c.requires.point_reached kept.1;
       apart = c.in_ok-close.ensures.apart;
       behind = end_later (c.args.front.last.one + 1) c.args.point.one c.close.new.stretches.items less c.in_ok-close.ensures.behind;
       open_whole = cc;
@@ -24,7 +24,7 @@ returns g c =
 
 pub returns-then-not-is_whole : goal.returns-then-not-is_whole
 returns-then-not-is_whole g c = record {
-  told = c.requires.told;
+  reported = c.requires.reported;
   apart = c.requires.apart;
   behind = c.requires.behind;
   open_whole = c.requires.open_whole;
@@ -36,7 +36,7 @@ returns-then-not-is_whole g c = record {
 
 pub returns-then-not-are_kept : goal.returns-then-not-are_kept
 returns-then-not-are_kept g c = record {
-  told = c.requires.told;
+  reported = c.requires.reported;
   apart = c.requires.apart;
   behind = c.requires.behind;
   open_whole = c.requires.open_whole;

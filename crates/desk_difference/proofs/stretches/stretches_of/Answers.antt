@@ -10,7 +10,7 @@ returns-then-eq g c = no_stretches c.args.one.now c.args.other.now c.new.result.
 
 pub returns : goal.returns
 returns g c = record {
-  differ = c.in_ok-stretches.ensures.told;
+  differ = c.in_ok-stretches.ensures.reported;
   apart = c.in_ok-stretches.ensures.apart;
   none = λ same. absurd (true≢false (sym ((slice_eq-Decides same_symbols c.args.one.now c.args.other.now c.eq.result c.eq.ensures).1 same) ∙ c.if-eq.false));
 }

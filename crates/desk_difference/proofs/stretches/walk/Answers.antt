@@ -9,14 +9,14 @@ pass-requires g c =
     let front = c.loop-point.front in
     let point = c.loop-point.point in
     let next = c.step-next.result in
-    let told = c.loop-point.invariant.told in
+    let reported = c.loop-point.invariant.reported in
     record {
-      told = told.told;
-      apart = told.apart;
-      behind = told.behind;
-      open_whole = told.open_whole;
-      last_whole = told.last_whole;
-      last_reached = told.last_reached;
-      point_reached = reached_farther one other front.last point next told.point_reached c.step-next.ensures.reached;
-      begun = begun_next one other front point next (reached_farther one other front.open front.last point told.last_reached told.point_reached) c.step-next.ensures told.begun;
+      reported = reported.reported;
+      apart = reported.apart;
+      behind = reported.behind;
+      open_whole = reported.open_whole;
+      last_whole = reported.last_whole;
+      last_reached = reported.last_reached;
+      point_reached = reached_farther one other front.last point next reported.point_reached c.step-next.ensures.reached;
+      begun = begun_next one other front point next (reached_farther one other front.open front.last point reported.last_reached reported.point_reached) c.step-next.ensures reported.begun;
     }

@@ -1,12 +1,12 @@
 use Rattle.std.proofs.Common.{◌+◌, ◌-◌, length}
 use Rattle.desk_difference.specs.Stretches.{IsReached}
-use Rattle.desk_difference.specs.Walking.{HasTold}
+use Rattle.desk_difference.specs.Walking.{HasReported}
 use Rattle.desk_difference.proofs.stretches.walk.Given as goal
 
 abbrev pub invariant-loop-point : goal.invariant-loop-point
 invariant-loop-point g l = record {
   within : IsReached l.one l.other l.point l.point;
-  told : HasTold l.one l.other l.stretches.items l.front l.point (l.point.one + 1);
+  reported : HasReported l.one l.other l.stretches.items l.front l.point (l.point.one + 1);
 }
 
 abbrev pub decreases-loop-point : goal.decreases-loop-point

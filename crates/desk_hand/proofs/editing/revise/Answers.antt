@@ -20,10 +20,10 @@ map_err-requires g c = λ why is.
 
 pub returns-in_err-map_err-clause-value : goal.returns-in_err-map_err-clause-value
 returns-in_err-map_err-clause-value g c = λ lawful.
-    let told = err_behind (λ why. IsRefusedAmong c.args.replica.now.site c.args.replica.now.ops c.put_edits.new.replica.ops c.deref-2.result.now why) _ c.put_edits.result c.map_err.result c.in_err-map_err.field-0.0 c.map_err.ensures.cases c.in_err-map_err.was c.put_edits.ensures.refused in
-    let refused = subst (λ (made : List Change). IsRefusedAmong c.args.replica.now.site c.args.replica.now.ops c.put_edits.new.replica.ops made told.0) c.deref-2.ensures.value told.1 in
+    let reported = err_behind (λ why. IsRefusedAmong c.args.replica.now.site c.args.replica.now.ops c.put_edits.new.replica.ops c.deref-2.result.now why) _ c.put_edits.result c.map_err.result c.in_err-map_err.field-0.0 c.map_err.ensures.cases c.in_err-map_err.was c.put_edits.ensures.refused in
+    let refused = subst (λ (made : List Change). IsRefusedAmong c.args.replica.now.site c.args.replica.now.ops c.put_edits.new.replica.ops made reported.0) c.deref-2.ensures.value reported.1 in
     let p = err_from_is_err_and c.from_residual-in_err-map_err.result c.from_residual-in_err-map_err.ensures.1 in
-    rw p.1 (rw p.2 (λ value. valueless c.args.replica.now.site c.args.replica.now.ops c.put_edits.new.replica.ops c.args.text.now c.in_ok-made.made.items told.0 lawful c.in_ok-made.ensures.symbols refused (sym told.2 ∙ ap refusal_of value)))
+    rw p.1 (rw p.2 (λ value. valueless c.args.replica.now.site c.args.replica.now.ops c.put_edits.new.replica.ops c.args.text.now c.in_ok-made.made.items reported.0 lawful c.in_ok-made.ensures.symbols refused (sym reported.2 ∙ ap refusal_of value)))
 
 pub returns-clause-few : goal.returns-clause-few
 returns-clause-few g c =

@@ -25,28 +25,28 @@ returns-in_err-tally-clause-err g c =
     let value = c.in_err-tally.ensures.value (subst (λ (l : List Symbol). AreLawful l) (sym c.deref.ensures.value) c.in_ok-text.ensures.lawful) in
     rw p.1 (rw p.2 (refl, was_read c.in_ok-old.old, c.in_ok-old.replica.ops, c.in_ok-old.ensures.ok, c.in_ok-text.text.items, c.in_ok-text.ensures.ok, c.revise.new.replica.ops, by, value))
 
-pub returns-in_err-tell_and_keep-clause-err : goal.returns-in_err-tell_and_keep-clause-err
-returns-in_err-tell_and_keep-clause-err g c =
-    let p = err_from_is_err_and c.from_residual-in_err-tell_and_keep.result c.from_residual-in_err-tell_and_keep.ensures.1 in
+pub returns-in_err-report_and_keep-clause-err : goal.returns-in_err-report_and_keep-clause-err
+returns-in_err-report_and_keep-clause-err g c =
+    let p = err_from_is_err_and c.from_residual-in_err-report_and_keep.result c.from_residual-in_err-report_and_keep.ensures.1 in
     let t = c.in_ok-tally.tally in
     let revised = subst (λ l. IsRevised c.in_ok-old.replica.site c.in_ok-old.replica.ops c.revise.new.replica.ops l t.inserted t.deleted) c.deref.ensures.value c.in_ok-tally.ensures.ok in
     let by = subst (λ n. IsRevised n c.in_ok-old.replica.ops c.revise.new.replica.ops c.in_ok-text.text.items t.inserted t.deleted) c.in_ok-old.ensures.site revised in
-    rw p.1 (rw p.2 (g.F.Files.shelf c.take_feed.new.files, was_read c.in_ok-old.old, c.in_ok-old.replica.ops, c.in_ok-old.ensures.ok, c.revise.new.replica.ops, t.inserted, t.deleted, (c.in_ok-text.text.items, c.in_ok-text.ensures.ok, by), c.in_err-tell_and_keep.ensures.err))
+    rw p.1 (rw p.2 (g.F.Files.shelf c.take_feed.new.files, was_read c.in_ok-old.old, c.in_ok-old.replica.ops, c.in_ok-old.ensures.ok, c.revise.new.replica.ops, t.inserted, t.deleted, (c.in_ok-text.text.items, c.in_ok-text.ensures.ok, by), c.in_err-report_and_keep.ensures.err))
 
 pub returns-clause-ok : goal.returns-clause-ok
 returns-clause-ok g c =
     let t = c.in_ok-tally.tally in
     let revised = subst (λ l. IsRevised c.in_ok-old.replica.site c.in_ok-old.replica.ops c.revise.new.replica.ops l t.inserted t.deleted) c.deref.ensures.value c.in_ok-tally.ensures.ok in
     let by = subst (λ n. IsRevised n c.in_ok-old.replica.ops c.revise.new.replica.ops c.in_ok-text.text.items t.inserted t.deleted) c.in_ok-old.ensures.site revised in
-    (g.F.Files.shelf c.take_feed.new.files, was_read c.in_ok-old.old, c.in_ok-old.replica.ops, c.in_ok-old.ensures.ok, c.revise.new.replica.ops, t.inserted, t.deleted, (c.in_ok-text.text.items, c.in_ok-text.ensures.ok, by), c.in_ok-tell_and_keep.ensures.ok)
+    (g.F.Files.shelf c.take_feed.new.files, was_read c.in_ok-old.old, c.in_ok-old.replica.ops, c.in_ok-old.ensures.ok, c.revise.new.replica.ops, t.inserted, t.deleted, (c.in_ok-text.text.items, c.in_ok-text.ensures.ok, by), c.in_ok-report_and_keep.ensures.ok)
 
-pub returns-in_err-tell_and_keep-clause-held : goal.returns-in_err-tell_and_keep-clause-held
-returns-in_err-tell_and_keep-clause-held g c =
-    inl (held_alone c.args.name.now (g.F.Files.shelf c.args.files.now) (g.F.Files.shelf c.take_feed.new.files) (g.F.Files.shelf c.tell_and_keep.new.files) c.in_ok-old.ensures.ok.0 c.tell_and_keep.ensures.held)
+pub returns-in_err-report_and_keep-clause-held : goal.returns-in_err-report_and_keep-clause-held
+returns-in_err-report_and_keep-clause-held g c =
+    inl (held_alone c.args.name.now (g.F.Files.shelf c.args.files.now) (g.F.Files.shelf c.take_feed.new.files) (g.F.Files.shelf c.report_and_keep.new.files) c.in_ok-old.ensures.ok.0 c.report_and_keep.ensures.held)
 
 pub returns-clause-held : goal.returns-clause-held
 returns-clause-held g c =
-    inl (held_alone c.args.name.now (g.F.Files.shelf c.args.files.now) (g.F.Files.shelf c.take_feed.new.files) (g.F.Files.shelf c.tell_and_keep.new.files) c.in_ok-old.ensures.ok.0 c.tell_and_keep.ensures.held)
+    inl (held_alone c.args.name.now (g.F.Files.shelf c.args.files.now) (g.F.Files.shelf c.take_feed.new.files) (g.F.Files.shelf c.report_and_keep.new.files) c.in_ok-old.ensures.ok.0 c.report_and_keep.ensures.held)
 
 pub returns-in_err-text-clause-left : goal.returns-in_err-text-clause-left
 returns-in_err-text-clause-left g c =
@@ -58,7 +58,7 @@ returns-in_err-tally-clause-left g c =
     let p = err_from_is_err_and c.from_residual-in_err-tally.result c.from_residual-in_err-tally.ensures.1 in
     rw p.1 (rw p.2 c.in_ok-text.ensures.end)
 
-pub returns-in_err-tell_and_keep-clause-left : goal.returns-in_err-tell_and_keep-clause-left
-returns-in_err-tell_and_keep-clause-left g c =
-    let p = err_from_is_err_and c.from_residual-in_err-tell_and_keep.result c.from_residual-in_err-tell_and_keep.ensures.1 in
+pub returns-in_err-report_and_keep-clause-left : goal.returns-in_err-report_and_keep-clause-left
+returns-in_err-report_and_keep-clause-left g c =
+    let p = err_from_is_err_and c.from_residual-in_err-report_and_keep.result c.from_residual-in_err-report_and_keep.ensures.1 in
     rw p.1 (rw p.2 c.in_ok-text.ensures.end)

@@ -28,21 +28,21 @@ pub returns-in_err-write_and_keep-clause-err : goal.returns-in_err-write_and_kee
 returns-in_err-write_and_keep-clause-err g c =
     let p = err_from_is_err_and c.from_residual-in_err-write_and_keep.result c.from_residual-in_err-write_and_keep.ensures.1 in
     let same = same_shelf (g.F.Files.shelf c.take_feed.new.files) (g.F.Files.shelf c.join_files.new.files) c.join_files.ensures.stays c.in_ok-out.ensures.counted in
-    let told = subst
+    let reported = subst
     (λ t. IsUnkept c.args.name.now t (g.F.Files.shelf c.join_files.new.files) (g.F.Files.shelf c.write_and_keep.new.files) (g.W.Write.contents c.args.writer.now) (g.W.Write.contents c.write_and_keep.new.writer) c.in_err-write_and_keep.field-0.0)
     (c.as_bytes.ensures.value ∙ c.in_ok-put_faults.ensures) c.in_err-write_and_keep.ensures.err in
     let unkept = subst
-    (λ (s : Shelf). IsUnkept c.args.name.now (string_bytes c.in_ok-out.out ++ faults_line c.join_files.new.replica.ops) s (g.F.Files.shelf c.write_and_keep.new.files) (g.W.Write.contents c.args.writer.now) (g.W.Write.contents c.write_and_keep.new.writer) c.in_err-write_and_keep.field-0.0) same told in
+    (λ (s : Shelf). IsUnkept c.args.name.now (string_bytes c.in_ok-out.out ++ faults_line c.join_files.new.replica.ops) s (g.F.Files.shelf c.write_and_keep.new.files) (g.W.Write.contents c.args.writer.now) (g.W.Write.contents c.write_and_keep.new.writer) c.in_err-write_and_keep.field-0.0) same reported in
     rw p.1 (rw p.2 (g.F.Files.shelf c.take_feed.new.files, was_read c.in_ok-old.old, c.in_ok-old.replica.ops, c.in_ok-old.ensures.ok, c.join_files.new.replica.ops, string_bytes c.in_ok-out.out, c.in_ok-out.ensures.ok, unkept))
 
 pub returns-clause-ok : goal.returns-clause-ok
 returns-clause-ok g c =
     let same = same_shelf (g.F.Files.shelf c.take_feed.new.files) (g.F.Files.shelf c.join_files.new.files) c.join_files.ensures.stays c.in_ok-out.ensures.counted in
-    let told = subst
+    let reported = subst
     (λ t. IsKept c.args.name.now c.join_files.new.replica.ops t (was_read c.in_ok-old.old) (g.F.Files.shelf c.join_files.new.files) (g.F.Files.shelf c.write_and_keep.new.files) (g.W.Write.contents c.args.writer.now) (g.W.Write.contents c.write_and_keep.new.writer))
     (c.as_bytes.ensures.value ∙ c.in_ok-put_faults.ensures) c.in_ok-write_and_keep.ensures.ok in
     let kept = subst
-    (λ (s : Shelf). IsKept c.args.name.now c.join_files.new.replica.ops (string_bytes c.in_ok-out.out ++ faults_line c.join_files.new.replica.ops) (was_read c.in_ok-old.old) s (g.F.Files.shelf c.write_and_keep.new.files) (g.W.Write.contents c.args.writer.now) (g.W.Write.contents c.write_and_keep.new.writer)) same told in
+    (λ (s : Shelf). IsKept c.args.name.now c.join_files.new.replica.ops (string_bytes c.in_ok-out.out ++ faults_line c.join_files.new.replica.ops) (was_read c.in_ok-old.old) s (g.F.Files.shelf c.write_and_keep.new.files) (g.W.Write.contents c.args.writer.now) (g.W.Write.contents c.write_and_keep.new.writer)) same reported in
     (g.F.Files.shelf c.take_feed.new.files, was_read c.in_ok-old.old, c.in_ok-old.replica.ops, c.in_ok-old.ensures.ok, c.join_files.new.replica.ops, string_bytes c.in_ok-out.out, c.in_ok-out.ensures.ok, kept)
 
 pub returns-in_err-write_and_keep-clause-held : goal.returns-in_err-write_and_keep-clause-held

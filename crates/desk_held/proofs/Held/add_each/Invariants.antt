@@ -2,5 +2,5 @@ use Rattle.desk_held.proofs.Joins.{IsGained}
 use Rattle.desk_held.proofs.Held.add_each.Given as goal
 
 -- what was gained, and the room that is left
-abbrev pub invariant-loop-added : goal.invariant-loop-added
-invariant-loop-added g l = IsGained l.initial.self.ops l.self.ops l.initial.self.spare l.self.spare l.ops l.added
+abbrev pub invariant-loop-taken : goal.invariant-loop-taken
+invariant-loop-taken g l = IsGained l.initial.self.ops l.self.ops l.initial.self.spare l.self.spare l.ops l.taken

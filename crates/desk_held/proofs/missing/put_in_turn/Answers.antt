@@ -1,23 +1,19 @@
-use Rattle.std.proofs.Common.{◌∙◌, refl, sym, ap, subst, arith, List, []}
+use Rattle.std.proofs.Common.{◌∙◌, refl, sym, ap, subst, arith, List}
 use Rattle.std.specs.Prelude.{T, All}
-use Rattle.std.specs.List.{AllByRecursion}
 use Rattle.std.proofs.lemmas.List.Filters.{dedup_is}
 use Rattle.std.proofs.lemmas.List.Kept.{IsStrictlySortedBy-dedup}
 use Rattle.desk_ops.specs.declared.op.Op.{Op}
 use Rattle.desk_ops.specs.Op.{IsLawful}
-use Rattle.desk_ops.specs.OpSet.{is_rising, with_all, no_ops, in_order, AllLawful}
+use Rattle.desk_ops.specs.OpSet.{is_rising, with_all, no_ops}
 use Rattle.desk_ops.specs.OrderLaws.{op_total, op_tie}
-use Rattle.desk_ops.proofs.OpSets.{no_ops-from_rising, in_order-from_rising}
+use Rattle.desk_ops.proofs.OpSets.{none-lawful}
 use Rattle.desk_held.specs.Passing.{IsInTurn}
 use Rattle.desk_held.proofs.Joins.{with_all-permutation}
 use Rattle.desk_held.proofs.Lacking.{dedup-whole, ordered-strictly, rising-from_ordered, listed-lawful}
 use Rattle.desk_held.proofs.missing.put_in_turn.Goals as goal
 
-none_lawful : AllLawful no_ops
-none_lawful = subst (AllByRecursion IsLawful) (sym (ap in_order (sym no_ops-from_rising) ∙ in_order-from_rising [] tt)) tt
-
 lawful : (ops sorted : List Op) → IsInTurn ops sorted → All IsLawful ops → All IsLawful sorted
-lawful ops sorted t all = listed-lawful no_ops no_ops sorted ops none_lawful all (t.whole no_ops)
+lawful ops sorted t all = listed-lawful no_ops no_ops sorted ops none-lawful all (t.whole no_ops)
 
 pub returns-then-is_rising-clause-turn : goal.returns-then-is_rising-clause-turn
 returns-then-is_rising-clause-turn g c = record {

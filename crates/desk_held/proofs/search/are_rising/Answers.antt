@@ -13,10 +13,10 @@ loop-i-preserved c =
     let i = c.loop-i.i in
     let x : Op = c.index-slots-i.result in
     let y : Op = c.index-slots-i-in-loop-i.result in
-    let told : is_lt (op_cmp x y) ≡ true = ap (λ (o : Op). is_lt (op_cmp x o)) (sym c.op.ensures) ∙ sym c.comes_before.ensures ∙ c.if-not-comes_before.false in (
+    let reported : is_lt (op_cmp x y) ≡ true = ap (λ (o : Op). is_lt (op_cmp x o)) (sym c.op.ensures) ∙ sym c.comes_before.ensures ∙ c.if-not-comes_before.false in (
       omega arith,
       pairs-more slots i x c.loop-i.invariant.0 c.loop-i-test.true c.loop-i.invariant.1
-          (ap (λ (o : Op). op_cmp o (get_or slots i x)) (sym c.index-slots-i.is) ∙ ap (op_cmp x) (get_or_default slots i x y c.loop-i-test.true ∙ sym c.index-slots-i-in-loop-i.is) ∙ is_less (op_cmp x y) told),
+          (ap (λ (o : Op). op_cmp o (get_or slots i x)) (sym c.index-slots-i.is) ∙ ap (op_cmp x) (get_or_default slots i x y c.loop-i-test.true ∙ sym c.index-slots-i-in-loop-i.is) ∙ is_less (op_cmp x y) reported),
     )
 
 pub returns : goal.returns

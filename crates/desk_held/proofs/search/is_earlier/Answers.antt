@@ -9,5 +9,5 @@ returns-then-not-is_same c =
     let x = c.args.a.now in
     let op = c.args.b.now in
     let apart : same (stamp_of x) (stamp_of op) ≡ false = rw (sym c.stamp-its.ensures, sym c.stamp-stamp.ensures) (sym c.is_same.ensures ∙ c.if-not-is_same.true) in
-    let told : c.is_before.result ≡ before (stamp_of x) (stamp_of op) = rw (sym c.stamp-its.ensures, sym c.stamp-stamp.ensures) c.is_before.ensures in
-    told ∙ before_by_stamp x op apart
+    let reported : c.is_before.result ≡ before (stamp_of x) (stamp_of op) = rw (sym c.stamp-its.ensures, sym c.stamp-stamp.ensures) c.is_before.ensures in
+    reported ∙ before_by_stamp x op apart

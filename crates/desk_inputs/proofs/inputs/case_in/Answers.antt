@@ -22,7 +22,7 @@ returns-in_err-case-clause-given g c =
     let fault = c.in_err-case.field-0.0 in
     let p = err_from_is_err_and c.from_residual-in_err-case.result c.from_residual-in_err-case.ensures.1 in
     rw p.1 (rw p.2 (misread case_of case_refused c.args.name.now first mid c.in_ok-bytes.bytes.items c.deref.result.now fault (stays_by c.read.result first mid c.in_ok-bytes.ensures.kept c.in_ok-bytes.ensures.held c.read.ensures.counted)
-    c.in_ok-bytes.ensures.given c.in_ok-bytes.ensures.counted c.deref.ensures.value (λ told is. c.in_err-case.ensures.err (no_memory_case fault told is)) (λ none. c.in_err-case.ensures.memory (ap Err (no_number_case fault none)))))
+    c.in_ok-bytes.ensures.given c.in_ok-bytes.ensures.counted c.deref.ensures.value (λ reported is. c.in_err-case.ensures.err (no_memory_case fault reported is)) (λ none. c.in_err-case.ensures.memory (ap Err (no_number_case fault none)))))
 
 pub returns-clause-given : goal.returns-clause-given
 returns-clause-given g c =

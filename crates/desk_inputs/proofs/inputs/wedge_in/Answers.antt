@@ -22,7 +22,7 @@ returns-in_err-wedge-clause-given g c =
     let fault = c.in_err-wedge.field-0.0 in
     let p = err_from_is_err_and c.from_residual-in_err-wedge.result c.from_residual-in_err-wedge.ensures.1 in
     rw p.1 (rw p.2 (misread wedge_of wedge_refused c.args.name.now first mid c.in_ok-bytes.bytes.items c.deref.result.now fault (stays_by c.read.result first mid c.in_ok-bytes.ensures.kept c.in_ok-bytes.ensures.held c.read.ensures.counted)
-    c.in_ok-bytes.ensures.given c.in_ok-bytes.ensures.counted c.deref.ensures.value (λ told is. c.in_err-wedge.ensures.err (no_memory_wedge fault told is)) (λ none. c.in_err-wedge.ensures.memory (ap Err (no_number_wedge fault none)))))
+    c.in_ok-bytes.ensures.given c.in_ok-bytes.ensures.counted c.deref.ensures.value (λ reported is. c.in_err-wedge.ensures.err (no_memory_wedge fault reported is)) (λ none. c.in_err-wedge.ensures.memory (ap Err (no_number_wedge fault none)))))
 
 pub returns-clause-given : goal.returns-clause-given
 returns-clause-given g c =

@@ -3,7 +3,7 @@ use Rattle.std.specs.Prelude.{IfOk}
 use Rattle.desk_ops.specs.Settings.{setting_of}
 use Rattle.desk_ops.specs.Shown.{copy_of}
 use Rattle.desk_inputs.specs.declared.job.Wanted.{Wanted}
-use Rattle.desk_inputs.specs.Job.{TellsJob, job_of}
+use Rattle.desk_inputs.specs.Job.{ReportsJob, job_of}
 use Rattle.desk_answers.specs.Reply.{reply_values}
 use Rattle.desk_inputs.proofs.Casts.{castable, of_job}
 use Rattle.desk_inputs.proofs.job.made.Goals as goal
@@ -15,5 +15,5 @@ cast_bytes-requires g c =
 
 pub returns-in-Lines : goal.returns-in-Lines
 returns-in-Lines g c =
-    subst (λ (w : Wanted). IfOk c.cast_bytes.result (λ a. TellsJob w c.args.case.now c.args.wedge.now (job_of c.args.replica.now.ops c.args.case.now c.args.wedge.now) (reply_values a))) (sym c.in-Lines.is)
+    subst (λ (w : Wanted). IfOk c.cast_bytes.result (λ a. ReportsJob w c.args.case.now c.args.wedge.now (job_of c.args.replica.now.ops c.args.case.now c.args.wedge.now) (reply_values a))) (sym c.in-Lines.is)
     (of_job c.args.case.now c.args.wedge.now c.in-Ok.bytes.items c.deref.result.now (job_of c.args.replica.now.ops c.args.case.now c.args.wedge.now) c.cast_bytes.result reply_values c.deref.ensures.value c.in-Ok.ensures.ok c.cast_bytes.ensures)

@@ -35,5 +35,5 @@ returns-clause-groups g c =
     let n : length y ≡ length (get_or pages c.args.q []) + 1 = length-insert (get_or pages c.args.q []) c.args.k c.args.x c.requires.gap.inside in
     rw c.insert.ensures.put (
       starts-raised pages c.args.q y c.args.groups.now.starts.items c.raise.new.starts.items c.requires.gap.within n c.requires.groups.0 c.raise.ensures.len c.raise.ensures.below c.raise.ensures.raised,
-      sums-insert g.S.Summary.tells pages c.args.q c.args.k c.args.x c.args.groups.now.sums.items c.sum_with.new.sums.items c.requires.gap.inside c.requires.fits c.requires.groups.1 c.sum_with.ensures.len c.sum_with.ensures.others c.sum_with.ensures.more,
+      sums-insert g.S.Summary.sums_up pages c.args.q c.args.k c.args.x c.args.groups.now.sums.items c.sum_with.new.sums.items c.requires.gap.inside c.requires.fits c.requires.groups.1 c.sum_with.ensures.len c.sum_with.ensures.others c.sum_with.ensures.more,
     )

@@ -31,5 +31,5 @@ returns-clause-groups g c =
     let b : c.read-old.result ≡ get_or r c.args.j c.read-old.result = c.read-old.ensures ∙ entry-joined pages c.args.p c.args.j c.read-old.result c.requires.within c.requires.inside in
     rw c.set.ensures.set (
       starts-set pages c.args.p (set r c.args.j c.args.x) c.args.groups.now.starts.items (length-set r c.args.j c.args.x) c.requires.groups.0,
-      sums-write g.S.Summary.tells pages c.args.p c.args.j c.read-old.result c.args.x c.args.groups.now.sums.items c.sum_replaced.new.sums.items c.requires.inside b c.requires.fits c.requires.groups.1 c.sum_replaced.ensures.len c.sum_replaced.ensures.others c.sum_replaced.ensures.replaced,
+      sums-write g.S.Summary.sums_up pages c.args.p c.args.j c.read-old.result c.args.x c.args.groups.now.sums.items c.sum_replaced.new.sums.items c.requires.inside b c.requires.fits c.requires.groups.1 c.sum_replaced.ensures.len c.sum_replaced.ensures.others c.sum_replaced.ensures.replaced,
     )

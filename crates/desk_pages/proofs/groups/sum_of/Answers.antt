@@ -11,4 +11,4 @@ loop-k-preserved g c =
     let page = get_or pages (32 * c.args.g + k) [] in
     let l : 32 * c.args.g + k < length pages = omega (arith, c.requires.within, c.loop-k-test.true) in
     let fits = sum-fits pages c.args.g k page l (get_or_default pages (32 * c.args.g + k) [] page l) c.requires.fits in
-    sum-next g.S.Summary.tells pages c.args.g k page c.join-sum.result l (get_or_default pages (32 * c.args.g + k) [] page l) (c.join-sum.ensures (joined (take k (drop (32 * c.args.g) pages))) page fits c.loop-k.invariant c.summary.ensures)
+    sum-next g.S.Summary.sums_up pages c.args.g k page c.join-sum.result l (get_or_default pages (32 * c.args.g + k) [] page l) (c.join-sum.ensures (joined (take k (drop (32 * c.args.g) pages))) page fits c.loop-k.invariant c.summary.ensures)

@@ -3,4 +3,4 @@ use Rattle.desk_pages.specs.Pages.{joined}
 use Rattle.desk_pages.proofs.groups.sum_of.Given as goal
 
 abbrev pub invariant-loop-k : goal.invariant-loop-k
-invariant-loop-k g l = g.S.Summary.tells l.sum (joined (take l.k (drop (32 * l.g) l.pages.pages)))
+invariant-loop-k g l = g.S.Summary.sums_up l.sum (joined (take l.k (drop (32 * l.g) l.pages.pages)))

@@ -47,5 +47,5 @@ returns-clause-groups g c =
     let n = length-remove (get_or pages p []) c.args.j c.requires.inside in
     rw c.remove-out.ensures.rest (
       starts-lowered pages p y c.args.groups.now.starts.items c.lower.new.starts.items c.requires.within (omega (arith, n)) c.requires.groups.0 c.lower.ensures.len c.lower.ensures.below c.lower.ensures.lowered,
-      sums-again g.S.Summary.tells pages p y c.args.groups.now.sums.items c.sum_again.new.sums.items c.requires.groups.1 c.sum_again.ensures.len c.sum_again.ensures.others (rw c.remove-out.ensures.rest at c.sum_again.ensures.summed),
+      sums-again g.S.Summary.sums_up pages p y c.args.groups.now.sums.items c.sum_again.new.sums.items c.requires.groups.1 c.sum_again.ensures.len c.sum_again.ensures.others (rw c.remove-out.ensures.rest at c.sum_again.ensures.summed),
     )

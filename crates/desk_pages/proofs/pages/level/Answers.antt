@@ -1,5 +1,5 @@
 use Rattle.std.proofs.Common.{◌-◌, ◌/◌, ◌<◌, ◌≤◌, ◌+◌, ◌++◌, ◌≡◌, suc, length, get_or, take, drop, [], subst, List, add-one, arith}
-use Rattle.desk_pages.proofs.Shorts.{short-half, short-last, short-front, last-off, last-empty, join-is, share-is, merge-joined, merge-half, share-joined, share-half}
+use Rattle.desk_pages.proofs.Shorts.{short-half, short-last, short-prefix, last-off, last-empty, join-is, share-is, merge-joined, merge-half, share-joined, share-half}
 use Rattle.std.specs.List.{remove}
 use Rattle.std.proofs.lemmas.List.Edits.{length-remove}
 use Rattle.desk_pages.specs.Pages.{IsShortAt}
@@ -15,7 +15,7 @@ returns-then-len-eq0-clause-half g c =
     let pages = c.args.pages.now.pages in
     let e = last-off pages c.args.p (omega (arith, c.if-next-count.true, c.len-count.ensures)) in
     let n = length-remove pages c.args.p c.requires.within in
-    rw c.close.ensures.rest (short-front (remove pages c.args.p) (get_or pages c.args.p []) c.args.p (subst (λ (z : List (List _)). IsShortAt z c.args.p) e c.requires.short) (omega (arith, n, c.if-next-count.true, c.len-count.ensures)))
+    rw c.close.ensures.rest (short-prefix (remove pages c.args.p) (get_or pages c.args.p []) c.args.p (subst (λ (z : List (List _)). IsShortAt z c.args.p) e c.requires.short) (omega (arith, n, c.if-next-count.true, c.len-count.ensures)))
 
 pub returns-else-len-eq0-clause-half : goal.returns-else-len-eq0-clause-half
 returns-else-len-eq0-clause-half g c =

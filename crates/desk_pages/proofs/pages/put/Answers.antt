@@ -23,4 +23,4 @@ pub find_groups-requires-clause-kept : goal.find_groups-requires-clause-kept
 find_groups-requires-clause-kept g c =
     let groups = c.args.groups.now in
     let q = c.args.p - 1 in
-    kept-groups g.S.Summary.tells c.put_anywhere.new.pages.pages c.args.pages.now.pages groups.starts.items groups.sums.items (c.saturating_sub.result / 32) q (omega (arith, c.saturating_sub.ensures)) c.put_anywhere.ensures.before c.requires.groups
+    kept-groups g.S.Summary.sums_up c.put_anywhere.new.pages.pages c.args.pages.now.pages groups.starts.items groups.sums.items (c.saturating_sub.result / 32) q (omega (arith, c.saturating_sub.ensures)) c.put_anywhere.ensures.before c.requires.groups

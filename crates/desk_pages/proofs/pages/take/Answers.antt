@@ -22,4 +22,4 @@ pub find_groups-requires-clause-kept : goal.find_groups-requires-clause-kept
 find_groups-requires-clause-kept g c =
     let groups = c.args.groups.now in
     let p = c.args.p in
-    kept-groups g.S.Summary.tells c.take_short-out.new.pages.pages c.args.pages.now.pages groups.starts.items groups.sums.items (p / 32) p (omega arith) c.take_short-out.ensures.before c.requires.groups
+    kept-groups g.S.Summary.sums_up c.take_short-out.new.pages.pages c.args.pages.now.pages groups.starts.items groups.sums.items (p / 32) p (omega arith) c.take_short-out.ensures.before c.requires.groups

@@ -4,5 +4,5 @@ use Rattle.desk_picture.proofs.boxes.put_boxes.Given as goal
 
 abbrev pub invariant-loop : goal.invariant-loop
 invariant-loop g l =
-    (string_bytes l.out ++ boxes_text l.sheet l.y l.width l.from (l.count - l.counter) ≡ string_bytes l.fn.out ++ boxes_text l.sheet l.y l.width l.here l.count)
+    (string_bytes l.out ++ boxes_text l.paper l.y l.width l.from (l.count - l.counter) ≡ string_bytes l.fn.out ++ boxes_text l.paper l.y l.width l.here l.count)
     × (l.from ≤ l.here + l.counter * 2 ^ 64)

@@ -8,10 +8,10 @@ use Rattle.desk_ribbon.specs.Ribbon.{ribbon}
 use Rattle.desk_job.specs.Answer.{IsRefused}
 use Rattle.desk_stored.specs.Fault.{IsNotStored}
 use Rattle.desk_inputs.specs.Job.{job_of}
-use Rattle.desk_preview.specs.Punching.{IsUntold, no_ribbon_line}
+use Rattle.desk_preview.specs.Punching.{IsUnreported, no_ribbon_line}
 use Rattle.desk_preview.specs.Sources.{sources}
 use Rattle.desk_preview.proofs.Gives.{unpunched}
-use Rattle.desk_preview.proofs.Punches.{made_rows, untold_faults}
+use Rattle.desk_preview.proofs.Punches.{made_rows, unreported_faults}
 use Rattle.desk_preview.proofs.punching.punch_feed.Goals as goal
 
 pub returns-in_err-replica-clause-err : goal.returns-in_err-replica-clause-err
@@ -44,20 +44,20 @@ pub returns-in-Err-Faults-clause-err : goal.returns-in-Err-Faults-clause-err
 returns-in-Err-Faults-clause-err g c =
     let t = c.in_ok-replica in
     let refused = subst (λ r. IsRefused r (job_of t.replica.ops t.case t.wedge)) c.in-Err-Faults.field-0-is c.in-Err-Faults.ensures.err in
-    let told = subst (λ l. Appends (g.W.Write.contents c.args.writer.now) (g.W.Write.contents c.tell.new.writer) (no_ribbon_line l)) c.in-Err-Faults.faults-is c.in_ok-tell-in-Err-Faults.ensures.ok in
-    (t.ensures.still, c.in-Err-Faults.faults, (t.replica.ops, t.case, t.wedge, t.ensures.ok, refused), told)
+    let reported = subst (λ l. Appends (g.W.Write.contents c.args.writer.now) (g.W.Write.contents c.report.new.writer) (no_ribbon_line l)) c.in-Err-Faults.faults-is c.in_ok-report-in-Err-Faults.ensures.ok in
+    (t.ensures.still, c.in-Err-Faults.faults, (t.replica.ops, t.case, t.wedge, t.ensures.ok, refused), reported)
 
-pub returns-in_err-tell-in-Err-Faults-clause-err : goal.returns-in_err-tell-in-Err-Faults-clause-err
-returns-in_err-tell-in-Err-Faults-clause-err g c =
+pub returns-in_err-report-in-Err-Faults-clause-err : goal.returns-in_err-report-in-Err-Faults-clause-err
+returns-in_err-report-in-Err-Faults-clause-err g c =
     let before = g.W.Write.contents c.args.writer.now in
-    let after = g.W.Write.contents c.tell.new.writer in
+    let after = g.W.Write.contents c.report.new.writer in
     let t = c.in_ok-replica in
-    let fault = c.in_err-tell-in-Err-Faults.field-0.0 in
+    let fault = c.in_err-report-in-Err-Faults.field-0.0 in
     let refused = subst (λ r. IsRefused r (job_of t.replica.ops t.case t.wedge)) c.in-Err-Faults.field-0-is c.in-Err-Faults.ensures.err in
-    let untold = subst (λ l. IsUntold l before after fault) c.in-Err-Faults.faults-is c.in_err-tell-in-Err-Faults.ensures.err in
-    let p = err_from_is_err_and c.from_residual-in_err-tell-in-Err-Faults.result c.from_residual-in_err-tell-in-Err-Faults.ensures.1 in
-    rw p.1 (rw p.2 (untold_faults (sources c.args.feed.now c.args.case.now c.args.wedge.now) c.args.target.now (g.F.Files.shelf c.args.files.now) (g.F.Files.shelf c.take_in.new.files) before after t.replica.ops t.case t.wedge c.in-Err-Faults.faults fault
-    t.ensures.ok refused t.ensures.still untold))
+    let unreported = subst (λ l. IsUnreported l before after fault) c.in-Err-Faults.faults-is c.in_err-report-in-Err-Faults.ensures.err in
+    let p = err_from_is_err_and c.from_residual-in_err-report-in-Err-Faults.result c.from_residual-in_err-report-in-Err-Faults.ensures.1 in
+    rw p.1 (rw p.2 (unreported_faults (sources c.args.feed.now c.args.case.now c.args.wedge.now) c.args.target.now (g.F.Files.shelf c.args.files.now) (g.F.Files.shelf c.take_in.new.files) before after t.replica.ops t.case t.wedge c.in-Err-Faults.faults fault
+    t.ensures.ok refused t.ensures.still unreported))
 
 pub returns-clause-err : goal.returns-clause-err
 returns-clause-err g c =

@@ -15,6 +15,6 @@ pub returns-clause-stopped : goal.returns-clause-stopped
 returns-clause-stopped g c one = elim (no_of c.check_files-outcome.result (λ well. IsChecked (texts_of c.args.names.now) (g.F.Files.shelf c.args.files.now) (g.F.Files.shelf c.check_files-outcome.new.files) (g.W.Write.contents c.args.writer.now) (g.W.Write.contents c.check_files-outcome.new.writer) well)
     (λ why. IsUnchecked (texts_of c.args.names.now) (g.F.Files.shelf c.args.files.now) (g.F.Files.shelf c.check_files-outcome.new.files) (g.W.Write.contents c.args.writer.now) (g.W.Write.contents c.check_files-outcome.new.writer) why)
     c.check_status.result c.check_status.ensures c.check_files-outcome.ensures.ok c.check_files-outcome.ensures.err one) [
-      | inl told ↦ inl (c.check_files-outcome.ensures.stays, told)
-      | inr untold ↦ inr (c.check_files-outcome.ensures.stays, untold.0, untold.1)
+      | inl reported ↦ inl (c.check_files-outcome.ensures.stays, reported)
+      | inr unreported ↦ inr (c.check_files-outcome.ensures.stays, unreported.0, unreported.1)
     ]

@@ -9,7 +9,7 @@ use Rattle.desk_ops.specs.declared.op.Symbol.{Symbol}
 use Rattle.desk_ops.specs.Shown.{copy_of}
 use Rattle.desk_text.specs.Laws.{AreLawful}
 use Rattle.desk_replace.specs.Replacing.{AreRead}
-use Rattle.desk_replace.specs.Telling.{IsTold}
+use Rattle.desk_replace.specs.Reporting.{IsReported}
 use Rattle.desk_replace.proofs.replacing.replace_text.Goals as goal
 
 pub returns-in_err-old-clause-err : goal.returns-in_err-old-clause-err
@@ -25,10 +25,10 @@ returns-in_err-stored-clause-err g c =
 pub returns-in_err-text-clause-err : goal.returns-in_err-text-clause-err
 returns-in_err-text-clause-err g c =
     let p = err_from_is_err_and c.from_residual-in_err-text.result c.from_residual-in_err-text.ensures.1 in
-    let told = subst
-    (λ l. IsTold l (copy_of c.in_ok-stored.replica.ops) (g.W.Write.contents c.args.writer.now) (g.W.Write.contents c.exchanged.new.writer) c.in_err-text.field-0.0)
+    let reported = subst
+    (λ l. IsReported l (copy_of c.in_ok-stored.replica.ops) (g.W.Write.contents c.args.writer.now) (g.W.Write.contents c.exchanged.new.writer) c.in_err-text.field-0.0)
     c.deref.ensures.value c.in_err-text.ensures.err in
-    rw p.1 (rw p.2 (c.in_ok-old.old.items, c.in_ok-old.new.items, c.in_ok-old.ensures.ok, was_read c.in_ok-stored.stored, c.in_ok-stored.replica.ops, c.in_ok-stored.ensures.ok, told))
+    rw p.1 (rw p.2 (c.in_ok-old.old.items, c.in_ok-old.new.items, c.in_ok-old.ensures.ok, was_read c.in_ok-stored.stored, c.in_ok-stored.replica.ops, c.in_ok-stored.ensures.ok, reported))
 
 pub returns-in_err-tally-clause-err : goal.returns-in_err-tally-clause-err
 returns-in_err-tally-clause-err g c =
@@ -41,9 +41,9 @@ returns-in_err-tally-clause-err g c =
     let unrefused = subst (λ l. copy_of c.in_ok-stored.replica.ops ≡ l → c.in_err-tally.field-0.0 ≡ revisions.NoMemory) c.deref-3.ensures.value c.in_err-tally.ensures.unrefused in
     rw p.1 (rw p.2 (ap g.W.Write.contents c.in_ok-text.ensures.silent, c.deref.result.now, c.deref-2.result.now, texts, was_read c.in_ok-stored.stored, c.in_ok-stored.replica.ops, c.in_ok-stored.ensures.ok, c.in_ok-text.text.items, c.in_ok-text.ensures.ok, c.revise.new.replica.ops, by, unrefused, value))
 
-pub returns-in_err-tell_and_keep-clause-err : goal.returns-in_err-tell_and_keep-clause-err
-returns-in_err-tell_and_keep-clause-err g c =
-    let p = err_from_is_err_and c.from_residual-in_err-tell_and_keep.result c.from_residual-in_err-tell_and_keep.ensures.1 in
+pub returns-in_err-report_and_keep-clause-err : goal.returns-in_err-report_and_keep-clause-err
+returns-in_err-report_and_keep-clause-err g c =
+    let p = err_from_is_err_and c.from_residual-in_err-report_and_keep.result c.from_residual-in_err-report_and_keep.ensures.1 in
     let t = c.in_ok-tally.tally in
     let texts : AreRead c.args.exchange.now c.deref.result.now c.deref-2.result.now = rw (c.deref.ensures.value, c.deref-2.ensures.value) c.in_ok-old.ensures.ok in
     let revised = subst (λ l. IsRevised c.in_ok-stored.replica.site c.in_ok-stored.replica.ops c.revise.new.replica.ops l t.inserted t.deleted) c.deref-3.ensures.value c.in_ok-tally.ensures.ok in
@@ -51,8 +51,8 @@ returns-in_err-tell_and_keep-clause-err g c =
     let sparing = subst (λ l. IsSparing (copy_of c.in_ok-stored.replica.ops) l (t.inserted + t.deleted)) c.deref-3.ensures.value c.in_ok-tally.ensures.sparing in
     let none = subst (λ l. copy_of c.in_ok-stored.replica.ops ≡ l → c.revise.new.replica.ops ≡ c.in_ok-stored.replica.ops) c.deref-3.ensures.value c.in_ok-tally.ensures.none in
     let unkept = subst
-    (λ w. IsUnkept c.args.name.now (edited_line t.inserted t.deleted) (g.F.Files.shelf c.take_feed.new.files) (g.F.Files.shelf c.tell_and_keep.new.files) (g.W.Write.contents w) (g.W.Write.contents c.tell_and_keep.new.writer) c.in_err-tell_and_keep.field-0.0)
-    c.in_ok-text.ensures.silent c.in_err-tell_and_keep.ensures.err in
+    (λ w. IsUnkept c.args.name.now (edited_line t.inserted t.deleted) (g.F.Files.shelf c.take_feed.new.files) (g.F.Files.shelf c.report_and_keep.new.files) (g.W.Write.contents w) (g.W.Write.contents c.report_and_keep.new.writer) c.in_err-report_and_keep.field-0.0)
+    c.in_ok-text.ensures.silent c.in_err-report_and_keep.ensures.err in
     rw p.1 (rw p.2 (c.deref.result.now, c.deref-2.result.now, texts, g.F.Files.shelf c.take_feed.new.files, was_read c.in_ok-stored.stored, c.in_ok-stored.replica.ops, c.in_ok-stored.ensures.ok, c.revise.new.replica.ops, t.inserted, t.deleted, (c.in_ok-text.text.items, c.in_ok-text.ensures.ok, by, sparing, none), unkept))
 
 pub returns-clause-ok : goal.returns-clause-ok
@@ -64,14 +64,14 @@ returns-clause-ok g c =
     let sparing = subst (λ l. IsSparing (copy_of c.in_ok-stored.replica.ops) l (t.inserted + t.deleted)) c.deref-3.ensures.value c.in_ok-tally.ensures.sparing in
     let none = subst (λ l. copy_of c.in_ok-stored.replica.ops ≡ l → c.revise.new.replica.ops ≡ c.in_ok-stored.replica.ops) c.deref-3.ensures.value c.in_ok-tally.ensures.none in
     let kept = subst
-    (λ w. IsKept c.args.name.now c.revise.new.replica.ops (edited_line t.inserted t.deleted) (was_read c.in_ok-stored.stored) (g.F.Files.shelf c.take_feed.new.files) (g.F.Files.shelf c.tell_and_keep.new.files) (g.W.Write.contents w) (g.W.Write.contents c.tell_and_keep.new.writer))
-    c.in_ok-text.ensures.silent c.in_ok-tell_and_keep.ensures.ok in
+    (λ w. IsKept c.args.name.now c.revise.new.replica.ops (edited_line t.inserted t.deleted) (was_read c.in_ok-stored.stored) (g.F.Files.shelf c.take_feed.new.files) (g.F.Files.shelf c.report_and_keep.new.files) (g.W.Write.contents w) (g.W.Write.contents c.report_and_keep.new.writer))
+    c.in_ok-text.ensures.silent c.in_ok-report_and_keep.ensures.ok in
     (c.deref.result.now, c.deref-2.result.now, texts, g.F.Files.shelf c.take_feed.new.files, was_read c.in_ok-stored.stored, c.in_ok-stored.replica.ops, c.in_ok-stored.ensures.ok, c.revise.new.replica.ops, t.inserted, t.deleted, (c.in_ok-text.text.items, c.in_ok-text.ensures.ok, by, sparing, none), kept)
 
-pub returns-in_err-tell_and_keep-clause-held : goal.returns-in_err-tell_and_keep-clause-held
-returns-in_err-tell_and_keep-clause-held g c =
-    inl (held_alone c.args.name.now (g.F.Files.shelf c.args.files.now) (g.F.Files.shelf c.take_feed.new.files) (g.F.Files.shelf c.tell_and_keep.new.files) c.in_ok-stored.ensures.ok.0 c.tell_and_keep.ensures.held)
+pub returns-in_err-report_and_keep-clause-held : goal.returns-in_err-report_and_keep-clause-held
+returns-in_err-report_and_keep-clause-held g c =
+    inl (held_alone c.args.name.now (g.F.Files.shelf c.args.files.now) (g.F.Files.shelf c.take_feed.new.files) (g.F.Files.shelf c.report_and_keep.new.files) c.in_ok-stored.ensures.ok.0 c.report_and_keep.ensures.held)
 
 pub returns-clause-held : goal.returns-clause-held
 returns-clause-held g c =
-    inl (held_alone c.args.name.now (g.F.Files.shelf c.args.files.now) (g.F.Files.shelf c.take_feed.new.files) (g.F.Files.shelf c.tell_and_keep.new.files) c.in_ok-stored.ensures.ok.0 c.tell_and_keep.ensures.held)
+    inl (held_alone c.args.name.now (g.F.Files.shelf c.args.files.now) (g.F.Files.shelf c.take_feed.new.files) (g.F.Files.shelf c.report_and_keep.new.files) c.in_ok-stored.ensures.ok.0 c.report_and_keep.ensures.held)

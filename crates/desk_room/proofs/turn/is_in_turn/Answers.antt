@@ -12,10 +12,10 @@ loop-i-preserved c =
     let i = c.loop-i.i in
     let x : Op = c.index-ops-i.result in
     let y : Op = c.index-ops-i-in-loop-i.result in
-    let told : is_lt (turn_cmp x y) ≡ true = ap (λ (o : Op). is_lt (turn_cmp o y)) (sym c.op.ensures) ∙ ap (λ (o : Op). is_lt (turn_cmp c.op.result o)) (sym c.op-in-loop-i.ensures) ∙ sym c.is_earlier.ensures ∙ c.if-not-is_earlier.false in (
+    let reported : is_lt (turn_cmp x y) ≡ true = ap (λ (o : Op). is_lt (turn_cmp o y)) (sym c.op.ensures) ∙ ap (λ (o : Op). is_lt (turn_cmp c.op.result o)) (sym c.op-in-loop-i.ensures) ∙ sym c.is_earlier.ensures ∙ c.if-not-is_earlier.false in (
       omega arith,
       pairs-more ops i x c.loop-i.invariant.0 c.loop-i-test.true c.loop-i.invariant.1
-          (ap (λ (o : Op). is_lt (turn_cmp o (get_or ops i x))) (sym c.index-ops-i.is) ∙ ap (λ (o : Op). is_lt (turn_cmp x o)) (get_or_default ops i x y c.loop-i-test.true ∙ sym c.index-ops-i-in-loop-i.is) ∙ told),
+          (ap (λ (o : Op). is_lt (turn_cmp o (get_or ops i x))) (sym c.index-ops-i.is) ∙ ap (λ (o : Op). is_lt (turn_cmp x o)) (get_or_default ops i x y c.loop-i-test.true ∙ sym c.index-ops-i-in-loop-i.is) ∙ reported),
     )
 
 pub returns : goal.returns

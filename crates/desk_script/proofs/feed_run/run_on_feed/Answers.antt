@@ -6,7 +6,7 @@ use Rattle.desk_files.proofs.Shelves.{held_alone, holds_on}
 use Rattle.desk_steps.specs.Desk.{desk}
 use Rattle.desk_stored.specs.Stored.{was_read}
 use Rattle.desk_script.specs.FeedRun.{IsStart}
-use Rattle.desk_script.proofs.Bytes.{told_fault}
+use Rattle.desk_script.proofs.Bytes.{reported_fault}
 use Rattle.desk_script.proofs.Feeds.{counts_up, fails_from, fails_later, file_failed, is_there, no_line_fails, no_opening_fails}
 use Rattle.desk_script.proofs.feed_run.run_on_feed.Goals as goal
 
@@ -20,7 +20,7 @@ returns-in_err-hold-clause-err g c =
 pub returns-in_err-hold-clause-device : goal.returns-in_err-hold-clause-device
 returns-in_err-hold-clause-device g c is =
     let p = err_from_is_err_and c.from_residual.result c.from_residual.ensures.1 in
-    file_failed c.in_err-hold.field-0.0 (g.F.Files.shelf c.args.files.now) (g.F.Files.shelf c.hold.new.self) (told_fault _ _ _ _ p.1 p.2 is) c.in_err-hold.ensures.counted
+    file_failed c.in_err-hold.field-0.0 (g.F.Files.shelf c.args.files.now) (g.F.Files.shelf c.hold.new.self) (reported_fault _ _ _ _ p.1 p.2 is) c.in_err-hold.ensures.counted
 
 -- ---- the feed was not read
 
@@ -33,7 +33,7 @@ pub returns-in_err-old-clause-device : goal.returns-in_err-old-clause-device
 returns-in_err-old-clause-device g c is =
     let p = err_from_is_err_and c.from_residual-in_err-old.result c.from_residual-in_err-old.ensures.1 in
     fails_from (g.F.Files.shelf c.args.files.now) (g.F.Files.shelf c.hold.new.self) (g.F.Files.shelf c.stored_bytes.new.files) c.in_ok-hold.ensures.taken.failures
-    (file_failed c.in_err-old.field-0.0 (g.F.Files.shelf c.hold.new.self) (g.F.Files.shelf c.stored_bytes.new.files) (told_fault _ _ _ _ p.1 p.2 is) c.in_err-old.ensures.err.2)
+    (file_failed c.in_err-old.field-0.0 (g.F.Files.shelf c.hold.new.self) (g.F.Files.shelf c.stored_bytes.new.files) (reported_fault _ _ _ _ p.1 p.2 is) c.in_err-old.ensures.err.2)
 
 -- ---- it was not opened
 
@@ -49,7 +49,7 @@ returns-in_err-world-clause-err g c =
 pub returns-in_err-world-clause-device : goal.returns-in_err-world-clause-device
 returns-in_err-world-clause-device g c is =
     let p = err_from_is_err_and c.from_residual-in_err-world.result c.from_residual-in_err-world.ensures.1 in
-    absurd (no_opening_fails c.in_err-world.field-0.0 (told_fault _ _ _ _ p.1 p.2 is))
+    absurd (no_opening_fails c.in_err-world.field-0.0 (reported_fault _ _ _ _ p.1 p.2 is))
 
 -- ---- it stopped among the lines
 
@@ -71,7 +71,7 @@ returns-in_err-answer_all-clause-err g c =
 pub returns-in_err-answer_all-clause-device : goal.returns-in_err-answer_all-clause-device
 returns-in_err-answer_all-clause-device g c is =
     let p = err_from_is_err_and c.from_residual-in_err-answer_all.result c.from_residual-in_err-answer_all.ensures.1 in
-    absurd (no_line_fails c.in_err-answer_all.field-0.0 (told_fault _ _ _ _ p.1 p.2 is))
+    absurd (no_line_fails c.in_err-answer_all.field-0.0 (reported_fault _ _ _ _ p.1 p.2 is))
 
 -- ---- the feed is stored, or not
 
@@ -103,7 +103,7 @@ returns-in_err-keep_feed-clause-err g c =
 pub returns-in_err-keep_feed-clause-device : goal.returns-in_err-keep_feed-clause-device
 returns-in_err-keep_feed-clause-device g c is =
     let p = err_from_is_err_and c.from_residual-in_err-keep_feed.result c.from_residual-in_err-keep_feed.ensures.1 in
-    let device = told_fault _ _ _ _ p.1 p.2 is in
+    let device = reported_fault _ _ _ _ p.1 p.2 is in
     let mid = g.F.Files.shelf c.answer_all.new.files in
     let last = g.F.Files.shelf c.keep_feed.new.files in
     fails_later (g.F.Files.shelf c.args.files.now).failures (g.F.Files.shelf c.hold.new.self).failures (g.F.Files.shelf c.stored_bytes.new.files).failures mid.failures last.failures c.in_ok-hold.ensures.taken.failures c.stored_bytes.ensures.stays.1 c.answer_all.ensures.stays.1

@@ -8,7 +8,7 @@ use Rattle.desk_steps.specs.Desk.{desk}
 use Rattle.desk_script.specs.Script.{Turn, StopsWithin}
 use Rattle.desk_script.specs.Pending.{last_line, progress}
 use Rattle.desk_steps.proofs.Keeping.{keeps_same, keeps_trans}
-use Rattle.desk_script.proofs.Bytes.{on_err, told_fault}
+use Rattle.desk_script.proofs.Bytes.{on_err, reported_fault}
 use Rattle.desk_script.proofs.Carry.{carries_before, carries_more, carries_prefix, carries_end, carries_end_prefix, carries_stop}
 use Rattle.desk_script.proofs.stream.answer_all.Goals as goal
 
@@ -43,7 +43,7 @@ pub returns-in_err-take_bytes-in-Ok-clause-memory : goal.returns-in_err-take_byt
 returns-in_err-take_bytes-in-Ok-clause-memory g c is =
     let p = err_from_is_err_and c.from_residual.result c.from_residual.ensures.1 in
     carries_before (desk c.args.world.now (g.F.Files.shelf c.args.files.now)) (progress c.reads.world (g.F.Files.shelf c.reads.files) (g.W.Write.contents c.reads.writer) c.reads.line.items) (progress c.take_bytes.new.world (g.F.Files.shelf c.take_bytes.new.files) (g.W.Write.contents c.take_bytes.new.writer) c.take_bytes.new.line.items) _ _ _ _ (take c.in-Ok.n c.read.new.buf) c.reads.invariant.carries c.in-Ok.ensures.bytes.0
-    (c.in_err-take_bytes-in-Ok.ensures.memory (ap Err (told_fault _ _ _ _ p.1 p.2 is)))
+    (c.in_err-take_bytes-in-Ok.ensures.memory (ap Err (reported_fault _ _ _ _ p.1 p.2 is)))
 
 pub reads-preserved : goal.reads-preserved
 reads-preserved g c = record {

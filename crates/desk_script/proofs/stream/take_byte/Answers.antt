@@ -8,7 +8,7 @@ use Rattle.desk_steps.specs.Line.{line_of}
 use Rattle.desk_steps.proofs.Keeping.{keeps_same}
 use Rattle.desk_script.specs.Lines.{without_cr}
 use Rattle.desk_script.proofs.Turns.{no_prefix, no_turn}
-use Rattle.desk_script.proofs.Bytes.{on_err, told_fault}
+use Rattle.desk_script.proofs.Bytes.{on_err, reported_fault}
 use Rattle.desk_script.proofs.Carry.{line_prefixes, line_moves, unkept}
 use Rattle.desk_script.proofs.stream.take_byte.Goals as goal
 
@@ -41,5 +41,5 @@ pub returns-in_err-take_line-clause-memory : goal.returns-in_err-take_line-claus
 returns-in_err-take_line-clause-memory g c is more =
     let p = err_from_is_err_and c.from_residual.result c.from_residual.ensures.1 in
     let written = c.in_err-take_line.ensures.fault in
-    let kept = told_fault _ _ _ lines.NoMemory p.1 p.2 is in
+    let kept = reported_fault _ _ _ lines.NoMemory p.1 p.2 is in
     absurd (cc)

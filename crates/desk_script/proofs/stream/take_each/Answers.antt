@@ -7,7 +7,7 @@ use Rattle.desk_script.specs.Pending.{lines_from}
 use Rattle.desk_steps.proofs.Keeping.{keeps_same, keeps_trans}
 use Rattle.std.proofs.lemmas.Result.{err_from_is_err_and}
 use Rattle.std.specs.Prelude.{Err}
-use Rattle.desk_script.proofs.Bytes.{on_err, told_fault}
+use Rattle.desk_script.proofs.Bytes.{on_err, reported_fault}
 use Rattle.desk_script.proofs.Turns.{no_turn, turn_before, turn_turn, turn_prefix}
 use Rattle.desk_script.proofs.stream.take_each.Goals as goal
 
@@ -32,7 +32,7 @@ returns-in_err-take_byte-clause-memory g c is more =
     let p = err_from_is_err_and c.from_residual.result c.from_residual.ensures.1 in
     subst (StopsBefore (desk c.args.world.now (g.F.Files.shelf c.args.files.now)) (g.F.Files.shelf c.take_byte.new.files) (g.W.Write.contents c.args.writer.now) (g.W.Write.contents c.take_byte.new.writer))
     (sym (c.loop-b.invariant.moves.2 more ∙ ap (λ l. c.loop-b.invariant.moves.0 ++ lines_from c.loop-b.line.items (l ++ more)) step))
-    (turn_before _ (desk c.loop-b.world (g.F.Files.shelf c.loop-b.files)) _ _ (g.W.Write.contents c.loop-b.writer) _ c.loop-b.invariant.moves.0 _ c.loop-b.invariant.moves.1 (c.in_err-take_byte.ensures.memory (ap Err (told_fault _ _ _ _ p.1 p.2 is)) (drop (i + 1) c.args.bytes.now ++ more)))
+    (turn_before _ (desk c.loop-b.world (g.F.Files.shelf c.loop-b.files)) _ _ (g.W.Write.contents c.loop-b.writer) _ c.loop-b.invariant.moves.0 _ c.loop-b.invariant.moves.1 (c.in_err-take_byte.ensures.memory (ap Err (reported_fault _ _ _ _ p.1 p.2 is)) (drop (i + 1) c.args.bytes.now ++ more)))
 
 pub loop-b-preserved : goal.loop-b-preserved
 loop-b-preserved g c =

@@ -8,4 +8,4 @@ use Rattle.desk_words.proofs.wishes.wish_of.Goals as goal
 pub returns-in-Some-subcommand_named : goal.returns-in-Some-subcommand_named
 returns-in-Some-subcommand_named c =
     let held : subcommand_rows_of c.args.matches.now ≡ Some (name_of c.in-Some-subcommand_named.subcommand, rows_of (found_of c.in-Some.inner.now)) = search rules in
-    IfOk-weaker c.told.result _ _ (λ o is. wished (subcommand_rows_of c.args.matches.now) c.in-Some-subcommand_named.subcommand (rows_of (found_of c.in-Some.inner.now)) o held is) c.told.ensures
+    IfOk-weaker c.reported.result _ _ (λ o is. wished (subcommand_rows_of c.args.matches.now) c.in-Some-subcommand_named.subcommand (rows_of (found_of c.in-Some.inner.now)) o held is) c.reported.ensures

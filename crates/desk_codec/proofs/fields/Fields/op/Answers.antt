@@ -9,8 +9,8 @@ use Rattle.desk_codec.proofs.fields.Fields.op.Goals as goal
 
 pub returns-clause-ok : goal.returns-clause-ok
 returns-clause-ok c =
-    let told : c.check.result ≡ verdict c.match-self.op = cc in
-    let v : verdict c.match-self.op ≡ Ok tt = sym told ∙ c.in_ok-check.was in
+    let reported : c.check.result ≡ verdict c.match-self.op = cc in
+    let v : verdict c.match-self.op ≡ Ok tt = sym reported ∙ c.in_ok-check.was in
     let back : fields_of c.match-self.op ≡ c.args.self =
     elim c.match-self.branch [
       | in-Insert w ↦ insert_back w.in-Insert.stamp w.in-Insert.parent w.in-Insert.style w.in-Insert.ch c.match-self.op (cc) v ∙ sym w.in-Insert.is

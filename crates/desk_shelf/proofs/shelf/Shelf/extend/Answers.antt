@@ -8,7 +8,7 @@ append-requires-clause-frame g c =
     let s = c.self.inside in
     let v = ap (λ (z : Shelved _). z.pages) c.self.view_is in
     let pages = c.args.self.now.pages in
-    let at = shelf-at g.S.Summary.tells s.cells.items s.heads.items s.free.items s.all c.args.self.now.pages c.args.p c.index-head.result.now v c.self.invariant.0 c.requires.within c.index-head.ensures in
+    let at = shelf-at g.S.Summary.sums_up s.cells.items s.heads.items s.free.items s.all c.args.self.now.pages c.args.p c.index-head.result.now v c.self.invariant.0 c.requires.within c.index-head.ensures in
     omega (arith, at.place, s.cells.ok.0)
 
 pub append-requires-clause-few : goal.append-requires-clause-few
@@ -16,7 +16,7 @@ append-requires-clause-few g c =
     let s = c.self.inside in
     let v = ap (λ (z : Shelved _). z.pages) c.self.view_is in
     let pages = c.args.self.now.pages in
-    let at = shelf-at g.S.Summary.tells s.cells.items s.heads.items s.free.items s.all c.args.self.now.pages c.args.p c.index-head.result.now v c.self.invariant.0 c.requires.within c.index-head.ensures in
+    let at = shelf-at g.S.Summary.sums_up s.cells.items s.heads.items s.free.items s.all c.args.self.now.pages c.args.p c.index-head.result.now v c.self.invariant.0 c.requires.within c.index-head.ensures in
     omega (arith, at.size, c.requires.room)
 
 pub overflow_add-head : goal.overflow_add-head
@@ -24,7 +24,7 @@ overflow_add-head g c =
     let s = c.self.inside in
     let v = ap (λ (z : Shelved _). z.pages) c.self.view_is in
     let pages = c.args.self.now.pages in
-    let at = shelf-at g.S.Summary.tells s.cells.items s.heads.items s.free.items s.all c.args.self.now.pages c.args.p c.index-head.result.now v c.self.invariant.0 c.requires.within c.index-head.ensures in
+    let at = shelf-at g.S.Summary.sums_up s.cells.items s.heads.items s.free.items s.all c.args.self.now.pages c.args.p c.index-head.result.now v c.self.invariant.0 c.requires.within c.index-head.ensures in
     omega (arith, at.size, c.requires.room)
 
 pub items_of-whole-requires-clause-within : goal.items_of-whole-requires-clause-within
@@ -32,7 +32,7 @@ items_of-whole-requires-clause-within g c =
     let s = c.self.inside in
     let v = ap (λ (z : Shelved _). z.pages) c.self.view_is in
     let pages = c.args.self.now.pages in
-    let at = shelf-at g.S.Summary.tells s.cells.items s.heads.items s.free.items s.all c.args.self.now.pages c.args.p c.index-head.result.now v c.self.invariant.0 c.requires.within c.index-head.ensures in
+    let at = shelf-at g.S.Summary.sums_up s.cells.items s.heads.items s.free.items s.all c.args.self.now.pages c.args.p c.index-head.result.now v c.self.invariant.0 c.requires.within c.index-head.ensures in
     omega (arith, at.place, s.cells.ok.0, c.deref.ensures.len, c.append.ensures.len, c.append.new.cells.ok.0)
 
 pub items_of-whole-requires-clause-few : goal.items_of-whole-requires-clause-few
@@ -40,7 +40,7 @@ items_of-whole-requires-clause-few g c =
     let s = c.self.inside in
     let v = ap (λ (z : Shelved _). z.pages) c.self.view_is in
     let pages = c.args.self.now.pages in
-    let at = shelf-at g.S.Summary.tells s.cells.items s.heads.items s.free.items s.all c.args.self.now.pages c.args.p c.index-head.result.now v c.self.invariant.0 c.requires.within c.index-head.ensures in
+    let at = shelf-at g.S.Summary.sums_up s.cells.items s.heads.items s.free.items s.all c.args.self.now.pages c.args.p c.index-head.result.now v c.self.invariant.0 c.requires.within c.index-head.ensures in
     omega (arith, at.size, c.requires.room)
 
 pub head_of-requires : goal.head_of-requires
@@ -48,7 +48,7 @@ head_of-requires g c =
     let s = c.self.inside in
     let v = ap (λ (z : Shelved _). z.pages) c.self.view_is in
     let pages = c.args.self.now.pages in
-    let at = shelf-at g.S.Summary.tells s.cells.items s.heads.items s.free.items s.all c.args.self.now.pages c.args.p c.index-head.result.now v c.self.invariant.0 c.requires.within c.index-head.ensures in
+    let at = shelf-at g.S.Summary.sums_up s.cells.items s.heads.items s.free.items s.all c.args.self.now.pages c.args.p c.index-head.result.now v c.self.invariant.0 c.requires.within c.index-head.ensures in
     omega (arith, at.size, c.requires.room, c.items_of-whole.ensures.len)
 
 pub invariant_of-self : goal.invariant_of-self
@@ -56,11 +56,11 @@ invariant_of-self g c =
     let s = c.self.inside in
     let v = ap (λ (z : Shelved _). z.pages) c.self.view_is in
     let pages = c.args.self.now.pages in
-    let at = shelf-at g.S.Summary.tells s.cells.items s.heads.items s.free.items s.all c.args.self.now.pages c.args.p c.index-head.result.now v c.self.invariant.0 c.requires.within c.index-head.ensures in
+    let at = shelf-at g.S.Summary.sums_up s.cells.items s.heads.items s.free.items s.all c.args.self.now.pages c.args.p c.index-head.result.now v c.self.invariant.0 c.requires.within c.index-head.ensures in
     let read = rw c.deref.ensures.value at c.items_of-whole.ensures.is in
     let y = c.items_of-whole.result.now in
     let put : y ≡ get_or pages c.args.p [] ++ c.args.items.now = read ∙ c.append.ensures.put ∙ ap (λ (z : List _). z ++ c.args.items.now) (sym at.page) in
-    let done = shelf-renew g.S.Summary.tells s.cells.items c.append.new.cells.items s.heads.items s.free.items s.all pages c.args.p (c.index-head.result.now.len + length c.args.items.now) c.index-head.result.now c.head_of.result y c.append.new.cells.items v c.self.invariant.0 c.requires.within c.index-head.ensures c.append.ensures.others refl read c.items_of-whole.ensures.len (omega (arith, at.size, c.requires.room)) c.head_of.ensures.frame c.head_of.ensures.len c.head_of.ensures.tells c.head_of.ensures.last in
+    let done = shelf-renew g.S.Summary.sums_up s.cells.items c.append.new.cells.items s.heads.items s.free.items s.all pages c.args.p (c.index-head.result.now.len + length c.args.items.now) c.index-head.result.now c.head_of.result y c.append.new.cells.items v c.self.invariant.0 c.requires.within c.index-head.ensures c.append.ensures.others refl read c.items_of-whole.ensures.len (omega (arith, at.size, c.requires.room)) c.head_of.ensures.frame c.head_of.ensures.len c.head_of.ensures.sums_up c.head_of.ensures.last in
     (done.0, c.self.invariant.1, omega (arith, c.self.invariant.2, c.append.ensures.capacity), c.self.invariant.3)
 
 pub returns-clause-put : goal.returns-clause-put
@@ -68,9 +68,9 @@ returns-clause-put g c =
     let s = c.self.inside in
     let v = ap (λ (z : Shelved _). z.pages) c.self.view_is in
     let pages = c.args.self.now.pages in
-    let at = shelf-at g.S.Summary.tells s.cells.items s.heads.items s.free.items s.all c.args.self.now.pages c.args.p c.index-head.result.now v c.self.invariant.0 c.requires.within c.index-head.ensures in
+    let at = shelf-at g.S.Summary.sums_up s.cells.items s.heads.items s.free.items s.all c.args.self.now.pages c.args.p c.index-head.result.now v c.self.invariant.0 c.requires.within c.index-head.ensures in
     let read = rw c.deref.ensures.value at c.items_of-whole.ensures.is in
     let y = c.items_of-whole.result.now in
     let put : y ≡ get_or pages c.args.p [] ++ c.args.items.now = read ∙ c.append.ensures.put ∙ ap (λ (z : List _). z ++ c.args.items.now) (sym at.page) in
-    let done = shelf-renew g.S.Summary.tells s.cells.items c.append.new.cells.items s.heads.items s.free.items s.all pages c.args.p (c.index-head.result.now.len + length c.args.items.now) c.index-head.result.now c.head_of.result y c.append.new.cells.items v c.self.invariant.0 c.requires.within c.index-head.ensures c.append.ensures.others refl read c.items_of-whole.ensures.len (omega (arith, at.size, c.requires.room)) c.head_of.ensures.frame c.head_of.ensures.len c.head_of.ensures.tells c.head_of.ensures.last in
+    let done = shelf-renew g.S.Summary.sums_up s.cells.items c.append.new.cells.items s.heads.items s.free.items s.all pages c.args.p (c.index-head.result.now.len + length c.args.items.now) c.index-head.result.now c.head_of.result y c.append.new.cells.items v c.self.invariant.0 c.requires.within c.index-head.ensures c.append.ensures.others refl read c.items_of-whole.ensures.len (omega (arith, at.size, c.requires.room)) c.head_of.ensures.frame c.head_of.ensures.len c.head_of.ensures.sums_up c.head_of.ensures.last in
     done.1 ∙ ap (λ (z : List _). set pages c.args.p z) put

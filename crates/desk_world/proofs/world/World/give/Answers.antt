@@ -1,8 +1,9 @@
 use Rattle.std.proofs.Common.{◌≡◌, false, true, rules, sym, subst}
 use Rattle.std.specs.Prelude.{is_some}
 use Rattle.std.specs.FinMap as fin
+use Rattle.desk_ops.proofs.Lists.{none_of}
 use Rattle.desk_world.proofs.Sites.{is_there}
-use Rattle.desk_world.proofs.Kept.{no_site, strange, given, none_from}
+use Rattle.desk_world.proofs.Kept.{no_site, strange, given}
 use Rattle.desk_world.specs.Sites.{all_held}
 use Rattle.desk_world.specs.World.{Steps}
 use Rattle.desk_world.specs.World as events
@@ -11,7 +12,7 @@ use Rattle.desk_world.proofs.world.World.give.Goals as goal
 pub returns-then-not-contains_key : goal.returns-then-not-contains_key
 returns-then-not-contains_key g c =
     let there : fin.contains_key c.args.self.now c.args.to ≡ false = is_there c.self.inside.sites.entries c.args.to c.args.self.now false c.self.view_is (search rules) in
-    no_site c.args.self.now c.args.to c.args.ops.now (none_from _ there)
+    no_site c.args.self.now c.args.to c.args.ops.now (none_of _ there)
 
 pub returns-then-not-all_held : goal.returns-then-not-all_held
 returns-then-not-all_held g c =

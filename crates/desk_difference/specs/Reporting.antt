@@ -1,0 +1,28 @@
+-- The difference of two stored feeds, written as text.
+use Rattle.std.specs.Prelude.{◌≡◌, ℕ, Bool, List, Option}
+use Rattle.std.specs.Io.KnownBytes.{Appends}
+use Rattle.desk_ops.specs.OpSet.{OpSet}
+use Rattle.desk_files.specs.Files.{Shelf}
+use Rattle.desk_stored.specs.Sending.{WritesPrefix}
+use Rattle.desk_hand.specs.Exporting.{IsClosedBy, IsSetOf}
+use Rattle.desk_difference.specs.Reported.{Reports}
+use Rattle.desk_difference.specs.declared.fault.DifferenceFault.{DifferenceFault}
+use Rattle.desk_difference.specs.declared.fault.DifferenceFault.TheVariants as faults
+
+-- what is said of the sets that two names stand for
+abbrev pub IsDifference : List ℕ → List ℕ → Shelf → List ℕ → Bool → Type 0
+IsDifference one other shelf reported same =
+    (first second : OpSet) × IsSetOf one shelf first × IsSetOf other shelf second × Reports one other first second reported same
+
+-- it was written
+abbrev pub IsReported : List ℕ → List ℕ → Shelf → Option (List ℕ) → Option (List ℕ) → Bool → Type 0
+IsReported one other shelf before after same = (reported : List ℕ) × IsDifference one other shelf reported same × Appends before after reported
+
+-- why not all of it was written, and what was: nothing, or under Write a prefix. Write and out of memory come where both feeds were opened and no file call failed
+abbrev pub IsUnreported : List ℕ → List ℕ → Shelf → Shelf → Option (List ℕ) → Option (List ℕ) → DifferenceFault → Type 0
+IsUnreported one other first last before after (faults.One why) = (after ≡ before) × IsClosedBy one first last why
+IsUnreported one other first last before after (faults.Other why) =
+    (after ≡ before) × (set : OpSet) × IsSetOf one first set × IsClosedBy other first last why
+IsUnreported one other first last before after faults.Write = (last.failures ≡ first.failures) × (reported : List ℕ) × (same : Bool) × IsDifference one other first reported same × WritesPrefix before after reported
+IsUnreported one other first last before after faults.NoMemory =
+    (after ≡ before) × (last.failures ≡ first.failures) × (set others : OpSet) × IsSetOf one first set × IsSetOf other first others

@@ -1,0 +1,196 @@
+//! What is reported of a run that stopped.
+
+ghost use Rattle.std.specs.Prelude.{◌≡◌, ◌↔◌, ◌⊎◌, MatchResult};
+ghost use Rattle.std.specs.IoError.{error_kind};
+
+use desk_codec::FeedFault;
+use desk_files::FileRefusal;
+use desk_hand::{FeedTrouble, MAX_TEXT};
+use desk_host::Explains;
+use desk_script::RunFault;
+use std::fmt::Display;
+use std::io::{self, ErrorKind, Write};
+
+/// Writes what stopped a run, and gives the status of it.
+pub fn stopped<E: Write>(faults: &mut E, fault: RunFault) -> u8
+    ensures { result ≡ 1 }
+{
+    let _ = writeln!(faults, "copydesk: {fault}");
+    1
+}
+
+/// The status of a run.
+pub fn status_of<E: Write>(faults: &mut E, outcome: Result<(), RunFault>) -> u8
+    ensures { MatchResult outcome (λ _. result ≡ 0) (λ _. result ≡ 1) }
+{
+    match outcome {
+        Ok(()) => 0,
+        Err(fault) => stopped(faults, fault),
+    }
+}
+
+/// Writes a second line on what stopped a run on a feed: which file, what was asked of it, and the cause.
+pub fn explain<E: Write, F: Explains>(
+    faults: &mut E,
+    files: &F,
+    feed: &str,
+    outcome: Result<(), RunFault>,
+) {
+    let _ = match outcome {
+        Ok(()) => Ok(()),
+        Err(RunFault::Read) => writeln!(faults, "standard input: it cannot be read"),
+        Err(RunFault::Write) => writeln!(faults, "standard output: it cannot be written"),
+        Err(RunFault::TooLong) => writeln!(faults, "standard input: it has no end"),
+        Err(RunFault::NoMemory) => writeln!(faults, "{feed}: out of memory"),
+        Err(RunFault::Feed(fault)) => {
+            let (at, why) = (fault.at, fault.why);
+            writeln!(faults, "{feed}: byte {at}: {why}")
+        }
+        Err(RunFault::File(_)) => files.explain(feed, faults),
+        Err(RunFault::Opening(_)) => {
+            writeln!(
+                faults,
+                "{feed}: it has more operations than a desk can hold"
+            )
+        }
+    };
+}
+
+/// The status of a run on a feed. Where it is asked why, a second line says it.
+pub fn status_on<E: Write, F: Explains>(
+    faults: &mut E,
+    files: &F,
+    feed: &str,
+    why: bool,
+    outcome: Result<(), RunFault>,
+) -> u8
+    ensures { MatchResult outcome (λ _. result ≡ 0) (λ _. result ≡ 1) }
+{
+    let status = status_of(faults, outcome);
+    if why {
+        explain(faults, files, feed, outcome);
+    }
+    status
+}
+
+/// What stopped something, as its second line says it: which file, and the cause.
+#[derive(Clone, Copy)]
+pub enum Cause<'a> {
+    /// The first line says all.
+    Reported,
+    /// Memory ran out over this feed.
+    NoMemory(&'a str),
+    /// A call failed of this file.
+    File(&'a str),
+    /// The bytes of this file are no feed.
+    Feed(&'a str, FeedFault),
+    /// With the operations of this feed there would be more than a desk can hold.
+    Full(&'a str),
+    /// The text does not fit into this feed.
+    Text(&'a str),
+    /// Standard input failed.
+    Input,
+    /// Standard input has too many bytes.
+    TooLong,
+    /// Standard output failed.
+    Output,
+}
+
+/// The cause where a file was refused.
+pub fn file_cause<'a>(name: &'a str, why: FileRefusal) -> Cause<'a> {
+    match why {
+        FileRefusal::NoMemory => Cause::NoMemory(name),
+        _ => Cause::File(name),
+    }
+}
+
+/// The cause where the feed of a file does not come in.
+pub fn feed_cause<'a>(feed: &'a str, why: FeedTrouble) -> Cause<'a> {
+    match why {
+        FeedTrouble::File(refusal) => file_cause(feed, refusal),
+        FeedTrouble::Feed(fault) => Cause::Feed(feed, fault),
+        FeedTrouble::Full => Cause::Full(feed),
+        FeedTrouble::NoMemory => Cause::NoMemory(feed),
+    }
+}
+
+/// Writes a line on a cause.
+fn explain_cause<E: Write, F: Explains>(
+    faults: &mut E,
+    files: &F,
+    cause: Cause<'_>,
+) -> io::Result<()> {
+    match cause {
+        Cause::Reported => Ok(()),
+        Cause::NoMemory(feed) => writeln!(faults, "{feed}: out of memory"),
+        Cause::File(name) => files.explain(name, faults),
+        Cause::Feed(feed, fault) => {
+            let (at, why) = (fault.at, fault.why);
+            writeln!(faults, "{feed}: byte {at}: {why}")
+        }
+        Cause::Full(feed) => {
+            writeln!(
+                faults,
+                "{feed}: with its operations there would be more than a desk can hold"
+            )
+        }
+        Cause::Text(feed) => writeln!(faults, "{feed}: the text does not fit into it"),
+        Cause::Input => writeln!(faults, "standard input: it cannot be read"),
+        Cause::TooLong => writeln!(faults, "standard input: it has more than {MAX_TEXT} bytes"),
+        Cause::Output => writeln!(faults, "standard output: it cannot be written"),
+    }
+}
+
+/// Writes a line on why the feed of a file does not come in: the file, and the cause.
+pub fn explain_feed<E: Write, F: Explains>(
+    faults: &mut E,
+    files: &F,
+    feed: &str,
+    why: FeedTrouble,
+) -> io::Result<()> {
+    explain_cause(faults, files, feed_cause(feed, why))
+}
+
+/// Writes a line on a fault and a second one on its cause, and gives the status of it. Out of memory is reported as such,
+/// whatever it was wanted for.
+pub fn reported<E: Write, F: Explains, T: Display>(
+    faults: &mut E,
+    files: &F,
+    fault: &T,
+    cause: Cause<'_>,
+) -> u8
+    ensures { result ≡ 1 }
+{
+    let _ = match cause {
+        Cause::NoMemory(_) => writeln!(faults, "copydesk: {}", RunFault::NoMemory),
+        _ => writeln!(faults, "copydesk: {fault}"),
+    };
+    let _ = explain_cause(faults, files, cause);
+    1
+}
+
+/// Writes two lines on memory that ran out over a file.
+pub fn report_no_memory<E: Write>(faults: &mut E, name: &str) {
+    let _ = writeln!(faults, "copydesk: {}", RunFault::NoMemory);
+    let _ = writeln!(faults, "{name}: out of memory");
+}
+
+/// Writes two lines on a target that would take the place of what it is made of: its name, and what it would be.
+pub fn report_target<E: Write>(faults: &mut E, target: &str, made: &str) {
+    let _ = writeln!(faults, "copydesk: {}", RunFault::File(FileRefusal::Device));
+    let _ = writeln!(faults, "{target}: the {made} would take its place");
+}
+
+/// Says why the words could not be read, and gives the status of it: 1 where memory ran out, as of a run, and else 2, as of
+/// words that `clap` refuses. A failure to write the line changes no status.
+pub fn unread<E: Write>(faults: &mut E, error: &io::Error) -> u8
+    ensures within { (result ≡ 1) ⊎ (result ≡ 2) }
+    ensures memory { (result ≡ 1) ↔ (error_kind error.now ≡ ErrorKind.OutOfMemory) }
+{
+    if error.kind() == ErrorKind::OutOfMemory {
+        let _ = writeln!(faults, "copydesk: {}", RunFault::NoMemory);
+        return 1;
+    }
+    let _ = writeln!(faults, "error: a word of the command line is not UTF-8");
+    2
+}
