@@ -1,6 +1,7 @@
 //! Characters as they are written in XML.
 
 ghost use Rattle.std.specs.Prelude.{◌≡◌, ◌++◌, OnOk, string_bytes};
+ghost use Rattle.std.specs.Io.{StartsWith};
 ghost use Rattle.desk_svg.specs.Escape.{allowed, escaped_char, is_allowed};
 
 use std::alloc::{AllocError, Allocator};
@@ -22,8 +23,10 @@ fn allowed(ch: char) -> char
 
 /// Writes a character at the end as it stands in a text of XML, or between the quotes of an attribute: `&`, `<`, `>` and `"`
 /// by their names, and U+FFFD in place of a character that XML 1.0 does not allow. It fails only where memory runs out.
+#[tactic(auto, using(crate::proofs::Prefixes::prefixes))]
 pub fn put_escaped<A: Allocator + Copy>(out: &mut String<A>, ch: char) -> Result<(), AllocError>
-    ensures { OnOk result (string_bytes out.new ≡ string_bytes out.old ++ escaped_char ch) }
+    ensures text { OnOk result (string_bytes out.new ≡ string_bytes out.old ++ escaped_char ch) }
+    ensures prefix { StartsWith (string_bytes out.new) (string_bytes out.old) }
 {
     match ch {
         '&' => out.push_str("&amp;"),
