@@ -103,3 +103,14 @@ impl<A: Allocator + Copy> From<Answer> for Reply<A> {
         }
     }
 }
+
+impl<A: Allocator + Copy> From<NotDone> for Reply<A> {
+    ghost from_gives = { λ end reply. reply_values reply ≡ reply_of end };
+
+    fn from(end: NotDone) -> Reply<A> {
+        match end {
+            NotDone::Failed(why) => Reply::Refused(Refusal::from(why)),
+            NotDone::Stopped(taken, why) => Reply::Stopped(taken, why),
+        }
+    }
+}

@@ -2,7 +2,7 @@
 #![tactic(auto)]
 
 ghost use Rattle.std.specs.Prelude.{◌≡◌, All, IfOk};
-ghost use Rattle.desk_answers.specs.NotDone.{event_reply, reply_of};
+ghost use Rattle.desk_answers.specs.NotDone.{event_reply};
 ghost use Rattle.desk_answers.specs.Reply.{reply_values};
 ghost use Rattle.desk_plays.specs.Line.{GivesLawful};
 ghost use Rattle.desk_world.specs.World.{IsSound, event_values};
@@ -10,7 +10,7 @@ ghost use Rattle.desk_world.specs.World.{IsSound, event_values};
 mod line;
 
 use anyhow::{bail, ensure};
-use desk_answers::{NotDone, Refusal, Reply, put};
+use desk_answers::{NotDone, Reply, put};
 use desk_blocks::Blocks;
 use desk_codec::read_feed;
 use desk_commands::{Command, parse};
@@ -58,23 +58,13 @@ fn events_of(alloc: Global, lines: &[Line]) -> Result<Vec<Event<'_>>, AllocError
     Ok(events)
 }
 
-/// The answer to what was not done.
-fn reply_of(end: NotDone) -> Reply<Global>
-    ensures { reply_values result ≡ reply_of end }
-{
-    match end {
-        NotDone::Failed(why) => Reply::Refused(Refusal::from(why)),
-        NotDone::Stopped(taken, why) => Reply::Stopped(taken, why),
-    }
-}
-
 /// The answer to what an event returned.
 fn answer_of(returned: Result<Answer, StepRefusal>) -> Reply<Global>
     ensures { reply_values result ≡ event_reply returned }
 {
     match returned {
         Ok(answer) => Reply::from(answer),
-        Err(why) => reply_of(NotDone::from(why)),
+        Err(why) => Reply::from(NotDone::from(why)),
     }
 }
 

@@ -52,7 +52,6 @@ pub fn answer<F: Files, A: Allocator + Copy>(
 {
     match do_line(memory, world, files, line) {
         Ok(reply) => reply,
-        Err(NotDone::Failed(why)) => Reply::Refused(Refusal::from(why)),
-        Err(NotDone::Stopped(taken, why)) => Reply::Stopped(taken, why),
+        Err(end) => Reply::from(end),
     }
 }
