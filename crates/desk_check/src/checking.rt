@@ -9,9 +9,9 @@ ghost use Rattle.desk_check.specs.Words.{refusal_words};
 use crate::fault::CheckFault;
 use crate::reported::{Reported, reported_of};
 use desk_files::{FileRefusal, Files};
-use desk_hand::write_out;
 use desk_inputs::Memory;
 use desk_memory::NoMemory;
+use desk_stored::write_out;
 use std::alloc::Allocator;
 use std::io::Write;
 

@@ -7,7 +7,8 @@ ghost use Rattle.desk_difference.specs.Reporting.{IsReported, IsUnreported};
 use crate::fault::DifferenceFault;
 use crate::reported::reported_of;
 use desk_files::Files;
-use desk_hand::{open_feed, write_out};
+use desk_hand::open_feed;
+use desk_stored::write_out;
 use std::alloc::Allocator;
 use std::io::Write;
 

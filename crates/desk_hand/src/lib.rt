@@ -9,7 +9,6 @@ mod importing;
 mod keeping;
 mod merging;
 
-pub use desk_stored::write_out;
 pub use editing::{Tally, revise};
 pub use exporting::{export_feed, open_feed};
 pub use fault::{

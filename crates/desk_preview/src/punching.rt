@@ -10,10 +10,10 @@ use crate::fault::{LineFault, PreviewFault};
 use crate::sources::take_in;
 use desk_answers::{Reply, put};
 use desk_files::{Files, store};
-use desk_hand::write_out;
 use desk_inputs::Memory;
 use desk_job::{JobFaults, JobRefusal, make};
 use desk_memory::NoMemory;
+use desk_stored::write_out;
 use std::alloc::Allocator;
 use std::io::Write;
 

@@ -5,9 +5,9 @@ ghost use Rattle.desk_places.specs.Places.{places_of};
 ghost use Rattle.desk_replace.specs.Reporting.{IsReported};
 
 use crate::fault::PlaceFault;
-use desk_hand::write_out;
 use desk_ops::Symbol;
 use desk_places::{places_of, reported_places};
+use desk_stored::write_out;
 use std::alloc::Allocator;
 use std::io::Write;
 

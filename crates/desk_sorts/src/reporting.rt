@@ -13,10 +13,10 @@ use crate::sources::take_in;
 use desk_blocks::Blocks;
 use desk_case::MatrixCase;
 use desk_files::Files;
-use desk_hand::write_out;
 use desk_inputs::Memory;
 use desk_memory::NoMemory;
 use desk_replica::Replica;
+use desk_stored::write_out;
 use std::alloc::Allocator;
 use std::io::Write;
 
