@@ -8,15 +8,13 @@ use crate::reported::Reported;
 use desk_answers::{Reply, put};
 use desk_blocks::Blocks;
 use desk_codec::{FeedFault, FeedWhy};
+use desk_hand::ANY_SITE;
 use desk_held::LIMIT;
 use desk_memory::NoMemory;
 use desk_ops::Unlawful;
 use desk_replica::Replica;
 use desk_stored::{OpenFault, open_replica};
 use std::alloc::{AllocError, Allocator};
-
-/// A replica has a number, and where nothing is edited any will do.
-const ANY_SITE: u16 = 1;
 
 fn cause_words(cause: Unlawful) -> &'static str
     ensures { result.now ≡ cause_words cause }

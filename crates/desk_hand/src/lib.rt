@@ -17,4 +17,4 @@ pub use fault::{
 };
 pub use importing::{MAX_TEXT, import_text};
 pub use keeping::report_and_keep;
-pub use merging::{merge_feeds, take_feed};
+pub use merging::{ANY_SITE, merge_feeds, take_feed};
