@@ -95,7 +95,7 @@ image_words (images.Row why) = row_words why
 abbrev pub row_fault_words : ℕ → BadImage → List ℕ
 row_fault_words place why = codes "row " ++ decimal place ++ codes ": " ++ image_words why
 
--- the fault of a ribbon; of out of memory nothing is said
+-- the fault of a ribbon; where memory ran out, nothing is written
 abbrev pub ribbon_fault_words : RibbonFault → Option (List ℕ)
 ribbon_fault_words ribbons.Magic = Some (codes "no ribbon begins so")
 ribbon_fault_words ribbons.Count = Some (codes "it has not as many rows as it says")
@@ -130,7 +130,7 @@ count_words q = codes " (" ++ decimal q ++ codes " quarter points)"
 abbrev pub set_q_words : ℕ → List ℕ
 set_q_words q = points_words q ++ count_words q
 
--- the fault of a wedge file; of out of memory nothing is said
+-- the fault of a wedge file; where memory ran out, nothing is written
 abbrev pub wedge_fault_words : WedgeFault → Option (List ℕ)
 wedge_fault_words wedges.NotToml = Some (codes "it is not TOML")
 wedge_fault_words (wedges.Missing key) = Some (codes "`" ++ wedge_files.key_name key ++ codes "` is missing")
@@ -173,7 +173,7 @@ abbrev pub doubled_words : List Cell → Symbol → List ℕ
 doubled_words [] symbol = twice_words symbol
 doubled_words (first ∷ rest) symbol = doubled_from first rest symbol
 
--- the fault of a case file, with the cells that hold its symbol; of out of memory nothing is said
+-- the fault of a case file, with the cells that hold its symbol; where memory ran out, nothing is written
 abbrev pub case_fault_words : List Cell → CaseFault → Option (List ℕ)
 case_fault_words holders cases.NotToml = Some (codes "it is not TOML")
 case_fault_words holders (cases.Missing key) = Some (codes "`" ++ case_files.key_name key ++ codes "` is missing")
@@ -200,7 +200,7 @@ case_words cells holders (Err fault) = option_map (λ words. codes "case refused
 
 -- ---- others
 
--- a file that was not read; of out of memory nothing is said
+-- a file that was not read; where memory ran out, nothing is written
 abbrev pub refusal_words : FileRefusal → Option (List ℕ)
 refusal_words refusals.Missing = Some (codes "no file")
 refusal_words refusals.Device = Some (codes "file fault")

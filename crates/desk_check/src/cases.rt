@@ -150,8 +150,8 @@ fn put_doubled<A: Allocator + Copy>(
     put_doubled_from(out, symbol, *first, rest)
 }
 
-/// Writes the first fault of a case file, with its key, its cell, or its symbol and the cells that hold it. Of out of
-/// memory nothing is written.
+/// Writes the first fault of a case file, with its key, its cell, or its symbol and the cells that hold it. Where
+/// the fault is that memory ran out, nothing is written.
 fn put_case_fault<A: Allocator + Copy>(
     out: &mut String<A>,
     fault: CaseFault,

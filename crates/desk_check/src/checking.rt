@@ -15,7 +15,7 @@ use desk_stored::write_out;
 use std::alloc::Allocator;
 use std::io::Write;
 
-/// Why a file was not read. Out of memory has no words.
+/// Why a file was not read. Where memory ran out, nothing is written.
 fn refusal_words(why: FileRefusal) -> Option<&'static str>
     ensures { option_map (λ w. w.now) result ≡ refusal_words why }
 {
@@ -69,7 +69,7 @@ fn look<F: Files, A: Allocator + Copy>(
     ))
 }
 
-/// Writes the line of a file, and answers whether it is in order.
+/// Writes the line of a file, and returns whether it is in order.
 fn check_file<W: Write, F: Files, A: Allocator + Copy>(
     memory: Memory<A>,
     writer: &mut W,

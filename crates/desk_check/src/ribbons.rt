@@ -45,7 +45,8 @@ fn put_row_fault<A: Allocator + Copy>(
     out.push_str(image_words(why))
 }
 
-/// Writes the first fault of a ribbon, with the place of its row. Of out of memory nothing is written.
+/// Writes the first fault of a ribbon, with the place of its row. Where the fault is that memory ran out, nothing is
+/// written.
 fn put_ribbon_fault<A: Allocator + Copy>(
     out: &mut String<A>,
     fault: RibbonFault,

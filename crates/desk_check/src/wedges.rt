@@ -72,7 +72,8 @@ fn put_wedge<A: Allocator + Copy>(out: &mut String<A>, wedge: &Wedge) -> Result<
     out.push_str(pica_word(wedge.pica()))
 }
 
-/// Writes the first fault of a wedge file, with its key or its row. Of out of memory nothing is written.
+/// Writes the first fault of a wedge file, with its key or its row. Where the fault is that memory ran out, nothing is
+/// written.
 fn put_wedge_fault<A: Allocator + Copy>(
     out: &mut String<A>,
     fault: WedgeFault,

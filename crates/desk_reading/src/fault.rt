@@ -28,7 +28,7 @@ pub enum SourcesFault {
 #[derive(Clone, Copy, Debug, PartialEq, Eq, Error)]
 pub enum ReadingFault {
     /// The ribbon's file is not read, for another cause than memory: `MAX_FILE` bytes are the most.
-    #[error("{0}")]
+    #[error("file fault")]
     Ribbon(FileRefusal),
     /// The case or the wedge is not read, or is refused.
     #[error("input refused")]
