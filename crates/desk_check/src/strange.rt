@@ -7,6 +7,9 @@ use crate::reported::Reported;
 use desk_memory::NoMemory;
 use std::alloc::{AllocError, Allocator, Global};
 
+/// What is said of bytes of no kind, before the line where they are no document.
+const STRANGE: &str = "neither a feed, a ribbon, a case nor a wedge";
+
 /// How many line feeds bytes have.
 fn line_feeds(bytes: &[u8]) -> usize
     ensures value { result ≡ line_feeds bytes.now }
@@ -54,7 +57,7 @@ fn no_kind_reported<A: Allocator + Copy>(alloc: A) -> Result<Reported<A>, NoMemo
     ensures text { IfOk result (λ t. string_bytes t.text ≡ strange_words) }
     ensures well { IfOk result (λ t. t.well ≡ false) }
 {
-    let text = String::from_str(alloc, "neither a feed, a ribbon, a case nor a wedge")?;
+    let text = String::from_str(alloc, STRANGE)?;
     Ok(Reported { text, well: false })
 }
 
@@ -63,7 +66,7 @@ fn no_document_reported<A: Allocator + Copy>(alloc: A, line: usize) -> Result<Re
     ensures text { IfOk result (λ t. string_bytes t.text ≡ strange_words ++ line_words line) }
     ensures well { IfOk result (λ t. t.well ≡ false) }
 {
-    let mut text = String::from_str(alloc, "neither a feed, a ribbon, a case nor a wedge")?;
+    let mut text = String::from_str(alloc, STRANGE)?;
     put_line(&mut text, line)?;
     Ok(Reported { text, well: false })
 }
