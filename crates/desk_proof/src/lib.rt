@@ -8,7 +8,7 @@ mod parts;
 mod proof;
 mod scale;
 
-pub use faults::{cause, put_cause};
+pub use faults::{cause, meaning, put_cause};
 pub use lacking::{put_around, put_code, put_name};
 pub use parts::{
     begin_of, put_left, put_number, put_points_down, put_points_up, put_right, put_symbols,
