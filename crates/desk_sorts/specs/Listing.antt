@@ -13,7 +13,7 @@ use Rattle.desk_sorts.specs.Places.{cell_for, lacks, places_of}
 
 -- ---- what a case has for a sort
 
--- it can be cast from no cell of the case
+-- its symbol is one that the case lacks
 abbrev pub is_missing : CaseValues → Sort → Bool
 is_missing case sort = lacks case sort.symbol
 

@@ -14,7 +14,7 @@ use desk_signals::Cell;
 use itoa::Buffer;
 use std::alloc::{AllocError, Allocator};
 
-/// Whether a sort can be cast from no cell of the case.
+/// Whether the symbol of a sort is one that the case lacks.
 fn is_missing(case: &MatrixCase, sort: Sort) -> bool
     ensures { result ≡ is_missing case.now sort }
 {
