@@ -18,7 +18,7 @@ is_followed stamp (Some after) = follows stamp after
 abbrev pub site_words : ℕ → List ℕ
 site_words site = decimal site ++ codes ": "
 
--- what stands in front of the first counter of a run: a space, and where it is the first of its site, this
+-- what stands before the first counter of a run: a space, and where it is the first of its site, this
 abbrev pub lead : Option SiteStamp → SiteStamp → List ℕ
 lead None stamp = codes " " ++ site_words stamp.site
 lead (Some before) stamp = if before.site == stamp.site then codes " " else codes ", " ++ site_words stamp.site

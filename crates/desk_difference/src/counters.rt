@@ -33,7 +33,7 @@ fn is_followed(stamp: SiteStamp, after: Option<SiteStamp>) -> bool
     }
 }
 
-/// Writes what stands in front of the first counter of a run at the end.
+/// Writes what stands before the first counter of a run at the end.
 fn put_lead<A: Allocator + Copy>(
     out: &mut String<A>,
     before: Option<SiteStamp>,

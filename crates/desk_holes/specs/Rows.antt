@@ -83,15 +83,15 @@ abbrev pub number_text : ℕ → ℕ → List ℕ
 number_text y place = number_place y ++ number_value place
 
 -- what it means, at its right
-unfoldable pub reported_place : ℕ → List ℕ
-reported_place y = between (codes "<text class=\"m\" x=\"477\" y=\"") (y + 3) (codes "\">")
+unfoldable pub meaning_place : ℕ → List ℕ
+meaning_place y = between (codes "<text class=\"m\" x=\"477\" y=\"") (y + 3) (codes "\">")
 
-abbrev pub reported_text : CaseValues → ℕ → RibbonRow → List ℕ
-reported_text case y row = reported_place y ++ (meaning_text case row ++ text_end)
+abbrev pub meaning_at : CaseValues → ℕ → RibbonRow → List ℕ
+meaning_at case y row = meaning_place y ++ (meaning_text case row ++ text_end)
 
 -- a row that stands so far down
 abbrev pub row_at : CaseValues → ℕ → ℕ → RibbonRow → List ℕ
-row_at case y place row = number_text y place ++ (holes_text y (signals_of row) ++ reported_text case y row)
+row_at case y place row = number_text y place ++ (holes_text y (signals_of row) ++ meaning_at case y row)
 
 abbrev pub row_text : CaseValues → ℕ → ℕ → RibbonRow → List ℕ
 row_text case count place row = row_at case (y_of count place) place row

@@ -4,7 +4,7 @@ ghost use Rattle.std.specs.Prelude.{◌≡◌, ◌++◌, ◌+◌, ◌<◌, ◌^�
 ghost use Rattle.std.specs.Fmt.{decimal};
 ghost use Rattle.desk_case.specs.Case.{symbol_at};
 ghost use Rattle.desk_signals.specs.Rows.{signals_of};
-ghost use Rattle.desk_holes.specs.Rows.{blank_text, held_text, hole_text, hole_x, hole_y, holes_text, meaning_text, number_place, number_text, number_value, row_at, row_text, rows_text, s_text, style_text, symbol_text, reported_place, reported_text, y_of};
+ghost use Rattle.desk_holes.specs.Rows.{blank_text, held_text, hole_text, hole_x, hole_y, holes_text, meaning_at, meaning_place, meaning_text, number_place, number_text, number_value, row_at, row_text, rows_text, s_text, style_text, symbol_text, y_of};
 
 use crate::channels::x_of;
 use crate::parts::put_between;
@@ -173,25 +173,25 @@ fn put_number<A: Allocator + Copy>(
 }
 
 /// Writes where the meaning of a row stands.
-#[tactic(auto, unfolding(crate::specs::Rows::reported_place))]
-fn put_reported_place<A: Allocator + Copy>(out: &mut String<A>, y: u128) -> Result<(), AllocError>
+#[tactic(auto, unfolding(crate::specs::Rows::meaning_place))]
+fn put_meaning_place<A: Allocator + Copy>(out: &mut String<A>, y: u128) -> Result<(), AllocError>
     requires { y + 3 < 2 ^ 128 }
-    ensures { OnOk result (string_bytes out.new ≡ string_bytes out.old ++ reported_place y) }
+    ensures { OnOk result (string_bytes out.new ≡ string_bytes out.old ++ meaning_place y) }
 {
     put_between(out, "<text class=\"m\" x=\"477\" y=\"", y + 3, "\">")
 }
 
 /// Writes what a row means at its right.
-fn put_reported<A: Allocator + Copy>(
+fn put_meaning_at<A: Allocator + Copy>(
     out: &mut String<A>,
     case: &MatrixCase,
     y: u128,
     row: RibbonRow,
 ) -> Result<(), AllocError>
     requires { y + 3 < 2 ^ 128 }
-    ensures { OnOk result (string_bytes out.new ≡ string_bytes out.old ++ reported_text case.now y row) }
+    ensures { OnOk result (string_bytes out.new ≡ string_bytes out.old ++ meaning_at case.now y row) }
 {
-    put_reported_place(out, y)?;
+    put_meaning_place(out, y)?;
     put_meaning(out, case, row)?;
     out.push_str(text_end())
 }
@@ -209,7 +209,7 @@ fn put_row_at<A: Allocator + Copy>(
 {
     put_number(out, y, place)?;
     put_holes_of(out, y, *row)?;
-    put_reported(out, case, y, *row)
+    put_meaning_at(out, case, y, *row)
 }
 
 /// How far down a row of so many stands.

@@ -3,14 +3,12 @@ use Rattle.std.specs.Prelude.{ℕ, ◌+◌, ◌*◌, List, [], ◌∷◌, ◌++�
 use Rattle.std.specs.Fmt.{decimal}
 use Rattle.desk_ops.specs.declared.op.Symbol.{Symbol}
 use Rattle.desk_ops.specs.declared.fault.CopyFault.{CopyFault}
-use Rattle.desk_ops.specs.declared.fault.FaultKind.{FaultKind}
-use Rattle.desk_ops.specs.declared.fault.FaultKind.TheVariants as kinds
 use Rattle.desk_ops.specs.Words.{copy_fault_words, style_words}
 use Rattle.desk_job.specs.declared.JobFault.{JobFault}
 use Rattle.desk_job.specs.declared.JobFault.TheVariants as jobs
 use Rattle.desk_galley.specs.Values.{GalleyValues}
 use Rattle.desk_proof.specs.Proof.{head_words}
-use Rattle.desk_proof.specs.Faults.{cause_text, code_text}
+use Rattle.desk_proof.specs.Faults.{cause_text, code_text, meaning_text}
 use Rattle.desk_svg.specs.Escape.{escaped_char}
 use Rattle.desk_svg.specs.Text.{text_end}
 use Rattle.desk_picture.specs.Lines.{text_at}
@@ -18,11 +16,6 @@ use Rattle.desk_picture.specs.Lines.{text_at}
 -- where the head of this number stands, from 0
 abbrev pub head_y : ℕ → ℕ
 head_y number = 2000 + 1200 * number
-
-abbrev pub meaning_text : FaultKind → List ℕ
-meaning_text kinds.Forked = codes ": more than one operation has this stamp"
-meaning_text kinds.Void = codes ": what it hangs on cannot act"
-meaning_text kinds.Waiting = codes ": what it hangs on has not come"
 
 -- a fault of the copy
 abbrev pub copy_fault : (y : ℕ) → CopyFault → List ℕ

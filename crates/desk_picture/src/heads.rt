@@ -1,13 +1,13 @@
 //! What stands above the galley: the faults of the copy, the head, and the symbols that the case lacks.
 
 ghost use Rattle.std.specs.Prelude.{◌≡◌, ◌+◌, ◌++◌, ◌≤◌, ◌<◌, ◌^◌, length, OnOk, Some, slice_get, string_bytes};
-ghost use Rattle.desk_picture.specs.Heads.{copy_fault, copy_faults, head, head_count, head_y, heads_text, lack, lacking_at, lacking_of, lacks, meaning_text, name_if, name_text};
+ghost use Rattle.desk_picture.specs.Heads.{copy_fault, copy_faults, head, head_count, head_y, heads_text, lack, lacking_at, lacking_of, lacks, name_if, name_text};
 
 use crate::lines::put_text_at;
 use desk_galley::Galley;
 use desk_job::JobFault;
-use desk_ops::{CopyFault, FaultKind, Symbol};
-use desk_proof::{cause, put_code, put_head_words};
+use desk_ops::{CopyFault, Symbol};
+use desk_proof::{cause, meaning, put_code, put_head_words};
 use desk_svg::{put_escaped, text_end};
 use std::alloc::{AllocError, Allocator};
 
@@ -18,16 +18,6 @@ pub fn head_y(number: u128) -> u128
     ensures limit { result ≤ 2 ^ 96 }
 {
     2_000 + 1_200 * number
-}
-
-fn meaning(kind: FaultKind) -> &'static str
-    ensures { result.now ≡ meaning_text kind }
-{
-    match kind {
-        FaultKind::Forked => ": more than one operation has this stamp",
-        FaultKind::Void => ": what it hangs on cannot act",
-        FaultKind::Waiting => ": what it hangs on has not come",
-    }
 }
 
 /// Writes a fault of the copy.

@@ -1,7 +1,7 @@
 //! The characters of a word, with their styles.
 
 ghost use Rattle.std.specs.Prelude.{◌≡◌, ◌++◌, OnOk, string_bytes};
-ghost use Rattle.desk_picture.specs.Letters.{changed, closed, dress_of, dress_of_style, opened, same_dress, word_letters};
+ghost use Rattle.desk_picture.specs.Letters.{changed, closed, dress_of, dress_of_style, opened, word_letters};
 
 use desk_case::MatrixCase;
 use desk_ops::{Style, Symbol};
@@ -37,18 +37,6 @@ fn dress_of(case: &MatrixCase, symbol: Symbol) -> Dress
     }
 }
 
-fn is_same(a: Dress, b: Dress) -> bool
-    ensures { result ≡ same_dress a b }
-{
-    match (a, b) {
-        (Dress::Roman, Dress::Roman)
-        | (Dress::Italic, Dress::Italic)
-        | (Dress::SmallCap, Dress::SmallCap)
-        | (Dress::Missing, Dress::Missing) => true,
-        _ => false,
-    }
-}
-
 /// What stands before symbols of a dress.
 fn opened(dress: Dress) -> &'static str
     ensures { result.now ≡ opened dress }
@@ -79,7 +67,7 @@ fn put_change<A: Allocator + Copy>(
 ) -> Result<(), AllocError>
     ensures { OnOk result (string_bytes out.new ≡ string_bytes out.old ++ changed worn next) }
 {
-    if is_same(worn, next) {
+    if worn == next {
         return Ok(());
     }
     out.push_str(closed(worn))?;

@@ -1,7 +1,6 @@
 //! A line of the galley.
 
 ghost use Rattle.std.specs.Prelude.{◌≡◌, ◌+◌, ◌++◌, ◌≤◌, ◌^◌, length, All, IfOk, OnOk, string_bytes};
-ghost use Rattle.std.specs.Fmt.{decimal};
 ghost use Rattle.desk_lines.specs.Words.{most_symbols};
 ghost use Rattle.desk_galley.specs.Galley.{Stands};
 ghost use Rattle.desk_picture.specs.Lines.{class_of, fault_text, line_at, line_boxes, line_text, line_words, lines_text, margin_text, number_text, text_at, words_at, words_end};
@@ -14,8 +13,7 @@ use desk_galley::Line;
 use desk_job::terms::Terms;
 use desk_ops::Symbol;
 use desk_proof::{begin_of, put_cause};
-use desk_svg::{put_attribute, text_end};
-use itoa::Buffer;
+use desk_svg::{put_attribute, put_number, text_end};
 use std::alloc::{AllocError, Allocator};
 
 /// Writes the beginning of a text of a class that stands here.
@@ -35,14 +33,6 @@ pub fn put_text_at<A: Allocator + Copy>(
     out.push_str(">")
 }
 
-/// Writes a number.
-pub fn put_number<A: Allocator + Copy>(out: &mut String<A>, n: usize) -> Result<(), AllocError>
-    ensures { OnOk result (string_bytes out.new ≡ string_bytes out.old ++ decimal n) }
-{
-    let mut digits = Buffer::new();
-    out.push_str(digits.format(n))
-}
-
 /// Writes a number at the margin.
 fn put_margin_number<A: Allocator + Copy>(
     out: &mut String<A>,
@@ -53,7 +43,7 @@ fn put_margin_number<A: Allocator + Copy>(
     ensures { OnOk result (string_bytes out.new ≡ string_bytes out.old ++ number_text x y n) }
 {
     put_text_at(out, "n", x, y)?;
-    put_number(out, n)?;
+    put_number(out, n as u128)?;
     out.push_str(text_end())
 }
 

@@ -203,13 +203,14 @@ lacking_text copy (fault ∷ faults) = lacking_fault_text copy fault ++ lacking_
 
 -- ---- faults of the copy
 
+-- what a fault of this kind means, behind the fault
 abbrev pub meaning_text : FaultKind → List ℕ
-meaning_text kinds.Forked = codes ": more than one operation has this stamp\n"
-meaning_text kinds.Void = codes ": what it hangs on cannot act\n"
-meaning_text kinds.Waiting = codes ": what it hangs on has not come\n"
+meaning_text kinds.Forked = codes ": more than one operation has this stamp"
+meaning_text kinds.Void = codes ": what it hangs on cannot act"
+meaning_text kinds.Waiting = codes ": what it hangs on has not come"
 
 abbrev pub copy_fault_text : CopyFault → List ℕ
-copy_fault_text fault = copy_fault_words fault ++ meaning_text fault.kind
+copy_fault_text fault = copy_fault_words fault ++ (meaning_text fault.kind ++ codes "\n")
 
 abbrev pub copy_faults_text : List CopyFault → List ℕ
 copy_faults_text [] = []

@@ -407,13 +407,14 @@ pub fn put_line_faults<A: Allocator + Copy>(
     Ok(())
 }
 
-fn meaning(kind: FaultKind) -> &'static str
+/// What a fault of a copy of this kind means, as it stands behind the fault.
+pub fn meaning(kind: FaultKind) -> &'static str
     ensures { result.now ≡ meaning_text kind }
 {
     match kind {
-        FaultKind::Forked => ": more than one operation has this stamp\n",
-        FaultKind::Void => ": what it hangs on cannot act\n",
-        FaultKind::Waiting => ": what it hangs on has not come\n",
+        FaultKind::Forked => ": more than one operation has this stamp",
+        FaultKind::Void => ": what it hangs on cannot act",
+        FaultKind::Waiting => ": what it hangs on has not come",
     }
 }
 
@@ -423,7 +424,7 @@ fn put_copy_fault<A: Allocator + Copy>(
 ) -> Result<(), AllocError>
     ensures { OnOk result (string_bytes out.new ≡ string_bytes out.old ++ copy_fault_text fault) }
 {
-    write!(out, "{fault}{}", meaning(fault.kind))
+    write!(out, "{fault}{}\n", meaning(fault.kind))
 }
 
 /// Writes the faults of a copy, each of which means that a correction is not shown.

@@ -8,11 +8,10 @@ mod parts;
 mod proof;
 mod scale;
 
-pub use faults::{cause, put_cause, put_copy_faults};
+pub use faults::{cause, meaning, put_cause};
 pub use lacking::{put_around, put_code, put_name};
 pub use parts::{
-    begin_of, end_of, put_fills, put_left, put_many, put_number, put_points_down, put_points_up,
-    put_right, put_symbols, put_word, put_words,
+    begin_of, put_left, put_number, put_points_down, put_points_up, put_right, put_symbols,
 };
 pub use proof::{Extent, put_head_words, put_no_galley, put_proof, scale_of};
 pub use scale::Scale;

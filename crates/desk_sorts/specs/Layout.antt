@@ -1,5 +1,5 @@
 -- A case as a table: a row of the case a line, and four characters for each cell.
-use Rattle.std.specs.Prelude.{ℕ, ◌+◌, ◌*◌, ◌%◌, ◌==◌, List, [], ◌∷◌, ◌++◌, codes, Option, Some, None, if◌then◌else◌, suc, zero}
+use Rattle.std.specs.Prelude.{ℕ, ◌+◌, ◌*◌, ◌%◌, List, [], ◌∷◌, ◌++◌, codes, Option, Some, None, if◌then◌else◌, suc, zero}
 use Rattle.std.specs.Char.{encode_utf8}
 use Rattle.std.specs.Fmt.{decimal}
 use Rattle.desk_signals.specs.declared.Cell.{Cell}
@@ -8,7 +8,7 @@ use Rattle.desk_ops.specs.declared.op.Style.{Style}
 use Rattle.desk_ops.specs.declared.op.Style.TheVariants.{Roman, Italic, SmallCap}
 use Rattle.desk_ops.specs.declared.op.Symbol.{Symbol}
 use Rattle.desk_case.specs.declared.TheConstants.{COLUMNS, ROWS}
-use Rattle.desk_case.specs.Names.{cell_of_place, place}
+use Rattle.desk_case.specs.Names.{cell_of_place, same_cell}
 use Rattle.desk_case.specs.Case.{CaseValues, symbol_at}
 use Rattle.desk_proof.specs.Parts.{right}
 
@@ -25,7 +25,7 @@ text_in_table symbol = mark_in_table symbol.style ++ encode_utf8 symbol.ch
 -- the number of the first of some fills, counted from this one, that stands in the cell
 abbrev pub fill_from : ℕ → List Cell → Cell → Option ℕ
 fill_from number [] cell = None
-fill_from number (fill ∷ fills) cell = if place fill == place cell then Some number else fill_from (number + 1) fills cell
+fill_from number (fill ∷ fills) cell = if same_cell fill cell then Some number else fill_from (number + 1) fills cell
 
 -- a fill by its number, or a blank
 abbrev pub fill_text : Option ℕ → List ℕ
@@ -34,7 +34,7 @@ fill_text None = codes "  .."
 
 -- a cell that holds no symbol: the space, a fill or a blank
 abbrev pub blank_text : CaseValues → Cell → List ℕ
-blank_text case cell = if place case.space == place cell then codes "  sp" else fill_text (fill_from 1 case.fill cell)
+blank_text case cell = if same_cell case.space cell then codes "  sp" else fill_text (fill_from 1 case.fill cell)
 
 abbrev pub held_text : CaseValues → Cell → Option Symbol → List ℕ
 held_text case cell (Some symbol) = text_in_table symbol

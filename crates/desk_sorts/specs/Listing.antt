@@ -13,7 +13,7 @@ use Rattle.desk_sorts.specs.Places.{cell_for, lacks, places_of}
 
 -- ---- what a case has for a sort
 
--- it can be cast from no cell of the case
+-- its symbol is one that the case lacks
 abbrev pub is_missing : CaseValues → Sort → Bool
 is_missing case sort = lacks case sort.symbol
 
@@ -49,23 +49,23 @@ first_text sort = codes ", wanted " ++ decimal sort.wanted ++ codes ", first at 
 abbrev pub title_text : Sort → List ℕ
 title_text sort = codes "missing " ++ (sort_name sort.symbol ++ first_text sort)
 
--- what stands before a place by its number among those of its sort, from 0: the first of each ten begins a row
-abbrev pub row_begin : ℕ → List ℕ
-row_begin number = if number % 10 == 0 then codes "\n  at" else []
+-- what stands before a place by its number among those of its sort, from 0: the first of each ten begins a line
+abbrev pub line_begin : ℕ → List ℕ
+line_begin number = if number % 10 == 0 then codes "\n  at" else []
 
 -- a place in its column
 abbrev pub place_text : (number place : ℕ) → List ℕ
-place_text number place = row_begin number ++ (codes " " ++ right 7 (decimal place))
+place_text number place = line_begin number ++ (codes " " ++ right 7 (decimal place))
 
--- places, ten to a row, of which the first has this number
-abbrev pub place_rows : ℕ → List ℕ → List ℕ
-place_rows number [] = []
-place_rows number (place ∷ places) = place_text number place ++ place_rows (number + 1) places
+-- places, ten to a line, of which the first has this number
+abbrev pub place_lines : ℕ → List ℕ → List ℕ
+place_lines number [] = []
+place_lines number (place ∷ places) = place_text number place ++ place_lines (number + 1) places
 
 -- a missing sort, what surrounds its first place, and all its places
 abbrev pub missing_text : List Symbol → Sort → List ℕ
 missing_text copy sort =
-    title_text sort ++ (around_text copy sort.first ++ (place_rows 0 (places_of copy sort.symbol) ++ codes "\n"))
+    title_text sort ++ (around_text copy sort.first ++ (place_lines 0 (places_of copy sort.symbol) ++ codes "\n"))
 
 abbrev pub missing_lines : List Symbol → CaseValues → List Sort → List ℕ
 missing_lines copy case [] = []
@@ -87,15 +87,15 @@ cell_text None = codes "   -  "
 cell_text (Some cell) = right 4 (column_name cell.column) ++ left 2 (decimal cell.row)
 
 -- a sort by its cell, how often it is wanted, and its name
-abbrev pub row_text : CaseValues → Sort → List ℕ
-row_text case sort =
+abbrev pub sort_line : CaseValues → Sort → List ℕ
+sort_line case sort =
     cell_text (cell_for case sort.symbol) ++ (right 9 (decimal sort.wanted) ++ (codes "  " ++ (sort_name sort.symbol ++ codes "\n")))
 
-abbrev pub rows_text : CaseValues → List Sort → List ℕ
-rows_text case [] = []
-rows_text case (sort ∷ sorts) = row_text case sort ++ rows_text case sorts
+abbrev pub sort_lines : CaseValues → List Sort → List ℕ
+sort_lines case [] = []
+sort_lines case (sort ∷ sorts) = sort_line case sort ++ sort_lines case sorts
 
 -- the head, the missing sorts at their text, and all of them
 abbrev pub sorts_text : List Symbol → CaseValues → List Sort → List ℕ
 sorts_text copy case sorts =
-    head_text copy case sorts ++ (missing_lines copy case sorts ++ (columns_text ++ rows_text case sorts))
+    head_text copy case sorts ++ (missing_lines copy case sorts ++ (columns_text ++ sort_lines case sorts))

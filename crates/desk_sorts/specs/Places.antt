@@ -1,12 +1,12 @@
 -- The places of a copy at which a symbol stands, and those that are found of the symbols that a case lacks.
-use Rattle.std.specs.Prelude.{◌≡◌, ℕ, Bool, true, not, List, [], ◌∷◌, ◌++◌, length, Option, Some, Vec, is_some, slice_get, if◌then◌else◌}
+use Rattle.std.specs.Prelude.{◌≡◌, ℕ, Bool, true, not, ◌||◌, List, [], ◌∷◌, ◌++◌, length, Option, Some, Vec, is_some, slice_get, if◌then◌else◌}
 use Rattle.std.specs.List.{filter, range_with_len}
 use Rattle.std.specs.Option.{option_map_or}
 use Rattle.std.specs.Ordering.{is_eq}
 use Rattle.std.specs.BTreeMap.{BTreeMap, get}
 use Rattle.desk_signals.specs.declared.Cell.{Cell}
 use Rattle.desk_ops.specs.declared.op.Symbol.{Symbol}
-use Rattle.desk_ops.specs.Op.{is_space}
+use Rattle.desk_ops.specs.Op.{is_line_feed, is_space}
 use Rattle.desk_case.specs.Case.{CaseValues, cell_of, is_held}
 use Rattle.desk_sorts.specs.Sorts.{symbol_cmp}
 
@@ -26,9 +26,9 @@ places_of copy symbol = places_to copy (length copy) symbol
 abbrev pub cell_for : CaseValues → Symbol → Option Cell
 cell_for case symbol = if is_space symbol then Some case.space else cell_of case symbol
 
--- there is no such cell
+-- there is no such cell, of a symbol that is cast: each but the line feed
 abbrev pub lacks : CaseValues → Symbol → Bool
-lacks case symbol = not (is_some (cell_for case symbol))
+lacks case symbol = not (is_line_feed symbol || is_some (cell_for case symbol))
 
 -- ---- places that are found
 

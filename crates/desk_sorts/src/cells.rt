@@ -18,9 +18,9 @@ pub fn cell_for(case: &MatrixCase, symbol: Symbol) -> Option<Cell>
     }
 }
 
-/// Whether a symbol can be cast from no cell of the case.
+/// Whether a symbol, which is no line feed, can be cast from no cell of the case.
 pub fn lacks(case: &MatrixCase, symbol: Symbol) -> bool
     ensures { result ≡ lacks case.now symbol }
 {
-    cell_for(case, symbol).is_none()
+    !(symbol.is_line_feed() || cell_for(case, symbol).is_some())
 }

@@ -32,9 +32,8 @@ fn put_symbol<A: Allocator + Copy>(out: &mut String<A>, symbol: Symbol) -> Resul
 fn fill_in(fills: &[Cell], cell: &Cell) -> Option<usize>
     ensures { result ≡ fill_from 1 fills.now cell.now }
 {
-    let place = names::place(cell);
     for (index, fill) in fills.iter().enumerate() {
-        if names::place(fill) == place {
+        if names::is_same(fill, cell) {
             return Some(index + 1);
         }
     }
@@ -58,7 +57,7 @@ fn put_blank<A: Allocator + Copy>(
 ) -> Result<(), AllocError>
     ensures { OnOk result (string_bytes out.new ≡ string_bytes out.old ++ blank_text case.now cell.now) }
 {
-    if names::place(&case.space()) == names::place(cell) {
+    if names::is_same(&case.space(), cell) {
         out.push_str("  sp")
     } else {
         put_fill(out, fill_in(case.fill(), cell))

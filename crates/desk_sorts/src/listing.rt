@@ -1,7 +1,7 @@
 //! The sorts of a copy as text, by a case.
 
 ghost use Rattle.std.specs.Prelude.{◌≡◌, ◌++◌, All, OnOk, string_bytes};
-ghost use Rattle.desk_sorts.specs.Listing.{IsWithin, cast_of, cell_text, columns_text, first_text, head_text, is_missing, missing_lines, missing_of, missing_text, place_rows, place_text, row_begin, row_text, rows_text, sort_name, sorts_text, title_text};
+ghost use Rattle.desk_sorts.specs.Listing.{IsWithin, cast_of, cell_text, columns_text, first_text, head_text, is_missing, missing_lines, missing_of, missing_text, place_lines, place_text, line_begin, sort_line, sort_lines, sort_name, sorts_text, title_text};
 ghost use Rattle.desk_sorts.specs.Places.{AreFound, places_of};
 
 use crate::cells::{cell_for, lacks};
@@ -14,7 +14,7 @@ use desk_signals::Cell;
 use itoa::Buffer;
 use std::alloc::{AllocError, Allocator};
 
-/// Whether a sort can be cast from no cell of the case.
+/// Whether the symbol of a sort is one that the case lacks.
 fn is_missing(case: &MatrixCase, sort: Sort) -> bool
     ensures { result ≡ is_missing case.now sort }
 {
@@ -95,8 +95,8 @@ fn put_title<A: Allocator + Copy>(out: &mut String<A>, sort: Sort) -> Result<(),
 }
 
 /// What stands before a place by its number among those of its sort, from 0.
-fn row_begin(number: usize) -> &'static str
-    ensures { result.now ≡ row_begin number }
+fn line_begin(number: usize) -> &'static str
+    ensures { result.now ≡ line_begin number }
 {
     if number % 10 == 0 { "\n  at" } else { "" }
 }
@@ -109,17 +109,17 @@ fn put_place<A: Allocator + Copy>(
 ) -> Result<(), AllocError>
     ensures { OnOk result (string_bytes out.new ≡ string_bytes out.old ++ place_text number place) }
 {
-    out.push_str(row_begin(number))?;
+    out.push_str(line_begin(number))?;
     out.push_str(" ")?;
     put_number(out, 7, place as u64)
 }
 
-/// Writes places, ten to a row.
-fn put_place_rows<A: Allocator + Copy>(
+/// Writes places, ten to a line.
+fn put_place_lines<A: Allocator + Copy>(
     out: &mut String<A>,
     places: &[usize],
 ) -> Result<(), AllocError>
-    ensures { OnOk result (string_bytes out.new ≡ string_bytes out.old ++ place_rows 0 places.now) }
+    ensures { OnOk result (string_bytes out.new ≡ string_bytes out.old ++ place_lines 0 places.now) }
 {
     for (number, place) in places.iter().enumerate() {
         put_place(out, number, *place)?;
@@ -140,7 +140,7 @@ fn put_missing<A: Allocator + Copy>(
 {
     put_title(out, sort)?;
     put_around(out, copy, sort.first)?;
-    put_place_rows(out, places)?;
+    put_place_lines(out, places)?;
     out.push_str("\n")
 }
 
@@ -184,12 +184,12 @@ fn put_cell<A: Allocator + Copy>(out: &mut String<A>, cell: Option<Cell>) -> Res
 }
 
 /// Writes a sort with its cell.
-fn put_row<A: Allocator + Copy>(
+fn put_sort_line<A: Allocator + Copy>(
     out: &mut String<A>,
     case: &MatrixCase,
     sort: Sort,
 ) -> Result<(), AllocError>
-    ensures { OnOk result (string_bytes out.new ≡ string_bytes out.old ++ row_text case.now sort) }
+    ensures { OnOk result (string_bytes out.new ≡ string_bytes out.old ++ sort_line case.now sort) }
 {
     put_cell(out, cell_for(case, sort.symbol))?;
     put_number(out, 9, sort.wanted as u64)?;
@@ -199,15 +199,15 @@ fn put_row<A: Allocator + Copy>(
 }
 
 /// Writes each sort with its cell.
-fn put_rows<A: Allocator + Copy>(
+fn put_sort_lines<A: Allocator + Copy>(
     out: &mut String<A>,
     case: &MatrixCase,
     sorts: &[Sort],
 ) -> Result<(), AllocError>
-    ensures { OnOk result (string_bytes out.new ≡ string_bytes out.old ++ rows_text case.now sorts.now) }
+    ensures { OnOk result (string_bytes out.new ≡ string_bytes out.old ++ sort_lines case.now sorts.now) }
 {
     for sort in sorts {
-        put_row(out, case, *sort)?;
+        put_sort_line(out, case, *sort)?;
     }
     Ok(())
 }
@@ -229,5 +229,5 @@ pub fn put_sorts<A: Allocator + Copy>(
     put_head(out, copy, case, sorts)?;
     put_missing_lines(out, copy, case, sorts, &found)?;
     out.push_str(columns())?;
-    put_rows(out, case, sorts)
+    put_sort_lines(out, case, sorts)
 }

@@ -10,7 +10,7 @@ use desk_ops::Symbol;
 use std::alloc::Allocator;
 use std::collections::BTreeMap;
 
-/// A symbol of a style that a copy needs, for which one matrix is wanted.
+/// A symbol of a style that a copy needs, a matrix for each.
 #[derive(Clone, Copy, Debug, PartialEq, Eq)]
 pub struct Sort {
     pub symbol: Symbol,

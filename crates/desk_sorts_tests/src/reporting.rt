@@ -22,7 +22,7 @@ missing Roman 'é' (U+00E9), wanted 2, first at place 4\n\
 \x20  C5         1  italic 'a' (U+0061)\n\
 \x20  B15        1  small capital 'M' (U+004D)\n";
 
-/// `é` and `q` by turns, eleven times: neither is in the case, and each has ten places in its first row.
+/// `é` and `q` by turns, eleven times: neither is in the case, and each has ten places in its first line.
 const MANY: &str = "SORTS 2 kinds, 22 wanted, 2 missing\n\
 missing Roman 'q' (U+0071), wanted 11, first at place 1\n\
 \x20 | éqéqéqéqéqéqéqéqéqéqéq\n\

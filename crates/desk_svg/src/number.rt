@@ -1,4 +1,4 @@
-//! Numbers with two decimals.
+//! Numbers, whole and with two decimals.
 
 ghost use Rattle.std.specs.Prelude.{◌≡◌, ◌++◌, OnOk, string_bytes};
 ghost use Rattle.std.specs.Fmt.{decimal};
@@ -8,9 +8,9 @@ ghost use Rattle.desk_svg.specs.Number.{attribute_text, hundredths_text};
 use itoa::Buffer;
 use std::alloc::{AllocError, Allocator};
 
-/// Writes a number at the end.
+/// Writes a number at the end, in decimal. It fails only where memory runs out, and what stood before stays also then.
 #[tactic(auto, using(crate::proofs::Prefixes::prefixes))]
-fn put_number<A: Allocator + Copy>(out: &mut String<A>, n: u128) -> Result<(), AllocError>
+pub fn put_number<A: Allocator + Copy>(out: &mut String<A>, n: u128) -> Result<(), AllocError>
     ensures text { OnOk result (string_bytes out.new ≡ string_bytes out.old ++ decimal n) }
     ensures prefix { StartsWith (string_bytes out.new) (string_bytes out.old) }
 {
