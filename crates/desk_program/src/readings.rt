@@ -26,11 +26,7 @@ pub struct ReadingSources<'a> {
 }
 
 /// The cause where a ribbon is not read or not drawn.
-fn reading_cause<'a>(
-    from: &ReadingSources<'a>,
-    target: &'a str,
-    fault: ReadingFault,
-) -> Cause<'a> {
+fn reading_cause<'a>(from: &ReadingSources<'a>, target: &'a str, fault: ReadingFault) -> Cause<'a> {
     match fault {
         ReadingFault::Ribbon(_) => Cause::File(from.ribbon),
         ReadingFault::Input(why) => Cause::CaseOrWedge(from.case, from.wedge, why),
@@ -124,11 +120,7 @@ fn is_source(from: &ReadingSources<'_>, target: &str) -> bool
 }
 
 /// Whether the picture would take the place of what it is made of; then two lines say so.
-fn takes_source<E: Write>(
-    faults: &mut E,
-    from: &ReadingSources<'_>,
-    picture: Option<&str>,
-) -> bool
+fn takes_source<E: Write>(faults: &mut E, from: &ReadingSources<'_>, picture: Option<&str>) -> bool
     ensures { result ≡ true ↔ TakesSource (sources from.now.ribbon.now from.now.case.now from.now.wedge.now) (option_copied picture.entry) }
 {
     let Some(target) = picture else {
