@@ -5,10 +5,8 @@ ghost use Rattle.std.specs.Prelude.{◌≡◌, ◌≤◌, ◌↔◌, IfSome, IsN
 ghost use Rattle.desk_job.specs.Answer.{AreValues};
 ghost use Rattle.desk_program.specs.Previews.{IsInFile, IsInNoFile, IsPictureAbsent, IsPictureThere, IsSeen, IsSeenBy, IsShown, IsSource, IsUnseen, IsUnseenBy, IsUnshown, TakesSource, extent_of};
 
-use crate::reporting::{explain_feed, report_no_memory, report_target, stopped};
-use desk_answers::Refusal;
+use crate::reporting::{Cause, feed_cause, report_target, reported, stopped};
 use desk_files::{FileRefusal, Files};
-use desk_hand::FeedTrouble;
 use desk_host::Explains;
 use desk_inputs::Memory;
 use desk_picture::picture_feed;
@@ -19,98 +17,20 @@ use desk_script::RunFault;
 use desk_trial::{TrialFault, trial_of};
 use desk_words::Sources;
 use std::alloc::Global;
-use std::io::{self, Write};
+use std::io::Write;
 
-/// Why a case file is refused, by the number of its fault.
-fn case_words(number: u8) -> &'static str {
-    match number {
-        1 => "it is not TOML",
-        2 => "a key of a case is missing",
-        3 => "a key of a case is of another type, number, length or name",
-        4 => "the text of a cell is no symbol",
-        5 => "a symbol stands in two cells",
-        6 => "the space or a fill holds a symbol",
-        _ => "by this wedge the units of the fills do not descend",
-    }
-}
-
-/// Why a wedge file is refused, by the number of its fault.
-fn wedge_words(number: u8) -> &'static str {
-    match number {
-        1 => "it is not TOML",
-        2 => "a key of a wedge is missing",
-        3 => "a key of a wedge is of another type, length or value",
-        _ => "a row has fewer units than the row before",
-    }
-}
-
-/// Writes a line on why a case and a wedge do not come in: the file, and the cause.
-pub fn explain_input<E: Write, F: Explains>(
-    faults: &mut E,
-    files: &F,
-    case: &str,
-    wedge: &str,
-    why: Refusal,
-) -> io::Result<()> {
-    match why {
-        Refusal::Case(number) => writeln!(faults, "{case}: {}", case_words(number)),
-        Refusal::Wedge(number) => writeln!(faults, "{wedge}: {}", wedge_words(number)),
-        _ => {
-            write!(faults, "{case} or ")?;
-            files.explain(wedge, faults)
-        }
-    }
-}
-
-/// Writes a second line on what one asked to see and does not: which file, and the cause. Of a job with faults these stand
-/// on standard output.
-fn explain_preview<E: Write, F: Explains>(
-    faults: &mut E,
-    files: &F,
-    from: &Sources<'_>,
-    target: &str,
-    fault: PreviewFault,
-) -> io::Result<()> {
-    let feed = from.feed;
+/// The cause where one does not see what one asked for. Of a job with faults these stand on standard output.
+fn preview_cause<'a>(from: &Sources<'a>, target: &'a str, fault: PreviewFault) -> Cause<'a> {
     match fault {
-        PreviewFault::Feed(why) => explain_feed(faults, files, feed, why),
-        PreviewFault::Input(why) => explain_input(faults, files, from.case, from.wedge, why),
-        PreviewFault::Faulty => Ok(()),
-        PreviewFault::Write => writeln!(faults, "standard output: it cannot be written"),
-        PreviewFault::Unstored(_) => files.explain(target, faults),
-        PreviewFault::NoMemory => writeln!(faults, "{feed}: out of memory"),
-    }
-}
-
-/// Whether memory was refused, for whatever it was wanted.
-fn lacks_memory(fault: PreviewFault) -> bool {
-    match fault {
-        PreviewFault::Feed(FeedTrouble::NoMemory) | PreviewFault::NoMemory => true,
-        PreviewFault::Feed(FeedTrouble::File(why)) | PreviewFault::Unstored(why) => {
-            why == FileRefusal::NoMemory
+        PreviewFault::Feed(why) => feed_cause(from.feed, why),
+        PreviewFault::Input(why) => Cause::CaseOrWedge(from.case, from.wedge, why),
+        PreviewFault::Faulty => Cause::Reported,
+        PreviewFault::Write => Cause::Output,
+        PreviewFault::Unstored(FileRefusal::NoMemory) | PreviewFault::NoMemory => {
+            Cause::NoMemory(from.feed)
         }
-        PreviewFault::Input(why) => why == Refusal::Memory,
-        _ => false,
+        PreviewFault::Unstored(_) => Cause::File(target),
     }
-}
-
-/// Writes two lines on why there is no preview, and gives the status of it.
-fn unseen<E: Write, F: Explains>(
-    faults: &mut E,
-    files: &F,
-    from: &Sources<'_>,
-    target: &str,
-    fault: PreviewFault,
-) -> u8
-    ensures { result ≡ 1 }
-{
-    if lacks_memory(fault) {
-        report_no_memory(faults, from.feed);
-        return 1;
-    }
-    let _ = writeln!(faults, "copydesk: {fault}");
-    let _ = explain_preview(faults, files, from, target, fault);
-    1
 }
 
 /// The status of a punch.
@@ -125,7 +45,7 @@ fn punch_status<E: Write, F: Explains>(
 {
     match outcome {
         Ok(()) => 0,
-        Err(fault) => unseen(faults, files, from, target, fault),
+        Err(fault) => reported(faults, files, &fault, preview_cause(from, target, fault)),
     }
 }
 
@@ -180,7 +100,7 @@ fn shown<W: Write, E: Write, F: Files + Explains>(
     match outcome {
         Ok(clean) => Some(clean),
         Err(fault) => {
-            let _ = unseen(faults, files, from, "", fault);
+            let _ = reported(faults, files, &fault, preview_cause(from, "", fault));
             None
         }
     }
@@ -214,7 +134,7 @@ fn pictured<E: Write, F: Files + Explains>(
     match outcome {
         Ok(()) => true,
         Err(fault) => {
-            let _ = unseen(faults, files, from, target, fault);
+            let _ = reported(faults, files, &fault, preview_cause(from, target, fault));
             false
         }
     }

@@ -6,54 +6,35 @@ ghost use Rattle.desk_program.specs.Readings.{AreHolesAbsent, AreHolesThere, IsL
 ghost use Rattle.desk_reading.specs.Sources.{sources};
 ghost use Rattle.desk_sorts.specs.Sources as of_sorts;
 
-use crate::previews::{explain_input, memory_of};
-use crate::reporting::{explain_feed, report_no_memory, report_target};
-use desk_answers::Refusal;
+use crate::previews::memory_of;
+use crate::reporting::{Cause, feed_cause, report_target, reported};
 use desk_files::{FileRefusal, Files};
-use desk_hand::FeedTrouble;
 use desk_holes::draw_ribbon;
 use desk_host::Explains;
 use desk_reading::{ReadingFault, read_job};
+use desk_script::RunFault;
 use desk_sorts::{SortsFault, report_sorts};
 use std::alloc::Global;
-use std::io::{self, Write};
+use std::io::Write;
 
-/// Whether memory was refused, for whatever it was wanted.
-fn lacks_memory(fault: ReadingFault) -> bool {
-    match fault {
-        ReadingFault::NoMemory => true,
-        ReadingFault::Ribbon(why) | ReadingFault::Unstored(why) => why == FileRefusal::NoMemory,
-        ReadingFault::Input(why) => why == Refusal::Memory,
-        ReadingFault::Write => false,
-    }
+/// The names of a stored ribbon, of a case file and of a wedge file.
+#[derive(Clone, Copy)]
+pub struct ReadingSources<'a> {
+    pub ribbon: &'a str,
+    pub case: &'a str,
+    pub wedge: &'a str,
 }
 
-/// Writes a second line on why a ribbon is not read or not drawn: which file, and the cause.
-fn explain_reading<E: Write, F: Explains>(
-    faults: &mut E,
-    files: &F,
-    ribbon: &str,
-    case: &str,
-    wedge: &str,
-    target: &str,
-    fault: ReadingFault,
-) -> io::Result<()> {
+/// The cause where a ribbon is not read or not drawn.
+fn reading_cause<'a>(from: &ReadingSources<'a>, target: &'a str, fault: ReadingFault) -> Cause<'a> {
     match fault {
-        ReadingFault::Ribbon(_) => files.explain(ribbon, faults),
-        ReadingFault::Input(why) => explain_input(faults, files, case, wedge, why),
-        ReadingFault::Write => writeln!(faults, "standard output: it cannot be written"),
-        ReadingFault::Unstored(_) => files.explain(target, faults),
-        ReadingFault::NoMemory => writeln!(faults, "{ribbon}: out of memory"),
-    }
-}
-
-/// What is said first of why a ribbon is not read or not drawn.
-fn reading_words(fault: ReadingFault) -> &'static str {
-    match fault {
-        ReadingFault::Ribbon(_) | ReadingFault::Unstored(_) => "file fault",
-        ReadingFault::Input(_) => "input refused",
-        ReadingFault::Write => "write fault",
-        ReadingFault::NoMemory => "no memory",
+        ReadingFault::Ribbon(_) => Cause::File(from.ribbon),
+        ReadingFault::Input(why) => Cause::CaseOrWedge(from.case, from.wedge, why),
+        ReadingFault::Write => Cause::Output,
+        ReadingFault::Unstored(FileRefusal::NoMemory) | ReadingFault::NoMemory => {
+            Cause::NoMemory(from.ribbon)
+        }
+        ReadingFault::Unstored(_) => Cause::File(target),
     }
 }
 
@@ -61,37 +42,40 @@ fn reading_words(fault: ReadingFault) -> &'static str {
 fn report_reading<E: Write, F: Explains>(
     faults: &mut E,
     files: &F,
-    ribbon: &str,
-    case: &str,
-    wedge: &str,
+    from: &ReadingSources<'_>,
     target: &str,
     fault: ReadingFault,
 ) {
-    if lacks_memory(fault) {
-        report_no_memory(faults, ribbon);
-    } else {
-        let _ = writeln!(faults, "copydesk: {}", reading_words(fault));
-        let _ = explain_reading(faults, files, ribbon, case, wedge, target, fault);
-    }
+    let cause = reading_cause(from, target, fault);
+    let _ = match fault {
+        ReadingFault::Ribbon(why) => reported(faults, files, &RunFault::File(why), cause),
+        _ => reported(faults, files, &fault, cause),
+    };
 }
 
 /// Writes the reading of a ribbon, and says whether it is cast whole; none where it was not written.
 fn read_out<W: Write, E: Write, F: Files + Explains>(
     alloc: Global,
-    ribbon: &str,
-    case: &str,
-    wedge: &str,
+    from: &ReadingSources<'_>,
     writer: &mut W,
     faults: &mut E,
     files: &mut F,
 ) -> Option<bool>
-    ensures some { IfSome result (IsReadOut (sources ribbon.now case.now wedge.now) (F.shelf files.old) (F.shelf files.new) (W.contents writer.old) (W.contents writer.new)) }
-    ensures none { IsNone result → IsNotReadOut (sources ribbon.now case.now wedge.now) (F.shelf files.old) (F.shelf files.new) (W.contents writer.old) (W.contents writer.new) }
+    ensures some { IfSome result (IsReadOut (sources from.now.ribbon.now from.now.case.now from.now.wedge.now) (F.shelf files.old) (F.shelf files.new) (W.contents writer.old) (W.contents writer.new)) }
+    ensures none { IsNone result → IsNotReadOut (sources from.now.ribbon.now from.now.case.now from.now.wedge.now) (F.shelf files.old) (F.shelf files.new) (W.contents writer.old) (W.contents writer.new) }
 {
-    match read_job(memory_of(alloc), writer, files, ribbon, case, wedge) {
+    let outcome = read_job(
+        memory_of(alloc),
+        writer,
+        files,
+        from.ribbon,
+        from.case,
+        from.wedge,
+    );
+    match outcome {
         Ok(whole) => Some(whole),
         Err(fault) => {
-            report_reading(faults, files, ribbon, case, wedge, "", fault);
+            report_reading(faults, files, from, "", fault);
             None
         }
     }
@@ -100,49 +84,49 @@ fn read_out<W: Write, E: Write, F: Files + Explains>(
 /// Stores the picture of a ribbon, where one is asked for, and says whether it stands there.
 fn drawn<E: Write, F: Files + Explains>(
     alloc: Global,
-    ribbon: &str,
-    case: &str,
-    wedge: &str,
+    from: &ReadingSources<'_>,
     picture: Option<&str>,
     faults: &mut E,
     files: &mut F,
 ) -> bool
-    ensures yes { result ≡ true → AreHolesThere (sources ribbon.now case.now wedge.now) (option_copied picture.entry) (F.shelf files.old) (F.shelf files.new) }
-    ensures no { result ≡ false → AreHolesAbsent (sources ribbon.now case.now wedge.now) (option_copied picture.entry) (F.shelf files.old) (F.shelf files.new) }
+    ensures yes { result ≡ true → AreHolesThere (sources from.now.ribbon.now from.now.case.now from.now.wedge.now) (option_copied picture.entry) (F.shelf files.old) (F.shelf files.new) }
+    ensures no { result ≡ false → AreHolesAbsent (sources from.now.ribbon.now from.now.case.now from.now.wedge.now) (option_copied picture.entry) (F.shelf files.old) (F.shelf files.new) }
 {
     let Some(target) = picture else {
         return true;
     };
-    match draw_ribbon(memory_of(alloc), files, ribbon, case, wedge, target) {
+    let outcome = draw_ribbon(
+        memory_of(alloc),
+        files,
+        from.ribbon,
+        from.case,
+        from.wedge,
+        target,
+    );
+    match outcome {
         Ok(there) => there,
         Err(fault) => {
-            report_reading(faults, files, ribbon, case, wedge, target, fault);
+            report_reading(faults, files, from, target, fault);
             false
         }
     }
 }
 
 /// Whether a name is that of what a reading is made of.
-fn is_source(ribbon: &str, case: &str, wedge: &str, target: &str) -> bool
-    ensures { result ≡ true ↔ (target.now ≡ ribbon.now) ⊎ (target.now ≡ case.now) ⊎ (target.now ≡ wedge.now) }
+fn is_source(from: &ReadingSources<'_>, target: &str) -> bool
+    ensures { result ≡ true ↔ (target.now ≡ from.now.ribbon.now) ⊎ (target.now ≡ from.now.case.now) ⊎ (target.now ≡ from.now.wedge.now) }
 {
-    target == ribbon || target == case || target == wedge
+    target == from.ribbon || target == from.case || target == from.wedge
 }
 
 /// Whether the picture would take the place of what it is made of; then two lines say so.
-fn takes_source<E: Write>(
-    faults: &mut E,
-    ribbon: &str,
-    case: &str,
-    wedge: &str,
-    picture: Option<&str>,
-) -> bool
-    ensures { result ≡ true ↔ TakesSource (sources ribbon.now case.now wedge.now) (option_copied picture.entry) }
+fn takes_source<E: Write>(faults: &mut E, from: &ReadingSources<'_>, picture: Option<&str>) -> bool
+    ensures { result ≡ true ↔ TakesSource (sources from.now.ribbon.now from.now.case.now from.now.wedge.now) (option_copied picture.entry) }
 {
     let Some(target) = picture else {
         return false;
     };
-    if !is_source(ribbon, case, wedge, target) {
+    if !is_source(from, target) {
         return false;
     }
     report_target(faults, target, "picture");
@@ -153,73 +137,36 @@ fn takes_source<E: Write>(
 /// the status: 0 where it is cast whole and all was written. The names of the ribbon, the case and the wedge are no target.
 pub fn read_whole<W: Write, E: Write, F: Files + Explains>(
     alloc: Global,
-    ribbon: &str,
-    case: &str,
-    wedge: &str,
+    from: &ReadingSources<'_>,
     picture: Option<&str>,
     writer: &mut W,
     faults: &mut E,
     files: &mut F,
 ) -> u8
     ensures within { result ≤ 1 }
-    ensures done { result ≡ 0 → IsReadWhole (sources ribbon.now case.now wedge.now) (option_copied picture.entry) (F.shelf files.old) (F.shelf files.new) (W.contents writer.old) (W.contents writer.new) }
-    ensures stopped { result ≡ 1 → IsNotReadWhole (sources ribbon.now case.now wedge.now) (option_copied picture.entry) (F.shelf files.old) (F.shelf files.new) (W.contents writer.old) (W.contents writer.new) }
+    ensures done { result ≡ 0 → IsReadWhole (sources from.now.ribbon.now from.now.case.now from.now.wedge.now) (option_copied picture.entry) (F.shelf files.old) (F.shelf files.new) (W.contents writer.old) (W.contents writer.new) }
+    ensures stopped { result ≡ 1 → IsNotReadWhole (sources from.now.ribbon.now from.now.case.now from.now.wedge.now) (option_copied picture.entry) (F.shelf files.old) (F.shelf files.new) (W.contents writer.old) (W.contents writer.new) }
 {
-    if takes_source(faults, ribbon, case, wedge, picture) {
+    if takes_source(faults, from, picture) {
         return 1;
     }
-    let Some(whole) = read_out(alloc, ribbon, case, wedge, writer, faults, files) else {
+    let Some(whole) = read_out(alloc, from, writer, faults, files) else {
         return 1;
     };
-    if !drawn(alloc, ribbon, case, wedge, picture, faults, files) {
+    if !drawn(alloc, from, picture, faults, files) {
         return 1;
     }
     if whole { 0 } else { 1 }
 }
 
-/// Writes a second line on why sorts are not listed: which file, and the cause.
-fn explain_sorts<E: Write, F: Explains>(
-    faults: &mut E,
-    files: &F,
-    feed: &str,
-    case: &str,
-    fault: SortsFault,
-) -> io::Result<()> {
+/// The cause where sorts are not listed.
+fn sorts_cause<'a>(feed: &'a str, case: &'a str, fault: SortsFault) -> Cause<'a> {
     match fault {
-        SortsFault::Feed(why) => explain_feed(faults, files, feed, why),
-        SortsFault::Input(why) => explain_input(faults, files, case, case, why),
-        SortsFault::Write => writeln!(faults, "standard output: it cannot be written"),
-        SortsFault::NoMemory => writeln!(faults, "{feed}: out of memory"),
+        SortsFault::Feed(why) => feed_cause(feed, why),
+        SortsFault::Input(why) => Cause::CaseOrWedge(case, case, why),
+        SortsFault::Write => Cause::Output,
+        SortsFault::NoMemory => Cause::NoMemory(feed),
     }
-}
-
-/// Whether memory was refused, for whatever it was wanted.
-fn are_for_memory(fault: SortsFault) -> bool {
-    match fault {
-        SortsFault::Feed(FeedTrouble::NoMemory) | SortsFault::NoMemory => true,
-        SortsFault::Feed(FeedTrouble::File(why)) => why == FileRefusal::NoMemory,
-        SortsFault::Input(why) => why == Refusal::Memory,
-        _ => false,
-    }
-}
-
-/// Writes two lines on why sorts are not listed, and gives the status of it.
-fn unlisted<E: Write, F: Explains>(
-    faults: &mut E,
-    files: &F,
-    feed: &str,
-    case: &str,
-    fault: SortsFault,
-) -> u8
-    ensures { result ≡ 1 }
-{
-    if are_for_memory(fault) {
-        report_no_memory(faults, feed);
-        return 1;
-    }
-    let _ = writeln!(faults, "copydesk: {fault}");
-    let _ = explain_sorts(faults, files, feed, case, fault);
-    1
 }
 
 /// The status of a list of sorts: 1 also where it was written and a sort is missing.
@@ -235,7 +182,7 @@ fn sorts_status<E: Write, F: Explains>(
     match outcome {
         Ok(true) => 0,
         Ok(false) => 1,
-        Err(fault) => unlisted(faults, files, feed, case, fault),
+        Err(fault) => reported(faults, files, &fault, sorts_cause(feed, case, fault)),
     }
 }
 

@@ -3,6 +3,7 @@
 ghost use Rattle.std.specs.Prelude.{◌≡◌, ◌↔◌, ◌⊎◌, MatchResult};
 ghost use Rattle.std.specs.IoError.{error_kind};
 
+use desk_answers::Refusal;
 use desk_codec::FeedFault;
 use desk_files::FileRefusal;
 use desk_hand::{FeedTrouble, MAX_TEXT};
@@ -29,6 +30,19 @@ pub fn status_of<E: Write>(faults: &mut E, outcome: Result<(), RunFault>) -> u8
     }
 }
 
+/// The cause where a run on a feed stopped.
+fn run_cause<'a>(feed: &'a str, fault: RunFault) -> Cause<'a> {
+    match fault {
+        RunFault::Read => Cause::Input,
+        RunFault::Write => Cause::Output,
+        RunFault::TooLong => Cause::Endless,
+        RunFault::NoMemory => Cause::NoMemory(feed),
+        RunFault::Feed(why) => Cause::Feed(feed, why),
+        RunFault::File(_) => Cause::File(feed),
+        RunFault::Opening(_) => Cause::TooMany(feed),
+    }
+}
+
 /// Writes a second line on what stopped a run on a feed: which file, what was asked of it, and the cause.
 pub fn explain<E: Write, F: Explains>(
     faults: &mut E,
@@ -36,24 +50,12 @@ pub fn explain<E: Write, F: Explains>(
     feed: &str,
     outcome: Result<(), RunFault>,
 ) {
-    let _ = match outcome {
-        Ok(()) => Ok(()),
-        Err(RunFault::Read) => writeln!(faults, "standard input: it cannot be read"),
-        Err(RunFault::Write) => writeln!(faults, "standard output: it cannot be written"),
-        Err(RunFault::TooLong) => writeln!(faults, "standard input: it has no end"),
-        Err(RunFault::NoMemory) => writeln!(faults, "{feed}: out of memory"),
-        Err(RunFault::Feed(fault)) => {
-            let (at, why) = (fault.at, fault.why);
-            writeln!(faults, "{feed}: byte {at}: {why}")
+    match outcome {
+        Ok(()) => {}
+        Err(fault) => {
+            let _ = explain_cause(faults, files, run_cause(feed, fault));
         }
-        Err(RunFault::File(_)) => files.explain(feed, faults),
-        Err(RunFault::Opening(_)) => {
-            writeln!(
-                faults,
-                "{feed}: it has more operations than a desk can hold"
-            )
-        }
-    };
+    }
 }
 
 /// The status of a run on a feed. Where it is asked why, a second line says it.
@@ -84,12 +86,18 @@ pub enum Cause<'a> {
     File(&'a str),
     /// The bytes of this file are no feed.
     Feed(&'a str, FeedFault),
+    /// This feed has more operations than a desk can hold.
+    TooMany(&'a str),
     /// With the operations of this feed there would be more than a desk can hold.
     Full(&'a str),
     /// The text does not fit into this feed.
     Text(&'a str),
+    /// Of these files, that of a case and that of a wedge, one is not read, or is refused.
+    CaseOrWedge(&'a str, &'a str, Refusal),
     /// Standard input failed.
     Input,
+    /// Standard input has no end.
+    Endless,
     /// Standard input has too many bytes.
     TooLong,
     /// Standard output failed.
@@ -114,6 +122,47 @@ pub fn feed_cause<'a>(feed: &'a str, why: FeedTrouble) -> Cause<'a> {
     }
 }
 
+/// Why a case file is refused, by the number of its fault.
+fn case_words(number: u8) -> &'static str {
+    match number {
+        1 => "it is not TOML",
+        2 => "a key of a case is missing",
+        3 => "a key of a case is of another type, number, length or name",
+        4 => "the text of a cell is no symbol",
+        5 => "a symbol stands in two cells",
+        6 => "the space or a fill holds a symbol",
+        _ => "by this wedge the units of the fills do not descend",
+    }
+}
+
+/// Why a wedge file is refused, by the number of its fault.
+fn wedge_words(number: u8) -> &'static str {
+    match number {
+        1 => "it is not TOML",
+        2 => "a key of a wedge is missing",
+        3 => "a key of a wedge is of another type, length or value",
+        _ => "a row has fewer units than the row before",
+    }
+}
+
+/// Writes a line on why a case and a wedge do not come in: the file, and the cause.
+fn explain_input<E: Write, F: Explains>(
+    faults: &mut E,
+    files: &F,
+    case: &str,
+    wedge: &str,
+    why: Refusal,
+) -> io::Result<()> {
+    match why {
+        Refusal::Case(number) => writeln!(faults, "{case}: {}", case_words(number)),
+        Refusal::Wedge(number) => writeln!(faults, "{wedge}: {}", wedge_words(number)),
+        _ => {
+            write!(faults, "{case} or ")?;
+            files.explain(wedge, faults)
+        }
+    }
+}
+
 /// Writes a line on a cause.
 fn explain_cause<E: Write, F: Explains>(
     faults: &mut E,
@@ -128,6 +177,12 @@ fn explain_cause<E: Write, F: Explains>(
             let (at, why) = (fault.at, fault.why);
             writeln!(faults, "{feed}: byte {at}: {why}")
         }
+        Cause::TooMany(feed) => {
+            writeln!(
+                faults,
+                "{feed}: it has more operations than a desk can hold"
+            )
+        }
         Cause::Full(feed) => {
             writeln!(
                 faults,
@@ -135,20 +190,12 @@ fn explain_cause<E: Write, F: Explains>(
             )
         }
         Cause::Text(feed) => writeln!(faults, "{feed}: the text does not fit into it"),
+        Cause::CaseOrWedge(case, wedge, why) => explain_input(faults, files, case, wedge, why),
         Cause::Input => writeln!(faults, "standard input: it cannot be read"),
+        Cause::Endless => writeln!(faults, "standard input: it has no end"),
         Cause::TooLong => writeln!(faults, "standard input: it has more than {MAX_TEXT} bytes"),
         Cause::Output => writeln!(faults, "standard output: it cannot be written"),
     }
-}
-
-/// Writes a line on why the feed of a file does not come in: the file, and the cause.
-pub fn explain_feed<E: Write, F: Explains>(
-    faults: &mut E,
-    files: &F,
-    feed: &str,
-    why: FeedTrouble,
-) -> io::Result<()> {
-    explain_cause(faults, files, feed_cause(feed, why))
 }
 
 /// Writes a line on a fault and a second one on its cause, and gives the status of it. Out of memory is reported as such,
@@ -167,12 +214,6 @@ pub fn reported<E: Write, F: Explains, T: Display>(
     };
     let _ = explain_cause(faults, files, cause);
     1
-}
-
-/// Writes two lines on memory that ran out over a file.
-pub fn report_no_memory<E: Write>(faults: &mut E, name: &str) {
-    let _ = writeln!(faults, "copydesk: {}", RunFault::NoMemory);
-    let _ = writeln!(faults, "{name}: out of memory");
 }
 
 /// Writes two lines on a target that would take the place of what it is made of: its name, and what it would be.

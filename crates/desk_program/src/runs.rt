@@ -8,7 +8,7 @@ ghost use Rattle.desk_words.specs.Words.{AsksHelp, AsksNothing, IsLawful};
 use crate::by_hand::{export_status, import_status, merge_status};
 use crate::compared::compared;
 use crate::previews::{proofed, punched};
-use crate::readings::{listed, read_whole};
+use crate::readings::{ReadingSources, listed, read_whole};
 use crate::reporting::stopped;
 use crate::sheets::{on_desk, scripted};
 use crate::texts::{checked, replaced};
@@ -87,7 +87,14 @@ fn fulfilled<R: Read, W: Write, E: Write, F: Files + Explains>(
             case,
             wedge,
             picture,
-        } => read_whole(alloc, ribbon, case, wedge, *picture, writer, faults, files),
+        } => {
+            let from = ReadingSources {
+                ribbon,
+                case,
+                wedge,
+            };
+            read_whole(alloc, &from, *picture, writer, faults, files)
+        }
         Wish::Sorts { feed, case, layout } => {
             listed(alloc, feed, case, *layout, writer, faults, files)
         }

@@ -1,7 +1,7 @@
 //! Commands carried out, each answered at once, or as a sheet.
 
 ghost use Rattle.std.specs.Prelude.{◌≡◌, ◌≤◌, MatchResult};
-ghost use Rattle.desk_program.specs.Sheets.{IsOffDesk, IsOnDesk, IsScripted, IsUnscripted, is_sheet};
+ghost use Rattle.desk_program.specs.Sheets.{IsOffDesk, IsOnDesk, IsScripted, IsUnscripted, is_sheet, mode_of};
 
 use crate::reporting::{explain, status_of, status_on};
 use desk_files::Files;
@@ -17,6 +17,16 @@ fn is_sheet(manner: Manner) -> bool
     ensures { result ≡ is_sheet manner }
 {
     manner.strict || manner.number
+}
+
+/// How a sheet is answered.
+fn mode_of(manner: Manner) -> Mode
+    ensures { result ≡ mode_of manner }
+{
+    Mode {
+        strict: manner.strict,
+        number: manner.number,
+    }
 }
 
 /// The status of a sheet, with a line on what stopped it.
@@ -82,10 +92,7 @@ pub fn scripted<R: Read, W: Write, E: Write, F: Files + Explains>(
     ensures stopped { result ≡ 1 → IsUnscripted manner (F.shelf files.old) (F.shelf files.new) (R.remaining reader.old) (W.contents writer.old) (W.contents writer.new) }
 {
     if is_sheet(manner) {
-        let mode = Mode {
-            strict: manner.strict,
-            number: manner.number,
-        };
+        let mode = mode_of(manner);
         let outcome = run_sheet(alloc, alloc, mode, reader, writer, files);
         sheet_status(faults, outcome)
     } else {
@@ -112,10 +119,7 @@ pub fn on_desk<R: Read, W: Write, E: Write, F: Files + Explains>(
     ensures stopped { result ≡ 1 → IsOffDesk manner feed.now site (F.shelf files.old) (F.shelf files.new) (R.remaining reader.old) (W.contents writer.old) (W.contents writer.new) }
 {
     if is_sheet(manner) {
-        let mode = Mode {
-            strict: manner.strict,
-            number: manner.number,
-        };
+        let mode = mode_of(manner);
         let outcome = run_sheet_on_feed(alloc, alloc, mode, reader, writer, files, feed, site);
         sheet_status_on(faults, files, feed, why, outcome)
     } else {

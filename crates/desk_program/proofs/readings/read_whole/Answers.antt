@@ -10,13 +10,13 @@ returns-then-not-drawn-clause-stopped g c one =
 pub returns-then-whole-clause-done : goal.returns-then-whole-clause-done
 returns-then-whole-clause-done g c zero = (
   g.F.Files.shelf c.read_out.new.files,
-  subst (λ whole. IsReadOut (sources c.args.ribbon.now c.args.case.now c.args.wedge.now) (g.F.Files.shelf c.args.files.now) (g.F.Files.shelf c.read_out.new.files) (g.W.Write.contents c.args.writer.now) (g.W.Write.contents c.read_out.new.writer) whole) c.if-whole.true c.in-Some.ensures.some,
+  subst (λ whole. IsReadOut (sources c.args.from.now.ribbon.now c.args.from.now.case.now c.args.from.now.wedge.now) (g.F.Files.shelf c.args.files.now) (g.F.Files.shelf c.read_out.new.files) (g.W.Write.contents c.args.writer.now) (g.W.Write.contents c.read_out.new.writer) whole) c.if-whole.true c.in-Some.ensures.some,
   c.if-not-drawn.ensures.yes refl,
 )
 
 pub returns-else-whole-clause-stopped : goal.returns-else-whole-clause-stopped
 returns-else-whole-clause-stopped g c one = inr (inr (inr (
   g.F.Files.shelf c.read_out.new.files,
-  subst (λ whole. IsReadOut (sources c.args.ribbon.now c.args.case.now c.args.wedge.now) (g.F.Files.shelf c.args.files.now) (g.F.Files.shelf c.read_out.new.files) (g.W.Write.contents c.args.writer.now) (g.W.Write.contents c.read_out.new.writer) whole) c.if-whole.false c.in-Some.ensures.some,
+  subst (λ whole. IsReadOut (sources c.args.from.now.ribbon.now c.args.from.now.case.now c.args.from.now.wedge.now) (g.F.Files.shelf c.args.files.now) (g.F.Files.shelf c.read_out.new.files) (g.W.Write.contents c.args.writer.now) (g.W.Write.contents c.read_out.new.writer) whole) c.if-whole.false c.in-Some.ensures.some,
   c.if-not-drawn.ensures.yes refl,
 )))

@@ -1,4 +1,7 @@
-use Rattle.std.proofs.Common.{sym, ◌∙◌}
+use Rattle.std.proofs.Common.{subst, sym, ◌∙◌}
+use Rattle.desk_sheet.specs.StoredSheet.{IsStoppedOnFeed, IsStoredSheet}
+use Rattle.desk_sheet.specs.declared.fault.SheetFault.{SheetFault}
+use Rattle.desk_sheet.specs.declared.sheet.Mode.{Mode}
 use Rattle.desk_program.specs.Sheets.{is_sheet}
 use Rattle.desk_program.proofs.Statuses.{done_of, halt_of, when_not, when_so}
 use Rattle.desk_program.proofs.sheets.on_desk.Goals as goal
@@ -6,12 +9,14 @@ use Rattle.desk_program.proofs.sheets.on_desk.Goals as goal
 pub returns-then-is_sheet-clause-done : goal.returns-then-is_sheet-clause-done
 returns-then-is_sheet-clause-done g c zero =
     when_so _ _ (is_sheet c.args.manner) (sym c.is_sheet.ensures ∙ c.if-is_sheet.true)
-    (done_of c.run_sheet_on_feed-outcome.result c.sheet_status_on.result c.sheet_status_on.ensures c.run_sheet_on_feed-outcome.ensures.ok zero)
+    (subst (λ (mode : Mode). IsStoredSheet mode c.args.feed.now c.args.site (g.F.Files.shelf c.args.files.now) (g.F.Files.shelf c.run_sheet_on_feed-outcome.new.files) (g.R.Read.remaining c.args.reader.now) (g.W.Write.contents c.args.writer.now) (g.W.Write.contents c.run_sheet_on_feed-outcome.new.writer)) c.mode_of-mode.ensures
+    (done_of c.run_sheet_on_feed-outcome.result c.sheet_status_on.result c.sheet_status_on.ensures c.run_sheet_on_feed-outcome.ensures.ok zero))
 
 pub returns-then-is_sheet-clause-stopped : goal.returns-then-is_sheet-clause-stopped
 returns-then-is_sheet-clause-stopped g c one =
     when_so _ _ (is_sheet c.args.manner) (sym c.is_sheet.ensures ∙ c.if-is_sheet.true)
-    (halt_of c.run_sheet_on_feed-outcome.result _ c.sheet_status_on.result c.sheet_status_on.ensures c.run_sheet_on_feed-outcome.ensures.err one)
+    (subst (λ (mode : Mode). (fault : SheetFault) × IsStoppedOnFeed mode c.args.feed.now c.args.site (g.F.Files.shelf c.args.files.now) (g.F.Files.shelf c.run_sheet_on_feed-outcome.new.files) (g.R.Read.remaining c.args.reader.now) (g.W.Write.contents c.args.writer.now) (g.W.Write.contents c.run_sheet_on_feed-outcome.new.writer) fault) c.mode_of-mode.ensures
+    (halt_of c.run_sheet_on_feed-outcome.result _ c.sheet_status_on.result c.sheet_status_on.ensures c.run_sheet_on_feed-outcome.ensures.err one))
 
 pub returns-else-is_sheet-clause-done : goal.returns-else-is_sheet-clause-done
 returns-else-is_sheet-clause-done g c zero =
