@@ -13,3 +13,5 @@ mod rooms;
 mod runs;
 #[cfg(test)]
 mod wedges;
+#[cfg(test)]
+mod words;

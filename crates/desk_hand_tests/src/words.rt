@@ -1,7 +1,7 @@
 //! The texts of faults, of desk_hand and of what it stands on.
 
 use desk_codec::{FeedFault, FeedWhy};
-use desk_files::FileRefusal;
+use desk_files::{FileRefusal, ReaderFault};
 use desk_hand::{
     ExportFault, FeedTrouble, ImportFault, InputFault, KeepFault, MergeFault, RevisionFault,
     TakeFault,
@@ -26,6 +26,12 @@ const FILE_WORDS: [(FileRefusal, &str); 4] = [
     (FileRefusal::Device, "device"),
     (FileRefusal::Large, "large"),
     (FileRefusal::NoMemory, "no memory"),
+];
+
+const READER_WORDS: [(ReaderFault, &str); 3] = [
+    (ReaderFault::Failed, "read fault"),
+    (ReaderFault::TooLong, "too long"),
+    (ReaderFault::NoMemory, "no memory"),
 ];
 
 const BAD_KIND: FeedFault = FeedFault {
@@ -167,4 +173,11 @@ fn names_faults_of_files(rt: HostRuntime) {
         assert!(rt; is_worded(rt.alloc(), &fault, words), "{words}");
     }
     assert!(rt; is_worded(rt.alloc(), &Unsent, "write fault"));
+}
+
+#[test]
+fn names_faults_of_readers(rt: HostRuntime) {
+    for &(fault, words) in &READER_WORDS {
+        assert!(rt; is_worded(rt.alloc(), &fault, words), "{words}");
+    }
 }

@@ -7,3 +7,5 @@ mod proofing;
 mod punching;
 #[cfg(test)]
 mod rooms;
+#[cfg(test)]
+mod words;

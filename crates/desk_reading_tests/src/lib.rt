@@ -5,3 +5,5 @@
 mod reading;
 #[cfg(test)]
 mod rooms;
+#[cfg(test)]
+mod words;

@@ -10,4 +10,6 @@ mod jobs;
 #[cfg(test)]
 mod scripts;
 #[cfg(test)]
+mod words;
+#[cfg(test)]
 mod worked;

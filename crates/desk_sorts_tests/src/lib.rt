@@ -7,3 +7,5 @@ mod reporting;
 mod rooms;
 #[cfg(test)]
 mod sorts;
+#[cfg(test)]
+mod words;
