@@ -207,6 +207,41 @@ pub enum Signal {
     S,
 }
 
+/// The signals in signal order.
+pub const SIGNALS: [Signal; 31] = [
+    Signal::A,
+    Signal::B,
+    Signal::C,
+    Signal::D,
+    Signal::E,
+    Signal::F,
+    Signal::G,
+    Signal::H,
+    Signal::I,
+    Signal::J,
+    Signal::K,
+    Signal::L,
+    Signal::M,
+    Signal::N,
+    Signal::One,
+    Signal::Two,
+    Signal::Three,
+    Signal::Four,
+    Signal::Five,
+    Signal::Six,
+    Signal::Seven,
+    Signal::Eight,
+    Signal::Nine,
+    Signal::Ten,
+    Signal::Eleven,
+    Signal::Twelve,
+    Signal::Thirteen,
+    Signal::Fourteen,
+    Signal::Fine,
+    Signal::Coarse,
+    Signal::S,
+];
+
 /// A row of the ribbon.
 #[derive(Clone, Copy, PartialEq, Eq, Debug)]
 pub enum RibbonRow {
