@@ -19,7 +19,8 @@ ghost use Rattle.desk_codec.specs.RunLaws.{RunsAreRead};
 
 use crate::form::{MOST_RUN, RUN_KIND, RUNS_MAGIC};
 use crate::writing::put_op;
-use desk_ops::{NoMemory, Op, Stamp, Symbol};
+use desk_memory::NoMemory;
+use desk_ops::{Op, Stamp, Symbol};
 use std::alloc::{AllocError, Allocator};
 
 /// The most bytes that an operation takes in a feed of runs.

@@ -10,7 +10,8 @@ ghost use Rattle.desk_codec.specs.Feed.{feed, IsFeed};
 
 use crate::form::{Kind, MAGIC};
 use arrayvec::ArrayVec;
-use desk_ops::{Key, NoMemory, Op, Stamp, Style};
+use desk_memory::NoMemory;
+use desk_ops::{Key, Op, Stamp, Style};
 use std::alloc::{AllocError, Allocator};
 
 /// Appends bytes, for which there is room.

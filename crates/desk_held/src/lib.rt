@@ -9,7 +9,8 @@ ghost use Rattle.desk_ops.specs.Op.{IsLawful};
 ghost use Rattle.desk_ops.specs.OpSet.{no_ops, has_op, with_op, in_order, size, AllLawful};
 ghost use Rattle.desk_ops.specs.Held.{is_borne_in, is_clear_in, clear_op_in, greatest_counter_of, IsUnforked};
 
-use desk_ops::{NoMemory, Op, Stamp};
+use desk_memory::NoMemory;
+use desk_ops::{Op, Stamp};
 use desk_pages::Pages;
 use desk_slots::{Slot, append, entry, insert_in_order, seek};
 use rising::all_rise;

@@ -8,7 +8,8 @@ ghost use Rattle.desk_ops.specs.Faults.{faults_of, fault_of, marked};
 ghost use Rattle.desk_replica.specs.Ways.{kind_at, AreRising, IsNone, IsOne, AreWays, ends_with, ways_with, AreReported};
 
 use desk_held::Held;
-use desk_ops::{CopyFault, FaultKind, NoMemory, Op, Stamp};
+use desk_memory::NoMemory;
+use desk_ops::{CopyFault, FaultKind, Op, Stamp};
 use std::alloc::Allocator;
 
 /// A clear insert, and the fault of the operations whose target it is, if they have one.

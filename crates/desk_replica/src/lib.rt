@@ -25,8 +25,9 @@ ghost use Rattle.desk_replica.specs.Edits.{new_stamp, parent_at, stamp_at, edit_
 
 use desk_codec::write_runs;
 use desk_held::{AddRefusal, Held, LIMIT};
+use desk_memory::NoMemory;
 use desk_ops::op::MAX_COUNTER;
-use desk_ops::{CopyFault, Key, NoMemory, Op, Stamp, Symbol};
+use desk_ops::{CopyFault, Key, Op, Stamp, Symbol};
 use desk_registers::Registers;
 use desk_room::Room;
 use desk_seq::{Entry, Sequence};

@@ -7,7 +7,8 @@ ghost use Rattle.desk_ops.specs.Op.{IsLawful};
 ghost use Rattle.desk_ops.specs.OpSet.{no_ops, has_op, with_op, with_all, size};
 ghost use Rattle.desk_room.specs.Waiting.{HasTarget, waits_for, waiting_at, IsReleased};
 
-use desk_ops::{NoMemory, Op, Stamp};
+use desk_memory::NoMemory;
+use desk_ops::{Op, Stamp};
 use desk_pages::Pages;
 use desk_slots::{Slot, insert_in_order, remove_in_order, seek, slots_of};
 use std::alloc::Allocator;

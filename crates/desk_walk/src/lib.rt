@@ -14,7 +14,8 @@ ghost use Rattle.desk_walk.specs.Tree.{AreSettled};
 ghost use Rattle.desk_walk.specs.Following.{places, place_at, new_entry, IsActed, CanAct, IsDraining, IsSettled, IsArrival};
 
 use desk_held::Held;
-use desk_ops::{NoMemory, Op, Stamp, Symbol};
+use desk_memory::NoMemory;
+use desk_ops::{Op, Stamp, Symbol};
 use desk_room::Room;
 use desk_seq::{Entry, Sequence};
 use std::alloc::Allocator;
