@@ -29,6 +29,9 @@ pub const LEAST_SIZE: usize = 16;
 /// The most bytes that an operation or a run takes.
 pub const MOST_SIZE: usize = 342;
 
+/// The most bytes that an operation takes which is not in a run.
+pub const MOST_OP_SIZE: usize = 26;
+
 /// The byte that a run begins with.
 pub const RUN_KIND: u8 = 4;
 

@@ -27,7 +27,7 @@ use std::marker::Model;
 pub struct FeedReader {
     form: Option<FeedForm>,
     taken: u64,
-    kept: ArrayVec<u8, 342>,
+    kept: ArrayVec<u8, MOST_SIZE>,
     /// So many bytes at least are lacking until something is whole or wrong.
     missing: usize,
     failed: bool,
@@ -151,8 +151,8 @@ impl FeedReader {
 }
 
 /// Keeps a piece, behind what was kept before it. One byte needs no copy.
-fn keep_more(kept: &mut ArrayVec<u8, 342>, piece: &[u8])
-    requires { array_vec_len kept.old + length piece.now ≤ 342 }
+fn keep_more(kept: &mut ArrayVec<u8, MOST_SIZE>, piece: &[u8])
+    requires { array_vec_len kept.old + length piece.now ≤ MOST_SIZE }
     ensures { kept.new.items ≡ kept.old.items ++ piece.now }
 {
     match piece {
@@ -162,8 +162,8 @@ fn keep_more(kept: &mut ArrayVec<u8, 342>, piece: &[u8])
 }
 
 /// Keeps the end of a piece, behind what was kept before it or in place of that.
-fn keep(kept: &mut ArrayVec<u8, 342>, is_behind: bool, rest: &[u8])
-    requires { length (kept_after is_behind kept.old.items rest.now) ≤ 342 }
+fn keep(kept: &mut ArrayVec<u8, MOST_SIZE>, is_behind: bool, rest: &[u8])
+    requires { length (kept_after is_behind kept.old.items rest.now) ≤ MOST_SIZE }
     ensures { kept.new.items ≡ kept_after is_behind kept.old.items rest.now }
 {
     if !is_behind {
@@ -243,7 +243,7 @@ fn item_in<A: Allocator>(
 /// what is wrong, `Cut` where it is not whole yet. What was kept stays.
 fn first_item<'a, A: Allocator>(
     form: FeedForm,
-    kept: &mut ArrayVec<u8, 342>,
+    kept: &mut ArrayVec<u8, MOST_SIZE>,
     piece: &'a [u8],
     ops: &mut Gathered<A>,
 ) -> Result<&'a [u8], FeedWhy>
@@ -316,7 +316,7 @@ fn read_items<'a, A: Allocator>(
     alloc: A,
     form: FeedForm,
     place: u64,
-    kept: &mut ArrayVec<u8, 342>,
+    kept: &mut ArrayVec<u8, MOST_SIZE>,
     piece: &'a [u8],
 ) -> Result<PieceRead<'a, A>, FeedFault>
     requires unended { IsUnended form kept.old.items }
@@ -353,7 +353,7 @@ fn read_piece<'a, A: Allocator>(
     alloc: A,
     form: Option<FeedForm>,
     place: u64,
-    kept: &mut ArrayVec<u8, 342>,
+    kept: &mut ArrayVec<u8, MOST_SIZE>,
     piece: &'a [u8],
 ) -> Result<PieceRead<'a, A>, FeedFault>
     requires resumes { Resumes form place kept.old.items }

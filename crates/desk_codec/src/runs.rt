@@ -17,14 +17,11 @@ ghost use Rattle.desk_codec.specs.Runs.{next_insert, chain, item_of, item_at, ru
 ghost use Rattle.desk_codec.specs.RunSteps.{IsAt, IsNextAt, IsWrittenTo, MarksAlso};
 ghost use Rattle.desk_codec.specs.RunLaws.{RunsAreRead};
 
-use crate::form::{MOST_RUN, RUN_KIND, RUNS_MAGIC};
+use crate::form::{MOST_OP_SIZE, MOST_RUN, RUN_KIND, RUNS_MAGIC};
 use crate::writing::put_op;
 use desk_memory::NoMemory;
 use desk_ops::{Op, Stamp, Symbol};
 use std::alloc::{AllocError, Allocator};
-
-/// The most bytes that an operation takes in a feed of runs.
-const LARGEST_SIZE: usize = 26;
 
 /// The first place after `at` whose operation does not bear a smaller stamp, where the one at `at` does. What is near is
 /// found first.
@@ -268,7 +265,7 @@ pub fn write_runs<A: Allocator + Copy>(alloc: A, ops: &[Op]) -> Result<Vec<u8, A
 {
     let mut written = vec![in alloc; false; ops.len()]?;
     let mut symbols = Vec::with_capacity(alloc, MOST_RUN)?;
-    let mut out = Vec::with_capacity(alloc, RUNS_MAGIC.len() + LARGEST_SIZE * ops.len())?;
+    let mut out = Vec::with_capacity(alloc, RUNS_MAGIC.len() + MOST_OP_SIZE * ops.len())?;
     out.extend_from_slice(&RUNS_MAGIC)?;
     for at in 0..ops.len() {
         let op = ops[at];

@@ -8,7 +8,7 @@ ghost use Rattle.desk_ops.specs.Order.{style_code, key_code};
 ghost use Rattle.desk_codec.specs.Spelling.{stamp_spelling, spelling, IsValue};
 ghost use Rattle.desk_codec.specs.Feed.{feed, IsFeed};
 
-use crate::form::{Kind, MAGIC};
+use crate::form::{Kind, MAGIC, MOST_OP_SIZE};
 use arrayvec::ArrayVec;
 use desk_memory::NoMemory;
 use desk_ops::{Key, Op, Stamp, Style};
@@ -23,8 +23,8 @@ pub fn put<const N: usize>(out: &mut ArrayVec<u8, N>, bytes: &[u8])
     out.try_extend_from_slice(bytes).unwrap()
 }
 
-fn put_stamp(out: &mut ArrayVec<u8, 26>, stamp: &Stamp)
-    requires { array_vec_len out.old + 10 ≤ 26 }
+fn put_stamp(out: &mut ArrayVec<u8, MOST_OP_SIZE>, stamp: &Stamp)
+    requires { array_vec_len out.old + 10 ≤ MOST_OP_SIZE }
     ensures items { out.new.items ≡ out.old.items ++ stamp_spelling stamp.now }
     ensures len { array_vec_len out.new ≡ array_vec_len out.old + 10 }
 {
@@ -45,7 +45,7 @@ fn key_byte(key: Key) -> u8
 }
 
 /// The bytes of an operation.
-pub fn write_op(op: &Op) -> ArrayVec<u8, 26>
+pub fn write_op(op: &Op) -> ArrayVec<u8, MOST_OP_SIZE>
     requires { IsLawful op.now }
     ensures { result.items ≡ spelling op.now }
 {
