@@ -38,6 +38,9 @@ pub const RUN_KIND: u8 = 4;
 /// How many bytes of a run come before its symbols: its kind, its two stamps, and its count.
 pub const RUN_PREFIX: usize = 22;
 
+/// How many bytes a stamp takes.
+pub const STAMP_SIZE: usize = 10;
+
 /// How many bytes a symbol of a run takes.
 pub const SYMBOL_SIZE: usize = 5;
 

@@ -17,8 +17,9 @@ ghost use Rattle.desk_codec.specs.Runs.{next_insert, chain, item_of, item_at, ru
 ghost use Rattle.desk_codec.specs.RunSteps.{IsAt, IsNextAt, IsWrittenTo, MarksAlso};
 ghost use Rattle.desk_codec.specs.RunLaws.{RunsAreRead};
 
-use crate::form::{MOST_OP_SIZE, MOST_RUN, RUN_KIND, RUNS_MAGIC};
-use crate::writing::put_op;
+use crate::form::{MOST_OP_SIZE, MOST_RUN, RUN_KIND, RUNS_MAGIC, STAMP_SIZE, SYMBOL_SIZE};
+use crate::writing::{put_op, put_stamp, put_symbol};
+use arrayvec::ArrayVec;
 use desk_memory::NoMemory;
 use desk_ops::{Op, Stamp, Symbol};
 use std::alloc::{AllocError, Allocator};
@@ -190,16 +191,18 @@ fn take_item<A: Allocator>(
 fn push_stamp<A: Allocator>(out: &mut Vec<u8, A>, stamp: &Stamp) -> Result<(), AllocError>
     ensures { OnOk result (out.new.items ≡ out.old.items ++ stamp_spelling stamp.now) }
 {
-    out.extend_from_slice(&stamp.counter.to_be_bytes())?;
-    out.extend_from_slice(&stamp.site.to_be_bytes())
+    let mut bytes: ArrayVec<u8, STAMP_SIZE> = ArrayVec::new();
+    put_stamp(&mut bytes, stamp);
+    out.extend_from_slice(bytes.as_slice())
 }
 
 /// Appends a symbol.
 fn push_symbol<A: Allocator>(out: &mut Vec<u8, A>, symbol: &Symbol) -> Result<(), AllocError>
     ensures { OnOk result (out.new.items ≡ out.old.items ++ symbol_spelling symbol.now) }
 {
-    out.extend_from_slice(&[symbol.style as u8])?;
-    out.extend_from_slice(&u32::from(symbol.ch).to_be_bytes())
+    let mut bytes: ArrayVec<u8, SYMBOL_SIZE> = ArrayVec::new();
+    put_symbol(&mut bytes, symbol);
+    out.extend_from_slice(bytes.as_slice())
 }
 
 /// Appends an item: a run of an insert's symbols, where they are two or more, or else the operation.
