@@ -51,6 +51,17 @@ pub enum AddRefusal {
     NoMemory,
 }
 
+impl From<NoMemory> for AddRefusal {
+    ghost use Rattle.std.specs.Prelude.{◌≡◌};
+    ghost use Rattle.desk_held.specs.declared.AddRefusal.TheVariants as refusal;
+
+    ghost from_gives = { λ _ why. why ≡ refusal.NoMemory };
+
+    fn from(_: NoMemory) -> AddRefusal {
+        AddRefusal::NoMemory
+    }
+}
+
 /// A finite set of lawful operations, by stamp and then by bytes, in pages; with room for some more.
 #[derive(Drop)]
 pub struct Held<A: Allocator + Copy> {
@@ -149,9 +160,7 @@ impl<A: Allocator + Copy> Held<A> {
             return Err(AddRefusal::Full);
         }
         let forks = self.holds(op.stamp());
-        if self.reserve(1).is_err() {
-            return Err(AddRefusal::NoMemory);
-        }
+        self.reserve(1)?;
         self.put(op);
         Ok(if forks { Added::Forks } else { Added::New })
     }

@@ -28,7 +28,7 @@ fn find(ways: &[Way], stamp: Stamp) -> Option<usize>
     if place == ways.len() {
         return None;
     }
-    if ways[place].stamp == stamp {
+    if ways[place].stamp.is_same(stamp) {
         Some(place)
     } else {
         None
@@ -61,7 +61,7 @@ fn is_repeated<A: Allocator + Copy>(held: &Held<A>, place: usize, stamp: Stamp) 
     if place == 0 {
         return false;
     }
-    held.op(place - 1).stamp() == stamp
+    held.op(place - 1).stamp().is_same(stamp)
 }
 
 /// The fault of a clear operation.
