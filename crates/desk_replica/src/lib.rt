@@ -85,6 +85,17 @@ impl From<AddRefusal> for Refusal {
     }
 }
 
+impl From<NoMemory> for Refusal {
+    ghost use Rattle.std.specs.Prelude.{◌≡◌};
+    ghost use Rattle.desk_replica.specs.declared.Refusal.TheVariants as refusals;
+
+    ghost from_gives = { λ _ refusal. refusal ≡ refusals.NoMemory };
+
+    fn from(_: NoMemory) -> Refusal {
+        Refusal::NoMemory
+    }
+}
+
 /// How many operations of a list were new, and how many were known.
 #[derive(Clone, Copy, Debug, PartialEq, Eq)]
 pub struct Count {
@@ -407,9 +418,7 @@ impl<Q: Sequence> Replica<Q> {
                 Err(AddRefusal::NoMemory)
             };
         }
-        let Ok(()) = self.reserve(1) else {
-            return Err(AddRefusal::NoMemory);
-        };
+        self.reserve(1)?;
         self.enter(op, None);
         Ok(Took::New)
     }
@@ -619,9 +628,7 @@ impl<Q: Sequence> Replica<Q> {
         ensures growth { OnErr result (self.old.spare ≡ 0) }
         ensures spare { self.old.spare ≤ self.new.spare + 1 }
     {
-        let Ok(()) = self.reserve(1) else {
-            return Err(Refusal::NoMemory);
-        };
+        self.reserve(1)?;
         self.enter(op, place);
         Ok(op)
     }
