@@ -22,7 +22,7 @@ use std::alloc::Allocator;
 use std::marker::Model;
 
 /// Reads a feed that comes in pieces, cut anywhere. It is seen as the form of the feed, if its magic was read, the number of
-/// bytes taken, the bytes kept of a magic, operation or run that is not whole yet, and whether it answers `Failed` from now on.
+/// bytes taken, the bytes kept of a magic, operation or run that is not whole yet, and whether it returns `Failed` from now on.
 #[derive(Drop)]
 pub struct FeedReader {
     form: Option<FeedForm>,
@@ -68,7 +68,7 @@ impl FeedReader {
     }
 
     /// The operations whose last byte comes in this piece, or the first fault that the pieces so far show. A run counts as one
-    /// operation: all its inserts come with its last byte. After a fault every call answers `Failed`. `NoMemory` comes of a piece
+    /// operation: all its inserts come with its last byte. After a fault every call returns `Failed`. `NoMemory` comes of a piece
     /// that shows no fault, and the piece was not taken. All pieces together have fewer than 2^63 bytes.
     pub fn feed<A: Allocator>(&mut self, alloc: A, piece: &[u8]) -> Result<Vec<Op, A>, ReadFault>
         requires { self.old.taken + length piece.now < 2 ^ 63 }
@@ -123,7 +123,7 @@ impl FeedReader {
         }
     }
 
-    /// Whether the pieces so far are a whole feed, or else the fault of their end. From now on every call answers `Failed`.
+    /// Whether the pieces so far are a whole feed, or else the fault of their end. From now on every call returns `Failed`.
     pub fn finish(&mut self) -> Result<(), ReadFault>
         ensures whole { IfOk result (λ _. IsWhole self.old) }
         ensures refused { IfErr result (λ fault. RefusesEnd self.old fault) }

@@ -633,7 +633,7 @@ impl<Q: Sequence> Replica<Q> {
         Ok(op)
     }
 
-    /// Inserts a symbol at a place of the copy, and answers the operation made. `Place` comes where the place is above
+    /// Inserts a symbol at a place of the copy, and returns the operation made. `Place` comes where the place is above
     /// the copy's length, `Value` where the symbol is not lawful, `Full` and `ClockFull` where nothing more can be made,
     /// the first of these that holds. Out of memory comes only where none of them holds and there was no room.
     pub fn insert_at(&mut self, place: usize, symbol: Symbol) -> Result<Op, Refusal>
@@ -662,7 +662,7 @@ impl<Q: Sequence> Replica<Q> {
         )
     }
 
-    /// Deletes the element at a place of the copy, and answers the operation made. `Place` comes where the place is not
+    /// Deletes the element at a place of the copy, and returns the operation made. `Place` comes where the place is not
     /// below the copy's length, `Full` and `ClockFull` where nothing more can be made, the first of these that holds. Out
     /// of memory comes only where none of them holds and there was no room.
     pub fn delete_at(&mut self, place: usize) -> Result<Op, Refusal>
@@ -681,7 +681,7 @@ impl<Q: Sequence> Replica<Q> {
         self.make(Op::Delete { stamp, target }, Some(at))
     }
 
-    /// Gives a setting of the job a value, and answers the operation made. `Value` comes where the key does not take the
+    /// Gives a setting of the job a value, and returns the operation made. `Value` comes where the key does not take the
     /// value, `Full` and `ClockFull` where nothing more can be made, the first of these that holds. Out of memory comes
     /// only where none of them holds and there was no room.
     pub fn set(&mut self, key: Key, value: u32) -> Result<Op, Refusal>

@@ -20,7 +20,7 @@ use turn::{Above, Earlier, compare, is_in_turn, target_of};
 
 /// The operations that wait: a set, and with it of each target the list of what waits for it, by stamp and bytes; and how
 /// many more can be put with no new memory. It is kept in pages, the greatest target first, then by stamp and bytes, so that a put and a
-/// release look at a few pages and change one or two. No call but `reserve` and `from_ops` takes memory, and these answer
+/// release look at a few pages and change one or two. No call but `reserve` and `from_ops` takes memory, and these return
 /// `NoMemory` only where a growth was refused.
 #[derive(Drop)]
 pub struct Room<A: Allocator + Copy> {
