@@ -15,7 +15,6 @@ ghost use Rattle.desk_codec.specs.Items.{run_ops, item_ops, symbol_spelling, ite
 ghost use Rattle.desk_codec.specs.Feed.{IsFeed};
 ghost use Rattle.desk_codec.specs.Runs.{next_insert, chain, item_of, item_at, runs_feed, runs_ops};
 ghost use Rattle.desk_codec.specs.RunSteps.{IsAt, IsNextAt, IsWrittenTo, MarksAlso};
-ghost use Rattle.desk_codec.specs.RunLaws.{RunsAreRead};
 
 use crate::form::{MOST_OP_SIZE, MOST_RUN, RUN_KIND, RUNS_MAGIC, STAMP_SIZE, SYMBOL_SIZE};
 use crate::writing::{put_op, put_stamp, put_symbol};
@@ -276,8 +275,3 @@ pub fn write_runs<A: Allocator + Copy>(alloc: A, ops: &[Op]) -> Result<Vec<u8, A
     }
     Ok(out)
 }
-
-/// What is written is read: as a list that has the operations, each once.
-pub fn law_of_runs()
-    ensures { RunsAreRead }
-{}

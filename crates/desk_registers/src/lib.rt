@@ -12,7 +12,7 @@ use desk_ops::{Key, Stamp};
 
 mod laws;
 
-pub use laws::{law_of_one_greatest, law_of_the_greatest};
+pub use laws::{greatest_is_kept, there_is_one_greatest};
 
 /// A setting's value, and the stamp of the operation that set it.
 #[derive(Clone, Copy, Debug, PartialEq, Eq)]
