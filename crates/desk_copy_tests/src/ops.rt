@@ -1,5 +1,6 @@
+use desk_memory::NoMemory;
 use desk_ops::op::MAX_COUNTER;
-use desk_ops::{CopyFault, FaultKind, Key, NoMemory, Op, Stamp, Style, Symbol, Unlawful};
+use desk_ops::{CopyFault, FaultKind, Key, Op, Stamp, Style, Symbol, Unlawful};
 use std::alloc::Global;
 use std::cmp::Ordering;
 use std::fmt::Display;

@@ -1,6 +1,7 @@
 use desk_codec::{read_feed, write_runs};
 use desk_held::Held;
-use desk_ops::{Key, NoMemory, Op, Stamp, Style, Symbol};
+use desk_memory::NoMemory;
+use desk_ops::{Key, Op, Stamp, Style, Symbol};
 use linked_list_allocator::LocalHeap;
 use std::alloc::{AllocError, Allocator, Global};
 use std::test::Fail;

@@ -7,7 +7,8 @@ ghost use Rattle.desk_galley.specs.Galley.{matrices_of};
 use crate::line::Line;
 use desk_case::MatrixCase;
 use desk_job::punch::{add_fills, add_space, add_words};
-use desk_ops::{NoMemory, Symbol};
+use desk_memory::NoMemory;
+use desk_ops::Symbol;
 use desk_ribbon::Punch;
 use std::alloc::Allocator;
 

@@ -14,7 +14,7 @@ ghost use Rattle.desk_image.specs.Images.{bit, image, image_fault, signals_in};
 pub mod laws;
 
 use arrayvec::ArrayVec;
-use desk_signals::{BadRow, RibbonRow, Signal, from_signals};
+use desk_signals::{BadRow, RibbonRow, SIGNALS, Signal, from_signals};
 use std::marker::Model;
 
 /// The image of a row: its signals as bits, the first signal at bit 30 and the last at bit 0.
@@ -50,41 +50,6 @@ impl From<BadRow> for BadImage {
         BadImage::Row(why)
     }
 }
-
-/// The signals in signal order.
-const SIGNALS: [Signal; 31] = [
-    Signal::A,
-    Signal::B,
-    Signal::C,
-    Signal::D,
-    Signal::E,
-    Signal::F,
-    Signal::G,
-    Signal::H,
-    Signal::I,
-    Signal::J,
-    Signal::K,
-    Signal::L,
-    Signal::M,
-    Signal::N,
-    Signal::One,
-    Signal::Two,
-    Signal::Three,
-    Signal::Four,
-    Signal::Five,
-    Signal::Six,
-    Signal::Seven,
-    Signal::Eight,
-    Signal::Nine,
-    Signal::Ten,
-    Signal::Eleven,
-    Signal::Twelve,
-    Signal::Thirteen,
-    Signal::Fourteen,
-    Signal::Fine,
-    Signal::Coarse,
-    Signal::S,
-];
 
 /// The bit of a signal in an image.
 fn bit(signal: Signal) -> u32

@@ -1,5 +1,5 @@
 -- A line as the program finds it in the copy, and what it is set by.
-use Rattle.std.specs.Prelude.{◌≡◌, ℕ, ℤ, pos, ◌≤◌, Bool, false, List, [], ◌∷◌, ◌++◌, length, if◌then◌else◌, map, Option, Some, None, Result, Ok, Err}
+use Rattle.std.specs.Prelude.{◌≡◌, ℕ, ℤ, pos, ◌≤◌, Bool, false, List, [], ◌∷◌, ◌++◌, length, if◌then◌else◌, map, Some, Result, Ok, Err}
 use Rattle.std.specs.List.{zip}
 use Rattle.desk_ops.specs.declared.op.Symbol.{Symbol}
 use Rattle.desk_lines.specs.declared.words.Word.{Word}
@@ -45,11 +45,6 @@ abbrev pub SetsAt : Terms → ℕ → Bool → ℕ → ℤ → Result ℕ JobFau
 SetsAt terms n filled spaces sum (Ok found) =
     (pair_of sum ≡ Some (coarse_of found, fine_of found)) × (sum_fault terms n filled spaces sum ≡ [])
 SetsAt terms n filled spaces sum (Err fault) = sum_fault terms n filled spaces sum ≡ fault ∷ []
-
--- the fault, if there is one
-abbrev pub listed : Option JobFault → List JobFault
-listed None = []
-listed (Some fault) = fault ∷ []
 
 -- the rows of words that are set so
 abbrev pub set_rows : Terms → List (List Symbol) → Setting → List RibbonRow

@@ -7,7 +7,8 @@ mod ribbon;
 pub mod setting;
 pub mod terms;
 
-use desk_ops::{Key, NoMemory};
+use desk_memory::NoMemory;
+use desk_ops::Key;
 pub use ribbon::{given, make, make_from};
 use std::alloc::Allocator;
 use std::marker::Model;

@@ -6,7 +6,8 @@
 ghost use Rattle.std.specs.Prelude.{◌≡◌, ◌≤◌, IfErr, IfOk, length};
 ghost use Rattle.desk_lines.specs.Words.{words_of};
 
-use desk_ops::{NoMemory, Symbol};
+use desk_memory::NoMemory;
+use desk_ops::Symbol;
 use std::alloc::Allocator;
 use std::marker::Model;
 
