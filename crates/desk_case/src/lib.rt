@@ -20,7 +20,7 @@ use desk_ops::Symbol;
 use desk_signals::Cell;
 use desk_wedge::Wedge;
 use indexmap::IndexMap;
-use std::alloc::{AllocError, Global};
+use std::alloc::{AllocError, AllocFailed, Global};
 use std::marker::Model;
 use thiserror::Error;
 
@@ -115,7 +115,18 @@ impl From<AllocError> for CaseFault {
 
     ghost from_gives = { λ _ why. why ≡ fault.NoMemory };
 
-    fn from(_: AllocError) -> CaseFault {
+    fn from(_error: AllocError) -> CaseFault {
+        CaseFault::NoMemory
+    }
+}
+
+impl<T: Drop> From<AllocFailed<T>> for CaseFault {
+    ghost use Rattle.std.specs.Prelude.{◌≡◌};
+    ghost use Rattle.desk_case.specs.declared.CaseFault.TheVariants as fault;
+
+    ghost from_gives = { λ _ why. why ≡ fault.NoMemory };
+
+    fn from(_error: AllocFailed<T>) -> CaseFault {
         CaseFault::NoMemory
     }
 }
