@@ -1,12 +1,14 @@
 //! Settings that are tried in place of those of a copy: what its galley would be by other values, before anyone sets them.
 #![tactic(auto)]
 
+pub mod laws;
+
 ghost use Rattle.std.specs.Prelude.{◌≡◌, ◌≢◌, ◌≤◌, length, Err, IfErr, IfOk, IfSome, None, Some, option_map, string_bytes};
 ghost use Rattle.desk_commands.specs.Command.{command_values};
 ghost use Rattle.desk_commands.specs.Memory.{AsksMemory};
 ghost use Rattle.desk_job.specs.Answer.{AreValues};
 ghost use Rattle.desk_ops.specs.Op.{IsValue};
-ghost use Rattle.desk_trial.specs.Trial.{HasLine, HasPlace, NothingIsAsSet, line_of, no_trial, set_by, set_in, trial_of, tried_by, tried_with, value_or, with_value};
+ghost use Rattle.desk_trial.specs.Trial.{HasLine, HasPlace, line_of, no_trial, set_by, set_in, trial_of, tried_by, tried_with, value_or, with_value};
 ghost use Rattle.desk_trial.specs.declared.TrialFault.TheVariants as fault;
 
 use desk_commands::{Command, ParseError, parse};
@@ -197,8 +199,3 @@ pub fn trial_of<A: Allocator + Copy>(alloc: A, texts: &[&str]) -> Result<Setting
     }
     Ok(settings)
 }
-
-/// Where nothing is tried each key has the value that the set gives it.
-pub fn nothing_is_as_set()
-    ensures { NothingIsAsSet }
-{}
