@@ -10,12 +10,10 @@ use Rattle.desk_ops.specs.Faults.{faults_of}
 use Rattle.desk_codec.specs.declared.fault.FeedFault.{FeedFault}
 use Rattle.desk_codec.specs.declared.fault.FeedWhy.{FeedWhy}
 use Rattle.desk_codec.specs.declared.fault.FeedWhy.TheVariants as whys
-use Rattle.desk_signals.specs.declared.BadRow.{BadRow}
-use Rattle.desk_signals.specs.declared.BadRow.TheVariants as rows
 use Rattle.desk_signals.specs.declared.Cell.{Cell}
 use Rattle.desk_signals.specs.declared.RibbonRow.{RibbonRow}
 use Rattle.desk_image.specs.declared.BadImage.{BadImage}
-use Rattle.desk_image.specs.declared.BadImage.TheVariants as images
+use Rattle.desk_image.specs.Words.{bad_image_words}
 use Rattle.desk_caster.specs.declared.RibbonFault.{RibbonFault}
 use Rattle.desk_caster.specs.declared.RibbonFault.TheVariants as ribbons
 use Rattle.desk_units.specs.declared.Pica.{Pica}
@@ -80,20 +78,8 @@ feed_words (Err Crowded) = Some crowded_words
 
 -- ---- ribbons
 
-abbrev pub row_words : BadRow → List ℕ
-row_words rows.TwoLetters = codes "two letters"
-row_words rows.TwoNumbers = codes "two numbers"
-row_words rows.FineAlone = codes "0005 without 0075"
-row_words rows.WedgeWithLetter = codes "0075 with a letter"
-row_words rows.WedgeWithS = codes "0075 with S"
-row_words rows.Repeated = codes "a signal stands twice"
-
-abbrev pub image_words : BadImage → List ℕ
-image_words images.HighBit = codes "bit 31 is set"
-image_words (images.Row why) = row_words why
-
 abbrev pub row_fault_words : ℕ → BadImage → List ℕ
-row_fault_words place why = codes "row " ++ decimal place ++ codes ": " ++ image_words why
+row_fault_words place why = codes "row " ++ decimal place ++ codes ": " ++ bad_image_words why
 
 -- the fault of a ribbon; of out of memory nothing is said
 abbrev pub ribbon_fault_words : RibbonFault → Option (List ℕ)
