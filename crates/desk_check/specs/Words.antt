@@ -2,8 +2,6 @@
 use Rattle.std.specs.Prelude.{ℕ, ◌/◌, ◌%◌, ◌==◌, if◌then◌else◌, List, [], ◌∷◌, ◌++◌, length, codes, Option, Some, None, option_map, Result, Ok, Err}
 use Rattle.std.specs.Fmt.{decimal}
 use Rattle.desk_ops.specs.declared.op.Symbol.{Symbol}
-use Rattle.desk_ops.specs.declared.op.Unlawful.{Unlawful}
-use Rattle.desk_ops.specs.declared.op.Unlawful.TheVariants as causes
 use Rattle.desk_ops.specs.OpSet.{OpSet, max_ops, size}
 use Rattle.desk_ops.specs.Shown.{copy_of}
 use Rattle.desk_ops.specs.Faults.{faults_of}
@@ -25,7 +23,7 @@ use Rattle.desk_wedge.specs.declared.WedgeFault.TheVariants as wedges
 use Rattle.desk_case.specs.File as case_files
 use Rattle.desk_case.specs.Case.{CaseValues}
 use Rattle.desk_signals.specs.Words.{cell_words}
-use Rattle.desk_ops.specs.Words.{symbol_words}
+use Rattle.desk_ops.specs.Words.{symbol_words, unlawful_words}
 use Rattle.desk_case.specs.declared.CaseFault.{CaseFault}
 use Rattle.desk_case.specs.declared.CaseFault.TheVariants as cases
 use Rattle.desk_check.specs.Sorts.{sorts}
@@ -50,18 +48,10 @@ shown_words count = decimal count ++ codes " symbols shown, "
 abbrev pub set_words : OpSet → List ℕ
 set_words set = operations_words (size set) ++ shown_words (length (copy_of set)) ++ text (Faults (faults_of set))
 
-abbrev pub cause_words : Unlawful → List ℕ
-cause_words causes.Counter = codes "the counter is out of range"
-cause_words causes.Site = codes "no site has the number 0"
-cause_words causes.Target = codes "the target is not an earlier stamp"
-cause_words causes.Symbol = codes "no such symbol"
-cause_words causes.Key = codes "no such key"
-cause_words causes.Value = codes "the value is out of the key's range"
-
 abbrev pub why_words : FeedWhy → List ℕ
 why_words whys.Magic = codes "no feed begins so"
 why_words whys.Kind = codes "no such kind of operation"
-why_words (whys.Unlawful cause) = codes "unlawful: " ++ cause_words cause
+why_words (whys.Unlawful cause) = codes "unlawful: " ++ unlawful_words cause
 why_words whys.Cut = codes "cut off"
 why_words whys.Run = codes "no run has so many"
 
