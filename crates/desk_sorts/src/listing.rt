@@ -1,7 +1,9 @@
 //! The sorts of a copy as text, by a case.
 
 ghost use Rattle.std.specs.Prelude.{◌≡◌, ◌++◌, All, OnOk, string_bytes};
-ghost use Rattle.desk_sorts.specs.Listing.{IsWithin, cast_of, cell_text, columns_text, first_text, head_text, is_missing, missing_lines, missing_of, missing_text, place_rows, place_text, row_begin, row_text, rows_text, sort_name, sorts_text, title_text};
+ghost use Rattle.desk_sorts.specs.Listing.{IsWithin, cast_of, cell_text, columns_text, first_text, head_text, is_missing};
+ghost use Rattle.desk_sorts.specs.Listing.{missing_lines, missing_of, missing_text, place_rows, place_text, row_begin};
+ghost use Rattle.desk_sorts.specs.Listing.{row_text, rows_text, sort_name, sorts_text, title_text};
 ghost use Rattle.desk_sorts.specs.Places.{AreFound, places_of};
 
 use crate::cells::{cell_for, lacks};
