@@ -23,7 +23,12 @@ use std::alloc::{AllocError, Allocator};
 fn looks() -> &'static str
     ensures { result.now ≡ looks_text }
 {
-    "<style>text{font-family:Times New Roman,Liberation Serif,Times,serif;white-space:pre}.w{direction:ltr;unicode-bidi:bidi-override;font-variant-ligatures:none;font-kerning:none}.i{font-style:italic}.s{font-variant:small-caps;font-variant-caps:all-small-caps}.m{fill:#c00}.f,.c{fill:#b00}.c,.h,.n{font-family:sans-serif;font-size:8px}.n{fill:#777;text-anchor:end;user-select:none}.b{fill:#e4e9ef;stroke:#a9b4c0;stroke-width:.3}.frame{fill:#fff;stroke:#999;stroke-width:.5}</style>\n"
+    "<style>text{font-family:Times New Roman,Liberation Serif,Times,serif;white-space:pre}\
+    .w{direction:ltr;unicode-bidi:bidi-override;font-variant-ligatures:none;font-kerning:none}\
+    .i{font-style:italic}.s{font-variant:small-caps;font-variant-caps:all-small-caps}.m{fill:#c00}\
+    .f,.c{fill:#b00}.c,.h,.n{font-family:sans-serif;font-size:8px}\
+    .n{fill:#777;text-anchor:end;user-select:none}.b{fill:#e4e9ef;stroke:#a9b4c0;stroke-width:.3}\
+    .frame{fill:#fff;stroke:#999;stroke-width:.5}</style>\n"
 }
 
 /// Writes the beginning of a picture, up to its size in points.
