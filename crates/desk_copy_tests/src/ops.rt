@@ -6,11 +6,13 @@ use std::cmp::Ordering;
 use std::fmt::Display;
 use std::test::Fail;
 
-fn at(counter: u64, site: u16) -> Stamp {
+/// The stamp of this counter and site.
+pub fn at(counter: u64, site: u16) -> Stamp {
     Stamp { counter, site }
 }
 
-fn typed(stamp: Stamp, parent: Stamp, ch: char) -> Op {
+/// The insert of a Roman character.
+pub fn typed(stamp: Stamp, parent: Stamp, ch: char) -> Op {
     Op::Insert {
         stamp,
         parent,

@@ -12,6 +12,7 @@ ghost use Rattle.desk_signals.specs.Rows.{IsRow};
 ghost use Rattle.desk_image.specs.Images.{bit, image, image_fault, signals_in};
 
 pub mod laws;
+pub mod words;
 
 use arrayvec::ArrayVec;
 use desk_signals::{BadRow, RibbonRow, SIGNALS, Signal, from_signals};
@@ -32,12 +33,10 @@ impl Model for Image {
 }
 
 /// Why an image is no row.
-#[derive(Clone, Copy, PartialEq, Eq, Debug, thiserror::Error)]
+#[derive(Clone, Copy, PartialEq, Eq, Debug)]
 pub enum BadImage {
     /// Bit 31 is set.
-    #[error("bit 31 is set")]
     HighBit,
-    #[error("{0}")]
     Row(BadRow),
 }
 

@@ -41,7 +41,7 @@ pub enum JobFault {
     /// The wedge sum of this line, which is not to be filled, is above loose.
     #[error("line {0} is too loose")]
     TooLoose(usize),
-    /// The wedge sum of this line, which is to be filled, is below tight or above 240.
+    /// The wedge sum of this line, which is to be filled, is below tight or above the greatest.
     #[error("line {0} cannot be filled")]
     CannotFill(usize),
 }

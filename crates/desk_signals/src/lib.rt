@@ -255,20 +255,15 @@ pub enum RibbonRow {
 }
 
 /// Why signals are no row.
-#[derive(Clone, Copy, PartialEq, Eq, Debug, thiserror::Error)]
+#[derive(Clone, Copy, PartialEq, Eq, Debug)]
 pub enum BadRow {
     /// Two letters or more that are not exactly N and I, or N and L.
-    #[error("two letters")]
     TwoLetters,
-    #[error("two numbers")]
     TwoNumbers,
-    #[error("0005 without 0075")]
+    /// 0005 without 0075.
     FineAlone,
-    #[error("0075 with a letter")]
     WedgeWithLetter,
-    #[error("0075 with S")]
     WedgeWithS,
-    #[error("a signal stands twice")]
     Repeated,
 }
 
