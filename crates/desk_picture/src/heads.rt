@@ -121,6 +121,7 @@ fn put_lacking_of<A: Allocator + Copy>(
 }
 
 /// Writes a symbol that the case lacks.
+#[tactic(auto, unfolding(desk_svg::specs::Text::text_end))]
 fn put_lack<A: Allocator + Copy>(
     out: &mut String<A>,
     copy: &[Symbol],

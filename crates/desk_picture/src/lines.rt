@@ -122,6 +122,7 @@ fn put_line_boxes<A: Allocator + Copy>(
 }
 
 /// Writes a fault beside its line.
+#[tactic(auto, unfolding(desk_svg::specs::Text::text_end))]
 fn put_fault<A: Allocator + Copy>(
     out: &mut String<A>,
     terms: &Terms,
