@@ -15,7 +15,6 @@ use desk_replica::Replica;
 use desk_stored::{OpenFault, open_replica};
 use std::alloc::{AllocError, Allocator};
 
-
 /// Writes what is wrong at a place of a feed.
 fn put_why<A: Allocator + Copy>(out: &mut String<A>, why: FeedWhy) -> Result<(), AllocError>
     ensures { OnOk result (string_bytes out.new ≡ string_bytes out.old ++ why_words why) }
