@@ -11,9 +11,9 @@ import zlib
 import oracle
 import oracle_runs
 import pictures
-import told
-import told_copy
-import told_galley
+import reported
+import reported_copy
+import reported_galley
 
 SECONDS = 60  # a run that takes longer hangs, on a busy machine too
 PIECES = [b"_", b"^", b"\\", b"\r\n", b"\n", b"\t", b"\xff", b"\xe2\x82", b" ", b"\\_", b"\xed\xa0\x80", b"\r"]
@@ -80,7 +80,7 @@ def refused(name, data):
     try:
         oracle.read_feed(data)
     except oracle.Feed as fault:
-        return "copydesk: feed refused\n%s: byte %d: %s\n" % (name, fault.at, told.CAUSES[fault.word])
+        return "copydesk: feed refused\n%s: byte %d: %s\n" % (name, fault.at, reported.CAUSES[fault.word])
     return ""
 
 
@@ -116,18 +116,18 @@ def sheet(program, script):
 
 def changed_by_hand(name, before, site, copy, got):
     """What is wrong with a feed of whose copy another was made by hand, or with what was said of it."""
-    held = told.held_in(before)
+    held = reported.held_in(before)
     greatest = max((op[1][0] for op in held), default=0)
-    least = told_copy.fewest(oracle.Meaning(held).copy, copy)
+    least = reported_copy.fewest(oracle.Meaning(held).copy, copy)
     now = read("one")
     if greatest + least > oracle.MAX_COUNTER:
         return differing(name, got, (1, b"", b"copydesk: the greatest counter is held\none: the text does not fit into it\n")) or (None if now == before else name + ": the feed changed")
     if got[0] != 0 or got[2]:
         return "%s: status %s, %r, %r" % (name, *got)
-    after = told.held_in(now)
+    after = reported.held_in(now)
     if after is None or now != oracle.runs_feed(after):
         return "%s: it has stored %s" % (name, now.hex())
-    wrong = told_copy.edited(held, after, site, copy, got[1].decode())
+    wrong = reported_copy.edited(held, after, site, copy, got[1].decode())
     return wrong and name + ": " + wrong
 
 
@@ -139,9 +139,9 @@ def imported(program, data, text, plain):
     why = refused("one", data)
     if not why:
         try:
-            copy = told_copy.read_text(text, plain)
+            copy = reported_copy.read_text(text, plain)
             return changed_by_hand(name, data, site, copy, got), {"import done"}
-        except told_copy.NoText as fault:
+        except reported_copy.NoText as fault:
             why = "copydesk: %s\n" % fault
     wrong = differing(name, got, (1, b"", why.encode())) or (None if read("one") == data else name + ": the feed changed")
     return wrong, forms_of("import", why)
@@ -155,17 +155,17 @@ def replaced(program, data, old, new, plain):
     out, why = "", ""
     try:
         for called, text in (("OLD", old), ("NEW", new)):
-            read_of = told_copy.read_text(text.encode("utf-8", "surrogateescape"), plain)
+            read_of = reported_copy.read_text(text.encode("utf-8", "surrogateescape"), plain)
             old_of, new_of = (read_of, None) if called == "OLD" else (old_of, read_of)
-    except told_copy.NoText as fault:
+    except reported_copy.NoText as fault:
         why = "copydesk: %s, %s\n" % (called, fault)
     why = why or refused("one", data)
     if not why:
-        copy = oracle.Meaning(told.held_in(data)).copy
-        places = told_copy.places_of(old_of, copy)
+        copy = oracle.Meaning(reported.held_in(data)).copy
+        places = reported_copy.places_of(old_of, copy)
         if len(places) == 1:
             return changed_by_hand(name, data, site, copy[:places[0]] + new_of + copy[places[0] + len(old_of):], got), {"replace done"}
-        out, why = told_copy.told_places(old_of, copy), "copydesk: %s\n" % ("%d places" % len(places) if places else "no place")
+        out, why = reported_copy.reported_places(old_of, copy), "copydesk: %s\n" % ("%d places" % len(places) if places else "no place")
     wrong = differing(name, got, (1, out.encode(), why.encode())) or (None if read("one") == data else name + ": the feed changed")
     return wrong, forms_of("replace", why)
 
@@ -179,13 +179,13 @@ def with_piece(text, number):
 def texts_of(data, other):
     """A text to import, and a text with another to take its place, each with whether it is plain: of the copies of two feeds."""
     number = pick_of(data, other)
-    held, theirs = told.held_in(data) or set(), told.held_in(other) or set()
+    held, theirs = reported.held_in(data) or set(), reported.held_in(other) or set()
     copy, their = oracle.Meaning(held).copy, oracle.Meaning(theirs).copy
-    text = told.exported((copy, their, copy[:len(copy) // 2] + their[len(their) // 3:], their + copy)[number % 4]).encode()
+    text = reported.exported((copy, their, copy[:len(copy) // 2] + their[len(their) // 3:], their + copy)[number % 4]).encode()
     if number & 4:
         text = with_piece(text, number >> 4)
     at, size = (number >> 5) % (len(copy) + 1), (number >> 9) % 4
-    old, new = told.exported(copy[at:at + size]), told.exported(their[:(number >> 11) % 5])
+    old, new = reported.exported(copy[at:at + size]), reported.exported(their[:(number >> 11) % 5])
     if number % 7 == 0:
         old, new = (old, new + "_") if number & 16 else (old + "\\", new)
     return (text, number % 11 == 0), (old, new, number % 13 == 0)
@@ -219,11 +219,11 @@ def sorted_out(program, feed, data, case_data):
     write("case", case_data)
     layout = pick_of(data) & 1
     got = ran(program, ["sorts", feed, "--case", "case"] + ["--layout"] * layout)
-    case = told_galley.inputs(("case", "wedge"), case_data, None)
+    case = reported_galley.inputs(("case", "wedge"), case_data, None)
     why = refused(feed, data) or ("copydesk: input refused\n" + case if isinstance(case, str) else "")
     if why:
         return differing("sorts", got, (1, b"", why.encode())), forms_of("sorts", why)
-    out, whole = told_galley.sorts(oracle.Meaning(told.held_in(data)).copy, case[0], bool(layout))
+    out, whole = reported_galley.sorts(oracle.Meaning(reported.held_in(data)).copy, case[0], bool(layout))
     return differing("sorts", got, (0 if whole else 1, out.encode(), b"")), forms_of("sorts", out)
 
 
@@ -242,7 +242,7 @@ def pictured(data, galley):
     if frame != [galley.settings["measure"]] or len(seen) != len(galley.lines):
         return "a frame of %r, %d lines of %d" % (frame, len(seen), len(galley.lines))
     for line, drawn in zip(galley.lines, seen):
-        words = pictures.shown(" ".join(map(told_galley.bare, line.words)))
+        words = pictures.shown(" ".join(map(reported_galley.bare, line.words)))
         due = (line.number, line.begin, bool(line.fault), sum(line.fills), words.rstrip(" "), line.fault or "")
         got = (drawn["number"], drawn["place"], drawn["faulty"], len(drawn["boxes"]), drawn["text"].rstrip(" "), drawn["cause"])
         if got != due:
@@ -261,13 +261,13 @@ def proofed(program, feed, data, case_data, wedge_data, trial, picture):
     for key, value in trial:
         words += ["--set", "%s=%d" % (key, value)]
     got, name = ran(program, words), " ".join(words)
-    drawn, files = there("a.svg"), told_galley.inputs(("case", "wedge"), case_data, wedge_data)
+    drawn, files = there("a.svg"), reported_galley.inputs(("case", "wedge"), case_data, wedge_data)
     bad = next(("--set %s=%d: no setting, or no value that it may have\n" % (key, value) for key, value in trial if not oracle.RANGES[key][0] <= value <= oracle.RANGES[key][1]), "")
     why = "copydesk: input refused\n" + bad if bad else refused(feed, data) or ("copydesk: input refused\n" + files if isinstance(files, str) else "")
     if why:
         return differing(name, got, (1, b"", why.encode())) or (name + ": a picture" if drawn else None), forms_of("proof", why)
-    meaning = oracle.Meaning(told.held_in(data))
-    out, clean, galley = told_galley.proof(meaning, {**meaning.settings, **dict(trial)}, *files, alone)
+    meaning = oracle.Meaning(reported.held_in(data))
+    out, clean, galley = reported_galley.proof(meaning, {**meaning.settings, **dict(trial)}, *files, alone)
     wrong = differing(name, got, (0 if clean else 1, out.encode(), b""))
     if not wrong and (picture or drawn):
         wrong = pictured(drawn, galley)
@@ -277,10 +277,10 @@ def proofed(program, feed, data, case_data, wedge_data, trial, picture):
 
 def read_again(program, ribbon, files, names, cast):
     """What is wrong with the reading of a ribbon that was punched, whose lines are those that `cast` has answered."""
-    case, wedge = told_galley.inputs(names, *files)
-    due, whole = told.reading(ribbon, case, wedge)
+    case, wedge = reported_galley.inputs(names, *files)
+    due, whole = reported.reading(ribbon, case, wedge)
     images = [int.from_bytes(ribbon[at:at + 4], "big") for at in range(8, len(ribbon), 4)]
-    lines = told.sent_out(images, case, wedge)
+    lines = reported.sent_out(images, case, wedge)
     if not whole or cast.decode() != "lines %d" % len(lines) + "".join(" %d/%d" % (len(line[2]), sum(line[2])) for line in lines):
         return "read: the lines of the ribbon are not those that are cast, %r" % cast[:300]
     write("rib", ribbon)
@@ -293,7 +293,7 @@ def drawn(program, name, data, whole):
     """The picture of a ribbon: a row for each image, the last first, a circle for each hole."""
     status, _, why = ran(program, ["read", name, "--case", "case", "--wedge", "wedge", "--svg", "holes.svg"])
     picture = there("holes.svg")
-    lawful = data[:4] == b"MRB1" and told.of_ribbon(data).startswith("ok")
+    lawful = data[:4] == b"MRB1" and reported.of_ribbon(data).startswith("ok")
     if status != (0 if whole else 1) or why or (picture is not None) != lawful:
         return "read --svg: status %s, %r, %s" % (status, why, "a picture" if picture else "no picture")
     if not lawful:

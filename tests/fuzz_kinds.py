@@ -15,8 +15,8 @@ import differential
 import fuzz_asks
 import jobs
 import oracle
-import told
-import told_copy
+import reported
+import reported_copy
 from fuzz_asks import form, ran, read, there, write
 
 oracle.spelling = functools.lru_cache(4096)(oracle.spelling)  # many commands go over the same operations
@@ -308,8 +308,8 @@ class Feeds(Kind):
             forms.append({form(answer) for answer in answers} | {shape(bytes.fromhex(answer[5:].decode())) for answer in answers if answer.startswith(b"feed ")})
             for name, key in (("one%d" % k, "feed"), ("two%d" % k, "other")):
                 data, line = bytes.fromhex(one[key]), said[names.index(name)]
-                if told.differs(data, line):
-                    return "check said %r and not %r" % (line, told.of(data)), []
+                if reported.differs(data, line):
+                    return "check said %r and not %r" % (line, reported.of(data)), []
                 forms[k] |= {"check " + form(line.encode())} | operation_forms(data, line)
         for k, one in enumerate(inputs[:whole]):
             wrong, more = self.stored(program, one)
@@ -321,7 +321,7 @@ class Feeds(Kind):
     def stored(self, program, one):
         """The subcommands on the two feeds as files."""
         data, other = bytes.fromhex(one["feed"]), bytes.fromhex(one["other"])
-        held, theirs = told.held_in(data), told.held_in(other)
+        held, theirs = reported.held_in(data), reported.held_in(other)
         forms = set()
         write("one", data)
         write("two", other)
@@ -331,16 +331,16 @@ class Feeds(Kind):
                 return "diff: status %s, %r %r" % (status, out[:300], why), None
         else:
             lines = out.decode().split("\n")[:-1]
-            due = [told.alone("one", held, theirs), told.alone("two", theirs, held)]
+            due = [reported.alone("one", held, theirs), reported.alone("two", theirs, held)]
             same = oracle.Meaning(held).copy == oracle.Meaning(theirs).copy
             if status != (0 if held == theirs else 1) or why or lines[:2] != due or same != (len(lines) == 2):
                 return "diff: status %s, %r and not %r" % (status, lines[:4], due), None
-            wrong = told_copy.differs_in(oracle.Meaning(held).copy, oracle.Meaning(theirs).copy, lines[2:])
+            wrong = reported_copy.differs_in(oracle.Meaning(held).copy, oracle.Meaning(theirs).copy, lines[2:])
             if wrong:
                 return "diff: %s" % wrong, None
             forms |= {"diff " + form(line.encode())[:3] + "+" * (len(line) < 9) for line in lines[2:]} | {"diff " + form(line.encode()) for line in lines[:2]}
         status, out, why = ran(program, ["export", "two"])
-        due = None if theirs is None else told.exported(oracle.Meaning(theirs).copy).encode()
+        due = None if theirs is None else reported.exported(oracle.Meaning(theirs).copy).encode()
         if (status, out) != ((1, b"") if due is None else (0, due)) or (why == b"") != (due is not None):
             return "export: status %s, %r and not %r" % (status, out[:300], due), None
         if due:
@@ -350,8 +350,8 @@ class Feeds(Kind):
             if status != 1 or out or read("one") != data:
                 return "merge: status %s, %r %r" % (status, out[:300], why), None
         else:
-            world = told.world_of(1, held | theirs)
-            known = "two %s" % told.world_of(1, held).gain(1, oracle.read_feed(other))
+            world = reported.world_of(1, held | theirs)
+            known = "two %s" % reported.world_of(1, held).gain(1, oracle.read_feed(other))
             due = (known + "\n" + world.answer(b"faults 1") + "\n").encode()
             stored = read("one")
             if status != 0 or why or out != due or stored != oracle.runs_feed(held | theirs):
@@ -362,7 +362,7 @@ class Feeds(Kind):
             if (status, out, why) != (1, b"", b"copydesk: feed refused\n") or read("one") != data:
                 return "desk: status %s, %r %r" % (status, out[:300], why), None
         else:
-            world = told.world_of(7, held)
+            world = reported.world_of(7, held)
             due = "".join(world.answer(line) + "\n" for line in self.after).encode()
             if status != 0 or why or out != due or read("one") != oracle.runs_feed(world.sites[7]):
                 return "desk: status %s, %r %r and not %r" % (status, out[:300], why, due), None
@@ -505,10 +505,10 @@ class Files(Kind):
             return wrong, []
         for name, line in zip(names, said):
             data = read(name)
-            if (told.toml(data) is None) != (line.endswith("it is not TOML") or ": no TOML at line " in line) and data[:4] not in (b"MFD1", b"MFD2", b"MRB1"):
+            if (reported.toml(data) is None) != (line.endswith("it is not TOML") or ": no TOML at line " in line) and data[:4] not in (b"MFD1", b"MFD2", b"MRB1"):
                 return "TOML: check said %r of %r" % (line, data[:120]), []
-            if told.differs(data, line):
-                return "check said %r and not %r" % (line, told.of(data)), []
+            if reported.differs(data, line):
+                return "check said %r and not %r" % (line, reported.of(data)), []
         wrong, due, world = scripted(program, b"\n".join(lines))
         if wrong:
             return wrong, []
@@ -549,7 +549,7 @@ class Files(Kind):
 
 def value_forms(data, line):
     """Which values of a case or a wedge stand at a limit."""
-    document, forms, verdict = told.toml(data) or {}, set(), line.split(":")[0].split(" ")[0] + " "
+    document, forms, verdict = reported.toml(data) or {}, set(), line.split(":")[0].split(" ")[0] + " "
     for key, value in document.items():
         if isinstance(value, list):
             forms |= at_limits(verdict + "length of " + key, len(value))
@@ -625,8 +625,8 @@ class Ribbons(Kind):
             return wrong, []
         for one, line in zip(inputs, said):
             data = bytes.fromhex(one["ribbon"])
-            if told.differs(data, line):
-                return "check said %r and not %r" % (line, told.of(data)), []
+            if reported.differs(data, line):
+                return "check said %r and not %r" % (line, reported.of(data)), []
             forms.append({"check " + form(line.encode())} | row_forms(data, line))
         for name, one, found in zip(names, inputs, forms):
             wrong, more = self.cast(program, name, bytes.fromhex(one["ribbon"]))
@@ -641,7 +641,7 @@ class Ribbons(Kind):
         write("case", files[0])
         write("wedge", files[1])
         (_, case), (_, wedge) = oracle.first_fault_case(files[0]), oracle.first_fault_wedge(files[1])
-        due, whole = told.reading(data, case, wedge)
+        due, whole = reported.reading(data, case, wedge)
         status, out, why = ran(program, ["read", name, "--case", "case", "--wedge", "wedge"])
         if (status, out.decode("utf-8", "replace"), why) != (0 if whole else 1, due, b""):
             return "read: status %s, %r %r, due %r" % (status, out[:300], why, due[:300]), None

@@ -108,7 +108,7 @@ def held(what, got, plain, kind, most, name=None):
         fail("%s: %d lines in %.1f seconds" % (what, len(told), got["took"]))
 
 
-def none_told(what, got, plain):
+def none_reported(what, got, plain):
     if (got["status"], got["answer"], got["lines"]) != (plain["status"], plain["answer"], plain["lines"]):
         fail("%s: status %d, %r and %r" % (what, got["status"], got["answer"][:200], got["lines"]))
 
@@ -135,9 +135,9 @@ def slow_input(program, folder, text):
     plain = run(program, folder, ["script"], given="commands", terminal=False)
     if plain["status"] or not plain["answer"]:
         fail("script: status %d" % plain["status"])
-    none_told("a quick script at a terminal", run(program, folder, ["script"], given="commands"), plain)
+    none_reported("a quick script at a terminal", run(program, folder, ["script"], given="commands"), plain)
     held("a slow script", run(program, folder, ["script"], [("slow", text)], "slow"), plain, READ, len(text))
-    none_told("a slow script without a terminal", run(program, folder, ["script"], [("slow", text)], "slow", terminal=False), plain)
+    none_reported("a slow script without a terminal", run(program, folder, ["script"], [("slow", text)], "slow", terminal=False), plain)
 
 
 def slow_files(program, folder, chapter):
@@ -149,11 +149,11 @@ def slow_files(program, folder, chapter):
         def named(feed_name, case_name):
             return [{"FEED": feed_name, "CASE": case_name}.get(word, word) for word in words]
         plain = run(program, folder, named("real.feed", "case12.toml"), terminal=False)
-        none_told(words[0] + " at a terminal", run(program, folder, named("real.feed", "case12.toml")), plain)
+        none_reported(words[0] + " at a terminal", run(program, folder, named("real.feed", "case12.toml")), plain)
         plain["answer"] = plain["answer"].replace(b"real.feed", b"slow.feed")
         got = run(program, folder, named("slow.feed", "case12.toml"), [("slow.feed", feed)])
         held(words[0] + " of a slow feed", got, plain, READ, len(feed), "slow.feed")
-        none_told(words[0] + " of a slow feed, without a terminal", run(program, folder, named("slow.feed", "case12.toml"), [("slow.feed", feed)], terminal=False), plain)
+        none_reported(words[0] + " of a slow feed, without a terminal", run(program, folder, named("slow.feed", "case12.toml"), [("slow.feed", feed)], terminal=False), plain)
     plain = run(program, folder, ["sorts", "real.feed", "--case", "case12.toml"], terminal=False)
     got = run(program, folder, ["sorts", "real.feed", "--case", "slow.toml"], [("slow.toml", case)])
     held("sorts by a slow case", got, plain, READ, len(case), "slow.toml")

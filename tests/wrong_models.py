@@ -26,9 +26,9 @@ import fuzz_kinds
 import growths
 import jobs
 import oracle
-import told
+import reported
 
-SOURCE = ("oracle.py", "oracle_runs.py", "told_copy.py", "told_galley.py")
+SOURCE = ("oracle.py", "oracle_runs.py", "reported_copy.py", "reported_galley.py")
 
 # Of the ribbon half: lines, justification, faults, units, rows, the caster, the two files.
 RIBBON = {
@@ -276,13 +276,13 @@ PLAYS = {
     "the taker holds what is given": [("any(op in held for held in world.sites.values())", "op in world.sites[site]")],
     "held by its stamp": [("any(op in held for held in world.sites.values())", "any(op[1] == other[1] for held in world.sites.values() for other in held)")],
     "what is held of a strange gift is taken": [("for held in world.sites.values()) for op in ops):\n", "for held in world.sites.values()) for op in ops):\n        site in world.sites and world.gain(site, [op for op in ops if any(op in held for held in world.sites.values())])\n")],
-    "a play ends at a refusal": [("told = [event(world, line) for line in lines]", "told = []\n    for line in lines:\n        told.append(event(world, line))\n        if is_refusal(told[-1]):\n            break")],
+    "a play ends at a refusal": [("told = [event(world, line) for line in lines]", "told = []\n    for line in lines:\n        reported.append(event(world, line))\n        if is_refusal(told[-1]):\n            break")],
     "a play begins with an empty site": [("world = brought(site, rest[0])", "world = brought(site, None)")],
     "a line that says no event is passed over": [("or not all(is_event(command) for command in commands):", "or not is_event(commands[0]):")],
 }
 
 # Of what is said of copies and galleys: texts that are read, places, the fewest changes, words that differ, proofs, sorts.
-TOLD = {
+REPORTED = {
     "a tab is a symbol": [("if not oracle.is_symbol(symbol):", "if not oracle.is_symbol(symbol) and ch != \"\\t\":")],
     "columns count from 0": [("ch, column = text[at], at - begun + 1", "ch, column = text[at], at - begun")],
     "a style may go on over a line's end": [("            if style:\n                raise NoText(line, column, \"unclosed\")\n            line", "            line")],
@@ -472,7 +472,7 @@ class Played:
 class Told:
     """The feeds and the files of the fuzzer's corpus: what is said of their copies, galleys and sorts."""
 
-    models = TOLD
+    models = REPORTED
 
     def __init__(self):
         self.files, inputs = {}, fuzz.corpus()
@@ -483,14 +483,14 @@ class Told:
 
     def said(self, made, number, data, other):
         text, (old, new, plain) = fuzz_asks.texts_of(data, other)
-        copies = [oracle.Meaning(told.held_in(feed) or set()) for feed in (data, other)]
+        copies = [oracle.Meaning(reported.held_in(feed) or set()) for feed in (data, other)]
         case, wedge = self.metal[number % len(self.metal)]
         settings = {**dict(fuzz_kinds.Feeds.trial), "measure": 12 + 7 * number % 90, "case": case["number"], "wedge": wedge["wedge"]}
         one, two = (meaning.copy for meaning in copies)
         texts = [text[0]] + [fuzz_asks.with_piece(text[0], 7919 * number + place) for place in range(len(fuzz_asks.PIECES))]
         asks = [lambda: made.copies.read_text(texts.pop(), text[1]) for _ in range(len(texts))]
         asks += [lambda: made.copies.read_text(old.encode(), plain), lambda: made.copies.read_text(new.encode(), plain),
-                lambda: made.copies.told_places(two[:1], one), lambda: made.copies.fewest(one, two), lambda: [made.copies.begins_word(one, at) for at in range(len(one))],
+                lambda: made.copies.reported_places(two[:1], one), lambda: made.copies.fewest(one, two), lambda: [made.copies.begins_word(one, at) for at in range(len(one))],
                 lambda: made.galleys.proof(copies[1], settings, case, wedge)[:2], lambda: made.galleys.sorts(two, case, True)]
         out = []
         for ask in asks:
@@ -535,7 +535,7 @@ def main():
             bad += number < ENOUGH
             if COUNT or number < ENOUGH:
                 print("%5d  %s: %s" % (number, name, found if isinstance(found, str) else ", ".join("%d %s" % (n, aim) for aim, n in found.most_common(3))), flush=True)
-    print("%d wrong models of the ribbon half, %d of the copy half, %d of runs, %d of what memory stops, %d of lists of events and %d of what is said of copies, %d not told" % (*[len(source.models) for source in SOURCES], bad))
+    print("%d wrong models of the ribbon half, %d of the copy half, %d of runs, %d of what memory stops, %d of lists of events and %d of what is said of copies, %d not found" % (*[len(source.models) for source in SOURCES], bad))
     return 1 if bad else 0
 
 
