@@ -85,21 +85,13 @@ def sent_out(images, case, wedge):
     return out[::-1]
 
 
-ROWS = {"two letters": "two letters that name no column"}
-
-
 def reading(data, case, wedge):
     """What `read` writes of a ribbon by a case and a wedge, and whether it is whole."""
     if data[:4] != b"MRB1":
         return "no ribbon: it does not begin with MRB1\n", False
     said = of_ribbon(data)
     if not said.startswith("ok"):
-        fault = said[len("ribbon refused: "):]
-        for short, words in ROWS.items():
-            fault = fault.replace(short, words)
-        if fault.endswith("bit 31 is set"):
-            fault += ", which is no channel"
-        return "no ribbon: %s\n" % fault, False
+        return "no ribbon: %s\n" % said[len("ribbon refused: "):], False
     images = [int.from_bytes(data[at:at + 4], "big") for at in range(8, len(data), 4)]
     lines = sent_out(images, case, wedge)
     if isinstance(lines, str):

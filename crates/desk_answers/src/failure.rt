@@ -6,7 +6,7 @@ ghost use Rattle.desk_answers.specs.Failure.{case_refused, edit_refused, failure
 use crate::text::Refusal;
 use desk_case::CaseFault;
 use desk_files::FileRefusal;
-use desk_ops::NoMemory;
+use desk_memory::NoMemory;
 use desk_wedge::WedgeFault;
 
 /// Why nothing was done: refused, or out of memory.

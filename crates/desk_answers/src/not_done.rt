@@ -11,7 +11,7 @@ use crate::failure::Failure;
 use crate::text::{Refusal, Reply};
 use desk_commands::ParseError;
 use desk_held::AddRefusal;
-use desk_ops::NoMemory;
+use desk_memory::NoMemory;
 use desk_replica::Stopped;
 use desk_world::{Answer, StepRefusal};
 use std::alloc::Allocator;

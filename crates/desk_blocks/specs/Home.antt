@@ -1,4 +1,4 @@
--- A stamp, and the number of the page in which it was put.
+-- A stamp, and the name of the page in which it was put.
 use Rattle.std.specs.Prelude.{ℕ, refl}
 use Rattle.std.specs.Coded.{Coded, code_by, coded×, coded_ℕ}
 use Rattle.desk_ops.specs.declared.op.Stamp.{Stamp}

@@ -6,7 +6,7 @@ ghost use Rattle.desk_blocks.specs.Tally.{IsAt};
 
 use crate::index::Index;
 use crate::slot::{Slot, add_shown, slots_of};
-use crate::tally::{Same, Shown, Smaller, Tally};
+use crate::tally::{Bearing, Below, Shown, Tally};
 use desk_ops::{Stamp, Symbol};
 use desk_pages::Pages;
 use desk_seq::{Entry, Sequence};
@@ -80,7 +80,7 @@ impl<A: Allocator + Copy> Sequence for Blocks<A> {
                 return Some(start + j);
             }
         }
-        match self.pages.nth(0, &Same { stamp }, 0) {
+        match self.pages.nth(0, &Bearing { stamp }, 0) {
             Ok(place) => Some(place),
             Err(_) => None,
         }
@@ -114,7 +114,7 @@ impl<A: Allocator + Copy> Sequence for Blocks<A> {
     }
 
     fn first_below(&self, from: usize, stamp: Stamp) -> usize {
-        match self.pages.nth(from, &Smaller { stamp }, 0) {
+        match self.pages.nth(from, &Below { stamp }, 0) {
             Ok(place) => place,
             Err(_) => self.pages.len(),
         }

@@ -11,8 +11,8 @@ use desk_seq::Entry;
 use std::alloc::{AllocError, Allocator};
 use std::marker::Model;
 
-/// A stamp, and the number of the page in which it stands: a hint. Its fields lie in the order that takes 16 bytes, and a
-/// page's number in 32 bits, which a list of less than four thousand million pages keeps.
+/// A stamp, and the name of the page in which it stands: a hint. Its fields lie in the order that takes 16 bytes, and a
+/// page's name in 32 bits, which a list of less than four thousand million pages keeps.
 #[derive(Clone, Copy)]
 pub struct Home {
     counter: u64,
@@ -34,7 +34,7 @@ impl Model for Home {
 }
 
 impl Home {
-    /// A page beyond 32 bits is kept as the last that they name: no hint is believed without a look.
+    /// A name beyond 32 bits is kept as the greatest that they hold: no hint is believed without a look.
     fn new(stamp: Stamp, page: usize) -> Home
         ensures { result.stamp ≡ stamp }
     {

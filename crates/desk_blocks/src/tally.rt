@@ -95,11 +95,11 @@ impl Pick<Slot, Tally> for Shown {
 
 /// Those with a smaller stamp.
 #[derive(Clone, Copy)]
-pub struct Smaller {
+pub struct Below {
     pub stamp: Stamp,
 }
 
-impl Pick<Slot, Tally> for Smaller {
+impl Pick<Slot, Tally> for Below {
     ghost use Rattle.desk_blocks.specs.Tally.{is_smaller};
 
     ghost picked = { λ s e. is_smaller s.stamp e };
@@ -119,11 +119,11 @@ impl Pick<Slot, Tally> for Smaller {
 
 /// Those of a stamp.
 #[derive(Clone, Copy)]
-pub struct Same {
+pub struct Bearing {
     pub stamp: Stamp,
 }
 
-impl Pick<Slot, Tally> for Same {
+impl Pick<Slot, Tally> for Bearing {
     ghost use Rattle.desk_blocks.specs.Tally.{is_of};
 
     ghost picked = { λ s e. is_of s.stamp e };

@@ -1,6 +1,7 @@
 -- The values of a file are a case's.
 use Rattle.std.proofs.Common.{◌≡◌, ◌∙◌, ℕ, ◌+◌, ◌*◌, Bool, true, false, if◌then◌else◌, List, [], ◌∷◌, length, Option, Some, None, Result, Ok, Err, refl, sym, ap, subst, length-append, arith}
 use Rattle.std.specs.Prelude.{map, nat_lt, ◌-◌, ◌≤◌, replicate, option_map, option_and_then, is_some, All}
+use Rattle.std.specs.List.{flat_map}
 use Rattle.std.proofs.lemmas.List.Elements.{All-cons, All-nil, All-head, All-tail}
 use Rattle.std.proofs.lemmas.List.{length-map, length-replicate}
 use Rattle.toml.specs.Data.{Data, Members, as_str}
@@ -18,7 +19,7 @@ use Rattle.desk_case.specs.declared.CaseFault.{CaseFault}
 use Rattle.desk_case.specs.declared.CaseFault.TheVariants.{Missing, Shape}
 use Rattle.desk_case.specs.Names.{cell_named, IsCell}
 use Rattle.desk_case.specs.Case.{symbol_in, IsCase}
-use Rattle.desk_case.specs.File.{Sheet, key_name, row_of, joined_rows, cell_within, cell_of_data, fill_of, at_key, matrix_of, cells_of, matrices_of, or_else, sheet_in, sheet_of, grid_from, first_doubled, first_held}
+use Rattle.desk_case.specs.File.{Sheet, key_name, row_of, cell_within, cell_of_data, fill_of, at_key, matrix_of, cells_of, matrices_of, or_else, sheet_in, sheet_of, grid_from, first_doubled, first_held}
 use Rattle.desk_case.proofs.Cells.{named_is}
 use Rattle.desk_case.proofs.Grids.{Grid, distinct}
 
@@ -34,25 +35,25 @@ row_length columns few d texts e =
     blank : Option (Option Symbol)
     blank = Some None
 
-lengths_joined : (rows : List (List (List ℕ))) → All (λ r. length (cells_of r) ≡ 17) rows → length (joined_rows (map cells_of rows)) ≡ 17 * length rows
+lengths_joined : (rows : List (List (List ℕ))) → All (λ r. length (cells_of r) ≡ 17) rows → length (flat_map cells_of rows) ≡ 17 * length rows
 lengths_joined [] all = refl
 lengths_joined (r ∷ rows) all =
     omega (
       arith,
-      length-append (cells_of r) (joined_rows (map cells_of rows)),
+      length-append (cells_of r) (flat_map cells_of rows),
       All-head (λ r. length (cells_of r) ≡ 17) r rows all,
       lengths_joined rows (All-tail (λ r. length (cells_of r) ≡ 17) r rows all),
     )
 
-rows_length : (columns : ℕ) → columns ≤ 17 → (rows : List (List (List ℕ))) → IsArrayOf 15 15 (row_of columns) rows → length (joined_rows (map cells_of rows)) ≡ 255
+rows_length : (columns : ℕ) → columns ≤ 17 → (rows : List (List (List ℕ))) → IsArrayOf 15 15 (row_of columns) rows → length (flat_map cells_of rows) ≡ 255
 rows_length columns few rows a =
     omega (arith, a.least, a.most, lengths_joined rows (all_read (λ r. length (cells_of r) ≡ 17) (row_of columns) (row_length columns few) a.items rows a.each))
 
 matrices_length_at : (columns : ℕ) → columns ≤ 17 → (ms : List (Option (Option Symbol))) (d : Data) (o : Option (List (List (List ℕ)))) → array_of 15 15 (row_of columns) d ≡ o
-    → option_map (λ rows. joined_rows (map cells_of rows)) o ≡ Some ms → length ms ≡ 255
+    → option_map (λ rows. flat_map cells_of rows) o ≡ Some ms → length ms ≡ 255
 matrices_length_at columns few ms d None reported e = cc
 matrices_length_at columns few ms d (Some rows) reported e =
-    let same : joined_rows (map cells_of rows) ≡ ms = cc in
+    let same : flat_map cells_of rows ≡ ms = cc in
     ap length (sym same) ∙ rows_length columns few rows (array_read 15 15 (row_of columns) d rows reported)
 
 matrices_length : (columns : ℕ) → columns ≤ 17 → (d : Data) (ms : List (Option (Option Symbol))) → matrices_of columns d ≡ Some ms → length ms ≡ 255

@@ -1,6 +1,7 @@
 -- A case without NI and NL holds nothing there.
 use Rattle.std.proofs.Common.{◌≡◌, ◌≢◌, ◌∙◌, ℕ, zero, suc, ◌+◌, ◌-◌, ◌*◌, ◌≤◌, ◌<◌, Bool, true, false, if◌then◌else◌, List, [], ◌∷◌, ◌++◌, length, replicate, Option, Some, None, Result, Ok, Err, refl, sym, ap, subst, length-append, arith}
 use Rattle.std.specs.Prelude.{map, nat_lt, option_map, option_and_then, slice_get, All}
+use Rattle.std.specs.List.{flat_map}
 use Rattle.std.specs.Option.{option_flatten}
 use Rattle.std.proofs.lemmas.Bool.Decides.{nat_tests}
 use Rattle.std.proofs.lemmas.List.Elements.{All-head, All-tail}
@@ -17,7 +18,7 @@ use Rattle.desk_case.specs.declared.CaseFault.{CaseFault}
 use Rattle.desk_case.specs.declared.CaseFault.TheVariants.{Doubled, NotBlank}
 use Rattle.desk_case.specs.Names.{cell_named, place, IsCell}
 use Rattle.desk_case.specs.Case.{CaseValues, symbol_at}
-use Rattle.desk_case.specs.File.{Sheet, row_of, joined_rows, cell_within, cell_of_data, fill_of, at_key, matrix_of, cells_of, matrices_of, or_else, sheet_in, sheet_of, grid_from, unless, first_doubled, first_held}
+use Rattle.desk_case.specs.File.{Sheet, row_of, cell_within, cell_of_data, fill_of, at_key, matrix_of, cells_of, matrices_of, or_else, sheet_in, sheet_of, grid_from, unless, first_doubled, first_held}
 use Rattle.desk_case.specs.Laws.{NarrowCasesLackColumns}
 use Rattle.desk_case.proofs.Columns.{index_small}
 use Rattle.desk_case.proofs.Grids.{Grid}
@@ -61,24 +62,24 @@ row_blank columns i low high d texts e =
     none_there : Option (Option Symbol)
     none_there = Some None
 
-rows_blank : (i k : ℕ) (rows : List (List (List ℕ))) → i < 17 → All (IsBlankAt i) rows → k < length rows → slice_get (joined_rows (map cells_of rows)) (17 * k + i) ≡ Some (Some None)
+rows_blank : (i k : ℕ) (rows : List (List (List ℕ))) → i < 17 → All (IsBlankAt i) rows → k < length rows → slice_get (flat_map cells_of rows) (17 * k + i) ≡ Some (Some None)
 rows_blank i k [] small all h = absurd (omega (arith, h))
 rows_blank i zero (r ∷ rows) small all h =
     let first = All-head (IsBlankAt i) r rows all in
     let here : 17 * 0 + i ≡ i = omega arith in
-    ap (slice_get (cells_of r ++ joined_rows (map cells_of rows))) here
-    ∙ (in_prefix (cells_of r) (joined_rows (map cells_of rows)) i (omega (arith, first.long, small)) ∙ first.blank)
+    ap (slice_get (cells_of r ++ flat_map cells_of rows)) here
+    ∙ (in_prefix (cells_of r) (flat_map cells_of rows) i (omega (arith, first.long, small)) ∙ first.blank)
 rows_blank i (suc k) (r ∷ rows) small all h =
     let first = All-head (IsBlankAt i) r rows all in
     let there : 17 * suc k + i ≡ length (cells_of r) + (17 * k + i) = omega (arith, first.long) in
-    behind_prefix (cells_of r) (joined_rows (map cells_of rows)) (17 * suc k + i) (17 * k + i) there
+    behind_prefix (cells_of r) (flat_map cells_of rows) (17 * suc k + i) (17 * k + i) there
     ∙ (rows_blank i k rows small (All-tail (IsBlankAt i) r rows all) (omega (arith, h)))
 
 matrices_blank_at : (columns i k : ℕ) → columns ≤ i → i < 17 → k < 15 → (ms : Matrices) (d : Data) (o : Option (List (List (List ℕ)))) → array_of 15 15 (row_of columns) d ≡ o
-    → option_map (λ rows. joined_rows (map cells_of rows)) o ≡ Some ms → slice_get ms (17 * k + i) ≡ Some (Some None)
+    → option_map (λ rows. flat_map cells_of rows) o ≡ Some ms → slice_get ms (17 * k + i) ≡ Some (Some None)
 matrices_blank_at columns i k low high row ms d None reported e = cc
 matrices_blank_at columns i k low high row ms d (Some rows) reported e =
-    let same : joined_rows (map cells_of rows) ≡ ms = cc in
+    let same : flat_map cells_of rows ≡ ms = cc in
     let a = array_read 15 15 (row_of columns) d rows reported in
     ap (λ xs. slice_get xs (17 * k + i)) (sym same)
     ∙ rows_blank i k rows high (all_read (IsBlankAt i) (row_of columns) (row_blank columns i low high) a.items rows a.each) (omega (arith, row, a.least))

@@ -1,6 +1,7 @@
 -- Reading the rows of a case, text by text, and what their cells hold.
 use Rattle.std.proofs.Common.{◌≡◌, ◌≢◌, ◌∙◌, ℕ, ◌+◌, ◌≤◌, ◌<◌, true, false, List, [], ◌∷◌, ◌++◌, length, drop, get_or, Option, Some, None, Result, Ok, Err, refl, sym, ap, append_assoc, arith}
 use Rattle.std.specs.Prelude.{map, option_map, nat_le, replicate, ◌-◌, ◌&&◌}
+use Rattle.std.specs.List.{flat_map}
 use Rattle.std.proofs.lemmas.Bool.{true≢false, false≢true}
 use Rattle.std.proofs.lemmas.Bool.Decides.{nat_tests}
 use Rattle.std.proofs.lemmas.List.{append-nil, map-append}
@@ -9,7 +10,7 @@ use Rattle.toml.specs.declared.value.Value.{Value}
 use Rattle.toml.specs.View.{view, items_view}
 use Rattle.desk_ops.specs.declared.op.Symbol.{Symbol}
 use Rattle.desk_case.specs.declared.CaseFault.{CaseFault}
-use Rattle.desk_case.specs.File.{row_of, joined_rows, matrix_of, cells_of, matrices_of, grid_from}
+use Rattle.desk_case.specs.File.{row_of, matrix_of, cells_of, matrices_of, grid_from}
 use Rattle.desk_case.specs.Reading.{AddsRow}
 use Rattle.desk_keys.proofs.Items.{AreReadTo, one_read, fault_read, all_read, each_length, right_length, wrong_length}
 
@@ -62,20 +63,19 @@ row_read columns vs i d before after last blanks array long end is padded h =
 -- rows, some of which have been added
 pub record AreRowsReadTo (columns : ℕ) (vs : List Value) (i : ℕ) (matrices : Matrices) : Type 0 where
   pub prefix : List (List (List ℕ))
-  pub grown : matrices ≡ joined_rows (map cells_of prefix)
+  pub grown : matrices ≡ flat_map cells_of prefix
   pub so_far : AreReadTo (row_of columns) vs i prefix
 
-rows_joined : (rows : List Matrices) (row : Matrices) → joined_rows (rows ++ row ∷ []) ≡ joined_rows rows ++ row
-rows_joined [] row = append-nil row
-rows_joined (r ∷ rows) row = ap (λ x. r ++ x) (rows_joined rows row) ∙ sym (append_assoc r (joined_rows rows) row)
+row_behind : (rows : List (List (List ℕ))) (row : List (List ℕ)) → flat_map cells_of (rows ++ row ∷ []) ≡ flat_map cells_of rows ++ cells_of row
+row_behind [] row = append-nil (cells_of row)
+row_behind (r ∷ rows) row = ap (λ x. cells_of r ++ x) (row_behind rows row) ∙ sym (append_assoc (cells_of r) (flat_map cells_of rows) (cells_of row))
 
 row_added_at : (columns : ℕ) (vs : List Value) (i : ℕ) (before after : Matrices) (v : Value) (o : Option (List (List ℕ))) → row_of columns (view v) ≡ o → i < length vs → v ≡ get_or vs i v
     → AddsRow before after o true → AreRowsReadTo columns vs i before → AreRowsReadTo columns vs (i + 1) after
 row_added_at columns vs i before after v None said within is added h = absurd (true≢false added)
 row_added_at columns vs i before after v (Some texts) said within is added h = record {
   prefix = h.prefix ++ texts ∷ [];
-  grown = added.1 ∙ ap (λ x. x ++ cells_of texts) h.grown ∙ sym (rows_joined (map cells_of h.prefix) (cells_of texts))
-      ∙ ap joined_rows (sym (map-append cells_of h.prefix (texts ∷ [])));
+  grown = added.1 ∙ ap (λ x. x ++ cells_of texts) h.grown ∙ sym (row_behind h.prefix texts);
   so_far = one_read (row_of columns) vs i h.prefix v texts within is (sym said) h.so_far;
 }
 
@@ -96,13 +96,13 @@ row_missing columns vs i d before after v array within is missing h =
 pub few_rows : (columns : ℕ) (vs : List Value) (d : Data) → Some (items_view vs) ≡ as_array d → length vs ≢ 15 → None ≡ matrices_of columns d
 few_rows columns vs d array other =
     let outside : (nat_le 15 (length vs) && nat_le (length vs) 15) ≡ false = grind (arith, nat_tests) in
-    rw (← array) (ap (option_map (λ rows. joined_rows (map cells_of rows))) (wrong_length (row_of columns) vs 15 15 outside))
+    rw (← array) (ap (option_map (λ rows. flat_map cells_of rows)) (wrong_length (row_of columns) vs 15 15 outside))
 
 pub rows_read : (columns : ℕ) (vs : List Value) (i : ℕ) (d : Data) (matrices : Matrices) → Some (items_view vs) ≡ as_array d → length vs ≡ 15 → length vs ≤ i
     → AreRowsReadTo columns vs i matrices → Some matrices ≡ matrices_of columns d
 rows_read columns vs i d matrices array long end h =
     ap Some h.grown
-    ∙ rw (← array) (ap (option_map (λ rows. joined_rows (map cells_of rows))) (right_length (row_of columns) vs i 15 15 h.prefix end h.so_far (omega arith) (omega arith)))
+    ∙ rw (← array) (ap (option_map (λ rows. flat_map cells_of rows)) (right_length (row_of columns) vs i 15 15 h.prefix end h.so_far (omega arith) (omega arith)))
 
 -- what the cells hold, behind those already read
 abbrev pub behind : List (Option Symbol) → Result (List (Option Symbol)) CaseFault → Result (List (Option Symbol)) CaseFault

@@ -1,5 +1,6 @@
 -- The values of a case file, or its first fault.
 use Rattle.std.specs.Prelude.{ℕ, ◌+◌, ◌-◌, nat_lt, Bool, true, ◌&&◌, if◌then◌else◌, List, [], ◌∷◌, ◌++◌, codes, length, replicate, Option, Some, None, Result, Ok, Err, ok_or, map, option_map, option_and_then, is_some}
+use Rattle.std.specs.List.{flat_map}
 use Rattle.std.specs.Str.{chars}
 use Rattle.toml.specs.Data.{Data, Members, as_str}
 use Rattle.desk_signals.specs.declared.Cell.{Cell}
@@ -41,11 +42,6 @@ fault_number NoMemory = None
 abbrev pub row_of : ℕ → Data → Option (List (List ℕ))
 row_of columns d = array_of columns columns as_str d
 
--- rows, one after another
-abbrev pub joined_rows : {A : Type 0} → List (List A) → List A
-joined_rows [] = []
-joined_rows (row ∷ rows) = row ++ joined_rows rows
-
 -- the cell that a text names, where a file of so many columns has it
 abbrev pub cell_within : ℕ → List ℕ → Option Cell
 cell_within columns text = option_and_then (λ cell. if nat_lt (index cell.column) columns then Some cell else None) (cell_named text)
@@ -70,7 +66,7 @@ cells_of texts = map matrix_of texts ++ replicate (COLUMNS - length texts) (Some
 
 -- what the cells' texts in a file of so many columns stand for, row by row and column by column
 abbrev pub matrices_of : ℕ → Data → Option (List (Option (Option Symbol)))
-matrices_of columns d = option_map (λ rows. joined_rows (map cells_of rows)) (array_of ROWS ROWS (row_of columns) d)
+matrices_of columns d = option_map (λ rows. flat_map cells_of rows) (array_of ROWS ROWS (row_of columns) d)
 
 -- the rows of a file: how many columns each has, and what the cells' texts stand for
 pub record Sheet : Type 0 where

@@ -4,6 +4,7 @@
 //! column and its row. The file is TOML; of several faults the first in a fixed order is reported.
 #![tactic(auto)]
 
+pub mod laws;
 pub mod names;
 mod read;
 mod texts;
@@ -12,7 +13,6 @@ ghost use Rattle.std.specs.Prelude.{◌≡◌, ◌≢◌, Ok, Err, Some, None, I
 ghost use Rattle.toml.specs.Errors.{IsBlank};
 ghost use Rattle.desk_case.specs.File.{key_name, fault_number, table_fault, case_of, checked, is_descending, units_of_cells};
 ghost use Rattle.desk_case.specs.Case.{symbol_at, cell_of, is_fill, IsCase};
-ghost use Rattle.desk_case.specs.Laws.{CellsAndSymbolsAreInverse, NamesAreOneToOne, DoubledIsFirst, DescentIsOfAllPairs, NarrowCasesLackColumns};
 ghost use Rattle.desk_case.specs.declared.CaseFault.TheVariants as fault;
 
 use desk_keys::TableFault;
@@ -20,7 +20,7 @@ use desk_ops::Symbol;
 use desk_signals::Cell;
 use desk_wedge::Wedge;
 use indexmap::IndexMap;
-use std::alloc::{AllocError, Global};
+use std::alloc::{AllocError, AllocFailed, Global};
 use std::marker::Model;
 use thiserror::Error;
 
@@ -115,7 +115,18 @@ impl From<AllocError> for CaseFault {
 
     ghost from_gives = { λ _ why. why ≡ fault.NoMemory };
 
-    fn from(_: AllocError) -> CaseFault {
+    fn from(_error: AllocError) -> CaseFault {
+        CaseFault::NoMemory
+    }
+}
+
+impl<T: Drop> From<AllocFailed<T>> for CaseFault {
+    ghost use Rattle.std.specs.Prelude.{◌≡◌};
+    ghost use Rattle.desk_case.specs.declared.CaseFault.TheVariants as fault;
+
+    ghost from_gives = { λ _ why. why ≡ fault.NoMemory };
+
+    fn from(_error: AllocFailed<T>) -> CaseFault {
         CaseFault::NoMemory
     }
 }
@@ -230,28 +241,3 @@ fn descend(wedge: &Wedge, cells: &[Cell]) -> bool
     }
     true
 }
-
-/// A symbol's cell is the cell that holds it, in every case.
-pub fn cells_and_symbols_are_inverse()
-    ensures { CellsAndSymbolsAreInverse }
-{}
-
-/// Each text names at most one cell, and each cell has one name.
-pub fn names_are_one_to_one()
-    ensures { NamesAreOneToOne }
-{}
-
-/// The symbol that a file's fault names is the first in its order that stands in an earlier cell.
-pub fn doubled_is_first()
-    ensures { DoubledIsFirst }
-{}
-
-/// Units that descend are each above all later ones.
-pub fn descent_is_of_all_pairs()
-    ensures { DescentIsOfAllPairs }
-{}
-
-/// Where a file has not the columns NI and NL, its case holds nothing there, and has neither its space nor a fill there.
-pub fn narrow_cases_lack_columns()
-    ensures { NarrowCasesLackColumns }
-{}

@@ -182,9 +182,7 @@ fn grid(
         let Some(held) = matrix else {
             return Err(CaseFault::BadText(names::cell_of_place(at)));
         };
-        if grid.push(*held).is_err() {
-            return Err(CaseFault::NoMemory);
-        }
+        grid.push(*held)?;
     }
     Ok(grid)
 }
@@ -201,9 +199,7 @@ fn cells(alloc: Global, grid: &[Option<Symbol>]) -> Result<IndexMap<Symbol, Cell
             if cells.contains_key(symbol) {
                 return Err(CaseFault::Doubled(*symbol));
             }
-            let Ok(_) = cells.insert(*symbol, names::cell_of_place(at)) else {
-                return Err(CaseFault::NoMemory);
-            };
+            cells.insert(*symbol, names::cell_of_place(at))?;
         }
     }
     Ok(cells)

@@ -10,6 +10,7 @@ use crate::line::Begun;
 use crate::{CastFault, CastLine, CastMatrix};
 use desk_case::MatrixCase;
 use desk_case::names::is_same;
+use desk_memory::NoMemory;
 use desk_signals::{Cell, Position, RibbonRow, RowNo};
 use desk_units::{Atoms, WedgeSum, width};
 use desk_wedge::Wedge;
@@ -179,14 +180,11 @@ impl<A: Allocator + Copy> Caster<A> {
 fn with_line<A: Allocator + Copy>(
     sent: Vec<CastLine<A>, A>,
     line: CastLine<A>,
-) -> Result<Vec<CastLine<A>, A>, CastFault>
-    ensures ok { IfOk result (λ v. v.items ≡ sent.items ++ line ∷ []) }
-    ensures err { IfErr result (λ e. e ≡ fault.NoMemory) }
+) -> Result<Vec<CastLine<A>, A>, NoMemory>
+    ensures { IfOk result (λ v. v.items ≡ sent.items ++ line ∷ []) }
 {
     let mut sent = sent;
-    if sent.push(line).is_err() {
-        return Err(CastFault::NoMemory);
-    }
+    sent.push(line)?;
     Ok(sent)
 }
 

@@ -11,7 +11,8 @@ mod reading;
 
 pub use caster::cast;
 use desk_image::BadImage;
-use desk_ops::{NoMemory, Symbol};
+use desk_memory::NoMemory;
+use desk_ops::Symbol;
 use desk_signals::Cell;
 use desk_units::Atoms;
 pub use line::CastLine;

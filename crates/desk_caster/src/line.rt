@@ -5,7 +5,7 @@ ghost use Rattle.desk_caster.specs.Bounds.{IsWithin};
 ghost use Rattle.desk_caster.specs.Caster.{sent_out};
 
 use crate::CastMatrix;
-use desk_ops::NoMemory;
+use desk_memory::NoMemory;
 use desk_signals::Position;
 use desk_units::{Atoms, WedgeSum};
 use std::alloc::Allocator;

@@ -37,11 +37,7 @@ fn rows_of<A: Allocator>(
     for place in 0..number {
         let (image, after) = take_number(rest);
         match Image::new(image).to_row() {
-            Ok(row) => {
-                if rows.push(row).is_err() {
-                    return Err(RibbonFault::NoMemory);
-                }
-            }
+            Ok(row) => rows.push_reserved(row),
             Err(why) => return Err(RibbonFault::Row(place, why)),
         }
         rest = after;

@@ -1,9 +1,10 @@
 -- Lines, one after the other.
-use Rattle.std.proofs.Common.{◌≡◌, ◌∙◌, ℕ, ◌+◌, ◌<◌, Bool, true, false, ◌&&◌, List, [], ◌∷◌, ◌++◌, length, map, take, drop, get_or, refl, sym, ap, subst, append_assoc, append-nil, take-append-drop, add-one, drop-cons}
+use Rattle.std.proofs.Common.{◌≡◌, ◌∙◌, ℕ, ◌+◌, ◌<◌, Bool, true, false, ◌&&◌, List, [], ◌∷◌, ◌++◌, length, map, take, drop, get_or, refl, sym, ap, subst, append_assoc, append-nil}
 use Rattle.std.specs.Prelude.{Option}
 use Rattle.std.proofs.KnownBytes.{Appends-trans}
-use Rattle.std.proofs.lemmas.List.{map-append, map_more}
+use Rattle.std.proofs.lemmas.List.{map_more}
 use Rattle.desk_files.specs.Files.{Shelf}
+use Rattle.desk_hand.proofs.Joining.{place}
 use Rattle.desk_check.specs.Checking.{AreLines, IsChecked, IsLine, IsUnchecked, IsUnsaid, SaysLine}
 use Rattle.desk_check.specs.declared.fault.CheckFault.{CheckFault}
 
@@ -44,12 +45,7 @@ module _ {X : Type 0} (f : X → List ℕ) (xs : List X) (at : ℕ) (d : X) (lt 
       subst (λ ns. IsChecked ns first last before after (well && one)) (sym (map_more f xs at d lt))
       (checked_more (map f (take at xs)) (f (get_or xs at d)) first mid last before between after well one checked says)
 
-  place : map f xs ≡ map f (take at xs) ++ f (get_or xs at d) ∷ map f (drop (at + 1) xs)
-  place =
-      let cut : drop at xs ≡ get_or xs at d ∷ drop (at + 1) xs = rw (add-one, drop-cons xs at d) refl in
-      ap (map f) (sym (take-append-drop at xs)) ∙ map-append f (take at xs) (drop at xs) ∙ ap (λ l. map f (take at xs) ++ map f l) cut
-
   pub stops_at : (first mid last : Shelf) (before between after : Option (List ℕ)) (well : Bool) (fault : CheckFault) → IsChecked (map f (take at xs)) first mid before between well
       → IsUnsaid (f (get_or xs at d)) mid last between after fault → IsUnchecked (map f xs) first last before after fault
   stops_at first mid last before between after well fault checked unsaid =
-      (map f (take at xs), map f (drop (at + 1) xs), f (get_or xs at d), place, mid, between, well, checked, unsaid)
+      (map f (take at xs), map f (drop (at + 1) xs), f (get_or xs at d), place f xs at d lt, mid, between, well, checked, unsaid)

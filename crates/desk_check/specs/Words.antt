@@ -2,20 +2,16 @@
 use Rattle.std.specs.Prelude.{ℕ, ◌/◌, ◌%◌, ◌==◌, if◌then◌else◌, List, [], ◌∷◌, ◌++◌, length, codes, Option, Some, None, option_map, Result, Ok, Err}
 use Rattle.std.specs.Fmt.{decimal}
 use Rattle.desk_ops.specs.declared.op.Symbol.{Symbol}
-use Rattle.desk_ops.specs.declared.op.Unlawful.{Unlawful}
-use Rattle.desk_ops.specs.declared.op.Unlawful.TheVariants as causes
 use Rattle.desk_ops.specs.OpSet.{OpSet, max_ops, size}
 use Rattle.desk_ops.specs.Shown.{copy_of}
 use Rattle.desk_ops.specs.Faults.{faults_of}
 use Rattle.desk_codec.specs.declared.fault.FeedFault.{FeedFault}
 use Rattle.desk_codec.specs.declared.fault.FeedWhy.{FeedWhy}
 use Rattle.desk_codec.specs.declared.fault.FeedWhy.TheVariants as whys
-use Rattle.desk_signals.specs.declared.BadRow.{BadRow}
-use Rattle.desk_signals.specs.declared.BadRow.TheVariants as rows
 use Rattle.desk_signals.specs.declared.Cell.{Cell}
 use Rattle.desk_signals.specs.declared.RibbonRow.{RibbonRow}
 use Rattle.desk_image.specs.declared.BadImage.{BadImage}
-use Rattle.desk_image.specs.declared.BadImage.TheVariants as images
+use Rattle.desk_image.specs.Words.{bad_image_words}
 use Rattle.desk_caster.specs.declared.RibbonFault.{RibbonFault}
 use Rattle.desk_caster.specs.declared.RibbonFault.TheVariants as ribbons
 use Rattle.desk_units.specs.declared.Pica.{Pica}
@@ -27,7 +23,7 @@ use Rattle.desk_wedge.specs.declared.WedgeFault.TheVariants as wedges
 use Rattle.desk_case.specs.File as case_files
 use Rattle.desk_case.specs.Case.{CaseValues}
 use Rattle.desk_signals.specs.Words.{cell_words}
-use Rattle.desk_ops.specs.Words.{symbol_words}
+use Rattle.desk_ops.specs.Words.{symbol_words, unlawful_words}
 use Rattle.desk_case.specs.declared.CaseFault.{CaseFault}
 use Rattle.desk_case.specs.declared.CaseFault.TheVariants as cases
 use Rattle.desk_check.specs.Sorts.{sorts}
@@ -52,18 +48,10 @@ shown_words count = decimal count ++ codes " symbols shown, "
 abbrev pub set_words : OpSet → List ℕ
 set_words set = operations_words (size set) ++ shown_words (length (copy_of set)) ++ text (Faults (faults_of set))
 
-abbrev pub cause_words : Unlawful → List ℕ
-cause_words causes.Counter = codes "the counter is out of range"
-cause_words causes.Site = codes "no site has the number 0"
-cause_words causes.Target = codes "the target is not an earlier stamp"
-cause_words causes.Symbol = codes "no such symbol"
-cause_words causes.Key = codes "no such key"
-cause_words causes.Value = codes "the value is out of the key's range"
-
 abbrev pub why_words : FeedWhy → List ℕ
 why_words whys.Magic = codes "no feed begins so"
 why_words whys.Kind = codes "no such kind of operation"
-why_words (whys.Unlawful cause) = codes "unlawful: " ++ cause_words cause
+why_words (whys.Unlawful cause) = codes "unlawful: " ++ unlawful_words cause
 why_words whys.Cut = codes "cut off"
 why_words whys.Run = codes "no run has so many"
 
@@ -80,20 +68,8 @@ feed_words (Err Crowded) = Some crowded_words
 
 -- ---- ribbons
 
-abbrev pub row_words : BadRow → List ℕ
-row_words rows.TwoLetters = codes "two letters"
-row_words rows.TwoNumbers = codes "two numbers"
-row_words rows.FineAlone = codes "0005 without 0075"
-row_words rows.WedgeWithLetter = codes "0075 with a letter"
-row_words rows.WedgeWithS = codes "0075 with S"
-row_words rows.Repeated = codes "a signal stands twice"
-
-abbrev pub image_words : BadImage → List ℕ
-image_words images.HighBit = codes "bit 31 is set"
-image_words (images.Row why) = row_words why
-
 abbrev pub row_fault_words : ℕ → BadImage → List ℕ
-row_fault_words place why = codes "row " ++ decimal place ++ codes ": " ++ image_words why
+row_fault_words place why = codes "row " ++ decimal place ++ codes ": " ++ bad_image_words why
 
 -- the fault of a ribbon; where memory ran out, nothing is written
 abbrev pub ribbon_fault_words : RibbonFault → Option (List ℕ)

@@ -2,7 +2,7 @@
 
 ghost use Rattle.std.specs.Prelude.{◌≡◌, ◌++◌, IfOk, OnOk, false, string_bytes, true};
 ghost use Rattle.desk_check.specs.Lines.{SaysFeed};
-ghost use Rattle.desk_check.specs.Words.{cause_words, crowded_words, feed_fault_words, operations_words, set_words, shown_words, why_words};
+ghost use Rattle.desk_check.specs.Words.{crowded_words, feed_fault_words, operations_words, set_words, shown_words, why_words};
 
 use crate::reported::Reported;
 use desk_answers::{Reply, put};
@@ -11,23 +11,9 @@ use desk_codec::{FeedFault, FeedWhy};
 use desk_hand::ANY_SITE;
 use desk_held::LIMIT;
 use desk_memory::NoMemory;
-use desk_ops::Unlawful;
 use desk_replica::Replica;
 use desk_stored::{OpenFault, open_replica};
 use std::alloc::{AllocError, Allocator};
-
-fn cause_words(cause: Unlawful) -> &'static str
-    ensures { result.now ≡ cause_words cause }
-{
-    match cause {
-        Unlawful::Counter => "the counter is out of range",
-        Unlawful::Site => "no site has the number 0",
-        Unlawful::Target => "the target is not an earlier stamp",
-        Unlawful::Symbol => "no such symbol",
-        Unlawful::Key => "no such key",
-        Unlawful::Value => "the value is out of the key's range",
-    }
-}
 
 /// Writes what is wrong at a place of a feed.
 fn put_why<A: Allocator + Copy>(out: &mut String<A>, why: FeedWhy) -> Result<(), AllocError>
@@ -38,7 +24,7 @@ fn put_why<A: Allocator + Copy>(out: &mut String<A>, why: FeedWhy) -> Result<(),
         FeedWhy::Kind => out.push_str("no such kind of operation"),
         FeedWhy::Unlawful(cause) => {
             out.push_str("unlawful: ")?;
-            out.push_str(cause_words(cause))
+            out.push_str(cause.words())
         }
         FeedWhy::Cut => out.push_str("cut off"),
         FeedWhy::Run => out.push_str("no run has so many"),

@@ -2,36 +2,14 @@
 
 ghost use Rattle.std.specs.Prelude.{◌≡◌, ◌++◌, Err, IfOk, OnOk, Some, false, length, option_map, string_bytes, true};
 ghost use Rattle.desk_check.specs.Lines.{SaysRibbon};
-ghost use Rattle.desk_check.specs.Words.{image_words, ribbon_fault_words, ribbon_words, row_fault_words, row_words, rows_words};
+ghost use Rattle.desk_check.specs.Words.{ribbon_fault_words, ribbon_words, row_fault_words, rows_words};
 
 use crate::reported::Reported;
 use desk_caster::{RibbonFault, read_ribbon};
 use desk_image::BadImage;
 use desk_memory::NoMemory;
-use desk_signals::{BadRow, RibbonRow};
+use desk_signals::RibbonRow;
 use std::alloc::{AllocError, Allocator};
-
-fn row_words(why: BadRow) -> &'static str
-    ensures { result.now ≡ row_words why }
-{
-    match why {
-        BadRow::TwoLetters => "two letters",
-        BadRow::TwoNumbers => "two numbers",
-        BadRow::FineAlone => "0005 without 0075",
-        BadRow::WedgeWithLetter => "0075 with a letter",
-        BadRow::WedgeWithS => "0075 with S",
-        BadRow::Repeated => "a signal stands twice",
-    }
-}
-
-fn image_words(why: BadImage) -> &'static str
-    ensures { result.now ≡ image_words why }
-{
-    match why {
-        BadImage::HighBit => "bit 31 is set",
-        BadImage::Row(why) => row_words(why),
-    }
-}
 
 /// Writes what is wrong with the row at a place.
 fn put_row_fault<A: Allocator + Copy>(
@@ -42,7 +20,7 @@ fn put_row_fault<A: Allocator + Copy>(
     ensures { OnOk result (string_bytes out.new ≡ string_bytes out.old ++ row_fault_words place why) }
 {
     write!(out, "row {place}: ")?;
-    out.push_str(image_words(why))
+    out.push_str(why.words())
 }
 
 /// Writes the first fault of a ribbon, with the place of its row. Where the fault is that memory ran out, nothing is

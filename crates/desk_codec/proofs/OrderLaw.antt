@@ -15,16 +15,11 @@ use Rattle.desk_ops.specs.Op.{stamp_of}
 use Rattle.desk_ops.specs.Stamp.{stamp_cmp}
 use Rattle.desk_ops.specs.Order.{op_cmp, rest_of, style_code, key_code}
 use Rattle.desk_ops.proofs.Stamps.{stamp_total, stamp_tied}
-use Rattle.desk_ops.proofs.Means.{by_stamp}
+use Rattle.desk_ops.proofs.Means.{then-then, by_stamp}
 use Rattle.desk_codec.specs.Spelling.{spelling, stamp_spelling, IsStampValue, IsValue}
 use Rattle.desk_codec.specs.Order.{OrderOfBytes}
 
 -- ---- one answer after another
-
-then-assoc : (a b c : Ordering) → ordering_then (ordering_then a b) c ≡ ordering_then a (ordering_then b c)
-then-assoc Less b c = refl
-then-assoc Equal b c = refl
-then-assoc Greater b c = refl
 
 then-again : (a b : Ordering) → ordering_then a (ordering_then a b) ≡ ordering_then a b
 then-again Less b = refl
@@ -33,7 +28,7 @@ then-again Greater b = refl
 
 -- two answers that are one, before a third
 joined : (whole high low : Ordering) → whole ≡ ordering_then high low → (rest : Ordering) → ordering_then high (ordering_then low rest) ≡ ordering_then whole rest
-joined whole high low e rest = sym (then-assoc high low rest) ∙ ap (λ (o : Ordering). ordering_then o rest) (sym e)
+joined whole high low e rest = sym (then-then high low rest) ∙ ap (λ (o : Ordering). ordering_then o rest) (sym e)
 
 -- ---- a number by its parts
 
@@ -96,7 +91,7 @@ unfolding stamp_cmp
 stamp_order s t x y p q =
     number_order_8 s.counter t.counter (to_be_bytes w16 s.site ++ x) (to_be_bytes w16 t.site ++ y) p.0 q.0
     ∙ ap (λ (o : Ordering). ordering_then (nat_cmp s.counter t.counter) o) (number_order_2 s.site t.site x y p.1 q.1)
-    ∙ sym (then-assoc (nat_cmp s.counter t.counter) (nat_cmp s.site t.site) (slice_cmp nat_cmp x y))
+    ∙ sym (then-then (nat_cmp s.counter t.counter) (nat_cmp s.site t.site) (slice_cmp nat_cmp x y))
 
 -- ---- operations
 
@@ -109,7 +104,7 @@ target_order : (s t : Stamp) (x y : List ℕ) (rest : Ordering) → IsStampValue
     → slice_cmp nat_cmp (stamp_spelling s ++ x) (stamp_spelling t ++ y) ≡ ordering_then (nat_cmp s.counter t.counter) (ordering_then (nat_cmp s.site t.site) rest)
 unfolding stamp_cmp
 target_order s t x y rest p q e =
-    stamp_order s t x y p q ∙ then-assoc (nat_cmp s.counter t.counter) (nat_cmp s.site t.site) (slice_cmp nat_cmp x y)
+    stamp_order s t x y p q ∙ then-then (nat_cmp s.counter t.counter) (nat_cmp s.site t.site) (slice_cmp nat_cmp x y)
     ∙ ap (λ (o : Ordering). ordering_then (nat_cmp s.counter t.counter) (ordering_then (nat_cmp s.site t.site) o)) e
 
 rest_order : (o p : Op) → IsValue o → IsValue p → ordering_then (stamp_cmp (stamp_of o) (stamp_of p)) (slice_cmp nat_cmp (rest_of o) (rest_of p)) ≡ ordering_then (stamp_cmp (stamp_of o) (stamp_of p)) (slice_cmp nat_cmp (spelling o) (spelling p))

@@ -29,11 +29,17 @@ pub const LEAST_SIZE: usize = 16;
 /// The most bytes that an operation or a run takes.
 pub const MOST_SIZE: usize = 342;
 
+/// The most bytes that an operation takes which is not in a run.
+pub const MOST_OP_SIZE: usize = 26;
+
 /// The byte that a run begins with.
 pub const RUN_KIND: u8 = 4;
 
 /// How many bytes of a run come before its symbols: its kind, its two stamps, and its count.
 pub const RUN_PREFIX: usize = 22;
+
+/// How many bytes a stamp takes.
+pub const STAMP_SIZE: usize = 10;
 
 /// How many bytes a symbol of a run takes.
 pub const SYMBOL_SIZE: usize = 5;

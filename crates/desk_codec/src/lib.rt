@@ -18,10 +18,11 @@ mod writing;
 
 pub use fault::{FeedFault, FeedWhy, ReadFault};
 pub use laws::{
-    law_of_feed_or_fault, law_of_item_or_fault, law_of_one_feed, law_of_one_list, law_of_order,
-    law_of_pieces, law_of_prefixes, law_of_sizes,
+    each_kind_has_its_size, feed_or_fault_holds, feeds_are_of_one_list, item_or_fault_holds,
+    operations_are_prefix_free, operations_have_one_feed, order_goes_by_bytes, pieces_are_the_feed,
+    runs_are_read,
 };
 pub use reader::FeedReader;
 pub use reading::{next_op, read_feed};
-pub use runs::{law_of_runs, write_runs};
+pub use runs::write_runs;
 pub use writing::{write_feed, write_op};

@@ -22,12 +22,12 @@ use std::alloc::Allocator;
 use std::marker::Model;
 
 /// Reads a feed that comes in pieces, cut anywhere. It is seen as the form of the feed, if its magic was read, the number of
-/// bytes taken, the bytes kept of a magic, operation or run that is not whole yet, and whether it answers `Failed` from now on.
+/// bytes taken, the bytes kept of a magic, operation or run that is not whole yet, and whether it returns `Failed` from now on.
 #[derive(Drop)]
 pub struct FeedReader {
     form: Option<FeedForm>,
     taken: u64,
-    kept: ArrayVec<u8, 342>,
+    kept: ArrayVec<u8, MOST_SIZE>,
     /// So many bytes at least are lacking until something is whole or wrong.
     missing: usize,
     failed: bool,
@@ -68,7 +68,7 @@ impl FeedReader {
     }
 
     /// The operations whose last byte comes in this piece, or the first fault that the pieces so far show. A run counts as one
-    /// operation: all its inserts come with its last byte. After a fault every call answers `Failed`. `NoMemory` comes of a piece
+    /// operation: all its inserts come with its last byte. After a fault every call returns `Failed`. `NoMemory` comes of a piece
     /// that shows no fault, and the piece was not taken. All pieces together have fewer than 2^63 bytes.
     pub fn feed<A: Allocator>(&mut self, alloc: A, piece: &[u8]) -> Result<Vec<Op, A>, ReadFault>
         requires { self.old.taken + length piece.now < 2 ^ 63 }
@@ -123,7 +123,7 @@ impl FeedReader {
         }
     }
 
-    /// Whether the pieces so far are a whole feed, or else the fault of their end. From now on every call answers `Failed`.
+    /// Whether the pieces so far are a whole feed, or else the fault of their end. From now on every call returns `Failed`.
     pub fn finish(&mut self) -> Result<(), ReadFault>
         ensures whole { IfOk result (λ _. IsWhole self.old) }
         ensures refused { IfErr result (λ fault. RefusesEnd self.old fault) }
@@ -151,8 +151,8 @@ impl FeedReader {
 }
 
 /// Keeps a piece, behind what was kept before it. One byte needs no copy.
-fn keep_more(kept: &mut ArrayVec<u8, 342>, piece: &[u8])
-    requires { array_vec_len kept.old + length piece.now ≤ 342 }
+fn keep_more(kept: &mut ArrayVec<u8, MOST_SIZE>, piece: &[u8])
+    requires { array_vec_len kept.old + length piece.now ≤ MOST_SIZE }
     ensures { kept.new.items ≡ kept.old.items ++ piece.now }
 {
     match piece {
@@ -162,8 +162,8 @@ fn keep_more(kept: &mut ArrayVec<u8, 342>, piece: &[u8])
 }
 
 /// Keeps the end of a piece, behind what was kept before it or in place of that.
-fn keep(kept: &mut ArrayVec<u8, 342>, is_behind: bool, rest: &[u8])
-    requires { length (kept_after is_behind kept.old.items rest.now) ≤ 342 }
+fn keep(kept: &mut ArrayVec<u8, MOST_SIZE>, is_behind: bool, rest: &[u8])
+    requires { length (kept_after is_behind kept.old.items rest.now) ≤ MOST_SIZE }
     ensures { kept.new.items ≡ kept_after is_behind kept.old.items rest.now }
 {
     if !is_behind {
@@ -243,7 +243,7 @@ fn item_in<A: Allocator>(
 /// what is wrong, `Cut` where it is not whole yet. What was kept stays.
 fn first_item<'a, A: Allocator>(
     form: FeedForm,
-    kept: &mut ArrayVec<u8, 342>,
+    kept: &mut ArrayVec<u8, MOST_SIZE>,
     piece: &'a [u8],
     ops: &mut Gathered<A>,
 ) -> Result<&'a [u8], FeedWhy>
@@ -316,7 +316,7 @@ fn read_items<'a, A: Allocator>(
     alloc: A,
     form: FeedForm,
     place: u64,
-    kept: &mut ArrayVec<u8, 342>,
+    kept: &mut ArrayVec<u8, MOST_SIZE>,
     piece: &'a [u8],
 ) -> Result<PieceRead<'a, A>, FeedFault>
     requires unended { IsUnended form kept.old.items }
@@ -353,7 +353,7 @@ fn read_piece<'a, A: Allocator>(
     alloc: A,
     form: Option<FeedForm>,
     place: u64,
-    kept: &mut ArrayVec<u8, 342>,
+    kept: &mut ArrayVec<u8, MOST_SIZE>,
     piece: &'a [u8],
 ) -> Result<PieceRead<'a, A>, FeedFault>
     requires resumes { Resumes form place kept.old.items }

@@ -48,7 +48,7 @@ fn operations_of<A: Allocator>(alloc: A, bytes: &[u8]) -> Result<Vec<Op, A>, Rea
     Ok(ops)
 }
 
-/// The operations of a feed, or the first fault of bytes that are none. It never answers `Failed`.
+/// The operations of a feed, or the first fault of bytes that are none. It never returns `Failed`.
 pub fn read_feed<A: Allocator>(alloc: A, bytes: &[u8]) -> Result<Vec<Op, A>, ReadFault>
     ensures feed { IfOk result (λ ops. IsFeed bytes.now ops.items) }
     ensures lawful { IfOk result (λ ops. All IsLawful ops.items) }

@@ -15,15 +15,13 @@ ghost use Rattle.desk_codec.specs.Items.{run_ops, item_ops, symbol_spelling, ite
 ghost use Rattle.desk_codec.specs.Feed.{IsFeed};
 ghost use Rattle.desk_codec.specs.Runs.{next_insert, chain, item_of, item_at, runs_feed, runs_ops};
 ghost use Rattle.desk_codec.specs.RunSteps.{IsAt, IsNextAt, IsWrittenTo, MarksAlso};
-ghost use Rattle.desk_codec.specs.RunLaws.{RunsAreRead};
 
-use crate::form::{MOST_RUN, RUN_KIND, RUNS_MAGIC};
-use crate::writing::put_op;
-use desk_ops::{NoMemory, Op, Stamp, Symbol};
+use crate::form::{MOST_OP_SIZE, MOST_RUN, RUN_KIND, RUNS_MAGIC, STAMP_SIZE, SYMBOL_SIZE};
+use crate::writing::{put_op, put_stamp, put_symbol};
+use arrayvec::ArrayVec;
+use desk_memory::NoMemory;
+use desk_ops::{Op, Stamp, Symbol};
 use std::alloc::{AllocError, Allocator};
-
-/// The most bytes that an operation takes in a feed of runs.
-const LARGEST_SIZE: usize = 26;
 
 /// The first place after `at` whose operation does not bear a smaller stamp, where the one at `at` does. What is near is
 /// found first.
@@ -192,16 +190,18 @@ fn take_item<A: Allocator>(
 fn push_stamp<A: Allocator>(out: &mut Vec<u8, A>, stamp: &Stamp) -> Result<(), AllocError>
     ensures { OnOk result (out.new.items ≡ out.old.items ++ stamp_spelling stamp.now) }
 {
-    out.extend_from_slice(&stamp.counter.to_be_bytes())?;
-    out.extend_from_slice(&stamp.site.to_be_bytes())
+    let mut bytes: ArrayVec<u8, STAMP_SIZE> = ArrayVec::new();
+    put_stamp(&mut bytes, stamp);
+    out.extend_from_slice(bytes.as_slice())
 }
 
 /// Appends a symbol.
 fn push_symbol<A: Allocator>(out: &mut Vec<u8, A>, symbol: &Symbol) -> Result<(), AllocError>
     ensures { OnOk result (out.new.items ≡ out.old.items ++ symbol_spelling symbol.now) }
 {
-    out.extend_from_slice(&[symbol.style as u8])?;
-    out.extend_from_slice(&u32::from(symbol.ch).to_be_bytes())
+    let mut bytes: ArrayVec<u8, SYMBOL_SIZE> = ArrayVec::new();
+    put_symbol(&mut bytes, symbol);
+    out.extend_from_slice(bytes.as_slice())
 }
 
 /// Appends an item: a run of an insert's symbols, where they are two or more, or else the operation.
@@ -267,7 +267,7 @@ pub fn write_runs<A: Allocator + Copy>(alloc: A, ops: &[Op]) -> Result<Vec<u8, A
 {
     let mut written = vec![in alloc; false; ops.len()]?;
     let mut symbols = Vec::with_capacity(alloc, MOST_RUN)?;
-    let mut out = Vec::with_capacity(alloc, RUNS_MAGIC.len() + LARGEST_SIZE * ops.len())?;
+    let mut out = Vec::with_capacity(alloc, RUNS_MAGIC.len() + MOST_OP_SIZE * ops.len())?;
     out.extend_from_slice(&RUNS_MAGIC)?;
     for at in 0..ops.len() {
         let op = ops[at];
@@ -275,8 +275,3 @@ pub fn write_runs<A: Allocator + Copy>(alloc: A, ops: &[Op]) -> Result<Vec<u8, A
     }
     Ok(out)
 }
-
-/// What is written is read: as a list that has the operations, each once.
-pub fn law_of_runs()
-    ensures { RunsAreRead }
-{}

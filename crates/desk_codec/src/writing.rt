@@ -6,11 +6,13 @@ ghost use Rattle.desk_ops.specs.declared.op.Op.{Op};
 ghost use Rattle.desk_ops.specs.Op.{IsLawful};
 ghost use Rattle.desk_ops.specs.Order.{style_code, key_code};
 ghost use Rattle.desk_codec.specs.Spelling.{stamp_spelling, spelling, IsValue};
+ghost use Rattle.desk_codec.specs.Items.{symbol_spelling};
 ghost use Rattle.desk_codec.specs.Feed.{feed, IsFeed};
 
-use crate::form::{Kind, MAGIC};
+use crate::form::{Kind, MAGIC, MOST_OP_SIZE};
 use arrayvec::ArrayVec;
-use desk_ops::{Key, NoMemory, Op, Stamp, Style};
+use desk_memory::NoMemory;
+use desk_ops::{Key, Op, Stamp, Style, Symbol};
 use std::alloc::{AllocError, Allocator};
 
 /// Appends bytes, for which there is room.
@@ -22,8 +24,9 @@ pub fn put<const N: usize>(out: &mut ArrayVec<u8, N>, bytes: &[u8])
     out.try_extend_from_slice(bytes).unwrap()
 }
 
-fn put_stamp(out: &mut ArrayVec<u8, 26>, stamp: &Stamp)
-    requires { array_vec_len out.old + 10 ≤ 26 }
+/// Appends a stamp, for which there is room.
+pub fn put_stamp<const N: usize>(out: &mut ArrayVec<u8, N>, stamp: &Stamp)
+    requires { array_vec_len out.old + 10 ≤ N }
     ensures items { out.new.items ≡ out.old.items ++ stamp_spelling stamp.now }
     ensures len { array_vec_len out.new ≡ array_vec_len out.old + 10 }
 {
@@ -43,8 +46,18 @@ fn key_byte(key: Key) -> u8
     key as u8
 }
 
+/// Appends a symbol, for which there is room.
+pub fn put_symbol<const N: usize>(out: &mut ArrayVec<u8, N>, symbol: &Symbol)
+    requires { array_vec_len out.old + 5 ≤ N }
+    ensures items { out.new.items ≡ out.old.items ++ symbol_spelling symbol.now }
+    ensures len { array_vec_len out.new ≡ array_vec_len out.old + 5 }
+{
+    out.push(style_byte(symbol.style));
+    put(out, &u32::from(symbol.ch).to_be_bytes());
+}
+
 /// The bytes of an operation.
-pub fn write_op(op: &Op) -> ArrayVec<u8, 26>
+pub fn write_op(op: &Op) -> ArrayVec<u8, MOST_OP_SIZE>
     requires { IsLawful op.now }
     ensures { result.items ≡ spelling op.now }
 {
@@ -58,8 +71,7 @@ pub fn write_op(op: &Op) -> ArrayVec<u8, 26>
             out.push(Kind::Insert as u8);
             put_stamp(&mut out, stamp);
             put_stamp(&mut out, parent);
-            out.push(style_byte(symbol.style));
-            put(&mut out, &u32::from(symbol.ch).to_be_bytes());
+            put_symbol(&mut out, symbol);
         }
         Op::Delete { stamp, target } => {
             out.push(Kind::Delete as u8);

@@ -3,17 +3,17 @@
 ghost use Rattle.desk_commands.specs.Laws.{CopyIsReadAgain, CopyIsItsSpelling, RunsAreLongest};
 
 /// What is written for a copy is read again as that copy.
-pub fn law_of_copy()
+pub fn copy_is_read_again()
     ensures { CopyIsReadAgain }
 {}
 
 /// The characters that are read as a copy are those that spell it: runs separated by one space, each the letter of a style and
 /// one or more characters in quotes, with three escapes.
-pub fn law_of_spelling()
+pub fn copy_is_its_spelling()
     ensures { CopyIsItsSpelling }
 {}
 
 /// What is written for a copy are its runs, each the longest of its style.
-pub fn law_of_longest_runs()
+pub fn runs_are_longest()
     ensures { RunsAreLongest }
 {}

@@ -9,6 +9,6 @@ mod reader;
 mod writing;
 
 pub use command::{Command, ParseError};
-pub use laws::{law_of_copy, law_of_longest_runs, law_of_spelling};
+pub use laws::{copy_is_its_spelling, copy_is_read_again, runs_are_longest};
 pub use reader::parse;
 pub use writing::put_copy;

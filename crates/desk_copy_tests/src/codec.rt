@@ -1,7 +1,8 @@
 use crate::ops::is_written;
 use crate::read_runs::RUN_AB;
 use desk_codec::{FeedFault, FeedWhy, ReadFault, next_op, read_feed, write_feed, write_op};
-use desk_ops::{Key, NoMemory, Op, Stamp, Style, Symbol, Unlawful};
+use desk_memory::NoMemory;
+use desk_ops::{Key, Op, Stamp, Style, Symbol, Unlawful};
 use linked_list_allocator::LocalHeap;
 use std::alloc::{Allocator, Global};
 use std::test::Fail;

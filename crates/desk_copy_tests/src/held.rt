@@ -3,7 +3,8 @@ ghost use Rattle.desk_ops.specs.Op.{IsLawful};
 
 use crate::ops::is_written;
 use desk_held::{AddRefusal, Added, Held, LIMIT, Stopped};
-use desk_ops::{Key, NoMemory, Op, Stamp, Style, Symbol};
+use desk_memory::NoMemory;
+use desk_ops::{Key, Op, Stamp, Style, Symbol};
 use linked_list_allocator::LocalHeap;
 use std::alloc::{Allocator, Global};
 use std::test::Fail;

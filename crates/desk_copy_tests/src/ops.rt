@@ -1,15 +1,18 @@
+use desk_memory::NoMemory;
 use desk_ops::op::MAX_COUNTER;
-use desk_ops::{CopyFault, FaultKind, Key, NoMemory, Op, Stamp, Style, Symbol, Unlawful};
+use desk_ops::{CopyFault, FaultKind, Key, Op, Stamp, Style, Symbol, Unlawful};
 use std::alloc::Global;
 use std::cmp::Ordering;
 use std::fmt::Display;
 use std::test::Fail;
 
-fn at(counter: u64, site: u16) -> Stamp {
+/// The stamp of this counter and site.
+pub fn at(counter: u64, site: u16) -> Stamp {
     Stamp { counter, site }
 }
 
-fn typed(stamp: Stamp, parent: Stamp, ch: char) -> Op {
+/// The insert of a Roman character.
+pub fn typed(stamp: Stamp, parent: Stamp, ch: char) -> Op {
     Op::Insert {
         stamp,
         parent,

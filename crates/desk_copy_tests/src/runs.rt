@@ -1,24 +1,11 @@
+use crate::ops::{at, typed};
 use desk_codec::{read_feed, write_runs};
 use desk_held::Held;
-use desk_ops::{Key, NoMemory, Op, Stamp, Style, Symbol};
+use desk_memory::NoMemory;
+use desk_ops::{Key, Op, Stamp, Style, Symbol};
 use linked_list_allocator::LocalHeap;
 use std::alloc::{AllocError, Allocator, Global};
 use std::test::Fail;
-
-fn at(counter: u64, site: u16) -> Stamp {
-    Stamp { counter, site }
-}
-
-fn typed(stamp: Stamp, parent: Stamp, ch: char) -> Op {
-    Op::Insert {
-        stamp,
-        parent,
-        symbol: Symbol {
-            style: Style::Roman,
-            ch,
-        },
-    }
-}
 
 /// Lawful operations as a replica holds them.
 fn held_of(alloc: Global, ops: &[Op]) -> Result<Held<Global>, Fail> {

@@ -4,7 +4,7 @@ ghost use Rattle.desk_difference.specs.Laws.{EqualSetsAreReportedSo, EqualCopies
 
 /// Of two sets that are one it is reported that each has nothing alone, and nothing else; and there are lines of words exactly
 /// where the copies are not one.
-pub fn law_of_differences()
+pub fn equals_have_no_differences()
     ensures sets { EqualSetsAreReportedSo }
     ensures copies { EqualCopiesHaveNoWords }
 {}

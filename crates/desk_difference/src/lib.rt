@@ -12,5 +12,5 @@ mod stretches;
 mod words;
 
 pub use fault::DifferenceFault;
-pub use laws::law_of_differences;
+pub use laws::equals_have_no_differences;
 pub use reporting::report_difference;

@@ -156,7 +156,7 @@ pub record IsNowHeld (name : List ℕ) (before after : Shelf) : Type 0 where
 abbrev pub IsHeldAlone : List ℕ → Shelf → Shelf → Type 0
 IsHeldAlone name before after = (before.held ≡ Free) × ((after.held ≡ Untouched name) ⊎ (after.held ≡ Touched name))
 
--- a file is not stored for want of a place: the name, or that of the writing, can stand for no file
+-- a file is not stored since a place is missing: the name, or that of the writing, can stand for no file
 abbrev pub HasNoPlace : List ℕ → Names → Type 0
 HasNoPlace name before = IsNowhere (before (new_name name)) ⊎ IsNowhere (before name)
 

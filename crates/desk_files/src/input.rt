@@ -1,10 +1,11 @@
 //! A reader, read to its end.
 
-ghost use Rattle.std.specs.Prelude.{◌≤◌, IfErr, IfOk, length};
+ghost use Rattle.std.specs.Prelude.{◌≡◌, ◌≤◌, IfErr, IfOk, length};
 ghost use Rattle.std.specs.Io.KnownBytes.{Consumes, IsAtEnd};
 ghost use Rattle.desk_files.specs.Input.{IsInput, IsNotWhole, IsReadTo};
+ghost use Rattle.desk_files.specs.declared.input.ReaderFault.TheVariants as faults;
 
-use std::alloc::Allocator;
+use std::alloc::{AllocError, Allocator};
 use std::io::Read;
 use thiserror::Error;
 
@@ -23,6 +24,14 @@ pub enum ReaderFault {
     /// Its bytes were not kept.
     #[error("no memory")]
     NoMemory,
+}
+
+impl From<AllocError> for ReaderFault {
+    ghost from_gives = { λ _ why. why ≡ faults.NoMemory };
+
+    fn from(_error: AllocError) -> ReaderFault {
+        ReaderFault::NoMemory
+    }
 }
 
 /// All that a reader has left, `most` bytes at most. Where that is too long the rest is left unread.
@@ -47,9 +56,7 @@ pub fn read_whole<R: Read, A: Allocator + Copy>(
                 if n > most - bytes.len() {
                     return Err(ReaderFault::TooLong);
                 }
-                let Ok(()) = bytes.extend_from_slice(&chunk[..n]) else {
-                    return Err(ReaderFault::NoMemory);
-                };
+                bytes.extend_from_slice(&chunk[..n])?;
             }
             Err(_) => return Err(ReaderFault::Failed),
         }

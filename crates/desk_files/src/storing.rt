@@ -32,9 +32,7 @@ pub fn store<F: Files, A: Allocator + Copy>(
     ensures ok { OnOk result (IsReplaced name.now bytes.now (F.shelf files.old).kept (F.shelf files.new).kept) }
     ensures err { OnErr result (Spares (new_name name.now) (F.shelf files.old).kept (F.shelf files.new).kept) }
 {
-    let Ok(new) = new_name(alloc, name) else {
-        return Err(FileRefusal::NoMemory);
-    };
+    let new = new_name(alloc, name)?;
     files.write_new(new.as_str(), bytes)?;
     files.rename(new.as_str(), name)
 }

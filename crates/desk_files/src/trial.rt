@@ -305,7 +305,7 @@ impl<A: Allocator + Copy> TrialFiles<A> {
         self.failures = self.failures.saturating_add(1);
     }
 
-    /// Counts a call, and answers whether it fails.
+    /// Counts a call, and returns whether it fails.
     fn fails(&mut self) -> bool
         ensures answer { result ≡ nat_eq self.new.calls self.old.failing_call }
         ensures calls { self.new.calls ≡ one_more self.old.calls }

@@ -1,6 +1,6 @@
 -- The lines of a copy, one by one.
-use Rattle.std.specs.Prelude.{◌≡◌, ℕ, suc, ◌+◌, ◌-◌, ◌≤◌, Bool, not, ◌||◌, ◌==◌, pos, List, [], ◌∷◌, ◌++◌, length, drop, Option, Ok, IfSome, option_and_then, if◌then◌else◌}
-use Rattle.std.specs.List.{All, flat_map, zip}
+use Rattle.std.specs.Prelude.{◌≡◌, ℕ, suc, ◌+◌, ◌-◌, ◌≤◌, Bool, not, ◌||◌, ◌==◌, pos, List, [], ◌∷◌, ◌++◌, length, drop, Option, Ok, IfSome, option_and_then}
+use Rattle.std.specs.List.{All, flat_map}
 use Rattle.desk_ops.specs.declared.op.Symbol.{Symbol}
 use Rattle.desk_ops.specs.declared.op.Key.{Key}
 use Rattle.desk_lines.specs.declared.words.Word.{Word}
@@ -13,7 +13,7 @@ use Rattle.desk_ribbon.specs.declared.Punch.{Punch}
 use Rattle.desk_signals.specs.declared.RibbonRow.{RibbonRow}
 use Rattle.desk_units.specs.WedgeSum.{pair_of}
 use Rattle.desk_job.specs.declared.JobFault.{JobFault}
-use Rattle.desk_job.specs.Job.{Terms, measure, tight_space, widths, lacking, terms_of, terms_fault, values_of as given_values, words_punches, space_punch, fill_punches, rows_at, or_faults}
+use Rattle.desk_job.specs.Job.{Terms, measure, tight_space, widths, lacking, terms_of, terms_fault, values_of as given_values, line_punches, rows_at, or_faults}
 use Rattle.desk_job.specs.Making.{group_words}
 use Rattle.desk_job.specs.Setting.{IsWord, words_at}
 use Rattle.desk_galley.specs.Line.{Placed, values_of}
@@ -77,9 +77,7 @@ galley_faults galley = or_faults galley.lacking (flat_map (λ line. line.faults)
 
 -- the matrices of a line
 abbrev pub matrices_of : CaseValues → List Symbol → LineValues → List Punch
-matrices_of case copy line =
-    words_punches case (words_at copy line.words)
-    ++ ((if line.added then space_punch case ∷ [] else []) ++ fill_punches (zip line.fills case.fill))
+matrices_of case copy line = line_punches case (words_at copy line.words) line.added line.fills
 
 -- its rows: the matrices, and the positions of its wedge sum
 abbrev pub rows_of_line : CaseValues → List Symbol → LineValues → List RibbonRow

@@ -1,11 +1,12 @@
 //! A line as it is set, or as it fails.
 
 ghost use Rattle.std.specs.Prelude.{◌≡◌, ◌+◌, ◌-◌, ◌*◌, ◌≤◌, ◌^◌, pos, ◌+ℤ◌, ◌-ℤ◌, ◌*ℤ◌, ◌≤ℤ◌, int_lt, length, drop, option_and_then, IfOk};
+ghost use Rattle.std.specs.Option.{option_to_list};
 ghost use Rattle.desk_lines.specs.Groups.{AreWidths};
 ghost use Rattle.desk_lines.specs.Words.{most_words};
 ghost use Rattle.desk_justify.specs.Positions.{sum_of};
 ghost use Rattle.desk_job.specs.Job as job;
-ghost use Rattle.desk_job.specs.Setting.{listed, words_at};
+ghost use Rattle.desk_job.specs.Setting.{words_at};
 ghost use Rattle.desk_job.specs.Terms.{longest_measure, most_over};
 ghost use Rattle.desk_job.specs.Making.{IsRange, group_words};
 ghost use Rattle.desk_galley.specs.Line.{next_at, sum_if, values_of};
@@ -17,7 +18,8 @@ use desk_job::JobFault;
 use desk_job::setting::{fills, has_added, left, rest, spaces, total};
 use desk_job::terms::{Terms, whole};
 use desk_lines::{Group, Word};
-use desk_ops::{NoMemory, Symbol};
+use desk_memory::NoMemory;
+use desk_ops::Symbol;
 use desk_signals::Position;
 use desk_units::{Atoms, WedgeSum, floor_steps};
 use std::alloc::Allocator;
@@ -51,12 +53,12 @@ pub struct Line<A: Allocator> {
 }
 
 impl<A: Allocator> Model for Line<A> {
-    ghost use Rattle.desk_job.specs.Setting.{listed};
+    ghost use Rattle.std.specs.Option.{option_to_list};
     ghost use Rattle.desk_galley.specs.Values.{LineValues};
 
     ghost Value = { LineValues };
 
-    ghost view = { λ l. record { number = l.number; words = l.words.items; filled = l.filled; added = l.added; spaces = l.spaces; width = l.width; rest = l.rest; fills = l.fills.items; wedge_sum = l.wedge_sum; faults = listed l.fault; next = l.next } };
+    ghost view = { λ l. record { number = l.number; words = l.words.items; filled = l.filled; added = l.added; spaces = l.spaces; width = l.width; rest = l.rest; fills = l.fills.items; wedge_sum = l.wedge_sum; faults = option_to_list l.fault; next = l.next } };
 }
 
 impl<A: Allocator> Line<A> {
@@ -126,7 +128,7 @@ impl<A: Allocator> Line<A> {
 
     /// Why it can't be set, if so.
     pub fn fault(&self) -> Option<JobFault>
-        ensures { listed result ≡ self.now.faults }
+        ensures { option_to_list result ≡ self.now.faults }
     {
         self.fault
     }
@@ -194,7 +196,7 @@ fn fault_at(
 ) -> Option<JobFault>
     requires spaces { spaces ≤ 2 ^ 32 }
     requires limit { left ≤ℤ pos longest_measure }
-    ensures { listed result ≡ job.sum_fault terms.now number filled spaces (sum_of left spaces) }
+    ensures { option_to_list result ≡ job.sum_fault terms.now number filled spaces (sum_of left spaces) }
 {
     let Some(sum) = sum_at(left, spaces) else {
         return Some(JobFault::TooWide(number));

@@ -6,8 +6,9 @@ ghost use Rattle.desk_galley.specs.Galley.{matrices_of};
 
 use crate::line::Line;
 use desk_case::MatrixCase;
-use desk_job::punch::{add_fills, add_space, add_words};
-use desk_ops::{NoMemory, Symbol};
+use desk_job::punch::line_punches;
+use desk_memory::NoMemory;
+use desk_ops::Symbol;
 use desk_ribbon::Punch;
 use std::alloc::Allocator;
 
@@ -25,11 +26,12 @@ pub fn matrices<A: Allocator + Copy>(
     // No matrices take no memory.
     ensures memory { IfErr result (λ _. 1 ≤ length (matrices_of case.now copy.now line.now)) }
 {
-    let mut found = Vec::new(alloc);
-    add_words(&mut found, case, copy, line.words())?;
-    if line.has_added() {
-        add_space(&mut found, case)?;
-    }
-    add_fills(&mut found, line.fills(), case.fill())?;
-    Ok(found)
+    line_punches(
+        alloc,
+        case,
+        copy,
+        line.words(),
+        line.has_added(),
+        line.fills(),
+    )
 }

@@ -172,7 +172,7 @@ placed site old now text made why makes among place = never_placeless site old n
 -- so many operations are made as there are changes, and these are sparing
 pub sparing_made : (from to : List Symbol) (made : List Change) (inserted deleted : ℕ) → inserted ≡ inserts_of made → deleted ≡ deletes_of made → AreSparing from to made → IsSparing from to (inserted + deleted)
 sparing_made from to made inserted deleted is are sparing =
-    (sparing.prefix, sparing.back, sparing.begins, sparing.ends, few_made made inserted deleted (between (sparing.prefix + sparing.back) from + between (sparing.prefix + sparing.back) to) is are sparing.few)
+    (sparing.prefix, sparing.suffix, sparing.begins, sparing.ends, few_made made inserted deleted (between (sparing.prefix + sparing.suffix) from + between (sparing.prefix + sparing.suffix) to) is are sparing.few)
 
 -- ---- a text that is lawful
 

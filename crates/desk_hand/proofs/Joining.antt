@@ -70,7 +70,8 @@ module _ {X : Type 0} (f : X → List ℕ) (xs : List X) (at : ℕ) (d : X) (lt 
       subst (λ ns. IsJoined before ns old after reported_after) (sym (map_more f xs at d lt))
       (joined_more before (map f (take at xs)) (f (get_or xs at d)) old set after reported reported_after joined (subst (λ (k : Names). Joins k (f (get_or xs at d)) set after reported reported_after) same one))
 
-  place : map f xs ≡ map f (take at xs) ++ f (get_or xs at d) ∷ map f (drop (at + 1) xs)
+  -- the place at in what f makes of all
+  pub place : map f xs ≡ map f (take at xs) ++ f (get_or xs at d) ∷ map f (drop (at + 1) xs)
   place =
       let cut : drop at xs ≡ get_or xs at d ∷ drop (at + 1) xs = rw (add-one, drop-cons xs at d) refl in
       ap (map f) (sym (take-append-drop at xs)) ∙ map-append f (take at xs) (drop at xs) ∙ ap (λ l. map f (take at xs) ++ map f l) cut

@@ -121,7 +121,7 @@ pub record IsRevised (site : ℕ) (old now : OpSet) (text : List Symbol) (insert
 
 -- no more than two copies have symbols between what both begin with and what both end with
 abbrev pub IsSparing : List Symbol → List Symbol → ℕ → Type 0
-IsSparing from to count = (prefix back : ℕ) × IsSharedPrefix from to prefix × IsSharedEnd from to prefix back × (count ≤ between (prefix + back) from + between (prefix + back) to)
+IsSparing from to count = (prefix suffix : ℕ) × IsSharedPrefix from to prefix × IsSharedEnd from to prefix suffix × (count ≤ between (prefix + suffix) from + between (prefix + suffix) to)
 
 -- of changes that make the copy a text, and leave what both begin with, one is refused with this cause; and the set is what those before it made of the old one
 abbrev pub IsRefusedIn : ℕ → OpSet → OpSet → List Symbol → Refusal → Type 0

@@ -9,7 +9,8 @@ ghost use Rattle.desk_ops.specs.Op.{IsLawful};
 ghost use Rattle.desk_ops.specs.OpSet.{no_ops, has_op, with_op, in_order, size, AllLawful};
 ghost use Rattle.desk_ops.specs.Held.{is_borne_in, is_clear_in, clear_op_in, greatest_counter_of, IsUnforked};
 
-use desk_ops::{NoMemory, Op, Stamp};
+use desk_memory::NoMemory;
+use desk_ops::{Op, Stamp};
 use desk_pages::Pages;
 use desk_slots::{Slot, append, entry, insert_in_order, seek};
 use rising::all_rise;
@@ -48,6 +49,17 @@ pub enum AddRefusal {
     Full,
     #[error("no memory")]
     NoMemory,
+}
+
+impl From<NoMemory> for AddRefusal {
+    ghost use Rattle.std.specs.Prelude.{◌≡◌};
+    ghost use Rattle.desk_held.specs.declared.AddRefusal.TheVariants as refusal;
+
+    ghost from_gives = { λ _ why. why ≡ refusal.NoMemory };
+
+    fn from(_: NoMemory) -> AddRefusal {
+        AddRefusal::NoMemory
+    }
 }
 
 /// A finite set of lawful operations, by stamp and then by bytes, in pages; with room for some more.
@@ -148,9 +160,7 @@ impl<A: Allocator + Copy> Held<A> {
             return Err(AddRefusal::Full);
         }
         let forks = self.holds(op.stamp());
-        if self.reserve(1).is_err() {
-            return Err(AddRefusal::NoMemory);
-        }
+        self.reserve(1)?;
         self.put(op);
         Ok(if forks { Added::Forks } else { Added::New })
     }

@@ -8,7 +8,8 @@ ghost use Rattle.desk_held.specs.Passing.{missing_of, IsMissing, IsInTurn};
 use crate::Held;
 use crate::passing::look;
 use crate::search::is_rising;
-use desk_ops::{NoMemory, Op};
+use desk_memory::NoMemory;
+use desk_ops::Op;
 use desk_slots::Slot;
 use std::alloc::Allocator;
 

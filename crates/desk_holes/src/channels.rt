@@ -5,44 +5,9 @@ ghost use Rattle.desk_signals.specs.Rows.{the_signals};
 ghost use Rattle.desk_holes.specs.Channels.{channel_name, channel_text, channels_text, guide_end, guide_top, name_place, x_of};
 
 use crate::parts::put_between;
-use desk_signals::Signal;
+use desk_signals::{SIGNALS, Signal};
 use desk_svg::text_end;
 use std::alloc::{AllocError, Allocator};
-
-/// The signals in signal order.
-const SIGNALS: [Signal; 31] = [
-    Signal::A,
-    Signal::B,
-    Signal::C,
-    Signal::D,
-    Signal::E,
-    Signal::F,
-    Signal::G,
-    Signal::H,
-    Signal::I,
-    Signal::J,
-    Signal::K,
-    Signal::L,
-    Signal::M,
-    Signal::N,
-    Signal::One,
-    Signal::Two,
-    Signal::Three,
-    Signal::Four,
-    Signal::Five,
-    Signal::Six,
-    Signal::Seven,
-    Signal::Eight,
-    Signal::Nine,
-    Signal::Ten,
-    Signal::Eleven,
-    Signal::Twelve,
-    Signal::Thirteen,
-    Signal::Fourteen,
-    Signal::Fine,
-    Signal::Coarse,
-    Signal::S,
-];
 
 /// The name of a signal's channel.
 fn channel_name(signal: Signal) -> &'static str

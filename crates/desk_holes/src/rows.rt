@@ -4,7 +4,9 @@ ghost use Rattle.std.specs.Prelude.{◌≡◌, ◌++◌, ◌+◌, ◌<◌, ◌^�
 ghost use Rattle.std.specs.Fmt.{decimal};
 ghost use Rattle.desk_case.specs.Case.{symbol_at};
 ghost use Rattle.desk_signals.specs.Rows.{signals_of};
-ghost use Rattle.desk_holes.specs.Rows.{blank_text, held_text, hole_text, hole_x, hole_y, holes_text, meaning_at, meaning_place, meaning_text, number_place, number_text, number_value, row_at, row_text, rows_text, s_text, style_text, symbol_text, y_of};
+ghost use Rattle.desk_holes.specs.Rows.{blank_text, held_text, hole_text, hole_x, hole_y, holes_text, meaning_at, meaning_place};
+ghost use Rattle.desk_holes.specs.Rows.{meaning_text, number_place, number_text, number_value, row_at, row_text, rows_text, s_text};
+ghost use Rattle.desk_holes.specs.Rows.{style_text, symbol_text, y_of};
 
 use crate::channels::x_of;
 use crate::parts::put_between;

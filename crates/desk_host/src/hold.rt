@@ -1,6 +1,7 @@
 //! A feed's name, taken for one run alone.
 
-ghost use Rattle.std.specs.Prelude.{◌≡◌, ◌++◌, IfOk, false, string_bytes};
+ghost use Rattle.std.specs.Prelude.{◌≡◌, ◌≢◌, ◌++◌, Err, IfOk, Ok, false, string_bytes};
+ghost use Rattle.std.specs.IoError.{error_kind};
 ghost use Rattle.desk_files.specs.Files.{new_name};
 ghost use Rattle.desk_host.specs.Host.{LeadsTo};
 
@@ -120,7 +121,10 @@ fn is_link(host: &HostRuntime, name: &str) -> io::Result<bool> {
 }
 
 /// The value where nothing of the name is there, and else the error.
-fn missing_or<T: Drop>(error: io::Error, value: T) -> io::Result<T> {
+pub fn missing_or<T: Drop>(error: io::Error, value: T) -> io::Result<T>
+    ensures missing { error_kind error ≡ ErrorKind.NotFound → result ≡ Ok value }
+    ensures failed { error_kind error ≢ ErrorKind.NotFound → result ≡ Err error }
+{
     if error.kind() == ErrorKind::NotFound {
         return Ok(value);
     }

@@ -6,7 +6,7 @@ ghost use Rattle.std.specs.IoError.{error_kind};
 ghost use Rattle.desk_files.specs.Files.{Counts, Free, IsCounted, Unknown, max_file, shelf, touched};
 ghost use Rattle.desk_host.specs.Host.{IsReportedOf, LeadsTo, held_in};
 
-use crate::hold::Hold;
+use crate::hold::{Hold, missing_or};
 use crate::progress::{Progress, Step, Watched};
 use crate::trouble::{Asked, Explains, Trouble, write_trouble};
 use desk_files::{FileRefusal, Files, MAX_FILE};
@@ -143,12 +143,7 @@ fn mode_in(found: io::Result<Metadata>) -> io::Result<Option<u32>>
 {
     match found {
         Ok(file) => Ok(Some(file.permissions().mode())),
-        Err(why) => {
-            if why.kind() == ErrorKind::NotFound {
-                return Ok(None);
-            }
-            Err(why)
-        }
+        Err(why) => missing_or(why, None),
     }
 }
 
@@ -197,12 +192,7 @@ fn read_file<A: Allocator + Copy>(
 fn remove(host: &HostRuntime, name: &str) -> io::Result<()> {
     match fs::remove_file(host, name) {
         Ok(()) => Ok(()),
-        Err(error) => {
-            if error.kind() == ErrorKind::NotFound {
-                return Ok(());
-            }
-            Err(error)
-        }
+        Err(error) => missing_or(error, ()),
     }
 }
 

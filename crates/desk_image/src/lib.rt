@@ -12,9 +12,10 @@ ghost use Rattle.desk_signals.specs.Rows.{IsRow};
 ghost use Rattle.desk_image.specs.Images.{bit, image, image_fault, signals_in};
 
 pub mod laws;
+pub mod words;
 
 use arrayvec::ArrayVec;
-use desk_signals::{BadRow, RibbonRow, Signal, from_signals};
+use desk_signals::{BadRow, RibbonRow, SIGNALS, Signal, from_signals};
 use std::marker::Model;
 
 /// The image of a row: its signals as bits, the first signal at bit 30 and the last at bit 0.
@@ -32,12 +33,10 @@ impl Model for Image {
 }
 
 /// Why an image is no row.
-#[derive(Clone, Copy, PartialEq, Eq, Debug, thiserror::Error)]
+#[derive(Clone, Copy, PartialEq, Eq, Debug)]
 pub enum BadImage {
     /// Bit 31 is set.
-    #[error("bit 31 is set")]
     HighBit,
-    #[error("{0}")]
     Row(BadRow),
 }
 
@@ -50,41 +49,6 @@ impl From<BadRow> for BadImage {
         BadImage::Row(why)
     }
 }
-
-/// The signals in signal order.
-const SIGNALS: [Signal; 31] = [
-    Signal::A,
-    Signal::B,
-    Signal::C,
-    Signal::D,
-    Signal::E,
-    Signal::F,
-    Signal::G,
-    Signal::H,
-    Signal::I,
-    Signal::J,
-    Signal::K,
-    Signal::L,
-    Signal::M,
-    Signal::N,
-    Signal::One,
-    Signal::Two,
-    Signal::Three,
-    Signal::Four,
-    Signal::Five,
-    Signal::Six,
-    Signal::Seven,
-    Signal::Eight,
-    Signal::Nine,
-    Signal::Ten,
-    Signal::Eleven,
-    Signal::Twelve,
-    Signal::Thirteen,
-    Signal::Fourteen,
-    Signal::Fine,
-    Signal::Coarse,
-    Signal::S,
-];
 
 /// The bit of a signal in an image.
 fn bit(signal: Signal) -> u32

@@ -17,7 +17,7 @@ use desk_case::MatrixCase;
 use desk_caster::{CastFault, CastLine, RibbonFault, cast, read_ribbon};
 use desk_files::Files;
 use desk_job::{JobRefusal, make};
-use desk_ops::NoMemory;
+use desk_memory::NoMemory;
 use desk_replica::Replica;
 use desk_signals::RibbonRow;
 use desk_wedge::Wedge;

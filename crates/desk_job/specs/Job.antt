@@ -167,12 +167,16 @@ abbrev pub fill_punches : List (ℕ × Cell) → List Punch
 fill_punches [] = []
 fill_punches (fill ∷ more) = replicate fill.0 (record { cell = fill.1; s = false }) ++ fill_punches more
 
+-- the matrices of words, of the space that may be added, and of the fills, each used so often
+abbrev pub line_punches : CaseValues → List (List Symbol) → Bool → List ℕ → List Punch
+line_punches case words added counts =
+    words_punches case words
+    ++ ((if added then space_punch case ∷ [] else [])
+    ++ fill_punches (zip counts case.fill))
+
 -- the matrices of a line: its words, the added space, the fills
 abbrev pub punches : Terms → SetLine → List Punch
-punches terms line =
-    words_punches terms.case line.words
-    ++ ((if has_added terms line then space_punch terms.case ∷ [] else [])
-    ++ fill_punches (zip (fills terms line) terms.case.fill))
+punches terms line = line_punches terms.case line.words (has_added terms line) (fills terms line)
 
 -- matrices, and then the positions of the wedges
 abbrev pub rows_at : List Punch → Option (ℕ × ℕ) → List RibbonRow

@@ -1,13 +1,12 @@
 -- A line as the program finds it in the copy, and what it is set by.
-use Rattle.std.specs.Prelude.{◌≡◌, ℕ, ℤ, pos, ◌≤◌, Bool, false, List, [], ◌∷◌, ◌++◌, length, if◌then◌else◌, map, Option, Some, None, Result, Ok, Err}
-use Rattle.std.specs.List.{zip}
+use Rattle.std.specs.Prelude.{◌≡◌, ℕ, ℤ, pos, ◌≤◌, Bool, false, List, [], ◌∷◌, length, map, Some, Result, Ok, Err}
 use Rattle.desk_ops.specs.declared.op.Symbol.{Symbol}
 use Rattle.desk_lines.specs.declared.words.Word.{Word}
 use Rattle.desk_lines.specs.Words.{spelled}
 use Rattle.desk_units.specs.WedgeSum.{coarse_of, fine_of, pair_of}
 use Rattle.desk_signals.specs.declared.RibbonRow.{RibbonRow}
 use Rattle.desk_lines.specs.Groups.{FitsIn}
-use Rattle.desk_job.specs.Job.{Terms, SetLine, measure, widths, tight_space, has_added, fills, wedge_sum, sum_fault, line_fault, words_punches, space_punch, fill_punches, rows_at}
+use Rattle.desk_job.specs.Job.{Terms, SetLine, measure, widths, tight_space, has_added, fills, wedge_sum, sum_fault, line_fault, line_punches, rows_at}
 use Rattle.desk_job.specs.declared.JobFault.{JobFault}
 use Rattle.desk_job.specs.declared.setting.Setting.{Setting}
 
@@ -46,15 +45,7 @@ SetsAt terms n filled spaces sum (Ok found) =
     (pair_of sum ≡ Some (coarse_of found, fine_of found)) × (sum_fault terms n filled spaces sum ≡ [])
 SetsAt terms n filled spaces sum (Err fault) = sum_fault terms n filled spaces sum ≡ fault ∷ []
 
--- the fault, if there is one
-abbrev pub listed : Option JobFault → List JobFault
-listed None = []
-listed (Some fault) = fault ∷ []
-
 -- the rows of words that are set so
 abbrev pub set_rows : Terms → List (List Symbol) → Setting → List RibbonRow
 set_rows terms ws setting =
-    rows_at
-    (words_punches terms.case ws
-    ++ ((if setting.added then space_punch terms.case ∷ [] else []) ++ fill_punches (zip setting.fills.items terms.case.fill)))
-    (Some (coarse_of setting.sum, fine_of setting.sum))
+    rows_at (line_punches terms.case ws setting.added setting.fills.items) (Some (coarse_of setting.sum, fine_of setting.sum))

@@ -7,7 +7,8 @@ mod ribbon;
 pub mod setting;
 pub mod terms;
 
-use desk_ops::{Key, NoMemory};
+use desk_memory::NoMemory;
+use desk_ops::Key;
 pub use ribbon::{given, make, make_from};
 use std::alloc::Allocator;
 use std::marker::Model;
@@ -40,7 +41,7 @@ pub enum JobFault {
     /// The wedge sum of this line, which is not to be filled, is above loose.
     #[error("line {0} is too loose")]
     TooLoose(usize),
-    /// The wedge sum of this line, which is to be filled, is below tight or above 240.
+    /// The wedge sum of this line, which is to be filled, is below tight or above the greatest.
     #[error("line {0} cannot be filled")]
     CannotFill(usize),
 }

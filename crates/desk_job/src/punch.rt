@@ -9,7 +9,8 @@ use crate::setting::Setting;
 use crate::terms::Terms;
 use desk_case::MatrixCase;
 use desk_lines::Word;
-use desk_ops::{NoMemory, Symbol};
+use desk_memory::NoMemory;
+use desk_ops::Symbol;
 use desk_ribbon::{Punch, PunchLine, Punches, RibbonWriter};
 use desk_signals::Cell;
 use std::alloc::Allocator;
@@ -33,10 +34,7 @@ fn add_word<A: Allocator>(
 }
 
 /// Appends a space that is justified.
-pub fn add_space<A: Allocator>(
-    punches: &mut Vec<Punch, A>,
-    case: &MatrixCase,
-) -> Result<(), NoMemory>
+fn add_space<A: Allocator>(punches: &mut Vec<Punch, A>, case: &MatrixCase) -> Result<(), NoMemory>
     ensures ok { OnOk result (punches.new.items ≡ punches.old.items ++ job.space_punch case.now ∷ []) }
     // Where there is room it takes no memory.
     ensures memory { IfErr result (λ _. vec_capacity punches.old ≤ vec_len punches.old) }
@@ -68,7 +66,7 @@ fn add_more_words<A: Allocator>(
 }
 
 /// Appends the matrices of words, with a space between each two.
-pub fn add_words<A: Allocator>(
+fn add_words<A: Allocator>(
     punches: &mut Vec<Punch, A>,
     case: &MatrixCase,
     copy: &[Symbol],
@@ -103,7 +101,7 @@ fn add_times<A: Allocator>(
 }
 
 /// Appends each fill as often as it is used.
-pub fn add_fills<A: Allocator>(
+fn add_fills<A: Allocator>(
     punches: &mut Vec<Punch, A>,
     counts: &[u32],
     cells: &[Cell],
@@ -123,6 +121,31 @@ pub fn add_fills<A: Allocator>(
     Ok(())
 }
 
+/// The matrices of words with a space between each two, of the space that may be added, and of the fills, each used so
+/// often.
+pub fn line_punches<A: Allocator + Copy>(
+    alloc: A,
+    case: &MatrixCase,
+    copy: &[Symbol],
+    words: &[Word],
+    added: bool,
+    counts: &[u32],
+) -> Result<Vec<Punch, A>, NoMemory>
+    requires words { All (IsWord copy.now) words.now }
+    requires fills { length counts.now ≤ length case.now.fill }
+    ensures ok { IfOk result (λ found. found.items ≡ job.line_punches case.now (words_at copy.now words.now) added counts.now) }
+    // No matrices take no memory.
+    ensures memory { IfErr result (λ _. 1 ≤ length (job.line_punches case.now (words_at copy.now words.now) added counts.now)) }
+{
+    let mut found = Vec::new(alloc);
+    add_words(&mut found, case, copy, words)?;
+    if added {
+        add_space(&mut found, case)?;
+    }
+    add_fills(&mut found, counts, case.fill())?;
+    Ok(found)
+}
+
 /// Punches a line of these words, as it is set.
 pub fn punch<A: Allocator + Copy>(
     ribbon: &mut RibbonWriter<A>,
@@ -138,13 +161,8 @@ pub fn punch<A: Allocator + Copy>(
     ensures { OnOk result (ribbon.new ≡ ribbon.old ++ set_rows terms.now (words_at copy.now words.now) setting.now) }
 {
     let (coarse, fine) = setting.sum.positions();
-    let case = terms.case();
-    let mut punches = Vec::new(alloc);
-    add_words(&mut punches, case, copy, words)?;
-    if setting.added {
-        add_space(&mut punches, case)?;
-    }
-    add_fills(&mut punches, setting.fills.as_slice(), case.fill())?;
+    let counts = setting.fills.as_slice();
+    let punches = line_punches(alloc, terms.case(), copy, words, setting.added, counts)?;
     ribbon.push(&PunchLine {
         matrices: Punches::from_vec(punches),
         coarse,

@@ -1,12 +1,12 @@
 //! What the lines of a job are set by, and the widths that follow. What is kept in `Terms` is tested once, when they are made.
 
 ghost use Rattle.std.specs.Prelude.{◌≡◌, ◌≤◌, ◌*◌, ◌+ℤ◌, ◌≤ℤ◌, ℤ, pos, length, take, All, [], ◌∷◌, IfOk, IfErr, OnOk};
+ghost use Rattle.std.specs.Option.{option_to_list};
 ghost use Rattle.desk_units.specs.WedgeSum.{IsWedgeSum, widening};
 ghost use Rattle.desk_caster.specs.Caster.{row_width};
 ghost use Rattle.desk_wedge.specs.Wedge.{IsWedge};
 ghost use Rattle.desk_job.specs.Job as job;
 ghost use Rattle.desk_job.specs.Terms.{AreLawful, IsSmall, IsUsable, longest_measure, widest_at_neutral};
-ghost use Rattle.desk_job.specs.Setting.{listed};
 ghost use Rattle.desk_lines.specs.Groups.{IsWidth, widest_matrix};
 ghost use Rattle.desk_lines.specs.Words.{most_symbols};
 ghost use Rattle.desk_justify.specs.Filled.{ArePositive, Descend};
@@ -104,7 +104,7 @@ fn terms_fault(case: &MatrixCase, wedge: &Wedge, values: Values, space: Atoms) -
     requires values { AreLawful values }
     requires space { space ≡ pos (row_width wedge.now case.now.space.row) }
     requires small { IsSmall space }
-    ensures { listed result ≡ job.terms_fault (job.terms_of case.now wedge.now values) values }
+    ensures { option_to_list result ≡ job.terms_fault (job.terms_of case.now wedge.now values) values }
 {
     if values.case != case.number() as u32 {
         Some(JobFault::OtherCase)

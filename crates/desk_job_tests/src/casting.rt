@@ -2,6 +2,7 @@ ghost use Rattle.std.specs.Prelude.{◌≤◌};
 
 use crate::cases::{FILLS, WEDGE, ballast, case_with, wedge_of};
 use crate::jobs::TWO_LINES;
+use crate::words::is_worded;
 use desk_case::MatrixCase;
 use desk_caster::{CastFault, CastLine, CastMatrix, RibbonFault, cast, read_ribbon};
 use desk_image::{BadImage, Image};
@@ -510,28 +511,12 @@ const RIBBON_WORDS: [(RibbonFault, &str); 4] = [
     (RibbonFault::NoMemory, "no memory"),
 ];
 
-/// Whether these are the words of the caster's fault.
-fn is_cast_worded(alloc: Global, fault: CastFault, words: &str) -> bool {
-    match format!(in alloc; "{fault}") {
-        Ok(reported) => reported.as_str() == words,
-        Err(AllocError) => false,
-    }
-}
-
-/// Whether these are the words of a ribbon's fault.
-fn is_worded(alloc: Global, fault: RibbonFault, words: &str) -> bool {
-    match format!(in alloc; "{fault}") {
-        Ok(reported) => reported.as_str() == words,
-        Err(AllocError) => false,
-    }
-}
-
 #[test]
 fn names_its_faults(rt: HostRuntime) {
     for &(fault, words) in &CAST_WORDS {
-        assert!(rt; is_cast_worded(rt.alloc(), fault, words), "{words}");
+        assert!(rt; is_worded(rt.alloc(), &fault, words), "{words}");
     }
     for &(fault, words) in &RIBBON_WORDS {
-        assert!(rt; is_worded(rt.alloc(), fault, words), "{words}");
+        assert!(rt; is_worded(rt.alloc(), &fault, words), "{words}");
     }
 }

@@ -7,6 +7,7 @@ ghost use Rattle.desk_job.specs.Answer.{AreValues};
 ghost use Rattle.desk_galley.specs.Galley.{Stands};
 
 use crate::cases::{FILLS, WEDGE, case_with, wedge_of};
+use crate::words::is_worded;
 use desk_case::MatrixCase;
 use desk_galley::{Galley, GalleyRefusal, Line, make_galley, matrices};
 use desk_job::JobFault;
@@ -278,17 +279,9 @@ fn causes_against_a_galley(rt: HostRuntime) -> Result<(), Fail> {
     Ok(())
 }
 
-/// Whether these are the words of a refusal.
-fn is_worded(alloc: Global, why: GalleyRefusal, words: &str) -> bool {
-    match format!(in alloc; "{why}") {
-        Ok(reported) => reported.as_str() == words,
-        Err(AllocError) => false,
-    }
-}
-
 #[test]
 fn names_its_refusals(rt: HostRuntime) {
     let fault = GalleyRefusal::Fault(JobFault::OtherCase);
-    assert!(rt; is_worded(rt.alloc(), fault, "the setting names another case"));
-    assert!(rt; is_worded(rt.alloc(), GalleyRefusal::NoMemory, "no memory"));
+    assert!(rt; is_worded(rt.alloc(), &fault, "the setting names another case"));
+    assert!(rt; is_worded(rt.alloc(), &GalleyRefusal::NoMemory, "no memory"));
 }

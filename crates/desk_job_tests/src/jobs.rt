@@ -1,4 +1,5 @@
 use crate::cases::{FILLS, SMALL_WEDGE, WEDGE, case_with, wedge_of};
+use crate::words::is_worded;
 use desk_case::MatrixCase;
 use desk_caster::{CastLine, cast, read_ribbon};
 use desk_job::{JobFault, JobRefusal, make};
@@ -7,7 +8,7 @@ use desk_replica::{Refusal, Replica};
 use desk_seq::Flat;
 use desk_signals::RibbonRow;
 use desk_wedge::Wedge;
-use std::alloc::{AllocError, Allocator, Global};
+use std::alloc::{Allocator, Global};
 use std::test::Fail;
 
 /// A job: the copy's text, all Roman, the fills of the case, and what is set once measure 120, tight 38, loose 150, case 1 and
@@ -335,17 +336,9 @@ const WORDS: [(JobFault, &str); 10] = [
     (JobFault::CannotFill(7), "line 7 cannot be filled"),
 ];
 
-/// Whether these are the words of a fault.
-fn is_worded(alloc: Global, fault: JobFault, words: &str) -> bool {
-    match format!(in alloc; "{fault}") {
-        Ok(reported) => reported.as_str() == words,
-        Err(AllocError) => false,
-    }
-}
-
 #[test]
 fn names_its_faults(rt: HostRuntime) {
     for &(fault, words) in &WORDS {
-        assert!(rt; is_worded(rt.alloc(), fault, words), "{words}");
+        assert!(rt; is_worded(rt.alloc(), &fault, words), "{words}");
     }
 }

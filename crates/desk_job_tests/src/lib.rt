@@ -13,3 +13,5 @@ mod growths;
 mod jobs;
 #[cfg(test)]
 mod wide;
+#[cfg(test)]
+mod words;

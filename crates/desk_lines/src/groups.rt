@@ -6,7 +6,7 @@
 ghost use Rattle.std.specs.Prelude.{◌≡◌, ◌≤◌, ◌^◌, pos, ◌+ℤ◌, ◌≤ℤ◌, ◌<ℤ◌, IfErr, IfOk, MatchBool, length};
 ghost use Rattle.desk_lines.specs.Groups.{AreWidths, IsWidth, groups_of, widest_matrix};
 
-use desk_ops::NoMemory;
+use desk_memory::NoMemory;
 use desk_units::Atoms;
 use std::alloc::Allocator;
 

@@ -1,12 +1,13 @@
 //! The paragraphs of a copy and their words.
 //!
-//! Words may be empty, so that two spaces in a row are two spaces of the line. A space of another style than Roman parts
-//! no words; no copy has one.
+//! Words may be empty, so that two spaces, one after the other, are two spaces of the line. A space of another style
+//! than Roman parts no words; no copy has one.
 
 ghost use Rattle.std.specs.Prelude.{◌≡◌, ◌≤◌, IfErr, IfOk, length};
 ghost use Rattle.desk_lines.specs.Words.{words_of};
 
-use desk_ops::{NoMemory, Symbol};
+use desk_memory::NoMemory;
+use desk_ops::Symbol;
 use std::alloc::Allocator;
 use std::marker::Model;
 

@@ -1,5 +1,6 @@
 ghost use Rattle.std.specs.Prelude.{◌≤◌};
 
+use crate::words::is_worded;
 use desk_case::{CaseFault, CaseKey, MatrixCase, names};
 use desk_ops::{Style, Symbol};
 use desk_signals::{Cell, Column, RowNo};
@@ -125,14 +126,6 @@ pub fn is_file_faulty(
 ) -> bool {
     match file(alloc, head, rows, texts) {
         Ok(text) => is_faulty(alloc, text.as_bytes(), fault),
-        Err(AllocError) => false,
-    }
-}
-
-/// Whether these are the words of a fault.
-fn is_worded(alloc: Global, fault: &CaseFault, words: &str) -> bool {
-    match format!(in alloc; "{fault}") {
-        Ok(reported) => reported.as_str() == words,
         Err(AllocError) => false,
     }
 }

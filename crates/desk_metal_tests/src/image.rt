@@ -1,4 +1,5 @@
 use crate::rows::{cell_row, coarse, is_image, wedge_row};
+use crate::words::is_worded;
 use desk_image::{BadImage, Image};
 use desk_signals::{BadRow, Column};
 use std::alloc::Global;
@@ -68,10 +69,7 @@ const UNLAWFUL: [(u32, BadImage, &str); 6] = [
 
 /// Whether an image is no row for this reason, in these words.
 fn is_unlawful(alloc: Global, bits: u32, why: BadImage, words: &str) -> bool {
-    let Ok(reported) = format!(in alloc; "{why}") else {
-        return false;
-    };
-    Image::new(bits).to_row() == Err(why) && reported.as_str() == words
+    Image::new(bits).to_row() == Err(why) && is_worded(alloc, &why, words)
 }
 
 #[test]

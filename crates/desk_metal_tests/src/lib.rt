@@ -19,3 +19,5 @@ mod units;
 mod wedges;
 #[cfg(test)]
 mod wide;
+#[cfg(test)]
+mod words;

@@ -1,7 +1,8 @@
 use crate::rows::{cell_row, is_read, shows, wedge_row};
+use crate::words::is_worded;
 use desk_signals::Signal::{A, B, Coarse, Eight, Fine, Fourteen, G, One, S, Two};
 use desk_signals::{BadRow, Column, Position, RowNo, Signal, from_signals};
-use std::alloc::{AllocError, Global};
+use std::alloc::Global;
 
 /// Numbers, and whether they are in range.
 const NUMBERS: [(u8, bool); 6] = [
@@ -86,10 +87,7 @@ const FAULTS: [(BadRow, u8, &str); 6] = [
 
 /// Whether a fault has this number and these words.
 fn is_reported(alloc: Global, why: BadRow, number: u8, words: &str) -> bool {
-    match format!(in alloc; "{why}") {
-        Ok(reported) => why.number() == number && reported.as_str() == words,
-        Err(AllocError) => false,
-    }
+    is_worded(alloc, &why, words) && why.number() == number
 }
 
 #[test]

@@ -1,5 +1,6 @@
 ghost use Rattle.std.specs.Prelude.{◌≤◌};
 
+use crate::words::is_worded;
 use desk_signals::RowNo;
 use desk_units::Pica;
 use desk_wedge::{Wedge, WedgeFault, WedgeKey};
@@ -230,14 +231,6 @@ const HOSTILE: [(&str, &str); 45] = [
         "`pica` is of another type, length or value",
     ),
 ];
-
-/// Whether these are the words of a fault.
-fn is_worded(alloc: Global, fault: &WedgeFault, words: &str) -> bool {
-    match format!(in alloc; "{fault}") {
-        Ok(reported) => reported.as_str() == words,
-        Err(AllocError) => false,
-    }
-}
 
 /// Whether reading a text answers the fault of these words.
 fn is_refused(alloc: Global, text: &str, words: &str) -> bool {

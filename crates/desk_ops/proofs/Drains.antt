@@ -12,36 +12,21 @@ use Rattle.desk_ops.specs.Lists.{Among}
 use Rattle.desk_ops.specs.Drain.{IsThere, IsTakenIn, IsDrained}
 use Rattle.desk_ops.proofs.Lists.{Each, each-among, each-from_among, among-filter_from}
 use Rattle.desk_ops.proofs.Stamps.{same-true, same-from, by_cases}
-use Rattle.desk_ops.proofs.Paths.{way-absent, Each-reverse}
-use Rattle.desk_ops.proofs.Kept.{Descends, descends, step, started, among-reverse, among-reversed}
-use Rattle.desk_ops.proofs.Means.{clear_ascending, clear_grows, clear_insert, IsClearInsert, insert_parent, live_ascending, live-parts}
+use Rattle.desk_ops.proofs.Kept.{started, among-reverse}
+use Rattle.desk_ops.proofs.Means.{clear_grows, live_ascending, live-parts}
+use Rattle.desk_ops.proofs.Ends.{older, on, at_head}
 use Rattle.desk_ops.proofs.Arrive.{ascending-same, among-with_insert, with_insert-among, with_insert-ascending}
 use Rattle.desk_ops.proofs.Scans.{place-walk}
 
 module _ (h : OpSet) (lawful : Each IsLawful (in_order h)) (xs : List Insertion) (d : IsDrained h xs) where
-  falls : Descends (reverse (clear_inserts (in_order h)))
-  falls = descends (clear_inserts (in_order h)) (clear_ascending h) (clear_grows (in_order h) lawful).0
-
-  older : (x : Insertion) → Among x (clear_inserts (in_order h)) → x.parent.counter < x.stamp.counter
-  older x m = go (clear_insert (in_order h) x m)
-    where
-      go : IsClearInsert (in_order h) x → x.parent.counter < x.stamp.counter
-      go c = insert_parent (λ p s. p.counter < s.counter) c.op x c.is (each-among IsLawful (in_order h) c.op lawful c.held) (λ s p _ k. k)
-
-  on : (x : Insertion) → Among x (clear_inserts (in_order h)) → way_end (reverse (clear_inserts (in_order h))) x.stamp ≡ way_end (reverse (clear_inserts (in_order h))) x.parent
-  on x m = (step (reverse (clear_inserts (in_order h))) falls x (among-reversed (clear_inserts (in_order h)) x m)).1
-
-  at_head : way_end (reverse (clear_inserts (in_order h))) head ≡ head
-  at_head = way-absent (reverse (clear_inserts (in_order h))) head (Each-reverse (λ x. same x.stamp head ≡ false) (clear_inserts (in_order h)) (clear_grows (in_order h) lawful).1)
-
   there-live : (n : ℕ) (s : Stamp) → s.counter < n → IsThere xs s → way_end (reverse (clear_inserts (in_order h))) s ≡ head
   there-live zero s lt t = absurd (omega arith)
-  there-live (suc n) s lt (inl e) = ap (way_end (reverse (clear_inserts (in_order h)))) e ∙ at_head
+  there-live (suc n) s lt (inl e) = ap (way_end (reverse (clear_inserts (in_order h)))) e ∙ at_head h lawful
   there-live (suc n) s lt (inr y) =
       let m : Among y.0 (clear_inserts (in_order h)) = d.taken.of_set y.0 y.1 in
-      let o : y.0.parent.counter < y.0.stamp.counter = older y.0 m in
+      let o : y.0.parent.counter < y.0.stamp.counter = older h lawful y.0 m in
       let e : y.0.stamp.counter ≡ s.counter = ap (λ (t : Stamp). t.counter) y.2 in
-      ap (way_end (reverse (clear_inserts (in_order h)))) (sym y.2) ∙ on y.0 m ∙ there-live n y.0.parent (omega arith) (d.taken.closed y.0 y.1)
+      ap (way_end (reverse (clear_inserts (in_order h)))) (sym y.2) ∙ on h lawful y.0 m ∙ there-live n y.0.parent (omega arith) (d.taken.closed y.0 y.1)
 
   live-there : (n : ℕ) (s : Stamp) → s.counter < n → way_end (reverse (clear_inserts (in_order h))) s ≡ head → IsThere xs s
   live-there zero s lt w = absurd (omega arith)
@@ -53,10 +38,10 @@ module _ (h : OpSet) (lawful : Each IsLawful (in_order h)) (xs : List Insertion)
       go : ((e : Insertion) × Among e (reverse (clear_inserts (in_order h))) × (same e.stamp s ≡ true)) → ((p : Stamp) → p.counter < n → way_end (reverse (clear_inserts (in_order h))) p ≡ head → IsThere xs p) → IsThere xs s
       go r rest =
           let m : Among r.0 (clear_inserts (in_order h)) = among-reverse (clear_inserts (in_order h)) r.0 r.1 in
-          let o : r.0.parent.counter < r.0.stamp.counter = older r.0 m in
+          let o : r.0.parent.counter < r.0.stamp.counter = older h lawful r.0 m in
           let e : r.0.stamp ≡ s = same-true r.0.stamp s r.2 in
           let f : r.0.stamp.counter ≡ s.counter = ap (λ (t : Stamp). t.counter) e in
-          inr (r.0, d.no_more r.0 m (rest r.0.parent (omega arith) (sym (on r.0 m) ∙ ap (way_end (reverse (clear_inserts (in_order h)))) e ∙ w)), e)
+          inr (r.0, d.no_more r.0 m (rest r.0.parent (omega arith) (sym (on h lawful r.0 m) ∙ ap (way_end (reverse (clear_inserts (in_order h)))) e ∙ w)), e)
 
   -- a drained list is that of the live inserts
   pub drained : xs ≡ live_inserts (in_order h)

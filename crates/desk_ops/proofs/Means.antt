@@ -116,15 +116,15 @@ not-head s h = grind (arith, nat_tests)
 
 -- ---- in order
 
+pub then-then : (r t u : Ordering) → ordering_then (ordering_then r t) u ≡ ordering_then r (ordering_then t u)
+then-then Less t u = refl
+then-then Equal t u = refl
+then-then Greater t u = refl
+
 -- by stamp, and then by the rest
 pub by_stamp : (o p : Op) → op_cmp o p ≡ ordering_then (stamp_cmp (stamp_of o) (stamp_of p)) (slice_cmp nat_cmp (rest_of o) (rest_of p))
 unfolding stamp_cmp
 by_stamp o p = sym (then-then (nat_cmp (stamp_of o).counter (stamp_of p).counter) (nat_cmp (stamp_of o).site (stamp_of p).site) (slice_cmp nat_cmp (rest_of o) (rest_of p)))
-  where
-    then-then : (r t u : Ordering) → ordering_then (ordering_then r t) u ≡ ordering_then r (ordering_then t u)
-    then-then Less t u = refl
-    then-then Equal t u = refl
-    then-then Greater t u = refl
 
 pub clear_apart : (all : List Op) (o p : Op) → is_clear all (stamp_of o) ≡ true → Among o all → Among p all → op_cmp o p ≡ Less → stamp_cmp (stamp_of o) (stamp_of p) ≡ Less
 clear_apart all o p c m n l = go (stamp_cmp (stamp_of o) (stamp_of p)) refl (sym (by_stamp o p) ∙ l)

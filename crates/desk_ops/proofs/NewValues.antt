@@ -15,7 +15,8 @@ use Rattle.desk_ops.proofs.Means.{clear_one, counter-before}
 use Rattle.desk_ops.proofs.Ends.{among_held}
 use Rattle.desk_ops.proofs.Values.{is_setting, value_of}
 use Rattle.desk_ops.proofs.Bearers.{counter_within}
-use Rattle.desk_ops.proofs.Newest.{clear_old, clear_new, own_clear}
+use Rattle.desk_ops.proofs.Fresh.{clear_old, clear_new, own_clear}
+use Rattle.desk_ops.proofs.Newest.{fresh}
 
 -- a key has one setting
 same_setting : (h : OpSet) (key : Key) (r q : Option ℕ) → IsSetting h key r → IsSetting h key q → r ≡ q
@@ -43,7 +44,7 @@ kept_setting h g key to back (Some v) a = (a.0, to a.0 v a.1, λ t n l. a.2 t n 
 pub setting_stays : (h : OpSet) → AllLawful h → (o : Op) → greatest_counter_of h < (stamp_of o).counter → (key : Key) → ((t : Stamp) (n : ℕ) → o ≡ Set t key n → ⊥) → setting_of (with_op h o) key ≡ setting_of h key
 setting_stays h lawful o newest key other =
     same_setting (with_op h o) key (setting_of (with_op h o) key) (setting_of h key) (is_setting (with_op h o) key)
-    (kept_setting h (with_op h o) key (λ t n l. (clear_old h lawful o newest (Set t key n) l.0, tt)) (λ t n l. (back t n (clear_new h lawful o newest (Set t key n) l.0), tt)) (setting_of h key) (is_setting h key))
+    (kept_setting h (with_op h o) key (λ t n l. (clear_old h o (fresh h lawful o newest) (Set t key n) l.0, tt)) (λ t n l. (back t n (clear_new h o (fresh h lawful o newest) (Set t key n) l.0), tt)) (setting_of h key) (is_setting h key))
   where
     back : (t : Stamp) (n : ℕ) → (o ≡ Set t key n) ⊎ IsClearOp h (Set t key n) → IsClearOp h (Set t key n)
     back t n (inl e) = absurd (other t n e)
@@ -53,7 +54,7 @@ setting_stays h lawful o newest key other =
 pub setting_new : (h : OpSet) → AllLawful h → (s : Stamp) → greatest_counter_of h < s.counter → (key : Key) (v : ℕ) → setting_of (with_op h (Set s key v)) key ≡ Some v
 setting_new h lawful s newest key v =
     same_setting (with_op h (Set s key v)) key (setting_of (with_op h (Set s key v)) key) (Some v) (is_setting (with_op h (Set s key v)) key)
-    (s, (own_clear h lawful (Set s key v) newest, tt), λ t n l. older t n (clear_new h lawful (Set s key v) newest (Set t key n) l.0))
+    (s, (own_clear h (Set s key v) (fresh h lawful (Set s key v) newest), tt), λ t n l. older t n (clear_new h (Set s key v) (fresh h lawful (Set s key v) newest) (Set t key n) l.0))
   where
     older : (t : Stamp) (n : ℕ) → (Set s key v ≡ Set t key n) ⊎ IsClearOp h (Set t key n) → (t ≡ s) ⊎ (before t s ≡ true)
     older t n (inl e) = inl (sym (ap stamp_of e))

@@ -1,7 +1,7 @@
 -- An operation with a greater counter than all that are held: what is shown with it.
 use Rattle.std.proofs.Common.{◌≡◌, ℕ, zero, suc, ◌+◌, ◌<◌, ◌≤◌, Bool, true, false, not, cond, ◌||◌, List, [], ◌∷◌, map, length, get_or, reverse, refl, sym, ap, ◌∙◌, subst, ◌⊎◌, inl, inr, arith}
 use Rattle.std.specs.List.{filter, insert, remove}
-use Rattle.std.proofs.lemmas.Bool.{true≢false, or_right}
+use Rattle.std.proofs.lemmas.Bool.{or_right}
 use Rattle.desk_ops.specs.declared.op.Stamp.{Stamp}
 use Rattle.desk_ops.specs.declared.op.Symbol.{Symbol}
 use Rattle.desk_ops.specs.declared.op.Key.{Key}
@@ -9,7 +9,7 @@ use Rattle.desk_ops.specs.declared.op.Op.{Op}
 use Rattle.desk_ops.specs.declared.op.Op.TheVariants.{Insert, Delete, Set}
 use Rattle.desk_ops.specs.Stamp.{same, before, head}
 use Rattle.desk_ops.specs.Op.{stamp_of, IsLawful, Insertion}
-use Rattle.desk_ops.specs.OpSet.{OpSet, has_op, with_op, in_order, AllLawful}
+use Rattle.desk_ops.specs.OpSet.{OpSet, with_op, in_order, AllLawful}
 use Rattle.desk_ops.specs.Lists.{Among}
 use Rattle.desk_ops.specs.Held.{is_borne_in, clear_inserts, clear_inserts_of, live_inserts, way_end, greatest_counter_of}
 use Rattle.desk_ops.specs.Live.{insert_of, IsClearOp}
@@ -22,11 +22,12 @@ use Rattle.desk_ops.proofs.Lists.{Each, each-among, each-from_among, each-filter
 use Rattle.desk_ops.proofs.Scans.{skip-stop, after-hit, after-miss, place-hit, place-miss}
 use Rattle.desk_ops.proofs.Means.{clear_ascending, counter-before, live-parts, live_grows}
 use Rattle.desk_ops.proofs.Tree.{filter-hit, filter-miss, walk-live, walk-apart}
-use Rattle.desk_ops.proofs.Arrive.{among-with_op, with_op-among, ascending-same, walk_after}
-use Rattle.desk_ops.proofs.Ends.{among_held, held_among, insert_from_op, op_from_insert, older}
+use Rattle.desk_ops.proofs.Arrive.{ascending-same, walk_after}
+use Rattle.desk_ops.proofs.Ends.{among_held, insert_from_op, op_from_insert, older}
 use Rattle.desk_ops.proofs.Deletes.{deleted_from, deleted_by}
-use Rattle.desk_ops.proofs.Joined.{same_bool, is_clear-with_op_apart, is_clear-with_op_new}
-use Rattle.desk_ops.proofs.Bearers.{op_borne, counter_within, above_unborne}
+use Rattle.desk_ops.proofs.Joined.{same_bool}
+use Rattle.desk_ops.proofs.Fresh.{clear_old, clear_new, own_clear}
+use Rattle.desk_ops.proofs.Bearers.{counter_within, above_unborne}
 
 -- ---- lists
 
@@ -114,24 +115,6 @@ module _ (h : OpSet) (lawful : AllLawful h) (o : Op) (newest : greatest_counter_
   pub fresh : is_borne_in h (stamp_of o) ≡ false
   fresh = above_unborne h (stamp_of o) newest
 
-  apart : (p : Op) → has_op h p ≡ true → same (stamp_of o) (stamp_of p) ≡ false
-  apart p e = by_cases (same (stamp_of o) (stamp_of p)) (λ k. absurd (true≢false (sym (op_borne h (stamp_of o) (p, e, sym (same-true (stamp_of o) (stamp_of p) k))) ∙ fresh))) (λ k. k)
-
-  -- what was clear is
-  pub clear_old : (p : Op) → IsClearOp h p → IsClearOp (with_op h o) p
-  clear_old p c = (held_among (with_op h o) p (with_op-among h o p (inr (among_held h p c.0))), is_clear-with_op_apart h o (stamp_of p) (apart p c.0) ∙ c.1)
-
-  -- and what is clear was, or is new
-  pub clear_new : (p : Op) → IsClearOp (with_op h o) p → (o ≡ p) ⊎ IsClearOp h p
-  clear_new p c = go (among-with_op h o p (among_held (with_op h o) p c.0))
-    where
-      go : (o ≡ p) ⊎ Among p (in_order h) → (o ≡ p) ⊎ IsClearOp h p
-      go (inl e) = inl e
-      go (inr m) = let k : has_op h p ≡ true = held_among h p m in inr (k, sym (is_clear-with_op_apart h o (stamp_of p) (apart p k)) ∙ c.1)
-
-  pub own_clear : IsClearOp (with_op h o) o
-  own_clear = (held_among (with_op h o) o (with_op-among h o o (inl refl)), is_clear-with_op_new h o fresh)
-
   below : (x : Insertion) → Among x (clear_inserts (in_order h)) → x.stamp.counter < (stamp_of o).counter
   below x m = let w : x.stamp.counter ≤ greatest_counter_of h = counter_within h (insert_of x) (op_from_insert h x m).0 in omega arith
 
@@ -145,10 +128,10 @@ module _ (h : OpSet) (lawful : AllLawful h) (o : Op) (newest : greatest_counter_
 
   -- an operation that is no delete deletes nothing
   deleted_old : (t : Stamp) → ((s : Stamp) → o ≡ Delete s t → ⊥) → is_deleted_in (with_op h o) t ≡ is_deleted_in h t
-  deleted_old t other = same_bool (is_deleted_in (with_op h o) t) (is_deleted_in h t) (λ e. to (deleted_from (with_op h o) t e)) (λ e. let r = deleted_from h t e in deleted_by (with_op h o) t (r.0, clear_old (Delete r.0 t) r.1))
+  deleted_old t other = same_bool (is_deleted_in (with_op h o) t) (is_deleted_in h t) (λ e. to (deleted_from (with_op h o) t e)) (λ e. let r = deleted_from h t e in deleted_by (with_op h o) t (r.0, clear_old h o fresh (Delete r.0 t) r.1))
     where
       to : (s : Stamp) × IsClearOp (with_op h o) (Delete s t) → is_deleted_in h t ≡ true
-      to r = which (clear_new (Delete r.0 t) r.1)
+      to r = which (clear_new h o fresh (Delete r.0 t) r.1)
         where
           which : (o ≡ Delete r.0 t) ⊎ IsClearOp h (Delete r.0 t) → is_deleted_in h t ≡ true
           which (inl e) = absurd (other r.0 e)
@@ -157,8 +140,8 @@ module _ (h : OpSet) (lawful : AllLawful h) (o : Op) (newest : greatest_counter_
   -- one that is no insert leaves the walk
   pub inserts_stay : ((x : Insertion) → o ≡ insert_of x → ⊥) → clear_inserts_of (with_op h o) ≡ clear_inserts_of h
   inserts_stay other = ascending-same (clear_inserts (in_order (with_op h o))) (clear_inserts (in_order h)) (clear_ascending (with_op h o)) (clear_ascending h)
-      (λ x m. to x (clear_new (insert_of x) (op_from_insert (with_op h o) x m)))
-      (λ x m. insert_from_op (with_op h o) x (clear_old (insert_of x) (op_from_insert h x m)))
+      (λ x m. to x (clear_new h o fresh (insert_of x) (op_from_insert (with_op h o) x m)))
+      (λ x m. insert_from_op (with_op h o) x (clear_old h o fresh (insert_of x) (op_from_insert h x m)))
     where
       to : (x : Insertion) → (o ≡ insert_of x) ⊎ IsClearOp h (insert_of x) → Among x (clear_inserts (in_order h))
       to x (inl e) = absurd (other x e)
@@ -220,7 +203,7 @@ module _ (h : OpSet) (lawful : AllLawful h) (s : Stamp) (newest : greatest_count
   deleted_more t u = same_bool (is_deleted_in (with_op h (Delete s t)) u) (same t u || is_deleted_in h u) (λ e. to (deleted_from (with_op h (Delete s t)) u e)) from
     where
       to : (r : Stamp) × IsClearOp (with_op h (Delete s t)) (Delete r u) → (same t u || is_deleted_in h u) ≡ true
-      to r = which (clear_new h lawful (Delete s t) newest (Delete r.0 u) r.1)
+      to r = which (clear_new h (Delete s t) (fresh h lawful (Delete s t) newest) (Delete r.0 u) r.1)
         where
           which : (Delete s t ≡ Delete r.0 u) ⊎ IsClearOp h (Delete r.0 u) → (same t u || is_deleted_in h u) ≡ true
           which (inl e) = let i : t ≡ u = cc in ap (λ b. b || is_deleted_in h u) (same-from t u i)
@@ -228,8 +211,8 @@ module _ (h : OpSet) (lawful : AllLawful h) (s : Stamp) (newest : greatest_count
 
       from : (same t u || is_deleted_in h u) ≡ true → is_deleted_in (with_op h (Delete s t)) u ≡ true
       from e = by_cases (same t u)
-          (λ k. deleted_by (with_op h (Delete s t)) u (s, subst (λ v. IsClearOp (with_op h (Delete s t)) (Delete s v)) (same-true t u k) (own_clear h lawful (Delete s t) newest)))
-          (λ k. let r = deleted_from h u (sym (ap (λ b. b || is_deleted_in h u) k) ∙ e) in deleted_by (with_op h (Delete s t)) u (r.0, clear_old h lawful (Delete s t) newest (Delete r.0 u) r.1))
+          (λ k. deleted_by (with_op h (Delete s t)) u (s, subst (λ v. IsClearOp (with_op h (Delete s t)) (Delete s v)) (same-true t u k) (own_clear h (Delete s t) (fresh h lawful (Delete s t) newest))))
+          (λ k. let r = deleted_from h u (sym (ap (λ b. b || is_deleted_in h u) k) ∙ e) in deleted_by (with_op h (Delete s t)) u (r.0, clear_old h (Delete s t) (fresh h lawful (Delete s t) newest) (Delete r.0 u) r.1))
 
   pub delete_shows : (t : Stamp) (i : ℕ) → i < length (shown_of h) → get_or (map (λ (x : Insertion). x.stamp) (shown_of h)) i head ≡ t → shown_of (with_op h (Delete s t)) ≡ remove (shown_of h) i
   unfolding shown

@@ -5,7 +5,7 @@ use Rattle.std.proofs.lemmas.Bool.{true≢false}
 use Rattle.std.specs.declared.cmp.Ordering.TheVariants.{Less, Equal}
 use Rattle.desk_ops.specs.declared.op.Stamp.{Stamp}
 use Rattle.desk_ops.specs.declared.op.Op.{Op}
-use Rattle.desk_ops.specs.Op.{Insertion, stamp_of, IsLawful}
+use Rattle.desk_ops.specs.Op.{Insertion, stamp_of}
 use Rattle.desk_ops.specs.OpSet.{OpSet, in_order, IsWithin, AllLawful}
 use Rattle.desk_ops.specs.Stamp.{head, same, before}
 use Rattle.desk_ops.specs.Walk.{walk}
@@ -17,11 +17,12 @@ use Rattle.desk_ops.specs.PathOrder.{path, path_cmp, InPathOrder}
 use Rattle.desk_ops.specs.Laws.{IsOneOrder}
 use Rattle.desk_ops.proofs.Lists.{each-among, each-from_among, each-filter, among-filter_from}
 use Rattle.desk_ops.proofs.Stamps.{same-true, same-refl, same-from, by_cases, before-irrefl}
-use Rattle.desk_ops.proofs.Paths.{way-absent, Each-reverse, order-alike, path_total, path_antisymmetric, walk-in_order}
-use Rattle.desk_ops.proofs.Kept.{Descends, descends, step, started, same-path, among-reverse, among-reversed}
-use Rattle.desk_ops.proofs.Means.{clear_ascending, clear_grows, clear_insert, IsClearInsert, insert_parent, live_ascending, live_grows, live_agree, live-parts, within}
+use Rattle.desk_ops.proofs.Paths.{order-alike, path_total, path_antisymmetric, walk-in_order}
+use Rattle.desk_ops.proofs.Kept.{descends, step, started, same-path, among-reverse, among-reversed}
+use Rattle.desk_ops.proofs.Means.{clear_insert, IsClearInsert, live_ascending, live_grows, live_agree, live-parts, within}
 use Rattle.desk_ops.proofs.Tree.{live-walk, walk-live}
 use Rattle.desk_ops.proofs.Arrive.{insert_clear}
+use Rattle.desk_ops.proofs.Ends.{older, on, at_head}
 
 pub one-of-more : (os : List Op) (o : Op) → Among o os → is_more os ≡ false → is_one os ≡ true
 one-of-more [] o m h = absurd m
@@ -58,26 +59,11 @@ ascending-one (z ∷ zs) up x y (inr m) (inl j) e = absurd (before-irrefl z.stam
 ascending-one (z ∷ zs) up x y (inr m) (inr n) e = ascending-one zs up.1 x y m n e
 
 module _ (h g : OpSet) (lh : AllLawful h) (lg : AllLawful g) (u : IsUnforked g) (w : IsWithin h g) where
-  falls : (k : OpSet) → AllLawful k → Descends (reverse (clear_inserts (in_order k)))
-  falls k l = descends (clear_inserts (in_order k)) (clear_ascending k) (clear_grows (in_order k) l).0
-
-  on : (k : OpSet) → AllLawful k → (x : Insertion) → Among x (clear_inserts (in_order k)) → way_end (reverse (clear_inserts (in_order k))) x.stamp ≡ way_end (reverse (clear_inserts (in_order k))) x.parent
-  on k l x m = (step (reverse (clear_inserts (in_order k))) (falls k l) x (among-reversed (clear_inserts (in_order k)) x m)).1
-
-  at_head : (k : OpSet) → AllLawful k → way_end (reverse (clear_inserts (in_order k))) head ≡ head
-  at_head k l = way-absent (reverse (clear_inserts (in_order k))) head (Each-reverse (λ x. same x.stamp head ≡ false) (clear_inserts (in_order k)) (clear_grows (in_order k) l).1)
-
   clear-within : (x : Insertion) → Among x (clear_inserts (in_order h)) → Among x (clear_inserts (in_order g))
   clear-within x m = go (clear_insert (in_order h) x m)
     where
       go : IsClearInsert (in_order h) x → Among x (clear_inserts (in_order g))
       go c = let n : Among c.op (in_order g) = within h g w c.op c.held in insert_clear (in_order g) x (record { op = c.op; held = n; clear = unforked-clear g u c.op n; is = c.is })
-
-  older : (x : Insertion) → Among x (clear_inserts (in_order h)) → x.parent.counter < x.stamp.counter
-  older x m = go (clear_insert (in_order h) x m)
-    where
-      go : IsClearInsert (in_order h) x → x.parent.counter < x.stamp.counter
-      go c = insert_parent (λ p s. p.counter < s.counter) c.op x c.is (each-among IsLawful (in_order h) c.op lh c.held) (λ s p _ k. k)
 
   way-within : (n : ℕ) (s : Stamp) → s.counter < n → way_end (reverse (clear_inserts (in_order h))) s ≡ head → way_end (reverse (clear_inserts (in_order g))) s ≡ head
   way-within zero s lt v = absurd (omega arith)
@@ -89,7 +75,7 @@ module _ (h g : OpSet) (lh : AllLawful h) (lg : AllLawful g) (u : IsUnforked g) 
       go : ((e : Insertion) × Among e (reverse (clear_inserts (in_order h))) × (same e.stamp s ≡ true)) → ((p : Stamp) → p.counter < n → way_end (reverse (clear_inserts (in_order h))) p ≡ head → way_end (reverse (clear_inserts (in_order g))) p ≡ head) → way_end (reverse (clear_inserts (in_order g))) s ≡ head
       go r rest =
           let m : Among r.0 (clear_inserts (in_order h)) = among-reverse (clear_inserts (in_order h)) r.0 r.1 in
-          let o : r.0.parent.counter < r.0.stamp.counter = older r.0 m in
+          let o : r.0.parent.counter < r.0.stamp.counter = older h lh r.0 m in
           let e : r.0.stamp ≡ s = same-true r.0.stamp s r.2 in
           let f : r.0.stamp.counter ≡ s.counter = ap (λ (t : Stamp). t.counter) e in
           ap (way_end (reverse (clear_inserts (in_order g)))) (sym e) ∙ on g lg r.0 (clear-within r.0 m)

@@ -1,5 +1,5 @@
 -- Sets of operations: the laws that merging rests on.
-use Rattle.std.proofs.Common.{ℕ, zero, suc, ◌+◌, ◌<◌, length, take, get_or, arith, ◌≡◌, Bool, true, false, cond, ◌||◌, List, [], ◌∷◌, ◌++◌, refl, sym, ap, ◌∙◌, Some, None, Option}
+use Rattle.std.proofs.Common.{ℕ, zero, suc, ◌+◌, ◌<◌, ◌≤◌, length, take, get_or, arith, ◌≡◌, Bool, true, false, cond, ◌||◌, List, [], ◌∷◌, ◌++◌, refl, sym, ap, ◌∙◌, Some, None, Option}
 use Rattle.std.specs.Option.{is_some}
 use Rattle.std.specs.List.{list_any}
 use Rattle.std.specs.Ordering.{eq_by_cmp}
@@ -11,6 +11,7 @@ use Rattle.desk_ops.specs.Order.{op_cmp}
 use Rattle.desk_ops.specs.OpSet.{OpSet, no_ops, has_op, with_op, with_all, union, in_order, size}
 use Rattle.desk_ops.specs.OrderLaws.{op_total, op_antisymmetric}
 use Rattle.desk_ops.proofs.OpSets.{none-held}
+use Rattle.desk_ops.proofs.Stamps.{by_cases}
 
 -- ---- sets
 
@@ -86,3 +87,12 @@ with_op-comm h o p = same-set (with_op (with_op h o) p) (with_op (with_op h p) o
 
 pub size-with_op : (h : OpSet) (o : Op) → size (with_op h o) ≡ cond (has_op h o) (size h) (size h + 1)
 size-with_op h o = fin.len-insert op_total h o tt
+
+-- how many a list makes of them
+pub size-few : (h : OpSet) (os : List Op) → size (with_all h os) ≤ size h + length os
+size-few h [] = omega arith
+size-few h (o ∷ os) =
+    let few : size (with_all (with_op h o) os) ≤ size (with_op h o) + length os = size-few (with_op h o) os in
+    by_cases (has_op h o)
+    (λ k. let e : size (with_op h o) ≡ size h = size-with_op h o ∙ ap (λ b. cond b (size h) (size h + 1)) k in omega (arith, e, few))
+    (λ k. let e : size (with_op h o) ≡ size h + 1 = size-with_op h o ∙ ap (λ b. cond b (size h) (size h + 1)) k in omega (arith, e, few))

@@ -8,6 +8,8 @@ use Rattle.desk_ops.specs.declared.op.Style.TheVariants as styles
 use Rattle.desk_ops.specs.declared.op.Symbol.{Symbol}
 use Rattle.desk_ops.specs.declared.op.Key.{Key}
 use Rattle.desk_ops.specs.declared.op.Key.TheVariants as keys
+use Rattle.desk_ops.specs.declared.op.Unlawful.{Unlawful}
+use Rattle.desk_ops.specs.declared.op.Unlawful.TheVariants as causes
 use Rattle.desk_ops.specs.declared.fault.FaultKind.{FaultKind}
 use Rattle.desk_ops.specs.declared.fault.FaultKind.TheVariants as kinds
 use Rattle.desk_ops.specs.declared.fault.CopyFault.{CopyFault}
@@ -40,3 +42,12 @@ kind_words kinds.Waiting = codes "waiting"
 -- what is wrong and with which stamp
 abbrev pub copy_fault_words : CopyFault → List ℕ
 copy_fault_words f = kind_words f.kind ++ codes " " ++ stamp_words f.stamp
+
+-- why an operation is not lawful
+abbrev pub unlawful_words : Unlawful → List ℕ
+unlawful_words causes.Counter = codes "the counter is out of range"
+unlawful_words causes.Site = codes "no site has the number 0"
+unlawful_words causes.Target = codes "the target is not an earlier stamp"
+unlawful_words causes.Symbol = codes "no such symbol"
+unlawful_words causes.Key = codes "no such key"
+unlawful_words causes.Value = codes "the value is out of the key's range"

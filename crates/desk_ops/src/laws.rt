@@ -3,7 +3,9 @@ ghost use Rattle.std.specs.Prelude.{◌≡◌, ◌^◌};
 ghost use Rattle.desk_ops.specs.Stamp.{head, max_counter};
 ghost use Rattle.desk_ops.specs.Op.{line_feed, space};
 ghost use Rattle.desk_ops.specs.Worked.{ConcurrentDeleteAndInsert, FiveArrivals, ForkedStamp, LaterSiblingFirst, SettingsByStamps, TombstonesKept, WaitingThenLive};
-ghost use Rattle.desk_ops.specs.Laws.{DrainGivesWalk, FaultsByEnds, HeldByMembers, LawfulByTests, LiveByParents, MergingIsUnion, NewestActs, OneOrder, OrderGoesByStamp, OrderIsKept, PlaceGivesWalk, ScanGivesWalk, SettingsByStamp, ShownIsWhatIsLeft, WalkGoesByKids, WalkHoldsTheLive};
+ghost use Rattle.desk_ops.specs.Laws.{DrainGivesWalk, FaultsByEnds, HeldByMembers, LawfulByTests, LiveByParents};
+ghost use Rattle.desk_ops.specs.Laws.{MergingIsUnion, NewestActs, OneOrder, OrderGoesByStamp, OrderIsKept, PlaceGivesWalk};
+ghost use Rattle.desk_ops.specs.Laws.{ScanGivesWalk, SettingsByStamp, ShownIsWhatIsLeft, WalkGoesByKids, WalkHoldsTheLive};
 
 use crate::op::{MAX_COUNTER, Stamp, Symbol};
 

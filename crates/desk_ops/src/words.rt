@@ -1,10 +1,12 @@
-//! How the values of operations read in a message: a stamp as `10.1`, a symbol as `italic a`, a fault as `forked 10.1`.
+//! How the values of operations read in a message: a stamp as `10.1`, a symbol as `italic a`, a fault as `forked 10.1`,
+//! and why an operation is not lawful, as `no such key`.
 
 ghost use Rattle.std.specs.Prelude.{◌≡◌};
-ghost use Rattle.desk_ops.specs.Words.{key_words, kind_words, style_words};
+ghost use Rattle.desk_ops.specs.Words.{key_words, kind_words, style_words, unlawful_words};
 
 use crate::fault::{CopyFault, FaultKind};
-use crate::op::{Key, Stamp, Style, Symbol};
+use crate::op::{Key, Stamp, Style, Symbol, Unlawful};
+use std::error::Error;
 use std::fmt;
 use std::fmt::{Display, Formatter};
 
@@ -120,3 +122,32 @@ impl Display for CopyFault {
         write!(f, "{kind} {stamp}")
     }
 }
+
+impl Unlawful {
+    /// Why an operation is not lawful, in words.
+    pub fn words(self) -> &'static str
+        ensures { result.now ≡ unlawful_words self }
+    {
+        match self {
+            Unlawful::Counter => "the counter is out of range",
+            Unlawful::Site => "no site has the number 0",
+            Unlawful::Target => "the target is not an earlier stamp",
+            Unlawful::Symbol => "no such symbol",
+            Unlawful::Key => "no such key",
+            Unlawful::Value => "the value is out of the key's range",
+        }
+    }
+}
+
+impl Display for Unlawful {
+    ghost use Rattle.std.specs.Prelude.{Some};
+    ghost use Rattle.desk_ops.specs.Words.{unlawful_words};
+
+    ghost output = { λ why. Some (unlawful_words why) };
+
+    fn fmt<W: fmt::Write>(&self, f: &mut Formatter<W>) -> fmt::Result {
+        f.write_str(self.words())
+    }
+}
+
+impl Error for Unlawful {}

@@ -8,7 +8,7 @@ use Rattle.std.proofs.lemmas.List.{get_or_read, take-append-drop, length-take-le
 use Rattle.desk_pages.specs.Pages.{joined, start_of, IsSpot, AreHalfFull, IsHalfFull, ends_in, IsEdge, IsNth, IsShort}
 use Rattle.desk_pages.proofs.Cuts.{start-more, start-le, take-joined, take-start, entry-joined, joined-past}
 
--- what follows for what is found, or for what is wanting
+-- what follows for what is found, or for what is missing
 pub if-ok : {A E : Type 0} (r : Result A E) (P Q : A → Type 0) → ((x : A) → P x → Q x) → IfOk r P → IfOk r Q
 if-ok (Ok x) P Q f h = f x h
 if-ok (Err e) P Q f h = tt

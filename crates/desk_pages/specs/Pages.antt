@@ -1,5 +1,5 @@
 -- A list in pages.
-use Rattle.std.specs.Prelude.{◌≡◌, true, false, ℕ, zero, suc, ◌<◌, ◌≤◌, ◌+◌, ◌-◌, ◌*◌, ◌^◌, min, max, Bool, List, [], ◌∷◌, ◌++◌, length, slice_index_or, take, drop}
+use Rattle.std.specs.Prelude.{◌≡◌, true, false, ℕ, zero, suc, ◌<◌, ◌≤◌, ◌+◌, ◌-◌, ◌*◌, ◌^◌, min, max, Bool, List, [], ◌∷◌, ◌++◌, length, slice_index_or, slice_set, take, drop}
 use Rattle.std.specs.List.{count_by}
 
 -- the pages, one after another
@@ -95,6 +95,12 @@ pub record IsSums {X S : Type 0} (sums_up : S → List X → Type 0) (pages : Li
 -- where each group begins, and a summary of each
 abbrev pub IsGroups : {X S : Type 0} → (S → List X → Type 0) → List (List X) → List ℕ → List S → Type 0
 IsGroups sums_up pages starts sums = IsStarts pages starts × IsSums sums_up pages sums
+
+-- what group g summed up is summed up with another entry written over the old one, wherever that stands
+abbrev pub IsSumReplaced : {X S : Type 0} → (S → List X → Type 0) → List S → List S → ℕ → X → X → Type 0
+IsSumReplaced {X} {S} sums_up before after g old new =
+    (xs : List X) (i : ℕ) (d : S) → g < length before → length xs < 2 ^ 48 → i < length xs → old ≡ slice_index_or xs i old →
+    sums_up (slice_index_or before g d) xs → sums_up (slice_index_or after g d) (slice_set xs i new)
 
 -- a list, and how many more it takes with no new memory
 pub record Kept (X : Type 0) : Type 0 where

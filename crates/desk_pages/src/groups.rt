@@ -1,7 +1,7 @@
 //! What is kept of each group of pages, so that a look-up by place and a search by summaries go over few pages.
 ghost use Rattle.std.specs.Prelude.{◌≡◌, ◌≢◌, ◌+◌, ◌*◌, ◌≤◌, ◌<◌, ◌^◌, ℕ, List, [], length, take, drop, slice_index_or, slice_set, vec_len, vec_capacity};
 ghost use Rattle.std.specs.List.{insert, remove};
-ghost use Rattle.desk_pages.specs.Pages.{joined, start_of, HasMore, IsGap, IsHalfFull, IsSums, IsGroups};
+ghost use Rattle.desk_pages.specs.Pages.{joined, start_of, HasMore, IsGap, IsHalfFull, IsSumReplaced, IsSums, IsGroups};
 
 use crate::pages::read;
 use crate::starts::{GROUP, find_starts, lower, raise};
@@ -139,7 +139,7 @@ fn sum_replaced<T: Copy, S: Summary<T>, A: Allocator>(
 )
     ensures len { length sums.new.items ≡ length sums.old.items }
     ensures others { (n : ℕ) (d : S) → n ≢ g → slice_index_or sums.new.items n d ≡ slice_index_or sums.old.items n d }
-    ensures replaced { (xs : List T) (i : ℕ) (d : S) → g < length sums.old.items → length xs < 2 ^ 48 → i < length xs → old ≡ slice_index_or xs i old → S.sums_up (slice_index_or sums.old.items g d) xs → S.sums_up (slice_index_or sums.new.items g d) (slice_set xs i new) }
+    ensures replaced { IsSumReplaced S.sums_up sums.old.items sums.new.items g old new }
 {
     if g < sums.len() {
         sums[g] = sums[g].replaced(old, new);

@@ -17,7 +17,7 @@ const MOST: usize = 1 << 47;
 /// Where an entry was put: two hints, and no part of the list.
 #[derive(Clone, Copy, Debug, PartialEq, Eq)]
 pub struct Placed {
-    /// The number of its page.
+    /// The name of its page.
     pub page: usize,
     /// Where a page was cut in two to make room, the place from which on the new one stands.
     pub cut: Option<usize>,
@@ -104,7 +104,7 @@ impl<T: Copy, S: Summary<T>, A: Allocator + Copy> Pages<T, S, A> {
         pages::stretch(&self.pages, &self.groups.starts, self.len, i)
     }
 
-    /// The number of the page in which the i-th entry stands. It stays with the page, and is no part of the list.
+    /// The name of the page in which the i-th entry stands. It stays with the page, and is no part of the list.
     pub fn name_at(&self, i: usize) -> usize
         requires { i < length self.now.entries }
     {
@@ -112,7 +112,7 @@ impl<T: Copy, S: Summary<T>, A: Allocator + Copy> Pages<T, S, A> {
         pages::name_of(&self.pages, p)
     }
 
-    /// The page of that number, and the place of its first entry.
+    /// The page of that name, and the place of its first entry.
     pub fn named(&self, name: usize) -> Option<(usize, &[T])>
         ensures is { IfSome result (λ r. r.1.now ≡ take (length r.1.now) (drop r.0 self.now.entries)) }
         ensures few { length self.now.entries < 2 ^ 48 }
@@ -226,7 +226,7 @@ impl<T: Copy, S: Summary<T>, A: Allocator + Copy> Pages<T, S, A> {
         out
     }
 
-    /// The place of the n-th, from a place on, that is picked, or how many are wanting.
+    /// The place of the n-th, from a place on, that is picked, or how many are missing.
     pub fn nth<P: Pick<T, S>>(&self, from: usize, pick: &P, n: usize) -> Result<usize, usize>
         requires { from ≤ length self.now.entries }
         ensures found { IfOk result (λ place. IsNth (P.picked pick.now) self.now.entries from n place) }
@@ -238,7 +238,7 @@ impl<T: Copy, S: Summary<T>, A: Allocator + Copy> Pages<T, S, A> {
         search::nth(&self.pages, &self.groups, self.len, from, pick, n)
     }
 
-    /// The place of the n-th of all that is picked, or how many are wanting, where it is known how many are picked: looked
+    /// The place of the n-th of all that is picked, or how many are missing, where it is known how many are picked: looked
     /// for from the nearer end.
     pub fn nth_of_all<P: Pick<T, S>>(&self, pick: &P, all: usize, n: usize) -> Result<usize, usize>
         requires { all ≡ count_by (P.picked pick.now) self.now.entries }

@@ -30,7 +30,7 @@ pub trait Pick<T: Copy, S: Summary<T>> {
     }
 }
 
-/// The n-th from a place on in one page, entry by entry, or how many are wanting.
+/// The n-th from a place on in one page, entry by entry, or how many are missing.
 fn nth_by_one<T: Copy, S: Summary<T>, P: Pick<T, S>>(
     items: &[T],
     from: usize,
@@ -74,7 +74,7 @@ fn count_between<T: Copy, S: Summary<T>, P: Pick<T, S>>(
 /// So many entries are counted before one of them is looked at.
 const STRIDE: usize = 16;
 
-/// The n-th from a place on in one page, or how many are wanting: strides that do not reach it are counted.
+/// The n-th from a place on in one page, or how many are missing: strides that do not reach it are counted.
 pub fn nth_in<T: Copy, S: Summary<T>, P: Pick<T, S>>(
     items: &[T],
     from: usize,
@@ -142,7 +142,7 @@ fn nth_back<T: Copy, S: Summary<T>, P: Pick<T, S>>(items: &[T], pick: &P, n: usi
     nth_back_by_one(items, at, pick, left)
 }
 
-/// The n-th of page p, or how many are wanting: counted from the nearer end, where it is known how many there are.
+/// The n-th of page p, or how many are missing: counted from the nearer end, where it is known how many there are.
 fn nth_of<T: Copy, S: Summary<T>, A: Allocator, P: Pick<T, S>>(
     pages: &Shelf<T, S, A>,
     p: usize,
@@ -168,7 +168,7 @@ fn nth_of<T: Copy, S: Summary<T>, A: Allocator, P: Pick<T, S>>(
     nth_in(pages.items(p), 0, pick, n)
 }
 
-/// How many are wanting behind a group that begins at a page, and where the next begins, where the group may be passed by.
+/// How many are missing behind a group that begins at a page, and where the next begins, where the group may be passed by.
 fn pass<T: Copy, S: Summary<T>, A: Allocator, P: Pick<T, S>>(
     pages: &Shelf<T, S, A>,
     groups: &Groups<S, A>,
@@ -198,7 +198,7 @@ fn pass<T: Copy, S: Summary<T>, A: Allocator, P: Pick<T, S>>(
     }
 }
 
-/// The n-th from a page on, or how many are wanting.
+/// The n-th from a page on, or how many are missing.
 fn nth_from<T: Copy, S: Summary<T>, A: Allocator, P: Pick<T, S>>(
     pages: &Shelf<T, S, A>,
     groups: &Groups<S, A>,
@@ -234,7 +234,7 @@ fn nth_from<T: Copy, S: Summary<T>, A: Allocator, P: Pick<T, S>>(
     Err(left)
 }
 
-/// The n-th from a place on, or how many are wanting.
+/// The n-th from a place on, or how many are missing.
 pub fn nth<T: Copy, S: Summary<T>, A: Allocator, P: Pick<T, S>>(
     pages: &Shelf<T, S, A>,
     groups: &Groups<S, A>,
@@ -340,7 +340,7 @@ fn page_before<T: Copy, S: Summary<T>, A: Allocator, P: Pick<T, S>>(
     (at, start, before)
 }
 
-/// The n-th of all, or how many are wanting: looked for from the end, by how many are picked in all.
+/// The n-th of all, or how many are missing: looked for from the end, by how many are picked in all.
 pub fn nth_from_end<T: Copy, S: Summary<T>, A: Allocator, P: Pick<T, S>>(
     pages: &Shelf<T, S, A>,
     groups: &Groups<S, A>,
@@ -460,7 +460,7 @@ fn edge_page<T: Copy, S: Summary<T>, A: Allocator, P: Pick<T, S>>(
     edge_among(pages, pick, guess_among(pages, pick))
 }
 
-/// The number of the page that is looked for: a hint, as if all entries were one page of the last of each. A few pages are
+/// The page that is looked for: a hint, as if all entries were one page of the last of each. A few pages are
 /// sooner halved than guessed at.
 fn guess_among<T: Copy, S: Summary<T>, A: Allocator, P: Pick<T, S>>(
     pages: &Shelf<T, S, A>,

@@ -1,11 +1,11 @@
 //! Where things stand on the paper, in hundredths of a point.
 
 ghost use Rattle.std.specs.Prelude.{◌≡◌, ◌+◌, ◌*◌, ◌/◌, ◌≤◌, ◌^◌};
-ghost use Rattle.desk_proof.specs.Parts.{point};
+ghost use Rattle.desk_units.specs.Widths.{point_atoms};
 ghost use Rattle.desk_picture.specs.Paper.{across, foot, leading};
 
 use desk_proof::Scale;
-use desk_units::Pica;
+use desk_units::{Pica, point_atoms};
 
 /// Where the frame begins, from the left.
 pub const EDGE: u128 = 10_000;
@@ -23,13 +23,10 @@ pub struct Paper {
 
 /// A number over the atoms of a point.
 fn over_point(pica: Pica, n: u128) -> u128
-    ensures value { result ≡ n / point pica }
+    ensures value { result ≡ n / point_atoms pica }
     ensures limit { result ≤ n }
 {
-    match pica {
-        Pica::Sixth => n / 18_000,
-        Pica::American => n / 17_928,
-    }
+    n / point_atoms(pica) as u128
 }
 
 /// So many atoms from the edge of the frame, rounded down.

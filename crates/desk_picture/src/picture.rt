@@ -3,7 +3,9 @@
 ghost use Rattle.std.specs.Prelude.{◌≡◌, ◌+◌, ◌*◌, ◌++◌, ◌≤◌, ◌^◌, length, All, OnOk, string_bytes};
 ghost use Rattle.desk_lines.specs.Words.{most_symbols};
 ghost use Rattle.desk_galley.specs.Galley.{Stands};
-ghost use Rattle.desk_picture.specs.Picture.{begin_text, frame_height, frame_text, galley_frame, galley_height, group_text, looks_text, no_galley_picture, page_height, page_text, page_width, paper_of, picture_on, picture_text, points_text, size_text, why_text, why_words};
+ghost use Rattle.desk_picture.specs.Picture.{begin_text, frame_height, frame_text, galley_frame, galley_height, group_text};
+ghost use Rattle.desk_picture.specs.Picture.{looks_text, no_galley_picture, page_height, page_text, page_width, paper_of};
+ghost use Rattle.desk_picture.specs.Picture.{picture_on, picture_text, points_text, size_text, why_text, why_words};
 
 use crate::heads::{head_count, head_y, put_copy_faults, put_heads};
 use crate::lines::{put_lines, put_text_at};
@@ -21,7 +23,12 @@ use std::alloc::{AllocError, Allocator};
 fn looks() -> &'static str
     ensures { result.now ≡ looks_text }
 {
-    "<style>text{font-family:Times New Roman,Liberation Serif,Times,serif;white-space:pre}.w{direction:ltr;unicode-bidi:bidi-override;font-variant-ligatures:none;font-kerning:none}.i{font-style:italic}.s{font-variant:small-caps;font-variant-caps:all-small-caps}.m{fill:#c00}.f,.c{fill:#b00}.c,.h,.n{font-family:sans-serif;font-size:8px}.n{fill:#777;text-anchor:end;user-select:none}.b{fill:#e4e9ef;stroke:#a9b4c0;stroke-width:.3}.frame{fill:#fff;stroke:#999;stroke-width:.5}</style>\n"
+    "<style>text{font-family:Times New Roman,Liberation Serif,Times,serif;white-space:pre}\
+    .w{direction:ltr;unicode-bidi:bidi-override;font-variant-ligatures:none;font-kerning:none}\
+    .i{font-style:italic}.s{font-variant:small-caps;font-variant-caps:all-small-caps}.m{fill:#c00}\
+    .f,.c{fill:#b00}.c,.h,.n{font-family:sans-serif;font-size:8px}\
+    .n{fill:#777;text-anchor:end;user-select:none}.b{fill:#e4e9ef;stroke:#a9b4c0;stroke-width:.3}\
+    .frame{fill:#fff;stroke:#999;stroke-width:.5}</style>\n"
 }
 
 /// Writes the beginning of a picture, up to its size in points.

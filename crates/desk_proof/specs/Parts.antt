@@ -7,7 +7,7 @@ use Rattle.desk_ops.specs.declared.op.Symbol.{Symbol}
 use Rattle.desk_lines.specs.declared.words.Word.{Word}
 use Rattle.desk_lines.specs.Words.{spelled}
 use Rattle.desk_units.specs.declared.Pica.{Pica}
-use Rattle.desk_units.specs.Widths.{measure_width}
+use Rattle.desk_units.specs.Widths.{point_atoms}
 
 -- ---- columns
 
@@ -78,18 +78,14 @@ end_of words = end_from 0 words
 
 -- ---- widths
 
--- the atoms of a point
-abbrev pub point : Pica → ℕ
-point pica = measure_width 1 pica
-
 -- tenths as a number with one decimal
 abbrev pub tenths_text : ℕ → List ℕ
 tenths_text tenths = decimal (tenths / 10) ++ codes "." ++ decimal (tenths % 10)
 
 -- atoms in points, rounded down to a tenth
 abbrev pub points_down : Pica → ℕ → List ℕ
-points_down pica atoms = tenths_text (atoms * 10 / point pica)
+points_down pica atoms = tenths_text (atoms * 10 / point_atoms pica)
 
 -- atoms in points, rounded up to a tenth
 abbrev pub points_up : Pica → ℕ → List ℕ
-points_up pica atoms = tenths_text ((atoms * 10 + (point pica - 1)) / point pica)
+points_up pica atoms = tenths_text ((atoms * 10 + (point_atoms pica - 1)) / point_atoms pica)

@@ -3,11 +3,11 @@
 ghost use Rattle.std.specs.Prelude.{◌≡◌, ◌++◌, ◌≤◌, ◌^◌, All, OnOk, string_bytes};
 ghost use Rattle.std.specs.Fmt.{decimal};
 ghost use Rattle.desk_job.specs.Setting.{IsWord};
-ghost use Rattle.desk_proof.specs.Parts.{begin_of, dots_text, end_of, fills_text, gap, has_fills, left, many, point, points_down, points_up, right, shown, symbols_text, tenths_text, word_text, words_text};
+ghost use Rattle.desk_proof.specs.Parts.{begin_of, dots_text, end_of, fills_text, gap, has_fills, left, many, points_down, points_up, right, shown, symbols_text, tenths_text, word_text, words_text};
 
 use desk_lines::Word;
 use desk_ops::Symbol;
-use desk_units::Pica;
+use desk_units::{Pica, point_atoms};
 use itoa::Buffer;
 use std::alloc::{AllocError, Allocator};
 
@@ -171,18 +171,6 @@ pub fn end_of(words: &[Word]) -> usize
     end
 }
 
-/// The atoms of a point.
-fn point(pica: Pica) -> u64
-    ensures value { result ≡ point pica }
-    ensures some { 1 ≤ result }
-    ensures small { result ≤ 18000 }
-{
-    match pica {
-        Pica::Sixth => 72 * 250,
-        Pica::American => 72 * 249,
-    }
-}
-
 /// Writes tenths as a number with one decimal.
 fn put_tenths<A: Allocator + Copy>(out: &mut String<A>, tenths: u128) -> Result<(), AllocError>
     ensures { OnOk result (string_bytes out.new ≡ string_bytes out.old ++ tenths_text tenths) }
@@ -200,7 +188,7 @@ pub fn put_points_down<A: Allocator + Copy>(
 ) -> Result<(), AllocError>
     ensures { OnOk result (string_bytes out.new ≡ string_bytes out.old ++ points_down pica atoms) }
 {
-    put_tenths(out, atoms as u128 * 10 / point(pica) as u128)
+    put_tenths(out, atoms as u128 * 10 / point_atoms(pica) as u128)
 }
 
 /// Writes atoms in points, rounded up to a tenth.
@@ -211,6 +199,6 @@ pub fn put_points_up<A: Allocator + Copy>(
 ) -> Result<(), AllocError>
     ensures { OnOk result (string_bytes out.new ≡ string_bytes out.old ++ points_up pica atoms) }
 {
-    let point = point(pica) as u128;
+    let point = point_atoms(pica) as u128;
     put_tenths(out, (atoms as u128 * 10 + (point - 1)) / point)
 }

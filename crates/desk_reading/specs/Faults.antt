@@ -1,28 +1,11 @@
 -- The first fault of a ribbon, on one line.
 use Rattle.std.specs.Prelude.{ℕ, List, [], ◌++◌, codes}
 use Rattle.std.specs.Fmt.{decimal}
-use Rattle.desk_signals.specs.declared.BadRow.{BadRow}
-use Rattle.desk_signals.specs.declared.BadRow.TheVariants as rows
-use Rattle.desk_image.specs.declared.BadImage.{BadImage}
-use Rattle.desk_image.specs.declared.BadImage.TheVariants as images
+use Rattle.desk_image.specs.Words.{bad_image_words}
 use Rattle.desk_caster.specs.declared.RibbonFault.{RibbonFault}
 use Rattle.desk_caster.specs.declared.RibbonFault.TheVariants as ribbons
 use Rattle.desk_caster.specs.declared.CastFault.{CastFault}
 use Rattle.desk_caster.specs.declared.CastFault.TheVariants as casts
-
--- why signals are no row
-abbrev pub row_words : BadRow → List ℕ
-row_words rows.TwoLetters = codes "two letters that name no column"
-row_words rows.TwoNumbers = codes "two numbers"
-row_words rows.FineAlone = codes "0005 without 0075"
-row_words rows.WedgeWithLetter = codes "0075 with a letter"
-row_words rows.WedgeWithS = codes "0075 with S"
-row_words rows.Repeated = codes "a signal stands twice"
-
--- why an image is no row
-abbrev pub image_words : BadImage → List ℕ
-image_words images.HighBit = codes "bit 31 is set, which is no channel"
-image_words (images.Row why) = row_words why
 
 -- a row by its place in punched order, from 0
 abbrev pub row_text : ℕ → List ℕ
@@ -32,7 +15,7 @@ row_text place = codes "row " ++ decimal place ++ codes ": "
 abbrev pub ribbon_fault_words : RibbonFault → List ℕ
 ribbon_fault_words ribbons.Magic = codes "it does not begin with MRB1"
 ribbon_fault_words ribbons.Count = codes "it has not as many rows as it says"
-ribbon_fault_words (ribbons.Row place why) = row_text place ++ image_words why
+ribbon_fault_words (ribbons.Row place why) = row_text place ++ bad_image_words why
 ribbon_fault_words ribbons.NoMemory = []
 
 abbrev pub ribbon_fault_text : RibbonFault → List ℕ

@@ -3,36 +3,10 @@
 ghost use Rattle.std.specs.Prelude.{◌≡◌, ◌≢◌, ◌++◌, OnOk, string_bytes};
 ghost use Rattle.desk_caster.specs.declared.CastFault.TheVariants as casts;
 ghost use Rattle.desk_caster.specs.declared.RibbonFault.TheVariants as ribbons;
-ghost use Rattle.desk_reading.specs.Faults.{cast_fault_text, cast_fault_words, image_words, ribbon_fault_text, ribbon_fault_words, row_text, row_words};
+ghost use Rattle.desk_reading.specs.Faults.{cast_fault_text, cast_fault_words, ribbon_fault_text, ribbon_fault_words, row_text};
 
 use desk_caster::{CastFault, RibbonFault};
-use desk_image::BadImage;
-use desk_signals::BadRow;
 use std::alloc::{AllocError, Allocator};
-
-/// Why signals are no row.
-fn row_words(why: BadRow) -> &'static str
-    ensures { result.now ≡ row_words why }
-{
-    match why {
-        BadRow::TwoLetters => "two letters that name no column",
-        BadRow::TwoNumbers => "two numbers",
-        BadRow::FineAlone => "0005 without 0075",
-        BadRow::WedgeWithLetter => "0075 with a letter",
-        BadRow::WedgeWithS => "0075 with S",
-        BadRow::Repeated => "a signal stands twice",
-    }
-}
-
-/// Why an image is no row.
-fn image_words(why: BadImage) -> &'static str
-    ensures { result.now ≡ image_words why }
-{
-    match why {
-        BadImage::HighBit => "bit 31 is set, which is no channel",
-        BadImage::Row(why) => row_words(why),
-    }
-}
 
 /// Writes a row's place, and these words.
 fn put_row<A: Allocator + Copy>(
@@ -57,7 +31,7 @@ fn put_ribbon_words<A: Allocator + Copy>(
     match fault {
         RibbonFault::Magic => out.push_str("it does not begin with MRB1"),
         RibbonFault::Count => out.push_str("it has not as many rows as it says"),
-        RibbonFault::Row(place, why) => put_row(out, place, image_words(why)),
+        RibbonFault::Row(place, why) => put_row(out, place, why.words()),
         RibbonFault::NoMemory => Err(AllocError),
     }
 }

@@ -67,11 +67,8 @@ fn lines_are_reported(rt: HostRuntime) -> Result<(), Fail> {
 const FAULTS: [(&str, &str); 7] = [
     ("feed", "no ribbon: it does not begin with MRB1\n"),
     ("cut", "no ribbon: it has not as many rows as it says\n"),
-    ("two", "no ribbon: row 1: two letters that name no column\n"),
-    (
-        "high",
-        "no ribbon: row 0: bit 31 is set, which is no channel\n",
-    ),
+    ("two", "no ribbon: row 1: two letters\n"),
+    ("high", "no ribbon: row 0: bit 31 is set\n"),
     (
         "alone",
         "row 1: no wedges: the caster meets it before the wedges of a line are set\n",

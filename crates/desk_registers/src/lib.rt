@@ -1,6 +1,7 @@
 //! The settings of a job: of each key the value with the greatest stamp.
 //!
-//! Such a register keeps its last value and that value's stamp alone, and takes operations in any order and repeated.
+//! Each is a last-writer-wins register: it keeps its last value and that value's stamp alone, and takes operations in any
+//! order and repeated.
 #![tactic(auto)]
 
 ghost use Rattle.std.specs.Prelude.{◌≡◌, None, option_map};
@@ -11,7 +12,7 @@ use desk_ops::{Key, Stamp};
 
 mod laws;
 
-pub use laws::{law_of_one_greatest, law_of_the_greatest};
+pub use laws::{greatest_is_kept, there_is_one_greatest};
 
 /// A setting's value, and the stamp of the operation that set it.
 #[derive(Clone, Copy, Debug, PartialEq, Eq)]
@@ -31,12 +32,11 @@ pub struct Registers {
 }
 
 /// The one of the greater stamp.
-#[tactic(auto, using(desk_ops::proofs::Stamps::stamps))]
 fn greater(old: Option<Kept>, new: Kept) -> Kept
     ensures { result ≡ greater old new }
 {
     match old {
-        Some(old) if !(old.stamp < new.stamp) => old,
+        Some(old) if !old.stamp.is_before(new.stamp) => old,
         _ => new,
     }
 }

@@ -8,19 +8,18 @@ use Rattle.desk_ops.specs.declared.op.Stamp.{Stamp}
 use Rattle.desk_ops.specs.declared.op.Key.{Key}
 use Rattle.desk_ops.specs.declared.op.Op.{Op}
 use Rattle.desk_ops.specs.declared.op.Op.TheVariants.{Insert, Delete, Set}
-use Rattle.desk_ops.specs.Stamp.{before, same}
+use Rattle.desk_ops.specs.Stamp.{before}
 use Rattle.desk_ops.specs.Op.{stamp_of, target_of}
-use Rattle.desk_ops.specs.OpSet.{OpSet, no_ops, has_op, with_op, in_order}
+use Rattle.desk_ops.specs.OpSet.{OpSet, no_ops, with_op, in_order}
 use Rattle.desk_ops.specs.Lists.{Among}
 use Rattle.desk_ops.specs.Held.{is_borne_in, is_clear, clear_ops}
 use Rattle.desk_ops.specs.Live.{IsClearOp}
 use Rattle.desk_ops.specs.Settings.{value_for, setting_of, IsSetting}
-use Rattle.desk_ops.proofs.Stamps.{by_cases, same-refl, same-from, same-true, before-irrefl, before-trans}
+use Rattle.desk_ops.proofs.Stamps.{by_cases, same-refl, same-from, before-irrefl, before-trans}
 use Rattle.desk_ops.proofs.Lists.{Each, each-among}
 use Rattle.desk_ops.proofs.Means.{clear_one}
-use Rattle.desk_ops.proofs.Arrive.{among-with_op, with_op-among}
-use Rattle.desk_ops.proofs.Ends.{among_held, held_among, clear_from_op, op_from_clear}
-use Rattle.desk_ops.proofs.Joined.{is_clear-with_op_apart, is_clear-with_op_new}
+use Rattle.desk_ops.proofs.Ends.{among_held, clear_from_op, op_from_clear}
+use Rattle.desk_ops.proofs.Fresh.{clear_old, clear_new, own_clear}
 use Rattle.desk_ops.proofs.Bearers.{op_borne}
 use Rattle.desk_ops.proofs.Values.{is_setting, value_of}
 use Rattle.desk_ops.proofs.OpSets.{no_ops-from_rising, in_order-from_rising}
@@ -55,24 +54,8 @@ value_is h key k a = go k (setting_of h key) a (is_setting h key)
 -- ---- an operation whose stamp is new
 
 module _ (h : OpSet) (o : Op) (fresh : is_borne_in h (stamp_of o) ≡ false) where
-  apart : (p : Op) → has_op h p ≡ true → same (stamp_of o) (stamp_of p) ≡ false
-  apart p e = by_cases (same (stamp_of o) (stamp_of p)) (λ k. absurd (true≢false (sym (op_borne h (stamp_of o) (p, e, sym (same-true (stamp_of o) (stamp_of p) k))) ∙ fresh))) (λ k. k)
-
-  stays : (p : Op) → IsClearOp h p → IsClearOp (with_op h o) p
-  stays p c = (held_among (with_op h o) p (with_op-among h o p (inr (among_held h p c.0))), is_clear-with_op_apart h o (stamp_of p) (apart p c.0) ∙ c.1)
-
-  was : (p : Op) → IsClearOp (with_op h o) p → (o ≡ p) ⊎ IsClearOp h p
-  was p c = go (among-with_op h o p (among_held (with_op h o) p c.0))
-    where
-      go : (o ≡ p) ⊎ Among p (in_order h) → (o ≡ p) ⊎ IsClearOp h p
-      go (inl e) = inl e
-      go (inr m) = let k : has_op h p ≡ true = held_among h p m in inr (k, sym (is_clear-with_op_apart h o (stamp_of p) (apart p k)) ∙ c.1)
-
-  own : IsClearOp (with_op h o) o
-  own = (held_among (with_op h o) o (with_op-among h o o (inl refl)), is_clear-with_op_new h o fresh)
-
   unset : (kept : Key → Option Kept) (key : Key) → ((s : Stamp) (n : ℕ) → o ≡ Set s key n → ⊥) → IsGreatestOf (Sets h key) (kept key) → IsGreatestOf (Sets (with_op h o) key) (kept key)
-  unset kept key other a = same_greatest (Sets h key) (Sets (with_op h o) key) (kept key) (λ s n l. (stays (Set s key n) l.0, tt)) (λ s n l. (back s n (was (Set s key n) l.0), tt)) a
+  unset kept key other a = same_greatest (Sets h key) (Sets (with_op h o) key) (kept key) (λ s n l. (clear_old h o fresh (Set s key n) l.0, tt)) (λ s n l. (back s n (clear_new h o fresh (Set s key n) l.0), tt)) a
     where
       back : (s : Stamp) (n : ℕ) → (o ≡ Set s key n) ⊎ IsClearOp h (Set s key n) → IsClearOp h (Set s key n)
       back s n (inl e) = absurd (other s n e)
@@ -81,13 +64,13 @@ module _ (h : OpSet) (o : Op) (fresh : is_borne_in h (stamp_of o) ≡ false) whe
   set_is : (s t : Stamp) (k key : Key) (v n : ℕ) → o ≡ Set s k v → Is (record { stamp = s; key = k; value = v }) key t n → IsClearOp (with_op h o) (Set t key n)
   set_is s t k key v n e i =
       let f : o ≡ Set t key n = e ∙ ap (λ k. Set s k v) i.key_is ∙ ap (λ s. Set s key v) i.stamp_is ∙ ap (Set t key) i.value_is in
-      subst (IsClearOp (with_op h o)) f own
+      subst (IsClearOp (with_op h o)) f (own_clear h o fresh)
 
   more : (s : Stamp) (k : Key) (v : ℕ) → o ≡ Set s k v → (kept : Key → Option Kept) (key : Key) → IsGreatestOf (Sets h key) (kept key) → IsGreatestOf (Sets (with_op h o) key) (kept_with kept s k v key)
   more s k v e kept key a =
       same_greatest (Or (Sets h key) (Is (record { stamp = s; key = k; value = v }) key)) (Sets (with_op h o) key) (kept_with kept s k v key)
-      (λ t n q. elim q [ inl l ↦ (stays (Set t key n) l.0, tt) | inr i ↦ (set_is s t k key v n e i, tt) ])
-      (λ t n l. back t n (was (Set t key n) l.0))
+      (λ t n q. elim q [ inl l ↦ (clear_old h o fresh (Set t key n) l.0, tt) | inr i ↦ (set_is s t k key v n e i, tt) ])
+      (λ t n l. back t n (clear_new h o fresh (Set t key n) l.0))
       (step (Sets h key) kept (record { stamp = s; key = k; value = v }) key a)
     where
       is_it : (t : Stamp) (n : ℕ) → Set s k v ≡ Set t key n → Is (record { stamp = s; key = k; value = v }) key t n

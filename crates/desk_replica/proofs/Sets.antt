@@ -16,7 +16,7 @@ use Rattle.std.proofs.lemmas.Bool.{true≢false}
 use Rattle.desk_replica.specs.declared.Took.{Took}
 use Rattle.desk_held.specs.declared.join.Stopped.{Stopped}
 use Rattle.desk_held.specs.Joining.{IsStopped}
-use Rattle.desk_ops.proofs.Unions.{with_all-append, size-with_op}
+use Rattle.desk_ops.proofs.Unions.{with_all-append, size-with_op, size-few}
 use Rattle.desk_ops.proofs.Stamps.{by_cases}
 
 pub each-of-all : (ops : List Op) → All IsLawful ops → AllByRecursion IsLawful ops
@@ -47,15 +47,6 @@ too_many old after ops stop s why = go (drop stop.taken ops) refl
         let is : size (with_all old ops) ≡ size (with_all (with_op after o) l) = ap size (rest ∙ ap (with_all after) e) in
         let full : size after ≡ max_ops = s.full.0 why in
         omega (arith, one, all, is, full)
-
--- how many a list makes of them
-pub size-few : (h : OpSet) (os : List Op) → size (with_all h os) ≤ size h + length os
-size-few h [] = omega arith
-size-few h (o ∷ os) =
-    let few : size (with_all (with_op h o) os) ≤ size (with_op h o) + length os = size-few (with_op h o) os in
-    by_cases (has_op h o)
-    (λ k. let e : size (with_op h o) ≡ size h = size-with_op h o ∙ ap (λ b. cond b (size h) (size h + 1)) k in omega (arith, e, few))
-    (λ k. let e : size (with_op h o) ≡ size h + 1 = size-with_op h o ∙ ap (λ b. cond b (size h) (size h + 1)) k in omega (arith, e, few))
 
 -- the counts of a list that was taken in, by how many were held before and after
 module _ (old after : OpSet) (ops : List Op) (before now : ℕ) (gained : after ≡ with_all old ops) (was : before ≡ size old) (is : now ≡ size after) where

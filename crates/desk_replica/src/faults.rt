@@ -8,7 +8,8 @@ ghost use Rattle.desk_ops.specs.Faults.{faults_of, fault_of, marked};
 ghost use Rattle.desk_replica.specs.Ways.{kind_at, AreRising, IsNone, IsOne, AreWays, ends_with, ways_with, AreReported};
 
 use desk_held::Held;
-use desk_ops::{CopyFault, FaultKind, NoMemory, Op, Stamp};
+use desk_memory::NoMemory;
+use desk_ops::{CopyFault, FaultKind, Op, Stamp};
 use std::alloc::Allocator;
 
 /// A clear insert, and the fault of the operations whose target it is, if they have one.
@@ -27,7 +28,7 @@ fn find(ways: &[Way], stamp: Stamp) -> Option<usize>
     if place == ways.len() {
         return None;
     }
-    if ways[place].stamp == stamp {
+    if ways[place].stamp.is_same(stamp) {
         Some(place)
     } else {
         None
@@ -60,7 +61,7 @@ fn is_repeated<A: Allocator + Copy>(held: &Held<A>, place: usize, stamp: Stamp) 
     if place == 0 {
         return false;
     }
-    held.op(place - 1).stamp() == stamp
+    held.op(place - 1).stamp().is_same(stamp)
 }
 
 /// The fault of a clear operation.

@@ -25,8 +25,9 @@ ghost use Rattle.desk_replica.specs.Edits.{new_stamp, parent_at, stamp_at, edit_
 
 use desk_codec::write_runs;
 use desk_held::{AddRefusal, Held, LIMIT};
+use desk_memory::NoMemory;
 use desk_ops::op::MAX_COUNTER;
-use desk_ops::{CopyFault, Key, NoMemory, Op, Stamp, Symbol};
+use desk_ops::{CopyFault, Key, Op, Stamp, Symbol};
 use desk_registers::Registers;
 use desk_room::Room;
 use desk_seq::{Entry, Sequence};
@@ -81,6 +82,17 @@ impl From<AddRefusal> for Refusal {
             AddRefusal::Full => Refusal::Full,
             AddRefusal::NoMemory => Refusal::NoMemory,
         }
+    }
+}
+
+impl From<NoMemory> for Refusal {
+    ghost use Rattle.std.specs.Prelude.{◌≡◌};
+    ghost use Rattle.desk_replica.specs.declared.Refusal.TheVariants as refusals;
+
+    ghost from_gives = { λ _ refusal. refusal ≡ refusals.NoMemory };
+
+    fn from(_: NoMemory) -> Refusal {
+        Refusal::NoMemory
     }
 }
 
@@ -406,9 +418,7 @@ impl<Q: Sequence> Replica<Q> {
                 Err(AddRefusal::NoMemory)
             };
         }
-        let Ok(()) = self.reserve(1) else {
-            return Err(AddRefusal::NoMemory);
-        };
+        self.reserve(1)?;
         self.enter(op, None);
         Ok(Took::New)
     }
@@ -618,14 +628,12 @@ impl<Q: Sequence> Replica<Q> {
         ensures growth { OnErr result (self.old.spare ≡ 0) }
         ensures spare { self.old.spare ≤ self.new.spare + 1 }
     {
-        let Ok(()) = self.reserve(1) else {
-            return Err(Refusal::NoMemory);
-        };
+        self.reserve(1)?;
         self.enter(op, place);
         Ok(op)
     }
 
-    /// Inserts a symbol at a place of the copy, and answers the operation made. `Place` comes where the place is above
+    /// Inserts a symbol at a place of the copy, and returns the operation made. `Place` comes where the place is above
     /// the copy's length, `Value` where the symbol is not lawful, `Full` and `ClockFull` where nothing more can be made,
     /// the first of these that holds. Out of memory comes only where none of them holds and there was no room.
     pub fn insert_at(&mut self, place: usize, symbol: Symbol) -> Result<Op, Refusal>
@@ -654,7 +662,7 @@ impl<Q: Sequence> Replica<Q> {
         )
     }
 
-    /// Deletes the element at a place of the copy, and answers the operation made. `Place` comes where the place is not
+    /// Deletes the element at a place of the copy, and returns the operation made. `Place` comes where the place is not
     /// below the copy's length, `Full` and `ClockFull` where nothing more can be made, the first of these that holds. Out
     /// of memory comes only where none of them holds and there was no room.
     pub fn delete_at(&mut self, place: usize) -> Result<Op, Refusal>
@@ -673,7 +681,7 @@ impl<Q: Sequence> Replica<Q> {
         self.make(Op::Delete { stamp, target }, Some(at))
     }
 
-    /// Gives a setting of the job a value, and answers the operation made. `Value` comes where the key does not take the
+    /// Gives a setting of the job a value, and returns the operation made. `Value` comes where the key does not take the
     /// value, `Full` and `ClockFull` where nothing more can be made, the first of these that holds. Out of memory comes
     /// only where none of them holds and there was no room.
     pub fn set(&mut self, key: Key, value: u32) -> Result<Op, Refusal>

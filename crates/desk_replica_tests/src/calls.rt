@@ -1,6 +1,7 @@
 //! The calls of a replica, and their answers, as values.
 use crate::cases::{are_lawful, roman};
-use desk_ops::{Key, NoMemory, Op};
+use desk_memory::NoMemory;
+use desk_ops::{Key, Op};
 use desk_replica::{Count, Refusal, Replica, Stopped, Took};
 use desk_seq::Sequence;
 use std::alloc::Allocator;

@@ -2,7 +2,8 @@
 ghost use Rattle.std.specs.Prelude.{◌≡◌, true, All};
 ghost use Rattle.desk_ops.specs.Op.{IsLawful};
 
-use desk_ops::{CopyFault, FaultKind, Key, NoMemory, Op, Stamp, Style, Symbol};
+use desk_memory::NoMemory;
+use desk_ops::{CopyFault, FaultKind, Key, Op, Stamp, Style, Symbol};
 use desk_replica::{Replica, Settings};
 use desk_seq::Sequence;
 use std::alloc::Allocator;

@@ -5,7 +5,8 @@ use crate::cases::{
 };
 use desk_blocks::Blocks;
 use desk_held::AddRefusal;
-use desk_ops::{NoMemory, Op, Stamp};
+use desk_memory::NoMemory;
+use desk_ops::{Op, Stamp};
 use desk_replica::{Count, Refusal, Replica, Stopped, Took};
 use desk_seq::{Flat, Sequence};
 use linked_list_allocator::LocalHeap;

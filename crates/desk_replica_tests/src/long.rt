@@ -2,7 +2,8 @@
 use crate::calls::{Answer, Call, ask, takes};
 use crate::cases::{are_alike, roman};
 use desk_blocks::Blocks;
-use desk_ops::{NoMemory, Op};
+use desk_memory::NoMemory;
+use desk_ops::Op;
 use desk_replica::{Count, Replica};
 use desk_seq::Sequence;
 use std::alloc::Global;

@@ -2,7 +2,8 @@
 use crate::calls::{Answer, open, take, takes};
 use crate::cases::{Want, answers, are_alike, at, deleted, forked, measure, plain, typed, void};
 use desk_blocks::Blocks;
-use desk_ops::{NoMemory, Op, Stamp};
+use desk_memory::NoMemory;
+use desk_ops::{Op, Stamp};
 use desk_replica::{Replica, Took};
 use desk_seq::{Flat, Sequence};
 use std::alloc::Global;

@@ -2,7 +2,8 @@ ghost use Rattle.std.specs.Prelude.{IsTrue};
 ghost use Rattle.desk_lines.specs.Groups.{AreWidths};
 
 use desk_lines::{Group, Paragraph, Word, break_lines, paragraphs};
-use desk_ops::{NoMemory, Style, Symbol};
+use desk_memory::NoMemory;
+use desk_ops::{Style, Symbol};
 use desk_units::Atoms;
 use linked_list_allocator::LocalHeap;
 use std::alloc::{Allocator, Global};

@@ -2,7 +2,7 @@ ghost use Rattle.std.specs.Prelude.{◌≡◌, ◌+◌, ◌*◌, ◌≤◌, ◌<
 ghost use Rattle.std.specs.List.{flat_map};
 ghost use Rattle.desk_ribbon.specs.Ribbon.{line_rows, ribbon_rows};
 
-use desk_ops::NoMemory;
+use desk_memory::NoMemory;
 use desk_ribbon::{Punch, PunchLine, Punches, RibbonWriter, write_ribbon};
 use desk_signals::{Cell, Column, Position, RowNo};
 use linked_list_allocator::LocalHeap;

@@ -7,7 +7,8 @@ ghost use Rattle.desk_ops.specs.Op.{IsLawful};
 ghost use Rattle.desk_ops.specs.OpSet.{no_ops, has_op, with_op, with_all, size};
 ghost use Rattle.desk_room.specs.Waiting.{HasTarget, waits_for, waiting_at, IsReleased};
 
-use desk_ops::{NoMemory, Op, Stamp};
+use desk_memory::NoMemory;
+use desk_ops::{Op, Stamp};
 use desk_pages::Pages;
 use desk_slots::{Slot, insert_in_order, remove_in_order, seek, slots_of};
 use std::alloc::Allocator;
@@ -19,7 +20,7 @@ use turn::{Above, Earlier, compare, is_in_turn, target_of};
 
 /// The operations that wait: a set, and with it of each target the list of what waits for it, by stamp and bytes; and how
 /// many more can be put with no new memory. It is kept in pages, the greatest target first, then by stamp and bytes, so that a put and a
-/// release look at a few pages and change one or two. No call but `reserve` and `from_ops` takes memory, and these answer
+/// release look at a few pages and change one or two. No call but `reserve` and `from_ops` takes memory, and these return
 /// `NoMemory` only where a growth was refused.
 #[derive(Drop)]
 pub struct Room<A: Allocator + Copy> {

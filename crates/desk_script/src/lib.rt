@@ -8,7 +8,7 @@ mod stream;
 // The names of what a script is made of stay reachable from here, used in the repository or not.
 pub use desk_answers::{Refusal, Reply, put};
 pub use desk_commands::{
-    Command, ParseError, law_of_copy, law_of_longest_runs, law_of_spelling, parse,
+    Command, ParseError, copy_is_its_spelling, copy_is_read_again, parse, runs_are_longest,
 };
 pub use desk_files::{FileRefusal, Files, MAX_FILE, NoFiles, store, trial};
 pub use desk_world::{Answer, Event, MAX_SITES, StepRefusal, World};

@@ -18,7 +18,7 @@ use crate::fault::{LineFault, RunFault};
 use desk_answers::{Reply, put, short};
 use desk_files::Files;
 use desk_inputs::Memory;
-use desk_ops::NoMemory;
+use desk_memory::NoMemory;
 use desk_steps::{MAX_LINE, answer};
 use desk_stored::let_out;
 use desk_world::World;

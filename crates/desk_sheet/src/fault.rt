@@ -9,7 +9,7 @@ ghost use Rattle.desk_sheet.specs.declared.fault.SheetFault.TheVariants as fault
 ghost use Rattle.desk_sheet.specs.declared.fault.TakeFault.TheVariants as takes;
 
 use desk_files::{FileRefusal, ReaderFault};
-use desk_ops::NoMemory;
+use desk_memory::NoMemory;
 use desk_script::RunFault;
 use desk_stored::{OpenFault, Unsent};
 use thiserror::Error;

@@ -15,7 +15,7 @@ use crate::lines::next_line;
 use desk_answers::{Reply, put};
 use desk_files::{Files, read_whole};
 use desk_inputs::Memory;
-use desk_ops::NoMemory;
+use desk_memory::NoMemory;
 use desk_steps::{MAX_LINE, answer};
 use desk_stored::write_out;
 use desk_world::World;

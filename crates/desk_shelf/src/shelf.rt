@@ -1,7 +1,7 @@
 //! Pages in frames that lie side by side in one piece of memory, so that a frame which no page has needed yet costs none.
 //!
 //! The pages stand in a list of heads, in order. A head says in which frame its page lies, so a page that is put between two
-//! others moves heads alone. Frames are named by their number, which stays with the page.
+//! others moves heads alone. The number of its frame is the name of a page, which stays with it.
 ghost use Rattle.std.specs.Prelude.{◌≡◌, ◌+◌, ◌-◌, ◌*◌, ◌≤◌, ◌<◌, ◌^◌, List, [], ◌∷◌, ◌++◌, length, take, drop, slice_index_or, slice_set, vec_len, vec_capacity, max, suc, OnOk};
 ghost use Rattle.std.specs.List.{insert, remove};
 ghost use Rattle.desk_shelf.specs.Shelf.{cut_at};
@@ -74,7 +74,7 @@ impl<T: Copy, S: Summary<T>, A: Allocator> Shelf<T, S, A> {
         self.heads[p].len
     }
 
-    /// A number that stays with page p.
+    /// The name of page p: the number of its frame, which stays with it.
     pub fn name(&self, p: usize) -> usize
         requires { p < length self.now.pages }
     {
@@ -234,7 +234,7 @@ impl<T: Copy, S: Summary<T>, A: Allocator> Shelf<T, S, A> {
         self.free.push_reserved(head.frame);
     }
 
-    /// Cuts a full page in two; the number of the new page.
+    /// Cuts a full page in two; the place of the new page.
     pub fn cut(&mut self, p: usize) -> usize
         requires within { p < length self.old.pages }
         requires full { length (slice_index_or self.old.pages p []) ≡ 256 }

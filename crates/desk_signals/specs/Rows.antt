@@ -12,10 +12,6 @@ use Rattle.desk_signals.specs.declared.BadRow.TheVariants.{TwoLetters, TwoNumber
 use Rattle.desk_signals.specs.declared.RibbonRow.{RibbonRow}
 use Rattle.desk_signals.specs.declared.RibbonRow.TheVariants.{Cell, Coarse, FineOut}
 
-abbrev pub listed : Option Signal → List Signal
-listed None = []
-listed (Some signal) = signal ∷ []
-
 -- the 31 signals, in signal order
 abbrev pub the_signals : List Signal
 the_signals = signal.A ∷ signal.B ∷ signal.C ∷ signal.D ∷ signal.E ∷ signal.F ∷ signal.G ∷ signal.H ∷ signal.I ∷ signal.J ∷ signal.K ∷ signal.L ∷ signal.M ∷ signal.N ∷ signal.One ∷ signal.Two ∷ signal.Three ∷ signal.Four ∷ signal.Five ∷ signal.Six ∷ signal.Seven ∷ signal.Eight ∷ signal.Nine ∷ signal.Ten ∷ signal.Eleven ∷ signal.Twelve ∷ signal.Thirteen ∷ signal.Fourteen ∷ signal.Fine ∷ signal.Coarse ∷ signal.S ∷ []

@@ -7,10 +7,11 @@
 
 ghost use Rattle.std.specs.Prelude.{◌≡◌, ℕ, ◌<◌, ◌≤◌, ◌↔◌, IsTrue, SomeIff, IfSome, IfNone, IfOk, MatchOption, false, true, length, [], ◌∷◌};
 ghost use Rattle.std.specs.List.Sorted.{IsPermutation};
+ghost use Rattle.std.specs.Option.{option_to_list};
 ghost use Rattle.std.specs.Result.{result_err};
 ghost use Rattle.desk_signals.specs.declared.RibbonRow.{RibbonRow};
 ghost use Rattle.desk_signals.specs.Columns.{column_at, index};
-ghost use Rattle.desk_signals.specs.Rows.{IsRow, Spells, cause_number, fault_of, has, is_letter, is_number, is_pair, letters, letters_of, listed, number_of, numbers, place, repeats, signals_of, two_letters, wedge_fault};
+ghost use Rattle.desk_signals.specs.Rows.{IsRow, Spells, cause_number, fault_of, has, is_letter, is_number, is_pair, letters, letters_of, number_of, numbers, place, repeats, signals_of, two_letters, wedge_fault};
 
 use arrayvec::ArrayVec;
 use std::marker::Model;
@@ -207,6 +208,41 @@ pub enum Signal {
     S,
 }
 
+/// The signals in signal order.
+pub const SIGNALS: [Signal; 31] = [
+    Signal::A,
+    Signal::B,
+    Signal::C,
+    Signal::D,
+    Signal::E,
+    Signal::F,
+    Signal::G,
+    Signal::H,
+    Signal::I,
+    Signal::J,
+    Signal::K,
+    Signal::L,
+    Signal::M,
+    Signal::N,
+    Signal::One,
+    Signal::Two,
+    Signal::Three,
+    Signal::Four,
+    Signal::Five,
+    Signal::Six,
+    Signal::Seven,
+    Signal::Eight,
+    Signal::Nine,
+    Signal::Ten,
+    Signal::Eleven,
+    Signal::Twelve,
+    Signal::Thirteen,
+    Signal::Fourteen,
+    Signal::Fine,
+    Signal::Coarse,
+    Signal::S,
+];
+
 /// A row of the ribbon.
 #[derive(Clone, Copy, PartialEq, Eq, Debug)]
 pub enum RibbonRow {
@@ -219,20 +255,15 @@ pub enum RibbonRow {
 }
 
 /// Why signals are no row.
-#[derive(Clone, Copy, PartialEq, Eq, Debug, thiserror::Error)]
+#[derive(Clone, Copy, PartialEq, Eq, Debug)]
 pub enum BadRow {
     /// Two letters or more that are not exactly N and I, or N and L.
-    #[error("two letters")]
     TwoLetters,
-    #[error("two numbers")]
     TwoNumbers,
-    #[error("0005 without 0075")]
+    /// 0005 without 0075.
     FineAlone,
-    #[error("0075 with a letter")]
     WedgeWithLetter,
-    #[error("0075 with S")]
     WedgeWithS,
-    #[error("a signal stands twice")]
     Repeated,
 }
 
@@ -274,7 +305,7 @@ fn column_signals(column: Column) -> ArrayVec<Signal, 4>
 /// The signal of a row or position, none for 15.
 fn number_signal(n: u8) -> Option<Signal>
     requires { 1 ≤ n }
-    ensures { listed result ≡ number_of n }
+    ensures { option_to_list result ≡ number_of n }
 {
     match n {
         1 => Some(Signal::One),

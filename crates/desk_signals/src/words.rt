@@ -1,9 +1,10 @@
-//! How columns and cells are named in a message: `B2`, `NI14`.
+//! How columns, cells and what is no row read in a message: `B2`, `NI14`, `two numbers`.
 
 ghost use Rattle.std.specs.Prelude.{◌≡◌};
-ghost use Rattle.desk_signals.specs.Words.{column_name};
+ghost use Rattle.desk_signals.specs.Words.{bad_row_words, column_name};
 
-use crate::{Cell, Column};
+use crate::{BadRow, Cell, Column};
+use std::error::Error;
 use std::fmt;
 use std::fmt::{Display, Formatter};
 
@@ -57,3 +58,32 @@ impl Display for Cell {
         write!(f, "{column}{row}")
     }
 }
+
+impl BadRow {
+    /// Why signals are no row, in words.
+    pub fn words(self) -> &'static str
+        ensures { result.now ≡ bad_row_words self }
+    {
+        match self {
+            BadRow::TwoLetters => "two letters",
+            BadRow::TwoNumbers => "two numbers",
+            BadRow::FineAlone => "0005 without 0075",
+            BadRow::WedgeWithLetter => "0075 with a letter",
+            BadRow::WedgeWithS => "0075 with S",
+            BadRow::Repeated => "a signal stands twice",
+        }
+    }
+}
+
+impl Display for BadRow {
+    ghost use Rattle.std.specs.Prelude.{Some};
+    ghost use Rattle.desk_signals.specs.Words.{bad_row_words};
+
+    ghost output = { λ why. Some (bad_row_words why) };
+
+    fn fmt<W: fmt::Write>(&self, f: &mut Formatter<W>) -> fmt::Result {
+        f.write_str(self.words())
+    }
+}
+
+impl Error for BadRow {}

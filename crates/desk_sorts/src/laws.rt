@@ -3,6 +3,6 @@
 ghost use Rattle.desk_sorts.specs.Laws.{AreAllPlaces};
 
 /// The places of a symbol rise, they are those at which it stands, and there are as many as it is wanted.
-pub fn law_of_places()
+pub fn places_are_all()
     ensures { AreAllPlaces }
 {}

@@ -14,7 +14,7 @@ mod sorts;
 mod sources;
 
 pub use fault::SortsFault;
-pub use laws::law_of_places;
+pub use laws::places_are_all;
 pub use layout::put_case;
 pub use listing::{missing_of, put_sorts};
 pub use reporting::report_sorts;

@@ -6,7 +6,7 @@ ghost use Rattle.desk_stored.specs.declared.fault.OpenFault.TheVariants as openi
 
 use desk_codec::FeedFault;
 use desk_held::AddRefusal;
-use desk_ops::NoMemory;
+use desk_memory::NoMemory;
 use desk_replica::Stopped;
 use thiserror::Error;
 

@@ -3,17 +3,17 @@
 ghost use Rattle.desk_text.specs.Laws.{TextIsReadAgain, PlainIsReadAgain, ReadIsGrammar};
 
 /// What is written for a lawful copy is read again as that copy.
-pub fn law_of_text()
+pub fn text_is_read_again()
     ensures { TextIsReadAgain }
 {}
 
 /// The characters of a lawful Roman copy, read as plain text, are that copy.
-pub fn law_of_plain_text()
+pub fn plain_is_read_again()
     ensures { PlainIsReadAgain }
 {}
 
 /// The characters that are read as a copy are those that its grammar allows: ends of lines and spaces, characters and
 /// escaped marks in a style, and marks that open and close one.
-pub fn law_of_grammar()
+pub fn reading_goes_by_grammar()
     ensures { ReadIsGrammar }
 {}

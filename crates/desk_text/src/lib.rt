@@ -11,6 +11,6 @@ mod reader;
 mod writing;
 
 pub use fault::{Cause, Place, TextFault};
-pub use laws::{law_of_grammar, law_of_plain_text, law_of_text};
+pub use laws::{plain_is_read_again, reading_goes_by_grammar, text_is_read_again};
 pub use reader::read_text;
 pub use writing::write_text;

@@ -1,4 +1,5 @@
-use desk_ops::{NoMemory, Style, Symbol};
+use desk_memory::NoMemory;
+use desk_ops::{Style, Symbol};
 use desk_text::{Cause, TextFault, read_text, write_text};
 use linked_list_allocator::LocalHeap;
 use std::alloc::{Allocator, Global};

@@ -1,5 +1,6 @@
 -- Settings that are tried in place of those of a copy.
 use Rattle.std.specs.Prelude.{◌≡◌, ◌≢◌, ℕ, suc, ◌==◌, List, [], ◌∷◌, ◌++◌, length, Option, Some, None, if◌then◌else◌, codes}
+use Rattle.std.specs.Option.{option_or}
 use Rattle.std.specs.List.{before_first, after_first, position_or_len}
 use Rattle.std.specs.Borrow.{Bor}
 use Rattle.std.proofs.Common.{eqb}
@@ -20,19 +21,14 @@ use Rattle.desk_trial.specs.declared.TrialFault.TheVariants as fault
 
 -- ---- what is tried
 
--- a value that is tried, or else the one that is set
-abbrev pub value_or : Option ℕ → Option ℕ → Option ℕ
-value_or (Some value) given = Some value
-value_or None given = given
-
 -- settings with those that are tried in their place
 abbrev pub tried_with : Settings → Settings → Settings
 tried_with trial given = record {
-  measure = value_or trial.measure given.measure;
-  tight = value_or trial.tight given.tight;
-  loose = value_or trial.loose given.loose;
-  case = value_or trial.case given.case;
-  wedge = value_or trial.wedge given.wedge;
+  measure = option_or trial.measure given.measure;
+  tight = option_or trial.tight given.tight;
+  loose = option_or trial.loose given.loose;
+  case = option_or trial.case given.case;
+  wedge = option_or trial.wedge given.wedge;
 }
 
 -- the settings of a set, with those that are tried in their place

@@ -1,12 +1,14 @@
 //! Settings that are tried in place of those of a copy: what its galley would be by other values, before anyone sets them.
 #![tactic(auto)]
 
+pub mod laws;
+
 ghost use Rattle.std.specs.Prelude.{◌≡◌, ◌≢◌, ◌≤◌, length, Err, IfErr, IfOk, IfSome, None, Some, option_map, string_bytes};
 ghost use Rattle.desk_commands.specs.Command.{command_values};
 ghost use Rattle.desk_commands.specs.Memory.{AsksMemory};
 ghost use Rattle.desk_job.specs.Answer.{AreValues};
 ghost use Rattle.desk_ops.specs.Op.{IsValue};
-ghost use Rattle.desk_trial.specs.Trial.{HasLine, HasPlace, NothingIsAsSet, line_of, no_trial, set_by, set_in, trial_of, tried_by, tried_with, value_or, with_value};
+ghost use Rattle.desk_trial.specs.Trial.{HasLine, HasPlace, line_of, no_trial, set_by, set_in, trial_of, tried_by, tried_with, with_value};
 ghost use Rattle.desk_trial.specs.declared.TrialFault.TheVariants as fault;
 
 use desk_commands::{Command, ParseError, parse};
@@ -34,16 +36,6 @@ impl From<NoMemory> for TrialFault {
     }
 }
 
-/// A setting that is tried, or else the one that is set.
-fn value_or(tried: Option<u32>, given: Option<u32>) -> Option<u32>
-    ensures { result ≡ value_or tried given }
-{
-    match tried {
-        Some(value) => Some(value),
-        None => given,
-    }
-}
-
 /// Settings with those that are tried in their place.
 pub fn tried(trial: &Settings, given: &Settings) -> Settings
     requires trial { AreValues trial.now }
@@ -52,11 +44,11 @@ pub fn tried(trial: &Settings, given: &Settings) -> Settings
     ensures lawful { AreValues result }
 {
     Settings {
-        measure: value_or(trial.measure, given.measure),
-        tight: value_or(trial.tight, given.tight),
-        loose: value_or(trial.loose, given.loose),
-        case: value_or(trial.case, given.case),
-        wedge: value_or(trial.wedge, given.wedge),
+        measure: trial.measure.or(given.measure),
+        tight: trial.tight.or(given.tight),
+        loose: trial.loose.or(given.loose),
+        case: trial.case.or(given.case),
+        wedge: trial.wedge.or(given.wedge),
     }
 }
 
@@ -197,8 +189,3 @@ pub fn trial_of<A: Allocator + Copy>(alloc: A, texts: &[&str]) -> Result<Setting
     }
     Ok(settings)
 }
-
-/// Where nothing is tried each key has the value that the set gives it.
-pub fn nothing_is_as_set()
-    ensures { NothingIsAsSet }
-{}

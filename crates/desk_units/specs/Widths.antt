@@ -16,9 +16,13 @@ unit_atoms American = 249
 abbrev pub units_width : (units set : ℕ) → Pica → ℕ
 units_width units set pica = units * set * unit_atoms pica
 
+-- the atoms of a point
+abbrev pub point_atoms : Pica → ℕ
+point_atoms pica = 72 * unit_atoms pica
+
 -- a measure in points
 abbrev pub measure_width : (points : ℕ) → Pica → ℕ
-measure_width points pica = points * (72 * unit_atoms pica)
+measure_width points pica = points * point_atoms pica
 
 -- Driven so many steps apart, the spaces leave less than a step for each space of the rest.
 pub record IsSteps (rest : ℤ) (spaces : ℕ) (steps : ℤ) : Type 0 where

@@ -9,11 +9,11 @@ ghost use Rattle.std.specs.Prelude.{◌≡◌, ◌≤◌, ◌^◌, SomeIff, pos}
 
 pub mod laws;
 mod wedge_sum;
-pub mod widths;
+mod widths;
 
 use std::marker::Model;
 pub use wedge_sum::WedgeSum;
-pub use widths::{ATOMS_PER_STEP, floor_steps, measure, width};
+pub use widths::{floor_steps, measure, point_atoms, width};
 
 /// A width in atoms; a step of 0.0005 inch has 648 of them.
 #[derive(Clone, Copy, PartialEq, Eq, Debug)]

@@ -5,7 +5,8 @@
 //! number in steps of 0.0005 inch, and each number from 16 to 240 is that of one pair. The signals of the wedges are
 //! named 0075 and 0005 for these steps. That a space has the width of its units at 3 and 8 is this project's choice.
 
-use crate::{ATOMS_PER_STEP, Atoms};
+use crate::Atoms;
+use crate::widths::ATOMS_PER_STEP;
 use desk_signals::Position;
 use std::marker::Model;
 

@@ -1,7 +1,7 @@
 //! Widths of units and measures, and the division of what a line lacks among its spaces.
 
 ghost use Rattle.std.specs.Prelude.{◌≡◌, ◌≤◌, ◌^◌, pos};
-ghost use Rattle.desk_units.specs.Widths.{IsSteps, measure_width, steps_of, unit_atoms, units_width};
+ghost use Rattle.desk_units.specs.Widths.{IsSteps, measure_width, point_atoms, steps_of, unit_atoms, units_width};
 
 use crate::{Atoms, Pica, SetQ};
 
@@ -16,6 +16,15 @@ fn unit_atoms(pica: Pica) -> u32
         Pica::Sixth => 250,
         Pica::American => 249,
     }
+}
+
+/// The atoms of a point.
+pub fn point_atoms(pica: Pica) -> u32
+    ensures value { result ≡ point_atoms pica }
+    ensures some { 1 ≤ result }
+    ensures small { result ≤ 18000 }
+{
+    72 * unit_atoms(pica)
 }
 
 /// The width of 1 to 24 units.
@@ -34,7 +43,7 @@ pub fn measure(points: u32, pica: Pica) -> Atoms
     requires limit { points ≤ 720 }
     ensures { result ≡ pos (measure_width points pica) }
 {
-    Atoms::new((points * (72 * unit_atoms(pica))) as i64)
+    Atoms::new((points * point_atoms(pica)) as i64)
 }
 
 /// The whole number of steps for each of 1 to 2^32 spaces, below 0 too, that leaves at least 0 and less than a step for

@@ -4,7 +4,7 @@ use Rattle.std.proofs.lemmas.Bool.{true≢false}
 use Rattle.desk_ops.specs.declared.op.Stamp.{Stamp}
 use Rattle.desk_ops.specs.declared.op.Op.{Op}
 use Rattle.desk_ops.specs.declared.op.Op.TheVariants.{Insert, Delete, Set}
-use Rattle.desk_ops.specs.Stamp.{same, head}
+use Rattle.desk_ops.specs.Stamp.{head}
 use Rattle.desk_ops.specs.Op.{stamp_of, target_of, Insertion, IsLawful}
 use Rattle.desk_ops.specs.OpSet.{OpSet, has_op, with_op, in_order, AllLawful}
 use Rattle.desk_ops.specs.Lists.{Among}
@@ -17,7 +17,8 @@ use Rattle.desk_ops.proofs.Lists.{each-among}
 use Rattle.desk_ops.proofs.Means.{not-head, live_ascending, live-parts}
 use Rattle.desk_ops.proofs.Tree.{live-walk, walk-live}
 use Rattle.desk_ops.proofs.Ends.{among_held, insert_from_op, op_from_insert, live_from_end, end_from_live, live_from_op, op_from_live}
-use Rattle.desk_ops.proofs.Joined.{has_op-with_op_own, within-with_op, is_clear-with_op_new, is_clear-with_op_apart, with-cases}
+use Rattle.desk_ops.proofs.Joined.{has_op-with_op_own, within-with_op, with-cases}
+use Rattle.desk_ops.proofs.Fresh.{clear_old, clear_new, own_clear}
 use Rattle.desk_ops.proofs.Bearers.{op_borne}
 use Rattle.desk_ops.proofs.Deletes.{delete_live, deleted_from, deleted_by}
 use Rattle.desk_room.specs.Waiting.{HasTarget}
@@ -78,22 +79,6 @@ module _ (h : OpSet) (lawful : AllLawful h) (o : Op) (new : is_borne_in h (stamp
   pub not-held : has_op h o ≡ true → ⊥
   not-held e = true≢false (sym (op_borne h (stamp_of o) (o, e, refl)) ∙ new)
 
-  stamp-apart : (q : Op) → has_op h q ≡ true → same (stamp_of o) (stamp_of q) ≡ false
-  stamp-apart q e = by_cases (same (stamp_of o) (stamp_of q)) (λ k. absurd (true≢false (sym (op_borne h (stamp_of o) (q, e, sym (same-true (stamp_of o) (stamp_of q) k))) ∙ new))) (λ k. k)
-
-  pub clear-own : IsClearOp (with_op h o) o
-  clear-own = (has_op-with_op_own h o, is_clear-with_op_new h o new)
-
-  pub clear-on : (q : Op) → IsClearOp h q → IsClearOp (with_op h o) q
-  clear-on q c = (within-with_op h o q c.0, is_clear-with_op_apart h o (stamp_of q) (stamp-apart q c.0) ∙ c.1)
-
-  pub clear-back : (q : Op) → IsClearOp (with_op h o) q → (o ≡ q) ⊎ IsClearOp h q
-  clear-back q c = go (with-cases h o q c.0)
-    where
-      go : (o ≡ q) ⊎ (has_op h q ≡ true) → (o ≡ q) ⊎ IsClearOp h q
-      go (inl e) = inl e
-      go (inr e) = inr (e, sym (is_clear-with_op_apart h o (stamp_of q) (stamp-apart q e)) ∙ c.1)
-
 module _ (h : OpSet) (lawful : AllLawful h) (es : List Entry) (entries : es ≡ entries_of h) where
   walked : (t : Stamp) → IsOfLiveInsert h t → Among t (stamps_of es)
   walked t l = subst (λ (fs : List Entry). Among t (stamps_of fs)) (sym entries)
@@ -145,10 +130,10 @@ module _ (h : OpSet) (lawful : AllLawful h) (o : Op) (new : is_borne_in h (stamp
               where
                 more : ((t : Stamp) × IsClearOp h (Delete t r.0.stamp)) → (s : Stamp) × IsClearOp (with_op h o) (Delete s e.stamp) × (waits (Delete s e.stamp) ≡ false)
                 more d = subst (λ (u : Stamp). (s : Stamp) × IsClearOp (with_op h o) (Delete s u) × (waits (Delete s u) ≡ false)) stamp
-                    (d.0, clear-on h lawful o new (Delete d.0 r.0.stamp) d.1, by_cases (waits (Delete d.0 r.0.stamp)) (λ b. absurd ((old-waits (Delete d.0 r.0.stamp) d.1 b).not_live (delete_live h r.0 r.1 d.0 d.1))) (λ b. b))
+                    (d.0, clear_old h o new (Delete d.0 r.0.stamp) d.1, by_cases (waits (Delete d.0 r.0.stamp)) (λ b. absurd ((old-waits (Delete d.0 r.0.stamp) d.1 b).not_live (delete_live h r.0 r.1 d.0 d.1))) (λ b. b))
 
             from : (s : Stamp) × IsClearOp (with_op h o) (Delete s e.stamp) × (waits (Delete s e.stamp) ≡ false) → e.deleted ≡ true
-            from d = sym mark ∙ deleted_by h r.0.stamp (subst (λ (u : Stamp). (s : Stamp) × IsClearOp h (Delete s u)) (sym stamp) (d.0, old (clear-back h lawful o new (Delete d.0 e.stamp) d.1)))
+            from d = sym mark ∙ deleted_by h r.0.stamp (subst (λ (u : Stamp). (s : Stamp) × IsClearOp h (Delete s u)) (sym stamp) (d.0, old (clear_new h o new (Delete d.0 e.stamp) d.1)))
               where
                 old : (o ≡ Delete d.0 e.stamp) ⊎ IsClearOp h (Delete d.0 e.stamp) → IsClearOp h (Delete d.0 e.stamp)
                 old (inl i) = absurd (true≢false (sym (ap waits (sym i) ∙ a.own (subst HasTarget (sym i) refl)) ∙ d.2))
@@ -161,7 +146,7 @@ module _ (h : OpSet) (lawful : AllLawful h) (o : Op) (new : is_borne_in h (stamp
       inserts = live_inserts_of h;
       taken = record {
         ascending = live_ascending h;
-        of_set = λ x m. insert_from_op (with_op h o) x (clear-on h lawful o new (insert_of x) (op_from_insert h x (live-parts (in_order h) x m).0));
+        of_set = λ x m. insert_from_op (with_op h o) x (clear_old h o new (insert_of x) (op_from_insert h x (live-parts (in_order h) x m).0));
         closed = λ x m. (op_from_live h lawful x m).1;
       };
       walk = ap (map bare) entries ∙ bare-entries h (walk_of h);
@@ -169,14 +154,14 @@ module _ (h : OpSet) (lawful : AllLawful h) (o : Op) (new : is_borne_in h (stamp
       marks = λ e m. marks e m;
       clear = λ q e. clear q (a.to q e);
       targets = λ q e. target q (a.to q e) e;
-      untaken = λ x c. untaken x (clear-back h lawful o new (insert_of x) c);
+      untaken = λ x c. untaken x (clear_new h o new (insert_of x) c);
       apart = λ x m. by_cases (waits (insert_of x)) (λ e. absurd ((old-waits (insert_of x) (op_from_insert h x (live-parts (in_order h) x m).0) e).not_live (op_from_live h lawful x m))) (λ e. e);
-      deletes = λ s t c. deletes s t (clear-back h lawful o new (Delete s t) c);
+      deletes = λ s t c. deletes s t (clear_new h o new (Delete s t) c);
     }
       where
         clear : (q : Op) → (o ≡ q) ⊎ (w q ≡ true) → IsClearOp (with_op h o) q
-        clear q (inl i) = subst (IsClearOp (with_op h o)) i (clear-own h lawful o new)
-        clear q (inr e) = clear-on h lawful o new q ((before_it q).0 e).clear
+        clear q (inl i) = subst (IsClearOp (with_op h o)) i (own_clear h o new)
+        clear q (inr e) = clear_old h o new q ((before_it q).0 e).clear
 
         target : (q : Op) → (o ≡ q) ⊎ (w q ≡ true) → waits q ≡ true → HasTarget q
         target q (inl i) e = subst HasTarget i (a.target (ap waits i ∙ e))

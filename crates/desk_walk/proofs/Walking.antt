@@ -1,5 +1,5 @@
 -- The walk of a set by links: before the first operation, a search for a node, the way along the links, and the end.
-use Rattle.std.proofs.Common.{◌≡◌, ℕ, zero, suc, ◌+◌, ◌-◌, ◌<◌, ◌≤◌, Bool, true, false, cond, ◌&&◌, List, [], ◌∷◌, ◌++◌, map, length, get_or, drop, refl, sym, ap, ◌∙◌, subst, inl, inr, Some, arith, append_assoc, append-nil}
+use Rattle.std.proofs.Common.{◌≡◌, ℕ, zero, suc, ◌+◌, ◌-◌, ◌<◌, ◌≤◌, true, false, ◌&&◌, List, [], ◌∷◌, ◌++◌, map, length, get_or, drop, refl, sym, ap, ◌∙◌, subst, inl, inr, Some, arith, append_assoc, append-nil}
 use Rattle.std.specs.Prelude.{Result, Ok, Err, OnOk}
 use Rattle.std.specs.List.{filter}
 use Rattle.std.specs.Option.{is_some}
@@ -9,13 +9,13 @@ use Rattle.desk_ops.specs.declared.op.Stamp.{Stamp}
 use Rattle.desk_ops.specs.declared.op.Op.{Op}
 use Rattle.desk_ops.specs.Stamp.{head, is_head}
 use Rattle.desk_ops.specs.Op.{stamp_of, target_of, IsLawful}
-use Rattle.desk_ops.specs.OpSet.{OpSet, no_ops, has_op, with_op, with_all, in_order, size, AllLawful, max_ops}
+use Rattle.desk_ops.specs.OpSet.{OpSet, no_ops, has_op, with_all, in_order, size, AllLawful, max_ops}
 use Rattle.desk_ops.specs.Lists.{Among}
 use Rattle.desk_ops.specs.Held.{is_clear_in}
 use Rattle.desk_ops.specs.Live.{insert_of, IsClearOp}
 use Rattle.desk_ops.proofs.Lists.{Each, each-among, each-from_among, among-filter, among-filter_from}
 use Rattle.desk_ops.proofs.Ends.{among_held, held_among}
-use Rattle.desk_ops.proofs.Unions.{size-with_op}
+use Rattle.desk_ops.proofs.Unions.{size-few}
 use Rattle.desk_ops.proofs.OpSets.{length-in_order}
 use Rattle.desk_room.specs.Waiting.{HasTarget}
 use Rattle.desk_seq.specs.declared.Entry.{Entry}
@@ -171,15 +171,7 @@ of_target P s t e p = let i : s ≡ t = cc in subst P i p
 
 -- a set of a list's operations has no more
 pub size-all : (os : List Op) → size (with_all no_ops os) ≤ length os
-size-all os = let n : size no_ops ≡ 0 = none-size in let m = go no_ops os in omega arith
-  where
-    grows : (b : Bool) (n : ℕ) → cond b n (n + 1) ≤ n + 1
-    grows true n = omega arith
-    grows false n = omega arith
-
-    go : (s : OpSet) (ps : List Op) → size (with_all s ps) ≤ size s + length ps
-    go s [] = omega arith
-    go s (p ∷ ps) =
-        let a : size (with_all (with_op s p) ps) ≤ size (with_op s p) + length ps = go (with_op s p) ps in
-        let b : size (with_op s p) ≤ size s + 1 = subst (λ n. n ≤ size s + 1) (sym (size-with_op s p)) (grows (has_op s p) (size s)) in
-        omega arith
+size-all os =
+    let n : size no_ops ≡ 0 = none-size in
+    let m : size (with_all no_ops os) ≤ size no_ops + length os = size-few no_ops os in
+    omega (arith, n, m)

@@ -14,7 +14,8 @@ ghost use Rattle.desk_walk.specs.Tree.{AreSettled};
 ghost use Rattle.desk_walk.specs.Following.{places, place_at, new_entry, IsActed, CanAct, IsDraining, IsSettled, IsArrival};
 
 use desk_held::Held;
-use desk_ops::{NoMemory, Op, Stamp, Symbol};
+use desk_memory::NoMemory;
+use desk_ops::{Op, Stamp, Symbol};
 use desk_room::Room;
 use desk_seq::{Entry, Sequence};
 use std::alloc::Allocator;
@@ -55,7 +56,7 @@ fn place_of<Q: Sequence>(sequence: &Q, stamp: Stamp, near: usize) -> Option<usiz
     Some(place + 1)
 }
 
-/// Puts the element of an insert that hangs on the place where the scan from there leads, and answers where that is.
+/// Puts the element of an insert that hangs on the place where the scan from there leads, and returns where that is.
 fn stand<Q: Sequence>(sequence: &mut Q, at: usize, stamp: Stamp, symbol: Symbol) -> usize
     requires within { at ≤ length (Q.entries sequence.old) }
     requires free { 1 ≤ Q.free sequence.old }
@@ -78,7 +79,7 @@ fn stand<Q: Sequence>(sequence: &mut Q, at: usize, stamp: Stamp, symbol: Symbol)
     place
 }
 
-/// Does what an operation says that hangs on the place, and answers how far something may now wait.
+/// Does what an operation says that hangs on the place, and returns how far something may now wait.
 fn act<Q: Sequence>(sequence: &mut Q, op: Op, at: usize, last: usize) -> usize
     requires within { at ≤ length (Q.entries sequence.old) }
     requires last { last ≤ length (Q.entries sequence.old) }
@@ -154,7 +155,7 @@ fn drain<Q: Sequence>(sequence: &mut Q, room: &mut Room<Q::Memory>, from: usize)
     }
 }
 
-/// Does what an arrival says that hangs on the place, and releases all that waited for it; answers the place of what it
+/// Does what an arrival says that hangs on the place, and releases all that waited for it; returns the place of what it
 /// made or marked. Nothing waits for what was there before, so the drain begins at the new element. No memory is taken.
 fn arrive<Q: Sequence>(sequence: &mut Q, room: &mut Room<Q::Memory>, op: Op, at: usize) -> usize
     requires arrives { (h : OpSet) × IsArrival h op (Q.entries sequence.old) room.old.ops }
@@ -184,7 +185,7 @@ fn arrive<Q: Sequence>(sequence: &mut Q, room: &mut Room<Q::Memory>, op: Op, at:
 }
 
 /// Takes in an operation whose stamp none bears: it waits, or acts with all that waited for it. No memory is taken. Its
-/// target is looked for at a place near it first, which is never believed without a look; the answer is the place to look
+/// target is looked for at a place near it first, which is never believed without a look; the result is the place to look
 /// at for the next.
 pub fn enter<Q: Sequence>(
     sequence: &mut Q,

@@ -7,7 +7,8 @@ ghost use Rattle.desk_ops.specs.Held.{is_clear_in};
 ghost use Rattle.desk_walk.specs.Tree.{op_at, entry_by, linked, passed, IsLinking, IsActing, IsPlaceOf, walked, AreSettled};
 
 use desk_held::Held;
-use desk_ops::{NoMemory, Op, Stamp, Symbol};
+use desk_memory::NoMemory;
+use desk_ops::{Op, Stamp, Symbol};
 use desk_seq::Entry;
 use std::alloc::Allocator;
 

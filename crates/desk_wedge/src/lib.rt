@@ -4,11 +4,12 @@
 //! alone. The file is TOML; of several faults the first in a fixed order is reported.
 #![tactic(auto)]
 
+pub mod laws;
+
 ghost use Rattle.std.specs.Prelude.{◌≡◌, ◌≢◌, ◌≤◌, Ok, Err, None, IfOk, IfErr, IfSome, option_and_then};
 ghost use Rattle.std.specs.List.Sorted.{IsNonDecreasing};
 ghost use Rattle.desk_wedge.specs.File.{key_name, fault_number, table_fault, pica_of, units_of, first_descent, at_key, wedge_of_members, wedge_of};
 ghost use Rattle.desk_wedge.specs.Wedge.{units_of_row, IsUnits, AreUnits, IsWedge};
-ghost use Rattle.desk_wedge.specs.Descent.{DescentIsFirstFall};
 ghost use Rattle.desk_keys.specs.Keys.{number_of};
 ghost use Rattle.desk_keys.specs.Items.{each_of, so_many};
 ghost use Rattle.desk_wedge.specs.declared.WedgeFault.TheVariants as fault;
@@ -143,11 +144,6 @@ impl Wedge {
         self.units[row.get() as usize - 1]
     }
 }
-
-/// The row that a file's fault names is the least one with fewer units than the row before.
-pub fn descent_is_first_fall()
-    ensures { DescentIsFirstFall }
-{}
 
 /// The pica that a text names.
 fn pica(value: &Value) -> Option<Pica>

@@ -4,7 +4,10 @@ ghost use Rattle.std.specs.Prelude.{◌≡◌, Some, IfOk, codes, false};
 ghost use Rattle.clap.specs.Words.{app_of, new_app, rule_of, with_rule};
 ghost use Rattle.clap.specs.declared.builder.command.Command.TheViews.{out-Command};
 ghost use Rattle.desk_words.specs.Help.{HasTexts, IsShown, version_of};
-ghost use Rattle.desk_words.specs.Words.{check_app, choice_rule, copydesk, desk_app, diff_app, each_rule, export_app, feed_rule, file_rule, flag_rule, import_app, merge_app, names_rule, no_subcommand, proof_app, punch_app, read_app, replace_app, ribbon_app, script_app, site_rule, sorts_app, sources_app, target_rule, text_rule, with_correcting, with_version};
+ghost use Rattle.desk_words.specs.Words.{check_app, choice_rule, copydesk, desk_app, diff_app, each_rule, export_app};
+ghost use Rattle.desk_words.specs.Words.{feed_rule, file_rule, flag_rule, import_app, merge_app, names_rule, no_subcommand};
+ghost use Rattle.desk_words.specs.Words.{proof_app, punch_app, read_app, replace_app, ribbon_app, script_app, site_rule};
+ghost use Rattle.desk_words.specs.Words.{sorts_app, sources_app, target_rule, text_rule, with_correcting, with_version};
 
 use crate::help::{
     ABOUT, CHECK, COMMANDS, DESK, DIFF, EXPORT, FEED, IMPORT, MERGE, NUMBER, ON_A_FEED, ON_CHECK,

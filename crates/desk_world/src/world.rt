@@ -15,7 +15,8 @@ ghost use Rattle.desk_world.specs.World as world;
 
 use desk_blocks::Blocks;
 use desk_held::AddRefusal;
-use desk_ops::{Key, NoMemory, Op, Symbol};
+use desk_memory::NoMemory;
+use desk_ops::{Key, Op, Symbol};
 use desk_replica::{Count, Replica, Stopped};
 use indexmap::IndexMap;
 use std::alloc::{AllocFailed, Allocator};

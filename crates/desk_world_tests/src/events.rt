@@ -2,7 +2,8 @@
 ghost use Rattle.std.specs.Prelude.{◌≡◌, true, All};
 ghost use Rattle.desk_ops.specs.Op.{IsLawful};
 
-use desk_ops::{NoMemory, Op, Stamp, Style, Symbol};
+use desk_memory::NoMemory;
+use desk_ops::{Op, Stamp, Style, Symbol};
 use desk_replica::{Count, Settings};
 use desk_world::{Answer, Event, StepRefusal, World};
 use std::alloc::Allocator;

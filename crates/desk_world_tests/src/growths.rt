@@ -5,7 +5,8 @@ ghost use Rattle.desk_ops.specs.Op.{IsLawful};
 
 use crate::events::{at, roman, typed};
 use desk_held::AddRefusal;
-use desk_ops::{Key, NoMemory, Op, Stamp};
+use desk_memory::NoMemory;
+use desk_ops::{Key, Op, Stamp};
 use desk_replica::{Count, Refusal, Stopped};
 use desk_world::{Answer, Event, StepRefusal, World};
 use linked_list_allocator::LocalHeap;

@@ -6,7 +6,8 @@ ghost use Rattle.desk_world.specs.World.{event_values, IsSound};
 
 use crate::events::{at, held, roman, typed};
 use crate::growths::lawful_of;
-use desk_ops::{Key, NoMemory, Op, Stamp};
+use desk_memory::NoMemory;
+use desk_ops::{Key, Op, Stamp};
 use desk_replica::{Count, Refusal};
 use desk_world::{Answer, Event, StepRefusal, World};
 use std::alloc::{Allocator, Global};

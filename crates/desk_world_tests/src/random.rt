@@ -2,7 +2,8 @@
 
 use crate::events::roman;
 use desk_blocks::Blocks;
-use desk_ops::{FaultKind, Key, NoMemory, Op, Stamp};
+use desk_memory::NoMemory;
+use desk_ops::{FaultKind, Key, Op, Stamp};
 use desk_replica::{Refusal, Replica};
 use desk_seq::Sequence;
 use desk_world::{Answer, Event, StepRefusal, World};

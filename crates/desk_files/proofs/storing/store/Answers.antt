@@ -2,8 +2,14 @@ use Rattle.std.proofs.Common.{arith, rules}
 use Rattle.std.proofs.lemmas.Grind.{common_steps}
 use Rattle.desk_files.proofs.storing.store.Goals as goal
 
-pub returns-in_default-clause-small : goal.returns-in_default-clause-small
-returns-in_default-clause-small g c = search rules steps 2000000
+pub returns-in_err-new-clause-small : goal.returns-in_err-new-clause-small
+returns-in_err-new-clause-small g c = search rules steps 2000000
+
+pub returns-in_err-new-clause-missing : goal.returns-in_err-new-clause-missing
+returns-in_err-new-clause-missing g c = search rules steps 2000000
+
+pub returns-in_err-new-clause-counted : goal.returns-in_err-new-clause-counted
+returns-in_err-new-clause-counted g c = search rules steps 2000000
 
 pub returns-in_err-write_new-clause-missing : goal.returns-in_err-write_new-clause-missing
 returns-in_err-write_new-clause-missing g c = search rules steps 2000000

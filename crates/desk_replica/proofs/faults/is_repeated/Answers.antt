@@ -2,7 +2,6 @@ use Rattle.std.proofs.Common.{◌≡◌, ℕ, suc, ◌-◌, ◌∙◌, take, sym
 use Rattle.desk_ops.specs.Op.{stamp_of}
 use Rattle.desk_ops.specs.OpSet.{in_order}
 use Rattle.desk_ops.specs.Stamp.{same}
-use Rattle.desk_ops.proofs.Stamps.{same-fields}
 use Rattle.desk_ops.proofs.OpSets.{length-in_order}
 use Rattle.desk_replica.specs.Ways.{ends_with}
 use Rattle.desk_replica.proofs.Ends.{ends_at}
@@ -16,6 +15,6 @@ returns g c =
     let ops = in_order c.args.held.now.ops in
     let before = c.args.place - 1 in
     let on : c.args.place ≡ suc before = omega arith in
-    c.eq.ensures ∙ sym (same-fields c.stamp.result c.args.stamp) ∙ ap (λ s. same s c.args.stamp) c.stamp.ensures
+    c.is_same.ensures ∙ ap (λ s. same s c.args.stamp) c.stamp.ensures
     ∙ ap (λ o. same (stamp_of o) c.args.stamp) c.op.ensures.value ∙ sym (ends_at ops before _ c.args.stamp (omega (arith, c.requires)))
     ∙ ap (λ (n : ℕ). ends_with (take n ops) c.args.stamp) (sym on)

@@ -1,5 +1,0 @@
-use Rattle.desk_case.proofs.Grids.{doubled}
-use Rattle.desk_case.proofs.doubled_is_first.Goals as goal
-
-pub returns : goal.returns
-returns c = doubled

@@ -1,5 +1,0 @@
-use Rattle.desk_case.proofs.Narrow.{narrow}
-use Rattle.desk_case.proofs.narrow_cases_lack_columns.Goals as goal
-
-pub returns : goal.returns
-returns c = narrow

@@ -1,5 +1,0 @@
-use Rattle.desk_codec.proofs.PieceStepLaws.{pieces_are_the_feed}
-use Rattle.desk_codec.proofs.laws.law_of_pieces.Goals as goal
-
-pub returns : goal.returns
-returns c = pieces_are_the_feed

@@ -1,5 +1,0 @@
-use Rattle.desk_registers.proofs.Greatest.{one_greatest}
-use Rattle.desk_registers.proofs.laws.law_of_one_greatest.Goals as goal
-
-pub returns : goal.returns
-returns c = one_greatest

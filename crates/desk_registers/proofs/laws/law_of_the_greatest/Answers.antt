@@ -1,5 +1,0 @@
-use Rattle.desk_registers.proofs.Greatest.{greatest_is_kept}
-use Rattle.desk_registers.proofs.laws.law_of_the_greatest.Goals as goal
-
-pub returns : goal.returns
-returns c = greatest_is_kept
