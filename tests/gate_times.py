@@ -8,7 +8,8 @@ usage: gate_times.py --watch FILE COMMAND ..    runs the command, passes on what
 The parts are proofs (without tests), tests (the proof of a crate with its tests), edits (the wrong bodies that the prover
 must refuse), builds (compilers) and runs (tests and programs). `from` and `to` are seconds since the command began, from
 the first process of a crate to its last. A process is looked at twice a second, so up to half a second of each is missed;
-the last line has the exact sum of all. The last line that the command wrote is kept, and `gate_times.py FILE` ends with it; of
+the line `in all` has the exact sum of all. The line after it says how long one crate's part ran at most while no other did, since
+the other processors are idle then. The last line that the command wrote is kept, and `gate_times.py FILE` ends with it; of
 several files whose last lines are all 'N passed, M failed' it ends with their sum. The lines that say what failed, or which
 wrong body is none, stand before that, since a log's end is what is read first.
 """
@@ -73,6 +74,7 @@ class Watch:
 
     def __init__(self, root):
         self.root, self.began, self.kinds, self.seen = root, time.time(), {}, {}
+        self.lone, self.alone = (None, 0), (0, None)
 
     def look(self):
         now, found = time.time() - self.began, processes()
@@ -94,6 +96,15 @@ class Watch:
                 kind = inner or ((kind[0], "builds") if kind[1] in ("proofs", "tests") else kind)
             first = self.seen.get(pid, (None, now))[1]
             self.seen[pid] = (kind, first, now, seconds)
+        self.note_alone(now, {self.seen[pid][0] for pid in found if pid in self.seen and self.seen[pid][0][1] in PARTS})
+
+    def note_alone(self, now, busy):
+        """Keeps the longest time for which one crate's part ran and no other."""
+        key = busy.pop() if len(busy) == 1 else None
+        if key != self.lone[0]:
+            self.lone = (key, now)
+        if key and now - self.lone[1] > self.alone[0]:
+            self.alone = (now - self.lone[1], key)
 
 
 def watched(file, command):
@@ -120,7 +131,7 @@ def watched(file, command):
     ended.set()
     looks.join()
     used = resource.getrusage(resource.RUSAGE_CHILDREN)
-    told = {"wall": time.time() - watch.began, "processor": used.ru_utime + used.ru_stime, "last": last, "trouble": trouble, "seen": list(watch.seen.values())}
+    told = {"wall": time.time() - watch.began, "processor": used.ru_utime + used.ru_stime, "alone": watch.alone, "last": last, "trouble": trouble, "seen": list(watch.seen.values())}
     with open(file, "w", encoding="utf-8") as out:
         json.dump(told, out)
     return status if status >= 0 else 128 - status
@@ -141,6 +152,9 @@ def table(told):
     print("%-22s" % "all" + "".join("%8.0f" % it for it in [*sums, sum(sums)]))
     minutes = told["processor"] / 60, told["wall"] / 60
     print("in all %.1f minutes of processor, in %.1f minutes" % minutes)
+    seconds, key = told.get("alone", (0, None))
+    if key:
+        print("alone for %.0f seconds at most: %s" % (seconds, " ".join(key)))
     for line in told["trouble"]:
         print(line)
 

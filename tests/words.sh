@@ -197,6 +197,8 @@ expect 1 "copydesk: file fault
 none.feed: it cannot be read" sorts none.feed --case case12.toml
 expect 1 "copydesk: input refused
 wedge5.toml: a key of a case is missing" sorts c.feed --case wedge5.toml
+expect 1 "copydesk: input refused
+case13.toml: it cannot be read" sorts c.feed --case case13.toml
 cp c.feed short.feed
 echo 'insert 1 0 r"~"' | "$program" desk short.feed --site 1 > written
 expect 1 "" sorts short.feed --case case12.toml

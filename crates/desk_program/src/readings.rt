@@ -163,7 +163,7 @@ pub fn read_whole<W: Write, E: Write, F: Files + Explains>(
 fn sorts_cause<'a>(feed: &'a str, case: &'a str, fault: SortsFault) -> Cause<'a> {
     match fault {
         SortsFault::Feed(why) => feed_cause(feed, why),
-        SortsFault::Input(why) => Cause::CaseOrWedge(case, case, why),
+        SortsFault::Input(why) => Cause::Case(case, why),
         SortsFault::Write => Cause::Output,
         SortsFault::NoMemory => Cause::NoMemory(feed),
     }

@@ -94,6 +94,8 @@ pub enum Cause<'a> {
     Text(&'a str),
     /// Of these files, that of a case and that of a wedge, one is not read, or is refused.
     CaseOrWedge(&'a str, &'a str, Refusal),
+    /// This file of a case is not read, or is refused.
+    Case(&'a str, Refusal),
     /// Standard input failed.
     Input,
     /// Standard input has no end.
@@ -145,6 +147,19 @@ fn wedge_words(number: u8) -> &'static str {
     }
 }
 
+/// Writes a line on why a case does not come in: the file, and the cause.
+fn explain_case<E: Write, F: Explains>(
+    faults: &mut E,
+    files: &F,
+    case: &str,
+    why: Refusal,
+) -> io::Result<()> {
+    match why {
+        Refusal::Case(number) => writeln!(faults, "{case}: {}", case_words(number)),
+        _ => files.explain(case, faults),
+    }
+}
+
 /// Writes a line on why a case and a wedge do not come in: the file, and the cause.
 fn explain_input<E: Write, F: Explains>(
     faults: &mut E,
@@ -154,7 +169,7 @@ fn explain_input<E: Write, F: Explains>(
     why: Refusal,
 ) -> io::Result<()> {
     match why {
-        Refusal::Case(number) => writeln!(faults, "{case}: {}", case_words(number)),
+        Refusal::Case(_) => explain_case(faults, files, case, why),
         Refusal::Wedge(number) => writeln!(faults, "{wedge}: {}", wedge_words(number)),
         _ => {
             write!(faults, "{case} or ")?;
@@ -191,6 +206,7 @@ fn explain_cause<E: Write, F: Explains>(
         }
         Cause::Text(feed) => writeln!(faults, "{feed}: the text does not fit into it"),
         Cause::CaseOrWedge(case, wedge, why) => explain_input(faults, files, case, wedge, why),
+        Cause::Case(case, why) => explain_case(faults, files, case, why),
         Cause::Input => writeln!(faults, "standard input: it cannot be read"),
         Cause::Endless => writeln!(faults, "standard input: it has no end"),
         Cause::TooLong => writeln!(faults, "standard input: it has more than {MAX_TEXT} bytes"),

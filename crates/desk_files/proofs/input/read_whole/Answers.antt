@@ -8,8 +8,8 @@ returns-then-n-most-clause-left g c =
     too_many (g.R.Read.remaining c.args.reader.now) (g.R.Read.remaining c.reads.reader) (g.R.Read.remaining c.read.new.self) c.reads.bytes.items (take c.in-Ok.n c.read.new.buf) c.in-Ok.n c.args.most
     c.in-Ok.ensures.bound.1 c.reads.invariant.bytes c.in-Ok.ensures.bytes.0 (omega (arith, c.if-n-most.true, c.len.ensures, c.reads.invariant.within))
 
-pub returns-in_err-extend_from_slice-clause-left : goal.returns-in_err-extend_from_slice-clause-left
-returns-in_err-extend_from_slice-clause-left g c =
+pub returns-in_err-extend_from_slice-in-Ok-clause-left : goal.returns-in_err-extend_from_slice-in-Ok-clause-left
+returns-in_err-extend_from_slice-in-Ok-clause-left g c =
     let p = err_from_is_err_and c.from_residual.result c.from_residual.ensures.1 in
     rw p.1 (rw p.2 (some_taken (g.R.Read.remaining c.args.reader.now) (g.R.Read.remaining c.reads.reader) (g.R.Read.remaining c.read.new.self) c.reads.bytes.items (take c.in-Ok.n c.read.new.buf) c.in-Ok.n c.args.most
     c.in-Ok.ensures.bound.1 c.reads.invariant.bytes c.in-Ok.ensures.bytes.0 (omega (arith, c.in-Ok.n-test)) (omega (arith, c.if-n-most.false, c.len.ensures, c.reads.invariant.within))))
