@@ -1,16 +1,62 @@
 -- One frame of the memory: what it shows of it, and what a write into it leaves.
-use Rattle.std.proofs.Common.{◌≡◌, ℕ, ◌+◌, ◌-◌, ◌*◌, ◌<◌, ◌≤◌, List, ◌++◌, length, get_or, take, drop, sym, ap, ◌∙◌, subst, arith, length-append, length-drop, length-take-le, take-take, drop-drop}
-use Rattle.std.proofs.lemmas.List.{take_at, drop_at, drop-take, drop-append-le, get_or_append_left, get_or-append-add, get_or-take, get_or-drop}
+use Rattle.std.proofs.Common.{◌≡◌, ℕ, ◌+◌, ◌-◌, ◌*◌, ◌<◌, ◌≤◌, List, ◌++◌, length, get_or, take, drop, refl, sym, ap, ◌∙◌, subst, arith, length-append, length-drop, length-take, length-take-le, take-take, drop-drop}
+use Rattle.std.proofs.lemmas.List.{take_at, drop_at, drop-take, drop-append-le, get_or_append_left, get_or-append-add, get_or-take, get_or-drop, drop_all, append-nil}
 use Rattle.std.proofs.lemmas.List.Edits.{take-paste}
+use borrow.Rule.Slice.PartMut.{put_mid}
 use Rattle.std.specs.List.{copy_within}
 use Rattle.desk_shelf.specs.Shelf.{frame_at, IsWritten}
 
+-- n from the place s on, of the first so many
+part-from : {X : Type 0} (s n m : ℕ) (xs : List X) → s + n ≤ m → take n (drop s (take m xs)) ≡ take n (drop s xs)
+part-from s n m xs l = sym (drop-take s n (take m xs)) ∙ ap (λ (z : List _). drop s z) (take-take (s + n) m xs l) ∙ drop-take s n xs
+
+-- what was written behind the first s + n stands behind the n from the place s on
+pub behind-start : {X : Type 0} (old new y : List X) (s n m : ℕ) → s + n ≤ length old → take (s + n + m) new ≡ take (s + n) old ++ y → take (n + m) (drop s new) ≡ take n (drop s old) ++ y
+behind-start old new y s n m l e =
+    let sum : s + (n + m) ≡ s + n + m = omega arith in
+    let long = length-take-le (s + n) old l in
+    sym (drop-take s (n + m) new) ∙ ap (λ (k : ℕ). drop s (take k new)) sum ∙ ap (λ (z : List _). drop s z) e
+    ∙ drop-append-le s (take (s + n) old) y (omega arith) ∙ ap (λ (z : List _). z ++ y) (drop-take s n old)
+
+-- those of the n behind a that stand from one place up to another
+pub part-within : {X : Type 0} (xs : List X) (a from to : ℕ) → drop (a + from) (take (a + to) xs) ≡ drop from (take to (drop a xs))
+part-within xs a from to = sym (drop-drop from a (take (a + to) xs)) ∙ ap (λ (z : List _). drop from z) (drop-take a to xs)
+
+pub part-kept : {X : Type 0} (xs : List X) (a from to : ℕ) → from ≤ to → take (to - from) (drop (a + from) xs) ≡ drop from (take to (drop a xs))
+part-kept xs a from to l =
+    let k : from + (to - from) ≡ to = omega arith in
+    ap (λ (z : List _). take (to - from) z) (sym (drop-drop from a xs)) ∙ sym (drop-take from (to - from) (drop a xs)) ∙ ap (λ (i : ℕ). drop from (take i (drop a xs))) k
+
+-- nothing is written, or in two steps
+pub written-none : {X : Type 0} (cells : List X) (f : ℕ) → IsWritten cells cells f
+written-none cells f = record { len = refl; before = λ i d l. refl; behind = λ i d l. refl }
+
+pub written-on : {X : Type 0} (cells between new : List X) (f : ℕ) → IsWritten cells between f → IsWritten between new f → IsWritten cells new f
+written-on cells between new f a b = record { len = b.len ∙ a.len; before = λ i d l. b.before i d l ∙ a.before i d l; behind = λ i d l. b.behind i d l ∙ a.behind i d l }
+
+-- n from the place s on, moved to another place
+pub moved : {X : Type 0} (old new : List X) (s n to : ℕ) → to ≤ length old → take (to + (s + n - s)) new ≡ take to old ++ drop s (take (s + n) old) → take n (drop to new) ≡ take n (drop s old)
+moved old new s n to l e =
+    let k : to + n ≡ to + (s + n - s) = omega arith in
+    sym (drop-take to n new) ∙ ap (λ (i : ℕ). drop to (take i new)) k ∙ ap (λ (z : List _). drop to z) e
+    ∙ drop_at (take to old) (drop s (take (s + n) old)) to (length-take-le to old l) ∙ drop-take s n old
+
+-- what comes back, when all places from a on were lent and are y now
+pub lent-behind : {X : Type 0} (frame y : List X) (a k : ℕ) → a + k ≡ length frame → drop a (put_mid a k frame y) ≡ y
+lent-behind frame y a k e =
+    let rest = length-drop a frame in
+    drop_at (take a frame) (y ++ drop k (drop a frame)) a (length-take-le a frame (omega arith))
+    ∙ ap (λ (z : List _). y ++ z) (drop_all k (drop a frame) (omega arith)) ∙ append-nil y
+
 module _ {X : Type 0} (cells : List X) where
-  -- the first n of a frame
-  pub part-of : (f n : ℕ) → n ≤ 256 → take (256 * f + n - 256 * f) (drop (256 * f) cells) ≡ take n (frame_at cells f)
-  part-of f n l =
-      let e : 256 * f + n - 256 * f ≡ n = omega arith in
-      ap (λ (k : ℕ). take k (drop (256 * f) cells)) e ∙ sym (take-take n 256 (drop (256 * f) cells) l)
+  pub frame-length : (f : ℕ) → 256 * f + 256 ≤ length cells → length (frame_at cells f) ≡ 256
+  frame-length f l = let a = length-take 256 (drop (256 * f) cells) in let b = length-drop (256 * f) cells in omega arith
+
+  -- n of a frame from its place s on
+  pub part-of : (f s n : ℕ) → s + n ≤ 256 → take (256 * f + s + n - (256 * f + s)) (drop (256 * f + s) cells) ≡ take n (drop s (frame_at cells f))
+  part-of f s n l =
+      let e : 256 * f + s + n - (256 * f + s) ≡ n = omega arith in
+      ap (λ (k : ℕ). take k (drop (256 * f + s) cells)) e ∙ ap (λ (z : List X). take n z) (sym (drop-drop s (256 * f) cells)) ∙ sym (part-from s n 256 (drop (256 * f) cells) l)
 
   lent : (f : ℕ) (part : List X) → part ≡ take (256 * f + 256 - 256 * f) (drop (256 * f) cells) → part ≡ frame_at cells f
   lent f part e = let n : 256 * f + 256 - 256 * f ≡ 256 = omega arith in e ∙ ap (λ (k : ℕ). take k (drop (256 * f) cells)) n

@@ -1,12 +1,13 @@
 -- Pages in frames: what a change of one page, or of one frame, leaves of the others.
 use Rattle.std.proofs.Common.{◌≡◌, ℕ, zero, suc, ◌+◌, ◌-◌, ◌<◌, ◌≤◌, Bool, true, false, cond, eqb, eq-eqb, List, [], ◌∷◌, ◌++◌, length, get_or, take, drop, set, refl, sym, ap, subst, ◌∙◌, arith, ◌*◌, replicate}
 use Rattle.std.specs.List.{insert, remove, All}
-use Rattle.std.proofs.lemmas.List.{get_or-set_other, get_or_append_left, get_or-drop, get_or-take, length-set, length-append, length-drop, length-take, length-map, drop-drop, take_all, take-take, drop_at, append-nil, get_or_push, take-append-le, drop-append-le, nil_from_length, ext_get_or}
+use Rattle.std.proofs.lemmas.List.{get_or-set_other, set-get_or, get_or_append_left, get_or-drop, get_or-take, length-set, length-append, length-drop, length-take, length-map, drop-drop, take_all, take-take, drop_at, drop-set, drop-replicate, get_or_push, take-append-le, drop-append-le, nil_from_length, ext_get_or}
 use Rattle.std.proofs.lemmas.Bool.{eqb-false, eqb-true, false_from_ne_true}
 use Rattle.std.proofs.lemmas.List.Edits.{length-insert, length-remove}
 use Rattle.std.proofs.lemmas.List.Elements.{All-push}
 use Rattle.std.proofs.lemmas.List.Sums.{sum_by-cons, sum_by_push}
 use Rattle.desk_shelf.specs.declared.frame.Head.{Head}
+use Rattle.desk_shelf.proofs.Frames.{frame-length}
 use Rattle.desk_shelf.specs.Shelf.{cut_at}
 use Rattle.desk_shelf.specs.Shelf.{page_of, pages_of, frame_at, framed, IsWritten, IsHead, AreHeads, uses, frees, IsShelf}
 
@@ -63,7 +64,7 @@ uses-remove (k ∷ heads) (suc p) f d l =
 
 -- a frame that they do not use may be written
 other-page : {X S : Type 0} (frames : List (List X)) (f : ℕ) (r : List X) (h : Head X S) → eqb h.frame f ≡ false → page_of (set frames f r) h ≡ page_of frames h
-other-page frames f r h e = ap (λ (z : List _). take h.len z) (get_or-set_other frames f h.frame r [] (eqb-false h.frame f e))
+other-page frames f r h e = ap (λ (z : List _). take h.len (drop h.start z)) (get_or-set_other frames f h.frame r [] (eqb-false h.frame f e))
 
 unused : (t : Bool) (n : ℕ) → cond t 1 0 + n ≡ 0 → t ≡ false
 unused false n e = refl
@@ -91,7 +92,7 @@ pub heads-push : {X S : Type 0} (sums_up : S → List X → Type 0) (frames : Li
 heads-push sums_up frames [] r a = (tt, refl)
 heads-push sums_up frames (h ∷ heads) r a =
     let rest = heads-push sums_up frames heads r a.1 in
-    let same : page_of (frames ++ r ∷ []) h ≡ page_of frames h = ap (λ (z : List _). take h.len z) (get_or_append_left frames (r ∷ []) [] h.frame a.0.within) in
+    let same : page_of (frames ++ r ∷ []) h ≡ page_of frames h = ap (λ (z : List _). take h.len (drop h.start z)) (get_or_append_left frames (r ∷ []) [] h.frame a.0.within) in
     let n = length-append frames (r ∷ []) in
     ((head-moved sums_up frames (frames ++ r ∷ []) h (omega arith) same a.0, rest.0), ap (λ (z : List _). z ∷ pages_of (frames ++ r ∷ []) heads) same ∙ ap (λ (z : List (List _)). page_of frames h ∷ z) rest.1)
 
@@ -193,8 +194,8 @@ pub record At {X S : Type 0} (sums_up : S → List X → Type 0) (cells : List X
   pub within : p < length heads
   pub frame : h.frame < k
   pub place : 256 * h.frame + 256 ≤ length cells
-  pub few : h.len ≤ 256
-  pub page : get_or pages p [] ≡ take h.len (frame_at cells h.frame)
+  pub few : h.start + h.len ≤ 256
+  pub page : get_or pages p [] ≡ take h.len (drop h.start (frame_at cells h.frame))
   pub size : h.len ≡ length (get_or pages p [])
   pub summed : sums_up h.summary (get_or pages p [])
   pub last : 0 < h.len → h.last ≡ get_or (get_or pages p []) (h.len - 1) h.last
@@ -208,27 +209,27 @@ shelf-at sums_up cells heads free all pages p h v s m e =
     let w : h.frame < k = let n = framed-length k cells in let b = i.within in omega arith in
     let o = s.laid in
     let same : get_or pages p [] ≡ page_of (framed k cells) h = ap (λ (z : List (List _)). get_or z p []) (sym v) ∙ a.1 ∙ ap (λ (z : Head _ _). page_of (framed k cells) z) (sym e) in
-    let page : get_or pages p [] ≡ take h.len (frame_at cells h.frame) = same ∙ ap (λ (z : List _). take h.len z) (framed-at k cells h.frame w) in
+    let page : get_or pages p [] ≡ take h.len (drop h.start (frame_at cells h.frame)) = same ∙ ap (λ (z : List _). take h.len (drop h.start z)) (framed-at k cells h.frame w) in
     record {
       within = l;
       frame = w;
       place = omega arith;
       few = i.few;
       page = page;
-      size = let b = ap length page in let c = length-take h.len (frame_at cells h.frame) in let d = length-take 256 (drop (256 * h.frame) cells) in let n = length-drop (256 * h.frame) cells in let f = i.few in omega arith;
+      size = let b = ap length page in let c = length-take h.len (drop h.start (frame_at cells h.frame)) in let d = length-drop h.start (frame_at cells h.frame) in let n = frame-length cells h.frame (omega arith) in let f = i.few in omega arith;
       summed = subst (λ (z : List _). sums_up h.summary z) (sym same) i.summed;
       last = λ some. subst (λ (z : List _). h.last ≡ get_or z (h.len - 1) h.last) (sym same) (i.last some);
     }
 
 -- page p is written in its frame, and its head renewed
-pub shelf-put : {X S : Type 0} (sums_up : S → List X → Type 0) (cells new : List X) (heads : List (Head X S)) (free : List ℕ) (all : ℕ) (pages : List (List X)) (p : ℕ) (b h : Head X S) (y : List X) → pages_of (framed (length heads + length free) cells) heads ≡ pages → IsShelf sums_up cells heads free all → p < length pages → b ≡ get_or heads p b → IsWritten cells new b.frame → h.frame ≡ b.frame → h.len ≤ 256 → take h.len (frame_at new b.frame) ≡ y → sums_up h.summary y → (0 < h.len → h.last ≡ get_or y (h.len - 1) h.last) → IsShelf sums_up new (set heads p h) free all × (pages_of (framed (length (set heads p h) + length free) new) (set heads p h) ≡ set pages p y)
+pub shelf-put : {X S : Type 0} (sums_up : S → List X → Type 0) (cells new : List X) (heads : List (Head X S)) (free : List ℕ) (all : ℕ) (pages : List (List X)) (p : ℕ) (b h : Head X S) (y : List X) → pages_of (framed (length heads + length free) cells) heads ≡ pages → IsShelf sums_up cells heads free all → p < length pages → b ≡ get_or heads p b → IsWritten cells new b.frame → h.frame ≡ b.frame → h.start + h.len ≤ 256 → take h.len (drop h.start (frame_at new b.frame)) ≡ y → sums_up h.summary y → (0 < h.len → h.last ≡ get_or y (h.len - 1) h.last) → IsShelf sums_up new (set heads p h) free all × (pages_of (framed (length (set heads p h) + length free) new) (set heads p h) ≡ set pages p y)
 shelf-put sums_up cells new heads free all pages p b h y v s l e w f few is summed last =
     let k = length heads + length free in
     let at = shelf-at sums_up cells heads free all pages p b v s l e in
     let m = length-set heads p h in
     let r = frame_at new b.frame in
     let write : framed k new ≡ set (framed k cells) b.frame r = framed-write k cells new b.frame w at.frame in
-    let page : page_of (framed k new) h ≡ y = ap (λ (z : List _). take h.len z) (ap (λ (n : ℕ). get_or (framed k new) n []) f ∙ framed-at k new b.frame at.frame) ∙ is in
+    let page : page_of (framed k new) h ≡ y = ap (λ (z : List _). take h.len (drop h.start z)) (ap (λ (n : ℕ). get_or (framed k new) n []) f ∙ framed-at k new b.frame at.frame) ∙ is in
     let i : IsHead sums_up (framed k new) h = record {
       within = let n = framed-length k new in let c = at.frame in omega arith;
       few = few;
@@ -250,16 +251,24 @@ shelf-put sums_up cells new heads free all pages p b h y v s l e w f few is summ
     )
 
 -- the same, where the head says what is read of the new page
-pub shelf-renew : {X S : Type 0} (sums_up : S → List X → Type 0) (cells new : List X) (heads : List (Head X S)) (free : List ℕ) (all : ℕ) (pages : List (List X)) (p n : ℕ) (b h : Head X S) (items read : List X) → pages_of (framed (length heads + length free) cells) heads ≡ pages → IsShelf sums_up cells heads free all → p < length pages → b ≡ get_or heads p b → IsWritten cells new b.frame → read ≡ new → items ≡ take n (frame_at read b.frame) → length items ≡ n → n ≤ 256 → h.frame ≡ b.frame → h.len ≡ length items → sums_up h.summary items → (0 < length items → h.last ≡ get_or items (length items - 1) h.last) → IsShelf sums_up new (set heads p h) free all × (pages_of (framed (length (set heads p h) + length free) new) (set heads p h) ≡ set pages p items)
-shelf-renew sums_up cells new heads free all pages p n b h items read v s l e w same is long few f size summed last =
-    shelf-put sums_up cells new heads free all pages p b h items v s l e w f (omega (arith, few, size, long))
-    (ap (λ (m : ℕ). take m (frame_at new b.frame)) (size ∙ long) ∙ ap (λ (z : List _). take n (frame_at z b.frame)) (sym same) ∙ sym is)
+pub shelf-renew : {X S : Type 0} (sums_up : S → List X → Type 0) (cells new : List X) (heads : List (Head X S)) (free : List ℕ) (all : ℕ) (pages : List (List X)) (p a n : ℕ) (b h : Head X S) (items read : List X) → pages_of (framed (length heads + length free) cells) heads ≡ pages → IsShelf sums_up cells heads free all → p < length pages → b ≡ get_or heads p b → IsWritten cells new b.frame → read ≡ new → items ≡ take n (drop a (frame_at read b.frame)) → length items ≡ n → a + n ≤ 256 → h.frame ≡ b.frame → h.start ≡ a → h.len ≡ length items → sums_up h.summary items → (0 < length items → h.last ≡ get_or items (length items - 1) h.last) → IsShelf sums_up new (set heads p h) free all × (pages_of (framed (length (set heads p h) + length free) new) (set heads p h) ≡ set pages p items)
+shelf-renew sums_up cells new heads free all pages p a n b h items read v s l e w same is long few f at size summed last =
+    shelf-put sums_up cells new heads free all pages p b h items v s l e w f (omega (arith, few, at, size, long))
+    ((λ i. take ((size ∙ long) i) (drop (at i) (frame_at new b.frame))) ∙ ap (λ (z : List _). take n (drop a (frame_at z b.frame))) (sym same) ∙ sym is)
     summed
     (λ some. subst (λ (m : ℕ). h.last ≡ get_or items (m - 1) h.last) (sym size) (last (omega (arith, some, size))))
 
+-- page p stands elsewhere in its frame
+pub shelf-moved : {X S : Type 0} (sums_up : S → List X → Type 0) (cells new : List X) (heads : List (Head X S)) (free : List ℕ) (all : ℕ) (pages : List (List X)) (p a : ℕ) (b h : Head X S) → pages_of (framed (length heads + length free) cells) heads ≡ pages → IsShelf sums_up cells heads free all → p < length pages → b ≡ get_or heads p b → IsWritten cells new b.frame → h ≡ record { frame = b.frame; start = a; len = b.len; last = b.last; summary = b.summary } → a + b.len ≤ 256 → take b.len (drop a (frame_at new b.frame)) ≡ take b.len (drop b.start (frame_at cells b.frame)) → IsShelf sums_up new (set heads p h) free all × (pages_of (framed (length (set heads p h) + length free) new) (set heads p h) ≡ pages)
+shelf-moved sums_up cells new heads free all pages p a b h v s l e w is few same =
+    let at = shelf-at sums_up cells heads free all pages p b v s l e in
+    let done = shelf-put sums_up cells new heads free all pages p b (record { frame = b.frame; start = a; len = b.len; last = b.last; summary = b.summary }) (get_or pages p []) v s l e w refl few (same ∙ sym at.page) at.summed at.last in
+    subst (λ z. IsShelf sums_up new (set heads p z) free all × (pages_of (framed (length (set heads p z) + length free) new) (set heads p z) ≡ pages)) (sym is)
+    (done.0, done.1 ∙ set-get_or pages p [])
+
 -- the first n of a page are those of its frame
-pub first-of : {X S : Type 0} {sums_up : S → List X → Type 0} (cells : List X) (pages : List (List X)) (heads : List (Head X S)) (k p n : ℕ) (h : Head X S) → At sums_up cells pages heads k p h → n ≤ h.len → take n (frame_at cells h.frame) ≡ take n (get_or pages p [])
-first-of cells pages heads k p n h at l = sym (ap (λ (z : List _). take n z) at.page ∙ take-take n h.len (frame_at cells h.frame) l)
+pub first-of : {X S : Type 0} {sums_up : S → List X → Type 0} (cells : List X) (pages : List (List X)) (heads : List (Head X S)) (k p n : ℕ) (h : Head X S) → At sums_up cells pages heads k p h → n ≤ h.len → take n (drop h.start (frame_at cells h.frame)) ≡ take n (get_or pages p [])
+first-of cells pages heads k p n h at l = sym (ap (λ (z : List _). take n z) at.page ∙ take-take n h.len (drop h.start (frame_at cells h.frame)) l)
 
 -- ---- a page is opened, or closed
 
@@ -277,10 +286,10 @@ uses-none sums_up frames (h ∷ heads) f a l =
     omega (arith, c, x, rest)
 
 -- the head of a page that has been opened
-head-new : {X S : Type 0} (sums_up : S → List X → Type 0) (k : ℕ) (new : List X) (f : ℕ) (h : Head X S) (items : List X) → f < k → h.frame ≡ f → h.len ≡ length items → length items ≡ 1 → items ≡ take 1 (frame_at new f) → sums_up h.summary items → (0 < length items → h.last ≡ get_or items (length items - 1) h.last) → IsHead sums_up (framed k new) h × (page_of (framed k new) h ≡ items)
-head-new sums_up k new f h items l e size one is summed last =
+head-new : {X S : Type 0} (sums_up : S → List X → Type 0) (k : ℕ) (new : List X) (f a : ℕ) (h : Head X S) (items : List X) → f < k → a < 256 → h.frame ≡ f → h.start ≡ a → h.len ≡ length items → length items ≡ 1 → items ≡ take 1 (drop a (frame_at new f)) → sums_up h.summary items → (0 < length items → h.last ≡ get_or items (length items - 1) h.last) → IsHead sums_up (framed k new) h × (page_of (framed k new) h ≡ items)
+head-new sums_up k new f a h items l room e at size one is summed last =
     let n = framed-length k new in
-    let page : page_of (framed k new) h ≡ items = ap (λ (m : ℕ). take m (get_or (framed k new) h.frame [])) (size ∙ one) ∙ ap (λ (z : List _). take 1 z) (ap (λ (m : ℕ). get_or (framed k new) m []) e ∙ framed-at k new f l) ∙ sym is in (
+    let page : page_of (framed k new) h ≡ items = (λ i. take ((size ∙ one) i) (drop (at i) (get_or (framed k new) h.frame []))) ∙ ap (λ (z : List _). take 1 (drop a z)) (ap (λ (m : ℕ). get_or (framed k new) m []) e ∙ framed-at k new f l) ∙ sym is in (
       record {
         within = omega arith;
         few = omega arith;
@@ -302,8 +311,8 @@ pub free-place : {X S : Type 0} (sums_up : S → List X → Type 0) (cells : Lis
 free-place sums_up cells heads free rest all f s e = let w = free-frame (length heads + length free) free rest f s.freed e in let o = s.laid in omega arith
 
 -- in a frame that was free
-pub shelf-open : {X S : Type 0} (sums_up : S → List X → Type 0) (cells new : List X) (heads : List (Head X S)) (free rest : List ℕ) (all : ℕ) (pages : List (List X)) (p f : ℕ) (h : Head X S) (items : List X) → pages_of (framed (length heads + length free) cells) heads ≡ pages → IsShelf sums_up cells heads free all → p ≤ length pages → length heads < all → free ≡ rest ++ f ∷ [] → IsWritten cells new f → h.frame ≡ f → h.len ≡ length items → length items ≡ 1 → items ≡ take 1 (frame_at new f) → sums_up h.summary items → (0 < length items → h.last ≡ get_or items (length items - 1) h.last) → IsShelf sums_up new (insert heads p h) rest all × (pages_of (framed (length (insert heads p h) + length rest) new) (insert heads p h) ≡ insert pages p items)
-shelf-open sums_up cells new heads free rest all pages p f h items v s l more e w is size one read summed last =
+pub shelf-open : {X S : Type 0} (sums_up : S → List X → Type 0) (cells new : List X) (heads : List (Head X S)) (free rest : List ℕ) (all : ℕ) (pages : List (List X)) (p f a : ℕ) (h : Head X S) (items : List X) → pages_of (framed (length heads + length free) cells) heads ≡ pages → IsShelf sums_up cells heads free all → p ≤ length pages → length heads < all → free ≡ rest ++ f ∷ [] → IsWritten cells new f → a < 256 → h.frame ≡ f → h.start ≡ a → h.len ≡ length items → length items ≡ 1 → items ≡ take 1 (drop a (frame_at new f)) → sums_up h.summary items → (0 < length items → h.last ≡ get_or items (length items - 1) h.last) → IsShelf sums_up new (insert heads p h) rest all × (pages_of (framed (length (insert heads p h) + length rest) new) (insert heads p h) ≡ insert pages p items)
+shelf-open sums_up cells new heads free rest all pages p f a h items v s l more e w room is from size one read summed last =
     let k = length heads + length free in
     let long : length free ≡ length rest + 1 = ap length e ∙ length-append rest (f ∷ []) in
     let c = length-map heads (page_of (framed k cells)) in
@@ -314,7 +323,7 @@ shelf-open sums_up cells new heads free rest all pages p f h items v s l more e 
     let none : uses f heads ≡ 0 = let a = s.apart f in let b = ap (λ (z : List ℕ). frees f z) e in let d = frees-push f f rest in let y = yes f f refl in omega (arith, a, b, d, y) in
     let kept = heads-set sums_up (framed k cells) heads f (frame_at new f) s.each none in
     let there = subst (λ (z : List (List _)). AreHeads sums_up z heads × (pages_of z heads ≡ pages_of (framed k cells) heads)) (sym write) kept in
-    let head = head-new sums_up k new f h items inside is size one read summed last in
+    let head = head-new sums_up k new f a h items inside room is from size one read summed last in
     let done = heads-insert sums_up (framed k new) heads p h within there.0 head.0 in
     let same : length (insert heads p h) + length rest ≡ k = omega arith in (
       record {
@@ -332,8 +341,8 @@ apart-new true n l z = let e = z refl in omega arith
 apart-new false n l z = omega arith
 
 -- in a frame behind all others
-pub shelf-open-behind : {X S : Type 0} (sums_up : S → List X → Type 0) (cells new r : List X) (heads : List (Head X S)) (free : List ℕ) (all : ℕ) (pages : List (List X)) (p f : ℕ) (h : Head X S) (items : List X) → pages_of (framed (length heads + length free) cells) heads ≡ pages → IsShelf sums_up cells heads free all → p ≤ length pages → length heads < all → length free ≡ 0 → f ≡ length heads → new ≡ cells ++ r → length r ≡ 256 → h.frame ≡ f → h.len ≡ length items → length items ≡ 1 → items ≡ take 1 (frame_at new f) → sums_up h.summary items → (0 < length items → h.last ≡ get_or items (length items - 1) h.last) → IsShelf sums_up new (insert heads p h) free all × (pages_of (framed (length (insert heads p h) + length free) new) (insert heads p h) ≡ insert pages p items)
-shelf-open-behind sums_up cells new r heads free all pages p f h items v s l more zero-free at e wide is size one read summed last =
+pub shelf-open-behind : {X S : Type 0} (sums_up : S → List X → Type 0) (cells new r : List X) (heads : List (Head X S)) (free : List ℕ) (all : ℕ) (pages : List (List X)) (p f a : ℕ) (h : Head X S) (items : List X) → pages_of (framed (length heads + length free) cells) heads ≡ pages → IsShelf sums_up cells heads free all → p ≤ length pages → length heads < all → length free ≡ 0 → f ≡ length heads → new ≡ cells ++ r → length r ≡ 256 → a < 256 → h.frame ≡ f → h.start ≡ a → h.len ≡ length items → length items ≡ 1 → items ≡ take 1 (drop a (frame_at new f)) → sums_up h.summary items → (0 < length items → h.last ≡ get_or items (length items - 1) h.last) → IsShelf sums_up new (insert heads p h) free all × (pages_of (framed (length (insert heads p h) + length free) new) (insert heads p h) ≡ insert pages p items)
+shelf-open-behind sums_up cells new r heads free all pages p f a h items v s l more zero-free at e wide room is from size one read summed last =
     let k = length heads + length free in
     let c = length-map heads (page_of (framed k cells)) in
     let within : p ≤ length heads = let d = ap length v in omega arith in
@@ -342,7 +351,7 @@ shelf-open-behind sums_up cells new r heads free all pages p f h items v s l mor
     let push : framed (suc k) new ≡ framed k cells ++ r ∷ [] = ap (λ (z : List _). framed (suc k) z) e ∙ framed-push k cells r laid wide in
     let kept = heads-push sums_up (framed k cells) heads r s.each in
     let there = subst (λ (z : List (List _)). AreHeads sums_up z heads × (pages_of z heads ≡ pages_of (framed k cells) heads)) (sym push) kept in
-    let head = head-new sums_up (suc k) new f h items (omega arith) is size one read summed last in
+    let head = head-new sums_up (suc k) new f a h items (omega arith) room is from size one read summed last in
     let done = heads-insert sums_up (framed (suc k) new) heads p h within there.0 head.0 in
     let same : length (insert heads p h) + length free ≡ suc k = omega arith in
     let n = framed-length k cells in
@@ -380,12 +389,17 @@ shelf-close sums_up cells heads free all pages p h v s l e =
       ap (λ (z : ℕ). pages_of (framed z cells) (remove heads p)) same ∙ done.1 ∙ ap (λ (z : List (List _)). remove z p) v,
     )
 
-pub one-first : {X : Type 0} (frame : List X) (x : X) → 0 < length frame → take 1 (set frame 0 x) ≡ x ∷ []
-one-first [] x l = absurd (omega arith)
-one-first (y ∷ frame) x l = refl
+pub one-set : {X : Type 0} (frame : List X) (a : ℕ) (x : X) → a < length frame → take 1 (drop a (set frame a x)) ≡ x ∷ []
+one-set frame a x l = ap (λ (z : List _). take 1 z) (drop-set frame a x l)
 
-pub one-behind : {X : Type 0} (cells new : List X) (f : ℕ) (x : X) → new ≡ cells ++ replicate 256 x → length cells ≡ 256 * f → take 1 (frame_at new f) ≡ x ∷ []
-one-behind cells new f x e l = ap (λ (z : List _). take 1 (frame_at z f)) e ∙ ap (λ (z : List _). take 1 (take 256 z)) (drop_at cells (replicate 256 x) (256 * f) l)
+one-of : {X : Type 0} (n : ℕ) (x : X) → 0 < n → take 1 (replicate n x) ≡ x ∷ []
+one-of zero x l = absurd (omega arith)
+one-of (suc n) x l = refl
+
+pub one-behind : {X : Type 0} (cells new : List X) (f a : ℕ) (x : X) → new ≡ cells ++ replicate 256 x → length cells ≡ 256 * f → a < 256 → take 1 (drop a (frame_at new f)) ≡ x ∷ []
+one-behind cells new f a x e l room =
+    ap (λ (z : List _). take 1 (drop a (frame_at z f))) e ∙ ap (λ (z : List _). take 1 (drop a (take 256 z))) (drop_at cells (replicate 256 x) (256 * f) l)
+    ∙ ap (λ (z : List _). take 1 z) (drop-replicate a 256 x) ∙ one-of (256 - a) x (omega arith)
 
 -- there is memory for more
 pub shelf-more : {X S : Type 0} (sums_up : S → List X → Type 0) (cells : List X) (heads : List (Head X S)) (free : List ℕ) (all more : ℕ) → IsShelf sums_up cells heads free all → all ≤ more → IsShelf sums_up cells heads free more
@@ -393,10 +407,16 @@ shelf-more sums_up cells heads free all more s l = record { each = s.each; freed
 
 -- ---- what two steps come to
 
-pub cut-made : {X : Type 0} (pages : List (List X)) (p : ℕ) (x : X) → p < length pages → length (get_or pages p []) ≡ 256 → set (set (insert pages (suc p) (x ∷ [])) (suc p) (drop 128 (take 256 (get_or (insert pages (suc p) (x ∷ [])) p [])))) p (take 128 (get_or (set (insert pages (suc p) (x ∷ [])) (suc p) (drop 128 (take 256 (get_or (insert pages (suc p) (x ∷ [])) p [])))) p []) ++ []) ≡ cut_at pages p
+pub cut-made : {X : Type 0} (pages : List (List X)) (p : ℕ) (x : X) → p < length pages → length (get_or pages p []) ≡ 256 → set (set (insert pages (suc p) (x ∷ [])) (suc p) (drop 128 (take 256 (get_or (insert pages (suc p) (x ∷ [])) p [])))) p (take 128 (get_or (set (insert pages (suc p) (x ∷ [])) (suc p) (drop 128 (take 256 (get_or (insert pages (suc p) (x ∷ [])) p [])))) p [])) ≡ cut_at pages p
 cut-made [] p x l w = absurd (omega arith)
-cut-made (r ∷ pages) zero x l w = λ i. append-nil (take 128 r) i ∷ drop 128 (take_all 256 r (omega arith) i) ∷ pages
+cut-made (r ∷ pages) zero x l w = λ i. take 128 r ∷ drop 128 (take_all 256 r (omega arith) i) ∷ pages
 cut-made (r ∷ pages) (suc p) x l w = ap (λ (z : List (List _)). r ∷ z) (cut-made pages p x (omega arith) w)
+
+pub half-size : {X : Type 0} (pages : List (List X)) (p : ℕ) (r : List X) → length (get_or (set pages p (take 128 r)) p []) ≤ 128
+half-size [] zero r = omega arith
+half-size [] (suc p) r = omega arith
+half-size (page ∷ pages) zero r = omega (arith, length-take 128 r)
+half-size (page ∷ pages) (suc p) r = half-size pages p r
 
 pub join-made : {X : Type 0} (pages : List (List X)) (p q n m : ℕ) → n ≡ length (get_or pages p []) → m ≡ length (get_or pages q []) → remove (set pages p (take n (get_or pages p []) ++ take m (get_or pages q []))) q ≡ remove (set pages p (get_or pages p [] ++ get_or pages q [])) q
 join-made pages p q n m a b = λ i. remove (set pages p (take_all n (get_or pages p []) (omega arith) i ++ take_all m (get_or pages q []) (omega arith) i)) q

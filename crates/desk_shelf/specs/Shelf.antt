@@ -29,9 +29,9 @@ pub record IsWritten {X : Type 0} (cells new : List X) (f : ℕ) : Type 0 where
   pub before : (i : ℕ) (d : X) → i < 256 * f → slice_index_or new i d ≡ slice_index_or cells i d
   pub behind : (i : ℕ) (d : X) → 256 * f + 256 ≤ i → slice_index_or new i d ≡ slice_index_or cells i d
 
--- the page of a head: the first so many entries of its frame
+-- the page of a head: so many entries of its frame, from its start on
 abbrev pub page_of : {X S : Type 0} → List (List X) → Head X S → List X
-page_of frames head = take head.len (slice_index_or frames head.frame [])
+page_of frames head = take head.len (drop head.start (slice_index_or frames head.frame []))
 
 abbrev pub pages_of : {X S : Type 0} → List (List X) → List (Head X S) → List (List X)
 pages_of frames heads = map (page_of frames) heads
@@ -39,7 +39,7 @@ pages_of frames heads = map (page_of frames) heads
 -- a head says what is true of its page
 pub record IsHead {X S : Type 0} (sums_up : S → List X → Type 0) (frames : List (List X)) (head : Head X S) : Type 0 where
   pub within : head.frame < length frames
-  pub few : head.len ≤ 256
+  pub few : head.start + head.len ≤ 256
   pub summed : sums_up head.summary (page_of frames head)
   pub last : 0 < head.len → head.last ≡ slice_index_or (page_of frames head) (head.len - 1) head.last
 

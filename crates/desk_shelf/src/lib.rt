@@ -1,7 +1,8 @@
 //! Pages of a long list, in frames of one piece of memory that grows.
 //!
-//! A frame has room for 256 entries. A page is the first so many of a frame, so that a frame which no page has needed yet is
-//! not touched, and opening a page asks for no memory that was not promised.
+//! A frame has room for 256 entries. A page is so many of a frame, from any place of it on, so that an entry that is put into a
+//! page, or taken out of it, moves the fewer of those beside it. A frame which no page has needed yet is not touched, and opening
+//! a page asks for no memory that was not promised.
 #![tactic(auto)]
 
 mod frame;

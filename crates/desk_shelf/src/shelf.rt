@@ -1,14 +1,14 @@
 //! Pages in frames that lie side by side in one piece of memory, so that a frame which no page has needed yet costs none.
 //!
-//! The pages stand in a list of heads, in order. A head says in which frame its page lies, so a page that is put between two
-//! others moves heads alone. The number of its frame is the name of a page, which stays with it.
+//! The pages stand in a list of heads, in order. A head says in which frame its page lies and where in it, so a page that is put
+//! between two others moves heads alone. The number of its frame is the name of a page, which stays with it.
 ghost use Rattle.std.specs.Prelude.{◌≡◌, ◌+◌, ◌-◌, ◌*◌, ◌≤◌, ◌<◌, ◌^◌, List, [], ◌∷◌, ◌++◌, length, take, drop, slice_index_or, slice_set, vec_len, vec_capacity, max, suc, OnOk};
 ghost use Rattle.std.specs.List.{insert, remove};
 ghost use Rattle.desk_shelf.specs.Shelf.{cut_at};
 ghost use Rattle.desk_shelf.specs.Shelf.{Shelved, IsShelf, framed, frame_at, pages_of};
 
 use crate::frame::{self, Head, items_of};
-use crate::summary::{FULL, HALF, Summary};
+use crate::summary::{FULL, HALF, QUARTER, Summary};
 use std::alloc::{AllocError, Allocator};
 use std::marker::Model;
 
@@ -86,7 +86,7 @@ impl<T: Copy, S: Summary<T>, A: Allocator> Shelf<T, S, A> {
         ensures { result.now ≡ slice_index_or self.now.pages p [] }
     {
         let head = self.heads[p];
-        items_of(&self.cells, head.frame, head.len)
+        items_of(&self.cells, head.frame, head.start, head.len)
     }
 
     /// The last entry of page p.
@@ -114,10 +114,11 @@ impl<T: Copy, S: Summary<T>, A: Allocator> Shelf<T, S, A> {
         ensures free { self.new.free ≡ self.old.free }
     {
         let head = self.heads[p];
-        frame::put(&mut self.cells, head.frame, head.len, j, x);
-        let items = items_of(&self.cells, head.frame, head.len + 1);
+        let start = frame::put(&mut self.cells, head.frame, head.start, head.len, j, x);
+        let items = items_of(&self.cells, head.frame, start, head.len + 1);
         self.heads[p] = Head {
             frame: head.frame,
+            start,
             len: head.len + 1,
             last: items[head.len],
             summary: head.summary.with(x),
@@ -133,10 +134,10 @@ impl<T: Copy, S: Summary<T>, A: Allocator> Shelf<T, S, A> {
         ensures free { self.new.free ≡ self.old.free }
     {
         let head = self.heads[p];
-        let out = items_of(&self.cells, head.frame, head.len)[j];
-        frame::take(&mut self.cells, head.frame, head.len, j);
-        let items = items_of(&self.cells, head.frame, head.len - 1);
-        self.heads[p] = head_of(head.frame, items, out);
+        let out = items_of(&self.cells, head.frame, head.start, head.len)[j];
+        let start = frame::take(&mut self.cells, head.frame, head.start, head.len, j);
+        let items = items_of(&self.cells, head.frame, start, head.len - 1);
+        self.heads[p] = head_of(head.frame, start, items, out);
         out
     }
 
@@ -148,11 +149,12 @@ impl<T: Copy, S: Summary<T>, A: Allocator> Shelf<T, S, A> {
         ensures free { self.new.free ≡ self.old.free }
     {
         let head = self.heads[p];
-        let old = items_of(&self.cells, head.frame, head.len)[j];
-        frame::set(&mut self.cells, head.frame, j, x);
-        let items = items_of(&self.cells, head.frame, head.len);
+        let old = items_of(&self.cells, head.frame, head.start, head.len)[j];
+        frame::set(&mut self.cells, head.frame, head.start + j, x);
+        let items = items_of(&self.cells, head.frame, head.start, head.len);
         self.heads[p] = Head {
             frame: head.frame,
+            start: head.start,
             len: head.len,
             last: items[head.len - 1],
             summary: head.summary.replaced(old, x),
@@ -170,11 +172,49 @@ impl<T: Copy, S: Summary<T>, A: Allocator> Shelf<T, S, A> {
         ensures put { self.new.pages ≡ slice_set self.old.pages q (take n (slice_index_or self.old.pages q []) ++ drop from (take to (slice_index_or self.old.pages p []))) }
         ensures free { self.new.free ≡ self.old.free }
     {
-        let head = self.heads[q];
-        let source = self.heads[p].frame;
-        frame::copy(&mut self.cells, source, from, to, head.frame, n);
-        let items = items_of(&self.cells, head.frame, n + (to - from));
-        self.heads[q] = head_of(head.frame, items, head.last);
+        let many = n + (to - from);
+        let old = self.heads[q];
+        let start = frame::settle(&mut self.cells, old.frame, old.start, old.len, many);
+        let head = old.at(start);
+        self.heads[q] = head;
+        let source = self.heads[p];
+        let (first, end) = (source.start + from, source.start + to);
+        frame::copy(
+            &mut self.cells,
+            source.frame,
+            first,
+            end,
+            head.frame,
+            start + n,
+        );
+        let items = items_of(&self.cells, head.frame, start, many);
+        self.heads[q] = head_of(head.frame, start, items, head.last);
+    }
+
+    /// Keeps of page p what stands from one place up to another.
+    fn keep(&mut self, p: usize, from: usize, to: usize)
+        requires within { p < length self.old.pages }
+        requires order { from ≤ to }
+        requires inside { to ≤ length (slice_index_or self.old.pages p []) }
+        ensures kept { self.new.pages ≡ slice_set self.old.pages p (drop from (take to (slice_index_or self.old.pages p []))) }
+        ensures free { self.new.free ≡ self.old.free }
+    {
+        let head = self.heads[p];
+        let start = head.start + from;
+        let items = items_of(&self.cells, head.frame, start, to - from);
+        self.heads[p] = head_of(head.frame, start, items, head.last);
+    }
+
+    /// Moves page p to another place of its frame.
+    fn move_to(&mut self, p: usize, start: usize)
+        requires within { p < length self.old.pages }
+        requires room { start + length (slice_index_or self.old.pages p []) ≤ 256 }
+        ensures same { self.new.pages ≡ self.old.pages }
+        ensures free { self.new.free ≡ self.old.free }
+    {
+        let head = self.heads[p];
+        frame::shift(&mut self.cells, head.frame, head.start, head.len, start);
+        self.heads[p] = head.at(start);
     }
 
     /// Opens a page with one entry before page p, or behind all.
@@ -184,17 +224,18 @@ impl<T: Copy, S: Summary<T>, A: Allocator> Shelf<T, S, A> {
         ensures put { self.new.pages ≡ insert self.old.pages p (x ∷ []) }
         ensures free { self.new.free + 1 ≡ self.old.free }
     {
+        let start = first_start(p, self.heads.len());
         if self.free.len() == 0 {
             let f = self.heads.len();
             frame::lay(&mut self.cells, x);
-            let items = items_of(&self.cells, f, 1);
-            insert_reserved(&mut self.heads, p, head_of(f, items, x));
+            let items = items_of(&self.cells, f, start, 1);
+            insert_reserved(&mut self.heads, p, head_of(f, start, items, x));
             return;
         }
         let f = self.free.take_last();
-        frame::set(&mut self.cells, f, 0, x);
-        let items = items_of(&self.cells, f, 1);
-        insert_reserved(&mut self.heads, p, head_of(f, items, x));
+        frame::set(&mut self.cells, f, start, x);
+        let items = items_of(&self.cells, f, start, 1);
+        insert_reserved(&mut self.heads, p, head_of(f, start, items, x));
     }
 
     /// Appends these to page p.
@@ -205,9 +246,11 @@ impl<T: Copy, S: Summary<T>, A: Allocator> Shelf<T, S, A> {
         ensures free { self.new.free ≡ self.old.free }
     {
         let head = self.heads[p];
-        frame::append(&mut self.cells, head.frame, head.len, items);
-        let whole = items_of(&self.cells, head.frame, head.len + items.len());
-        self.heads[p] = head_of(head.frame, whole, head.last);
+        let many = head.len + items.len();
+        let start = frame::settle(&mut self.cells, head.frame, head.start, head.len, many);
+        frame::append(&mut self.cells, head.frame, start + head.len, items);
+        let whole = items_of(&self.cells, head.frame, start, many);
+        self.heads[p] = head_of(head.frame, start, whole, head.last);
     }
 
     /// Opens a page with these entries behind all.
@@ -246,8 +289,10 @@ impl<T: Copy, S: Summary<T>, A: Allocator> Shelf<T, S, A> {
         let head = self.heads[p];
         let next = p + 1;
         self.open(next, head.last);
+        self.move_to(next, QUARTER);
         self.copy(p, HALF, FULL, next, 0);
-        self.copy(p, 0, 0, p, HALF);
+        self.keep(p, 0, HALF);
+        self.move_to(p, QUARTER);
         next
     }
 
@@ -275,7 +320,7 @@ impl<T: Copy, S: Summary<T>, A: Allocator> Shelf<T, S, A> {
     {
         let len = self.len_of(next);
         self.copy(next, 0, n, p, self.len_of(p));
-        self.copy(next, n, len, next, 0);
+        self.keep(next, n, len);
     }
 
     /// Memory for so many pages in all.
@@ -297,10 +342,23 @@ impl<T: Copy, S: Summary<T>, A: Allocator> Shelf<T, S, A> {
     }
 }
 
-/// The head of a page in a frame of that number.
-fn head_of<T: Copy, S: Summary<T>>(frame: usize, items: &[T], otherwise: T) -> Head<T, S>
+/// Where in its frame a page begins that is opened before page p of so many: one before all others is to grow to the left.
+fn first_start(p: usize, pages: usize) -> usize
+    ensures { result < 256 }
+{
+    if p == 0 && pages > 0 { FULL - 1 } else { 0 }
+}
+
+/// The head of a page in a frame of that number, from that place on.
+fn head_of<T: Copy, S: Summary<T>>(
+    frame: usize,
+    start: usize,
+    items: &[T],
+    otherwise: T,
+) -> Head<T, S>
     requires { length items.now ≤ 256 }
     ensures frame { result.frame ≡ frame }
+    ensures start { result.start ≡ start }
     ensures len { result.len ≡ length items.now }
     ensures sums_up { S.sums_up result.summary items.now }
     ensures last { 0 < length items.now → result.last ≡ slice_index_or items.now (length items.now - 1) result.last }
@@ -308,6 +366,7 @@ fn head_of<T: Copy, S: Summary<T>>(frame: usize, items: &[T], otherwise: T) -> H
     let n = items.len();
     Head {
         frame,
+        start,
         len: n,
         last: if n == 0 { otherwise } else { items[n - 1] },
         summary: S::of(items),

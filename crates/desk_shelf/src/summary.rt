@@ -6,6 +6,8 @@ ghost use Rattle.std.specs.List.{insert};
 pub const FULL: usize = 256;
 /// The fewest of a page that is neither first nor last.
 pub const HALF: usize = 128;
+/// What is free on either side of a page that was cut.
+pub const QUARTER: usize = 64;
 
 /// What is kept of each page, so that a search can pass it by.
 pub trait Summary<T: Copy>: Copy {

@@ -1,4 +1,4 @@
-use Rattle.std.proofs.Common.{◌-◌, take}
+use Rattle.std.proofs.Common.{◌-◌, take, drop}
 use Rattle.std.specs.List.{remove}
 use Rattle.desk_shelf.proofs.Frames.{written, written-others}
 use Rattle.desk_shelf.proofs.frame.take.Goals as goal
@@ -7,7 +7,7 @@ pub returns-clause-rest : goal.returns-clause-rest
 returns-clause-rest g c =
     let cells = c.args.cells.now in
     written cells.items c.args.f cells.len c.slice_mut.result.now c.take_in.new.frame
-    (λ z. take (c.args.n - 1) z) (λ z. remove (take c.args.n z) c.args.j)
+    (λ z. take (c.args.n - 1) (drop c.take_in.result z)) (λ z. remove (take c.args.n (drop c.args.s z)) c.args.j)
     cells.ok.0 c.requires.frame c.take_in.ensures.len c.slice_mut.ensures.value c.take_in.ensures.rest
 
 pub returns-clause-others : goal.returns-clause-others

@@ -20,8 +20,8 @@ items_of-requires-clause-few g c =
     let at = shelf-at g.S.Summary.sums_up s.cells.items s.heads.items s.free.items s.all c.args.self.now.pages c.args.p c.index-head.result.now v c.self.invariant.0 c.requires.within c.index-head.ensures in
     at.few
 
-pub take-requires-clause-few : goal.take-requires-clause-few
-take-requires-clause-few g c =
+pub take-start-requires-clause-few : goal.take-start-requires-clause-few
+take-start-requires-clause-few g c =
     let s = c.self.inside in
     let v = ap (λ (z : Shelved _). z.pages) c.self.view_is in
     let pages = c.args.self.now.pages in
@@ -52,9 +52,9 @@ invariant_of-self g c =
     let at = shelf-at g.S.Summary.sums_up s.cells.items s.heads.items s.free.items s.all c.args.self.now.pages c.args.p c.index-head.result.now v c.self.invariant.0 c.requires.within c.index-head.ensures in
     let read = rw c.deref-2.ensures.value at c.items_of-items.ensures.is in
     let y = c.items_of-items.result.now in
-    let put : y ≡ remove (get_or pages c.args.p []) c.args.j = read ∙ c.take.ensures.rest ∙ ap (λ (z : List _). remove z c.args.j) (sym at.page) in
-    let done = shelf-renew g.S.Summary.sums_up s.cells.items c.take.new.cells.items s.heads.items s.free.items s.all pages c.args.p (c.index-head.result.now.len - 1) c.index-head.result.now c.head_of.result y c.take.new.cells.items v c.self.invariant.0 c.requires.within c.index-head.ensures c.take.ensures.others refl read c.items_of-items.ensures.len (omega (arith, at.few)) c.head_of.ensures.frame c.head_of.ensures.len c.head_of.ensures.sums_up c.head_of.ensures.last in
-    (done.0, c.self.invariant.1, omega (arith, c.self.invariant.2, c.take.ensures.capacity), c.self.invariant.3)
+    let put : y ≡ remove (get_or pages c.args.p []) c.args.j = read ∙ c.take-start.ensures.rest ∙ ap (λ (z : List _). remove z c.args.j) (sym at.page) in
+    let done = shelf-renew g.S.Summary.sums_up s.cells.items c.take-start.new.cells.items s.heads.items s.free.items s.all pages c.args.p c.take-start.result (c.index-head.result.now.len - 1) c.index-head.result.now c.head_of.result y c.take-start.new.cells.items v c.self.invariant.0 c.requires.within c.index-head.ensures c.take-start.ensures.others refl read c.items_of-items.ensures.len c.take-start.ensures.few c.head_of.ensures.frame c.head_of.ensures.start c.head_of.ensures.len c.head_of.ensures.sums_up c.head_of.ensures.last in
+    (done.0, c.self.invariant.1, omega (arith, c.self.invariant.2, c.take-start.ensures.capacity), c.self.invariant.3)
 
 pub returns-clause-rest : goal.returns-clause-rest
 returns-clause-rest g c =
@@ -64,8 +64,8 @@ returns-clause-rest g c =
     let at = shelf-at g.S.Summary.sums_up s.cells.items s.heads.items s.free.items s.all c.args.self.now.pages c.args.p c.index-head.result.now v c.self.invariant.0 c.requires.within c.index-head.ensures in
     let read = rw c.deref-2.ensures.value at c.items_of-items.ensures.is in
     let y = c.items_of-items.result.now in
-    let put : y ≡ remove (get_or pages c.args.p []) c.args.j = read ∙ c.take.ensures.rest ∙ ap (λ (z : List _). remove z c.args.j) (sym at.page) in
-    let done = shelf-renew g.S.Summary.sums_up s.cells.items c.take.new.cells.items s.heads.items s.free.items s.all pages c.args.p (c.index-head.result.now.len - 1) c.index-head.result.now c.head_of.result y c.take.new.cells.items v c.self.invariant.0 c.requires.within c.index-head.ensures c.take.ensures.others refl read c.items_of-items.ensures.len (omega (arith, at.few)) c.head_of.ensures.frame c.head_of.ensures.len c.head_of.ensures.sums_up c.head_of.ensures.last in
+    let put : y ≡ remove (get_or pages c.args.p []) c.args.j = read ∙ c.take-start.ensures.rest ∙ ap (λ (z : List _). remove z c.args.j) (sym at.page) in
+    let done = shelf-renew g.S.Summary.sums_up s.cells.items c.take-start.new.cells.items s.heads.items s.free.items s.all pages c.args.p c.take-start.result (c.index-head.result.now.len - 1) c.index-head.result.now c.head_of.result y c.take-start.new.cells.items v c.self.invariant.0 c.requires.within c.index-head.ensures c.take-start.ensures.others refl read c.items_of-items.ensures.len c.take-start.ensures.few c.head_of.ensures.frame c.head_of.ensures.start c.head_of.ensures.len c.head_of.ensures.sums_up c.head_of.ensures.last in
     done.1 ∙ ap (λ (z : List _). set pages c.args.p z) put
 
 pub returns-clause-out : goal.returns-clause-out
