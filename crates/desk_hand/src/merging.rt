@@ -97,7 +97,9 @@ fn join_files<F: Files, A: Allocator + Copy>(
 {
     let mut out = String::new(alloc);
     for at in 0..names.len() {
-        join_file(alloc, replica, &mut out, files, names[at]).map_err(|why| (at, why))?;
+        if let Err(why) = join_file(alloc, replica, &mut out, files, names[at]) {
+            return Err((at, why));
+        }
     }
     Ok(out)
 }
