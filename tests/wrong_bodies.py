@@ -1,20 +1,24 @@
 #!/usr/bin/env python3
 """Tries wrong bodies, many in one check: the prover must refuse each at its own function.
 
-usage: wrong_bodies.py [--built] [--named] [--anew] [CRATE ..]    of every crate that has some, or of those named
+usage: wrong_bodies.py [--built] [--named] [--anew] [--copies] [CRATE ..]    of every crate that has some, or of those named
 
 A wrong body is a bug written into a function on purpose, a file as of must-fail. A check reads a crate and all that it stands
-on before it looks at a goal, and a caller knows of a function what its contract says and no more. So wrong bodies of different
-functions are put into one copy of their crate, and only these functions are checked, with those that they call: each must have
-a goal of its own that is not proved, and not only a callee that is not. Those of which only names of goals are gone, so that an
-answer has none, are named at the end. One that this does not show is tried again alone, the whole crate by the rule of
-`rt must-fail`: the prover reads the text, and does not prove it.
+on before it looks at a goal, and a caller knows of a function what its contract says and no more. So many wrong bodies are put
+into one copy of their crate, and only their functions are checked, with those that they call: each must have a goal of its own
+that is not proved, and not only a callee that is not. Of several wrong bodies of one function the first stands in its place, and
+each other in a copy of the function, with its contract and its proof, right behind it. A method of a trait has no such copy: two
+of its wrong bodies take two checks. Where a change is in no function, as of a constant or a law, a line `only: PATH ..` names
+functions of which one must have such a goal; it is tried alone. Those of which only names of goals are gone, so that an answer
+has none, are named at the end. One that this does not show is tried again alone, the whole crate by the rule of `rt must-fail`:
+the prover reads the text, and does not prove it.
 
 `rt ci` tries those of `crates/NAME/must-fail`, and this those of `crates/NAME/wrong-bodies`; with --named both.
 With --built the libraries are those that `rt ci` has just proved in this tree, as in the gate; else those that are not built,
 or have changed since, are proved first. Lanes: RT_JOBS, or one for each processor as far as there are 4.5 GB for each.
 What was refused is kept beside the kit, on this machine alone, by the sum of all that the try read (the kit, the crate and
 those below it, the wrong body and this page), as `rt ci` keeps what it proved: a later run tries what changed. --anew tries all.
+--copies tries the tool itself, and not in the gate: each function that has a wrong body is copied as it is, and must be proved.
 It ends with status 0 where each was refused, else with those that were not. The last line is 'N passed, M failed'.
 """
 import concurrent.futures
@@ -35,6 +39,8 @@ ROOT = pathlib.Path(__file__).resolve().parent.parent
 APART, NAMED = "wrong-bodies", "must-fail"
 FN = re.compile(r"^( *)(?:pub(?:\([^)]*\))? )?(?:const )?(?:unsafe )?fn (\w+)", re.M)
 OWNER = re.compile(r"^(?:impl|(?:pub )?trait)\b([^{;]*)", re.M)
+# How the name of a function's copy ends, before its number.
+AGAIN = "_once_more_"
 # What a check says of a function where its own goals, and not only its callees, are what is lacking: a goal that is not
 # proved, or an answer of its own that is refused (then an error stands in the folder of its proof).
 OWN = re.compile(r"no proof: expected|not proved$")
@@ -78,36 +84,91 @@ def pairs_of(text):
     return out
 
 
-def ends(text, found):
-    """The place behind a function that begins there, as rustfmt lays it out."""
-    close = re.compile(r"^%s(?:\}|\{\}$)" % found[1], re.M)
-    end = close.search(text, found.end())
-    return end.end() if end else len(text)
+class Function:
+    """A function of a crate's source file: the path that `--only` takes, how its line in a check begins, and where it stands."""
+
+    def __init__(self, file, text, found):
+        self.file, self.name, self.start, self.end = file, found[2], self.first_line(text, found.start()), self.close(text, found)
+        self.path, self.shape, self.folder, self.is_method = None, None, None, bool(found[1])
+        module = file[len("src/") : -len(".rt")]
+        outer = [] if module == "lib" else module.split("/")
+        if not found[1]:
+            self.path = "::".join([*outer, self.name])
+            self.shape, self.folder = re.escape(self.path), [*outer, self.name]
+            return
+        owner = [it for it in OWNER.finditer(text) if it.start() <= found.start()]
+        if not owner:
+            return
+        said = re.sub(r"^\s*<[^<>]*(?:<[^<>]*>[^<>]*)*>", "", owner[-1][1])
+        if re.match(r"(?:pub )?trait\b", owner[-1][0]):
+            kind = re.match(r"\s*(\w+)", said)[1]
+            self.path = kind + "::" + self.name
+            self.shape = r"(?:\w+::)*%s::%s" % (re.escape(kind), re.escape(self.name))
+            return
+        trait, _, kind = said.rpartition(" for ")
+        kind = re.sub(r"<.*", "", kind, flags=re.S).strip().split("::")[-1].strip()
+        if not trait:
+            self.path = kind + "::" + self.name
+            self.shape, self.folder = r"(?:\w+::)*%s::%s" % (re.escape(kind), re.escape(self.name)), [*outer, kind, self.name]
+            return
+        # (rattle's name of an `impl Trait<A, ()> for Type` is TypeTraitAUnit)
+        plain, _, rest = trait.partition("<")
+        plain = plain.strip().split("::")[-1]
+        self.path = kind + plain + "".join(re.findall(r"\w+", rest.replace("()", "Unit"))) + "::" + self.name
+        self.shape = r"(?:\w+::)*%s%s\w*::%s" % (re.escape(kind), re.escape(plain), re.escape(self.name))
+
+    @staticmethod
+    def close(text, found):
+        """The place behind a function that begins there, as rustfmt lays it out."""
+        close = re.compile(r"^%s(?:\}|\{\}$)" % found[1], re.M)
+        end = close.search(text, found.end())
+        return end.end() if end else len(text)
+
+    @staticmethod
+    def first_line(text, place):
+        """Where what is written above a function begins: its attributes and its doc."""
+        start = place
+        while start:
+            before = text.rfind("\n", 0, start - 1) + 1
+            line = text[before:start].strip()
+            if line == ")]":
+                before = text.rfind("\n", 0, text.rfind("#[", 0, start)) + 1
+            elif not line.startswith(("///", "#[")):
+                break
+            start = before
+        return start
+
+    def may_stand_twice(self, text):
+        """Whether a copy of it is proved as it is: it is no method of a trait, and does not call itself."""
+        if self.folder is None:
+            return False
+        head = r"\b(?:self\.|Self::)" if self.is_method else r"(?<![\w.:])"
+        code = re.sub(r"^\s*//.*", "", text[self.start : self.end], flags=re.M)
+        return len(re.findall(r"(?<!fn )%s%s(?:::<|\()" % (head, self.name), code)) == 0
+
+    def named(self, number):
+        """The path and the shape of its copy of that number; of the first, which is the function itself, its own."""
+        last = AGAIN + str(number) if number > 1 else ""
+        return self.path + last, self.shape + last
+
+    def copied_proof(self, room, number):
+        """Writes into the folder of a crate the proof of its copy of that number."""
+        source = pathlib.Path(room, "proofs", *self.folder)
+        name = self.name + AGAIN + str(number)
+        own = re.compile(r"(\.proofs\.%s)\b(?!\w)" % re.escape(".".join(self.folder)))
+        for path in sorted(source.rglob("*.antt")):
+            target = source.with_name(name) / path.relative_to(source)
+            target.parent.mkdir(parents=True, exist_ok=True)
+            target.write_text(own.sub(lambda it: it[1] + AGAIN + str(number), path.read_text(encoding="utf-8")), encoding="utf-8")
 
 
 def function_at(file, text, place):
-    """The function that a place of a file is in: the path that `--only` takes, and how its line in a check begins; or none."""
-    found = [it for it in FN.finditer(text) if it.start() <= place < ends(text, it)]
-    module = file[len("src/"):-len(".rt")].replace("/", "::")
-    if not found or not file.startswith("src/"):
+    """The function that a place of a file is in, or none."""
+    if not file.startswith("src/"):
         return None
-    name = found[-1][2]
-    if not found[-1][1]:
-        path = name if module == "lib" else module + "::" + name
-        return path, re.escape(path)
-    owner = [it for it in OWNER.finditer(text) if it.start() <= found[-1].start()]
-    if not owner or re.match(r"(?:pub )?trait\b", owner[-1][0]):
-        return None
-    said = re.sub(r"^\s*<[^<>]*(?:<[^<>]*>[^<>]*)*>", "", owner[-1][1])
-    trait, _, kind = said.rpartition(" for ")
-    kind = re.sub(r"<.*", "", kind, flags=re.S).strip().split("::")[-1].strip()
-    if not trait:
-        return kind + "::" + name, r"(?:\w+::)*%s::%s" % (re.escape(kind), re.escape(name))
-    # (rattle's name of an `impl Trait<A, ()> for Type` is TypeTraitAUnit)
-    plain, _, rest = trait.partition("<")
-    plain = plain.strip().split("::")[-1]
-    path = kind + plain + "".join(re.findall(r"\w+", rest.replace("()", "Unit"))) + "::" + name
-    return path, r"(?:\w+::)*%s%s\w*::%s" % (re.escape(kind), re.escape(plain), re.escape(name))
+    found = [it for it in FN.finditer(text) if it.start() <= place < Function.close(text, it)]
+    made = Function(file, text, found[-1]) if found else None
+    return made if made and made.path else None
 
 
 class Refused:
@@ -160,16 +221,37 @@ class Wrong:
         self.name = "%s/%s" % (crate.name, path.stem)
         self.text = path.read_bytes()
         self.pairs = pairs_of(self.text.decode("utf-8"))
-        self.functions, self.bad = set(), None if self.pairs else "it has no 'old:' and 'new:' pair"
-        self.by_name = False
+        self.bad = None if self.pairs else "it has no 'old:' and 'new:' pair"
+        # (the number of the copy of its function in which it stands, or 1 where it stands in the function itself)
+        self.places, self.functions, self.number, self.by_name = {}, set(), 1, False
         for file, old, _ in self.pairs:
             text = pathlib.Path(crate.folder, file).read_text(encoding="utf-8")
             if text.count(old) != 1:
                 self.bad = "its old text stands in %s %d times" % (file, text.count(old))
                 return
-            self.functions.add(function_at(file, text, text.find(old)))
-        if None in self.functions:
-            self.functions = set()
+            found = function_at(file, text, text.find(old))
+            self.places[found.path if found else None] = found
+        self.apart = None in self.places
+        named = re.findall(r"^only: (.*)", self.text.decode("utf-8"), re.M)
+        if named:
+            self.apart = True
+            self.functions = {(it, r"(?:\w+::)*" + re.escape(it)) for it in " ".join(named).split()}
+        elif not self.apart:
+            self.functions = {it.named(1) for it in self.places.values()}
+        text = pathlib.Path(crate.folder, self.pairs[0][0]).read_text(encoding="utf-8") if self.pairs else ""
+        self.movable = not self.apart and len(self.places) == 1 and next(iter(self.places.values())).may_stand_twice(text)
+
+    def put_at(self, number):
+        """Lets it stand in the copy of its function of that number."""
+        self.number = number
+        if not self.apart:
+            self.functions = {it.named(number) for it in self.places.values()}
+
+    def changed(self, text):
+        """The text of a file, or of a part of it, with what it changes there."""
+        for _, old, new in self.pairs:
+            text = text.replace(old, new)
+        return text
 
     def is_refused(self, crate, lines):
         """Whether one of its functions has a goal of its own that is not proved; `by_name` where only names of goals are gone."""
@@ -199,16 +281,47 @@ def messages(lines):
 
 
 def groups_of(wrongs):
-    """The wrong bodies in as few groups as the first place gives, of which none has two of one function."""
+    """The wrong bodies in as few groups as the first place gives, and where in its group each stands."""
     out = []
-    for wrong in wrongs:
+    for wrong in sorted(wrongs, key=lambda it: it.movable):
         for group in out:
-            if not any(wrong.functions & it.functions for it in group):
+            if not wrong.apart and (wrong.movable or not any(wrong.places.keys() & it.places.keys() for it in group)) and not group[0].apart:
                 group.append(wrong)
                 break
         else:
             out.append([wrong])
+    for group in out:
+        numbers = {}
+        for wrong in group:
+            for path in wrong.places:
+                numbers[path] = numbers.get(path, 0) + 1
+            wrong.put_at(max(numbers[path] for path in wrong.places) if wrong.movable else 1)
     return out
+
+
+def write_changed(crate, room, wrongs):
+    """Puts the wrong bodies of a group into a copy of the crate: each in its function, or in a copy of it."""
+    parts = {}
+    for wrong in wrongs:
+        if wrong.apart:
+            for file in {file for file, _, _ in wrong.pairs}:
+                path = pathlib.Path(room, file)
+                path.write_text(wrong.changed(path.read_text(encoding="utf-8")), encoding="utf-8")
+            return
+        for place in wrong.places.values():
+            parts.setdefault(place.file, {}).setdefault((place.start, place.end), []).append((place, wrong))
+    for file, places in parts.items():
+        text = pathlib.Path(crate.folder, file).read_text(encoding="utf-8")
+        for (start, end), found in sorted(places.items(), reverse=True):
+            own, copies = text[start:end], []
+            for place, wrong in found:
+                if wrong.number == 1:
+                    own = wrong.changed(text[start:end])
+                    continue
+                copies.append(re.sub(r"\bfn %s\b" % place.name, "fn %s%s%d" % (place.name, AGAIN, wrong.number), wrong.changed(text[start:end])))
+                place.copied_proof(room, wrong.number)
+            text = text[:start] + "\n\n".join([own, *copies]) + text[end:]
+        pathlib.Path(room, file).write_text(text, encoding="utf-8")
 
 
 def checked(rtlib, crate, wrongs, kept, only):
@@ -217,10 +330,7 @@ def checked(rtlib, crate, wrongs, kept, only):
         for part in rtlib.PARTS:
             if os.path.isdir("%s/%s" % (crate.folder, part)):
                 shutil.copytree("%s/%s" % (crate.folder, part), "%s/%s" % (room, part))
-        for wrong in wrongs:
-            for file, old, new in wrong.pairs:
-                path = pathlib.Path(room, file)
-                path.write_text(path.read_text(encoding="utf-8").replace(old, new), encoding="utf-8")
+        write_changed(crate, room, wrongs)
         words = [rtlib.RATTLE, "check", *crate.words(["--jobs", "1"], keeps=False), "--incremental", kept]
         for it in sorted(only):
             words += ["--only", it]
@@ -231,6 +341,7 @@ def checked(rtlib, crate, wrongs, kept, only):
 
 def refused_alone(rtlib, crate, wrong, kept):
     """Whether the prover refuses the crate with this wrong body, by the rule of `rt must-fail`; and what it said."""
+    wrong.put_at(1)
     lines, status = checked(rtlib, crate, [wrong], kept, set())
     for it in lines:
         at = re.match(r"(?:\./)?(\S+?):\d+:\d+: error: (?:(`[^`]*`): )?(.*)", it)
@@ -259,7 +370,7 @@ def tried(rtlib, crate, wrongs, refused):
                 checks += 1
             if len(group) > 1 and not any(it.startswith("fn ") for it in lines):
                 # (one of them is none, and the text was not read)
-                groups += [group[: len(group) // 2], group[len(group) // 2 :]]
+                groups += groups_of(group[: len(group) // 2]) + groups_of(group[len(group) // 2 :])
                 continue
             alone += [it for it in group if not it.is_refused(crate, lines)]
         for it in alone + [it for it in wrongs if not it.functions]:
@@ -276,6 +387,24 @@ def tried(rtlib, crate, wrongs, refused):
     return faults, checks, len(keys) - len(wrongs), [it.name for it in wrongs if it.by_name and it.name not in lost]
 
 
+def copied(rtlib, crate, wrongs):
+    """Of each function with a wrong body that may stand in a copy: what a check says of a copy of it as it is, where that is not
+    that it is proved; and how many were tried."""
+    whole = {path: wrong for wrong in wrongs if not wrong.bad and wrong.movable for path in wrong.places}
+    for wrong in whole.values():
+        wrong.pairs = []
+        wrong.put_at(2)
+    with tempfile.TemporaryDirectory(prefix="rt-edits-") as kept:
+        lines, _ = checked(rtlib, crate, list(whole.values()), kept, {path for it in whole.values() for path, _ in it.functions})
+    found = []
+    for wrong in whole.values():
+        for path, shape in wrong.functions:
+            told = [it for it in lines if re.match(r"fn %s::(%s): proved$" % (crate.name, shape), it)]
+            if len(told) != 1:
+                found.append(("%s/%s" % (crate.name, path), "its copy is not proved"))
+    return found, len(whole)
+
+
 def lanes():
     """How many checks run side by side."""
     number = os.environ.get("RT_JOBS", "")
@@ -288,7 +417,7 @@ def lanes():
 
 def main(words):
     flags, names = {it for it in words if it.startswith("--")}, [it for it in words if not it.startswith("--")]
-    if flags - {"--built", "--named", "--anew"}:
+    if flags - {"--built", "--named", "--anew", "--copies"}:
         print(__doc__, file=sys.stderr)
         return 2
     os.chdir(ROOT)
@@ -313,6 +442,13 @@ def main(words):
     # (the dearest first, so that no lane is left alone with one at the end)
     work.sort(key=lambda it: -it[0].count(rb"\n"))
     with concurrent.futures.ThreadPoolExecutor(lanes()) as pool:
+        if "--copies" in flags:
+            for bad, number in pool.map(lambda it: copied(rtlib, *it), work):
+                count, faults = count + number, faults + bad
+            for name, why in faults:
+                print("%s: %s" % (name, why))
+            print("%d passed, %d failed" % (count - len(faults), len(faults)))
+            return 1 if faults else 0
         given = {pool.submit(tried, rtlib, crate, wrongs, refused): (crate, wrongs) for crate, wrongs in work}
         for it in concurrent.futures.as_completed(given):
             crate, wrongs = given[it]

@@ -1,7 +1,5 @@
-//! The tests of desk_host and desk_program.
+//! The tests of desk_program.
 #![tactic(auto)]
 
-#[cfg(test)]
-mod host;
 #[cfg(test)]
 mod program;

@@ -58,9 +58,58 @@ fn tried_on<F: Files + Explains>(
     ))
 }
 
-/// The same, with no files.
-fn tried(alloc: Global, line: &str, input: &[u8]) -> Result<Outcome, AllocError> {
-    tried_on(alloc, line, input, &mut NoFiles)
+/// Whether a run ended with this status, and this was written and said.
+fn ended(got: &Outcome, status: u8, written: &[u8], reported: &[u8]) -> bool {
+    got.status == status && got.written.written() == written && got.faults.written() == reported
+}
+
+/// Whether a run on the words of a line, with a reader and a writer that do not fail, ends so.
+fn ends<F: Files + Explains>(
+    alloc: Global,
+    files: &mut F,
+    line: &str,
+    input: &[u8],
+    status: u8,
+    written: &[u8],
+    reported: &[u8],
+) -> bool {
+    match tried_on(alloc, line, input, files) {
+        Ok(got) => ended(&got, status, written, reported),
+        Err(_) => false,
+    }
+}
+
+/// Whether a script stops so, with a reader that may fail and a writer that fails where its room ends.
+fn script_ends(
+    alloc: Global,
+    reader: TrialReader<'_>,
+    room: Option<usize>,
+    written: &[u8],
+    reported: &[u8],
+) -> bool {
+    let Ok(words) = words(alloc, "script") else {
+        return false;
+    };
+    let writer = match room {
+        Some(room) => TrialWriter::new(alloc).with_room(room, AtEnd::Fails),
+        None => TrialWriter::new(alloc),
+    };
+    let got = attempt(alloc, &words, reader, writer, &mut NoFiles);
+    ended(&got, 1, written, reported)
+}
+
+/// One file with these bytes.
+fn one_file(alloc: Global, name: &str, bytes: &[u8]) -> Result<TrialFiles<Global>, AllocError> {
+    let mut files = TrialFiles::new(alloc);
+    files.put(name, bytes)?;
+    Ok(files)
+}
+
+/// Two stored feeds.
+fn two_feeds(alloc: Global, a: &[u8], b: &[u8]) -> Result<TrialFiles<Global>, AllocError> {
+    let mut files = one_file(alloc, "a.feed", a)?;
+    files.put("b.feed", b)?;
+    Ok(files)
 }
 
 const TWO_SITES: &[u8] = b"site 1\nsite 2\ninsert 1 0 r\"ab\"\nsend 1 2\nshow 1\nshow 2\nfeed 2\n";
@@ -69,12 +118,9 @@ const TWO_SITES_ANSWERS: &[u8] =
     b"ok\nok\nok 1.1..2.1\nok new 2 known 0\ncopy r\"ab\"\ncopy r\"ab\"\nfeed 4d4644320400000000000000010001000000000000000000000200000000610000000062\n";
 
 #[test]
-fn two_sites_show_ab(rt: HostRuntime) -> Result<(), Fail> {
-    let got = tried(rt.alloc(), "script", TWO_SITES)?;
-    assert_eq!(rt; got.status, 0);
-    assert_eq!(rt; got.written.written(), TWO_SITES_ANSWERS);
-    assert_eq!(rt; got.faults.written(), b"".as_slice());
-    Ok(())
+fn two_sites_show_ab(rt: HostRuntime) {
+    let want = TWO_SITES_ANSWERS;
+    assert!(rt; ends(rt.alloc(), &mut NoFiles, "script", TWO_SITES, 0, want, b""));
 }
 
 /// Refused words have the status 2; something is said of them, and nothing is written.
@@ -83,16 +129,24 @@ fn is_refused(got: &Outcome) -> bool {
 }
 
 /// Whether the words of a line are refused.
-fn refuses(alloc: Global, line: &str) -> Result<bool, AllocError> {
-    Ok(is_refused(&tried(alloc, line, TWO_SITES)?))
+fn refuses(alloc: Global, line: &str) -> bool {
+    match tried_on(alloc, line, TWO_SITES, &mut NoFiles) {
+        Ok(got) => is_refused(&got),
+        Err(_) => false,
+    }
+}
+
+/// Whether no words are refused.
+fn refuses_none(alloc: Global) -> bool {
+    let none = Vec::new(alloc);
+    let reader = TrialReader::new(TWO_SITES);
+    let writer = TrialWriter::new(alloc);
+    is_refused(&attempt(alloc, &none, reader, writer, &mut NoFiles))
 }
 
 #[test]
-fn refused_words(rt: HostRuntime) -> Result<(), Fail> {
-    let none = Vec::new(rt.alloc());
-    let reader = TrialReader::new(TWO_SITES);
-    let writer = TrialWriter::new(rt.alloc());
-    assert!(rt; is_refused(&attempt(rt.alloc(), &none, reader, writer, &mut NoFiles)));
+fn refused_words(rt: HostRuntime) {
+    assert!(rt; refuses_none(rt.alloc()));
     for &line in &[
         "jump",
         "script script",
@@ -102,6 +156,7 @@ fn refused_words(rt: HostRuntime) -> Result<(), Fail> {
         "desk --site 3",
         "desk a.feed --site 65536",
         "desk a.feed --site x",
+        "desk a.feed --site 0",
         "desk a.feed --site 3 --site 3",
         "merge a.feed",
         "export",
@@ -113,23 +168,22 @@ fn refused_words(rt: HostRuntime) -> Result<(), Fail> {
         "diff a.feed",
         "punch a.feed --case c --wedge w",
     ] {
-        assert!(rt; refuses(rt.alloc(), line)?, "{line}");
+        assert!(rt; refuses(rt.alloc(), line), "{line}");
     }
-    Ok(())
 }
 
-/// Help has the status 0 and is written; nothing is said of faults.
-fn is_help(got: &Outcome) -> bool {
-    got.status == 0 && !got.written.written().is_empty() && got.faults.written().is_empty()
-}
-
-/// Whether the words of a line get help.
-fn helps(alloc: Global, line: &str) -> Result<bool, AllocError> {
-    Ok(is_help(&tried(alloc, line, b"")?))
+/// Whether the words of a line get help, or the version: the status is 0, and nothing is said of faults.
+fn helps(alloc: Global, line: &str) -> bool {
+    match tried_on(alloc, line, b"", &mut NoFiles) {
+        Ok(got) => {
+            got.status == 0 && !got.written.written().is_empty() && got.faults.written().is_empty()
+        }
+        Err(_) => false,
+    }
 }
 
 #[test]
-fn help_is_written(rt: HostRuntime) -> Result<(), Fail> {
+fn help_is_written(rt: HostRuntime) {
     for &line in &[
         "help",
         "--help",
@@ -137,64 +191,57 @@ fn help_is_written(rt: HostRuntime) -> Result<(), Fail> {
         "help desk",
         "merge --help",
     ] {
-        assert!(rt; helps(rt.alloc(), line)?, "{line}");
+        assert!(rt; helps(rt.alloc(), line), "{line}");
     }
-    let version = tried(rt.alloc(), "--version", b"")?;
-    assert!(rt; is_help(&version));
-    assert_eq!(rt; version.written.written(), b"copydesk 0.2.0\n".as_slice());
-    Ok(())
+    let version = b"copydesk 0.2.0\n";
+    assert!(rt; ends(rt.alloc(), &mut NoFiles, "--version", b"", 0, version, b""));
 }
 
 #[test]
-fn failing_writer(rt: HostRuntime) -> Result<(), Fail> {
-    let words = words(rt.alloc(), "script")?;
+fn failing_writer(rt: HostRuntime) {
     let reader = TrialReader::new(b"site 1\nsite 2\n");
-    let writer = TrialWriter::new(rt.alloc()).with_room(5, AtEnd::Fails);
-    let got = attempt(rt.alloc(), &words, reader, writer, &mut NoFiles);
-    assert_eq!(rt; got.status, 1);
-    assert_eq!(rt; got.written.written(), b"ok\nok".as_slice());
-    assert_eq!(rt; got.faults.written(), b"copydesk: write fault\n".as_slice());
-    Ok(())
+    assert!(rt;
+        script_ends(
+            rt.alloc(),
+            reader,
+            Some(5),
+            b"ok\nok",
+            b"copydesk: write fault\n"
+        )
+    );
 }
 
 #[test]
-fn failing_reader(rt: HostRuntime) -> Result<(), Fail> {
-    let words = words(rt.alloc(), "script")?;
+fn failing_reader(rt: HostRuntime) {
     let reader = TrialReader::new(b"site 1\nsite 2\n")
         .in_steps_of(7)
         .failing_at_call(2);
-    let writer = TrialWriter::new(rt.alloc());
-    let got = attempt(rt.alloc(), &words, reader, writer, &mut NoFiles);
-    assert_eq!(rt; got.status, 1);
-    assert_eq!(rt; got.written.written(), b"ok\n".as_slice());
-    assert_eq!(rt; got.faults.written(), b"copydesk: read fault\n".as_slice());
-    Ok(())
+    assert!(rt; script_ends(rt.alloc(), reader, None, b"ok\n", b"copydesk: read fault\n"));
 }
 
 #[test]
 fn feeds_are_compared(rt: HostRuntime) -> Result<(), Fail> {
-    let mut files = TrialFiles::new(rt.alloc());
-    files.put("a.feed", ONE_INSERT)?;
-    files.put("b.feed", ONE_INSERT)?;
-    let got = tried_on(rt.alloc(), "diff a.feed b.feed", b"", &mut files)?;
-    assert_eq!(rt; got.status, 0);
-    assert_eq!(rt;
-        got.written.written(),
-        b"a.feed alone none\nb.feed alone none\n".as_slice()
-    );
-    files.put("b.feed", b"MFD2")?;
-    let got = tried_on(rt.alloc(), "diff a.feed b.feed", b"", &mut files)?;
-    assert_eq!(rt; got.status, 1);
-    assert_eq!(rt;
-        got.written.written(),
-        b"a.feed alone 3: 1\nb.feed alone none\n- 0 x\n+ 0\n".as_slice()
-    );
-    assert_eq!(rt; got.faults.written(), b"".as_slice());
-    let got = tried_on(rt.alloc(), "diff a.feed none.feed", b"", &mut files)?;
-    assert_eq!(rt; got.status, 1);
-    assert_eq!(rt; got.written.written(), b"".as_slice());
-    assert!(rt; got.faults.written().starts_with(b"copydesk: file fault\n"));
+    let mut files = two_feeds(rt.alloc(), ONE_INSERT, ONE_INSERT)?;
+    let line = "diff a.feed b.feed";
+    let same = b"a.feed alone none\nb.feed alone none\n";
+    assert!(rt; ends(rt.alloc(), &mut files, line, b"", 0, same, b""));
+    let mut files = two_feeds(rt.alloc(), ONE_INSERT, b"MFD2")?;
+    let other = b"a.feed alone 3: 1\nb.feed alone none\n- 0 x\n+ 0\n";
+    assert!(rt; ends(rt.alloc(), &mut files, line, b"", 1, other, b""));
+    assert!(rt; is_missing(rt.alloc(), &mut files, "diff a.feed none.feed"));
     Ok(())
+}
+
+/// Whether a run on the words of a line stops at a file, and writes nothing.
+fn is_missing<F: Files + Explains>(alloc: Global, files: &mut F, line: &str) -> bool {
+    match tried_on(alloc, line, b"", files) {
+        Ok(got) => {
+            got.status == 1
+                && got.written.written().is_empty()
+                && got.faults.written().starts_with(b"copydesk: file fault\n")
+        }
+        Err(_) => false,
+    }
 }
 
 /// One insert, 1.3.
@@ -206,107 +253,81 @@ const REFUSED_SHEET: &[u8] = b"site 1\n\n# a note\ninsert 1 9 r\"a\"\nshow 1\n";
 const SHEET: &[u8] = b"# a note\ninsert 3 0 r\"x\"\nshow 3\n";
 
 #[test]
-fn sheets_are_strict(rt: HostRuntime) -> Result<(), Fail> {
-    let got = tried(rt.alloc(), "script --strict", REFUSED_SHEET)?;
-    assert_eq!(rt; got.status, 1);
-    assert_eq!(rt; got.written.written(), b"ok\nrefused place\n".as_slice());
-    assert_eq!(rt;
-        got.faults.written(),
-        b"copydesk: line 4 refused\n".as_slice()
+fn sheets_are_strict(rt: HostRuntime) {
+    let strict = b"ok\nrefused place\n";
+    let line = "script --strict";
+    assert!(rt;
+        ends(
+            rt.alloc(),
+            &mut NoFiles,
+            line,
+            REFUSED_SHEET,
+            1,
+            strict,
+            b"copydesk: line 4 refused\n"
+        )
     );
-
-    let got = tried(rt.alloc(), "script --number", b"site 1\nshow 2\nshow 1\n")?;
-    assert_eq!(rt; got.status, 0);
-    assert_eq!(rt;
-        got.written.written(),
-        b"1 ok\n2 refused site\n3 copy\n".as_slice()
+    let input = b"site 1\nshow 2\nshow 1\n";
+    let numbered = b"1 ok\n2 refused site\n3 copy\n";
+    assert!(rt;
+        ends(
+            rt.alloc(),
+            &mut NoFiles,
+            "script --number",
+            input,
+            0,
+            numbered,
+            b""
+        )
     );
+}
 
+#[test]
+fn sheets_are_stored(rt: HostRuntime) {
     let mut files = TrialFiles::new(rt.alloc());
-    let got = tried_on(
-        rt.alloc(),
-        "desk a.feed --site 3 --strict --number",
-        SHEET,
-        &mut files,
-    )?;
-    assert_eq!(rt; got.status, 0);
-    assert_eq!(rt;
-        got.written.written(),
-        b"2 ok 1.3\n3 copy r\"x\"\n".as_slice()
-    );
+    let line = "desk a.feed --site 3 --strict --number";
+    let numbered = b"2 ok 1.3\n3 copy r\"x\"\n";
+    assert!(rt; ends(rt.alloc(), &mut files, line, SHEET, 0, numbered, b""));
     assert!(rt; files.holds("a.feed", ONE_INSERT));
-    Ok(())
 }
 
 #[test]
 fn stopped_sheets_store_nothing(rt: HostRuntime) -> Result<(), Fail> {
-    let mut files = TrialFiles::new(rt.alloc());
-    files.put("a.feed", ONE_INSERT)?;
+    let mut files = one_file(rt.alloc(), "a.feed", ONE_INSERT)?;
+    let line = "desk a.feed --site 3 --strict --why";
     let sheet = b"insert 3 1 r\"y\"\ndelete 3 7\n";
-    let got = tried_on(
-        rt.alloc(),
-        "desk a.feed --site 3 --strict --why",
-        sheet,
-        &mut files,
-    )?;
-    assert_eq!(rt; got.status, 1);
-    assert_eq!(rt;
-        got.written.written(),
-        b"ok 2.3\nrefused place\n".as_slice()
-    );
-    assert_eq!(rt;
-        got.faults.written(),
-        b"copydesk: line 2 refused\nstandard input: the answer to line 2 says why; a.feed is as it was\n".as_slice()
-    );
+    let answers = b"ok 2.3\nrefused place\n";
+    let reported =
+        b"copydesk: line 2 refused\nstandard input: the answer to line 2 says why; a.feed is as it was\n";
+    assert!(rt; ends(rt.alloc(), &mut files, line, sheet, 1, answers, reported));
     assert!(rt; files.holds("a.feed", ONE_INSERT));
     Ok(())
 }
 
 #[test]
-fn full_set_and_stored_feed(rt: HostRuntime) -> Result<(), Fail> {
-    assert!(rt; is_refused(&tried(rt.alloc(), "desk a.feed --site 0", b"site 1\n")?));
-    let none = Vec::new(rt.alloc());
-    let reader = TrialReader::new(b"site 1\n");
-    let writer = TrialWriter::new(rt.alloc());
-    assert!(rt; is_refused(&attempt(rt.alloc(), &none, reader, writer, &mut NoFiles)));
-
+fn full_set_and_stored_feed(rt: HostRuntime) {
     let mut files = TrialFiles::new(rt.alloc());
-    let got = tried_on(
-        rt.alloc(),
-        "desk a.feed --site 3",
-        b"insert 3 0 r\"x\"\n",
-        &mut files,
-    )?;
-    assert_eq!(rt; got.status, 0);
-    assert_eq!(rt; got.written.written(), b"ok 1.3\n".as_slice());
+    let line = "desk a.feed --site 3";
+    let insert = b"insert 3 0 r\"x\"\n";
+    assert!(rt; ends(rt.alloc(), &mut files, line, insert, 0, b"ok 1.3\n", b""));
     assert!(rt; files.holds("a.feed", ONE_INSERT));
     let mut files = files.for_next_run();
-    let got = tried_on(rt.alloc(), "desk a.feed --site=3", b"show 3\n", &mut files)?;
-    assert_eq!(rt; got.status, 0);
-    assert_eq!(rt; got.written.written(), b"copy r\"x\"\n".as_slice());
-    assert_eq!(rt; got.faults.written(), b"".as_slice());
-    Ok(())
+    let line = "desk a.feed --site=3";
+    let copy = b"copy r\"x\"\n";
+    assert!(rt; ends(rt.alloc(), &mut files, line, b"show 3\n", 0, copy, b""));
 }
 
 #[test]
 fn refused_stored_feed(rt: HostRuntime) -> Result<(), Fail> {
-    let mut files = TrialFiles::new(rt.alloc());
-    files.put("a.feed", b"MF")?;
-    let got = tried_on(rt.alloc(), "desk a.feed --site 3", b"show 3\n", &mut files)?;
-    assert_eq!(rt; got.status, 1);
-    assert_eq!(rt; got.written.written(), b"".as_slice());
-    assert_eq!(rt;
-        got.faults.written(),
-        b"copydesk: feed refused\n".as_slice()
-    );
+    let mut files = one_file(rt.alloc(), "a.feed", b"MF")?;
+    let line = "desk a.feed --site 3";
+    let reported = b"copydesk: feed refused\n";
+    assert!(rt; ends(rt.alloc(), &mut files, line, b"show 3\n", 1, b"", reported));
     assert!(rt; files.holds("a.feed", b"MF"));
     let mut files = files.for_next_run();
-    let got = tried_on(rt.alloc(), "desk a.feed --site 3 --why", b"", &mut files)?;
-    assert_eq!(rt; got.status, 1);
-    assert_eq!(rt;
-        got.faults.written(),
-        b"copydesk: feed refused\na.feed: byte 0: no feed begins so\n".as_slice()
-    );
+    let line = "desk a.feed --site 3 --why";
+    let reported = b"copydesk: feed refused\na.feed: byte 0: no feed begins so\n";
+    assert!(rt; ends(rt.alloc(), &mut files, line, b"", 1, b"", reported));
     Ok(())
 }
 
@@ -325,38 +346,48 @@ fn settings_feed(alloc: Global, count: u64) -> Result<Vec<u8>, AllocError> {
 #[test]
 fn too_many_stored(rt: HostRuntime) -> Result<(), Fail> {
     let feed = settings_feed(rt.alloc(), 1_048_577)?;
-    let mut files = TrialFiles::new(rt.alloc());
-    files.put("a.feed", &feed)?;
-    let got = tried_on(rt.alloc(), "desk a.feed --site 3", b"show 3\n", &mut files)?;
-    assert_eq!(rt; got.status, 1);
-    assert_eq!(rt; got.written.written(), b"".as_slice());
-    assert_eq!(rt; got.faults.written(), b"copydesk: not opened\n".as_slice());
+    let mut files = one_file(rt.alloc(), "a.feed", &feed)?;
+    let line = "desk a.feed --site 3";
+    let reported = b"copydesk: not opened\n";
+    assert!(rt; ends(rt.alloc(), &mut files, line, b"show 3\n", 1, b"", reported));
     assert!(rt; files.holds("a.feed", &feed));
     Ok(())
 }
 
 #[test]
-fn failing_files(rt: HostRuntime) -> Result<(), Fail> {
+fn failing_files(rt: HostRuntime) {
     let mut files = TrialFiles::new(rt.alloc()).failing_at_call(4);
-    let got = tried_on(rt.alloc(), "desk a.feed --site 3", b"show 3\n", &mut files)?;
-    assert_eq!(rt; got.status, 1);
-    assert_eq!(rt; got.written.written(), b"copy\n".as_slice());
-    assert_eq!(rt; got.faults.written(), b"copydesk: file fault\n".as_slice());
+    let line = "desk a.feed --site 3";
+    let reported = b"copydesk: file fault\n";
+    assert!(rt;
+        ends(
+            rt.alloc(),
+            &mut files,
+            line,
+            b"show 3\n",
+            1,
+            b"copy\n",
+            reported
+        )
+    );
     assert!(rt; files.bytes_of("a.feed").is_none());
-    Ok(())
+}
+
+/// Whether a desk whose writer fails after five bytes stops there.
+fn stops_in_answer<F: Files + Explains>(alloc: Global, files: &mut F) -> bool {
+    let Ok(words) = words(alloc, "desk a.feed --site 3") else {
+        return false;
+    };
+    let reader = TrialReader::new(b"insert 3 0 r\"y\"\nshow 3\n");
+    let writer = TrialWriter::new(alloc).with_room(5, AtEnd::Fails);
+    let got = attempt(alloc, &words, reader, writer, files);
+    ended(&got, 1, b"ok 2.", b"copydesk: write fault\n")
 }
 
 #[test]
 fn feed_stored_after_stopped_run(rt: HostRuntime) -> Result<(), Fail> {
-    let mut files = TrialFiles::new(rt.alloc());
-    files.put("a.feed", ONE_INSERT)?;
-    let words = words(rt.alloc(), "desk a.feed --site 3")?;
-    let reader = TrialReader::new(b"insert 3 0 r\"y\"\nshow 3\n");
-    let writer = TrialWriter::new(rt.alloc()).with_room(5, AtEnd::Fails);
-    let got = attempt(rt.alloc(), &words, reader, writer, &mut files);
-    assert_eq!(rt; got.status, 1);
-    assert_eq!(rt; got.written.written(), b"ok 2.".as_slice());
-    assert_eq!(rt; got.faults.written(), b"copydesk: write fault\n".as_slice());
+    let mut files = one_file(rt.alloc(), "a.feed", ONE_INSERT)?;
+    assert!(rt; stops_in_answer(rt.alloc(), &mut files));
     assert!(rt; files.holds("a.feed", ONE_INSERT));
     Ok(())
 }
@@ -370,16 +401,10 @@ const BOTH_INSERTS: &[u8] =
 
 #[test]
 fn feeds_are_merged(rt: HostRuntime) -> Result<(), Fail> {
-    let mut files = TrialFiles::new(rt.alloc());
-    files.put("a.feed", ONE_INSERT)?;
-    files.put("b.feed", ANOTHER_INSERT)?;
-    let got = tried_on(rt.alloc(), "merge a.feed b.feed a.feed", b"", &mut files)?;
-    assert_eq!(rt; got.status, 0);
-    assert_eq!(rt;
-        got.written.written(),
-        b"b.feed ok new 1 known 0\na.feed ok new 0 known 1\nfaults none\n".as_slice()
-    );
-    assert_eq!(rt; got.faults.written(), b"".as_slice());
+    let mut files = two_feeds(rt.alloc(), ONE_INSERT, ANOTHER_INSERT)?;
+    let line = "merge a.feed b.feed a.feed";
+    let lines = b"b.feed ok new 1 known 0\na.feed ok new 0 known 1\nfaults none\n";
+    assert!(rt; ends(rt.alloc(), &mut files, line, b"", 0, lines, b""));
     assert!(rt; files.holds("a.feed", BOTH_INSERTS));
     assert!(rt; files.holds("b.feed", ANOTHER_INSERT));
     Ok(())
@@ -387,83 +412,59 @@ fn feeds_are_merged(rt: HostRuntime) -> Result<(), Fail> {
 
 #[test]
 fn refused_merge(rt: HostRuntime) -> Result<(), Fail> {
-    let mut files = TrialFiles::new(rt.alloc());
-    files.put("a.feed", ONE_INSERT)?;
-    files.put("b.feed", b"MFD2\x09")?;
-    let got = tried_on(rt.alloc(), "merge a.feed a.feed b.feed", b"", &mut files)?;
-    assert_eq!(rt; got.status, 1);
-    assert_eq!(rt; got.written.written(), b"".as_slice());
-    assert_eq!(rt;
-        got.faults.written(),
-        b"copydesk: feed refused\nb.feed: byte 4: no such kind of operation\n".as_slice()
-    );
+    let mut files = two_feeds(rt.alloc(), ONE_INSERT, b"MFD2\x09")?;
+    let line = "merge a.feed a.feed b.feed";
+    let reported = b"copydesk: feed refused\nb.feed: byte 4: no such kind of operation\n";
+    assert!(rt; ends(rt.alloc(), &mut files, line, b"", 1, b"", reported));
     let mut files = files.for_next_run();
-    let got = tried_on(rt.alloc(), "merge a.feed c.feed", b"", &mut files)?;
-    assert_eq!(rt; got.status, 1);
-    assert_eq!(rt;
-        got.faults.written(),
-        b"copydesk: file fault\nc.feed: a call failed\n".as_slice()
-    );
+    let line = "merge a.feed c.feed";
+    let reported = b"copydesk: file fault\nc.feed: a call failed\n";
+    assert!(rt; ends(rt.alloc(), &mut files, line, b"", 1, b"", reported));
     assert!(rt; files.holds("a.feed", ONE_INSERT));
     Ok(())
 }
 
 #[test]
 fn copy_is_exported(rt: HostRuntime) -> Result<(), Fail> {
-    let mut files = TrialFiles::new(rt.alloc());
-    files.put("a.feed", BOTH_INSERTS)?;
-    let got = tried_on(rt.alloc(), "export a.feed", b"", &mut files)?;
-    assert_eq!(rt; got.status, 0);
-    assert_eq!(rt; got.written.written(), b"xy".as_slice());
-    assert_eq!(rt; got.faults.written(), b"".as_slice());
-    let got = tried_on(rt.alloc(), "export b.feed", b"", &mut files)?;
-    assert_eq!(rt; got.status, 1);
-    assert_eq!(rt; got.written.written(), b"".as_slice());
+    let mut files = one_file(rt.alloc(), "a.feed", BOTH_INSERTS)?;
+    assert!(rt; ends(rt.alloc(), &mut files, "export a.feed", b"", 0, b"xy", b""));
+    assert!(rt; is_missing(rt.alloc(), &mut files, "export b.feed"));
     Ok(())
 }
 
 #[test]
 fn text_is_imported(rt: HostRuntime) -> Result<(), Fail> {
-    let mut files = TrialFiles::new(rt.alloc());
-    files.put("a.feed", ONE_INSERT)?;
-    let got = tried_on(rt.alloc(), "import a.feed --site 3", b"_y_", &mut files)?;
-    assert_eq!(rt; got.status, 0);
-    assert_eq!(rt;
-        got.written.written(),
-        b"ok inserted 1 deleted 1\n".as_slice()
-    );
-    assert_eq!(rt; got.faults.written(), b"".as_slice());
+    let mut files = one_file(rt.alloc(), "a.feed", ONE_INSERT)?;
+    let changed = b"ok inserted 1 deleted 1\n";
+    let line = "import a.feed --site 3";
+    assert!(rt; ends(rt.alloc(), &mut files, line, b"_y_", 0, changed, b""));
     let mut files = files.for_next_run();
-    let got = tried_on(rt.alloc(), "desk a.feed --site 3", b"show 3\n", &mut files)?;
-    assert_eq!(rt; got.written.written(), b"copy i\"y\"\n".as_slice());
-    let mut files = files.for_next_run();
-    let got = tried_on(
-        rt.alloc(),
-        "import a.feed --site 3 --plain",
-        b"_",
-        &mut files,
-    )?;
-    assert_eq!(rt;
-        got.written.written(),
-        b"ok inserted 1 deleted 1\n".as_slice()
+    let line = "desk a.feed --site 3";
+    assert!(rt;
+        ends(
+            rt.alloc(),
+            &mut files,
+            line,
+            b"show 3\n",
+            0,
+            b"copy i\"y\"\n",
+            b""
+        )
     );
     let mut files = files.for_next_run();
-    let got = tried_on(rt.alloc(), "export a.feed", b"", &mut files)?;
-    assert_eq!(rt; got.written.written(), b"\\_".as_slice());
+    let line = "import a.feed --site 3 --plain";
+    assert!(rt; ends(rt.alloc(), &mut files, line, b"_", 0, changed, b""));
+    let mut files = files.for_next_run();
+    assert!(rt; ends(rt.alloc(), &mut files, "export a.feed", b"", 0, b"\\_", b""));
     Ok(())
 }
 
 #[test]
 fn refused_text(rt: HostRuntime) -> Result<(), Fail> {
-    let mut files = TrialFiles::new(rt.alloc());
-    files.put("a.feed", ONE_INSERT)?;
-    let got = tried_on(rt.alloc(), "import a.feed --site 3", b"ab\n\\c", &mut files)?;
-    assert_eq!(rt; got.status, 1);
-    assert_eq!(rt; got.written.written(), b"".as_slice());
-    assert_eq!(rt;
-        got.faults.written(),
-        b"copydesk: line 2, column 1: a backslash that escapes nothing\n".as_slice()
-    );
+    let mut files = one_file(rt.alloc(), "a.feed", ONE_INSERT)?;
+    let line = "import a.feed --site 3";
+    let reported = b"copydesk: line 2, column 1: a backslash that escapes nothing\n";
+    assert!(rt; ends(rt.alloc(), &mut files, line, b"ab\n\\c", 1, b"", reported));
     assert!(rt; files.holds("a.feed", ONE_INSERT));
     Ok(())
 }
@@ -491,127 +492,115 @@ fn metal(alloc: Global) -> Result<TrialFiles<Global>, AllocError> {
 }
 
 /// Gives the feed its settings, and a copy of one empty paragraph.
-fn set(alloc: Global, files: &mut TrialFiles<Global>) -> Result<bool, AllocError> {
+fn set(alloc: Global, files: &mut TrialFiles<Global>) -> bool {
     let commands =
         b"set 1 measure 120\nset 1 tight 38\nset 1 loose 150\nset 1 case 1\nset 1 wedge 5\ninsert 1 0 r\"\\n\"\n";
-    let got = tried_on(alloc, "desk a.feed --site 1", commands, files)?;
-    Ok(got.status == 0)
-}
-
-/// Whether a run ended with this status, and this was written and said.
-fn ended(got: &Outcome, status: u8, written: &[u8], reported: &[u8]) -> bool {
-    got.status == status && got.written.written() == written && got.faults.written() == reported
+    match tried_on(alloc, "desk a.feed --site 1", commands, files) {
+        Ok(got) => got.status == 0,
+        Err(_) => false,
+    }
 }
 
 #[test]
 fn galley_is_proofed(rt: HostRuntime) -> Result<(), Fail> {
     let mut files = metal(rt.alloc())?;
-    let got = tried_on(
-        rt.alloc(),
-        "proof a.feed --case c --wedge w",
-        b"",
-        &mut files,
-    )?;
+    let line = "proof a.feed --case c --wedge w";
     let none = b"no galley: the setting measure has no value\n";
-    assert!(rt; ended(&got, 1, none, b""));
-    assert!(rt; set(rt.alloc(), &mut files)?);
+    assert!(rt; ends(rt.alloc(), &mut files, line, b"", 1, none, b""));
+    assert!(rt; set(rt.alloc(), &mut files));
     let mut files = files.for_next_run();
     let line = "proof a.feed --faults --wedge w --case c";
-    let got = tried_on(rt.alloc(), line, b"", &mut files)?;
     let clean = b"GALLEY 1 lines, 0 at fault, measure 120 points, tight 38, loose 150\n";
-    assert!(rt; ended(&got, 0, clean, b""));
-    let got = tried_on(
-        rt.alloc(),
-        "proof a.feed --case c --wedge b",
-        b"",
-        &mut files,
-    )?;
-    assert!(rt;
-        ended(
-            &got,
-            1,
-            b"",
-            b"copydesk: input refused\nb: it is not TOML\n"
-        )
-    );
-    let got = tried_on(
-        rt.alloc(),
-        "proof a.feed --case d --wedge w",
-        b"",
-        &mut files,
-    )?;
-    assert!(rt;
-        ended(
-            &got,
-            1,
-            b"",
-            b"copydesk: input refused\nd or w: a call failed\n"
-        )
-    );
+    assert!(rt; ends(rt.alloc(), &mut files, line, b"", 0, clean, b""));
+    let line = "proof a.feed --case c --wedge b";
+    let reported = b"copydesk: input refused\nb: it is not TOML\n";
+    assert!(rt; ends(rt.alloc(), &mut files, line, b"", 1, b"", reported));
+    let line = "proof a.feed --case d --wedge w";
+    let reported = b"copydesk: input refused\nd or w: a call failed\n";
+    assert!(rt; ends(rt.alloc(), &mut files, line, b"", 1, b"", reported));
     Ok(())
+}
+
+/// Whether a file is kept that begins so.
+fn begins(files: &TrialFiles<Global>, name: &str, first: &[u8]) -> bool {
+    match files.bytes_of(name) {
+        Some(kept) => kept.starts_with(first),
+        None => false,
+    }
 }
 
 #[test]
 fn ribbon_is_punched(rt: HostRuntime) -> Result<(), Fail> {
     let mut files = metal(rt.alloc())?;
     let line = "punch a.feed --case c --wedge w -o a.rib";
-    let got = tried_on(rt.alloc(), line, b"", &mut files)?;
     let none = b"no ribbon: missing measure\n";
-    assert!(rt; ended(&got, 1, none, b"copydesk: no ribbon\n"));
-    assert!(rt; files.bytes_of("a.rib").is_none());
-    assert!(rt; set(rt.alloc(), &mut files)?);
-    let mut files = files.for_next_run();
-    let got = tried_on(rt.alloc(), line, b"", &mut files)?;
-    assert!(rt; ended(&got, 0, b"", b""));
-    match files.bytes_of("a.rib") {
-        Some(kept) => assert!(rt; kept.starts_with(b"MRB1")),
-        None => return Err(Fail::new("no ribbon")),
-    }
-    let got = tried_on(
-        rt.alloc(),
-        "punch b.feed --case c --wedge w --output a.rib",
-        b"",
-        &mut files,
-    )?;
     assert!(rt;
-        ended(
-            &got,
-            1,
+        ends(
+            rt.alloc(),
+            &mut files,
+            line,
             b"",
-            b"copydesk: file fault\nb.feed: a call failed\n"
+            1,
+            none,
+            b"copydesk: no ribbon\n"
         )
     );
+    assert!(rt; files.bytes_of("a.rib").is_none());
+    assert!(rt; set(rt.alloc(), &mut files));
+    let mut files = files.for_next_run();
+    assert!(rt; ends(rt.alloc(), &mut files, line, b"", 0, b"", b""));
+    assert!(rt; begins(&files, "a.rib", b"MRB1"));
+    let line = "punch b.feed --case c --wedge w --output a.rib";
+    let reported = b"copydesk: file fault\nb.feed: a call failed\n";
+    assert!(rt; ends(rt.alloc(), &mut files, line, b"", 1, b"", reported));
     Ok(())
 }
 
 #[test]
 fn text_is_replaced(rt: HostRuntime) -> Result<(), Fail> {
-    let mut files = TrialFiles::new(rt.alloc());
-    files.put("a.feed", BOTH_INSERTS)?;
-    let got = tried_on(rt.alloc(), "replace a.feed --site 3 y _z_", b"", &mut files)?;
-    assert!(rt; ended(&got, 0, b"ok inserted 1 deleted 1\n", b""));
+    let mut files = one_file(rt.alloc(), "a.feed", BOTH_INSERTS)?;
+    let line = "replace a.feed --site 3 y _z_";
+    let changed = b"ok inserted 1 deleted 1\n";
+    assert!(rt; ends(rt.alloc(), &mut files, line, b"", 0, changed, b""));
     let mut files = files.for_next_run();
-    let got = tried_on(rt.alloc(), "export a.feed", b"", &mut files)?;
-    assert!(rt; ended(&got, 0, b"x_z_", b""));
+    assert!(rt;
+        ends(
+            rt.alloc(),
+            &mut files,
+            "export a.feed",
+            b"",
+            0,
+            b"x_z_",
+            b""
+        )
+    );
     let mut files = files.for_next_run();
-    let got = tried_on(rt.alloc(), "replace a.feed --site 3 y x", b"", &mut files)?;
-    assert!(rt; ended(&got, 1, b"no place\n", b"copydesk: no place\n"));
+    let line = "replace a.feed --site 3 y x";
+    assert!(rt;
+        ends(
+            rt.alloc(),
+            &mut files,
+            line,
+            b"",
+            1,
+            b"no place\n",
+            b"copydesk: no place\n"
+        )
+    );
     let mut files = files.for_next_run();
-    let got = tried_on(rt.alloc(), "replace a.feed --site 3 x \\q", b"", &mut files)?;
+    let line = "replace a.feed --site 3 x \\q";
     let reported = b"copydesk: NEW, line 1, column 1: a backslash that escapes nothing\n";
-    assert!(rt; ended(&got, 1, b"", reported));
+    assert!(rt; ends(rt.alloc(), &mut files, line, b"", 1, b"", reported));
     Ok(())
 }
 
 #[test]
 fn files_are_checked(rt: HostRuntime) -> Result<(), Fail> {
     let mut files = metal(rt.alloc())?;
-    let got = tried_on(rt.alloc(), "check a.feed w", b"", &mut files)?;
     let lines =
         b"a.feed ok: 0 operations, 0 symbols shown, faults none\nw ok: wedge 5, set 12 (48 quarter points), pica sixth\n";
-    assert!(rt; ended(&got, 0, lines, b""));
-    let got = tried_on(rt.alloc(), "check none w", b"", &mut files)?;
+    assert!(rt; ends(rt.alloc(), &mut files, "check a.feed w", b"", 0, lines, b""));
     let lines = b"none no file\nw ok: wedge 5, set 12 (48 quarter points), pica sixth\n";
-    assert!(rt; ended(&got, 1, lines, b""));
+    assert!(rt; ends(rt.alloc(), &mut files, "check none w", b"", 1, lines, b""));
     Ok(())
 }
