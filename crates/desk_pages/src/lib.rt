@@ -8,6 +8,7 @@
 mod groups;
 mod list;
 mod pages;
+mod probe;
 mod search;
 mod starts;
 

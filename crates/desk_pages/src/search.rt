@@ -5,6 +5,7 @@ ghost use Rattle.desk_pages.specs.Pages.{joined, start_of, ends_in, IsSpotOrEnd,
 
 use crate::groups::Groups;
 use crate::pages::locate;
+use crate::probe::{NEAR, Probe};
 use crate::starts::GROUP;
 use desk_shelf::{Shelf, Summary};
 use std::alloc::Allocator;
@@ -327,7 +328,9 @@ fn page_before<T: Copy, S: Summary<T>, A: Allocator, P: Pick<T, S>>(
     let mut start = len;
     let mut before = all;
     while before > n {
-        if let Some((count, first)) = group_before(pages, groups, at, start, pick) {
+        if let Some((count, first)) = group_before(pages, groups, at, start, pick)
+            && count / 2 < before - n
+        {
             at -= GROUP;
             start = first;
             before -= count;
@@ -356,69 +359,11 @@ pub fn nth_from_end<T: Copy, S: Summary<T>, A: Allocator, P: Pick<T, S>>(
     ensures found { IfOk result (λ place. IsNth (P.picked pick.now) (joined pages.now.pages) 0 n place) }
     ensures short { IfErr result (λ left. IsShort (P.picked pick.now) (joined pages.now.pages) 0 n left) }
 {
+    if all == len {
+        return if n < len { Ok(n) } else { Err(n - len) };
+    }
     let (p, start, before) = page_before(pages, groups, len, pick, all, n);
     nth_from(pages, groups, p, start, pick, n - before)
-}
-
-/// So many from a guess on a search looks ever farther from it; then it halves what is left.
-const NEAR: usize = 32;
-
-/// A search for where those that are picked end: from `low` up to `high`, and where it looks next.
-#[derive(Clone, Copy)]
-struct Probe {
-    low: usize,
-    high: usize,
-    at: usize,
-    step: usize,
-}
-
-impl Probe {
-    /// Among the first `high`: near a guess first, where there is one.
-    fn new(high: usize, guess: Option<usize>) -> Probe
-        ensures low { result.low ≡ 0 }
-        ensures high { result.high ≡ high }
-    {
-        Probe {
-            low: 0,
-            high,
-            at: guess.unwrap_or(0),
-            step: if guess.is_some() { 1 } else { NEAR },
-        }
-    }
-
-    /// The place to look at.
-    fn place(&self) -> usize
-        requires { self.now.low < self.now.high }
-        ensures low { self.now.low ≤ result }
-        ensures high { result < self.now.high }
-    {
-        if self.step < NEAR {
-            self.at.clamp(self.low, self.high - 1)
-        } else {
-            self.low + (self.high - self.low) / 2
-        }
-    }
-
-    /// What stands at the place is picked.
-    fn rise(&mut self, place: usize)
-        requires { place < self.old.high }
-        ensures low { self.new.low ≡ place + 1 }
-        ensures high { self.new.high ≡ self.old.high }
-    {
-        self.low = place + 1;
-        self.at = place.saturating_add(self.step);
-        self.step = self.step.saturating_mul(2);
-    }
-
-    /// What stands at the place is not picked.
-    fn fall(&mut self, place: usize)
-        ensures low { self.new.low ≡ self.old.low }
-        ensures high { self.new.high ≡ place }
-    {
-        self.high = place;
-        self.at = place.saturating_sub(self.step);
-        self.step = self.step.saturating_mul(2);
-    }
 }
 
 /// Where those that are picked end, in one page: looked for near a guess first, where there is one.

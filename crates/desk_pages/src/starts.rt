@@ -2,6 +2,7 @@
 ghost use Rattle.std.specs.Prelude.{◌≡◌, ◌+◌, ◌-◌, ◌≤◌, ◌<◌, ◌^◌, ℕ, length, take, slice_index_or};
 ghost use Rattle.desk_pages.specs.Pages.{joined, start_of, IsStarts};
 
+use crate::probe::Probe;
 use desk_shelf::{Shelf, Summary};
 use std::alloc::Allocator;
 
@@ -19,13 +20,38 @@ pub fn group_before<T: Copy, S: Summary<T>, A: Allocator>(
     ensures start { result.1 ≡ start_of pages.now.pages result.0 }
     ensures before { result.1 ≤ i }
 {
-    let g = starts
-        .partition_point(|start| *start <= i)
-        .saturating_sub(1);
+    let g = begun(starts, i).saturating_sub(1);
     if g < starts.len() && starts[g] <= i && g <= pages.len() / GROUP {
         return (GROUP * g, starts[g]);
     }
     (0, 0)
+}
+
+/// How many of these begin no later: looked for near where it would be if they rose evenly.
+fn begun(starts: &[usize], i: usize) -> usize {
+    let mut probe = Probe::new(starts.len(), guess(starts, i));
+    while probe.low < probe.high {
+        let place = probe.place();
+        if starts[place] <= i {
+            probe.rise(place);
+        } else {
+            probe.fall(place);
+        }
+    }
+    probe.low
+}
+
+/// Where it would be if they rose evenly: a hint.
+fn guess(starts: &[usize], i: usize) -> Option<usize> {
+    let count = starts.len();
+    if count < 8 {
+        return None;
+    }
+    let last = starts[count - 1];
+    if last == 0 {
+        return None;
+    }
+    Some((i.saturating_mul(count - 1) / last).saturating_add(1))
 }
 
 /// The first page of a page's group, and where it begins.
@@ -102,6 +128,27 @@ pub fn find_starts<T: Copy, S: Summary<T>, A: Allocator>(
     }
 }
 
+/// One more in each.
+fn raise_all(starts: &mut [usize])
+    requires { (n : ℕ) → n < length starts.old → slice_index_or starts.old n 0 < 2 ^ 48 }
+    ensures len { length starts.new ≡ length starts.old }
+    ensures raised { (n : ℕ) → n < length starts.old → slice_index_or starts.new n 0 ≡ slice_index_or starts.old n 0 + 1 }
+{
+    for start in starts.iter_mut() {
+        *start += 1;
+    }
+}
+
+/// One less in each.
+fn lower_all(starts: &mut [usize])
+    ensures len { length starts.new ≡ length starts.old }
+    ensures lowered { (n : ℕ) → n < length starts.old → slice_index_or starts.new n 0 ≡ slice_index_or starts.old n 0 - 1 }
+{
+    for start in starts.iter_mut() {
+        *start = start.saturating_sub(1);
+    }
+}
+
 /// One more in each from the g-th on.
 pub fn raise<A: Allocator>(starts: &mut Vec<usize, A>, g: usize)
     requires { (n : ℕ) → n < length starts.old.items → slice_index_or starts.old.items n 0 < 2 ^ 48 }
@@ -109,10 +156,9 @@ pub fn raise<A: Allocator>(starts: &mut Vec<usize, A>, g: usize)
     ensures below { (n : ℕ) → n < g → slice_index_or starts.new.items n 0 ≡ slice_index_or starts.old.items n 0 }
     ensures raised { (n : ℕ) → g ≤ n → n < length starts.old.items → slice_index_or starts.new.items n 0 ≡ slice_index_or starts.old.items n 0 + 1 }
 {
-    let mut n = g;
-    while n < starts.len() {
-        starts[n] += 1;
-        n += 1;
+    let count = starts.len();
+    if g < count {
+        raise_all(starts.slice_mut(g..count));
     }
 }
 
@@ -122,9 +168,8 @@ pub fn lower<A: Allocator>(starts: &mut Vec<usize, A>, g: usize)
     ensures below { (n : ℕ) → n < g → slice_index_or starts.new.items n 0 ≡ slice_index_or starts.old.items n 0 }
     ensures lowered { (n : ℕ) → g ≤ n → n < length starts.old.items → slice_index_or starts.new.items n 0 ≡ slice_index_or starts.old.items n 0 - 1 }
 {
-    let mut n = g;
-    while n < starts.len() {
-        starts[n] = starts[n].saturating_sub(1);
-        n += 1;
+    let count = starts.len();
+    if g < count {
+        lower_all(starts.slice_mut(g..count));
     }
 }

@@ -1,9 +1,9 @@
 -- Pages in frames: what a change of one page, or of one frame, leaves of the others.
-use Rattle.std.proofs.Common.{◌≡◌, ℕ, zero, suc, ◌+◌, ◌-◌, ◌<◌, ◌≤◌, Bool, true, false, cond, eqb, eq-eqb, List, [], ◌∷◌, ◌++◌, length, get_or, take, drop, set, refl, sym, ap, subst, ◌∙◌, arith, ◌*◌, replicate}
+use Rattle.std.proofs.Common.{◌≡◌, ◌≢◌, ◌⊎◌, inl, inr, ℕ, zero, suc, ◌+◌, ◌-◌, ◌<◌, ◌≤◌, Bool, true, false, cond, eqb, eq-eqb, List, [], ◌∷◌, ◌++◌, length, get_or, take, drop, set, refl, sym, ap, subst, ◌∙◌, arith, ◌*◌, replicate}
 use Rattle.std.specs.List.{insert, remove, All}
-use Rattle.std.proofs.lemmas.List.{get_or-set_other, set-get_or, get_or_append_left, get_or-drop, get_or-take, length-set, length-append, length-drop, length-take, length-map, drop-drop, take_all, take-take, drop_at, drop-set, drop-replicate, get_or_push, take-append-le, drop-append-le, nil_from_length, ext_get_or}
-use Rattle.std.proofs.lemmas.Bool.{eqb-false, eqb-true, false_from_ne_true}
-use Rattle.std.proofs.lemmas.List.Edits.{length-insert, length-remove}
+use Rattle.std.proofs.lemmas.List.{get_or-set_other, get_or-set_same, set-get_or, get_or_append_left, get_or-drop, get_or-take, length-set, length-append, length-drop, length-take, length-map, drop-drop, take_all, take-take, drop_at, drop-set, drop-replicate, get_or_push, take-append-le, drop-append-le, nil_from_length, ext_get_or}
+use Rattle.std.proofs.lemmas.Bool.{cases_eq, eqb-false, eqb-true, false_from_ne_true}
+use Rattle.std.proofs.lemmas.List.Edits.{length-insert, length-remove, get_or-insert_at, get_or-insert_above}
 use Rattle.std.proofs.lemmas.List.Elements.{All-push}
 use Rattle.std.proofs.lemmas.List.Sums.{sum_by-cons, sum_by_push}
 use Rattle.desk_shelf.specs.declared.frame.Head.{Head}
@@ -257,6 +257,38 @@ shelf-renew sums_up cells new heads free all pages p a n b h items read v s l e 
     ((λ i. take ((size ∙ long) i) (drop (at i) (frame_at new b.frame))) ∙ ap (λ (z : List _). take n (drop a (frame_at z b.frame))) (sym same) ∙ sym is)
     summed
     (λ some. subst (λ (m : ℕ). h.last ≡ get_or items (m - 1) h.last) (sym size) (last (omega (arith, some, size))))
+
+-- ---- the last entry of a page that changes
+
+-- one put in is the last behind all, and else the last stays
+pub last-inserted : {X : Type 0} (r : List X) (j n : ℕ) (x last new : X) → n ≡ length r → j ≤ length r → (0 < n → last ≡ get_or r (n - 1) last) → (j ≡ n → new ≡ x) → (j ≢ n → new ≡ last) → new ≡ get_or (insert r j x) (n + 1 - 1) new
+last-inserted r j n x last new size inside was end before = go (cases_eq j n)
+  where
+    go : (j ≡ n) ⊎ (j ≢ n) → new ≡ get_or (insert r j x) (n + 1 - 1) new
+    go (inl e) =
+        let k : n + 1 - 1 ≡ j = omega arith in
+        end e ∙ sym (get_or-insert_at r j x new inside) ∙ ap (λ (m : ℕ). get_or (insert r j x) m new) (sym k)
+    go (inr e) =
+        let k : n + 1 - 1 ≡ n - 1 + 1 = omega arith in
+        let same = subst (λ z. z ≡ get_or r (n - 1) z) (sym (before e)) (was (omega arith)) in
+        same ∙ sym (get_or-insert_above r j x new (n - 1) (omega arith) inside) ∙ ap (λ (m : ℕ). get_or (insert r j x) m new) (sym k)
+
+-- one written over the last is the last, and else the last stays
+pub last-written : {X : Type 0} (r : List X) (j n : ℕ) (x last new : X) → n ≡ length r → j < length r → (0 < n → last ≡ get_or r (n - 1) last) → (j + 1 ≡ n → new ≡ x) → (j + 1 ≢ n → new ≡ last) → new ≡ get_or (set r j x) (n - 1) new
+last-written r j n x last new size inside was end before = go (cases_eq (j + 1) n)
+  where
+    go : (j + 1 ≡ n) ⊎ (j + 1 ≢ n) → new ≡ get_or (set r j x) (n - 1) new
+    go (inl e) =
+        let k : n - 1 ≡ j = omega arith in
+        end e ∙ sym (get_or-set_same r j x new inside) ∙ ap (λ (m : ℕ). get_or (set r j x) m new) (sym k)
+    go (inr e) =
+        let same = subst (λ z. z ≡ get_or r (n - 1) z) (sym (before e)) (was (omega arith)) in
+        same ∙ sym (get_or-set_other r j (n - 1) x new (λ (k : n - 1 ≡ j). e (omega arith)))
+
+-- an entry is put into page p, or written over one of it, in its frame
+pub shelf-changed : {X S : Type 0} (sums_up : S → List X → Type 0) (cells new : List X) (heads : List (Head X S)) (free : List ℕ) (all : ℕ) (pages : List (List X)) (p a n : ℕ) (last : X) (s : S) (b : Head X S) (y : List X) → pages_of (framed (length heads + length free) cells) heads ≡ pages → IsShelf sums_up cells heads free all → p < length pages → b ≡ get_or heads p b → IsWritten cells new b.frame → a + n ≤ 256 → take n (drop a (frame_at new b.frame)) ≡ y → sums_up s y → last ≡ get_or y (n - 1) last → IsShelf sums_up new (set heads p (record { frame = b.frame; start = a; len = n; last = last; summary = s })) free all × (pages_of (framed (length (set heads p (record { frame = b.frame; start = a; len = n; last = last; summary = s })) + length free) new) (set heads p (record { frame = b.frame; start = a; len = n; last = last; summary = s })) ≡ set pages p y)
+shelf-changed sums_up cells new heads free all pages p a n last s b y v i l e w few is summed at =
+    shelf-put sums_up cells new heads free all pages p b (record { frame = b.frame; start = a; len = n; last = last; summary = s }) y v i l e w refl few is summed (λ _. at)
 
 -- page p stands elsewhere in its frame
 pub shelf-moved : {X S : Type 0} (sums_up : S → List X → Type 0) (cells new : List X) (heads : List (Head X S)) (free : List ℕ) (all : ℕ) (pages : List (List X)) (p a : ℕ) (b h : Head X S) → pages_of (framed (length heads + length free) cells) heads ≡ pages → IsShelf sums_up cells heads free all → p < length pages → b ≡ get_or heads p b → IsWritten cells new b.frame → h ≡ record { frame = b.frame; start = a; len = b.len; last = b.last; summary = b.summary } → a + b.len ≤ 256 → take b.len (drop a (frame_at new b.frame)) ≡ take b.len (drop b.start (frame_at cells b.frame)) → IsShelf sums_up new (set heads p h) free all × (pages_of (framed (length (set heads p h) + length free) new) (set heads p h) ≡ pages)

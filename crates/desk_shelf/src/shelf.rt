@@ -2,7 +2,7 @@
 //!
 //! The pages stand in a list of heads, in order. A head says in which frame its page lies and where in it, so a page that is put
 //! between two others moves heads alone. The number of its frame is the name of a page, which stays with it.
-ghost use Rattle.std.specs.Prelude.{◌≡◌, ◌+◌, ◌-◌, ◌*◌, ◌≤◌, ◌<◌, ◌^◌, List, [], ◌∷◌, ◌++◌, length, take, drop, slice_index_or, slice_set, vec_len, vec_capacity, max, suc, OnOk};
+ghost use Rattle.std.specs.Prelude.{◌≡◌, ◌≢◌, ◌+◌, ◌-◌, ◌*◌, ◌≤◌, ◌<◌, ◌^◌, List, [], ◌∷◌, ◌++◌, length, take, drop, slice_index_or, slice_set, vec_len, vec_capacity, max, suc, OnOk};
 ghost use Rattle.std.specs.List.{insert, remove};
 ghost use Rattle.desk_shelf.specs.Shelf.{cut_at};
 ghost use Rattle.desk_shelf.specs.Shelf.{Shelved, IsShelf, framed, frame_at, pages_of};
@@ -115,12 +115,12 @@ impl<T: Copy, S: Summary<T>, A: Allocator> Shelf<T, S, A> {
     {
         let head = self.heads[p];
         let start = frame::put(&mut self.cells, head.frame, head.start, head.len, j, x);
-        let items = items_of(&self.cells, head.frame, start, head.len + 1);
+        let last = last_with(j, head.len, x, head.last);
         self.heads[p] = Head {
             frame: head.frame,
             start,
             len: head.len + 1,
-            last: items[head.len],
+            last,
             summary: head.summary.with(x),
         };
     }
@@ -151,12 +151,12 @@ impl<T: Copy, S: Summary<T>, A: Allocator> Shelf<T, S, A> {
         let head = self.heads[p];
         let old = items_of(&self.cells, head.frame, head.start, head.len)[j];
         frame::set(&mut self.cells, head.frame, head.start + j, x);
-        let items = items_of(&self.cells, head.frame, head.start, head.len);
+        let last = last_with(j + 1, head.len, x, head.last);
         self.heads[p] = Head {
             frame: head.frame,
             start: head.start,
             len: head.len,
-            last: items[head.len - 1],
+            last,
             summary: head.summary.replaced(old, x),
         };
     }
@@ -347,6 +347,14 @@ fn first_start(p: usize, pages: usize) -> usize
     ensures { result < 256 }
 {
     if p == 0 && pages > 0 { FULL - 1 } else { 0 }
+}
+
+/// The last entry of a page that x came to: x itself at its end, and otherwise the one that was last.
+fn last_with<T: Copy>(place: usize, end: usize, x: T, last: T) -> T
+    ensures new { place ≡ end → result ≡ x }
+    ensures kept { place ≢ end → result ≡ last }
+{
+    if place == end { x } else { last }
 }
 
 /// The head of a page in a frame of that number, from that place on.

@@ -20,8 +20,8 @@ overflow_sub-start g c =
     let b = back (g.P.Pick.picked c.args.pick.now) c.args.pages.now.pages c.loop-before.at i.within (some (g.P.Pick.picked c.args.pick.now) c.args.pages.now.pages c.loop-before.at c.args.n c.loop-before.before i.count (omega (arith, c.loop-before-test.true))) in
     omega (arith, i.is, b.0, c.len_of-start.ensures.len)
 
-pub overflow_sub-before-in-loop-before : goal.overflow_sub-before-in-loop-before
-overflow_sub-before-in-loop-before g c =
+pub overflow_sub-before-in-loop-before-2 : goal.overflow_sub-before-in-loop-before-2
+overflow_sub-before-in-loop-before-2 g c =
     let i = c.loop-before.invariant in
     let b = back (g.P.Pick.picked c.args.pick.now) c.args.pages.now.pages c.loop-before.at i.within (some (g.P.Pick.picked c.args.pick.now) c.args.pages.now.pages c.loop-before.at c.args.n c.loop-before.before i.count (omega (arith, c.loop-before-test.true))) in
     omega (arith, i.count, b.1, c.count_in-before.ensures)
