@@ -239,13 +239,13 @@ impl<T: Copy, S: Summary<T>, A: Allocator + Copy> Pages<T, S, A> {
     }
 
     /// The place of the n-th of all that is picked, or how many are missing, where it is known how many are picked: looked
-    /// for from the nearer end.
+    /// for from the nearer end, or n itself where all are.
     pub fn nth_of_all<P: Pick<T, S>>(&self, pick: &P, all: usize, n: usize) -> Result<usize, usize>
         requires { all ≡ count_by (P.picked pick.now) self.now.entries }
         ensures found { IfOk result (λ place. IsNth (P.picked pick.now) self.now.entries 0 n place) }
         ensures short { IfErr result (λ left. IsShort (P.picked pick.now) self.now.entries 0 n left) }
     {
-        if n < all / 2 {
+        if n < all / 2 && all != self.len {
             return self.nth(0, pick, n);
         }
         search::nth_from_end(&self.pages, &self.groups, self.len, pick, all, n)
