@@ -21,100 +21,179 @@ fn path(alloc: Global, folder: &str, name: &str) -> Result<String, AllocError> {
     Ok(path)
 }
 
-/// Whether a file is read with these bytes.
-fn reads<F: Files>(alloc: Global, files: &mut F, name: &str, want: &[u8]) -> bool {
-    match files.read(alloc, name) {
+/// Whether a file of a folder is read with these bytes.
+fn reads<F: Files>(alloc: Global, files: &mut F, folder: &str, name: &str, want: &[u8]) -> bool {
+    let Ok(path) = path(alloc, folder, name) else {
+        return false;
+    };
+    match files.read(alloc, path.as_str()) {
         Ok(bytes) => bytes.as_slice() == want,
         Err(_) => false,
     }
 }
 
-/// The refusal of a read.
-fn unread<F: Files>(alloc: Global, files: &mut F, name: &str) -> Option<FileRefusal> {
-    match files.read(alloc, name) {
-        Ok(_) => None,
-        Err(why) => Some(why),
+/// Whether a file of a folder is read, of which the bytes do not matter.
+fn is_read<F: Files>(alloc: Global, files: &mut F, folder: &str, name: &str) -> bool {
+    let Ok(path) = path(alloc, folder, name) else {
+        return false;
+    };
+    files.read(alloc, path.as_str()).is_ok()
+}
+
+/// Whether a file of a folder is refused so.
+fn refuses<F: Files>(
+    alloc: Global,
+    files: &mut F,
+    folder: &str,
+    name: &str,
+    want: FileRefusal,
+) -> bool {
+    let Ok(path) = path(alloc, folder, name) else {
+        return false;
+    };
+    match files.read(alloc, path.as_str()) {
+        Ok(_) => false,
+        Err(why) => why == want,
     }
 }
 
+/// Whether these bytes are stored in a folder.
+fn stores<F: Files>(alloc: Global, files: &mut F, folder: &str, name: &str, bytes: &[u8]) -> bool {
+    match path(alloc, folder, name) {
+        Ok(path) => store(alloc, files, path.as_str(), bytes).is_ok(),
+        Err(_) => false,
+    }
+}
+
+/// How a file of a folder is written.
+fn written<F: Files>(
+    alloc: Global,
+    files: &mut F,
+    folder: &str,
+    name: &str,
+    bytes: &[u8],
+) -> Option<FileRefusal> {
+    let Ok(path) = path(alloc, folder, name) else {
+        return Some(FileRefusal::NoMemory);
+    };
+    files.write_new(path.as_str(), bytes).err()
+}
+
+/// How a file of a folder is renamed.
+fn renamed<F: Files>(
+    alloc: Global,
+    files: &mut F,
+    folder: &str,
+    from: &str,
+    to: &str,
+) -> Option<FileRefusal> {
+    let Ok(from) = path(alloc, folder, from) else {
+        return Some(FileRefusal::NoMemory);
+    };
+    let Ok(to) = path(alloc, folder, to) else {
+        return Some(FileRefusal::NoMemory);
+    };
+    files.rename(from.as_str(), to.as_str()).err()
+}
+
+/// How a name of a folder is held.
+fn held<F: Files>(alloc: Global, files: &mut F, folder: &str, name: &str) -> Option<FileRefusal> {
+    let Ok(path) = path(alloc, folder, name) else {
+        return Some(FileRefusal::NoMemory);
+    };
+    files.hold(path.as_str()).err()
+}
+
 /// Makes a file of so many bytes.
-fn make_file<R: std::rt::Files>(rt: &R, name: &str, size: u64) -> io::Result<()> {
-    let file = File::create(rt, name)?;
+fn make_file<R: std::rt::Files + AllocGlobal>(
+    rt: &R,
+    folder: &str,
+    name: &str,
+    size: u64,
+) -> io::Result<()> {
+    let path = path(rt.alloc(), folder, name)?;
+    let file = File::create(rt, path.as_str())?;
     file.set_len(size)
+}
+
+/// What is stored is read, whole, also over a longer one that was left over.
+fn keeps<F: Files>(alloc: Global, files: &mut F, folder: &str) -> bool {
+    refuses(alloc, files, folder, "a", FileRefusal::Missing)
+        && stores(alloc, files, folder, "a", b"the old bytes")
+        && reads(alloc, files, folder, "a", b"the old bytes")
+        && written(
+            alloc,
+            files,
+            folder,
+            "a.new",
+            b"left over, and longer than all",
+        )
+        .is_none()
+        && stores(alloc, files, folder, "a", b"new")
+        && reads(alloc, files, folder, "a", b"new")
+        && refuses(alloc, files, folder, "a.new", FileRefusal::Missing)
+}
+
+/// A place that is not there, and a file below a file, are missing.
+fn misses<F: Files>(alloc: Global, files: &mut F, folder: &str) -> bool {
+    written(alloc, files, folder, "none/a", b"") == Some(FileRefusal::Missing)
+        && renamed(alloc, files, folder, "a.new", "a") == Some(FileRefusal::Missing)
+        && refuses(alloc, files, folder, "a/b", FileRefusal::Missing)
+}
+
+/// A folder, and a name that no file can have, are failures of the device.
+fn fails<F: Files>(alloc: Global, files: &mut F, folder: &str) -> bool {
+    refuses(alloc, files, folder, ".", FileRefusal::Device)
+        && refuses(alloc, files, folder, "a\0", FileRefusal::Device)
+        && written(alloc, files, folder, ".", b"") == Some(FileRefusal::Device)
 }
 
 #[test]
 fn files_of_the_machine(rt: HostRuntime) -> Result<(), Fail> {
     let folder = new_folder(&rt)?;
-    let a = path(rt.alloc(), folder.as_str(), "a")?;
-    let new = path(rt.alloc(), folder.as_str(), "a.new")?;
-    let nowhere = path(rt.alloc(), folder.as_str(), "none/a")?;
-    let below = path(rt.alloc(), folder.as_str(), "a/b")?;
-    let nul = path(rt.alloc(), folder.as_str(), "a\0")?;
     let progress = Progress::new(&rt);
     let mut files = HostFiles::new(&rt, &progress);
+    assert!(rt; keeps(rt.alloc(), &mut files, folder.as_str()));
+    assert!(rt; misses(rt.alloc(), &mut files, folder.as_str()));
+    assert!(rt; files.failures() == 0);
+    assert!(rt; fails(rt.alloc(), &mut files, folder.as_str()));
+    assert!(rt; files.failures() == 3);
+    fs::remove_dir_all(&rt, folder.as_str())?;
+    Ok(())
+}
 
-    assert_eq!(rt;
-        unread(rt.alloc(), &mut files, a.as_str()),
-        Some(FileRefusal::Missing)
+#[test]
+fn sizes_of_files(rt: HostRuntime) -> Result<(), Fail> {
+    let folder = new_folder(&rt)?;
+    let progress = Progress::new(&rt);
+    let mut files = HostFiles::new(&rt, &progress);
+    make_file(&rt, folder.as_str(), "large", 67_108_865)?;
+    make_file(&rt, folder.as_str(), "greatest", 67_108_864)?;
+    assert!(rt;
+        refuses(
+            rt.alloc(),
+            &mut files,
+            folder.as_str(),
+            "large",
+            FileRefusal::Large
+        )
     );
-    assert_eq!(rt;
-        store(rt.alloc(), &mut files, a.as_str(), b"the old bytes"),
-        Ok(())
-    );
-    assert!(rt; reads(rt.alloc(), &mut files, a.as_str(), b"the old bytes"));
-    assert_eq!(rt;
-        files.write_new(new.as_str(), b"left over, and longer than all"),
-        Ok(())
-    );
-    assert_eq!(rt; store(rt.alloc(), &mut files, a.as_str(), b"new"), Ok(()));
-    assert!(rt; reads(rt.alloc(), &mut files, a.as_str(), b"new"));
-    assert_eq!(rt;
-        unread(rt.alloc(), &mut files, new.as_str()),
-        Some(FileRefusal::Missing)
-    );
+    assert!(rt; is_read(rt.alloc(), &mut files, folder.as_str(), "greatest"));
+    assert!(rt; files.failures() == 0);
+    fs::remove_dir_all(&rt, folder.as_str())?;
+    Ok(())
+}
 
-    assert_eq!(rt;
-        files.write_new(nowhere.as_str(), b""),
-        Err(FileRefusal::Missing)
-    );
-    assert_eq!(rt;
-        files.rename(new.as_str(), a.as_str()),
-        Err(FileRefusal::Missing)
-    );
-    assert_eq!(rt;
-        unread(rt.alloc(), &mut files, below.as_str()),
-        Some(FileRefusal::Missing)
-    );
-    assert_eq!(rt; files.failures(), 0);
-    assert_eq!(rt;
-        unread(rt.alloc(), &mut files, folder.as_str()),
-        Some(FileRefusal::Device)
-    );
-    assert_eq!(rt;
-        unread(rt.alloc(), &mut files, nul.as_str()),
-        Some(FileRefusal::Device)
-    );
-    assert_eq!(rt;
-        files.write_new(folder.as_str(), b""),
-        Err(FileRefusal::Device)
-    );
-    assert_eq!(rt; files.failures(), 3);
-
-    make_file(&rt, a.as_str(), 67_108_865)?;
-    assert_eq!(rt;
-        unread(rt.alloc(), &mut files, a.as_str()),
-        Some(FileRefusal::Large)
-    );
-    make_file(&rt, a.as_str(), 67_108_864)?;
-    assert_eq!(rt; unread(rt.alloc(), &mut files, a.as_str()), None);
-    assert_eq!(rt; files.failures(), 3);
-
+#[test]
+fn one_holds_a_name(rt: HostRuntime) -> Result<(), Fail> {
+    let folder = new_folder(&rt)?;
+    let progress = Progress::new(&rt);
+    let mut files = HostFiles::new(&rt, &progress);
     let mut others = HostFiles::new(&rt, &progress);
-    assert_eq!(rt; files.hold(a.as_str()), Ok(()));
-    assert_eq!(rt; others.hold(a.as_str()), Err(FileRefusal::Device));
+    assert!(rt; held(rt.alloc(), &mut files, folder.as_str(), "a").is_none());
+    assert!(rt; held(rt.alloc(), &mut others, folder.as_str(), "a") == Some(FileRefusal::Device));
     drop(files);
-    assert_eq!(rt; others.hold(a.as_str()), Ok(()));
+    assert!(rt; held(rt.alloc(), &mut others, folder.as_str(), "a").is_none());
     fs::remove_dir_all(&rt, folder.as_str())?;
     Ok(())
 }
