@@ -41,9 +41,6 @@ FN = re.compile(r"^( *)(?:pub(?:\([^)]*\))? )?(?:const )?(?:unsafe )?fn (\w+)", 
 OWNER = re.compile(r"^(?:impl|(?:pub )?trait)\b([^{;]*)", re.M)
 # How the name of a function's copy ends, before its number.
 AGAIN = "_once_more_"
-# What a check says of a function where its own goals, and not only its callees, are what is lacking: a goal that is not
-# proved, or an answer of its own that is refused (then an error stands in the folder of its proof).
-OWN = re.compile(r"no proof: expected|not proved$")
 # What is said of an answer whose goal has another name in the wrong body, and of the answers that use it: that the goal is
 # gone is a refusal, but no reason why the body is wrong.
 GONE = re.compile(r"has no `[^`]*` that can be named from here|has no field|which was rejected, were not checked")
@@ -111,11 +108,14 @@ class Function:
             self.path = kind + "::" + self.name
             self.shape, self.folder = r"(?:\w+::)*%s::%s" % (re.escape(kind), re.escape(self.name)), [*outer, kind, self.name]
             return
-        # (rattle's name of an `impl Trait<A, ()> for Type` is TypeTraitAUnit)
+        # (rattle's name of an `impl Trait<a::A<T>, ()> for Type` is TypeTraitAUnit)
         plain, _, rest = trait.partition("<")
         plain = plain.strip().split("::")[-1]
-        self.path = kind + plain + "".join(re.findall(r"\w+", rest.replace("()", "Unit"))) + "::" + self.name
-        self.shape = r"(?:\w+::)*%s%s\w*::%s" % (re.escape(kind), re.escape(plain), re.escape(self.name))
+        args = re.findall(r"(?:\w+::)*(\w+)", re.sub(r"<[^<>]*>", "", rest.replace("()", "Unit")))
+        self.path = kind + plain + "".join(args) + "::" + self.name
+        # (of a tuple, or of a type of the language, the name is not known here)
+        last = "" if "(" not in rest.replace("()", "") and all(it[0].isupper() for it in args) else r"\w*"
+        self.shape = r"(?:\w+::)*%s%s%s::%s" % (re.escape(kind), re.escape(plain + "".join(args)), last, re.escape(self.name))
 
     @staticmethod
     def close(text, found):
@@ -262,10 +262,12 @@ class Wrong:
                 continue
             folder = "./proofs/%s/" % told[0][1].replace("::", "/")
             errors = [it for it in messages(lines) if it.startswith(folder) and ": error: " in it]
-            if OWN.match(told[0][2]) or told[0][2].startswith("not proved; ") and not all(GONE.search(it) for it in errors):
+            is_open = told[0][2].startswith("not proved")
+            by_names = is_open and bool(errors) and all(GONE.search(it) for it in errors)
+            if told[0][2].startswith("no proof: expected") or is_open and not by_names and (errors or told[0][2] == "not proved"):
                 self.by_name = False
                 return True
-            self.by_name = self.by_name or told[0][2].startswith("not proved; ") and bool(errors)
+            self.by_name = self.by_name or by_names
         return self.by_name
 
 
