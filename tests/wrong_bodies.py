@@ -108,14 +108,13 @@ class Function:
             self.path = kind + "::" + self.name
             self.shape, self.folder = r"(?:\w+::)*%s::%s" % (re.escape(kind), re.escape(self.name)), [*outer, kind, self.name]
             return
-        # (rattle's name of an `impl Trait<a::A<T>, ()> for Type` is TypeTraitAUnit)
+        # (rattle's name of an `impl Trait<a::B<T>, (), (C, D)> for Type` is TypeTraitABUnitTuple2CD)
         plain, _, rest = trait.partition("<")
         plain = plain.strip().split("::")[-1]
-        args = re.findall(r"(?:\w+::)*(\w+)", re.sub(r"<[^<>]*>", "", rest.replace("()", "Unit")))
+        rest = re.sub(r"\(([^()]+)\)", lambda it: "Tuple%d %s" % (it[1].count(",") + 1, it[1]), rest.replace("()", "Unit"))
+        args = [it[0].upper() + it[1:] for it in re.findall(r"\w+", re.sub(r"<[^<>]*>", "", rest))]
         self.path = kind + plain + "".join(args) + "::" + self.name
-        # (of a tuple, or of a type of the language, the name is not known here)
-        last = "" if "(" not in rest.replace("()", "") and all(it[0].isupper() for it in args) else r"\w*"
-        self.shape = r"(?:\w+::)*%s%s%s::%s" % (re.escape(kind), re.escape(plain + "".join(args)), last, re.escape(self.name))
+        self.shape = r"(?:\w+::)*%s::%s" % (re.escape(kind + plain + "".join(args)), re.escape(self.name))
 
     @staticmethod
     def close(text, found):
