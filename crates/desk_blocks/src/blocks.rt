@@ -8,7 +8,7 @@ use crate::index::Index;
 use crate::slot::{Slot, add_shown, slots_of};
 use crate::tally::{Bearing, Below, Shown, Tally};
 use desk_ops::{Stamp, Symbol};
-use desk_pages::Pages;
+use desk_pages::{FULL, Pages};
 use desk_seq::{Entry, Sequence};
 use std::alloc::{AllocError, Allocator};
 use std::marker::Model;
@@ -19,6 +19,8 @@ pub struct Blocks<A: Allocator> {
     pages: Pages<Slot, Tally, A>,
     index: Index<A>,
     shown: usize,
+    /// The names of the pages that were cut off others, of whose stamps the hints are not renewed yet.
+    cut: Vec<usize, A>,
 }
 
 impl<A: Allocator> Model for Blocks<A> {
@@ -60,6 +62,7 @@ impl<A: Allocator + Copy> Sequence for Blocks<A> {
             pages: Pages::new(alloc),
             index: Index::new(alloc),
             shown: 0,
+            cut: Vec::new(alloc),
         }
     }
 
@@ -90,9 +93,19 @@ impl<A: Allocator + Copy> Sequence for Blocks<A> {
         self.pages.spare().min(self.index.spare())
     }
 
+    fn prepare_find(&mut self) {
+        renew_pages(&mut self.index, &self.pages, &self.cut);
+        self.cut.clear();
+    }
+
     fn reserve(&mut self, n: usize) -> Result<(), AllocError> {
+        if n <= self.spare() {
+            return Ok(());
+        }
         self.index.reserve(n)?;
-        self.pages.reserve(n)
+        self.pages.reserve(n)?;
+        self.cut
+            .reserve(self.pages.len().saturating_add(n) / (FULL / 2))
     }
 
     fn put(&mut self, i: usize, entry: Entry) {
@@ -103,7 +116,11 @@ impl<A: Allocator + Copy> Sequence for Blocks<A> {
             && from < self.pages.len()
         {
             let name = self.pages.name_at(from);
-            renew_all(&mut self.index, self.pages.stretch(from), name);
+            if self.cut.len() < self.cut.capacity() {
+                self.cut.push_reserved(name);
+            } else {
+                renew_all(&mut self.index, self.pages.stretch(from), name);
+            }
         }
     }
 
@@ -149,6 +166,7 @@ impl<A: Allocator + Copy> Sequence for Blocks<A> {
             pages: Pages::from_slice(alloc, &slots)?,
             index,
             shown: shown_in(list),
+            cut: Vec::new(alloc),
         })
     }
 }
@@ -174,6 +192,22 @@ fn spot_in(items: &[Slot], stamp: Stamp) -> Option<usize>
         }
     }
     None
+}
+
+/// The hints of all that stands in the pages of these names.
+fn renew_pages<A: Allocator + Copy>(
+    index: &mut Index<A>,
+    pages: &Pages<Slot, Tally, A>,
+    names: &[usize],
+)
+    ensures same { index.new.stamps ≡ index.old.stamps }
+    ensures spare { index.new.spare ≡ index.old.spare }
+{
+    for name in names {
+        if let Some((_, items)) = pages.named(*name) {
+            renew_all(index, items, *name);
+        }
+    }
 }
 
 /// The hints of all of these.

@@ -92,6 +92,7 @@ impl<Q: Sequence> Replica<Q> {
             return false;
         };
         let mut ops = ops;
+        self.sequence.prepare_find();
         self.put_in_turn(&mut ops);
         self.enter_all(&ops);
         true

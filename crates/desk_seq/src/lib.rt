@@ -52,6 +52,14 @@ pub trait Sequence: Drop {
         ensures fits { IfSome result (λ i. i + 1 < 2 ^ 64) }
         ensures none { IsNone result → IsAbsent stamp (entries self.now) };
 
+    /// Does what a put has left for the next `find`, which without it answers the same, but may have to look at all entries.
+    fn prepare_find(&mut self)
+        ensures same { entries self.new ≡ entries self.old }
+        ensures spare { free self.new ≡ free self.old }
+    {
+        // A list that looks at all entries leaves nothing.
+    }
+
     /// How many more can be put with no new memory.
     fn spare(&self) -> usize
         ensures { result ≡ free self.now };

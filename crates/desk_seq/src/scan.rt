@@ -37,6 +37,7 @@ pub fn integrate<Q: Sequence>(sequence: &mut Q, entry: Entry, parent: Stamp)
     ensures walk { KeepsWalk (Q.entries sequence.old) (Q.entries sequence.new) parent entry.stamp }
     ensures spare { Q.free sequence.old ≤ Q.free sequence.new + 1 }
 {
+    sequence.prepare_find();
     let from = start_of(sequence, parent);
     let at = sequence.first_below(from, entry.stamp);
     sequence.put(at, entry);

@@ -93,7 +93,7 @@ fn are_alike_in_parts<Q: Sequence, R: Sequence>(one: &Q, other: &R, parts: u32) 
     true
 }
 
-/// One put, mark or look-up at random in both, and whether they answered alike.
+/// One put, mark, look-up or preparation of one at random in both, and whether they answered alike.
 fn step<Q: Sequence, R: Sequence>(
     one: &mut Q,
     other: &mut R,
@@ -107,7 +107,11 @@ fn step<Q: Sequence, R: Sequence>(
             mark(one, place);
             mark(other, place);
         }
-        1 | 2 | 3 => return Ok(are_alike_at(one, other, place, entry.stamp)),
+        1 => {
+            one.prepare_find();
+            other.prepare_find();
+        }
+        2 | 3 => return Ok(are_alike_at(one, other, place, entry.stamp)),
         _ => {
             put(one, place, entry)?;
             put(other, place, entry)?;

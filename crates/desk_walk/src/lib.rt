@@ -37,11 +37,13 @@ fn stamp_at<Q: Sequence>(sequence: &Q, place: usize) -> Stamp
 }
 
 /// The place of a stamp: the head's is 0, that of an entry one above its own. It is looked for at a place near it first.
-fn place_of<Q: Sequence>(sequence: &Q, stamp: Stamp, near: usize) -> Option<usize>
-    ensures within { IfSome result (λ place. place ≤ length (Q.entries sequence.now)) }
-    ensures is { IfSome result (λ place. place_at (Q.entries sequence.now) place ≡ stamp) }
-    ensures none { IsNone result → (j : ℕ) → j < length (places (Q.entries sequence.now)) → place_at (Q.entries sequence.now) j ≡ stamp → ⊥ }
-    ensures distinct { AreDistinct (Q.entries sequence.now) }
+fn place_of<Q: Sequence>(sequence: &mut Q, stamp: Stamp, near: usize) -> Option<usize>
+    ensures same { Q.entries sequence.new ≡ Q.entries sequence.old }
+    ensures free { Q.free sequence.new ≡ Q.free sequence.old }
+    ensures within { IfSome result (λ place. place ≤ length (Q.entries sequence.old)) }
+    ensures is { IfSome result (λ place. place_at (Q.entries sequence.old) place ≡ stamp) }
+    ensures none { IsNone result → (j : ℕ) → j < length (places (Q.entries sequence.old)) → place_at (Q.entries sequence.old) j ≡ stamp → ⊥ }
+    ensures distinct { AreDistinct (Q.entries sequence.old) }
 {
     let len = sequence.len();
     if stamp.is_head() {
@@ -50,6 +52,7 @@ fn place_of<Q: Sequence>(sequence: &Q, stamp: Stamp, near: usize) -> Option<usiz
     if near <= len && stamp_at(sequence, near).is_same(stamp) {
         return Some(near);
     }
+    sequence.prepare_find();
     let Some(place) = sequence.find(stamp) else {
         return None;
     };

@@ -41,8 +41,15 @@ invariant_of-self-else-from-len g c =
     let within : c.args.i ≤ length es = subst (λ (v : Listing). c.args.i ≤ length v.entries) (sym c.self.view_is) c.requires.within in
     both c.self.inside.shown es c.insert-placed.new.self.entries c.self.inside.index.stamps c.put.new.self.stamps c.args.i c.args.entry c.self.invariant.0 c.self.invariant.1 c.self.invariant.2 absent within (c.insert-placed.ensures.put ∙ ap (λ (e : Entry). insert es c.args.i e) c.of.ensures) c.put.ensures.put
 
-pub invariant_of-self-2 : goal.invariant_of-self-2
-invariant_of-self-2 g c =
+pub invariant_of-self-then-len-capacity : goal.invariant_of-self-then-len-capacity
+invariant_of-self-then-len-capacity g c =
+    let es = c.self.inside.pages.entries in
+    let absent : IsAbsent c.args.entry.stamp es = subst (λ (v : Listing). IsAbsent c.args.entry.stamp v.entries) (sym c.self.view_is) c.requires.absent in
+    let within : c.args.i ≤ length es = subst (λ (v : Listing). c.args.i ≤ length v.entries) (sym c.self.view_is) c.requires.within in
+    both c.self.inside.shown es c.insert-placed.new.self.entries c.self.inside.index.stamps c.put.new.self.stamps c.args.i c.args.entry c.self.invariant.0 c.self.invariant.1 c.self.invariant.2 absent within (c.insert-placed.ensures.put ∙ ap (λ (e : Entry). insert es c.args.i e) c.of.ensures) c.put.ensures.put
+
+pub invariant_of-self-else-len-capacity : goal.invariant_of-self-else-len-capacity
+invariant_of-self-else-len-capacity g c =
     let es = c.self.inside.pages.entries in
     let absent : IsAbsent c.args.entry.stamp es = subst (λ (v : Listing). IsAbsent c.args.entry.stamp v.entries) (sym c.self.view_is) c.requires.absent in
     let within : c.args.i ≤ length es = subst (λ (v : Listing). c.args.i ≤ length v.entries) (sym c.self.view_is) c.requires.within in
