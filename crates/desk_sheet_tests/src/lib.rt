@@ -1,7 +1,7 @@
-//! The tests of desk_sheet.
+//! The tests of desk_replace and desk_sheet.
 #![tactic(auto)]
 
 #[cfg(test)]
-mod sheets;
+mod replace;
 #[cfg(test)]
-mod stored_sheets;
+mod sheet;

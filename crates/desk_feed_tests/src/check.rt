@@ -1,0 +1,8 @@
+//! The tests of desk_check.
+mod cases;
+mod feeds;
+mod ribbons;
+mod rooms;
+mod runs;
+mod wedges;
+mod words;

@@ -1,0 +1,9 @@
+//! The tests of desk_difference, desk_check and desk_hand.
+#![tactic(auto)]
+
+#[cfg(test)]
+mod check;
+#[cfg(test)]
+mod difference;
+#[cfg(test)]
+mod hand;

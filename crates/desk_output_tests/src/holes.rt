@@ -1,0 +1,3 @@
+//! The tests of desk_holes.
+mod drawing;
+mod rooms;

@@ -1,0 +1,4 @@
+//! The tests of desk_picture.
+mod feeds;
+mod galleys;
+mod pictures;

@@ -1,0 +1,122 @@
+use crate::picture::galleys::{WEDGE, case_text};
+use crate::picture::pictures::LINE;
+use desk_answers::Refusal;
+use desk_files::FileRefusal;
+use desk_files::trial::TrialFiles;
+use desk_hand::FeedTrouble;
+use desk_inputs::Memory;
+use desk_picture::picture_feed;
+use desk_preview::PreviewFault;
+use desk_trial::no_trial;
+use linked_list_allocator::LocalHeap;
+use std::alloc::{AllocError, Allocator, Global};
+use std::test::Fail;
+
+/// What stands under the target before a picture is stored there.
+const OLD: &[u8] = b"old";
+
+/// What the picture of a feed without settings ends with.
+const NONE: &str =
+    "<text class=\"c\" x=\"10.00\" y=\"20.00\">no galley: the setting measure has no value</text>\n</svg>\n";
+
+/// A feed with all settings and the copy `nn n`.
+fn feed(alloc: Global) -> Result<Vec<u8, Global>, AllocError> {
+    let mut out = Vec::new(alloc);
+    out.extend_from_slice(b"MFD2")?;
+    for (key, value) in [(1u8, 120u8), (2, 38), (3, 150), (4, 1), (5, 5)] {
+        out.extend_from_slice(&[3, 0, 0, 0, 0, 0, 0, 0, key, 0, 1, key, 0, 0, 0, value])?;
+    }
+    out.extend_from_slice(&[4, 0, 0, 0, 0, 0, 0, 0, 6, 0, 1])?;
+    out.extend_from_slice(&[0; 10])?;
+    out.push(4)?;
+    for symbol in [110u8, 110, 32, 110] {
+        out.extend_from_slice(&[0, 0, 0, 0, symbol])?;
+    }
+    Ok(out)
+}
+
+/// Files of which the k-th call fails: two feeds, a case, a wedge, and what stands under the target.
+fn rooms(alloc: Global, k: u64) -> Result<TrialFiles<Global>, Fail> {
+    let mut files = TrialFiles::new(alloc).failing_at_call(k);
+    files.put("set.feed", &feed(alloc)?)?;
+    files.put("none.feed", b"MFD2")?;
+    files.put("c", case_text(alloc)?.as_bytes())?;
+    files.put("w", WEDGE.as_bytes())?;
+    files.put("a.svg", OLD)?;
+    Ok(files)
+}
+
+/// Whether the target ends with these bytes.
+fn ends_with(files: &TrialFiles<Global>, bytes: &[u8]) -> bool {
+    match files.bytes_of("a.svg") {
+        Some(kept) => kept.ends_with(bytes),
+        None => false,
+    }
+}
+
+/// Why a picture whose k-th call fails is not stored; where it is, the target ends with these bytes afterwards.
+fn pictured<A: Allocator + Copy>(
+    alloc: Global,
+    own: A,
+    k: u64,
+    feed: &str,
+    end: &[u8],
+) -> Result<Option<PreviewFault>, Fail> {
+    let mut files = rooms(alloc, k)?;
+    let memory = Memory { own, global: alloc };
+    let ended = picture_feed(memory, &mut files, feed, "c", "w", &no_trial(), "a.svg");
+    let wanted = if ended.is_ok() { end } else { OLD };
+    if !ends_with(&files, wanted) {
+        return Err(Fail::new("another picture"));
+    }
+    Ok(ended.err())
+}
+
+#[test]
+fn pictures_are_stored(rt: HostRuntime) -> Result<(), Fail> {
+    let alloc = rt.alloc();
+    assert_eq!(rt;
+        pictured(alloc, alloc, 0, "set.feed", LINE.as_bytes())?,
+        None
+    );
+    assert_eq!(rt;
+        pictured(alloc, alloc, 0, "none.feed", NONE.as_bytes())?,
+        None
+    );
+    Ok(())
+}
+
+#[test]
+fn files_that_fail_under_a_picture(rt: HostRuntime) -> Result<(), Fail> {
+    let alloc = rt.alloc();
+    let missing = PreviewFault::Feed(FeedTrouble::File(FileRefusal::Missing));
+    assert_eq!(rt; pictured(alloc, alloc, 0, "b.feed", b"")?, Some(missing));
+    let input = PreviewFault::Input(Refusal::FileDevice);
+    assert_eq!(rt; pictured(alloc, alloc, 2, "set.feed", b"")?, Some(input));
+    let unstored = PreviewFault::Unstored(FileRefusal::Device);
+    for k in 4..6u64 {
+        assert_eq!(rt; pictured(alloc, alloc, k, "set.feed", b"")?, Some(unstored));
+    }
+    Ok(())
+}
+
+/// A heap that holds what is read of the feed, and less than the picture.
+#[test]
+fn growth_of_a_picture_refused(rt: HostRuntime) -> Result<(), Fail> {
+    let heap = LocalHeap::new(rt.alloc(), 1_048_576)?;
+    let mut ballast = Vec::new(rt.alloc());
+    for _ in 0..65_536u32 {
+        let Ok(part) = Vec::<u8, &LocalHeap>::with_capacity(&heap, 1_024) else {
+            break;
+        };
+        ballast.push(part)?;
+    }
+    let ended = pictured(rt.alloc(), &heap, 0, "set.feed", LINE.as_bytes())?;
+    assert!(rt; ended.is_some());
+    drop(ballast);
+    assert_eq!(rt;
+        pictured(rt.alloc(), &heap, 0, "set.feed", LINE.as_bytes())?,
+        None
+    );
+    Ok(())
+}

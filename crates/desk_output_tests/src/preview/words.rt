@@ -1,0 +1,57 @@
+//! The texts of faults, of desk_preview and of settings that are tried.
+
+use desk_answers::Refusal;
+use desk_files::FileRefusal;
+use desk_hand::FeedTrouble;
+use desk_preview::PreviewFault;
+use desk_trial::TrialFault;
+use std::alloc::{AllocError, Global};
+
+/// Of a feed they are those of its trouble.
+const WORDS: [(PreviewFault, &str); 7] = [
+    (
+        PreviewFault::Feed(FeedTrouble::File(FileRefusal::Missing)),
+        "file fault",
+    ),
+    (PreviewFault::Feed(FeedTrouble::Full), "full"),
+    (PreviewFault::Input(Refusal::Wedge(4)), "input refused"),
+    (PreviewFault::Faulty, "no ribbon"),
+    (PreviewFault::Write, "write fault"),
+    (PreviewFault::Unstored(FileRefusal::Device), "file fault"),
+    (PreviewFault::NoMemory, "no memory"),
+];
+
+const TRIAL_WORDS: [(TrialFault, &str); 2] = [
+    (TrialFault::NoSetting(3), "no setting"),
+    (TrialFault::NoMemory, "no memory"),
+];
+
+/// Whether these are the words of a fault.
+fn is_worded(alloc: Global, fault: PreviewFault, words: &str) -> bool {
+    match format!(in alloc; "{fault}") {
+        Ok(reported) => reported.as_str() == words,
+        Err(AllocError) => false,
+    }
+}
+
+/// Whether these are the words of a fault of settings that are tried.
+fn is_trial_worded(alloc: Global, fault: TrialFault, words: &str) -> bool {
+    match format!(in alloc; "{fault}") {
+        Ok(reported) => reported.as_str() == words,
+        Err(AllocError) => false,
+    }
+}
+
+#[test]
+fn names_faults_of_previews(rt: HostRuntime) {
+    for &(fault, words) in &WORDS {
+        assert!(rt; is_worded(rt.alloc(), fault, words), "{words}");
+    }
+}
+
+#[test]
+fn names_faults_of_trials(rt: HostRuntime) {
+    for &(fault, words) in &TRIAL_WORDS {
+        assert!(rt; is_trial_worded(rt.alloc(), fault, words), "{words}");
+    }
+}

@@ -1,0 +1,4 @@
+//! The tests of desk_reading.
+mod reading;
+mod rooms;
+mod words;

@@ -1,0 +1,29 @@
+//! The texts of faults.
+
+use desk_answers::Refusal;
+use desk_files::FileRefusal;
+use desk_reading::ReadingFault;
+use std::alloc::{AllocError, Global};
+
+const WORDS: [(ReadingFault, &str); 5] = [
+    (ReadingFault::Ribbon(FileRefusal::Missing), "file fault"),
+    (ReadingFault::Input(Refusal::Wedge(4)), "input refused"),
+    (ReadingFault::Write, "write fault"),
+    (ReadingFault::Unstored(FileRefusal::Device), "file fault"),
+    (ReadingFault::NoMemory, "no memory"),
+];
+
+/// Whether these are the words of a fault.
+fn is_worded(alloc: Global, fault: ReadingFault, words: &str) -> bool {
+    match format!(in alloc; "{fault}") {
+        Ok(reported) => reported.as_str() == words,
+        Err(AllocError) => false,
+    }
+}
+
+#[test]
+fn names_faults_of_readings(rt: HostRuntime) {
+    for &(fault, words) in &WORDS {
+        assert!(rt; is_worded(rt.alloc(), fault, words), "{words}");
+    }
+}

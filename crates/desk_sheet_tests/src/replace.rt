@@ -1,0 +1,5 @@
+//! The tests of desk_replace and desk_places.
+mod refusals;
+mod replacing;
+mod reporting;
+mod rooms;

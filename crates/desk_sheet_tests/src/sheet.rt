@@ -1,0 +1,3 @@
+//! The tests of desk_sheet.
+mod sheets;
+mod stored_sheets;
