@@ -6,12 +6,13 @@ usage: wrong_bodies.py [--built] [--named] [--anew] [--copies] [CRATE ..]    of 
 A wrong body is a bug written into a function on purpose, a file as of must-fail. A check reads a crate and all that it stands
 on before it looks at a goal, and a caller knows of a function what its contract says and no more. So many wrong bodies are put
 into one copy of their crate, and only their functions are checked, with those that they call: each must have a goal of its own
-that is not proved, and not only a callee that is not. Of several wrong bodies of one function the first stands in its place, and
-each other in a copy of the function, with its contract and its proof, right behind it. A method of a trait has no such copy: two
-of its wrong bodies take two checks. Where a change is in no function, as of a constant or a law, a line `only: PATH ..` names
-functions of which one must have such a goal; it is tried alone. Those of which only names of goals are gone, so that an answer
-has none, are named at the end. One that this does not show is tried again alone, the whole crate by the rule of `rt must-fail`:
-the prover reads the text, and does not prove it.
+that is not proved, and not only a callee that is not. Each wrong body stands in a copy of its function, with its contract and
+its proof, right behind it, so that what calls the function has the right one. A method of a trait has no such copy, nor has a
+function that calls itself: their wrong bodies stand in their place, in checks of such alone, and two of one take two checks.
+Where a change is in no function, as of a constant or a law, a line `only: PATH ..` names functions of which one must have such
+a goal; it is tried alone. Those of which only names of goals are gone, so that an answer has none, are named at the end. One
+that this does not show is tried again alone, the whole crate by the rule of `rt must-fail`: the prover reads the text, and
+does not prove it.
 
 `rt ci` tries those of `crates/NAME/must-fail`, and this those of `crates/NAME/wrong-bodies`; with --named both.
 With --built the libraries are those that `rt ci` has just proved in this tree, as in the gate; else those that are not built,
@@ -221,7 +222,7 @@ class Wrong:
         self.text = path.read_bytes()
         self.pairs = pairs_of(self.text.decode("utf-8"))
         self.bad = None if self.pairs else "it has no 'old:' and 'new:' pair"
-        # (the number of the copy of its function in which it stands, or 1 where it stands in the function itself)
+        # (the number of the copy of its function in which it stands, 1 where that is the function itself)
         self.places, self.functions, self.number, self.by_name = {}, set(), 1, False
         for file, old, _ in self.pairs:
             text = pathlib.Path(crate.folder, file).read_text(encoding="utf-8")
@@ -282,11 +283,13 @@ def messages(lines):
 
 
 def groups_of(wrongs):
-    """The wrong bodies in as few groups as the first place gives, and where in its group each stands."""
+    """The wrong bodies in as few groups as the first place gives, and in which copy of its function each stands. Those that
+    stand in their place are in groups of such alone: what calls a wrong one is not looked at."""
     out = []
     for wrong in sorted(wrongs, key=lambda it: it.movable):
         for group in out:
-            if not wrong.apart and (wrong.movable or not any(wrong.places.keys() & it.places.keys() for it in group)) and not group[0].apart:
+            is_apart = wrong.apart or group[0].apart or wrong.movable != group[0].movable
+            if not is_apart and (wrong.movable or not any(wrong.places.keys() & it.places.keys() for it in group)):
                 group.append(wrong)
                 break
         else:
@@ -295,7 +298,7 @@ def groups_of(wrongs):
         numbers = {}
         for wrong in group:
             for path in wrong.places:
-                numbers[path] = numbers.get(path, 0) + 1
+                numbers[path] = numbers.get(path, 1) + 1
             wrong.put_at(max(numbers[path] for path in wrong.places) if wrong.movable else 1)
     return out
 
