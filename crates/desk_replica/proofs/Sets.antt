@@ -4,7 +4,8 @@ use Rattle.std.specs.List.{AllByRecursion}
 use Rattle.desk_ops.specs.declared.op.Op.{Op}
 use Rattle.desk_ops.specs.Op.{IsLawful, stamp_of}
 use Rattle.desk_ops.specs.Held.{is_borne_in}
-use Rattle.desk_ops.specs.OpSet.{OpSet, has_op, with_op, with_all, size, max_ops}
+use Rattle.desk_ops.specs.OpSet.{OpSet, has_op, no_ops, with_op, with_all, size, max_ops}
+use Rattle.std.specs.FinMap as fin
 use Rattle.desk_replica.specs.State.{IsCounted, ForksNone, HasRoom}
 use Rattle.std.proofs.lemmas.List.{take-append-drop, take_all, drop_all}
 use Rattle.std.proofs.Math.Seq.{drop-cons}
@@ -101,6 +102,13 @@ grows_by_one h o = by_cases (has_op h o)
     (λ e. let n : size (with_op h o) ≡ size h + 1 = size-with_op h o ∙ ap (λ b. cond b (size h) (size h + 1)) e in omega (arith, n))
 
 -- ---- room for a list that forks no stamp
+
+-- for an empty list there is always room
+pub none_has_room : (h : OpSet) (spare : ℕ) (ops : List Op) → h ≡ no_ops → ops ≡ [] → HasRoom h spare ops
+none_has_room h spare ops begun none = subst (HasRoom h spare) (sym none) (record {
+    below = let e : size h ≡ 0 = ap size begun ∙ fin.len-empty _ _ in omega (arith, e);
+    spare = omega arith;
+    unforked = tt })
 
 pub room-more : (h after : OpSet) (spare left : ℕ) (o : Op) (os : List Op) → HasRoom h spare (o ∷ os) → after ≡ with_op h o → (is_borne_in h (stamp_of o) ≡ false → spare ≤ left + 1) → (has_op h o ≡ true → left ≡ spare) → HasRoom after left os
 room-more h after spare left o os r e new known = record {

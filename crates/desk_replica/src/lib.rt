@@ -184,7 +184,8 @@ impl<Q: Sequence> Replica<Q> {
     }
 
     /// A replica that holds the operations of a list. `Full` comes only where the list has more than 1,048,576 different
-    /// operations, and of such a list none is made, since no replica holds more. Nothing is taken in of a refused list.
+    /// operations, and of such a list none is made, since no replica holds more. Nothing is taken in of a refused list, and
+    /// an empty list is never refused.
     pub fn open(alloc: Q::Memory, site: u16, ops: &[Op]) -> Result<Self, Stopped>
         requires numbered { 1 ≤ site }
         requires lawful { All IsLawful ops.now }
@@ -193,6 +194,7 @@ impl<Q: Sequence> Replica<Q> {
         ensures within { IfOk result (λ r. size r.ops ≤ LIMIT) }
         ensures none { IfErr result (λ s. s.taken ≡ 0) }
         ensures full { IfErr result (λ s. s.why ≡ AddRefusal.Full → LIMIT < size (with_all no_ops ops.now)) }
+        ensures empty { ops.now ≡ [] → IsOk result }
     {
         let mut replica = Replica::new(alloc, site);
         if let Err(stopped) = replica.take_all(ops) {

@@ -1,9 +1,10 @@
 -- Stored feeds, opened and stored anew.
-use Rattle.std.proofs.Common.{◌≡◌, ℕ, ◌<◌, List, [], ap, inr, refl, subst, arith}
+use Rattle.std.proofs.Common.{◌≡◌, ℕ, ◌<◌, List, [], ◌∷◌, length, ap, inr, refl, subst, arith}
 use Rattle.std.specs.Prelude.{◌≢◌, IfErr, IsErrOf, OnErr, OnOk, Option, Some, None, Result, Ok, Err}
 use Rattle.std.specs.FinMap as fin
 use Rattle.desk_ops.specs.declared.op.Op.{Op}
 use Rattle.desk_ops.specs.OpSet.{no_ops, size, with_all, max_ops}
+use Rattle.desk_held.specs.Passing.{IsInTurn}
 use Rattle.desk_held.specs.declared.AddRefusal.{AddRefusal}
 use Rattle.desk_held.specs.declared.AddRefusal.TheVariants as adds
 use Rattle.desk_held.specs.declared.join.Stopped.{Stopped}
@@ -24,16 +25,21 @@ crowded_by : (read : Option (List ℕ)) (ops : List Op) (stop : Stopped) → Sto
 crowded_by (Some bytes) ops stop stores crowded = (bytes, refl, ops, stores, crowded)
 crowded_by None ops stop stores crowded = absurd (none_crowds ops stores crowded.0)
 
--- for what stores operations memory is asked
-pub read_by : (read : Option (List ℕ)) (ops : List Op) → Stores read ops → AsksMemory read
-read_by (Some bytes) ops stores = inr (ops, stores)
-read_by None ops stores = tt
+-- for what stores operations memory is asked, but where there are none since no file is there
+pub read_by : (read : Option (List ℕ)) (ops : List Op) → Stores read ops → (ops ≡ [] → ⊥) → AsksMemory read
+read_by (Some bytes) ops stores some = inr (ops, stores)
+read_by None ops stores some = some stores
 
--- a feed with too many operations is not opened
+-- put in order, an empty list is empty
+pub none_in_turn : (ops sorted : List Op) → IsInTurn ops sorted → ops ≡ [] → sorted ≡ []
+none_in_turn ops [] turn none = refl
+none_in_turn ops (op ∷ sorted) turn none = let few = turn.few in let e : length ops ≡ 0 = ap length none in absurd (omega (arith, few, e))
+
+-- a feed with too many operations, or with some and no memory for them, is not opened
 pub unopened : (read : Option (List ℕ)) (ops : List Op) (stop : Stopped) (why : AddRefusal) → stop.why ≡ why → Stores read ops → stop.taken ≡ 0
-    → (stop.why ≡ adds.Full → max_ops < size (with_all no_ops ops)) → IsUnopened read (of_stop stop why)
-unopened read ops stop adds.Full is stores none full = crowded_by read ops stop stores (full is, is, none)
-unopened read ops stop adds.NoMemory is stores none full = read_by read ops stores
+    → (stop.why ≡ adds.Full → max_ops < size (with_all no_ops ops)) → (ops ≡ [] → ⊥) → IsUnopened read (of_stop stop why)
+unopened read ops stop adds.Full is stores none full some = crowded_by read ops stop stores (full is, is, none)
+unopened read ops stop adds.NoMemory is stores none full some = read_by read ops stores some
 
 -- where a store succeeds the device did not fail
 pub ok_counts : {V : Type 0} (P : Type 0) (result : Result V FileRefusal) (before after : Shelf) → OnOk result P → Counts result before after → OnOk result (P × (after.failures ≡ before.failures))

@@ -36,10 +36,10 @@ IsCrowded ops stop = (max_ops < size (with_all no_ops ops)) × (stop.why ≡ Ful
 abbrev pub AskMemory : List ℕ → Type 0
 AskMemory bytes = MayHoldOne bytes ⊎ ((ops : List Op) × IsFeed bytes ops)
 
--- a stored feed was read for which memory is asked: its bytes, or that no file is there, which is an empty feed
+-- what was read of a stored feed asks for memory: its bytes do; where no file is there none is asked for
 abbrev pub AsksMemory : Option (List ℕ) → Type 0
 AsksMemory (Some bytes) = AskMemory bytes
-AsksMemory None = Unit {0}
+AsksMemory None = ⊥
 
 -- why a stored feed was not opened, by what was read of it
 abbrev pub IsUnopened : Option (List ℕ) → OpenFault → Type 0
