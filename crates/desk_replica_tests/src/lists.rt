@@ -87,3 +87,18 @@ fn a_known_list_takes_no_memory(rt: HostRuntime) -> Result<(), Fail> {
     assert!(rt; known_in_full_heap(rt.alloc(), &heap)? == known);
     Ok(())
 }
+
+/// Whether an empty list is opened where a heap has nothing left.
+fn opens_none_in_full_heap(alloc: Global, heap: &LocalHeap) -> bool {
+    let parts = fill(alloc, heap, 0);
+    let opened = Replica::<Blocks<&LocalHeap>>::open(heap, 1, &[]);
+    drop(parts);
+    opened.is_ok_and(|it| it.is_empty())
+}
+
+#[test]
+fn an_empty_list_takes_no_memory(rt: HostRuntime) -> Result<(), Fail> {
+    let heap = LocalHeap::new(rt.alloc(), HEAP)?;
+    assert!(rt; opens_none_in_full_heap(rt.alloc(), &heap));
+    Ok(())
+}
