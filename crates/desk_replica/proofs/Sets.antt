@@ -106,9 +106,10 @@ grows_by_one h o = by_cases (has_op h o)
 -- for an empty list there is always room
 pub none_has_room : (h : OpSet) (spare : ℕ) (ops : List Op) → h ≡ no_ops → ops ≡ [] → HasRoom h spare ops
 none_has_room h spare ops begun none = subst (HasRoom h spare) (sym none) (record {
-    below = let e : size h ≡ 0 = ap size begun ∙ fin.len-empty _ _ in omega (arith, e);
-    spare = omega arith;
-    unforked = tt })
+  below = let e : size h ≡ 0 = ap size begun ∙ fin.len-empty _ _ in omega (arith, e);
+  spare = omega arith;
+  unforked = tt;
+})
 
 pub room-more : (h after : OpSet) (spare left : ℕ) (o : Op) (os : List Op) → HasRoom h spare (o ∷ os) → after ≡ with_op h o → (is_borne_in h (stamp_of o) ≡ false → spare ≤ left + 1) → (has_op h o ≡ true → left ≡ spare) → HasRoom after left os
 room-more h after spare left o os r e new known = record {
