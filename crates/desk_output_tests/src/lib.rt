@@ -4,6 +4,8 @@
 #[cfg(test)]
 mod holes;
 #[cfg(test)]
+mod metal;
+#[cfg(test)]
 mod picture;
 #[cfg(test)]
 mod preview;

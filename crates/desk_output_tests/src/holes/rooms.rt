@@ -1,13 +1,9 @@
 //! The files of the tests.
 
+use crate::metal::{WEDGE, case_with};
 use desk_files::trial::TrialFiles;
 use desk_inputs::Memory;
 use std::alloc::{AllocError, Global};
-
-const WEDGE: &[u8] =
-    b"wedge = 5\nset_q = 48\npica = \"sixth\"\nunits = [5, 6, 7, 8, 9, 9, 9, 10, 10, 11, 12, 13, 14, 15, 18]\n";
-
-const CASE: &[u8] = b"case = 1\nspace = \"G1\"\nfill = [\"O15\", \"A5\"]\n";
 
 #[rattlefmt::skip]
 const ROWS: &[u8] =
@@ -40,9 +36,7 @@ pub fn rooms(alloc: Global, k: u64) -> Result<TrialFiles<Global>, AllocError> {
     let mut files = TrialFiles::new(alloc).failing_at_call(k);
     files.put("ribbon", RIBBON)?;
     files.put("cut", b"MRB1\0\0\0\x02\0\0\x02\x06")?;
-    let mut case = Vec::new(alloc);
-    case.extend_from_slice(CASE)?;
-    case.extend_from_slice(ROWS)?;
+    let case = case_with(alloc, ROWS)?;
     files.put("c", &case)?;
     files.put("w", WEDGE)?;
     files.put("a.svg", OLD)?;
