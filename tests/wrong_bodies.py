@@ -5,10 +5,12 @@ usage: wrong_bodies.py [--built] [--named] [--anew] [--copies] [CRATE ..]    of 
 
 A wrong body is a bug written into a function on purpose, a file as of must-fail. A check reads a crate and all that it stands
 on before it looks at a goal, and a caller knows of a function what its contract says and no more. So many wrong bodies are put
-into one copy of their crate, and only their functions are checked, with those that they call: each must have a goal of its own
-that is not proved, and not only a callee that is not. Each wrong body stands in a copy of its function, with its contract and
-its proof, right behind it, so that what calls the function has the right one. A method of a trait has no such copy, nor has a
-function that calls itself: their wrong bodies stand in their place, in checks of such alone, and two of one take two checks.
+into one copy of their crate, and only their functions are checked: each must have a goal of its own that is not proved. What
+they call is taken by its contract, with a hole for its proof, which `rt ci` has made. Each wrong body stands in a copy of its
+function, with its contract and its proof, right behind it, so that what calls the function has the right one. A method of a
+trait has no such copy, nor has a function that calls itself: their wrong bodies stand in their place, in checks of such alone,
+and two of one take two checks. For a goal that no answer of the function's proof is for the prover searches long where it is
+false: a line `goal: NAME c` (or `g c`, as in the answers of the function) names such a goal, which then has a short search.
 Where a change is in no function, as of a constant or a law, a line `only: PATH ..` names functions of which one must have such
 a goal; it is tried alone. Those of which only names of goals are gone, so that an answer has none, are named at the end. One
 that this does not show is tried again alone, the whole crate by the rule of `rt must-fail`: the prover reads the text, and
@@ -19,10 +21,12 @@ With --built the libraries are those that `rt ci` has just proved in this tree, 
 or have changed since, are proved first. Lanes: RT_JOBS, or one for each processor as far as there are 4.5 GB for each.
 What was refused is kept beside the kit, on this machine alone, by the sum of all that the try read (the kit, the crate and
 those below it, the wrong body and this page), as `rt ci` keeps what it proved: a later run tries what changed. --anew tries all.
---copies tries the tool itself, and not in the gate: each function that has a wrong body is copied as it is, and must be proved.
+--copies tries the tool itself, and not in the gate: each function that has a wrong body is copied as it is, and must be proved,
+also with the short searches of each of its wrong bodies.
 It ends with status 0 where each was refused, else with those that were not. The last line is 'N passed, M failed'.
 """
 import concurrent.futures
+import functools
 import hashlib
 import importlib.machinery
 import importlib.util
@@ -39,6 +43,7 @@ import time
 ROOT = pathlib.Path(__file__).resolve().parent.parent
 APART, NAMED = "wrong-bodies", "must-fail"
 FN = re.compile(r"^( *)(?:pub(?:\([^)]*\))? )?(?:const )?(?:unsafe )?fn (\w+)", re.M)
+TYPE = re.compile(r"^ *(?:pub(?:\([^)]*\))? )?(?:struct|enum) (\w+)", re.M)
 OWNER = re.compile(r"^(?:impl|(?:pub )?trait)\b([^{;]*)", re.M)
 # How the name of a function's copy ends, before its number.
 AGAIN = "_once_more_"
@@ -82,17 +87,35 @@ def pairs_of(text):
     return out
 
 
+def module_of(file):
+    """The path of the module that a file of a crate is."""
+    module = file[len("src/") : -len(".rt")]
+    return [] if module == "lib" else module.split("/")
+
+
+@functools.lru_cache(maxsize=None)
+def homes_of(folder):
+    """The modules in which a crate declares each of its types."""
+    out = {}
+    for path in sorted(pathlib.Path(folder, "src").rglob("*.rt")):
+        for found in TYPE.finditer(path.read_text(encoding="utf-8")):
+            out.setdefault(found[1], []).append(module_of(str(path.relative_to(folder))))
+    return out
+
+
 class Function:
     """A function of a crate's source file: the path that `--only` takes, how its line in a check begins, and where it stands."""
 
-    def __init__(self, file, text, found):
+    def __init__(self, folder, file, text, found):
         self.file, self.name, self.start, self.end = file, found[2], self.first_line(text, found.start()), self.close(text, found)
         self.path, self.shape, self.folder, self.is_method = None, None, None, bool(found[1])
-        module = file[len("src/") : -len(".rt")]
-        outer = [] if module == "lib" else module.split("/")
+        # (where its proof stands; of a function that may be copied the same as `folder`)
+        self.proof = None
+        outer = module_of(file)
         if not found[1]:
             self.path = "::".join([*outer, self.name])
             self.shape, self.folder = re.escape(self.path), [*outer, self.name]
+            self.proof = self.folder
             return
         owner = [it for it in OWNER.finditer(text) if it.start() <= found.start()]
         if not owner:
@@ -106,8 +129,12 @@ class Function:
         trait, _, kind = said.rpartition(" for ")
         kind = re.sub(r"<.*", "", kind, flags=re.S).strip().split("::")[-1].strip()
         if not trait:
+            # (such a method stands where its type does, and not where it is written)
+            homes = homes_of(folder).get(kind, [outer])
+            outer = outer if outer in homes else homes[0]
             self.path = kind + "::" + self.name
             self.shape, self.folder = r"(?:\w+::)*%s::%s" % (re.escape(kind), re.escape(self.name)), [*outer, kind, self.name]
+            self.proof = self.folder
             return
         # (rattle's name of an `impl Trait<a::B<T>, (), (C, D)> for Type` is TypeTraitABUnitTuple2CD)
         plain, _, rest = trait.partition("<")
@@ -115,6 +142,8 @@ class Function:
         rest = re.sub(r"\(([^()]+)\)", lambda it: "Tuple%d %s" % (it[1].count(",") + 1, it[1]), rest.replace("()", "Unit"))
         args = [it[0].upper() + it[1:] for it in re.findall(r"\w+", re.sub(r"<[^<>]*>", "", rest))]
         self.path = kind + plain + "".join(args) + "::" + self.name
+        if re.fullmatch(r"\w+", kind):
+            self.proof = [*outer, kind + plain + "".join(args), self.name]
         self.shape = r"(?:\w+::)*%s::%s" % (re.escape(kind + plain + "".join(args)), re.escape(self.name))
 
     @staticmethod
@@ -140,11 +169,13 @@ class Function:
 
     def may_stand_twice(self, text):
         """Whether a copy of it is proved as it is: it is no method of a trait, and does not call itself."""
-        if self.folder is None:
-            return False
+        return self.folder is not None and not self.calls_itself(text)
+
+    def calls_itself(self, text):
+        """Whether it may call itself, by itself or through others."""
         head = r"\b(?:self\.|Self::)" if self.is_method else r"(?<![\w.:])"
         code = re.sub(r"^\s*//.*", "", text[self.start : self.end], flags=re.M)
-        return len(re.findall(r"(?<!fn )%s%s(?:::<|\()" % (head, self.name), code)) == 0
+        return "#[cycle(" in code or bool(re.findall(r"(?<!fn )%s%s(?:::<|\()" % (head, self.name), code))
 
     def named(self, number):
         """The path and the shape of its copy of that number; of the first, which is the function itself, its own."""
@@ -162,12 +193,22 @@ class Function:
             target.write_text(own.sub(lambda it: it[1] + AGAIN + str(number), path.read_text(encoding="utf-8")), encoding="utf-8")
 
 
-def function_at(file, text, place):
+    def leave_open(self, crate, room):
+        """Takes it by its contract in a folder of its crate: with a hole in place of its proof."""
+        folder = pathlib.Path(room, "proofs", *self.proof)
+        folder.mkdir(parents=True, exist_ok=True)
+        for name in ("Answers.antt", "Invariants.antt"):
+            folder.joinpath(name).unlink(missing_ok=True)
+        lines = ["use Rattle.%s.proofs.%s.Statement.{statement}" % (crate.name, ".".join(self.proof)), "", "pub %s_spec : {M : Type 1} → statement M" % self.name, "%s_spec = ?" % self.name, ""]
+        folder.joinpath("Proof.antt").write_text("\n".join(lines), encoding="utf-8")
+
+
+def function_at(folder, file, text, place):
     """The function that a place of a file is in, or none."""
     if not file.startswith("src/"):
         return None
     found = [it for it in FN.finditer(text) if it.start() <= place < Function.close(text, it)]
-    made = Function(file, text, found[-1]) if found else None
+    made = Function(folder, file, text, found[-1]) if found else None
     return made if made and made.path else None
 
 
@@ -229,9 +270,10 @@ class Wrong:
             if text.count(old) != 1:
                 self.bad = "its old text stands in %s %d times" % (file, text.count(old))
                 return
-            found = function_at(file, text, text.find(old))
+            found = function_at(crate.folder, file, text, text.find(old))
             self.places[found.path if found else None] = found
         self.apart = None in self.places
+        self.goals = re.findall(r"^goal: (.*)", self.text.decode("utf-8"), re.M)
         named = re.findall(r"^only: (.*)", self.text.decode("utf-8"), re.M)
         if named:
             self.apart = True
@@ -246,6 +288,19 @@ class Wrong:
         self.number = number
         if not self.apart:
             self.functions = {it.named(number) for it in self.places.values()}
+
+    def answer(self, crate, room):
+        """Has a short search for each goal that it names, which then ends soon."""
+        for place in self.places.values() if self.goals else ():
+            name = place.name + (AGAIN + str(self.number) if self.number > 1 else "")
+            path = pathlib.Path(room, "proofs", *place.proof[:-1], name, "Answers.antt")
+            module = ".".join(["Rattle", crate.name, "proofs", *place.proof[:-1], name, "Goals"])
+            text = path.read_text(encoding="utf-8") if path.exists() else "use %s as goal\n" % module
+            text = text if re.search(r"\brules\b", text) else "use Rattle.std.proofs.Common.{rules}\n" + text
+            for it in self.goals:
+                text += "\npub %s : goal.%s\n%s = search rules\n" % (it.split()[0], it.split()[0], it)
+            path.parent.mkdir(parents=True, exist_ok=True)
+            path.write_text(text, encoding="utf-8")
 
     def changed(self, text):
         """The text of a file, or of a part of it, with what it changes there."""
@@ -263,8 +318,10 @@ class Wrong:
             folder = "./proofs/%s/" % told[0][1].replace("::", "/")
             errors = [it for it in messages(lines) if it.startswith(folder) and ": error: " in it]
             is_open = told[0][2].startswith("not proved")
+            # (with holes its line names what of its own was refused)
+            is_own = told[0][2] == "not proved" or "stands on `Rattle.%s.proofs.%s." % (crate.name, told[0][1].replace("::", ".")) in told[0][2]
             by_names = is_open and bool(errors) and all(GONE.search(it) for it in errors)
-            if told[0][2].startswith("no proof: expected") or is_open and not by_names and (errors or told[0][2] == "not proved"):
+            if told[0][2].startswith("no proof: expected") or is_open and not by_names and (errors or is_own):
                 self.by_name = False
                 return True
             self.by_name = self.by_name or by_names
@@ -328,14 +385,31 @@ def write_changed(crate, room, wrongs):
         pathlib.Path(room, file).write_text(text, encoding="utf-8")
 
 
-def checked(rtlib, crate, wrongs, kept, only):
+def leave_others_open(crate, room, wrongs):
+    """Takes all functions of the crate by their contracts, but for those of these wrong bodies."""
+    own = {path for it in wrongs if it.number == 1 for path, _ in it.functions}
+    for path in sorted(pathlib.Path(crate.folder, "src").rglob("*.rt")):
+        file, text = str(path.relative_to(crate.folder)), path.read_text(encoding="utf-8")
+        for found in FN.finditer(text):
+            function = Function(crate.folder, file, text, found)
+            is_own = any(function.path == it or (function.path or "").endswith("::" + it) for it in own)
+            if function.proof and not is_own and not function.calls_itself(text):
+                function.leave_open(crate, room)
+
+
+def checked(rtlib, crate, wrongs, kept, only, with_holes=False):
     """What a check of a copy of the crate with these wrong bodies says, and its status."""
     with tempfile.TemporaryDirectory(prefix="rt-edit-") as room:
         for part in rtlib.PARTS:
             if os.path.isdir("%s/%s" % (crate.folder, part)):
                 shutil.copytree("%s/%s" % (crate.folder, part), "%s/%s" % (room, part))
         write_changed(crate, room, wrongs)
+        if with_holes:
+            leave_others_open(crate, room, wrongs)
+            for it in wrongs:
+                it.answer(crate, room)
         words = [rtlib.RATTLE, "check", *crate.words(["--jobs", "1"], keeps=False), "--incremental", kept]
+        words += ["--allow-holes"] if with_holes else []
         for it in sorted(only):
             words += ["--only", it]
         how = {"cwd": room, "stdin": subprocess.DEVNULL, "stdout": subprocess.PIPE, "stderr": subprocess.STDOUT, "errors": "replace"}
@@ -366,11 +440,11 @@ def tried(rtlib, crate, wrongs, refused):
         groups = groups_of([it for it in wrongs if it.functions])
         while groups:
             group = groups.pop(0)
-            lines, status = checked(rtlib, crate, group, kept, {path for it in group for path, _ in it.functions})
+            lines, status = checked(rtlib, crate, group, kept, {path for it in group for path, _ in it.functions}, True)
             checks += 1
             if status == 2:
                 # (a path that fits no function, or several)
-                lines, _ = checked(rtlib, crate, group, kept, set())
+                lines, _ = checked(rtlib, crate, group, kept, set(), True)
                 checks += 1
             if len(group) > 1 and not any(it.startswith("fn ") for it in lines):
                 # (one of them is none, and the text was not read)
@@ -394,16 +468,16 @@ def tried(rtlib, crate, wrongs, refused):
 def copied(rtlib, crate, wrongs):
     """Of each function with a wrong body that may stand in a copy: what a check says of a copy of it as it is, where that is not
     that it is proved; and how many were tried."""
-    whole = {path: wrong for wrong in wrongs if not wrong.bad and wrong.movable for path in wrong.places}
-    for wrong in whole.values():
-        wrong.pairs = []
-        wrong.put_at(2)
+    whole, numbers = {(path, *wrong.goals): wrong for wrong in wrongs if not wrong.bad and wrong.movable for path in wrong.places}, {}
+    for (path, *_), wrong in whole.items():
+        wrong.pairs, numbers[path] = [], numbers.get(path, 1) + 1
+        wrong.put_at(numbers[path])
     with tempfile.TemporaryDirectory(prefix="rt-edits-") as kept:
-        lines, _ = checked(rtlib, crate, list(whole.values()), kept, {path for it in whole.values() for path, _ in it.functions})
+        lines, _ = checked(rtlib, crate, list(whole.values()), kept, {path for it in whole.values() for path, _ in it.functions}, True)
     found = []
     for wrong in whole.values():
         for path, shape in wrong.functions:
-            told = [it for it in lines if re.match(r"fn %s::(%s): proved$" % (crate.name, shape), it)]
+            told = [it for it in lines if re.match(r"fn %s::(%s): (no holes$|depends on a hole)" % (crate.name, shape), it)]
             if len(told) != 1:
                 found.append(("%s/%s" % (crate.name, path), "its copy is not proved"))
     return found, len(whole)
