@@ -1,7 +1,7 @@
 -- Runs on a stored feed.
 use Rattle.std.proofs.Common.{refl, ◌≡◌, ℕ, ◌≤◌, inl, inr, List, ap, cond, subst, sym, ◌∙◌, arith}
 use Rattle.std.proofs.Math.Nat.{eq-or-lt_of_le}
-use Rattle.std.specs.Prelude.{Some}
+use Rattle.std.specs.Prelude.{Option, Some, None}
 use Rattle.std.specs.Cmp.{nat_cmp_total}
 use Rattle.std.proofs.lemmas.Cmp.{eq_by_cmp_equiv}
 use Rattle.std.specs.FinMap as fin
@@ -18,13 +18,19 @@ use Rattle.desk_script.specs.declared.fault.LineFault.{LineFault}
 use Rattle.desk_script.specs.declared.fault.LineFault.TheVariants as lines
 use Rattle.desk_script.specs.declared.fault.RunFault.TheVariants as faults
 use Rattle.desk_script.specs.Fault.{of_file, of_lines, of_opening}
-use Rattle.desk_script.specs.FeedRun.{one_site}
+use Rattle.desk_stored.specs.Stored.{Stores}
+use Rattle.desk_script.specs.FeedRun.{IsUnbegun, one_site}
 
 -- the site of the feed is there to the end
 pub is_there : (n : ℕ) (ops : List Op) (start later : Sites) → start ≡ one_site n ops → KeepsSites start later → (set : OpSet) × (fin.get later n ≡ Some set)
 is_there n ops start later is keeps =
     let got : fin.get (one_site n ops) n ≡ Some (with_all no_ops ops) = fin.get-insert nat_cmp_total no_sites n (with_all no_ops ops) n ∙ ap (λ b. cond b (Some (with_all no_ops ops)) (fin.get no_sites n)) ((eq_by_cmp_equiv nat_cmp_total).refl n) in
     keeps n (with_all no_ops ops) (subst (λ (s : Sites). fin.get s n ≡ Some (with_all no_ops ops)) (sym is) got)
+
+-- memory may run out for the site of what was opened
+pub unbegun : (read : Option (List ℕ)) (ops : List Op) → Stores read ops → IsUnbegun read openings.NoMemory
+unbegun (Some bytes) ops stores = inl (inr (ops, stores))
+unbegun None ops stores = inr (refl, refl)
 
 -- how often the device failed, by a refusal
 pub counts_up : (why : FileRefusal) (before after : Shelf) → IsCounted why before after → before.failures ≤ after.failures

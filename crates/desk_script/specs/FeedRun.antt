@@ -1,5 +1,5 @@
 -- A script on a stored feed.
-use Rattle.std.specs.Prelude.{◌≡◌, ◌≤◌, ◌⊎◌, ℕ, List, Option, Some, IfSome}
+use Rattle.std.specs.Prelude.{◌≡◌, ◌≤◌, ◌⊎◌, ℕ, List, Option, Some, None, IfSome}
 use Rattle.std.specs.FinMap as fin
 use Rattle.desk_ops.specs.declared.op.Op.{Op}
 use Rattle.desk_ops.specs.OpSet.{OpSet, max_ops, no_ops, size, with_all}
@@ -9,6 +9,7 @@ use Rattle.desk_script.specs.Fault.{of_file, of_lines, of_opening}
 use Rattle.desk_stored.specs.Fault.{IsNotStored, IsUnopened, IsUnread, IsUntaken}
 use Rattle.desk_stored.specs.Stored.{IsStoredAs, Stores, as_read}
 use Rattle.desk_stored.specs.declared.fault.OpenFault.{OpenFault}
+use Rattle.desk_stored.specs.declared.fault.OpenFault.TheVariants as openings
 use Rattle.desk_script.specs.declared.fault.LineFault.{LineFault}
 use Rattle.desk_script.specs.declared.fault.LineFault.TheVariants as faults
 use Rattle.desk_script.specs.declared.fault.RunFault.{RunFault}
@@ -53,10 +54,14 @@ abbrev pub IsUnstored : List ℕ → ℕ → Shelf → Shelf → Option (List �
 IsUnstored name n held last input before after why =
     (read : Option (List ℕ)) × (start : Desk) × IsStart name n held read start × (new : Desk) × AnswersAll start new input before after × IsNotStored name new.shelf last why
 
+-- no site was made of what was read of a stored feed: it was not opened, or no file is there and memory ran out for the site
+abbrev pub IsUnbegun : Option (List ℕ) → OpenFault → Type 0
+IsUnbegun read why = IsUnopened read why ⊎ ((read ≡ None) × (why ≡ openings.NoMemory))
+
 -- what was read of a stored feed was not opened
 abbrev pub IsClosed : List ℕ → Shelf → Shelf → OpenFault → Type 0
 IsClosed name held last why =
-    (read : Option (List ℕ)) × Reads (held.kept name) (as_read read) × Counts (as_read read) held last × Stays held last × IsUnopened read why
+    (read : Option (List ℕ)) × Reads (held.kept name) (as_read read) × Counts (as_read read) held last × Stays held last × IsUnbegun read why
 
 -- Why a run stopped that had taken the name, and what it left: it did not read the feed, or not open it, and nothing was written; or it stopped among the lines; or it did not store the feed.
 abbrev pub IsStoppedWhileHeld : List ℕ → ℕ → Shelf → Shelf → Option (List ℕ) → Option (List ℕ) → Option (List ℕ) → RunFault → Type 0

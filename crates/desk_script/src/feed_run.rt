@@ -5,11 +5,11 @@ ghost use Rattle.std.specs.FinMap as fin;
 ghost use Rattle.std.specs.Io.KnownBytes.{IsAtEnd};
 ghost use Rattle.desk_ops.specs.declared.op.Op.{Op};
 ghost use Rattle.desk_ops.specs.OpSet.{OpSet, max_ops, no_ops, size, with_all};
-ghost use Rattle.desk_stored.specs.Fault.{IsNotStored, IsUnopened};
+ghost use Rattle.desk_stored.specs.Fault.{IsNotStored};
 ghost use Rattle.desk_files.specs.Files.{HasFailed, HoldsOn, IsHeldAlone, Stays};
 ghost use Rattle.desk_steps.specs.Desk.{desk};
 ghost use Rattle.desk_stored.specs.Stored.{Stores, was_read};
-ghost use Rattle.desk_script.specs.FeedRun.{AnswersStored, IsStoppedOnFeed, IsStored, one_site};
+ghost use Rattle.desk_script.specs.FeedRun.{AnswersStored, IsStoppedOnFeed, IsStored, IsUnbegun, one_site};
 
 use crate::fault::RunFault;
 use crate::stream::answer_all;
@@ -28,7 +28,7 @@ fn opened<A: Allocator + Copy>(
 ) -> Result<World<A>, OpenFault>
     requires { 1 ≤ site }
     ensures ok { IfOk result (λ w. (ops : List Op) × Stores (was_read old.now) ops × (size (with_all no_ops ops) ≤ max_ops) × (w ≡ one_site site ops)) }
-    ensures err { IfErr result (IsUnopened (was_read old.now)) }
+    ensures err { IfErr result (IsUnbegun (was_read old.now)) }
 {
     let replica = open_replica(alloc, old, site)?;
     Ok(World::with_site(alloc, replica)?)

@@ -4,7 +4,7 @@ use Rattle.std.proofs.lemmas.Result.{err_from_is_err_and}
 use Rattle.desk_files.specs.Files.{Counts, IsNowHeld, Reads}
 use Rattle.desk_ops.specs.OpSet.{max_ops, size}
 use Rattle.desk_world.specs.Sites.{no_sites}
-use Rattle.desk_stored.proofs.Feeds.{read_by}
+use Rattle.desk_script.proofs.Feeds.{unbegun}
 use Rattle.desk_stored.specs.Stored.{as_read, was_read}
 use Rattle.desk_files.proofs.Behind.{ok_behind}
 use Rattle.desk_sheet.proofs.stored_sheet.take_feed.Goals as goal
@@ -16,7 +16,7 @@ returns-in_err-world-clause-err g c =
     let taken = ok_behind (λ _. IsNowHeld c.args.name.now (g.F.Files.shelf c.args.files.now) held) _ c.hold.result c.map_err.result c.in_ok-map_err.field-0 c.map_err.ensures.cases c.map_err.ensures.variant c.in_ok-map_err.was c.hold.ensures.taken in
     let read = ok_behind (λ old. Reads (held.kept c.args.name.now) (as_read (was_read old)) × Counts (as_read (was_read old)) held last) _ c.stored_bytes.result c.map_err-2.result c.in_ok-old.old c.map_err-2.ensures.cases c.map_err-2.ensures.variant c.in_ok-old.was c.stored_bytes.ensures.ok in
     let p = err_from_is_err_and c.from_residual-in_err-world.result c.from_residual-in_err-world.ensures.1 in
-    rw p.1 (rw p.2 (held, taken, (was_read c.in_ok-old.old, read.0, read.1, c.stored_bytes.ensures.stays, read_by (was_read c.in_ok-old.old) c.in_ok-replica.ensures.ok.0 c.in_ok-replica.ensures.ok.1)))
+    rw p.1 (rw p.2 (held, taken, (was_read c.in_ok-old.old, read.0, read.1, c.stored_bytes.ensures.stays, unbegun (was_read c.in_ok-old.old) c.in_ok-replica.ensures.ok.0 c.in_ok-replica.ensures.ok.1)))
 
 pub returns-in_err-world-clause-held : goal.returns-in_err-world-clause-held
 returns-in_err-world-clause-held g c =
