@@ -318,8 +318,9 @@ class Wrong:
             folder = "./proofs/%s/" % told[0][1].replace("::", "/")
             errors = [it for it in messages(lines) if it.startswith(folder) and ": error: " in it]
             is_open = told[0][2].startswith("not proved")
-            # (with holes its line names what of its own was refused)
-            is_own = told[0][2] == "not proved" or "stands on `Rattle.%s.proofs.%s." % (crate.name, told[0][1].replace("::", ".")) in told[0][2]
+            # (with holes its line names what was refused: of its own, or, of a law, where the law is shown)
+            own = "Rattle.%s.proofs.%s" % (crate.name, "" if self.apart else told[0][1].replace("::", ".") + ".")
+            is_own = told[0][2] == "not proved" or "stands on `" + own in told[0][2]
             by_names = is_open and bool(errors) and all(GONE.search(it) for it in errors)
             if told[0][2].startswith("no proof: expected") or is_open and not by_names and (errors or is_own):
                 self.by_name = False
