@@ -1,18 +1,20 @@
 #!/usr/bin/env python3
 """Tries wrong bodies, many in one check: the prover must refuse each at its own function.
 
-usage: wrong_bodies.py [--built] [--named] [--anew] [--copies] [CRATE ..]    of every crate that has some, or of those named
+usage: wrong_bodies.py [--built] [--named] [--anew] [--goals] [--copies] [CRATE ..]
+                                                         of every crate that has some, or of those named
 
 A wrong body is a bug written into a function on purpose, a file as of must-fail. A check reads a crate and all that it stands
 on before it looks at a goal, and a caller knows of a function what its contract says and no more. So many wrong bodies are put
 into one copy of their crate, and only their functions are checked: each must have a goal of its own that is not proved. What
-they call is taken by its contract, with a hole for its proof, which `rt ci` has made. Each wrong body stands in a copy of its
-function, with its contract and its proof, right behind it, so that what calls the function has the right one. A method of a
-trait has no such copy, nor has a function that calls itself: their wrong bodies stand in their place, in checks of such alone,
-and two of one take two checks. For a goal that no answer of the function's proof is for the prover searches long where it is
-false: a line `goal: NAME c` (or `g c`, as in the answers of the function) names such a goal, which then has a short search.
-Where a change is in no function, as of a constant or a law, a line `only: PATH ..` names functions of which one must have such
-a goal; it is tried alone. Those of which only names of goals are gone, so that an answer has none, are named at the end. One
+they call is taken by its contract, with a hole for its proof, which `rt ci` has made, and no body. Each wrong body stands in a
+copy of its function, with its contract and its proof, right behind it, so that what calls the function has the right one. A
+method of a trait has no such copy, nor has a function that calls itself: their wrong bodies stand in their place, and two of
+one take two checks. A line `goal: NAME` says by which of its goals it is refused: the answer of its function's proof to that
+goal is then tried alone, which says more, and costs a third. Where the proof has none, since the prover finds it by itself,
+the line has the words of the answer too, as `goal: NAME g c`: it is answered by `search rules`, or by what an `=` gives. Where
+a change is in no function, as of a constant or a law, a line `only: PATH ..` names functions of which one must have such a
+goal; it is tried alone. Those of which only names of goals are gone, so that an answer has none, are named at the end. One
 that this does not show is tried again alone, the whole crate by the rule of `rt must-fail`: the prover reads the text, and
 does not prove it.
 
@@ -21,8 +23,9 @@ With --built the libraries are those that `rt ci` has just proved in this tree, 
 or have changed since, are proved first. Lanes: RT_JOBS, or one for each processor as far as there are 4.5 GB for each.
 What was refused is kept beside the kit, on this machine alone, by the sum of all that the try read (the kit, the crate and
 those below it, the wrong body and this page), as `rt ci` keeps what it proved: a later run tries what changed. --anew tries all.
---copies tries the tool itself, and not in the gate: each function that has a wrong body is copied as it is, and must be proved,
-also with the short searches of each of its wrong bodies.
+--goals writes into each wrong body that is refused and has no line `goal:` the goal by which it is.
+--copies tries the tool itself, and not in the gate: each function that has a wrong body is copied as it is, and must be proved;
+where a wrong body names a goal, the answer to that goal must be, tried alone.
 It ends with status 0 where each was refused, else with those that were not. The last line is 'N passed, M failed'.
 """
 import concurrent.futures
@@ -50,6 +53,9 @@ AGAIN = "_once_more_"
 # What is said of an answer whose goal has another name in the wrong body, and of the answers that use it: that the goal is
 # gone is a refusal, but no reason why the body is wrong.
 GONE = re.compile(r"has no `[^`]*` that can be named from here|has no field|which was rejected, were not checked")
+# Where an answer, or what it uses, begins in a file of answers.
+ANSWER = re.compile(r"^(?:pub )?(\S+) :(?: |$)")
+TACTIC = re.compile(r"^ *#\[tactic\((?:[^\[\]]|\[[^\[\]]*\])*\)\]\n", re.M)
 # What a text that the prover cannot read gives rise to.
 UNREAD = re.compile(r"is not in scope|has no field|is no name|operand is missing|expected the end|cannot continue")
 
@@ -192,11 +198,32 @@ class Function:
             target.parent.mkdir(parents=True, exist_ok=True)
             target.write_text(own.sub(lambda it: it[1] + AGAIN + str(number), path.read_text(encoding="utf-8")), encoding="utf-8")
 
+    def emptied(self, text):
+        """The text of its file with no body in it, of which nothing is read then: it never returns."""
+        own = text[self.start : self.end]
+        if re.search(r"\bconst fn %s\b" % self.name, own):
+            return text
+        lines = own.split("\n")
+        head = next(at for at, it in enumerate(lines) if re.search(r"\bfn %s\b" % self.name, it))
+        indent = re.match(" *", lines[head])[0]
+        last = next((at for at, it in enumerate(lines) if at > head and it == indent + "{"), None)
+        if last is None:
+            last = next((at for at, it in enumerate(lines) if at >= head and it.endswith(" {")), None)
+        if last is None:
+            return text
+        out = [*lines[: last + 1], indent + "    loop {}", indent + "}"]
+        return text[: self.start] + "\n".join(out) + text[self.end :]
 
     def leave_open(self, crate, room):
         """Takes it by its contract in a folder of its crate: with a hole in place of its proof."""
         folder = pathlib.Path(room, "proofs", *self.proof)
         folder.mkdir(parents=True, exist_ok=True)
+        # (the closures of its body have their proofs in folders of their own; a module of its name has its files there too)
+        module = pathlib.Path(room, "src", *self.proof)
+        if not module.is_dir() and not module.with_suffix(".rt").exists():
+            for it in folder.iterdir():
+                if it.is_dir():
+                    shutil.rmtree(it)
         for name in ("Answers.antt", "Invariants.antt"):
             folder.joinpath(name).unlink(missing_ok=True)
         lines = ["use Rattle.%s.proofs.%s.Statement.{statement}" % (crate.name, ".".join(self.proof)), "", "pub %s_spec : {M : Type 1} → statement M" % self.name, "%s_spec = ?" % self.name, ""]
@@ -260,11 +287,13 @@ class Wrong:
 
     def __init__(self, crate, path):
         self.name = "%s/%s" % (crate.name, path.stem)
-        self.text = path.read_bytes()
+        self.path, self.text = path, path.read_bytes()
         self.pairs = pairs_of(self.text.decode("utf-8"))
         self.bad = None if self.pairs else "it has no 'old:' and 'new:' pair"
         # (the number of the copy of its function in which it stands, 1 where that is the function itself)
         self.places, self.functions, self.number, self.by_name = {}, set(), 1, False
+        # (the goal by which it is seen refused where it names none, and whether the one that it names has an answer)
+        self.found, self.is_answered = None, False
         for file, old, _ in self.pairs:
             text = pathlib.Path(crate.folder, file).read_text(encoding="utf-8")
             if text.count(old) != 1:
@@ -273,7 +302,9 @@ class Wrong:
             found = function_at(crate.folder, file, text, text.find(old))
             self.places[found.path if found else None] = found
         self.apart = None in self.places
-        self.goals = re.findall(r"^goal: (.*)", self.text.decode("utf-8"), re.M)
+        # (the goal by which it is refused, and its answer where the function's proof has none)
+        found = re.search(r"^goal: (\S+)(?: ([^=\n]+?))?(?: = (.*))?$", self.text.decode("utf-8"), re.M)
+        self.goal, self.words, self.term = found.groups() if found else (None, None, None)
         named = re.findall(r"^only: (.*)", self.text.decode("utf-8"), re.M)
         if named:
             self.apart = True
@@ -289,18 +320,51 @@ class Wrong:
         if not self.apart:
             self.functions = {it.named(number) for it in self.places.values()}
 
-    def answer(self, crate, room):
-        """Has a short search for each goal that it names, which then ends soon."""
-        for place in self.places.values() if self.goals else ():
-            name = place.name + (AGAIN + str(self.number) if self.number > 1 else "")
-            path = pathlib.Path(room, "proofs", *place.proof[:-1], name, "Answers.antt")
-            module = ".".join(["Rattle", crate.name, "proofs", *place.proof[:-1], name, "Goals"])
-            text = path.read_text(encoding="utf-8") if path.exists() else "use %s as goal\n" % module
-            text = text if re.search(r"\brules\b", text) else "use Rattle.std.proofs.Common.{rules}\n" + text
-            for it in self.goals:
-                text += "\npub %s : goal.%s\n%s = search rules\n" % (it.split()[0], it.split()[0], it)
-            path.parent.mkdir(parents=True, exist_ok=True)
-            path.write_text(text, encoding="utf-8")
+    def place(self):
+        """The function that it is in, where that is one alone with a proof of its own."""
+        found = next(iter(self.places.values())) if len(self.places) == 1 and not self.apart else None
+        return found if found and found.proof else None
+
+    def is_narrow(self):
+        """Whether it names the goal by which it is refused, and that one alone is tried."""
+        return self.goal is not None and self.place() is not None
+
+    def folder(self):
+        """The folder of the proof of its function, or of the copy in which it stands."""
+        place = self.place()
+        return [*place.proof[:-1], place.name + (AGAIN + str(self.number) if self.number > 1 else "")]
+
+    def narrow(self, crate, room):
+        """Has of its function's goals the one that it names answered, and no other looked at."""
+        if not self.is_narrow():
+            return
+        place = self.place()
+        path, module = pathlib.Path(room, "proofs", *self.folder(), "Answers.antt"), ".".join(self.folder())
+        text = path.read_text(encoding="utf-8") if path.exists() else "use Rattle.%s.proofs.%s.Goals as goal\n" % (crate.name, module)
+        text = answers_for(self.goal, text)
+        if self.words:
+            known = {"rules": "Common", "arith": "Common", "common_steps": "lemmas.Grind"}
+            term = self.term or "search rules"
+            for word in [it for it in known if re.search(r"\b%s\b" % it, term) and not re.search(r"^use .*\b%s\b" % it, text, re.M)]:
+                text = "use Rattle.std.proofs.%s.{%s}\n" % (known[word], word) + text
+            text += "\npub %s : goal.%s\n%s %s = %s\n" % (self.goal, self.goal, self.goal, self.words, term)
+        self.is_answered = bool(re.search(r"^pub %s : " % re.escape(self.goal), text, re.M))
+        path.parent.mkdir(parents=True, exist_ok=True)
+        path.write_text(text, encoding="utf-8")
+        source = pathlib.Path(room, place.file)
+        text, name = source.read_text(encoding="utf-8"), self.folder()[-1]
+        wanted = place.path.rpartition("::")[0], name
+        for found in FN.finditer(text):
+            function = Function(crate.folder, place.file, text, found)
+            if function.path and (function.path.rpartition("::")[0], function.name) == wanted:
+                own = TACTIC.sub("", text[function.start : function.end])
+                source.write_text(text[: function.start] + found[1] + "#[tactic(none)]\n" + own + text[function.end :], encoding="utf-8")
+                return
+
+    def errors(self, lines):
+        """What a check says of the answers of its function, or of the one that is left."""
+        head = "./proofs/%s/Answers.antt:" % "/".join(self.folder())
+        return [it for it in messages(lines) if it.startswith(head) and ": error: " in it]
 
     def changed(self, text):
         """The text of a file, or of a part of it, with what it changes there."""
@@ -311,6 +375,11 @@ class Wrong:
     def is_refused(self, crate, lines):
         """Whether one of its functions has a goal of its own that is not proved; `by_name` where only names of goals are gone."""
         self.by_name = False
+        if self.is_narrow():
+            # (one that cites an answer which is left out says nothing)
+            errors = [it for it in self.errors(lines) if self.is_answered and "is not in scope" not in it]
+            self.by_name = bool(errors) and all(GONE.search(it) for it in errors)
+            return bool(errors)
         for _, shape in self.functions:
             told = [it for it in (re.match(r"fn %s::(%s): (.*)" % (crate.name, shape), line) for line in lines) if it]
             if len(told) != 1:
@@ -329,6 +398,59 @@ class Wrong:
         return self.by_name
 
 
+    def goal_of(self, crate, lines):
+        """The goal by which a check refused it, as its line `goal:` has it; none where the check names none."""
+        if self.place() is None:
+            return None
+        path = pathlib.Path(crate.folder, "proofs", *self.place().proof, "Answers.antt")
+        text = path.read_text(encoding="utf-8") if path.exists() else ""
+        refused = {it[1] for it in (re.search(r": error: `([^`]+)`: ", error) for error in self.errors(lines) if not GONE.search(error)) if it}
+        goals = [it for it in re.findall(r"^pub (\S+) : goal\.", text, re.M) if refused & defined_in(answers_for(it, text))]
+        answered = [it for it in goals if it.startswith("returns")] + goals
+        if answered:
+            return answered[0]
+        said = [it for it in lines for _, shape in self.functions if re.match(r"fn %s::(%s): " % (crate.name, shape), it)]
+        found = [it for line in said for it in re.findall(r"`([^`]+)`", line.partition("did not prove ")[2].partition(";")[0])]
+        found = [it for it in found if it.startswith("returns")] + found
+        return "%s %s" % (found[0], self.words_of(crate, text)) if found else None
+
+    def words_of(self, crate, text):
+        """What an answer of its function takes: what is known, and before it of what kinds, where it has kinds."""
+        answered = re.search(r"^\S+ ((?:g )?c)\b[^=\n]*=", text, re.M)
+        if answered:
+            return answered[1]
+        place = self.place()
+        source = pathlib.Path(crate.folder, place.file).read_text(encoding="utf-8")[: place.end]
+        owner = [it[1] for it in OWNER.finditer(source)][-1] if place.is_method else ""
+        head = re.search(r"\bfn %s(<[^(]*>)?\(" % place.name, source[place.start :])
+        kinds = re.match(r"\s*(<[^{]*?>)\s", owner + " ")
+        both = " ".join(it for it in [kinds and kinds[1], head and head[1]] if it)
+        return "g c" if re.search(r"(?<![\w'])[A-Z]\w*\b", both) else "c"
+
+
+def defined_in(text):
+    """The names that a file of answers defines."""
+    return {it[1] for it in (ANSWER.match(line) for line in text.split("\n")) if it}
+
+
+def answers_for(goal, text):
+    """Of a file of answers those that the answer to a goal uses, and that one."""
+    parts = [[None, []]]
+    for line in text.split("\n"):
+        found = ANSWER.match(line)
+        if found and not line.startswith("use "):
+            parts.append([found[1], []])
+        parts[-1][1].append(line)
+    wanted, seen = [goal], {None}
+    while wanted:
+        name = wanted.pop()
+        if name not in seen:
+            seen.add(name)
+            own = "\n".join(line for it, lines in parts if it == name for line in lines)
+            wanted += [it for it, _ in parts if it and re.search(r"(?<![\w.+-])%s(?![\w+-])" % re.escape(it), own)]
+    return "\n".join(line for it, lines in parts if it in seen for line in lines) + "\n"
+
+
 def messages(lines):
     """What a check says, each message with the lines that go on with it."""
     out = []
@@ -340,14 +462,21 @@ def messages(lines):
     return out
 
 
+def may_stand_beside(wrong, group):
+    """Whether a check may have a wrong body beside those of a group. Of those that stand in their place it must try no caller
+    whose whole proof is asked for: what calls a wrong one is not looked at."""
+    if wrong.apart or group[0].apart:
+        return False
+    is_alike = all(it.movable == wrong.movable for it in group) or all(it.is_narrow() for it in [wrong, *group])
+    return is_alike and (wrong.movable or not any(not it.movable and wrong.places.keys() & it.places.keys() for it in group))
+
+
 def groups_of(wrongs):
-    """The wrong bodies in as few groups as the first place gives, and in which copy of its function each stands. Those that
-    stand in their place are in groups of such alone: what calls a wrong one is not looked at."""
+    """The wrong bodies in as few groups as the first place gives, and in which copy of its function each stands."""
     out = []
     for wrong in sorted(wrongs, key=lambda it: it.movable):
         for group in out:
-            is_apart = wrong.apart or group[0].apart or wrong.movable != group[0].movable
-            if not is_apart and (wrong.movable or not any(wrong.places.keys() & it.places.keys() for it in group)):
+            if may_stand_beside(wrong, group):
                 group.append(wrong)
                 break
         else:
@@ -389,16 +518,18 @@ def write_changed(crate, room, wrongs):
 def leave_others_open(crate, room, wrongs):
     """Takes all functions of the crate by their contracts, but for those of these wrong bodies."""
     own = {path for it in wrongs if it.number == 1 for path, _ in it.functions}
-    for path in sorted(pathlib.Path(crate.folder, "src").rglob("*.rt")):
-        file, text = str(path.relative_to(crate.folder)), path.read_text(encoding="utf-8")
-        for found in FN.finditer(text):
+    for path in sorted(pathlib.Path(room, "src").rglob("*.rt")):
+        file, text = str(path.relative_to(room)), path.read_text(encoding="utf-8")
+        for found in reversed([it for it in FN.finditer(text) if AGAIN not in it[2]]):
             function = Function(crate.folder, file, text, found)
             is_own = any(function.path == it or (function.path or "").endswith("::" + it) for it in own)
             if function.proof and not is_own and not function.calls_itself(text):
                 function.leave_open(crate, room)
+                text = function.emptied(text)
+        path.write_text(text, encoding="utf-8")
 
 
-def checked(rtlib, crate, wrongs, kept, only, with_holes=False):
+def checked(rtlib, crate, wrongs, only, with_holes=False):
     """What a check of a copy of the crate with these wrong bodies says, and its status."""
     with tempfile.TemporaryDirectory(prefix="rt-edit-") as room:
         for part in rtlib.PARTS:
@@ -408,8 +539,8 @@ def checked(rtlib, crate, wrongs, kept, only, with_holes=False):
         if with_holes:
             leave_others_open(crate, room, wrongs)
             for it in wrongs:
-                it.answer(crate, room)
-        words = [rtlib.RATTLE, "check", *crate.words(["--jobs", "1"], keeps=False), "--incremental", kept]
+                it.narrow(crate, room)
+        words = [rtlib.RATTLE, "check", *crate.words(["--jobs", "1"], keeps=False)]
         words += ["--allow-holes"] if with_holes else []
         for it in sorted(only):
             words += ["--only", it]
@@ -418,10 +549,10 @@ def checked(rtlib, crate, wrongs, kept, only, with_holes=False):
         return ran.stdout.rstrip("\n").split("\n"), ran.returncode
 
 
-def refused_alone(rtlib, crate, wrong, kept):
+def refused_alone(rtlib, crate, wrong):
     """Whether the prover refuses the crate with this wrong body, by the rule of `rt must-fail`; and what it said."""
     wrong.put_at(1)
-    lines, status = checked(rtlib, crate, [wrong], kept, set())
+    lines, status = checked(rtlib, crate, [wrong], set())
     for it in lines:
         at = re.match(r"(?:\./)?(\S+?):\d+:\d+: error: (?:(`[^`]*`): )?(.*)", it)
         if at and (at[1].startswith(("src/", "specs/"))) and (not at[2] or UNREAD.search(re.sub(r"`[^`]*`", "", at[3]))):
@@ -437,26 +568,31 @@ def tried(rtlib, crate, wrongs, refused):
     faults, alone, checks = [(it.name, it.bad) for it in wrongs if it.bad], [], 0
     keys = {it: refused.key(crate, it) for it in wrongs}
     wrongs = [it for it in wrongs if not it.bad and not refused.has(keys[it])]
-    with tempfile.TemporaryDirectory(prefix="rt-edits-") as kept:
-        groups = groups_of([it for it in wrongs if it.functions])
-        while groups:
-            group = groups.pop(0)
-            lines, status = checked(rtlib, crate, group, kept, {path for it in group for path, _ in it.functions}, True)
+    groups = groups_of([it for it in wrongs if it.functions])
+    while groups:
+        group = groups.pop(0)
+        lines, status = checked(rtlib, crate, group, {path for it in group for path, _ in it.functions}, True)
+        checks += 1
+        if status == 2:
+            # (a path that fits no function, or several)
+            lines, _ = checked(rtlib, crate, group, set(), True)
             checks += 1
-            if status == 2:
-                # (a path that fits no function, or several)
-                lines, _ = checked(rtlib, crate, group, kept, set(), True)
-                checks += 1
-            if len(group) > 1 and not any(it.startswith("fn ") for it in lines):
-                # (one of them is none, and the text was not read)
-                groups += groups_of(group[: len(group) // 2]) + groups_of(group[len(group) // 2 :])
-                continue
-            alone += [it for it in group if not it.is_refused(crate, lines)]
-        for it in alone + [it for it in wrongs if not it.functions]:
-            is_refused, why = refused_alone(rtlib, crate, it, kept)
-            checks += 1
-            if not is_refused:
-                faults.append((it.name, why))
+        if len(group) > 1 and not any(it.startswith("fn ") for it in lines):
+            # (one of them is none, and the text was not read)
+            groups += groups_of(group[: len(group) // 2]) + groups_of(group[len(group) // 2 :])
+            continue
+        for it in group:
+            is_refused = it.is_refused(crate, lines)
+            it.found = it.goal_of(crate, lines) if is_refused and not it.is_narrow() else None
+            if not is_refused and it.is_narrow():
+                faults.append((it.name, "it is not refused by its goal `%s`" % it.goal))
+            elif not is_refused:
+                alone.append(it)
+    for it in alone + [it for it in wrongs if not it.functions]:
+        is_refused, why = refused_alone(rtlib, crate, it)
+        checks += 1
+        if not is_refused:
+            faults.append((it.name, why))
     # (what was tried of files that have changed since is not kept)
     rtlib.forget_stamps()
     lost = {name for name, _ in faults}
@@ -467,20 +603,23 @@ def tried(rtlib, crate, wrongs, refused):
 
 
 def copied(rtlib, crate, wrongs):
-    """Of each function with a wrong body that may stand in a copy: what a check says of a copy of it as it is, where that is not
-    that it is proved; and how many were tried."""
-    whole, numbers = {(path, *wrong.goals): wrong for wrong in wrongs if not wrong.bad and wrong.movable for path in wrong.places}, {}
-    for (path, *_), wrong in whole.items():
-        wrong.pairs, numbers[path] = [], numbers.get(path, 1) + 1
-        wrong.put_at(numbers[path])
-    with tempfile.TemporaryDirectory(prefix="rt-edits-") as kept:
-        lines, _ = checked(rtlib, crate, list(whole.values()), kept, {path for it in whole.values() for path, _ in it.functions}, True)
-    found = []
-    for wrong in whole.values():
-        for path, shape in wrong.functions:
-            told = [it for it in lines if re.match(r"fn %s::(%s): (no holes$|depends on a hole)" % (crate.name, shape), it)]
-            if len(told) != 1:
-                found.append(("%s/%s" % (crate.name, path), "its copy is not proved"))
+    """Of each function with a wrong body that may stand in a copy or names a goal: what a check says of it as it is, where that is
+    not that it is proved, or the answer to the goal; and how many were tried."""
+    whole, found = {}, []
+    for wrong in wrongs:
+        if not wrong.bad and (wrong.movable or wrong.is_narrow()):
+            wrong.pairs = []
+            whole.setdefault((tuple(wrong.places), wrong.goal, wrong.words, wrong.term), wrong)
+    for group in groups_of(whole.values()):
+        lines, _ = checked(rtlib, crate, group, {path for it in group for path, _ in it.functions}, True)
+        for wrong in group:
+            (_, shape), goal = next(iter(wrong.functions)), wrong.goal if wrong.is_narrow() else None
+            wanted = "" if goal else "(no holes$|depends on a hole)"
+            told = [it for it in lines if re.match(r"fn %s::(%s): %s" % (crate.name, shape, wanted), it)]
+            # (a goal that the wrong body alone has, as behind another condition, has no answer to compare)
+            errors = [it for it in wrong.errors(lines) if not wrong.words or "`goal.%s`: module" % goal not in it] if goal else []
+            if len(told) != 1 or errors or goal and not wrong.is_answered:
+                found.append((wrong.name, "the answer to `%s` is not accepted" % goal if goal else "its function's copy is not proved"))
     return found, len(whole)
 
 
@@ -494,52 +633,69 @@ def lanes():
     return max(1, min(os.cpu_count() or 1, free // 4_500_000))
 
 
+def work_of(rtlib, names, folders):
+    """The crates that have wrong bodies, or those named, with these; the dearest first, so that none is left alone at the end."""
+    out = []
+    for crate in [it for it in rtlib.crates_below(str(ROOT)) if not names or it.name in names]:
+        paths = [it for folder in folders for it in sorted(pathlib.Path(crate.folder, folder).glob("*.edit"))]
+        if paths:
+            out.append((crate, [Wrong(crate, it) for it in paths]))
+    return sorted(out, key=lambda it: -it[0].count(rb"\n"))
+
+
+def prove_below(work, is_built):
+    """Proves what the crates stand on, where it is not yet; the name of a crate that is not proved, or none."""
+    below = {dep.name: dep for crate, _ in work for dep in crate.below()}
+    has_stamps = any(os.path.exists("%s/out/rlib/stamp" % it.folder) for it in below.values())
+    if not is_built or has_stamps or not all(os.path.isdir(it.rlib) for it in below.values()):
+        for dep in sorted(below.values(), key=lambda it: len(it.below())):
+            if dep.build_rlib(["--jobs", "1"], anew=False):
+                return dep.name
+    return None
+
+
+def try_all(rtlib, work, flags, pool):
+    """Tries the wrong bodies of these crates, says of each crate how many were refused, and returns the number of all, those that
+    are not refused, and those that names of goals alone refuse."""
+    refused = Refused(kit_folder(), bool(flags & {"--anew", "--goals"}))
+    count, faults, by_name = 0, [], []
+    given = {pool.submit(tried, rtlib, crate, wrongs, refused): (crate, wrongs) for crate, wrongs in work}
+    for it in concurrent.futures.as_completed(given):
+        crate, wrongs = given[it]
+        bad, checks, known, named = it.result()
+        count, faults, by_name = count + len(wrongs), faults + bad, by_name + named
+        for wrong in [it for it in wrongs if it.found and "--goals" in flags]:
+            wrong.path.write_text(wrong.text.decode("utf-8").rstrip("\n") + "\ngoal: %s\n" % wrong.found, encoding="utf-8")
+        print("%s: %d wrong bodies, %d refused, in %d checks (%d kept from earlier runs)" % (crate.name, len(wrongs), len(wrongs) - len(bad), checks, known), flush=True)
+    return count, faults, by_name
+
+
 def main(words):
     flags, names = {it for it in words if it.startswith("--")}, [it for it in words if not it.startswith("--")]
-    if flags - {"--built", "--named", "--anew", "--copies"}:
+    if flags - {"--built", "--named", "--anew", "--goals", "--copies"}:
         print(__doc__, file=sys.stderr)
         return 2
     os.chdir(ROOT)
     rtlib = kit()
     rtlib.guarded()
-    refused = Refused(kit_folder(), "--anew" in flags)
-    folders = [NAMED, APART] if "--named" in flags else [APART]
-    crates = [it for it in rtlib.crates_below(str(ROOT)) if not names or it.name in names]
-    work = []
-    for crate in crates:
-        paths = [it for folder in folders for it in sorted(pathlib.Path(crate.folder, folder).glob("*.edit"))]
-        if paths:
-            work.append((crate, [Wrong(crate, it) for it in paths]))
-    below = {dep.name: dep for crate, _ in work for dep in crate.below()}
-    has_stamps = any(os.path.exists("%s/out/rlib/stamp" % it.folder) for it in below.values())
-    if "--built" not in flags or has_stamps or not all(os.path.isdir(it.rlib) for it in below.values()):
-        for dep in sorted(below.values(), key=lambda it: len(it.below())):
-            if dep.build_rlib(["--jobs", "1"], anew=False):
-                print("wrong_bodies: %s is not proved\n0 passed, 1 failed" % dep.name)
-                return 1
+    work = work_of(rtlib, names, [NAMED, APART] if "--named" in flags else [APART])
+    unproved = prove_below(work, "--built" in flags)
+    if unproved:
+        print("wrong_bodies: %s is not proved\n0 passed, 1 failed" % unproved)
+        return 1
     began, count, faults, by_name = time.time(), 0, [], []
-    # (the dearest first, so that no lane is left alone with one at the end)
-    work.sort(key=lambda it: -it[0].count(rb"\n"))
     with concurrent.futures.ThreadPoolExecutor(lanes()) as pool:
         if "--copies" in flags:
             for bad, number in pool.map(lambda it: copied(rtlib, *it), work):
                 count, faults = count + number, faults + bad
-            for name, why in faults:
-                print("%s: %s" % (name, why))
-            print("%d passed, %d failed" % (count - len(faults), len(faults)))
-            return 1 if faults else 0
-        given = {pool.submit(tried, rtlib, crate, wrongs, refused): (crate, wrongs) for crate, wrongs in work}
-        for it in concurrent.futures.as_completed(given):
-            crate, wrongs = given[it]
-            bad, checks, known, named = it.result()
-            count, faults, by_name = count + len(wrongs), faults + bad, by_name + named
-            print("%s: %d wrong bodies, %d refused, in %d checks (%d kept from earlier runs)" % (crate.name, len(wrongs), len(wrongs) - len(bad), checks, known), flush=True)
+        else:
+            count, faults, by_name = try_all(rtlib, work, flags, pool)
     used = resource.getrusage(resource.RUSAGE_CHILDREN)
-    print("%d wrong bodies, %d not refused, in %d seconds, %.1f minutes of processor" % (count, len(faults), time.time() - began, (used.ru_utime + used.ru_stime) / 60))
+    print("%d tried, %d not as they must be, in %d seconds, %.1f minutes of processor" % (count, len(faults), time.time() - began, (used.ru_utime + used.ru_stime) / 60))
     for name in sorted(by_name):
         print("wrong body refused by names of goals alone: %s" % name)
     for name, why in faults:
-        print("wrong body not refused: %s: %s" % (name, why))
+        print("%s: %s: %s" % ("not proved as it is" if "--copies" in flags else "wrong body not refused", name, why))
     print("%d passed, %d failed" % (count - len(faults), len(faults)))
     return 1 if faults else 0
 
