@@ -4,3 +4,4 @@ pub mod Parts
 pub mod Equal
 pub mod Sets
 pub mod Begins
+pub mod Unreported

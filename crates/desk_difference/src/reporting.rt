@@ -2,15 +2,53 @@
 
 ghost use Rattle.std.specs.Prelude.{◌≡◌, IfErr, IfOk, OnOk};
 ghost use Rattle.desk_files.specs.Files.{Stays};
-ghost use Rattle.desk_difference.specs.Reporting.{IsReported, IsUnreported};
+ghost use Rattle.desk_hand.specs.Exporting.{IsSetOf};
+ghost use Rattle.desk_difference.specs.Reporting.{IsReported, IsWritten, IsUnopened, IsUnreported, IsUnwritten};
 
 use crate::fault::DifferenceFault;
 use crate::reported::reported_of;
+use desk_blocks::Blocks;
 use desk_files::Files;
 use desk_hand::open_feed;
+use desk_replica::Replica;
 use desk_stored::write_out;
 use std::alloc::Allocator;
 use std::io::Write;
+
+/// Opens two stored feeds, the second where the first is opened.
+fn open_both<F: Files, A: Allocator + Copy>(
+    alloc: A,
+    files: &mut F,
+    one: &str,
+    other: &str,
+) -> Result<(Replica<Blocks<A>>, Replica<Blocks<A>>), DifferenceFault>
+    ensures one { IfOk result (λ r. IsSetOf one.now (F.shelf files.old) r.0.ops) }
+    ensures other { IfOk result (λ r. IsSetOf other.now (F.shelf files.old) r.1.ops) }
+    ensures counted { OnOk result ((F.shelf files.new).failures ≡ (F.shelf files.old).failures) }
+    ensures err { IfErr result (IsUnopened one.now other.now (F.shelf files.old) (F.shelf files.new)) }
+    ensures stays { Stays (F.shelf files.old) (F.shelf files.new) }
+{
+    let first = open_feed(alloc, files, one).map_err(DifferenceFault::One)?;
+    let second = open_feed(alloc, files, other).map_err(DifferenceFault::Other)?;
+    Ok((first, second))
+}
+
+/// Writes in what two replicas differ, and answers whether they hold the same operations.
+fn write_difference<W: Write, A: Allocator + Copy>(
+    alloc: A,
+    writer: &mut W,
+    one: &str,
+    other: &str,
+    first: &Replica<Blocks<A>>,
+    second: &Replica<Blocks<A>>,
+) -> Result<bool, DifferenceFault>
+    ensures ok { IfOk result (IsWritten one.now other.now first.now.ops second.now.ops (W.contents writer.old) (W.contents writer.new)) }
+    ensures err { IfErr result (IsUnwritten one.now other.now first.now.ops second.now.ops (W.contents writer.old) (W.contents writer.new)) }
+{
+    let (text, same) = reported_of(alloc, one, other, first, second)?;
+    write_out(writer, &text)?;
+    Ok(same)
+}
 
 /// Writes in what two stored feeds differ, and answers whether they hold the same operations. Each feed has a line,
 /// `one.feed alone 1: 20..25 31, 3: 7` or `one.feed alone none`: the stamps of the operations that it holds and the other
@@ -32,9 +70,6 @@ pub fn report_difference<W: Write, F: Files, A: Allocator + Copy>(
     ensures err { IfErr result (IsUnreported one.now other.now (F.shelf files.old) (F.shelf files.new) (W.contents writer.old) (W.contents writer.new)) }
     ensures stays { Stays (F.shelf files.old) (F.shelf files.new) }
 {
-    let first = open_feed(alloc, files, one).map_err(DifferenceFault::One)?;
-    let second = open_feed(alloc, files, other).map_err(DifferenceFault::Other)?;
-    let (text, same) = reported_of(alloc, one, other, &first, &second)?;
-    write_out(writer, &text)?;
-    Ok(same)
+    let (first, second) = open_both(alloc, files, one, other)?;
+    write_difference(alloc, writer, one, other, &first, &second)
 }

@@ -4,3 +4,4 @@ pub mod Sites
 pub mod Changing
 pub mod Reading
 pub mod Opening
+pub mod Unimported

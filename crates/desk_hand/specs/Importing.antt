@@ -52,6 +52,13 @@ IsLeft before after inputs.NoMemory = HasTaken max_text before after ⊎ IsReadO
 abbrev pub TakesText : ℕ → Bool → Option (List ℕ) → OpSet → OpSet → ℕ → ℕ → Type 0
 TakesText site plain input old now inserted deleted = (text : List Symbol) × IsReadAs plain input text × IsRevised site old now text inserted deleted
 
+-- why the copy of a set is not made what a reader has
+abbrev pub RefusesText : ℕ → Bool → Option (List ℕ) → OpSet → ImportFault → Type 0
+RefusesText site plain input old (imports.Take why) = ⊥
+RefusesText site plain input old (imports.Input why) = IsNoText plain input why
+RefusesText site plain input old (imports.Revision why) = (text : List Symbol) × IsReadAs plain input text × (now : OpSet) × IsUnrevised site old now text why × (why ≢ revisions.Value)
+RefusesText site plain input old (imports.Keep why) = ⊥
+
 -- ---- an import
 
 -- The set is that of the stored feed with operations of the site that make its copy the text. The line was written, and its feed stands under the name.

@@ -194,14 +194,6 @@ impl From<FeedTrouble> for TakeFault {
     }
 }
 
-impl From<OpenFault> for TakeFault {
-    ghost from_gives = { λ why fault. fault ≡ takes.Feed (of_opening why) };
-
-    fn from(why: OpenFault) -> TakeFault {
-        TakeFault::Feed(FeedTrouble::from(why))
-    }
-}
-
 impl From<ReaderFault> for InputFault {
     ghost from_gives = { λ why fault. fault ≡ of_reader why };
 

@@ -3,14 +3,16 @@
 ghost use Rattle.std.specs.Prelude.{◌≡◌, ◌≤◌, ◌⊎◌, IfErr, IfOk, OnOk};
 ghost use Rattle.desk_files.specs.Files.{IsHeldAlone, Stays};
 ghost use Rattle.desk_text.specs.Laws.{AreLawful};
-ghost use Rattle.desk_hand.specs.Importing.{IsImported, IsLeft, IsNoText, IsReadAs, IsReadOut, IsUnimported, LeavesOff};
+ghost use Rattle.desk_hand.specs.Importing.{IsImported, IsLeft, IsNoText, IsReadAs, IsReadOut, IsUnimported, LeavesOff, RefusesText, TakesText};
 
-use crate::editing::revise;
+use crate::editing::{Tally, revise};
 use crate::fault::{ImportFault, InputFault};
 use crate::keeping::report_and_keep;
 use crate::merging::take_feed;
+use desk_blocks::Blocks;
 use desk_files::{Files, read_whole};
 use desk_ops::Symbol;
+use desk_replica::Replica;
 use desk_text::read_text;
 use std::alloc::Allocator;
 use std::io::{Read, Write};
@@ -33,6 +35,22 @@ fn text_from<R: Read, A: Allocator + Copy>(
 {
     let bytes = read_whole(alloc, reader, MAX_TEXT)?;
     Ok(read_text(alloc, &bytes, plain)?)
+}
+
+/// Makes the copy of a replica all that a reader has left.
+fn take_text<R: Read, A: Allocator + Copy>(
+    alloc: A,
+    replica: &mut Replica<Blocks<A>>,
+    reader: &mut R,
+    plain: bool,
+) -> Result<Tally, ImportFault>
+    ensures ok { IfOk result (λ t. TakesText replica.old.site plain (R.remaining reader.old) replica.old.ops replica.new.ops t.inserted t.deleted) }
+    ensures err { IfErr result (RefusesText replica.old.site plain (R.remaining reader.old) replica.old.ops) }
+    ensures end { OnOk result (IsReadOut (R.remaining reader.old) (R.remaining reader.new)) }
+    ensures left { IfErr result (LeavesOff (R.remaining reader.old) (R.remaining reader.new)) }
+{
+    let text = text_from(alloc, reader, plain)?;
+    Ok(revise(alloc, replica, &text)?)
 }
 
 /// Makes the copy of a stored feed the text that a reader has left, whole: with marks for its styles as `desk_text` reads
@@ -59,7 +77,6 @@ pub fn import_text<R: Read, W: Write, F: Files, A: Allocator + Copy>(
     ensures left { IfErr result (LeavesOff (R.remaining reader.old) (R.remaining reader.new)) }
 {
     let (old, mut replica) = take_feed(alloc, files, name, site)?;
-    let text = text_from(alloc, reader, plain)?;
-    let tally = revise(alloc, &mut replica, &text)?;
+    let tally = take_text(alloc, &mut replica, reader, plain)?;
     Ok(report_and_keep(alloc, &replica, tally, writer, files, name, &old)?)
 }

@@ -5,9 +5,9 @@ ghost use Rattle.desk_ops.specs.Op.{IsLawful};
 ghost use Rattle.desk_ops.specs.OpSet.{OpSet};
 ghost use Rattle.desk_answers.specs.Reply.{reply_values};
 ghost use Rattle.desk_answers.specs.Text.{text};
-ghost use Rattle.desk_files.specs.Files.{IsHeldAlone, Stays};
-ghost use Rattle.desk_stored.specs.Stored.{was_read};
-ghost use Rattle.desk_hand.specs.Merging.{IsBarred, IsFeedOf, IsJoined, IsMerged, IsOpened, IsUnmerged, Joins, Refuses, StopsAt, faults_line};
+ghost use Rattle.desk_files.specs.Files.{IsHeldAlone, Reads, Stays};
+ghost use Rattle.desk_stored.specs.Stored.{Opens, as_read, was_read};
+ghost use Rattle.desk_hand.specs.Merging.{IsBarred, IsBarredBy, IsFeedOf, IsJoined, IsMerged, IsOpened, IsUnmerged, Joins, Refuses, StopsAt, faults_line};
 
 use crate::fault::{FeedTrouble, MergeFault, TakeFault};
 use crate::keeping::write_and_keep;
@@ -104,6 +104,27 @@ fn join_files<F: Files, A: Allocator + Copy>(
     Ok(out)
 }
 
+/// Opens the feed that is stored under a name as a replica of a site; with it the bytes that were read. Where no file is
+/// there it holds nothing.
+fn open_stored<F: Files, A: Allocator + Copy>(
+    alloc: A,
+    files: &mut F,
+    name: &str,
+    site: u16,
+) -> Result<(Option<Vec<u8, A>>, Replica<Blocks<A>>), FeedTrouble>
+    requires { 1 ≤ site }
+    ensures read { IfOk result (λ p. Reads ((F.shelf files.old).kept name.now) (as_read (was_read p.0))) }
+    ensures ok { IfOk result (λ p. Opens (was_read p.0) p.1.ops) }
+    ensures site { IfOk result (λ p. p.1.site ≡ site) }
+    ensures same { OnOk result (F.shelf files.new ≡ F.shelf files.old) }
+    ensures err { IfErr result (IsBarredBy name.now (F.shelf files.old) (F.shelf files.new)) }
+    ensures stays { Stays (F.shelf files.old) (F.shelf files.new) }
+{
+    let old = stored_bytes(alloc, files, name)?;
+    let replica = open_replica(alloc, &old, site)?;
+    Ok((old, replica))
+}
+
 /// Takes a name for this run alone, and opens the feed that is stored under it as a replica of a site; with it the bytes
 /// that were read. Where no file is there it holds nothing.
 pub fn take_feed<F: Files, A: Allocator + Copy>(
@@ -119,9 +140,7 @@ pub fn take_feed<F: Files, A: Allocator + Copy>(
     ensures held { IsHeldAlone name.now (F.shelf files.old) (F.shelf files.new) ⊎ Stays (F.shelf files.old) (F.shelf files.new) }
 {
     files.hold(name).map_err(TakeFault::Untaken)?;
-    let old = stored_bytes(alloc, files, name).map_err(FeedTrouble::File)?;
-    let replica = open_replica(alloc, &old, site)?;
-    Ok((old, replica))
+    Ok(open_stored(alloc, files, name, site)?)
 }
 
 /// Writes the line of the copy's faults at the end.

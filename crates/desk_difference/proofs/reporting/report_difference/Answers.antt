@@ -1,84 +1,29 @@
-use Rattle.std.proofs.Common.{◌≡◌, ◌∙◌, List, refl, subst, ℕ}
-use Rattle.std.proofs.lemmas.Result.{err_from_is_err_and}
-use Rattle.std.specs.Io.KnownBytes.{Appends}
+use Rattle.std.proofs.Common.{ℕ, List}
+use Rattle.std.specs.Prelude.{Option}
+use Rattle.std.proofs.lemmas.Result.{IfErr-weaker, IfOk-weaker, err_from_is_err_and}
+use Rattle.desk_ops.specs.OpSet.{OpSet}
 use Rattle.desk_files.specs.Files.{Shelf}
-use Rattle.desk_stored.specs.Sending.{WritesPrefix}
-use Rattle.desk_hand.specs.Exporting.{IsClosedBy, IsSetOf}
-use Rattle.desk_files.proofs.Behind.{err_behind, ok_behind}
-use Rattle.desk_files.proofs.Shelves.{same_shelf}
+use Rattle.desk_difference.specs.Reporting.{IsReported, IsUnreported, IsUnwritten, IsWritten}
+use Rattle.desk_difference.proofs.Unreported.{unopened, unwritten}
 use Rattle.desk_difference.proofs.reporting.report_difference.Goals as goal
 
 pub returns-in_err-first-clause-err : goal.returns-in_err-first-clause-err
 returns-in_err-first-clause-err g c =
-    let first : Shelf = g.F.Files.shelf c.args.files.now in
-    let mid : Shelf = g.F.Files.shelf c.open_feed.new.files in
-    let reported = err_behind (IsClosedBy c.args.one.now first mid) _ c.open_feed.result c.map_err.result c.in_err-first.field-0.0 c.map_err.ensures.cases c.in_err-first.was c.open_feed.ensures.err in
     let p = err_from_is_err_and c.from_residual.result c.from_residual.ensures.1 in
-    rw p.1 (rw p.2 (rw reported.2 (refl, reported.1)))
-
-pub returns-in_err-second-clause-err : goal.returns-in_err-second-clause-err
-returns-in_err-second-clause-err g c =
-    let first : Shelf = g.F.Files.shelf c.args.files.now in
-    let mid : Shelf = g.F.Files.shelf c.open_feed.new.files in
-    let last : Shelf = g.F.Files.shelf c.open_feed-2.new.files in
-    let one = ok_behind (λ r. IsSetOf c.args.one.now first r.ops) _ c.open_feed.result c.map_err.result c.in_ok-first.first c.map_err.ensures.cases c.map_err.ensures.variant c.in_ok-first.was c.open_feed.ensures.ok in
-    let one_counted = ok_behind (λ _. mid.failures ≡ first.failures) _ c.open_feed.result c.map_err.result c.in_ok-first.first c.map_err.ensures.cases c.map_err.ensures.variant c.in_ok-first.was c.open_feed.ensures.counted in
-    let same = same_shelf first mid c.open_feed.ensures.stays one_counted in
-    let reported = err_behind (IsClosedBy c.args.other.now mid last) _ c.open_feed-2.result c.map_err-2.result c.in_err-second.field-0.0 c.map_err-2.ensures.cases c.in_err-second.was c.open_feed-2.ensures.err in
-    let closed = subst (λ (s : Shelf). IsClosedBy c.args.other.now s last reported.0) same reported.1 in
-    let p = err_from_is_err_and c.from_residual-in_err-second.result c.from_residual-in_err-second.ensures.1 in
-    rw p.1 (rw p.2 (rw reported.2 (refl, c.in_ok-first.first.ops, one, closed)))
-
-pub returns-in_err-text-clause-err : goal.returns-in_err-text-clause-err
-returns-in_err-text-clause-err g c =
-    let first : Shelf = g.F.Files.shelf c.args.files.now in
-    let mid : Shelf = g.F.Files.shelf c.open_feed.new.files in
-    let last : Shelf = g.F.Files.shelf c.open_feed-2.new.files in
-    let one = ok_behind (λ r. IsSetOf c.args.one.now first r.ops) _ c.open_feed.result c.map_err.result c.in_ok-first.first c.map_err.ensures.cases c.map_err.ensures.variant c.in_ok-first.was c.open_feed.ensures.ok in
-    let one_counted = ok_behind (λ _. mid.failures ≡ first.failures) _ c.open_feed.result c.map_err.result c.in_ok-first.first c.map_err.ensures.cases c.map_err.ensures.variant c.in_ok-first.was c.open_feed.ensures.counted in
-    let same = same_shelf first mid c.open_feed.ensures.stays one_counted in
-    let other = ok_behind (λ r. IsSetOf c.args.other.now mid r.ops) _ c.open_feed-2.result c.map_err-2.result c.in_ok-second.second c.map_err-2.ensures.cases c.map_err-2.ensures.variant c.in_ok-second.was c.open_feed-2.ensures.ok in
-    let other_counted = ok_behind (λ _. last.failures ≡ mid.failures) _ c.open_feed-2.result c.map_err-2.result c.in_ok-second.second c.map_err-2.ensures.cases c.map_err-2.ensures.variant c.in_ok-second.was c.open_feed-2.ensures.counted in
-    let second = subst (λ (s : Shelf). IsSetOf c.args.other.now s c.in_ok-second.second.ops) same other in
-    let p = err_from_is_err_and c.from_residual-in_err-text.result c.from_residual-in_err-text.ensures.1 in
-    rw p.1 (rw p.2 (refl, other_counted ∙ one_counted, c.in_ok-first.first.ops, c.in_ok-second.second.ops, one, second))
-
-pub returns-in_err-write_out-clause-err : goal.returns-in_err-write_out-clause-err
-returns-in_err-write_out-clause-err g c =
-    let first : Shelf = g.F.Files.shelf c.args.files.now in
-    let mid : Shelf = g.F.Files.shelf c.open_feed.new.files in
-    let last : Shelf = g.F.Files.shelf c.open_feed-2.new.files in
-    let one = ok_behind (λ r. IsSetOf c.args.one.now first r.ops) _ c.open_feed.result c.map_err.result c.in_ok-first.first c.map_err.ensures.cases c.map_err.ensures.variant c.in_ok-first.was c.open_feed.ensures.ok in
-    let one_counted = ok_behind (λ _. mid.failures ≡ first.failures) _ c.open_feed.result c.map_err.result c.in_ok-first.first c.map_err.ensures.cases c.map_err.ensures.variant c.in_ok-first.was c.open_feed.ensures.counted in
-    let same = same_shelf first mid c.open_feed.ensures.stays one_counted in
-    let other = ok_behind (λ r. IsSetOf c.args.other.now mid r.ops) _ c.open_feed-2.result c.map_err-2.result c.in_ok-second.second c.map_err-2.ensures.cases c.map_err-2.ensures.variant c.in_ok-second.was c.open_feed-2.ensures.ok in
-    let other_counted = ok_behind (λ _. last.failures ≡ mid.failures) _ c.open_feed-2.result c.map_err-2.result c.in_ok-second.second c.map_err-2.ensures.cases c.map_err-2.ensures.variant c.in_ok-second.was c.open_feed-2.ensures.counted in
-    let second = subst (λ (s : Shelf). IsSetOf c.args.other.now s c.in_ok-second.second.ops) same other in
-    let front = subst (λ (l : List ℕ). WritesPrefix (g.W.Write.contents c.args.writer.now) (g.W.Write.contents c.write_out.new.writer) l) c.deref.ensures.value c.in_err-write_out.ensures.err in
-    let p = err_from_is_err_and c.from_residual-in_err-write_out.result c.from_residual-in_err-write_out.ensures.1 in
-    rw p.1 (rw p.2 (other_counted ∙ one_counted, c.in_ok-text.text.items, c.in_ok-text.same, (c.in_ok-first.first.ops, c.in_ok-second.second.ops, one, second, c.in_ok-text.ensures), front))
+    rw p.1 (rw p.2 (unopened c.args.one.now c.args.other.now (g.F.Files.shelf c.args.files.now) (g.F.Files.shelf c.open_both.new.files) (g.W.Write.contents c.args.writer.now) c.in_err-first.field-0.0 c.in_err-first.ensures.err))
 
 pub returns-clause-ok : goal.returns-clause-ok
 returns-clause-ok g c =
-    let first : Shelf = g.F.Files.shelf c.args.files.now in
-    let mid : Shelf = g.F.Files.shelf c.open_feed.new.files in
-    let last : Shelf = g.F.Files.shelf c.open_feed-2.new.files in
-    let one = ok_behind (λ r. IsSetOf c.args.one.now first r.ops) _ c.open_feed.result c.map_err.result c.in_ok-first.first c.map_err.ensures.cases c.map_err.ensures.variant c.in_ok-first.was c.open_feed.ensures.ok in
-    let one_counted = ok_behind (λ _. mid.failures ≡ first.failures) _ c.open_feed.result c.map_err.result c.in_ok-first.first c.map_err.ensures.cases c.map_err.ensures.variant c.in_ok-first.was c.open_feed.ensures.counted in
-    let same = same_shelf first mid c.open_feed.ensures.stays one_counted in
-    let other = ok_behind (λ r. IsSetOf c.args.other.now mid r.ops) _ c.open_feed-2.result c.map_err-2.result c.in_ok-second.second c.map_err-2.ensures.cases c.map_err-2.ensures.variant c.in_ok-second.was c.open_feed-2.ensures.ok in
-    let other_counted = ok_behind (λ _. last.failures ≡ mid.failures) _ c.open_feed-2.result c.map_err-2.result c.in_ok-second.second c.map_err-2.ensures.cases c.map_err-2.ensures.variant c.in_ok-second.was c.open_feed-2.ensures.counted in
-    let second = subst (λ (s : Shelf). IsSetOf c.args.other.now s c.in_ok-second.second.ops) same other in
-    let written = subst (λ (l : List ℕ). Appends (g.W.Write.contents c.args.writer.now) (g.W.Write.contents c.write_out.new.writer) l) c.deref.ensures.value c.in_ok-write_out.ensures.ok in
-    (c.in_ok-text.text.items, (c.in_ok-first.first.ops, c.in_ok-second.second.ops, one, second, c.in_ok-text.ensures), written)
+    let before : Option (List ℕ) = g.W.Write.contents c.args.writer.now in
+    let after : Option (List ℕ) = g.W.Write.contents c.write_difference.new.writer in
+    IfOk-weaker c.write_difference.result (IsWritten c.args.one.now c.args.other.now c.in_ok-first.first.ops c.in_ok-first.second.ops before after) (IsReported c.args.one.now c.args.other.now (g.F.Files.shelf c.args.files.now) before after)
+    (λ same written. (written.0, (c.in_ok-first.first.ops, c.in_ok-first.second.ops, c.in_ok-first.ensures.one, c.in_ok-first.ensures.other, written.1), written.2)) c.write_difference.ensures.ok
 
-pub returns-clause-counted : goal.returns-clause-counted
-returns-clause-counted g c =
+pub returns-clause-err : goal.returns-clause-err
+returns-clause-err g c =
     let first : Shelf = g.F.Files.shelf c.args.files.now in
-    let mid : Shelf = g.F.Files.shelf c.open_feed.new.files in
-    let last : Shelf = g.F.Files.shelf c.open_feed-2.new.files in
-    let one = ok_behind (λ r. IsSetOf c.args.one.now first r.ops) _ c.open_feed.result c.map_err.result c.in_ok-first.first c.map_err.ensures.cases c.map_err.ensures.variant c.in_ok-first.was c.open_feed.ensures.ok in
-    let one_counted = ok_behind (λ _. mid.failures ≡ first.failures) _ c.open_feed.result c.map_err.result c.in_ok-first.first c.map_err.ensures.cases c.map_err.ensures.variant c.in_ok-first.was c.open_feed.ensures.counted in
-    let other = ok_behind (λ r. IsSetOf c.args.other.now mid r.ops) _ c.open_feed-2.result c.map_err-2.result c.in_ok-second.second c.map_err-2.ensures.cases c.map_err-2.ensures.variant c.in_ok-second.was c.open_feed-2.ensures.ok in
-    let other_counted = ok_behind (λ _. last.failures ≡ mid.failures) _ c.open_feed-2.result c.map_err-2.result c.in_ok-second.second c.map_err-2.ensures.cases c.map_err-2.ensures.variant c.in_ok-second.was c.open_feed-2.ensures.counted in
-    other_counted ∙ one_counted
+    let last : Shelf = g.F.Files.shelf c.open_both.new.files in
+    let before : Option (List ℕ) = g.W.Write.contents c.args.writer.now in
+    let after : Option (List ℕ) = g.W.Write.contents c.write_difference.new.writer in
+    IfErr-weaker c.write_difference.result (IsUnwritten c.args.one.now c.args.other.now c.in_ok-first.first.ops c.in_ok-first.second.ops before after) (IsUnreported c.args.one.now c.args.other.now first last before after)
+    (λ why unsaid. unwritten c.args.one.now c.args.other.now first last c.in_ok-first.first.ops c.in_ok-first.second.ops before after why c.in_ok-first.ensures.counted c.in_ok-first.ensures.one c.in_ok-first.ensures.other unsaid) c.write_difference.ensures.err
