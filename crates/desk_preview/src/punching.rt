@@ -17,21 +17,13 @@ use desk_stored::write_out;
 use std::alloc::Allocator;
 use std::io::Write;
 
-/// Writes the line of the faults of a job at the end.
-fn put_line<A: Allocator + Copy>(out: &mut String<A>, faults: JobFaults<A>) -> Result<(), NoMemory>
-    ensures { OnOk result (string_bytes out.new ≡ string_bytes out.old ++ no_ribbon_line faults) }
-{
-    let reply = Reply::NoRibbon(faults);
-    put(out, &reply)?;
-    Ok(out.push_str("\n")?)
-}
-
 /// The line of the faults of a job.
 fn line_of<A: Allocator + Copy>(alloc: A, faults: JobFaults<A>) -> Result<String<A>, NoMemory>
     ensures { IfOk result (λ s. string_bytes s ≡ no_ribbon_line faults) }
 {
     let mut out = String::new(alloc);
-    put_line(&mut out, faults)?;
+    put(&mut out, &Reply::NoRibbon(faults))?;
+    out.push_str("\n")?;
     Ok(out)
 }
 
