@@ -114,19 +114,25 @@ no_subcommand = record {
   subs = [];
 }
 
--- with the subcommands that key and correct
-abbrev pub with_correcting : App
-with_correcting = with_subcommand (with_subcommand (with_subcommand (with_subcommand (with_subcommand (with_subcommand (with_subcommand no_subcommand
-    script_app.top) desk_app.top) merge_app.top) diff_app.top) export_app.top) import_app.top) replace_app.top
+-- with its first subcommands, up to `merge`
+abbrev pub up_to_merge : App
+up_to_merge = with_subcommand (with_subcommand (with_subcommand no_subcommand script_app.top) desk_app.top) merge_app.top
+
+-- with those up to `import`
+abbrev pub up_to_import : App
+up_to_import = with_subcommand (with_subcommand (with_subcommand up_to_merge diff_app.top) export_app.top) import_app.top
+
+-- with those up to `proof`
+abbrev pub up_to_proof : App
+up_to_proof = with_subcommand (with_subcommand (with_subcommand up_to_import replace_app.top) check_app.top) proof_app.top
 
 -- with a version
 abbrev pub with_version : App → App
 with_version app = record app { top = record app.top { has_version = true } }
 
--- the program with its subcommands: and with those that look at what will be cast
+-- the program with its subcommands
 abbrev pub copydesk : App
-copydesk = with_version (with_subcommand (with_subcommand (with_subcommand (with_subcommand (with_subcommand with_correcting
-    check_app.top) proof_app.top) punch_app.top) read_app.top) sorts_app.top)
+copydesk = with_version (with_subcommand (with_subcommand (with_subcommand up_to_proof punch_app.top) read_app.top) sorts_app.top)
 
 -- ---- what a subcommand's matches hold
 

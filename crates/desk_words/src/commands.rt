@@ -7,7 +7,7 @@ ghost use Rattle.desk_words.specs.Help.{HasTexts, IsShown, version_of};
 ghost use Rattle.desk_words.specs.Words.{check_app, choice_rule, copydesk, desk_app, diff_app, each_rule, export_app};
 ghost use Rattle.desk_words.specs.Words.{feed_rule, file_rule, flag_rule, import_app, merge_app, names_rule, no_subcommand};
 ghost use Rattle.desk_words.specs.Words.{proof_app, punch_app, read_app, replace_app, ribbon_app, script_app, site_rule};
-ghost use Rattle.desk_words.specs.Words.{sorts_app, sources_app, target_rule, text_rule, with_correcting, with_version};
+ghost use Rattle.desk_words.specs.Words.{sorts_app, sources_app, target_rule, text_rule, up_to_import, up_to_merge, up_to_proof, with_version};
 
 use crate::help::{
     ABOUT, CHECK, COMMANDS, DESK, DIFF, EXPORT, FEED, IMPORT, MERGE, NUMBER, ON_A_FEED, ON_CHECK,
@@ -373,24 +373,42 @@ fn with_version<'a>(command: Command<'a>) -> Command<'a>
     with_texts(command, ABOUT, ON_SUBCOMMANDS).version(VERSION)
 }
 
-/// The program's command with the subcommands that key and correct.
-fn correcting<'a>(alloc: Global) -> Result<Command<'a>, AllocError>
-    ensures { IfOk result (λ c. app_of c ≡ with_correcting) }
+/// The program's command with its first subcommands, up to `merge`.
+fn up_to_merge<'a>(alloc: Global) -> Result<Command<'a>, AllocError>
+    ensures { IfOk result (λ c. app_of c ≡ up_to_merge) }
 {
     let script = script_command(alloc)?;
     let with_script = bare_command(alloc).subcommand(script)?;
     let desk = desk_command(alloc)?;
     let with_desk = with_script.subcommand(desk)?;
     let merge = merge_command(alloc)?;
-    let with_merge = with_desk.subcommand(merge)?;
+    with_desk.subcommand(merge)
+}
+
+/// With those up to `import`.
+fn up_to_import<'a>(alloc: Global) -> Result<Command<'a>, AllocError>
+    ensures { IfOk result (λ c. app_of c ≡ up_to_import) }
+{
+    let first = up_to_merge(alloc)?;
     let diff = diff_command(alloc)?;
-    let with_diff = with_merge.subcommand(diff)?;
+    let with_diff = first.subcommand(diff)?;
     let export = export_command(alloc)?;
     let with_export = with_diff.subcommand(export)?;
     let import = import_command(alloc)?;
-    let with_import = with_export.subcommand(import)?;
+    with_export.subcommand(import)
+}
+
+/// With those up to `proof`.
+fn up_to_proof<'a>(alloc: Global) -> Result<Command<'a>, AllocError>
+    ensures { IfOk result (λ c. app_of c ≡ up_to_proof) }
+{
+    let first = up_to_import(alloc)?;
     let replace = replace_command(alloc)?;
-    with_import.subcommand(replace)
+    let with_replace = first.subcommand(replace)?;
+    let check = check_command(alloc)?;
+    let with_check = with_replace.subcommand(check)?;
+    let proof = proof_command(alloc)?;
+    with_check.subcommand(proof)
 }
 
 /// The program's command, with its subcommands.
@@ -399,13 +417,9 @@ pub fn command<'a>(alloc: Global) -> Result<Command<'a>, AllocError>
     ensures version { IfOk result (λ c. version_of c ≡ Some VERSION.now) }
     ensures texts { IfOk result (λ c. HasTexts c ABOUT.now ON_SUBCOMMANDS.now) }
 {
-    let correcting = correcting(alloc)?;
-    let check = check_command(alloc)?;
-    let with_check = correcting.subcommand(check)?;
-    let proof = proof_command(alloc)?;
-    let with_proof = with_check.subcommand(proof)?;
+    let first = up_to_proof(alloc)?;
     let punch = punch_command(alloc)?;
-    let with_punch = with_proof.subcommand(punch)?;
+    let with_punch = first.subcommand(punch)?;
     let read = read_command(alloc)?;
     let with_read = with_punch.subcommand(read)?;
     let sorts = sorts_command(alloc)?;
