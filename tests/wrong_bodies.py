@@ -145,6 +145,10 @@ class Function:
         # (rattle's name of an `impl Trait<a::B<T>, (), (C, D)> for Type` is TypeTraitABUnitTuple2CD)
         plain, _, rest = trait.partition("<")
         plain = plain.strip().split("::")[-1]
+        if plain == "Drop":
+            # (rattle names it as a method of the type; what drops a value stands on its proof, so that is never left open)
+            self.path, self.shape = kind + "::" + self.name, r"(?:\w+::)*%s::%s" % (re.escape(kind), re.escape(self.name))
+            return
         rest = re.sub(r"\(([^()]+)\)", lambda it: "Tuple%d %s" % (it[1].count(",") + 1, it[1]), rest.replace("()", "Unit"))
         args = [it[0].upper() + it[1:] for it in re.findall(r"\w+", re.sub(r"<[^<>]*>", "", rest))]
         self.path = kind + plain + "".join(args) + "::" + self.name

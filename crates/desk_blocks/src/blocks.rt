@@ -14,13 +14,27 @@ use std::alloc::{AllocError, Allocator};
 use std::marker::Model;
 
 /// A sequence in pages of at most 256, with an index of its stamps.
-#[derive(Drop)]
 pub struct Blocks<A: Allocator> {
     pages: Pages<Slot, Tally, A>,
     index: Index<A>,
     shown: usize,
     /// The names of the pages that were cut off others, of whose stamps the hints are not renewed yet.
     cut: Vec<usize, A>,
+}
+
+// Written out: what drops one calls this, and does not take it apart once more.
+impl<A: Allocator> Drop for Blocks<A> {
+    fn drop(self) {
+        let Blocks {
+            pages,
+            index,
+            shown: _,
+            cut,
+        } = self;
+        drop(pages);
+        drop(index);
+        drop(cut);
+    }
 }
 
 impl<A: Allocator> Model for Blocks<A> {

@@ -98,9 +98,16 @@ impl Pick<Home, ()> for Bearing {
     }
 }
 
-#[derive(Drop)]
 pub struct Index<A: Allocator> {
     homes: Pages<Home, (), A>,
+}
+
+// Written out: what drops one calls this, and does not take it apart once more.
+impl<A: Allocator> Drop for Index<A> {
+    fn drop(self) {
+        let Index { homes } = self;
+        drop(homes);
+    }
 }
 
 impl<A: Allocator> Model for Index<A> {

@@ -133,13 +133,28 @@ impl<T: Drop> From<AllocFailed<T>> for CaseFault {
 
 /// A matrix case: its number and its cells are in their ranges, no symbol stands in two cells, and the cells of its
 /// space and of its 1 to 4 fills are blank.
-#[derive(Drop)]
 pub struct MatrixCase {
     number: u16,
     grid: Vec<Option<Symbol>>,
     cells: IndexMap<Symbol, Cell>,
     space: Cell,
     fill: Vec<Cell>,
+}
+
+// Written out: what drops one calls this, and does not take it apart once more.
+impl Drop for MatrixCase {
+    fn drop(self) {
+        let MatrixCase {
+            number: _,
+            grid,
+            cells,
+            space: _,
+            fill,
+        } = self;
+        drop(grid);
+        drop(cells);
+        drop(fill);
+    }
 }
 
 impl Model for MatrixCase {

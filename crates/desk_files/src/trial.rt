@@ -215,7 +215,6 @@ struct HeldName<A: Allocator + Copy> {
 }
 
 /// Files in memory, of which one call may fail. There are no folders.
-#[derive(Drop)]
 pub struct TrialFiles<A: Allocator + Copy> {
     alloc: A,
     changes: Vec<FileChange<A>, A>,
@@ -223,6 +222,22 @@ pub struct TrialFiles<A: Allocator + Copy> {
     failing_call: u64,
     failures: u64,
     held: Option<HeldName<A>>,
+}
+
+// Written out: what drops one calls this, and does not take it apart once more.
+impl<A: Allocator + Copy> Drop for TrialFiles<A> {
+    fn drop(self) {
+        let TrialFiles {
+            alloc: _,
+            changes,
+            calls: _,
+            failing_call: _,
+            failures: _,
+            held,
+        } = self;
+        drop(changes);
+        drop(held);
+    }
 }
 
 impl<A: Allocator + Copy> TrialFiles<A> {
@@ -243,22 +258,21 @@ impl<A: Allocator + Copy> TrialFiles<A> {
     }
 
     /// Fails at the k-th call, counted from 1. That call changes no file.
-    pub fn failing_at_call(self, k: u64) -> Self
+    pub fn failing_at_call(mut self, k: u64) -> Self
         ensures { result ≡ record self { failing_call = k } }
     {
-        TrialFiles {
-            failing_call: k,
-            ..self
-        }
+        self.failing_call = k;
+        self
     }
 
     /// The files as the next run finds them: the name that was held is free.
-    pub fn for_next_run(self) -> Self
+    pub fn for_next_run(mut self) -> Self
         ensures free { held_in result.held ≡ Free }
         ensures files { result.changes ≡ self.changes }
         ensures same { result ≡ record self { held = result.held } }
     {
-        TrialFiles { held: None, ..self }
+        self.held = None;
+        self
     }
 
     /// The bytes of a file.

@@ -28,13 +28,27 @@ use std::marker::Model;
 use thiserror::Error;
 
 /// The lines of a copy, what they are set by, and the symbols that the case lacks.
-#[derive(Drop)]
 pub struct Galley<'a, A: Allocator> {
     wedge: &'a Wedge,
     values: Values,
     terms: Terms<'a>,
     lacking: Vec<JobFault, A>,
     lines: Vec<Line<A>, A>,
+}
+
+// Written out: what drops one calls this, and does not take it apart once more.
+impl<'a, A: Allocator> Drop for Galley<'a, A> {
+    fn drop(self) {
+        let Galley {
+            wedge: _,
+            values: _,
+            terms: _,
+            lacking,
+            lines,
+        } = self;
+        drop(lacking);
+        drop(lines);
+    }
 }
 
 impl<'a, A: Allocator> Model for Galley<'a, A> {

@@ -63,10 +63,17 @@ impl From<NoMemory> for AddRefusal {
 }
 
 /// A finite set of lawful operations, by stamp and then by bytes, in pages; with room for some more.
-#[derive(Drop)]
 pub struct Held<A: Allocator + Copy> {
     ops: Pages<Slot, (), A>,
     alloc: A,
+}
+
+// Written out: what drops one calls this, and does not take it apart once more.
+impl<A: Allocator + Copy> Drop for Held<A> {
+    fn drop(self) {
+        let Held { ops, alloc: _ } = self;
+        drop(ops);
+    }
 }
 
 impl<A: Allocator + Copy> Model for Held<A> {

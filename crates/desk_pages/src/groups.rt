@@ -9,10 +9,18 @@ use desk_shelf::{Shelf, Summary};
 use std::alloc::{AllocError, Allocator};
 
 /// Where each group of pages begins, and a summary of each, as far as there is room to keep it.
-#[derive(Drop)]
 pub struct Groups<S: Copy, A: Allocator> {
     pub starts: Vec<usize, A>,
     pub sums: Vec<S, A>,
+}
+
+// Written out: what drops one calls this, and does not take it apart once more.
+impl<S: Copy, A: Allocator> Drop for Groups<S, A> {
+    fn drop(self) {
+        let Groups { starts, sums } = self;
+        drop(starts);
+        drop(sums);
+    }
 }
 
 impl<S: Copy, A: Allocator> Groups<S, A> {

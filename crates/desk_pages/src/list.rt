@@ -24,12 +24,26 @@ pub struct Placed {
 }
 
 /// A list in pages of at most 256, seen as its entries and how many more it takes with no new memory.
-#[derive(Drop)]
 pub struct Pages<T: Copy, S: Summary<T>, A: Allocator> {
     pages: Shelf<T, S, A>,
     len: usize,
     groups: Groups<S, A>,
     order: Vec<usize, A>,
+}
+
+// Written out: what drops one calls this, and does not take it apart once more.
+impl<T: Copy, S: Summary<T>, A: Allocator> Drop for Pages<T, S, A> {
+    fn drop(self) {
+        let Pages {
+            pages,
+            len: _,
+            groups,
+            order,
+        } = self;
+        drop(pages);
+        drop(groups);
+        drop(order);
+    }
 }
 
 impl<T: Copy, S: Summary<T>, A: Allocator> Model for Pages<T, S, A> {

@@ -107,7 +107,6 @@ pub struct Count {
 /// of the settings. These follow the set: an operation that comes is put where it acts, with all that waited for it, and
 /// only where it forks a stamp are they made anew. The place where the last one acted is kept as a hint: what is typed or
 /// comes in order hangs there.
-#[derive(Drop)]
 pub struct Replica<Q: Sequence> {
     site: u16,
     held: Held<Q::Memory>,
@@ -116,6 +115,24 @@ pub struct Replica<Q: Sequence> {
     registers: Registers,
     near: usize,
     alloc: Q::Memory,
+}
+
+// Written out: what drops one calls this, and does not take it apart once more.
+impl<Q: Sequence> Drop for Replica<Q> {
+    fn drop(self) {
+        let Replica {
+            site: _,
+            held,
+            sequence,
+            room,
+            registers: _,
+            near: _,
+            alloc: _,
+        } = self;
+        drop(held);
+        drop(sequence);
+        drop(room);
+    }
 }
 
 impl<Q: Sequence> Model for Replica<Q> {

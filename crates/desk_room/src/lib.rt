@@ -22,9 +22,16 @@ use turn::{Above, Earlier, compare, is_in_turn, target_of};
 /// many more can be put with no new memory. It is kept in pages, the greatest target first, then by stamp and bytes, so that a put and a
 /// release look at a few pages and change one or two. No call but `reserve` and `from_ops` takes memory, and these return
 /// `NoMemory` only where a growth was refused.
-#[derive(Drop)]
 pub struct Room<A: Allocator + Copy> {
     ops: Pages<Slot, (), A>,
+}
+
+// Written out: what drops one calls this, and does not take it apart once more.
+impl<A: Allocator + Copy> Drop for Room<A> {
+    fn drop(self) {
+        let Room { ops } = self;
+        drop(ops);
+    }
 }
 
 impl<A: Allocator + Copy> Model for Room<A> {

@@ -13,12 +13,26 @@ use std::alloc::{AllocError, Allocator};
 use std::marker::Model;
 
 /// Pages, and memory for more.
-#[derive(Drop)]
 pub struct Shelf<T: Copy, S: Summary<T>, A: Allocator> {
     heads: Vec<Head<T, S>, A>,
     cells: Vec<T, A>,
     free: Vec<usize, A>,
     all: usize,
+}
+
+// Written out: what drops one calls this, and does not take it apart once more.
+impl<T: Copy, S: Summary<T>, A: Allocator> Drop for Shelf<T, S, A> {
+    fn drop(self) {
+        let Shelf {
+            heads,
+            cells,
+            free,
+            all: _,
+        } = self;
+        drop(heads);
+        drop(cells);
+        drop(free);
+    }
 }
 
 impl<T: Copy, S: Summary<T>, A: Allocator> Model for Shelf<T, S, A> {

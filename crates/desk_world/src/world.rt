@@ -134,10 +134,17 @@ impl<T: Drop> From<AllocFailed<T>> for StepRefusal {
 type SiteMap<A> = IndexMap<u16, Replica<Blocks<A>>, BuildHasherDefault<FoldHasher>, A>;
 
 /// Sites by their numbers, each with a replica.
-#[derive(Drop)]
 pub struct World<A: Allocator + Copy> {
     alloc: A,
     sites: SiteMap<A>,
+}
+
+// Written out: what drops one calls this, and does not take it apart once more.
+impl<A: Allocator + Copy> Drop for World<A> {
+    fn drop(self) {
+        let World { alloc: _, sites } = self;
+        drop(sites);
+    }
 }
 
 impl<A: Allocator + Copy> Model for World<A> {
