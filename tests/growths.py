@@ -27,6 +27,8 @@ oracle.first_fault_wedge = functools.lru_cache(64)(oracle.first_fault_wedge)
 
 HERE = os.path.dirname(os.path.abspath(__file__))
 EXAMPLES = os.path.join(os.path.dirname(HERE), "examples")
+# what a run writes that memory stopped: one line, and a second where it had a file in hand
+NO_MEMORY = re.compile(rb"copydesk: no memory\n(\S+: out of memory\n)?")
 FIRST = """site 1
 site 2
 insert 1 0 r"ab"
@@ -359,13 +361,15 @@ def by_hand(program, folder, library):
         whole = once(runs, 0, False)
         due = 1 if "lacking" in words else 0
         sweep.note(words, None if whole[0] == due and not whole[2] else "ended with %d and %r" % (whole[0], whole[2]))
-        growths = runs.count()
+        growths, named = runs.count(), words.startswith(("check ", "desk "))
         for number, always in [(k, False) for k in range(1, growths + 1)] + [(k, True) for k in range(1, growths + 1, 20)]:
             got = once(runs, number, always)
-            ended = got[0] == 1 and got[2].startswith(b"copydesk: no memory\n") and whole[1].startswith(got[1]) and got[3] == old
+            ended = got[0] == 1 and bool(NO_MEMORY.fullmatch(got[2])) and whole[1].startswith(got[1]) and got[3] == old
+            named = named or ended and b": out of memory" in got[2]
             stopped = got[0] == 1 and got[2].startswith(b"copydesk: line ") and got[1].endswith(b" refused memory\n") and got[3] == old
             sweep.early += ended or stopped
             sweep.note("%s, growth %d" % (words, number), None if ended or stopped or got == whole else "ended with %d, %r and %r" % got[:3])
+        sweep.note(words, None if named else "no run has said over which file memory ran out")
     return sweep
 
 
@@ -407,12 +411,14 @@ def previews(program, folder, library):
         whole = once(runs, 0, False)
         due = 1 if "lacking" in words else 0
         sweep.note(words, None if whole[0] == due and not whole[2] else "ended with %d and %r" % (whole[0], whole[2]))
-        growths = runs.count()
+        growths, named = runs.count(), False
         for number, always in [(k, False) for k in range(1, growths + 1)] + [(k, True) for k in range(1, growths + 1, 20)]:
             got = once(runs, number, always)
-            ended = got[0] == 1 and got[2].startswith(b"copydesk: no memory\n") and whole[1].startswith(got[1]) and got[3] is None
+            ended = got[0] == 1 and bool(NO_MEMORY.fullmatch(got[2])) and whole[1].startswith(got[1]) and got[3] is None
+            named = named or ended and b": out of memory" in got[2]
             sweep.early += ended
             sweep.note("%s, growth %d" % (words, number), None if ended or got == whole else "ended with %d, %r and %r" % got[:3])
+        sweep.note(words, None if named else "no run has said over which file memory ran out")
     return sweep
 
 

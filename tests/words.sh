@@ -29,6 +29,17 @@ expect 0 "" script
 expect 0 "" desk a.feed --site 65535
 [ "$(head -c 4 a.feed)" = MFD2 ] && [ "$(wc -c < a.feed)" = 4 ]
 
+# A run whose output is full stops, and its second line names the output.
+full() {
+  local got=0
+  "$program" "$@" < /dev/null 2> faults > /dev/full || got=$?
+  if [ "$got" != 1 ] || [ "$(cat faults)" != "copydesk: write fault
+standard output: it cannot be written" ]; then
+    echo "copydesk $* with a full output: status $got, $(head -c 200 faults)" >&2
+    exit 1
+  fi
+}
+
 # Two feeds are merged, the copy goes out as text and comes in.
 expect 0 "" import b.feed --site 2 --plain
 expect 2 error: merge a.feed
@@ -57,13 +68,13 @@ printf 'MFD2\x09' > bad.feed
 expect 1 "copydesk: feed refused
 bad.feed: byte 4: no such kind of operation" merge a.feed b.feed bad.feed
 expect 1 "copydesk: feed refused
+bad.feed: byte 4: no such kind of operation" merge a.feed bad.feed b.feed
+expect 1 "copydesk: file fault
+none.feed: it cannot be read" merge a.feed b.feed none.feed b.feed
+expect 1 "copydesk: feed refused
 bad.feed: byte 4: no such kind of operation" export bad.feed
-got=0
-"$program" export a.feed 2> faults > /dev/full || got=$?
-[ "$got" = 1 ] && [ "$(head -1 faults)" = "copydesk: write fault" ]
-got=0
-"$program" merge a.feed b.feed 2> faults > /dev/full || got=$?
-[ "$got" = 1 ] && [ "$(head -1 faults)" = "copydesk: write fault" ]
+full export a.feed
+full merge a.feed b.feed
 cmp a.feed b.feed
 chmod a-w a.feed
 if [ "$(id -u)" != 0 ]; then
@@ -80,6 +91,41 @@ a.feed: another desk has it open" import a.feed --site 1
 expect 0 "" export a.feed
 exec 3>&-
 expect 0 "" merge a.feed b.feed
+
+# Both forms of a feed open one set, with equal answers; and what is no feed of runs has its first fault.
+put() { printf "$(sed 's/ //g; s/../\\x&/g' <<< "$1")"; }
+put '4d464431 01 0000000000000001 0001 0000000000000000 0000 00 00000061 01 0000000000000002 0001 0000000000000001 0001 00 00000062' > singles.feed
+put '4d464432 04 0000000000000001 0001 0000000000000000 0000 02 00 00000061 00 00000062' > runs.feed
+expect 0 "" diff singles.feed runs.feed
+[ "$(cat written)" = "singles.feed alone none
+runs.feed alone none" ]
+for feed in singles runs; do
+  cp $feed.feed stored.feed
+  printf 'show 7\nfaults 7\nsettings 7\nfeed 7\ninsert 7 1 r"x"\nshow 7\n' | "$program" desk stored.feed --site 7 > $feed.answers
+  cp stored.feed $feed.stored
+done
+cmp singles.answers runs.answers
+cmp singles.stored runs.stored
+[ "$(head -1 runs.answers)" = 'copy r"ab"' ]
+cat > commands <<'END'
+site 1
+take 1 4d46443204000000000000000100010000000000000000000001
+take 1 4d46443204000000000000000100010000000000000000000041
+take 1 4d464432040000000000000001000100000000000000000000
+take 1 4d46443204000000000000000100010000000000000000000002
+take 1 4d4644320440000000000000000001000000000000000000000200000000610000000062
+take 1 4d46443104
+show 1
+END
+"$program" script < commands > written
+[ "$(cat written)" = 'ok
+refused feed 4 run
+refused feed 4 run
+refused feed 4 cut
+refused feed 4 cut
+refused feed 4 unlawful 1
+refused feed 4 kind
+copy' ]
 
 # A galley is shown, and its ribbon stored: the bytes are those that the command `ribbon` answers.
 cp "$examples/case12.toml" "$examples/wedge5.toml" .
@@ -135,9 +181,7 @@ cmp c.feed before.feed
 echo 'set 1 loose 200' | "$program" desk c.feed --site 1 > written
 expect 1 "copydesk: file fault
 none/c.rib" punch c.feed "${metal[@]}" -o none/c.rib
-got=0
-"$program" proof c.feed "${metal[@]}" 2> faults > /dev/full || got=$?
-[ "$got" = 1 ] && [ "$(head -1 faults)" = "copydesk: write fault" ]
+full proof c.feed "${metal[@]}"
 
 # A picture is drawn beside the proof, settings are tried, a ribbon is read, and sorts are listed; the feed stays as it is.
 cp c.feed before.feed
@@ -152,6 +196,12 @@ expect 1 "" proof c.feed "${metal[@]}" --set loose=50 --faults --svg tried.svg
 grep -q '^line 1: too loose (wedge sum [0-9]*, limit 50), places 0\.\.26$' written
 grep -q 'too loose' tried.svg
 expect 0 "" proof c.feed "${metal[@]}" --set loose=50 --set loose=200
+sets=()
+for measure in 141 142 143 144 145 146 147 148 149 150; do sets+=(--set "measure=$measure"); done
+expect 0 "" proof c.feed "${metal[@]}" "${sets[@]}"
+cmp written proof.txt
+expect 1 "copydesk: input refused
+--set size=50: no setting, or no value that it may have" proof c.feed "${metal[@]}" "${sets[@]}" --set size=50 --set loose=50
 expect 1 "" proof c.feed "${metal[@]}" --set case=13
 [ "$(cat written)" = "no galley: the setting case is not the number of the case" ]
 for text in loose=500 loose measure= =50 "loose =50" size=50 "loose=50 50" loose=0x50 loose=4294967346; do
@@ -185,6 +235,14 @@ expect 1 "" read c.feed "${metal[@]}" --svg none.svg
 [[ "$(cat written)" = "no ribbon: "* ]] && [ ! -e none.svg ]
 expect 1 "copydesk: input refused
 wedge5.toml: a key of a case is missing" read c.rib --case wedge5.toml --wedge wedge5.toml
+cp wedge5.toml other5.toml
+expect 1 "copydesk: input refused
+other5.toml: a key of a case is missing" read c.rib --case other5.toml --wedge wedge5.toml
+expect 1 "copydesk: input refused
+other5.toml: a key of a case is missing" proof c.feed --case other5.toml --wedge wedge5.toml
+expect 1 "copydesk: file fault
+none/holes.svg" read c.rib "${metal[@]}" --svg none/holes.svg
+cmp written read.txt
 head -c -4 c.rib > cut.rib
 expect 1 "" read cut.rib "${metal[@]}"
 [[ "$(cat written)" = "no ribbon: "* ]]
@@ -203,12 +261,8 @@ cp c.feed short.feed
 echo 'insert 1 0 r"~"' | "$program" desk short.feed --site 1 > written
 expect 1 "" sorts short.feed --case case12.toml
 grep -q "^missing Roman '~' (U+007E)" written
-got=0
-"$program" sorts c.feed --case case12.toml 2> faults > /dev/full || got=$?
-[ "$got" = 1 ] && [ "$(head -1 faults)" = "copydesk: write fault" ]
-got=0
-"$program" read c.rib "${metal[@]}" 2> faults > /dev/full || got=$?
-[ "$got" = 1 ] && [ "$(head -1 faults)" = "copydesk: write fault" ]
+full sorts c.feed --case case12.toml
+full read c.rib "${metal[@]}"
 cmp c.feed before.feed
 
 # A text is replaced where it stands once, and files are checked.
@@ -220,6 +274,7 @@ cp c.feed before.feed
 expect 1 "copydesk: no place" replace c.feed --site 1 'last sheets' sheets
 [ "$(cat written)" = "no place" ]
 expect 1 "copydesk: 2 places" replace c.feed --site 1 in at
+full replace c.feed --site 1 in at
 expect 1 "copydesk: OLD, line 1, column 1: " replace c.feed --site 1 '\q' sheets
 expect 1 "copydesk: NEW, line 1, column 2: " replace c.feed --site 1 sheets 'a\q'
 expect 1 "copydesk: file fault
@@ -258,9 +313,9 @@ expect 1 "copydesk: file fault
 none.feed: it cannot be read" diff c.feed none.feed
 expect 1 "copydesk: feed refused
 bad.feed: byte 4: no such kind of operation" diff bad.feed c.feed
-got=0
-"$program" diff c.feed d.feed 2> faults > /dev/full || got=$?
-[ "$got" = 1 ] && [ "$(head -1 faults)" = "copydesk: write fault" ]
+expect 1 "copydesk: feed refused
+bad.feed: byte 4: no such kind of operation" diff c.feed bad.feed
+full diff c.feed d.feed
 
 # A sheet is carried out whole, or the first line that is refused stops it and nothing is stored.
 cp c.feed before.feed
@@ -282,6 +337,30 @@ got=0
 "$program" script --number < sheet 2> faults > /dev/full || got=$?
 [ "$got" = 1 ] && [ "$(cat faults)" = "copydesk: write fault" ]
 expect 1 "copydesk: file fault" desk none/c.feed --site 1 --strict
+long=$(printf 'x%.0s' $(seq 300))
+for words in --why "--why --strict" "--why --number"; do
+  # shellcheck disable=SC2086
+  expect 1 "copydesk: file fault
+$long: " desk "$long" --site 1 $words
+done
+cp c.feed before.feed
+# A folder can be opened, and not read: input that fails. A sheet has a limit, commands one by one have none.
+for words in --why "--why --strict"; do
+  got=0
+  # shellcheck disable=SC2086
+  "$program" desk c.feed --site 1 $words < . > written 2> faults || got=$?
+  [ "$got" = 1 ] && [ ! -s written ] && [ "$(cat faults)" = "copydesk: read fault
+standard input: it cannot be read" ]
+done
+got=0
+head -c 67108865 /dev/zero | tr '\0' '#' | "$program" desk c.feed --site 1 --strict --why > written 2> faults || got=$?
+[ "$got" = 1 ] && [ ! -s written ] && [ "$(cat faults)" = "copydesk: too long
+standard input: it has more than 67108864 bytes" ]
+got=0
+head -c 8388609 /dev/zero | tr '\0' 'a' | "$program" import c.feed --site 1 > written 2> faults || got=$?
+[ "$got" = 1 ] && [ ! -s written ] && [[ "$(cat faults)" = *"
+standard input: it has more than 8388608 bytes" ]]
+cmp c.feed before.feed
 expect 2 error: script --strict now
 expect 2 error: merge c.feed a.feed --strict
 
@@ -300,7 +379,9 @@ for words in "export c.feed" "merge c.feed b.feed" "import c.feed --site 1" "rep
   got=0
   # shellcheck disable=SC2086
   printf 'insert 1 0 r"A"\n' | "$program" $words 2> faults > /dev/full || got=$?
-  if [ "$got" != 1 ] || [ "$(head -1 faults)" != "copydesk: write fault" ]; then
+  told="copydesk: write fault"
+  [[ "$words" == desk* ]] || told+=$'\nstandard output: it cannot be written'
+  if [ "$got" != 1 ] || [ "$(cat faults)" != "$told" ]; then
     echo "copydesk $words with a full output: status $got, $(head -c 200 faults)" >&2
     exit 1
   fi

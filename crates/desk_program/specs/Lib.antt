@@ -1,3 +1,4 @@
+pub mod Causes
 pub mod Previews
 pub mod Readings
 pub mod Texts

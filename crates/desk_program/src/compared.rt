@@ -3,22 +3,13 @@
 ghost use Rattle.std.specs.Prelude.{◌≡◌, ◌≤◌, MatchResult, false, true};
 ghost use Rattle.desk_program.specs.Compared.{AreNotOne, AreOne};
 
-use crate::reporting::{Cause, feed_cause, reported};
+use crate::causes::difference_cause;
+use crate::reporting::reported;
 use desk_difference::{DifferenceFault, report_difference};
 use desk_files::Files;
 use desk_host::Explains;
 use std::alloc::Global;
 use std::io::Write;
-
-/// The cause where feeds are not compared.
-fn difference_cause<'a>(one: &'a str, other: &'a str, fault: DifferenceFault) -> Cause<'a> {
-    match fault {
-        DifferenceFault::One(why) => feed_cause(one, why),
-        DifferenceFault::Other(why) => feed_cause(other, why),
-        DifferenceFault::Write => Cause::Output,
-        DifferenceFault::NoMemory => Cause::NoMemory(one),
-    }
-}
 
 /// The status of a difference: 1 also where it was written and the feeds do not hold the same.
 fn difference_status<E: Write, F: Explains>(

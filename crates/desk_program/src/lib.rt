@@ -2,6 +2,7 @@
 #![tactic(auto)]
 
 mod by_hand;
+mod causes;
 mod compared;
 mod previews;
 mod readings;

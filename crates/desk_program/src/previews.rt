@@ -5,8 +5,9 @@ ghost use Rattle.std.specs.Prelude.{◌≡◌, ◌≤◌, ◌↔◌, IfSome, IsN
 ghost use Rattle.desk_job.specs.Answer.{AreValues};
 ghost use Rattle.desk_program.specs.Previews.{IsInFile, IsInNoFile, IsPictureAbsent, IsPictureThere, IsSeen, IsSeenBy, IsShown, IsSource, IsUnseen, IsUnseenBy, IsUnshown, TakesSource, extent_of};
 
-use crate::reporting::{Cause, feed_cause, report_target, reported, stopped};
-use desk_files::{FileRefusal, Files};
+use crate::causes::preview_cause;
+use crate::reporting::{report_target, reported, stopped};
+use desk_files::Files;
 use desk_host::Explains;
 use desk_inputs::Memory;
 use desk_picture::picture_feed;
@@ -18,20 +19,6 @@ use desk_trial::{TrialFault, trial_of};
 use desk_words::Sources;
 use std::alloc::Global;
 use std::io::Write;
-
-/// The cause where one does not see what one asked for. Of a job with faults these stand on standard output.
-fn preview_cause<'a>(from: &Sources<'a>, target: &'a str, fault: PreviewFault) -> Cause<'a> {
-    match fault {
-        PreviewFault::Feed(why) => feed_cause(from.feed, why),
-        PreviewFault::Input(why) => Cause::CaseOrWedge(from.case, from.wedge, why),
-        PreviewFault::Faulty => Cause::Reported,
-        PreviewFault::Write => Cause::Output,
-        PreviewFault::Unstored(FileRefusal::NoMemory) | PreviewFault::NoMemory => {
-            Cause::NoMemory(from.feed)
-        }
-        PreviewFault::Unstored(_) => Cause::File(target),
-    }
-}
 
 /// The status of a punch.
 fn punch_status<E: Write, F: Explains>(

@@ -6,52 +6,16 @@ ghost use Rattle.desk_program.specs.Readings.{AreHolesAbsent, AreHolesThere, IsL
 ghost use Rattle.desk_reading.specs.Sources.{sources};
 ghost use Rattle.desk_sorts.specs.Sources as of_sorts;
 
+use crate::causes::{ReadingSources, reading_cause, sorts_cause};
 use crate::previews::memory_of;
-use crate::reporting::{Cause, feed_cause, report_target, reported};
-use desk_files::{FileRefusal, Files};
+use crate::reporting::{report_target, reported};
+use desk_files::Files;
 use desk_holes::draw_ribbon;
 use desk_host::Explains;
-use desk_reading::{ReadingFault, read_job};
-use desk_script::RunFault;
+use desk_reading::read_job;
 use desk_sorts::{SortsFault, report_sorts};
 use std::alloc::Global;
 use std::io::Write;
-
-/// The names of a stored ribbon, of a case file and of a wedge file.
-#[derive(Clone, Copy)]
-pub struct ReadingSources<'a> {
-    pub ribbon: &'a str,
-    pub case: &'a str,
-    pub wedge: &'a str,
-}
-
-/// The cause where a ribbon is not read or not drawn.
-fn reading_cause<'a>(from: &ReadingSources<'a>, target: &'a str, fault: ReadingFault) -> Cause<'a> {
-    match fault {
-        ReadingFault::Ribbon(_) => Cause::File(from.ribbon),
-        ReadingFault::Input(why) => Cause::CaseOrWedge(from.case, from.wedge, why),
-        ReadingFault::Write => Cause::Output,
-        ReadingFault::Unstored(FileRefusal::NoMemory) | ReadingFault::NoMemory => {
-            Cause::NoMemory(from.ribbon)
-        }
-        ReadingFault::Unstored(_) => Cause::File(target),
-    }
-}
-
-/// Writes two lines on why a ribbon is not read or not drawn.
-fn report_reading<E: Write, F: Explains>(
-    faults: &mut E,
-    files: &F,
-    from: &ReadingSources<'_>,
-    target: &str,
-    fault: ReadingFault,
-) {
-    let cause = reading_cause(from, target, fault);
-    let _ = match fault {
-        ReadingFault::Ribbon(why) => reported(faults, files, &RunFault::File(why), cause),
-        _ => reported(faults, files, &fault, cause),
-    };
-}
 
 /// Writes the reading of a ribbon, and says whether it is cast whole; none where it was not written.
 fn read_out<W: Write, E: Write, F: Files + Explains>(
@@ -75,7 +39,7 @@ fn read_out<W: Write, E: Write, F: Files + Explains>(
     match outcome {
         Ok(whole) => Some(whole),
         Err(fault) => {
-            report_reading(faults, files, from, "", fault);
+            let _ = reported(faults, files, &fault, reading_cause(from, "", fault));
             None
         }
     }
@@ -106,7 +70,7 @@ fn drawn<E: Write, F: Files + Explains>(
     match outcome {
         Ok(there) => there,
         Err(fault) => {
-            report_reading(faults, files, from, target, fault);
+            let _ = reported(faults, files, &fault, reading_cause(from, target, fault));
             false
         }
     }
@@ -157,16 +121,6 @@ pub fn read_whole<W: Write, E: Write, F: Files + Explains>(
         return 1;
     }
     if whole { 0 } else { 1 }
-}
-
-/// The cause where sorts are not listed.
-fn sorts_cause<'a>(feed: &'a str, case: &'a str, fault: SortsFault) -> Cause<'a> {
-    match fault {
-        SortsFault::Feed(why) => feed_cause(feed, why),
-        SortsFault::Input(why) => Cause::Case(case, why),
-        SortsFault::Write => Cause::Output,
-        SortsFault::NoMemory => Cause::NoMemory(feed),
-    }
 }
 
 /// The status of a list of sorts: 1 also where it was written and a sort is missing.

@@ -3,10 +3,9 @@
 ghost use Rattle.std.specs.Prelude.{◌≡◌, ◌↔◌, ◌⊎◌, MatchResult};
 ghost use Rattle.std.specs.IoError.{error_kind};
 
+use crate::causes::{Cause, desk_cause};
 use desk_answers::Refusal;
-use desk_codec::FeedFault;
 use desk_files::FileRefusal;
-use desk_hand::{FeedTrouble, MAX_TEXT};
 use desk_host::Explains;
 use desk_script::RunFault;
 use std::fmt::Display;
@@ -30,34 +29,6 @@ pub fn status_of<E: Write>(faults: &mut E, outcome: Result<(), RunFault>) -> u8
     }
 }
 
-/// The cause where a run on a feed stopped.
-fn run_cause<'a>(feed: &'a str, fault: RunFault) -> Cause<'a> {
-    match fault {
-        RunFault::Read => Cause::Input,
-        RunFault::Write => Cause::Output,
-        RunFault::TooLong => Cause::Endless,
-        RunFault::NoMemory => Cause::NoMemory(feed),
-        RunFault::Feed(why) => Cause::Feed(feed, why),
-        RunFault::File(_) => Cause::File(feed),
-        RunFault::Opening(_) => Cause::TooMany(feed),
-    }
-}
-
-/// Writes a second line on what stopped a run on a feed: which file, what was asked of it, and the cause.
-pub fn explain<E: Write, F: Explains>(
-    faults: &mut E,
-    files: &F,
-    feed: &str,
-    outcome: Result<(), RunFault>,
-) {
-    match outcome {
-        Ok(()) => {}
-        Err(fault) => {
-            let _ = explain_cause(faults, files, run_cause(feed, fault));
-        }
-    }
-}
-
 /// The status of a run on a feed. Where it is asked why, a second line says it.
 pub fn status_on<E: Write, F: Explains>(
     faults: &mut E,
@@ -68,59 +39,15 @@ pub fn status_on<E: Write, F: Explains>(
 ) -> u8
     ensures { MatchResult outcome (λ _. result ≡ 0) (λ _. result ≡ 1) }
 {
-    let status = status_of(faults, outcome);
-    if why {
-        explain(faults, files, feed, outcome);
-    }
-    status
-}
-
-/// What stopped something, as its second line says it: which file, and the cause.
-#[derive(Clone, Copy)]
-pub enum Cause<'a> {
-    /// The first line says all.
-    Reported,
-    /// Memory ran out over this feed.
-    NoMemory(&'a str),
-    /// A call failed of this file.
-    File(&'a str),
-    /// The bytes of this file are no feed.
-    Feed(&'a str, FeedFault),
-    /// This feed has more operations than a desk can hold.
-    TooMany(&'a str),
-    /// With the operations of this feed there would be more than a desk can hold.
-    Full(&'a str),
-    /// The text does not fit into this feed.
-    Text(&'a str),
-    /// Of these files, that of a case and that of a wedge, one is not read, or is refused.
-    CaseOrWedge(&'a str, &'a str, Refusal),
-    /// This file of a case is not read, or is refused.
-    Case(&'a str, Refusal),
-    /// Standard input failed.
-    Input,
-    /// Standard input has no end.
-    Endless,
-    /// Standard input has too many bytes.
-    TooLong,
-    /// Standard output failed.
-    Output,
-}
-
-/// The cause where a file was refused.
-pub fn file_cause<'a>(name: &'a str, why: FileRefusal) -> Cause<'a> {
-    match why {
-        FileRefusal::NoMemory => Cause::NoMemory(name),
-        _ => Cause::File(name),
-    }
-}
-
-/// The cause where the feed of a file does not come in.
-pub fn feed_cause<'a>(feed: &'a str, why: FeedTrouble) -> Cause<'a> {
-    match why {
-        FeedTrouble::File(refusal) => file_cause(feed, refusal),
-        FeedTrouble::Feed(fault) => Cause::Feed(feed, fault),
-        FeedTrouble::Full => Cause::Full(feed),
-        FeedTrouble::NoMemory => Cause::NoMemory(feed),
+    match outcome {
+        Ok(()) => 0,
+        Err(fault) => {
+            let status = stopped(faults, fault);
+            if why {
+                explain(faults, files, desk_cause(feed, fault));
+            }
+            status
+        }
     }
 }
 
@@ -209,9 +136,15 @@ fn explain_cause<E: Write, F: Explains>(
         Cause::Case(case, why) => explain_case(faults, files, case, why),
         Cause::Input => writeln!(faults, "standard input: it cannot be read"),
         Cause::Endless => writeln!(faults, "standard input: it has no end"),
-        Cause::TooLong => writeln!(faults, "standard input: it has more than {MAX_TEXT} bytes"),
+        Cause::TooLong(most) => writeln!(faults, "standard input: it has more than {most} bytes"),
         Cause::Output => writeln!(faults, "standard output: it cannot be written"),
     }
+}
+
+/// Writes a second line on what stopped something: which file, what was asked of it, and the cause. A failure to write it
+/// changes nothing.
+pub fn explain<E: Write, F: Explains>(faults: &mut E, files: &F, cause: Cause<'_>) {
+    let _ = explain_cause(faults, files, cause);
 }
 
 /// Writes a line on a fault and a second one on its cause, and gives the status of it. Out of memory is reported as such,
@@ -228,7 +161,7 @@ pub fn reported<E: Write, F: Explains, T: Display>(
         Cause::NoMemory(_) => writeln!(faults, "copydesk: {}", RunFault::NoMemory),
         _ => writeln!(faults, "copydesk: {fault}"),
     };
-    let _ = explain_cause(faults, files, cause);
+    explain(faults, files, cause);
     1
 }
 

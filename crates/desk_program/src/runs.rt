@@ -6,9 +6,10 @@ ghost use Rattle.desk_program.specs.Runs.{Does, IsRun, IsStopped, Stops};
 ghost use Rattle.desk_words.specs.Words.{AsksHelp, AsksNothing, IsLawful};
 
 use crate::by_hand::{export_status, import_status, merge_status};
+use crate::causes::ReadingSources;
 use crate::compared::compared;
 use crate::previews::{proofed, punched};
-use crate::readings::{ReadingSources, listed, read_whole};
+use crate::readings::{listed, read_whole};
 use crate::reporting::stopped;
 use crate::sheets::{on_desk, scripted};
 use crate::texts::{checked, replaced};

@@ -3,6 +3,7 @@
 ghost use Rattle.std.specs.Prelude.{◌≡◌, ◌≤◌, MatchResult};
 ghost use Rattle.desk_program.specs.Sheets.{IsOffDesk, IsOnDesk, IsScripted, IsUnscripted, is_sheet, mode_of};
 
+use crate::causes::sheet_cause;
 use crate::reporting::{explain, status_of, status_on};
 use desk_files::Files;
 use desk_host::Explains;
@@ -29,35 +30,34 @@ fn mode_of(manner: Manner) -> Mode
     }
 }
 
+/// Writes what stopped a sheet, and gives the status of it.
+fn sheet_stopped<E: Write>(faults: &mut E, fault: SheetFault) -> u8
+    ensures { result ≡ 1 }
+{
+    let _ = writeln!(faults, "copydesk: {fault}");
+    1
+}
+
 /// The status of a sheet, with a line on what stopped it.
 fn sheet_status<E: Write>(faults: &mut E, outcome: Result<(), SheetFault>) -> u8
     ensures { MatchResult outcome (λ _. result ≡ 0) (λ _. result ≡ 1) }
 {
     match outcome {
         Ok(()) => 0,
-        Err(fault) => {
-            let _ = writeln!(faults, "copydesk: {fault}");
-            1
-        }
+        Err(fault) => sheet_stopped(faults, fault),
     }
 }
 
 /// Writes a second line on what stopped a sheet on a feed.
-fn explain_sheet<E: Write, F: Explains>(
-    faults: &mut E,
-    files: &F,
-    feed: &str,
-    outcome: Result<(), SheetFault>,
-) {
-    match outcome {
-        Ok(()) => {}
-        Err(SheetFault::Line(number)) => {
+fn explain_sheet<E: Write, F: Explains>(faults: &mut E, files: &F, feed: &str, fault: SheetFault) {
+    match fault {
+        SheetFault::Line(number) => {
             let _ = writeln!(
                 faults,
                 "standard input: the answer to line {number} says why; {feed} is as it was"
             );
         }
-        Err(SheetFault::Run(fault)) => explain(faults, files, feed, Err(fault)),
+        SheetFault::Run(fault) => explain(faults, files, sheet_cause(feed, fault)),
     }
 }
 
@@ -71,11 +71,16 @@ fn sheet_status_on<E: Write, F: Explains>(
 ) -> u8
     ensures { MatchResult outcome (λ _. result ≡ 0) (λ _. result ≡ 1) }
 {
-    let status = sheet_status(faults, outcome);
-    if why {
-        explain_sheet(faults, files, feed, outcome);
+    match outcome {
+        Ok(()) => 0,
+        Err(fault) => {
+            let status = sheet_stopped(faults, fault);
+            if why {
+                explain_sheet(faults, files, feed, fault);
+            }
+            status
+        }
     }
-    status
 }
 
 /// Carries out a script, and gives the status.

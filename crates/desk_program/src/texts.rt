@@ -5,30 +5,16 @@ ghost use Rattle.desk_words.specs.Words.{texts_of};
 ghost use Rattle.desk_replace.specs.Replacing.{IsReplaced};
 ghost use Rattle.desk_program.specs.Texts.{AreFound, AreNotInOrder, IsUnchanged, exchange};
 
-use crate::by_hand::{keep_cause, revision_cause, take_cause};
+use crate::causes::replace_cause;
 use crate::previews::memory_of;
-use crate::reporting::{Cause, reported, stopped};
+use crate::reporting::{reported, stopped};
 use desk_check::{CheckFault, check_files};
 use desk_files::Files;
 use desk_host::Explains;
-use desk_replace::{Exchange, ExchangeFault, PlaceFault, ReplaceFault, replace_text};
+use desk_replace::{Exchange, ReplaceFault, replace_text};
 use desk_script::RunFault;
 use std::alloc::Global;
 use std::io::Write;
-
-/// The cause where nothing was replaced. Of the texts the first line says all; the places stand on standard output.
-fn replace_cause<'a>(feed: &'a str, fault: ReplaceFault) -> Cause<'a> {
-    match fault {
-        ReplaceFault::Exchange(ExchangeFault::NoMemory) => Cause::NoMemory(feed),
-        ReplaceFault::Exchange(_) => Cause::Reported,
-        ReplaceFault::Take(why) => take_cause(feed, why),
-        ReplaceFault::Place(PlaceFault::NoMemory) => Cause::NoMemory(feed),
-        ReplaceFault::Place(PlaceFault::Write) => Cause::Output,
-        ReplaceFault::Place(_) => Cause::Reported,
-        ReplaceFault::Revision(why) => revision_cause(feed, why),
-        ReplaceFault::Keep(why) => keep_cause(feed, why),
-    }
-}
 
 /// The status of a replacement.
 fn replace_status<E: Write, F: Explains>(

@@ -1,0 +1,279 @@
+//! The cause of what stopped, as its second line says it: which file it was, or which end of the program, and why.
+
+ghost use Rattle.std.specs.Prelude.{◌≡◌, slice_get};
+ghost use Rattle.desk_program.specs.Causes.{desk_cause, difference_cause, export_cause, feed_cause, file_cause, import_cause, input_cause, keep_cause, merge_cause, other_cause, preview_cause, reading_cause, replace_cause, revision_cause, sheet_cause, sorts_cause, take_cause, unstored_cause};
+
+use desk_answers::Refusal;
+use desk_codec::FeedFault;
+use desk_difference::DifferenceFault;
+use desk_files::FileRefusal;
+use desk_hand::{
+    ExportFault, FeedTrouble, ImportFault, InputFault, KeepFault, MAX_TEXT, MergeFault,
+    RevisionFault, TakeFault,
+};
+use desk_preview::PreviewFault;
+use desk_reading::ReadingFault;
+use desk_replace::{ExchangeFault, PlaceFault, ReplaceFault};
+use desk_script::RunFault;
+use desk_sheet::MAX_SHEET;
+use desk_sorts::SortsFault;
+use desk_words::Sources;
+
+/// The names of a stored ribbon, of a case file and of a wedge file.
+#[derive(Clone, Copy)]
+pub struct ReadingSources<'a> {
+    pub ribbon: &'a str,
+    pub case: &'a str,
+    pub wedge: &'a str,
+}
+
+/// What stopped something: which file, and the cause.
+#[derive(Clone, Copy)]
+pub enum Cause<'a> {
+    /// The first line says all.
+    Reported,
+    /// Memory ran out over this file.
+    NoMemory(&'a str),
+    /// A call failed of this file.
+    File(&'a str),
+    /// The bytes of this file are no feed.
+    Feed(&'a str, FeedFault),
+    /// This feed has more operations than a desk can hold.
+    TooMany(&'a str),
+    /// With the operations of this feed there would be more than a desk can hold.
+    Full(&'a str),
+    /// The text does not fit into this feed.
+    Text(&'a str),
+    /// Of these files, that of a case and that of a wedge, one is not read, or is refused.
+    CaseOrWedge(&'a str, &'a str, Refusal),
+    /// This file of a case is not read, or is refused.
+    Case(&'a str, Refusal),
+    /// Standard input failed.
+    Input,
+    /// Standard input has no end.
+    Endless,
+    /// Standard input has more than so many bytes.
+    TooLong(usize),
+    /// Standard output failed.
+    Output,
+}
+
+/// The cause where a file was refused.
+fn file_cause<'a>(name: &'a str, why: FileRefusal) -> Cause<'a>
+    ensures { result ≡ file_cause name.entry why }
+{
+    match why {
+        FileRefusal::NoMemory => Cause::NoMemory(name),
+        FileRefusal::Missing | FileRefusal::Device | FileRefusal::Large => Cause::File(name),
+    }
+}
+
+/// The cause where the feed of a file does not come in.
+fn feed_cause<'a>(feed: &'a str, why: FeedTrouble) -> Cause<'a>
+    ensures { result ≡ feed_cause feed.entry why }
+{
+    match why {
+        FeedTrouble::File(refusal) => file_cause(feed, refusal),
+        FeedTrouble::Feed(fault) => Cause::Feed(feed, fault),
+        FeedTrouble::Full => Cause::Full(feed),
+        FeedTrouble::NoMemory => Cause::NoMemory(feed),
+    }
+}
+
+/// The cause where a run of commands on a feed stopped.
+pub fn desk_cause<'a>(feed: &'a str, fault: RunFault) -> Cause<'a>
+    ensures { result ≡ desk_cause feed.entry fault }
+{
+    match fault {
+        RunFault::Read => Cause::Input,
+        RunFault::Write => Cause::Output,
+        RunFault::TooLong => Cause::Endless,
+        RunFault::NoMemory => Cause::NoMemory(feed),
+        RunFault::Feed(why) => Cause::Feed(feed, why),
+        RunFault::File(_) => Cause::File(feed),
+        RunFault::Opening(_) => Cause::TooMany(feed),
+    }
+}
+
+/// The cause where a sheet on a feed stopped. A sheet is read whole, and has a limit.
+pub fn sheet_cause<'a>(feed: &'a str, fault: RunFault) -> Cause<'a>
+    ensures { result ≡ sheet_cause feed.entry fault }
+{
+    match fault {
+        RunFault::TooLong => Cause::TooLong(MAX_SHEET),
+        RunFault::Read
+        | RunFault::Write
+        | RunFault::NoMemory
+        | RunFault::Feed(_)
+        | RunFault::File(_)
+        | RunFault::Opening(_) => desk_cause(feed, fault),
+    }
+}
+
+/// The cause where a stored feed was not taken.
+fn take_cause<'a>(feed: &'a str, why: TakeFault) -> Cause<'a>
+    ensures { result ≡ take_cause feed.entry why }
+{
+    match why {
+        TakeFault::Untaken(refusal) => file_cause(feed, refusal),
+        TakeFault::Feed(trouble) => feed_cause(feed, trouble),
+    }
+}
+
+/// The cause where no text was read. Of the text itself the first line has the place.
+fn input_cause<'a>(feed: &'a str, why: InputFault) -> Cause<'a>
+    ensures { result ≡ input_cause feed.entry why }
+{
+    match why {
+        InputFault::Read => Cause::Input,
+        InputFault::TooLong => Cause::TooLong(MAX_TEXT),
+        InputFault::Text(_) => Cause::Reported,
+        InputFault::NoMemory => Cause::NoMemory(feed),
+    }
+}
+
+/// The cause where a copy was not made a text.
+fn revision_cause<'a>(feed: &'a str, why: RevisionFault) -> Cause<'a>
+    ensures { result ≡ revision_cause feed.entry why }
+{
+    match why {
+        RevisionFault::NoMemory => Cause::NoMemory(feed),
+        RevisionFault::Full | RevisionFault::ClockFull | RevisionFault::Value => Cause::Text(feed),
+    }
+}
+
+/// The cause where what was done was not written, or the feed not stored.
+fn keep_cause<'a>(feed: &'a str, why: KeepFault) -> Cause<'a>
+    ensures { result ≡ keep_cause feed.entry why }
+{
+    match why {
+        KeepFault::Write => Cause::Output,
+        KeepFault::Unstored(refusal) => file_cause(feed, refusal),
+        KeepFault::NoMemory => Cause::NoMemory(feed),
+    }
+}
+
+/// The cause where one of some feeds does not come in, by its place among them.
+fn other_cause<'a>(others: &'a [&'a str], at: usize, why: FeedTrouble) -> Cause<'a>
+    ensures { result ≡ other_cause (slice_get others.now at) why }
+{
+    if at >= others.len() {
+        return Cause::Reported;
+    }
+    feed_cause(others[at], why)
+}
+
+/// The cause where feeds were not merged.
+pub fn merge_cause<'a>(feed: &'a str, others: &'a [&'a str], fault: MergeFault) -> Cause<'a>
+    ensures { result ≡ merge_cause feed.entry others.now fault }
+{
+    match fault {
+        MergeFault::Take(why) => take_cause(feed, why),
+        MergeFault::Other { at, why } => other_cause(others, at, why),
+        MergeFault::Keep(why) => keep_cause(feed, why),
+    }
+}
+
+/// The cause where a feed was not written as text.
+pub fn export_cause<'a>(feed: &'a str, fault: ExportFault) -> Cause<'a>
+    ensures { result ≡ export_cause feed.entry fault }
+{
+    match fault {
+        ExportFault::Feed(why) => feed_cause(feed, why),
+        ExportFault::Write => Cause::Output,
+        ExportFault::NoMemory => Cause::NoMemory(feed),
+    }
+}
+
+/// The cause where a copy was not made a text that is read.
+pub fn import_cause<'a>(feed: &'a str, fault: ImportFault) -> Cause<'a>
+    ensures { result ≡ import_cause feed.entry fault }
+{
+    match fault {
+        ImportFault::Take(why) => take_cause(feed, why),
+        ImportFault::Input(why) => input_cause(feed, why),
+        ImportFault::Revision(why) => revision_cause(feed, why),
+        ImportFault::Keep(why) => keep_cause(feed, why),
+    }
+}
+
+/// The cause where nothing was replaced. Of the texts the first line says all; the places stand on standard output.
+pub fn replace_cause<'a>(feed: &'a str, fault: ReplaceFault) -> Cause<'a>
+    ensures { result ≡ replace_cause feed.entry fault }
+{
+    match fault {
+        ReplaceFault::Exchange(ExchangeFault::NoMemory) => Cause::NoMemory(feed),
+        ReplaceFault::Exchange(ExchangeFault::Old(_) | ExchangeFault::New(_)) => Cause::Reported,
+        ReplaceFault::Take(why) => take_cause(feed, why),
+        ReplaceFault::Place(PlaceFault::NoMemory) => Cause::NoMemory(feed),
+        ReplaceFault::Place(PlaceFault::Write) => Cause::Output,
+        ReplaceFault::Place(PlaceFault::NoPlace | PlaceFault::ManyPlaces(_)) => Cause::Reported,
+        ReplaceFault::Revision(why) => revision_cause(feed, why),
+        ReplaceFault::Keep(why) => keep_cause(feed, why),
+    }
+}
+
+/// The cause where feeds are not compared.
+pub fn difference_cause<'a>(one: &'a str, other: &'a str, fault: DifferenceFault) -> Cause<'a>
+    ensures { result ≡ difference_cause one.entry other.entry fault }
+{
+    match fault {
+        DifferenceFault::One(why) => feed_cause(one, why),
+        DifferenceFault::Other(why) => feed_cause(other, why),
+        DifferenceFault::Write => Cause::Output,
+        DifferenceFault::NoMemory => Cause::NoMemory(one),
+    }
+}
+
+/// The cause where what is made of a file was not stored under its own name.
+fn unstored_cause<'a>(source: &'a str, target: &'a str, why: FileRefusal) -> Cause<'a>
+    ensures { result ≡ unstored_cause source.entry target.entry why }
+{
+    match why {
+        FileRefusal::NoMemory => Cause::NoMemory(source),
+        FileRefusal::Missing | FileRefusal::Device | FileRefusal::Large => Cause::File(target),
+    }
+}
+
+/// The cause where one does not see what one asked for. Of a job with faults these stand on standard output.
+pub fn preview_cause<'a>(from: &Sources<'a>, target: &'a str, fault: PreviewFault) -> Cause<'a>
+    ensures { result ≡ preview_cause from.now target.entry fault }
+{
+    match fault {
+        PreviewFault::Feed(why) => feed_cause(from.feed, why),
+        PreviewFault::Input(why) => Cause::CaseOrWedge(from.case, from.wedge, why),
+        PreviewFault::Faulty => Cause::Reported,
+        PreviewFault::Write => Cause::Output,
+        PreviewFault::Unstored(why) => unstored_cause(from.feed, target, why),
+        PreviewFault::NoMemory => Cause::NoMemory(from.feed),
+    }
+}
+
+/// The cause where a ribbon is not read or not drawn.
+pub fn reading_cause<'a>(
+    from: &ReadingSources<'a>,
+    target: &'a str,
+    fault: ReadingFault,
+) -> Cause<'a>
+    ensures { result ≡ reading_cause from.now target.entry fault }
+{
+    match fault {
+        ReadingFault::Ribbon(_) => Cause::File(from.ribbon),
+        ReadingFault::Input(why) => Cause::CaseOrWedge(from.case, from.wedge, why),
+        ReadingFault::Write => Cause::Output,
+        ReadingFault::Unstored(why) => unstored_cause(from.ribbon, target, why),
+        ReadingFault::NoMemory => Cause::NoMemory(from.ribbon),
+    }
+}
+
+/// The cause where sorts are not listed.
+pub fn sorts_cause<'a>(feed: &'a str, case: &'a str, fault: SortsFault) -> Cause<'a>
+    ensures { result ≡ sorts_cause feed.entry case.entry fault }
+{
+    match fault {
+        SortsFault::Feed(why) => feed_cause(feed, why),
+        SortsFault::Input(why) => Cause::Case(case, why),
+        SortsFault::Write => Cause::Output,
+        SortsFault::NoMemory => Cause::NoMemory(feed),
+    }
+}
