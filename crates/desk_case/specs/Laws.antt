@@ -1,10 +1,12 @@
 -- What the words of a case mean, said of cells, places and names.
-use Rattle.std.specs.Prelude.{◌≡◌, ◌≢◌, ℕ, ◌<◌, ◌≤◌, ◌↔◌, IsTrue, List, All, Option, Some, None, Ok, MatchOption}
+use Rattle.std.specs.Prelude.{◌≡◌, ◌≢◌, ℕ, ◌<◌, ◌≤◌, ◌↔◌, IsTrue, List, [], ◌∷◌, drop, All, Option, Some, None, Ok, MatchOption}
 use Rattle.std.specs.List.{AllPairs}
 use Rattle.toml.specs.Data.{Members}
 use Rattle.desk_signals.specs.declared.Cell.{Cell}
-use Rattle.desk_signals.specs.Columns.{index}
+use Rattle.desk_signals.specs.declared.Column.TheVariants as column
+use Rattle.desk_signals.specs.Columns.{the_columns, index}
 use Rattle.desk_ops.specs.declared.op.Symbol.{Symbol}
+use Rattle.desk_case.specs.declared.TheConstants.{NARROW}
 use Rattle.desk_case.specs.declared.CaseKey.TheVariants as key
 use Rattle.desk_case.specs.Names.{cell_named, name_of, IsCell}
 use Rattle.desk_case.specs.Case.{CaseValues, symbol_at, cell_of, StandsAt, IsDistinct, IsCase}
@@ -37,6 +39,10 @@ DoubledIsFirst = (grid : List (Option Symbol)) → MatchOption (first_doubled gr
 -- each number is above every later one
 abbrev pub DescentIsOfAllPairs : Type 0
 DescentIsOfAllPairs = (us : List ℕ) → IsTrue (is_descending us) ↔ AllPairs (λ u v. v < u) us
+
+-- the columns that a narrow file has not
+abbrev pub NarrowFilesLackNiAndNl : Type 0
+NarrowFilesLackNiAndNl = drop NARROW the_columns ≡ column.NI ∷ column.NL ∷ []
 
 -- where a file has not the columns NI and NL, its case has no symbol there, and neither its space nor a fill
 abbrev pub NarrowCasesLackColumns : Type 0

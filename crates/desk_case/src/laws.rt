@@ -1,6 +1,6 @@
 //! The laws over the definitions alone, each the contract of a function that does nothing.
 
-ghost use Rattle.desk_case.specs.Laws.{CellsAndSymbolsAreInverse, DescentIsOfAllPairs, DoubledIsFirst, NamesAreOneToOne, NarrowCasesLackColumns};
+ghost use Rattle.desk_case.specs.Laws.{CellsAndSymbolsAreInverse, DescentIsOfAllPairs, DoubledIsFirst, NamesAreOneToOne, NarrowCasesLackColumns, NarrowFilesLackNiAndNl};
 
 /// A symbol's cell is the cell that holds it, in every case.
 pub fn cells_and_symbols_are_inverse()
@@ -20,6 +20,11 @@ pub fn doubled_is_first()
 /// Units that descend are each above all later ones.
 pub fn descent_is_of_all_pairs()
     ensures { DescentIsOfAllPairs }
+{}
+
+/// The columns that a narrow file has not are NI and NL.
+pub fn narrow_files_lack_ni_and_nl()
+    ensures { NarrowFilesLackNiAndNl }
 {}
 
 /// Where a file has not the columns NI and NL, its case holds nothing there, and has neither its space nor a fill there.

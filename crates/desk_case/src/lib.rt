@@ -200,7 +200,8 @@ impl MatrixCase {
         self.space
     }
 
-    /// The cells of the fills, 1 to 4, the widest first. None holds a symbol.
+    /// The cells of the fills, 1 to 4, as the file has them; `check` looks whether each is wider than the next. None holds a
+    /// symbol.
     pub fn fill(&self) -> &[Cell]
         ensures value { result.now ≡ self.now.fill }
         ensures blank { All (λ cell. symbol_at self.now cell ≡ None) result.now }
