@@ -6,7 +6,7 @@ use Rattle.desk_commands.specs.Copy.{copy_from}
 use Rattle.desk_commands.specs.Writing.{copy_chars_from}
 use Rattle.desk_commands.specs.Spelling.{RunOf, joined, AreRuns, IsCopy}
 
--- what is written for a copy is read again as that copy
+-- what is written for a copy of one symbol or more is read again as that copy
 abbrev pub CopyIsReadAgain : Type 0
 CopyIsReadAgain = (s : Symbol) (symbols : List Symbol) → copy_from Run (copy_chars_from None (s ∷ symbols)) ≡ Some (s ∷ symbols)
 
@@ -20,7 +20,7 @@ AreLongest [] = Unit {0}
 AreLongest (run ∷ []) = Unit {0}
 AreLongest (run ∷ next ∷ runs) = (run.0.style ≢ next.0.style) × AreLongest (next ∷ runs)
 
--- what is written for a copy are its runs, each the longest of its style
+-- what is written for a copy of one symbol or more are its runs, each the longest of its style
 abbrev pub RunsAreLongest : Type 0
 RunsAreLongest =
     (s : Symbol) (symbols : List Symbol) → (runs : List RunOf) × (s ∷ symbols ≡ joined runs) × AreRuns (copy_chars_from None (s ∷ symbols)) runs × AreLongest runs

@@ -2,7 +2,7 @@
 
 ghost use Rattle.desk_commands.specs.Laws.{CopyIsReadAgain, CopyIsItsSpelling, RunsAreLongest};
 
-/// What is written for a copy is read again as that copy.
+/// What is written for a copy of one symbol or more is read again as that copy.
 pub fn copy_is_read_again()
     ensures { CopyIsReadAgain }
 {}
@@ -13,7 +13,7 @@ pub fn copy_is_its_spelling()
     ensures { CopyIsItsSpelling }
 {}
 
-/// What is written for a copy are its runs, each the longest of its style.
+/// What is written for a copy of one symbol or more are its runs, each the longest of its style.
 pub fn runs_are_longest()
     ensures { RunsAreLongest }
 {}

@@ -1,6 +1,6 @@
 //! How a copy is written: its runs, each the longest of its style.
 
-ghost use Rattle.std.specs.Prelude.{◌≡◌, ◌++◌, OnOk, string_bytes};
+ghost use Rattle.std.specs.Prelude.{◌≡◌, ◌≢◌, ◌++◌, [], None, IsErr, OnOk, string_bytes};
 ghost use Rattle.std.specs.Io.{StartsWith};
 ghost use Rattle.std.specs.Str.{encode_utf8_all};
 ghost use Rattle.desk_commands.specs.Writing.{opening, quoted, turn, close, copy_text};
@@ -53,6 +53,7 @@ fn put_quoted<A: Allocator + Copy>(out: &mut String<A>, c: char) -> Result<(), A
 fn put_close<A: Allocator + Copy>(out: &mut String<A>, run: Option<Style>) -> Result<(), AllocError>
     ensures text { OnOk result (string_bytes out.new ≡ string_bytes out.old ++ close run) }
     ensures prefix { StartsWith (string_bytes out.new) (string_bytes out.old) }
+    ensures memory { IsErr result → run ≢ None }
 {
     match run {
         None => Ok(()),
@@ -60,11 +61,13 @@ fn put_close<A: Allocator + Copy>(out: &mut String<A>, run: Option<Style>) -> Re
     }
 }
 
-/// Writes a COPY at the end. Where memory is refused, what stood before still stands there.
+/// Writes a COPY at the end: nothing for a copy of no symbols, which cannot run out of memory. Where memory is refused, what
+/// stood before still stands there.
 #[tactic(auto, using(crate::proofs::Prefixes::prefixes))]
 pub fn put_copy<A: Allocator + Copy>(out: &mut String<A>, copy: &[Symbol]) -> Result<(), AllocError>
     ensures text { OnOk result (string_bytes out.new ≡ string_bytes out.old ++ copy_text copy.now) }
     ensures prefix { StartsWith (string_bytes out.new) (string_bytes out.old) }
+    ensures memory { IsErr result → copy.now ≢ [] }
 {
     let mut run = None;
     for symbol in copy {

@@ -1,5 +1,5 @@
 -- Files in memory, by their changes, newest first.
-use Rattle.std.specs.Prelude.{◌≡◌, ◌≤◌, ◌<◌, ◌⊎◌, ℕ, ◌+◌, List, [], ◌∷◌, Option, Some, None, Result, IsErrOf, String, Vec, if◌then◌else◌, length, max, min, nat_eq, string_bytes, vec_capacity, vec_len}
+use Rattle.std.specs.Prelude.{◌≡◌, ◌≤◌, ◌<◌, ◌⊎◌, ℕ, ◌+◌, ◌-◌, ◌&&◌, List, [], ◌∷◌, Option, Some, None, Result, IsErrOf, String, Vec, if◌then◌else◌, length, max, min, nat_eq, nat_lt, string_bytes, vec_capacity, vec_len}
 use Rattle.std.specs.Str.{bytes_eq}
 use Rattle.desk_files.specs.declared.files.FileRefusal.{FileRefusal}
 use Rattle.desk_files.specs.declared.files.FileRefusal.TheVariants as refusals
@@ -23,10 +23,18 @@ most_given step left buf = min (min (length buf) (max step 1)) (length left)
 abbrev pub most_taken : ℕ → ℕ → List ℕ → ℕ
 most_taken calls room buf = if nat_eq calls 0 then 0 else min (length buf) room
 
--- a writer's room or its calls have ended and it fails there, or what it keeps takes more memory
+-- how many calls a writer still takes after one, of which one that finds no room is not counted
+abbrev pub calls_left : ℕ → ℕ → List ℕ → ℕ
+calls_left calls room buf = if nat_eq room 0 && nat_lt 0 (length buf) then calls else calls - 1
+
+-- a writer's calls have ended, or its room and there is something to write
+abbrev pub HasEnded : {A : Type 0} → TrialWriter A → List ℕ → Type 0
+HasEnded writer buf = (writer.calls ≡ 0) ⊎ ((writer.room ≡ 0) × (0 < length buf))
+
+-- it has ended and fails there, or what it keeps takes more memory
 abbrev pub HasFailed : {A : Type 0} → TrialWriter A → List ℕ → Type 0
 HasFailed writer buf =
-    ((writer.at_end ≡ ends.Fails) × ((writer.calls ≡ 0) ⊎ ((writer.room ≡ 0) × (0 < length buf))))
+    ((writer.at_end ≡ ends.Fails) × HasEnded writer buf)
     ⊎ (vec_capacity writer.written < vec_len writer.written + most_taken writer.calls writer.room buf)
 
 -- the bytes of a file: it was put there, or took the name of one that was
@@ -60,7 +68,7 @@ shelf_in files = shelf (kept_in files.changes.items) files.failures (held_in fil
 abbrev pub IsDue : {A : Type 0} → TrialFiles A → Type 0
 IsDue files = one_more files.calls ≡ files.failing_call
 
--- one call was made, which failed where it was to; no more than one failure was counted
+-- one call was made, which failed where it was to; where the device failed one failure was counted
 pub record IsTurn {A T : Type 0} (result : Result T FileRefusal) (before after : TrialFiles A) : Type 0 where
   pub calls : after.calls ≡ one_more before.calls
   pub failing : after.failing_call ≡ before.failing_call

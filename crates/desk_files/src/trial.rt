@@ -5,7 +5,7 @@ ghost use Rattle.std.specs.Io.{ReadsAtMost, WritesAtMost};
 ghost use Rattle.std.specs.IoError.{error_kind};
 ghost use Rattle.std.specs.Io.KnownBytes.{Keeps, ReadConsumes, WriteAppends};
 ghost use Rattle.desk_files.specs.Files.{CanBe, Counts, Free, HasRisen, IsGone, IsNowHeld, IsNowhere, IsRenamed, IsThere, IsWritten, Reads, Spares, Stays, bytes_read, max_file, touched};
-ghost use Rattle.desk_files.specs.Trial.{HasFailed, IsDue, IsPut, IsTurn, TakesMemory, bytes_in, held_in, kept_in, most_given, most_taken, one_more, shelf_in};
+ghost use Rattle.desk_files.specs.Trial.{HasEnded, HasFailed, IsDue, IsPut, IsTurn, TakesMemory, bytes_in, calls_left, held_in, kept_in, most_given, most_taken, one_more, shelf_in};
 
 use crate::files::{FileRefusal, Files, MAX_FILE};
 use std::alloc::{AllocError, Allocator};
@@ -35,7 +35,7 @@ impl<'a> TrialReader<'a> {
         }
     }
 
-    /// Gives no more than `step` bytes in each call, and at least one.
+    /// Gives in each call as many bytes as are left and fit, and no more than `step`, where 0 counts as 1.
     pub fn in_steps_of(self, step: usize) -> Self
         ensures { result ≡ record self.entry { step = step } }
     {
@@ -146,8 +146,10 @@ impl<A: Allocator + Copy> Write for TrialWriter<A> {
         ensures bytes { WriteAppends (Some self.old.written.items) (Some self.new.written.items) result buf.now }
         ensures count { IfOk result (λ n. n ≡ most_taken self.old.calls self.old.room buf.now) }
         ensures room { IfOk result (λ n. self.new.room ≡ self.old.room - n) }
-        ensures calls { IfOk result (λ n. 0 < n → self.new.calls ≡ self.old.calls - 1) }
+        ensures calls { IfOk result (λ n. self.new.calls ≡ calls_left self.old.calls self.old.room buf.now) }
         ensures failed { IfErr result (λ _. HasFailed self.old buf.now) }
+        ensures ended { self.old.at_end ≡ AtEnd.Fails → HasEnded self.old buf.now → IsErr result }
+        ensures same { IsErr result → (self.new.room ≡ self.old.room) × (self.new.calls ≡ self.old.calls) }
         ensures kind { IfErr result (λ e. error_kind e ≢ ErrorKind.Interrupted) }
         ensures kept { self.new.at_end ≡ self.old.at_end }
     {
@@ -384,6 +386,7 @@ impl<A: Allocator + Copy> Files for TrialFiles<A> {
         ensures small { IfErr result (λ e. e ≢ FileRefusal.Large) }
         ensures missing { IsErrOf result FileRefusal.Missing → IsNowhere (kept_in self.old.changes.items name.now) }
         ensures memory { IsErrOf result FileRefusal.NoMemory → CanBe (kept_in self.old.changes.items name.now) }
+        ensures free { IsErrOf result FileRefusal.NoMemory → held_in self.old.held ≡ Free }
         ensures taken { IfOk result (λ _. IsNowHeld name.now (shelf_in self.old) (shelf_in self.new)) }
         ensures refused { IfErr result (λ _. Stays (shelf_in self.old) (shelf_in self.new)) }
         ensures changes { self.new.changes ≡ self.old.changes }

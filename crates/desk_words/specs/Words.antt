@@ -272,6 +272,25 @@ abbrev pub IsReported : List Row → Subcommand → Option Wish → Type 0
 IsReported rows subcommand (Some wish) = (subcommand_asked wish ≡ subcommand) × Reports rows wish
 IsReported rows subcommand None = (wish : Wish) → subcommand_asked wish ≡ subcommand → Reports rows wish → ⊥
 
+-- the matches of a subcommand hold the list that it may be given: other feeds, files, or settings to be tried
+abbrev pub HasList : List Row → Subcommand → Type 0
+HasList rows subcommands.Script = ⊥
+HasList rows subcommands.Desk = ⊥
+HasList rows subcommands.Merge = all_of (codes "other") rows ≢ None
+HasList rows subcommands.Diff = ⊥
+HasList rows subcommands.Export = ⊥
+HasList rows subcommands.Import = ⊥
+HasList rows subcommands.Replace = ⊥
+HasList rows subcommands.Check = all_of (codes "file") rows ≢ None
+HasList rows subcommands.Proof = all_of (codes "set") rows ≢ None
+HasList rows subcommands.Punch = ⊥
+HasList rows subcommands.Read = ⊥
+HasList rows subcommands.Sorts = ⊥
+
+-- a subcommand was given such a list
+abbrev pub ListsNames : Option (Text × List Row) → Type 0
+ListsNames asked = (subcommand : Subcommand) × (rows : List Row) × (asked ≡ Some (name_of subcommand, rows)) × HasList rows subcommand
+
 -- what a subcommand with its matches asks for, or that it asks for nothing that can be done
 abbrev pub IsWished : Option (Text × List Row) → Option Wish → Type 0
 IsWished asked (Some wish) = Wishes asked wish

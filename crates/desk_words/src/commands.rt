@@ -22,6 +22,7 @@ fn with_help<'a>(arg: Arg<'a>, help: &'a str) -> Arg<'a>
     ensures rule { rule_of result ≡ rule_of arg.entry }
     ensures local { result.global ≡ arg.entry.global }
     ensures help { IsShown result help.now }
+    ensures only { result ≡ record arg.entry { help = result.help; hide = false; hide_short_help = false; hide_long_help = false } }
 {
     arg.help(help)
         .hide(false)
@@ -125,6 +126,7 @@ fn with_texts<'a>(command: Command<'a>, about: &'a str, help: &'a str) -> Comman
     ensures app { app_of result ≡ app_of command.entry }
     ensures local { (out-Command result).has_globals ≡ (out-Command command.entry).has_globals }
     ensures texts { HasTexts result about.now help.now }
+    ensures only { out-Command result ≡ record (out-Command command.entry) { about = (out-Command result).about; after_help = (out-Command result).after_help } }
 {
     command.about(about).after_help(help)
 }
@@ -369,6 +371,7 @@ fn with_version<'a>(command: Command<'a>) -> Command<'a>
     ensures app { app_of result ≡ with_version (app_of command.entry) }
     ensures version { version_of result ≡ Some VERSION.now }
     ensures texts { HasTexts result ABOUT.now ON_SUBCOMMANDS.now }
+    ensures only { out-Command result ≡ record (out-Command command.entry) { about = (out-Command result).about; after_help = (out-Command result).after_help; version = (out-Command result).version } }
 {
     with_texts(command, ABOUT, ON_SUBCOMMANDS).version(VERSION)
 }

@@ -1,8 +1,8 @@
 //! What the matches of the command line hold.
 
-ghost use Rattle.std.specs.Prelude.{◌≡◌, ◌≢◌, ℕ, IfOk, IfSome, IsNone, codes};
+ghost use Rattle.std.specs.Prelude.{◌≡◌, ◌≢◌, ℕ, None, IfOk, IfSome, IsErr, IsNone, codes};
 ghost use Rattle.clap.specs.Words.{Text, all_of, found_of, rows_of, subcommand_rows_of};
-ghost use Rattle.desk_words.specs.Words.{AreNames, AreSources, Chooses, HasFlag, HasManner, HasSite, IsReported, IsWished, NamesDesk, all_given, name_of, texts_of};
+ghost use Rattle.desk_words.specs.Words.{AreNames, AreSources, Chooses, HasFlag, HasList, HasManner, HasSite, IsReported, IsWished, ListsNames, NamesDesk, all_given, name_of, texts_of};
 
 use clap::ArgMatches;
 use std::alloc::{AllocError, Global};
@@ -226,7 +226,8 @@ fn names_of<'a>(
     matches: &ArgMatches<'a>,
     argument: &str,
 ) -> Result<Option<Vec<&'a str>>, AllocError>
-    ensures { IfOk result (AreNames (all_of argument.now (rows_of (found_of matches.now)))) }
+    ensures names { IfOk result (AreNames (all_of argument.now (rows_of (found_of matches.now)))) }
+    ensures memory { IsErr result → all_of argument.now (rows_of (found_of matches.now)) ≢ None }
 {
     match matches.get_strs(argument) {
         Some(names) => Ok(Some(Vec::from_slice(alloc, names)?)),
@@ -235,7 +236,8 @@ fn names_of<'a>(
 }
 
 fn merge_wish<'a>(alloc: Global, matches: &ArgMatches<'a>) -> Result<Option<Wish<'a>>, AllocError>
-    ensures { IfOk result (IsReported (rows_of (found_of matches.now)) Subcommand.Merge) }
+    ensures wish { IfOk result (IsReported (rows_of (found_of matches.now)) Subcommand.Merge) }
+    ensures memory { IsErr result → HasList (rows_of (found_of matches.now)) Subcommand.Merge }
 {
     let Some(feed) = matches.get_str("feed") else {
         return Ok(None);
@@ -305,7 +307,8 @@ fn replace_wish<'a>(matches: &ArgMatches<'a>) -> Option<Wish<'a>>
 }
 
 fn check_wish<'a>(alloc: Global, matches: &ArgMatches<'a>) -> Result<Option<Wish<'a>>, AllocError>
-    ensures { IfOk result (IsReported (rows_of (found_of matches.now)) Subcommand.Check) }
+    ensures wish { IfOk result (IsReported (rows_of (found_of matches.now)) Subcommand.Check) }
+    ensures memory { IsErr result → HasList (rows_of (found_of matches.now)) Subcommand.Check }
 {
     match names_of(alloc, matches, "file")? {
         Some(files) => Ok(Some(Wish::Check { files })),
@@ -338,7 +341,8 @@ fn choice_of<'a>(matches: &ArgMatches<'a>, name: &str) -> Option<&'a str>
 
 /// The texts of the option that sets values to be tried.
 fn sets_of<'a>(alloc: Global, matches: &ArgMatches<'a>) -> Result<Vec<&'a str>, AllocError>
-    ensures { IfOk result (λ v. texts_of v.items ≡ all_given (all_of (codes "set") (rows_of (found_of matches.now)))) }
+    ensures texts { IfOk result (λ v. texts_of v.items ≡ all_given (all_of (codes "set") (rows_of (found_of matches.now)))) }
+    ensures memory { IsErr result → all_of (codes "set") (rows_of (found_of matches.now)) ≢ None }
 {
     match names_of(alloc, matches, "set")? {
         Some(sets) => Ok(sets),
@@ -347,7 +351,8 @@ fn sets_of<'a>(alloc: Global, matches: &ArgMatches<'a>) -> Result<Vec<&'a str>, 
 }
 
 fn proof_wish<'a>(alloc: Global, matches: &ArgMatches<'a>) -> Result<Option<Wish<'a>>, AllocError>
-    ensures { IfOk result (IsReported (rows_of (found_of matches.now)) Subcommand.Proof) }
+    ensures wish { IfOk result (IsReported (rows_of (found_of matches.now)) Subcommand.Proof) }
+    ensures memory { IsErr result → HasList (rows_of (found_of matches.now)) Subcommand.Proof }
 {
     let Some(from) = sources_of(matches) else {
         return Ok(None);
@@ -419,7 +424,8 @@ fn reported<'a>(
     subcommand: Subcommand,
     matches: &ArgMatches<'a>,
 ) -> Result<Option<Wish<'a>>, AllocError>
-    ensures { IfOk result (IsReported (rows_of (found_of matches.now)) subcommand) }
+    ensures wish { IfOk result (IsReported (rows_of (found_of matches.now)) subcommand) }
+    ensures memory { IsErr result → HasList (rows_of (found_of matches.now)) subcommand }
 {
     match subcommand {
         Subcommand::Script => Ok(Some(Wish::Script {
@@ -439,9 +445,11 @@ fn reported<'a>(
     }
 }
 
-/// What the matches ask for.
+/// What the matches ask for. Out of memory comes only of a subcommand that was given a list: other feeds, files, or settings to
+/// be tried.
 pub fn wish_of<'a>(alloc: Global, matches: &ArgMatches<'a>) -> Result<Option<Wish<'a>>, AllocError>
-    ensures { IfOk result (IsWished (subcommand_rows_of matches.now)) }
+    ensures wish { IfOk result (IsWished (subcommand_rows_of matches.now)) }
+    ensures memory { IsErr result → ListsNames (subcommand_rows_of matches.now) }
 {
     let Some((name, inner)) = matches.subcommand() else {
         return Ok(None);

@@ -5,20 +5,20 @@ use Rattle.desk_words.specs.declared.wishes.Subcommand.TheVariants as subcommand
 use Rattle.desk_words.proofs.Asked.{named, no_wish, unnamed}
 use Rattle.desk_words.proofs.wishes.merge_wish.Goals as goal
 
-pub returns-in_default : goal.returns-in_default
-returns-in_default c = no_wish (rows_of (found_of c.args.matches.now)) subcommands.Merge (λ feed others is all. unnamed (codes "feed") (found_of c.args.matches.now) c.get_str.result c.get_str.ensures c.in_default.is feed is)
+pub returns-in_default-clause-wish : goal.returns-in_default-clause-wish
+returns-in_default-clause-wish c = no_wish (rows_of (found_of c.args.matches.now)) subcommands.Merge (λ feed others is all. unnamed (codes "feed") (found_of c.args.matches.now) c.get_str.result c.get_str.ensures c.in_default.is feed is)
 
-pub returns-in-Some-2 : goal.returns-in-Some-2
-returns-in-Some-2 c = (
+pub returns-in-Some-2-clause-wish : goal.returns-in-Some-2-clause-wish
+returns-in-Some-2-clause-wish c = (
   refl,
   (
     named (codes "feed") (found_of c.args.matches.now) c.get_str.result c.in-Some.feed c.get_str.ensures c.in-Some.is,
-    subst (AreNames (all_of (codes "other") (rows_of (found_of c.args.matches.now)))) c.in-Some-2.is c.in_ok-others.ensures,
+    subst (AreNames (all_of (codes "other") (rows_of (found_of c.args.matches.now)))) c.in-Some-2.is c.in_ok-others.ensures.names,
   ),
 )
 
-pub returns-in-None : goal.returns-in-None
-returns-in-None c = no_wish (rows_of (found_of c.args.matches.now)) subcommands.Merge (λ feed others is all.
-    let none = subst (AreNames (all_of (codes "other") (rows_of (found_of c.args.matches.now)))) c.in-None.is c.in_ok-others.ensures in
+pub returns-in-None-clause-wish : goal.returns-in-None-clause-wish
+returns-in-None-clause-wish c = no_wish (rows_of (found_of c.args.matches.now)) subcommands.Merge (λ feed others is all.
+    let none = subst (AreNames (all_of (codes "other") (rows_of (found_of c.args.matches.now)))) c.in-None.is c.in_ok-others.ensures.names in
     let bad = sym none ∙ all in
     cc)

@@ -5,5 +5,5 @@ use Rattle.desk_words.specs.declared.wishes.Subcommand.TheVariants as subcommand
 use Rattle.desk_words.proofs.Asked.{no_wish}
 use Rattle.desk_words.proofs.wishes.proof_wish.Goals as goal
 
-pub returns-in_default : goal.returns-in_default
-returns-in_default c = no_wish (rows_of (found_of c.args.matches.now)) subcommands.Proof (subst (AreSources (rows_of (found_of c.args.matches.now))) c.in_default.is c.sources_of.ensures)
+pub returns-in_default-clause-wish : goal.returns-in_default-clause-wish
+returns-in_default-clause-wish c = no_wish (rows_of (found_of c.args.matches.now)) subcommands.Proof (subst (AreSources (rows_of (found_of c.args.matches.now))) c.in_default.is c.sources_of.ensures)
