@@ -61,7 +61,7 @@ pub enum Refusal {
 /// The bytes of a short answer and its end of line fit in these.
 const SHORT: usize = 96;
 
-/// A text of at most 96 bytes, which takes no memory.
+/// A text of at most 96 bytes, which cannot run out of memory.
 pub type Short = ArrayString<SHORT>;
 
 fn put_number(out: &mut Short, n: u64)
@@ -475,7 +475,7 @@ fn done() -> Short
     out
 }
 
-/// An answer's text without its end of line, where it is a refusal or says what a command did: it takes no memory. The
+/// An answer's text without its end of line, where it is a refusal or says what a command did: it cannot run out of memory. The
 /// other answers say what there is, at any length.
 pub fn short<A: Allocator + Copy>(answer: &Reply<A>) -> Option<Short>
     ensures text { IfSome result (λ s. s.bytes ≡ text (reply_values answer.now)) }

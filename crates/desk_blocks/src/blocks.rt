@@ -54,7 +54,7 @@ impl<A: Allocator> Model for Blocks<A> {
 }
 
 impl<A: Allocator + Copy> Blocks<A> {
-    /// How many entries stand side by side in memory from place i on: one at least, and a page's 256 at most.
+    /// How many entries stand side by side in memory from place i on: one at least, and none beyond the end.
     pub fn stretch_len(&self, i: usize) -> usize
         requires { i < length self.now.entries }
         ensures some { 0 < result }

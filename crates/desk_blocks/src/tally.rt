@@ -11,7 +11,7 @@ pub struct Tally {
     pub least: Stamp,
 }
 
-/// Greater than every stamp that an operation bears.
+/// Greater than every stamp that a lawful operation bears.
 const NONE: Stamp = Stamp {
     counter: u64::MAX,
     site: u16::MAX,

@@ -1,4 +1,4 @@
--- Bytes are the ribbon of one list of rows, or have a first fault, and not both.
+-- A ribbon has no fault, and bytes are the ribbon of one list of rows at most.
 use Rattle.std.specs.Prelude.{◌≡◌, ◌≢◌, ℕ, List}
 use Rattle.desk_signals.specs.declared.RibbonRow.{RibbonRow}
 use Rattle.desk_caster.specs.declared.RibbonFault.{RibbonFault}

@@ -92,9 +92,9 @@ fn both(before: bool, one: bool) -> bool
     before && one
 }
 
-/// Checks files by their names, in their order. Each is recognized by its content as a feed, a ribbon, a case or a
-/// wedge, and has one line, written before the next file is read: what is in it, or its first fault with its place, or
-/// why it was not read. It is true exactly where every file is in order. No name is taken, and no file changes.
+/// Checks files by their names, in their order. Each has one line, written before the next file is read: what is in it as a
+/// feed, a ribbon, a case or a wedge, by its content, or its first fault, or that it is none of these, or why it was not read.
+/// It is true exactly where every file is in order. No name is taken, and no file changes.
 pub fn check_files<W: Write, F: Files, A: Allocator + Copy>(
     memory: Memory<A>,
     writer: &mut W,

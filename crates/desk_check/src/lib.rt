@@ -1,5 +1,5 @@
-//! Files that are checked: each is recognized by its content as a feed, a ribbon, a case or a wedge, and has one line,
-//! of what is in it or of its first fault.
+//! Files that are checked: each has one line, of what is in it as a feed, a ribbon, a case or a wedge, by its content, of its
+//! first fault, or that it is none of these.
 #![tactic(auto)]
 
 mod cases;

@@ -64,8 +64,8 @@ impl FeedForm {
         }
     }
 
-    /// How many operations so many bytes give at most: each takes 16 bytes, or 5 in runs, of which one at least has a
-    /// prefix.
+    /// How many operations room is kept for, to read so many bytes: each takes 16 bytes at least, or 5 in runs, of which one at
+    /// least has a prefix.
     pub fn most_ops(self, size: usize) -> usize
         ensures { result ≢ 0 → 16 ≤ size }
     {

@@ -22,13 +22,13 @@ pub fn feeds_are_of_one_list()
     ensures { OneList }
 {}
 
-/// Operations have one feed.
+/// A list of lawful operations has one feed of single operations.
 #[tactic(auto, using(crate::proofs::Grammar::one_feed))]
 pub fn operations_have_one_feed()
     ensures { OneFeed }
 {}
 
-/// At the start of bytes an operation stands or one thing is wrong, and never both.
+/// At the start of bytes, where there are any, an operation or a run stands or one thing is wrong, and never both.
 pub fn item_or_fault_holds()
     ensures { ItemOrFault }
 {}

@@ -1,8 +1,8 @@
 //! The bytes of operations, and of feeds of them.
 //!
 //! One grammar has both forms of feed, of single operations and of runs: a magic, and then items, each an operation alone or
-//! a run. A run takes a fifth of the bytes of its inserts; the form without them stays, so that what older readers take keeps
-//! its bytes. Bytes are read item by item, whole or in pieces, so that a feed need not fit into memory.
+//! a run. A long run takes about a fifth of the bytes of its inserts; the form without runs stays, so that what older readers
+//! take keeps its bytes. Bytes are read item by item, whole or in pieces, so that a feed need not fit into memory.
 #![tactic(auto)]
 
 mod fault;

@@ -213,7 +213,7 @@ const STYLE_AND_SITE: [u8; 26] = [
     1, 0, 0, 0, 0, 0, 0, 0, 1, 0, 0, 0, 0, 0, 0, 0, 0, 0, 0, 0, 0, 3, 0, 0, 0, 0x61,
 ];
 
-/// Key 6, whatever the value, and with a counter of 0.
+/// Key 6, whatever the value; and below with a counter of 0.
 const KEY_6: [u8; 16] = [3, 0, 0, 0, 0, 0, 0, 0, 5, 0, 1, 6, 0, 0, 0, 0];
 
 const KEY_AND_COUNTER: [u8; 16] = [3, 0, 0, 0, 0, 0, 0, 0, 0, 0, 1, 6, 0, 0, 0, 0x78];

@@ -159,7 +159,7 @@ fn walk<A: Allocator + Copy>(
     Ok(stretches)
 }
 
-/// The words in which two copies differ: few, as the changes that make the one the other are few.
+/// The words in which two copies differ.
 pub fn stretches_of<A: Allocator + Copy>(
     alloc: A,
     one: &[Symbol],

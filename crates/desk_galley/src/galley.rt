@@ -59,7 +59,7 @@ impl<'a, A: Allocator> Model for Galley<'a, A> {
     ghost view = { λ g. record { wedge = g.wedge.now; values = g.values; terms = g.terms; lacking = g.lacking.items; lines = g.lines.items } };
 }
 
-/// Why there is no galley: what the settings, the case and the wedge have against one another, or out of memory.
+/// Why there is no galley: a setting has no value, what settings, case and wedge have against one another, or out of memory.
 #[derive(Clone, Copy, PartialEq, Eq, Debug, Error)]
 pub enum GalleyRefusal {
     #[error("{0}")]

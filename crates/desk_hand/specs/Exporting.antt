@@ -30,7 +30,7 @@ IsClosedBy name before after (troubles.Feed fault) = (bytes : List ℕ) × GaveB
 IsClosedBy name before after troubles.Full = (ops : List Op) × IsFeedOf (before.kept name) ops × (after.failures ≡ before.failures) × (max_ops < size (with_all no_ops ops))
 IsClosedBy name before after troubles.NoMemory = (bytes : List ℕ) × GaveBytes name before after bytes × AskMemory bytes
 
--- why not all of the text was written, and what was: nothing, or under Write a prefix; out of memory only once the feed was opened
+-- why not all of the text was written, and what was: nothing, or under Write a prefix; `NoMemory` only once the feed was opened
 abbrev pub IsUnexported : List ℕ → Shelf → Shelf → Option (List ℕ) → Option (List ℕ) → ExportFault → Type 0
 IsUnexported name first last before after (exports.Feed why) = (after ≡ before) × IsClosedBy name first last why
 IsUnexported name first last before after exports.Write = (set : OpSet) × IsSetOf name first set × WritesPrefix before after (text_bytes (copy_of set)) × (last.failures ≡ first.failures)

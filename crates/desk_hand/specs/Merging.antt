@@ -93,7 +93,7 @@ GaveBytes name before after bytes = Reads (before.kept name) (Ok bytes) × (afte
 abbrev pub IsFull : OpSet → List Op → Type 0
 IsFull set ops = (after : OpSet) × (stop : Stopped) × IsStopped set after ops stop × (size after ≡ max_ops)
 
--- why the feed of a file does not come into a set: out of memory too only where its bytes were read, and are such that memory is asked for
+-- why the feed of a file does not come into a set: `NoMemory` only where its bytes were read, and are such that memory is asked for
 abbrev pub Refuses : OpSet → List ℕ → Shelf → Shelf → FeedTrouble → Type 0
 Refuses set name before after (troubles.File why) = Reads (before.kept name) (Err why) × IsCounted why before after
 Refuses set name before after (troubles.Feed fault) = (bytes : List ℕ) × GaveBytes name before after bytes × IsFirstFault bytes fault
@@ -110,7 +110,7 @@ StopsAt names old before after at why =
 abbrev pub IsShut : List ℕ → Shelf → Shelf → OpenFault → Type 0
 IsShut name held last fault = Stays held last × (read : Option (List ℕ)) × Reads (held.kept name) (as_read read) × Counts (as_read read) held last × IsUnopened read fault
 
--- why the stored feed does not come in: it was not read, or not opened; out of memory only where its bytes were read, or no file is there
+-- why the stored feed does not come in: it was not read, or not opened; out of memory only where its bytes were read
 abbrev pub IsBarredBy : List ℕ → Shelf → Shelf → FeedTrouble → Type 0
 IsBarredBy name held last (troubles.File why) = IsUnread name held last why
 IsBarredBy name held last (troubles.Feed fault) = IsShut name held last (openings.Feed fault)

@@ -33,7 +33,7 @@ pub enum FeedTrouble {
     /// With its operations there would be more than a replica holds.
     #[error("full")]
     Full,
-    /// Its bytes were read, or no file is there, and memory ran out then.
+    /// Its bytes were read, and memory ran out then.
     #[error("no memory")]
     NoMemory,
 }

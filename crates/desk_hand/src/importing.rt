@@ -17,8 +17,7 @@ use desk_text::read_text;
 use std::alloc::Allocator;
 use std::io::{Read, Write};
 
-/// The most bytes of a text: eight for each symbol that a copy may have. The longest that `desk_text` writes has six for
-/// each, and one more.
+/// The most bytes of a text: eight for each symbol that a copy may have.
 pub const MAX_TEXT: usize = 8_388_608;
 
 /// The copy that all that a reader has left is.
@@ -56,10 +55,10 @@ fn take_text<R: Read, A: Allocator + Copy>(
 /// Makes the copy of a stored feed the text that a reader has left, whole: with marks for its styles as `desk_text` reads
 /// it, or plain. The name of the feed is taken first and for this run alone; a missing one holds nothing. Each change is
 /// an operation of the site, and no other is made; nothing that the feed held is lost. The line `ok inserted 12 deleted 7`
-/// is written, and then the feed is stored, unless the file has these bytes. `Input` has the first fault of the text, or
-/// that it has more than `MAX_TEXT` bytes, and `Revision` that the feed would have more operations than a replica holds, or
-/// counters above the greatest. Until the line is written no file has changed, and where the feed is not stored
-/// none but `name.new`.
+/// is written, and then the feed is stored, unless the file has these bytes. `Input` has the first fault of the text, that
+/// it has more than `MAX_TEXT` bytes, or that the reader or memory failed, and `Revision` that the feed would have more
+/// operations than a replica holds or counters above the greatest, or that memory ran out. Until the line is written no file
+/// has changed, and where the feed is not stored none but `name.new`.
 pub fn import_text<R: Read, W: Write, F: Files, A: Allocator + Copy>(
     alloc: A,
     reader: &mut R,

@@ -75,7 +75,7 @@ impl<A: Allocator + Copy> Held<A> {
         Some(Held { ops, alloc })
     }
 
-    /// The set of a list that rises, in full pages; none where it does not, where it is too long or memory does not allow it.
+    /// The set of a list that rises; none where it does not, where it is too long or memory does not allow it.
     /// The list is then that of its operations in order.
     pub fn of_rising(alloc: A, ops: &[Op]) -> Option<Self>
         requires { All IsLawful ops.now }
@@ -109,8 +109,8 @@ impl<A: Allocator + Copy> Held<A> {
         Ok(slots)
     }
 
-    /// The set with the operations of a list that rises and of which none is held, in full pages, by one pass over both; none
-    /// where the list is another, they are too many or memory does not allow it.
+    /// The set with the operations of a list that rises and of which none is held; none where the list is another, they are too
+    /// many or memory does not allow it.
     pub fn joined(&self, ops: &[Op]) -> Option<Self>
         requires { All IsLawful ops.now }
         ensures ops { IfSome result (λ h. h.ops ≡ with_all self.now.ops ops.now) }
@@ -139,8 +139,8 @@ impl<A: Allocator + Copy> Held<A> {
 
     /// Adds the operations of a list, one after the other, up to the first that is refused: `Full` comes exactly where
     /// 1,048,576 operations are held and the next is not among them; out of memory only where the set has gained as
-    /// many as there was room for. Where nothing is held and there is no room for all, the list is sorted, if it does not rise,
-    /// and laid out at once.
+    /// many as there was room for. Where nothing is held and there is no room for all, a list that has no operation twice is
+    /// sorted, if it does not rise, and laid out at once, where memory and the limit allow it.
     pub fn add_all(&mut self, ops: &[Op]) -> Result<(), Stopped>
         requires { All IsLawful ops.now }
         ensures ok { OnOk result (self.new.ops ≡ with_all self.old.ops ops.now) }

@@ -1,7 +1,7 @@
 //! The operations that a replica holds: a finite set, kept in order.
 //!
-//! It is kept by stamp and then by bytes, the order of a feed, so that equal sets are written alike byte for byte. What is
-//! newest stands last, where a site's own operations are added.
+//! It is kept by stamp and then by bytes, so that equal sets are written alike byte for byte. What is newest stands last, where
+//! a site's own operations are added.
 #![tactic(auto)]
 
 ghost use Rattle.std.specs.Prelude.{◌≡◌, ◌+◌, ◌-◌, ◌≤◌, ◌<◌, ◌↔◌, take, drop, IfOk, OnOk, OnErr, IsErrOf, IsOk, IsTrue, All, true, false, slice_index_or};
@@ -146,7 +146,7 @@ impl<A: Allocator + Copy> Held<A> {
     }
 
     /// Adds an operation. `Full` comes exactly where 1,048,576 operations are held and this one is not; out of memory
-    /// only where the operation is not held and there was no room. With room no memory is taken.
+    /// only where the operation is not held and there was no room. With room it cannot run out of memory.
     pub fn add(&mut self, op: Op) -> Result<Added, AddRefusal>
         requires { IsLawful op }
         ensures added { IfOk result (λ a. a ≡ added_to self.old.ops op) }
@@ -172,7 +172,7 @@ impl<A: Allocator + Copy> Held<A> {
         Ok(if forks { Added::Forks } else { Added::New })
     }
 
-    /// Adds an operation that is not held, where there is room for it. No memory is taken.
+    /// Adds an operation that is not held, where there is room for it. It cannot run out of memory.
     pub fn put(&mut self, op: Op)
         requires lawful { IsLawful op }
         requires absent { has_op self.old.ops op ≡ false }
@@ -220,7 +220,7 @@ impl<A: Allocator + Copy> Held<A> {
         self.clear_op(stamp).is_some()
     }
 
-    /// Whether no stamp is borne by more than one operation. It is one pass over all, and takes no memory.
+    /// Whether no stamp is borne by more than one operation. It is one pass over all, and cannot run out of memory.
     pub fn is_unforked(&self) -> bool
         ensures { IsTrue result ↔ IsUnforked self.now.ops }
     {

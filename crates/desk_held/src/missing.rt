@@ -70,7 +70,7 @@ impl<A: Allocator + Copy> Held<A> {
     }
 
     /// Whether each operation of a list is held. A list that rises and is not short is passed beside what is held: one look at
-    /// each operation and each page. No memory is taken.
+    /// each operation and each page. It cannot run out of memory.
     pub fn has_all(&self, ops: &[Op]) -> bool
         ensures { result ≡ list_all (has_op self.now.ops) ops.now }
     {
@@ -116,9 +116,9 @@ impl<A: Allocator + Copy> Held<A> {
         true
     }
 
-    /// The operations of a list that are not held, in order, each once. A list that rises and is not short is passed beside
-    /// what is held: one look at each operation and each page; another is sorted first, in memory of its own. Where none is
-    /// missing a list that rises takes no memory.
+    /// The operations of a list that are not held, in order, each once. A list that does not rise is put in order first, in
+    /// memory of its own. Then each operation of a short one is searched, and a longer one is passed beside what is held: one
+    /// look at each operation and each page.
     pub fn missing(&self, ops: &[Op]) -> Result<Vec<Op, A>, NoMemory>
         ensures missing { IfOk result (λ v. IsMissing self.now.ops ops.now v.items) }
         ensures lawful { All IsLawful ops.now → IfOk result (λ v. All IsLawful v.items) }

@@ -48,7 +48,7 @@ fn drawn<A: Allocator + Copy>(
 /// it did so, and false where the file's bytes are no ribbon: then no file changes, and `read_job` reports why. Rows that the
 /// caster would not cast are drawn too. The wedge is read, so that the refusals are those of `read_job`, and not used. No name
 /// is taken. A target that is the ribbon, the case or the wedge is replaced as any other; where the picture is not stored
-/// none but `name.new` may have changed.
+/// none but `target.new` may have changed.
 pub fn draw_ribbon<F: Files, A: Allocator + Copy>(
     memory: Memory<A>,
     files: &mut F,

@@ -1,4 +1,4 @@
-//! How far a run is, reported each second on standard error.
+//! How far a run is, reported on standard error as bytes are read and written, once a second at most.
 
 ghost use Rattle.std.specs.Prelude.{◌≡◌};
 
@@ -10,8 +10,8 @@ use std::time::{Duration, Instant};
 /// The most bytes that are handed to a writer at once, so that a slow one is reported on the way.
 const PIECE: usize = 65_536;
 
-/// When a line was written last, or else when the run began. None is written where standard error is no terminal, or while the
-/// clock fails.
+/// When a line was written last, somebody typed or saw something, or the run began, whichever came last. None is written where
+/// standard error is no terminal, or while the clock fails.
 #[derive(Drop)]
 pub struct Progress<'a> {
     host: &'a HostRuntime,
@@ -39,7 +39,7 @@ impl<'a> Progress<'a> {
         }
     }
 
-    /// Whether a second has passed since a line was written or the run began. Then a line is written now.
+    /// Whether a second has passed since `last`. Then a line is written now.
     fn is_due(&self) -> bool {
         let Some(last) = self.last.get() else {
             return false;

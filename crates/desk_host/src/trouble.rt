@@ -16,7 +16,7 @@ pub enum Asked {
     Replace,
     /// To open the file that is locked.
     Lock,
-    /// To lock it, where another run has done so.
+    /// To lock it, where another run has done so, or this one holds a name already.
     Hold,
     Read,
     /// To write the file that takes the feed's name.

@@ -33,7 +33,7 @@ pub record IsUsable (terms : Terms) : Type 0 where
   pub descend : is_descending (units_of_cells terms.wedge terms.case.fill) ≡ true
   pub space : pos 0 <ℤ tight_space terms
 
--- The width is that of one matrix at neutral.
+-- The width is above 0, and no more than the widest matrix has at neutral.
 pub record IsSmall (width : ℤ) : Type 0 where
   pub some : pos 1 ≤ℤ width
   pub limit : width ≤ℤ pos widest_at_neutral

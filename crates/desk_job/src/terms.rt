@@ -188,7 +188,8 @@ impl<'a> Terms<'a> {
         self.loose
     }
 
-    /// The case. It and all other terms are in their ranges, and go together.
+    /// The case. It and all other terms are in their ranges, the fills descend, and a space at the least wedge sum is wider
+    /// than 0.
     pub fn case(&self) -> &MatrixCase
         ensures value { result.now ≡ self.now.case }
         ensures usable { IsUsable self.now }

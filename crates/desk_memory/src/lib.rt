@@ -1,4 +1,4 @@
-//! One word for a growth that was refused, below all crates that allocate.
+//! One word for a growth that was refused, for any crate that allocates.
 #![tactic(auto)]
 
 use std::alloc::{AllocError, AllocFailed};

@@ -16,7 +16,7 @@ same a b = a.counter == b.counter && a.site == b.site
 unfoldable pub before : Stamp → Stamp → Bool
 before a b = is_lt (stamp_cmp a b)
 
--- the stamp of the head of the copy, which no operation bears
+-- the stamp of the head of the copy, which no lawful operation bears
 abbrev pub head : Stamp
 head = record { counter = 0; site = 0 }
 

@@ -7,9 +7,9 @@ use crate::op::Stamp;
 pub enum FaultKind {
     /// More than one operation bears the stamp.
     Forked,
-    /// What it hangs on is held, and cannot act.
+    /// Followed from insert to insert, what it hangs on ends at a stamp that is held, but not by one insert alone.
     Void,
-    /// What it hangs on has not come yet.
+    /// Followed from insert to insert, what it hangs on ends at a stamp that has not come yet.
     Waiting,
 }
 

@@ -1,4 +1,5 @@
-//! The laws of the definitions, each on a function with an empty body.
+//! The laws of the definitions, each on a function with an empty body. What a law says of a set it says of one whose operations
+//! are lawful.
 ghost use Rattle.std.specs.Prelude.{◌≡◌, ◌^◌};
 ghost use Rattle.desk_ops.specs.Stamp.{head, max_counter};
 ghost use Rattle.desk_ops.specs.Op.{line_feed, space};
@@ -72,12 +73,13 @@ pub fn one_order_holds()
     ensures { OneOrder }
 {}
 
-/// One insert more, put by the scan, gives the walk with it.
+/// One insert more, whose stamp is new and on which no clear insert hangs, put by the scan, gives the walk with it.
 pub fn scan_gives_walk()
     ensures { ScanGivesWalk }
 {}
 
-/// The place that the walk's stamps say gives the walk with one insert more.
+/// With one insert more, whose stamp is new, on which none hangs and whose parent is older, the place that the walk's stamps
+/// say gives the walk with it.
 pub fn place_gives_walk()
     ensures { PlaceGivesWalk }
 {}

@@ -34,7 +34,8 @@ impl<S: Copy, A: Allocator> Groups<S, A> {
     }
 }
 
-/// Finds where each group begins, and sums each up. What is known of the first `kept` groups is still right.
+/// Finds where each group begins, and sums each whole one up, as far as there is room to keep it. What is known of the first
+/// `kept` groups is still right.
 pub fn find_groups<T: Copy, S: Summary<T>, A: Allocator>(
     pages: &Shelf<T, S, A>,
     groups: &mut Groups<S, A>,

@@ -69,7 +69,7 @@ impl<T: Copy, S: Summary<T>, A: Allocator + Copy> Pages<T, S, A> {
         }
     }
 
-    /// A list that holds these, in full pages.
+    /// A list that holds these.
     pub fn from_slice(alloc: A, items: &[T]) -> Result<Self, AllocError>
         ensures { IfOk result (λ list. list.entries ≡ items.now) }
     {
@@ -118,7 +118,7 @@ impl<T: Copy, S: Summary<T>, A: Allocator + Copy> Pages<T, S, A> {
         pages::stretch(&self.pages, &self.groups.starts, self.len, i)
     }
 
-    /// The name of the page in which the i-th entry stands. It stays with the page, and is no part of the list.
+    /// The name of the page in which the i-th entry stands. It is a hint, and no part of the list.
     pub fn name_at(&self, i: usize) -> usize
         requires { i < length self.now.entries }
     {
@@ -126,7 +126,7 @@ impl<T: Copy, S: Summary<T>, A: Allocator + Copy> Pages<T, S, A> {
         pages::name_of(&self.pages, p)
     }
 
-    /// The page of that name, and the place of its first entry.
+    /// A page and the place of its first entry: the page of that name, where the hints that are kept of names lead to it.
     pub fn named(&self, name: usize) -> Option<(usize, &[T])>
         ensures is { IfSome result (λ r. r.1.now ≡ take (length r.1.now) (drop r.0 self.now.entries)) }
         ensures few { length self.now.entries < 2 ^ 48 }
@@ -277,7 +277,8 @@ impl<T: Copy, S: Summary<T>, A: Allocator + Copy> Pages<T, S, A> {
         Some(pages::read(&self.pages, p, j))
     }
 
-    /// Writes another over the first that is not picked, where a second search picks that; whether it did.
+    /// Writes another over the first that is not picked, where those that are picked stand first and a second search picks that;
+    /// whether it did.
     pub fn overwrite<P: Pick<T, S>, Q: Pick<T, S>>(&mut self, pick: &P, only: &Q, x: T) -> bool
         ensures set { result ≡ true → (i : ℕ) × IsEdge (P.picked pick.now) self.old.entries i × (i < length self.old.entries) × (Q.picked only.now (slice_index_or self.old.entries i x) ≡ true) × (self.new.entries ≡ slice_set self.old.entries i x) }
         ensures none { result ≡ false → (i : ℕ) × IsEdge (P.picked pick.now) self.old.entries i × (i < length self.old.entries → Q.picked only.now (slice_index_or self.old.entries i x) ≡ false) × (self.new.entries ≡ self.old.entries) }
@@ -294,7 +295,7 @@ impl<T: Copy, S: Summary<T>, A: Allocator + Copy> Pages<T, S, A> {
         false
     }
 
-    /// Puts one before the first that is not picked.
+    /// Puts one before the first that is not picked, where those that are picked stand first.
     pub fn insert_in_order<P: Pick<T, S>>(&mut self, pick: &P, x: T)
         requires spare { 1 ≤ self.old.spare }
         ensures put { (i : ℕ) × IsEdge (P.picked pick.now) self.old.entries i × (self.new.entries ≡ insert self.old.entries i x) }
@@ -313,7 +314,7 @@ impl<T: Copy, S: Summary<T>, A: Allocator + Copy> Pages<T, S, A> {
         self.len += 1;
     }
 
-    /// Takes out the first that is not picked, where there is one.
+    /// Takes out the first that is not picked, where there is one and those that are picked stand first.
     pub fn remove_in_order<P: Pick<T, S>>(&mut self, pick: &P) -> Option<T>
         ensures some { IfSome result (λ x. (i : ℕ) × IsEdge (P.picked pick.now) self.old.entries i × (i < length self.old.entries) × (x ≡ slice_index_or self.old.entries i x) × (self.new.entries ≡ remove self.old.entries i)) }
         ensures none { IsNone result → IsEdge (P.picked pick.now) self.old.entries (length self.old.entries) × (self.new.entries ≡ self.old.entries) }

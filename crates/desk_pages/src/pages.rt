@@ -179,7 +179,7 @@ fn end<T: Copy, S: Summary<T>, A: Allocator>(pages: &Shelf<T, S, A>) -> Option<(
     }
 }
 
-/// One more page, with one entry, behind full ones.
+/// One more page, with one entry, behind all, where there is none or the last is full.
 fn open<T: Copy, S: Summary<T>, A: Allocator>(pages: &mut Shelf<T, S, A>, x: T)
     requires half { IsHalfFull pages.old.pages }
     requires closed { IsClosed pages.old.pages }

@@ -423,7 +423,8 @@ fn guess_among<T: Copy, S: Summary<T>, A: Allocator, P: Pick<T, S>>(
     }
 }
 
-/// The first page whose last entry is not picked: looked for near a guess first, where there is one.
+/// The first page whose last entry is not picked, as far as the one before it shows: looked for near a guess first, where there
+/// is one.
 fn edge_among<T: Copy, S: Summary<T>, A: Allocator, P: Pick<T, S>>(
     pages: &Shelf<T, S, A>,
     pick: &P,

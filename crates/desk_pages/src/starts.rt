@@ -54,7 +54,7 @@ fn guess(starts: &[usize], i: usize) -> Option<usize> {
     Some((i.saturating_mul(count - 1) / last).saturating_add(1))
 }
 
-/// The first page of a page's group, and where it begins.
+/// The first page of a page's group, and where it begins; the first of all pages where that is not known.
 fn group_of<T: Copy, S: Summary<T>, A: Allocator>(
     pages: &Shelf<T, S, A>,
     starts: &[usize],

@@ -43,8 +43,8 @@ fn report<W: Write, A: Allocator + Copy>(
 
 /// Makes the ribbon of a stored feed by a case and a wedge, and stores it under the name of a target; nothing is written
 /// then. Where the job has faults the line that the command `ribbon` has for them is written, no file changes, and the fault
-/// is `Faulty`. No name is taken: a feed is stored by a rename, so what is read is a whole feed, and so is the ribbon. A target
-/// that is the feed, the case or the wedge is replaced as any other.
+/// is `Faulty`, or another where that line is not written. No name is taken: a feed is stored by a rename, so what is read is a
+/// whole feed, and so is the ribbon. A target that is the feed, the case or the wedge is replaced as any other.
 pub fn punch_feed<W: Write, F: Files, A: Allocator + Copy>(
     memory: Memory<A>,
     writer: &mut W,

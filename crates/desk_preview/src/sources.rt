@@ -14,8 +14,8 @@ use desk_replica::Replica;
 use desk_wedge::Wedge;
 use std::alloc::Allocator;
 
-/// Opens the feed of a file, and reads a case and a wedge. No name is taken, and no file changes. Out of memory comes only
-/// where the device did not fail in the call, the feed was opened, and the case, where the wedge was read, was not refused.
+/// Opens the feed of a file, and reads a case and a wedge. No name is taken, and no file changes. `NoMemory` comes only where
+/// the device did not fail in the call, the feed was opened, and the case, where the wedge was read, was not refused.
 pub fn take_in<F: Files, A: Allocator + Copy>(
     memory: Memory<A>,
     files: &mut F,

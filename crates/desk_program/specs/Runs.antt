@@ -36,7 +36,7 @@ Does (wishes.Punch from target) first last input before after = IsInFile from ta
 Does (wishes.Read ribbon case wedge picture) first last input before after = IsReadWhole (sources ribbon.now case.now wedge.now) (option_copied picture) first last before after
 Does (wishes.Sorts feed case layout) first last input before after = IsListed (sorts.sources feed.now case.now) layout first last before after true
 
--- it was begun and stopped, and this is what it left
+-- it stopped or was not begun, or a fault or a difference was found, and this is what it left
 abbrev pub Stops : Wish → Shelf → Shelf → Option (List ℕ) → Option (List ℕ) → Option (List ℕ) → Type 0
 Stops (wishes.Script manner) first last input before after = IsUnscripted manner first last input before after
 Stops (wishes.Desk feed site why manner) first last input before after = IsOffDesk manner feed.now site first last input before after
@@ -55,6 +55,6 @@ Stops (wishes.Sorts feed case layout) first last input before after = IsNotListe
 abbrev pub IsRun : Shelf → Shelf → List Text → Option (List ℕ) → Option (List ℕ) → Option (List ℕ) → Type 0
 IsRun first last words input before after = (wish : Wish) × AsksFor words wish × Does wish first last input before after
 
--- it was begun and stopped
+-- so of what the words ask for
 abbrev pub IsStopped : Shelf → Shelf → List Text → Option (List ℕ) → Option (List ℕ) → Option (List ℕ) → Type 0
 IsStopped first last words input before after = (wish : Wish) × AsksFor words wish × Stops wish first last input before after

@@ -1,4 +1,5 @@
-//! The status of what was done by hand with a stored feed. Where it was not done two lines say why.
+//! The status of what was done by hand with a stored feed. Where it was not done a line says so, and a second one the cause,
+//! unless the first says all.
 
 ghost use Rattle.std.specs.Prelude.{◌≡◌, MatchResult};
 

@@ -32,7 +32,7 @@ pub struct ReadingSources<'a> {
 pub enum Cause<'a> {
     /// The first line says all.
     Reported,
-    /// Memory ran out over this file.
+    /// Memory ran out, over this file or over what was read with it.
     NoMemory(&'a str),
     /// A call failed of this file.
     File(&'a str),
@@ -50,7 +50,7 @@ pub enum Cause<'a> {
     Case(&'a str, Refusal),
     /// Standard input failed.
     Input,
-    /// Standard input has no end.
+    /// Standard input did not come to its end within `MAX_READS` calls of `read`.
     Endless,
     /// Standard input has more than so many bytes.
     TooLong(usize),

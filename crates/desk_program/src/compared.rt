@@ -28,7 +28,7 @@ fn difference_status<E: Write, F: Explains>(
     }
 }
 
-/// Says in what two stored feeds differ, and gives the status: 0 where they hold the same.
+/// Says in what two stored feeds differ, and gives the status: 0 only where they hold the same.
 pub fn compared<W: Write, E: Write, F: Files + Explains>(
     alloc: Global,
     one: &str,

@@ -152,7 +152,7 @@ fn seen_by<W: Write, E: Write, F: Files + Explains>(
     if clean { 0 } else { 1 }
 }
 
-/// Writes two lines on why no settings are tried, and gives the status of it.
+/// Writes why no settings are tried, and gives the status of it.
 fn untried<E: Write>(faults: &mut E, sets: &[&str], fault: TrialFault) -> u8
     ensures { result ≡ 1 }
 {

@@ -140,7 +140,7 @@ fn sorts_status<E: Write, F: Explains>(
     }
 }
 
-/// Writes which sorts the copy of a stored feed wants by a case, and gives the status: 0 where none is missing.
+/// Writes which sorts the copy of a stored feed wants by a case, and gives the status: 0 only where none is missing.
 pub fn listed<W: Write, E: Write, F: Files + Explains>(
     alloc: Global,
     feed: &str,

@@ -141,14 +141,14 @@ fn explain_cause<E: Write, F: Explains>(
     }
 }
 
-/// Writes a second line on what stopped something: which file, what was asked of it, and the cause. A failure to write it
-/// changes nothing.
+/// Writes a second line on what stopped something, unless the first says all: which file it was, or which end of the program,
+/// and the cause. A failure to write it changes nothing.
 pub fn explain<E: Write, F: Explains>(faults: &mut E, files: &F, cause: Cause<'_>) {
     let _ = explain_cause(faults, files, cause);
 }
 
-/// Writes a line on a fault and a second one on its cause, and gives the status of it. Out of memory is reported as such,
-/// whatever it was wanted for.
+/// Writes a line on a fault and, unless that says all, a second one on its cause, and gives the status of it. Out of memory is
+/// reported as such, whatever it was wanted for.
 pub fn reported<E: Write, F: Explains, T: Display>(
     faults: &mut E,
     files: &F,

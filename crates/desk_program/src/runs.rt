@@ -122,8 +122,9 @@ fn refused<W: Write, E: Write>(writer: &mut W, faults: &mut E, error: &Error) ->
     2
 }
 
-/// Does what the words ask for, and gives the status: 0 where it was done, or help or the version was asked
-/// for, 1 where it stopped, and 2 where the words were refused. A failure to write the help or a fault's line changes no status.
+/// Does what the words ask for, and gives the status: 0 only where it was done and no fault or difference found, or help or the
+/// version was asked for; 1 where it stopped, or a fault or a difference was found; and 2 where the words were refused. A
+/// failure to write the help or a fault's line changes no status.
 pub fn program<R: Read, W: Write, E: Write, F: Files + Explains>(
     alloc: Global,
     words: &[String],

@@ -62,7 +62,7 @@ fn check_status<E: Write>(faults: &mut E, outcome: Result<bool, CheckFault>) -> 
     }
 }
 
-/// Says of files what they are, and gives the status: 0 where all are in order.
+/// Says of files what they are, and gives the status: 0 only where all are in order.
 pub fn checked<W: Write, E: Write, F: Files + Explains>(
     alloc: Global,
     names: &[&str],

@@ -51,7 +51,7 @@ limit_text sum before limit after = codes " (wedge sum " ++ (sum_text sum ++ (be
 abbrev pub filling_text : Option ℤ → (tight : ℕ) → List ℕ
 filling_text sum tight = limit_text sum (codes ", limits ") tight (codes " and ") ++ (decimal greatest ++ codes ")")
 
--- the wedge sum, and the limits that it passes
+-- the wedge sum and the limit or limits for it, where the fault is of the wedge sum
 abbrev pub limits_text : Scale → Option ℤ → JobFault → List ℕ
 limits_text scale sum (jobs.TooLoose line) = limit_text sum (codes ", limit ") scale.loose (codes ")")
 limits_text scale sum (jobs.CannotFill line) = filling_text sum scale.tight
@@ -116,7 +116,7 @@ way_text copy scale line fault =
 
 -- ---- faults of lines
 
--- what a fault is, and the limits that the wedge sum passes
+-- what a fault is, and where it is of the wedge sum, that and the limit or limits for it
 abbrev pub cause_and_limits : Scale → Option ℤ → JobFault → List ℕ
 cause_and_limits scale sum fault = cause_text fault ++ limits_text scale sum fault
 
@@ -160,7 +160,7 @@ style_text SmallCap = codes "small capital"
 abbrev pub code_text : ℕ → List ℕ
 code_text ch = codes "U+" ++ padded_integral (format_spec 32 0 4 4 (2 ^ 64 - 1)) false [] (digits 16 true ch)
 
--- where what surrounds a place begins, 24 symbols before it, and where it ends
+-- where what surrounds a place begins, 24 symbols before it or with the copy, and where it ends
 abbrev pub around_from : ℕ → ℕ
 around_from place = place - 24
 

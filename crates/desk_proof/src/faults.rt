@@ -101,7 +101,7 @@ fn put_filling<A: Allocator + Copy>(
     put_bound(out, "", greatest(), ")")
 }
 
-/// Writes the wedge sum, and the limits that it passes.
+/// Writes the wedge sum and the limit or limits for it, where the fault is of the wedge sum.
 fn put_limits<A: Allocator + Copy>(
     out: &mut String<A>,
     scale: Scale,
@@ -292,7 +292,7 @@ fn put_way<A: Allocator + Copy>(
     }
 }
 
-/// Writes what a fault is, and the limits that the wedge sum passes.
+/// Writes what a fault is, and where it is of the wedge sum, that and the limit or limits for it.
 pub fn put_cause<A: Allocator + Copy>(
     out: &mut String<A>,
     scale: Scale,

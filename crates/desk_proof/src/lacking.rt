@@ -38,7 +38,7 @@ pub fn put_name<A: Allocator + Copy>(out: &mut String<A>, symbol: Symbol) -> Res
     out.push_str(")")
 }
 
-/// Writes what surrounds a place: 24 symbols before it and after it.
+/// Writes the symbol at a place and what surrounds it: up to 24 symbols before it, and up to 24 after it.
 pub fn put_around<A: Allocator + Copy>(
     out: &mut String<A>,
     copy: &[Symbol],

@@ -33,7 +33,7 @@ GreatestIsKept = (settings : List Setting) (key : Key) → IsGreatestOf (IsSet s
 abbrev pub HasOneValue : List Setting → Key → Type 0
 HasOneValue settings key = (stamp : Stamp) (m n : ℕ) → IsSet settings key stamp m → IsSet settings key stamp n → m ≡ n
 
--- which is the greatest depends on what the settings are alone, and so not on their order or repetition
+-- where a stamp sets the key to one value, which is the greatest depends on what the settings are alone, and so not on their order or repetition
 abbrev pub OneGreatest : Type 0
 OneGreatest = (a b : List Setting) (key : Key) → HasOneValue a key
     → ((stamp : Stamp) (value : ℕ) → IsSet a key stamp value → IsSet b key stamp value)

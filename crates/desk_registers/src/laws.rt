@@ -7,7 +7,8 @@ pub fn greatest_is_kept()
     ensures { GreatestIsKept }
 {}
 
-/// Which it is depends on what the settings are alone, and not on their order or repetition.
+/// Where a stamp sets a key to one value, which it is depends on what the settings are alone, and not on their order or
+/// repetition.
 pub fn there_is_one_greatest()
     ensures { OneGreatest }
 {}

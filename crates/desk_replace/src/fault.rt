@@ -23,13 +23,13 @@ pub enum ExchangeFault {
     NoMemory,
 }
 
-/// Why a text does not stand at exactly one place of a copy, or why that was not found. No file has changed.
+/// Why a text does not stand at exactly one place of a copy, or that memory ran out. No file has changed.
 #[derive(Clone, Copy, Debug, PartialEq, Eq, Error)]
 pub enum PlaceFault {
     /// It stands nowhere in the copy, and that was written.
     #[error("no place")]
     NoPlace,
-    /// It stands at so many places, two at least, and they were written.
+    /// It stands at so many places, two at least; a line for each of the first 100 was written, and how many more there are.
     #[error("{0} places")]
     ManyPlaces(usize),
     /// It does not stand at one place, and the writer failed, or took no byte.
@@ -49,7 +49,7 @@ pub enum ReplaceFault {
     /// They are read, and the stored feed was not taken.
     #[error("{0}")]
     Take(TakeFault),
-    /// The feed was taken, and the one text has not one place in its copy.
+    /// The feed was taken, and the one text has not one place in its copy, or memory ran out before the other stood there.
     #[error("{0}")]
     Place(PlaceFault),
     /// It has one, and the copy was not made that with the other text there.

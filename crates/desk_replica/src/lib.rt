@@ -1,8 +1,9 @@
 //! One site's copy: what it holds, what its operations add, and what they show.
 //!
 //! The meaning is that of the set of operations (`desk_ops`); the sequence, the room and the registers follow the set, so
-//! that an edit costs no pass over the copy. What is shown keeps its order for good and at every site: the strong list
-//! specification of Attiya et al. 2016 ("Specification and complexity of collaborative text editing").
+//! that an edit makes none of them anew. What is shown keeps its order for good and, where no stamp of all that the sites hold
+//! is forked, at every site: the strong list specification of Attiya et al. 2016 ("Specification and complexity of
+//! collaborative text editing").
 #![tactic(auto)]
 
 ghost use Rattle.std.specs.Prelude.{◌≡◌, ◌+◌, ◌-◌, ◌≤◌, ◌<◌, ◌↔◌, ◌⊎◌, ◌++◌, ◌^◌, [], drop, All, IfOk, IfErr, IfSome, IsNone, IsOk, OnOk, OnErr, IsErrOf, length, take, true, false};
@@ -56,7 +57,7 @@ pub enum Took {
     Known,
 }
 
-/// Why an operation was not taken in or made. Nothing has changed then.
+/// Why an operation was not taken in or made. The set is then as it was.
 #[derive(Clone, Copy, Debug, PartialEq, Eq, Error)]
 pub enum Refusal {
     #[error("as many operations are held as may be")]
@@ -104,9 +105,9 @@ pub struct Count {
 }
 
 /// A site, and the operations that it holds; with them a sequence that is their walk, a room of what waits, and registers
-/// of the settings. These follow the set: an operation that comes is put where it acts, with all that waited for it, and
-/// only where it forks a stamp are they made anew. The place where the last one acted is kept as a hint: what is typed or
-/// comes in order hangs there.
+/// of the settings. These follow the set: an operation that comes is put where it acts, with all that waited for it; they are
+/// made anew where one forks a stamp, and for a list that is long beside what is held. The place where the last one acted is
+/// kept as a hint: what is typed or comes in order hangs there.
 pub struct Replica<Q: Sequence> {
     site: u16,
     held: Held<Q::Memory>,
@@ -256,7 +257,7 @@ impl<Q: Sequence> Replica<Q> {
     }
 
     /// Whether each operation of a list is held. A list that rises and is not short is passed beside what is held: one look at
-    /// each operation. No memory is taken.
+    /// each operation. It cannot run out of memory.
     pub fn has_all(&self, ops: &[Op]) -> bool
         ensures { result ≡ list_all (has_op self.now.ops) ops.now }
     {
@@ -297,8 +298,8 @@ impl<Q: Sequence> Replica<Q> {
         reserve_all(&mut self.held, &mut self.sequence, &mut self.room, n)
     }
 
-    /// Takes in an operation whose stamp none bears, where there is room for it. No memory is taken. Its target is looked
-    /// for at the place first, or where the last one acted.
+    /// Takes in an operation whose stamp none bears, where there is room for it. It cannot run out of memory. Its target is
+    /// looked for at the place first, or where the last one acted.
     fn enter(&mut self, op: Op, place: Option<usize>)
         requires lawful { IsLawful op }
         requires new { is_borne_in self.old.ops (stamp_of op) ≡ false }
@@ -559,7 +560,7 @@ impl<Q: Sequence> Replica<Q> {
         Ok(self.sequence.symbols(self.alloc)?)
     }
 
-    /// How many symbols the copy has. No memory is taken.
+    /// How many symbols the copy has. It cannot run out of memory.
     pub fn copy_len(&self) -> usize
         ensures { result ≡ length (copy_of self.now.ops) }
     {
@@ -573,7 +574,8 @@ impl<Q: Sequence> Replica<Q> {
         self.registers.value(key)
     }
 
-    /// The settings of the job: of each key the value of the live set with the greatest stamp. No memory is taken.
+    /// The settings of the job: of each key the value of the live set with the greatest stamp. It cannot run
+    /// out of memory.
     pub fn settings(&self) -> Settings
         ensures { result ≡ settings_of self.now.ops }
     {

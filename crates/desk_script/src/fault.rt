@@ -20,7 +20,7 @@ pub enum RunFault {
     /// The writer failed, or took no byte.
     #[error("write fault")]
     Write,
-    /// `MAX_READS` calls of `read` did not come to the end.
+    /// `MAX_READS` calls of `read` did not come to the end; or a sheet has more bytes than may be.
     #[error("too long")]
     TooLong,
     /// A line could not be kept, or a stored feed not be opened or stored. Memory that is refused to a command is an answer.

@@ -62,7 +62,8 @@ pub record IsShownAt (es : List Entry) (i place : ℕ) : Type 0 where
   pub shown : (d : Entry) → (slice_index_or es place d).deleted ≡ false
   pub before_it : shown_in (take place es) ≡ i
 
--- where the entries' stamps are those of the walk of some inserts, they become those of the walk with one more
+-- where the entries' stamps are those of the walk of some inserts, of which none bears the new one's stamp or hangs on it, and its parent is older,
+-- they become those of the walk with one more
 abbrev pub KeepsWalk : List Entry → List Entry → Stamp → Stamp → Type 0
 KeepsWalk old new parent stamp = (xs : List Insertion) (x : Insertion) → IsAscending xs → AllByRecursion (λ y. same y.stamp head ≡ false) xs → IsNext x xs → x.stamp ≡ stamp → x.parent ≡ parent
     → stamps_of old ≡ map (λ (y : Insertion). y.stamp) (walk_from xs head) → stamps_of new ≡ map (λ (y : Insertion). y.stamp) (walk_from (with_insert x xs) head)

@@ -24,7 +24,7 @@ pub struct Entry {
 }
 
 /// A list of entries with distinct stamps, and how many more it takes with no new memory. No call but `reserve`,
-/// `symbols` and `from_entries` takes memory, and these return `AllocError` only where a growth was refused.
+/// `symbols` and `from_entries` can be out of memory: the others return no `AllocError`.
 pub trait Sequence: Drop {
     type Memory: Allocator + Copy;
 

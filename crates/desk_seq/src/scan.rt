@@ -28,7 +28,8 @@ fn start_of<Q: Sequence>(sequence: &Q, parent: Stamp) -> usize
 }
 
 /// Puts a new element where the scan from its parent leads: the entry handed in, all others unchanged. Where the stamps
-/// are those of the walk of some inserts, they become those of the walk with this one more.
+/// are those of the walk of some inserts, of which none bears its stamp or hangs on it, and its parent is older, they become
+/// those of the walk with this one more.
 pub fn integrate<Q: Sequence>(sequence: &mut Q, entry: Entry, parent: Stamp)
     requires spare { 1 ≤ Q.free sequence.old }
     requires absent { IsAbsent entry.stamp (Q.entries sequence.old) }

@@ -17,7 +17,7 @@ use Rattle.desk_sheet.specs.declared.sheet.Mode.{Mode}
 
 -- ---- one line
 
--- an empty line, or one that begins with `#`
+-- an empty line, or one that begins with `#` and is not too long
 abbrev pub is_passed_over : Line → Bool
 is_passed_over (Bytes []) = true
 is_passed_over (Bytes (b ∷ bytes)) = b == 35

@@ -48,7 +48,8 @@ pub enum SheetFault {
     /// The line of this number, counted from 1, was answered by a refusal or by `stopped`, and the run was strict.
     #[error("line {0} refused")]
     Line(u64),
-    /// The reader, the writer, a file or memory failed. `TooLong` says that the sheet has more than `MAX_SHEET` bytes.
+    /// The reader, the writer, a file or memory failed, or what was stored was not opened as a feed. `TooLong` says that the
+    /// sheet has more than `MAX_SHEET` bytes.
     #[error("{0}")]
     Run(RunFault),
 }

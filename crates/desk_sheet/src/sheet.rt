@@ -28,14 +28,14 @@ pub const MAX_SHEET: usize = 67_108_864;
 /// How a sheet is carried out and answered.
 #[derive(Clone, Copy, Debug, PartialEq, Eq)]
 pub struct Mode {
-    /// The run ends at the first line that is answered by a refusal or by `stopped`; empty lines and those that begin with
-    /// `#` are passed over. Without it each line is answered, and the run goes on.
+    /// The run ends at the first line that is answered by a refusal or by `stopped`; empty lines, and those that begin with `#`
+    /// and are not too long, are passed over. Without it each line is answered, and the run goes on.
     pub strict: bool,
     /// The number of its line and a space stand before each answer. Lines are counted from 1, passed ones too.
     pub number: bool,
 }
 
-/// Whether a line is empty, or begins with `#`.
+/// Whether a line is empty, or begins with `#` and is not too long.
 fn is_passed_over(line: &[u8]) -> bool
     ensures { result ≡ is_passed_over (line_of line.now) }
 {

@@ -1,7 +1,7 @@
-//! Pages in frames that lie side by side in one piece of memory, so that a frame which no page has needed yet costs none.
+//! Pages in frames that lie side by side in one piece of memory; a frame which no page has needed yet is not touched.
 //!
 //! The pages stand in a list of heads, in order. A head says in which frame its page lies and where in it, so a page that is put
-//! between two others moves heads alone. The number of its frame is the name of a page, which stays with it.
+//! between two others moves heads alone. The number of its frame is the name of a page.
 ghost use Rattle.std.specs.Prelude.{◌≡◌, ◌≢◌, ◌+◌, ◌-◌, ◌*◌, ◌≤◌, ◌<◌, ◌^◌, List, [], ◌∷◌, ◌++◌, length, take, drop, slice_index_or, slice_set, vec_len, vec_capacity, max, suc, OnOk};
 ghost use Rattle.std.specs.List.{insert, remove};
 ghost use Rattle.desk_shelf.specs.Shelf.{cut_at};
@@ -88,7 +88,7 @@ impl<T: Copy, S: Summary<T>, A: Allocator> Shelf<T, S, A> {
         self.heads[p].len
     }
 
-    /// The name of page p: the number of its frame, which stays with it.
+    /// The name of page p: the number of its frame.
     pub fn name(&self, p: usize) -> usize
         requires { p < length self.now.pages }
     {

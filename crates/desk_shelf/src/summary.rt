@@ -4,7 +4,7 @@ ghost use Rattle.std.specs.List.{insert};
 
 /// The most entries of a page.
 pub const FULL: usize = 256;
-/// The fewest of a page that is neither first nor last.
+/// Half of that: what either of the two pages has that a full one is cut into.
 pub const HALF: usize = 128;
 /// What is free on either side of a page that was cut.
 pub const QUARTER: usize = 64;

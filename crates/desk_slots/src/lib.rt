@@ -139,7 +139,7 @@ pub fn seek<P: Pick<Slot, ()>, A: Allocator + Copy>(
     Some(slot.op())
 }
 
-/// Puts an operation before the first that is not picked.
+/// Puts an operation before the first that is not picked, where those that are picked stand first.
 pub fn insert_in_order<P: Pick<Slot, ()>, A: Allocator + Copy>(
     ops: &mut Pages<Slot, (), A>,
     pick: &P,

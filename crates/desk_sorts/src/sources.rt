@@ -13,8 +13,8 @@ use desk_inputs::{Memory, case_in};
 use desk_replica::Replica;
 use std::alloc::Allocator;
 
-/// Opens the feed of a file, and reads a case. No name is taken, and no file changes. Out of memory comes only where the
-/// device did not fail in the call and the feed was opened.
+/// Opens the feed of a file, and reads a case. No name is taken, and no file changes. `NoMemory` comes only where the device
+/// did not fail in the call and the feed was opened.
 pub fn take_in<F: Files, A: Allocator + Copy>(
     memory: Memory<A>,
     files: &mut F,

@@ -24,7 +24,7 @@ abbrev pub IsUntaken : List ℕ → Shelf → Shelf → FileRefusal → Type 0
 IsUntaken name before after why =
     (why ≢ refusals.Large) × (why ≡ refusals.Missing → IsNowhere (before.kept name)) × IsCounted why before after × Stays before after
 
--- a stored feed that is there was not read, and no file has changed
+-- a stored feed was not read, for another cause than that no file is there, and no file has changed
 abbrev pub IsUnread : List ℕ → Shelf → Shelf → FileRefusal → Type 0
 IsUnread name before after why = (why ≢ refusals.Missing) × Reads (before.kept name) (Err why) × IsCounted why before after × Stays before after
 

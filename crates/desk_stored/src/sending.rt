@@ -12,7 +12,7 @@ use thiserror::Error;
 #[error("write fault")]
 pub struct Unsent;
 
-/// Writes the bytes. A write of no bytes is a failure. After an `Err` a prefix of them was written.
+/// Writes the bytes. After an `Err`, as where the writer takes none of what is left, a prefix of them was written.
 pub fn send<W: Write>(writer: &mut W, bytes: &[u8]) -> Result<(), Unsent>
     ensures ok { OnOk result (Appends (W.contents writer.old) (W.contents writer.new) bytes.now) }
     ensures err { OnErr result (WritesPrefix (W.contents writer.old) (W.contents writer.new) bytes.now) }

@@ -112,7 +112,7 @@ abbrev pub HasPlace : TrialFault → List (Bor (List ℕ)) → Type 0
 HasPlace (fault.NoSetting place) texts = first_idle 0 texts ≡ Some place
 HasPlace fault.NoMemory texts = Unit {0}
 
--- The first text stands for a command.
+-- The first text has an equals sign.
 abbrev pub HasLine : List (Bor (List ℕ)) → Type 0
 HasLine [] = ⊥
 HasLine (text ∷ texts) = line_of text.now ≢ None

@@ -159,7 +159,8 @@ fn drain<Q: Sequence>(sequence: &mut Q, room: &mut Room<Q::Memory>, from: usize)
 }
 
 /// Does what an arrival says that hangs on the place, and releases all that waited for it; returns the place of what it
-/// made or marked. Nothing waits for what was there before, so the drain begins at the new element. No memory is taken.
+/// made or marked. Nothing waits for what was there before, so the drain begins at the new element. It cannot run
+/// out of memory.
 fn arrive<Q: Sequence>(sequence: &mut Q, room: &mut Room<Q::Memory>, op: Op, at: usize) -> usize
     requires arrives { (h : OpSet) × IsArrival h op (Q.entries sequence.old) room.old.ops }
     requires within { at ≤ length (Q.entries sequence.old) }
@@ -187,9 +188,9 @@ fn arrive<Q: Sequence>(sequence: &mut Q, room: &mut Room<Q::Memory>, op: Op, at:
     }
 }
 
-/// Takes in an operation whose stamp none bears: it waits, or acts with all that waited for it. No memory is taken. Its
-/// target is looked for at a place near it first, which is never believed without a look; the result is the place to look
-/// at for the next.
+/// Takes in an operation whose stamp none bears: it waits, or acts with all that waited for it. It cannot run out
+/// of memory. Its target is looked for at a place near it first, which is never believed without a look; the result is the
+/// place to look at for the next.
 pub fn enter<Q: Sequence>(
     sequence: &mut Q,
     room: &mut Room<Q::Memory>,

@@ -434,8 +434,8 @@ impl<A: Allocator + Copy> World<A> {
         }
     }
     /// Lets the events of a list happen, one after the other, and returns what `step` returns of each, in their order. A
-    /// refused event changes nothing, and those after it still happen. Out of memory comes only where the list of answers
-    /// finds no room; no event has happened then. An honest world stays honest.
+    /// refused event changes nothing but what `Stopped` says was taken, and those after it still happen. Out of memory comes
+    /// only where the list of answers finds no room; no event has happened then. An honest world stays honest.
     pub fn play(
         &mut self,
         events: &[Event<'_>],

@@ -67,7 +67,7 @@ fn main(rt: HostRuntime) -> Result<()> {
     let mut two = Room::new(alloc, 2);
     two.merge(&one)?;
 
-    // Apart: room 1 puts two words in, room 2 takes one out.
+    // Apart: room 1 puts two words in, room 2 takes two out.
     key(alloc, &mut one, 5, "_a short_ ")?;
     for _ in 0..8 {
         two.delete_at(9)?;
