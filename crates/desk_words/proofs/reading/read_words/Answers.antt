@@ -28,4 +28,4 @@ returns-clause-wish c =
     let is : app_of c.in_ok-command.command ≡ copydesk = c.in_ok-command.ensures.app in
     let met : subcommand_rows_of c.in_ok-matches.matches ≡ subcommand_of copydesk (map string_bytes c.args.words.now) =
     (c.in_ok-matches.ensures.matches (ap is_simple is ∙ simple)).1 ∙ ap (λ (a : App). subcommand_of a (map string_bytes c.args.words.now)) is in
-    asked (map string_bytes c.args.words.now) c.in_ok-wish_of.field-0 (returns-clause-kinds c) (subst (λ o. IsWished o c.in_ok-wish_of.field-0) met c.in_ok-wish_of.ensures)
+    asked (map string_bytes c.args.words.now) c.in_ok-wish_of.field-0 (returns-clause-kinds c) (subst (λ o. IsWished o c.in_ok-wish_of.field-0) met c.in_ok-wish_of.ensures.wish)
