@@ -20,7 +20,7 @@ pub struct Job<'a> {
     pub more: &'a [(Key, u32)],
 }
 
-const STANDARD: [(Key, u32); 5] = [
+pub const STANDARD: [(Key, u32); 5] = [
     (Key::Measure, 120),
     (Key::Tight, 38),
     (Key::Loose, 150),
@@ -41,7 +41,7 @@ fn set_one<A: Allocator + Copy>(
 }
 
 /// Gives a replica these settings.
-fn set_all<A: Allocator + Copy>(
+pub fn set_all<A: Allocator + Copy>(
     replica: &mut Replica<Flat<A>>,
     settings: &[(Key, u32)],
 ) -> Result<(), Refusal> {

@@ -12,6 +12,8 @@ mod growths;
 #[cfg(test)]
 mod jobs;
 #[cfg(test)]
+mod large;
+#[cfg(test)]
 mod wide;
 #[cfg(test)]
 mod words;
