@@ -1,5 +1,5 @@
 -- Pieces are the feed: what one piece gives after another is what the two give at once.
-use Rattle.std.proofs.Common.{◌≡◌, ◌≢◌, ℕ, ◌+◌, ◌<◌, ◌≤◌, List, [], ◌∷◌, ◌++◌, length, Option, Some, None, refl, sym, ap, subst, ◌∙◌, ◌⊎◌, inl, inr, append_assoc, length-append, arith}
+use Rattle.std.proofs.Common.{◌≡◌, ◌≢◌, ℕ, ◌+◌, ◌<◌, ◌≤◌, false, List, [], ◌∷◌, ◌++◌, length, Option, Some, None, refl, sym, ap, subst, ◌∙◌, ◌⊎◌, inl, inr, append_assoc, length-append, arith}
 use Rattle.std.proofs.lemmas.List.{append-nil}
 use Rattle.std.proofs.lemmas.Grind.{flat_map-append}
 use Rattle.desk_ops.specs.declared.op.Op.{Op}
@@ -11,9 +11,10 @@ use Rattle.desk_codec.specs.declared.fault.FeedFault.{FeedFault}
 use Rattle.desk_codec.specs.Items.{Item, item_ops}
 use Rattle.desk_codec.specs.Feed.{magic_of, Spells, ops_in, IsFeed}
 use Rattle.desk_codec.specs.Fault.{item_bytes, BeginsRun, IsCut, IsWrong, GoesWrong, HasNoMagic, IsFirstFault}
-use Rattle.desk_codec.specs.Pieces.{Reader, fresh, place_of, due, AwaitsMagic, Reads, IsRead, GoesAstray, ShowsFirst, Takes, Shows, IsWhole, EndsInMagic, EndsInItem, EndsWrong}
+use Rattle.desk_codec.specs.Pieces.{Reader, fresh, place_of, due, IsUnended, AwaitsMagic, Reads, IsRead, GoesAstray, ShowsFirst, Takes, Shows, IsWhole, EndsInMagic, EndsInItem, EndsWrong}
 use Rattle.desk_codec.specs.PieceReading.{Resumes}
-use Rattle.desk_codec.proofs.Grammar.{spells_append}
+use Rattle.desk_codec.proofs.Grammar.{spells_append, one_form, one_list}
+use Rattle.desk_codec.proofs.FaultLaws.{never_spelled}
 
 -- ---- what holds of a reader between two pieces
 
@@ -220,6 +221,27 @@ short_magic form bytes rest short e =
     let len : length bytes ≡ length (magic_of form) + length rest = ap (λ (l : List ℕ). length l) e ∙ length-append (magic_of form) rest in
     let four = magic_length form in
     omega (arith, short, len, four)
+
+-- what is kept of a feed is nothing, since a cut item is no item
+feed_ends : (form : FeedForm) (bytes prefix kept : List ℕ) (items before : List Item) → Spells form bytes items → Spells form prefix before → bytes ≡ prefix ++ kept → IsUnended form kept → kept ≡ []
+feed_ends form bytes prefix kept items before f g e (inl none) = none
+feed_ends form bytes prefix kept items before f g e (inr cut) = absurd (never_spelled form bytes prefix kept items before why.Cut f g e cut)
+
+kept_of_feed : (bytes : List ℕ) (ops read : List Op) (form : FeedForm) (kept : List ℕ) → IsFeed bytes ops → Reads None bytes read form kept → kept ≡ []
+kept_of_feed bytes ops read form kept f d =
+    let same = one_form f.form form f.rest (d.prefix ++ kept) (sym f.prefix ∙ d.split) in
+    let there : Spells form f.rest f.items = subst (λ (g : FeedForm). Spells g f.rest f.items) same.0 f.spells in
+    feed_ends form f.rest d.prefix kept f.items d.items there d.spells same.1 d.unended
+
+exact_read : (bytes : List ℕ) (read ops : List Op) (s : Reader) → s.failed ≡ false → IsRead None bytes read s.form s.kept → IsFeed bytes ops → IsWhole s × (read ≡ ops)
+exact_read bytes read ops s on (inl a) f = absurd (short_magic f.form bytes f.rest a.short f.prefix)
+exact_read bytes read ops s on (inr d) f =
+    let whole : IsWhole s = record { answers = on; begun = never_none d.0 s.form d.1; none = kept_of_feed bytes ops read d.0 s.kept f d.2 } in
+    (whole, one_list bytes read ops (first_read bytes read s (inr d) whole.begun whole.none) f)
+
+-- a feed that was read is whole at its end, and what was read is its list
+pub feed_whole : (bytes : List ℕ) (read ops : List Op) (s : Reader) → Takes fresh bytes read s → IsFeed bytes ops → IsWhole s × (read ≡ ops)
+feed_whole bytes read ops s t f = exact_read bytes read ops s t.answers_on t.read f
 
 one_some : (f g : FeedForm) (o : Option FeedForm) → o ≡ Some f → o ≡ Some g → f ≡ g
 one_some f g o a b = cc

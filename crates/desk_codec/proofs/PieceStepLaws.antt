@@ -7,7 +7,7 @@ use Rattle.desk_codec.specs.declared.fault.FeedFault.{FeedFault}
 use Rattle.desk_codec.specs.Fault.{IsFirstFault}
 use Rattle.desk_codec.specs.Pieces.{Reader, fresh, Takes, Shows}
 use Rattle.desk_codec.specs.PieceSteps.{Call, TakesEach, pieces_of, ops_of, PiecesAreTheFeed}
-use Rattle.desk_codec.proofs.PieceLaws.{fresh_sound, joined, joined_shown, fresh_takes, whole_feed, end_fault, shown_fault}
+use Rattle.desk_codec.proofs.PieceLaws.{fresh_sound, joined, joined_shown, fresh_takes, whole_feed, feed_whole, end_fault, shown_fault}
 
 -- after pieces that were taken as one, each further piece is taken as one with them
 all_joined : (r s t : Reader) (bytes : List ℕ) (ops : List Op) (calls : List Call) → Takes r bytes ops s → TakesEach s calls t → Takes r (bytes ++ pieces_of calls) (ops ++ ops_of calls) t
@@ -33,6 +33,7 @@ pub pieces_are_the_feed : PiecesAreTheFeed
 pieces_are_the_feed = record {
   joined = taken;
   whole = λ calls r e w. whole_feed (pieces_of calls) (ops_of calls) r (taken calls r e) w;
+  exactly = λ calls r ops e f. feed_whole (pieces_of calls) (ops_of calls) ops r (taken calls r e) f;
   ended = λ calls r fault e w. end_fault (pieces_of calls) (ops_of calls) r fault (taken calls r e) w;
   shown = shown;
 }

@@ -35,7 +35,8 @@ fields_of (ops.Set stamp key value) = Set stamp (key_code key) value
 
 -- the bytes that have these fields, the kind before them
 abbrev pub bytes_of : Fields → List ℕ
-bytes_of (Insert stamp parent style ch) = 1 ∷ stamp_spelling stamp ++ stamp_spelling parent ++ style ∷ to_be_bytes w32 ch
+bytes_of (Insert stamp parent style ch) = 1 ∷ stamp_spelling stamp ++ stamp_spelling parent
+    ++ style ∷ to_be_bytes w32 ch
 bytes_of (Delete stamp target) = 2 ∷ stamp_spelling stamp ++ stamp_spelling target
 bytes_of (Set stamp key value) = 3 ∷ stamp_spelling stamp ++ key ∷ to_be_bytes w32 value
 
@@ -49,7 +50,8 @@ abbrev pub style_of : ℕ → Option Style
 style_of n = if n == 0 then Some Roman else if n == 1 then Some Italic else if n == 2 then Some SmallCap else None
 
 abbrev pub key_of : ℕ → Option Key
-key_of n = if n == 1 then Some Measure else if n == 2 then Some Tight else if n == 3 then Some Loose else if n == 4 then Some Case else if n == 5 then Some Wedge else None
+key_of n = if n == 1 then Some Measure else if n == 2 then Some Tight else if n == 3 then Some Loose else if n == 4
+    then Some Case else if n == 5 then Some Wedge else None
 
 -- a scalar value, which every character is
 abbrev pub is_character : ℕ → Bool
@@ -68,7 +70,8 @@ symbol_in None ch = no_symbol
 abbrev pub setting_cause : Stamp → Option Key → ℕ → Result (Unit {0}) Unlawful
 setting_cause stamp (Some key) value = verdict (ops.Set stamp key value)
 setting_cause stamp None value =
-    first_of ((is_counter stamp.counter, unlawful.Counter) ∷ (not (stamp.site == 0), unlawful.Site) ∷ (false, unlawful.Key) ∷ [])
+    first_of ((is_counter stamp.counter, unlawful.Counter) ∷ (not (stamp.site == 0), unlawful.Site) ∷
+    (false, unlawful.Key) ∷ [])
 
 -- the first cause why fields are those of no lawful operation
 abbrev pub cause : Fields → Result (Unit {0}) Unlawful
@@ -102,7 +105,8 @@ mark_bytes mark = mark.style ∷ to_be_bytes w32 mark.ch
 -- the bytes that have these fields
 abbrev pub item_bytes : ItemFields → List ℕ
 item_bytes (OneOf fields) = bytes_of fields
-item_bytes (RunOf stamp parent marks) = 4 ∷ stamp_spelling stamp ++ stamp_spelling parent ++ length marks ∷ flat_map mark_bytes marks
+item_bytes (RunOf stamp parent marks) = 4 ∷ stamp_spelling stamp ++ stamp_spelling parent
+    ++ length marks ∷ flat_map mark_bytes marks
 
 abbrev pub IsMarkValue : Mark → Type 0
 IsMarkValue mark = (mark.style < 2 ^ 8) × (mark.ch < 2 ^ 32)
@@ -110,7 +114,8 @@ IsMarkValue mark = (mark.style < 2 ^ 8) × (mark.ch < 2 ^ 32)
 -- the numbers are values of their fields' types
 abbrev pub AreItemValues : ItemFields → Type 0
 AreItemValues (OneOf fields) = AreValues fields
-AreItemValues (RunOf stamp parent marks) = IsStampValue stamp × IsStampValue parent × (length marks < 2 ^ 8) × AllByRecursion IsMarkValue marks
+AreItemValues (RunOf stamp parent marks) = IsStampValue stamp × IsStampValue parent × (length marks < 2 ^ 8)
+    × AllByRecursion IsMarkValue marks
 
 -- an item of such fields may stand in a feed of the form
 abbrev pub MayStand : FeedForm → ItemFields → Type 0
@@ -125,7 +130,8 @@ then_cause (Err first) later = Err first
 -- the first cause of the first insert of a run that is not lawful
 abbrev pub run_cause : Stamp → Stamp → List Mark → Result (Unit {0}) Unlawful
 run_cause stamp parent [] = Ok tt
-run_cause stamp parent (mark ∷ marks) = then_cause (cause (Insert stamp parent mark.style mark.ch)) (run_cause (next_stamp stamp) stamp marks)
+run_cause stamp parent (mark ∷ marks) =
+    then_cause (cause (Insert stamp parent mark.style mark.ch)) (run_cause (next_stamp stamp) stamp marks)
 
 -- the first cause why fields are those of no lawful item
 abbrev pub item_cause : ItemFields → Result (Unit {0}) Unlawful
@@ -219,4 +225,5 @@ pub record HasNoMagic (bytes : List ℕ) (fault : FeedFault) : Type 0 where
 
 -- the first fault of bytes that are no feed
 abbrev pub IsFirstFault : List ℕ → FeedFault → Type 0
-IsFirstFault bytes fault = HasNoMagic bytes fault ⊎ ((form : FeedForm) × (rest : List ℕ) × (bytes ≡ magic_of form ++ rest) × GoesWrong form 4 rest fault)
+IsFirstFault bytes fault = HasNoMagic bytes fault
+    ⊎ ((form : FeedForm) × (rest : List ℕ) × (bytes ≡ magic_of form ++ rest) × GoesWrong form 4 rest fault)

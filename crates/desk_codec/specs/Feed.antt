@@ -48,7 +48,8 @@ Stands form (Run stamp parent symbols) = HasRuns form × IsHeldRun stamp parent 
 -- the bytes are those of the items, one after the other
 abbrev pub Spells : FeedForm → List ℕ → List Item → Type 0
 Spells form bytes [] = bytes ≡ []
-Spells form bytes (item ∷ items) = Stands form item × ((rest : List ℕ) × (bytes ≡ item_spelling item ++ rest) × Spells form rest items)
+Spells form bytes (item ∷ items) =
+    Stands form item × ((rest : List ℕ) × (bytes ≡ item_spelling item ++ rest) × Spells form rest items)
 
 -- the operations of items, joined
 abbrev pub ops_in : List Item → List Op

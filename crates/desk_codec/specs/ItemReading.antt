@@ -48,7 +48,8 @@ pub record GivesInserts (stamp parent : Stamp) (count : ℕ) (bytes : List ℕ) 
   pub is : Adds before after (run_ops stamp parent symbols)
   pub prefix : bytes ≡ flat_map symbol_spelling symbols ++ rest
 
--- so many symbols' numbers stand at the start, and this is the first cause of the first insert of a run of them that is not lawful
+-- so many symbols' numbers stand at the start, and this is the first cause of the first insert of a run of them that
+-- is not lawful
 pub record HasUnlawful (stamp parent : Stamp) (count : ℕ) (bytes : List ℕ) (first : Unlawful) : Type 0 where
   pub marks : List Mark
   pub many : length marks ≡ count

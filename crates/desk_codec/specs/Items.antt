@@ -35,4 +35,5 @@ symbol_spelling symbol = style_code symbol.style ∷ to_be_bytes w32 symbol.ch
 -- the bytes of an item; those of a run are 4, the stamp, the parent, the number of symbols, and the symbols
 abbrev pub item_spelling : Item → List ℕ
 item_spelling (One op) = spelling op
-item_spelling (Run stamp parent symbols) = 4 ∷ stamp_spelling stamp ++ stamp_spelling parent ++ length symbols ∷ flat_map symbol_spelling symbols
+item_spelling (Run stamp parent symbols) = 4 ∷ stamp_spelling stamp ++ stamp_spelling parent
+    ++ length symbols ∷ flat_map symbol_spelling symbols

@@ -11,6 +11,9 @@ use Rattle.desk_codec.specs.Spelling.{spelling, IsValue}
 
 -- operations stand by stamp, and those of one stamp by their bytes, the first bytes that differ deciding
 pub record OrderOfBytes : Type 0 where
-  pub compared : (o p : Op) → IsValue o → IsValue p → op_cmp o p ≡ ordering_then (stamp_cmp (stamp_of o) (stamp_of p)) (slice_cmp nat_cmp (spelling o) (spelling p))
+  pub compared : (o p : Op) → IsValue o → IsValue p
+      → op_cmp o p ≡ ordering_then (stamp_cmp (stamp_of o) (stamp_of p)) (slice_cmp nat_cmp (spelling o) (spelling p))
   pub less : (o p : Op) → IsValue o → IsValue p
-      → (op_cmp o p ≡ Less) ↔ ((stamp_cmp (stamp_of o) (stamp_of p) ≡ Less) ⊎ ((stamp_of o ≡ stamp_of p) × (slice_cmp nat_cmp (spelling o) (spelling p) ≡ Less)))
+      → (op_cmp o p ≡ Less)
+      ↔ ((stamp_cmp (stamp_of o) (stamp_of p) ≡ Less)
+      ⊎ ((stamp_of o ≡ stamp_of p) × (slice_cmp nat_cmp (spelling o) (spelling p) ≡ Less)))

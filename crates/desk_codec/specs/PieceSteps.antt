@@ -15,7 +15,8 @@ pub record Call : Type 0 where
 -- the pieces were fed one after the other, and each was taken
 abbrev pub TakesEach : Reader → List Call → Reader → Type 0
 TakesEach before [] after = after ≡ before
-TakesEach before (call ∷ calls) after = (next : Reader) × Takes before call.piece call.ops next × TakesEach next calls after
+TakesEach before (call ∷ calls) after = (next : Reader) × Takes before call.piece call.ops next
+    × TakesEach next calls after
 
 -- the pieces joined
 abbrev pub pieces_of : List Call → List ℕ
@@ -28,10 +29,17 @@ ops_of calls = flat_map (λ (call : Call). call.ops) calls
 -- However bytes are cut into pieces, they give what reading them at once gives.
 pub record PiecesAreTheFeed : Type 0 where
   -- pieces that are taken one after the other give what they give joined
-  pub joined : (calls : List Call) (r : Reader) → TakesEach fresh calls r → Takes fresh (pieces_of calls) (ops_of calls) r
+  pub joined : (calls : List Call) (r : Reader) → TakesEach fresh calls r
+      → Takes fresh (pieces_of calls) (ops_of calls) r
   -- where they end whole they are the feed of the lists joined
-  pub whole : (calls : List Call) (r : Reader) → TakesEach fresh calls r → IsWhole r → IsFeed (pieces_of calls) (ops_of calls)
+  pub whole : (calls : List Call) (r : Reader) → TakesEach fresh calls r → IsWhole r
+      → IsFeed (pieces_of calls) (ops_of calls)
+  -- where the pieces joined are a feed they end whole, and the lists joined are the feed's
+  pub exactly : (calls : List Call) (r : Reader) (ops : List Op)
+      → TakesEach fresh calls r → IsFeed (pieces_of calls) ops → IsWhole r × (ops_of calls ≡ ops)
   -- the fault of their end is their first fault
-  pub ended : (calls : List Call) (r : Reader) (fault : FeedFault) → TakesEach fresh calls r → EndsWrong r fault → IsFirstFault (pieces_of calls) fault
+  pub ended : (calls : List Call) (r : Reader) (fault : FeedFault) → TakesEach fresh calls r → EndsWrong r fault
+      → IsFirstFault (pieces_of calls) fault
   -- the fault that a piece shows is their first fault, whatever pieces follow
-  pub shown : (calls : List Call) (r : Reader) (piece more : List ℕ) (fault : FeedFault) → TakesEach fresh calls r → Shows r piece fault → IsFirstFault (pieces_of calls ++ (piece ++ more)) fault
+  pub shown : (calls : List Call) (r : Reader) (piece more : List ℕ) (fault : FeedFault) → TakesEach fresh calls r
+      → Shows r piece fault → IsFirstFault (pieces_of calls ++ (piece ++ more)) fault

@@ -51,7 +51,8 @@ pub record AwaitsMagic (before : Option FeedForm) (bytes : List ℕ) (ops : List
   pub none : ops ≡ []
   pub all : kept ≡ bytes
 
--- The bytes are, after the magic, those of items, followed by bytes of no whole one; the operations are those of the items.
+-- The bytes are, after the magic, those of items, followed by bytes of no whole one; the operations are those of the
+-- items.
 pub record Reads (before : Option FeedForm) (bytes : List ℕ) (ops : List Op) (form : FeedForm) (kept : List ℕ) : Type 0 where
   pub agrees : Agrees before form
   pub items : List Item
@@ -63,7 +64,8 @@ pub record Reads (before : Option FeedForm) (bytes : List ℕ) (ops : List Op) (
 
 -- what is read of bytes, and what is kept of them
 abbrev pub IsRead : Option FeedForm → List ℕ → List Op → Option FeedForm → List ℕ → Type 0
-IsRead before bytes ops after kept = AwaitsMagic before bytes ops after kept ⊎ ((form : FeedForm) × (after ≡ Some form) × Reads before bytes ops form kept)
+IsRead before bytes ops after kept = AwaitsMagic before bytes ops after kept
+    ⊎ ((form : FeedForm) × (after ≡ Some form) × Reads before bytes ops form kept)
 
 -- four bytes stand at the start of the feed, and are no magic
 pub record IsNotMagic (before : Option FeedForm) (bytes : List ℕ) (fault : FeedFault) : Type 0 where
@@ -71,7 +73,8 @@ pub record IsNotMagic (before : Option FeedForm) (bytes : List ℕ) (fault : Fee
   pub long : 4 ≤ length bytes
   pub wrong : HasNoMagic bytes fault
 
--- After the magic and items stands no kind, a count of no run, or an item that is whole and not lawful: more bytes mend none.
+-- After the magic and items stands no kind, a count of no run, or an item that is whole and not lawful: more bytes
+-- mend none.
 pub record GoesAstray (before : Option FeedForm) (place : ℕ) (bytes : List ℕ) (fault : FeedFault) : Type 0 where
   pub form : FeedForm
   pub agrees : Agrees before form
@@ -84,7 +87,8 @@ pub record GoesAstray (before : Option FeedForm) (place : ℕ) (bytes : List ℕ
 abbrev pub ShowsFirst : Option FeedForm → ℕ → List ℕ → FeedFault → Type 0
 ShowsFirst before place bytes fault = IsNotMagic before bytes fault ⊎ GoesAstray before place bytes fault
 
--- A reader took a piece: the bytes kept before, followed by the piece, are those of the operations and the bytes kept after.
+-- A reader took a piece: the bytes kept before, followed by the piece, are those of the operations and the bytes kept
+-- after.
 pub record Takes (before : Reader) (piece : List ℕ) (ops : List Op) (after : Reader) : Type 0 where
   pub answers : before.failed ≡ false
   pub answers_on : after.failed ≡ false

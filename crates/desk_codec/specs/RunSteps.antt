@@ -22,10 +22,12 @@ pub record IsNextAt (ops : List Op) (stamp : Stamp) (place : ℕ) (symbol : Symb
 pub record IsWrittenTo (ops : List Op) (marks : List Bool) (bytes : List ℕ) (place : ℕ) : Type 0 where
   pub written : List Op
   pub size : length marks ≡ length ops
-  pub marked : (k : ℕ) (d : Op) → k < length ops → slice_index_or marks k false ≡ is_among (slice_index_or ops k d) written
+  pub marked : (k : ℕ) (d : Op) → k < length ops
+      → slice_index_or marks k false ≡ is_among (slice_index_or ops k d) written
   pub rest : bytes ++ flat_map item_spelling (items_from ops written (drop place ops)) ≡ runs_feed ops
 
 -- these operations are marked as well
 pub record MarksAlso (ops : List Op) (before after : List Bool) (more : List Op) : Type 0 where
   pub size : length after ≡ length before
-  pub each : (k : ℕ) (d : Op) → k < length ops → slice_index_or after k false ≡ (slice_index_or before k false || is_among (slice_index_or ops k d) more)
+  pub each : (k : ℕ) (d : Op) → k < length ops
+      → slice_index_or after k false ≡ (slice_index_or before k false || is_among (slice_index_or ops k d) more)

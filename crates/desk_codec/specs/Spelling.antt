@@ -24,7 +24,8 @@ stamp_spelling stamp = to_be_bytes w64 stamp.counter ++ to_be_bytes w16 stamp.si
 
 -- what follows the kind: the stamp, and then the other fields in their order
 abbrev pub fields_spelling : Op → List ℕ
-fields_spelling (Insert stamp parent symbol) = stamp_spelling stamp ++ stamp_spelling parent ++ style_code symbol.style ∷ to_be_bytes w32 symbol.ch
+fields_spelling (Insert stamp parent symbol) = stamp_spelling stamp ++ stamp_spelling parent
+    ++ style_code symbol.style ∷ to_be_bytes w32 symbol.ch
 fields_spelling (Delete stamp target) = stamp_spelling stamp ++ stamp_spelling target
 fields_spelling (Set stamp key value) = stamp_spelling stamp ++ key_code key ∷ to_be_bytes w32 value
 

@@ -9,7 +9,8 @@ ghost use Rattle.desk_codec.specs.Form.{kind_byte, kind_size};
 use crate::form::Kind;
 use desk_ops::{Key, Op, Stamp, Style, Symbol, Unlawful};
 
-/// The fields of an operation as its bytes have them, lawful or not: a style and a character, or a key, by their numbers.
+/// The fields of an operation as its bytes have them, lawful or not: a style and a character, or a key, by their
+/// numbers.
 #[derive(Clone, Copy)]
 pub enum Fields {
     Insert {

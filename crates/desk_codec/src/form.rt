@@ -53,7 +53,8 @@ pub const MOST_RUN: usize = 64;
 impl FeedForm {
     /// The form of the feeds that begin with these bytes, or none.
     pub fn of_magic(bytes: &[u8]) -> Option<FeedForm>
-        ensures { MatchOption result ((form : FeedForm) → bytes.now ≡ magic_of form → ⊥) (λ form. bytes.now ≡ magic_of form) }
+        ensures { MatchOption result ((form : FeedForm) → bytes.now ≡ magic_of form
+            → ⊥) (λ form. bytes.now ≡ magic_of form) }
     {
         if bytes == MAGIC.as_slice() {
             Some(FeedForm::Singles)
@@ -64,7 +65,8 @@ impl FeedForm {
         }
     }
 
-    /// How many operations room is kept for, to read so many bytes: each takes 16 bytes at least, or 5 in runs, of which one at
+    /// How many operations room is kept for, to read so many bytes: each takes 16 bytes at least, or 5 in runs, of
+    /// which one at
     /// least has a prefix.
     pub fn most_ops(self, size: usize) -> usize
         ensures { result ≢ 0 → 16 ≤ size }

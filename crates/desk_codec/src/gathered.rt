@@ -7,7 +7,8 @@ use desk_ops::Op;
 use std::alloc::Allocator;
 use std::marker::Model;
 
-/// The operations read so far. Once a growth is refused none are kept, and the reading goes on without them, to the first fault.
+/// The operations read so far. Once a growth is refused none are kept, and the reading goes on without them, to the
+/// first fault.
 #[derive(Drop)]
 pub struct Gathered<A: Allocator> {
     ops: Vec<Op, A>,

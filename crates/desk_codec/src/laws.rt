@@ -43,7 +43,8 @@ pub fn order_goes_by_bytes()
     ensures { OrderOfBytes }
 {}
 
-/// However bytes are cut into pieces, the lists that the pieces give, joined, are the list of all, or the one fault is theirs.
+/// However bytes are cut into pieces, the lists that the pieces give, joined, are the list of all, or the one fault is
+/// theirs.
 pub fn pieces_are_the_feed()
     ensures { PiecesAreTheFeed }
 {}

@@ -1,8 +1,12 @@
 //! The bytes of operations, and of feeds of them.
 //!
-//! One grammar has both forms of feed, of single operations and of runs: a magic, and then items, each an operation alone or
-//! a run. A long run takes about a fifth of the bytes of its inserts; the form without runs stays, so that what older readers
-//! take keeps its bytes. Bytes are read item by item, whole or in pieces, so that a feed need not fit into memory.
+//! One grammar has both forms of feed, of single operations and of runs: a magic, and then items, each an operation
+//! alone or a run. A run is 2 to 64 inserts of one site, each hung on the one before. A long run takes about a fifth of
+//! the bytes of its inserts. The form without runs stays, so what older readers take keeps its bytes. Bytes are read
+//! item by item, whole or in pieces, so a feed need not fit into memory.
+//!
+//! A reader refuses bytes that are no feed, with the first fault from the left and its place. All pieces of one reader
+//! have fewer than 2^63 bytes.
 #![tactic(auto)]
 
 mod fault;

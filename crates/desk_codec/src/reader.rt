@@ -21,8 +21,10 @@ use desk_ops::Op;
 use std::alloc::Allocator;
 use std::marker::Model;
 
-/// Reads a feed that comes in pieces, cut anywhere. It is seen as the form of the feed, if its magic was read, the number of
-/// bytes taken, the bytes kept of a magic, operation or run that is not whole yet, and whether it returns `Failed` from now on.
+/// Reads a feed that comes in pieces, cut anywhere. It is seen as the form of the feed, if its magic was read, the
+/// number of
+/// bytes taken, the bytes kept of a magic, operation or run that is not whole yet, and whether it returns `Failed`
+/// from now on.
 #[derive(Drop)]
 pub struct FeedReader {
     form: Option<FeedForm>,
@@ -44,7 +46,8 @@ impl Model for FeedReader {
     ghost invariant = { λ r. IsReader (record { form = r.form; taken = r.taken; kept = r.kept.items; failed = r.failed }) r.missing };
 }
 
-/// What was read of a piece: the form of the feed, the operations, and the end of the piece that is to be kept, behind what was
+/// What was read of a piece: the form of the feed, the operations, and the end of the piece that is to be kept, behind
+/// what was
 /// kept before it or in place of that.
 struct PieceRead<'a, A: Allocator> {
     form: FeedForm,
@@ -67,8 +70,10 @@ impl FeedReader {
         }
     }
 
-    /// The operations whose last byte comes in this piece, or the first fault that the pieces so far show. A run counts as one
-    /// operation: all its inserts come with its last byte. After a fault every call returns `Failed`. `NoMemory` comes of a piece
+    /// The operations whose last byte comes in this piece, or the first fault that the pieces so far show. A run
+    /// counts as one
+    /// operation: all its inserts come with its last byte. After a fault every call returns `Failed`. `NoMemory` comes
+    /// of a piece
     /// that shows no fault, and the piece was not taken. All pieces together have fewer than 2^63 bytes.
     pub fn feed<A: Allocator>(&mut self, alloc: A, piece: &[u8]) -> Result<Vec<Op, A>, ReadFault>
         requires { self.old.taken + length piece.now < 2 ^ 63 }
@@ -123,7 +128,8 @@ impl FeedReader {
         }
     }
 
-    /// Whether the pieces so far are a whole feed, or else the fault of their end. From now on every call returns `Failed`.
+    /// Whether the pieces so far are a whole feed, or else the fault of their end. From now on every call returns
+    /// `Failed`.
     pub fn finish(&mut self) -> Result<(), ReadFault>
         ensures whole { IfOk result (λ _. IsWhole self.old) }
         ensures refused { IfErr result (λ fault. RefusesEnd self.old fault) }
@@ -183,7 +189,8 @@ fn run_size(bytes: &[u8]) -> usize
     }
 }
 
-/// So many bytes at least are lacking until the operation or run that begins with these bytes is whole or wrong, or until the
+/// So many bytes at least are lacking until the operation or run that begins with these bytes is whole or wrong, or
+/// until the
 /// next kind is there where there are none.
 fn missing_after(form: FeedForm, bytes: &[u8]) -> usize
     requires { IsUnended form bytes.now }
@@ -214,7 +221,8 @@ fn after_magic<'a>(kept: &[u8], piece: &'a [u8]) -> Option<(FeedForm, &'a [u8])>
     requires few { length kept.now < 4 }
     requires enough { 4 ≤ length kept.now + length piece.now }
     ensures magic { IfSome result (λ read. kept.now ++ piece.now ≡ magic_of read.0 ++ read.1.now) }
-    ensures none { result ≡ None → (form : FeedForm) (rest : List ℕ) → kept.now ++ piece.now ≡ magic_of form ++ rest → ⊥ }
+    ensures none { result ≡ None → (form : FeedForm) (rest : List ℕ) → kept.now ++ piece.now ≡ magic_of form ++ rest
+        → ⊥ }
 {
     let (end, rest) = piece.split_at(MAGIC.len() - kept.len());
     match FeedForm::of_magic(join(kept, end).as_slice()) {
@@ -239,7 +247,8 @@ fn item_in<A: Allocator>(
     Ok(rest.len())
 }
 
-/// Appends the operations of the item whose prefix was kept and that the piece makes whole, and gives the rest of the piece; or
+/// Appends the operations of the item whose prefix was kept and that the piece makes whole, and gives the rest of the
+/// piece; or
 /// what is wrong, `Cut` where it is not whole yet. What was kept stays.
 fn first_item<'a, A: Allocator>(
     form: FeedForm,
@@ -263,7 +272,8 @@ fn first_item<'a, A: Allocator>(
     Ok(&piece[size - left..])
 }
 
-/// Appends the operations of the items at the start of the bytes at a place, and gives the bytes of no whole item after them.
+/// Appends the operations of the items at the start of the bytes at a place, and gives the bytes of no whole item
+/// after them.
 fn read_whole<'a, A: Allocator>(
     form: FeedForm,
     place: u64,
@@ -290,7 +300,8 @@ fn read_whole<'a, A: Allocator>(
     Ok(rest)
 }
 
-/// The operations given before and those of the items at the start of the bytes at a place, and the bytes to be kept after.
+/// The operations given before and those of the items at the start of the bytes at a place, and the bytes to be kept
+/// after.
 fn read_rest<'a, A: Allocator>(
     form: FeedForm,
     place: u64,
@@ -298,7 +309,8 @@ fn read_rest<'a, A: Allocator>(
     ops: Gathered<A>,
 ) -> Result<PieceRead<'a, A>, FeedFault>
     requires { place + length bytes.now < 2 ^ 63 }
-    ensures read { IfOk result (λ read. GivesRest form bytes.now ops read.form read.ops read.rest.now × (read.is_behind ≡ false)) }
+    ensures read { IfOk result (λ read. GivesRest form bytes.now ops read.form read.ops read.rest.now
+        × (read.is_behind ≡ false)) }
     ensures fault { IfErr result (λ fault. StopsOn form place bytes.now fault) }
 {
     let mut ops = ops;
@@ -321,7 +333,9 @@ fn read_items<'a, A: Allocator>(
 ) -> Result<PieceRead<'a, A>, FeedFault>
     requires unended { IsUnended form kept.old.items }
     requires few { place + (length kept.old.items + length piece.now) < 2 ^ 63 }
-    ensures read { IfOk result (λ read. ReadsSo (Some form) (kept.old.items ++ piece.now) read.ops read.form (kept_after read.is_behind kept.old.items read.rest.now)) }
+    ensures read { IfOk result
+        (λ read. ReadsSo (Some form) (kept.old.items ++ piece.now) read.ops read.form
+        (kept_after read.is_behind kept.old.items read.rest.now)) }
     ensures fault { IfErr result (λ fault. ShowsFirst (Some form) place (kept.old.items ++ piece.now) fault) }
     ensures same { kept.new.items ≡ kept.old.items }
 {
@@ -348,7 +362,8 @@ fn read_items<'a, A: Allocator>(
     }
 }
 
-/// The operations of the bytes kept and a piece that makes the magic whole, or that follows it, and what is to be kept after.
+/// The operations of the bytes kept and a piece that makes the magic whole, or that follows it, and what is to be kept
+/// after.
 fn read_piece<'a, A: Allocator>(
     alloc: A,
     form: Option<FeedForm>,
@@ -359,7 +374,9 @@ fn read_piece<'a, A: Allocator>(
     requires resumes { Resumes form place kept.old.items }
     requires enough { form ≡ None → 4 ≤ length kept.old.items + length piece.now }
     requires few { place + (length kept.old.items + length piece.now) < 2 ^ 63 }
-    ensures read { IfOk result (λ read. ReadsSo form (kept.old.items ++ piece.now) read.ops read.form (kept_after read.is_behind kept.old.items read.rest.now)) }
+    ensures read { IfOk result
+        (λ read. ReadsSo form (kept.old.items ++ piece.now) read.ops read.form
+        (kept_after read.is_behind kept.old.items read.rest.now)) }
     ensures fault { IfErr result (λ fault. ShowsFirst form place (kept.old.items ++ piece.now) fault) }
     ensures same { kept.new.items ≡ kept.old.items }
 {
@@ -382,7 +399,8 @@ fn read_after_magic<'a, A: Allocator>(
     piece: &'a [u8],
 ) -> Result<PieceRead<'a, A>, FeedFault>
     requires few { 4 + length piece.now < 2 ^ 63 }
-    ensures read { IfOk result (λ read. ReadsSo (Some form) piece.now read.ops read.form read.rest.now × (read.is_behind ≡ false)) }
+    ensures read { IfOk result (λ read. ReadsSo (Some form) piece.now read.ops read.form read.rest.now
+        × (read.is_behind ≡ false)) }
     ensures fault { IfErr result (λ fault. ShowsFirst (Some form) 4 piece.now fault) }
 {
     let ops = Gathered::with_capacity(alloc, form.most_ops(piece.len()));

@@ -54,7 +54,8 @@ pub fn read_feed<A: Allocator>(alloc: A, bytes: &[u8]) -> Result<Vec<Op, A>, Rea
     ensures lawful { IfOk result (λ ops. All IsLawful ops.items) }
     // A fault is the first from the left.
     ensures fault { IfErr result (λ fault. Reports bytes.now fault) }
-    // The feed of a list is read as that list, and bytes with a first fault are refused with it, unless memory runs out.
+    // The feed of a list is read as that list, and bytes with a first fault are refused with it, unless memory runs
+    // out.
     ensures only { (ops : List Op) → IsFeed bytes.now ops → Answers (λ v. v.items) result (Ok ops) }
     ensures first { (fault : FeedFault) → IsFirstFault bytes.now fault → Answers (λ v. v.items) result (Err fault) }
     // Bytes without a magic, or with too few after it for an operation, are never reported as out of memory.

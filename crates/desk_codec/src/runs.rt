@@ -31,7 +31,8 @@ fn seek(ops: &[Op], at: usize, stamp: Stamp) -> usize
     ensures after { at < result }
     ensures within { result ≤ length ops.now }
     ensures smaller { (d : Op) → before (stamp_of (slice_index_or ops.now (result - 1) d)) stamp ≡ true }
-    ensures found { (d : Op) → result < length ops.now → before (stamp_of (slice_index_or ops.now result d)) stamp ≡ false }
+    ensures found { (d : Op) → result < length ops.now
+        → before (stamp_of (slice_index_or ops.now result d)) stamp ≡ false }
 {
     let mut low = at;
     let mut step = 1;
@@ -59,7 +60,8 @@ fn seek(ops: &[Op], at: usize, stamp: Stamp) -> usize
 fn is_clear_at(ops: &[Op], at: usize) -> bool
     requires rising { T (is_rising ops.now) }
     requires within { at < length ops.now }
-    ensures { (op : Op) → IsAt ops.now at op → sole (bearing ops.now (stamp_of op)) ≡ (if result then Some op else None) }
+    ensures { (op : Op) → IsAt ops.now at op
+        → sole (bearing ops.now (stamp_of op)) ≡ (if result then Some op else None) }
 {
     let stamp = ops[at].stamp();
     if 0 < at && ops[at - 1].stamp().is_same(stamp) {
@@ -78,7 +80,8 @@ fn clear_op(ops: &[Op], place: usize, stamp: Stamp) -> Option<Op>
     requires some { 0 < place }
     requires within { place ≤ length ops.now }
     requires smaller { (d : Op) → before (stamp_of (slice_index_or ops.now (place - 1) d)) stamp ≡ true }
-    requires found { (d : Op) → place < length ops.now → before (stamp_of (slice_index_or ops.now place d)) stamp ≡ false }
+    requires found { (d : Op) → place < length ops.now
+        → before (stamp_of (slice_index_or ops.now place d)) stamp ≡ false }
     ensures sole { result ≡ sole (bearing ops.now stamp) }
     ensures there { IfSome result (λ op. IsAt ops.now place op) }
 {
@@ -136,9 +139,12 @@ fn follow<A: Allocator>(
     requires borne { (d : Op) → stamp_of (slice_index_or ops.now at d) ≡ stamp }
     requires one { length symbols.old.items ≡ 1 }
     requires size { length written.old ≡ length ops.now }
-    ensures symbols { OnOk result (symbols.new.items ≡ symbols.old.items ++ chain 63 ops.now (next_insert ops.now stamp)) }
+    ensures symbols { OnOk result
+        (symbols.new.items ≡ symbols.old.items ++ chain 63 ops.now (next_insert ops.now stamp)) }
     ensures few { OnOk result (length symbols.new.items ≤ MOST_RUN) }
-    ensures marks { OnOk result ((parent : Stamp) (symbol : Symbol) → IsAt ops.now at (Insert stamp parent symbol) → symbols.old.items ≡ symbol ∷ [] → MarksAlso ops.now written.old written.new (run_ops stamp parent symbols.new.items)) }
+    ensures marks { OnOk result ((parent : Stamp) (symbol : Symbol) → IsAt ops.now at (Insert stamp parent symbol)
+        → symbols.old.items ≡ symbol ∷ []
+        → MarksAlso ops.now written.old written.new (run_ops stamp parent symbols.new.items)) }
 {
     written[at] = true;
     let mut last = at;
@@ -172,7 +178,8 @@ fn take_item<A: Allocator>(
     requires size { length written.old ≡ length ops.now }
     ensures item { OnOk result ((op : Op) → IsAt ops.now at op → item_at ops.now op ≡ item_of op symbols.new.items) }
     ensures few { OnOk result (length symbols.new.items ≤ MOST_RUN) }
-    ensures marks { OnOk result ((op : Op) → IsAt ops.now at op → MarksAlso ops.now written.old written.new (item_ops (item_of op symbols.new.items))) }
+    ensures marks { OnOk result ((op : Op) → IsAt ops.now at op
+        → MarksAlso ops.now written.old written.new (item_ops (item_of op symbols.new.items))) }
 {
     symbols.clear();
     if is_clear_at(ops, at) {
@@ -254,7 +261,8 @@ fn write_item<A: Allocator>(
     Ok(())
 }
 
-/// The feed of runs of operations that strictly rise: what one site typed in one go stands together, in runs of at most 64.
+/// The feed of runs of operations that strictly rise: what one site typed in one go stands together, in runs of at
+/// most 64.
 /// Its memory is taken at once, before anything is written.
 pub fn write_runs<A: Allocator + Copy>(alloc: A, ops: &[Op]) -> Result<Vec<u8, A>, NoMemory>
     requires lawful { All IsLawful ops.now }
