@@ -4,3 +4,4 @@ pub mod Texts
 pub mod Again
 pub mod Spelling
 pub mod Longest
+pub mod Bytes

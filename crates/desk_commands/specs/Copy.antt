@@ -13,7 +13,8 @@ symbol style ch = record { style = style; ch = ch }
 
 -- `r`, `i` and `s`
 abbrev pub style_of : ℕ → Option Style
-style_of c = if c == 114 then Some Roman else (if c == 105 then Some Italic else (if c == 115 then Some SmallCap else None))
+style_of c = if c == 114 then Some Roman
+    else (if c == 105 then Some Italic else (if c == 115 then Some SmallCap else None))
 
 -- the character that stands for itself, or begins an escape
 abbrev pub inside : Style → ℕ → Place × Option Symbol

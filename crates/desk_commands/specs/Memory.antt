@@ -61,7 +61,8 @@ FormAsksMemory verbs.Cast rest = ⊥
 FormAsksMemory verbs.Restart rest = ⊥
 
 unfoldable pub WordsAskMemory : List ℕ → Type 0
-WordsAskMemory line = IsSomeAnd (word_at (Some line)) (λ word. IsSomeAnd (verb_of word.0) (λ verb. FormAsksMemory verb word.1))
+WordsAskMemory line =
+    IsSomeAnd (word_at (Some line)) (λ word. IsSomeAnd (verb_of word.0) (λ verb. FormAsksMemory verb word.1))
 
 -- the command that a line begins asks for memory
 abbrev pub AsksMemory : List ℕ → Type 0

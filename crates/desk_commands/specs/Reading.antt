@@ -48,7 +48,8 @@ at_most max n = if nat_le n max then Some n else None
 
 -- 1 to 10 digits
 unfoldable pub number_of : List ℕ → Option ℕ
-number_of word = if nat_le 1 (length word) && nat_le (length word) 10 then (value_from 0 word >>= at_most 4294967295) else None
+number_of word = if nat_le 1 (length word) && nat_le (length word) 10 then (value_from 0 word >>= at_most 4294967295)
+    else None
 
 unfoldable pub number_at : Rest → Option (ℕ × Rest)
 number_at rest = do
@@ -84,7 +85,8 @@ range_at (Some word) = do
 unfoldable pub nibble : ℕ → Option ℕ
 nibble b =
     if is_digit b then Some (b - 48)
-    else (if nat_le 97 b && nat_le b 102 then Some (b - 87) else (if nat_le 65 b && nat_le b 70 then Some (b - 55) else None))
+    else (if nat_le 97 b && nat_le b 102 then Some (b - 87)
+    else (if nat_le 65 b && nat_le b 70 then Some (b - 55) else None))
 
 abbrev pub pairs : List ℕ → Option (List ℕ)
 pairs [] = Some []

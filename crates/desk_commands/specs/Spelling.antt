@@ -12,7 +12,8 @@ StandsFor cs ch = ((cs ≡ ch ∷ []) × (ch ≢ 34) × (ch ≢ 92)) ⊎ ((c : �
 abbrev pub SpellsInside : Style → List ℕ → List Symbol → Type 0
 SpellsInside style cs [] = cs ≡ []
 SpellsInside style cs (y ∷ ys) =
-    (ch : ℕ) × (y ≡ symbol style ch) × ((prefix rest : List ℕ) × (cs ≡ prefix ++ rest) × StandsFor prefix ch × SpellsInside style rest ys)
+    (ch : ℕ) × (y ≡ symbol style ch)
+    × ((prefix rest : List ℕ) × (cs ≡ prefix ++ rest) × StandsFor prefix ch × SpellsInside style rest ys)
 
 -- the letter of a style, and one or more characters in quotes
 pub record IsRun (cs : List ℕ) (first : Symbol) (more : List Symbol) : Type 0 where
@@ -35,7 +36,8 @@ joined (run ∷ runs) = run.0 ∷ (run.1 ++ joined runs)
 abbrev pub AreRuns : List ℕ → List RunOf → Type 0
 AreRuns cs [] = ⊥
 AreRuns cs (run ∷ []) = IsRun cs run.0 run.1
-AreRuns cs (run ∷ next ∷ runs) = (prefix rest : List ℕ) × (cs ≡ prefix ++ 32 ∷ rest) × IsRun prefix run.0 run.1 × AreRuns rest (next ∷ runs)
+AreRuns cs (run ∷ next ∷ runs) = (prefix rest : List ℕ) × (cs ≡ prefix ++ 32 ∷ rest) × IsRun prefix run.0 run.1
+    × AreRuns rest (next ∷ runs)
 
 abbrev pub IsCopy : List ℕ → List Symbol → Type 0
 IsCopy cs symbols = (runs : List RunOf) × (symbols ≡ joined runs) × AreRuns cs runs

@@ -14,7 +14,8 @@ opening SmallCap = codes "s\""
 
 -- a character inside quotes: three are always escaped
 abbrev pub quoted : ℕ → List ℕ
-quoted c = if c == 10 then codes "\\n" else (if c == 92 then codes "\\\\" else (if c == 34 then codes "\\\"" else c ∷ []))
+quoted c = if c == 10 then codes "\\n"
+    else (if c == 92 then codes "\\\\" else (if c == 34 then codes "\\\"" else c ∷ []))
 
 -- from a run that is open, or from none, to the next symbol's
 abbrev pub turn : Option Style → Style → List ℕ

@@ -186,7 +186,8 @@ fn one_site(rest: Option<&str>) -> Result<u32, ParseError>
 
 #[tactic(auto, unfolding(crate::specs::Grammar::two_numbers))]
 fn two_numbers(rest: Option<&str>) -> Result<(u32, u32), ParseError>
-    ensures value { (make : ℕ → ℕ → CommandValues) → Gives (λ x. make x.0 x.1) result (two_numbers make (option_copied rest.entry)) }
+    ensures value { (make : ℕ → ℕ → CommandValues)
+        → Gives (λ x. make x.0 x.1) result (two_numbers make (option_copied rest.entry)) }
     ensures memory { result ≢ Err ParseError.NoMemory }
 {
     let (first, rest) = number_at(rest)?;
@@ -198,7 +199,8 @@ fn two_numbers(rest: Option<&str>) -> Result<(u32, u32), ParseError>
 #[tactic(auto, unfolding(crate::specs::Grammar::insert_form, crate::specs::Memory::copy_behind))]
 fn insert<A: Allocator + Copy>(alloc: A, rest: Option<&str>) -> Result<Command<'_, A>, ParseError>
     ensures value { Gives command_values result (insert_form (option_copied rest.entry)) }
-    ensures memory { result ≡ Err ParseError.NoMemory → IsSomeAnd (copy_behind (option_copied rest.entry)) ComesToSymbol }
+    ensures memory { result ≡ Err ParseError.NoMemory
+        → IsSomeAnd (copy_behind (option_copied rest.entry)) ComesToSymbol }
 {
     let (site, rest) = number_at(rest)?;
     let (place, rest) = number_at(rest)?;
@@ -244,7 +246,8 @@ fn send<A: Allocator + Copy>(rest: Option<&str>) -> Result<Command<'_, A>, Parse
 
 #[tactic(auto, unfolding(crate::specs::Grammar::two_files))]
 fn two_files(rest: Option<&str>) -> Result<(u32, &str, &str), ParseError>
-    ensures value { (make : ℕ → List ℕ → List ℕ → CommandValues) → Gives (λ x. make x.0 x.1.now x.2.now) result (two_files make (option_copied rest.entry)) }
+    ensures value { (make : ℕ → List ℕ → List ℕ → CommandValues)
+        → Gives (λ x. make x.0 x.1.now x.2.now) result (two_files make (option_copied rest.entry)) }
     ensures memory { result ≢ Err ParseError.NoMemory }
 {
     let (site, rest) = number_at(rest)?;

@@ -1,5 +1,5 @@
-use Rattle.desk_commands.proofs.Again.{read_again}
+use Rattle.desk_commands.proofs.Bytes.{copy_read_again}
 use Rattle.desk_commands.proofs.laws.copy_is_read_again.Goals as goal
 
 pub returns : goal.returns
-returns c = read_again
+returns c = copy_read_again
