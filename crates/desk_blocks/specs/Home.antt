@@ -8,4 +8,6 @@ pub record Home : Type 0 where
   pub page : ℕ
 
 abbrev pub home_code : Coded Stamp → Coded Home
-home_code stamp = code_by (Stamp × ℕ) (coded× stamp coded_ℕ) (λ h. (h.stamp, h.page)) (λ p. record { stamp = p.0; page = p.1 }) (λ _. refl)
+home_code stamp =
+    code_by (Stamp × ℕ) (coded× stamp coded_ℕ) (λ h. (h.stamp, h.page)) (λ p. record { stamp = p.0; page = p.1 })
+    (λ _. refl)

@@ -50,7 +50,8 @@ impl<A: Allocator> Model for Blocks<A> {
 
     ghost view = { λ a. record { entries = a.pages.entries; spare = min a.pages.spare a.index.spare } };
 
-    ghost invariant = { λ a. AreDistinct a.pages.entries × Knows a.index.stamps (stamps_of a.pages.entries) × (a.shown ≡ count_by is_shown a.pages.entries) };
+    ghost invariant = { λ a. AreDistinct a.pages.entries × Knows a.index.stamps (stamps_of a.pages.entries)
+        × (a.shown ≡ count_by is_shown a.pages.entries) };
 }
 
 impl<A: Allocator + Copy> Blocks<A> {

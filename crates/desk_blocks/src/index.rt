@@ -164,7 +164,8 @@ impl<A: Allocator + Copy> Index<A> {
     /// The hint of a stamp that is there.
     pub fn get(&self, stamp: Stamp) -> Option<usize>
         ensures none { IsNone result → IsNoneOf stamp self.now.stamps }
-        ensures some { IsSome result → (k : ℕ) × (k < length self.now.stamps) × (slice_index_or self.now.stamps k head ≡ stamp) }
+        ensures some { IsSome result → (k : ℕ) × (k < length self.now.stamps)
+            × (slice_index_or self.now.stamps k head ≡ stamp) }
     {
         let Some(home) = self.homes.seek(&Below { stamp }) else {
             return None;

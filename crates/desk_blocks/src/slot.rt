@@ -25,9 +25,20 @@ impl Model for Slot {
 
     ghost coded = { (entry.the_row).coded };
 
-    ghost view = { λ s. record { stamp = record { counter = s.counter; site = s.site }; symbol = record { style = s.style; ch = s.ch }; deleted = s.deleted } };
+    ghost view = { λ s. record {
+      stamp = record { counter = s.counter; site = s.site };
+      symbol =
+          record { style = s.style; ch = s.ch };
+      deleted = s.deleted;
+    } };
 
-    ghost inverse = { λ e. record { counter = e.stamp.counter; ch = e.symbol.ch; site = e.stamp.site; style = e.symbol.style; deleted = e.deleted } };
+    ghost inverse = { λ e. record {
+      counter = e.stamp.counter;
+      ch = e.symbol.ch;
+      site = e.stamp.site;
+      style = e.symbol.style;
+      deleted = e.deleted;
+    } };
 }
 
 impl Slot {

@@ -65,8 +65,10 @@ pub record IsShownAt (es : List Entry) (i place : ℕ) : Type 0 where
 -- where the entries' stamps are those of the walk of some inserts, of which none bears the new one's stamp or hangs on it, and its parent is older,
 -- they become those of the walk with one more
 abbrev pub KeepsWalk : List Entry → List Entry → Stamp → Stamp → Type 0
-KeepsWalk old new parent stamp = (xs : List Insertion) (x : Insertion) → IsAscending xs → AllByRecursion (λ y. same y.stamp head ≡ false) xs → IsNext x xs → x.stamp ≡ stamp → x.parent ≡ parent
-    → stamps_of old ≡ map (λ (y : Insertion). y.stamp) (walk_from xs head) → stamps_of new ≡ map (λ (y : Insertion). y.stamp) (walk_from (with_insert x xs) head)
+KeepsWalk old new parent stamp = (xs : List Insertion) (x : Insertion) → IsAscending xs
+    → AllByRecursion (λ y. same y.stamp head ≡ false) xs → IsNext x xs → x.stamp ≡ stamp → x.parent ≡ parent
+    → stamps_of old ≡ map (λ (y : Insertion). y.stamp) (walk_from xs head)
+    → stamps_of new ≡ map (λ (y : Insertion). y.stamp) (walk_from (with_insert x xs) head)
 
 -- what a list that has spare places is seen as
 pub record Listing : Type 0 where
@@ -74,4 +76,6 @@ pub record Listing : Type 0 where
   pub spare : ℕ
 
 abbrev pub listing_code : Coded Entry → Coded Listing
-listing_code entry = code_by (List Entry × ℕ) (coded× (coded_list entry) coded_ℕ) (λ l. (l.entries, l.spare)) (λ p. record { entries = p.0; spare = p.1 }) (λ _. refl)
+listing_code entry =
+    code_by (List Entry × ℕ) (coded× (coded_list entry) coded_ℕ) (λ l. (l.entries, l.spare))
+    (λ p. record { entries = p.0; spare = p.1 }) (λ _. refl)

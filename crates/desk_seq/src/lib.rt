@@ -1,4 +1,13 @@
 //! The elements of a copy in their order, those that were deleted among them, and the scan that puts a new one in.
+//!
+//! The crates above use the trait `Sequence`, so a faster kind of list changes no promise. `Flat` is one vector;
+//! `desk_blocks` has the fast kind.
+//!
+//! The scan is the skip scan of RGA (Roh et al. 2011, "Replicated abstract data types: building blocks for
+//! collaborative applications"). The order is the timestamped insertion tree of Attiya et al. 2016 ("Specification and
+//! complexity of collaborative text editing"), newer siblings first.
+//!
+//! The scan refuses nothing. Only `reserve`, `symbols` and `from_entries` can run out of memory.
 #![tactic(auto)]
 
 ghost use Rattle.std.specs.Prelude.{◌≡◌, ℕ, ◌+◌, ◌≤◌, ◌<◌, ◌^◌, List, [], length, IfSome, IfOk, IsNone, OnOk, IsOk, slice_index_or};
@@ -13,7 +22,7 @@ mod flat;
 mod scan;
 
 pub use flat::Flat;
-pub use scan::integrate;
+pub use scan::{integrate, integrate_at};
 
 /// An element of the copy. One that is deleted keeps its place, since others hang on it.
 #[derive(Clone, Copy, Debug, PartialEq, Eq)]
@@ -52,7 +61,8 @@ pub trait Sequence: Drop {
         ensures fits { IfSome result (λ i. i + 1 < 2 ^ 64) }
         ensures none { IsNone result → IsAbsent stamp (entries self.now) };
 
-    /// Does what a put has left for the next `find`, which without it answers the same, but may have to look at all entries.
+    /// Does what a put has left for the next `find`, which without it answers the same, but may have to look at all
+    /// entries.
     fn prepare_find(&mut self)
         ensures same { entries self.new ≡ entries self.old }
         ensures spare { free self.new ≡ free self.old }

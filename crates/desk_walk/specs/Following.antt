@@ -59,7 +59,8 @@ pub record IsFollowing (h : OpSet) (waits : Op → Bool) (es : List Entry) : Typ
   pub taken : IsTakenIn h inserts
   pub walk : map bare es ≡ map bare_of (walk_from inserts head)
   pub whole : (x : Insertion) → Among x inserts → Among x.stamp (stamps_of es)
-  pub marks : (e : Entry) → Among e es → (e.deleted ≡ true) ↔ ((s : Stamp) × IsClearOp h (Delete s e.stamp) × (waits (Delete s e.stamp) ≡ false))
+  pub marks : (e : Entry) → Among e es → (e.deleted ≡ true)
+      ↔ ((s : Stamp) × IsClearOp h (Delete s e.stamp) × (waits (Delete s e.stamp) ≡ false))
   pub clear : (o : Op) → waits o ≡ true → IsClearOp h o
   pub targets : (o : Op) → waits o ≡ true → HasTarget o
   pub untaken : (x : Insertion) → IsClearOp h (insert_of x) → Among x inserts ⊎ (waits (insert_of x) ≡ true)
@@ -87,7 +88,8 @@ new_entry stamp symbol = record { stamp = stamp; symbol = symbol; deleted = fals
 -- what an operation does that hangs on the place: an insert stands where the scan from there leads, a delete marks the entry
 abbrev pub IsActed : Op → ℕ → ℕ → List Entry → List Entry → ℕ → Type 0
 IsActed (Insert stamp parent symbol) at last es after reach =
-    (place : ℕ) × IsFirstBelow (stamps_of es) at stamp place × (after ≡ insert es place (new_entry stamp symbol)) × (place < reach) × (last < reach)
+    (place : ℕ) × IsFirstBelow (stamps_of es) at stamp place × (after ≡ insert es place (new_entry stamp symbol))
+    × (place < reach) × (last < reach)
 IsActed (Delete stamp target) at last es after reach = (after ≡ with_mark es (at - 1)) × (reach ≡ last)
 IsActed (Set stamp key value) at last es after reach = (after ≡ es) × (reach ≡ last)
 

@@ -84,7 +84,8 @@ linked nodes p =
 
 -- the p-th is deleted
 abbrev pub crossed : List Node → ℕ → List Node
-crossed nodes p = slice_set nodes p (record { next = next_of nodes p; linked = (node_at nodes p).linked; deleted = true })
+crossed nodes p =
+    slice_set nodes p (record { next = next_of nodes p; linked = (node_at nodes p).linked; deleted = true })
 
 -- what an operation does that hangs on the p-th
 abbrev pub IsActing : Op → ℕ → List Node → ℕ → List Node → ℕ → Type 0
@@ -126,7 +127,8 @@ pub record IsLinking (h : OpSet) (i : ℕ) (nodes : List Node) (count : ℕ) (wa
   pub distinct : AreDistinct (walked h nodes count)
   pub follows : IsFollowing h (waits_at h waiting i) (walked h nodes count)
   pub seen : (o : Op) → Among o waiting → Among o (take i (in_order h))
-  pub idle : (o : Op) → Among o waiting → (t : Stamp) → target_of o ≡ Some t → (t ≡ head) ⊎ Among t (stamps_of (walked h nodes count)) → ⊥
+  pub idle : (o : Op) → Among o waiting → (t : Stamp) → target_of o ≡ Some t → (t ≡ head)
+      ⊎ Among t (stamps_of (walked h nodes count)) → ⊥
 
 -- the p-th stands in the walk and bears the stamp
 pub record IsPlaceOf (ops : List Op) (nodes : List Node) (s : Stamp) (p : ℕ) : Type 0 where

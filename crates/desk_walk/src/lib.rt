@@ -1,7 +1,10 @@
 //! A sequence and a room that follow a set of operations.
 //!
-//! RGA (Roh et al. 2011) takes it that what an operation hangs on came before it. Here operations come in any order: one
-//! whose target is not there waits in the room, and an arrival lets out all that waited for it.
+//! RGA (Roh et al. 2011) takes it that what an operation hangs on came before it. Here operations come in any order:
+//! one whose target is missing waits in the room, and an arrival lets out all that waited for it.
+//!
+//! An arrival refuses nothing, since its caller makes room first. Only a set that is laid out anew can run out of
+//! memory.
 #![tactic(auto)]
 
 ghost use Rattle.std.specs.Prelude.{◌≡◌, ◌+◌, ◌<◌, ◌≤◌, ℕ, false, IfSome, IsNone, IfOk, length};
@@ -17,7 +20,7 @@ use desk_held::Held;
 use desk_memory::NoMemory;
 use desk_ops::{Op, Stamp, Symbol};
 use desk_room::Room;
-use desk_seq::{Entry, Sequence};
+use desk_seq::{Entry, Sequence, integrate_at};
 use std::alloc::Allocator;
 use tree::settled_lists;
 
@@ -36,13 +39,15 @@ fn stamp_at<Q: Sequence>(sequence: &Q, place: usize) -> Stamp
     sequence.entry(place - 1).stamp
 }
 
-/// The place of a stamp: the head's is 0, that of an entry one above its own. It is looked for at a place near it first.
+/// The place of a stamp: the head's is 0, that of an entry one above its own. It is looked for at a place near it
+/// first.
 fn place_of<Q: Sequence>(sequence: &mut Q, stamp: Stamp, near: usize) -> Option<usize>
     ensures same { Q.entries sequence.new ≡ Q.entries sequence.old }
     ensures free { Q.free sequence.new ≡ Q.free sequence.old }
     ensures within { IfSome result (λ place. place ≤ length (Q.entries sequence.old)) }
     ensures is { IfSome result (λ place. place_at (Q.entries sequence.old) place ≡ stamp) }
-    ensures none { IsNone result → (j : ℕ) → j < length (places (Q.entries sequence.old)) → place_at (Q.entries sequence.old) j ≡ stamp → ⊥ }
+    ensures none { IsNone result → (j : ℕ) → j < length (places (Q.entries sequence.old))
+        → place_at (Q.entries sequence.old) j ≡ stamp → ⊥ }
     ensures distinct { AreDistinct (Q.entries sequence.old) }
 {
     let len = sequence.len();
@@ -70,16 +75,12 @@ fn stand<Q: Sequence>(sequence: &mut Q, at: usize, stamp: Stamp, symbol: Symbol)
     ensures more { length (Q.entries sequence.new) ≡ length (Q.entries sequence.old) + 1 }
     ensures free { Q.free sequence.old ≤ Q.free sequence.new + 1 }
 {
-    let place = sequence.first_below(at, stamp);
-    sequence.put(
-        place,
-        Entry {
-            stamp,
-            symbol,
-            deleted: false,
-        },
-    );
-    place
+    let entry = Entry {
+        stamp,
+        symbol,
+        deleted: false,
+    };
+    integrate_at(sequence, at, entry)
 }
 
 /// Does what an operation says that hangs on the place, and returns how far something may now wait.
@@ -119,11 +120,17 @@ fn step<Q: Sequence>(
     requires within { last ≤ length (Q.entries sequence.old) }
     requires free { size room.old.ops ≤ Q.free sequence.old }
     requires follows { (h : OpSet) × AllLawful h × IsDraining h (has_op room.old.ops) (Q.entries sequence.old) at last }
-    ensures on { IfSome result (λ r. (h : OpSet) → AllLawful h → IsDraining h (has_op room.old.ops) (Q.entries sequence.old) at last → IsDraining h (has_op room.new.ops) (Q.entries sequence.new) r.0 r.1) }
+    ensures on { IfSome result (λ r. (h : OpSet) → AllLawful h
+        → IsDraining h (has_op room.old.ops) (Q.entries sequence.old) at last
+        → IsDraining h (has_op room.new.ops) (Q.entries sequence.new) r.0 r.1) }
     ensures order { IfSome result (λ r. r.0 ≤ r.1) }
     ensures within { IfSome result (λ r. r.1 ≤ length (Q.entries sequence.new)) }
-    ensures smaller { IfSome result (λ r. size room.new.ops + size room.new.ops + length (Q.entries sequence.new) + at < size room.old.ops + size room.old.ops + length (Q.entries sequence.old) + r.0) }
-    ensures end { IsNone result → (h : OpSet) → AllLawful h → IsDraining h (has_op room.old.ops) (Q.entries sequence.old) at last → IsSettled h (Q.entries sequence.new) room.new.ops }
+    ensures smaller { IfSome result
+        (λ r. size room.new.ops + size room.new.ops + length (Q.entries sequence.new) + at
+        < size room.old.ops + size room.old.ops + length (Q.entries sequence.old) + r.0) }
+    ensures end { IsNone result → (h : OpSet) → AllLawful h
+        → IsDraining h (has_op room.old.ops) (Q.entries sequence.old) at last
+        → IsSettled h (Q.entries sequence.new) room.new.ops }
     ensures fewer { size room.new.ops ≤ size room.old.ops }
     ensures free { Q.free sequence.old + size room.new.ops ≤ Q.free sequence.new + size room.old.ops }
     ensures spare { room.old.spare ≤ room.new.spare }
@@ -144,8 +151,10 @@ fn step<Q: Sequence>(
 fn drain<Q: Sequence>(sequence: &mut Q, room: &mut Room<Q::Memory>, from: usize)
     requires within { from ≤ length (Q.entries sequence.old) }
     requires free { size room.old.ops ≤ Q.free sequence.old }
-    requires follows { (h : OpSet) × AllLawful h × IsDraining h (has_op room.old.ops) (Q.entries sequence.old) from from }
-    ensures settled { (h : OpSet) → AllLawful h → IsDraining h (has_op room.old.ops) (Q.entries sequence.old) from from → IsSettled h (Q.entries sequence.new) room.new.ops }
+    requires follows { (h : OpSet) × AllLawful h
+        × IsDraining h (has_op room.old.ops) (Q.entries sequence.old) from from }
+    ensures settled { (h : OpSet) → AllLawful h → IsDraining h (has_op room.old.ops) (Q.entries sequence.old) from from
+        → IsSettled h (Q.entries sequence.new) room.new.ops }
     ensures fewer { size room.new.ops ≤ size room.old.ops }
     ensures free { Q.free sequence.old + size room.new.ops ≤ Q.free sequence.new + size room.old.ops }
     ensures spare { room.old.spare ≤ room.new.spare }
@@ -167,7 +176,8 @@ fn arrive<Q: Sequence>(sequence: &mut Q, room: &mut Room<Q::Memory>, op: Op, at:
     requires target { target_of op ≡ Some (place_at (Q.entries sequence.old) at) }
     requires distinct { AreDistinct (Q.entries sequence.old) }
     requires free { size room.old.ops < Q.free sequence.old }
-    ensures settled { (h : OpSet) → IsArrival h op (Q.entries sequence.old) room.old.ops → IsSettled (with_op h op) (Q.entries sequence.new) room.new.ops }
+    ensures settled { (h : OpSet) → IsArrival h op (Q.entries sequence.old) room.old.ops
+        → IsSettled (with_op h op) (Q.entries sequence.new) room.new.ops }
     ensures fewer { size room.new.ops ≤ size room.old.ops }
     ensures free { Q.free sequence.old + size room.new.ops ≤ Q.free sequence.new + size room.old.ops + 1 }
     ensures spare { room.old.spare ≤ room.new.spare }
@@ -189,7 +199,8 @@ fn arrive<Q: Sequence>(sequence: &mut Q, room: &mut Room<Q::Memory>, op: Op, at:
 }
 
 /// Takes in an operation whose stamp none bears: it waits, or acts with all that waited for it. It cannot run out
-/// of memory. Its target is looked for at a place near it first, which is never believed without a look; the result is the
+/// of memory. Its target is looked for at a place near it first, which is never believed without a look; the result is
+/// the
 /// place to look at for the next.
 pub fn enter<Q: Sequence>(
     sequence: &mut Q,
@@ -200,7 +211,8 @@ pub fn enter<Q: Sequence>(
     requires arrives { (h : OpSet) × IsArrival h op (Q.entries sequence.old) room.old.ops }
     requires spare { 1 ≤ room.old.spare }
     requires free { size room.old.ops < Q.free sequence.old }
-    ensures settled { (h : OpSet) → IsArrival h op (Q.entries sequence.old) room.old.ops → IsSettled (with_op h op) (Q.entries sequence.new) room.new.ops }
+    ensures settled { (h : OpSet) → IsArrival h op (Q.entries sequence.old) room.old.ops
+        → IsSettled (with_op h op) (Q.entries sequence.new) room.new.ops }
     ensures few { size room.new.ops ≤ size room.old.ops + 1 }
     ensures free { Q.free sequence.old + size room.new.ops ≤ Q.free sequence.new + size room.old.ops + 1 }
     ensures spare { room.old.spare ≤ room.new.spare + 1 }

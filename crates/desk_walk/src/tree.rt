@@ -12,7 +12,8 @@ use desk_ops::{Op, Stamp, Symbol};
 use desk_seq::Entry;
 use std::alloc::Allocator;
 
-/// What is kept of the head, at 0, and of each operation, at its place and one more: whether it stands in the walk, what
+/// What is kept of the head, at 0, and of each operation, at its place and one more: whether it stands in the walk,
+/// what
 /// follows it there, and whether it is deleted.
 #[derive(Clone, Copy)]
 struct Node {
@@ -211,7 +212,8 @@ impl<A: Allocator + Copy> Tree<A> {
         requires place { place < vec_len self.old.nodes }
         requires few { vec_len self.old.nodes < 2 ^ 32 }
         requires count { self.old.count < 2 ^ 32 }
-        ensures acts { OnOk result (IsActing op.now place self.old.nodes.items self.old.count self.new.nodes.items self.new.count) }
+        ensures acts { OnOk result
+            (IsActing op.now place self.old.nodes.items self.old.count self.new.nodes.items self.new.count) }
         ensures waiting { OnOk result (self.new.waiting.items ≡ self.old.waiting.items) }
     {
         match op {
@@ -233,7 +235,8 @@ impl<A: Allocator + Copy> Tree<A> {
         requires clear { is_clear_in held.now.ops (stamp_of (op_at (in_order held.now.ops) i)) ≡ true }
         requires target { target_of (op_at (in_order held.now.ops) i) ≡ Some target }
         requires linking { IsLinking held.now.ops i self.old.nodes.items self.old.count self.old.waiting.items }
-        ensures { OnOk result (IsLinking held.now.ops (i + 1) self.new.nodes.items self.new.count self.new.waiting.items) }
+        ensures { OnOk result
+            (IsLinking held.now.ops (i + 1) self.new.nodes.items self.new.count self.new.waiting.items) }
     {
         let op = ops[i];
         if let Some(place) = self.place_of(held, ops, i, target) {
@@ -248,7 +251,8 @@ impl<A: Allocator + Copy> Tree<A> {
         requires listed { ops.now ≡ in_order held.now.ops }
         requires within { i < length (in_order held.now.ops) }
         requires linking { IsLinking held.now.ops i self.old.nodes.items self.old.count self.old.waiting.items }
-        ensures { OnOk result (IsLinking held.now.ops (i + 1) self.new.nodes.items self.new.count self.new.waiting.items) }
+        ensures { OnOk result
+            (IsLinking held.now.ops (i + 1) self.new.nodes.items self.new.count self.new.waiting.items) }
     {
         let Some(target) = ops[i].target() else {
             return pass(&mut self.nodes);
@@ -262,7 +266,8 @@ impl<A: Allocator + Copy> Tree<A> {
     /// The entries of the walk.
     fn entries(&self, alloc: A, held: &Held<A>, ops: &[Op]) -> Result<Vec<Entry, A>, NoMemory>
         requires listed { ops.now ≡ in_order held.now.ops }
-        requires linking { IsLinking held.now.ops (size held.now.ops) self.now.nodes.items self.now.count self.now.waiting.items }
+        requires linking { IsLinking held.now.ops
+            (size held.now.ops) self.now.nodes.items self.now.count self.now.waiting.items }
         ensures { IfOk result (λ v. v.items ≡ walked held.now.ops self.now.nodes.items self.now.count) }
     {
         let mut entries = Vec::with_capacity(alloc, self.count)?;
