@@ -12,3 +12,4 @@ pub mod Orders
 pub mod Merges
 mod Unforked
 mod Faultless
+mod Runs

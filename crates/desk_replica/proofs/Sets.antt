@@ -27,7 +27,7 @@ each-of-all (o ∷ ops) a = (a 0 o (omega arith), each-of-all ops (λ k d l. a (
 grows : (h : OpSet) (o : Op) → size h ≤ size (with_op h o)
 grows h o = by_cases (has_op h o) (λ k. let e : size (with_op h o) ≡ size h = size-with_op h o ∙ ap (λ b. cond b (size h) (size h + 1)) k in omega arith) (λ k. let e : size (with_op h o) ≡ size h + 1 = size-with_op h o ∙ ap (λ b. cond b (size h) (size h + 1)) k in omega arith)
 
-grows_all : (h : OpSet) (ops : List Op) → size h ≤ size (with_all h ops)
+pub grows_all : (h : OpSet) (ops : List Op) → size h ≤ size (with_all h ops)
 grows_all h [] = omega arith
 grows_all h (o ∷ ops) = let a = grows h o in let b = grows_all (with_op h o) ops in omega (arith, a, b)
 

@@ -13,7 +13,15 @@ use Rattle.desk_registers.specs.Registers.{kept, kept_with, IsOther, IsGreatestO
 use Rattle.desk_replica.specs.declared.settings.Settings.{Settings}
 
 abbrev pub settings_of : OpSet → Settings
-settings_of h = record { measure = setting_of h Measure; tight = setting_of h Tight; loose = setting_of h Loose; case = setting_of h Case; wedge = setting_of h Wedge }
+settings_of h =
+    record {
+      measure = setting_of h Measure;
+      tight = setting_of h Tight;
+      loose = setting_of h Loose;
+      case = setting_of h
+          Case;
+      wedge = setting_of h Wedge;
+    }
 
 -- what is kept once the setting of an operation is taken, if it is a set
 abbrev pub kept_op : (Key → Option Kept) → Op → Key → Option Kept

@@ -5,3 +5,4 @@ pub mod Ways
 pub mod Laws
 pub mod Shows
 pub mod Orders
+pub mod Calls

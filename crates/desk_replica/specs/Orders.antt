@@ -33,7 +33,8 @@ StandsBefore u x y = path_cmp (path_of u x.stamp) (path_of u y.stamp) ≡ Less
 pub record IsOrderOfLive (u : OpSet) : Type 0 where
   pub never_itself : (x : Insertion) → StandsBefore u x x → ⊥
   pub onward : (x y z : Insertion) → StandsBefore u x y → StandsBefore u y z → StandsBefore u x z
-  pub either : (x y : Insertion) → Among x (live_inserts_of u) → Among y (live_inserts_of u) → (x ≡ y) ⊎ (StandsBefore u x y ⊎ StandsBefore u y x)
+  pub either : (x y : Insertion) → Among x (live_inserts_of u) → Among y (live_inserts_of u) → (x ≡ y)
+      ⊎ (StandsBefore u x y ⊎ StandsBefore u y x)
 
 -- what h shows is live in the set u, and each element stands by its path there before all that follow it
 pub record StandsIn (u h : OpSet) : Type 0 where
@@ -54,14 +55,18 @@ pub record OneOrderOfSets : Type 0 where
   pub itself : (ss : List Stamp) → StandAlike ss ss
   pub turned : (s t : Stamp) → StandAlike (s ∷ t ∷ []) (t ∷ s ∷ []) → s ≡ t
   -- of two different elements that a set shows one stands first, and never both
-  pub either : (h : OpSet) (s t : Stamp) → Among s (shown_stamps h) → Among t (shown_stamps h) → (s ≡ t) ⊎ (Precedes s t (shown_stamps h) ⊎ Precedes t s (shown_stamps h))
-  pub not_both : (h : OpSet) → AllLawful h → (s t : Stamp) → Precedes s t (shown_stamps h) → Precedes t s (shown_stamps h) → ⊥
+  pub either : (h : OpSet) (s t : Stamp) → Among s (shown_stamps h) → Among t (shown_stamps h) → (s ≡ t)
+      ⊎ (Precedes s t (shown_stamps h) ⊎ Precedes t s (shown_stamps h))
+  pub not_both : (h : OpSet) → AllLawful h → (s t : Stamp) → Precedes s t (shown_stamps h)
+      → Precedes t s (shown_stamps h) → ⊥
   -- a set keeps the order of each of its parts, and each part that of the set
   pub larger : (h g : OpSet) → AllLawful h → AllLawful g → IsWithin h g → KeepsOrder h g
   pub back : (h g : OpSet) → AllLawful g → KeepsOrder h g → KeepsOrder g h
-  -- the path of a live insert is that of its parent, and then its stamp; forked or not, a set's walk stands in path order
+  -- the path of a live insert is that of its parent, and then its stamp; forked or not, a set's walk stands in path
+  -- order
   pub at_head : (h : OpSet) → AllLawful h → path_of h head ≡ []
-  pub below : (h : OpSet) → AllLawful h → (x : Insertion) → Among x (live_inserts_of h) → path_of h x.stamp ≡ path_of h x.parent ++ x.stamp ∷ []
+  pub below : (h : OpSet) → AllLawful h → (x : Insertion) → Among x (live_inserts_of h)
+      → path_of h x.stamp ≡ path_of h x.parent ++ x.stamp ∷ []
   pub walked : (h : OpSet) → AllLawful h → InPathOrder (path_of h) (walk_of h)
   -- where no stamp of a set is forked, one order holds what all its parts show
   pub total : (u : OpSet) → AllLawful u → IsUnforked u → IsOrderOfLive u

@@ -21,7 +21,9 @@ pub record State : Type 0 where
   pub spare : ℕ
 
 abbrev pub state_code : Coded State
-state_code = code_by (ℕ × (OpSet × ℕ)) (coded× coded_ℕ (coded× op_set_code coded_ℕ)) (λ s. (s.site, (s.ops, s.spare))) (λ p. record { site = p.0; ops = p.1.0; spare = p.1.1 }) (λ _. refl)
+state_code =
+    code_by (ℕ × (OpSet × ℕ)) (coded× coded_ℕ (coded× op_set_code coded_ℕ)) (λ s. (s.site, (s.ops, s.spare)))
+    (λ p. record { site = p.0; ops = p.1.0; spare = p.1.1 }) (λ _. refl)
 
 -- no site has the number 0, and each operation is lawful
 pub record IsKept (site : ℕ) (ops : OpSet) : Type 0 where
@@ -45,11 +47,13 @@ pub record IsCounted (old after : OpSet) (ops : List Op) (count : Count) : Type 
 -- no operation of the list forks a stamp, where they are taken in one after the other
 abbrev pub ForksNone : OpSet → List Op → Type 0
 ForksNone ops [] = Unit {0}
-ForksNone ops (op ∷ rest) = ((has_op ops op ≡ true) ⊎ (is_borne_in ops (stamp_of op) ≡ false)) × ForksNone (with_op ops op) rest
+ForksNone ops (op ∷ rest) = ((has_op ops op ≡ true) ⊎ (is_borne_in ops (stamp_of op) ≡ false))
+    × ForksNone (with_op ops op) rest
 
 -- each operation's stamp is greater than that of the one before it
 abbrev pub RiseByStamp : List Op → Type 0
-RiseByStamp ops = (i : ℕ) (d : Op) → i + 1 < length ops → before (stamp_of (slice_index_or ops i d)) (stamp_of (slice_index_or ops (i + 1) d)) ≡ true
+RiseByStamp ops = (i : ℕ) (d : Op) → i + 1 < length ops
+    → before (stamp_of (slice_index_or ops i d)) (stamp_of (slice_index_or ops (i + 1) d)) ≡ true
 
 -- no operation of the list bears a stamp that is borne, where they are taken in one after the other
 abbrev pub AreApart : OpSet → List Op → Type 0

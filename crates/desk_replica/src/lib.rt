@@ -1,9 +1,13 @@
 //! One site's copy: what it holds, what its operations add, and what they show.
 //!
-//! The meaning is that of the set of operations (`desk_ops`); the sequence, the room and the registers follow the set, so
-//! that an edit makes none of them anew. What is shown keeps its order for good and, where no stamp of all that the sites hold
-//! is forked, at every site: the strong list specification of Attiya et al. 2016 ("Specification and complexity of
-//! collaborative text editing").
+//! The meaning is that of the set of operations (`desk_ops`). The sequence, the room and the registers follow the set,
+//! so an edit makes none of them anew. What is shown keeps its order for good. Where no stamp of all that the sites
+//! hold is forked, it has that order at every site. That is the strong list specification (Attiya et al. 2016,
+//! "Specification and complexity of collaborative text editing").
+//!
+//! A replica holds at most 1,048,576 operations, and refuses any further one. It refuses an edit for its place, its
+//! value, a full set or a full clock, in this order. A refused call changes nothing, but a list that stops leaves its
+//! first operations.
 #![tactic(auto)]
 
 ghost use Rattle.std.specs.Prelude.{◌≡◌, ◌+◌, ◌-◌, ◌≤◌, ◌<◌, ◌↔◌, ◌⊎◌, ◌++◌, ◌^◌, [], drop, All, IfOk, IfErr, IfSome, IsNone, IsOk, OnOk, OnErr, IsErrOf, length, take, true, false};
@@ -144,7 +148,12 @@ impl<Q: Sequence> Model for Replica<Q> {
 
     ghost coded = { state_code };
 
-    ghost view = { λ a. record { site = a.site; ops = a.held.ops; spare = spare_of a.held.spare a.room.spare (Q.free a.sequence) a.room.ops } };
+    ghost view = { λ a. record {
+      site = a.site;
+      ops = a.held.ops;
+      spare = spare_of a.held.spare a.room.spare
+          (Q.free a.sequence) a.room.ops;
+    } };
 
     ghost invariant = { λ a. IsSound a.site a.held.ops a.registers (Q.entries a.sequence) a.room.ops (Q.free a.sequence) };
 }
@@ -163,8 +172,10 @@ fn reserve_all<Q: Sequence>(
     ensures held_grows { held.old.spare ≤ held.new.spare }
     ensures free_grows { Q.free sequence.old ≤ Q.free sequence.new }
     ensures room_grows { room.old.spare ≤ room.new.spare }
-    ensures some { OnOk result ((n ≤ held.new.spare) × (n ≤ room.new.spare) × (size room.new.ops + n ≤ Q.free sequence.new)) }
-    ensures enough { n ≤ held.old.spare → n ≤ room.old.spare → size room.old.ops + n ≤ Q.free sequence.old → IsOk result }
+    ensures some { OnOk result ((n ≤ held.new.spare) × (n ≤ room.new.spare)
+        × (size room.new.ops + n ≤ Q.free sequence.new)) }
+    ensures enough { n ≤ held.old.spare → n ≤ room.old.spare → size room.old.ops + n ≤ Q.free sequence.old
+        → IsOk result }
 {
     held.reserve(n)?;
     room.reserve(n)?;
@@ -202,7 +213,8 @@ impl<Q: Sequence> Replica<Q> {
     }
 
     /// A replica that holds the operations of a list. `Full` comes only where the list has more than 1,048,576 different
-    /// operations, and of such a list none is made, since no replica holds more. Nothing is taken in of a refused list, and
+    /// operations, and of such a list none is made, since no replica holds more. Nothing is taken in of a refused
+    /// list, and
     /// an empty list is never refused.
     pub fn open(alloc: Q::Memory, site: u16, ops: &[Op]) -> Result<Self, Stopped>
         requires numbered { 1 ≤ site }
@@ -256,7 +268,8 @@ impl<Q: Sequence> Replica<Q> {
         self.held.has(op)
     }
 
-    /// Whether each operation of a list is held. A list that rises and is not short is passed beside what is held: one look at
+    /// Whether each operation of a list is held. A list that rises and is not short is passed beside what is held: one
+    /// look at
     /// each operation. It cannot run out of memory.
     pub fn has_all(&self, ops: &[Op]) -> bool
         ensures { result ≡ list_all (has_op self.now.ops) ops.now }
@@ -338,7 +351,8 @@ impl<Q: Sequence> Replica<Q> {
         self.room = room;
     }
 
-    /// Holds this set in place of its own, by the list of its operations in order: all is made anew, whole before it replaces
+    /// Holds this set in place of its own, by the list of its operations in order: all is made anew, whole before it
+    /// replaces
     /// the old; false where memory does not allow it.
     fn lay_out(&mut self, held: Held<Q::Memory>, list: &[Op]) -> bool
         requires lawful { All IsLawful list.now }
@@ -392,7 +406,8 @@ impl<Q: Sequence> Replica<Q> {
         self.lay_out(held, ops)
     }
 
-    /// Takes in the operations of a list that rises and of which none is held by making all anew, whole before it replaces
+    /// Takes in the operations of a list that rises and of which none is held by making all anew, whole before it
+    /// replaces
     /// the old; false where memory does not allow it.
     fn join(&mut self, ops: &[Op]) -> bool
         requires { All IsLawful ops.now }
@@ -417,8 +432,10 @@ impl<Q: Sequence> Replica<Q> {
         ensures took { IfOk result (λ t. t ≡ took_by self.old.ops op) }
         ensures ok { OnOk result (self.new.ops ≡ with_op self.old.ops op) }
         ensures err { OnErr result (self.new.ops ≡ self.old.ops) }
-        ensures full { IsErrOf result AddRefusal.Full ↔ ((has_op self.old.ops op ≡ false) × (size self.old.ops ≡ LIMIT)) }
-        ensures memory { IsErrOf result AddRefusal.NoMemory → (has_op self.old.ops op ≡ false) × ((self.old.spare ≡ 0) ⊎ (is_borne_in self.old.ops (stamp_of op) ≡ true)) }
+        ensures full { IsErrOf result AddRefusal.Full
+            ↔ ((has_op self.old.ops op ≡ false) × (size self.old.ops ≡ LIMIT)) }
+        ensures memory { IsErrOf result AddRefusal.NoMemory → (has_op self.old.ops op ≡ false)
+            × ((self.old.spare ≡ 0) ⊎ (is_borne_in self.old.ops (stamp_of op) ≡ true)) }
         ensures spare { is_borne_in self.old.ops (stamp_of op) ≡ false → self.old.spare ≤ self.new.spare + 1 }
         ensures err_spare { OnErr result (self.old.spare ≤ self.new.spare) }
         ensures known_spare { has_op self.old.ops op ≡ true → self.new.spare ≡ self.old.spare }
@@ -445,7 +462,8 @@ impl<Q: Sequence> Replica<Q> {
 
     /// Takes in an operation, and with it all that waited for it. `Full` comes exactly where 1,048,576 operations are held
     /// and this one is not; out of memory only where this one is not held and there was no room, or it forks a stamp. No
-    /// other refusal comes, and after one the set is as it was. Elements that are shown before and after keep their order.
+    /// other refusal comes, and after one the set is as it was. Elements that are shown before and after keep their
+    /// order.
     pub fn take(&mut self, op: Op) -> Result<Took, Refusal>
         requires { IsLawful op }
         ensures site { self.new.site ≡ self.old.site }
@@ -454,7 +472,8 @@ impl<Q: Sequence> Replica<Q> {
         ensures err { OnErr result (self.new.ops ≡ self.old.ops) }
         ensures full { IsErrOf result Refusal.Full ↔ ((has_op self.old.ops op ≡ false) × (size self.old.ops ≡ LIMIT)) }
         ensures memory { IsErrOf result Refusal.NoMemory → has_op self.old.ops op ≡ false }
-        ensures growth { IsErrOf result Refusal.NoMemory → (self.old.spare ≡ 0) ⊎ (is_borne_in self.old.ops (stamp_of op) ≡ true) }
+        ensures growth { IsErrOf result Refusal.NoMemory → (self.old.spare ≡ 0)
+            ⊎ (is_borne_in self.old.ops (stamp_of op) ≡ true) }
         ensures causes { IfErr result (λ e. (e ≡ Refusal.Full) ⊎ (e ≡ Refusal.NoMemory)) }
 
         // An operation that forks no stamp takes at most one place, and a refusal or a known one none.
@@ -468,7 +487,8 @@ impl<Q: Sequence> Replica<Q> {
 
     /// Takes in the operations of another replica, by stamp and then by bytes, up to the first that is refused: `Full`
     /// comes exactly where 1,048,576 operations are held and the next is not among them. None is refused where all can be
-    /// held, there is room for as many, and none forks a stamp. The other is only read. A long list takes memory for both
+    /// held, there is room for as many, and none forks a stamp. The other is only read. A long list takes memory for
+    /// both
     /// sets, where that is to be had. Elements that are shown before and after keep their order, whatever the outcome, and
     /// so do those that the other shows, where the merge succeeds; where no stamp of the union is forked, its path order is
     /// one total order in which stands what both showed and what is shown after.
@@ -480,7 +500,8 @@ impl<Q: Sequence> Replica<Q> {
         ensures room { HasRoom self.old.ops self.old.spare (in_order other.now.ops) → IsOk result }
         ensures order { KeepsOrder self.old.ops self.new.ops }
         ensures other_order { OnOk result (KeepsOrder other.now.ops self.new.ops) }
-        ensures one_order { IsUnforked (union self.old.ops other.now.ops) → ShareOneOrder self.old.ops other.now.ops self.new.ops }
+        ensures one_order { IsUnforked (union self.old.ops other.now.ops)
+            → ShareOneOrder self.old.ops other.now.ops self.new.ops }
     {
         let _ = &self.site;
         match other.held.in_order() {
@@ -528,7 +549,8 @@ impl<Q: Sequence> Replica<Q> {
         self.held.range(from, until)
     }
 
-    /// The feed of the operations held: by stamp and then by bytes, but what a site typed in one go together, in runs. It is
+    /// The feed of the operations held: by stamp and then by bytes, but what a site typed in one go together, in runs.
+    /// It is
     /// read as these operations, each once.
     pub fn write_feed(&self) -> Result<Vec<u8, Q::Memory>, NoMemory>
         ensures bytes { IfOk result (λ v. v.items ≡ set_feed self.now.ops) }
@@ -613,7 +635,8 @@ impl<Q: Sequence> Replica<Q> {
         Some(self.stamp_at(place - 1)?)
     }
 
-    /// The stamp of the next operation that is made here, or why none can be made: as many operations are held as may be,
+    /// The stamp of the next operation that is made here, or why none can be made: as many operations are held as may
+    /// be,
     /// or the greatest counter is.
     fn next_stamp(&self) -> Result<Stamp, Refusal>
         ensures stamp { IfOk result (λ s. s ≡ new_stamp self.now) }
@@ -648,6 +671,7 @@ impl<Q: Sequence> Replica<Q> {
         ensures memory { IfErr result (λ e. e ≡ Refusal.NoMemory) }
         ensures growth { OnErr result (self.old.spare ≡ 0) }
         ensures spare { self.old.spare ≤ self.new.spare + 1 }
+        ensures err_spare { OnErr result (self.old.spare ≤ self.new.spare) }
     {
         self.reserve(1)?;
         self.enter(op, place);
@@ -662,9 +686,12 @@ impl<Q: Sequence> Replica<Q> {
         ensures made { IfOk result (λ op. IsInserted self.old self.new place symbol op) }
         ensures allowed { OnOk result (insert_refusal self.old.ops place symbol ≡ None) }
         ensures same { OnErr result (self.new.ops ≡ self.old.ops) }
-        ensures refused { IfErr result (λ e. (e ≡ Refusal.NoMemory) ⊎ (insert_refusal self.old.ops place symbol ≡ Some e)) }
-        ensures memory { IsErrOf result Refusal.NoMemory → (insert_refusal self.old.ops place symbol ≡ None) × (self.old.spare ≡ 0) }
+        ensures refused { IfErr result (λ e. (e ≡ Refusal.NoMemory)
+            ⊎ (insert_refusal self.old.ops place symbol ≡ Some e)) }
+        ensures memory { IsErrOf result Refusal.NoMemory → (insert_refusal self.old.ops place symbol ≡ None)
+            × (self.old.spare ≡ 0) }
         ensures spare { self.old.spare ≤ self.new.spare + 1 }
+        ensures err_spare { OnErr result (self.old.spare ≤ self.new.spare) }
     {
         let Some((parent, at)) = self.parent_at(place) else {
             return Err(Refusal::Place);
@@ -692,8 +719,10 @@ impl<Q: Sequence> Replica<Q> {
         ensures allowed { OnOk result (delete_refusal self.old.ops place ≡ None) }
         ensures same { OnErr result (self.new.ops ≡ self.old.ops) }
         ensures refused { IfErr result (λ e. (e ≡ Refusal.NoMemory) ⊎ (delete_refusal self.old.ops place ≡ Some e)) }
-        ensures memory { IsErrOf result Refusal.NoMemory → (delete_refusal self.old.ops place ≡ None) × (self.old.spare ≡ 0) }
+        ensures memory { IsErrOf result Refusal.NoMemory → (delete_refusal self.old.ops place ≡ None)
+            × (self.old.spare ≡ 0) }
         ensures spare { self.old.spare ≤ self.new.spare + 1 }
+        ensures err_spare { OnErr result (self.old.spare ≤ self.new.spare) }
     {
         let Some((target, at)) = self.stamp_at(place) else {
             return Err(Refusal::Place);
@@ -711,8 +740,10 @@ impl<Q: Sequence> Replica<Q> {
         ensures allowed { OnOk result (set_refusal self.old.ops key value ≡ None) }
         ensures same { OnErr result (self.new.ops ≡ self.old.ops) }
         ensures refused { IfErr result (λ e. (e ≡ Refusal.NoMemory) ⊎ (set_refusal self.old.ops key value ≡ Some e)) }
-        ensures memory { IsErrOf result Refusal.NoMemory → (set_refusal self.old.ops key value ≡ None) × (self.old.spare ≡ 0) }
+        ensures memory { IsErrOf result Refusal.NoMemory → (set_refusal self.old.ops key value ≡ None)
+            × (self.old.spare ≡ 0) }
         ensures spare { self.old.spare ≤ self.new.spare + 1 }
+        ensures err_spare { OnErr result (self.old.spare ≤ self.new.spare) }
     {
         if !key.takes(value) {
             return Err(Refusal::Value);

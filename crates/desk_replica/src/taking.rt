@@ -119,13 +119,15 @@ impl<Q: Sequence> Replica<Q> {
         self.take_new(missing)
     }
 
-    /// How many operations of a list, from its first on, were taken in at once: all, or as many as can be held in any case.
+    /// How many operations of a list, from its first on, were taken in at once: all, or as many as can be held in any
+    /// case.
     fn take_first(&mut self, ops: &[Op]) -> usize
         requires { All IsLawful ops.now }
         ensures site { self.new.site ≡ self.old.site }
         ensures within { result ≤ length ops.now }
         ensures joined { self.new.ops ≡ with_all self.old.ops (take result ops.now) }
-        ensures whole { size self.old.ops + length ops.now ≤ LIMIT → (result ≡ length ops.now) ⊎ ((result ≡ 0) × (self.old.spare ≤ self.new.spare)) }
+        ensures whole { size self.old.ops + length ops.now ≤ LIMIT → (result ≡ length ops.now)
+            ⊎ ((result ≡ 0) × (self.old.spare ≤ self.new.spare)) }
     {
         if ops.len() == 1 {
             return 0;
@@ -159,7 +161,8 @@ impl<Q: Sequence> Replica<Q> {
 
     /// Takes in the operations of a list, one after the other, up to the first that is refused: `Full` comes exactly
     /// where 1,048,576 operations are held and the next is not among them. None is refused where all can be held, there is
-    /// room for as many, and none forks a stamp. Elements that are shown before and after keep their order, whatever the
+    /// room for as many, and none forks a stamp. Elements that are shown before and after keep their order, whatever
+    /// the
     /// outcome.
     pub fn take_all(&mut self, ops: &[Op]) -> Result<Count, Stopped>
         requires { All IsLawful ops.now }

@@ -354,6 +354,24 @@ fn are_lists_refused(alloc: Global, ops: &[Op], after: Want<'_>) -> Result<bool,
     Ok(true)
 }
 
+/// Of the five arrivals in their order. Each growth of their list is refused in turn: it stops before the last at the latest,
+/// and as many stand as it counted. With memory the same list then gives the whole copy.
+#[test]
+fn each_growth_of_five_arrivals(rt: HostRuntime) -> Result<(), Fail> {
+    let arrivals = arrivals();
+    let case = Case {
+        held: &[],
+        call: Call::TakeAll(&arrivals),
+        answer: Answer::Counted(Count { new: 5, known: 0 }),
+        after: plain("zaceb"),
+    };
+    for is_flat in [true, false] {
+        let (refused, most) = refuse_each(rt.alloc(), is_flat, case)?;
+        assert!(rt; 0 < refused && refused < HEAPS && most <= 4);
+    }
+    Ok(())
+}
+
 /// Of a few operations, which are taken in one by one.
 #[test]
 fn growths_of_short_lists(rt: HostRuntime) -> Result<(), Fail> {
