@@ -51,5 +51,5 @@ event_reply (Err steps.TooManySites) = Refused refusals.Sites
 event_reply (Err steps.NoSite) = Refused refusals.Site
 event_reply (Err steps.Strange) = Refused refusals.Site
 event_reply (Err (steps.Edit why)) = Refused (refusal_of (failure (edit_refused why)))
-event_reply (Err (steps.Stopped stop)) = stopped_after stop.taken stop.why
+event_reply (Err (steps.Halted stop)) = stopped_after stop.taken stop.why
 event_reply (Err steps.NoMemory) = Refused refusals.Memory

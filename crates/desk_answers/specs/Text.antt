@@ -85,7 +85,8 @@ value_text (Some value) = decimal value
 
 abbrev pub settings_text : JobSettings → List ℕ
 settings_text s =
-    codes "measure=" ++ value_text s.measure ++ codes " tight=" ++ value_text s.tight ++ codes " loose=" ++ value_text s.loose
+    codes "measure=" ++ value_text s.measure ++ codes " tight=" ++ value_text s.tight ++ codes " loose="
+    ++ value_text s.loose
     ++ codes " case=" ++ value_text s.case ++ codes " wedge=" ++ value_text s.wedge
 
 abbrev pub job_fault_text : JobFault → List ℕ

@@ -1,4 +1,7 @@
 //! The answers to the commands of a script, their text, and which answer each refusal of the crates below has.
+//!
+//! The text of a refusal, or of what a command did, has at most 95 bytes and takes no memory. The other texts have any
+//! length, and fail where memory is refused.
 #![tactic(auto)]
 
 mod failure;

@@ -61,7 +61,7 @@ impl From<ParseError> for NotDone {
 }
 
 impl From<Stopped> for NotDone {
-    ghost from_gives = { λ stop end. reply_of end ≡ event_reply (Err (steps.Stopped stop)) };
+    ghost from_gives = { λ stop end. reply_of end ≡ event_reply (Err (steps.Halted stop)) };
 
     fn from(stop: Stopped) -> NotDone {
         match stop.why {
@@ -83,7 +83,7 @@ impl From<StepRefusal> for NotDone {
             StepRefusal::TooManySites => NotDone::from(Refusal::Sites),
             StepRefusal::NoSite | StepRefusal::Strange => NotDone::from(Refusal::Site),
             StepRefusal::Edit(why) => NotDone::Failed(Failure::from(why)),
-            StepRefusal::Stopped(stop) => NotDone::from(stop),
+            StepRefusal::Halted(stop) => NotDone::from(stop),
             StepRefusal::NoMemory => NotDone::from(NoMemory),
         }
     }

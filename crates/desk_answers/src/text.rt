@@ -116,7 +116,8 @@ fn put_fault(out: &mut Short, why: FeedWhy)
 /// Writes a feed's fault: where it is, and what.
 fn put_feed_fault(out: &mut Short, fault: FeedFault)
     requires { array_string_len out.old + 55 ≤ SHORT }
-    ensures text { out.new.bytes ≡ out.old.bytes ++ codes "feed " ++ decimal fault.at ++ codes " " ++ fault_text fault.why }
+    ensures text { out.new.bytes ≡ out.old.bytes ++ codes "feed " ++ decimal fault.at ++ codes " "
+        ++ fault_text fault.why }
     ensures len { array_string_len out.new ≤ array_string_len out.old + 55 }
 {
     put_numbered(out, "feed ", fault.at);
@@ -386,7 +387,9 @@ impl Entry for JobFault {
 
 #[tactic(auto, using(desk_commands::proofs::Prefixes::prefixes))]
 fn put_line<A: Allocator + Copy>(out: &mut String<A>, line: &CastLine<A>) -> Result<(), AllocError>
-    ensures text { OnOk result (string_bytes out.new ≡ string_bytes out.old ++ codes " " ++ decimal (length line.now.matrices) ++ codes "/" ++ signed_decimal line.now.total) }
+    ensures text { OnOk result
+        (string_bytes out.new ≡ string_bytes out.old ++ codes " " ++ decimal (length line.now.matrices) ++ codes "/"
+        ++ signed_decimal line.now.total) }
     ensures prefix { StartsWith (string_bytes out.new) (string_bytes out.old) }
 {
     put_counted(out, " ", line.matrices().len())?;

@@ -25,12 +25,15 @@ Reports refused (Ok value) given = given ≡ Ok value
 Reports refused (Err why) given = (reported : Refusal) × (refused why ≡ Some reported) × (given ≡ Err reported)
 
 -- what bytes mean, or a refusal
-abbrev pub ReportsBytes : {V E : Type 0} → (List ℕ → Result V E) → (E → Option Refusal) → Result (List ℕ) FileRefusal → Result V Refusal → Type 0
+abbrev pub ReportsBytes : {V E : Type 0} → (List ℕ → Result V E) → (E → Option Refusal) → Result (List ℕ) FileRefusal
+    → Result V Refusal → Type 0
 ReportsBytes meaning refused (Ok bytes) given = Reports refused (meaning bytes) given
-ReportsBytes meaning refused (Err why) given = (reported : Refusal) × (file_refused why ≡ Some reported) × (given ≡ Err reported)
+ReportsBytes meaning refused (Err why) given = (reported : Refusal) × (file_refused why ≡ Some reported)
+    × (given ≡ Err reported)
 
 -- A file is read by its name, and none changes. It gives its bytes or a refusal: that of a device exactly where the device failed.
-abbrev pub FileGives : {V E : Type 0} → (List ℕ → Result V E) → (E → Option Refusal) → List ℕ → Shelf → Result V Refusal → Shelf → Type 0
+abbrev pub FileGives : {V E : Type 0} → (List ℕ → Result V E) → (E → Option Refusal) → List ℕ → Shelf → Result V Refusal
+    → Shelf → Type 0
 FileGives meaning refused name before given after =
     Stays before after × (read : Result (List ℕ) FileRefusal) × Reads (before.kept name) read × Counts read before after
     × ReportsBytes meaning refused read given
@@ -42,23 +45,30 @@ EndsMemory (Err why) = why ≡ files.NoMemory
 
 -- a file is read by its name, and memory runs out by it; no file has changed, and the device did not fail
 abbrev pub FileLacksMemory : List ℕ → Shelf → Shelf → Type 0
-FileLacksMemory name before after = (after ≡ before) × (read : Result (List ℕ) FileRefusal) × Reads (before.kept name) read × EndsMemory read
+FileLacksMemory name before after = (after ≡ before) × (read : Result (List ℕ) FileRefusal)
+    × Reads (before.kept name) read × EndsMemory read
 
 abbrev pub with_case : CaseValues → Result WedgeValues Refusal → Result (CaseValues × WedgeValues) Refusal
 with_case case (Ok wedge) = Ok (case, wedge)
 with_case case (Err why) = Err why
 
 -- the wedge file is read after the case
-abbrev pub ThenWedge : List ℕ → Result CaseValues Refusal → Shelf → Result (CaseValues × WedgeValues) Refusal → Shelf → Type 0
+abbrev pub ThenWedge : List ℕ → Result CaseValues Refusal → Shelf → Result (CaseValues × WedgeValues) Refusal → Shelf
+    → Type 0
 ThenWedge name (Err why) mid given after = (given ≡ Err why) × (after ≡ mid)
-ThenWedge name (Ok case) mid given after = (wedge : Result WedgeValues Refusal) × FileGives wedge_of wedge_refused name mid wedge after × (given ≡ with_case case wedge)
+ThenWedge name (Ok case) mid given after = (wedge : Result WedgeValues Refusal)
+    × FileGives wedge_of wedge_refused name mid wedge after × (given ≡ with_case case wedge)
 
 -- the case file, its reading, the wedge file, its reading, each by its name: the first refusal counts
 abbrev pub BothGive : List ℕ → List ℕ → Shelf → Result (CaseValues × WedgeValues) Refusal → Shelf → Type 0
 BothGive of_case of_wedge before given after =
-    (case : Result CaseValues Refusal) × ((mid : Shelf) × FileGives case_of case_refused of_case before case mid × ThenWedge of_wedge case mid given after)
+    (case : Result CaseValues Refusal)
+    × ((mid : Shelf) × FileGives case_of case_refused of_case before case mid
+    × ThenWedge of_wedge case mid given after)
 
 -- memory runs out by the case file, or by the wedge file once the other has given a case
 abbrev pub BothLackMemory : List ℕ → List ℕ → Shelf → Shelf → Type 0
 BothLackMemory of_case of_wedge before after =
-    FileLacksMemory of_case before after ⊎ ((case : CaseValues) × FileGives case_of case_refused of_case before (Ok case) before × FileLacksMemory of_wedge before after)
+    FileLacksMemory of_case before after
+    ⊎ ((case : CaseValues) × FileGives case_of case_refused of_case before (Ok case) before
+    × FileLacksMemory of_wedge before after)

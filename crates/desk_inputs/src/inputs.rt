@@ -20,7 +20,9 @@ pub fn case_in<F: Files, A: Allocator + Copy>(
     files: &mut F,
     name: &str,
 ) -> Result<MatrixCase, Failure>
-    ensures given { Answers (λ given. FileGives case_of case_refused name.now (F.shelf files.old) given (F.shelf files.new)) (FileLacksMemory name.now (F.shelf files.old) (F.shelf files.new)) result }
+    ensures given { Answers
+        (λ given. FileGives case_of case_refused name.now (F.shelf files.old) given (F.shelf files.new))
+        (FileLacksMemory name.now (F.shelf files.old) (F.shelf files.new)) result }
     ensures still { OnOk result (F.shelf files.new ≡ F.shelf files.old) }
     ensures stays { Stays (F.shelf files.old) (F.shelf files.new) }
 {
@@ -35,7 +37,9 @@ fn wedge_in<F: Files, A: Allocator + Copy>(
     files: &mut F,
     name: &str,
 ) -> Result<Wedge, Failure>
-    ensures given { Answers (λ given. FileGives wedge_of wedge_refused name.now (F.shelf files.old) given (F.shelf files.new)) (FileLacksMemory name.now (F.shelf files.old) (F.shelf files.new)) result }
+    ensures given { Answers
+        (λ given. FileGives wedge_of wedge_refused name.now (F.shelf files.old) given (F.shelf files.new))
+        (FileLacksMemory name.now (F.shelf files.old) (F.shelf files.new)) result }
     ensures still { OnOk result (F.shelf files.new ≡ F.shelf files.old) }
     ensures stays { Stays (F.shelf files.old) (F.shelf files.new) }
 {
@@ -53,7 +57,8 @@ pub fn both<F: Files, A: Allocator + Copy>(
     case: &str,
     wedge: &str,
 ) -> Result<(MatrixCase, Wedge), Failure>
-    ensures given { Answers (λ given. BothGive case.now wedge.now (F.shelf files.old) given (F.shelf files.new)) (BothLackMemory case.now wedge.now (F.shelf files.old) (F.shelf files.new)) result }
+    ensures given { Answers (λ given. BothGive case.now wedge.now (F.shelf files.old) given (F.shelf files.new))
+        (BothLackMemory case.now wedge.now (F.shelf files.old) (F.shelf files.new)) result }
     ensures still { OnOk result (F.shelf files.new ≡ F.shelf files.old) }
     ensures stays { Stays (F.shelf files.old) (F.shelf files.new) }
 {

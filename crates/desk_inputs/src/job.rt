@@ -64,7 +64,8 @@ fn cast_bytes<A: Allocator + Copy>(
     case: &MatrixCase,
     wedge: &Wedge,
 ) -> Result<Reply<A>, NoMemory>
-    requires { (rows : List RibbonRow) × IsRibbon bytes.now rows × ((lines : List Line) × (cast case.now wedge.now rows ≡ Ok lines)) }
+    requires { (rows : List RibbonRow) × IsRibbon bytes.now rows
+        × ((lines : List Line) × (cast case.now wedge.now rows ≡ Ok lines)) }
     ensures { IfOk result (λ a. ReportsCast case.now wedge.now bytes.now (reply_values a)) }
 {
     let rows = rows_in(memory.own, bytes)?;
@@ -87,7 +88,8 @@ fn made<A: Allocator + Copy>(
     wedge: &Wedge,
     wanted: Wanted,
 ) -> Result<Reply<A>, NoMemory>
-    ensures { IfOk result (λ a. ReportsJob wanted case.now wedge.now (job_of replica.now.ops case.now wedge.now) (reply_values a)) }
+    ensures { IfOk result
+        (λ a. ReportsJob wanted case.now wedge.now (job_of replica.now.ops case.now wedge.now) (reply_values a)) }
 {
     match make(memory.own, replica, case, wedge) {
         Ok(bytes) => match wanted {
@@ -109,8 +111,11 @@ pub fn job_by_files<F: Files, A: Allocator + Copy>(
     wedge: &str,
     wanted: Wanted,
 ) -> Result<Reply<A>, Failure>
-    ensures made { IfReplied result (λ reply. IsJobByFiles wanted replica.now.ops case.now wedge.now (F.shelf files.old) reply (F.shelf files.new)) }
-    ensures memory { IfErr result (λ end. end ≡ Failure.NoMemory → JobLacksMemory case.now wedge.now (F.shelf files.old) (F.shelf files.new)) }
+    ensures made { IfReplied result
+        (λ reply. IsJobByFiles wanted replica.now.ops case.now wedge.now (F.shelf files.old) reply
+        (F.shelf files.new)) }
+    ensures memory { IfErr result (λ end. end ≡ Failure.NoMemory
+        → JobLacksMemory case.now wedge.now (F.shelf files.old) (F.shelf files.new)) }
     ensures stays { Stays (F.shelf files.old) (F.shelf files.new) }
 {
     let (case, wedge) = both(memory, files, case, wedge)?;

@@ -1,4 +1,12 @@
 //! A list of events, played at once over a world that begins with one site, and what each site then holds.
+//!
+//! The first line, `take N FEED`, gives site N the operations of a feed. Each other line is an event in the words of a
+//! script, and its `insert` has one symbol. What a `take` brings must be held by some site. A site above 65535 counts
+//! as 0, which no site has.
+//!
+//! It refuses a play with a line of another form or a faulty feed: it writes nothing, and the status is 1. The proofs
+//! cover safety, lawful events and the answer of each event, and no other output. tests/differential.py compares all of
+//! it with tests/oracle_runs.py.
 #![tactic(auto)]
 
 ghost use Rattle.std.specs.Prelude.{◌≡◌, All, IfOk};

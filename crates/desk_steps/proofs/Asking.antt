@@ -53,7 +53,7 @@ event_short (Err steps.TooManySites) = refl
 event_short (Err steps.NoSite) = refl
 event_short (Err steps.Strange) = refl
 event_short (Err (steps.Edit why)) = refl
-event_short (Err (steps.Stopped stop)) = halted_short stop.taken stop.why
+event_short (Err (steps.Halted stop)) = halted_short stop.taken stop.why
 event_short (Err steps.NoMemory) = refl
 
 after_short : (k : ℕ) (r : ReplyValues) → is_long r ≡ false → is_long (after k r) ≡ false

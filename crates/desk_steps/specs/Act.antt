@@ -31,7 +31,8 @@ use Rattle.desk_steps.specs.Insert.{Inserts, all_symbols}
 
 -- operations are brought to a site, wherever they come from, and the reply is that of the result
 abbrev pub IsBrought : Sites → ℕ → List Op → ReplyValues → Sites → Type 0
-IsBrought old n ops reply new = (result : Result Count StepRefusal) × Brings old n ops result new × (event_reply (taken result) ≡ reply)
+IsBrought old n ops reply new = (result : Result Count StepRefusal) × Brings old n ops result new
+    × (event_reply (taken result) ≡ reply)
 
 -- a feed's operations are brought to a site, or its first fault is the reply
 abbrev pub Takes : Sites → ℕ → List ℕ → ReplyValues → Sites → Type 0
@@ -42,7 +43,8 @@ Takes old n bytes reply new =
 -- the operations at the places of a range, or all
 abbrev pub sent : List Op → Option (ℕ × ℕ) → Option (List Op)
 sent ops None = Some ops
-sent ops (Some range) = if nat_le range.0 range.1 && nat_le range.1 (length ops) then Some (take (range.1 - range.0) (drop range.0 ops)) else None
+sent ops (Some range) = if nat_le range.0 range.1 && nat_le range.1 (length ops)
+    then Some (take (range.1 - range.0) (drop range.0 ops)) else None
 
 -- there is no part: the places are refused, or no memory was left for it
 abbrev pub IsNoPart : Failure → Option (List Op) → Type 0
@@ -50,29 +52,48 @@ IsNoPart end part = ((end ≡ failures.Refused refusals.Place) × (part ≡ None
 
 -- a site is given the operations at the places, or the places are refused
 abbrev pub GivesPart : Sites → List Op → Option (ℕ × ℕ) → ℕ → ReplyValues → Sites → Type 0
-GivesPart old ops range to reply new = MatchOption (sent ops range) (Says (Refused refusals.Place) old reply new) (λ part. Happens old (events.Give to part) reply new)
+GivesPart old ops range to reply new =
+    MatchOption (sent ops range) (Says (Refused refusals.Place) old reply new)
+    (λ part. Happens old (events.Give to part) reply new)
 
 -- what a command that asks for no file answers and does
 abbrev pub Does : Sites → CommandValues → ReplyValues → Sites → Type 0
-Does old (Site n) reply new = MatchBool (nat_lt 65535 n) (Says (Refused refusals.Number) old reply new) (Happens old (events.Site n) reply new)
+Does old (Site n) reply new =
+    MatchBool (nat_lt 65535 n) (Says (Refused refusals.Number) old reply new) (Happens old (events.Site n) reply new)
 Does old (Insert n place copy) reply new = MatchOption (set_of old n) (Says (Refused refusals.Site) old reply new)
     (λ set. MatchBool (nat_le place (length (copy_of set)))
-    (MatchBool (all_symbols copy) (Inserts old n place copy 0 None reply new) (Says (Refused refusals.Value) old reply new))
+    (MatchBool (all_symbols copy) (Inserts old n place copy 0 None reply new)
+    (Says (Refused refusals.Value) old reply new))
     (Says (Refused refusals.Place) old reply new))
-Does old (Delete n place) reply new = MatchOption (set_of old n) (Says (Refused refusals.Site) old reply new) (λ set. Happens old (events.Delete n place) reply new)
-Does old (SetTo n key value) reply new = MatchOption (set_of old n) (Says (Refused refusals.Site) old reply new) (λ set. Happens old (events.Set n key value) reply new)
-Does old (Take n bytes) reply new = MatchOption (set_of old n) (Says (Refused refusals.Site) old reply new) (λ set. Takes old n bytes reply new)
+Does old (Delete n place) reply new =
+    MatchOption (set_of old n) (Says (Refused refusals.Site) old reply new)
+    (λ set. Happens old (events.Delete n place) reply new)
+Does old (SetTo n key value) reply new =
+    MatchOption (set_of old n) (Says (Refused refusals.Site) old reply new)
+    (λ set. Happens old (events.Set n key value) reply new)
+Does old (Take n bytes) reply new =
+    MatchOption (set_of old n) (Says (Refused refusals.Site) old reply new) (λ set. Takes old n bytes reply new)
 Does old (Send from to range) reply new = MatchOption (set_of old from) (Says (Refused refusals.Site) old reply new)
     (λ set. MatchOption (set_of old to) (Says (Refused refusals.Site) old reply new)
     (λ other. GivesPart old (in_order set) range to reply new))
 Does old (Merge to from) reply new = MatchOption (set_of old to) (Says (Refused refusals.Site) old reply new)
     (λ other. MatchOption (set_of old from) (Says (Refused refusals.Site) old reply new)
     (λ set. Happens old (events.Give to (in_order set)) reply new))
-Does old (Show n) reply new = MatchOption (set_of old n) (Says (Refused refusals.Site) old reply new) (λ set. Says (Copy (copy_of set)) old reply new)
-Does old (Feed n) reply new = MatchOption (set_of old n) (Says (Refused refusals.Site) old reply new) (λ set. Says (replies.Feed (set_feed set)) old reply new)
-Does old (Restart n) reply new = MatchOption (set_of old n) (Says (Refused refusals.Site) old reply new) (λ set. Happens old (events.Restart n) reply new)
-Does old (Faults n) reply new = MatchOption (set_of old n) (Says (Refused refusals.Site) old reply new) (λ set. Says (replies.Faults (faults_of set)) old reply new)
-Does old (Settings n) reply new = MatchOption (set_of old n) (Says (Refused refusals.Site) old reply new) (λ set. Says (replies.Settings (settings_of set)) old reply new)
+Does old (Show n) reply new =
+    MatchOption (set_of old n) (Says (Refused refusals.Site) old reply new)
+    (λ set. Says (Copy (copy_of set)) old reply new)
+Does old (Feed n) reply new =
+    MatchOption (set_of old n) (Says (Refused refusals.Site) old reply new)
+    (λ set. Says (replies.Feed (set_feed set)) old reply new)
+Does old (Restart n) reply new =
+    MatchOption (set_of old n) (Says (Refused refusals.Site) old reply new)
+    (λ set. Happens old (events.Restart n) reply new)
+Does old (Faults n) reply new =
+    MatchOption (set_of old n) (Says (Refused refusals.Site) old reply new)
+    (λ set. Says (replies.Faults (faults_of set)) old reply new)
+Does old (Settings n) reply new =
+    MatchOption (set_of old n) (Says (Refused refusals.Site) old reply new)
+    (λ set. Says (replies.Settings (settings_of set)) old reply new)
 Does old (Ribbon n case wedge) reply new = ⊥
 Does old (Cast n case wedge) reply new = ⊥
 

@@ -12,7 +12,8 @@ use Rattle.desk_world.specs.declared.world.StepRefusal.{StepRefusal}
 
 -- an event happens, and the reply is that of its result
 abbrev pub Happens : Sites → events.EventValues → ReplyValues → Sites → Type 0
-Happens old event reply new = (result : Result Answer StepRefusal) × Steps old event result new × (event_reply result ≡ reply)
+Happens old event reply new = (result : Result Answer StepRefusal) × Steps old event result new
+    × (event_reply result ≡ reply)
 
 -- nothing changes
 abbrev pub Says : ReplyValues → Sites → ReplyValues → Sites → Type 0

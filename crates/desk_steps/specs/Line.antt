@@ -21,7 +21,8 @@ line_of bytes = if nat_le (length bytes) max_line then Bytes bytes else Long
 -- the answer of a line for which there is memory, and what it leaves
 abbrev pub IsAnswered : Desk → Line → ReplyValues → Desk → Type 0
 IsAnswered old Long reply new = Refuses old refusals.Line reply new
-IsAnswered old (Bytes bytes) reply new = MatchOption (command_of bytes) (Refuses old refusals.Command reply new) (λ command. Performs old command reply new)
+IsAnswered old (Bytes bytes) reply new =
+    MatchOption (command_of bytes) (Refuses old refusals.Command reply new) (λ command. Performs old command reply new)
 
 -- a line that is not too long
 abbrev pub Fits : Line → Type 0

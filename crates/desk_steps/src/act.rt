@@ -184,7 +184,8 @@ fn job_at<F: Files, A: Allocator + Copy>(
     wedge: &str,
     wanted: Wanted,
 ) -> Result<Reply<A>, NotDone>
-    ensures made { Jobs wanted (desk world.now (F.shelf files.old)) site case.now wedge.now (reply_to result) (desk world.now (F.shelf files.new))
+    ensures made { Jobs wanted (desk world.now (F.shelf files.old)) site case.now wedge.now (reply_to result)
+        (desk world.now (F.shelf files.new))
         ⊎ LacksMemory (desk world.now (F.shelf files.old)) (reply_to result) (desk world.now (F.shelf files.new)) }
     ensures stays { Stays (F.shelf files.old) (F.shelf files.new) }
 {
@@ -199,7 +200,8 @@ pub fn act<F: Files, A: Allocator + Copy>(
     files: &mut F,
     command: Command<'_, A>,
 ) -> Result<Reply<A>, NotDone>
-    ensures done { Attempts (desk world.old (F.shelf files.old)) (command_values command.entry) (reply_to result) (desk world.new (F.shelf files.new)) }
+    ensures done { Attempts (desk world.old (F.shelf files.old)) (command_values command.entry) (reply_to result)
+        (desk world.new (F.shelf files.new)) }
     ensures stays { Stays (F.shelf files.old) (F.shelf files.new) }
 {
     match command {

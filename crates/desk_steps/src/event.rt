@@ -17,7 +17,8 @@ pub fn replica_of<A: Allocator + Copy>(
     world: &World<A>,
     site: u32,
 ) -> Result<&Replica<Blocks<A>>, Failure>
-    ensures there { MatchResult result (λ replica. Some replica.now.ops ≡ set_of world.now site) (λ _. None ≡ set_of world.now site) }
+    ensures there { MatchResult result (λ replica. Some replica.now.ops ≡ set_of world.now site)
+        (λ _. None ≡ set_of world.now site) }
     ensures number { IfOk result (λ replica. replica.now.site ≡ site) }
     ensures refused { IfErr result (λ end. end ≡ Failure.Refused Refusal.Site) }
 {
@@ -32,7 +33,8 @@ pub fn replica_of<A: Allocator + Copy>(
 
 /// The number of a site that is there.
 pub fn number_of<A: Allocator + Copy>(world: &World<A>, site: u32) -> Result<u16, Failure>
-    ensures there { MatchResult result (λ _. (set : OpSet) × (Some set ≡ set_of world.now site)) (λ _. None ≡ set_of world.now site) }
+    ensures there { MatchResult result (λ _. (set : OpSet)
+        × (Some set ≡ set_of world.now site)) (λ _. None ≡ set_of world.now site) }
     ensures number { IfOk result (λ number. number ≡ site) }
     ensures refused { IfErr result (λ end. end ≡ Failure.Refused Refusal.Site) }
 {

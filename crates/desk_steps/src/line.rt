@@ -25,7 +25,8 @@ fn do_line<F: Files, A: Allocator + Copy>(
     files: &mut F,
     line: &[u8],
 ) -> Result<Reply<A>, NotDone>
-    ensures done { Allows (desk world.old (F.shelf files.old)) (line_of line.now) (reply_to result) (desk world.new (F.shelf files.new)) }
+    ensures done { Allows (desk world.old (F.shelf files.old)) (line_of line.now) (reply_to result)
+        (desk world.new (F.shelf files.new)) }
     ensures stays { Stays (F.shelf files.old) (F.shelf files.new) }
 {
     if line.len() > MAX_LINE {
@@ -35,8 +36,10 @@ fn do_line<F: Files, A: Allocator + Copy>(
     act(memory, world, files, command)
 }
 
-/// Does what a line says, and returns its answer. Where memory is refused before anything has changed the answer is that
-/// refusal, and after k operations that these stand; but a line that is too long is refused as such. No line takes a site
+/// Does what a line says, and returns its answer. Where memory is refused before anything has changed the answer is
+/// that
+/// refusal, and after k operations that these stand; but a line that is too long is refused as such. No line takes a
+/// site
 /// away, and where the answer may be long nothing has changed, and no device has failed.
 pub fn answer<F: Files, A: Allocator + Copy>(
     memory: Memory<A>,
@@ -44,7 +47,8 @@ pub fn answer<F: Files, A: Allocator + Copy>(
     files: &mut F,
     line: &[u8],
 ) -> Reply<A>
-    ensures answered { Allows (desk world.old (F.shelf files.old)) (line_of line.now) (reply_values result) (desk world.new (F.shelf files.new)) }
+    ensures answered { Allows (desk world.old (F.shelf files.old)) (line_of line.now) (reply_values result)
+        (desk world.new (F.shelf files.new)) }
     ensures unchanged { is_long (reply_values result) ≡ true → world.new ≡ world.old }
     ensures still { is_long (reply_values result) ≡ true → F.shelf files.new ≡ F.shelf files.old }
     ensures sites { KeepsSites world.old world.new }

@@ -6,3 +6,4 @@ pub mod Members
 pub mod Honest
 pub mod Stays
 pub mod Played
+pub mod OneAnswer

@@ -34,7 +34,8 @@ pub record IsHonest (sites : Sites) : Type 0 where
   -- no stamp is forked
   pub unforked : IsUnforked (all_ops sites)
   -- every target is the head or a live insert
-  pub targets : (op : Op) (target : Stamp) → has_op (all_ops sites) op ≡ true → target_of op ≡ Some target → (target ≡ head) ⊎ IsOfLiveInsert (all_ops sites) target
+  pub targets : (op : Op) (target : Stamp) → has_op (all_ops sites) op ≡ true → target_of op ≡ Some target
+      → (target ≡ head) ⊎ IsOfLiveInsert (all_ops sites) target
   -- every stamp's site is a site of the world, and that site holds the operation
   pub own : (op : Op) → has_op (all_ops sites) op ≡ true → IsHeldAt sites (stamp_of op).site op
 
@@ -48,4 +49,5 @@ pub record StandsIn (sites : Sites) (set : OpSet) : Type 0 where
   -- and if it holds all of the union it has no fault
   pub whole : IsWithin (all_ops sites) set → faults_of set ≡ []
   -- a site that holds the same operations answers alike
-  pub alike : (n : ℕ) (other : OpSet) → fin.get sites n ≡ Some other → ((op : Op) → has_op set op ≡ has_op other op) → AnswerAlike set other
+  pub alike : (n : ℕ) (other : OpSet) → fin.get sites n ≡ Some other → ((op : Op) → has_op set op ≡ has_op other op)
+      → AnswerAlike set other

@@ -1,4 +1,5 @@
 pub mod Sites
 pub mod World
 pub mod Plays
+pub mod OneAnswer
 pub mod Honest

@@ -10,4 +10,5 @@ abbrev pub Plays : Sites → List EventValues → List (Result Answer StepRefusa
 Plays old [] [] new = new ≡ old
 Plays old [] (answer ∷ answers) new = ⊥
 Plays old (event ∷ events) [] new = ⊥
-Plays old (event ∷ events) (answer ∷ answers) new = (sites : Sites) × Steps old event answer sites × Plays sites events answers new
+Plays old (event ∷ events) (answer ∷ answers) new = (sites : Sites) × Steps old event answer sites
+    × Plays sites events answers new

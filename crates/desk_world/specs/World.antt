@@ -67,11 +67,11 @@ Adds old n result new = MatchResult result
     (λ a. (a ≡ answers.Done) × (new ≡ fin.insert old n no_ops))
     (λ e. (e ≡ refusals.NoMemory) × (new ≡ old))
 
--- a set gains the operations, and is then no more than may be held, or it gains those up to one that is refused
+-- a set gains the operations, or those up to one that is refused; it is then no more than may be held
 abbrev pub Gains : OpSet → List Op → Result Count StepRefusal → OpSet → Type 0
 Gains set ops result after = MatchResult result
     (λ count. (after ≡ with_all set ops) × IsCounted set after ops count × (size after ≤ max_ops))
-    (λ e. (stop : Stopped) × (e ≡ refusals.Stopped stop) × IsStopped set after ops stop)
+    (λ e. (stop : Stopped) × (e ≡ refusals.Halted stop) × IsStopped set after ops stop × (size after ≤ max_ops))
 
 -- a site gains operations, wherever they come from; no other changes
 abbrev pub Brings : Sites → ℕ → List Op → Result Count StepRefusal → Sites → Type 0
@@ -103,7 +103,9 @@ IsEdited s t (kinds.Set key value) op = IsSetTo s t key value op
 abbrev pub Edits : State → LocalEdit → Result Answer StepRefusal → State → Type 0
 Edits s edit result t = MatchResult result
     (λ a. (op : Op) × (a ≡ answers.Made op) × (refusal_of s.ops edit ≡ None) × IsEdited s t edit op)
-    (λ e. (why : EditRefusal) × (e ≡ refusals.Edit why) × (((why ≡ edits.NoMemory) × (refusal_of s.ops edit ≡ None)) ⊎ (refusal_of s.ops edit ≡ Some why)) × (t.ops ≡ s.ops))
+    (λ e. (why : EditRefusal) × (e ≡ refusals.Edit why)
+    × (((why ≡ edits.NoMemory) × (refusal_of s.ops edit ≡ None)) ⊎ (refusal_of s.ops edit ≡ Some why))
+    × (t.ops ≡ s.ops))
 
 -- a site is edited; no other changes
 abbrev pub EditsSite : Sites → ℕ → LocalEdit → Result Answer StepRefusal → Sites → Type 0
@@ -113,14 +115,18 @@ EditsSite old n edit result new = MatchOption (fin.get old n) (Refuses old refus
 -- opening a set again succeeds, or stops before anything was taken; full only where the set is more than may be held
 abbrev pub IsReopened : OpSet → Result Answer StepRefusal → Type 0
 IsReopened set result = MatchResult result (λ a. a ≡ answers.Done)
-    (λ e. (stop : Stopped) × (e ≡ refusals.Stopped stop) × (stop.taken ≡ 0) × (stop.why ≡ adds.Full → max_ops < size set))
+    (λ e. (stop : Stopped) × (e ≡ refusals.Halted stop) × (stop.taken ≡ 0)
+    × (stop.why ≡ adds.Full → max_ops < size set))
 
 -- what an event answers, and the sites after it: no other than the named one changes
 abbrev pub Steps : Sites → EventValues → Result Answer StepRefusal → Sites → Type 0
-Steps old (Site n) result new = MatchOption (site_refusal old n) (Adds old n result new) (λ why. Refuses old why result new)
+Steps old (Site n) result new =
+    MatchOption (site_refusal old n) (Adds old n result new) (λ why. Refuses old why result new)
 Steps old (Insert n place symbol) result new = EditsSite old n (kinds.Insert place symbol) result new
 Steps old (Delete n place) result new = EditsSite old n (kinds.Delete place) result new
 Steps old (Set n key value) result new = EditsSite old n (kinds.Set key value) result new
 Steps old (Give to ops) result new = MatchOption (fin.get old to) (Refuses old refusals.NoSite result new)
-    (λ set. MatchBool (all_held old ops) ((given : Result Count StepRefusal) × (result ≡ taken given) × Brings old to ops given new) (Refuses old refusals.Strange result new))
-Steps old (Restart n) result new = MatchOption (fin.get old n) (Refuses old refusals.NoSite result new) (λ set. IsReopened set result × (new ≡ old))
+    (λ set. MatchBool (all_held old ops) ((given : Result Count StepRefusal) × (result ≡ taken given)
+    × Brings old to ops given new) (Refuses old refusals.Strange result new))
+Steps old (Restart n) result new =
+    MatchOption (fin.get old n) (Refuses old refusals.NoSite result new) (λ set. IsReopened set result × (new ≡ old))

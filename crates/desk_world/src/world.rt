@@ -14,7 +14,7 @@ ghost use Rattle.desk_world.specs.Honest.{IsHonest, StandsIn};
 ghost use Rattle.desk_world.specs.World as world;
 
 use desk_blocks::Blocks;
-use desk_held::AddRefusal;
+use desk_held::{AddRefusal, LIMIT};
 use desk_memory::NoMemory;
 use desk_ops::{Key, Op, Symbol};
 use desk_replica::{Count, Replica, Stopped};
@@ -76,7 +76,7 @@ pub enum Answer {
     Done,
 }
 
-/// Why an event was refused: the first cause that holds. Nothing has changed then, but for `Stopped`.
+/// Why an event was refused: the first cause that holds. Nothing has changed then, but for `Halted`.
 #[derive(Clone, Copy, Debug, PartialEq, Eq, Error)]
 pub enum StepRefusal {
     #[error("no site has the number 0")]
@@ -93,7 +93,7 @@ pub enum StepRefusal {
     Edit(desk_replica::Refusal),
     /// The first `taken` operations were taken.
     #[error("{0}")]
-    Stopped(Stopped),
+    Halted(Stopped),
     #[error("no memory")]
     NoMemory,
 }
@@ -113,10 +113,10 @@ impl From<Stopped> for StepRefusal {
     ghost use Rattle.std.specs.Prelude.{◌≡◌};
     ghost use Rattle.desk_world.specs.declared.world.StepRefusal.TheVariants as refusals;
 
-    ghost from_gives = { λ stop refusal. refusal ≡ refusals.Stopped stop };
+    ghost from_gives = { λ stop refusal. refusal ≡ refusals.Halted stop };
 
     fn from(stop: Stopped) -> StepRefusal {
-        StepRefusal::Stopped(stop)
+        StepRefusal::Halted(stop)
     }
 }
 
@@ -168,7 +168,10 @@ fn gain<A: Allocator + Copy>(
     ensures site { replica.new.site ≡ replica.old.site }
     ensures ops { Gains replica.old.ops ops.now result replica.new.ops }
 {
-    Ok(replica.take_all(ops)?)
+    let given = replica.take_all(ops);
+    let held = replica.len();
+    prove!(held <= LIMIT);
+    Ok(given?)
 }
 
 /// Gives a site operations. The others stay.
@@ -178,7 +181,8 @@ fn gain_at<A: Allocator + Copy>(
     ops: &[Op],
 ) -> Result<Count, StepRefusal>
     requires { All IsLawful ops.now }
-    ensures { MatchOption (lookup (nat_eq to) sites.old.entries) ((result ≡ Err StepRefusal.NoSite) × (sites.new.entries ≡ sites.old.entries))
+    ensures { MatchOption (lookup (nat_eq to) sites.old.entries) ((result ≡ Err StepRefusal.NoSite)
+        × (sites.new.entries ≡ sites.old.entries))
         (λ s. (t : State) × IsUpdated sites.old.entries sites.new.entries to s t × Gains s.ops ops.now result t.ops) }
 {
     let Some(replica) = sites.get_mut(&to) else {
@@ -215,7 +219,8 @@ fn edit_at<A: Allocator + Copy>(
     site: u16,
     change: LocalEdit,
 ) -> Result<Answer, StepRefusal>
-    ensures { MatchOption (lookup (nat_eq site) sites.old.entries) ((result ≡ Err StepRefusal.NoSite) × (sites.new.entries ≡ sites.old.entries))
+    ensures { MatchOption (lookup (nat_eq site) sites.old.entries) ((result ≡ Err StepRefusal.NoSite)
+        × (sites.new.entries ≡ sites.old.entries))
         (λ s. (t : State) × IsUpdated sites.old.entries sites.new.entries site s t × Edits s change result t) }
 {
     let Some(replica) = sites.get_mut(&site) else {
@@ -234,7 +239,7 @@ fn reopen<A: Allocator + Copy>(
     ensures answer { IsReopened replica.old.ops result }
 {
     let Ok(ops) = replica.in_order() else {
-        return Err(StepRefusal::Stopped(Stopped {
+        return Err(StepRefusal::Halted(Stopped {
             taken: 0,
             why: AddRefusal::NoMemory,
         }));
@@ -250,8 +255,10 @@ fn reopen_at<A: Allocator + Copy>(
     sites: &mut SiteMap<A>,
     site: u16,
 ) -> Result<Answer, StepRefusal>
-    ensures { MatchOption (lookup (nat_eq site) sites.old.entries) ((result ≡ Err StepRefusal.NoSite) × (sites.new.entries ≡ sites.old.entries))
-        (λ s. (t : State) × IsUpdated sites.old.entries sites.new.entries site s t × (t.ops ≡ s.ops) × IsReopened s.ops result) }
+    ensures { MatchOption (lookup (nat_eq site) sites.old.entries) ((result ≡ Err StepRefusal.NoSite)
+        × (sites.new.entries ≡ sites.old.entries))
+        (λ s. (t : State) × IsUpdated sites.old.entries sites.new.entries site s t × (t.ops ≡ s.ops)
+        × IsReopened s.ops result) }
 {
     let Some(replica) = sites.get_mut(&site) else {
         return Err(StepRefusal::NoSite);
@@ -295,7 +302,8 @@ impl<A: Allocator + Copy> World<A> {
     }
 
     /// The replica of a site, if it is there. In an honest world it has no forked and no void fault, and none at all where
-    /// it holds all that the sites hold; what it shows stands in the one order of all of that; and a site that holds the
+    /// it holds all that the sites hold; what it shows stands in the one order of all of that; and a site that holds
+    /// the
     /// same operations answers the same.
     pub fn replica(&self, site: u16) -> Option<&Replica<Blocks<A>>>
         ensures ops { option_map (λ r. r.now.ops) result ≡ fin.get self.now site }
@@ -339,7 +347,8 @@ impl<A: Allocator + Copy> World<A> {
         any_holds_all(&self.sites, ops)
     }
 
-    /// Whether some site holds each of the operations. What is given comes mostly from one site, so each is asked for all of
+    /// Whether some site holds each of the operations. What is given comes mostly from one site, so each is asked for
+    /// all of
     /// it first; and where none has all, an operation is asked of the site that had the one before it.
     fn all_held(&self, ops: &[Op]) -> bool
         ensures { result ≡ all_held self.now ops.now }
@@ -376,7 +385,7 @@ impl<A: Allocator + Copy> World<A> {
         Ok(Answer::Done)
     }
 
-    /// Gives a site operations that may come from outside the world: `NoSite`, or `Stopped` after the first `taken`. No
+    /// Gives a site operations that may come from outside the world: `NoSite`, or `Halted` after the first `taken`. No
     /// other site changes. An honest world stays honest where some site holds each of them; else it need not.
     pub fn bring(&mut self, site: u16, ops: &[Op]) -> Result<Count, StepRefusal>
         requires { All IsLawful ops.now }
@@ -412,7 +421,8 @@ impl<A: Allocator + Copy> World<A> {
         reopen_at(self.alloc, &mut self.sites, site)
     }
 
-    /// Lets an event happen. It changes the named site alone, and `Give` asks for lawful operations. An honest world stays
+    /// Lets an event happen. It changes the named site alone, and `Give` asks for lawful operations. An honest world
+    /// stays
     /// honest, after a refusal too.
     pub fn step(&mut self, event: &Event<'_>) -> Result<Answer, StepRefusal>
         requires { IsSound (event_values event.now) }
@@ -433,8 +443,10 @@ impl<A: Allocator + Copy> World<A> {
             Event::Restart(site) => self.restart(site),
         }
     }
-    /// Lets the events of a list happen, one after the other, and returns what `step` returns of each, in their order. A
-    /// refused event changes nothing but what `Stopped` says was taken, and those after it still happen. Out of memory comes
+    /// Lets the events of a list happen, one after the other, and returns what `step` returns of each, in their order.
+    /// A
+    /// refused event changes nothing but what `Halted` says was taken, and those after it still happen. Out of memory
+    /// comes
     /// only where the list of answers finds no room; no event has happened then. An honest world stays honest.
     pub fn play(
         &mut self,

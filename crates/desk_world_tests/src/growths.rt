@@ -174,7 +174,7 @@ fn stop_of(answer: Result<Answer, StepRefusal>) -> Option<usize> {
     match answer {
         Err(StepRefusal::NoMemory | StepRefusal::Edit(Refusal::NoMemory)) => Some(0),
         Err(
-            StepRefusal::Stopped(
+            StepRefusal::Halted(
                 Stopped {
                     taken,
                     why: AddRefusal::NoMemory,

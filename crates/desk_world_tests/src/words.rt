@@ -27,7 +27,7 @@ const WORDS: [(StepRefusal, &str); 8] = [
         "the edit was refused: the copy has no such place",
     ),
     (
-        StepRefusal::Stopped(STOPPED),
+        StepRefusal::Halted(STOPPED),
         "stopped after 3 operations: as many operations are held as may be",
     ),
     (StepRefusal::NoMemory, "no memory"),
