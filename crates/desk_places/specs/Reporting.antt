@@ -1,18 +1,14 @@
 -- The places of a text, each with what surrounds it, as lines.
-use Rattle.std.specs.Prelude.{ℕ, ◌+◌, ◌-◌, ◌==◌, List, [], ◌∷◌, ◌++◌, length, map, take, drop, codes, if◌then◌else◌}
+use Rattle.std.specs.Prelude.{ℕ, ◌+◌, ◌-◌, ◌==◌, List, [], ◌∷◌, ◌++◌, length, take, drop, codes, if◌then◌else◌}
 use Rattle.std.specs.Fmt.{decimal}
 use Rattle.desk_ops.specs.declared.op.Symbol.{Symbol}
-use Rattle.desk_ops.specs.Op.{space}
+use Rattle.desk_text.specs.Plain.{all_shown}
 use Rattle.desk_text.specs.Writing.{text_bytes}
 use Rattle.desk_places.specs.Places.{places_of}
 
--- the end of a line is shown as a space
-abbrev pub shown : Symbol → Symbol
-shown s = if s.ch == 10 then space else s
-
 -- from 20 symbols before a place to 20 behind a text of so many symbols there, as far as the copy goes
 abbrev pub around : ℕ → List Symbol → ℕ → List Symbol
-around count copy place = map shown (drop (place - 20) (take (place + count + 20) copy))
+around count copy place = all_shown (drop (place - 20) (take (place + count + 20) copy))
 
 -- a line for a place of a text of so many symbols
 abbrev pub place_line : ℕ → List Symbol → ℕ → List ℕ

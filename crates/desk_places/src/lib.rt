@@ -6,5 +6,5 @@ mod reporting;
 mod search;
 
 pub use laws::all_places_are_found;
-pub use reporting::{all_shown, reported_places};
+pub use reporting::reported_places;
 pub use search::places_of;

@@ -1,12 +1,12 @@
 //! The places of a text, shown with what surrounds each.
 
-ghost use Rattle.std.specs.Prelude.{◌≡◌, ◌+◌, ◌-◌, ◌++◌, map, take, drop, IfOk, OnOk, string_bytes, codes};
+ghost use Rattle.std.specs.Prelude.{◌≡◌, ◌+◌, ◌-◌, ◌++◌, take, drop, IfOk, OnOk, string_bytes, codes};
 ghost use Rattle.std.specs.Fmt.{decimal};
-ghost use Rattle.desk_places.specs.Reporting.{more_line, place_line, place_lines, shown, reported_places};
+ghost use Rattle.desk_places.specs.Reporting.{more_line, place_line, place_lines, reported_places};
 
 use desk_memory::NoMemory;
 use desk_ops::Symbol;
-use desk_text::write_text;
+use desk_text::{all_shown, write_text};
 use std::alloc::{AllocError, Allocator};
 
 /// So many symbols are shown before a place, and behind the text there.
@@ -15,17 +15,6 @@ const AROUND: usize = 20;
 /// So many places have a line.
 const LINES: usize = 100;
 
-/// The end of a line as a space, and any other symbol as it is.
-fn shown(symbol: Symbol) -> Symbol
-    ensures { result ≡ shown symbol }
-{
-    if symbol.ch == '\n' {
-        Symbol::SPACE
-    } else {
-        symbol
-    }
-}
-
 /// From 20 symbols before a place to 20 behind a text of so many symbols there, as far as the copy goes.
 fn window(count: usize, copy: &[Symbol], place: usize) -> &[Symbol]
     ensures { result.now ≡ drop (place - 20) (take (place + count + 20) copy.now) }
@@ -33,16 +22,6 @@ fn window(count: usize, copy: &[Symbol], place: usize) -> &[Symbol]
     let until = place.saturating_add(count).saturating_add(AROUND);
     let prefix = &copy[..until.min(copy.len())];
     &prefix[place.saturating_sub(AROUND).min(prefix.len())..]
-}
-
-/// The symbols as they are shown.
-pub fn all_shown<A: Allocator + Copy>(
-    alloc: A,
-    symbols: &[Symbol],
-) -> Result<Vec<Symbol, A>, AllocError>
-    ensures { IfOk result (λ v. v.items ≡ map shown symbols.now) }
-{
-    symbols.iter().map(|s| shown(*s)).collect(alloc)
 }
 
 /// The beginning of the line for a place.
@@ -105,7 +84,7 @@ fn put_more<A: Allocator + Copy>(
 
 /// What is shown of the places of a text of so many symbols: `no place`, or a line `place 17: ..` for each of the first
 /// 100, with up to 20 symbols before it and behind the text there, as text with marks for its styles; and then, if there
-/// are more, a line `and 3 more`. The end of a line is shown as a space.
+/// are more, a line `and 3 more`. The end of a line is shown as a space, and a directional mark by its name.
 pub fn reported_places<A: Allocator + Copy>(
     alloc: A,
     count: usize,

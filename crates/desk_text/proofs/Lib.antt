@@ -3,3 +3,4 @@ pub mod Loops
 pub mod Again
 pub mod Lawful
 pub mod Grammar
+pub mod WrittenOut

@@ -8,6 +8,7 @@ use Rattle.desk_ops.specs.Op.{IsSymbol}
 use Rattle.desk_text.specs.Writing.{text_bytes}
 use Rattle.desk_text.specs.Grammar.{IsText}
 use Rattle.desk_text.specs.Reading.{reading}
+use Rattle.desk_text.specs.Plain.{IsPlain, all_shown, plain_text}
 
 -- each symbol is lawful
 abbrev pub AreLawful : List Symbol → Type 0
@@ -35,3 +36,23 @@ PlainIsReadAgain =
 -- what is read of characters is what the cases of the grammar allow
 abbrev pub ReadIsGrammar : Type 0
 ReadIsGrammar = (bytes : List ℕ) (copy : List Symbol) → IsUtf8 bytes → (reading false bytes ≡ Ok copy) ↔ IsText Roman (chars bytes) copy
+
+-- ---- what is shown to a person
+
+abbrev pub ArePlain : List ℕ → Type 0
+ArePlain [] = Unit {0}
+ArePlain (c ∷ cs) = IsPlain c × ArePlain cs
+
+-- a text written out has neither a control character nor a directional mark, and one that has none is itself
+abbrev pub TextIsPlain : Type 0
+TextIsPlain =
+    (text : List ℕ) → IsUtf8 text → ArePlain (chars (plain_text text)) × (ArePlain (chars text) → plain_text text ≡ text)
+
+abbrev pub characters : List Symbol → List ℕ
+characters symbols = map (λ (s : Symbol). s.ch) symbols
+
+-- nor have the symbols of a copy as they are shown, and those that have none are themselves
+abbrev pub CopyIsPlain : Type 0
+CopyIsPlain =
+    (copy : List Symbol) → AreLawful copy
+    → ArePlain (characters (all_shown copy)) × (ArePlain (characters copy) → all_shown copy ≡ copy)

@@ -7,10 +7,14 @@
 mod fault;
 mod laws;
 mod marks;
+mod plain;
 mod reader;
 mod writing;
 
 pub use fault::{Cause, Place, TextFault};
-pub use laws::{plain_is_read_again, reading_goes_by_grammar, text_is_read_again};
+pub use laws::{
+    plain_is_read_again, reading_goes_by_grammar, text_is_read_again, what_is_shown_is_plain,
+};
+pub use plain::{all_shown, is_directional, put_directional_name, put_plain};
 pub use reader::read_text;
 pub use writing::write_text;
