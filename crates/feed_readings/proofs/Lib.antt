@@ -1,0 +1,15 @@
+pub mod Placed
+pub mod Walked
+pub mod Settling
+pub mod Rows
+pub mod Alike
+pub mod Sets
+pub mod Twins
+pub mod Aligned
+pub mod Lies
+pub mod Sizes
+pub mod Closed
+pub mod Differing
+pub mod Passed
+pub mod Telling
+pub mod Joined

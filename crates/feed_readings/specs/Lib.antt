@@ -1,0 +1,14 @@
+pub mod Cuts
+pub mod Pieces
+pub mod Readings
+pub mod Finding
+pub mod Apart
+pub mod Merged
+pub mod Lines
+pub mod Aligned
+pub mod Laws
+pub mod From
+pub mod Parts
+pub mod Sides
+pub mod Before
+pub mod Closed
