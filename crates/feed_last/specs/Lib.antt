@@ -1,0 +1,5 @@
+pub mod Greatest
+pub mod Text
+pub mod Last
+pub mod Room
+pub mod Laws
