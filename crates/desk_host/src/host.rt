@@ -7,6 +7,7 @@ ghost use Rattle.desk_files.specs.Files.{Counts, Free, IsCounted, Unknown, max_f
 ghost use Rattle.desk_host.specs.Host.{IsReportedOf, LeadsTo, held_in};
 
 use crate::hold::{Hold, missing_or};
+use crate::plain::Plain;
 use crate::progress::{Progress, Step, Watched};
 use crate::trouble::{Asked, Explains, Trouble, write_trouble};
 use desk_files::{FileRefusal, Files, MAX_FILE};
@@ -25,6 +26,8 @@ pub struct HostFiles<'a> {
     failures: u64,
     hold: Option<Hold>,
     trouble: Option<Trouble>,
+    /// The name of the file whose reading was refused last, where there was memory for it.
+    unread: Option<String>,
 }
 
 impl<'a> HostFiles<'a> {
@@ -39,6 +42,7 @@ impl<'a> HostFiles<'a> {
             failures: 0,
             hold: None,
             trouble: None,
+            unread: None,
         }
     }
 
@@ -65,6 +69,26 @@ impl<'a> HostFiles<'a> {
         if let Some(hold) = &mut self.hold {
             hold.is_touched = true;
         }
+    }
+
+    /// Whether a name is that of the held feed.
+    fn is_held(&self, name: &str) -> bool {
+        match &self.hold {
+            Some(hold) => hold.name.as_str() == name,
+            None => false,
+        }
+    }
+
+    /// Keeps the name of a file whose reading was refused. At a terminal a held feed that is not there is reported as new.
+    fn note_unread(&mut self, name: &str, why: FileRefusal)
+        ensures failures { self.new.failures ≡ self.old.failures }
+        ensures held { self.new.hold ≡ self.old.hold }
+        ensures kept { self.new.trouble ≡ self.old.trouble }
+    {
+        if why == FileRefusal::Missing && self.is_held(name) {
+            self.progress.note(Step::New(name));
+        }
+        self.unread = String::from_str(self.host.alloc(), name).ok();
     }
 
     /// Where a name leads: that of the held feed and that of its writing past their links, any other as it is.
@@ -263,7 +287,11 @@ impl<'a> Files for HostFiles<'a> {
         name: &str,
     ) -> Result<Vec<u8, A>, FileRefusal> {
         let read = read_file(self.host, self.progress, alloc, name, self.place(name));
-        self.given(read)
+        let given = self.given(read);
+        if let Err(why) = &given {
+            self.note_unread(name, *why);
+        }
+        given
     }
 
     fn write_new(&mut self, name: &str, bytes: &[u8]) -> Result<(), FileRefusal> {
@@ -294,9 +322,23 @@ impl<'a> Files for HostFiles<'a> {
 
 impl<'a> Explains for HostFiles<'a> {
     fn explain<E: Write>(&self, feed: &str, faults: &mut E) -> io::Result<()> {
+        let unread = match &self.unread {
+            Some(name) => name.as_str(),
+            None => feed,
+        };
         match &self.trouble {
-            Some(trouble) => write_trouble(feed, trouble, faults),
-            None => writeln!(faults, "{feed}: it has more than {MAX_FILE} bytes"),
+            Some(trouble) => match trouble.asked {
+                Asked::Read => write_trouble(unread, trouble, faults),
+                _ => write_trouble(feed, trouble, faults),
+            },
+            None => {
+                let unread = Plain(unread);
+                writeln!(faults, "{unread}: it has more than {MAX_FILE} bytes")
+            }
         }
+    }
+
+    fn is_output_closed(&self) -> bool {
+        self.progress.is_closed()
     }
 }

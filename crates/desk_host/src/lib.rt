@@ -4,9 +4,11 @@
 
 mod hold;
 mod host;
+mod plain;
 mod progress;
 mod trouble;
 
 pub use host::HostFiles;
+pub use plain::Plain;
 pub use progress::{Progress, Step, Watched};
 pub use trouble::Explains;

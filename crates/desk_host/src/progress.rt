@@ -2,9 +2,10 @@
 
 ghost use Rattle.std.specs.Prelude.{◌≡◌};
 
+use crate::plain::Plain;
 use std::cell::Cell;
 use std::fmt::{self, Display, Formatter};
-use std::io::{self, IsTerminal, Read, Write};
+use std::io::{self, ErrorKind, IsTerminal, Read, Write};
 use std::time::{Duration, Instant};
 
 /// The most bytes that are handed to a writer at once, so that a slow one is reported on the way.
@@ -16,6 +17,8 @@ const PIECE: usize = 65_536;
 pub struct Progress<'a> {
     host: &'a HostRuntime,
     last: Cell<Option<Instant>>,
+    /// Whether the reader of standard output has closed it.
+    closed: Cell<bool>,
 }
 
 impl<'a> Progress<'a> {
@@ -29,7 +32,13 @@ impl<'a> Progress<'a> {
         Progress {
             host,
             last: Cell::new(last),
+            closed: Cell::new(false),
         }
+    }
+
+    /// Whether the reader of standard output has closed it, as `head` does: then a write to it has failed.
+    pub fn is_closed(&self) -> bool {
+        self.closed.get()
     }
 
     /// Begins anew: somebody has typed or seen something just now.
@@ -60,9 +69,16 @@ impl<'a> Progress<'a> {
             let _ = writeln!(self.host.stderr(), "copydesk: {step}");
         }
     }
+
+    /// Reports at once, at a terminal. Whether the line can be written changes nothing.
+    pub fn note(&self, step: Step<'_>) {
+        if self.last.get().is_some() {
+            let _ = writeln!(self.host.stderr(), "copydesk: {step}");
+        }
+    }
 }
 
-/// How far a run is.
+/// How far a run is, or what is to be known of it at once.
 #[derive(Clone, Copy, Debug, PartialEq, Eq)]
 pub enum Step<'a> {
     /// So many bytes of standard input are read.
@@ -75,16 +91,19 @@ pub enum Step<'a> {
     Stored(&'a str),
     /// So many bytes of the answer are written.
     Answer(u64),
+    /// The feed of this name was not there before.
+    New(&'a str),
 }
 
 impl<'a> Display for Step<'a> {
     fn fmt<W: fmt::Write>(&self, f: &mut Formatter<W>) -> fmt::Result {
         match self {
             Step::Input(bytes) => write!(f, "{bytes} bytes are read"),
-            Step::Read(name, bytes) => write!(f, "{name}: {bytes} bytes are read"),
-            Step::Written(name, bytes) => write!(f, "{name}: {bytes} bytes are written"),
-            Step::Stored(name) => write!(f, "{name} is stored"),
+            Step::Read(name, bytes) => write!(f, "{}: {bytes} bytes are read", Plain(name)),
+            Step::Written(name, bytes) => write!(f, "{}: {bytes} bytes are written", Plain(name)),
+            Step::Stored(name) => write!(f, "{} is stored", Plain(name)),
             Step::Answer(bytes) => write!(f, "{bytes} bytes of the answer are written"),
+            Step::New(name) => write!(f, "{} is new", Plain(name)),
         }
     }
 }
@@ -176,6 +195,13 @@ impl<'a, S: Drop> Watched<'a, S> {
             Bytes::Seen => self.progress.begin(),
         }
     }
+
+    /// Notes a write that failed since the other end of standard output is closed.
+    fn note(&self, error: &io::Error) {
+        if error.kind() == ErrorKind::BrokenPipe && self.what == Bytes::Answer {
+            self.progress.closed.set(true);
+        }
+    }
 }
 
 impl<'a, R: Read + Drop> Read for Watched<'a, R> {
@@ -193,9 +219,16 @@ impl<'a, W: Write + Drop> Write for Watched<'a, W> {
 
     fn write(&mut self, buf: &[u8]) -> io::Result<usize> {
         let most = buf.len().min(PIECE);
-        let count = self.stream.write(&buf[..most])?;
-        self.count(count);
-        Ok(count)
+        match self.stream.write(&buf[..most]) {
+            Ok(count) => {
+                self.count(count);
+                Ok(count)
+            }
+            Err(error) => {
+                self.note(&error);
+                Err(error)
+            }
+        }
     }
 
     fn flush(&mut self) -> io::Result<()> {

@@ -1,5 +1,6 @@
 //! What the system would not do, in words.
 
+use crate::plain::Plain;
 use desk_files::NoFiles;
 use desk_files::trial::TrialFiles;
 use std::alloc::Allocator;
@@ -45,15 +46,18 @@ pub struct Trouble {
     pub error: io::Error,
 }
 
-/// Files that say in words why they refused a feed.
+/// Files that say in words why they refused a feed, and streams of which it is known whether they are closed.
 pub trait Explains {
     /// Writes a line on the refusal that came last.
     fn explain<E: Write>(&self, feed: &str, faults: &mut E) -> io::Result<()>;
+
+    /// Whether the reader of standard output has closed it, so that nobody waits for more.
+    fn is_output_closed(&self) -> bool;
 }
 
 /// Writes a line on a call that failed.
 pub fn write_trouble<E: Write>(feed: &str, trouble: &Trouble, faults: &mut E) -> io::Result<()> {
-    let asked = trouble.asked;
+    let (feed, asked) = (Plain(feed), trouble.asked);
     if asked == Asked::Hold {
         return writeln!(faults, "{feed}{asked}");
     }
@@ -63,12 +67,20 @@ pub fn write_trouble<E: Write>(feed: &str, trouble: &Trouble, faults: &mut E) ->
 
 impl Explains for NoFiles {
     fn explain<E: Write>(&self, feed: &str, faults: &mut E) -> io::Result<()> {
-        writeln!(faults, "{feed}: no file can be")
+        writeln!(faults, "{}: no file can be", Plain(feed))
+    }
+
+    fn is_output_closed(&self) -> bool {
+        false
     }
 }
 
 impl<A: Allocator + Copy> Explains for TrialFiles<A> {
     fn explain<E: Write>(&self, feed: &str, faults: &mut E) -> io::Result<()> {
-        writeln!(faults, "{feed}: a call failed")
+        writeln!(faults, "{}: a call failed", Plain(feed))
+    }
+
+    fn is_output_closed(&self) -> bool {
+        false
     }
 }
