@@ -5,3 +5,8 @@ pub mod Changing
 pub mod Reading
 pub mod Opening
 pub mod Unimported
+pub mod Sorting
+pub mod Fresh
+pub mod Forking
+pub mod Unmerged
+pub mod Barred

@@ -99,16 +99,19 @@ change_refusal set (changes.Delete place) = delete_refusal set place
 
 -- a set refuses a change, with this first cause; or it does not, and memory ran out
 abbrev pub IsRefusedBy : OpSet → Change → Refusal → Type 0
-IsRefusedBy set change why = (change_refusal set change ≡ Some why) ⊎ ((why ≡ refusals.NoMemory) × (change_refusal set change ≡ None))
+IsRefusedBy set change why = (change_refusal set change ≡ Some why)
+    ⊎ ((why ≡ refusals.NoMemory) × (change_refusal set change ≡ None))
 
 -- so many of the changes were made, by which the old set became this one, and the next one is refused in it
 abbrev pub IsRefusedAmong : ℕ → OpSet → OpSet → List Change → Refusal → Type 0
 IsRefusedAmong site old now made why =
-    (prefix tail : List Change) × (next : Change) × (made ≡ prefix ++ next ∷ tail) × (ops : List Op) × AreMade site old now prefix ops × IsRefusedBy now next why
+    (prefix tail : List Change) × (next : Change) × (made ≡ prefix ++ next ∷ tail) × (ops : List Op)
+    × AreMade site old now prefix ops × IsRefusedBy now next why
 
 -- ---- a copy that becomes a text
 
--- The set's copy is the text. It holds all that the old one holds, and with that operations of the site alone, so many inserts and so many deletes.
+-- The set's copy is the text. It holds all that the old one holds, and with that operations of the site alone, so many
+-- inserts and so many deletes.
 pub record IsRevised (site : ℕ) (old now : OpSet) (text : List Symbol) (inserted deleted : ℕ) : Type 0 where
   pub copy : copy_of now ≡ text
   pub extends : Extends site old now
@@ -121,13 +124,17 @@ pub record IsRevised (site : ℕ) (old now : OpSet) (text : List Symbol) (insert
 
 -- no more than two copies have symbols between what both begin with and what both end with
 abbrev pub IsSparing : List Symbol → List Symbol → ℕ → Type 0
-IsSparing from to count = (prefix suffix : ℕ) × IsSharedPrefix from to prefix × IsSharedEnd from to prefix suffix × (count ≤ between (prefix + suffix) from + between (prefix + suffix) to)
+IsSparing from to count = (prefix suffix : ℕ) × IsSharedPrefix from to prefix × IsSharedEnd from to prefix suffix
+    × (count ≤ between (prefix + suffix) from + between (prefix + suffix) to)
 
--- of changes that make the copy a text, and leave what both begin with, one is refused with this cause; and the set is what those before it made of the old one
+-- of changes that make the copy a text, and leave what both begin with, one is refused with this cause; and the set is
+-- what those before it made of the old one
 abbrev pub IsRefusedIn : ℕ → OpSet → OpSet → List Symbol → Refusal → Type 0
-IsRefusedIn site old now text why = (made : List Change) × (all_changed made (copy_of old) ≡ Some text) × AreSparing (copy_of old) text made × IsRefusedAmong site old now made why
+IsRefusedIn site old now text why = (made : List Change) × (all_changed made (copy_of old) ≡ Some text)
+    × AreSparing (copy_of old) text made × IsRefusedAmong site old now made why
 
--- Why a copy does not become a text, and which set is left: a change is refused, and never for its place; or memory ran out, before any change was made or at one that the set does not refuse.
+-- Why a copy does not become a text, and which set is left: a change is refused, and never for its place; or memory
+-- ran out, before any change was made or at one that the set does not refuse.
 abbrev pub IsUnrevised : ℕ → OpSet → OpSet → List Symbol → RevisionFault → Type 0
 IsUnrevised site old now text revisions.Full = IsRefusedIn site old now text refusals.Full
 IsUnrevised site old now text revisions.ClockFull = IsRefusedIn site old now text refusals.ClockFull

@@ -21,17 +21,24 @@ IsSetOf name shelf set = (ops : List Op) × IsFeedOf (shelf.kept name) ops × (s
 
 -- what was written is the text of the copy of the set that the name stands for
 abbrev pub IsExported : List ℕ → Shelf → Option (List ℕ) → Option (List ℕ) → Type 0
-IsExported name first before after = (set : OpSet) × IsSetOf name first set × Appends before after (text_bytes (copy_of set))
+IsExported name first before after = (set : OpSet) × IsSetOf name first set
+    × Appends before after (text_bytes (copy_of set))
 
--- why the feed of a file is not opened: it is missing or was not read; it is no feed; or it has more operations than a replica holds; or memory ran out once its bytes were read, and they are such that memory is asked for
+-- why the feed of a file is not opened: it is missing or was not read; it is no feed; or it has more operations than a
+-- replica holds; or memory ran out once its bytes were read, and they are such that memory is asked for
 abbrev pub IsClosedBy : List ℕ → Shelf → Shelf → FeedTrouble → Type 0
 IsClosedBy name before after (troubles.File why) = Reads (before.kept name) (Err why) × IsCounted why before after
-IsClosedBy name before after (troubles.Feed fault) = (bytes : List ℕ) × GaveBytes name before after bytes × IsFirstFault bytes fault
-IsClosedBy name before after troubles.Full = (ops : List Op) × IsFeedOf (before.kept name) ops × (after.failures ≡ before.failures) × (max_ops < size (with_all no_ops ops))
+IsClosedBy name before after (troubles.Feed fault) = (bytes : List ℕ) × GaveBytes name before after bytes
+    × IsFirstFault bytes fault
+IsClosedBy name before after troubles.Full = (ops : List Op) × IsFeedOf (before.kept name) ops
+    × (after.failures ≡ before.failures) × (max_ops < size (with_all no_ops ops))
 IsClosedBy name before after troubles.NoMemory = (bytes : List ℕ) × GaveBytes name before after bytes × AskMemory bytes
 
--- why not all of the text was written, and what was: nothing, or under Write a prefix; `NoMemory` only once the feed was opened
+-- why not all of the text was written, and what was: nothing, or under Write a prefix; `NoMemory` only once the feed
+-- was opened
 abbrev pub IsUnexported : List ℕ → Shelf → Shelf → Option (List ℕ) → Option (List ℕ) → ExportFault → Type 0
 IsUnexported name first last before after (exports.Feed why) = (after ≡ before) × IsClosedBy name first last why
-IsUnexported name first last before after exports.Write = (set : OpSet) × IsSetOf name first set × WritesPrefix before after (text_bytes (copy_of set)) × (last.failures ≡ first.failures)
-IsUnexported name first last before after exports.NoMemory = (after ≡ before) × (set : OpSet) × IsSetOf name first set × (last.failures ≡ first.failures)
+IsUnexported name first last before after exports.Write = (set : OpSet) × IsSetOf name first set
+    × WritesPrefix before after (text_bytes (copy_of set)) × (last.failures ≡ first.failures)
+IsUnexported name first last before after exports.NoMemory = (after ≡ before) × (set : OpSet) × IsSetOf name first set
+    × (last.failures ≡ first.failures)

@@ -13,14 +13,18 @@ use Rattle.desk_hand.specs.declared.fault.KeepFault.TheVariants as keeps
 
 -- the line of what was inserted and deleted
 abbrev pub edited_line : ℕ → ℕ → List ℕ
-edited_line inserted deleted = codes "ok inserted " ++ decimal inserted ++ codes " deleted " ++ decimal deleted ++ 10 ∷ []
+edited_line inserted deleted = codes "ok inserted " ++ decimal inserted ++ codes " deleted " ++ decimal deleted
+    ++ 10 ∷ []
 
 -- a text was written, and the feed of the set stored
-abbrev pub IsKept : List ℕ → OpSet → List ℕ → Option (List ℕ) → Shelf → Shelf → Option (List ℕ) → Option (List ℕ) → Type 0
-IsKept name set text read held last before after = Appends before after text × IsStoredAs name (set_feed set) read held last
+abbrev pub IsKept : List ℕ → OpSet → List ℕ → Option (List ℕ) → Shelf → Shelf → Option (List ℕ) → Option (List ℕ)
+    → Type 0
+IsKept name set text read held last before after = Appends before after text
+    × IsStoredAs name (set_feed set) read held last
 
 -- why it was not stored, and what was written: a prefix under Write, all of the text under Unstored, or nothing; out of memory only where all files are as they were and the device has not failed
 abbrev pub IsUnkept : List ℕ → List ℕ → Shelf → Shelf → Option (List ℕ) → Option (List ℕ) → KeepFault → Type 0
 IsUnkept name text held last before after keeps.Write = (last ≡ held) × WritesPrefix before after text
-IsUnkept name text held last before after (keeps.Unstored why) = Appends before after text × IsNotStored name held last why
+IsUnkept name text held last before after (keeps.Unstored why) = Appends before after text
+    × IsNotStored name held last why
 IsUnkept name text held last before after keeps.NoMemory = (last ≡ held) × (after ≡ before)

@@ -1,6 +1,10 @@
 pub mod Fault
+pub mod Stamps
+pub mod Counters
+pub mod Forks
 pub mod Keeping
 pub mod Merging
 pub mod Editing
 pub mod Importing
 pub mod Exporting
+pub mod Room

@@ -46,7 +46,8 @@ fn put_edits<A: Allocator + Copy>(
     made: &[Change],
 ) -> Result<(), Refusal>
     ensures site { replica.new.site ≡ replica.old.site }
-    ensures made { OnOk result ((ops : List Op) × AreMade replica.old.site replica.old.ops replica.new.ops made.now ops) }
+    ensures made { OnOk result ((ops : List Op)
+        × AreMade replica.old.site replica.old.ops replica.new.ops made.now ops) }
     ensures refused { IfErr result (IsRefusedAmong replica.old.site replica.old.ops replica.new.ops made.now) }
 {
     for change in made {
@@ -86,7 +87,8 @@ fn fault_of(why: Refusal) -> RevisionFault
 }
 
 /// Makes the copy of a replica a text, by operations of its site alone, never more than the copy and the text have
-/// symbols together between what both begin with, which stays, and what both end with. Where the text is the copy already nothing changes, and only memory can run out. A change that is
+/// symbols together between what both begin with, which stays, and what both end with. Where the text is the copy
+/// already nothing changes, and only memory can run out. A change that is
 /// refused leaves those before it made, and no other; the fault is the first cause for which the set that they left
 /// refuses it, and that is never its place, nor its value where the text is lawful. Out of memory comes only where that set does not refuse the change, or where
 /// nothing has changed.
@@ -96,7 +98,8 @@ pub fn revise<A: Allocator + Copy>(
     text: &[Symbol],
 ) -> Result<Tally, RevisionFault>
     ensures site { replica.new.site ≡ replica.old.site }
-    ensures ok { IfOk result (λ t. IsRevised replica.old.site replica.old.ops replica.new.ops text.now t.inserted t.deleted) }
+    ensures ok { IfOk result
+        (λ t. IsRevised replica.old.site replica.old.ops replica.new.ops text.now t.inserted t.deleted) }
     ensures few { IfOk result (λ t. t.inserted + t.deleted ≤ length (copy_of replica.old.ops) + length text.now) }
     ensures sparing { IfOk result (λ t. IsSparing (copy_of replica.old.ops) text.now (t.inserted + t.deleted)) }
     ensures none { copy_of replica.old.ops ≡ text.now → replica.new.ops ≡ replica.old.ops }

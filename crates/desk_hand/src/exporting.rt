@@ -17,7 +17,8 @@ use desk_text::write_text;
 use std::alloc::Allocator;
 use std::io::Write;
 
-/// Opens the feed of a file, which must be there, to be read alone: its name is not taken, and no file changes. Nothing is to
+/// Opens the feed of a file, which must be there, to be read alone: its name is not taken, and no file changes.
+/// Nothing is to
 /// be edited in the replica, which has a number of no meaning.
 pub fn open_feed<F: Files, A: Allocator + Copy>(
     alloc: A,
@@ -44,7 +45,8 @@ fn text_of<A: Allocator + Copy>(
     write_text(alloc, &copy)
 }
 
-/// Writes the copy of a stored feed as text with marks for its styles, as `desk_text` writes it, and nothing else. The file
+/// Writes the copy of a stored feed as text with marks for its styles, as `desk_text` writes it, and nothing else. The
+/// file
 /// must be there. Its name is not taken, and no file changes: a feed is stored by a rename, so what is read is a whole
 /// feed. A refusal of the feed or of memory comes before anything is written.
 pub fn export_feed<W: Write, F: Files, A: Allocator + Copy>(
@@ -55,7 +57,9 @@ pub fn export_feed<W: Write, F: Files, A: Allocator + Copy>(
 ) -> Result<(), ExportFault>
     ensures ok { OnOk result (IsExported name.now (F.shelf files.old) (W.contents writer.old) (W.contents writer.new)) }
     ensures counted { OnOk result ((F.shelf files.new).failures ≡ (F.shelf files.old).failures) }
-    ensures err { IfErr result (IsUnexported name.now (F.shelf files.old) (F.shelf files.new) (W.contents writer.old) (W.contents writer.new)) }
+    ensures err { IfErr result
+        (IsUnexported name.now (F.shelf files.old) (F.shelf files.new) (W.contents writer.old)
+        (W.contents writer.new)) }
     ensures stays { Stays (F.shelf files.old) (F.shelf files.new) }
 {
     let replica = open_feed(alloc, files, name)?;

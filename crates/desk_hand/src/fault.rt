@@ -10,6 +10,7 @@ ghost use Rattle.desk_hand.specs.declared.fault.ExportFault.TheVariants as expor
 ghost use Rattle.desk_hand.specs.declared.fault.MergeFault.TheVariants as merges;
 ghost use Rattle.desk_hand.specs.declared.fault.ImportFault.TheVariants as imports;
 
+use crate::stamps::SiteStamps;
 use desk_codec::FeedFault;
 use desk_files::{FileRefusal, ReaderFault};
 use desk_held::AddRefusal;
@@ -17,6 +18,8 @@ use desk_memory::NoMemory;
 use desk_replica::Stopped;
 use desk_stored::{OpenFault, Unsent};
 use desk_text::TextFault;
+use feed_last::LastFault;
+use std::alloc::Allocator;
 use thiserror::Error;
 
 // ---- the phases
@@ -115,14 +118,20 @@ pub enum ExportFault {
 }
 
 /// Why feeds were not merged into a stored one.
-#[derive(Clone, Copy, Debug, PartialEq, Eq, Error)]
-pub enum MergeFault {
+#[derive(Drop, Error)]
+#[derive_where(Debug, PartialEq, Eq)]
+pub enum MergeFault<A: Allocator> {
     /// The stored feed was not taken.
     #[error("{0}")]
     Take(TakeFault),
     /// The feed of another file does not come in: that of a place among the names that were given, counted from 0.
     #[error("{why}")]
     Other { at: usize, why: FeedTrouble },
+    /// Forks are not asked for, and the feed of another file adds some: that of a place among the names, counted from
+    /// 0. Those
+    /// are all stamps that are forked with it, and were not before.
+    #[error("number used twice")]
+    Forks { at: usize, stamps: SiteStamps<A> },
     /// All came in, and their lines were not written, or the union was not stored.
     #[error("{0}")]
     Keep(KeepFault),
@@ -134,12 +143,18 @@ pub enum ImportFault {
     /// The stored feed was not taken.
     #[error("{0}")]
     Take(TakeFault),
-    /// The feed was taken, and no text was read.
+    /// The feed was taken, and not let in: it is older than what this room stored there, or memory ran out for that.
+    #[error("{0}")]
+    Last(LastFault),
+    /// The feed was let in, and no text was read.
     #[error("{0}")]
     Input(InputFault),
     /// The text was read, and the copy was not made it.
     #[error("{0}")]
     Revision(RevisionFault),
+    /// The whole copy, or most of a longer one, would be deleted, and that is not asked for.
+    #[error("{deleted} of {of} symbols would be deleted")]
+    Wipes { deleted: usize, of: usize },
     /// The copy was made the text, and the line was not written, or the feed not stored.
     #[error("{0}")]
     Keep(KeepFault),
@@ -191,6 +206,14 @@ impl From<FeedTrouble> for TakeFault {
 
     fn from(why: FeedTrouble) -> TakeFault {
         TakeFault::Feed(why)
+    }
+}
+
+impl From<NoMemory> for TakeFault {
+    ghost from_gives = { λ _ fault. fault ≡ takes.Feed troubles.NoMemory };
+
+    fn from(_: NoMemory) -> TakeFault {
+        TakeFault::Feed(FeedTrouble::NoMemory)
     }
 }
 
@@ -275,34 +298,26 @@ impl From<Unsent> for ExportFault {
     }
 }
 
-impl From<TakeFault> for MergeFault {
+impl<A: Allocator> From<TakeFault> for MergeFault<A> {
     ghost from_gives = { λ why fault. fault ≡ merges.Take why };
 
-    fn from(why: TakeFault) -> MergeFault {
+    fn from(why: TakeFault) -> MergeFault<A> {
         MergeFault::Take(why)
     }
 }
 
-impl From<(usize, FeedTrouble)> for MergeFault {
-    ghost from_gives = { λ stop fault. fault ≡ merges.Other stop.0 stop.1 };
-
-    fn from((at, why): (usize, FeedTrouble)) -> MergeFault {
-        MergeFault::Other { at, why }
-    }
-}
-
-impl From<NoMemory> for MergeFault {
+impl<A: Allocator> From<NoMemory> for MergeFault<A> {
     ghost from_gives = { λ _ fault. fault ≡ merges.Keep keeps.NoMemory };
 
-    fn from(_: NoMemory) -> MergeFault {
+    fn from(_: NoMemory) -> MergeFault<A> {
         MergeFault::Keep(KeepFault::NoMemory)
     }
 }
 
-impl From<KeepFault> for MergeFault {
+impl<A: Allocator> From<KeepFault> for MergeFault<A> {
     ghost from_gives = { λ why fault. fault ≡ merges.Keep why };
 
-    fn from(why: KeepFault) -> MergeFault {
+    fn from(why: KeepFault) -> MergeFault<A> {
         MergeFault::Keep(why)
     }
 }
@@ -312,6 +327,14 @@ impl From<TakeFault> for ImportFault {
 
     fn from(why: TakeFault) -> ImportFault {
         ImportFault::Take(why)
+    }
+}
+
+impl From<LastFault> for ImportFault {
+    ghost from_gives = { λ why fault. fault ≡ imports.Last why };
+
+    fn from(why: LastFault) -> ImportFault {
+        ImportFault::Last(why)
     }
 }
 

@@ -39,8 +39,12 @@ pub fn write_and_keep<W: Write, F: Files, A: Allocator + Copy>(
     name: &str,
     old: &Option<Vec<u8, A>>,
 ) -> Result<(), KeepFault>
-    ensures ok { OnOk result (IsKept name.now replica.now.ops text.now (was_read old.now) (F.shelf files.old) (F.shelf files.new) (W.contents writer.old) (W.contents writer.new)) }
-    ensures err { IfErr result (IsUnkept name.now text.now (F.shelf files.old) (F.shelf files.new) (W.contents writer.old) (W.contents writer.new)) }
+    ensures ok { OnOk result
+        (IsKept name.now replica.now.ops text.now (was_read old.now) (F.shelf files.old) (F.shelf files.new)
+        (W.contents writer.old) (W.contents writer.new)) }
+    ensures err { IfErr result
+        (IsUnkept name.now text.now (F.shelf files.old) (F.shelf files.new) (W.contents writer.old)
+        (W.contents writer.new)) }
     ensures held { HoldsOn (F.shelf files.old).held (F.shelf files.new).held }
 {
     write_out(writer, text)?;
@@ -57,8 +61,12 @@ pub fn report_and_keep<W: Write, F: Files, A: Allocator + Copy>(
     name: &str,
     old: &Option<Vec<u8, A>>,
 ) -> Result<(), KeepFault>
-    ensures ok { OnOk result (IsKept name.now replica.now.ops (edited_line tally.inserted tally.deleted) (was_read old.now) (F.shelf files.old) (F.shelf files.new) (W.contents writer.old) (W.contents writer.new)) }
-    ensures err { IfErr result (IsUnkept name.now (edited_line tally.inserted tally.deleted) (F.shelf files.old) (F.shelf files.new) (W.contents writer.old) (W.contents writer.new)) }
+    ensures ok { OnOk result
+        (IsKept name.now replica.now.ops (edited_line tally.inserted tally.deleted) (was_read old.now)
+        (F.shelf files.old) (F.shelf files.new) (W.contents writer.old) (W.contents writer.new)) }
+    ensures err { IfErr result
+        (IsUnkept name.now (edited_line tally.inserted tally.deleted) (F.shelf files.old) (F.shelf files.new)
+        (W.contents writer.old) (W.contents writer.new)) }
     ensures held { HoldsOn (F.shelf files.old).held (F.shelf files.new).held }
 {
     let line = edited_line(alloc, tally)?;

@@ -1,20 +1,37 @@
-//! What one does with stored feeds by hand: feeds of other files are merged into one, its copy is written as text, and a text
-//! is made its copy.
+//! The calls on stored feeds by hand: merge the feeds of other files, export the copy as text, import a text as the
+//! copy.
+//!
+//! A merge and an import take the stored feed's name for the run alone; a missing file is an empty feed. Other feeds
+//! are read without a hold: a store is a rename, so what is read is a whole feed.
+//!
+//! A text has at most 8,388,608 bytes, eight for each symbol that a copy may have. An import makes the changes of
+//! `desk_changes`, each by one operation of the site.
+//!
+//! A merge refuses to fork a stamp. An import refuses to wipe the copy, or to go on with an older feed (`feed_last`).
+//! The caller can ask for each of these. Each fault names the phase that stopped.
+//!
+//! `take_feed`, `open_feed`, `revise` and `report_and_keep` are steps of these calls, for the crates above.
 #![tactic(auto)]
 
+mod counters;
 mod editing;
 mod exporting;
 mod fault;
+mod forks;
 mod importing;
 mod keeping;
 mod merging;
+mod stamps;
 
+pub use counters::{Naming, put_counters};
 pub use editing::{Tally, revise};
 pub use exporting::{export_feed, open_feed};
 pub use fault::{
     ExportFault, FeedTrouble, ImportFault, InputFault, KeepFault, MergeFault, RevisionFault,
     TakeFault,
 };
+pub use forks::forks_line;
 pub use importing::{MAX_TEXT, import_text};
-pub use keeping::report_and_keep;
+pub use keeping::{report_and_keep, write_and_keep};
 pub use merging::{ANY_SITE, merge_feeds, take_feed};
+pub use stamps::{SiteStamp, SiteStamps};
