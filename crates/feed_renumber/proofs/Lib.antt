@@ -1,0 +1,10 @@
+pub mod Passing
+pub mod Under
+pub mod Noted
+pub mod Moved
+pub mod Clashing
+pub mod Renumbered
+pub mod Injective
+pub mod Forking
+pub mod Refused
+pub mod Done

@@ -1,0 +1,4 @@
+pub mod Moving
+pub mod Refusing
+pub mod Laws
+pub mod Renumbering
