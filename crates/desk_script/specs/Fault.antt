@@ -8,6 +8,10 @@ use Rattle.desk_script.specs.declared.fault.LineFault.{LineFault}
 use Rattle.desk_script.specs.declared.fault.LineFault.TheVariants as lines
 use Rattle.desk_script.specs.declared.fault.RunFault.{RunFault}
 use Rattle.desk_script.specs.declared.fault.RunFault.TheVariants as faults
+use Rattle.desk_script.specs.declared.fault.RoomFault.{RoomFault}
+use Rattle.desk_script.specs.declared.fault.RoomFault.TheVariants as rooms
+use Rattle.feed_last.specs.declared.fault.LastFault.{LastFault}
+use Rattle.feed_last.specs.declared.fault.LastFault.TheVariants as lasts
 
 -- the fault of a run, by that of the phase
 
@@ -27,6 +31,11 @@ of_file refusals.Missing = faults.File refusals.Missing
 of_file refusals.Device = faults.File refusals.Device
 of_file refusals.Large = faults.File refusals.Large
 of_file refusals.NoMemory = faults.NoMemory
+
+-- the fault of a run in a room, where its feed was not let in
+abbrev pub of_last : LastFault → RoomFault
+of_last (lasts.Older made held) = rooms.Older made held
+of_last lasts.NoMemory = rooms.Run faults.NoMemory
 
 -- the fault is of the run of commands itself, and not of a stored feed
 abbrev pub IsOfLines : RunFault → Type 0

@@ -20,3 +20,4 @@ pub mod Script
 pub mod FeedRun
 pub mod Fault
 pub mod Pending
+pub mod Room

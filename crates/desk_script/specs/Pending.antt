@@ -16,7 +16,8 @@ last_line (b ∷ bytes) = line_of (b ∷ bytes) ∷ []
 abbrev pub lines_from : List ℕ → List ℕ → List Line
 lines_from pending [] = last_line pending
 lines_from pending (b ∷ bytes) =
-    elim (b == 10) [ true ↦ line_of (without_cr pending) ∷ lines_from [] bytes | false ↦ lines_from (pending ++ b ∷ []) bytes ]
+    elim (b == 10)
+    [ true ↦ line_of (without_cr pending) ∷ lines_from [] bytes | false ↦ lines_from (pending ++ b ∷ []) bytes ]
 
 -- how far a run has come: its desk, what was written, and the bytes of a line that has no end yet
 pub record Progress : Type 0 where
@@ -33,16 +34,23 @@ Moves old new bytes =
     (done : List Line) × Turn old.state new.state old.written new.written done
     × ((more : List ℕ) → lines_from old.pending (bytes ++ more) ≡ done ++ lines_from new.pending more)
 
--- whatever follows the bytes, the first of their lines were answered, no file has changed since, and a prefix of their answers was written
+-- whatever follows the bytes, the first of their lines were answered, no file has changed since, and a prefix of their
+-- answers was written
 abbrev pub Breaks : Progress → Progress → List ℕ → Type 0
-Breaks old new bytes = (more : List ℕ) → StopsWithin old.state new.state.shelf old.written new.written (lines_from old.pending (bytes ++ more))
+Breaks old new bytes =
+    (more : List ℕ) → StopsWithin old.state new.state.shelf old.written new.written
+    (lines_from old.pending (bytes ++ more))
 
--- whatever follows the bytes, the first of their lines were answered and each answer was written, no file has changed since, and a line comes after them
+-- whatever follows the bytes, the first of their lines were answered and each answer was written, no file has changed
+-- since, and a line comes after them
 abbrev pub BreaksBefore : Progress → Progress → List ℕ → Type 0
-BreaksBefore old new bytes = (more : List ℕ) → StopsBefore old.state new.state.shelf old.written new.written (lines_from old.pending (bytes ++ more))
+BreaksBefore old new bytes =
+    (more : List ℕ) → StopsBefore old.state new.state.shelf old.written new.written
+    (lines_from old.pending (bytes ++ more))
 
 -- What was answered and written, and the pending bytes and the bytes that are left, give the lines of all.
-abbrev pub Carries : Desk → Desk → Option (List ℕ) → Option (List ℕ) → Option (List ℕ) → Option (List ℕ) → List ℕ → Type 0
+abbrev pub Carries : Desk → Desk → Option (List ℕ) → Option (List ℕ) → Option (List ℕ) → Option (List ℕ) → List ℕ
+    → Type 0
 Carries old new None left before after pending = Unit {0}
 Carries old new (Some input) None before after pending = ⊥
 Carries old new (Some input) (Some left) before after pending =

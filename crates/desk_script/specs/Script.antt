@@ -18,24 +18,28 @@ IsReported reply reported = (reported ≡ reply) ⊎ ((is_long reply ≡ true) �
 -- the answers that lines may get, one for each
 abbrev pub Script : Desk → List Line → List ReplyValues → Desk → Type 0
 Script old [] [] new = new ≡ old
-Script old (line ∷ lines) (reply ∷ replies) new = (mid : Desk) × Allows old line reply mid × Script mid lines replies new
+Script old (line ∷ lines) (reply ∷ replies) new = (mid : Desk) × Allows old line reply mid
+    × Script mid lines replies new
 Script old [] (reply ∷ replies) new = ⊥
 Script old (line ∷ lines) [] new = ⊥
 
 -- all these lines were answered, and the answers written
 abbrev pub Turn : Desk → Desk → Option (List ℕ) → Option (List ℕ) → List Line → Type 0
-Turn old new before after lines = (replies : List ReplyValues) × Script old lines replies new × Appends before after (output replies)
+Turn old new before after lines = (replies : List ReplyValues) × Script old lines replies new
+    × Appends before after (output replies)
 
 -- the first lines were answered, no file has changed since, and a prefix of their answers was written
 abbrev pub StopsWithin : Desk → Shelf → Option (List ℕ) → Option (List ℕ) → List Line → Type 0
 StopsWithin old last before after lines =
-    (prefix tail : List Line) × (lines ≡ prefix ++ tail) × (new : Desk) × Stays new.shelf last × (replies : List ReplyValues) × Script old prefix replies new
+    (prefix tail : List Line) × (lines ≡ prefix ++ tail) × (new : Desk) × Stays new.shelf last
+    × (replies : List ReplyValues) × Script old prefix replies new
     × WritesPrefix before after (output replies)
 
 -- the first lines were answered and each answer was written, no file has changed since, and a line comes after them
 abbrev pub StopsBefore : Desk → Shelf → Option (List ℕ) → Option (List ℕ) → List Line → Type 0
 StopsBefore old last before after lines =
-    (prefix tail : List Line) × (next : Line) × (lines ≡ prefix ++ next ∷ tail) × (new : Desk) × Stays new.shelf last × Turn old new before after prefix
+    (prefix tail : List Line) × (next : Line) × (lines ≡ prefix ++ next ∷ tail) × (new : Desk) × Stays new.shelf last
+    × Turn old new before after prefix
 
 -- a whole run over these bytes
 abbrev pub Answers : Desk → Desk → List ℕ → Option (List ℕ) → Option (List ℕ) → Type 0

@@ -21,13 +21,14 @@ use std::alloc::{Allocator, Global};
 use std::io::{Read, Write};
 
 /// A world of one site, which holds the operations of what was stored.
-fn opened<A: Allocator + Copy>(
+pub fn opened<A: Allocator + Copy>(
     alloc: A,
     old: &Option<Vec<u8, A>>,
     site: u16,
 ) -> Result<World<A>, OpenFault>
     requires { 1 ≤ site }
-    ensures ok { IfOk result (λ w. (ops : List Op) × Stores (was_read old.now) ops × (size (with_all no_ops ops) ≤ max_ops) × (w ≡ one_site site ops)) }
+    ensures ok { IfOk result (λ w. (ops : List Op) × Stores (was_read old.now) ops
+        × (size (with_all no_ops ops) ≤ max_ops) × (w ≡ one_site site ops)) }
     ensures err { IfErr result (IsUnbegun (was_read old.now)) }
 {
     let replica = open_replica(alloc, old, site)?;
@@ -44,7 +45,8 @@ pub fn keep_feed<F: Files, A: Allocator + Copy>(
     old: &Option<Vec<u8, A>>,
 ) -> Result<(), FileRefusal>
     requires { (set : OpSet) × (fin.get world.now site ≡ Some set) }
-    ensures ok { OnOk result (IsStored name.now site (desk world.now (F.shelf files.old)) (was_read old.now) (F.shelf files.new)) }
+    ensures ok { OnOk result
+        (IsStored name.now site (desk world.now (F.shelf files.old)) (was_read old.now) (F.shelf files.new)) }
     ensures err { IfErr result (IsNotStored name.now (F.shelf files.old) (F.shelf files.new)) }
     ensures held { HoldsOn (F.shelf files.old).held (F.shelf files.new).held }
 {
@@ -69,10 +71,16 @@ pub fn run_on_feed<R: Read, W: Write, F: Files, A: Allocator + Copy>(
     site: u16,
 ) -> Result<(), RunFault>
     requires { 1 ≤ site }
-    ensures ok { OnOk result (AnswersStored name.now site (F.shelf files.old) (F.shelf files.new) (R.remaining reader.old) (W.contents writer.old) (W.contents writer.new)) }
-    ensures err { IfErr result (IsStoppedOnFeed name.now site (F.shelf files.old) (F.shelf files.new) (R.remaining reader.old) (W.contents writer.old) (W.contents writer.new)) }
-    ensures held { IsHeldAlone name.now (F.shelf files.old) (F.shelf files.new) ⊎ ((reader.new ≡ reader.old) × (writer.new ≡ writer.old) × Stays (F.shelf files.old) (F.shelf files.new)) }
-    ensures device { IsErrOf result (RunFault.File FileRefusal.Device) → HasFailed (F.shelf files.old) (F.shelf files.new) }
+    ensures ok { OnOk result
+        (AnswersStored name.now site (F.shelf files.old) (F.shelf files.new) (R.remaining reader.old)
+        (W.contents writer.old) (W.contents writer.new)) }
+    ensures err { IfErr result
+        (IsStoppedOnFeed name.now site (F.shelf files.old) (F.shelf files.new) (R.remaining reader.old)
+        (W.contents writer.old) (W.contents writer.new)) }
+    ensures held { IsHeldAlone name.now (F.shelf files.old) (F.shelf files.new)
+        ⊎ ((reader.new ≡ reader.old) × (writer.new ≡ writer.old) × Stays (F.shelf files.old) (F.shelf files.new)) }
+    ensures device { IsErrOf result (RunFault.File FileRefusal.Device)
+        → HasFailed (F.shelf files.old) (F.shelf files.new) }
     ensures end { OnOk result (IsAtEnd (R.remaining reader.new)) }
 {
     files.hold(name)?;

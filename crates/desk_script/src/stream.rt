@@ -74,8 +74,10 @@ fn report<W: Write, A: Allocator + Copy>(
     writer: &mut W,
     answer: &Reply<A>,
 ) -> Result<(), LineFault>
-    ensures ok { OnOk result ((r : ReplyValues) × IsReported (reply_values answer.now) r × Appends (W.contents writer.old) (W.contents writer.new) (text r ++ 10 ∷ [])) }
-    ensures err { OnErr result ((r : ReplyValues) × IsReported (reply_values answer.now) r × WritesPrefix (W.contents writer.old) (W.contents writer.new) (text r ++ 10 ∷ [])) }
+    ensures ok { OnOk result ((r : ReplyValues) × IsReported (reply_values answer.now) r
+        × Appends (W.contents writer.old) (W.contents writer.new) (text r ++ 10 ∷ [])) }
+    ensures err { OnErr result ((r : ReplyValues) × IsReported (reply_values answer.now) r
+        × WritesPrefix (W.contents writer.old) (W.contents writer.new) (text r ++ 10 ∷ [])) }
     ensures fault { IfErr result (λ fault. fault ≡ LineFault.Write) }
 {
     if let Some(mut line) = short(answer) {
@@ -96,8 +98,12 @@ fn take_line<W: Write, F: Files, A: Allocator + Copy>(
     files: &mut F,
     line: &[u8],
 ) -> Result<(), LineFault>
-    ensures ok { OnOk result (Turn (desk world.old (F.shelf files.old)) (desk world.new (F.shelf files.new)) (W.contents writer.old) (W.contents writer.new) (line_of line.now ∷ [])) }
-    ensures err { OnErr result ((more : List Line) → StopsWithin (desk world.old (F.shelf files.old)) (F.shelf files.new) (W.contents writer.old) (W.contents writer.new) (line_of line.now ∷ more)) }
+    ensures ok { OnOk result
+        (Turn (desk world.old (F.shelf files.old)) (desk world.new (F.shelf files.new)) (W.contents writer.old)
+        (W.contents writer.new) (line_of line.now ∷ [])) }
+    ensures err { OnErr result ((more : List Line)
+        → StopsWithin (desk world.old (F.shelf files.old)) (F.shelf files.new) (W.contents writer.old)
+        (W.contents writer.new) (line_of line.now ∷ more)) }
     ensures fault { IfErr result (λ fault. fault ≡ LineFault.Write) }
     ensures sites { OnOk result (KeepsSites world.old world.new) }
     ensures stays { Stays (F.shelf files.old) (F.shelf files.new) }
@@ -123,7 +129,8 @@ fn keep<A: Allocator + Copy>(line: &mut Vec<u8, A>, byte: u8) -> Result<(), Line
     requires within { length line.old.items ≤ PENDING_LIMIT }
     requires inside { byte ≢ 10 }
     ensures kept { length line.new.items ≤ PENDING_LIMIT }
-    ensures ok { OnOk result ((more : List ℕ) → lines_from line.old.items (byte ∷ more) ≡ lines_from line.new.items more) }
+    ensures ok { OnOk result ((more : List ℕ)
+        → lines_from line.old.items (byte ∷ more) ≡ lines_from line.new.items more) }
 {
     if line.len() == PENDING_LIMIT {
         return Ok(());
@@ -142,9 +149,15 @@ fn take_byte<W: Write, F: Files, A: Allocator + Copy>(
 ) -> Result<(), LineFault>
     requires { length line.old.items ≤ PENDING_LIMIT }
     ensures kept { length line.new.items ≤ PENDING_LIMIT }
-    ensures ok { OnOk result (Moves (progress world.old (F.shelf files.old) (W.contents writer.old) line.old.items) (progress world.new (F.shelf files.new) (W.contents writer.new) line.new.items) (byte ∷ [])) }
-    ensures err { OnErr result (Breaks (progress world.old (F.shelf files.old) (W.contents writer.old) line.old.items) (progress world.new (F.shelf files.new) (W.contents writer.new) line.new.items) (byte ∷ [])) }
-    ensures memory { IsErrOf result LineFault.NoMemory → BreaksBefore (progress world.old (F.shelf files.old) (W.contents writer.old) line.old.items) (progress world.new (F.shelf files.new) (W.contents writer.new) line.new.items) (byte ∷ []) }
+    ensures ok { OnOk result
+        (Moves (progress world.old (F.shelf files.old) (W.contents writer.old) line.old.items)
+        (progress world.new (F.shelf files.new) (W.contents writer.new) line.new.items) (byte ∷ [])) }
+    ensures err { OnErr result
+        (Breaks (progress world.old (F.shelf files.old) (W.contents writer.old) line.old.items)
+        (progress world.new (F.shelf files.new) (W.contents writer.new) line.new.items) (byte ∷ [])) }
+    ensures memory { IsErrOf result LineFault.NoMemory
+        → BreaksBefore (progress world.old (F.shelf files.old) (W.contents writer.old) line.old.items)
+        (progress world.new (F.shelf files.new) (W.contents writer.new) line.new.items) (byte ∷ []) }
     ensures sites { OnOk result (KeepsSites world.old world.new) }
     ensures stays { Stays (F.shelf files.old) (F.shelf files.new) }
 {
@@ -167,9 +180,15 @@ fn take_each<W: Write, F: Files, A: Allocator + Copy>(
 ) -> Result<(), LineFault>
     requires { length line.old.items ≤ PENDING_LIMIT }
     ensures kept { length line.new.items ≤ PENDING_LIMIT }
-    ensures ok { OnOk result (Moves (progress world.old (F.shelf files.old) (W.contents writer.old) line.old.items) (progress world.new (F.shelf files.new) (W.contents writer.new) line.new.items) bytes.now) }
-    ensures err { OnErr result (Breaks (progress world.old (F.shelf files.old) (W.contents writer.old) line.old.items) (progress world.new (F.shelf files.new) (W.contents writer.new) line.new.items) bytes.now) }
-    ensures memory { IsErrOf result LineFault.NoMemory → BreaksBefore (progress world.old (F.shelf files.old) (W.contents writer.old) line.old.items) (progress world.new (F.shelf files.new) (W.contents writer.new) line.new.items) bytes.now }
+    ensures ok { OnOk result
+        (Moves (progress world.old (F.shelf files.old) (W.contents writer.old) line.old.items)
+        (progress world.new (F.shelf files.new) (W.contents writer.new) line.new.items) bytes.now) }
+    ensures err { OnErr result
+        (Breaks (progress world.old (F.shelf files.old) (W.contents writer.old) line.old.items)
+        (progress world.new (F.shelf files.new) (W.contents writer.new) line.new.items) bytes.now) }
+    ensures memory { IsErrOf result LineFault.NoMemory
+        → BreaksBefore (progress world.old (F.shelf files.old) (W.contents writer.old) line.old.items)
+        (progress world.new (F.shelf files.new) (W.contents writer.new) line.new.items) bytes.now }
     ensures sites { OnOk result (KeepsSites world.old world.new) }
     ensures stays { Stays (F.shelf files.old) (F.shelf files.new) }
 {
@@ -190,9 +209,15 @@ fn take_bytes<W: Write, F: Files, A: Allocator + Copy>(
 ) -> Result<(), LineFault>
     requires { length line.old.items ≤ PENDING_LIMIT }
     ensures kept { length line.new.items ≤ PENDING_LIMIT }
-    ensures ok { OnOk result (Moves (progress world.old (F.shelf files.old) (W.contents writer.old) line.old.items) (progress world.new (F.shelf files.new) (W.contents writer.new) line.new.items) bytes.now) }
-    ensures err { OnErr result (Breaks (progress world.old (F.shelf files.old) (W.contents writer.old) line.old.items) (progress world.new (F.shelf files.new) (W.contents writer.new) line.new.items) bytes.now) }
-    ensures memory { IsErrOf result LineFault.NoMemory → BreaksBefore (progress world.old (F.shelf files.old) (W.contents writer.old) line.old.items) (progress world.new (F.shelf files.new) (W.contents writer.new) line.new.items) bytes.now }
+    ensures ok { OnOk result
+        (Moves (progress world.old (F.shelf files.old) (W.contents writer.old) line.old.items)
+        (progress world.new (F.shelf files.new) (W.contents writer.new) line.new.items) bytes.now) }
+    ensures err { OnErr result
+        (Breaks (progress world.old (F.shelf files.old) (W.contents writer.old) line.old.items)
+        (progress world.new (F.shelf files.new) (W.contents writer.new) line.new.items) bytes.now) }
+    ensures memory { IsErrOf result LineFault.NoMemory
+        → BreaksBefore (progress world.old (F.shelf files.old) (W.contents writer.old) line.old.items)
+        (progress world.new (F.shelf files.new) (W.contents writer.new) line.new.items) bytes.now }
     ensures sites { OnOk result (KeepsSites world.old world.new) }
     ensures stays { Stays (F.shelf files.old) (F.shelf files.new) }
 {
@@ -208,8 +233,12 @@ fn take_last<W: Write, F: Files, A: Allocator + Copy>(
     files: &mut F,
     line: &[u8],
 ) -> Result<(), LineFault>
-    ensures ok { OnOk result (Turn (desk world.old (F.shelf files.old)) (desk world.new (F.shelf files.new)) (W.contents writer.old) (W.contents writer.new) (line_of line.now ∷ [])) }
-    ensures err { OnErr result ((more : List Line) → StopsWithin (desk world.old (F.shelf files.old)) (F.shelf files.new) (W.contents writer.old) (W.contents writer.new) (line_of line.now ∷ more)) }
+    ensures ok { OnOk result
+        (Turn (desk world.old (F.shelf files.old)) (desk world.new (F.shelf files.new)) (W.contents writer.old)
+        (W.contents writer.new) (line_of line.now ∷ [])) }
+    ensures err { OnErr result ((more : List Line)
+        → StopsWithin (desk world.old (F.shelf files.old)) (F.shelf files.new) (W.contents writer.old)
+        (W.contents writer.new) (line_of line.now ∷ more)) }
     ensures fault { IfErr result (λ fault. fault ≡ LineFault.Write) }
     ensures sites { OnOk result (KeepsSites world.old world.new) }
     ensures stays { Stays (F.shelf files.old) (F.shelf files.new) }
@@ -226,8 +255,12 @@ fn finish<W: Write, F: Files, A: Allocator + Copy>(
     files: &mut F,
     line: &[u8],
 ) -> Result<(), LineFault>
-    ensures ok { OnOk result (Turn (desk world.old (F.shelf files.old)) (desk world.new (F.shelf files.new)) (W.contents writer.old) (W.contents writer.new) (last_line line.now)) }
-    ensures err { OnErr result (StopsWithin (desk world.old (F.shelf files.old)) (F.shelf files.new) (W.contents writer.old) (W.contents writer.new) (last_line line.now)) }
+    ensures ok { OnOk result
+        (Turn (desk world.old (F.shelf files.old)) (desk world.new (F.shelf files.new)) (W.contents writer.old)
+        (W.contents writer.new) (last_line line.now)) }
+    ensures err { OnErr result
+        (StopsWithin (desk world.old (F.shelf files.old)) (F.shelf files.new) (W.contents writer.old)
+        (W.contents writer.new) (last_line line.now)) }
     ensures fault { IfErr result (λ fault. fault ≡ LineFault.Write) }
     ensures sites { OnOk result (KeepsSites world.old world.new) }
     ensures stays { Stays (F.shelf files.old) (F.shelf files.new) }
@@ -249,9 +282,18 @@ pub fn answer_all<R: Read, W: Write, F: Files, A: Allocator + Copy>(
     writer: &mut W,
     files: &mut F,
 ) -> Result<(), LineFault>
-    ensures ok { OnOk result (IfSome (R.remaining reader.old) (λ input. Answers (desk world.old (F.shelf files.old)) (desk world.new (F.shelf files.new)) input (W.contents writer.old) (W.contents writer.new))) }
-    ensures err { OnErr result (IfSome (R.remaining reader.old) (λ input. AnswersPrefix (desk world.old (F.shelf files.old)) (F.shelf files.new) input (W.contents writer.old) (W.contents writer.new))) }
-    ensures memory { IsErrOf result LineFault.NoMemory → IfSome (R.remaining reader.old) (λ input. AnswersBefore (desk world.old (F.shelf files.old)) (F.shelf files.new) input (W.contents writer.old) (W.contents writer.new)) }
+    ensures ok { OnOk result
+        (IfSome (R.remaining reader.old)
+        (λ input. Answers (desk world.old (F.shelf files.old)) (desk world.new (F.shelf files.new)) input
+        (W.contents writer.old) (W.contents writer.new))) }
+    ensures err { OnErr result
+        (IfSome (R.remaining reader.old)
+        (λ input. AnswersPrefix (desk world.old (F.shelf files.old)) (F.shelf files.new) input
+        (W.contents writer.old) (W.contents writer.new))) }
+    ensures memory { IsErrOf result LineFault.NoMemory
+        → IfSome (R.remaining reader.old)
+        (λ input. AnswersBefore (desk world.old (F.shelf files.old)) (F.shelf files.new) input (W.contents writer.old)
+        (W.contents writer.new)) }
     ensures sites { OnOk result (KeepsSites world.old world.new) }
     ensures stays { Stays (F.shelf files.old) (F.shelf files.new) }
     ensures end { OnOk result (IsAtEnd (R.remaining reader.new)) }
@@ -268,9 +310,11 @@ pub fn answer_all<R: Read, W: Write, F: Files, A: Allocator + Copy>(
     Err(LineFault::TooLong)
 }
 
-/// Reads commands to their end, on a world that has no site yet, and writes the line of each one's answer. Memory that is
+/// Reads commands to their end, on a world that has no site yet, and writes the line of each one's answer. Memory that
+/// is
 /// refused to a command is an answer: `NoMemory` comes only where a line cannot be kept, and then every answer before it
-/// was written. After any other `Err` what was written is a prefix of such lines. The reading of a case or a wedge takes the global allocator alone.
+/// was written. After any other `Err` what was written is a prefix of such lines. The reading of a case or a wedge
+/// takes the global allocator alone.
 pub fn run<R: Read, W: Write, F: Files, A: Allocator + Copy>(
     alloc: A,
     global: Global,
@@ -278,9 +322,18 @@ pub fn run<R: Read, W: Write, F: Files, A: Allocator + Copy>(
     writer: &mut W,
     files: &mut F,
 ) -> Result<(), RunFault>
-    ensures ok { OnOk result (IfSome (R.remaining reader.old) (λ input. (new : Sites) × Answers (desk no_sites (F.shelf files.old)) (desk new (F.shelf files.new)) input (W.contents writer.old) (W.contents writer.new))) }
-    ensures err { OnErr result (IfSome (R.remaining reader.old) (λ input. AnswersPrefix (desk no_sites (F.shelf files.old)) (F.shelf files.new) input (W.contents writer.old) (W.contents writer.new))) }
-    ensures memory { IsErrOf result RunFault.NoMemory → IfSome (R.remaining reader.old) (λ input. AnswersBefore (desk no_sites (F.shelf files.old)) (F.shelf files.new) input (W.contents writer.old) (W.contents writer.new)) }
+    ensures ok { OnOk result
+        (IfSome (R.remaining reader.old) (λ input. (new : Sites)
+        × Answers (desk no_sites (F.shelf files.old)) (desk new (F.shelf files.new)) input
+        (W.contents writer.old) (W.contents writer.new))) }
+    ensures err { OnErr result
+        (IfSome (R.remaining reader.old)
+        (λ input. AnswersPrefix (desk no_sites (F.shelf files.old)) (F.shelf files.new) input
+        (W.contents writer.old) (W.contents writer.new))) }
+    ensures memory { IsErrOf result RunFault.NoMemory
+        → IfSome (R.remaining reader.old)
+        (λ input. AnswersBefore (desk no_sites (F.shelf files.old)) (F.shelf files.new) input (W.contents writer.old)
+        (W.contents writer.new)) }
     ensures stays { Stays (F.shelf files.old) (F.shelf files.new) }
     ensures own { IfErr result IsOfLines }
     ensures end { OnOk result (IsAtEnd (R.remaining reader.new)) }

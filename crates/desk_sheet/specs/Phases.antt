@@ -8,6 +8,8 @@ use Rattle.desk_sheet.specs.declared.fault.SheetFault.{SheetFault}
 use Rattle.desk_sheet.specs.declared.fault.SheetFault.TheVariants as faults
 use Rattle.desk_sheet.specs.declared.fault.TakeFault.{TakeFault}
 use Rattle.desk_sheet.specs.declared.fault.TakeFault.TheVariants as takes
+use Rattle.feed_last.specs.declared.fault.LastFault.{LastFault}
+use Rattle.feed_last.specs.declared.fault.LastFault.TheVariants as lasts
 
 -- the fault of a run, by that of the phase
 
@@ -23,3 +25,7 @@ abbrev pub of_taking : TakeFault → SheetFault
 of_taking (takes.Untaken why) = faults.Run (of_file why)
 of_taking (takes.Unread why) = faults.Run (of_file why)
 of_taking (takes.Unopened why) = faults.Run (of_opening why)
+
+abbrev pub of_letting : LastFault → SheetFault
+of_letting (lasts.Older made held) = faults.Older made held
+of_letting lasts.NoMemory = faults.Run runs.NoMemory

@@ -50,16 +50,19 @@ answer_line mode n reply = head mode n ++ text reply ++ 10 ∷ []
 -- line n is answered by a reply that does or does not stop the run, and its answer stands after those before
 abbrev pub IsAnswered : Mode → Bool → ℕ → Desk → List ℕ → Line → Desk → List ℕ → Type 0
 IsAnswered mode stops n old before line new after =
-    (reply : ReplyValues) × Allows old line reply new × ((mode.strict && is_refusal reply) ≡ stops) × (after ≡ before ++ answer_line mode n reply)
+    (reply : ReplyValues) × Allows old line reply new × ((mode.strict && is_refusal reply) ≡ stops)
+    × (after ≡ before ++ answer_line mode n reply)
 
 -- line n is passed over, or answered and the run goes on
 abbrev pub Reports : Mode → ℕ → Desk → List ℕ → Line → Desk → List ℕ → Type 0
 Reports mode n old before line new after =
-    MatchBool (mode.strict && is_passed_over line) ((new ≡ old) × (after ≡ before)) (IsAnswered mode false n old before line new after)
+    MatchBool (mode.strict && is_passed_over line) ((new ≡ old)
+    × (after ≡ before)) (IsAnswered mode false n old before line new after)
 
 -- line n is answered, and stops the run
 abbrev pub Stops : Mode → ℕ → Desk → List ℕ → Line → Desk → List ℕ → Type 0
-Stops mode n old before line new after = ((mode.strict && is_passed_over line) ≡ false) × IsAnswered mode true n old before line new after
+Stops mode n old before line new after = ((mode.strict && is_passed_over line) ≡ false)
+    × IsAnswered mode true n old before line new after
 
 -- ---- all lines
 
@@ -67,13 +70,15 @@ Stops mode n old before line new after = ((mode.strict && is_passed_over line) �
 abbrev pub AreReported : Mode → ℕ → Desk → List ℕ → List Line → Desk → List ℕ → Type 0
 AreReported mode n old before [] new after = (new ≡ old) × (after ≡ before)
 AreReported mode n old before (line ∷ lines) new after =
-    (mid : Desk) × (reported : List ℕ) × Reports mode n old before line mid reported × AreReported mode (n + 1) mid reported lines new after
+    (mid : Desk) × (reported : List ℕ) × Reports mode n old before line mid reported
+    × AreReported mode (n + 1) mid reported lines new after
 
 -- the lines before line k are answered or passed over, and that stops the run
 abbrev pub StopsAt : Mode → Desk → List ℕ → List Line → ℕ → Desk → List ℕ → Type 0
 StopsAt mode old before lines k new after =
     (prefix tail : List Line) × (line : Line) × (lines ≡ prefix ++ line ∷ tail) × (k ≡ length prefix + 1)
-    × (mid : Desk) × (reported : List ℕ) × AreReported mode 1 old before prefix mid reported × Stops mode k mid reported line new after
+    × (mid : Desk) × (reported : List ℕ) × AreReported mode 1 old before prefix mid reported
+    × Stops mode k mid reported line new after
 
 -- all lines are answered or passed over, or the line of this number stops the run
 abbrev pub Ends : Mode → Desk → List ℕ → List Line → Option ℕ → Desk → List ℕ → Type 0
@@ -95,26 +100,34 @@ IsLeft before after (answers.Line k) = IsAtEnd after
 
 -- the answers to all that a reader has left, to the end or to the line of this number
 abbrev pub IsReported : Mode → Desk → Desk → Option (List ℕ) → Option ℕ → List ℕ → Type 0
-IsReported mode old new input end reported = (bytes : List ℕ) × IsInput input bytes × Ends mode old [] (lines bytes) end new reported
+IsReported mode old new input end reported = (bytes : List ℕ) × IsInput input bytes
+    × Ends mode old [] (lines bytes) end new reported
 
 -- no line stopped the run, and the answers were written
 abbrev pub IsDone : Mode → Desk → Desk → Option (List ℕ) → Option (List ℕ) → Option (List ℕ) → Type 0
-IsDone mode old new input before after = (reported : List ℕ) × IsReported mode old new input None reported × Appends before after reported
+IsDone mode old new input before after = (reported : List ℕ) × IsReported mode old new input None reported
+    × Appends before after reported
 
--- Why a sheet was not answered to its end, and what was written: nothing; a prefix of the answers; or all of them up to that of the line that stopped the run.
+-- Why a sheet was not answered to its end, and what was written: nothing; a prefix of the answers; or all of them up
+-- to that of the line that stopped the run.
 -- Where the sheet could not be read, no line was carried out.
-abbrev pub IsUnanswered : Mode → Desk → Desk → Option (List ℕ) → Option (List ℕ) → Option (List ℕ) → AnswerFault → Type 0
-IsUnanswered mode old new input before after (answers.Input why) = (new ≡ old) × (after ≡ before) × IsNotWhole max_sheet input why
+abbrev pub IsUnanswered : Mode → Desk → Desk → Option (List ℕ) → Option (List ℕ) → Option (List ℕ) → AnswerFault
+    → Type 0
+IsUnanswered mode old new input before after (answers.Input why) = (new ≡ old) × (after ≡ before)
+    × IsNotWhole max_sheet input why
 IsUnanswered mode old new input before after answers.NoMemory = after ≡ before
 IsUnanswered mode old new input before after answers.Write =
-    (end : Option ℕ) × (reported : List ℕ) × IsReported mode old new input end reported × WritesPrefix before after reported
-IsUnanswered mode old new input before after (answers.Line k) = (reported : List ℕ) × IsReported mode old new input (Some k) reported × Appends before after reported
+    (end : Option ℕ) × (reported : List ℕ) × IsReported mode old new input end reported
+    × WritesPrefix before after reported
+IsUnanswered mode old new input before after (answers.Line k) = (reported : List ℕ)
+    × IsReported mode old new input (Some k) reported × Appends before after reported
 
 -- ---- by the fault of the run
 
 -- why a run stopped, and what was written
 abbrev pub IsStopped : Mode → Desk → Desk → Option (List ℕ) → Option (List ℕ) → Option (List ℕ) → SheetFault → Type 0
-IsStopped mode old new input before after fault = (why : AnswerFault) × (fault ≡ of_answers why) × IsUnanswered mode old new input before after why
+IsStopped mode old new input before after fault = (why : AnswerFault) × (fault ≡ of_answers why)
+    × IsUnanswered mode old new input before after why
 
 -- how far the reader of a run that stopped was read
 abbrev pub LeavesOff : Option (List ℕ) → Option (List ℕ) → SheetFault → Type 0

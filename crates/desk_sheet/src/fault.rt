@@ -3,7 +3,7 @@
 ghost use Rattle.std.specs.Prelude.{◌≡◌};
 ghost use Rattle.desk_script.specs.Fault.{of_file};
 ghost use Rattle.desk_stored.specs.declared.fault.OpenFault.TheVariants as openings;
-ghost use Rattle.desk_sheet.specs.Phases.{of_answers, of_taking};
+ghost use Rattle.desk_sheet.specs.Phases.{of_answers, of_letting, of_taking};
 ghost use Rattle.desk_sheet.specs.declared.fault.AnswerFault.TheVariants as answers;
 ghost use Rattle.desk_sheet.specs.declared.fault.SheetFault.TheVariants as faults;
 ghost use Rattle.desk_sheet.specs.declared.fault.TakeFault.TheVariants as takes;
@@ -12,6 +12,7 @@ use desk_files::{FileRefusal, ReaderFault};
 use desk_memory::NoMemory;
 use desk_script::RunFault;
 use desk_stored::{OpenFault, Unsent};
+use feed_last::LastFault;
 use thiserror::Error;
 
 // ---- the phases
@@ -48,7 +49,16 @@ pub enum SheetFault {
     /// The line of this number, counted from 1, was answered by a refusal or by `stopped`, and the run was strict.
     #[error("line {0} refused")]
     Line(u64),
-    /// The reader, the writer, a file or memory failed, or what was stored was not opened as a feed. `TooLong` says that the
+    /// The stored feed holds less of the site than it has made in this room.
+    #[error("older feed")]
+    Older {
+        /// The greatest counter that was stored here.
+        made: u64,
+        /// The greatest counter that the feed holds.
+        held: u64,
+    },
+    /// The reader, the writer, a file or memory failed, or what was stored was not opened as a feed. `TooLong` says
+    /// that the
     /// sheet has more than `MAX_SHEET` bytes.
     #[error("{0}")]
     Run(RunFault),
@@ -106,6 +116,17 @@ impl From<TakeFault> for SheetFault {
             TakeFault::Untaken(refusal) => SheetFault::from(refusal),
             TakeFault::Unread(refusal) => SheetFault::from(refusal),
             TakeFault::Unopened(fault) => SheetFault::Run(RunFault::from(fault)),
+        }
+    }
+}
+
+impl From<LastFault> for SheetFault {
+    ghost from_gives = { λ why fault. fault ≡ of_letting why };
+
+    fn from(why: LastFault) -> SheetFault {
+        match why {
+            LastFault::Older { made, held } => SheetFault::Older { made, held },
+            LastFault::NoMemory => SheetFault::Run(RunFault::NoMemory),
         }
     }
 }

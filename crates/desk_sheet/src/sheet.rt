@@ -28,7 +28,8 @@ pub const MAX_SHEET: usize = 67_108_864;
 /// How a sheet is carried out and answered.
 #[derive(Clone, Copy, Debug, PartialEq, Eq)]
 pub struct Mode {
-    /// The run ends at the first line that is answered by a refusal or by `stopped`; empty lines, and those that begin with `#`
+    /// The run ends at the first line that is answered by a refusal or by `stopped`; empty lines, and those that begin
+    /// with `#`
     /// and are not too long, are passed over. Without it each line is answered, and the run goes on.
     pub strict: bool,
     /// The number of its line and a space stand before each answer. Lines are counted from 1, passed ones too.
@@ -73,7 +74,8 @@ fn put_answer<A: Allocator + Copy>(
     number: u64,
     reply: &Reply<A>,
 ) -> Result<(), AllocError>
-    ensures { OnOk result (string_bytes reported.new ≡ string_bytes reported.old ++ answer_line mode number (reply_values reply.now)) }
+    ensures { OnOk result
+        (string_bytes reported.new ≡ string_bytes reported.old ++ answer_line mode number (reply_values reply.now)) }
 {
     put_head(reported, mode, number)?;
     put(reported, reply)?;
@@ -91,8 +93,10 @@ fn report_line<F: Files, A: Allocator + Copy>(
     line: &[u8],
 ) -> Result<bool, NoMemory>
     ensures ok { IfOk result (λ (goes_on : Bool). MatchBool goes_on
-        (Reports mode number (desk world.old (F.shelf files.old)) (string_bytes reported.old) (line_of line.now) (desk world.new (F.shelf files.new)) (string_bytes reported.new))
-        (Stops mode number (desk world.old (F.shelf files.old)) (string_bytes reported.old) (line_of line.now) (desk world.new (F.shelf files.new)) (string_bytes reported.new))) }
+        (Reports mode number (desk world.old (F.shelf files.old)) (string_bytes reported.old) (line_of line.now)
+        (desk world.new (F.shelf files.new)) (string_bytes reported.new))
+        (Stops mode number (desk world.old (F.shelf files.old)) (string_bytes reported.old) (line_of line.now)
+        (desk world.new (F.shelf files.new)) (string_bytes reported.new))) }
     ensures sites { KeepsSites world.old world.new }
     ensures stays { Stays (F.shelf files.old) (F.shelf files.new) }
 {
@@ -113,7 +117,9 @@ fn report_lines<F: Files, A: Allocator + Copy>(
     reported: &mut String<A>,
     input: &[u8],
 ) -> Result<Option<u64>, NoMemory>
-    ensures ok { IfOk result (λ end. Ends mode (desk world.old (F.shelf files.old)) (string_bytes reported.old) (lines input.now) end (desk world.new (F.shelf files.new)) (string_bytes reported.new)) }
+    ensures ok { IfOk result
+        (λ end. Ends mode (desk world.old (F.shelf files.old)) (string_bytes reported.old) (lines input.now) end
+        (desk world.new (F.shelf files.new)) (string_bytes reported.new)) }
     ensures some { OnErr result (0 < length input.now) }
     ensures sites { KeepsSites world.old world.new }
     ensures stays { Stays (F.shelf files.old) (F.shelf files.new) }
@@ -139,8 +145,12 @@ pub fn answer_sheet<R: Read, W: Write, F: Files, A: Allocator + Copy>(
     writer: &mut W,
     files: &mut F,
 ) -> Result<(), AnswerFault>
-    ensures ok { OnOk result (IsDone mode (desk world.old (F.shelf files.old)) (desk world.new (F.shelf files.new)) (R.remaining reader.old) (W.contents writer.old) (W.contents writer.new)) }
-    ensures err { IfErr result (IsUnanswered mode (desk world.old (F.shelf files.old)) (desk world.new (F.shelf files.new)) (R.remaining reader.old) (W.contents writer.old) (W.contents writer.new)) }
+    ensures ok { OnOk result
+        (IsDone mode (desk world.old (F.shelf files.old)) (desk world.new (F.shelf files.new)) (R.remaining reader.old)
+        (W.contents writer.old) (W.contents writer.new)) }
+    ensures err { IfErr result
+        (IsUnanswered mode (desk world.old (F.shelf files.old)) (desk world.new (F.shelf files.new))
+        (R.remaining reader.old) (W.contents writer.old) (W.contents writer.new)) }
     ensures sites { KeepsSites world.old world.new }
     ensures stays { Stays (F.shelf files.old) (F.shelf files.new) }
     ensures end { OnOk result (IsAtEnd (R.remaining reader.new)) }
@@ -156,11 +166,15 @@ pub fn answer_sheet<R: Read, W: Write, F: Files, A: Allocator + Copy>(
     }
 }
 
-/// Carries out a sheet on a world that has no site yet. All that the reader has left is read first, `MAX_SHEET` bytes at
+/// Carries out a sheet on a world that has no site yet. All that the reader has left is read first, `MAX_SHEET` bytes
+/// at
 /// most; its lines are those of a script. Each is answered as in a script, or, where the run is strict, passed over. The
-/// answers are written once all are there: up to the end, or to the line that stops the run, whose number `Line` then has. No
-/// file changes, and nothing is written under `Read`, `TooLong` and `NoMemory`. Memory that is refused to a command is an
-/// answer; `NoMemory` says that the sheet or its answers were not kept, and of an empty sheet it never comes. The reading of
+/// answers are written once all are there: up to the end, or to the line that stops the run, whose number `Line` then
+/// has. No
+/// file changes, and nothing is written under `Read`, `TooLong` and `NoMemory`. Memory that is refused to a command is
+/// an
+/// answer; `NoMemory` says that the sheet or its answers were not kept, and of an empty sheet it never comes. The
+/// reading of
 /// a case or a wedge takes the global allocator alone.
 pub fn run_sheet<R: Read, W: Write, F: Files, A: Allocator + Copy>(
     alloc: A,
@@ -170,8 +184,12 @@ pub fn run_sheet<R: Read, W: Write, F: Files, A: Allocator + Copy>(
     writer: &mut W,
     files: &mut F,
 ) -> Result<(), SheetFault>
-    ensures ok { OnOk result ((new : Sites) × IsDone mode (desk no_sites (F.shelf files.old)) (desk new (F.shelf files.new)) (R.remaining reader.old) (W.contents writer.old) (W.contents writer.new)) }
-    ensures err { IfErr result (λ fault. (new : Sites) × IsStopped mode (desk no_sites (F.shelf files.old)) (desk new (F.shelf files.new)) (R.remaining reader.old) (W.contents writer.old) (W.contents writer.new) fault) }
+    ensures ok { OnOk result ((new : Sites)
+        × IsDone mode (desk no_sites (F.shelf files.old)) (desk new (F.shelf files.new)) (R.remaining reader.old)
+        (W.contents writer.old) (W.contents writer.new)) }
+    ensures err { IfErr result (λ fault. (new : Sites)
+        × IsStopped mode (desk no_sites (F.shelf files.old)) (desk new (F.shelf files.new)) (R.remaining reader.old)
+        (W.contents writer.old) (W.contents writer.new) fault) }
     ensures stays { Stays (F.shelf files.old) (F.shelf files.new) }
     ensures end { OnOk result (IsAtEnd (R.remaining reader.new)) }
     ensures left { IfErr result (LeavesOff (R.remaining reader.old) (R.remaining reader.new)) }
