@@ -25,7 +25,8 @@ abbrev pub IsRefused : GalleyRefusal → Result (List RibbonRow) (List JobFault)
 IsRefused (refusal.Fault fault) made = made ≡ Err (fault ∷ [])
 IsRefused refusal.NoMemory made = Unit {0}
 
--- why nothing is set by what the settings give, a case and a wedge, if so: a key has no value, or what these have against one
+-- why nothing is set by what the settings give, a case and a wedge, if so: a key has no value, or what these have
+-- against one
 -- another
 abbrev pub no_terms : CaseValues → WedgeValues → Result Values Key → List JobFault
 no_terms case wedge (Err key) = MissingSetting key ∷ []

@@ -8,7 +8,8 @@ use Rattle.desk_job.specs.declared.JobFault.{JobFault}
 use Rattle.desk_galley.specs.declared.line.Next.{Next}
 
 -- a line: its number, its words by their places, whether it is to be filled, whether a space is added, its spaces, its
--- width at neutral, the rest of the measure, how often each fill is used, the number that drives its spaces, its fault if
+-- width at neutral, the rest of the measure, how often each fill is used, the number that drives its spaces, its fault
+-- if
 -- there is one, and the word after it
 pub record LineValues : Type 0 where
   pub number : ℕ
@@ -23,7 +24,8 @@ pub record LineValues : Type 0 where
   pub faults : List JobFault
   pub next : Option Next
 
--- the wedge, the values of the settings, what the lines are set by, the places of symbols that the case lacks, and the lines
+-- the wedge, the values of the settings, what the lines are set by, the places of symbols that the case lacks, and the
+-- lines
 pub record GalleyValues : Type 0 where
   pub wedge : WedgeValues
   pub values : Values

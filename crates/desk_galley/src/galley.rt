@@ -56,10 +56,18 @@ impl<'a, A: Allocator> Model for Galley<'a, A> {
 
     ghost Value = { GalleyValues };
 
-    ghost view = { λ g. record { wedge = g.wedge.now; values = g.values; terms = g.terms; lacking = g.lacking.items; lines = g.lines.items } };
+    ghost view = { λ g. record {
+      wedge = g.wedge.now;
+      values = g.values;
+      terms = g.terms;
+      lacking = g.lacking.items;
+      lines =
+          g.lines.items;
+    } };
 }
 
-/// Why there is no galley: a setting has no value, what settings, case and wedge have against one another, or out of memory.
+/// Why there is no galley: a setting has no value, what settings, case and wedge have against one another, or out of
+/// memory.
 #[derive(Clone, Copy, PartialEq, Eq, Debug, Error)]
 pub enum GalleyRefusal {
     #[error("{0}")]
@@ -144,7 +152,8 @@ fn add_groups<A: Allocator + Copy>(
     requires widths { widths.now ≡ job.widths terms.now (words_at copy.now words.now) }
     requires within { AreWidths widths.now }
     requires ranges { All (IsRange (length words.now)) groups.now }
-    ensures ok { OnOk result (lines.new.items ≡ with_lines terms.now copy.now lines.old.items (placed_at words.now groups.now)) }
+    ensures ok { OnOk result
+        (lines.new.items ≡ with_lines terms.now copy.now lines.old.items (placed_at words.now groups.now)) }
     // No groups take no memory.
     ensures memory { IfErr result (λ _. 1 ≤ length groups.now) }
 {
@@ -168,7 +177,8 @@ fn add_paragraph<A: Allocator + Copy>(
     requires copy { length copy.now ≤ most_symbols }
     requires number { length words.now ≤ most_words }
     requires words { All (IsWord copy.now) words.now }
-    ensures ok { OnOk result (lines.new.items ≡ with_lines terms.now copy.now lines.old.items (placed_in terms.now copy.now words.now)) }
+    ensures ok { OnOk result
+        (lines.new.items ≡ with_lines terms.now copy.now lines.old.items (placed_in terms.now copy.now words.now)) }
     // No words take no memory.
     ensures memory { IfErr result (λ _. 1 ≤ length words.now) }
 {
@@ -187,7 +197,8 @@ fn add_paragraphs<A: Allocator + Copy>(
 ) -> Result<(), NoMemory>
     requires copy { length copy.now ≤ most_symbols }
     requires words { All (AreWordsOf copy.now) found.now }
-    ensures ok { OnOk result (lines.new.items ≡ with_lines terms.now copy.now lines.old.items (all_placed terms.now copy.now found.now)) }
+    ensures ok { OnOk result
+        (lines.new.items ≡ with_lines terms.now copy.now lines.old.items (all_placed terms.now copy.now found.now)) }
     // Paragraphs without a word take no memory.
     ensures memory { IfErr result (λ _. 1 ≤ length (joined found.now)) }
 {
@@ -214,7 +225,8 @@ fn all_lines<A: Allocator + Copy>(
     Ok(lines)
 }
 
-/// The galley of a copy of at most 1,048,576 symbols: each line of the job as it is set, or as it fails, and the place of
+/// The galley of a copy of at most 1,048,576 symbols: each line of the job as it is set, or as it fails, and the place
+/// of
 /// each symbol that the case lacks. There is none where a setting has no value, or settings, case and wedge do not go
 /// together, and for no other cause; out of memory comes only where they go together, and of a copy that is not empty.
 pub fn make_galley<'a, A: Allocator + Copy>(
@@ -228,10 +240,13 @@ pub fn make_galley<'a, A: Allocator + Copy>(
     requires settings { AreValues settings.now }
     ensures ok { IfOk result (IsGalley copy.now (by_key settings.now) case.now wedge.now) }
     // The job has the faults of the galley, and where these are none the rows of its lines.
-    ensures job { IfOk result (λ g. job.job copy.now (by_key settings.now) case.now wedge.now ≡ job.rows_or (rows_of_galley g copy.now) (galley_faults g)) }
+    ensures job { IfOk result
+        (λ g. job.job copy.now (by_key settings.now) case.now wedge.now
+        ≡ job.rows_or (rows_of_galley g copy.now) (galley_faults g)) }
     ensures stands { IfOk result (λ g. All (Stands copy.now case.now) g.lines) }
     ensures err { IfErr result (λ why. IsRefused why (job.job copy.now (by_key settings.now) case.now wedge.now)) }
-    ensures terms { IfErr result (λ why. IsOfTerms why (no_terms case.now wedge.now (job.values_of (by_key settings.now)))) }
+    ensures terms { IfErr result
+        (λ why. IsOfTerms why (no_terms case.now wedge.now (job.values_of (by_key settings.now)))) }
     // No symbols take no memory.
     ensures memory { IsErrOf result refusal.NoMemory → 1 ≤ length copy.now }
 {

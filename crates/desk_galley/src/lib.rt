@@ -1,7 +1,10 @@
 //! The galley: the lines of a copy as values, before any of them is cast.
 //!
 //! Each line says where its words stand, what it is set by, and why it can't be set, if so. The lines are those of the
-//! job, so that what is seen here is what would be cast.
+//! job, so that what is seen here is what would be cast. No command of the program runs `matrices`.
+//!
+//! It refuses for the settings, the case, the wedge or memory alone. A symbol that the case lacks and a line at fault
+//! are part of the galley.
 #![tactic(auto)]
 
 mod galley;

@@ -58,7 +58,20 @@ impl<A: Allocator> Model for Line<A> {
 
     ghost Value = { LineValues };
 
-    ghost view = { λ l. record { number = l.number; words = l.words.items; filled = l.filled; added = l.added; spaces = l.spaces; width = l.width; rest = l.rest; fills = l.fills.items; wedge_sum = l.wedge_sum; faults = option_to_list l.fault; next = l.next } };
+    ghost view = { λ l. record {
+      number = l.number;
+      words = l.words.items;
+      filled = l.filled;
+      added = l.added;
+      spaces = l.spaces;
+      width = l.width;
+      rest = l.rest;
+      fills = l.fills.items;
+      wedge_sum = l.wedge_sum;
+      faults = option_to_list
+          l.fault;
+      next = l.next;
+    } };
 }
 
 impl<A: Allocator> Line<A> {
@@ -260,7 +273,14 @@ pub fn set_out<A: Allocator>(
     requires group { IsRange (length words.now) group.now }
     requires widths { widths.now ≡ job.widths terms.now (words_at copy.now words.now) }
     requires within { AreWidths widths.now }
-    ensures { IfOk result (λ line. line ≡ values_of terms.now copy.now number (record { words = group_words words.now group.now; filled = filled; after = drop (group.now).to words.now })) }
+    ensures { IfOk result
+        (λ line. line ≡ values_of terms.now copy.now number
+        (record {
+          words = group_words words.now group.now;
+          filled = filled;
+          after = drop
+              (group.now).to words.now;
+        })) }
 {
     let these = &words[group.from..group.to];
     let width = total(&widths[group.from..group.to]);

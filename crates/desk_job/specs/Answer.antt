@@ -15,7 +15,8 @@ use Rattle.desk_job.specs.declared.JobRefusal.TheVariants as refusal
 -- the rows of a copy whose settings, case and wedge go together, or its faults
 abbrev pub set_copy : Terms → List Symbol → Result (List RibbonRow) (List JobFault)
 set_copy terms copy =
-    rows_or (rows_of terms (lines terms copy)) (or_faults (lacking terms.case 0 copy) (line_faults terms 1 (lines terms copy)))
+    rows_or (rows_of terms (lines terms copy))
+    (or_faults (lacking terms.case 0 copy) (line_faults terms 1 (lines terms copy)))
 
 -- The refusal has these faults, which are some; out of memory may come in place of any.
 abbrev pub HasFaults : {A : Type 0} → JobRefusal A → List JobFault → Type 0

@@ -96,7 +96,8 @@ lines terms copy = flat_map (λ paragraph. lines_of_words terms (words paragraph
 -- whether one space is added after the words: a line that is to be filled has room for it at tight
 abbrev pub has_added : Terms → SetLine → Bool
 has_added terms line =
-    line.filled && int_le (group_width (tight_space terms) (widths terms line.words) +ℤ tight_space terms) (pos (measure terms))
+    line.filled && int_le (group_width (tight_space terms) (widths terms line.words) +ℤ tight_space terms)
+    (pos (measure terms))
 
 abbrev pub spaces : Terms → SetLine → ℕ
 spaces terms line = (length line.words - 1) + (if has_added terms line then 1 else 0)
@@ -236,7 +237,8 @@ or_faults (fault ∷ faults) later = fault ∷ faults
 -- the faults of a copy whose settings all have values
 abbrev pub faults_of : Terms → Values → List Symbol → List JobFault
 faults_of terms values copy =
-    or_faults (terms_fault terms values) (or_faults (lacking terms.case 0 copy) (line_faults terms 1 (lines terms copy)))
+    or_faults (terms_fault terms values)
+    (or_faults (lacking terms.case 0 copy) (line_faults terms 1 (lines terms copy)))
 
 -- rows, where there are no faults
 abbrev pub rows_or : List RibbonRow → List JobFault → Result (List RibbonRow) (List JobFault)

@@ -22,7 +22,8 @@ pub record Adds (terms : Terms) (ls : List SetLine) (old new : Found) : Type 0 w
   pub faulted : new.faults ≡ old.faults ++ line_faults terms old.next ls
   pub punched : new.faults ≡ [] → new.rows ≡ old.rows ++ flat_map (line_rows terms) ls
 
--- The lines can be added: each that is not to be filled fits, the ribbon gets fewer than 2 ^ 32 rows, and each line a number.
+-- The lines can be added: each that is not to be filled fits, the ribbon gets fewer than 2 ^ 32 rows, and each line a
+-- number.
 pub record CanAdd (terms : Terms) (ls : List SetLine) (old : Found) : Type 0 where
   pub fit : AllByRecursion (Fits terms) ls
   pub rows : old.faults ≡ [] → length old.rows + length (flat_map (line_rows terms) ls) + 1 < 2 ^ 32
@@ -44,7 +45,8 @@ group_words words group = take (group.to - group.from) (drop group.from words)
 abbrev pub lines_at : List Symbol → List Word → List Group → List SetLine
 lines_at copy words [] = []
 lines_at copy words (group ∷ groups) =
-    line_at copy (group_words words group) ((length groups == 0) || (group.to - group.from == 1)) ∷ lines_at copy words groups
+    line_at copy (group_words words group)
+    ((length groups == 0) || (group.to - group.from == 1)) ∷ lines_at copy words groups
 
 -- The group is of some of so many words.
 pub record IsRange (words : ℕ) (group : Group) : Type 0 where

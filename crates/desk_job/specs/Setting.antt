@@ -37,7 +37,8 @@ Sets terms n line (Err fault) = line_fault terms n line ≡ fault ∷ []
 -- A line that is not to be filled has a space, and fits in the measure at tight.
 abbrev pub Fits : Terms → SetLine → Type 0
 Fits terms line =
-    line.filled ≡ false → (2 ≤ length line.words) × FitsIn (tight_space terms) (pos (measure terms)) (widths terms line.words)
+    line.filled ≡ false → (2 ≤ length line.words)
+    × FitsIn (tight_space terms) (pos (measure terms)) (widths terms line.words)
 
 -- the wedge sum that sets a line with so many spaces, where they take up the rest at this number, or the line's fault
 abbrev pub SetsAt : Terms → ℕ → Bool → ℕ → ℤ → Result ℕ JobFault → Type 0
@@ -48,4 +49,5 @@ SetsAt terms n filled spaces sum (Err fault) = sum_fault terms n filled spaces s
 -- the rows of words that are set so
 abbrev pub set_rows : Terms → List (List Symbol) → Setting → List RibbonRow
 set_rows terms ws setting =
-    rows_at (line_punches terms.case ws setting.added setting.fills.items) (Some (coarse_of setting.sum, fine_of setting.sum))
+    rows_at (line_punches terms.case ws setting.added setting.fills.items)
+    (Some (coarse_of setting.sum, fine_of setting.sum))

@@ -23,7 +23,8 @@ most_over = 2 ^ 62
 abbrev pub widest_at_neutral : ℕ
 widest_at_neutral = units_width 24 96 Sixth
 
--- the case and the wedge are lawful, the values are in their ranges, the fills descend, and a space at tight is wider than 0
+-- the case and the wedge are lawful, the values are in their ranges, the fills descend, and a space at tight is wider
+-- than 0
 pub record IsUsable (terms : Terms) : Type 0 where
   pub case : IsCase terms.case
   pub wedge : IsWedge terms.wedge

@@ -1,4 +1,13 @@
-//! The job: the ribbon of a copy, or why there is none.
+//! The job: the ribbon of a copy by its settings, a case and a wedge, or the faults for which there is none.
+//!
+//! `make` takes a replica, and `make_from` a copy of at most 1,048,576 symbols with its settings. The rules are those
+//! of "Lines and the caster" in docs/FORMATS.md. Widths are in atoms (`desk_units`).
+//!
+//! It refuses first for the settings, the case and the wedge, then for symbols that the case lacks, then for lines at
+//! fault. Out of memory can come in place of any answer.
+//!
+//! Work is linear in the copy and its fills; no clause says so. Beside the words' places and the ribbon it keeps one
+//! paragraph's widths and groups, and one line's matrices.
 #![tactic(auto)]
 
 pub mod making;

@@ -102,7 +102,9 @@ impl<A: Allocator + Copy> Making<A> {
         requires can_add { CanAdd terms.now (line_at copy.now words.now filled ∷ []) self.old }
         ensures ok { OnOk result (Adds terms.now (line_at copy.now words.now filled ∷ []) self.old self.new) }
         // After a fault a line without one takes no memory.
-        ensures memory { IfErr result (λ _. job.line_fault terms.now self.old.next (line_at copy.now words.now filled) ≡ [] → self.old.faults ≡ []) }
+        ensures memory { IfErr result
+            (λ _. job.line_fault terms.now self.old.next (line_at copy.now words.now filled) ≡ []
+            → self.old.faults ≡ []) }
     {
         match set_line(terms, self.next, copy, words, widths, filled) {
             Err(fault) => self.faults.push(fault)?,
@@ -236,7 +238,8 @@ fn make_lines<A: Allocator + Copy>(
 ) -> Result<Making<A>, NoMemory>
     requires usable { IsUsable terms.now }
     requires copy { length copy.now ≤ most_symbols }
-    ensures ok { IfOk result (λ making. Adds terms.now (job.lines terms.now copy.now) (record { next = 1; faults = []; rows = [] }) making) }
+    ensures ok { IfOk result
+        (λ making. Adds terms.now (job.lines terms.now copy.now) (record { next = 1; faults = []; rows = [] }) making) }
     // No symbols take no memory.
     ensures memory { IfErr result (λ _. 1 ≤ length copy.now) }
 {

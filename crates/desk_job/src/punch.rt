@@ -54,7 +54,8 @@ fn add_more_words<A: Allocator>(
     words: &[Word],
 ) -> Result<(), NoMemory>
     requires { All (IsWord copy.now) words.now }
-    ensures ok { OnOk result (punches.new.items ≡ punches.old.items ++ job.spaced_punches case.now (words_at copy.now words.now)) }
+    ensures ok { OnOk result
+        (punches.new.items ≡ punches.old.items ++ job.spaced_punches case.now (words_at copy.now words.now)) }
     // No words take no memory.
     ensures memory { IfErr result (λ _. 1 ≤ length words.now) }
 {
@@ -73,7 +74,8 @@ fn add_words<A: Allocator>(
     words: &[Word],
 ) -> Result<(), NoMemory>
     requires { All (IsWord copy.now) words.now }
-    ensures ok { OnOk result (punches.new.items ≡ punches.old.items ++ job.words_punches case.now (words_at copy.now words.now)) }
+    ensures ok { OnOk result
+        (punches.new.items ≡ punches.old.items ++ job.words_punches case.now (words_at copy.now words.now)) }
     // No matrices take no memory.
     ensures memory { IfErr result (λ _. 1 ≤ length (job.words_punches case.now (words_at copy.now words.now))) }
 {
@@ -133,9 +135,11 @@ pub fn line_punches<A: Allocator + Copy>(
 ) -> Result<Vec<Punch, A>, NoMemory>
     requires words { All (IsWord copy.now) words.now }
     requires fills { length counts.now ≤ length case.now.fill }
-    ensures ok { IfOk result (λ found. found.items ≡ job.line_punches case.now (words_at copy.now words.now) added counts.now) }
+    ensures ok { IfOk result
+        (λ found. found.items ≡ job.line_punches case.now (words_at copy.now words.now) added counts.now) }
     // No matrices take no memory.
-    ensures memory { IfErr result (λ _. 1 ≤ length (job.line_punches case.now (words_at copy.now words.now) added counts.now)) }
+    ensures memory { IfErr result
+        (λ _. 1 ≤ length (job.line_punches case.now (words_at copy.now words.now) added counts.now)) }
 {
     let mut found = Vec::new(alloc);
     add_words(&mut found, case, copy, words)?;
@@ -157,7 +161,8 @@ pub fn punch<A: Allocator + Copy>(
 ) -> Result<(), NoMemory>
     requires words { All (IsWord copy.now) words.now }
     requires fills { length setting.now.fills.items ≤ length terms.now.case.fill }
-    requires room { length ribbon.old + length (set_rows terms.now (words_at copy.now words.now) setting.now) + 1 < 2 ^ 32 }
+    requires room { length ribbon.old + length (set_rows terms.now (words_at copy.now words.now) setting.now) + 1
+        < 2 ^ 32 }
     ensures { OnOk result (ribbon.new ≡ ribbon.old ++ set_rows terms.now (words_at copy.now words.now) setting.now) }
 {
     let (coarse, fine) = setting.sum.positions();

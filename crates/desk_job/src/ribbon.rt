@@ -58,8 +58,10 @@ fn one_fault<A: Allocator>(alloc: A, fault: JobFault) -> JobRefusal<A>
 }
 
 /// The ribbon of a copy of at most 1,048,576 symbols, or the faults of its job: the first that holds of a missing
-/// setting, another case, another wedge, settings that cross, fills in no order and a space that vanishes; or the place of
-/// each symbol that the case lacks; or the fault of each line that can't be set. Out of memory may come in place of any.
+/// setting, another case, another wedge, settings that cross, fills in no order and a space that vanishes; or the
+/// place of
+/// each symbol that the case lacks; or the fault of each line that can't be set. Out of memory may come in place of
+/// any.
 ///
 /// The ribbon, cast with the same case and wedge, is the copy line by line, each line short of the measure by less than
 /// a step for each of its spaces.
@@ -73,7 +75,8 @@ pub fn make_from<A: Allocator + Copy>(
     requires copy { length copy.now ≤ most_symbols }
     requires settings { AreValues settings.now }
     ensures ok { IfOk result (λ bytes. IsMade bytes.items (job.job copy.now (by_key settings.now) case.now wedge.now)) }
-    ensures err { IfErr result (λ refusal. IsRefused refusal (job.job copy.now (by_key settings.now) case.now wedge.now)) }
+    ensures err { IfErr result
+        (λ refusal. IsRefused refusal (job.job copy.now (by_key settings.now) case.now wedge.now)) }
     ensures cast { IfOk result (λ bytes. CastsCopy copy.now (by_key settings.now) case.now wedge.now bytes.items) }
 {
     let values = match given(settings) {
@@ -94,9 +97,14 @@ pub fn make<Q: Sequence>(
     case: &MatrixCase,
     wedge: &Wedge,
 ) -> Result<Vec<u8, Q::Memory>, JobRefusal<Q::Memory>>
-    ensures ok { IfOk result (λ bytes. IsMade bytes.items (job.job (copy_of replica.now.ops) (setting_of replica.now.ops) case.now wedge.now)) }
-    ensures err { IfErr result (λ refusal. IsRefused refusal (job.job (copy_of replica.now.ops) (setting_of replica.now.ops) case.now wedge.now)) }
-    ensures cast { IfOk result (λ bytes. CastsCopy (copy_of replica.now.ops) (setting_of replica.now.ops) case.now wedge.now bytes.items) }
+    ensures ok { IfOk result
+        (λ bytes. IsMade bytes.items
+        (job.job (copy_of replica.now.ops) (setting_of replica.now.ops) case.now wedge.now)) }
+    ensures err { IfErr result
+        (λ refusal. IsRefused refusal
+        (job.job (copy_of replica.now.ops) (setting_of replica.now.ops) case.now wedge.now)) }
+    ensures cast { IfOk result
+        (λ bytes. CastsCopy (copy_of replica.now.ops) (setting_of replica.now.ops) case.now wedge.now bytes.items) }
 {
     let copy = replica.copy()?;
     make_from(alloc, &copy, &replica.settings(), case, wedge)

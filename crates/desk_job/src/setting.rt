@@ -1,6 +1,7 @@
 //! What a line is set by: first the space that may be added, then the fills, then the wedge sum for what is left.
 //!
-//! A line that is to be filled is brought near the measure by fills, so that the wedges have little left to do; any other
+//! A line that is to be filled is brought near the measure by fills, so that the wedges have little left to do; any
+//! other
 //! line has only its spaces.
 
 ghost use Rattle.std.specs.Prelude.{◌≡◌, ◌+◌, ◌-◌, ◌*◌, ◌≤◌, ◌^◌, [], false, pos, ◌+ℤ◌, ◌-ℤ◌, ◌*ℤ◌, ◌≤ℤ◌, int_le, unsigned_abs, sum_by, length, All, if◌then◌else◌, ◌&&◌};
@@ -102,7 +103,8 @@ pub fn left(terms: &Terms, rest: Atoms, counts: &[u32]) -> Atoms
     Atoms::new(rest.get() - taken(counts, terms.fill_widths()) as i64)
 }
 
-/// The wedge sum at which so many spaces take up what is left, or the line's fault. A line that is not to be filled fits
+/// The wedge sum at which so many spaces take up what is left, or the line's fault. A line that is not to be filled
+/// fits
 /// at tight, so its sum is not below that.
 fn line_sum(
     terms: &Terms,
@@ -130,7 +132,8 @@ fn line_sum(
 pub fn has_added(terms: &Terms, words: usize, width: u64, filled: bool) -> bool
     requires words { words ≤ most_words }
     requires width { width ≤ 2 ^ 61 }
-    ensures { result ≡ filled && int_le (pos width +ℤ pos words *ℤ job.tight_space terms.now) (pos (job.measure terms.now)) }
+    ensures { result ≡ filled
+        && int_le (pos width +ℤ pos words *ℤ job.tight_space terms.now) (pos (job.measure terms.now)) }
 {
     filled && has_room(terms, words, width)
 }

@@ -1,4 +1,5 @@
-//! What the lines of a job are set by, and the widths that follow. What is kept in `Terms` is tested once, when they are made.
+//! What the lines of a job are set by, and the widths that follow. What is kept in `Terms` is tested once, when they
+//! are made.
 
 ghost use Rattle.std.specs.Prelude.{◌≡◌, ◌≤◌, ◌*◌, ◌+ℤ◌, ◌≤ℤ◌, ℤ, pos, length, take, All, [], ◌∷◌, IfOk, IfErr, OnOk};
 ghost use Rattle.std.specs.Option.{option_to_list};
@@ -19,7 +20,8 @@ use desk_units::{Atoms, WedgeSum, measure, width};
 use desk_wedge::Wedge;
 use std::marker::Model;
 
-/// The case, the wedge, the measure in points, and the least and the greatest wedge sum. A space at the least sum is wider
+/// The case, the wedge, the measure in points, and the least and the greatest wedge sum. A space at the least sum is
+/// wider
 /// than 0, and the fills descend.
 #[derive(Drop)]
 pub struct Terms<'a> {
@@ -40,7 +42,14 @@ impl<'a> Model for Terms<'a> {
 
     ghost view = { λ t. record { case = t.case.now; wedge = t.wedge.now; points = t.points; tight = t.tight; loose = t.loose } };
 
-    ghost invariant = { λ t. IsUsable (record { case = t.case.now; wedge = t.wedge.now; points = t.points; tight = t.tight; loose = t.loose }) × (take (length t.case.now.fill) t.fills ≡ job.widths_of t.wedge.now t.case.now.fill) };
+    ghost invariant = { λ t. IsUsable (record {
+      case = t.case.now;
+      wedge = t.wedge.now;
+      points = t.points;
+      tight = t.tight;
+      loose =
+          t.loose;
+    }) × (take (length t.case.now.fill) t.fills ≡ job.widths_of t.wedge.now t.case.now.fill) };
 }
 
 /// The width of a cell's matrix at neutral.
@@ -132,7 +141,8 @@ impl<'a> Terms<'a> {
         ensures ok { IfOk result (λ t. t ≡ job.terms_of case.now wedge.now values) }
         ensures usable { IfOk result IsUsable }
         ensures none { OnOk result (job.terms_fault (job.terms_of case.now wedge.now values) values ≡ []) }
-        ensures err { IfErr result (λ fault. job.terms_fault (job.terms_of case.now wedge.now values) values ≡ fault ∷ []) }
+        ensures err { IfErr result
+            (λ fault. job.terms_fault (job.terms_of case.now wedge.now values) values ≡ fault ∷ []) }
     {
         let space = cell_width(wedge, &case.space());
         match terms_fault(case, wedge, values, space) {
@@ -188,7 +198,8 @@ impl<'a> Terms<'a> {
         self.loose
     }
 
-    /// The case. It and all other terms are in their ranges, the fills descend, and a space at the least wedge sum is wider
+    /// The case. It and all other terms are in their ranges, the fills descend, and a space at the least wedge sum is
+    /// wider
     /// than 0.
     pub fn case(&self) -> &MatrixCase
         ensures value { result.now ≡ self.now.case }

@@ -31,7 +31,9 @@ head y galley = text_at (codes "h") 1000 y ++ (head_words galley ++ text_end)
 
 -- a symbol by its style, its character and its code
 abbrev pub name_text : Symbol → List ℕ
-name_text symbol = codes " for " ++ (style_words symbol.style ++ (codes " '" ++ (escaped_char symbol.ch ++ (codes "' (" ++ (code_text symbol.ch ++ codes ")")))))
+name_text symbol =
+    codes " for " ++ (style_words symbol.style
+    ++ (codes " '" ++ (escaped_char symbol.ch ++ (codes "' (" ++ (code_text symbol.ch ++ codes ")")))))
 
 abbrev pub name_if : Option Symbol → List ℕ
 name_if None = []

@@ -8,3 +8,4 @@ pub mod Lines
 pub mod Heads
 pub mod Picture
 pub mod Picturing
+pub mod Laws

@@ -19,7 +19,8 @@ use Rattle.desk_picture.specs.declared.paper.Paper.{Paper}
 
 -- the beginning of a text of this class that stands here
 abbrev pub text_at : (class : List ℕ) (x y : ℕ) → List ℕ
-text_at class x y = codes "<text class=\"" ++ (class ++ (codes "\"" ++ (attribute_text (codes "x") x ++ (attribute_text (codes "y") y ++ codes ">"))))
+text_at class x y = codes "<text class=\""
+    ++ (class ++ (codes "\"" ++ (attribute_text (codes "x") x ++ (attribute_text (codes "y") y ++ codes ">"))))
 
 -- a number at the margin, which ends here
 abbrev pub number_text : (x y n : ℕ) → List ℕ
@@ -35,7 +36,8 @@ class_of false = codes "w"
 
 -- the beginning of the text of a line
 abbrev pub words_at : (y : ℕ) → LineValues → List ℕ
-words_at y line = codes "<text class=\"" ++ (class_of (is_faulty line) ++ (codes "\"" ++ (attribute_text (codes "y") y ++ codes ">")))
+words_at y line = codes "<text class=\""
+    ++ (class_of (is_faulty line) ++ (codes "\"" ++ (attribute_text (codes "y") y ++ codes ">")))
 
 -- the words of a line, from the edge of the frame on
 abbrev pub line_words : Terms → List Symbol → Paper → (y : ℕ) → LineValues → List ℕ
@@ -55,12 +57,15 @@ line_boxes terms copy paper y line = fills_text paper y (words_end terms copy li
 abbrev pub fault_text : Terms → Paper → (y : ℕ) → LineValues → List JobFault → List ℕ
 fault_text terms paper y line [] = []
 fault_text terms paper y line (fault ∷ more) =
-    text_at (codes "c") (across paper.scale.pica (frame_or terms line) + 600) y ++ (cause_and_limits paper.scale line.wedge_sum fault ++ text_end)
+    text_at (codes "c") (across paper.scale.pica (frame_or terms line) + 600) y
+    ++ (cause_and_limits paper.scale line.wedge_sum fault ++ text_end)
 
 -- a line that stands here
 abbrev pub line_at : Terms → List Symbol → Paper → (y : ℕ) → LineValues → List ℕ
 line_at terms copy paper y line =
-    margin_text y line ++ (line_words terms copy paper y line ++ (line_boxes terms copy paper y line ++ fault_text terms paper y line line.faults))
+    margin_text y line
+    ++ (line_words terms copy paper y line
+    ++ (line_boxes terms copy paper y line ++ fault_text terms paper y line line.faults))
 
 abbrev pub line_text : Terms → List Symbol → Paper → LineValues → List ℕ
 line_text terms copy paper line = line_at terms copy paper (foot paper line.number) line

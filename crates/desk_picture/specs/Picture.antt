@@ -2,10 +2,10 @@
 use Rattle.std.specs.Prelude.{ℕ, ◌+◌, ◌*◌, ◌/◌, List, ◌++◌, length, codes}
 use Rattle.desk_ops.specs.declared.op.Symbol.{Symbol}
 use Rattle.desk_ops.specs.declared.fault.CopyFault.{CopyFault}
-use Rattle.desk_job.specs.declared.JobFault.{JobFault}
 use Rattle.desk_galley.specs.Values.{GalleyValues}
 use Rattle.desk_proof.specs.Proof.{scale_of}
-use Rattle.desk_proof.specs.Faults.{cause_text}
+use Rattle.desk_proof.specs.Reasons.{reason_text}
+use Rattle.desk_proof.specs.declared.reasons.NoGalley.{NoGalley}
 use Rattle.desk_svg.specs.Number.{attribute_text, hundredths_text}
 use Rattle.desk_svg.specs.Text.{text_end}
 use Rattle.desk_picture.specs.Paper.{across, edge, leading}
@@ -15,7 +15,8 @@ use Rattle.desk_picture.specs.Heads.{copy_faults, head_count, head_y, heads_text
 use Rattle.desk_picture.specs.declared.paper.Paper.{Paper}
 
 -- how the classes of texts and boxes look: letters of a line from left to right as they
--- stand in the copy and none of them joined, italic, small capitals, and those that the case lacks; lines at fault, causes,
+-- stand in the copy and none of them joined, italic, small capitals, and those that the case lacks; lines at fault,
+-- causes,
 -- heads, numbers at the margin; boxes and the frame
 abbrev pub looks_text : List ℕ
 looks_text =
@@ -28,12 +29,15 @@ size_text width height =
     ++ (hundredths_text width ++ (codes " " ++ (hundredths_text height ++ codes "\" width=\"")))
 
 abbrev pub points_text : (width height : ℕ) → List ℕ
-points_text width height = hundredths_text width ++ (codes "pt\" height=\"" ++ (hundredths_text height ++ codes "pt\">\n"))
+points_text width height = hundredths_text width
+    ++ (codes "pt\" height=\"" ++ (hundredths_text height ++ codes "pt\">\n"))
 
 -- that, the looks, and the paper
 abbrev pub begin_text : (width height : ℕ) → List ℕ
 begin_text width height =
-    size_text width height ++ (points_text width height ++ (looks_text ++ codes "<rect width=\"100%\" height=\"100%\" fill=\"#fbf9f2\"/>\n"))
+    size_text width height
+    ++ (points_text width height
+    ++ (looks_text ++ codes "<rect width=\"100%\" height=\"100%\" fill=\"#fbf9f2\"/>\n"))
 
 -- the paper of a galley below so many heads
 abbrev pub paper_of : GalleyValues → ℕ → Paper
@@ -52,7 +56,9 @@ frame_text paper width high =
 -- the lines, in letters of the size of the set
 abbrev pub group_text : List Symbol → Paper → GalleyValues → List ℕ
 group_text copy paper galley =
-    codes "<g" ++ (attribute_text (codes "font-size") paper.set ++ (codes ">\n" ++ (lines_text galley.terms copy paper galley.lines ++ codes "</g>\n")))
+    codes "<g" ++
+    (attribute_text (codes "font-size") paper.set
+    ++ (codes ">\n" ++ (lines_text galley.terms copy paper galley.lines ++ codes "</g>\n")))
 
 -- beside the frame, or the widest line, there are 270 points for the causes
 abbrev pub page_width : Paper → GalleyValues → ℕ
@@ -75,19 +81,22 @@ galley_frame paper galley = frame_text paper (galley.values.measure * 100) (gall
 -- a galley of a copy, with the faults of the copy, on a paper
 abbrev pub picture_on : List Symbol → List CopyFault → GalleyValues → Paper → List ℕ
 picture_on copy faults galley paper =
-    page_text paper galley ++ (heads_text copy faults galley ++ (galley_frame paper galley ++ (group_text copy paper galley ++ codes "</svg>\n")))
+    page_text paper galley
+    ++ (heads_text copy faults galley
+    ++ (galley_frame paper galley ++ (group_text copy paper galley ++ codes "</svg>\n")))
 
 abbrev pub picture_text : List Symbol → List CopyFault → GalleyValues → List ℕ
 picture_text copy faults galley = picture_on copy faults galley (paper_of galley (head_count faults galley))
 
 -- why there is no galley, in words
-abbrev pub why_words : JobFault → List ℕ
-why_words why = codes "no galley: " ++ cause_text why
+abbrev pub why_words : NoGalley → List ℕ
+why_words why = codes "no galley: " ++ reason_text why
 
-abbrev pub why_text : (y : ℕ) → JobFault → List ℕ
+abbrev pub why_text : (y : ℕ) → NoGalley → List ℕ
 why_text y why = text_at (codes "c") 1000 y ++ (why_words why ++ text_end)
 
 -- where there is no galley: the faults of the copy, and why
-abbrev pub no_galley_picture : List CopyFault → JobFault → List ℕ
+abbrev pub no_galley_picture : List CopyFault → NoGalley → List ℕ
 no_galley_picture faults why =
-    begin_text 50000 (head_y (length faults + 1)) ++ (copy_faults 0 faults ++ (why_text (head_y (length faults)) why ++ codes "</svg>\n"))
+    begin_text 50000 (head_y (length faults + 1))
+    ++ (copy_faults 0 faults ++ (why_text (head_y (length faults)) why ++ codes "</svg>\n"))

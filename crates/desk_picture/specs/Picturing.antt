@@ -11,9 +11,11 @@ use Rattle.desk_trial.specs.Trial.{tried}
 use Rattle.desk_galley.specs.Values.{GalleyValues}
 use Rattle.desk_galley.specs.Galley.{IsGalley}
 use Rattle.desk_files.specs.Files.{IsReplaced, Shelf, Stays}
-use Rattle.desk_files.specs.declared.files.FileRefusal.{FileRefusal}
-use Rattle.desk_stored.specs.Fault.{IsNotStored}
-use Rattle.desk_preview.specs.Proofing.{LacksGalley}
+use Rattle.desk_outputs.specs.Outputs.{Destination, GivesWay, IsNotPut}
+use Rattle.desk_outputs.specs.declared.fault.OutputFault.{OutputFault}
+use Rattle.desk_outputs.specs.declared.kinds.Kind.TheVariants as kinds
+use Rattle.desk_preview.specs.Proofing.{LacksGalley, reason_of}
+use Rattle.desk_preview.specs.Punching.{of_output}
 use Rattle.desk_preview.specs.Sources.{AreRefused, Give, GiveAll, Sources, of_sources}
 use Rattle.desk_preview.specs.declared.fault.PreviewFault.{PreviewFault}
 use Rattle.desk_preview.specs.declared.fault.PreviewFault.TheVariants as faults
@@ -28,7 +30,9 @@ ShowsGalley set case wedge trial drawn =
 
 -- there is no galley, and the picture says why
 abbrev pub ShowsNone : OpSet → CaseValues → WedgeValues → Settings → List ℕ → Type 0
-ShowsNone set case wedge trial drawn = (why : JobFault) × LacksGalley set case wedge trial why × (drawn ≡ no_galley_picture (faults_of set) why)
+ShowsNone set case wedge trial drawn =
+    (why : JobFault) × LacksGalley set case wedge trial why
+    × (drawn ≡ no_galley_picture (faults_of set) (reason_of set case wedge trial why))
 
 -- what is drawn of a set by a case and a wedge
 abbrev pub IsDrawn : OpSet → CaseValues → WedgeValues → Settings → List ℕ → Type 0
@@ -36,15 +40,20 @@ IsDrawn set case wedge trial drawn = ShowsGalley set case wedge trial drawn ⊎ 
 
 -- what is drawn of what the sources give
 abbrev pub IsPictureOf : Sources → Shelf → Settings → List ℕ → Type 0
-IsPictureOf from shelf trial drawn = (set : OpSet) × (case : CaseValues) × (wedge : WedgeValues) × Give from shelf set case wedge × IsDrawn set case wedge trial drawn
+IsPictureOf from shelf trial drawn = (set : OpSet) × (case : CaseValues) × (wedge : WedgeValues)
+    × Give from shelf set case wedge × IsDrawn set case wedge trial drawn
 
--- the target stands for that, and no other file has changed
-abbrev pub IsPictured : Sources → Settings → List ℕ → Shelf → Shelf → Type 0
-IsPictured from trial target before after = (drawn : List ℕ) × IsPictureOf from before trial drawn × IsReplaced target drawn before.kept after.kept
+-- the target, where nothing stood but a picture, or which is forced, stands for that, and no other file has changed
+abbrev pub IsPictured : Sources → Settings → Destination → Shelf → Shelf → Type 0
+IsPictured from trial to before after =
+    (drawn : List ℕ) × IsPictureOf from before trial drawn × GivesWay to kinds.Picture before.kept
+    × IsReplaced to.name drawn before.kept after.kept
 
--- Why no picture was stored: the sources give nothing; or memory ran out once they had given all; or it was made, and not stored. No file has changed but, in that last case, that of the writing.
-abbrev pub IsUnpictured : Sources → Settings → List ℕ → Shelf → Shelf → PreviewFault → Type 0
-IsUnpictured from trial target first last fault =
+-- Why no picture was stored: the sources give nothing; or memory ran out once they had given all; or it was made, and
+-- not stored. No file has changed but, in that last case, that of the writing.
+abbrev pub IsUnpictured : Sources → Settings → Destination → Shelf → Shelf → PreviewFault → Type 0
+IsUnpictured from trial to first last fault =
     (Stays first last × (why : SourcesFault) × (fault ≡ of_sources why) × AreRefused from first last why)
     ⊎ ((fault ≡ faults.NoMemory) × (last ≡ first) × GiveAll from first)
-    ⊎ ((why : FileRefusal) × (fault ≡ faults.Unstored why) × (drawn : List ℕ) × IsPictureOf from first trial drawn × IsNotStored target first last why)
+    ⊎ ((why : OutputFault) × (fault ≡ of_output why) × (drawn : List ℕ) × IsPictureOf from first trial drawn
+    × IsNotPut to kinds.Picture first last why)

@@ -17,7 +17,8 @@ next_place pica here = place_text pica here ++ codes " "
 -- the places of the symbols of a word that begins here; one that the case lacks has no width
 abbrev pub symbol_places : Terms → Pica → ℕ → List Symbol → List ℕ
 symbol_places terms pica here [] = []
-symbol_places terms pica here (symbol ∷ word) = next_place pica here ++ symbol_places terms pica (here + symbol_width terms symbol) word
+symbol_places terms pica here (symbol ∷ word) = next_place pica here
+    ++ symbol_places terms pica (here + symbol_width terms symbol) word
 
 -- where it ends
 abbrev pub after_word : Terms → ℕ → List Symbol → ℕ

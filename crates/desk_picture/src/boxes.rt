@@ -96,7 +96,8 @@ pub fn put_fills<A: Allocator + Copy>(
     requires here { here ≤ 2 ^ 106 }
     requires number { length counts.now ≤ length widths.now }
     requires four { length widths.now ≤ 4 }
-    ensures { OnOk result (string_bytes out.new ≡ string_bytes out.old ++ fills_text paper y here (zip counts.now widths.now)) }
+    ensures { OnOk result
+        (string_bytes out.new ≡ string_bytes out.old ++ fills_text paper y here (zip counts.now widths.now)) }
 {
     let mut next = here;
     for (i, count) in counts.iter().enumerate() {

@@ -1,9 +1,19 @@
-//! A galley as a picture in the form SVG, for the eyes of a compositor: each matrix in its own width in the frame of the
-//! measure, and each fault beside its line.
+//! A galley as a picture in SVG: each matrix in its own width in the frame of the measure, each fault beside its line.
+//!
+//! A place is in hundredths of a point, rounded down from the exact sum of the atoms before it, so no error adds up.
+//! The frame begins 100 points from the left, and 270 points at the right are for causes. Lines are as far apart as the
+//! set of the wedge and 4 points.
+//!
+//! Characters go from left to right as in the copy, in the reader's own fonts, and none joins the next. Those that XML
+//! does not allow are U+FFFD.
+//!
+//! It refuses a target that holds a file of another kind, unless the caller forces it. No law says that the whole is
+//! well-formed XML; tests/pictures.py parses it.
 #![tactic(auto)]
 
 mod boxes;
 mod heads;
+pub mod laws;
 mod letters;
 mod lines;
 mod paper;

@@ -91,7 +91,8 @@ fn put_line_words<A: Allocator + Copy>(
 ) -> Result<u128, AllocError>
     requires copy { length copy.now ≤ most_symbols }
     requires line { Stands copy.now terms.now.case line.now }
-    ensures text { OnOk result (string_bytes out.new ≡ string_bytes out.old ++ line_words terms.now copy.now paper y line.now) }
+    ensures text { OnOk result
+        (string_bytes out.new ≡ string_bytes out.old ++ line_words terms.now copy.now paper y line.now) }
     ensures end { IfOk result (λ end. end ≡ words_end terms.now copy.now line.now) }
     ensures limit { IfOk result (λ end. end ≤ 2 ^ 106) }
 {
@@ -116,7 +117,8 @@ fn put_line_boxes<A: Allocator + Copy>(
     requires end { end ≡ words_end terms.now copy.now line.now }
     requires limit { end ≤ 2 ^ 106 }
     requires fills { length line.now.fills ≤ length terms.now.case.fill }
-    ensures { OnOk result (string_bytes out.new ≡ string_bytes out.old ++ line_boxes terms.now copy.now paper y line.now) }
+    ensures { OnOk result
+        (string_bytes out.new ≡ string_bytes out.old ++ line_boxes terms.now copy.now paper y line.now) }
 {
     put_fills(out, paper, y, end, line.fills(), terms.fill_widths())
 }
@@ -130,7 +132,8 @@ fn put_fault<A: Allocator + Copy>(
     y: u128,
     line: &Line<A>,
 ) -> Result<(), AllocError>
-    ensures { OnOk result (string_bytes out.new ≡ string_bytes out.old ++ fault_text terms.now paper y line.now line.now.faults) }
+    ensures { OnOk result
+        (string_bytes out.new ≡ string_bytes out.old ++ fault_text terms.now paper y line.now line.now.faults) }
 {
     let Some(fault) = line.fault() else {
         return Ok(());
@@ -188,7 +191,8 @@ pub fn put_lines<A: Allocator + Copy>(
     requires copy { length copy.now ≤ most_symbols }
     requires top { paper.top ≤ 2 ^ 100 }
     requires lines { All (Stands copy.now terms.now.case) lines.now }
-    ensures { OnOk result (string_bytes out.new ≡ string_bytes out.old ++ lines_text terms.now copy.now paper lines.now) }
+    ensures { OnOk result
+        (string_bytes out.new ≡ string_bytes out.old ++ lines_text terms.now copy.now paper lines.now) }
 {
     for line in lines {
         put_line(out, terms, copy, paper, line)?;

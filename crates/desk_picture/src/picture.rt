@@ -12,10 +12,9 @@ use crate::lines::{put_lines, put_text_at};
 use crate::paper::{EDGE, Paper, across, leading};
 use crate::widths::widest;
 use desk_galley::Galley;
-use desk_job::JobFault;
 use desk_memory::NoMemory;
 use desk_ops::{CopyFault, Symbol};
-use desk_proof::{cause, scale_of};
+use desk_proof::{NoGalley, put_reason, scale_of};
 use desk_svg::{put_attribute, put_hundredths, text_end};
 use std::alloc::{AllocError, Allocator};
 
@@ -194,7 +193,8 @@ fn put_picture_on<'a, A: Allocator + Copy>(
     requires copy { length copy.now ≤ most_symbols }
     requires top { paper.top ≤ 2 ^ 100 }
     requires lines { All (Stands copy.now galley.now.terms.case) galley.now.lines }
-    ensures { OnOk result (string_bytes out.new ≡ string_bytes out.old ++ picture_on copy.now faults.now galley.now paper) }
+    ensures { OnOk result
+        (string_bytes out.new ≡ string_bytes out.old ++ picture_on copy.now faults.now galley.now paper) }
 {
     put_page(out, paper, galley)?;
     put_heads(out, copy, faults, galley)?;
@@ -203,7 +203,8 @@ fn put_picture_on<'a, A: Allocator + Copy>(
     out.push_str("</svg>\n")
 }
 
-/// Writes a galley of a copy of at most 1,048,576 symbols as a picture in the form SVG at the end, and the faults of the
+/// Writes a galley of a copy of at most 1,048,576 symbols as a picture in the form SVG at the end, and the faults of
+/// the
 /// copy, which mean that a correction is not shown.
 pub fn put_picture<'a, A: Allocator + Copy>(
     out: &mut String<A>,
@@ -221,20 +222,20 @@ pub fn put_picture<'a, A: Allocator + Copy>(
 }
 
 /// Writes why there is no galley, in words.
-fn put_why_words<A: Allocator + Copy>(out: &mut String<A>, why: JobFault) -> Result<(), AllocError>
-    ensures { OnOk result (string_bytes out.new ≡ string_bytes out.old ++ why_words why) }
+fn put_why_words<A: Allocator + Copy>(out: &mut String<A>, why: &NoGalley) -> Result<(), AllocError>
+    ensures { OnOk result (string_bytes out.new ≡ string_bytes out.old ++ why_words why.now) }
 {
     out.push_str("no galley: ")?;
-    out.push_str(cause(why))
+    put_reason(out, why)
 }
 
 /// Writes why there is no galley.
 fn put_why<A: Allocator + Copy>(
     out: &mut String<A>,
     y: u128,
-    why: JobFault,
+    why: &NoGalley,
 ) -> Result<(), AllocError>
-    ensures { OnOk result (string_bytes out.new ≡ string_bytes out.old ++ why_text y why) }
+    ensures { OnOk result (string_bytes out.new ≡ string_bytes out.old ++ why_text y why.now) }
 {
     put_text_at(out, "c", 1_000, y)?;
     put_why_words(out, why)?;
@@ -245,12 +246,12 @@ fn put_why<A: Allocator + Copy>(
 fn put_none<A: Allocator + Copy>(
     out: &mut String<A>,
     faults: &[CopyFault],
-    why: JobFault,
+    why: &NoGalley,
     count: u128,
 ) -> Result<(), AllocError>
     requires value { count ≡ length faults.now }
     requires limit { count ≤ 2 ^ 64 }
-    ensures { OnOk result (string_bytes out.new ≡ string_bytes out.old ++ no_galley_picture faults.now why) }
+    ensures { OnOk result (string_bytes out.new ≡ string_bytes out.old ++ no_galley_picture faults.now why.now) }
 {
     let height = head_y(count + 1);
     let y = head_y(count);
@@ -264,9 +265,9 @@ fn put_none<A: Allocator + Copy>(
 pub fn put_no_galley_picture<A: Allocator + Copy>(
     out: &mut String<A>,
     faults: &[CopyFault],
-    why: JobFault,
+    why: &NoGalley,
 ) -> Result<(), NoMemory>
-    ensures { OnOk result (string_bytes out.new ≡ string_bytes out.old ++ no_galley_picture faults.now why) }
+    ensures { OnOk result (string_bytes out.new ≡ string_bytes out.old ++ no_galley_picture faults.now why.now) }
 {
     put_none(out, faults, why, faults.len() as u128)?;
     Ok(())

@@ -3,6 +3,7 @@
 ghost use Rattle.std.specs.Prelude.{◌≡◌, ◌≤◌, length, All, IfErr, IfOk, OnOk, string_bytes};
 ghost use Rattle.desk_files.specs.Files.{HoldsOn};
 ghost use Rattle.desk_lines.specs.Words.{most_symbols};
+ghost use Rattle.desk_outputs.specs.Outputs.{destination};
 ghost use Rattle.desk_galley.specs.Galley.{Stands};
 ghost use Rattle.desk_job.specs.Answer.{AreValues};
 ghost use Rattle.desk_preview.specs.Sources.{sources};
@@ -12,13 +13,14 @@ ghost use Rattle.desk_picture.specs.Picturing.{IsDrawn, IsPictured, IsUnpictured
 use crate::picture::{put_no_galley_picture, put_picture};
 use desk_blocks::Blocks;
 use desk_case::MatrixCase;
-use desk_files::{Files, store};
+use desk_files::Files;
 use desk_galley::{Galley, GalleyRefusal, make_galley};
 use desk_inputs::Memory;
-use desk_job::JobFault;
 use desk_memory::NoMemory;
 use desk_ops::{CopyFault, Symbol};
+use desk_outputs::{Kind, Target, store_over};
 use desk_preview::{PreviewFault, take_in};
+use desk_proof::{NoGalley, why_none};
 use desk_replica::{Replica, Settings};
 use desk_trial::tried;
 use desk_wedge::Wedge;
@@ -44,9 +46,9 @@ fn picture_of<'a, A: Allocator + Copy>(
 fn refusal_of<A: Allocator + Copy>(
     alloc: A,
     faults: &[CopyFault],
-    why: JobFault,
+    why: &NoGalley,
 ) -> Result<String<A>, NoMemory>
-    ensures { IfOk result (λ s. string_bytes s ≡ no_galley_picture faults.now why) }
+    ensures { IfOk result (λ s. string_bytes s ≡ no_galley_picture faults.now why.now) }
 {
     let mut out = String::new(alloc);
     put_no_galley_picture(&mut out, faults, why)?;
@@ -74,18 +76,24 @@ fn drawn_of<A: Allocator + Copy>(
             Ok(drawn)
         }
         Err(GalleyRefusal::Fault(why)) => {
-            let drawn = refusal_of(alloc, &faults, why)?;
+            let why = why_none(&settings, case, wedge, why);
+            let drawn = refusal_of(alloc, &faults, &why)?;
             Ok(drawn)
         }
         Err(GalleyRefusal::NoMemory) => Err(NoMemory),
     }
 }
 
-/// Draws the galley of a stored feed by a case and a wedge, as `put_picture` does, and stores the picture under the name of
+/// Draws the galley of a stored feed by a case and a wedge, as `put_picture` does, and stores the picture under the
+/// name of
 /// a target; where there is no galley, a picture that says why. A line that can't be set is drawn with its fault, and no
-/// refusal. Settings that are tried count in place of the copy's, and are stored nowhere. No name is taken: a feed is stored
-/// by a rename, so what is read is a whole feed. A target that is the feed, the case or the wedge is replaced as any other.
-/// After an `Err` the target has its old bytes.
+/// refusal. Settings that are tried count in place of the copy's, and are stored nowhere. No name is taken: a feed is
+/// stored
+/// by a rename, so what is read is a whole feed. Where a file that is no picture stands under the target, which is not
+/// forced,
+/// the fault is `Taken`. A target that is forced, and is the feed, the case or the wedge, is replaced as any other.
+/// After an
+/// `Err` the target has its old bytes.
 pub fn picture_feed<F: Files, A: Allocator + Copy>(
     memory: Memory<A>,
     files: &mut F,
@@ -93,16 +101,20 @@ pub fn picture_feed<F: Files, A: Allocator + Copy>(
     case: &str,
     wedge: &str,
     trial: &Settings,
-    target: &str,
+    target: &Target<'_>,
 ) -> Result<(), PreviewFault>
     requires { AreValues trial.now }
-    ensures ok { OnOk result (IsPictured (sources feed.now case.now wedge.now) trial.now target.now (F.shelf files.old) (F.shelf files.new)) }
+    ensures ok { OnOk result
+        (IsPictured (sources feed.now case.now wedge.now) trial.now (destination target.now.name.now target.now.force)
+        (F.shelf files.old) (F.shelf files.new)) }
     ensures counted { OnOk result ((F.shelf files.new).failures ≡ (F.shelf files.old).failures) }
-    ensures err { IfErr result (IsUnpictured (sources feed.now case.now wedge.now) trial.now target.now (F.shelf files.old) (F.shelf files.new)) }
+    ensures err { IfErr result
+        (IsUnpictured (sources feed.now case.now wedge.now) trial.now (destination target.now.name.now target.now.force)
+        (F.shelf files.old) (F.shelf files.new)) }
     ensures held { HoldsOn (F.shelf files.old).held (F.shelf files.new).held }
 {
     let (replica, case, wedge) = take_in(memory, files, feed, case, wedge)?;
     let drawn = drawn_of(memory.own, &replica, &case, &wedge, trial)?;
-    store(memory.own, files, target, drawn.as_bytes())?;
+    store_over(memory.own, files, target, drawn.as_bytes(), Kind::Picture)?;
     Ok(())
 }

@@ -46,7 +46,8 @@ fn put_symbol_places<A: Allocator + Copy>(
 ) -> Result<u128, AllocError>
     requires here { here ≤ 2 ^ 110 }
     requires short { length word.now ≤ most_symbols }
-    ensures text { OnOk result (string_bytes out.new ≡ string_bytes out.old ++ symbol_places terms.now pica here word.now) }
+    ensures text { OnOk result
+        (string_bytes out.new ≡ string_bytes out.old ++ symbol_places terms.now pica here word.now) }
     ensures end { IfOk result (λ end. end ≡ after_word terms.now here word.now) }
     ensures limit { IfOk result (λ end. end ≤ here + 2 ^ 40) }
 {
@@ -68,7 +69,8 @@ pub fn put_word_places<A: Allocator + Copy>(
 ) -> Result<u128, AllocError>
     requires here { here ≤ 2 ^ 110 }
     requires short { length word.now ≤ most_symbols }
-    ensures text { OnOk result (string_bytes out.new ≡ string_bytes out.old ++ word_places terms.now pica here word.now) }
+    ensures text { OnOk result
+        (string_bytes out.new ≡ string_bytes out.old ++ word_places terms.now pica here word.now) }
     ensures end { IfOk result (λ end. end ≡ after_word terms.now here word.now) }
     ensures limit { IfOk result (λ end. end ≤ here + 2 ^ 40) }
 {

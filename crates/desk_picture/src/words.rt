@@ -49,7 +49,8 @@ pub fn put_words<A: Allocator + Copy>(
     requires copy { length copy.now ≤ most_symbols }
     requires words { All (IsWord copy.now) words.now }
     requires space { space ≤ widest_matrix }
-    ensures text { OnOk result (string_bytes out.new ≡ string_bytes out.old ++ words_text terms.now copy.now pica space 0 words.now) }
+    ensures text { OnOk result
+        (string_bytes out.new ≡ string_bytes out.old ++ words_text terms.now copy.now pica space 0 words.now) }
     ensures end { IfOk result (λ end. end ≡ after_words terms.now copy.now space 0 words.now) }
     ensures limit { IfOk result (λ end. end ≤ 2 ^ 106) }
 {

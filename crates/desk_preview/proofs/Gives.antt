@@ -1,6 +1,6 @@
 -- What a stored feed, a case and a wedge give.
 use Rattle.std.proofs.Common.{◌≡◌, List, ℕ, inl, refl, subst}
-use Rattle.std.specs.Prelude.{Option, Err}
+use Rattle.std.specs.Prelude.{Bool, Option, Err}
 use Rattle.desk_ops.specs.OpSet.{OpSet}
 use Rattle.desk_case.specs.Case.{CaseValues}
 use Rattle.desk_wedge.specs.Wedge.{WedgeValues}
@@ -9,6 +9,7 @@ use Rattle.desk_answers.specs.declared.failure.Failure.TheVariants as failures
 use Rattle.desk_files.specs.Files.{Shelf, Stays}
 use Rattle.desk_hand.specs.Exporting.{IsSetOf}
 use Rattle.desk_inputs.specs.Inputs.{Answers, BothGive, BothLackMemory}
+use Rattle.desk_outputs.specs.Outputs.{Destination}
 use Rattle.desk_preview.specs.Punching.{IsUnpunched}
 use Rattle.desk_preview.specs.Sources.{AreRefused, Sources, of_input, of_sources}
 use Rattle.desk_preview.specs.declared.fault.SourcesFault.{SourcesFault}
@@ -21,8 +22,8 @@ no_inputs from set first mid last (failures.Refused why) same is given = (set, i
 no_inputs from set first mid last failures.NoMemory same is given = (set, is, subst (λ (s : Shelf). BothLackMemory from.case from.wedge s last) same given)
 
 -- no ribbon, where the three give nothing
-pub unpunched : (from : Sources) (target : List ℕ) (first last : Shelf) (reported : Option (List ℕ)) (why : SourcesFault) → Stays first last → AreRefused from first last why
-    → IsUnpunched from target first last reported reported (of_sources why)
-unpunched from target first last reported (refusals.Feed why) stays refused = (refl, stays, refused)
-unpunched from target first last reported (refusals.Input why) stays refused = (refl, stays, refused)
-unpunched from target first last reported refusals.NoMemory stays refused = (refl, inl refused)
+pub unpunched : (from : Sources) (to : Destination) (faulty : Bool) (first last : Shelf) (reported : Option (List ℕ)) (why : SourcesFault) → Stays first last → AreRefused from first last why
+    → IsUnpunched from to faulty first last reported reported (of_sources why)
+unpunched from to faulty first last reported (refusals.Feed why) stays refused = (refl, stays, refused)
+unpunched from to faulty first last reported (refusals.Input why) stays refused = (refl, stays, refused)
+unpunched from to faulty first last reported refusals.NoMemory stays refused = (refl, inl refused)

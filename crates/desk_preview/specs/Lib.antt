@@ -1,3 +1,5 @@
+pub mod Laws
 pub mod Sources
+pub mod Lines
 pub mod Punching
 pub mod Proofing

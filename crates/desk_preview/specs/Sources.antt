@@ -35,18 +35,23 @@ sources feed case wedge = record { feed = feed; case = case; wedge = wedge }
 
 -- the feed's name stands for this set, and the two files give this case and this wedge
 abbrev pub Give : Sources → Shelf → OpSet → CaseValues → WedgeValues → Type 0
-Give from shelf set case wedge = IsSetOf from.feed shelf set × BothGive from.case from.wedge shelf (Ok (case, wedge)) shelf
+Give from shelf set case wedge = IsSetOf from.feed shelf set
+    × BothGive from.case from.wedge shelf (Ok (case, wedge)) shelf
 
 -- they give a set, a case and a wedge
 abbrev pub GiveAll : Sources → Shelf → Type 0
 GiveAll from shelf = (set : OpSet) × (case : CaseValues) × (wedge : WedgeValues) × Give from shelf set case wedge
 
--- why they give nothing: the feed is not opened; or it is, and then the case or the wedge is refused, or memory runs out by one of them
+-- why they give nothing: the feed is not opened; or it is, and then the case or the wedge is refused, or memory runs
+-- out by one of them
 abbrev pub AreRefused : Sources → Shelf → Shelf → SourcesFault → Type 0
 AreRefused from before after (refusals.Feed why) = IsClosedBy from.feed before after why
-AreRefused from before after (refusals.Input why) = (set : OpSet) × IsSetOf from.feed before set × BothGive from.case from.wedge before (Err why) after
-AreRefused from before after refusals.NoMemory = (set : OpSet) × IsSetOf from.feed before set × BothLackMemory from.case from.wedge before after
+AreRefused from before after (refusals.Input why) = (set : OpSet) × IsSetOf from.feed before set
+    × BothGive from.case from.wedge before (Err why) after
+AreRefused from before after refusals.NoMemory = (set : OpSet) × IsSetOf from.feed before set
+    × BothLackMemory from.case from.wedge before after
 
--- memory ran out by the case or the wedge, or once all was given, and then no file has changed and the device did not fail
+-- memory ran out by the case or the wedge, or once all was given, and then no file has changed and the device did not
+-- fail
 abbrev pub LackMemory : Sources → Shelf → Shelf → Type 0
 LackMemory from before after = AreRefused from before after refusals.NoMemory ⊎ ((after ≡ before) × GiveAll from before)

@@ -1,7 +1,7 @@
 //! Why there is no preview, by the phase in which it stopped.
 
 ghost use Rattle.std.specs.Prelude.{◌≡◌};
-ghost use Rattle.desk_preview.specs.Punching.{of_line};
+ghost use Rattle.desk_preview.specs.Punching.{of_line, of_output};
 ghost use Rattle.desk_preview.specs.Sources.{of_input, of_sources};
 ghost use Rattle.desk_preview.specs.declared.fault.LineFault.TheVariants as lines;
 ghost use Rattle.desk_preview.specs.declared.fault.PreviewFault.TheVariants as faults;
@@ -11,6 +11,8 @@ use desk_answers::{Failure, Refusal};
 use desk_files::FileRefusal;
 use desk_hand::FeedTrouble;
 use desk_memory::NoMemory;
+use desk_outputs::{Kind, OutputFault};
+use desk_proof::OtherNumber;
 use desk_stored::Unsent;
 use thiserror::Error;
 
@@ -26,7 +28,7 @@ pub enum SourcesFault {
     NoMemory,
 }
 
-/// Why the line of a job's faults is not written.
+/// Why a line of faults is not written.
 #[derive(Clone, Copy, Debug, PartialEq, Eq)]
 pub enum LineFault {
     /// It was not kept.
@@ -46,13 +48,21 @@ pub enum PreviewFault {
     /// The case or the wedge is not read, or is refused.
     #[error("input refused")]
     Input(Refusal),
-    /// The job has faults, and these were written.
+    /// The copy has faults, and these were written.
+    #[error("copy faults")]
+    CopyFaults,
+    /// The job has faults, and these were written. Where one is that the number of the case or of the wedge is
+    /// another, both
+    /// numbers are here.
     #[error("no ribbon")]
-    Faulty,
+    Faulty(Option<OtherNumber>),
     /// The writer failed, or took no byte.
     #[error("write fault")]
     Write,
-    /// The ribbon or the picture was made, and not stored.
+    /// The ribbon or the picture was made, and a file of this kind stands under the target, which is left.
+    #[error("not replaced")]
+    Taken(Kind),
+    /// The ribbon or the picture was made, and not stored, or what stands under the target was not read.
     #[error("file fault")]
     Unstored(FileRefusal),
     #[error("no memory")]
@@ -138,10 +148,13 @@ impl From<Unsent> for PreviewFault {
 }
 
 /// A file that is not stored: one that is not read is the trouble of a feed, or a refused input.
-impl From<FileRefusal> for PreviewFault {
-    ghost from_gives = { λ why fault. fault ≡ faults.Unstored why };
+impl From<OutputFault> for PreviewFault {
+    ghost from_gives = { λ why fault. fault ≡ of_output why };
 
-    fn from(why: FileRefusal) -> PreviewFault {
-        PreviewFault::Unstored(why)
+    fn from(why: OutputFault) -> PreviewFault {
+        match why {
+            OutputFault::Taken(kind) => PreviewFault::Taken(kind),
+            OutputFault::File(why) => PreviewFault::Unstored(why),
+        }
     }
 }

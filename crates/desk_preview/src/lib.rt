@@ -1,8 +1,16 @@
-//! What one sees of a stored feed before it is cast: its ribbon, stored under a name, or the faults of its job; and its
-//! galley as text.
+//! What one sees of a stored feed before it is cast: its ribbon in a file, its faults, or its galley as text.
+//!
+//! It reads the feed, then the case, then the wedge; each file must be there. It takes no name: a store is a rename, so
+//! it reads a whole feed.
+//!
+//! A punch refuses a copy with faults, since a correction is not in it, unless the caller lets them through. It refuses
+//! a job with faults. It refuses a target that holds a file of another kind, unless the caller forces it. A proof
+//! refuses only for its sources.
 #![tactic(auto)]
 
 mod fault;
+mod job_line;
+pub mod laws;
 mod proofing;
 mod punching;
 mod sources;

@@ -15,10 +15,9 @@ use desk_case::MatrixCase;
 use desk_files::Files;
 use desk_galley::{Galley, GalleyRefusal, Line, make_galley};
 use desk_inputs::Memory;
-use desk_job::JobFault;
 use desk_memory::NoMemory;
 use desk_ops::{CopyFault, Symbol};
-use desk_proof::{Extent, put_no_galley, put_proof};
+use desk_proof::{Extent, NoGalley, put_no_galley, put_proof, why_none};
 use desk_replica::{Replica, Settings};
 use desk_stored::write_out;
 use desk_trial::tried;
@@ -65,9 +64,9 @@ fn proof_of<'a, A: Allocator + Copy>(
 fn refusal_of<A: Allocator + Copy>(
     alloc: A,
     faults: &[CopyFault],
-    why: JobFault,
+    why: &NoGalley,
 ) -> Result<String<A>, NoMemory>
-    ensures { IfOk result (λ s. string_bytes s ≡ no_galley_text faults.now why) }
+    ensures { IfOk result (λ s. string_bytes s ≡ no_galley_text faults.now why.now) }
 {
     let mut out = String::new(alloc);
     put_no_galley(&mut out, faults, why)?;
@@ -96,17 +95,20 @@ fn reported_of<A: Allocator + Copy>(
             Ok((text, is_clean(&faults, &galley)))
         }
         Err(GalleyRefusal::Fault(why)) => {
-            let text = refusal_of(alloc, &faults, why)?;
+            let why = why_none(&settings, case, wedge, why);
+            let text = refusal_of(alloc, &faults, &why)?;
             Ok((text, false))
         }
         Err(GalleyRefusal::NoMemory) => Err(NoMemory),
     }
 }
 
-/// Writes the proof of a stored feed by a case and a wedge: the faults of its copy, and its galley as text, as `desk_proof`
+/// Writes the proof of a stored feed by a case and a wedge: the faults of its copy, and its galley as text, as
+/// `desk_proof`
 /// writes it; or why there is no galley. It is true exactly where no fault stands at all: no correction is missing, the case
 /// has every symbol, and each line is set. Settings that are tried count in place of the copy's, and are stored nowhere; where none is
-/// tried it is the galley that would be cast. No name is taken, and no file changes. A refusal of the feed, the case or the
+/// tried it is the galley that would be cast. No name is taken, and no file changes. A refusal of the feed, the case
+/// or the
 /// wedge, or of memory, comes before anything is written.
 pub fn proof_feed<W: Write, F: Files, A: Allocator + Copy>(
     memory: Memory<A>,
@@ -119,9 +121,13 @@ pub fn proof_feed<W: Write, F: Files, A: Allocator + Copy>(
     extent: Extent,
 ) -> Result<bool, PreviewFault>
     requires { AreValues trial.now }
-    ensures ok { IfOk result (IsProofed (sources feed.now case.now wedge.now) trial.now extent (F.shelf files.old) (W.contents writer.old) (W.contents writer.new)) }
+    ensures ok { IfOk result
+        (IsProofed (sources feed.now case.now wedge.now) trial.now extent (F.shelf files.old) (W.contents writer.old)
+        (W.contents writer.new)) }
     ensures counted { OnOk result ((F.shelf files.new).failures ≡ (F.shelf files.old).failures) }
-    ensures err { IfErr result (IsUnproofed (sources feed.now case.now wedge.now) trial.now extent (F.shelf files.old) (F.shelf files.new) (W.contents writer.old) (W.contents writer.new)) }
+    ensures err { IfErr result
+        (IsUnproofed (sources feed.now case.now wedge.now) trial.now extent (F.shelf files.old) (F.shelf files.new)
+        (W.contents writer.old) (W.contents writer.new)) }
     ensures stays { Stays (F.shelf files.old) (F.shelf files.new) }
 {
     let (replica, case, wedge) = take_in(memory, files, feed, case, wedge)?;

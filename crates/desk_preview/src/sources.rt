@@ -25,7 +25,8 @@ pub fn take_in<F: Files, A: Allocator + Copy>(
 ) -> Result<(Replica<Blocks<A>>, MatrixCase, Wedge), SourcesFault>
     ensures ok { IfOk result (λ t. Give (sources feed.now case.now wedge.now) (F.shelf files.old) t.0.ops t.1 t.2) }
     ensures still { OnOk result (F.shelf files.new ≡ F.shelf files.old) }
-    ensures err { IfErr result (AreRefused (sources feed.now case.now wedge.now) (F.shelf files.old) (F.shelf files.new)) }
+    ensures err { IfErr result
+        (AreRefused (sources feed.now case.now wedge.now) (F.shelf files.old) (F.shelf files.new)) }
     ensures stays { Stays (F.shelf files.old) (F.shelf files.new) }
 {
     let replica = open_feed(memory.own, files, feed)?;

@@ -1,12 +1,12 @@
 -- Texts that are written one after the other.
-use Rattle.std.proofs.Common.{◌≡◌, ℕ, ◌+◌, [], ◌∷◌, List, ◌++◌, sym, ap, ◌∙◌, append_assoc, replicate}
+use Rattle.std.proofs.Common.{◌≡◌, ℕ, ◌+◌, [], ◌∷◌, List, ◌++◌, if◌then◌else◌, sym, ap, ◌∙◌, append_assoc, replicate}
 use Rattle.std.proofs.Math.Utf8.{encode}
 use Rattle.std.proofs.lemmas.Grind.{replicate_next}
 use Rattle.std.proofs.lemmas.List.{append-nil}
 use Rattle.std.proofs.lemmas.Str.{encodes-append}
 use Rattle.std.specs.Str.{encode_utf8_all}
 use Rattle.std.proofs.lemmas.Result.{on_ok_weaker}
-use Rattle.std.specs.Prelude.{OnOk, Result}
+use Rattle.std.specs.Prelude.{OnOk, Result, Ok, Err, is_ok}
 use Rattle.desk_proof.specs.Parts.{many}
 
 -- one more
@@ -34,3 +34,8 @@ four r a b c d e x y z w first second third last = two r a b e x (y ++ (z ++ w))
 pub five_in_turn : {E : Type 0} (r : Result (Unit {0}) E) (a b c d e f x y z w v : List ℕ) → b ≡ a ++ x → c ≡ b ++ y → d ≡ c ++ z → e ≡ d ++ w → OnOk r (f ≡ e ++ v) → OnOk r (f ≡ a ++ ((((x ++ y) ++ z) ++ w) ++ v))
 five_in_turn r a b c d e f x y z w v first second third fourth last =
     two r a e f (((x ++ y) ++ z) ++ w) v (joined a d e ((x ++ y) ++ z) w (joined a c d (x ++ y) z (joined a b c x y first second) third) fourth) last
+
+-- what is pushed stands at the end, where it was pushed
+pub pushed : {E : Type 0} (r : Result (Unit {0}) E) (a b x : List ℕ) → b ≡ (if is_ok r then a ++ x else a) → OnOk r (b ≡ a ++ x)
+pushed (Ok done) a b x is = is
+pushed (Err why) a b x is = tt

@@ -1,6 +1,5 @@
 -- Faults at their text, and the way out in figures.
-use Rattle.std.specs.Prelude.{ℕ, ◌+◌, ◌-◌, ◌^◌, Bool, true, false, ◌==◌, ℤ, pos, int_le, int_lt, unsigned_abs, min, List, [], ◌∷◌, ◌++◌, length, take, drop, slice_get, Option, Some, None, codes, if◌then◌else◌}
-use Rattle.std.specs.Char.{encode_utf8}
+use Rattle.std.specs.Prelude.{ℕ, ◌+◌, ◌-◌, ◌^◌, Bool, true, false, ◌==◌, ℤ, pos, ◌-ℤ◌, int_le, int_lt, unsigned_abs, min, List, [], ◌∷◌, ◌++◌, length, take, drop, slice_get, Option, Some, None, codes, if◌then◌else◌}
 use Rattle.std.specs.Fmt.{decimal, digits, format_spec, padded_integral}
 use Rattle.desk_ops.specs.declared.op.Key.{Key}
 use Rattle.desk_ops.specs.declared.op.Key.TheVariants as keys
@@ -19,7 +18,7 @@ use Rattle.desk_job.specs.declared.JobFault.TheVariants as jobs
 use Rattle.desk_galley.specs.declared.line.Next.{Next}
 use Rattle.desk_galley.specs.Values.{LineValues}
 use Rattle.desk_proof.specs.declared.scale.Scale.{Scale}
-use Rattle.desk_proof.specs.Parts.{symbols_text, word_text, begin_of, end_of, points_down, points_up}
+use Rattle.desk_proof.specs.Parts.{marked_text, word_text, begin_of, end_of, points_down, points_up, symbols_text}
 use Rattle.desk_proof.specs.Lines.{set_text, sum_text}
 
 -- ---- causes
@@ -67,7 +66,17 @@ limits_text scale sum (jobs.TooWide line) = []
 -- ---- the way out
 
 abbrev pub spaces_text : ℕ → List ℕ
-spaces_text count = if count == 0 then codes "no space" else if count == 1 then codes "1 space" else decimal count ++ codes " spaces"
+spaces_text count = if count == 1 then codes "1 space" else decimal count ++ codes " spaces"
+
+-- by how much a word that leaves so much of the measure is too wide to have the least space
+abbrev pub too_wide_text : Scale → ℤ → List ℕ
+too_wide_text scale rest = points_up scale.pica (unsigned_abs (pos scale.space -ℤ rest)) ++ codes " points too wide"
+
+-- of a line without a space: the least space, and by how much its word is too wide to have it
+abbrev pub lone_text : Scale → ℤ → List ℕ
+lone_text scale rest =
+    codes "one word and no space to justify it; with one of at least "
+    ++ (points_up scale.pica scale.space ++ (codes " points it is " ++ too_wide_text scale rest))
 
 -- what is free for a part of the next word
 abbrev pub free_text : Pica → ℤ → List ℕ
@@ -77,21 +86,25 @@ free_text pica free =
 
 -- by how much the next word did not fit, and what is free for a part of it
 abbrev pub over_text : Pica → Next → List ℕ
-over_text pica next = (points_up pica (unsigned_abs next.over) ++ codes " points too wide; ") ++ free_text pica next.free
+over_text pica next = (points_up pica (unsigned_abs next.over) ++ codes " points too wide; ")
+    ++ free_text pica next.free
 
 -- a word, and that of it
 abbrev pub next_word_text : List Symbol → Pica → Next → List ℕ
-next_word_text copy pica next = codes "; the next word, '" ++ (word_text copy next.word ++ (codes "', is " ++ over_text pica next))
+next_word_text copy pica next = codes "; the next word, '"
+    ++ (word_text copy next.word ++ (codes "', is " ++ over_text pica next))
 
 abbrev pub next_text : List Symbol → Pica → Option Next → List ℕ
 next_text copy pica None = []
 next_text copy pica (Some next) = next_word_text copy pica next
 
 abbrev pub wider_text : Pica → ℤ → List ℕ
-wider_text pica rest = codes "; " ++ (points_up pica (unsigned_abs rest) ++ codes " points wider than the measure at neutral")
+wider_text pica rest =
+    codes "; " ++ (points_up pica (unsigned_abs rest) ++ codes " points wider than the measure at neutral")
 
 abbrev pub shorter_text : Pica → ℤ → List ℕ
-shorter_text pica rest = codes "; " ++ (points_down pica (unsigned_abs rest) ++ codes " points short of the measure at neutral")
+shorter_text pica rest =
+    codes "; " ++ (points_down pica (unsigned_abs rest) ++ codes " points short of the measure at neutral")
 
 -- what the words and the spaces at neutral leave of the measure
 abbrev pub rest_text : Pica → ℤ → List ℕ
@@ -110,9 +123,15 @@ is_loose jobs.SpaceVanishes = false
 is_loose (jobs.NoMatrix place) = false
 is_loose (jobs.TooWide line) = false
 
+-- of a line with spaces
+abbrev pub spaced_text : List Symbol → Scale → LineValues → JobFault → List ℕ
+spaced_text copy scale line fault =
+    spaces_text line.spaces ++ (if is_loose fault then next_text copy scale.pica line.next
+    else rest_text scale.pica line.rest)
+
 abbrev pub way_text : List Symbol → Scale → LineValues → JobFault → List ℕ
-way_text copy scale line fault =
-    spaces_text line.spaces ++ (if is_loose fault then next_text copy scale.pica line.next else rest_text scale.pica line.rest)
+way_text copy scale line fault = if line.spaces == 0 then lone_text scale line.rest
+    else spaced_text copy scale line fault
 
 -- ---- faults of lines
 
@@ -128,7 +147,8 @@ places_text words = codes ", places " ++ decimal (begin_of words) ++ codes ".." 
 
 -- the number of a line, its fault and its places
 abbrev pub title_text : Scale → LineValues → JobFault → List ℕ
-title_text scale line fault = lead_text line.number ++ (cause_and_limits scale line.wedge_sum fault ++ places_text line.words)
+title_text scale line fault = lead_text line.number
+    ++ (cause_and_limits scale line.wedge_sum fault ++ places_text line.words)
 
 abbrev pub shown_text : List Symbol → LineValues → List ℕ
 shown_text copy line = codes "  | " ++ set_text copy line
@@ -138,7 +158,8 @@ way_line copy scale line fault = codes "  = " ++ (way_text copy scale line fault
 
 -- that, the text of the line, and the way out
 abbrev pub fault_text : List Symbol → Scale → LineValues → JobFault → List ℕ
-fault_text copy scale line fault = title_text scale line fault ++ (shown_text copy line ++ way_line copy scale line fault)
+fault_text copy scale line fault = title_text scale line fault
+    ++ (shown_text copy line ++ way_line copy scale line fault)
 
 -- of one line, which has one fault or none
 abbrev pub fault_if_any : List Symbol → Scale → LineValues → List JobFault → List ℕ
@@ -147,7 +168,8 @@ fault_if_any copy scale line (fault ∷ more) = fault_text copy scale line fault
 
 abbrev pub line_faults_text : List Symbol → Scale → List LineValues → List ℕ
 line_faults_text copy scale [] = []
-line_faults_text copy scale (line ∷ lines) = fault_if_any copy scale line line.faults ++ line_faults_text copy scale lines
+line_faults_text copy scale (line ∷ lines) = fault_if_any copy scale line line.faults
+    ++ line_faults_text copy scale lines
 
 -- ---- symbols that the case lacks
 
@@ -168,11 +190,11 @@ abbrev pub around_to : List Symbol → ℕ → ℕ
 around_to copy place = min (place + 25) (length copy)
 
 abbrev pub around_text : List Symbol → ℕ → List ℕ
-around_text copy place = symbols_text (take (around_to copy place - around_from place) (drop (around_from place) copy))
+around_text copy place = marked_text (take (around_to copy place - around_from place) (drop (around_from place) copy))
 
--- a symbol by its style, its character and its code
+-- a symbol by its style, its character as it is shown and its code
 abbrev pub name_text : Symbol → List ℕ
-name_text s = style_text s.style ++ codes " '" ++ encode_utf8 s.ch ++ codes "' (" ++ code_text s.ch ++ codes ")"
+name_text s = style_text s.style ++ codes " '" ++ symbols_text (s ∷ []) ++ codes "' (" ++ code_text s.ch ++ codes ")"
 
 abbrev pub at_text : ℕ → List ℕ
 at_text place = codes " at place " ++ decimal place ++ codes "\n  | "

@@ -1,4 +1,5 @@
 pub mod Parts
 pub mod Lines
 pub mod Faults
+pub mod Reasons
 pub mod Proof

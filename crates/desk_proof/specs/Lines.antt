@@ -25,20 +25,27 @@ sum_text (Some sum) = signed_decimal sum
 -- where a number stands between two, on a scale from 0 to 20
 abbrev pub place_between : (low high : ℕ) → ℤ → ℕ
 place_between low high sum =
-    if int_le sum (pos low) then 0 else if int_le (pos high) sum then 20 else (unsigned_abs sum - low) * 20 / (high - low)
+    if int_le sum (pos low) then 0 else if int_le (pos high) sum then 20
+    else (unsigned_abs sum - low) * 20 / (high - low)
 
--- `|`, or `<` and `>` for a number outside of the two
-abbrev pub hand : (low high : ℕ) → ℤ → ℕ
-hand low high sum = if int_lt sum (pos low) then 60 else if int_lt (pos high) sum then 62 else 124
+-- above both: `>` in a line with a fault, and `+` in one that is filled and may stand there
+abbrev pub above_hand : Bool → ℕ
+above_hand true = 62
+above_hand false = 43
+
+-- `|`, or `<` for a number below the two, and another hand for one above them
+abbrev pub hand : (low high : ℕ) → Bool → ℤ → ℕ
+hand low high faulty sum = if int_lt sum (pos low) then 60 else if int_lt (pos high) sum then above_hand faulty else 124
 
 -- a hand at a place over dots
 abbrev pub hand_text : ℕ → ℕ → List ℕ
 hand_text place hand = many place 46 ++ encode_utf8 hand ++ many (20 - place) 46
 
--- a number between tight and loose
-abbrev pub gauge_text : Scale → Option ℤ → List ℕ
-gauge_text scale None = many 21 46
-gauge_text scale (Some sum) = hand_text (place_between scale.tight scale.loose sum) (hand scale.tight scale.loose sum)
+-- a number between tight and loose, of a line with a fault or without
+abbrev pub gauge_text : Scale → Bool → Option ℤ → List ℕ
+gauge_text scale faulty None = many 21 46
+gauge_text scale faulty (Some sum) =
+    hand_text (place_between scale.tight scale.loose sum) (hand scale.tight scale.loose faulty sum)
 
 -- ---- lines
 
@@ -55,8 +62,9 @@ mark_text false = codes "   "
 -- the number of a line, its place, its wedge pair and sum, and the gauge
 abbrev pub figures_text : Scale → LineValues → List ℕ
 figures_text scale line =
-    right 6 (decimal line.number) ++ right 8 (decimal (begin_of line.words)) ++ pair_text (option_and_then pair_of line.wedge_sum)
-    ++ right 6 (sum_text line.wedge_sum) ++ codes "  " ++ gauge_text scale line.wedge_sum
+    right 6 (decimal line.number) ++ right 8 (decimal (begin_of line.words))
+    ++ pair_text (option_and_then pair_of line.wedge_sum)
+    ++ right 6 (sum_text line.wedge_sum) ++ codes "  " ++ gauge_text scale (is_faulty line) line.wedge_sum
 
 -- the words of a line, and its fills
 abbrev pub set_text : List Symbol → LineValues → List ℕ

@@ -1,9 +1,10 @@
 -- Parts of a proof's text: columns, characters of the copy, widths in points.
-use Rattle.std.specs.Prelude.{ℕ, ◌+◌, ◌-◌, ◌*◌, ◌/◌, ◌%◌, Bool, true, false, ◌||◌, ◌==◌, nat_lt, List, [], ◌∷◌, ◌++◌, length, replicate, codes, if◌then◌else◌}
-use Rattle.std.specs.Char.{encode_utf8}
+use Rattle.std.specs.Prelude.{ℕ, ◌+◌, ◌-◌, ◌*◌, ◌/◌, ◌%◌, Bool, true, false, ◌||◌, ◌==◌, nat_lt, List, [], ◌∷◌, ◌++◌, length, map, take, drop, replicate, codes, if◌then◌else◌}
 use Rattle.std.specs.Fmt.{decimal}
 use Rattle.std.specs.Str.{encode_utf8_all}
 use Rattle.desk_ops.specs.declared.op.Symbol.{Symbol}
+use Rattle.desk_text.specs.Plain.{all_shown, directional_name, is_directional, shown}
+use Rattle.desk_text.specs.Writing.{quoted, text_bytes}
 use Rattle.desk_lines.specs.declared.words.Word.{Word}
 use Rattle.desk_lines.specs.Words.{spelled}
 use Rattle.desk_units.specs.declared.Pica.{Pica}
@@ -25,30 +26,21 @@ left width text = text ++ many (width - length text) 32
 
 -- ---- the copy
 
--- a line feed is shown as a space
-abbrev pub shown : ℕ → ℕ
-shown ch = if ch == 10 then 32 else ch
+-- symbols as they are shown, with the marks of their styles, as an export has them
+abbrev pub marked_text : List Symbol → List ℕ
+marked_text symbols = text_bytes (all_shown symbols)
 
--- symbols by their characters, without their styles
+-- a character as it is shown, behind a backslash where it is a mark or a backslash
+abbrev pub shown_quoted : ℕ → List ℕ
+shown_quoted c = if is_directional c then directional_name c else quoted c
+
+-- symbols by their characters as they are shown, without their styles
 abbrev pub symbols_text : List Symbol → List ℕ
 symbols_text [] = []
-symbols_text (s ∷ symbols) = encode_utf8 (shown s.ch) ++ symbols_text symbols
+symbols_text (s ∷ symbols) = encode_utf8_all (map (λ (t : Symbol). t.ch) (shown s)) ++ symbols_text symbols
 
 abbrev pub word_text : List Symbol → Word → List ℕ
-word_text copy word = symbols_text (spelled copy word)
-
--- nothing stands before the first of a list, and a space before each other
-abbrev pub gap : Bool → List ℕ
-gap true = []
-gap false = codes " "
-
--- words with a space between each two, where the next is the first or not
-abbrev pub words_from : List Symbol → Bool → List Word → List ℕ
-words_from copy is_first [] = []
-words_from copy is_first (word ∷ words) = gap is_first ++ word_text copy word ++ words_from copy false words
-
-abbrev pub words_text : List Symbol → List Word → List ℕ
-words_text copy words = words_from copy true words
+word_text copy word = marked_text (spelled copy word)
 
 -- a middle dot for each fill
 abbrev pub dots_text : List ℕ → List ℕ
@@ -75,6 +67,10 @@ end_from here (word ∷ words) = end_from word.to words
 
 abbrev pub end_of : List Word → ℕ
 end_of words = end_from 0 words
+
+-- what stands in the copy from the first of words to behind the last
+abbrev pub words_text : List Symbol → List Word → List ℕ
+words_text copy words = marked_text (take (end_of words - begin_of words) (drop (begin_of words) copy))
 
 -- ---- widths
 

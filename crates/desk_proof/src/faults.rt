@@ -1,6 +1,6 @@
 //! Faults at their text, and the way out in figures.
 
-ghost use Rattle.std.specs.Prelude.{◌≡◌, ◌++◌, All, OnOk, IfSome, string_bytes, unsigned_abs};
+ghost use Rattle.std.specs.Prelude.{◌≡◌, ◌++◌, All, OnOk, IfSome, pos, ◌-ℤ◌, string_bytes, unsigned_abs};
 ghost use Rattle.std.specs.Fmt.{decimal};
 ghost use Rattle.desk_units.specs.WedgeSum.{greatest};
 ghost use Rattle.desk_job.specs.Setting.{IsWord};
@@ -8,12 +8,13 @@ ghost use Rattle.desk_proof.specs.Parts.{points_down, points_up};
 ghost use Rattle.desk_proof.specs.Lines.{HasWords};
 ghost use Rattle.desk_proof.specs.Faults.{cause_and_limits, cause_text, copy_fault_text, copy_faults_text, fault_if_any};
 ghost use Rattle.desk_proof.specs.Faults.{fault_text, filling_text, free_text, is_loose, lead_text, limit_text, limits_text};
-ghost use Rattle.desk_proof.specs.Faults.{line_faults_text, meaning_text, missing_text, next_text, next_word_text};
-ghost use Rattle.desk_proof.specs.Faults.{over_text, places_text, rest_text, shorter_text, shown_text, spaces_text};
-ghost use Rattle.desk_proof.specs.Faults.{title_text, way_line, way_text, wider_text};
+ghost use Rattle.desk_proof.specs.Faults.{line_faults_text, lone_text, meaning_text, missing_text, next_text, next_word_text};
+ghost use Rattle.desk_proof.specs.Faults.{over_text, places_text, rest_text, shorter_text, shown_text, spaced_text, spaces_text};
+ghost use Rattle.desk_proof.specs.Faults.{title_text, too_wide_text, way_line, way_text, wider_text};
 
 use crate::lines::{put_set, put_sum};
-use crate::parts::{begin_of, end_of, put_points_down, put_points_up, put_word};
+use crate::marked::put_word;
+use crate::parts::{begin_of, end_of, put_points_down, put_points_up};
 use crate::scale::Scale;
 use desk_galley::{Line, Next};
 use desk_job::JobFault;
@@ -60,7 +61,8 @@ fn put_bound<A: Allocator + Copy>(
     limit: u32,
     after: &str,
 ) -> Result<(), AllocError>
-    ensures { OnOk result (string_bytes out.new ≡ string_bytes out.old ++ (before.now ++ (decimal limit ++ after.now))) }
+    ensures { OnOk result
+        (string_bytes out.new ≡ string_bytes out.old ++ (before.now ++ (decimal limit ++ after.now))) }
 {
     out.push_str(before)?;
     write!(out, "{limit}")?;
@@ -128,7 +130,6 @@ fn put_spaces<A: Allocator + Copy>(out: &mut String<A>, count: usize) -> Result<
     ensures { OnOk result (string_bytes out.new ≡ string_bytes out.old ++ spaces_text count) }
 {
     match count {
-        0 => out.push_str("no space"),
         1 => out.push_str("1 space"),
         count => write!(out, "{count} spaces"),
     }
@@ -141,7 +142,8 @@ fn put_down<A: Allocator + Copy>(
     width: Atoms,
     after: &str,
 ) -> Result<(), AllocError>
-    ensures { OnOk result (string_bytes out.new ≡ string_bytes out.old ++ (points_down pica (unsigned_abs width) ++ after.now)) }
+    ensures { OnOk result
+        (string_bytes out.new ≡ string_bytes out.old ++ (points_down pica (unsigned_abs width) ++ after.now)) }
 {
     put_points_down(out, pica, width.get().unsigned_abs())?;
     out.push_str(after)
@@ -154,7 +156,8 @@ fn put_up<A: Allocator + Copy>(
     width: Atoms,
     after: &str,
 ) -> Result<(), AllocError>
-    ensures { OnOk result (string_bytes out.new ≡ string_bytes out.old ++ (points_up pica (unsigned_abs width) ++ after.now)) }
+    ensures { OnOk result
+        (string_bytes out.new ≡ string_bytes out.old ++ (points_up pica (unsigned_abs width) ++ after.now)) }
 {
     put_points_up(out, pica, width.get().unsigned_abs())?;
     out.push_str(after)
@@ -273,6 +276,58 @@ fn is_loose(fault: JobFault) -> bool
     }
 }
 
+/// How far a space is from what is left of a measure.
+fn between(space: u32, rest: Atoms) -> u64
+    ensures { result ≡ unsigned_abs (pos space -ℤ rest) }
+{
+    (space as i128 - rest.get() as i128).unsigned_abs() as u64
+}
+
+/// Writes by how much a word that leaves so much of the measure is too wide to have the least space.
+fn put_too_wide<A: Allocator + Copy>(
+    out: &mut String<A>,
+    scale: Scale,
+    rest: Atoms,
+) -> Result<(), AllocError>
+    ensures { OnOk result (string_bytes out.new ≡ string_bytes out.old ++ too_wide_text scale rest) }
+{
+    put_points_up(out, scale.pica, between(scale.space, rest))?;
+    out.push_str(" points too wide")
+}
+
+/// Writes, of a line without a space, the least space and by how much its word is too wide to have it.
+fn put_lone<A: Allocator + Copy>(
+    out: &mut String<A>,
+    scale: Scale,
+    rest: Atoms,
+) -> Result<(), AllocError>
+    ensures { OnOk result (string_bytes out.new ≡ string_bytes out.old ++ lone_text scale rest) }
+{
+    out.push_str("one word and no space to justify it; with one of at least ")?;
+    put_points_up(out, scale.pica, scale.space as u64)?;
+    out.push_str(" points it is ")?;
+    put_too_wide(out, scale, rest)
+}
+
+/// Writes the way out of the fault of a line with spaces.
+fn put_spaced<A: Allocator + Copy>(
+    out: &mut String<A>,
+    copy: &[Symbol],
+    scale: Scale,
+    line: &Line<A>,
+    fault: JobFault,
+) -> Result<(), AllocError>
+    requires { HasWords copy.now line.now }
+    ensures { OnOk result (string_bytes out.new ≡ string_bytes out.old ++ spaced_text copy.now scale line.now fault) }
+{
+    put_spaces(out, line.spaces())?;
+    if is_loose(fault) {
+        put_next(out, copy, scale.pica, line.next())
+    } else {
+        put_rest(out, scale.pica, line.rest())
+    }
+}
+
 /// Writes the way out of a line's fault.
 fn put_way<A: Allocator + Copy>(
     out: &mut String<A>,
@@ -284,11 +339,10 @@ fn put_way<A: Allocator + Copy>(
     requires { HasWords copy.now line.now }
     ensures { OnOk result (string_bytes out.new ≡ string_bytes out.old ++ way_text copy.now scale line.now fault) }
 {
-    put_spaces(out, line.spaces())?;
-    if is_loose(fault) {
-        put_next(out, copy, scale.pica, line.next())
+    if line.spaces() == 0 {
+        put_lone(out, scale, line.rest())
     } else {
-        put_rest(out, scale.pica, line.rest())
+        put_spaced(out, copy, scale, line, fault)
     }
 }
 
@@ -387,7 +441,8 @@ fn put_fault_of<A: Allocator + Copy>(
     line: &Line<A>,
 ) -> Result<(), AllocError>
     requires { HasWords copy.now line.now }
-    ensures { OnOk result (string_bytes out.new ≡ string_bytes out.old ++ fault_if_any copy.now scale line.now (line.now).faults) }
+    ensures { OnOk result
+        (string_bytes out.new ≡ string_bytes out.old ++ fault_if_any copy.now scale line.now (line.now).faults) }
 {
     match line.fault() {
         Some(fault) => put_fault(out, copy, scale, line, fault),

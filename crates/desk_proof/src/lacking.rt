@@ -3,6 +3,7 @@
 ghost use Rattle.std.specs.Prelude.{◌≡◌, ◌++◌, ◌<◌, length, OnOk, Some, slice_get, string_bytes};
 ghost use Rattle.desk_proof.specs.Faults.{around_text, at_text, code_text, lack_text, lack_title, lacking_fault_text, lacking_text, name_text, style_text};
 
+use crate::marked::put_marked;
 use crate::parts::put_symbols;
 use desk_job::JobFault;
 use desk_ops::{Style, Symbol};
@@ -26,13 +27,13 @@ pub fn put_code<A: Allocator + Copy>(out: &mut String<A>, ch: char) -> Result<()
     write!(out, "U+{code:04X}")
 }
 
-/// Writes a symbol by its style, its character and its code.
+/// Writes a symbol by its style, its character as it is shown and its code.
 pub fn put_name<A: Allocator + Copy>(out: &mut String<A>, symbol: Symbol) -> Result<(), AllocError>
     ensures { OnOk result (string_bytes out.new ≡ string_bytes out.old ++ name_text symbol) }
 {
     out.push_str(style_word(symbol.style))?;
     out.push_str(" '")?;
-    out.push(symbol.ch)?;
+    put_symbols(out, &[symbol])?;
     out.push_str("' (")?;
     put_code(out, symbol.ch)?;
     out.push_str(")")
@@ -49,7 +50,7 @@ pub fn put_around<A: Allocator + Copy>(
 {
     let from = place.saturating_sub(24);
     let to = copy.len().min(place.saturating_add(25));
-    put_symbols(out, &copy[from..to])
+    put_marked(out, &copy[from..to])
 }
 
 fn put_at<A: Allocator + Copy>(out: &mut String<A>, place: usize) -> Result<(), AllocError>
@@ -92,7 +93,8 @@ fn put_lack<A: Allocator + Copy>(
     copy: &[Symbol],
     place: usize,
 ) -> Result<(), AllocError>
-    ensures { OnOk result (string_bytes out.new ≡ string_bytes out.old ++ lack_text copy.now place (slice_get copy.now place)) }
+    ensures { OnOk result
+        (string_bytes out.new ≡ string_bytes out.old ++ lack_text copy.now place (slice_get copy.now place)) }
 {
     if place >= copy.len() {
         return Ok(());

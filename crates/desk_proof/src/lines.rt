@@ -2,10 +2,11 @@
 
 ghost use Rattle.std.specs.Prelude.{◌≡◌, ◌++◌, ◌≤◌, All, OnOk, option_and_then, string_bytes};
 ghost use Rattle.desk_job.specs.Setting.{IsWord};
-ghost use Rattle.desk_proof.specs.Lines.{HasWords, figures_text, gauge_text, hand, hand_text, mark_text, pair_text, place_between, line_text, lines_text, set_text, sum_text};
+ghost use Rattle.desk_proof.specs.Lines.{HasWords, above_hand, figures_text, gauge_text, hand, hand_text, mark_text, pair_text, place_between, line_text, lines_text, set_text, sum_text};
 ghost use Rattle.desk_proof.specs.Parts.{right};
 
-use crate::parts::{begin_of, put_fills, put_left, put_many, put_number, put_right, put_words};
+use crate::marked::put_words;
+use crate::parts::{begin_of, put_fills, put_left, put_many, put_number, put_right};
 use crate::scale::Scale;
 use desk_galley::Line;
 use desk_ops::Symbol;
@@ -71,14 +72,21 @@ fn place_between(low: u32, high: u32, sum: i64) -> usize
     }
 }
 
-/// The hand of a gauge.
-fn hand(low: u32, high: u32, sum: i64) -> char
-    ensures { result ≡ hand low high sum }
+/// The hand of a gauge above loose, where a line that is filled may stand.
+fn above_hand(is_faulty: bool) -> char
+    ensures { result ≡ above_hand is_faulty }
+{
+    if is_faulty { '>' } else { '+' }
+}
+
+/// The hand of a gauge, of a line with a fault or without.
+fn hand(low: u32, high: u32, is_faulty: bool, sum: i64) -> char
+    ensures { result ≡ hand low high is_faulty sum }
 {
     if sum < low as i64 {
         '<'
     } else if sum > high as i64 {
-        '>'
+        above_hand(is_faulty)
     } else {
         '|'
     }
@@ -98,19 +106,20 @@ fn put_hand<A: Allocator + Copy>(
     put_many(out, '.', GAUGE - place)
 }
 
-/// Writes a wedge sum as a hand between tight and loose.
+/// Writes a wedge sum as a hand between tight and loose, of a line with a fault or without.
 fn put_gauge<A: Allocator + Copy>(
     out: &mut String<A>,
     scale: Scale,
+    is_faulty: bool,
     sum: Option<i64>,
 ) -> Result<(), AllocError>
-    ensures { OnOk result (string_bytes out.new ≡ string_bytes out.old ++ gauge_text scale sum) }
+    ensures { OnOk result (string_bytes out.new ≡ string_bytes out.old ++ gauge_text scale is_faulty sum) }
 {
     let Some(sum) = sum else {
         return put_many(out, '.', GAUGE + 1);
     };
     let place = place_between(scale.tight, scale.loose, sum);
-    put_hand(out, place, hand(scale.tight, scale.loose, sum))
+    put_hand(out, place, hand(scale.tight, scale.loose, is_faulty, sum))
 }
 
 /// The mark of a line with a fault, and of another.
@@ -133,7 +142,7 @@ fn put_figures<A: Allocator + Copy>(
     put_pair(out, line.positions())?;
     put_sum_right(out, 6, line.wedge_sum())?;
     out.push_str("  ")?;
-    put_gauge(out, scale, line.wedge_sum())
+    put_gauge(out, scale, line.is_faulty(), line.wedge_sum())
 }
 
 /// Writes the words of a line, and its fills.

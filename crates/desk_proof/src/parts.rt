@@ -1,12 +1,12 @@
 //! Parts of a proof's text: columns, characters of the copy, widths in points.
 
-ghost use Rattle.std.specs.Prelude.{◌≡◌, ◌++◌, ◌≤◌, ◌^◌, All, OnOk, string_bytes};
+ghost use Rattle.std.specs.Prelude.{◌≡◌, [], ◌∷◌, ◌++◌, ◌≤◌, ◌^◌, OnOk, string_bytes};
 ghost use Rattle.std.specs.Fmt.{decimal};
-ghost use Rattle.desk_job.specs.Setting.{IsWord};
-ghost use Rattle.desk_proof.specs.Parts.{begin_of, dots_text, end_of, fills_text, gap, has_fills, left, many, points_down, points_up, right, shown, symbols_text, tenths_text, word_text, words_text};
+ghost use Rattle.desk_proof.specs.Parts.{begin_of, dots_text, end_of, fills_text, has_fills, left, many, points_down, points_up, right, symbols_text, tenths_text};
 
 use desk_lines::Word;
 use desk_ops::Symbol;
+use desk_text::{is_directional, put_directional_name};
 use desk_units::{Pica, point_atoms};
 use itoa::Buffer;
 use std::alloc::{AllocError, Allocator};
@@ -61,14 +61,21 @@ pub fn put_number<A: Allocator + Copy>(
     put_right(out, width, digits.format(n))
 }
 
-/// A character as it is shown: a line feed as a space.
-fn shown(ch: char) -> char
-    ensures { result ≡ shown ch }
+/// Writes a symbol by its character: a line feed as a space, a directional mark by its name.
+#[tactic(auto, unfolding(desk_text::specs::Plain::shown))]
+fn put_shown<A: Allocator + Copy>(out: &mut String<A>, symbol: Symbol) -> Result<(), AllocError>
+    ensures { OnOk result (string_bytes out.new ≡ string_bytes out.old ++ symbols_text (symbol ∷ [])) }
 {
-    if ch == '\n' { ' ' } else { ch }
+    if symbol.ch == '\n' {
+        out.push(' ')
+    } else if is_directional(symbol.ch) {
+        put_directional_name(out, symbol.ch)
+    } else {
+        out.push(symbol.ch)
+    }
 }
 
-/// Writes symbols by their characters.
+/// Writes symbols by their characters, as they are shown.
 pub fn put_symbols<A: Allocator + Copy>(
     out: &mut String<A>,
     symbols: &[Symbol],
@@ -76,44 +83,7 @@ pub fn put_symbols<A: Allocator + Copy>(
     ensures { OnOk result (string_bytes out.new ≡ string_bytes out.old ++ symbols_text symbols.now) }
 {
     for symbol in symbols {
-        out.push(shown(symbol.ch))?;
-    }
-    Ok(())
-}
-
-/// Writes a word of a copy.
-pub fn put_word<A: Allocator + Copy>(
-    out: &mut String<A>,
-    copy: &[Symbol],
-    word: Word,
-) -> Result<(), AllocError>
-    requires { IsWord copy.now word }
-    ensures { OnOk result (string_bytes out.new ≡ string_bytes out.old ++ word_text copy.now word) }
-{
-    put_symbols(out, &copy[word.from..word.to])
-}
-
-/// What stands before the first of a list, and before each other.
-fn gap(is_first: bool) -> &'static str
-    ensures { result.now ≡ gap is_first }
-{
-    if is_first { "" } else { " " }
-}
-
-/// Writes words of a copy with a space between each two.
-pub fn put_words<A: Allocator + Copy>(
-    out: &mut String<A>,
-    copy: &[Symbol],
-    words: &[Word],
-) -> Result<(), AllocError>
-    requires { All (IsWord copy.now) words.now }
-    ensures { OnOk result (string_bytes out.new ≡ string_bytes out.old ++ words_text copy.now words.now) }
-{
-    let mut is_first = true;
-    for word in words {
-        out.push_str(gap(is_first))?;
-        put_word(out, copy, *word)?;
-        is_first = false;
+        put_shown(out, *symbol)?;
     }
     Ok(())
 }

@@ -2,15 +2,15 @@
 
 ghost use Rattle.std.specs.Prelude.{◌≡◌, ◌++◌, All, OnOk, string_bytes};
 ghost use Rattle.desk_proof.specs.Lines.{HasWords, columns_text};
-ghost use Rattle.desk_proof.specs.Proof.{body_text, counts_text, faulty_lines, head_text, head_words, no_galley_text, proof_text, scale_of, values_text, whole_text};
+ghost use Rattle.desk_proof.specs.Proof.{body_text, counts_text, faulty_lines, head_text, head_words, no_galley_text, proof_text, scale_of, sorts_text, values_text, whole_text};
 
-use crate::faults::{cause, put_copy_faults, put_line_faults};
+use crate::faults::{put_copy_faults, put_line_faults};
 use crate::lacking::put_lacking;
 use crate::lines::put_lines;
+use crate::reasons::{NoGalley, put_reason};
 use crate::scale::Scale;
 use desk_galley::{Galley, Line};
-use desk_job::JobFault;
-use desk_job::terms::Values;
+use desk_job::terms::{Values, whole};
 use desk_ops::{CopyFault, Symbol};
 use std::alloc::{AllocError, Allocator};
 
@@ -32,6 +32,7 @@ pub fn scale_of<'a, A: Allocator>(galley: &Galley<'a, A>) -> Scale
         pica: galley.wedge().pica(),
         tight: values.tight,
         loose: values.loose,
+        space: whole(galley.terms().tight_space()) as u32,
     }
 }
 
@@ -57,6 +58,17 @@ fn put_counts<A: Allocator + Copy>(out: &mut String<A>, lines: &[Line<A>]) -> Re
     write!(out, "{count} lines, {faulty} at fault, ")
 }
 
+/// Writes how many symbols the case lacks, each at each of its places, where it lacks any.
+fn put_sorts<A: Allocator + Copy>(out: &mut String<A>, count: usize) -> Result<(), AllocError>
+    ensures { OnOk result (string_bytes out.new ≡ string_bytes out.old ++ sorts_text count) }
+{
+    match count {
+        0 => Ok(()),
+        1 => out.push_str("1 missing sort, "),
+        count => write!(out, "{count} missing sorts, "),
+    }
+}
+
 /// Writes what the lines are set by.
 fn put_values<A: Allocator + Copy>(out: &mut String<A>, values: Values) -> Result<(), AllocError>
     ensures { OnOk result (string_bytes out.new ≡ string_bytes out.old ++ values_text values) }
@@ -65,7 +77,9 @@ fn put_values<A: Allocator + Copy>(out: &mut String<A>, values: Values) -> Resul
     write!(out, "tight {}, loose {}", values.tight, values.loose)
 }
 
-/// Writes how many lines a galley has, how many of them are at fault, and what they are set by.
+/// Writes how many lines a galley has, how many of them are at fault, how many symbols the case lacks, and what the
+/// lines
+/// are set by.
 pub fn put_head_words<'a, A: Allocator + Copy>(
     out: &mut String<A>,
     galley: &Galley<'a, A>,
@@ -73,6 +87,7 @@ pub fn put_head_words<'a, A: Allocator + Copy>(
     ensures { OnOk result (string_bytes out.new ≡ string_bytes out.old ++ head_words galley.now) }
 {
     put_counts(out, galley.lines())?;
+    put_sorts(out, galley.lacking().len())?;
     put_values(out, galley.values())
 }
 
@@ -124,7 +139,8 @@ fn put_body<'a, A: Allocator + Copy>(
     }
 }
 
-/// Writes a galley of a copy as text at the end, and the faults of the copy, which mean that a correction is not shown. They
+/// Writes a galley of a copy as text at the end, and the faults of the copy, which mean that a correction is not
+/// shown. They
 /// stand above all; then the head, the symbols that the case lacks, each line where it is wanted, and the faults of lines.
 /// Widths are written in points to a tenth, what is free rounded down, what is too much rounded up.
 pub fn put_proof<'a, A: Allocator + Copy>(
@@ -135,7 +151,8 @@ pub fn put_proof<'a, A: Allocator + Copy>(
     extent: Extent,
 ) -> Result<(), AllocError>
     requires { All (HasWords copy.now) (galley.now).lines }
-    ensures { OnOk result (string_bytes out.new ≡ string_bytes out.old ++ proof_text copy.now faults.now galley.now extent) }
+    ensures { OnOk result
+        (string_bytes out.new ≡ string_bytes out.old ++ proof_text copy.now faults.now galley.now extent) }
 {
     put_copy_faults(out, faults)?;
     put_head(out, galley)?;
@@ -148,12 +165,12 @@ pub fn put_proof<'a, A: Allocator + Copy>(
 pub fn put_no_galley<A: Allocator + Copy>(
     out: &mut String<A>,
     faults: &[CopyFault],
-    why: JobFault,
+    why: &NoGalley,
 ) -> Result<(), AllocError>
-    ensures { OnOk result (string_bytes out.new ≡ string_bytes out.old ++ no_galley_text faults.now why) }
+    ensures { OnOk result (string_bytes out.new ≡ string_bytes out.old ++ no_galley_text faults.now why.now) }
 {
     put_copy_faults(out, faults)?;
     out.push_str("no galley: ")?;
-    out.push_str(cause(why))?;
+    put_reason(out, why)?;
     out.push_str("\n")
 }

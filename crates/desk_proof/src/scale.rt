@@ -2,10 +2,11 @@
 
 use desk_units::Pica;
 
-/// The pica, by which widths are written in points, and the limits of a wedge sum.
+/// The pica, by which widths are written in points, the limits of a wedge sum, and the atoms of a space at tight.
 #[derive(Clone, Copy, PartialEq, Eq, Debug)]
 pub struct Scale {
     pub pica: Pica,
     pub tight: u32,
     pub loose: u32,
+    pub space: u32,
 }

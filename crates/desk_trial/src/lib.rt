@@ -1,4 +1,9 @@
-//! Settings that are tried in place of those of a copy: what its galley would be by other values, before anyone sets them.
+//! Settings that are tried in place of those of a copy: what its galley would be by other values, before anyone sets
+//! them.
+//!
+//! A text is KEY=VALUE, as `loose=200`, where the command `set 1 KEY VALUE` of a script would be lawful. Of one key the
+//! last text counts. Nothing is stored. It refuses all texts for one that is no such setting, and reports the place of
+//! the first.
 #![tactic(auto)]
 
 pub mod laws;
@@ -168,8 +173,10 @@ fn with_value(settings: Settings, key: Key, value: u32) -> Settings
     }
 }
 
-/// The settings that texts as `loose=200` try, each KEY=VALUE as in the command `set`; of one key the last counts. A text that
-/// names no setting, or gives it no value that it may have, is refused by its place, the first of them, and so is the whole.
+/// The settings that texts as `loose=200` try, each KEY=VALUE as in the command `set`; of one key the last counts. A
+/// text that
+/// names no setting, or gives it no value that it may have, is refused by its place, the first of them, and so is the
+/// whole.
 pub fn trial_of<A: Allocator + Copy>(alloc: A, texts: &[&str]) -> Result<Settings, TrialFault>
     ensures value { IfOk result (λ s. trial_of texts.now ≡ Some s) }
     ensures lawful { IfOk result AreValues }

@@ -6,6 +6,7 @@ use Rattle.desk_job.specs.Job.{job, values_of}
 use Rattle.desk_job.proofs.Replicas.{copy_short, settings_in}
 use Rattle.desk_trial.specs.Trial.{tried_with}
 use Rattle.desk_galley.specs.Answer.{no_terms}
+use Rattle.desk_proof.specs.Reasons.{why_none}
 use Rattle.desk_preview.proofs.Galleys.{none_of_set, of_set}
 use Rattle.desk_picture.specs.Picture.{no_galley_picture, picture_text}
 use Rattle.desk_picture.proofs.Standing.{stand_in}
@@ -43,12 +44,20 @@ returns-in-Ok g c =
 
 pub returns-in-Err-Fault : goal.returns-in-Err-Fault
 returns-in-Err-Fault g c =
+    let set = c.args.replica.now.ops in
+    let case = c.args.case.now in
+    let wedge = c.args.wedge.now in
+    let trial = c.args.trial.now in
     let why = c.in-Err-Fault.why in
+    let settings = c.tried-settings.result in
+    let is = c.tried-settings.ensures.value ∙ ap (tried_with trial) c.settings-given.ensures in
     let faults = c.deref-in-Err-Fault.ensures.value ∙ c.in_ok-faults.ensures.faults in
-    let refused : job c.deref.result.now (by_key c.tried-settings.result) c.args.case.now c.args.wedge.now ≡ Err (why ∷ []) = search rules in
-    let terms : no_terms c.args.case.now c.args.wedge.now (values_of (by_key c.tried-settings.result)) ≡ why ∷ [] = search rules in
+    let by : c.why_none-why.result ≡ why_none settings case wedge why = search rules in
+    let reason = by ∙ ap (λ (s : Settings). why_none s case wedge why) is in
+    let refused : job c.deref.result.now (by_key settings) case wedge ≡ Err (why ∷ []) = search rules in
+    let terms : no_terms case wedge (values_of (by_key settings)) ≡ why ∷ [] = search rules in
     inr (
       why,
-      none_of_set c.args.replica.now.ops c.deref.result.now c.args.trial.now c.tried-settings.result c.args.case.now c.args.wedge.now why (c.deref.ensures.value ∙ c.in_ok-copy.ensures.copy) (c.tried-settings.ensures.value ∙ ap (tried_with c.args.trial.now) c.settings-given.ensures) terms refused,
-      c.in_ok-drawn-in-Err-Fault.ensures ∙ ap (λ f. no_galley_picture f why) faults,
+      none_of_set set c.deref.result.now trial settings case wedge why (c.deref.ensures.value ∙ c.in_ok-copy.ensures.copy) is terms refused,
+      c.in_ok-drawn-in-Err-Fault.ensures ∙ ap₂ (λ f n. no_galley_picture f n) faults reason,
     )

@@ -6,6 +6,7 @@ use Rattle.desk_job.specs.Job.{job, values_of}
 use Rattle.desk_job.proofs.Replicas.{copy_short, settings_in}
 use Rattle.desk_galley.specs.Answer.{no_terms}
 use Rattle.desk_proof.specs.Proof.{no_galley_text, proof_text}
+use Rattle.desk_proof.specs.Reasons.{why_none}
 use Rattle.desk_trial.specs.Trial.{tried_with}
 use Rattle.desk_preview.specs.Proofing.{is_clean}
 use Rattle.desk_preview.proofs.Galleys.{have_words, none_of_set, of_set}
@@ -38,14 +39,22 @@ returns-in-Ok g c =
 
 pub returns-in-Err-Fault : goal.returns-in-Err-Fault
 returns-in-Err-Fault g c =
+    let set = c.args.replica.now.ops in
+    let case = c.args.case.now in
+    let wedge = c.args.wedge.now in
+    let trial = c.args.trial.now in
     let why = c.in-Err-Fault.why in
+    let settings = c.tried-settings.result in
+    let is = c.tried-settings.ensures.value ∙ ap (tried_with trial) c.settings-given.ensures in
     let faults = c.deref-in-Err-Fault.ensures.value ∙ c.in_ok-faults.ensures.faults in
-    let refused : job c.deref.result.now (by_key c.tried-settings.result) c.args.case.now c.args.wedge.now ≡ Err (why ∷ []) = search rules in
-    let terms : no_terms c.args.case.now c.args.wedge.now (values_of (by_key c.tried-settings.result)) ≡ why ∷ [] = search rules in
-    let reported : string_bytes c.in_ok-text-in-Err-Fault.text ≡ no_galley_text c.deref-in-Err-Fault.result.now why = search rules in
+    let by : c.why_none-why.result ≡ why_none settings case wedge why = search rules in
+    let reason = by ∙ ap (λ (s : Settings). why_none s case wedge why) is in
+    let refused : job c.deref.result.now (by_key settings) case wedge ≡ Err (why ∷ []) = search rules in
+    let terms : no_terms case wedge (values_of (by_key settings)) ≡ why ∷ [] = search rules in
+    let reported : string_bytes c.in_ok-text-in-Err-Fault.text ≡ no_galley_text c.deref-in-Err-Fault.result.now c.why_none-why.result = search rules in
     inr (
       why,
-      none_of_set c.args.replica.now.ops c.deref.result.now c.args.trial.now c.tried-settings.result c.args.case.now c.args.wedge.now why (c.deref.ensures.value ∙ c.in_ok-copy.ensures.copy) (c.tried-settings.ensures.value ∙ ap (tried_with c.args.trial.now) c.settings-given.ensures) terms refused,
-      reported ∙ ap (λ f. no_galley_text f why) faults,
+      none_of_set set c.deref.result.now trial settings case wedge why (c.deref.ensures.value ∙ c.in_ok-copy.ensures.copy) is terms refused,
+      reported ∙ ap₂ (λ f n. no_galley_text f n) faults reason,
       refl,
     )
