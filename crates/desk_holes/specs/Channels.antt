@@ -56,7 +56,8 @@ unfoldable pub name_place : Signal → List ℕ
 name_place signal = between (codes "<text transform=\"translate(") (x_of signal + 3) (codes ",46) rotate(-60)\">")
 
 abbrev pub channel_text : ℕ → Signal → List ℕ
-channel_text bottom signal = guide_top signal ++ (guide_end bottom ++ (name_place signal ++ (channel_name signal ++ text_end)))
+channel_text bottom signal =
+    guide_top signal ++ (guide_end bottom ++ (name_place signal ++ (channel_name signal ++ text_end)))
 
 unfoldable pub channels_text : ℕ → List Signal → List ℕ
 channels_text bottom [] = []

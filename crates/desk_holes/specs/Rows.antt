@@ -46,7 +46,8 @@ symbol_text s = escaped_char s.ch ++ style_text s.style
 
 -- what stands in a cell without a symbol
 abbrev pub blank_text : CaseValues → Cell → List ℕ
-blank_text case cell = if same_cell case.space cell then codes "space" else if is_fill case cell then codes "fill" else codes "no matrix"
+blank_text case cell = if same_cell case.space cell then codes "space" else if is_fill case cell then codes "fill"
+    else codes "no matrix"
 
 -- what stands in a cell
 abbrev pub held_text : CaseValues → Cell → Option Symbol → List ℕ
@@ -68,7 +69,8 @@ meaning_text case (row.FineOut position) = codes "line out; 0005 at " ++ decimal
 
 -- ---- rows
 
--- how far down a row of so many stands: the last row of a ribbon, which the caster meets first, at 58, and each one before it 13 farther
+-- how far down a row of so many stands: the last row of a ribbon, which the caster meets first, at 58, and each one
+-- before it 13 farther
 unfoldable pub y_of : (count place : ℕ) → ℕ
 y_of count place = 58 + 13 * (count - 1 - place)
 

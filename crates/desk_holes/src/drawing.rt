@@ -2,16 +2,18 @@
 
 ghost use Rattle.std.specs.Prelude.{◌≡◌, IfErr, IfOk, MatchOption, OnOk, string_bytes};
 ghost use Rattle.desk_files.specs.Files.{HoldsOn};
-ghost use Rattle.desk_holes.specs.Drawing.{IsDrawn, IsNoRibbon, IsPicture, IsUndrawn};
+ghost use Rattle.desk_outputs.specs.Outputs.{destination};
+ghost use Rattle.desk_holes.specs.Drawing.{IsDrawn, IsNoRibbon, IsPicture, IsUndrawn, of_output};
 ghost use Rattle.desk_holes.specs.Picture.{picture_text};
 ghost use Rattle.desk_reading.specs.Sources.{sources};
 
 use crate::picture::put_holes;
 use desk_case::MatrixCase;
 use desk_caster::{RibbonFault, read_ribbon};
-use desk_files::{Files, store};
+use desk_files::Files;
 use desk_inputs::Memory;
 use desk_memory::NoMemory;
+use desk_outputs::{Kind, OutputFault, Target, store_over};
 use desk_reading::{ReadingFault, take_in};
 use desk_signals::RibbonRow;
 use std::alloc::Allocator;
@@ -35,7 +37,8 @@ fn drawn<A: Allocator + Copy>(
     bytes: &[u8],
     case: &MatrixCase,
 ) -> Result<Option<String<A>>, NoMemory>
-    ensures { IfOk result (λ o. MatchOption o (IsNoRibbon bytes.now) (λ s. IsPicture bytes.now case.now (string_bytes s))) }
+    ensures { IfOk result
+        (λ o. MatchOption o (IsNoRibbon bytes.now) (λ s. IsPicture bytes.now case.now (string_bytes s))) }
 {
     match read_ribbon(alloc, bytes) {
         Ok(rows) => Ok(Some(picture_of(alloc, &rows, case)?)),
@@ -44,30 +47,47 @@ fn drawn<A: Allocator + Copy>(
     }
 }
 
+/// What a picture that is not stored is for a drawing.
+fn of_output(why: OutputFault) -> ReadingFault
+    ensures { result ≡ of_output why }
+{
+    match why {
+        OutputFault::Taken(kind) => ReadingFault::Taken(kind),
+        OutputFault::File(why) => ReadingFault::Unstored(why),
+    }
+}
+
 /// Draws a ribbon by a case as `put_holes` does, and stores the picture under the name of a target. It is true exactly where
 /// it did so, and false where the file's bytes are no ribbon: then no file changes, and `read_job` reports why. Rows that the
-/// caster would not cast are drawn too. The wedge is read, so that the refusals are those of `read_job`, and not used. No name
-/// is taken. A target that is the ribbon, the case or the wedge is replaced as any other; where the picture is not stored
-/// none but `target.new` may have changed.
+/// caster would not cast are drawn too. The wedge is read, so that the refusals are those of `read_job`, and not used.
+/// No name
+/// is taken. Where a file that is no picture stands under the target, which is not forced, the fault is `Taken`, and
+/// no file
+/// changes. A target that is forced, and is the ribbon, the case or the wedge, is replaced as any other; where the picture is
+/// not stored none but `target.new` may have changed.
 pub fn draw_ribbon<F: Files, A: Allocator + Copy>(
     memory: Memory<A>,
     files: &mut F,
     ribbon: &str,
     case: &str,
     wedge: &str,
-    target: &str,
+    target: &Target<'_>,
 ) -> Result<bool, ReadingFault>
-    ensures ok { IfOk result (IsDrawn (sources ribbon.now case.now wedge.now) target.now (F.shelf files.old) (F.shelf files.new)) }
+    ensures ok { IfOk result
+        (IsDrawn (sources ribbon.now case.now wedge.now) (destination target.now.name.now target.now.force)
+        (F.shelf files.old) (F.shelf files.new)) }
     ensures counted { OnOk result ((F.shelf files.new).failures ≡ (F.shelf files.old).failures) }
-    ensures err { IfErr result (IsUndrawn (sources ribbon.now case.now wedge.now) target.now (F.shelf files.old) (F.shelf files.new)) }
+    ensures err { IfErr result
+        (IsUndrawn (sources ribbon.now case.now wedge.now) (destination target.now.name.now target.now.force)
+        (F.shelf files.old) (F.shelf files.new)) }
     ensures held { HoldsOn (F.shelf files.old).held (F.shelf files.new).held }
 {
     let (bytes, case, _) = take_in(memory, files, ribbon, case, wedge)?;
     let Some(picture) = drawn(memory.own, &bytes, &case)? else {
         return Ok(false);
     };
-    match store(memory.own, files, target, picture.as_bytes()) {
+    match store_over(memory.own, files, target, picture.as_bytes(), Kind::Picture) {
         Ok(()) => Ok(true),
-        Err(why) => Err(ReadingFault::Unstored(why)),
+        Err(why) => Err(of_output(why)),
     }
 }

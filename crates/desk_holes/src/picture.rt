@@ -96,7 +96,8 @@ fn put_head<A: Allocator + Copy>(out: &mut String<A>, count: usize) -> Result<()
     put_paper(out, count)
 }
 
-/// Writes a ribbon at the end as a picture in the form SVG: the paper with its 31 channels, and the rows as the caster meets
+/// Writes a ribbon at the end as a picture in the form SVG: the paper with its 31 channels, and the rows as the caster
+/// meets
 /// them, the last row first. A row has its place at the left, from 0 in punched order, a hole for each signal that it
 /// punches, and at the right what it means by the case: the symbol of its cell, `space`, `fill` or `no matrix`, with S where
 /// it is cast with S; or the position of a wedge. A place that is not punched has nothing. The character of a symbol is

@@ -97,7 +97,8 @@ fn put_held<A: Allocator + Copy>(
     case: &MatrixCase,
     cell: &Cell,
 ) -> Result<(), AllocError>
-    ensures { OnOk result (string_bytes out.new ≡ string_bytes out.old ++ held_text case.now cell.now (symbol_at case.now cell.now)) }
+    ensures { OnOk result
+        (string_bytes out.new ≡ string_bytes out.old ++ held_text case.now cell.now (symbol_at case.now cell.now)) }
 {
     match case.symbol_at(*cell) {
         Some(symbol) => put_symbol(out, symbol),
@@ -243,7 +244,8 @@ pub fn put_rows<A: Allocator + Copy>(
     rows: &[RibbonRow],
     case: &MatrixCase,
 ) -> Result<(), AllocError>
-    ensures { OnOk result (string_bytes out.new ≡ string_bytes out.old ++ rows_text case.now (length rows.now) 0 rows.now) }
+    ensures { OnOk result
+        (string_bytes out.new ≡ string_bytes out.old ++ rows_text case.now (length rows.now) 0 rows.now) }
 {
     let count = rows.len();
     let mut place = count;

@@ -23,9 +23,12 @@ ribbon_fault_text fault = codes "no ribbon: " ++ (ribbon_fault_words fault ++ co
 
 -- why the caster stops at a row; out of memory is no such cause
 abbrev pub cast_fault_words : CastFault → List ℕ
-cast_fault_words (casts.NoWedges place) = row_text place ++ codes "no wedges: the caster meets it before the wedges of a line are set"
-cast_fault_words (casts.NoMatrix place) = row_text place ++ codes "no matrix: the case has neither a symbol, its space nor a fill there"
-cast_fault_words (casts.NotSentOut place) = row_text place ++ codes "not sent out: nothing sends out the line that this row starts"
+cast_fault_words (casts.NoWedges place) =
+    row_text place ++ codes "no wedges: the caster meets it before the wedges of a line are set"
+cast_fault_words (casts.NoMatrix place) =
+    row_text place ++ codes "no matrix: the case has neither a symbol, its space nor a fill there"
+cast_fault_words (casts.NotSentOut place) =
+    row_text place ++ codes "not sent out: nothing sends out the line that this row starts"
 cast_fault_words casts.NoMemory = []
 
 abbrev pub cast_fault_text : CastFault → List ℕ

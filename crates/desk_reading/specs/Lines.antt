@@ -23,7 +23,8 @@ longest_of (line ∷ lines) = longest_from line.total lines
 
 -- a width in points, rounded down to a tenth: a line may be narrower than nothing
 abbrev pub width_text : Pica → ℤ → List ℕ
-width_text pica width = if int_lt width (pos 0) then codes "-" ++ points_up pica (unsigned_abs width) else points_down pica (unsigned_abs width)
+width_text pica width = if int_lt width (pos 0) then codes "-" ++ points_up pica (unsigned_abs width)
+    else points_down pica (unsigned_abs width)
 
 -- by how much a width is below the longest, in points, rounded up to a tenth
 abbrev pub short_text : Pica → (longest width : ℤ) → List ℕ
@@ -50,16 +51,19 @@ widths_text pica longest width = right 10 (width_text pica width) ++ right 8 (sh
 
 -- the number of a line, its wedge pair and its widths
 abbrev pub figures_text : Pica → ℤ → ℕ → Line → List ℕ
-figures_text pica longest number line = right 6 (decimal number) ++ (pair_text line.coarse line.fine ++ widths_text pica longest line.total)
+figures_text pica longest number line = right 6 (decimal number)
+    ++ (pair_text line.coarse line.fine ++ widths_text pica longest line.total)
 
 -- these, and what its matrices mean
 abbrev pub line_text : Pica → ℤ → ℕ → Line → List ℕ
-line_text pica longest number line = figures_text pica longest number line ++ (codes "  " ++ (matrices_text line.matrices ++ codes "\n"))
+line_text pica longest number line = figures_text pica longest number line
+    ++ (codes "  " ++ (matrices_text line.matrices ++ codes "\n"))
 
 -- lines, where so many stand before them
 abbrev pub lines_from : Pica → ℤ → ℕ → List Line → List ℕ
 lines_from pica longest before [] = []
-lines_from pica longest before (line ∷ lines) = line_text pica longest (before + 1) line ++ lines_from pica longest (before + 1) lines
+lines_from pica longest before (line ∷ lines) = line_text pica longest (before + 1) line
+    ++ lines_from pica longest (before + 1) lines
 
 -- ---- the whole
 
@@ -69,7 +73,8 @@ counts_text lines rows = codes "RIBBON " ++ decimal lines ++ codes " lines, " ++
 
 -- these, and the width of the longest line
 abbrev pub head_text : Pica → ℕ → List Line → List ℕ
-head_text pica rows lines = counts_text (length lines) rows ++ (codes ", longest " ++ (width_text pica (longest_of lines) ++ codes " points\n"))
+head_text pica rows lines = counts_text (length lines) rows
+    ++ (codes ", longest " ++ (width_text pica (longest_of lines) ++ codes " points\n"))
 
 -- what stands above the lines
 abbrev pub columns_text : List ℕ

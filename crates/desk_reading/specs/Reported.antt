@@ -40,4 +40,5 @@ is_whole case wedge (Err fault) = false
 -- the bytes have a meaning, this is reported of it, and it is whole or not
 abbrev pub IsReported : List ℕ → CaseValues → WedgeValues → List ℕ → Bool → Type 0
 IsReported bytes case wedge reported whole =
-    (found : Result (List RibbonRow) RibbonFault) × AreRows bytes found × (reported ≡ reported_text case wedge found) × (whole ≡ is_whole case wedge found)
+    (found : Result (List RibbonRow) RibbonFault) × AreRows bytes found × (reported ≡ reported_text case wedge found)
+    × (whole ≡ is_whole case wedge found)

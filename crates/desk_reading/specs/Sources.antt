@@ -42,16 +42,20 @@ sources ribbon case wedge = record { ribbon = ribbon; case = case; wedge = wedge
 
 -- the ribbon's name stands for these bytes, and the two files give this case and this wedge
 abbrev pub Give : Sources → Shelf → List ℕ → CaseValues → WedgeValues → Type 0
-Give from shelf bytes case wedge = Reads (shelf.kept from.ribbon) (Ok bytes) × BothGive from.case from.wedge shelf (Ok (case, wedge)) shelf
+Give from shelf bytes case wedge = Reads (shelf.kept from.ribbon) (Ok bytes)
+    × BothGive from.case from.wedge shelf (Ok (case, wedge)) shelf
 
 -- they give bytes, a case and a wedge
 abbrev pub GiveAll : Sources → Shelf → Type 0
 GiveAll from shelf = (bytes : List ℕ) × (case : CaseValues) × (wedge : WedgeValues) × Give from shelf bytes case wedge
 
--- why they give nothing: the ribbon is not read; or it is, and then the case or the wedge is refused; or memory runs out by one of the three, and the device did not fail
+-- why they give nothing: the ribbon is not read; or it is, and then the case or the wedge is refused; or memory runs
+-- out by one of the three, and the device did not fail
 abbrev pub AreRefused : Sources → Shelf → Shelf → SourcesFault → Type 0
-AreRefused from before after (refusals.Ribbon why) = (why ≢ files.NoMemory) × Reads (before.kept from.ribbon) (Err why) × IsCounted why before after
-AreRefused from before after (refusals.Input why) = (bytes : List ℕ) × Reads (before.kept from.ribbon) (Ok bytes) × BothGive from.case from.wedge before (Err why) after
+AreRefused from before after (refusals.Ribbon why) = (why ≢ files.NoMemory) × Reads (before.kept from.ribbon) (Err why)
+    × IsCounted why before after
+AreRefused from before after (refusals.Input why) = (bytes : List ℕ) × Reads (before.kept from.ribbon) (Ok bytes)
+    × BothGive from.case from.wedge before (Err why) after
 AreRefused from before after refusals.NoMemory =
     (Reads (before.kept from.ribbon) (Err files.NoMemory) × (after ≡ before))
     ⊎ ((bytes : List ℕ) × Reads (before.kept from.ribbon) (Ok bytes) × BothLackMemory from.case from.wedge before after)

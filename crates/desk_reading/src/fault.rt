@@ -7,6 +7,7 @@ ghost use Rattle.desk_reading.specs.declared.fault.ReadingFault.TheVariants as f
 use desk_answers::{Failure, Refusal};
 use desk_files::FileRefusal;
 use desk_memory::NoMemory;
+use desk_outputs::Kind;
 use desk_stored::Unsent;
 use thiserror::Error;
 
@@ -36,7 +37,10 @@ pub enum ReadingFault {
     /// The writer failed, or took no byte.
     #[error("write fault")]
     Write,
-    /// The picture was made, and not stored.
+    /// The picture was made, and a file of this kind stands under the target, which is left.
+    #[error("not replaced")]
+    Taken(Kind),
+    /// The picture was made, and not stored, or what stands under the target was not read.
     #[error("file fault")]
     Unstored(FileRefusal),
     #[error("no memory")]

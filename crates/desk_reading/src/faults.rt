@@ -36,7 +36,8 @@ fn put_ribbon_words<A: Allocator + Copy>(
     }
 }
 
-/// Writes the line of the first fault of bytes that are no ribbon, as `no ribbon: row 12: two numbers`. The place of a row
+/// Writes the line of the first fault of bytes that are no ribbon, as `no ribbon: row 12: two numbers`. The place of a
+/// row
 /// counts from 0 in punched order. Where the fault is that memory ran out, there is no line, and that is returned.
 pub fn put_ribbon_fault<A: Allocator + Copy>(
     out: &mut String<A>,
@@ -50,7 +51,8 @@ pub fn put_ribbon_fault<A: Allocator + Copy>(
     out.push_str("\n")
 }
 
-/// Writes why the caster stops at a row. Where the fault is that memory ran out, nothing is written, and that is returned.
+/// Writes why the caster stops at a row. Where the fault is that memory ran out, nothing is written, and that is
+/// returned.
 fn put_cast_words<A: Allocator + Copy>(
     out: &mut String<A>,
     fault: CastFault,
@@ -78,8 +80,10 @@ fn put_cast_words<A: Allocator + Copy>(
     }
 }
 
-/// Writes the line of the first fault that the caster meets, as `row 12: no matrix: ..`. The place of a row counts from 0 in
-/// punched order, though the caster goes from the last row to the first. Where the fault is that memory ran out, there is
+/// Writes the line of the first fault that the caster meets, as `row 12: no matrix: ..`. The place of a row counts
+/// from 0 in
+/// punched order, though the caster goes from the last row to the first. Where the fault is that memory ran out, there
+/// is
 /// no line, and that is returned.
 pub fn put_cast_fault<A: Allocator + Copy>(
     out: &mut String<A>,

@@ -91,10 +91,11 @@ fn put_meaning<A: Allocator + Copy>(
     out: &mut String<A>,
     matrix: &CastMatrix,
 ) -> Result<(), AllocError>
-    ensures { OnOk result (string_bytes out.new ≡ string_bytes out.old ++ meaning_text (meaning (matrix.now).s (matrix.now).symbol)) }
+    ensures { OnOk result
+        (string_bytes out.new ≡ string_bytes out.old ++ meaning_text (meaning (matrix.now).s (matrix.now).symbol)) }
 {
     if matrix.s {
-        return out.push_str(" ");
+        return put_symbols(out, &[Symbol::SPACE]);
     }
     match matrix.symbol {
         Some(symbol) => put_symbols(out, &[symbol]),
@@ -228,8 +229,10 @@ fn columns() -> &'static str
     "\n  line    c/f     points   short  text\n"
 }
 
-/// Writes the lines that so many rows cast, in reading order: how many there are and how long the longest is; then each with
-/// its number from 1, the positions of its wedges, its width and how short of the longest it is, both in points to a tenth,
+/// Writes the lines that so many rows cast, in reading order: how many there are and how long the longest is; then
+/// each with
+/// its number from 1, the positions of its wedges, its width and how short of the longest it is, both in points to a
+/// tenth,
 /// the width rounded down and what it is short rounded up; and its text, where a space stands for a matrix with S, and a
 /// middle dot for one that means nothing, as a fill.
 pub fn put_ribbon<A: Allocator + Copy>(

@@ -11,8 +11,10 @@ use desk_inputs::{Memory, both};
 use desk_wedge::Wedge;
 use std::alloc::Allocator;
 
-/// Reads the bytes of a ribbon, then a case and then a wedge, each by the name of its file. Each file is read whole: one of
-/// more than `MAX_FILE` bytes is refused. Whether the bytes are a ribbon is not asked here. No name is taken, and no file
+/// Reads the bytes of a ribbon, then a case and then a wedge, each by the name of its file. Each file is read whole:
+/// one of
+/// more than `MAX_FILE` bytes is refused. Whether the bytes are a ribbon is not asked here. No name is taken, and no
+/// file
 /// changes. Out of memory comes only where the device did not fail in the call and no file that was read was refused.
 pub fn take_in<F: Files, A: Allocator + Copy>(
     memory: Memory<A>,
@@ -23,7 +25,8 @@ pub fn take_in<F: Files, A: Allocator + Copy>(
 ) -> Result<(Vec<u8, A>, MatrixCase, Wedge), SourcesFault>
     ensures ok { IfOk result (λ t. Give (sources ribbon.now case.now wedge.now) (F.shelf files.old) t.0.items t.1 t.2) }
     ensures still { OnOk result (F.shelf files.new ≡ F.shelf files.old) }
-    ensures err { IfErr result (AreRefused (sources ribbon.now case.now wedge.now) (F.shelf files.old) (F.shelf files.new)) }
+    ensures err { IfErr result
+        (AreRefused (sources ribbon.now case.now wedge.now) (F.shelf files.old) (F.shelf files.new)) }
     ensures stays { Stays (F.shelf files.old) (F.shelf files.new) }
 {
     let bytes = files.read(memory.own, ribbon)?;

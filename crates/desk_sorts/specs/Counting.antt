@@ -15,7 +15,10 @@ counted symbol place (Some sort) = record { symbol = sort.symbol; wanted = sort.
 -- the symbol has one more place, and each other is as before
 abbrev pub Counts : BTreeMap Symbol Sort → BTreeMap Symbol Sort → Symbol → ℕ → Type 0
 Counts before after symbol place =
-    (q : Symbol) → get symbol_cmp after q ≡ cond (is_eq (symbol_cmp symbol q)) (Some (counted symbol place (get symbol_cmp before symbol))) (get symbol_cmp before q)
+    (q : Symbol)
+    → get symbol_cmp after q
+    ≡ cond (is_eq (symbol_cmp symbol q)) (Some (counted symbol place (get symbol_cmp before symbol)))
+    (get symbol_cmp before q)
 
 -- A symbol that stands at some of the first n places of a copy, and ends no paragraph.
 pub record IsTallied (copy : List Symbol) (n : ℕ) (symbol : Symbol) (sort : Sort) : Type 0 where

@@ -1,6 +1,5 @@
--- A case as a table: a row of the case a line, and four characters for each cell.
+-- A case as a table: a row of the case a line, and four characters for each cell that holds no directional mark.
 use Rattle.std.specs.Prelude.{ℕ, ◌+◌, ◌*◌, ◌%◌, List, [], ◌∷◌, ◌++◌, codes, Option, Some, None, if◌then◌else◌, suc, zero}
-use Rattle.std.specs.Char.{encode_utf8}
 use Rattle.std.specs.Fmt.{decimal}
 use Rattle.desk_signals.specs.declared.Cell.{Cell}
 use Rattle.desk_signals.specs.Words.{column_name}
@@ -10,7 +9,7 @@ use Rattle.desk_ops.specs.declared.op.Symbol.{Symbol}
 use Rattle.desk_case.specs.declared.TheConstants.{COLUMNS, ROWS}
 use Rattle.desk_case.specs.Names.{cell_of_place, same_cell}
 use Rattle.desk_case.specs.Case.{CaseValues, symbol_at}
-use Rattle.desk_proof.specs.Parts.{right}
+use Rattle.desk_proof.specs.Parts.{right, symbols_text}
 
 -- ---- a cell
 
@@ -20,7 +19,7 @@ mark_in_table Italic = codes "  _"
 mark_in_table SmallCap = codes "  ^"
 
 abbrev pub text_in_table : Symbol → List ℕ
-text_in_table symbol = mark_in_table symbol.style ++ encode_utf8 symbol.ch
+text_in_table symbol = mark_in_table symbol.style ++ symbols_text (symbol ∷ [])
 
 -- the number of the first of some fills, counted from this one, that stands in the cell
 abbrev pub fill_from : ℕ → List Cell → Cell → Option ℕ
@@ -66,4 +65,5 @@ lines_to case (suc n) = lines_to case n ++ line_text case n
 
 -- the number of the case, the names of the columns, and the rows
 abbrev pub case_text : CaseValues → List ℕ
-case_text case = (codes "\nCASE " ++ decimal case.number ++ codes "\n\n    ") ++ (names_to COLUMNS ++ (codes "\n" ++ lines_to case ROWS))
+case_text case = (codes "\nCASE " ++ decimal case.number ++ codes "\n\n    ")
+    ++ (names_to COLUMNS ++ (codes "\n" ++ lines_to case ROWS))

@@ -43,7 +43,8 @@ sort_name symbol = if is_space symbol then codes "space" else name_text symbol
 
 -- how often a sort is wanted, and where first
 abbrev pub first_text : Sort → List ℕ
-first_text sort = codes ", wanted " ++ decimal sort.wanted ++ codes ", first at place " ++ decimal sort.first ++ codes "\n  | "
+first_text sort = codes ", wanted " ++ decimal sort.wanted ++ codes ", first at place " ++ decimal sort.first
+    ++ codes "\n  | "
 
 -- a missing sort by its name, and that
 abbrev pub title_text : Sort → List ℕ
@@ -69,7 +70,8 @@ missing_text copy sort =
 
 abbrev pub missing_lines : List Symbol → CaseValues → List Sort → List ℕ
 missing_lines copy case [] = []
-missing_lines copy case (sort ∷ sorts) = (if is_missing case sort then missing_text copy sort else []) ++ missing_lines copy case sorts
+missing_lines copy case (sort ∷ sorts) =
+    (if is_missing case sort then missing_text copy sort else []) ++ missing_lines copy case sorts
 
 -- the first place of a sort is one of the copy
 abbrev pub IsWithin : List Symbol → Sort → Type 0
@@ -89,7 +91,8 @@ cell_text (Some cell) = right 4 (column_name cell.column) ++ left 2 (decimal cel
 -- a sort by its cell, how often it is wanted, and its name
 abbrev pub sort_line : CaseValues → Sort → List ℕ
 sort_line case sort =
-    cell_text (cell_for case sort.symbol) ++ (right 9 (decimal sort.wanted) ++ (codes "  " ++ (sort_name sort.symbol ++ codes "\n")))
+    cell_text (cell_for case sort.symbol)
+    ++ (right 9 (decimal sort.wanted) ++ (codes "  " ++ (sort_name sort.symbol ++ codes "\n")))
 
 abbrev pub sort_lines : CaseValues → List Sort → List ℕ
 sort_lines case [] = []

@@ -18,4 +18,5 @@ reported_text copy case sorts layout = sorts_text copy case sorts ++ layout_text
 -- what is reported of the sorts of a copy by a case, and whether the case holds each
 abbrev pub IsReportedOf : List Symbol → CaseValues → Bool → List ℕ → Bool → Type 0
 IsReportedOf copy case layout reported complete =
-    (sorts : List Sort) × AreSortsOf copy sorts × (reported ≡ reported_text copy case sorts layout) × (complete ≡ (missing_of case sorts == 0))
+    (sorts : List Sort) × AreSortsOf copy sorts × (reported ≡ reported_text copy case sorts layout)
+    × (complete ≡ (missing_of case sorts == 0))

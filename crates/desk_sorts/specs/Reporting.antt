@@ -14,16 +14,21 @@ use Rattle.desk_sorts.specs.Reported.{IsReportedOf}
 
 -- what is reported of what the sources give
 abbrev pub IsListOf : Sources → Shelf → Bool → List ℕ → Bool → Type 0
-IsListOf from shelf layout reported complete = (set : OpSet) × (case : CaseValues) × Give from shelf set case × IsReportedOf (copy_of set) case layout reported complete
+IsListOf from shelf layout reported complete = (set : OpSet) × (case : CaseValues) × Give from shelf set case
+    × IsReportedOf (copy_of set) case layout reported complete
 
 -- it was written
 abbrev pub AreListed : Sources → Bool → Shelf → Option (List ℕ) → Option (List ℕ) → Bool → Type 0
-AreListed from layout shelf before after complete = (reported : List ℕ) × IsListOf from shelf layout reported complete × Appends before after reported
+AreListed from layout shelf before after complete = (reported : List ℕ) × IsListOf from shelf layout reported complete
+    × Appends before after reported
 
 -- why not all of it was written, and what was: nothing, or under Write a prefix
 abbrev pub AreUnlisted : Sources → Bool → Shelf → Shelf → Option (List ℕ) → Option (List ℕ) → SortsFault → Type 0
-AreUnlisted from layout first last before after (faults.Feed why) = (after ≡ before) × AreRefused from first last (refusals.Feed why)
-AreUnlisted from layout first last before after (faults.Input why) = (after ≡ before) × AreRefused from first last (refusals.Input why)
+AreUnlisted from layout first last before after (faults.Feed why) =
+    (after ≡ before) × AreRefused from first last (refusals.Feed why)
+AreUnlisted from layout first last before after (faults.Input why) =
+    (after ≡ before) × AreRefused from first last (refusals.Input why)
 AreUnlisted from layout first last before after faults.Write =
-    (last ≡ first) × (reported : List ℕ) × (complete : Bool) × IsListOf from first layout reported complete × WritesPrefix before after reported
+    (last ≡ first) × (reported : List ℕ) × (complete : Bool) × IsListOf from first layout reported complete
+    × WritesPrefix before after reported
 AreUnlisted from layout first last before after faults.NoMemory = (after ≡ before) × LackMemory from first last

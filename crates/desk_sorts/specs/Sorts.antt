@@ -30,8 +30,10 @@ pub record IsSortOf (copy : List Symbol) (sort : Sort) : Type 0 where
 abbrev pub HasSort : List Sort → Symbol → Type 0
 HasSort sorts symbol = (n : ℕ) × (sort : Sort) × (slice_get sorts n ≡ Some sort) × (sort.symbol ≡ symbol)
 
--- Each is a sort of the copy, each symbol of the copy that ends no paragraph has one, and their symbols ascend strictly.
+-- Each is a sort of the copy, each symbol of the copy that ends no paragraph has one, and their symbols ascend
+-- strictly.
 pub record AreSortsOf (copy : List Symbol) (sorts : List Sort) : Type 0 where
   pub each : All (IsSortOf copy) sorts
-  pub whole : (symbol : Symbol) (place : ℕ) → StandsAt copy symbol place → is_line_feed symbol ≡ false → HasSort sorts symbol
+  pub whole : (symbol : Symbol) (place : ℕ) → StandsAt copy symbol place → is_line_feed symbol ≡ false
+      → HasSort sorts symbol
   pub ascending : IsStrictlySortedBy symbol_cmp (map (λ sort. sort.symbol) sorts)

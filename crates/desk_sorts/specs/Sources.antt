@@ -40,9 +40,12 @@ Give from shelf set case = IsSetOf from.feed shelf set × FileGives case_of case
 -- why they give nothing: the feed is not opened; or it is, and then the case is refused, or memory runs out by it
 abbrev pub AreRefused : Sources → Shelf → Shelf → SourcesFault → Type 0
 AreRefused from before after (refusals.Feed why) = IsClosedBy from.feed before after why
-AreRefused from before after (refusals.Input why) = (set : OpSet) × IsSetOf from.feed before set × FileGives case_of case_refused from.case before (Err why) after
-AreRefused from before after refusals.NoMemory = (set : OpSet) × IsSetOf from.feed before set × FileLacksMemory from.case before after
+AreRefused from before after (refusals.Input why) = (set : OpSet) × IsSetOf from.feed before set
+    × FileGives case_of case_refused from.case before (Err why) after
+AreRefused from before after refusals.NoMemory = (set : OpSet) × IsSetOf from.feed before set
+    × FileLacksMemory from.case before after
 
 -- memory ran out by the case, or once all was given, and then no file has changed and the device did not fail
 abbrev pub LackMemory : Sources → Shelf → Shelf → Type 0
-LackMemory from before after = AreRefused from before after refusals.NoMemory ⊎ ((after ≡ before) × (set : OpSet) × (case : CaseValues) × Give from before set case)
+LackMemory from before after = AreRefused from before after refusals.NoMemory
+    ⊎ ((after ≡ before) × (set : OpSet) × (case : CaseValues) × Give from before set case)

@@ -6,7 +6,7 @@ ghost use Rattle.desk_sorts.specs.Layout.{blank_text, case_text, cells_to, fill_
 
 use desk_case::{COLUMNS, MatrixCase, ROWS, names};
 use desk_ops::{Style, Symbol};
-use desk_proof::{put_number, put_right};
+use desk_proof::{put_number, put_right, put_symbols};
 use desk_signals::Cell;
 use std::alloc::{AllocError, Allocator};
 
@@ -25,7 +25,7 @@ fn put_symbol<A: Allocator + Copy>(out: &mut String<A>, symbol: Symbol) -> Resul
     ensures { OnOk result (string_bytes out.new ≡ string_bytes out.old ++ text_in_table symbol) }
 {
     out.push_str(mark_in_table(symbol.style))?;
-    out.push(symbol.ch)
+    put_symbols(out, &[symbol])
 }
 
 /// The number of the fill in a cell, from 1.
@@ -70,7 +70,8 @@ fn put_held<A: Allocator + Copy>(
     case: &MatrixCase,
     cell: &Cell,
 ) -> Result<(), AllocError>
-    ensures { OnOk result (string_bytes out.new ≡ string_bytes out.old ++ held_text case.now cell.now (symbol_at case.now cell.now)) }
+    ensures { OnOk result
+        (string_bytes out.new ≡ string_bytes out.old ++ held_text case.now cell.now (symbol_at case.now cell.now)) }
 {
     match case.symbol_at(*cell) {
         Some(symbol) => put_symbol(out, symbol),
@@ -137,7 +138,8 @@ fn put_lines<A: Allocator + Copy>(out: &mut String<A>, case: &MatrixCase) -> Res
     Ok(())
 }
 
-/// Writes a case as a table at the end, a row of the case a line, its number above it. A cell has four characters: a symbol
+/// Writes a case as a table at the end, a row of the case a line, its number above it. A cell has four characters: a
+/// symbol
 /// with `_` before it where it is italic and `^` where it is a small capital, `sp` for the space, `f1` to `f4` for the
 /// fills, and two dots where nothing stands.
 pub fn put_case<A: Allocator + Copy>(

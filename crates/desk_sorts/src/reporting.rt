@@ -33,9 +33,12 @@ fn reported_of_replica<A: Allocator + Copy>(
     reported_of(alloc, &copy, case, layout)
 }
 
-/// Writes which sorts the copy of a stored feed needs by a case, as `sorts_of` has them: how many there are, and how many
-/// matrices are cast for them; those that the case lacks, each with all its places; and all with their cells. With `layout`
-/// a table of what the case holds comes after. Fills are not counted: how many a line takes depends on the lines that are
+/// Writes which sorts the copy of a stored feed needs by a case, as `sorts_of` has them: how many there are, and how
+/// many
+/// matrices are cast for them; those that the case lacks, each with all its places; and all with their cells. With
+/// `layout`
+/// a table of what the case holds comes after. Fills are not counted: how many a line takes depends on the lines that
+/// are
 /// set. It is true exactly where the case lacks no sort. No name is taken, and no file changes. A refusal of the feed or of
 /// the case, or of memory, comes before anything is written.
 pub fn report_sorts<W: Write, F: Files, A: Allocator + Copy>(
@@ -46,9 +49,13 @@ pub fn report_sorts<W: Write, F: Files, A: Allocator + Copy>(
     case: &str,
     layout: bool,
 ) -> Result<bool, SortsFault>
-    ensures ok { IfOk result (AreListed (sources feed.now case.now) layout (F.shelf files.old) (W.contents writer.old) (W.contents writer.new)) }
+    ensures ok { IfOk result
+        (AreListed (sources feed.now case.now) layout (F.shelf files.old) (W.contents writer.old)
+        (W.contents writer.new)) }
     ensures counted { OnOk result ((F.shelf files.new).failures ≡ (F.shelf files.old).failures) }
-    ensures err { IfErr result (AreUnlisted (sources feed.now case.now) layout (F.shelf files.old) (F.shelf files.new) (W.contents writer.old) (W.contents writer.new)) }
+    ensures err { IfErr result
+        (AreUnlisted (sources feed.now case.now) layout (F.shelf files.old) (F.shelf files.new) (W.contents writer.old)
+        (W.contents writer.new)) }
     ensures stays { Stays (F.shelf files.old) (F.shelf files.new) }
 {
     let (replica, case) = take_in(memory, files, feed, case)?;

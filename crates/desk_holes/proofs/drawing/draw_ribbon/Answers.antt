@@ -1,8 +1,9 @@
-use Rattle.std.proofs.Common.{ap, inl, inr, refl, rules, subst}
+use Rattle.std.proofs.Common.{inl, inr, rules, subst}
 use Rattle.std.proofs.lemmas.Result.{err_from_is_err_and}
-use Rattle.std.specs.Prelude.{Err, string_bytes}
-use Rattle.desk_files.specs.Files.{Shelf}
-use Rattle.desk_stored.specs.Fault.{IsNotStored}
+use Rattle.std.specs.Prelude.{string_bytes}
+use Rattle.desk_files.specs.Files.{IsReplaced, Shelf}
+use Rattle.desk_outputs.specs.Outputs.{GivesWay, IsNotPut, destination}
+use Rattle.desk_outputs.specs.declared.kinds.Kind.TheVariants as kinds
 use Rattle.desk_holes.specs.Drawing.{IsPicture}
 use Rattle.desk_holes.proofs.drawing.draw_ribbon.Goals as goal
 
@@ -19,12 +20,23 @@ returns-in_err-picture-clause-err g c =
 
 pub returns-clause-err : goal.returns-clause-err
 returns-clause-err g c =
-    let mid : Shelf = g.F.Files.shelf c.take_in.new.files in
-    let last : Shelf = g.F.Files.shelf c.store.new.files in
+    let last : Shelf = g.F.Files.shelf c.store_over.new.files in
+    let to = destination c.args.target.now.name.now c.args.target.now.force in
     let t = c.in_ok-bytes in
-    let e = c.in-Err.ensures in
     let why = c.in-Err.why in
     let picture = string_bytes c.in-Some.picture in
     let drawn : IsPicture t.bytes.items t.case picture = search rules in
-    let unstored : IsNotStored c.args.target.now mid last why = (e.err, e.small, (λ is. e.missing (ap Err is)), e.counted) in
-    inr (inr (why, refl, picture, (t.bytes.items, t.case, _, t.ensures.ok, drawn), subst (λ (s : Shelf). IsNotStored c.args.target.now s last why) t.ensures.still unstored))
+    let unput = subst (λ (s : Shelf). IsNotPut to kinds.Picture s last why) t.ensures.still c.in-Err.ensures.err in
+    inr (inr (why, c.of_output.ensures, picture, (t.bytes.items, t.case, _, t.ensures.ok, drawn), unput))
+
+pub returns-in-Ok-clause-ok : goal.returns-in-Ok-clause-ok
+returns-in-Ok-clause-ok g c =
+    let mid : Shelf = g.F.Files.shelf c.take_in.new.files in
+    let last : Shelf = g.F.Files.shelf c.store_over.new.files in
+    let to = destination c.args.target.now.name.now c.args.target.now.force in
+    let t = c.in_ok-bytes in
+    let picture = string_bytes c.in-Some.picture in
+    let drawn : IsPicture t.bytes.items t.case picture = search rules in
+    let free = subst (λ (s : Shelf). GivesWay to kinds.Picture s.kept) t.ensures.still c.in-Ok.ensures.free in
+    let stored = subst (λ bytes. IsReplaced to.name bytes mid.kept last.kept) c.as_bytes.ensures.value c.in-Ok.ensures.ok in
+    (picture, (t.bytes.items, t.case, _, t.ensures.ok, drawn), free, subst (λ (s : Shelf). IsReplaced to.name picture s.kept last.kept) t.ensures.still stored)
