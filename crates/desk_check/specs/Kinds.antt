@@ -23,8 +23,10 @@ has_key members name = is_some (get_member name members)
 -- a document is a case's by one key, else a wedge's by one
 abbrev pub kind_of_members : Members → Kind
 kind_of_members members =
-    if has_key members (case_files.key_name case_keys.Case) || has_key members (case_files.key_name case_keys.Rows) then kinds.Case
-    else if has_key members (wedge_files.key_name wedge_keys.Wedge) || has_key members (wedge_files.key_name wedge_keys.Units) then kinds.Wedge
+    if has_key members (case_files.key_name case_keys.Case) || has_key members (case_files.key_name case_keys.Rows)
+    then kinds.Case
+    else if has_key members (wedge_files.key_name wedge_keys.Wedge)
+    || has_key members (wedge_files.key_name wedge_keys.Units) then kinds.Wedge
     else kinds.Strange
 
 abbrev pub kind_of_document : Option Members → Kind

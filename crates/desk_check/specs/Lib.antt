@@ -1,7 +1,9 @@
 pub mod Kinds
 pub mod Sorts
 pub mod Texts
+pub mod Rows
 pub mod Strange
 pub mod Words
+pub mod Metal
 pub mod Lines
 pub mod Checking

@@ -26,6 +26,9 @@ use Rattle.desk_signals.specs.Words.{cell_words}
 use Rattle.desk_ops.specs.Words.{symbol_words, unlawful_words}
 use Rattle.desk_case.specs.declared.CaseFault.{CaseFault}
 use Rattle.desk_case.specs.declared.CaseFault.TheVariants as cases
+use Rattle.desk_case.specs.declared.CaseKey.{CaseKey}
+use Rattle.desk_check.specs.declared.rows.RowsFault.{RowsFault}
+use Rattle.desk_check.specs.declared.rows.RowsFault.TheVariants as rows
 use Rattle.desk_check.specs.Sorts.{sorts}
 use Rattle.desk_answers.specs.Reply.{Faults}
 use Rattle.desk_answers.specs.Text.{text}
@@ -110,12 +113,15 @@ set_q_words q = points_words q ++ count_words q
 abbrev pub wedge_fault_words : WedgeFault → Option (List ℕ)
 wedge_fault_words wedges.NotToml = Some (codes "it is not TOML")
 wedge_fault_words (wedges.Missing key) = Some (codes "`" ++ wedge_files.key_name key ++ codes "` is missing")
-wedge_fault_words (wedges.Range key) = Some (codes "`" ++ wedge_files.key_name key ++ codes "` is of another type, length or value")
-wedge_fault_words (wedges.Descending row) = Some (codes "row " ++ decimal row ++ codes " has fewer units than the row before")
+wedge_fault_words (wedges.Range key) =
+    Some (codes "`" ++ wedge_files.key_name key ++ codes "` is of another type, length or value")
+wedge_fault_words (wedges.Descending row) =
+    Some (codes "row " ++ decimal row ++ codes " has fewer units than the row before")
 wedge_fault_words wedges.NoMemory = None
 
 abbrev pub values_words : WedgeValues → List ℕ
-values_words wedge = codes "ok: wedge " ++ decimal wedge.number ++ codes ", set " ++ set_q_words wedge.set_q ++ codes ", pica " ++ pica_word wedge.pica
+values_words wedge = codes "ok: wedge " ++ decimal wedge.number ++ codes ", set " ++ set_q_words wedge.set_q
+    ++ codes ", pica " ++ pica_word wedge.pica
 
 abbrev pub wedge_words : Result WedgeValues WedgeFault → Option (List ℕ)
 wedge_words (Ok wedge) = Some (values_words wedge)
@@ -149,16 +155,40 @@ abbrev pub doubled_words : List Cell → Symbol → List ℕ
 doubled_words [] symbol = twice_words symbol
 doubled_words (first ∷ rest) symbol = doubled_from first rest symbol
 
--- the fault of a case file, with the cells that hold its symbol; where memory ran out, nothing is written
-abbrev pub case_fault_words : List Cell → CaseFault → Option (List ℕ)
-case_fault_words holders cases.NotToml = Some (codes "it is not TOML")
-case_fault_words holders (cases.Missing key) = Some (codes "`" ++ case_files.key_name key ++ codes "` is missing")
-case_fault_words holders (cases.Shape key) = Some (codes "`" ++ case_files.key_name key ++ codes "` is of another type, number, length or name")
-case_fault_words holders (cases.BadText cell) = Some (cell_fault_words cell (codes " has a text that is no symbol"))
-case_fault_words holders (cases.Doubled symbol) = Some (doubled_words holders symbol)
-case_fault_words holders (cases.NotBlank cell) = Some (cell_fault_words cell (codes ", the space or a fill, holds a symbol"))
-case_fault_words holders cases.FillOrder = Some (codes "the units of the fills do not descend")
-case_fault_words holders cases.NoMemory = None
+-- so many of something
+abbrev pub counted_words : ℕ → (one many : List ℕ) → List ℕ
+counted_words n one many = decimal n ++ (if n == 1 then one else many)
+
+-- how many texts a row has, and how many are wanted
+abbrev pub row_words : (row texts wanted : ℕ) → List ℕ
+row_words row texts wanted =
+    (codes "row " ++ decimal row ++ codes " has ") ++ (counted_words texts (codes " text") (codes " texts")
+    ++ (codes ", and " ++ decimal wanted ++ codes " are wanted"))
+
+-- the number that is wrong in rows
+abbrev pub rows_fault_words : RowsFault → List ℕ
+rows_fault_words (rows.Rows count) = counted_words count (codes " row") (codes " rows") ++ codes ", and 15 are wanted"
+rows_fault_words (rows.Row row texts wanted) = row_words row texts wanted
+
+-- a key that holds no such value, with the number that is wrong in rows, if one is
+abbrev pub shape_words : CaseKey → Option RowsFault → List ℕ
+shape_words key None = codes "`" ++ case_files.key_name key ++ codes "` is of another type, number, length or name"
+shape_words key (Some fault) = codes "`" ++ case_files.key_name key ++ codes "`: " ++ rows_fault_words fault
+
+-- the fault of a case file, with the cells that hold its symbol and the number that is wrong in its rows; where memory ran out,
+-- nothing is written
+abbrev pub case_fault_words : List Cell → Option RowsFault → CaseFault → Option (List ℕ)
+case_fault_words holders rows_fault cases.NotToml = Some (codes "it is not TOML")
+case_fault_words holders rows_fault (cases.Missing key) =
+    Some (codes "`" ++ case_files.key_name key ++ codes "` is missing")
+case_fault_words holders rows_fault (cases.Shape key) = Some (shape_words key rows_fault)
+case_fault_words holders rows_fault (cases.BadText cell) =
+    Some (cell_fault_words cell (codes " has a text that is no symbol"))
+case_fault_words holders rows_fault (cases.Doubled symbol) = Some (doubled_words holders symbol)
+case_fault_words holders rows_fault (cases.NotBlank cell) =
+    Some (cell_fault_words cell (codes ", the space or a fill, holds a symbol"))
+case_fault_words holders rows_fault cases.FillOrder = Some (codes "the units of the fills do not descend")
+case_fault_words holders rows_fault cases.NoMemory = None
 
 abbrev pub number_words : ℕ → List ℕ
 number_words number = codes "ok: case " ++ decimal number
@@ -169,10 +199,15 @@ cells_words cells = codes ", " ++ decimal cells ++ codes " cells"
 abbrev pub sorts_words : ℕ → List ℕ
 sorts_words sorts = codes ", " ++ decimal sorts ++ codes " sorts"
 
--- what a case file gives, with how many cells it has texts for; or its fault, with the cells that hold its symbol
-abbrev pub case_words : ℕ → (CaseFault → List Cell) → Result CaseValues CaseFault → Option (List ℕ)
-case_words cells holders (Ok case) = Some (number_words case.number ++ cells_words cells ++ sorts_words (sorts case.grid))
-case_words cells holders (Err fault) = option_map (λ words. codes "case refused: " ++ words) (case_fault_words (holders fault) fault)
+-- what a case file gives, with how many cells it has texts for; or its fault, with the cells that hold its symbol and
+-- the number
+-- that is wrong in its rows
+abbrev pub case_words : ℕ → (CaseFault → List Cell) → (CaseFault → Option RowsFault) → Result CaseValues CaseFault
+    → Option (List ℕ)
+case_words cells holders rows_fault (Ok case) =
+    Some (number_words case.number ++ cells_words cells ++ sorts_words (sorts case.grid))
+case_words cells holders rows_fault (Err fault) =
+    option_map (λ words. codes "case refused: " ++ words) (case_fault_words (holders fault) (rows_fault fault) fault)
 
 -- ---- others
 

@@ -2,16 +2,19 @@
 
 ghost use Rattle.std.specs.Prelude.{◌≡◌, ◌&&◌, false, IfErr, IfOk, OnErr, Some, map, option_map, string_bytes};
 ghost use Rattle.desk_files.specs.Files.{Stays};
-ghost use Rattle.desk_check.specs.Checking.{IsChecked, IsLine, IsRead, IsUnchecked, IsUnsaid, SaysLine};
+ghost use Rattle.desk_check.specs.Checking.{IsChecked, IsEnded, IsLine, IsRead, IsUnchecked, IsUnended, IsUnsaid, SaysLine};
 ghost use Rattle.desk_check.specs.Lines.{line_of};
+ghost use Rattle.desk_check.specs.Metal.{unfit_of};
 ghost use Rattle.desk_check.specs.Words.{refusal_words};
 
 use crate::fault::CheckFault;
+use crate::metal::{Found, Metal, unfit};
 use crate::reported::{Reported, reported_of};
 use desk_files::{FileRefusal, Files};
 use desk_inputs::Memory;
 use desk_memory::NoMemory;
 use desk_stored::write_out;
+use desk_text::put_plain;
 use std::alloc::Allocator;
 use std::io::Write;
 
@@ -42,47 +45,66 @@ fn line_of<A: Allocator + Copy>(alloc: A, name: &str, said: &str) -> Result<Stri
     ensures { IfOk result (λ s. string_bytes s ≡ line_of name.now said.now) }
 {
     let mut line = String::new(alloc);
-    line.push_str(name)?;
+    put_plain(&mut line, name)?;
     line.push_str(" ")?;
-    line.push_str(said)?;
+    put_plain(&mut line, said)?;
     line.push_str("\n")?;
     Ok(line)
 }
 
-/// Reads a file by its name: its line, and whether it is in order.
+/// Reads a file by its name: its line, whether it is in order, and what it gives for a cast.
 fn look<F: Files, A: Allocator + Copy>(
     memory: Memory<A>,
     files: &mut F,
     name: &str,
-) -> Result<(String<A>, bool), NoMemory>
-    ensures ok { IfOk result (λ l. IsLine name.now (F.shelf files.old) (F.shelf files.new) (string_bytes l.0) l.1) }
+) -> Result<(String<A>, bool, Found), NoMemory>
+    ensures ok { IfOk result (λ l. IsLine name.now (F.shelf files.old) (F.shelf files.new) (string_bytes l.0) l.1 l.2) }
     ensures err { OnErr result (IsRead name.now (F.shelf files.old) (F.shelf files.new)) }
     ensures stays { Stays (F.shelf files.old) (F.shelf files.new) }
 {
-    let reported = match files.read(memory.own, name) {
+    let (reported, found) = match files.read(memory.own, name) {
         Ok(bytes) => reported_of(memory, bytes)?,
-        Err(why) => unread(memory.own, why)?,
+        Err(why) => (unread(memory.own, why)?, Found::Neither),
     };
-    Ok((
-        line_of(memory.own, name, reported.text.as_str())?,
-        reported.well,
-    ))
+    let line = line_of(memory.own, name, reported.text.as_str())?;
+    Ok((line, reported.well, found))
 }
 
-/// Writes the line of a file, and returns whether it is in order.
+/// Writes the line of a file, and returns whether it is in order, and what it gives for a cast.
 fn check_file<W: Write, F: Files, A: Allocator + Copy>(
     memory: Memory<A>,
     writer: &mut W,
     files: &mut F,
     name: &str,
-) -> Result<bool, CheckFault>
-    ensures ok { IfOk result (λ well. SaysLine name.now (F.shelf files.old) (F.shelf files.new) (W.contents writer.old) (W.contents writer.new) well) }
-    ensures err { IfErr result (IsUnsaid name.now (F.shelf files.old) (F.shelf files.new) (W.contents writer.old) (W.contents writer.new)) }
+) -> Result<(bool, Found), CheckFault>
+    ensures ok { IfOk result
+        (λ l. SaysLine name.now (F.shelf files.old) (F.shelf files.new) (W.contents writer.old)
+        (W.contents writer.new) l.0 l.1) }
+    ensures err { IfErr result
+        (IsUnsaid name.now (F.shelf files.old) (F.shelf files.new) (W.contents writer.old) (W.contents writer.new)) }
     ensures stays { Stays (F.shelf files.old) (F.shelf files.new) }
 {
-    let (line, well) = look(memory, files, name)?;
+    let (line, well, found) = look(memory, files, name)?;
     write_out(writer, line.as_bytes())?;
-    Ok(well)
+    Ok((well, found))
+}
+
+/// Writes the line of the only case and the only wedge, where they do not go together, and returns whether none is written.
+fn check_metal<W: Write, A: Allocator + Copy>(
+    alloc: A,
+    writer: &mut W,
+    metal: &Metal<'_>,
+) -> Result<bool, CheckFault>
+    ensures ok { IfOk result (IsEnded (unfit_of metal.now) (W.contents writer.old) (W.contents writer.new)) }
+    ensures err { IfErr result (IsUnended (unfit_of metal.now) (W.contents writer.old) (W.contents writer.new)) }
+{
+    match unfit(alloc, metal)? {
+        Some(last) => {
+            write_out(writer, last.as_bytes())?;
+            Ok(false)
+        }
+        None => Ok(true),
+    }
 }
 
 /// Whether the files before are in order, and one more.
@@ -92,23 +114,34 @@ fn both(before: bool, one: bool) -> bool
     before && one
 }
 
-/// Checks files by their names, in their order. Each has one line, written before the next file is read: what is in it as a
-/// feed, a ribbon, a case or a wedge, by its content, or its first fault, or that it is none of these, or why it was not read.
-/// It is true exactly where every file is in order. No name is taken, and no file changes.
+/// Checks files by their names, in their order. Each has one line, written before the next file is read: what is in it
+/// as a
+/// feed, a ribbon, a case or a wedge, by its content, or its first fault, or that it is none of these, or why it was
+/// not read.
+/// Where exactly one is a case in order and exactly one a wedge in order, and they do not go together, a last line
+/// says so. It is
+/// true exactly where every file is in order and there is no such line. No name is taken, and no file changes.
 pub fn check_files<W: Write, F: Files, A: Allocator + Copy>(
     memory: Memory<A>,
     writer: &mut W,
     files: &mut F,
     names: &[&str],
 ) -> Result<bool, CheckFault>
-    ensures ok { IfOk result (IsChecked (map (λ n. n.now) names.now) (F.shelf files.old) (F.shelf files.new) (W.contents writer.old) (W.contents writer.new)) }
-    ensures err { IfErr result (IsUnchecked (map (λ n. n.now) names.now) (F.shelf files.old) (F.shelf files.new) (W.contents writer.old) (W.contents writer.new)) }
+    ensures ok { IfOk result
+        (IsChecked (map (λ n. n.now) names.now) (F.shelf files.old) (F.shelf files.new) (W.contents writer.old)
+        (W.contents writer.new)) }
+    ensures err { IfErr result
+        (IsUnchecked (map (λ n. n.now) names.now) (F.shelf files.old) (F.shelf files.new) (W.contents writer.old)
+        (W.contents writer.new)) }
     ensures stays { Stays (F.shelf files.old) (F.shelf files.new) }
 {
     let mut all = true;
+    let mut metal = Metal::new();
     for at in 0..names.len() {
-        let well = check_file(memory, writer, files, names[at])?;
+        let (well, found) = check_file(memory, writer, files, names[at])?;
         all = both(all, well);
+        metal = metal.with(names[at], found);
     }
-    Ok(all)
+    let fit = check_metal(memory.own, writer, &metal)?;
+    Ok(both(all, fit))
 }

@@ -29,7 +29,8 @@ fn put_ribbon_fault<A: Allocator + Copy>(
     out: &mut String<A>,
     fault: RibbonFault,
 ) -> Result<(), AllocError>
-    ensures { OnOk result (Some (string_bytes out.new) ≡ option_map (λ words. string_bytes out.old ++ words) (ribbon_fault_words fault)) }
+    ensures { OnOk result
+        (Some (string_bytes out.new) ≡ option_map (λ words. string_bytes out.old ++ words) (ribbon_fault_words fault)) }
 {
     match fault {
         RibbonFault::Magic => out.push_str("no ribbon begins so"),

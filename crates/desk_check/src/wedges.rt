@@ -2,8 +2,11 @@
 
 ghost use Rattle.std.specs.Prelude.{◌≡◌, ◌++◌, ◌<◌, Err, IfOk, OnOk, Some, false, option_map, string_bytes, true};
 ghost use Rattle.desk_check.specs.Lines.{SaysWedge};
+ghost use Rattle.desk_check.specs.Metal.{of_wedge};
+ghost use Rattle.desk_wedge.specs.File.{wedge_of};
 ghost use Rattle.desk_check.specs.Words.{count_words, pica_word, points_words, quarter_words, set_q_words, values_words, wedge_fault_words, wedge_words};
 
+use crate::metal::Found;
 use crate::reported::Reported;
 use desk_memory::NoMemory;
 use desk_units::{Pica, SetQ};
@@ -78,7 +81,8 @@ fn put_wedge_fault<A: Allocator + Copy>(
     out: &mut String<A>,
     fault: WedgeFault,
 ) -> Result<(), AllocError>
-    ensures { OnOk result (Some (string_bytes out.new) ≡ option_map (λ words. string_bytes out.old ++ words) (wedge_fault_words fault)) }
+    ensures { OnOk result
+        (Some (string_bytes out.new) ≡ option_map (λ words. string_bytes out.old ++ words) (wedge_fault_words fault)) }
 {
     match fault {
         WedgeFault::NotToml => out.push_str("it is not TOML"),
@@ -114,16 +118,23 @@ fn wedge_refused<A: Allocator + Copy>(alloc: A, fault: WedgeFault) -> Result<Rep
     Ok(Reported { text, well: false })
 }
 
-/// What is said of a wedge file: what it gives, or its first fault.
+/// What is said of a wedge file: what it gives, or its first fault; and the wedge.
 pub fn wedge_reported<A: Allocator + Copy>(
     alloc: A,
     global: Global,
     bytes: &[u8],
-) -> Result<Reported<A>, NoMemory>
-    ensures { IfOk result (λ t. SaysWedge bytes.now (string_bytes t.text) t.well) }
+) -> Result<(Reported<A>, Found), NoMemory>
+    ensures said { IfOk result (λ t. SaysWedge bytes.now (string_bytes t.0.text) t.0.well) }
+    ensures found { IfOk result (λ t. t.1 ≡ of_wedge (wedge_of bytes.now)) }
 {
     match Wedge::read(global, bytes) {
-        Ok(wedge) => wedge_in_order(alloc, &wedge),
-        Err(fault) => wedge_refused(alloc, fault),
+        Ok(wedge) => {
+            let reported = wedge_in_order(alloc, &wedge)?;
+            Ok((reported, Found::Wedge(wedge)))
+        }
+        Err(fault) => {
+            let reported = wedge_refused(alloc, fault)?;
+            Ok((reported, Found::Neither))
+        }
     }
 }

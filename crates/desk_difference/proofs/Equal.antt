@@ -1,17 +1,18 @@
 -- What is said of sets and of copies that are one.
-use Rattle.std.proofs.Common.{◌≡◌, ◌∙◌, ◌-◌, List, [], ◌∷◌, ◌++◌, length, refl, sym, ap, ap₂, subst, inl, arith}
+use Rattle.std.proofs.Common.{◌≡◌, ◌∙◌, ◌-◌, ℕ, List, [], ◌∷◌, ◌++◌, length, refl, sym, ap, ap₂, subst, inl, arith}
 use Rattle.std.specs.List.{slice_range}
 use Rattle.std.proofs.lemmas.Bool.{true≢false}
 use Rattle.std.proofs.lemmas.List.{append-nil, take_all}
 use Rattle.desk_ops.specs.declared.op.Symbol.{Symbol}
 use Rattle.desk_ops.specs.OpSet.{OpSet}
 use Rattle.desk_ops.specs.Shown.{copy_of}
-use Rattle.desk_difference.specs.declared.alone.SiteStamp.{SiteStamp}
+use Rattle.desk_hand.specs.declared.stamps.SiteStamp.{SiteStamp}
 use Rattle.desk_difference.specs.declared.stretch.Stretch.{Stretch}
 use Rattle.desk_difference.specs.Alone.{AreAlone}
 use Rattle.desk_difference.specs.Counters.{alone_line}
 use Rattle.desk_difference.specs.Stretches.{AreStretches}
 use Rattle.desk_difference.specs.Words.{stretches_lines}
+use Rattle.desk_difference.proofs.Readable.{own_lines}
 use Rattle.desk_difference.specs.Laws.{EqualCopiesHaveNoWords, EqualSetsAreReportedSo}
 
 -- a set has nothing that it has not
@@ -42,4 +43,6 @@ equal_sets_reported one other set reported same reports =
     let ones : alone.0 ≡ [] = none_alone set alone.0 alone.2 in
     let others : alone.1 ≡ [] = none_alone set alone.1 alone.3 in
     let words : t.1 ≡ [] = (equal_copies_reported set set t.1 t.3).1 refl in
-    (reports.are_one.1 refl, t.4 ∙ ap₂ (λ l w. l ++ w) (alone.4 ∙ ap₂ (λ l m. alone_line one l ++ alone_line other m) ones others) words ∙ append-nil (alone_line one [] ++ alone_line other []))
+    let lines = alone_line one [] ++ alone_line other [] in
+    let said : t.0 ++ t.1 ≡ lines = ap₂ (λ l w. l ++ w) (alone.4 ∙ ap₂ (λ l m. alone_line one l ++ alone_line other m) ones others) words ∙ append-nil lines in
+    (reports.are_one.1 refl, t.4 ∙ ap₂ (λ (l r : List ℕ). l ++ r) said (own_lines set) ∙ append-nil lines)

@@ -5,3 +5,4 @@ pub mod Equal
 pub mod Sets
 pub mod Begins
 pub mod Unreported
+pub mod Readable

@@ -16,7 +16,7 @@ use Rattle.desk_ops.specs.OpSet.{entries_of, is_rising}
 use Rattle.desk_ops.proofs.OpSets.{T_first, T_second, less_from_T, rising-drop}
 use Rattle.desk_ops.proofs.Stamps.{is_less}
 use Rattle.desk_codec.specs.Runs.{is_among}
-use Rattle.desk_difference.specs.declared.alone.SiteStamp.{SiteStamp}
+use Rattle.desk_hand.specs.declared.stamps.SiteStamp.{SiteStamp}
 use Rattle.desk_difference.specs.Alone.{alone, alone_stamp, begins, site_stamp, skip}
 
 -- each of the operations comes after one

@@ -18,40 +18,10 @@ use Rattle.desk_ops.proofs.Lists.{among-filter, among-filter_from}
 use Rattle.desk_ops.proofs.OpSets.{has_op-from_rising, in_order-from_rising}
 use Rattle.desk_codec.specs.Runs.{is_among}
 use Rattle.desk_walk.proofs.Lists.{among-map}
-use Rattle.desk_difference.specs.declared.alone.SiteStamp.{SiteStamp}
-use Rattle.desk_difference.specs.Alone.{AreAlone, IsAlone, alone, site_cmp, site_stamp}
-
-site_total : IsTotalOrder site_cmp
-site_total = then_total (on_total (λ (s : SiteStamp). s.site) nat_cmp_total) (on_total (λ (s : SiteStamp). s.counter) nat_cmp_total)
-
--- whether two stamps are one
-abbrev pub same_stamp : SiteStamp → SiteStamp → Bool
-same_stamp a b = a.site == b.site && a.counter == b.counter
-
-same_cmp : (a b : SiteStamp) → same_stamp a b ≡ eq_by_cmp site_cmp a b
-same_cmp a b =
-    sym (sym (tied_then (nat_cmp a.site b.site) (nat_cmp a.counter b.counter)) ∙ ap (λ t. t && is_eq (nat_cmp a.counter b.counter)) (unsigned_tied a.site b.site) ∙ ap (λ t. (a.site == b.site) && t) (unsigned_tied a.counter b.counter))
-
-same_exact : (a b : SiteStamp) → same_stamp a b ≡ true → a ≡ b
-same_exact a b e = grind (arith, nat_tests)
-
-same_equiv : IsEquivalence same_stamp
-same_equiv = and_equiv (on_equiv (λ (s : SiteStamp). s.site) nat_eq_equiv) (on_equiv (λ (s : SiteStamp). s.counter) nat_eq_equiv)
-
--- ---- the two words for what is in a list
-
-at_among : {A : Type 0} (xs : List A) (x : A) (k : ℕ) → k < length xs → get_or xs k x ≡ x → Among x xs
-at_among [] x k lt e = absurd (omega arith)
-at_among (y ∷ ys) x zero lt e = inl e
-at_among (y ∷ ys) x (suc k) lt e = inr (at_among ys x k (omega arith) e)
-
-among_from : {A : Type 0} (xs : List A) (x : A) → Contains xs x → Among x xs
-among_from xs x held = at_among xs x held.0 held.1 held.2
-
-among_at : {A : Type 0} (xs : List A) (x : A) → Among x xs → Contains xs x
-among_at [] x m = absurd m
-among_at (y ∷ ys) x (inl e) = (0, omega arith, e)
-among_at (y ∷ ys) x (inr m) = let c = among_at ys x m in (suc c.0, omega (arith, c.1), c.2)
+use Rattle.desk_hand.specs.Stamps.{same_stamp, site_cmp}
+use Rattle.desk_hand.specs.declared.stamps.SiteStamp.{SiteStamp}
+use Rattle.desk_hand.proofs.Sorting.{sorted_once, sorted_reported}
+use Rattle.desk_difference.specs.Alone.{AreAlone, IsAlone, alone, site_stamp}
 
 -- ---- what is among the stamps of operations
 
@@ -79,17 +49,6 @@ alone_reported one other stamp first second = (there, back)
     back h =
         among_map_from site_stamp (alone one other) h.0 stamp
         (among-filter_from (λ (op : Op). not (is_among op other)) one h.0 (in_held one h.0 first h.1) (ap not (sym (has_op-from_rising other h.0 second) ∙ h.2))) h.3
-
--- ---- sorted, and each once
-
-sorted_reported : (stamps sorted : List SiteStamp) (stamp : SiteStamp) → IsPermutation stamps sorted → Among stamp (dedup same_stamp sorted) ↔ Among stamp stamps
-sorted_reported stamps sorted stamp moved = (
-  λ m. among_from stamps stamp (Contains-permutation sorted stamps stamp (IsPermutation-sym stamps sorted moved) (Contains-from_dedup same_stamp sorted stamp (among_at _ stamp m))),
-  λ m. among_from _ stamp (Contains-dedup same_equiv same_exact sorted stamp (Contains-permutation stamps sorted stamp moved (among_at stamps stamp m))),
-)
-
-sorted_once : (sorted : List SiteStamp) → IsSorted site_cmp sorted → IsStrictlySortedBy site_cmp (dedup same_stamp sorted)
-sorted_once sorted up = IsStrictlySortedBy-dedup site_total same_cmp sorted up
 
 pub sorted_alone : (one other : List Op) (stamps sorted once : List SiteStamp) → T (is_rising one) → T (is_rising other) → stamps ≡ map site_stamp (alone one other) → IsPermutation stamps sorted → IsSorted site_cmp sorted
     → once ≡ dedup same_stamp sorted → AreAlone (from_rising one) (from_rising other) once

@@ -2,22 +2,18 @@
 use Rattle.std.specs.Prelude.{◌≡◌, ◌↔◌, Bool, true, false, not, if◌then◌else◌, List, [], ◌∷◌}
 use Rattle.std.specs.List.{filter}
 use Rattle.std.specs.List.Sorted.{IsStrictlySortedBy}
-use Rattle.std.specs.Ordering.{eq_by_cmp, is_lt, nat_cmp, ordering_then}
-use Rattle.std.specs.declared.cmp.Ordering.{Ordering}
+use Rattle.std.specs.Ordering.{eq_by_cmp, is_lt}
 use Rattle.desk_ops.specs.declared.op.Op.{Op}
 use Rattle.desk_ops.specs.Lists.{Among}
 use Rattle.desk_ops.specs.Op.{stamp_of}
 use Rattle.desk_ops.specs.OpSet.{OpSet, has_op}
 use Rattle.desk_ops.specs.Order.{op_cmp}
 use Rattle.desk_codec.specs.Runs.{is_among}
-use Rattle.desk_difference.specs.declared.alone.SiteStamp.{SiteStamp}
-
--- by site, and then by counter
-abbrev pub site_cmp : SiteStamp → SiteStamp → Ordering
-site_cmp a b = ordering_then (nat_cmp a.site b.site) (nat_cmp a.counter b.counter)
+use Rattle.desk_hand.specs.Stamps.{site_cmp, site_stamp_of}
+use Rattle.desk_hand.specs.declared.stamps.SiteStamp.{SiteStamp}
 
 abbrev pub site_stamp : Op → SiteStamp
-site_stamp op = record { site = (stamp_of op).site; counter = (stamp_of op).counter }
+site_stamp op = site_stamp_of (stamp_of op)
 
 -- an operation that the one set holds, and the other does not, bears the stamp
 abbrev pub IsAlone : OpSet → OpSet → SiteStamp → Type 0

@@ -26,7 +26,8 @@ ends one other = record { one = length one; other = length other }
 -- words are whole at a point where a word begins in both copies, and at the end of both
 abbrev pub is_whole : List Symbol → List Symbol → Point → Bool
 is_whole one other point =
-    (begins_word one point.one && begins_word other point.other) || ((point.one == length one) && (point.other == length other))
+    (begins_word one point.one && begins_word other point.other)
+    || ((point.one == length one) && (point.other == length other))
 
 -- the one point comes before the other, or is it, and this lies in both copies
 pub record IsReached (one other : List Symbol) (from to : Point) : Type 0 where
@@ -50,9 +51,11 @@ pub record AreSame (one other : List Symbol) (from to : Point) : Type 0 where
 -- behind a point of two copies, up to a place of the first, no words that are whole are the same in both
 abbrev pub BeginsApart : List Symbol → List Symbol → Point → ℕ → Type 0
 BeginsApart one other from place =
-    (point : Point) → is_whole one other point ≡ true → IsReached one other from point → from.one < point.one → point.one ≤ place → of_one one from point ≢ of_other other from point
+    (point : Point) → is_whole one other point ≡ true → IsReached one other from point → from.one < point.one
+    → point.one ≤ place → of_one one from point ≢ of_other other from point
 
--- between two points they differ, words are whole at both, and what is between does not begin with words that both have alike
+-- between two points they differ, words are whole at both, and what is between does not begin with words that both
+-- have alike
 pub record Differ (one other : List Symbol) (stretch : Stretch) : Type 0 where
   pub reached : IsReached one other stretch.from stretch.to
   pub whole : is_whole one other stretch.from ≡ true

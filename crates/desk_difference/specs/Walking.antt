@@ -8,7 +8,8 @@ use Rattle.desk_difference.specs.Stretches.{AreApart, AreSame, BeginsApart, Diff
 
 -- no prefix of what two copies have behind a point is the same
 abbrev pub IsParted : List Symbol → List Symbol → Point → Type 0
-IsParted one other from = (point : Point) → IsReached one other from point → from.one < point.one → of_one one from point ≢ of_other other from point
+IsParted one other from = (point : Point) → IsReached one other from point → from.one < point.one
+    → of_one one from point ≢ of_other other from point
 
 -- from one point to another the copies have one symbol, and it is the same
 pub record IsAlong (one other : List Symbol) (from to : Point) : Type 0 where
@@ -25,14 +26,16 @@ pub record IsStep (one other : List Symbol) (from to : Point) : Type 0 where
 pub record IsAlike (one other : List Symbol) (front : Front) (point : Point) (limit : ℕ) : Type 0 where
   pub same : AreSame one other front.open point
   pub last : front.last ≡ front.open
-  pub apart : (p : Point) → is_whole one other p ≡ true → IsReached one other front.open p → front.open.one < p.one → p.one < limit → of_one one front.open p ≢ of_other other front.open p
+  pub apart : (p : Point) → is_whole one other p ≡ true → IsReached one other front.open p → front.open.one < p.one
+      → p.one < limit → of_one one front.open p ≢ of_other other front.open p
 
 -- stretches end before a place of the first copy
 abbrev pub EndBefore : ℕ → List Stretch → Type 0
 EndBefore place [] = Unit {0}
 EndBefore place (stretch ∷ stretches) = (stretch.to.one < place) × EndBefore place stretches
 
--- how far a walk that has come to a point has compared the copies: the stretches are those up to `open`, and `last` is the last point at which words are whole; up to the limit no words behind `open` are the same in both
+-- how far a walk that has come to a point has compared the copies: the stretches are those up to `open`, and `last` is
+-- the last point at which words are whole; up to the limit no words behind `open` are the same in both
 pub record HasReported (one other : List Symbol) (stretches : List Stretch) (front : Front) (point : Point) (limit : ℕ) : Type 0 where
   pub reported : DifferIn one other start stretches front.open
   pub apart : AreApart stretches

@@ -1,9 +1,9 @@
 -- The words of two copies that differ, in lines.
-use Rattle.std.specs.Prelude.{ℕ, ◌-◌, ◌&&◌, nat_lt, if◌then◌else◌, List, [], ◌∷◌, ◌++◌, codes, map}
+use Rattle.std.specs.Prelude.{ℕ, ◌-◌, ◌&&◌, nat_lt, if◌then◌else◌, List, [], ◌∷◌, ◌++◌, codes}
 use Rattle.std.specs.List.{slice_range}
 use Rattle.std.specs.Fmt.{decimal}
 use Rattle.desk_ops.specs.declared.op.Symbol.{Symbol}
-use Rattle.desk_places.specs.Reporting.{shown}
+use Rattle.desk_text.specs.Plain.{all_shown}
 use Rattle.desk_text.specs.Writing.{text_bytes}
 use Rattle.desk_difference.specs.Stretches.{begins_word}
 use Rattle.desk_difference.specs.declared.stretch.Stretch.{Stretch}
@@ -15,10 +15,10 @@ words_end copy from to = if nat_lt from to && begins_word copy to then to - 1 el
 abbrev pub words_between : List Symbol → ℕ → ℕ → List Symbol
 words_between copy from to = slice_range copy from (words_end copy from to)
 
--- words as text, behind a space; nothing where there are none
+-- words as they are shown, behind a space; nothing where there are none
 abbrev pub words_text : List Symbol → List ℕ
 words_text [] = []
-words_text (s ∷ words) = codes " " ++ text_bytes (map shown (s ∷ words))
+words_text (s ∷ words) = codes " " ++ text_bytes (all_shown (s ∷ words))
 
 -- a line: a sign, a place, and the words from there on
 abbrev pub words_line : List ℕ → List Symbol → ℕ → ℕ → List ℕ
@@ -27,7 +27,8 @@ words_line sign copy from to = sign ++ decimal from ++ words_text (words_between
 -- the lines of a stretch: what the first copy has there, and what the other has
 abbrev pub stretch_lines : List Symbol → List Symbol → Stretch → List ℕ
 stretch_lines one other stretch =
-    words_line (codes "- ") one stretch.from.one stretch.to.one ++ words_line (codes "+ ") other stretch.from.other stretch.to.other
+    words_line (codes "- ") one stretch.from.one stretch.to.one
+    ++ words_line (codes "+ ") other stretch.from.other stretch.to.other
 
 abbrev pub stretches_lines : List Symbol → List Symbol → List Stretch → List ℕ
 stretches_lines one other [] = []

@@ -4,26 +4,16 @@ ghost use Rattle.std.specs.Prelude.{◌≡◌, ◌++◌, IfOk, OnOk, T, map};
 ghost use Rattle.desk_ops.specs.OpSet.{from_rising, is_rising};
 ghost use Rattle.desk_difference.specs.Alone.{AreAlone, alone, alone_stamp, begins, skip, site_stamp};
 
+use desk_hand::SiteStamp;
 use desk_memory::NoMemory;
 use desk_ops::Op;
 use std::alloc::{AllocError, Allocator};
-
-/// A stamp, ordered by its site and then by its counter.
-#[derive(Clone, Copy, Debug, PartialEq, Eq, PartialOrd, Ord)]
-pub struct SiteStamp {
-    pub site: u16,
-    pub counter: u64,
-}
 
 /// The stamp of an operation.
 fn site_stamp(op: &Op) -> SiteStamp
     ensures { result ≡ site_stamp op.now }
 {
-    let stamp = op.stamp();
-    SiteStamp {
-        site: stamp.site,
-        counter: stamp.counter,
-    }
+    SiteStamp::of(op.stamp())
 }
 
 /// The operations from the first on that does not come before another.

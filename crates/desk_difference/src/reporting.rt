@@ -39,11 +39,13 @@ fn write_difference<W: Write, A: Allocator + Copy>(
     writer: &mut W,
     one: &str,
     other: &str,
-    first: &Replica<Blocks<A>>,
+    first: Replica<Blocks<A>>,
     second: &Replica<Blocks<A>>,
 ) -> Result<bool, DifferenceFault>
-    ensures ok { IfOk result (IsWritten one.now other.now first.now.ops second.now.ops (W.contents writer.old) (W.contents writer.new)) }
-    ensures err { IfErr result (IsUnwritten one.now other.now first.now.ops second.now.ops (W.contents writer.old) (W.contents writer.new)) }
+    ensures ok { IfOk result
+        (IsWritten one.now other.now first.ops second.now.ops (W.contents writer.old) (W.contents writer.new)) }
+    ensures err { IfErr result
+        (IsUnwritten one.now other.now first.ops second.now.ops (W.contents writer.old) (W.contents writer.new)) }
 {
     let (text, same) = reported_of(alloc, one, other, first, second)?;
     write_out(writer, &text)?;
@@ -51,13 +53,16 @@ fn write_difference<W: Write, A: Allocator + Copy>(
 }
 
 /// Writes in what two stored feeds differ, and answers whether they hold the same operations. Each feed has a line,
-/// `one.feed alone 1: 20..25 31, 3: 7` or `one.feed alone none`: the stamps of the operations that it holds and the other
+/// `one.feed alone 1: 20..25 31, 3: 7` or `one.feed alone none`: the stamps of the operations that it holds and the
+/// other
 /// does not, by site, each site with its counters, and two or more that follow one another as the first and the last.
 /// An operation whose stamp the other holds with other content is one of them. Then each stretch of words in which the
 /// copies differ has two lines, `- 12 the quick` with its place in the first copy, from 0, and the words there, and
 /// `+ 12 the slow` with those of the other: text with marks for its styles, the end of a line as a space. Outside the
-/// stretches the copies are the same. Both files must be there. No name is taken, and no file changes. A refusal of a feed
-/// or of memory comes before anything is written.
+/// stretches the copies are the same. Last stand the readings that would be open, if the other feed were merged into
+/// the
+/// first, as `merge_feeds` has them; none where both are more than a replica holds. Both files must be there. No name is
+/// taken, and no file changes. A refusal of a feed or of memory comes before anything is written.
 pub fn report_difference<W: Write, F: Files, A: Allocator + Copy>(
     alloc: A,
     writer: &mut W,
@@ -65,11 +70,14 @@ pub fn report_difference<W: Write, F: Files, A: Allocator + Copy>(
     one: &str,
     other: &str,
 ) -> Result<bool, DifferenceFault>
-    ensures ok { IfOk result (IsReported one.now other.now (F.shelf files.old) (W.contents writer.old) (W.contents writer.new)) }
+    ensures ok { IfOk result
+        (IsReported one.now other.now (F.shelf files.old) (W.contents writer.old) (W.contents writer.new)) }
     ensures counted { OnOk result ((F.shelf files.new).failures ≡ (F.shelf files.old).failures) }
-    ensures err { IfErr result (IsUnreported one.now other.now (F.shelf files.old) (F.shelf files.new) (W.contents writer.old) (W.contents writer.new)) }
+    ensures err { IfErr result
+        (IsUnreported one.now other.now (F.shelf files.old) (F.shelf files.new) (W.contents writer.old)
+        (W.contents writer.new)) }
     ensures stays { Stays (F.shelf files.old) (F.shelf files.new) }
 {
     let (first, second) = open_both(alloc, files, one, other)?;
-    write_difference(alloc, writer, one, other, &first, &second)
+    write_difference(alloc, writer, one, other, first, &second)
 }

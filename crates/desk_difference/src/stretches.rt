@@ -33,7 +33,8 @@ fn are_kept(one: &[Symbol], other: &[Symbol], from: Point, to: Point) -> bool
     from.one < to.one && are_same(one, other, from, to)
 }
 
-/// The point behind the next step of two copies, of which one at least has symbols left. Where they have the same symbol
+/// The point behind the next step of two copies, of which one at least has symbols left. Where they have the same
+/// symbol
 /// both go on. Else a change that is due at the point goes on in one of them.
 fn step(one: &[Symbol], other: &[Symbol], change: Option<Change>, point: Point) -> Point
     requires within { IsReached one.now other.now point point }
@@ -95,7 +96,8 @@ fn close<A: Allocator + Copy>(
     Ok(())
 }
 
-/// What was reported once a walk comes to a point. Where words are whole there, those behind the last such point are one
+/// What was reported once a walk comes to a point. Where words are whole there, those behind the last such point are
+/// one
 /// stretch with what is open, if they differ; else they are kept, and what was open is a stretch.
 fn pass<A: Allocator + Copy>(
     one: &[Symbol],

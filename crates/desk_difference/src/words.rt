@@ -8,8 +8,7 @@ ghost use Rattle.desk_difference.specs.Words.{stretch_lines, stretches_lines, wo
 use crate::stretch::{Stretch, begins_word};
 use desk_memory::NoMemory;
 use desk_ops::Symbol;
-use desk_places::all_shown;
-use desk_text::write_text;
+use desk_text::{all_shown, write_text};
 use std::alloc::{AllocError, Allocator};
 
 /// Where the words between two places of a copy end: before the space or line feed that ends the last of them.
@@ -32,7 +31,8 @@ fn words_between(copy: &[Symbol], from: usize, to: usize) -> &[Symbol]
     &copy[from..words_end(copy, from, to)]
 }
 
-/// Writes words as text behind a space at the end, if there are any. The end of a line is shown as a space.
+/// Writes words as text behind a space at the end, if there are any. The end of a line is shown as a space, and a
+/// directional mark by its name.
 fn put_words<A: Allocator + Copy>(
     alloc: A,
     out: &mut Vec<u8, A>,

@@ -8,9 +8,13 @@ use Rattle.desk_places.specs.Reporting.{reported_of}
 use Rattle.desk_replace.specs.declared.fault.PlaceFault.{PlaceFault}
 use Rattle.desk_replace.specs.declared.fault.PlaceFault.TheVariants as faults
 
--- why a text has not one place in a copy, and what was written: it stands at none, or at so many, and that was written; or it was written in part under Write; or memory ran out, and nothing was written
+-- why a text has not one place in a copy, and what was written: it stands at none, or at so many, and that was
+-- written; or it was written in part under Write; or memory ran out, and nothing was written
 abbrev pub IsReported : List Symbol → List Symbol → Option (List ℕ) → Option (List ℕ) → PlaceFault → Type 0
-IsReported old copy before after faults.NoPlace = (places_of old copy ≡ []) × Appends before after (reported_of old copy)
-IsReported old copy before after (faults.ManyPlaces count) = (1 < count) × (length (places_of old copy) ≡ count) × Appends before after (reported_of old copy)
-IsReported old copy before after faults.Write = (length (places_of old copy) ≢ 1) × WritesPrefix before after (reported_of old copy)
+IsReported old copy before after faults.NoPlace = (places_of old copy ≡ [])
+    × Appends before after (reported_of old copy)
+IsReported old copy before after (faults.ManyPlaces count) = (1 < count) × (length (places_of old copy) ≡ count)
+    × Appends before after (reported_of old copy)
+IsReported old copy before after faults.Write = (length (places_of old copy) ≢ 1)
+    × WritesPrefix before after (reported_of old copy)
 IsReported old copy before after faults.NoMemory = after ≡ before

@@ -7,12 +7,14 @@ ghost use Rattle.desk_replace.specs.declared.fault.ReplaceFault.TheVariants as f
 use desk_hand::{KeepFault, RevisionFault, TakeFault};
 use desk_memory::NoMemory;
 use desk_text::TextFault;
+use feed_last::LastFault;
 use thiserror::Error;
 
 /// Why the two texts are not read. Nothing was begun.
 #[derive(Clone, Copy, Debug, PartialEq, Eq, Error)]
 pub enum ExchangeFault {
-    /// The text that is to be replaced is none: its first fault, by its line and its column. Out of memory is `NoMemory`.
+    /// The text that is to be replaced is none: its first fault, by its line and its column. Out of memory is
+    /// `NoMemory`.
     #[error("OLD, {0}")]
     Old(TextFault),
     /// The text that is to take its place is none: its first fault. The other is read.
@@ -29,7 +31,8 @@ pub enum PlaceFault {
     /// It stands nowhere in the copy, and that was written.
     #[error("no place")]
     NoPlace,
-    /// It stands at so many places, two at least; a line for each of the first 100 was written, and how many more there are.
+    /// It stands at so many places, two at least; a line for each of the first 100 was written, and how many more
+    /// there are.
     #[error("{0} places")]
     ManyPlaces(usize),
     /// It does not stand at one place, and the writer failed, or took no byte.
@@ -49,7 +52,12 @@ pub enum ReplaceFault {
     /// They are read, and the stored feed was not taken.
     #[error("{0}")]
     Take(TakeFault),
-    /// The feed was taken, and the one text has not one place in its copy, or memory ran out before the other stood there.
+    /// The feed was taken, and holds less of the site than it has made in this room, or memory ran out while that was
+    /// compared. No file has changed.
+    #[error("{0}")]
+    Last(LastFault),
+    /// The feed was let in, and the one text has not one place in its copy, or memory ran out before the other stood
+    /// there.
     #[error("{0}")]
     Place(PlaceFault),
     /// It has one, and the copy was not made that with the other text there.
@@ -81,6 +89,14 @@ impl From<TakeFault> for ReplaceFault {
 
     fn from(why: TakeFault) -> ReplaceFault {
         ReplaceFault::Take(why)
+    }
+}
+
+impl From<LastFault> for ReplaceFault {
+    ghost from_gives = { λ why fault. fault ≡ faults.Last why };
+
+    fn from(why: LastFault) -> ReplaceFault {
+        ReplaceFault::Last(why)
     }
 }
 

@@ -16,6 +16,7 @@ use desk_hand::{report_and_keep, revise, take_feed};
 use desk_memory::NoMemory;
 use desk_ops::Symbol;
 use desk_replica::Replica;
+use feed_last::{let_in, mark};
 use std::alloc::Allocator;
 use std::io::Write;
 
@@ -37,7 +38,8 @@ fn replaced<A: Allocator + Copy>(
     Ok(text)
 }
 
-/// The copy of a replica with a text in place of another, at the one place at which that stands. Where there is none, or
+/// The copy of a replica with a text in place of another, at the one place at which that stands. Where there is none,
+/// or
 /// more than one, they are reported.
 fn exchanged<W: Write, A: Allocator + Copy>(
     alloc: A,
@@ -49,7 +51,8 @@ fn exchanged<W: Write, A: Allocator + Copy>(
     ensures ok { IfOk result (λ v. IsExchanged old.now new.now (copy_of replica.now.ops) v.items) }
     ensures lawful { AreLawful new.now → IfOk result (λ v. AreLawful v.items) }
     ensures silent { OnOk result (writer.new ≡ writer.old) }
-    ensures err { IfErr result (IsReported old.now (copy_of replica.now.ops) (W.contents writer.old) (W.contents writer.new)) }
+    ensures err { IfErr result
+        (IsReported old.now (copy_of replica.now.ops) (W.contents writer.old) (W.contents writer.new)) }
 {
     let copy = replica.copy()?;
     let place = only_place(alloc, writer, old, &copy)?;
@@ -57,29 +60,44 @@ fn exchanged<W: Write, A: Allocator + Copy>(
 }
 
 /// Makes a text another in the copy of a stored feed, at the one place where it stands, by few inserts and deletes of the
-/// site; no other operation is made, and nothing that the feed held is lost. Both texts are read as `desk_text` reads them,
+/// site; no other operation is made, and nothing that the feed held is lost. Both texts are read as `desk_text` reads
+/// them,
 /// with marks for their styles or plain, before anything is begun; `Exchange` is the first fault of one. The name of
-/// the feed is then taken, for this run alone; a missing one holds nothing. The line `ok inserted 4 deleted 4` is written,
+/// the feed is then taken, for this run alone; a missing one holds nothing. `Last` comes unless an older feed is
+/// wanted:
+/// the feed holds less of the site than FEED.last says that it made here. The line `ok inserted 4 deleted 4` is
+/// written,
 /// and the feed is stored, unless the file has these bytes. Where the text stands at no place the line `no place` is
 /// written, and where it stands at several a line for each of the first 100, as `place 17: by noon`; then nothing is
-/// stored. Places that overlap count each, and an empty text stands at each place. Until the line is written no file has
-/// changed, and where the feed is not stored none but `name.new`.
+/// stored. Places that overlap count each, and an empty text stands at each place. Until the line is written no file
+/// has
+/// changed, and where the feed is not stored none but `name.new`. Once it is stored FEED.last has the greatest counter of
+/// the site; where that cannot be written it stays.
 pub fn replace_text<W: Write, F: Files, A: Allocator + Copy>(
     alloc: A,
     writer: &mut W,
     files: &mut F,
     name: &str,
     site: u16,
+    older: bool,
     exchange: &Exchange<'_>,
 ) -> Result<(), ReplaceFault>
     requires { 1 ≤ site }
-    ensures ok { OnOk result (IsReplaced name.now site exchange.now (F.shelf files.old) (F.shelf files.new) (W.contents writer.old) (W.contents writer.new)) }
-    ensures err { IfErr result (IsUnreplaced name.now site exchange.now (F.shelf files.old) (F.shelf files.new) (W.contents writer.old) (W.contents writer.new)) }
-    ensures held { IsHeldAlone name.now (F.shelf files.old) (F.shelf files.new) ⊎ ((writer.new ≡ writer.old) × Stays (F.shelf files.old) (F.shelf files.new)) }
+    ensures ok { OnOk result
+        (IsReplaced name.now site older exchange.now (F.shelf files.old) (F.shelf files.new) (W.contents writer.old)
+        (W.contents writer.new)) }
+    ensures err { IfErr result
+        (IsUnreplaced name.now site older exchange.now (F.shelf files.old) (F.shelf files.new) (W.contents writer.old)
+        (W.contents writer.new)) }
+    ensures held { IsHeldAlone name.now (F.shelf files.old) (F.shelf files.new)
+        ⊎ ((writer.new ≡ writer.old) × Stays (F.shelf files.old) (F.shelf files.new)) }
 {
     let (old, new) = read_both(alloc, exchange)?;
     let (stored, mut replica) = take_feed(alloc, files, name, site)?;
+    let_in(alloc, files, name, &stored, &replica, older)?;
     let text = exchanged(alloc, &replica, writer, &old, &new)?;
     let tally = revise(alloc, &mut replica, &text)?;
-    Ok(report_and_keep(alloc, &replica, tally, writer, files, name, &stored)?)
+    report_and_keep(alloc, &replica, tally, writer, files, name, &stored)?;
+    mark(alloc, files, name, &replica);
+    Ok(())
 }

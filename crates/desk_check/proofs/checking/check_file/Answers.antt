@@ -13,4 +13,4 @@ pub returns-in_err-write_out-clause-err : goal.returns-in_err-write_out-clause-e
 returns-in_err-write_out-clause-err g c =
     let prefix = subst (λ l. WritesPrefix (g.W.Write.contents c.args.writer.now) (g.W.Write.contents c.write_out.new.writer) l) c.as_bytes.ensures.value c.in_err-write_out.ensures.err in
     let p = err_from_is_err_and c.from_residual-in_err-write_out.result c.from_residual-in_err-write_out.ensures.1 in
-    rw p.1 (rw p.2 (string_bytes c.in_ok-line.line, c.in_ok-line.well, c.in_ok-line.ensures.ok, prefix))
+    rw p.1 (rw p.2 (string_bytes c.in_ok-line.line, c.in_ok-line.well, c.in_ok-line.found, c.in_ok-line.ensures.ok, prefix))

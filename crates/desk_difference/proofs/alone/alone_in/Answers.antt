@@ -1,5 +1,6 @@
 use Rattle.std.proofs.lemmas.List.Filters.{dedup_is}
-use Rattle.desk_difference.proofs.Sorting.{same_stamp, sorted_alone}
+use Rattle.desk_hand.specs.Stamps.{same_stamp}
+use Rattle.desk_difference.proofs.Sorting.{sorted_alone}
 use Rattle.desk_difference.proofs.alone.alone_in.Goals as goal
 
 pub returns : goal.returns
