@@ -1,4 +1,7 @@
-//! The copy desk's command line.
+//! The copy desk's command line: it hands the words, streams and files of the machine to `desk_program`.
+//!
+//! `main` has no contract: what is proved is in `desk_program`. At a terminal `desk` reports the cause of a stop, and
+//! `desk_host` reports how far a run is. docs/FORMATS.md has the subcommands and docs/GUIDE.md their use.
 #![tactic(auto)]
 
 use desk_host::{HostFiles, Progress, Watched};

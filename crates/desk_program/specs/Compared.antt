@@ -16,4 +16,5 @@ AreOne one other first last before after = IsCompared one other first last befor
 -- they do not; or it was not written
 abbrev pub AreNotOne : (one other : Text) → Shelf → Shelf → Option (List ℕ) → Option (List ℕ) → Type 0
 AreNotOne one other first last before after =
-    IsCompared one other first last before after false ⊎ (Stays first last × (fault : DifferenceFault) × IsUnreported one other first last before after fault)
+    IsCompared one other first last before after false
+    ⊎ (Stays first last × (fault : DifferenceFault) × IsUnreported one other first last before after fault)

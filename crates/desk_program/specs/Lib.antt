@@ -1,3 +1,4 @@
+pub mod ByHand
 pub mod Causes
 pub mod Previews
 pub mod Readings

@@ -3,13 +3,12 @@ use Rattle.std.specs.Prelude.{ℕ, true, List, Option}
 use Rattle.std.specs.Option.{option_copied}
 use Rattle.clap.specs.Words.{Text}
 use Rattle.desk_files.specs.Files.{Shelf, Stays}
-use Rattle.desk_hand.specs.Exporting.{IsExported, IsUnexported}
-use Rattle.desk_hand.specs.Importing.{IsImported, IsUnimported}
-use Rattle.desk_hand.specs.Merging.{IsMerged, IsUnmerged}
-use Rattle.desk_hand.specs.declared.fault.ExportFault.{ExportFault}
-use Rattle.desk_hand.specs.declared.fault.ImportFault.{ImportFault}
-use Rattle.desk_hand.specs.declared.fault.MergeFault.{MergeFault}
+use Rattle.desk_hand.specs.Exporting.{IsExported}
+use Rattle.desk_hand.specs.Importing.{IsImported}
 use Rattle.desk_words.specs.Words.{AsksFor, texts_of}
+use Rattle.feed_renew.specs.Renewing.{IsRenewed}
+use Rattle.feed_renumber.specs.Renumbering.{IsRenumbered}
+use Rattle.desk_program.specs.ByHand.{IsMergedAs, IsNotExported, IsNotImported, IsNotMadeAnew, IsNotMerged, IsNotNumbered}
 use Rattle.desk_program.specs.Compared.{AreNotOne, AreOne}
 use Rattle.desk_program.specs.Sheets.{IsOffDesk, IsOnDesk, IsScripted, IsUnscripted}
 use Rattle.desk_program.specs.Previews.{IsInFile, IsInNoFile, IsSeen, IsUnseen}
@@ -21,35 +20,60 @@ use Rattle.desk_program.specs.Texts.{AreFound, AreNotInOrder, IsUnchanged, excha
 use Rattle.desk_words.specs.declared.wishes.Wish.{Wish}
 use Rattle.desk_words.specs.declared.wishes.Wish.TheVariants as wishes
 
--- what is asked for was done; a script, an export, a check, a proof and a reading without a picture, and a list of sorts change no file
+-- what is asked for was done; a script, an export, a check, a proof and a reading without a picture, and a list of
+-- sorts change no file
 abbrev pub Does : Wish → Shelf → Shelf → Option (List ℕ) → Option (List ℕ) → Option (List ℕ) → Type 0
 Does (wishes.Script manner) first last input before after = IsScripted manner first last input before after
-Does (wishes.Desk feed site why manner) first last input before after = IsOnDesk manner feed.now site first last input before after
-Does (wishes.Merge feed others) first last input before after = IsMerged feed.now (texts_of others.items) first last before after
+Does (wishes.Desk feed site older why manner) first last input before after =
+    IsOnDesk manner feed.now site older first last input before after
+Does (wishes.Merge feed others forks review) first last input before after =
+    IsMergedAs feed.now (texts_of others.items) forks review first last before after
 Does (wishes.Diff one other) first last input before after = AreOne one.now other.now first last before after
 Does (wishes.Export feed) first last input before after = Stays first last × IsExported feed.now first before after
-Does (wishes.Import feed site plain) first last input before after = IsImported feed.now site plain first last input before after
-Does (wishes.Replace feed site old new plain) first last input before after = IsReplaced feed.now site (exchange old new plain) first last before after
+Does (wishes.Import feed site older plain all) first last input before after =
+    IsImported feed.now site older plain all first last input before after
+Does (wishes.Replace feed site older old new plain) first last input before after =
+    IsReplaced feed.now site older (exchange old new plain) first last before after
 Does (wishes.Check files) first last input before after = AreFound (texts_of files.items) first last before after
-Does (wishes.Proof from faults picture sets) first last input before after = IsSeen from faults (option_copied picture) sets.items first last before after
-Does (wishes.Punch from target) first last input before after = IsInFile from target.now first last before after
-Does (wishes.Read ribbon case wedge picture) first last input before after = IsReadWhole (sources ribbon.now case.now wedge.now) (option_copied picture) first last before after
-Does (wishes.Sorts feed case layout) first last input before after = IsListed (sorts.sources feed.now case.now) layout first last before after true
+Does (wishes.Proof from faults picture force sets) first last input before after =
+    IsSeen from faults (option_copied picture) force sets.items first last before after
+Does (wishes.Punch from target force faulty) first last input before after =
+    IsInFile from target.now force faulty first last before after
+Does (wishes.Read ribbon case wedge picture force) first last input before after =
+    IsReadWhole (sources ribbon.now case.now wedge.now) (option_copied picture) force first last before after
+Does (wishes.Sorts feed case layout) first last input before after =
+    IsListed (sorts.sources feed.now case.now) layout first last before after true
+Does (wishes.Renumber feed other site) first last input before after =
+    IsRenumbered feed.now other.now site first last before after
+Does (wishes.Renew new feed site) first last input before after =
+    IsRenewed new.now feed.now site first last before after
 
 -- it stopped or was not begun, or a fault or a difference was found, and this is what it left
 abbrev pub Stops : Wish → Shelf → Shelf → Option (List ℕ) → Option (List ℕ) → Option (List ℕ) → Type 0
 Stops (wishes.Script manner) first last input before after = IsUnscripted manner first last input before after
-Stops (wishes.Desk feed site why manner) first last input before after = IsOffDesk manner feed.now site first last input before after
-Stops (wishes.Merge feed others) first last input before after = (fault : MergeFault) × IsUnmerged feed.now (texts_of others.items) first last before after fault
+Stops (wishes.Desk feed site older why manner) first last input before after =
+    IsOffDesk manner feed.now site older first last input before after
+Stops (wishes.Merge feed others forks review) first last input before after =
+    IsNotMerged feed.now (texts_of others.items) forks review first last before after
 Stops (wishes.Diff one other) first last input before after = AreNotOne one.now other.now first last before after
-Stops (wishes.Export feed) first last input before after = Stays first last × (fault : ExportFault) × IsUnexported feed.now first last before after fault
-Stops (wishes.Import feed site plain) first last input before after = (fault : ImportFault) × IsUnimported feed.now site plain first last input before after fault
-Stops (wishes.Replace feed site old new plain) first last input before after = IsUnchanged feed.now site (exchange old new plain) first last before after
+Stops (wishes.Export feed) first last input before after = IsNotExported feed.now first last before after
+Stops (wishes.Import feed site older plain all) first last input before after =
+    IsNotImported feed.now site older plain all first last input before after
+Stops (wishes.Replace feed site older old new plain) first last input before after =
+    IsUnchanged feed.now site older (exchange old new plain) first last before after
 Stops (wishes.Check files) first last input before after = AreNotInOrder (texts_of files.items) first last before after
-Stops (wishes.Proof from faults picture sets) first last input before after = IsUnseen from faults (option_copied picture) sets.items first last before after
-Stops (wishes.Punch from target) first last input before after = IsInNoFile from target.now first last before after
-Stops (wishes.Read ribbon case wedge picture) first last input before after = IsNotReadWhole (sources ribbon.now case.now wedge.now) (option_copied picture) first last before after
-Stops (wishes.Sorts feed case layout) first last input before after = IsNotListed (sorts.sources feed.now case.now) layout first last before after
+Stops (wishes.Proof from faults picture force sets) first last input before after =
+    IsUnseen from faults (option_copied picture) force sets.items first last before after
+Stops (wishes.Punch from target force faulty) first last input before after =
+    IsInNoFile from target.now force faulty first last before after
+Stops (wishes.Read ribbon case wedge picture force) first last input before after =
+    IsNotReadWhole (sources ribbon.now case.now wedge.now) (option_copied picture) force first last before after
+Stops (wishes.Sorts feed case layout) first last input before after =
+    IsNotListed (sorts.sources feed.now case.now) layout first last before after
+Stops (wishes.Renumber feed other site) first last input before after =
+    IsNotNumbered feed.now other.now site first last before after
+Stops (wishes.Renew new feed site) first last input before after =
+    IsNotMadeAnew new.now feed.now first last before after
 
 -- what the words ask for was done
 abbrev pub IsRun : Shelf → Shelf → List Text → Option (List ℕ) → Option (List ℕ) → Option (List ℕ) → Type 0
@@ -57,4 +81,5 @@ IsRun first last words input before after = (wish : Wish) × AsksFor words wish 
 
 -- so of what the words ask for
 abbrev pub IsStopped : Shelf → Shelf → List Text → Option (List ℕ) → Option (List ℕ) → Option (List ℕ) → Type 0
-IsStopped first last words input before after = (wish : Wish) × AsksFor words wish × Stops wish first last input before after
+IsStopped first last words input before after = (wish : Wish) × AsksFor words wish
+    × Stops wish first last input before after

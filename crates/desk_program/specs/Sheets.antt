@@ -5,8 +5,8 @@ use Rattle.desk_files.specs.Files.{Shelf, Stays}
 use Rattle.desk_world.specs.Sites.{Sites, no_sites}
 use Rattle.desk_script.specs.Desk.{desk}
 use Rattle.desk_script.specs.Script.{Answers, AnswersPrefix}
-use Rattle.desk_script.specs.FeedRun.{AnswersStored, IsStoppedOnFeed}
-use Rattle.desk_script.specs.declared.fault.RunFault.{RunFault}
+use Rattle.desk_script.specs.Room.{AnswersInRoom, IsStoppedInRoom}
+use Rattle.desk_script.specs.declared.fault.RoomFault.{RoomFault}
 use Rattle.desk_sheet.specs.Sheet.{IsDone, IsStopped}
 use Rattle.desk_sheet.specs.StoredSheet.{IsStoredSheet}
 use Rattle.desk_sheet.specs.StoredSheet as sheets
@@ -25,38 +25,51 @@ mode_of manner = record { strict = manner.strict; number = manner.number }
 
 -- all that was read was answered
 abbrev pub IsAnswered : Shelf → Shelf → Option (List ℕ) → Option (List ℕ) → Option (List ℕ) → Type 0
-IsAnswered first last input before after = IfSome input (λ bytes. (new : Sites) × Answers (desk no_sites first) (desk new last) bytes before after)
+IsAnswered first last input before after =
+    IfSome input (λ bytes. (new : Sites) × Answers (desk no_sites first) (desk new last) bytes before after)
 
 -- a prefix of it was
 abbrev pub IsCutOff : Shelf → Shelf → Option (List ℕ) → Option (List ℕ) → Option (List ℕ) → Type 0
-IsCutOff first last input before after = IfSome input (λ bytes. AnswersPrefix (desk no_sites first) last bytes before after)
+IsCutOff first last input before after =
+    IfSome input (λ bytes. AnswersPrefix (desk no_sites first) last bytes before after)
 
 -- as a sheet
 abbrev pub IsDoneSheet : Mode → Shelf → Shelf → Option (List ℕ) → Option (List ℕ) → Option (List ℕ) → Type 0
-IsDoneSheet mode first last input before after = (new : Sites) × IsDone mode (desk no_sites first) (desk new last) input before after
+IsDoneSheet mode first last input before after =
+    (new : Sites) × IsDone mode (desk no_sites first) (desk new last) input before after
 
 abbrev pub IsStoppedSheet : Mode → Shelf → Shelf → Option (List ℕ) → Option (List ℕ) → Option (List ℕ) → Type 0
-IsStoppedSheet mode first last input before after = (fault : SheetFault) × (new : Sites) × IsStopped mode (desk no_sites first) (desk new last) input before after fault
+IsStoppedSheet mode first last input before after = (fault : SheetFault) × (new : Sites)
+    × IsStopped mode (desk no_sites first) (desk new last) input before after fault
 
 -- the commands are carried out, and no file has changed
 abbrev pub IsScripted : Manner → Shelf → Shelf → Option (List ℕ) → Option (List ℕ) → Option (List ℕ) → Type 0
 IsScripted manner first last input before after =
-    Stays first last × MatchBool (is_sheet manner) (IsDoneSheet (mode_of manner) first last input before after) (IsAnswered first last input before after)
+    Stays first last
+    × MatchBool (is_sheet manner) (IsDoneSheet (mode_of manner) first last input before after)
+    (IsAnswered first last input before after)
 
 -- they stopped
 abbrev pub IsUnscripted : Manner → Shelf → Shelf → Option (List ℕ) → Option (List ℕ) → Option (List ℕ) → Type 0
 IsUnscripted manner first last input before after =
-    Stays first last × MatchBool (is_sheet manner) (IsStoppedSheet (mode_of manner) first last input before after) (IsCutOff first last input before after)
+    Stays first last
+    × MatchBool (is_sheet manner) (IsStoppedSheet (mode_of manner) first last input before after)
+    (IsCutOff first last input before after)
 
 -- ---- a desk
 
--- the commands are carried out on a stored feed, and it is stored
-abbrev pub IsOnDesk : Manner → Text → ℕ → Shelf → Shelf → Option (List ℕ) → Option (List ℕ) → Option (List ℕ) → Type 0
-IsOnDesk manner feed site first last input before after =
-    MatchBool (is_sheet manner) (IsStoredSheet (mode_of manner) feed site first last input before after) (AnswersStored feed site first last input before after)
+-- the commands are carried out on a stored feed, which is not older than what was stored here, or that is wanted; and
+-- it is stored
+abbrev pub IsOnDesk : Manner → Text → ℕ → Bool → Shelf → Shelf → Option (List ℕ) → Option (List ℕ) → Option (List ℕ)
+    → Type 0
+IsOnDesk manner feed site older first last input before after =
+    MatchBool (is_sheet manner) (IsStoredSheet (mode_of manner) feed site older first last input before after)
+    (AnswersInRoom feed site older first last input before after)
 
 -- they stopped, and this is what they left
-abbrev pub IsOffDesk : Manner → Text → ℕ → Shelf → Shelf → Option (List ℕ) → Option (List ℕ) → Option (List ℕ) → Type 0
-IsOffDesk manner feed site first last input before after =
-    MatchBool (is_sheet manner) ((fault : SheetFault) × sheets.IsStoppedOnFeed (mode_of manner) feed site first last input before after fault)
-    ((fault : RunFault) × IsStoppedOnFeed feed site first last input before after fault)
+abbrev pub IsOffDesk : Manner → Text → ℕ → Bool → Shelf → Shelf → Option (List ℕ) → Option (List ℕ) → Option (List ℕ)
+    → Type 0
+IsOffDesk manner feed site older first last input before after =
+    MatchBool (is_sheet manner) ((fault : SheetFault)
+    × sheets.IsStoppedOnFeed (mode_of manner) feed site older first last input before after fault)
+    ((fault : RoomFault) × IsStoppedInRoom feed site older first last input before after fault)

@@ -14,8 +14,9 @@ abbrev pub exchange : Bor Text → Bor Text → Bool → Exchange
 exchange old new plain = record { from = old; to = new; plain = plain }
 
 -- why the one text was not made the other, and what was left
-abbrev pub IsUnchanged : Text → ℕ → Exchange → Shelf → Shelf → Option (List ℕ) → Option (List ℕ) → Type 0
-IsUnchanged feed site exchange first last before after = (fault : ReplaceFault) × IsUnreplaced feed site exchange first last before after fault
+abbrev pub IsUnchanged : Text → ℕ → Bool → Exchange → Shelf → Shelf → Option (List ℕ) → Option (List ℕ) → Type 0
+IsUnchanged feed site older exchange first last before after = (fault : ReplaceFault)
+    × IsUnreplaced feed site older exchange first last before after fault
 
 -- each file has its line, all are in order or one is not; no file has changed
 abbrev pub AreReported : List Text → Shelf → Shelf → Option (List ℕ) → Option (List ℕ) → Bool → Type 0
@@ -28,4 +29,5 @@ AreFound names first last before after = AreReported names first last before aft
 -- one is not; or a line was not written
 abbrev pub AreNotInOrder : List Text → Shelf → Shelf → Option (List ℕ) → Option (List ℕ) → Type 0
 AreNotInOrder names first last before after =
-    AreReported names first last before after false ⊎ (Stays first last × (fault : CheckFault) × IsUnchecked names first last before after fault)
+    AreReported names first last before after false
+    ⊎ (Stays first last × (fault : CheckFault) × IsUnchecked names first last before after fault)

@@ -38,8 +38,12 @@ pub fn compared<W: Write, E: Write, F: Files + Explains>(
     files: &mut F,
 ) -> u8
     ensures within { result ≤ 1 }
-    ensures done { result ≡ 0 → AreOne one.now other.now (F.shelf files.old) (F.shelf files.new) (W.contents writer.old) (W.contents writer.new) }
-    ensures stopped { result ≡ 1 → AreNotOne one.now other.now (F.shelf files.old) (F.shelf files.new) (W.contents writer.old) (W.contents writer.new) }
+    ensures done { result ≡ 0
+        → AreOne one.now other.now (F.shelf files.old) (F.shelf files.new) (W.contents writer.old)
+        (W.contents writer.new) }
+    ensures stopped { result ≡ 1
+        → AreNotOne one.now other.now (F.shelf files.old) (F.shelf files.new) (W.contents writer.old)
+        (W.contents writer.new) }
 {
     let outcome = report_difference(alloc, writer, files, one, other);
     difference_status(faults, files, one, other, outcome)

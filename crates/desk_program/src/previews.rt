@@ -1,15 +1,16 @@
 //! A stored feed seen before it is cast: its galley as text, and its ribbon in a file.
 
 ghost use Rattle.std.specs.Option.{option_copied};
-ghost use Rattle.std.specs.Prelude.{◌≡◌, ◌≤◌, ◌↔◌, IfSome, IsNone, MatchResult, false, true};
+ghost use Rattle.std.specs.Prelude.{◌≡◌, ◌≤◌, ◌↔◌, IfErr, IfOk, MatchResult, false, true};
 ghost use Rattle.desk_job.specs.Answer.{AreValues};
 ghost use Rattle.desk_program.specs.Previews.{IsInFile, IsInNoFile, IsPictureAbsent, IsPictureThere, IsSeen, IsSeenBy, IsShown, IsSource, IsUnseen, IsUnseenBy, IsUnshown, TakesSource, extent_of};
 
 use crate::causes::preview_cause;
 use crate::reporting::{report_target, reported, stopped};
 use desk_files::Files;
-use desk_host::Explains;
+use desk_host::{Explains, Plain};
 use desk_inputs::Memory;
+use desk_outputs::Target;
 use desk_picture::picture_feed;
 use desk_preview::{PreviewFault, proof_feed, punch_feed};
 use desk_proof::Extent;
@@ -58,8 +59,9 @@ fn is_source(from: &Sources<'_>, target: &str) -> bool
     target == from.feed || target == from.case || target == from.wedge
 }
 
-/// Writes the proof of a stored feed by its settings and those that are tried, and says whether it is clean; none where it was
-/// not written.
+/// Writes the proof of a stored feed by its settings and those that are tried, and says whether it is clean, or why it
+/// was not
+/// written.
 fn shown<W: Write, E: Write, F: Files + Explains>(
     alloc: Global,
     from: &Sources<'_>,
@@ -68,10 +70,14 @@ fn shown<W: Write, E: Write, F: Files + Explains>(
     writer: &mut W,
     faults: &mut E,
     files: &mut F,
-) -> Option<bool>
+) -> Result<bool, PreviewFault>
     requires { AreValues trial.now }
-    ensures some { IfSome result (IsShown from.now alone trial.now (F.shelf files.old) (F.shelf files.new) (W.contents writer.old) (W.contents writer.new)) }
-    ensures none { IsNone result → IsUnshown from.now alone trial.now (F.shelf files.old) (F.shelf files.new) (W.contents writer.old) (W.contents writer.new) }
+    ensures ok { IfOk result
+        (IsShown from.now alone trial.now (F.shelf files.old) (F.shelf files.new) (W.contents writer.old)
+        (W.contents writer.new)) }
+    ensures err { IfErr result
+        (IsUnshown from.now alone trial.now (F.shelf files.old) (F.shelf files.new) (W.contents writer.old)
+        (W.contents writer.new)) }
 {
     let extent = extent_of(alone);
     let outcome = proof_feed(
@@ -85,10 +91,10 @@ fn shown<W: Write, E: Write, F: Files + Explains>(
         extent,
     );
     match outcome {
-        Ok(clean) => Some(clean),
+        Ok(clean) => Ok(clean),
         Err(fault) => {
             let _ = reported(faults, files, &fault, preview_cause(from, "", fault));
-            None
+            Err(fault)
         }
     }
 }
@@ -99,16 +105,22 @@ fn pictured<E: Write, F: Files + Explains>(
     from: &Sources<'_>,
     trial: &Settings,
     picture: Option<&str>,
+    force: bool,
     faults: &mut E,
     files: &mut F,
 ) -> bool
     requires { AreValues trial.now }
-    ensures yes { result ≡ true → IsPictureThere from.now trial.now (option_copied picture.entry) (F.shelf files.old) (F.shelf files.new) }
-    ensures no { result ≡ false → IsPictureAbsent from.now trial.now (option_copied picture.entry) (F.shelf files.old) (F.shelf files.new) }
+    ensures yes { result ≡ true
+        → IsPictureThere from.now trial.now (option_copied picture.entry) force (F.shelf files.old)
+        (F.shelf files.new) }
+    ensures no { result ≡ false
+        → IsPictureAbsent from.now trial.now (option_copied picture.entry) force (F.shelf files.old)
+        (F.shelf files.new) }
 {
-    let Some(target) = picture else {
+    let Some(name) = picture else {
         return true;
     };
+    let target = Target { name, force };
     let outcome = picture_feed(
         memory_of(alloc),
         files,
@@ -116,40 +128,52 @@ fn pictured<E: Write, F: Files + Explains>(
         from.case,
         from.wedge,
         trial,
-        target,
+        &target,
     );
     match outcome {
         Ok(()) => true,
         Err(fault) => {
-            let _ = reported(faults, files, &fault, preview_cause(from, target, fault));
+            let _ = reported(faults, files, &fault, preview_cause(from, name, fault));
             false
         }
     }
 }
 
-/// Writes the proof of a stored feed, stores its picture where one is asked for, and gives the status.
+/// Writes the proof of a stored feed, stores its picture where one is asked for, and gives the status. The picture is stored also
+/// where the writer failed: whoever reads the proof may have seen enough of it.
 fn seen_by<W: Write, E: Write, F: Files + Explains>(
     alloc: Global,
     from: &Sources<'_>,
     alone: bool,
     trial: &Settings,
     picture: Option<&str>,
+    force: bool,
     writer: &mut W,
     faults: &mut E,
     files: &mut F,
 ) -> u8
     requires { AreValues trial.now }
     ensures within { result ≤ 1 }
-    ensures done { result ≡ 0 → IsSeenBy from.now alone trial.now (option_copied picture.entry) (F.shelf files.old) (F.shelf files.new) (W.contents writer.old) (W.contents writer.new) }
-    ensures stopped { result ≡ 1 → IsUnseenBy from.now alone trial.now (option_copied picture.entry) (F.shelf files.old) (F.shelf files.new) (W.contents writer.old) (W.contents writer.new) }
+    ensures done { result ≡ 0
+        → IsSeenBy from.now alone trial.now (option_copied picture.entry) force (F.shelf files.old) (F.shelf files.new)
+        (W.contents writer.old) (W.contents writer.new) }
+    ensures stopped { result ≡ 1
+        → IsUnseenBy from.now alone trial.now (option_copied picture.entry) force (F.shelf files.old)
+        (F.shelf files.new) (W.contents writer.old) (W.contents writer.new) }
 {
-    let Some(clean) = shown(alloc, from, alone, trial, writer, faults, files) else {
-        return 1;
-    };
-    if !pictured(alloc, from, trial, picture, faults, files) {
-        return 1;
+    match shown(alloc, from, alone, trial, writer, faults, files) {
+        Ok(clean) => {
+            if !pictured(alloc, from, trial, picture, force, faults, files) {
+                return 1;
+            }
+            if clean { 0 } else { 1 }
+        }
+        Err(PreviewFault::Write) => {
+            let _ = pictured(alloc, from, trial, picture, force, faults, files);
+            1
+        }
+        Err(_) => 1,
     }
-    if clean { 0 } else { 1 }
 }
 
 /// Writes why no settings are tried, and gives the status of it.
@@ -158,7 +182,7 @@ fn untried<E: Write>(faults: &mut E, sets: &[&str], fault: TrialFault) -> u8
 {
     match fault {
         TrialFault::NoSetting(place) => {
-            let text = sets.get(place).copied().unwrap_or("");
+            let text = Plain(sets.get(place).copied().unwrap_or(""));
             let _ = writeln!(faults, "copydesk: input refused");
             let _ = writeln!(
                 faults,
@@ -185,47 +209,60 @@ fn takes_source<E: Write>(faults: &mut E, from: &Sources<'_>, picture: Option<&s
 }
 
 /// Writes the proof of a stored feed by its settings and those that texts as `loose=200` try, stores its picture where one is
-/// asked for, and gives the status: 0 where no fault stands and all was written. The names of the feed, the case and the wedge
-/// are no target.
+/// asked for, and gives the status: 0 where no fault stands and all was written. The picture replaces only a picture, or, by
+/// force, any file but the feed, the case and the wedge.
 pub fn proofed<W: Write, E: Write, F: Files + Explains>(
     alloc: Global,
     from: &Sources<'_>,
     alone: bool,
     picture: Option<&str>,
+    force: bool,
     sets: &[&str],
     writer: &mut W,
     faults: &mut E,
     files: &mut F,
 ) -> u8
     ensures within { result ≤ 1 }
-    ensures done { result ≡ 0 → IsSeen from.now alone (option_copied picture.entry) sets.now (F.shelf files.old) (F.shelf files.new) (W.contents writer.old) (W.contents writer.new) }
-    ensures stopped { result ≡ 1 → IsUnseen from.now alone (option_copied picture.entry) sets.now (F.shelf files.old) (F.shelf files.new) (W.contents writer.old) (W.contents writer.new) }
+    ensures done { result ≡ 0
+        → IsSeen from.now alone (option_copied picture.entry) force sets.now (F.shelf files.old) (F.shelf files.new)
+        (W.contents writer.old) (W.contents writer.new) }
+    ensures stopped { result ≡ 1
+        → IsUnseen from.now alone (option_copied picture.entry) force sets.now (F.shelf files.old) (F.shelf files.new)
+        (W.contents writer.old) (W.contents writer.new) }
 {
     if takes_source(faults, from, picture) {
         return 1;
     }
     match trial_of(alloc, sets) {
-        Ok(trial) => seen_by(alloc, from, alone, &trial, picture, writer, faults, files),
+        Ok(trial) => seen_by(
+            alloc, from, alone, &trial, picture, force, writer, faults, files,
+        ),
         Err(fault) => untried(faults, sets, fault),
     }
 }
 
-/// Stores the ribbon of a stored feed under the name of a target, and gives the status. The names of the feed, the case and
-/// the wedge are no target.
+/// Stores the ribbon of a stored feed under the name of a target, and gives the status. The ribbon replaces only a
+/// ribbon, or, by
+/// force, any file but the feed, the case and the wedge. A copy with faults is punched only where that is asked for.
 pub fn punched<W: Write, E: Write, F: Files + Explains>(
     alloc: Global,
     from: &Sources<'_>,
-    target: &str,
+    target: &Target<'_>,
+    faulty: bool,
     writer: &mut W,
     faults: &mut E,
     files: &mut F,
 ) -> u8
     ensures within { result ≤ 1 }
-    ensures done { result ≡ 0 → IsInFile from.now target.now (F.shelf files.old) (F.shelf files.new) (W.contents writer.old) (W.contents writer.new) }
-    ensures stopped { result ≡ 1 → IsInNoFile from.now target.now (F.shelf files.old) (F.shelf files.new) (W.contents writer.old) (W.contents writer.new) }
+    ensures done { result ≡ 0
+        → IsInFile from.now target.now.name.now target.now.force faulty (F.shelf files.old) (F.shelf files.new)
+        (W.contents writer.old) (W.contents writer.new) }
+    ensures stopped { result ≡ 1
+        → IsInNoFile from.now target.now.name.now target.now.force faulty (F.shelf files.old) (F.shelf files.new)
+        (W.contents writer.old) (W.contents writer.new) }
 {
-    if is_source(from, target) {
-        report_target(faults, target, "ribbon");
+    if is_source(from, target.name) {
+        report_target(faults, target.name, "ribbon");
         return 1;
     }
     let outcome = punch_feed(
@@ -236,6 +273,7 @@ pub fn punched<W: Write, E: Write, F: Files + Explains>(
         from.case,
         from.wedge,
         target,
+        faulty,
     );
-    punch_status(faults, files, from, target, outcome)
+    punch_status(faults, files, from, target.name, outcome)
 }

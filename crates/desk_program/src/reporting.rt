@@ -3,11 +3,14 @@
 ghost use Rattle.std.specs.Prelude.{◌≡◌, ◌↔◌, ◌⊎◌, MatchResult};
 ghost use Rattle.std.specs.IoError.{error_kind};
 
-use crate::causes::{Cause, desk_cause};
+use crate::causes::{Cause, room_cause};
 use desk_answers::Refusal;
 use desk_files::FileRefusal;
-use desk_host::Explains;
-use desk_script::RunFault;
+use desk_host::{Explains, Plain};
+use desk_ops::Stamp;
+use desk_proof::OtherNumber;
+use desk_script::{RoomFault, RunFault};
+use feed_renumber::NumberFault;
 use std::fmt::Display;
 use std::io::{self, ErrorKind, Write};
 
@@ -29,24 +32,25 @@ pub fn status_of<E: Write>(faults: &mut E, outcome: Result<(), RunFault>) -> u8
     }
 }
 
-/// The status of a run on a feed. Where it is asked why, a second line says it.
+/// The status of a run on a feed. Where it is asked why, or the feed is older, a second line says it.
 pub fn status_on<E: Write, F: Explains>(
     faults: &mut E,
     files: &F,
     feed: &str,
+    site: u16,
     why: bool,
-    outcome: Result<(), RunFault>,
+    outcome: Result<(), RoomFault>,
 ) -> u8
     ensures { MatchResult outcome (λ _. result ≡ 0) (λ _. result ≡ 1) }
 {
     match outcome {
         Ok(()) => 0,
         Err(fault) => {
-            let status = stopped(faults, fault);
-            if why {
-                explain(faults, files, desk_cause(feed, fault));
+            let _ = writeln!(faults, "copydesk: {fault}");
+            if why || matches!(fault, RoomFault::Older { .. }) {
+                explain(faults, files, room_cause(feed, site, fault));
             }
-            status
+            1
         }
     }
 }
@@ -82,12 +86,13 @@ fn explain_case<E: Write, F: Explains>(
     why: Refusal,
 ) -> io::Result<()> {
     match why {
-        Refusal::Case(number) => writeln!(faults, "{case}: {}", case_words(number)),
+        Refusal::Case(number) => writeln!(faults, "{}: {}", Plain(case), case_words(number)),
         _ => files.explain(case, faults),
     }
 }
 
-/// Writes a line on why a case and a wedge do not come in: the file, and the cause.
+/// Writes a line on why a case and a wedge do not come in: the file, and the cause. Files know which of them they
+/// refused.
 fn explain_input<E: Write, F: Explains>(
     faults: &mut E,
     files: &F,
@@ -97,10 +102,48 @@ fn explain_input<E: Write, F: Explains>(
 ) -> io::Result<()> {
     match why {
         Refusal::Case(_) => explain_case(faults, files, case, why),
-        Refusal::Wedge(number) => writeln!(faults, "{wedge}: {}", wedge_words(number)),
-        _ => {
-            write!(faults, "{case} or ")?;
-            files.explain(wedge, faults)
+        Refusal::Wedge(number) => writeln!(faults, "{}: {}", Plain(wedge), wedge_words(number)),
+        _ => files.explain(wedge, faults),
+    }
+}
+
+/// Writes a line on why a number does not serve.
+fn explain_number<E: Write>(faults: &mut E, site: u16, why: NumberFault) -> io::Result<()> {
+    match why {
+        NumberFault::Seen(stamp) => {
+            let Stamp { counter, site } = stamp;
+            writeln!(
+                faults,
+                "operation {counter}.{site} builds on one that would get another number"
+            )
+        }
+        NumberFault::Clash => {
+            writeln!(
+                faults,
+                "site {site}: two operations of one counter would get this number"
+            )
+        }
+        NumberFault::InUse | NumberFault::NoMemory => {
+            writeln!(faults, "site {site}: one of the feeds has stamps of it")
+        }
+    }
+}
+
+/// Writes a line on a case or a wedge whose number is not that of its setting: the file, and both numbers.
+fn explain_other<E: Write>(faults: &mut E, name: &str, other: OtherNumber) -> io::Result<()> {
+    let name = Plain(name);
+    match other {
+        OtherNumber::Case { set, number } => {
+            writeln!(
+                faults,
+                "{name}: it is case {number}, and the setting case is {set}"
+            )
+        }
+        OtherNumber::Wedge { set, number } => {
+            writeln!(
+                faults,
+                "{name}: it is wedge {number}, and the setting wedge is {set}"
+            )
         }
     }
 }
@@ -113,42 +156,76 @@ fn explain_cause<E: Write, F: Explains>(
 ) -> io::Result<()> {
     match cause {
         Cause::Reported => Ok(()),
-        Cause::NoMemory(feed) => writeln!(faults, "{feed}: out of memory"),
+        Cause::NoMemory(feed) => writeln!(faults, "{}: out of memory", Plain(feed)),
         Cause::File(name) => files.explain(name, faults),
         Cause::Feed(feed, fault) => {
             let (at, why) = (fault.at, fault.why);
-            writeln!(faults, "{feed}: byte {at}: {why}")
+            writeln!(faults, "{}: byte {at}: {why}", Plain(feed))
         }
         Cause::TooMany(feed) => {
             writeln!(
                 faults,
-                "{feed}: it has more operations than a desk can hold"
+                "{}: it has more operations than a desk can hold",
+                Plain(feed)
             )
         }
         Cause::Full(feed) => {
             writeln!(
                 faults,
-                "{feed}: with its operations there would be more than a desk can hold"
+                "{}: with its operations there would be more than a desk can hold",
+                Plain(feed)
             )
         }
-        Cause::Text(feed) => writeln!(faults, "{feed}: the text does not fit into it"),
+        Cause::Text(feed) => writeln!(faults, "{}: the text does not fit into it", Plain(feed)),
+        Cause::Older(feed, site, made, held) => {
+            writeln!(
+                faults,
+                "{}: site {site} made {made} here, and it holds {held}",
+                Plain(feed)
+            )
+        }
+        Cause::Taken(name, kind) => writeln!(faults, "{}: {kind}", Plain(name)),
+        Cause::There(name) => writeln!(faults, "{}: it is there already", Plain(name)),
+        Cause::Number(site, why) => explain_number(faults, site, why),
         Cause::CaseOrWedge(case, wedge, why) => explain_input(faults, files, case, wedge, why),
         Cause::Case(case, why) => explain_case(faults, files, case, why),
+        Cause::Other(name, other) => explain_other(faults, name, other),
         Cause::Input => writeln!(faults, "standard input: it cannot be read"),
         Cause::Endless => writeln!(faults, "standard input: it has no end"),
         Cause::TooLong(most) => writeln!(faults, "standard input: it has more than {most} bytes"),
-        Cause::Output => writeln!(faults, "standard output: it cannot be written"),
+        Cause::Output | Cause::ReportOutput => {
+            writeln!(faults, "standard output: it cannot be written")
+        }
     }
 }
 
-/// Writes a second line on what stopped something, unless the first says all: which file it was, or which end of the program,
+/// Writes a second line on what stopped something, unless the first says all: which file it was, or which end of the
+/// program,
 /// and the cause. A failure to write it changes nothing.
 pub fn explain<E: Write, F: Explains>(faults: &mut E, files: &F, cause: Cause<'_>) {
     let _ = explain_cause(faults, files, cause);
 }
 
-/// Writes a line on a fault and, unless that says all, a second one on its cause, and gives the status of it. Out of memory is
-/// reported as such, whatever it was wanted for.
+/// Writes a line on a fault and, unless that says all, a second one on its cause. Out of memory is reported as such,
+/// whatever
+/// it was wanted for.
+fn report<E: Write, F: Explains, T: Display>(
+    faults: &mut E,
+    files: &F,
+    fault: &T,
+    cause: Cause<'_>,
+) {
+    let _ = match cause {
+        Cause::NoMemory(_) => writeln!(faults, "copydesk: {}", RunFault::NoMemory),
+        _ => writeln!(faults, "copydesk: {fault}"),
+    };
+    explain(faults, files, cause);
+}
+
+/// Reports a fault and its cause, and gives the status of it. Where the reader of a report has closed standard output,
+/// as
+/// `head` does, nothing is written: nobody waits for more. Of a command that would have stored something it is still
+/// reported.
 pub fn reported<E: Write, F: Explains, T: Display>(
     faults: &mut E,
     files: &F,
@@ -157,17 +234,17 @@ pub fn reported<E: Write, F: Explains, T: Display>(
 ) -> u8
     ensures { result ≡ 1 }
 {
-    let _ = match cause {
-        Cause::NoMemory(_) => writeln!(faults, "copydesk: {}", RunFault::NoMemory),
-        _ => writeln!(faults, "copydesk: {fault}"),
-    };
-    explain(faults, files, cause);
+    let is_over = matches!(cause, Cause::ReportOutput) && files.is_output_closed();
+    if !is_over {
+        report(faults, files, fault, cause);
+    }
     1
 }
 
 /// Writes two lines on a target that would take the place of what it is made of: its name, and what it would be.
 pub fn report_target<E: Write>(faults: &mut E, target: &str, made: &str) {
     let _ = writeln!(faults, "copydesk: {}", RunFault::File(FileRefusal::Device));
+    let target = Plain(target);
     let _ = writeln!(faults, "{target}: the {made} would take its place");
 }
 

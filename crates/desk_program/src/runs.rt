@@ -5,7 +5,7 @@ ghost use Rattle.clap.specs.Words.{kind_of};
 ghost use Rattle.desk_program.specs.Runs.{Does, IsRun, IsStopped, Stops};
 ghost use Rattle.desk_words.specs.Words.{AsksHelp, AsksNothing, IsLawful};
 
-use crate::by_hand::{export_status, import_status, merge_status};
+use crate::by_hand::{exported, imported, merged, renewed, renumbered};
 use crate::causes::ReadingSources;
 use crate::compared::compared;
 use crate::previews::{proofed, punched};
@@ -16,8 +16,8 @@ use crate::texts::{checked, replaced};
 use clap::Error;
 use clap::error::ErrorKind;
 use desk_files::Files;
-use desk_hand::{export_feed, import_text, merge_feeds};
-use desk_host::Explains;
+use desk_host::{Explains, Plain};
+use desk_outputs::Target;
 use desk_replace::Exchange;
 use desk_script::RunFault;
 use desk_words::{Wish, read_words};
@@ -35,35 +35,45 @@ fn fulfilled<R: Read, W: Write, E: Write, F: Files + Explains>(
 ) -> u8
     requires { IsLawful wish.now }
     ensures within { result ≤ 1 }
-    ensures done { result ≡ 0 → Does wish.now (F.shelf files.old) (F.shelf files.new) (R.remaining reader.old) (W.contents writer.old) (W.contents writer.new) }
-    ensures stopped { result ≡ 1 → Stops wish.now (F.shelf files.old) (F.shelf files.new) (R.remaining reader.old) (W.contents writer.old) (W.contents writer.new) }
+    ensures done { result ≡ 0
+        → Does wish.now (F.shelf files.old) (F.shelf files.new) (R.remaining reader.old) (W.contents writer.old)
+        (W.contents writer.new) }
+    ensures stopped { result ≡ 1
+        → Stops wish.now (F.shelf files.old) (F.shelf files.new) (R.remaining reader.old) (W.contents writer.old)
+        (W.contents writer.new) }
 {
     match wish {
         Wish::Script { manner } => scripted(alloc, *manner, reader, writer, faults, files),
         Wish::Desk {
             feed,
             site,
+            older,
             why,
             manner,
         } => on_desk(
-            alloc, *manner, feed, *site, *why, reader, writer, faults, files,
+            alloc, *manner, feed, *site, *older, *why, reader, writer, faults, files,
         ),
-        Wish::Merge { feed, others } => {
-            let outcome = merge_feeds(alloc, writer, files, feed, others);
-            merge_status(faults, files, feed, others, outcome)
-        }
+        Wish::Merge {
+            feed,
+            others,
+            forks,
+            review,
+        } => merged(alloc, feed, others, *forks, *review, writer, faults, files),
         Wish::Diff { one, other } => compared(alloc, one, other, writer, faults, files),
-        Wish::Export { feed } => {
-            let outcome = export_feed(alloc, writer, files, feed);
-            export_status(faults, files, feed, outcome)
-        }
-        Wish::Import { feed, site, plain } => {
-            let outcome = import_text(alloc, reader, writer, files, feed, *site, *plain);
-            import_status(faults, files, feed, outcome)
-        }
+        Wish::Export { feed } => exported(alloc, feed, writer, faults, files),
+        Wish::Import {
+            feed,
+            site,
+            older,
+            plain,
+            all,
+        } => imported(
+            alloc, feed, *site, *older, *plain, *all, reader, writer, faults, files,
+        ),
         Wish::Replace {
             feed,
             site,
+            older,
             old,
             new,
             plain,
@@ -73,42 +83,74 @@ fn fulfilled<R: Read, W: Write, E: Write, F: Files + Explains>(
                 to: new,
                 plain: *plain,
             };
-            replaced(alloc, feed, *site, &exchange, writer, faults, files)
+            replaced(alloc, feed, *site, *older, &exchange, writer, faults, files)
         }
         Wish::Check { files: names } => checked(alloc, names, writer, faults, files),
         Wish::Proof {
             from,
             faults: alone,
             picture,
+            force,
             sets,
-        } => proofed(alloc, from, *alone, *picture, sets, writer, faults, files),
-        Wish::Punch { from, target } => punched(alloc, from, target, writer, faults, files),
+        } => proofed(
+            alloc, from, *alone, *picture, *force, sets, writer, faults, files,
+        ),
+        Wish::Punch {
+            from,
+            target,
+            force,
+            faulty,
+        } => {
+            let to = Target {
+                name: target,
+                force: *force,
+            };
+            punched(alloc, from, &to, *faulty, writer, faults, files)
+        }
         Wish::Read {
             ribbon,
             case,
             wedge,
             picture,
+            force,
         } => {
             let from = ReadingSources {
                 ribbon,
                 case,
                 wedge,
             };
-            read_whole(alloc, &from, *picture, writer, faults, files)
+            read_whole(alloc, &from, *picture, *force, writer, faults, files)
         }
         Wish::Sorts { feed, case, layout } => {
             listed(alloc, feed, case, *layout, writer, faults, files)
         }
+        Wish::Renumber { feed, other, site } => {
+            renumbered(alloc, feed, other, *site, writer, faults, files)
+        }
+        Wish::Renew { new, feed, site } => renewed(alloc, new, feed, *site, writer, faults, files),
+    }
+}
+
+/// Writes what `clap` says of words that it refuses, with the words as a terminal shows them.
+fn report_words<E: Write>(alloc: Global, faults: &mut E, error: &Error) {
+    let Ok(text) = format!(in alloc; "{error}") else {
+        let _ = writeln!(faults, "error: the words of the command line are refused");
+        return;
+    };
+    for line in text.as_str().lines() {
+        let _ = writeln!(faults, "{}", Plain(line));
     }
 }
 
 /// What `clap` says of the words: its help and the version go to the writer, and a refusal to the faults.
-fn refused<W: Write, E: Write>(writer: &mut W, faults: &mut E, error: &Error) -> u8
+fn refused<W: Write, E: Write>(alloc: Global, writer: &mut W, faults: &mut E, error: &Error) -> u8
     ensures within { result ≤ 2 }
-    ensures help { result ≡ 0 → (kind_of error.now ≡ ErrorKind.DisplayHelp) ⊎ (kind_of error.now ≡ ErrorKind.DisplayVersion) }
+    ensures help { result ≡ 0 → (kind_of error.now ≡ ErrorKind.DisplayHelp)
+        ⊎ (kind_of error.now ≡ ErrorKind.DisplayVersion) }
     ensures memory { result ≡ 1 → (kind_of error.now ≡ ErrorKind.OutOfMemory) × (writer.new ≡ writer.old) }
     ensures reported { result ≢ 1 → kind_of error.now ≢ ErrorKind.OutOfMemory }
-    ensures fault { result ≡ 2 → (kind_of error.now ≢ ErrorKind.DisplayHelp) × (kind_of error.now ≢ ErrorKind.DisplayVersion) × (writer.new ≡ writer.old) }
+    ensures fault { result ≡ 2 → (kind_of error.now ≢ ErrorKind.DisplayHelp)
+        × (kind_of error.now ≢ ErrorKind.DisplayVersion) × (writer.new ≡ writer.old) }
 {
     let kind = error.kind();
     if kind == ErrorKind::OutOfMemory {
@@ -118,7 +160,7 @@ fn refused<W: Write, E: Write>(writer: &mut W, faults: &mut E, error: &Error) ->
         let _ = write!(writer, "{error}");
         return 0;
     }
-    let _ = write!(faults, "{error}");
+    report_words(alloc, faults, error);
     2
 }
 
@@ -134,15 +176,20 @@ pub fn program<R: Read, W: Write, E: Write, F: Files + Explains>(
     files: &mut F,
 ) -> u8
     ensures status { result ≤ 2 }
-    ensures done { result ≡ 0 → IsRun (F.shelf files.old) (F.shelf files.new) (map string_bytes words.now) (R.remaining reader.old) (W.contents writer.old) (W.contents writer.new)
+    ensures done { result ≡ 0
+        → IsRun (F.shelf files.old) (F.shelf files.new) (map string_bytes words.now) (R.remaining reader.old)
+        (W.contents writer.old) (W.contents writer.new)
         ⊎ (AsksHelp (map string_bytes words.now) × (reader.new ≡ reader.old) × (files.new ≡ files.old)) }
-    ensures stopped { result ≡ 1 → IsStopped (F.shelf files.old) (F.shelf files.new) (map string_bytes words.now) (R.remaining reader.old) (W.contents writer.old) (W.contents writer.new)
+    ensures stopped { result ≡ 1
+        → IsStopped (F.shelf files.old) (F.shelf files.new) (map string_bytes words.now) (R.remaining reader.old)
+        (W.contents writer.old) (W.contents writer.new)
         ⊎ ((reader.new ≡ reader.old) × (writer.new ≡ writer.old) × (files.new ≡ files.old)) }
-    ensures refused { result ≡ 2 → AsksNothing (map string_bytes words.now) × (reader.new ≡ reader.old) × (writer.new ≡ writer.old) × (files.new ≡ files.old) }
+    ensures refused { result ≡ 2 → AsksNothing (map string_bytes words.now) × (reader.new ≡ reader.old)
+        × (writer.new ≡ writer.old) × (files.new ≡ files.old) }
 {
     match read_words(alloc, words) {
         Ok(Some(wish)) => fulfilled(alloc, &wish, reader, writer, faults, files),
         Ok(None) => 2,
-        Err(error) => refused(writer, faults, &error),
+        Err(error) => refused(alloc, writer, faults, &error),
     }
 }

@@ -3,11 +3,11 @@
 ghost use Rattle.std.specs.Prelude.{◌≡◌, ◌≤◌, MatchResult};
 ghost use Rattle.desk_program.specs.Sheets.{IsOffDesk, IsOnDesk, IsScripted, IsUnscripted, is_sheet, mode_of};
 
-use crate::causes::sheet_cause;
+use crate::causes::{Cause, sheet_cause};
 use crate::reporting::{explain, status_of, status_on};
 use desk_files::Files;
-use desk_host::Explains;
-use desk_script::{run, run_on_feed};
+use desk_host::{Explains, Plain};
+use desk_script::{run, run_in_room};
 use desk_sheet::{Mode, SheetFault, run_sheet, run_sheet_on_feed};
 use desk_words::Manner;
 use std::alloc::Global;
@@ -49,23 +49,34 @@ fn sheet_status<E: Write>(faults: &mut E, outcome: Result<(), SheetFault>) -> u8
 }
 
 /// Writes a second line on what stopped a sheet on a feed.
-fn explain_sheet<E: Write, F: Explains>(faults: &mut E, files: &F, feed: &str, fault: SheetFault) {
+fn explain_sheet<E: Write, F: Explains>(
+    faults: &mut E,
+    files: &F,
+    feed: &str,
+    site: u16,
+    fault: SheetFault,
+) {
     match fault {
         SheetFault::Line(number) => {
             let _ = writeln!(
                 faults,
-                "standard input: the answer to line {number} says why; {feed} is as it was"
+                "standard input: the answer to line {number} says why; {} is as it was",
+                Plain(feed)
             );
+        }
+        SheetFault::Older { made, held } => {
+            explain(faults, files, Cause::Older(feed, site, made, held));
         }
         SheetFault::Run(fault) => explain(faults, files, sheet_cause(feed, fault)),
     }
 }
 
-/// The status of a sheet on a feed. Where it is asked why, a second line says it.
+/// The status of a sheet on a feed. Where it is asked why, or the feed is older, a second line says it.
 fn sheet_status_on<E: Write, F: Explains>(
     faults: &mut E,
     files: &F,
     feed: &str,
+    site: u16,
     why: bool,
     outcome: Result<(), SheetFault>,
 ) -> u8
@@ -75,8 +86,8 @@ fn sheet_status_on<E: Write, F: Explains>(
         Ok(()) => 0,
         Err(fault) => {
             let status = sheet_stopped(faults, fault);
-            if why {
-                explain_sheet(faults, files, feed, fault);
+            if why || matches!(fault, SheetFault::Older { .. }) {
+                explain_sheet(faults, files, feed, site, fault);
             }
             status
         }
@@ -93,8 +104,12 @@ pub fn scripted<R: Read, W: Write, E: Write, F: Files + Explains>(
     files: &mut F,
 ) -> u8
     ensures within { result ≤ 1 }
-    ensures done { result ≡ 0 → IsScripted manner (F.shelf files.old) (F.shelf files.new) (R.remaining reader.old) (W.contents writer.old) (W.contents writer.new) }
-    ensures stopped { result ≡ 1 → IsUnscripted manner (F.shelf files.old) (F.shelf files.new) (R.remaining reader.old) (W.contents writer.old) (W.contents writer.new) }
+    ensures done { result ≡ 0
+        → IsScripted manner (F.shelf files.old) (F.shelf files.new) (R.remaining reader.old) (W.contents writer.old)
+        (W.contents writer.new) }
+    ensures stopped { result ≡ 1
+        → IsUnscripted manner (F.shelf files.old) (F.shelf files.new) (R.remaining reader.old) (W.contents writer.old)
+        (W.contents writer.new) }
 {
     if is_sheet(manner) {
         let mode = mode_of(manner);
@@ -112,6 +127,7 @@ pub fn on_desk<R: Read, W: Write, E: Write, F: Files + Explains>(
     manner: Manner,
     feed: &str,
     site: u16,
+    older: bool,
     why: bool,
     reader: &mut R,
     writer: &mut W,
@@ -120,15 +136,21 @@ pub fn on_desk<R: Read, W: Write, E: Write, F: Files + Explains>(
 ) -> u8
     requires { 1 ≤ site }
     ensures within { result ≤ 1 }
-    ensures done { result ≡ 0 → IsOnDesk manner feed.now site (F.shelf files.old) (F.shelf files.new) (R.remaining reader.old) (W.contents writer.old) (W.contents writer.new) }
-    ensures stopped { result ≡ 1 → IsOffDesk manner feed.now site (F.shelf files.old) (F.shelf files.new) (R.remaining reader.old) (W.contents writer.old) (W.contents writer.new) }
+    ensures done { result ≡ 0
+        → IsOnDesk manner feed.now site older (F.shelf files.old) (F.shelf files.new) (R.remaining reader.old)
+        (W.contents writer.old) (W.contents writer.new) }
+    ensures stopped { result ≡ 1
+        → IsOffDesk manner feed.now site older (F.shelf files.old) (F.shelf files.new) (R.remaining reader.old)
+        (W.contents writer.old) (W.contents writer.new) }
 {
     if is_sheet(manner) {
         let mode = mode_of(manner);
-        let outcome = run_sheet_on_feed(alloc, alloc, mode, reader, writer, files, feed, site);
-        sheet_status_on(faults, files, feed, why, outcome)
+        let outcome = run_sheet_on_feed(
+            alloc, alloc, mode, reader, writer, files, feed, site, older,
+        );
+        sheet_status_on(faults, files, feed, site, why, outcome)
     } else {
-        let outcome = run_on_feed(alloc, alloc, reader, writer, files, feed, site);
-        status_on(faults, files, feed, why, outcome)
+        let outcome = run_in_room(alloc, alloc, reader, writer, files, feed, site, older);
+        status_on(faults, files, feed, site, why, outcome)
     }
 }

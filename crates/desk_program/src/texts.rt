@@ -5,7 +5,7 @@ ghost use Rattle.desk_words.specs.Words.{texts_of};
 ghost use Rattle.desk_replace.specs.Replacing.{IsReplaced};
 ghost use Rattle.desk_program.specs.Texts.{AreFound, AreNotInOrder, IsUnchanged, exchange};
 
-use crate::causes::replace_cause;
+use crate::causes::{Cause, replace_cause};
 use crate::previews::memory_of;
 use crate::reporting::{reported, stopped};
 use desk_check::{CheckFault, check_files};
@@ -21,13 +21,14 @@ fn replace_status<E: Write, F: Explains>(
     faults: &mut E,
     files: &F,
     feed: &str,
+    site: u16,
     outcome: Result<(), ReplaceFault>,
 ) -> u8
     ensures { MatchResult outcome (λ _. result ≡ 0) (λ _. result ≡ 1) }
 {
     match outcome {
         Ok(()) => 0,
-        Err(fault) => reported(faults, files, &fault, replace_cause(feed, fault)),
+        Err(fault) => reported(faults, files, &fault, replace_cause(feed, site, fault)),
     }
 }
 
@@ -36,6 +37,7 @@ pub fn replaced<W: Write, E: Write, F: Files + Explains>(
     alloc: Global,
     feed: &str,
     site: u16,
+    older: bool,
     exchange: &Exchange<'_>,
     writer: &mut W,
     faults: &mut E,
@@ -43,22 +45,30 @@ pub fn replaced<W: Write, E: Write, F: Files + Explains>(
 ) -> u8
     requires { 1 ≤ site }
     ensures within { result ≤ 1 }
-    ensures done { result ≡ 0 → IsReplaced feed.now site exchange.now (F.shelf files.old) (F.shelf files.new) (W.contents writer.old) (W.contents writer.new) }
-    ensures stopped { result ≡ 1 → IsUnchanged feed.now site exchange.now (F.shelf files.old) (F.shelf files.new) (W.contents writer.old) (W.contents writer.new) }
+    ensures done { result ≡ 0
+        → IsReplaced feed.now site older exchange.now (F.shelf files.old) (F.shelf files.new) (W.contents writer.old)
+        (W.contents writer.new) }
+    ensures stopped { result ≡ 1
+        → IsUnchanged feed.now site older exchange.now (F.shelf files.old) (F.shelf files.new) (W.contents writer.old)
+        (W.contents writer.new) }
 {
-    let outcome = replace_text(alloc, writer, files, feed, site, exchange);
-    replace_status(faults, files, feed, outcome)
+    let outcome = replace_text(alloc, writer, files, feed, site, older, exchange);
+    replace_status(faults, files, feed, site, outcome)
 }
 
 /// The status of a check: 1 also where each file has its line and one is not in order.
-fn check_status<E: Write>(faults: &mut E, outcome: Result<bool, CheckFault>) -> u8
+fn check_status<E: Write, F: Explains>(
+    faults: &mut E,
+    files: &F,
+    outcome: Result<bool, CheckFault>,
+) -> u8
     ensures { MatchResult outcome (λ well. (well ≡ true → result ≡ 0) × (well ≡ false → result ≡ 1)) (λ _. result ≡ 1) }
 {
     match outcome {
         Ok(true) => 0,
         Ok(false) => 1,
         Err(CheckFault::NoMemory) => stopped(faults, RunFault::NoMemory),
-        Err(CheckFault::Write) => stopped(faults, RunFault::Write),
+        Err(CheckFault::Write) => reported(faults, files, &RunFault::Write, Cause::ReportOutput),
     }
 }
 
@@ -71,9 +81,13 @@ pub fn checked<W: Write, E: Write, F: Files + Explains>(
     files: &mut F,
 ) -> u8
     ensures within { result ≤ 1 }
-    ensures done { result ≡ 0 → AreFound (texts_of names.now) (F.shelf files.old) (F.shelf files.new) (W.contents writer.old) (W.contents writer.new) }
-    ensures stopped { result ≡ 1 → AreNotInOrder (texts_of names.now) (F.shelf files.old) (F.shelf files.new) (W.contents writer.old) (W.contents writer.new) }
+    ensures done { result ≡ 0
+        → AreFound (texts_of names.now) (F.shelf files.old) (F.shelf files.new) (W.contents writer.old)
+        (W.contents writer.new) }
+    ensures stopped { result ≡ 1
+        → AreNotInOrder (texts_of names.now) (F.shelf files.old) (F.shelf files.new) (W.contents writer.old)
+        (W.contents writer.new) }
 {
     let outcome = check_files(memory_of(alloc), writer, files, names);
-    check_status(faults, outcome)
+    check_status(faults, files, outcome)
 }

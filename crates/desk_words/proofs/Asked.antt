@@ -70,23 +70,27 @@ Lacks rows subcommands.Proof = (from : Sources) → NamesSources rows from → �
 Lacks rows subcommands.Punch = (from : Sources) (target : Text) → NamesSources rows from → Names (codes "output") rows target → ⊥
 Lacks rows subcommands.Read = (ribbon case wedge : Text) → NamesRibbon rows ribbon case wedge → ⊥
 Lacks rows subcommands.Sorts = (feed case : Text) → NamesFeed rows feed → Names (codes "case") rows case → ⊥
+Lacks rows subcommands.Renumber = (feed : Text) (site : ℕ) (other : Text) → NamesDesk rows feed site → Names (codes "other") rows other → ⊥
+Lacks rows subcommands.Renew = (feed : Text) (site : ℕ) (new : Text) → NamesDesk rows feed site → Names (codes "new") rows new → ⊥
 
 -- matches that lack what its subcommand wants ask for no wish
 none_reported : (rows : List Row) (wish : Wish) → Lacks rows (subcommand_asked wish) → Reports rows wish → ⊥
 none_reported rows (wishes.Script manner) lacks reports = lacks
-none_reported rows (wishes.Desk feed site why manner) lacks reports = lacks feed.now site reports.0
-none_reported rows (wishes.Merge feed others) lacks reports = lacks feed.now (texts_of others.items) reports.0 reports.1
+none_reported rows (wishes.Desk feed site older why manner) lacks reports = lacks feed.now site reports.0.0
+none_reported rows (wishes.Merge feed others forks review) lacks reports = lacks feed.now (texts_of others.items) reports.0 reports.1
 none_reported rows (wishes.Diff one other) lacks reports = lacks one.now other.now reports.0 reports.1
 none_reported rows (wishes.Export feed) lacks reports = lacks feed.now reports
-none_reported rows (wishes.Import feed site plain) lacks reports = lacks feed.now site reports.0
-none_reported rows (wishes.Replace feed site old new plain) lacks reports = lacks feed.now site old.now new.now reports.0 reports.1 reports.2
+none_reported rows (wishes.Import feed site older plain all) lacks reports = lacks feed.now site reports.0.0
+none_reported rows (wishes.Replace feed site older old new plain) lacks reports = lacks feed.now site old.now new.now reports.0.0 reports.1 reports.2
 none_reported rows (wishes.Check files) lacks reports =
     let bad = sym lacks ∙ reports in
     cc
-none_reported rows (wishes.Proof from faults picture sets) lacks reports = lacks from reports.0
-none_reported rows (wishes.Punch from target) lacks reports = lacks from target.now reports.0 reports.1
-none_reported rows (wishes.Read ribbon case wedge picture) lacks reports = lacks ribbon.now case.now wedge.now reports.0
+none_reported rows (wishes.Proof from faults picture force sets) lacks reports = lacks from reports.0
+none_reported rows (wishes.Punch from target force faulty) lacks reports = lacks from target.now reports.0 reports.1
+none_reported rows (wishes.Read ribbon case wedge picture force) lacks reports = lacks ribbon.now case.now wedge.now reports.0
 none_reported rows (wishes.Sorts feed case layout) lacks reports = lacks feed.now case.now reports.0 reports.1
+none_reported rows (wishes.Renumber feed other site) lacks reports = lacks feed.now site other.now reports.0 reports.1
+none_reported rows (wishes.Renew new feed site) lacks reports = lacks feed.now site new.now reports.0 reports.1
 
 pub no_wish : (rows : List Row) (subcommand : Subcommand) → Lacks rows subcommand → (wish : Wish) → subcommand_asked wish ≡ subcommand → Reports rows wish → ⊥
 no_wish rows subcommand lacks wish is = none_reported rows wish (subst (λ t. Lacks rows t) (sym is) lacks)
@@ -107,6 +111,8 @@ called name =
     if bytes_eq name (codes "punch") then subcommands.Punch else
     if bytes_eq name (codes "read") then subcommands.Read else
     if bytes_eq name (codes "sorts") then subcommands.Sorts else
+    if bytes_eq name (codes "renumber") then subcommands.Renumber else
+    if bytes_eq name (codes "renew") then subcommands.Renew else
     subcommands.Script
 
 called_of : (subcommand : Subcommand) → called (name_of subcommand) ≡ subcommand
@@ -123,6 +129,8 @@ called_of subcommands.Proof = refl
 called_of subcommands.Punch = refl
 called_of subcommands.Read = refl
 called_of subcommands.Sorts = refl
+called_of subcommands.Renumber = refl
+called_of subcommands.Renew = refl
 
 -- two subcommands have two names
 pub same_subcommand : (subcommand other : Subcommand) → name_of subcommand ≡ name_of other → subcommand ≡ other

@@ -147,3 +147,19 @@ some_sorts : sorted (subcommand_of copydesk (codes "sorts" ∷ codes "a.feed" �
     ≡ Some (codes "sorts", (Some (codes "a.feed"), (Some (codes "c.toml"), Some (codes "true"))))
 unfolding clap_on_literals sorted
 some_sorts = refl
+
+renumbered : Option (Text × List Row) → Option (Text × (Option Text × (Option Text × Option Text)))
+renumbered = option_map (λ p. (p.0, (first_of (codes "feed") p.1, (first_of (codes "other") p.1, one_of (codes "site") p.1))))
+
+a_renumbering : renumbered (subcommand_of copydesk (codes "renumber" ∷ codes "a.feed" ∷ codes "b.feed" ∷ codes "--site" ∷ codes "9" ∷ []))
+    ≡ Some (codes "renumber", (Some (codes "a.feed"), (Some (codes "b.feed"), Some (codes "9"))))
+unfolding clap_on_literals renumbered
+a_renumbering = refl
+
+renewed : Option (Text × List Row) → Option (Text × (Option Text × (Option Text × Option Text)))
+renewed = option_map (λ p. (p.0, (first_of (codes "new") p.1, (first_of (codes "feed") p.1, one_of (codes "site") p.1))))
+
+a_renewal : renewed (subcommand_of copydesk (codes "renew" ∷ codes "b.feed" ∷ codes "a.feed" ∷ codes "--site" ∷ codes "1" ∷ []))
+    ≡ Some (codes "renew", (Some (codes "b.feed"), (Some (codes "a.feed"), Some (codes "1"))))
+unfolding clap_on_literals renewed
+a_renewal = refl

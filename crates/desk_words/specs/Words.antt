@@ -67,11 +67,15 @@ script_app = with_manner (new_app (codes "script"))
 abbrev pub text_rule : Text → Rule
 text_rule name = record (new_rule name) { required = true }
 
+-- a feed that a site works on, though it be older than what was stored there
+abbrev pub on_site : Text → App
+on_site name = with_rule (with_rule (with_rule (new_app name) feed_rule) site_rule) (flag_rule (codes "older"))
+
 abbrev pub desk_app : App
-desk_app = with_manner (with_rule (with_rule (with_rule (new_app (codes "desk")) feed_rule) site_rule) (flag_rule (codes "why")))
+desk_app = with_manner (with_rule (on_site (codes "desk")) (flag_rule (codes "why")))
 
 abbrev pub merge_app : App
-merge_app = with_rule (with_rule (new_app (codes "merge")) feed_rule) others_rule
+merge_app = with_rule (with_rule (with_rule (with_rule (new_app (codes "merge")) feed_rule) others_rule) (flag_rule (codes "forks"))) (flag_rule (codes "review"))
 
 abbrev pub diff_app : App
 diff_app = with_rule (with_rule (new_app (codes "diff")) feed_rule) (text_rule (codes "other"))
@@ -80,33 +84,47 @@ abbrev pub export_app : App
 export_app = with_rule (new_app (codes "export")) feed_rule
 
 abbrev pub import_app : App
-import_app = with_rule (with_rule (with_rule (new_app (codes "import")) feed_rule) site_rule) (flag_rule (codes "plain"))
+import_app = with_rule (with_rule (on_site (codes "import")) (flag_rule (codes "plain"))) (flag_rule (codes "all"))
 
 -- a feed, a case and a wedge
 abbrev pub sources_app : Text → App
 sources_app name = with_rule (with_rule (with_rule (new_app name) feed_rule) (file_rule (codes "case"))) (file_rule (codes "wedge"))
 
+-- what stands under the name of an output is replaced, whatever it is
+abbrev pub force_rule : Rule
+force_rule = flag_rule (codes "force")
+
+-- with the name of a file for a picture
+abbrev pub with_picture : App → App
+with_picture app = with_rule (with_rule app (choice_rule (codes "svg"))) force_rule
+
 abbrev pub proof_app : App
-proof_app = with_rule (with_rule (with_rule (sources_app (codes "proof")) (flag_rule (codes "faults"))) (choice_rule (codes "svg"))) (each_rule (codes "set"))
+proof_app = with_rule (with_picture (with_rule (sources_app (codes "proof")) (flag_rule (codes "faults")))) (each_rule (codes "set"))
 
 abbrev pub punch_app : App
-punch_app = with_rule (sources_app (codes "punch")) target_rule
+punch_app = with_rule (with_rule (with_rule (sources_app (codes "punch")) target_rule) force_rule) (flag_rule (codes "faulty"))
 
 -- a ribbon, a case and a wedge
 abbrev pub ribbon_app : App
 ribbon_app = with_rule (with_rule (with_rule (new_app (codes "read")) (text_rule (codes "ribbon"))) (file_rule (codes "case"))) (file_rule (codes "wedge"))
 
 abbrev pub read_app : App
-read_app = with_rule ribbon_app (choice_rule (codes "svg"))
+read_app = with_picture ribbon_app
 
 abbrev pub sorts_app : App
 sorts_app = with_rule (with_rule (with_rule (new_app (codes "sorts")) feed_rule) (file_rule (codes "case"))) (flag_rule (codes "layout"))
 
 abbrev pub replace_app : App
-replace_app = with_rule (with_rule (with_rule (with_rule (with_rule (new_app (codes "replace")) feed_rule) site_rule) (flag_rule (codes "plain"))) (text_rule (codes "old"))) (text_rule (codes "new"))
+replace_app = with_rule (with_rule (with_rule (on_site (codes "replace")) (flag_rule (codes "plain"))) (text_rule (codes "old"))) (text_rule (codes "new"))
 
 abbrev pub check_app : App
 check_app = with_rule (new_app (codes "check")) files_rule
+
+abbrev pub renumber_app : App
+renumber_app = with_rule (with_rule (with_rule (new_app (codes "renumber")) feed_rule) (text_rule (codes "other"))) site_rule
+
+abbrev pub renew_app : App
+renew_app = with_rule (with_rule (with_rule (new_app (codes "renew")) (text_rule (codes "new"))) feed_rule) site_rule
 
 abbrev pub no_subcommand : App
 no_subcommand = record {
@@ -126,13 +144,17 @@ up_to_import = with_subcommand (with_subcommand (with_subcommand up_to_merge dif
 abbrev pub up_to_proof : App
 up_to_proof = with_subcommand (with_subcommand (with_subcommand up_to_import replace_app.top) check_app.top) proof_app.top
 
+-- with those up to `sorts`
+abbrev pub up_to_sorts : App
+up_to_sorts = with_subcommand (with_subcommand (with_subcommand up_to_proof punch_app.top) read_app.top) sorts_app.top
+
 -- with a version
 abbrev pub with_version : App → App
 with_version app = record app { top = record app.top { has_version = true } }
 
 -- the program with its subcommands
 abbrev pub copydesk : App
-copydesk = with_version (with_subcommand (with_subcommand (with_subcommand up_to_proof punch_app.top) read_app.top) sorts_app.top)
+copydesk = with_version (with_subcommand (with_subcommand up_to_sorts renumber_app.top) renew_app.top)
 
 -- ---- what a subcommand's matches hold
 
@@ -182,6 +204,14 @@ abbrev pub HasFlag : Text → List Row → Bool → Type 0
 HasFlag name rows flag =
     (one_of name rows ≡ None → flag ≡ false) × (one_of name rows ≡ Some (codes "false") → flag ≡ false) × (one_of name rows ≡ Some (codes "true") → flag ≡ true)
 
+-- both, and whether a feed that is older is taken
+abbrev pub NamesRoom : List Row → Text → ℕ → Bool → Type 0
+NamesRoom rows feed site older = NamesDesk rows feed site × HasFlag (codes "older") rows older
+
+-- the name of the file for a picture, or that there is none, and whether whatever stands there is replaced
+abbrev pub Pictures : List Row → Option (Bor Text) → Bool → Type 0
+Pictures rows picture force = Chooses (codes "svg") rows picture × HasFlag (codes "force") rows force
+
 -- how commands are carried out
 abbrev pub HasManner : List Row → Manner → Type 0
 HasManner rows manner = HasFlag (codes "strict") rows manner.strict × HasFlag (codes "number") rows manner.number
@@ -202,38 +232,46 @@ name_of subcommands.Proof = codes "proof"
 name_of subcommands.Punch = codes "punch"
 name_of subcommands.Read = codes "read"
 name_of subcommands.Sorts = codes "sorts"
+name_of subcommands.Renumber = codes "renumber"
+name_of subcommands.Renew = codes "renew"
 
 -- the subcommand of a wish
 abbrev pub subcommand_asked : Wish → Subcommand
 subcommand_asked (wishes.Script manner) = subcommands.Script
-subcommand_asked (wishes.Desk feed site why manner) = subcommands.Desk
-subcommand_asked (wishes.Merge feed others) = subcommands.Merge
+subcommand_asked (wishes.Desk feed site older why manner) = subcommands.Desk
+subcommand_asked (wishes.Merge feed others forks review) = subcommands.Merge
 subcommand_asked (wishes.Diff one other) = subcommands.Diff
 subcommand_asked (wishes.Export feed) = subcommands.Export
-subcommand_asked (wishes.Import feed site plain) = subcommands.Import
-subcommand_asked (wishes.Replace feed site old new plain) = subcommands.Replace
+subcommand_asked (wishes.Import feed site older plain all) = subcommands.Import
+subcommand_asked (wishes.Replace feed site older old new plain) = subcommands.Replace
 subcommand_asked (wishes.Check files) = subcommands.Check
-subcommand_asked (wishes.Proof from faults picture sets) = subcommands.Proof
-subcommand_asked (wishes.Punch from target) = subcommands.Punch
-subcommand_asked (wishes.Read ribbon case wedge picture) = subcommands.Read
+subcommand_asked (wishes.Proof from faults picture force sets) = subcommands.Proof
+subcommand_asked (wishes.Punch from target force faulty) = subcommands.Punch
+subcommand_asked (wishes.Read ribbon case wedge picture force) = subcommands.Read
 subcommand_asked (wishes.Sorts feed case layout) = subcommands.Sorts
+subcommand_asked (wishes.Renumber feed other site) = subcommands.Renumber
+subcommand_asked (wishes.Renew new feed site) = subcommands.Renew
 
 -- its matches hold what the wish says
 abbrev pub Reports : List Row → Wish → Type 0
 Reports rows (wishes.Script manner) = HasManner rows manner
-Reports rows (wishes.Desk feed site why manner) = NamesDesk rows feed.now site × HasFlag (codes "why") rows why × HasManner rows manner
-Reports rows (wishes.Merge feed others) = NamesFeed rows feed.now × (all_of (codes "other") rows ≡ Some (texts_of others.items))
+Reports rows (wishes.Desk feed site older why manner) = NamesRoom rows feed.now site older × HasFlag (codes "why") rows why × HasManner rows manner
+Reports rows (wishes.Merge feed others forks review) =
+    NamesFeed rows feed.now × (all_of (codes "other") rows ≡ Some (texts_of others.items)) × HasFlag (codes "forks") rows forks × HasFlag (codes "review") rows review
 Reports rows (wishes.Diff one other) = NamesFeed rows one.now × Names (codes "other") rows other.now
 Reports rows (wishes.Export feed) = NamesFeed rows feed.now
-Reports rows (wishes.Import feed site plain) = NamesDesk rows feed.now site × HasFlag (codes "plain") rows plain
-Reports rows (wishes.Replace feed site old new plain) =
-    NamesDesk rows feed.now site × Names (codes "old") rows old.now × Names (codes "new") rows new.now × HasFlag (codes "plain") rows plain
+Reports rows (wishes.Import feed site older plain all) = NamesRoom rows feed.now site older × HasFlag (codes "plain") rows plain × HasFlag (codes "all") rows all
+Reports rows (wishes.Replace feed site older old new plain) =
+    NamesRoom rows feed.now site older × Names (codes "old") rows old.now × Names (codes "new") rows new.now × HasFlag (codes "plain") rows plain
 Reports rows (wishes.Check files) = all_of (codes "file") rows ≡ Some (texts_of files.items)
-Reports rows (wishes.Proof from faults picture sets) =
-    NamesSources rows from × HasFlag (codes "faults") rows faults × Chooses (codes "svg") rows picture × (texts_of sets.items ≡ all_given (all_of (codes "set") rows))
-Reports rows (wishes.Punch from target) = NamesSources rows from × Names (codes "output") rows target.now
-Reports rows (wishes.Read ribbon case wedge picture) = NamesRibbon rows ribbon.now case.now wedge.now × Chooses (codes "svg") rows picture
+Reports rows (wishes.Proof from faults picture force sets) =
+    NamesSources rows from × HasFlag (codes "faults") rows faults × Pictures rows picture force × (texts_of sets.items ≡ all_given (all_of (codes "set") rows))
+Reports rows (wishes.Punch from target force faulty) =
+    NamesSources rows from × Names (codes "output") rows target.now × HasFlag (codes "force") rows force × HasFlag (codes "faulty") rows faulty
+Reports rows (wishes.Read ribbon case wedge picture force) = NamesRibbon rows ribbon.now case.now wedge.now × Pictures rows picture force
 Reports rows (wishes.Sorts feed case layout) = NamesFeed rows feed.now × Names (codes "case") rows case.now × HasFlag (codes "layout") rows layout
+Reports rows (wishes.Renumber feed other site) = NamesDesk rows feed.now site × Names (codes "other") rows other.now
+Reports rows (wishes.Renew new feed site) = NamesDesk rows feed.now site × Names (codes "new") rows new.now
 
 -- a subcommand with its matches asks for this
 abbrev pub Wishes : Option (Text × List Row) → Wish → Type 0
@@ -286,6 +324,8 @@ HasList rows subcommands.Proof = all_of (codes "set") rows ≢ None
 HasList rows subcommands.Punch = ⊥
 HasList rows subcommands.Read = ⊥
 HasList rows subcommands.Sorts = ⊥
+HasList rows subcommands.Renumber = ⊥
+HasList rows subcommands.Renew = ⊥
 
 -- a subcommand was given such a list
 abbrev pub ListsNames : Option (Text × List Row) → Type 0
@@ -304,14 +344,16 @@ IsAsked words None = (wish : Wish) → AsksFor words wish → ⊥
 -- the number of its site may be one
 abbrev pub IsLawful : Wish → Type 0
 IsLawful (wishes.Script manner) = Unit {0}
-IsLawful (wishes.Desk feed site why manner) = 1 ≤ site
-IsLawful (wishes.Merge feed others) = Unit {0}
+IsLawful (wishes.Desk feed site older why manner) = 1 ≤ site
+IsLawful (wishes.Merge feed others forks review) = Unit {0}
 IsLawful (wishes.Diff one other) = Unit {0}
 IsLawful (wishes.Export feed) = Unit {0}
-IsLawful (wishes.Import feed site plain) = 1 ≤ site
-IsLawful (wishes.Replace feed site old new plain) = 1 ≤ site
+IsLawful (wishes.Import feed site older plain all) = 1 ≤ site
+IsLawful (wishes.Replace feed site older old new plain) = 1 ≤ site
 IsLawful (wishes.Check files) = Unit {0}
-IsLawful (wishes.Proof from faults picture sets) = Unit {0}
-IsLawful (wishes.Punch from target) = Unit {0}
-IsLawful (wishes.Read ribbon case wedge picture) = Unit {0}
+IsLawful (wishes.Proof from faults picture force sets) = Unit {0}
+IsLawful (wishes.Punch from target force faulty) = Unit {0}
+IsLawful (wishes.Read ribbon case wedge picture force) = Unit {0}
 IsLawful (wishes.Sorts feed case layout) = Unit {0}
+IsLawful (wishes.Renumber feed other site) = 1 ≤ site
+IsLawful (wishes.Renew new feed site) = 1 ≤ site

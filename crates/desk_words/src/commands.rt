@@ -5,14 +5,15 @@ ghost use Rattle.clap.specs.Words.{app_of, new_app, rule_of, with_rule};
 ghost use Rattle.clap.specs.declared.builder.command.Command.TheViews.{out-Command};
 ghost use Rattle.desk_words.specs.Help.{HasTexts, IsShown, version_of};
 ghost use Rattle.desk_words.specs.Words.{check_app, choice_rule, copydesk, desk_app, diff_app, each_rule, export_app};
-ghost use Rattle.desk_words.specs.Words.{feed_rule, file_rule, flag_rule, import_app, merge_app, names_rule, no_subcommand};
-ghost use Rattle.desk_words.specs.Words.{proof_app, punch_app, read_app, replace_app, ribbon_app, script_app, site_rule};
-ghost use Rattle.desk_words.specs.Words.{sorts_app, sources_app, target_rule, text_rule, up_to_import, up_to_merge, up_to_proof, with_version};
+ghost use Rattle.desk_words.specs.Words.{feed_rule, file_rule, flag_rule, import_app, merge_app, names_rule, no_subcommand, on_site};
+ghost use Rattle.desk_words.specs.Words.{proof_app, punch_app, read_app, renew_app, renumber_app, replace_app, ribbon_app, script_app, site_rule};
+ghost use Rattle.desk_words.specs.Words.{sorts_app, sources_app, target_rule, text_rule, up_to_import, up_to_merge, up_to_proof, up_to_sorts, with_version};
 
 use crate::help::{
-    ABOUT, CHECK, COMMANDS, DESK, DIFF, EXPORT, FEED, IMPORT, MERGE, NUMBER, ON_A_FEED, ON_CHECK,
-    ON_DIFF, ON_EXPORT, ON_IMPORT, ON_MERGE, ON_PROOF, ON_PUNCH, ON_READ, ON_REPLACE, ON_SORTS,
-    ON_SUBCOMMANDS, PROOF, PUNCH, READ, REPLACE, SCRIPT, SITE, SORTS, STRICT, TARGET, VERSION,
+    ABOUT, CHECK, COMMANDS, DESK, DIFF, EXPORT, FEED, FORCE, IMPORT, MERGE, NUMBER, OLDER,
+    ON_A_FEED, ON_CHECK, ON_DIFF, ON_EXPORT, ON_IMPORT, ON_MERGE, ON_PROOF, ON_PUNCH, ON_READ,
+    ON_RENEW, ON_RENUMBER, ON_REPLACE, ON_SORTS, ON_SUBCOMMANDS, PROOF, PUNCH, READ, RENEW,
+    RENUMBER, REPLACE, SCRIPT, SITE, SORTS, STRICT, TARGET, VERSION,
 };
 use clap::{Arg, ArgAction, Command, value_parser};
 use std::alloc::{AllocError, Global};
@@ -139,6 +140,14 @@ fn on_feed<'a>(alloc: Global, name: &'a str) -> Result<Command<'a>, AllocError>
     Command::new(alloc, name).arg(feed_arg(alloc))
 }
 
+fn older_arg<'a>(alloc: Global) -> Arg<'a>
+    ensures rule { rule_of result ≡ flag_rule (codes "older") }
+    ensures local { result.global ≡ false }
+    ensures help { IsShown result OLDER.now }
+{
+    flag_arg(alloc, "older", OLDER)
+}
+
 fn strict_arg<'a>(alloc: Global) -> Arg<'a>
     ensures rule { rule_of result ≡ flag_rule (codes "strict") }
     ensures local { result.global ≡ false }
@@ -153,6 +162,16 @@ fn number_arg<'a>(alloc: Global) -> Arg<'a>
     ensures help { IsShown result NUMBER.now }
 {
     flag_arg(alloc, "number", NUMBER)
+}
+
+/// A subcommand with a feed that a site works on.
+fn on_site<'a>(alloc: Global, name: &'a str) -> Result<Command<'a>, AllocError>
+    ensures app { IfOk result (λ c. app_of c ≡ on_site name.now) }
+    ensures local { IfOk result (λ c. (out-Command c).has_globals ≡ false) }
+{
+    on_feed(alloc, name)?
+        .arg(site_arg(alloc))?
+        .arg(older_arg(alloc))
 }
 
 fn script_command<'a>(alloc: Global) -> Result<Command<'a>, AllocError>
@@ -171,8 +190,7 @@ fn desk_arguments<'a>(alloc: Global) -> Result<Command<'a>, AllocError>
     ensures app { IfOk result (λ c. app_of c ≡ desk_app) }
     ensures local { IfOk result (λ c. (out-Command c).has_globals ≡ false) }
 {
-    on_feed(alloc, "desk")?
-        .arg(site_arg(alloc))?
+    on_site(alloc, "desk")?
         .arg(flag_arg(alloc, "why", "Says in a second line why a run stopped."))?
         .arg(strict_arg(alloc))?
         .arg(number_arg(alloc))
@@ -187,16 +205,35 @@ fn desk_command<'a>(alloc: Global) -> Result<Command<'a>, AllocError>
     Ok(with_texts(desk, DESK, ON_A_FEED))
 }
 
+/// The subcommand `merge` with its arguments.
+fn merge_arguments<'a>(alloc: Global) -> Result<Command<'a>, AllocError>
+    ensures app { IfOk result (λ c. app_of c ≡ merge_app) }
+    ensures local { IfOk result (λ c. (out-Command c).has_globals ≡ false) }
+{
+    on_feed(alloc, "merge")?
+        .arg(names_arg(
+            alloc,
+            "other",
+            "The names of the files whose feeds are merged into it, in this order.",
+        ))?
+        .arg(flag_arg(
+            alloc,
+            "forks",
+            "Merges feeds in which one number was used twice too.",
+        ))?
+        .arg(flag_arg(
+            alloc,
+            "review",
+            "Ends with status 1 where words are open that a person must look at.",
+        ))
+}
+
 fn merge_command<'a>(alloc: Global) -> Result<Command<'a>, AllocError>
     ensures app { IfOk result (λ c. app_of c ≡ merge_app) }
     ensures local { IfOk result (λ c. (out-Command c).has_globals ≡ false) }
     ensures texts { IfOk result (λ c. HasTexts c MERGE.now ON_MERGE.now) }
 {
-    let merge = on_feed(alloc, "merge")?.arg(names_arg(
-        alloc,
-        "other",
-        "The names of the files whose feeds are merged into it, in this order.",
-    ))?;
+    let merge = merge_arguments(alloc)?;
     Ok(with_texts(merge, MERGE, ON_MERGE))
 }
 
@@ -222,18 +259,30 @@ fn export_command<'a>(alloc: Global) -> Result<Command<'a>, AllocError>
     Ok(with_texts(export, EXPORT, ON_EXPORT))
 }
 
+/// The subcommand `import` with its arguments.
+fn import_arguments<'a>(alloc: Global) -> Result<Command<'a>, AllocError>
+    ensures app { IfOk result (λ c. app_of c ≡ import_app) }
+    ensures local { IfOk result (λ c. (out-Command c).has_globals ≡ false) }
+{
+    on_site(alloc, "import")?
+        .arg(flag_arg(
+            alloc,
+            "plain",
+            "Takes every character as Roman: the text has no marks.",
+        ))?
+        .arg(flag_arg(
+            alloc,
+            "all",
+            "Imports a text that deletes most of the copy too.",
+        ))
+}
+
 fn import_command<'a>(alloc: Global) -> Result<Command<'a>, AllocError>
     ensures app { IfOk result (λ c. app_of c ≡ import_app) }
     ensures local { IfOk result (λ c. (out-Command c).has_globals ≡ false) }
     ensures texts { IfOk result (λ c. HasTexts c IMPORT.now ON_IMPORT.now) }
 {
-    let import = on_feed(alloc, "import")?
-        .arg(site_arg(alloc))?
-        .arg(flag_arg(
-            alloc,
-            "plain",
-            "Takes every character as Roman: the text has no marks.",
-        ))?;
+    let import = import_arguments(alloc)?;
     Ok(with_texts(import, IMPORT, ON_IMPORT))
 }
 
@@ -242,8 +291,7 @@ fn replace_arguments<'a>(alloc: Global) -> Result<Command<'a>, AllocError>
     ensures app { IfOk result (λ c. app_of c ≡ replace_app) }
     ensures local { IfOk result (λ c. (out-Command c).has_globals ≡ false) }
 {
-    on_feed(alloc, "replace")?
-        .arg(site_arg(alloc))?
+    on_site(alloc, "replace")?
         .arg(flag_arg(
             alloc,
             "plain",
@@ -289,24 +337,56 @@ fn on_sources<'a>(alloc: Global, name: &'a str) -> Result<Command<'a>, AllocErro
         .arg(file_arg(alloc, "wedge", "The name of the wedge file."))
 }
 
-fn proof_command<'a>(alloc: Global) -> Result<Command<'a>, AllocError>
+fn force_arg<'a>(alloc: Global) -> Arg<'a>
+    ensures rule { rule_of result ≡ flag_rule (codes "force") }
+    ensures local { result.global ≡ false }
+    ensures help { IsShown result FORCE.now }
+{
+    flag_arg(alloc, "force", FORCE)
+}
+
+/// The subcommand `proof` with its arguments.
+fn proof_arguments<'a>(alloc: Global) -> Result<Command<'a>, AllocError>
     ensures app { IfOk result (λ c. app_of c ≡ proof_app) }
     ensures local { IfOk result (λ c. (out-Command c).has_globals ≡ false) }
-    ensures texts { IfOk result (λ c. HasTexts c PROOF.now ON_PROOF.now) }
 {
-    let proof = on_sources(alloc, "proof")?
+    on_sources(alloc, "proof")?
         .arg(flag_arg(alloc, "faults", "Writes the faults alone."))?
         .arg(choice_arg(
             alloc,
             "svg",
             "Stores a picture of the galley in this file too.",
         ))?
+        .arg(force_arg(alloc))?
         .arg(each_arg(
             alloc,
             "set",
             "Tries a setting, as loose=200, in place of the copy's; nothing is stored.",
-        ))?;
+        ))
+}
+
+fn proof_command<'a>(alloc: Global) -> Result<Command<'a>, AllocError>
+    ensures app { IfOk result (λ c. app_of c ≡ proof_app) }
+    ensures local { IfOk result (λ c. (out-Command c).has_globals ≡ false) }
+    ensures texts { IfOk result (λ c. HasTexts c PROOF.now ON_PROOF.now) }
+{
+    let proof = proof_arguments(alloc)?;
     Ok(with_texts(proof, PROOF, ON_PROOF))
+}
+
+/// The subcommand `punch` with its arguments.
+fn punch_arguments<'a>(alloc: Global) -> Result<Command<'a>, AllocError>
+    ensures app { IfOk result (λ c. app_of c ≡ punch_app) }
+    ensures local { IfOk result (λ c. (out-Command c).has_globals ≡ false) }
+{
+    on_sources(alloc, "punch")?
+        .arg(target_arg(alloc))?
+        .arg(force_arg(alloc))?
+        .arg(flag_arg(
+            alloc,
+            "faulty",
+            "Punches a copy of which a correction is not shown too.",
+        ))
 }
 
 fn punch_command<'a>(alloc: Global) -> Result<Command<'a>, AllocError>
@@ -314,7 +394,7 @@ fn punch_command<'a>(alloc: Global) -> Result<Command<'a>, AllocError>
     ensures local { IfOk result (λ c. (out-Command c).has_globals ≡ false) }
     ensures texts { IfOk result (λ c. HasTexts c PUNCH.now ON_PUNCH.now) }
 {
-    let punch = on_sources(alloc, "punch")?.arg(target_arg(alloc))?;
+    let punch = punch_arguments(alloc)?;
     Ok(with_texts(punch, PUNCH, ON_PUNCH))
 }
 
@@ -338,11 +418,13 @@ fn read_command<'a>(alloc: Global) -> Result<Command<'a>, AllocError>
     ensures local { IfOk result (λ c. (out-Command c).has_globals ≡ false) }
     ensures texts { IfOk result (λ c. HasTexts c READ.now ON_READ.now) }
 {
-    let read = on_ribbon(alloc)?.arg(choice_arg(
-        alloc,
-        "svg",
-        "Stores a picture of the ribbon in this file too.",
-    ))?;
+    let read = on_ribbon(alloc)?
+        .arg(choice_arg(
+            alloc,
+            "svg",
+            "Stores a picture of the ribbon in this file too.",
+        ))?
+        .arg(force_arg(alloc))?;
     Ok(with_texts(read, READ, ON_READ))
 }
 
@@ -357,13 +439,41 @@ fn sorts_command<'a>(alloc: Global) -> Result<Command<'a>, AllocError>
     Ok(with_texts(sorts, SORTS, ON_SORTS))
 }
 
+fn renumber_command<'a>(alloc: Global) -> Result<Command<'a>, AllocError>
+    ensures app { IfOk result (λ c. app_of c ≡ renumber_app) }
+    ensures local { IfOk result (λ c. (out-Command c).has_globals ≡ false) }
+    ensures texts { IfOk result (λ c. HasTexts c RENUMBER.now ON_RENUMBER.now) }
+{
+    let renumber = on_feed(alloc, "renumber")?
+        .arg(text_arg(
+            alloc,
+            "other",
+            "The name of the file of a feed that bears the same number.",
+        ))?
+        .arg(site_arg(alloc))?;
+    Ok(with_texts(renumber, RENUMBER, ON_RENUMBER))
+}
+
+fn renew_command<'a>(alloc: Global) -> Result<Command<'a>, AllocError>
+    ensures app { IfOk result (λ c. app_of c ≡ renew_app) }
+    ensures local { IfOk result (λ c. (out-Command c).has_globals ≡ false) }
+    ensures texts { IfOk result (λ c. HasTexts c RENEW.now ON_RENEW.now) }
+{
+    let renew = Command::new(alloc, "renew")
+        .arg(text_arg(alloc, "new", "The name of the new feed's file."))?
+        .arg(feed_arg(alloc))?
+        .arg(site_arg(alloc))?;
+    Ok(with_texts(renew, RENEW, ON_RENEW))
+}
+
 /// The program's command without its subcommands.
-fn bare_command<'a>(alloc: Global) -> Command<'a>
-    ensures { app_of result ≡ no_subcommand }
+fn bare_command<'a>(alloc: Global) -> Result<Command<'a>, AllocError>
+    ensures { IfOk result (λ c. app_of c ≡ no_subcommand) }
 {
     Command::new(alloc, "copydesk")
         .no_binary_name(true)
         .subcommand_required(true)
+        .bin_name("copydesk")
 }
 
 /// The program's command with its version and its texts.
@@ -381,7 +491,7 @@ fn up_to_merge<'a>(alloc: Global) -> Result<Command<'a>, AllocError>
     ensures { IfOk result (λ c. app_of c ≡ up_to_merge) }
 {
     let script = script_command(alloc)?;
-    let with_script = bare_command(alloc).subcommand(script)?;
+    let with_script = bare_command(alloc)?.subcommand(script)?;
     let desk = desk_command(alloc)?;
     let with_desk = with_script.subcommand(desk)?;
     let merge = merge_command(alloc)?;
@@ -414,11 +524,9 @@ fn up_to_proof<'a>(alloc: Global) -> Result<Command<'a>, AllocError>
     with_check.subcommand(proof)
 }
 
-/// The program's command, with its subcommands.
-pub fn command<'a>(alloc: Global) -> Result<Command<'a>, AllocError>
-    ensures app { IfOk result (λ c. app_of c ≡ copydesk) }
-    ensures version { IfOk result (λ c. version_of c ≡ Some VERSION.now) }
-    ensures texts { IfOk result (λ c. HasTexts c ABOUT.now ON_SUBCOMMANDS.now) }
+/// With those up to `sorts`.
+fn up_to_sorts<'a>(alloc: Global) -> Result<Command<'a>, AllocError>
+    ensures { IfOk result (λ c. app_of c ≡ up_to_sorts) }
 {
     let first = up_to_proof(alloc)?;
     let punch = punch_command(alloc)?;
@@ -426,6 +534,19 @@ pub fn command<'a>(alloc: Global) -> Result<Command<'a>, AllocError>
     let read = read_command(alloc)?;
     let with_read = with_punch.subcommand(read)?;
     let sorts = sorts_command(alloc)?;
-    let with_sorts = with_read.subcommand(sorts)?;
-    Ok(with_version(with_sorts))
+    with_read.subcommand(sorts)
+}
+
+/// The program's command, with its subcommands.
+pub fn command<'a>(alloc: Global) -> Result<Command<'a>, AllocError>
+    ensures app { IfOk result (λ c. app_of c ≡ copydesk) }
+    ensures version { IfOk result (λ c. version_of c ≡ Some VERSION.now) }
+    ensures texts { IfOk result (λ c. HasTexts c ABOUT.now ON_SUBCOMMANDS.now) }
+{
+    let first = up_to_sorts(alloc)?;
+    let renumber = renumber_command(alloc)?;
+    let with_renumber = first.subcommand(renumber)?;
+    let renew = renew_command(alloc)?;
+    let with_renew = with_renumber.subcommand(renew)?;
+    Ok(with_version(with_renew))
 }

@@ -25,6 +25,10 @@ pub const REPLACE: &str =
 
 pub const CHECK: &str = "Says of files what they are, and what is wrong in them.";
 
+pub const RENUMBER: &str = "Gives another number to what another feed has made under the same.";
+
+pub const RENEW: &str = "Begins a new feed with the copy and the settings of a stored feed.";
+
 pub const PROOF: &str = "Writes the galley of a stored feed, and each fault at its text.";
 
 pub const PUNCH: &str = "Stores the ribbon of a stored feed in a file.";
@@ -43,6 +47,12 @@ pub const SITE: &str = "The number of the site whose feed it is, from 1 to 65535
 /// What the target of a ribbon is.
 pub const TARGET: &str = "The name of the file that the ribbon is stored in.";
 
+/// What goes on with an older feed.
+pub const OLDER: &str = "Goes on with a feed that is older than what this room stored there.";
+
+/// What is replaced by force.
+pub const FORCE: &str = "Replaces the file that the output goes to, whatever it is.";
+
 /// What a strict run does.
 pub const STRICT: &str = "\
 Ends at the first line that is refused; empty lines and lines that begin with # are passed over.";
@@ -58,12 +68,15 @@ As in:
   copydesk desk one.feed --site 1 --strict < sheet.txt
                                             all of a sheet of commands, or nothing of it
   copydesk merge one.feed two.feed          takes what the feed of another site holds
+  copydesk renumber one.feed two.feed --site 9
+                                            another number for what both rooms made under one
   copydesk diff one.feed two.feed           what each has alone
   copydesk export one.feed > one.txt        the copy as text
   copydesk import one.feed --site 1 < one.txt
                                             makes that text the copy
   copydesk replace one.feed --site 1 Tuesday Thursday
                                             one text for another, where it stands once
+  copydesk renew new.feed one.feed --site 1 a new feed with that copy and its settings
   copydesk check one.feed case12.toml wedge5.toml one.rib
                                             what files are, and what is wrong in them
   copydesk proof one.feed --case case12.toml --wedge wedge5.toml
@@ -106,7 +119,8 @@ As in: copydesk desk one.feed --site 1 < commands
 
 The feed is stored once all commands were answered: an `ok` stands when the run has ended with status 0.
 While a run has a feed, no other can have it. FEED.lock, beside it, is the sign of that, and stays.
-A number belongs to one feed: go on with a copied or restored feed under a new number.
+A number belongs to one feed: go on with a copied or restored feed under a new number. FEED.last, beside it, has the
+last counter that each site stored there: a feed that holds less is refused, unless `--older` is given.
 With `--strict` a sheet of commands is stored as a whole or not at all: the first line that is refused ends the run,
 its number stands on standard error, and the feed is as it was.
 
@@ -120,9 +134,36 @@ As in: copydesk merge one.feed two.feed three.feed
 The feed then holds what it held and what the others hold; a missing one is made. Each of the others has a
 line, `two.feed ok new 45 known 29857`, and at the end stand the faults of the copy, or `faults none`.
 The others do not change. Merging twice, or in another order, gives the same feed.
+Where two rooms made corrections under one number the merge is refused, and standard error has their counters:
+`copydesk renumber` mends that. With `--forks` they are merged, and neither of the two corrections is shown.
+Where both rooms changed a word, or a change is not shown as its room made it, the words stand below the line of
+that feed, `open at 33`: as they are now, as they were here and there, and as they were in both. Look at them, and
+settle them by `copydesk replace`.
 
 Status: 0 the feed is stored; 1 it is not, and nothing has changed: a second line on standard error names
-the file and the cause; 2 the words were refused.";
+the file and the cause; or, with `--review`, it is stored and words are open; 2 the words were refused.";
+
+/// What a renumbering is.
+pub const ON_RENUMBER: &str = "\
+As in: copydesk renumber one.feed two.feed --site 9
+
+Where a feed was copied, or an old one restored, two rooms may make corrections under one number, and a merge is
+refused. What one.feed has made since then under that number gets the number 9, which no feed may bear yet: the
+merge then keeps both. The answer is `ok renumbered 17`; where the copy reads otherwise the words stand below, as
+`copydesk diff` writes them. Go on in that room as site 9.
+
+Status: 0 the feed is stored; 1 it is not, and nothing has changed: standard error says why; 2 the words were refused.";
+
+/// What a renewal is.
+pub const ON_RENEW: &str = "\
+As in: copydesk renew new.feed one.feed --site 1
+
+The new feed has the copy and the settings of one.feed as they stand, all made by site 1: no fault of the copy, no
+deleted symbol and no old number. The answer is `ok renewed 28746`, the symbols of the copy. No file may stand under
+the name of the new feed. Merge no old feed into it: the copy would stand there twice.
+
+Status: 0 the new feed is stored; 1 it is not, and nothing has changed: standard error says why; 2 the words were
+refused.";
 
 /// What a difference is.
 pub const ON_DIFF: &str = "\
@@ -130,7 +171,8 @@ As in: copydesk diff one.feed two.feed
 
 First stand the stamps of what each feed has alone, by site and counters: `one.feed alone 1: 20..25 31, 3: 7`. Then
 each stretch of words that differ, with its place in the one copy and in the other: `- 12 the quick` and
-`+ 12 the slow`. Nothing changes.
+`+ 12 the slow`. Last stand the words that a merge of the two would leave open, as `copydesk merge` writes them.
+Nothing changes.
 
 Status: 0 the two hold the same; 1 they do not, or a feed cannot be read, or the text not be written, and then
 standard error says why; 2 the words were refused.";
@@ -151,6 +193,7 @@ As in: copydesk import one.feed --site 1 < one.txt
 The copy is made that text, with the marks of `copydesk export`, by few deletes and inserts: what other
 sites have changed elsewhere is kept when the feeds are merged. The answer is `ok inserted 12 deleted 7`.
 A missing feed is made. A carriage return before a line feed is dropped.
+A text that is empty, or that deletes more than half of a copy of 200 symbols or more, is refused: `--all` takes it.
 
 Status: 0 the feed is stored; 1 it is not, and nothing has changed: standard error has the cause, of a text
 that is refused by line and column; 2 the words were refused.";
@@ -183,8 +226,9 @@ As in: copydesk proof one.feed --case case12.toml --wedge wedge5.toml
 First stand the faults of the copy: each is a correction that is not shown. Then each line has its number, its
 places in the copy, its wedge pair with a gauge between tight and loose, its words, and its fills; at the end
 each fault stands at its text, with the way out in figures. With `--faults` the faults stand alone.
-`--svg one.svg` stores a picture of the galley too, for any browser. `--set loose=200` tries a setting in place of
-the copy's, and may stand more than once. The feed does not change.
+`--svg one.svg` stores a picture of the galley too, for any browser. It replaces only a picture or an empty file:
+`--force` replaces any. `--set loose=200` tries a setting in place of the copy's, and may stand more than once. The
+feed does not change.
 
 Status: 0 no fault stands; 1 a fault stands, or the proof was not written, and standard error says so; 2 the
 words were refused.";
@@ -195,7 +239,8 @@ As in: copydesk punch one.feed --case case12.toml --wedge wedge5.toml -o one.rib
 
 The ribbon of the feed's copy is stored as a feed is: written whole beside the name, and then renamed. Where the
 job has faults nothing is stored, and they stand in one line on standard output; `copydesk proof` shows them
-at their text. The names of the feed, the case and the wedge are no target.
+at their text. So where the copy has faults: a correction is not shown then. `--faulty` punches all the same.
+The ribbon replaces only a ribbon or an empty file: `--force` replaces any, but the feed, the case and the wedge.
 
 Status: 0 the ribbon is stored; 1 it is not, and standard error says why; 2 the words were refused.";
 
@@ -205,7 +250,8 @@ As in: copydesk read one.rib --case case12.toml --wedge wedge5.toml
 
 Each line that a caster would cast has its number, its wedge pair, its width, how short of the longest it is, and
 its text as read; or the first fault stands there with its row. `--svg one.svg` stores a picture of the ribbon
-too: its rows as the caster meets them, with the meaning of each.
+too: its rows as the caster meets them, with the meaning of each. It replaces only a picture or an empty file:
+`--force` replaces any.
 
 Status: 0 the ribbon is cast whole; 1 it has a fault, or a file cannot be read, or the text not be written, and standard
 error says so; 2 the words were refused.";

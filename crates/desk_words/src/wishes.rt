@@ -22,6 +22,8 @@ pub enum Subcommand {
     Punch,
     Read,
     Sorts,
+    Renumber,
+    Renew,
 }
 
 /// The names of a stored feed, of a case file and of a wedge file.
@@ -48,17 +50,22 @@ pub enum Wish<'a> {
     Script {
         manner: Manner,
     },
-    /// A script on a stored feed, for a site, whether a line is to say why a run stopped, and how it is carried out.
+    /// A script on a stored feed, for a site, whether an older feed is taken, whether a line is to say why a run stopped, and
+    /// how it is carried out.
     Desk {
         feed: &'a str,
         site: u16,
+        older: bool,
         why: bool,
         manner: Manner,
     },
-    /// The feeds of other files, merged into a stored one.
+    /// The feeds of other files, merged into a stored one, whether numbers that were used twice are merged too, and whether words
+    /// that a person must look at are a fault.
     Merge {
         feed: &'a str,
         others: Vec<&'a str>,
+        forks: bool,
+        review: bool,
     },
     /// What each of two stored feeds has alone.
     Diff {
@@ -69,16 +76,21 @@ pub enum Wish<'a> {
     Export {
         feed: &'a str,
     },
-    /// A text, made the copy of a stored feed by operations of a site, and whether all of it is Roman.
+    /// A text, made the copy of a stored feed by operations of a site, whether an older feed is taken, whether all of the text is
+    /// Roman, and whether it may delete most of the copy.
     Import {
         feed: &'a str,
         site: u16,
+        older: bool,
         plain: bool,
+        all: bool,
     },
-    /// A text in the copy of a stored feed, made another by operations of a site, and whether all of both is Roman.
+    /// A text in the copy of a stored feed, made another by operations of a site, whether an older feed is taken, and whether all
+    /// of both is Roman.
     Replace {
         feed: &'a str,
         site: u16,
+        older: bool,
         old: &'a str,
         new: &'a str,
         plain: bool,
@@ -88,30 +100,48 @@ pub enum Wish<'a> {
         files: Vec<&'a str>,
     },
     /// The galley of a stored feed by a case and a wedge, whether its faults alone are wanted, the name of the file that its
-    /// picture is stored in, and the settings that are tried in place of the copy's.
+    /// picture is stored in, whether whatever stands there is replaced, and the settings that are tried in place of the copy's.
     Proof {
         from: Sources<'a>,
         faults: bool,
         picture: Option<&'a str>,
+        force: bool,
         sets: Vec<&'a str>,
     },
-    /// The ribbon of a stored feed by a case and a wedge, stored under the name of a target.
+    /// The ribbon of a stored feed by a case and a wedge, stored under the name of a target; whether whatever stands there is
+    /// replaced, and whether a copy with faults is punched.
     Punch {
         from: Sources<'a>,
         target: &'a str,
+        force: bool,
+        faulty: bool,
     },
-    /// What a caster would cast of a stored ribbon by a case and a wedge, and the name of the file that its picture is stored in.
+    /// What a caster would cast of a stored ribbon by a case and a wedge, the name of the file that its picture is stored in, and
+    /// whether whatever stands there is replaced.
     Read {
         ribbon: &'a str,
         case: &'a str,
         wedge: &'a str,
         picture: Option<&'a str>,
+        force: bool,
     },
     /// The sorts that the copy of a stored feed wants of a case, and whether the case's layout is wanted too.
     Sorts {
         feed: &'a str,
         case: &'a str,
         layout: bool,
+    },
+    /// Another number for the operations of a stored feed whose stamps another feed bears with other content.
+    Renumber {
+        feed: &'a str,
+        other: &'a str,
+        site: u16,
+    },
+    /// A new feed, with the copy and the settings of a stored one, made by a site.
+    Renew {
+        new: &'a str,
+        feed: &'a str,
+        site: u16,
     },
 }
 
@@ -155,6 +185,12 @@ fn subcommand_named(name: &str) -> Option<Subcommand>
     }
     if name == "sorts" {
         return Some(Subcommand::Sorts);
+    }
+    if name == "renumber" {
+        return Some(Subcommand::Renumber);
+    }
+    if name == "renew" {
+        return Some(Subcommand::Renew);
     }
     None
 }
@@ -213,6 +249,7 @@ fn desk_wish<'a>(matches: &ArgMatches<'a>) -> Option<Wish<'a>>
         Some((feed, site)) => Some(Wish::Desk {
             feed,
             site,
+            older: flag_of(matches, "older"),
             why: flag_of(matches, "why"),
             manner: manner_of(matches),
         }),
@@ -243,7 +280,16 @@ fn merge_wish<'a>(alloc: Global, matches: &ArgMatches<'a>) -> Result<Option<Wish
         return Ok(None);
     };
     match names_of(alloc, matches, "other")? {
-        Some(others) => Ok(Some(Wish::Merge { feed, others })),
+        Some(others) => {
+            let forks = flag_of(matches, "forks");
+            let review = flag_of(matches, "review");
+            Ok(Some(Wish::Merge {
+                feed,
+                others,
+                forks,
+                review,
+            }))
+        }
         None => Ok(None),
     }
 }
@@ -276,7 +322,9 @@ fn import_wish<'a>(matches: &ArgMatches<'a>) -> Option<Wish<'a>>
         Some((feed, site)) => Some(Wish::Import {
             feed,
             site,
+            older: flag_of(matches, "older"),
             plain: flag_of(matches, "plain"),
+            all: flag_of(matches, "all"),
         }),
         None => None,
     }
@@ -294,9 +342,11 @@ fn replace_wish<'a>(matches: &ArgMatches<'a>) -> Option<Wish<'a>>
     match matches.get_str("new") {
         Some(new) => {
             let plain = flag_of(matches, "plain");
+            let older = flag_of(matches, "older");
             Some(Wish::Replace {
                 feed,
                 site,
+                older,
                 old,
                 new,
                 plain,
@@ -359,11 +409,13 @@ fn proof_wish<'a>(alloc: Global, matches: &ArgMatches<'a>) -> Result<Option<Wish
     };
     let faults = flag_of(matches, "faults");
     let picture = choice_of(matches, "svg");
+    let force = flag_of(matches, "force");
     let sets = sets_of(alloc, matches)?;
     Ok(Some(Wish::Proof {
         from,
         faults,
         picture,
+        force,
         sets,
     }))
 }
@@ -380,11 +432,13 @@ fn read_wish<'a>(matches: &ArgMatches<'a>) -> Option<Wish<'a>>
     match matches.get_str("wedge") {
         Some(wedge) => {
             let picture = choice_of(matches, "svg");
+            let force = flag_of(matches, "force");
             Some(Wish::Read {
                 ribbon,
                 case,
                 wedge,
                 picture,
+                force,
             })
         }
         None => None,
@@ -411,9 +465,42 @@ fn punch_wish<'a>(matches: &ArgMatches<'a>) -> Option<Wish<'a>>
 {
     match sources_of(matches) {
         Some(from) => match matches.get_str("output") {
-            Some(target) => Some(Wish::Punch { from, target }),
+            Some(target) => {
+                let force = flag_of(matches, "force");
+                let faulty = flag_of(matches, "faulty");
+                Some(Wish::Punch {
+                    from,
+                    target,
+                    force,
+                    faulty,
+                })
+            }
             None => None,
         },
+        None => None,
+    }
+}
+
+fn renumber_wish<'a>(matches: &ArgMatches<'a>) -> Option<Wish<'a>>
+    ensures { IsReported (rows_of (found_of matches.now)) Subcommand.Renumber result }
+{
+    let Some((feed, site)) = feed_and_site(matches) else {
+        return None;
+    };
+    match matches.get_str("other") {
+        Some(other) => Some(Wish::Renumber { feed, other, site }),
+        None => None,
+    }
+}
+
+fn renew_wish<'a>(matches: &ArgMatches<'a>) -> Option<Wish<'a>>
+    ensures { IsReported (rows_of (found_of matches.now)) Subcommand.Renew result }
+{
+    let Some((feed, site)) = feed_and_site(matches) else {
+        return None;
+    };
+    match matches.get_str("new") {
+        Some(new) => Some(Wish::Renew { new, feed, site }),
         None => None,
     }
 }
@@ -442,6 +529,8 @@ fn reported<'a>(
         Subcommand::Punch => Ok(punch_wish(matches)),
         Subcommand::Read => Ok(read_wish(matches)),
         Subcommand::Sorts => Ok(sorts_wish(matches)),
+        Subcommand::Renumber => Ok(renumber_wish(matches)),
+        Subcommand::Renew => Ok(renew_wish(matches)),
     }
 }
 

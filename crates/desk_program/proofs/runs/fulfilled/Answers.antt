@@ -2,13 +2,11 @@ use Rattle.std.proofs.Common.{List, sym, subst}
 use Rattle.std.specs.Borrow.{Bor}
 use Rattle.std.specs.Option.{option_copied}
 use Rattle.clap.specs.Words.{Text}
-use Rattle.desk_hand.specs.Merging.{IsMerged, IsUnmerged}
-use Rattle.desk_hand.specs.declared.fault.MergeFault.{MergeFault}
 use Rattle.desk_words.specs.Words.{texts_of}
+use Rattle.desk_program.specs.ByHand.{IsMergedAs, IsNotMerged}
 use Rattle.desk_program.specs.Previews.{IsSeen, IsUnseen}
 use Rattle.desk_program.specs.Runs.{Does, Stops}
 use Rattle.desk_program.specs.Texts.{AreFound, AreNotInOrder}
-use Rattle.desk_program.proofs.Statuses.{done_of, halt_of}
 use Rattle.desk_program.proofs.runs.fulfilled.Goals as goal
 
 pub returns-in-Script-clause-done : goal.returns-in-Script-clause-done
@@ -33,36 +31,46 @@ returns-in-Desk-clause-stopped g c one =
 
 pub returns-in-Merge-clause-done : goal.returns-in-Merge-clause-done
 returns-in-Merge-clause-done g c zero =
-    subst (λ w. Does w (g.F.Files.shelf c.args.files.now) (g.F.Files.shelf c.merge_feeds-outcome.new.files) (g.R.Read.remaining c.args.reader.now) (g.W.Write.contents c.args.writer.now) (g.W.Write.contents c.merge_feeds-outcome.new.writer)) (sym c.in-Merge.is)
-    (subst (λ (l : List (Bor Text)). IsMerged c.in-Merge.feed.now (texts_of l) (g.F.Files.shelf c.args.files.now) (g.F.Files.shelf c.merge_feeds-outcome.new.files) (g.W.Write.contents c.args.writer.now) (g.W.Write.contents c.merge_feeds-outcome.new.writer)) c.deref.ensures.value
-    (done_of c.merge_feeds-outcome.result c.merge_status.result c.merge_status.ensures c.merge_feeds-outcome.ensures.ok zero))
+    subst (λ w. Does w (g.F.Files.shelf c.args.files.now) (g.F.Files.shelf c.merged.new.files) (g.R.Read.remaining c.args.reader.now) (g.W.Write.contents c.args.writer.now) (g.W.Write.contents c.merged.new.writer)) (sym c.in-Merge.is)
+    (subst (λ (l : List (Bor Text)). IsMergedAs c.in-Merge.feed.now (texts_of l) c.in-Merge.forks c.in-Merge.review (g.F.Files.shelf c.args.files.now) (g.F.Files.shelf c.merged.new.files) (g.W.Write.contents c.args.writer.now) (g.W.Write.contents c.merged.new.writer)) c.deref.ensures.value
+    (c.merged.ensures.done zero))
 
 pub returns-in-Merge-clause-stopped : goal.returns-in-Merge-clause-stopped
 returns-in-Merge-clause-stopped g c one =
-    subst (λ w. Stops w (g.F.Files.shelf c.args.files.now) (g.F.Files.shelf c.merge_feeds-outcome.new.files) (g.R.Read.remaining c.args.reader.now) (g.W.Write.contents c.args.writer.now) (g.W.Write.contents c.merge_feeds-outcome.new.writer)) (sym c.in-Merge.is)
-    (subst (λ (l : List (Bor Text)). (fault : MergeFault) × IsUnmerged c.in-Merge.feed.now (texts_of l) (g.F.Files.shelf c.args.files.now) (g.F.Files.shelf c.merge_feeds-outcome.new.files) (g.W.Write.contents c.args.writer.now) (g.W.Write.contents c.merge_feeds-outcome.new.writer) fault) c.deref.ensures.value
-    (halt_of c.merge_feeds-outcome.result _ c.merge_status.result c.merge_status.ensures c.merge_feeds-outcome.ensures.err one))
+    subst (λ w. Stops w (g.F.Files.shelf c.args.files.now) (g.F.Files.shelf c.merged.new.files) (g.R.Read.remaining c.args.reader.now) (g.W.Write.contents c.args.writer.now) (g.W.Write.contents c.merged.new.writer)) (sym c.in-Merge.is)
+    (subst (λ (l : List (Bor Text)). IsNotMerged c.in-Merge.feed.now (texts_of l) c.in-Merge.forks c.in-Merge.review (g.F.Files.shelf c.args.files.now) (g.F.Files.shelf c.merged.new.files) (g.W.Write.contents c.args.writer.now) (g.W.Write.contents c.merged.new.writer)) c.deref.ensures.value
+    (c.merged.ensures.stopped one))
 
 pub returns-in-Import-clause-done : goal.returns-in-Import-clause-done
 returns-in-Import-clause-done g c zero =
-    subst (λ w. Does w (g.F.Files.shelf c.args.files.now) (g.F.Files.shelf c.import_text-outcome.new.files) (g.R.Read.remaining c.args.reader.now) (g.W.Write.contents c.args.writer.now) (g.W.Write.contents c.import_text-outcome.new.writer)) (sym c.in-Import.is)
-    (done_of c.import_text-outcome.result c.import_status.result c.import_status.ensures c.import_text-outcome.ensures.ok zero)
+    subst (λ w. Does w (g.F.Files.shelf c.args.files.now) (g.F.Files.shelf c.imported.new.files) (g.R.Read.remaining c.args.reader.now) (g.W.Write.contents c.args.writer.now) (g.W.Write.contents c.imported.new.writer)) (sym c.in-Import.is)
+    (c.imported.ensures.done zero)
 
 pub returns-in-Import-clause-stopped : goal.returns-in-Import-clause-stopped
 returns-in-Import-clause-stopped g c one =
-    subst (λ w. Stops w (g.F.Files.shelf c.args.files.now) (g.F.Files.shelf c.import_text-outcome.new.files) (g.R.Read.remaining c.args.reader.now) (g.W.Write.contents c.args.writer.now) (g.W.Write.contents c.import_text-outcome.new.writer)) (sym c.in-Import.is)
-    (halt_of c.import_text-outcome.result _ c.import_status.result c.import_status.ensures c.import_text-outcome.ensures.err one)
+    subst (λ w. Stops w (g.F.Files.shelf c.args.files.now) (g.F.Files.shelf c.imported.new.files) (g.R.Read.remaining c.args.reader.now) (g.W.Write.contents c.args.writer.now) (g.W.Write.contents c.imported.new.writer)) (sym c.in-Import.is)
+    (c.imported.ensures.stopped one)
+
+pub returns-in-Export-clause-done : goal.returns-in-Export-clause-done
+returns-in-Export-clause-done g c zero =
+    subst (λ w. Does w (g.F.Files.shelf c.args.files.now) (g.F.Files.shelf c.exported.new.files) (g.R.Read.remaining c.args.reader.now) (g.W.Write.contents c.args.writer.now) (g.W.Write.contents c.exported.new.writer)) (sym c.in-Export.is)
+    (c.exported.ensures.done zero)
+
+pub returns-in-Export-clause-stopped : goal.returns-in-Export-clause-stopped
+returns-in-Export-clause-stopped g c one =
+    subst (λ w. Stops w (g.F.Files.shelf c.args.files.now) (g.F.Files.shelf c.exported.new.files) (g.R.Read.remaining c.args.reader.now) (g.W.Write.contents c.args.writer.now) (g.W.Write.contents c.exported.new.writer)) (sym c.in-Export.is)
+    (c.exported.ensures.stopped one)
 
 pub returns-in-Proof-clause-done : goal.returns-in-Proof-clause-done
 returns-in-Proof-clause-done g c zero =
     subst (λ w. Does w (g.F.Files.shelf c.args.files.now) (g.F.Files.shelf c.proofed.new.files) (g.R.Read.remaining c.args.reader.now) (g.W.Write.contents c.args.writer.now) (g.W.Write.contents c.proofed.new.writer)) (sym c.in-Proof.is)
-    (subst (λ (l : List (Bor Text)). IsSeen c.in-Proof.from c.in-Proof.alone (option_copied c.in-Proof.picture) l (g.F.Files.shelf c.args.files.now) (g.F.Files.shelf c.proofed.new.files) (g.W.Write.contents c.args.writer.now) (g.W.Write.contents c.proofed.new.writer)) c.deref-in-Proof.ensures.value
+    (subst (λ (l : List (Bor Text)). IsSeen c.in-Proof.from c.in-Proof.alone (option_copied c.in-Proof.picture) c.in-Proof.force l (g.F.Files.shelf c.args.files.now) (g.F.Files.shelf c.proofed.new.files) (g.W.Write.contents c.args.writer.now) (g.W.Write.contents c.proofed.new.writer)) c.deref-in-Proof.ensures.value
     (c.proofed.ensures.done zero))
 
 pub returns-in-Proof-clause-stopped : goal.returns-in-Proof-clause-stopped
 returns-in-Proof-clause-stopped g c one =
     subst (λ w. Stops w (g.F.Files.shelf c.args.files.now) (g.F.Files.shelf c.proofed.new.files) (g.R.Read.remaining c.args.reader.now) (g.W.Write.contents c.args.writer.now) (g.W.Write.contents c.proofed.new.writer)) (sym c.in-Proof.is)
-    (subst (λ (l : List (Bor Text)). IsUnseen c.in-Proof.from c.in-Proof.alone (option_copied c.in-Proof.picture) l (g.F.Files.shelf c.args.files.now) (g.F.Files.shelf c.proofed.new.files) (g.W.Write.contents c.args.writer.now) (g.W.Write.contents c.proofed.new.writer)) c.deref-in-Proof.ensures.value
+    (subst (λ (l : List (Bor Text)). IsUnseen c.in-Proof.from c.in-Proof.alone (option_copied c.in-Proof.picture) c.in-Proof.force l (g.F.Files.shelf c.args.files.now) (g.F.Files.shelf c.proofed.new.files) (g.W.Write.contents c.args.writer.now) (g.W.Write.contents c.proofed.new.writer)) c.deref-in-Proof.ensures.value
     (c.proofed.ensures.stopped one))
 
 pub returns-in-Punch-clause-done : goal.returns-in-Punch-clause-done
@@ -126,3 +134,23 @@ pub returns-in-Sorts-clause-stopped : goal.returns-in-Sorts-clause-stopped
 returns-in-Sorts-clause-stopped g c one =
     subst (λ w. Stops w (g.F.Files.shelf c.args.files.now) (g.F.Files.shelf c.listed.new.files) (g.R.Read.remaining c.args.reader.now) (g.W.Write.contents c.args.writer.now) (g.W.Write.contents c.listed.new.writer)) (sym c.in-Sorts.is)
     (c.listed.ensures.stopped one)
+
+pub returns-in-Renew-clause-done : goal.returns-in-Renew-clause-done
+returns-in-Renew-clause-done g c zero =
+    subst (λ w. Does w (g.F.Files.shelf c.args.files.now) (g.F.Files.shelf c.renewed.new.files) (g.R.Read.remaining c.args.reader.now) (g.W.Write.contents c.args.writer.now) (g.W.Write.contents c.renewed.new.writer)) (sym c.in-Renew.is)
+    (c.renewed.ensures.done zero)
+
+pub returns-in-Renew-clause-stopped : goal.returns-in-Renew-clause-stopped
+returns-in-Renew-clause-stopped g c one =
+    subst (λ w. Stops w (g.F.Files.shelf c.args.files.now) (g.F.Files.shelf c.renewed.new.files) (g.R.Read.remaining c.args.reader.now) (g.W.Write.contents c.args.writer.now) (g.W.Write.contents c.renewed.new.writer)) (sym c.in-Renew.is)
+    (c.renewed.ensures.stopped one)
+
+pub returns-in-Renumber-clause-done : goal.returns-in-Renumber-clause-done
+returns-in-Renumber-clause-done g c zero =
+    subst (λ w. Does w (g.F.Files.shelf c.args.files.now) (g.F.Files.shelf c.renumbered.new.files) (g.R.Read.remaining c.args.reader.now) (g.W.Write.contents c.args.writer.now) (g.W.Write.contents c.renumbered.new.writer)) (sym c.in-Renumber.is)
+    (c.renumbered.ensures.done zero)
+
+pub returns-in-Renumber-clause-stopped : goal.returns-in-Renumber-clause-stopped
+returns-in-Renumber-clause-stopped g c one =
+    subst (λ w. Stops w (g.F.Files.shelf c.args.files.now) (g.F.Files.shelf c.renumbered.new.files) (g.R.Read.remaining c.args.reader.now) (g.W.Write.contents c.args.writer.now) (g.W.Write.contents c.renumbered.new.writer)) (sym c.in-Renumber.is)
+    (c.renumbered.ensures.stopped one)

@@ -14,6 +14,8 @@ returns-in-Some-2-clause-wish c = (
   (
     named (codes "feed") (found_of c.args.matches.now) c.get_str.result c.in-Some.feed c.get_str.ensures c.in-Some.is,
     subst (AreNames (all_of (codes "other") (rows_of (found_of c.args.matches.now)))) c.in-Some-2.is c.in_ok-others.ensures.names,
+    c.flag_of-forks.ensures,
+    c.flag_of-review.ensures,
   ),
 )
 

@@ -11,6 +11,8 @@ returns-in-Some-get_str c = (
   (
     subst (AreSources (rows_of (found_of c.args.matches.now))) c.in-Some.is c.sources_of.ensures,
     named (codes "output") (found_of c.args.matches.now) c.get_str.result c.in-Some-get_str.target c.get_str.ensures c.in-Some-get_str.is,
+    c.flag_of-force.ensures,
+    c.flag_of-faulty.ensures,
   ),
 )
 

@@ -19,7 +19,7 @@ returns-in-Some-get_str-2 c = (
       named (codes "case") (found_of c.args.matches.now) c.get_str-2.result c.in-Some-get_str.case c.get_str-2.ensures c.in-Some-get_str.is,
       named (codes "wedge") (found_of c.args.matches.now) c.get_str-3.result c.in-Some-get_str-2.wedge c.get_str-3.ensures c.in-Some-get_str-2.is,
     ),
-    c.choice_of-picture.ensures,
+    (c.choice_of-picture.ensures, c.flag_of-force.ensures),
   ),
 )
 

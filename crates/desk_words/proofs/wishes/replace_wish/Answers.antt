@@ -14,7 +14,7 @@ pub returns-in-Some-get_str-2 : goal.returns-in-Some-get_str-2
 returns-in-Some-get_str-2 c = (
   refl,
   (
-    c.in-Some.ensures.some,
+    (c.in-Some.ensures.some, c.flag_of-older.ensures),
     named (codes "old") (found_of c.args.matches.now) c.get_str.result c.in-Some-get_str.old c.get_str.ensures c.in-Some-get_str.is,
     named (codes "new") (found_of c.args.matches.now) c.get_str-2.result c.in-Some-get_str-2.new c.get_str-2.ensures c.in-Some-get_str-2.is,
     c.flag_of-plain.ensures,
