@@ -1,6 +1,7 @@
 //! The tests of desk_check.
 mod cases;
 mod feeds;
+mod metal;
 mod ribbons;
 mod rooms;
 mod runs;

@@ -7,3 +7,5 @@ mod check;
 mod difference;
 #[cfg(test)]
 mod hand;
+#[cfg(test)]
+mod readings;

@@ -1,10 +1,13 @@
-//! The tests of what is made of a feed or a ribbon and handed out: proofs, ribbons, pictures, readings and lists of sorts.
+//! The tests of what is made of a feed or a ribbon: proofs, ribbons, pictures, readings, lists of sorts, and where each
+//! is stored.
 #![tactic(auto)]
 
 #[cfg(test)]
 mod holes;
 #[cfg(test)]
 mod metal;
+#[cfg(test)]
+mod outputs;
 #[cfg(test)]
 mod picture;
 #[cfg(test)]

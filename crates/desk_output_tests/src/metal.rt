@@ -35,3 +35,16 @@ pub fn case_with(alloc: Global, rows: &[u8]) -> Result<Vec<u8, Global>, AllocErr
     case.extend_from_slice(rows)?;
     Ok(case)
 }
+
+/// The text of the case with U+202E in place of its `t`.
+pub fn case_with_mark(alloc: Global) -> Result<Vec<u8, Global>, AllocError> {
+    let mut case = Vec::new(alloc);
+    for byte in &case_with(alloc, ROWS)? {
+        if *byte == b't' {
+            case.extend_from_slice("\u{202e}".as_bytes())?;
+        } else {
+            case.push(*byte)?;
+        }
+    }
+    Ok(case)
+}

@@ -403,10 +403,26 @@ const BOTH_INSERTS: &[u8] =
 fn feeds_are_merged(rt: HostRuntime) -> Result<(), Fail> {
     let mut files = two_feeds(rt.alloc(), ONE_INSERT, ANOTHER_INSERT)?;
     let line = "merge a.feed b.feed a.feed";
-    let lines = b"b.feed ok new 1 known 0\na.feed ok new 0 known 1\nfaults none\n";
+    let lines =
+        b"b.feed ok new 1 known 0\nopen at 0\n  now   xy\n  here  x\n  there y\n  was  \na.feed ok new 0 known 1\nfaults none\n";
     assert!(rt; ends(rt.alloc(), &mut files, line, b"", 0, lines, b""));
     assert!(rt; files.holds("a.feed", BOTH_INSERTS));
     assert!(rt; files.holds("b.feed", ANOTHER_INSERT));
+    Ok(())
+}
+
+/// Words that two rooms changed are written; where they are to be reviewed the status says so, and all is stored.
+#[test]
+fn open_words_are_reviewed(rt: HostRuntime) -> Result<(), Fail> {
+    let mut files = two_feeds(rt.alloc(), ONE_INSERT, ANOTHER_INSERT)?;
+    let line = "merge a.feed b.feed --review";
+    let lines =
+        b"b.feed ok new 1 known 0\nopen at 0\n  now   xy\n  here  x\n  there y\n  was  \nfaults none\n";
+    assert!(rt; ends(rt.alloc(), &mut files, line, b"", 1, lines, b""));
+    assert!(rt; files.holds("a.feed", BOTH_INSERTS));
+    let mut files = files.for_next_run();
+    let lines = b"b.feed ok new 0 known 1\nfaults none\n";
+    assert!(rt; ends(rt.alloc(), &mut files, line, b"", 0, lines, b""));
     Ok(())
 }
 
@@ -505,7 +521,7 @@ fn set(alloc: Global, files: &mut TrialFiles<Global>) -> bool {
 fn galley_is_proofed(rt: HostRuntime) -> Result<(), Fail> {
     let mut files = metal(rt.alloc())?;
     let line = "proof a.feed --case c --wedge w";
-    let none = b"no galley: the setting measure has no value\n";
+    let none = b"no galley: the settings measure, tight, loose, case and wedge have no value\n";
     assert!(rt; ends(rt.alloc(), &mut files, line, b"", 1, none, b""));
     assert!(rt; set(rt.alloc(), &mut files));
     let mut files = files.for_next_run();
@@ -516,7 +532,8 @@ fn galley_is_proofed(rt: HostRuntime) -> Result<(), Fail> {
     let reported = b"copydesk: input refused\nb: it is not TOML\n";
     assert!(rt; ends(rt.alloc(), &mut files, line, b"", 1, b"", reported));
     let line = "proof a.feed --case d --wedge w";
-    let reported = b"copydesk: input refused\nd or w: a call failed\n";
+    // Files in memory do not know which of the two they refused: they name the one that is asked for.
+    let reported = b"copydesk: input refused\nw: a call failed\n";
     assert!(rt; ends(rt.alloc(), &mut files, line, b"", 1, b"", reported));
     Ok(())
 }
@@ -533,7 +550,8 @@ fn begins(files: &TrialFiles<Global>, name: &str, first: &[u8]) -> bool {
 fn ribbon_is_punched(rt: HostRuntime) -> Result<(), Fail> {
     let mut files = metal(rt.alloc())?;
     let line = "punch a.feed --case c --wedge w -o a.rib";
-    let none = b"no ribbon: missing measure\n";
+    let none =
+        b"no ribbon: missing measure, missing tight, missing loose, missing case, missing wedge\n";
     assert!(rt;
         ends(
             rt.alloc(),
@@ -553,6 +571,31 @@ fn ribbon_is_punched(rt: HostRuntime) -> Result<(), Fail> {
     let line = "punch b.feed --case c --wedge w --output a.rib";
     let reported = b"copydesk: file fault\nb.feed: a call failed\n";
     assert!(rt; ends(rt.alloc(), &mut files, line, b"", 1, b"", reported));
+    Ok(())
+}
+
+/// Gives the feed the number of another case.
+fn set_other_case(alloc: Global, files: &mut TrialFiles<Global>) -> bool {
+    match tried_on(alloc, "desk a.feed --site 1", b"set 1 case 7\n", files) {
+        Ok(got) => got.status == 0,
+        Err(_) => false,
+    }
+}
+
+#[test]
+fn case_of_another_number(rt: HostRuntime) -> Result<(), Fail> {
+    let mut files = metal(rt.alloc())?;
+    assert!(rt; set(rt.alloc(), &mut files));
+    let mut files = files.for_next_run();
+    assert!(rt; set_other_case(rt.alloc(), &mut files));
+    let mut files = files.for_next_run();
+    let line = "punch a.feed --case c --wedge w -o a.rib";
+    let other = b"no ribbon: other case\n";
+    let reported = b"copydesk: no ribbon\nc: it is case 1, and the setting case is 7\n";
+    assert!(rt; ends(rt.alloc(), &mut files, line, b"", 1, other, reported));
+    let line = "proof a.feed --case c --wedge w";
+    let none = b"no galley: the setting case is 7, and the case has the number 1\n";
+    assert!(rt; ends(rt.alloc(), &mut files, line, b"", 1, none, b""));
     Ok(())
 }
 

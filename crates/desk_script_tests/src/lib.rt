@@ -8,6 +8,8 @@ mod growths;
 #[cfg(test)]
 mod jobs;
 #[cfg(test)]
+mod older;
+#[cfg(test)]
 mod scripts;
 #[cfg(test)]
 mod words;

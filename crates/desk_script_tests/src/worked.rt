@@ -383,6 +383,12 @@ const CORNERS_OF_COPIES: &[(&str, &str)] = &[
     ("show 1", "copy r\"abc\" i\"d\" s\"ef\""),
     ("insert 1 1 r\" \\\"\\\\\\n\"", "ok 7.1..10.1"),
     ("show 1", "copy r\"a \\\"\\\\\\nbc\" i\"d\" s\"ef\""),
+    ("site 3", "ok"),
+    (
+        "insert 3 0 r\"a \\\"\\\\\\nbc\" i\"d\" s\"ef\"",
+        "ok 1.3..10.3",
+    ),
+    ("show 3", "copy r\"a \\\"\\\\\\nbc\" i\"d\" s\"ef\""),
     ("site 2", "ok"),
     (
         "insert 2 0 r\"\u{a0}\u{2028}\u{feff}\u{ffff}\u{10ffff}\"",

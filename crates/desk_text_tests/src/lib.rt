@@ -1,7 +1,11 @@
-//! The tests of desk_text and desk_changes.
+//! The tests of desk_text, desk_changes and feed_readings.
 #![tactic(auto)]
 
 #[cfg(test)]
 mod changes;
+#[cfg(test)]
+mod plain;
+#[cfg(test)]
+mod readings;
 #[cfg(test)]
 mod texts;

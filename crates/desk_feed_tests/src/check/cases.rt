@@ -3,7 +3,7 @@ use std::alloc::Global;
 use std::test::Fail;
 
 /// Texts of cells, each with its row and column, counted from 0.
-type Texts<'a> = &'a [(usize, usize, &'a str)];
+pub type Texts<'a> = &'a [(usize, usize, &'a str)];
 
 /// The text of a cell, which is blank where there is none.
 fn text_at<'a>(texts: Texts<'a>, row: usize, column: usize) -> &'a str {
@@ -16,7 +16,7 @@ fn text_at<'a>(texts: Texts<'a>, row: usize, column: usize) -> &'a str {
 }
 
 /// A case file of so many columns, with these texts in its cells.
-fn file_of(alloc: Global, columns: usize, texts: Texts<'_>) -> Result<String, Fail> {
+pub fn file_of(alloc: Global, columns: usize, texts: Texts<'_>) -> Result<String, Fail> {
     let head = "case = 21\nspace = \"G1\"\nfill = [\"O15\", \"A5\"]\nrows = [\n";
     let mut file = String::from_str(alloc, head)?;
     for row in 0..15usize {
@@ -80,6 +80,62 @@ fn cases_with_a_fault(rt: HostRuntime) -> Result<(), Fail> {
     Ok(())
 }
 
+/// A case file whose rows have these numbers of blank texts.
+fn file_of_rows(alloc: Global, rows: &[usize]) -> Result<String, Fail> {
+    let mut file = String::from_str(alloc, "case = 21\nrows = [\n")?;
+    for texts in rows {
+        file.push_str(" [")?;
+        for _ in 0..*texts {
+            file.push_str("\"\",")?;
+        }
+        file.push_str("],\n")?;
+    }
+    file.push_str("]\n")?;
+    Ok(file)
+}
+
+/// What is said of the rows of a case file whose rows have these numbers of texts.
+fn says_of_rows(alloc: Global, rows: &[usize], said: &str) -> Result<bool, Fail> {
+    let file = file_of_rows(alloc, rows)?;
+    let line = format!(in alloc; "f case refused: `rows`{said}\n")?;
+    says(alloc, file.as_bytes(), line.as_str(), false)
+}
+
+#[test]
+fn rows_of_another_number(rt: HostRuntime) -> Result<(), Fail> {
+    let alloc = rt.alloc();
+    let mut rows = [15usize; 15];
+    rows[0] = 14;
+    let first = ": row 1 has 14 texts, and 15 are wanted";
+    assert!(rt; says_of_rows(alloc, &rows, first)?);
+    let mut rows = [17usize; 15];
+    rows[14] = 15;
+    let last = ": row 15 has 15 texts, and 17 are wanted";
+    assert!(rt; says_of_rows(alloc, &rows, last)?);
+    let mut rows = [15usize; 15];
+    rows[2] = 1;
+    rows[3] = 16;
+    let short = ": row 3 has 1 text, and 15 are wanted";
+    assert!(rt; says_of_rows(alloc, &rows, short)?);
+    let few = ": 14 rows, and 15 are wanted";
+    assert!(rt; says_of_rows(alloc, &[15; 14], few)?);
+    let one = ": 1 row, and 15 are wanted";
+    assert!(rt; says_of_rows(alloc, &[15], one)?);
+    Ok(())
+}
+
+/// Where a row is no array of texts, no number is named.
+#[test]
+fn rows_of_another_type(rt: HostRuntime) -> Result<(), Fail> {
+    let shape = "f case refused: `rows` is of another type, number, length or name\n";
+    assert!(rt; says(rt.alloc(), b"case = 1\nrows = 'x'", shape, false)?);
+    let numbers = b"case = 1\nrows = [1,2,3,4,5,6,7,8,9,10,11,12,13,14,15]";
+    assert!(rt; says(rt.alloc(), numbers, shape, false)?);
+    let mixed = b"case = 1\nrows = [['a',1],['a'],[],[],[],[],[],[],[],[],[],[],[],[],[]]";
+    assert!(rt; says(rt.alloc(), mixed, shape, false)?);
+    Ok(())
+}
+
 #[test]
 fn cells_with_a_fault(rt: HostRuntime) -> Result<(), Fail> {
     let rows: &[(Texts<'_>, &str)] = &[
@@ -102,6 +158,11 @@ fn cells_with_a_fault(rt: HostRuntime) -> Result<(), Fail> {
         (
             &[(1, 0, "s:x"), (1, 1, "x"), (9, 9, "s:x")],
             "f case refused: cell J10 holds small capital x, which stands in A2 too\n",
+        ),
+        // A directional mark is shown by its name.
+        (
+            &[(1, 0, "\u{202e}"), (1, 1, "\u{202e}")],
+            "f case refused: cell B2 holds roman <U+202E>, which stands in A2 too\n",
         ),
         (
             &[(0, 6, "x")],

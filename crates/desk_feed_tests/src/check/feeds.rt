@@ -1,4 +1,5 @@
-use crate::check::rooms::says;
+use crate::check::rooms::{checked, says};
+use desk_files::trial::TrialFiles;
 use std::test::Fail;
 
 /// One insert, 1.3 by site 3.
@@ -16,6 +17,19 @@ fn feeds_in_order(rt: HostRuntime) -> Result<(), Fail> {
     assert!(rt; says(rt.alloc(), X, one, true)?);
     let waits = "f ok: 1 operations, 0 symbols shown, faults waiting 2.3\n";
     assert!(rt; says(rt.alloc(), WAITS, waits, true)?);
+    Ok(())
+}
+
+/// The name of a file is written out.
+#[test]
+fn name_of_a_file(rt: HostRuntime) -> Result<(), Fail> {
+    let mut files = TrialFiles::new(rt.alloc());
+    files.put("\u{9b}f\u{2066}\n", b"MFD2")?;
+    let (written, ended) = checked(rt.alloc(), &mut files, &["\u{9b}f\u{2066}\n", "\u{1b}"]);
+    let lines =
+        "\\x9bf<U+2066>\\x0a ok: 0 operations, 0 symbols shown, faults none\n\\x1b no file\n";
+    assert_eq!(rt; written.as_slice(), lines.as_bytes());
+    assert_eq!(rt; ended, Ok(false));
     Ok(())
 }
 

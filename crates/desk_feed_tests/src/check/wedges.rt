@@ -2,7 +2,8 @@ use crate::check::rooms::says;
 use std::alloc::Global;
 use std::test::Fail;
 
-const UNITS: &str = "units = [5, 6, 7, 8, 9, 9, 9, 10, 10, 11, 12, 13, 14, 15, 18]";
+/// Units that rise.
+pub const UNITS: &str = "units = [5, 6, 7, 8, 9, 9, 9, 10, 10, 11, 12, 13, 14, 15, 18]";
 
 /// Whether a wedge file of this set, pica and units has this line.
 fn says_of(alloc: Global, parts: (u32, &str, &str), line: &str, well: bool) -> Result<bool, Fail> {

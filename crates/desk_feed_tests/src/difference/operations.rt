@@ -63,7 +63,8 @@ fn counters_of_several_sites(rt: HostRuntime) -> Result<(), Fail> {
     let mut files = lettered(rt.alloc(), &one, &two)?;
     // The newest stands first.
     let text =
-        "one.feed alone 4: 3..4 6, 9: 3, 65535: 4\ntwo.feed alone 9: 4..5\n- 0 zyxvw\n+ 0 pq\n";
+        "one.feed alone 4: 3..4 6, 9: 3, 65535: 4\ntwo.feed alone 9: 4..5\n- 0 zyxvw\n+ 0 pq\n\
+open at 0\n  now   zpyqxvw\n  here  zyxvw\n  there pq\n  was  \n";
     assert!(rt; reports(rt.alloc(), &mut files, text, false)?);
     Ok(())
 }
@@ -75,7 +76,8 @@ fn counters_at_their_end(rt: HostRuntime) -> Result<(), Fail> {
     let one: [Letter; 2] = [(last, 1, b'a'), (last.saturating_sub(1), 1, b'b')];
     let mut files = lettered(rt.alloc(), &one, &[(last, 2, b'c')])?;
     let text =
-        "one.feed alone 1: 4611686018427387903..4611686018427387904\ntwo.feed alone 2: 4611686018427387904\n- 0 ab\n+ 0 c\n";
+        "one.feed alone 1: 4611686018427387903..4611686018427387904\ntwo.feed alone 2: 4611686018427387904\n- 0 ab\n+ 0 c\n\
+open at 0\n  now   cab\n  here  ab\n  there c\n  was  \n";
     assert!(rt; reports(rt.alloc(), &mut files, text, false)?);
     Ok(())
 }
@@ -84,7 +86,8 @@ fn counters_at_their_end(rt: HostRuntime) -> Result<(), Fail> {
 #[test]
 fn stamps_with_two_contents(rt: HostRuntime) -> Result<(), Fail> {
     let mut files = lettered(rt.alloc(), &[(1, 1, b'a')], &[(1, 1, b'b')])?;
-    let text = "one.feed alone 1: 1\ntwo.feed alone 1: 1\n- 0 a\n+ 0 b\n";
+    let text = "one.feed alone 1: 1\ntwo.feed alone 1: 1\n- 0 a\n+ 0 b\n\
+open at 0\n  now  \n  here  a\n  there b\n  was  \n";
     assert!(rt; reports(rt.alloc(), &mut files, text, false)?);
     Ok(())
 }
@@ -109,7 +112,8 @@ fn deletes_that_one_has_alone(rt: HostRuntime) -> Result<(), Fail> {
     let text = "one.feed alone none\ntwo.feed alone 2: 11\n- 5 word.\n+ 5 word\n";
     assert!(rt; reports(rt.alloc(), &mut files, text, false)?);
     let mut files = lettered(rt.alloc(), &[(1, 1, b'a')], &[(1, 2, b'a')])?;
-    let text = "one.feed alone 1: 1\ntwo.feed alone 2: 1\n";
+    let text = "one.feed alone 1: 1\ntwo.feed alone 2: 1\n\
+open at 0\n  now   aa\n  here  a\n  there a\n  was  \n";
     assert!(rt; reports(rt.alloc(), &mut files, text, false)?);
     Ok(())
 }

@@ -19,7 +19,17 @@ pub fn key(
     }
     let mut reader = TrialReader::new(text);
     let mut written = Vec::new(alloc);
-    import_text(alloc, &mut reader, &mut written, files, name, site, false)?;
+    import_text(
+        alloc,
+        &mut reader,
+        &mut written,
+        files,
+        name,
+        site,
+        false,
+        false,
+        true,
+    )?;
     Ok(())
 }
 

@@ -1,4 +1,5 @@
-use crate::difference::rooms::{keyed, reported, reports};
+use crate::difference::rooms::{feed_of, keyed, reported, reports};
+use desk_files::trial::TrialFiles;
 use std::alloc::Global;
 use std::test::Fail;
 
@@ -39,7 +40,7 @@ fn is_so(alloc: Global, row: Row) -> Result<bool, Fail> {
 /// Words are written whole, and stretches that touch as one.
 #[test]
 fn words_that_differ(rt: HostRuntime) -> Result<(), Fail> {
-    let rows: [Row; 10] = [
+    let rows: [Row; 12] = [
         ("the quick fox", "the slow fox", "- 4 quick\n+ 4 slow\n"),
         (
             "a quick brown fox",
@@ -60,11 +61,27 @@ fn words_that_differ(rt: HostRuntime) -> Result<(), Fail> {
         // A style is a part of a word.
         ("by noon", "by _noon_", "- 3 noon\n+ 3 _noon_\n"),
         ("by n\\_oon", "by noon", "- 3 n\\_oon\n+ 3 noon\n"),
+        // A directional mark is shown by its name.
+        ("by n\u{202e}oon", "by noon", "- 3 n<U+202E>oon\n+ 3 noon\n"),
+        ("a b", "a _\u{61c}b_", "- 2 b\n+ 2 _<U+061C>b_\n"),
         ("same", "same", ""),
     ];
     for row in rows {
         assert!(rt; is_so(rt.alloc(), row)?, "{row:?}");
     }
+    Ok(())
+}
+
+/// Names of feeds are written out.
+#[test]
+fn names_of_feeds(rt: HostRuntime) -> Result<(), Fail> {
+    let mut files = TrialFiles::new(rt.alloc());
+    let feed = feed_of(rt.alloc(), &[(1, 1, b'a')])?;
+    files.put("a\u{1b}[2J", &feed)?;
+    files.put("\u{202e}b\n", &feed)?;
+    let left = reported(rt.alloc(), &mut files, "a\u{1b}[2J", "\u{202e}b\n")?;
+    let text = "a\\x1b[2J alone none\n<U+202E>b\\x0a alone none\n";
+    assert_eq!(rt; left.text.as_slice(), text.as_bytes());
     Ok(())
 }
 

@@ -7,6 +7,7 @@ use desk_hand::{
     export_feed, import_text,
 };
 use desk_text::{Cause, TextFault};
+use feed_last::LastFault;
 use linked_list_allocator::LocalHeap;
 use std::alloc::{AllocError, Global};
 use std::test::Fail;
@@ -45,7 +46,17 @@ fn imported(
 ) -> Result<Vec<u8>, ImportFault> {
     let mut reader = TrialReader::new(text).in_steps_of(3);
     let mut written = Vec::new(alloc);
-    match import_text(alloc, &mut reader, &mut written, files, name, 4, plain) {
+    match import_text(
+        alloc,
+        &mut reader,
+        &mut written,
+        files,
+        name,
+        4,
+        false,
+        plain,
+        true,
+    ) {
         Ok(()) => Ok(written),
         Err(fault) => Err(fault),
     }
@@ -121,7 +132,17 @@ fn stop_of(
 ) -> Result<Option<ImportFault>, Fail> {
     let mut reader = TrialReader::new(text);
     let mut written = Vec::new(alloc);
-    let ended = import_text(alloc, &mut reader, &mut written, files, name, 4, false);
+    let ended = import_text(
+        alloc,
+        &mut reader,
+        &mut written,
+        files,
+        name,
+        4,
+        false,
+        false,
+        true,
+    );
     let stays = files.holds("x.feed", X) && files.holds("late.feed", LATE);
     if !stays || !written.is_empty() || files.bytes_of("x.feed.new").is_some() {
         return Err(Fail::new("bytes before a fault"));
@@ -191,7 +212,11 @@ fn files_that_fail_under_an_import(rt: HostRuntime) -> Result<(), Fail> {
     let mut files = rooms(rt.alloc(), 2)?;
     let unread = Some(ImportFault::Take(TakeFault::Feed(FeedTrouble::File(device))));
     assert_eq!(rt; stop_of(rt.alloc(), &mut files, "x.feed", b"xz")?, unread);
-    for k in 3..5u64 {
+    // The third call reads FEED.last, which refuses nothing where it fails.
+    let mut files = rooms(rt.alloc(), 3)?;
+    assert!(rt; imported(rt.alloc(), &mut files, "x.feed", b"xz", false).is_ok());
+    assert!(rt; files.holds("x.feed", XZ));
+    for k in 4..6u64 {
         let mut files = rooms(rt.alloc(), k)?;
         let ended = imported(rt.alloc(), &mut files, "x.feed", b"xz", false).err();
         let unstored = ImportFault::Keep(KeepFault::Unstored(device));
@@ -214,6 +239,8 @@ fn reader_that_fails(rt: HostRuntime) -> Result<(), Fail> {
         "x.feed",
         4,
         false,
+        false,
+        true,
     );
     assert_eq!(rt; ended, Err(ImportFault::Input(InputFault::Read)));
     assert!(rt; written.is_empty() && files.holds("x.feed", X));
@@ -247,6 +274,8 @@ fn closed_output_imports_nothing(rt: HostRuntime) -> Result<(), Fail> {
         "x.feed",
         4,
         false,
+        false,
+        true,
     );
     assert_eq!(rt; ended, Err(ImportFault::Keep(KeepFault::Write)));
     assert!(rt; b"ok inserted 1 deleted 0\n".starts_with(writer.written()));
@@ -294,7 +323,8 @@ fn is_of_memory(fault: ImportFault) -> bool {
         ImportFault::Input(why) => why == InputFault::NoMemory,
         ImportFault::Revision(why) => why == RevisionFault::NoMemory,
         ImportFault::Keep(why) => why == KeepFault::NoMemory,
-        ImportFault::Take(TakeFault::Untaken(_)) => false,
+        ImportFault::Last(why) => why == LastFault::NoMemory,
+        ImportFault::Take(TakeFault::Untaken(_)) | ImportFault::Wipes { .. } => false,
     }
 }
 
@@ -314,6 +344,8 @@ fn is_refused(alloc: Global, cut: usize) -> Result<bool, Fail> {
         "x.feed",
         4,
         false,
+        false,
+        true,
     );
     drop(ballast);
     let (is_refused, is_reported) = match ended {

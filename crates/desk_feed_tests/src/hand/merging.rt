@@ -28,10 +28,10 @@ fn written_by(
     files: &mut TrialFiles<Global>,
     name: &str,
     others: &[&str],
-) -> Result<Vec<u8>, MergeFault> {
+) -> Result<Vec<u8>, MergeFault<Global>> {
     let mut written = Vec::new(alloc);
-    match merge_feeds(alloc, &mut written, files, name, others) {
-        Ok(()) => Ok(written),
+    match merge_feeds(alloc, &mut written, files, name, others, false) {
+        Ok(_) => Ok(written),
         Err(fault) => Err(fault),
     }
 }
@@ -40,13 +40,15 @@ fn written_by(
 fn merged_feeds_are_the_union(rt: HostRuntime) -> Result<(), Fail> {
     let mut files = rooms(rt.alloc(), 0)?;
     let first = written_by(rt.alloc(), &mut files, "x.feed", &["y.feed", "x.feed"])?;
-    let lines = b"y.feed ok new 1 known 0\nx.feed ok new 0 known 1\nfaults none\n";
+    let lines = b"y.feed ok new 1 known 0\nopen at 0\n  now   yx\n  here  x\n  there y\n  was  \n\
+x.feed ok new 0 known 1\nfaults none\n";
     assert_eq!(rt; first.as_slice(), lines.as_slice());
     assert!(rt; files.holds("x.feed", BOTH));
     assert!(rt; files.bytes_of("x.feed.new").is_none());
     let mut files = rooms(rt.alloc(), 0)?;
     let second = written_by(rt.alloc(), &mut files, "y.feed", &["x.feed"])?;
-    let line = b"x.feed ok new 1 known 0\nfaults none\n";
+    let line =
+        b"x.feed ok new 1 known 0\nopen at 0\n  now   yx\n  here  y\n  there x\n  was  \nfaults none\n";
     assert_eq!(rt; second.as_slice(), line.as_slice());
     assert!(rt; files.holds("y.feed", BOTH));
     assert!(rt; files.holds("x.feed", X));
@@ -63,6 +65,17 @@ fn merged_into_a_missing_feed(rt: HostRuntime) -> Result<(), Fail> {
     Ok(())
 }
 
+/// The name of a feed is written out.
+#[test]
+fn names_of_merged_feeds(rt: HostRuntime) -> Result<(), Fail> {
+    let mut files = rooms(rt.alloc(), 0)?;
+    files.put("\u{1b}[31my\u{202e}", Y)?;
+    let written = written_by(rt.alloc(), &mut files, "new.feed", &["\u{1b}[31my\u{202e}"])?;
+    let line = b"\\x1b[31my<U+202E> ok new 1 known 0\nfaults none\n";
+    assert_eq!(rt; written.as_slice(), line.as_slice());
+    Ok(())
+}
+
 /// A feed that has all is not written.
 #[test]
 fn unchanged_feed_is_not_written(rt: HostRuntime) -> Result<(), Fail> {
@@ -76,10 +89,14 @@ fn unchanged_feed_is_not_written(rt: HostRuntime) -> Result<(), Fail> {
 }
 
 /// Why a merge of two feeds into `x.feed` stops that writes nothing, if the feed stays.
-fn stop_of(alloc: Global, k: u64, others: &[&str]) -> Result<Option<MergeFault>, AllocError> {
+fn stop_of(
+    alloc: Global,
+    k: u64,
+    others: &[&str],
+) -> Result<Option<MergeFault<Global>>, AllocError> {
     let mut files = rooms(alloc, k)?;
     let mut writer = TrialWriter::new(alloc);
-    let ended = merge_feeds(alloc, &mut writer, &mut files, "x.feed", others);
+    let ended = merge_feeds(alloc, &mut writer, &mut files, "x.feed", others, false);
     if !files.holds("x.feed", X) || (k < 4 && !writer.written().is_empty()) {
         return Ok(None);
     }
@@ -111,18 +128,19 @@ fn feeds_that_do_not_come_in(rt: HostRuntime) -> Result<(), Fail> {
 fn files_that_fail_at_each_call(rt: HostRuntime) -> Result<(), Fail> {
     let device = FileRefusal::Device;
     let faults = [
-        MergeFault::Take(TakeFault::Untaken(device)),
-        MergeFault::Take(TakeFault::Feed(FeedTrouble::File(device))),
-        MergeFault::Other {
+        Some(MergeFault::Take(TakeFault::Untaken(device))),
+        Some(MergeFault::Take(TakeFault::Feed(FeedTrouble::File(device)))),
+        Some(MergeFault::Other {
             at: 0,
             why: FeedTrouble::File(device),
-        },
-        MergeFault::Keep(KeepFault::Unstored(device)),
-        MergeFault::Keep(KeepFault::Unstored(device)),
+        }),
+        Some(MergeFault::Keep(KeepFault::Unstored(device))),
+        Some(MergeFault::Keep(KeepFault::Unstored(device))),
     ];
-    for at in 0..faults.len() {
+    for (at, fault) in faults.iter().enumerate() {
         let k = (at as u64).saturating_add(1);
-        assert_eq!(rt; stop_of(rt.alloc(), k, &["y.feed"])?, Some(faults[at]));
+        let ended = stop_of(rt.alloc(), k, &["y.feed"])?;
+        assert!(rt; ended == *fault);
     }
     Ok(())
 }
@@ -142,7 +160,15 @@ fn held_feed_is_not_merged(rt: HostRuntime) -> Result<(), Fail> {
 fn closed_output_stores_nothing(rt: HostRuntime) -> Result<(), Fail> {
     let mut files = rooms(rt.alloc(), 0)?;
     let mut writer = TrialWriter::new(rt.alloc()).with_room(9, AtEnd::Fails);
-    let ended = merge_feeds(rt.alloc(), &mut writer, &mut files, "x.feed", &["y.feed"]);
+    let others = ["y.feed"];
+    let ended = merge_feeds(
+        rt.alloc(),
+        &mut writer,
+        &mut files,
+        "x.feed",
+        &others,
+        false,
+    );
     assert_eq!(rt; ended, Err(MergeFault::Keep(KeepFault::Write)));
     assert!(rt; b"y.feed ok new 1 known 0\n".starts_with(writer.written()));
     assert!(rt; files.holds("x.feed", X));

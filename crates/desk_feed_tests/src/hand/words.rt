@@ -4,7 +4,7 @@ use desk_codec::{FeedFault, FeedWhy};
 use desk_files::{FileRefusal, ReaderFault};
 use desk_hand::{
     ExportFault, FeedTrouble, ImportFault, InputFault, KeepFault, MergeFault, RevisionFault,
-    TakeFault,
+    SiteStamps, TakeFault,
 };
 use desk_held::AddRefusal;
 use desk_replica::{Refusal, Stopped};
@@ -110,7 +110,7 @@ const EXPORT_WORDS: [(ExportFault, &str); 3] = [
     (ExportFault::NoMemory, "no memory"),
 ];
 
-const OTHER: MergeFault = MergeFault::Other {
+const OTHER: MergeFault<Global> = MergeFault::Other {
     at: 1,
     why: FeedTrouble::File(FileRefusal::Missing),
 };
@@ -124,7 +124,7 @@ fn names_faults_of_hands(rt: HostRuntime) {
     for &(fault, words) in &TAKE_WORDS {
         assert!(rt; is_worded(rt.alloc(), &fault, words), "{words}");
         assert!(rt;
-            is_worded(rt.alloc(), &MergeFault::Take(fault), words),
+            is_worded(rt.alloc(), &MergeFault::<Global>::Take(fault), words),
             "{words}"
         );
         assert!(rt;
@@ -150,7 +150,7 @@ fn names_faults_of_hands(rt: HostRuntime) {
     for &(fault, words) in &KEEP_WORDS {
         assert!(rt; is_worded(rt.alloc(), &fault, words), "{words}");
         assert!(rt;
-            is_worded(rt.alloc(), &MergeFault::Keep(fault), words),
+            is_worded(rt.alloc(), &MergeFault::<Global>::Keep(fault), words),
             "{words}"
         );
         assert!(rt;
@@ -162,6 +162,22 @@ fn names_faults_of_hands(rt: HostRuntime) {
         assert!(rt; is_worded(rt.alloc(), &fault, words), "{words}");
     }
     assert!(rt; is_worded(rt.alloc(), &OTHER, "file fault"));
+}
+
+/// The words of the faults that guard against slips.
+#[test]
+fn names_guards_of_hands(rt: HostRuntime) {
+    let forks = MergeFault::Forks {
+        at: 0,
+        stamps: SiteStamps::from_vec(Vec::new(rt.alloc())),
+    };
+    assert!(rt; is_worded(rt.alloc(), &forks, "number used twice"));
+    let wipes = ImportFault::Wipes {
+        deleted: 30_003,
+        of: 30_004,
+    };
+    let words = "30003 of 30004 symbols would be deleted";
+    assert!(rt; is_worded(rt.alloc(), &wipes, words));
 }
 
 #[test]

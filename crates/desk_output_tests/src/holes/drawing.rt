@@ -1,9 +1,10 @@
-use crate::holes::rooms::{OLD, memory, rooms};
+use crate::holes::rooms::{OLD, TARGET, memory, rooms};
 use desk_answers::Refusal;
 use desk_files::FileRefusal;
 use desk_files::trial::TrialFiles;
 use desk_holes::draw_ribbon;
 use desk_inputs::Memory;
+use desk_outputs::{Kind, Target};
 use desk_reading::ReadingFault;
 use linked_list_allocator::LocalHeap;
 use std::alloc::Global;
@@ -54,7 +55,7 @@ enum End {
 fn drawn(alloc: Global, k: u64, names: (&str, &str, &str)) -> Result<End, Fail> {
     let (ribbon, case, wedge) = names;
     let mut files = rooms(alloc, k)?;
-    let end = match draw_ribbon(memory(alloc), &mut files, ribbon, case, wedge, "a.svg") {
+    let end = match draw_ribbon(memory(alloc), &mut files, ribbon, case, wedge, &TARGET) {
         Ok(true) => End::Drawn,
         Ok(false) => End::NoRibbon,
         Err(fault) => End::Fault(fault),
@@ -100,10 +101,39 @@ fn files_that_fail_under_a_drawing(rt: HostRuntime) -> Result<(), Fail> {
         let input = ReadingFault::Input(Refusal::FileDevice);
         assert_eq!(rt; drawn(rt.alloc(), k, names)?, End::Fault(input));
     }
-    for k in 4..6u64 {
+    for k in 4..7u64 {
         let unstored = ReadingFault::Unstored(FileRefusal::Device);
         assert_eq!(rt; drawn(rt.alloc(), k, names)?, End::Fault(unstored));
     }
+    Ok(())
+}
+
+/// Draws the ribbon over a file, which is replaced or left.
+fn drawn_over(alloc: Global, old: &[u8], force: bool) -> Result<End, Fail> {
+    let mut files = rooms(alloc, 0)?;
+    files.put("a.svg", old)?;
+    let target = Target {
+        name: "a.svg",
+        force,
+    };
+    let end = match draw_ribbon(memory(alloc), &mut files, "ribbon", "c", "w", &target) {
+        Ok(stored) if stored && is_drawn(&files) => End::Drawn,
+        Ok(_) => return Err(Fail::new("no picture")),
+        Err(fault) if files.holds("a.svg", old) => End::Fault(fault),
+        Err(_) => return Err(Fail::new("another target")),
+    };
+    Ok(end)
+}
+
+#[test]
+fn holes_over_other_files(rt: HostRuntime) -> Result<(), Fail> {
+    let alloc = rt.alloc();
+    assert_eq!(rt; drawn_over(alloc, b"", false)?, End::Drawn);
+    let feed = End::Fault(ReadingFault::Taken(Kind::Feed));
+    assert_eq!(rt; drawn_over(alloc, b"MFD1", false)?, feed);
+    let other = End::Fault(ReadingFault::Taken(Kind::Other));
+    assert_eq!(rt; drawn_over(alloc, b"<sv", false)?, other);
+    assert_eq!(rt; drawn_over(alloc, b"MFD1", true)?, End::Drawn);
     Ok(())
 }
 
@@ -129,7 +159,7 @@ fn is_refused(alloc: Global, cut: usize) -> Result<bool, Fail> {
         own: &heap,
         global: alloc,
     };
-    let ended = draw_ribbon(cut_memory, &mut files, "ribbon", "c", "w", "a.svg");
+    let ended = draw_ribbon(cut_memory, &mut files, "ribbon", "c", "w", &TARGET);
     drop(ballast);
     match ended {
         Ok(true) if is_drawn(&files) => Ok(false),

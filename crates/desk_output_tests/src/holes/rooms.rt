@@ -3,6 +3,7 @@
 use crate::metal::{WEDGE, case_with};
 use desk_files::trial::TrialFiles;
 use desk_inputs::Memory;
+use desk_outputs::Target;
 use std::alloc::{AllocError, Global};
 
 #[rattlefmt::skip]
@@ -29,7 +30,13 @@ const RIBBON: &[u8] =
     b"MRB1\0\0\0\x08\0\0\x02\x06\x40\x01\0\0\x10\0\x10\0\x01\x01\0\x01\0\0\0\0\x20\x01\0\0\0\0\x40\x02\0\0\0\x86";
 
 /// What stands under the target before a picture is stored there.
-pub const OLD: &[u8] = b"old";
+pub const OLD: &[u8] = b"<svg old";
+
+/// Where a picture is stored, over another picture alone.
+pub const TARGET: Target<'static> = Target {
+    name: "a.svg",
+    force: false,
+};
 
 /// Files of which the k-th call fails: a ribbon, bytes that are none, a case, a wedge, and what stands under the target.
 pub fn rooms(alloc: Global, k: u64) -> Result<TrialFiles<Global>, AllocError> {

@@ -5,6 +5,7 @@ use desk_files::FileRefusal;
 use desk_files::trial::TrialFiles;
 use desk_hand::FeedTrouble;
 use desk_inputs::Memory;
+use desk_outputs::{Kind, Target};
 use desk_picture::picture_feed;
 use desk_preview::PreviewFault;
 use desk_trial::no_trial;
@@ -13,11 +14,11 @@ use std::alloc::{AllocError, Allocator, Global};
 use std::test::Fail;
 
 /// What stands under the target before a picture is stored there.
-const OLD: &[u8] = b"old";
+const OLD: &[u8] = b"<svg old";
 
 /// What the picture of a feed without settings ends with.
 const NONE: &str =
-    "<text class=\"c\" x=\"10.00\" y=\"20.00\">no galley: the setting measure has no value</text>\n</svg>\n";
+    "<text class=\"c\" x=\"10.00\" y=\"20.00\">no galley: the settings measure, tight, loose, case and wedge have no value</text>\n</svg>\n";
 
 /// A feed with all settings and the copy `nn n`.
 fn feed(alloc: Global) -> Result<Vec<u8, Global>, AllocError> {
@@ -64,7 +65,11 @@ fn pictured<A: Allocator + Copy>(
 ) -> Result<Option<PreviewFault>, Fail> {
     let mut files = rooms(alloc, k)?;
     let memory = Memory { own, global: alloc };
-    let ended = picture_feed(memory, &mut files, feed, "c", "w", &no_trial(), "a.svg");
+    let target = Target {
+        name: "a.svg",
+        force: false,
+    };
+    let ended = picture_feed(memory, &mut files, feed, "c", "w", &no_trial(), &target);
     let wanted = if ended.is_ok() { end } else { OLD };
     if !ends_with(&files, wanted) {
         return Err(Fail::new("another picture"));
@@ -94,9 +99,71 @@ fn files_that_fail_under_a_picture(rt: HostRuntime) -> Result<(), Fail> {
     let input = PreviewFault::Input(Refusal::FileDevice);
     assert_eq!(rt; pictured(alloc, alloc, 2, "set.feed", b"")?, Some(input));
     let unstored = PreviewFault::Unstored(FileRefusal::Device);
-    for k in 4..6u64 {
+    for k in 4..7u64 {
         assert_eq!(rt; pictured(alloc, alloc, k, "set.feed", b"")?, Some(unstored));
     }
+    Ok(())
+}
+
+/// Draws the feed that is set over a file, which is replaced or left: why it is.
+fn drawn_over(alloc: Global, old: &[u8], force: bool) -> Result<Option<PreviewFault>, Fail> {
+    let mut files = rooms(alloc, 0)?;
+    files.put("a.svg", old)?;
+    let memory = Memory {
+        own: alloc,
+        global: alloc,
+    };
+    let target = Target {
+        name: "a.svg",
+        force,
+    };
+    let ended = picture_feed(
+        memory,
+        &mut files,
+        "set.feed",
+        "c",
+        "w",
+        &no_trial(),
+        &target,
+    );
+    let wanted = if ended.is_ok() { LINE.as_bytes() } else { old };
+    if !ends_with(&files, wanted) || files.bytes_of("a.svg.new").is_some() {
+        return Err(Fail::new("another picture"));
+    }
+    Ok(ended.err())
+}
+
+#[test]
+fn picture_over_other_files(rt: HostRuntime) -> Result<(), Fail> {
+    let alloc = rt.alloc();
+    assert_eq!(rt; drawn_over(alloc, b"", false)?, None);
+    assert_eq!(rt; drawn_over(alloc, b"<svg", false)?, None);
+    let ribbon = PreviewFault::Taken(Kind::Ribbon);
+    assert_eq!(rt; drawn_over(alloc, b"MRB1\0\0\0\0", false)?, Some(ribbon));
+    let other = PreviewFault::Taken(Kind::Other);
+    assert_eq!(rt; drawn_over(alloc, b"<sv", false)?, Some(other));
+    assert_eq!(rt; drawn_over(alloc, b"MRB1\0\0\0\0", true)?, None);
+    Ok(())
+}
+
+/// A picture that was stored is replaced by the next one.
+#[test]
+fn picture_over_its_own(rt: HostRuntime) -> Result<(), Fail> {
+    let alloc = rt.alloc();
+    let mut files = rooms(alloc, 0)?;
+    let target = Target {
+        name: "b.svg",
+        force: false,
+    };
+    for feed in ["none.feed", "set.feed"] {
+        let memory = Memory {
+            own: alloc,
+            global: alloc,
+        };
+        let ended = picture_feed(memory, &mut files, feed, "c", "w", &no_trial(), &target);
+        assert_eq!(rt; ended, Ok(()));
+    }
+    assert!(rt; matches!(files.bytes_of("b.svg"), Some(kept) if kept.ends_with(LINE.as_bytes())));
     Ok(())
 }
 

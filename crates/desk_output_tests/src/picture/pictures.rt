@@ -2,9 +2,9 @@ ghost use Rattle.std.specs.Prelude.{◌≤◌, length};
 ghost use Rattle.desk_lines.specs.Words.{most_symbols};
 
 use crate::picture::galleys::{drawn, roman, styled};
-use desk_job::JobFault;
-use desk_ops::{CopyFault, FaultKind, Key, Stamp, Style, Symbol};
+use desk_ops::{CopyFault, FaultKind, Stamp, Style, Symbol};
 use desk_picture::put_no_galley_picture;
+use desk_proof::{NoGalley, OtherNumber};
 use std::alloc::Global;
 use std::test::Fail;
 
@@ -118,9 +118,10 @@ fn faults_of_the_copy_stand_above(rt: HostRuntime) -> Result<(), Fail> {
         "<text class=\"c\" x=\"10.00\" y=\"20.00\">forked 7.2: more than one operation has this stamp</text>\n<text class=\"h\" x=\"10.00\" y=\"32.00\">";
     assert!(rt; shows(alloc, &[roman('n')], &faults, 150, above)?);
     let mut none = String::new(alloc);
-    put_no_galley_picture(&mut none, &faults, JobFault::MissingSetting(Key::Wedge))?;
+    let case = OtherNumber::Case { set: 7, number: 12 };
+    put_no_galley_picture(&mut none, &faults, &NoGalley::Other(case))?;
     let why =
-        "<text class=\"c\" x=\"10.00\" y=\"32.00\">no galley: the setting wedge has no value</text>\n</svg>\n";
+        "<text class=\"c\" x=\"10.00\" y=\"32.00\">no galley: the setting case is 7, and the case has the number 12</text>\n</svg>\n";
     assert!(rt; none.as_str().ends_with(why));
     assert!(rt; none.as_str().contains("viewBox=\"0 0 500.00 44.00\""));
     Ok(())

@@ -21,8 +21,47 @@ const LOOSE: &str = "GALLEY 2 lines, 1 at fault, measure 120 points, tight 38, l
 \x20 | nnn nnn nnn nnn nnn\n\
 \x20 = 4 spaces; the next word, 'nnn', is 14.0 points too wide; 6.0 points are free for a part of it\n";
 
-/// The settings are missing.
-const NONE: &str = "no galley: the setting measure has no value\n";
+/// The same paragraph as in SET, whose wedge sum of 127 is above loose, as it may be.
+const ABOVE: &str = "GALLEY 1 lines, 0 at fault, measure 120 points, tight 38, loose 100\n\
+\n  line   place   c/f    sum  tight ...... loose\n\
+\x20    1       0   8/7    127  ....................+    ··········\n";
+
+/// The word has 17 times 120,000 atoms and once 96,000, and 24,000 are left of the measure. A space has 60,000 atoms, and at
+/// tight 15 steps fewer, which are 50,280: the word is 26,280 atoms too wide, and a point has 18,000.
+const LONE: &str = "GALLEY 1 lines, 1 at fault, measure 120 points, tight 38, loose 150\n\
+\nline 1: too wide, places 0..18\n\
+\x20 | nnnnnnnnnnnnnnnnnt\n\
+\x20 = one word and no space to justify it; with one of at least 2.8 points it is 1.5 points too wide\n";
+
+/// The symbols have 660,000 atoms and two spaces 120,000. Six fills of 216,000 leave 84,000 of the measure, which 64 steps for
+/// each of the two spaces take up: 53 and 64 are 117.
+const STYLES: &str = "GALLEY 1 lines, 0 at fault, measure 120 points, tight 38, loose 150\n\
+\n  line   place   c/f    sum  tight ...... loose\n\
+\x20    1       0   7/12   117  ..............|......   _aa a_n^M^ ······\n";
+
+/// The case has no `q`.
+const LACKING: &str =
+    "GALLEY 1 lines, 0 at fault, 1 missing sort, measure 120 points, tight 38, loose 150\n\
+\nno matrix for Roman 'q' (U+0071) at place 1\n\
+\x20 | nqn\n";
+
+/// A directional mark, which the case has not either, is shown by its name in its style.
+const MARKED: &str =
+    "GALLEY 1 lines, 0 at fault, 1 missing sort, measure 120 points, tight 38, loose 150\n\
+\nno matrix for italic '<U+202E>' (U+202E) at place 1\n\
+\x20 | n_<U+202E>_n\n";
+
+/// All settings are missing.
+const NONE: &str = "no galley: the settings measure, tight, loose, case and wedge have no value\n";
+
+/// Two settings are missing, and the number of the case is another.
+const FEW: &str = "no galley: the settings loose and wedge have no value\n";
+
+/// Both numbers are others: that of the case is written.
+const OTHER: &str = "no galley: the setting case is 7, and the case has the number 1\n";
+
+/// The number of the wedge is another.
+const OTHER_WEDGE: &str = "no galley: the setting wedge is 9, and the wedge has the number 5\n";
 
 /// What a proof writes, and how it ends.
 #[derive(Drop)]
@@ -71,15 +110,26 @@ fn has_proof(
 fn proofs_are_written(rt: HostRuntime) -> Result<(), Fail> {
     assert!(rt; has_proof(rt.alloc(), "set.feed", Extent::Whole, SET, true)?);
     assert!(rt; has_proof(rt.alloc(), "loose.feed", Extent::Faults, LOOSE, false)?);
+    assert!(rt; has_proof(rt.alloc(), "above.feed", Extent::Whole, ABOVE, true)?);
+    assert!(rt; has_proof(rt.alloc(), "lone.feed", Extent::Faults, LONE, false)?);
+    assert!(rt; has_proof(rt.alloc(), "styles.feed", Extent::Whole, STYLES, true)?);
     assert!(rt; has_proof(rt.alloc(), "none.feed", Extent::Whole, NONE, false)?);
+    Ok(())
+}
+
+#[test]
+fn proofs_without_a_galley(rt: HostRuntime) -> Result<(), Fail> {
+    assert!(rt; has_proof(rt.alloc(), "few.feed", Extent::Whole, FEW, false)?);
+    assert!(rt; has_proof(rt.alloc(), "other.feed", Extent::Faults, OTHER, false)?);
+    assert!(rt; has_proof(rt.alloc(), "wedge.feed", Extent::Whole, OTHER_WEDGE, false)?);
     Ok(())
 }
 
 /// A symbol that the case lacks is a fault, though its line is set.
 #[test]
 fn lacking_symbol_is_not_clean(rt: HostRuntime) -> Result<(), Fail> {
-    let proof = proofed(rt.alloc(), 0, ("lacking.feed", "c", "w"), Extent::Faults)?;
-    assert_eq!(rt; proof.ended, Ok(false));
+    assert!(rt; has_proof(rt.alloc(), "lacking.feed", Extent::Faults, LACKING, false)?);
+    assert!(rt; has_proof(rt.alloc(), "marked.feed", Extent::Faults, MARKED, false)?);
     Ok(())
 }
 

@@ -1,20 +1,21 @@
-use crate::preview::rooms::{OLD, memory, rooms};
+use crate::preview::rooms::{OLD, TARGET, memory, rooms};
 use desk_answers::Refusal;
 use desk_files::FileRefusal;
 use desk_files::trial::{AtEnd, TrialFiles, TrialWriter};
 use desk_hand::FeedTrouble;
 use desk_inputs::Memory;
 use desk_preview::{PreviewFault, punch_feed};
+use desk_proof::OtherNumber;
 use linked_list_allocator::LocalHeap;
 use std::alloc::Global;
 use std::test::Fail;
 
 /// The ribbon of one empty paragraph: the head, an added space, nine fills and one, and the wedges at 8 and 7.
-const RIBBON: &[u8] =
+pub const RIBBON: &[u8] =
     b"MRB1\0\0\0\x0e\0\0\x02\x06\x01\x01\0\x01\0\0\0\0\0\0\0\0\0\0\0\0\0\0\0\0\0\0\0\0\0\0\0\0\0\0\0\0\0\0\0\0\0\0\0\0\x40\0\x10\0\0\0\x02\x02\0\0\x04\x06";
 
 /// The line of the faults of the feed that is too loose.
-const LINE: &[u8] = b"no ribbon: too loose 1\n";
+pub const LINE: &[u8] = b"no ribbon: too loose 1\n";
 
 /// What a punch writes, and how it ends, if the target has these bytes then.
 fn punched(
@@ -32,7 +33,8 @@ fn punched(
         feed,
         case,
         wedge,
-        "a.ribbon",
+        &TARGET,
+        false,
     );
     if !files.holds("a.ribbon", target) {
         return Err(Fail::new("the target has other bytes"));
@@ -68,11 +70,36 @@ fn ribbon_is_punched(rt: HostRuntime) -> Result<(), Fail> {
 fn faults_of_a_job_are_reported(rt: HostRuntime) -> Result<(), Fail> {
     let mut files = rooms(rt.alloc(), 0)?;
     let (written, ended) = punched(rt.alloc(), &mut files, ("loose.feed", "c", "w"), OLD)?;
-    assert_eq!(rt; ended, Err(PreviewFault::Faulty));
+    assert_eq!(rt; ended, Err(PreviewFault::Faulty(None)));
     assert!(rt; written.as_slice() == LINE);
     let (written, ended) = punched(rt.alloc(), &mut files, ("none.feed", "c", "w"), OLD)?;
-    assert_eq!(rt; ended, Err(PreviewFault::Faulty));
-    assert!(rt; written.as_slice() == b"no ribbon: missing measure\n".as_slice());
+    assert_eq!(rt; ended, Err(PreviewFault::Faulty(None)));
+    let all =
+        b"no ribbon: missing measure, missing tight, missing loose, missing case, missing wedge\n";
+    assert!(rt; written.as_slice() == all.as_slice());
+    Ok(())
+}
+
+/// The line of a job, and the number that is another, if one is.
+fn refused(alloc: Global, feed: &str, line: &[u8]) -> Result<Option<OtherNumber>, Fail> {
+    let mut files = rooms(alloc, 0)?;
+    let (written, ended) = punched(alloc, &mut files, (feed, "c", "w"), OLD)?;
+    match ended {
+        Err(PreviewFault::Faulty(other)) if written.as_slice() == line => Ok(other),
+        _ => Err(Fail::new("another line or end")),
+    }
+}
+
+#[test]
+fn numbers_of_another_case_and_wedge(rt: HostRuntime) -> Result<(), Fail> {
+    let few = b"no ribbon: missing loose, missing wedge\n";
+    assert_eq!(rt; refused(rt.alloc(), "few.feed", few)?, None);
+    let case = OtherNumber::Case { set: 7, number: 1 };
+    let line = b"no ribbon: other case\n";
+    assert_eq!(rt; refused(rt.alloc(), "other.feed", line)?, Some(case));
+    let wedge = OtherNumber::Wedge { set: 9, number: 5 };
+    let line = b"no ribbon: other wedge\n";
+    assert_eq!(rt; refused(rt.alloc(), "wedge.feed", line)?, Some(wedge));
     Ok(())
 }
 
@@ -105,7 +132,7 @@ fn files_that_fail_under_a_punch(rt: HostRuntime) -> Result<(), Fail> {
         let input = PreviewFault::Input(Refusal::FileDevice);
         assert_eq!(rt; fault_of(rt.alloc(), k, names)?, Some(input));
     }
-    for k in 4..6u64 {
+    for k in 4..7u64 {
         let unstored = PreviewFault::Unstored(FileRefusal::Device);
         assert_eq!(rt; fault_of(rt.alloc(), k, names)?, Some(unstored));
     }
@@ -123,7 +150,8 @@ fn closed_output_of_a_punch(rt: HostRuntime) -> Result<(), Fail> {
         "loose.feed",
         "c",
         "w",
-        "a.ribbon",
+        &TARGET,
+        false,
     );
     assert_eq!(rt; ended, Err(PreviewFault::Write));
     assert!(rt; LINE.starts_with(writer.written()));
@@ -135,7 +163,7 @@ fn closed_output_of_a_punch(rt: HostRuntime) -> Result<(), Fail> {
 const HEAP: usize = 1_048_576;
 
 /// Whether a fault is of memory.
-fn is_of_memory(fault: PreviewFault) -> bool {
+pub fn is_of_memory(fault: PreviewFault) -> bool {
     match fault {
         PreviewFault::NoMemory => true,
         PreviewFault::Feed(FeedTrouble::NoMemory) => true,
@@ -163,7 +191,8 @@ fn is_refused(alloc: Global, cut: usize) -> Result<bool, Fail> {
         "set.feed",
         "c",
         "w",
-        "a.ribbon",
+        &TARGET,
+        false,
     );
     let refused = match ended {
         Ok(()) => false,

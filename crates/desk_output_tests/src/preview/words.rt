@@ -3,20 +3,28 @@
 use desk_answers::Refusal;
 use desk_files::FileRefusal;
 use desk_hand::FeedTrouble;
+use desk_outputs::Kind;
 use desk_preview::PreviewFault;
+use desk_proof::OtherNumber;
 use desk_trial::TrialFault;
 use std::alloc::{AllocError, Global};
 
 /// Of a feed they are those of its trouble.
-const WORDS: [(PreviewFault, &str); 7] = [
+const WORDS: [(PreviewFault, &str); 10] = [
     (
         PreviewFault::Feed(FeedTrouble::File(FileRefusal::Missing)),
         "file fault",
     ),
     (PreviewFault::Feed(FeedTrouble::Full), "full"),
     (PreviewFault::Input(Refusal::Wedge(4)), "input refused"),
-    (PreviewFault::Faulty, "no ribbon"),
+    (PreviewFault::CopyFaults, "copy faults"),
+    (PreviewFault::Faulty(None), "no ribbon"),
+    (
+        PreviewFault::Faulty(Some(OtherNumber::Case { set: 7, number: 1 })),
+        "no ribbon",
+    ),
     (PreviewFault::Write, "write fault"),
+    (PreviewFault::Taken(Kind::Feed), "not replaced"),
     (PreviewFault::Unstored(FileRefusal::Device), "file fault"),
     (PreviewFault::NoMemory, "no memory"),
 ];

@@ -15,6 +15,12 @@ const LINES: &str = "RIBBON 2 lines, 10 rows, longest 18.0 points\n\
 \x20    1    4/10      15.9     2.1  n t\n\
 \x20    2    3/8       18.0     0.0  a·\n";
 
+/// The same by a case that has U+202E in place of the `t`.
+const MARKED: &str = "RIBBON 2 lines, 10 rows, longest 18.0 points\n\
+\n  line    c/f     points   short  text\n\
+\x20    1    4/10      15.9     2.1  n <U+202E>\n\
+\x20    2    3/8       18.0     0.0  a·\n";
+
 /// At the sum 16 the space is 37 steps narrower than its 5,000 atoms: 18,976 less than nothing, 1.0542 points.
 const SPACE: &str = "RIBBON 1 lines, 4 rows, longest -1.1 points\n\
 \n  line    c/f     points   short  text\n\
@@ -41,6 +47,15 @@ fn read(alloc: Global, k: u64, names: (&str, &str, &str)) -> Result<Left, Fail> 
         return Err(Fail::new("bytes before a fault"));
     }
     Ok(Left { written, ended })
+}
+
+/// A directional mark is shown by its name.
+#[test]
+fn mark_of_a_case_is_read(rt: HostRuntime) -> Result<(), Fail> {
+    let reading = read(rt.alloc(), 0, ("lines", "marked", "w"))?;
+    assert_eq!(rt; reading.written.as_slice(), MARKED.as_bytes());
+    assert_eq!(rt; reading.ended, Ok(true));
+    Ok(())
 }
 
 /// Whether this is said of a ribbon by a wedge, and it is whole or not.

@@ -1,6 +1,6 @@
 //! The files of the tests.
 
-use crate::metal::{ROWS, WEDGE, case_with};
+use crate::metal::{ROWS, WEDGE, case_with, case_with_mark};
 use desk_files::trial::TrialFiles;
 use desk_inputs::Memory;
 use std::alloc::{AllocError, Global};
@@ -34,6 +34,7 @@ pub fn rooms(alloc: Global, k: u64) -> Result<TrialFiles<Global>, AllocError> {
     files.put("open", b"MRB1\0\0\0\x02\0\0\x40\x02\0\0\x02\x06")?;
     let case = case_with(alloc, ROWS)?;
     files.put("c", &case)?;
+    files.put("marked", &case_with_mark(alloc)?)?;
     files.put("w", WEDGE)?;
     files.put("small", SMALL)?;
     files.put("broken", b"wedge =")?;

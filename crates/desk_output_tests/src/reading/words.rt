@@ -2,13 +2,15 @@
 
 use desk_answers::Refusal;
 use desk_files::FileRefusal;
+use desk_outputs::Kind;
 use desk_reading::ReadingFault;
 use std::alloc::{AllocError, Global};
 
-const WORDS: [(ReadingFault, &str); 5] = [
+const WORDS: [(ReadingFault, &str); 6] = [
     (ReadingFault::Ribbon(FileRefusal::Missing), "file fault"),
     (ReadingFault::Input(Refusal::Wedge(4)), "input refused"),
     (ReadingFault::Write, "write fault"),
+    (ReadingFault::Taken(Kind::Ribbon), "not replaced"),
     (ReadingFault::Unstored(FileRefusal::Device), "file fault"),
     (ReadingFault::NoMemory, "no memory"),
 ];

@@ -12,7 +12,7 @@ use std::test::Fail;
 /// The nine symbols have six sorts and a line feed; `é` stands at places 4 and 7.
 const LACKING: &str = "SORTS 6 kinds, 8 wanted, 1 missing\n\
 missing Roman 'é' (U+00E9), wanted 2, first at place 4\n\
-\x20 | a naé néM\n\
+\x20 | a n_a_é né^M^\n\
 \x20 at       4       7\n\
 \n  cell   wanted  sort\n\
 \x20  G1         1  space\n\
@@ -57,6 +57,15 @@ const WHOLE: &str = "SORTS 1 kinds, 2 wanted, 0 missing\n\
 \x20 14  ..  ..   m  ..  ..  ..  ..  ..  ..  ..  ..  ..  ..  ..  ..  ..  ..\n\
 \x20 15  ..  ..   M  ^M  ..  ..  ..  ..  ..  ..  ..  ..  ..  ..  ..  ..  f1\n";
 
+/// An `n`, an italic U+202E, which the case has not, and an `n`: the mark is shown by its name in its style.
+const MARKED: &str = "SORTS 2 kinds, 3 wanted, 1 missing\n\
+missing italic '<U+202E>' (U+202E), wanted 1, first at place 1\n\
+\x20 | n_<U+202E>_n\n\
+\x20 at       1\n\
+\n  cell   wanted  sort\n\
+\x20  A8         2  Roman 'n' (U+006E)\n\
+\x20  -          1  italic '<U+202E>' (U+202E)\n";
+
 /// No symbol at all.
 const NONE: &str = "SORTS 0 kinds, 0 wanted, 0 missing\n\n  cell   wanted  sort\n";
 
@@ -97,6 +106,18 @@ fn sorts_are_reported(rt: HostRuntime) -> Result<(), Fail> {
     assert!(rt; has_list(rt.alloc(), "many.feed", false, MANY, false)?);
     assert!(rt; has_list(rt.alloc(), "whole.feed", true, WHOLE, true)?);
     assert!(rt; has_list(rt.alloc(), "none.feed", false, NONE, true)?);
+    assert!(rt; has_list(rt.alloc(), "marked.feed", false, MARKED, false)?);
+    Ok(())
+}
+
+/// So is a mark that a cell of the case holds.
+#[test]
+fn mark_in_a_table(rt: HostRuntime) -> Result<(), Fail> {
+    let list = reported(rt.alloc(), 0, ("whole.feed", "marked"), true)?;
+    let Ok(text) = std::str::from_utf8(&list.written) else {
+        return Err(Fail::new("no text"));
+    };
+    assert!(rt; text.contains("\n   4  ..  ..   <U+202E>  ..  .."));
     Ok(())
 }
 

@@ -1,6 +1,6 @@
 //! The files of the tests.
 
-use crate::metal::{ROWS, case_with};
+use crate::metal::{ROWS, case_with, case_with_mark};
 use desk_files::trial::TrialFiles;
 use desk_inputs::Memory;
 use std::alloc::{AllocError, Global};
@@ -49,15 +49,21 @@ fn many(alloc: Global) -> Result<Vec<u8, Global>, AllocError> {
     feed(alloc, &copy)
 }
 
-/// Files of which the k-th call fails: feeds, a case, and a file that is no case.
+/// An `n`, an italic U+202E and an `n`, in one run from 6.1 on.
+const MARKED: &[u8] =
+    b"MFD2\x04\0\0\0\0\0\0\0\x06\0\x01\0\0\0\0\0\0\0\0\0\0\x03\0\0\0\0n\x01\0\0\x20\x2e\0\0\0\0n";
+
+/// Files of which the k-th call fails: feeds, cases, and a file that is no case.
 pub fn rooms(alloc: Global, k: u64) -> Result<TrialFiles<Global>, AllocError> {
     let mut files = TrialFiles::new(alloc).failing_at_call(k);
     files.put("lacking.feed", &feed(alloc, LACKING)?)?;
     files.put("many.feed", &many(alloc)?)?;
     files.put("whole.feed", &feed(alloc, &[(0, b'n'), (0, b'n')])?)?;
+    files.put("marked.feed", MARKED)?;
     files.put("none.feed", b"MFD2")?;
     let case = case_with(alloc, ROWS)?;
     files.put("c", &case)?;
+    files.put("marked", &case_with_mark(alloc)?)?;
     files.put("broken", b"case =")?;
     Ok(files)
 }

@@ -5,6 +5,7 @@ use desk_files::{FileRefusal, Files};
 use desk_hand::{FeedTrouble, KeepFault, RevisionFault, TakeFault};
 use desk_replace::{Exchange, ExchangeFault, PlaceFault, ReplaceFault, replace_text};
 use desk_text::{Cause, TextFault};
+use feed_last::LastFault;
 use linked_list_allocator::LocalHeap;
 use std::alloc::{AllocError, Global};
 use std::test::Fail;
@@ -36,7 +37,7 @@ fn stop_of(
     exchange: &Exchange<'_>,
 ) -> Result<Option<ReplaceFault>, Fail> {
     let mut written = Vec::new(alloc);
-    let ended = replace_text(alloc, &mut written, files, name, 4, exchange);
+    let ended = replace_text(alloc, &mut written, files, name, 4, false, exchange);
     let stays = files.holds("x.feed", X) && files.holds("late.feed", LATE);
     if !stays || !written.is_empty() || files.bytes_of("x.feed.new").is_some() {
         return Err(Fail::new("bytes before a fault"));
@@ -122,7 +123,15 @@ fn feeds_that_take_no_exchange(rt: HostRuntime) -> Result<(), Fail> {
 fn missing_feed_has_no_place(rt: HostRuntime) -> Result<(), Fail> {
     let mut files = rooms(rt.alloc(), 0)?;
     let mut written = Vec::new(rt.alloc());
-    let ended = replace_text(rt.alloc(), &mut written, &mut files, "b.feed", 4, &LONGER);
+    let ended = replace_text(
+        rt.alloc(),
+        &mut written,
+        &mut files,
+        "b.feed",
+        4,
+        false,
+        &LONGER,
+    );
     assert_eq!(rt; ended, Err(ReplaceFault::Place(PlaceFault::NoPlace)));
     assert!(rt; written.as_slice() == b"no place\n".as_slice());
     assert!(rt; files.bytes_of("b.feed").is_none());
@@ -132,18 +141,29 @@ fn missing_feed_has_no_place(rt: HostRuntime) -> Result<(), Fail> {
 #[test]
 fn files_that_fail_under_an_exchange(rt: HostRuntime) -> Result<(), Fail> {
     let device = FileRefusal::Device;
+    // The third call reads FEED.last, which refuses nothing where it fails.
     let faults = [
-        ReplaceFault::Take(TakeFault::Untaken(device)),
-        ReplaceFault::Take(TakeFault::Feed(FeedTrouble::File(device))),
-        ReplaceFault::Keep(KeepFault::Unstored(device)),
-        ReplaceFault::Keep(KeepFault::Unstored(device)),
+        (1, ReplaceFault::Take(TakeFault::Untaken(device))),
+        (
+            2,
+            ReplaceFault::Take(TakeFault::Feed(FeedTrouble::File(device))),
+        ),
+        (4, ReplaceFault::Keep(KeepFault::Unstored(device))),
+        (5, ReplaceFault::Keep(KeepFault::Unstored(device))),
     ];
-    for at in 0..faults.len() {
-        let k = (at as u64).saturating_add(1);
+    for (k, fault) in faults {
         let mut files = rooms(rt.alloc(), k)?;
         let mut written = Vec::new(rt.alloc());
-        let ended = replace_text(rt.alloc(), &mut written, &mut files, "x.feed", 4, &LONGER);
-        assert_eq!(rt; ended, Err(faults[at]));
+        let ended = replace_text(
+            rt.alloc(),
+            &mut written,
+            &mut files,
+            "x.feed",
+            4,
+            false,
+            &LONGER,
+        );
+        assert_eq!(rt; ended, Err(fault));
         assert!(rt; files.holds("x.feed", X));
     }
     Ok(())
@@ -153,7 +173,15 @@ fn files_that_fail_under_an_exchange(rt: HostRuntime) -> Result<(), Fail> {
 fn closed_output_of_an_exchange(rt: HostRuntime) -> Result<(), Fail> {
     let mut files = rooms(rt.alloc(), 0)?;
     let mut writer = TrialWriter::new(rt.alloc()).with_room(9, AtEnd::Fails);
-    let ended = replace_text(rt.alloc(), &mut writer, &mut files, "x.feed", 4, &LONGER);
+    let ended = replace_text(
+        rt.alloc(),
+        &mut writer,
+        &mut files,
+        "x.feed",
+        4,
+        false,
+        &LONGER,
+    );
     assert_eq!(rt; ended, Err(ReplaceFault::Keep(KeepFault::Write)));
     assert!(rt; b"ok inserted 1 deleted 0\n".starts_with(writer.written()));
     assert!(rt; files.holds("x.feed", X));
@@ -165,7 +193,15 @@ fn closed_output_of_an_exchange(rt: HostRuntime) -> Result<(), Fail> {
 fn closed_output_of_places(rt: HostRuntime) -> Result<(), Fail> {
     let mut files = feed_of(rt.alloc(), b"x x")?;
     let mut writer = TrialWriter::new(rt.alloc()).with_room(9, AtEnd::TakesNone);
-    let ended = replace_text(rt.alloc(), &mut writer, &mut files, "a.feed", 4, &LONGER);
+    let ended = replace_text(
+        rt.alloc(),
+        &mut writer,
+        &mut files,
+        "a.feed",
+        4,
+        false,
+        &LONGER,
+    );
     assert_eq!(rt; ended, Err(ReplaceFault::Place(PlaceFault::Write)));
     assert!(rt; b"place 0: x x\n".starts_with(writer.written()));
     assert!(rt; text_of(rt.alloc(), &mut files)?.as_slice() == b"x x".as_slice());
@@ -183,6 +219,7 @@ fn is_of_memory(fault: ReplaceFault) -> bool {
             why == FeedTrouble::NoMemory || why == FeedTrouble::File(FileRefusal::NoMemory)
         }
         ReplaceFault::Take(TakeFault::Untaken(_)) => false,
+        ReplaceFault::Last(why) => why == LastFault::NoMemory,
         ReplaceFault::Place(why) => why == PlaceFault::NoMemory,
         ReplaceFault::Revision(why) => why == RevisionFault::NoMemory,
         ReplaceFault::Keep(why) => {
@@ -204,7 +241,7 @@ fn is_refused(
     let ballast: Option<Vec<u8, &LocalHeap>> = Vec::with_capacity(&heap, kept).ok();
     let mut files = feed_of(alloc, text)?;
     let mut written = Vec::new(alloc);
-    let ended = replace_text(&heap, &mut written, &mut files, "a.feed", 4, &LONGER);
+    let ended = replace_text(&heap, &mut written, &mut files, "a.feed", 4, false, &LONGER);
     drop(ballast);
     let is_refused = match ended {
         Ok(()) => false,
@@ -262,6 +299,11 @@ fn words_of_replace_faults(rt: HostRuntime) -> Result<(), Fail> {
             ReplaceFault::Take(TakeFault::Untaken(FileRefusal::Device)),
             "file fault",
         ),
+        (
+            ReplaceFault::Last(LastFault::Older { made: 5, held: 4 }),
+            "older feed",
+        ),
+        (ReplaceFault::Last(LastFault::NoMemory), "no memory"),
         (ReplaceFault::Place(PlaceFault::NoPlace), "no place"),
         (ReplaceFault::Place(PlaceFault::ManyPlaces(3)), "3 places"),
         (ReplaceFault::Place(PlaceFault::Write), "write fault"),

@@ -115,7 +115,15 @@ fn makes(alloc: Global, from: &str, to: &str, line: &str, bytes: &[u8]) -> Resul
         to,
         plain: false,
     };
-    replace_text(alloc, &mut written, &mut files, "x.feed", 4, &exchange)?;
+    replace_text(
+        alloc,
+        &mut written,
+        &mut files,
+        "x.feed",
+        4,
+        false,
+        &exchange,
+    )?;
     let is_gone = files.bytes_of("x.feed.new").is_none();
     Ok(is_gone && written.as_slice() == line.as_bytes() && files.holds("x.feed", bytes))
 }

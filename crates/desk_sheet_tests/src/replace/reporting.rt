@@ -39,7 +39,7 @@ fn texts_that_stand_nowhere(rt: HostRuntime) -> Result<(), Fail> {
 
 #[test]
 fn texts_that_stand_at_several_places(rt: HostRuntime) -> Result<(), Fail> {
-    let rows: [Row; 5] = [
+    let rows: [Row; 6] = [
         // Places that overlap.
         (
             "aaa",
@@ -52,6 +52,13 @@ fn texts_that_stand_at_several_places(rt: HostRuntime) -> Result<(), Fail> {
             "one\ntwo one",
             "one",
             "place 0: one two one\nplace 8: one two one\n",
+            PlaceFault::ManyPlaces(2),
+        ),
+        // A directional mark is shown by its name.
+        (
+            "\u{202e}a \u{202e}a",
+            "\u{202e}a",
+            "place 0: <U+202E>a <U+202E>a\nplace 3: <U+202E>a <U+202E>a\n",
             PlaceFault::ManyPlaces(2),
         ),
         // With marks for the styles.

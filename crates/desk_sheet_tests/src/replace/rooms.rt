@@ -30,6 +30,8 @@ pub fn feed_of(alloc: Global, text: &[u8]) -> Result<TrialFiles<Global>, Fail> {
         "a.feed",
         3,
         false,
+        false,
+        false,
     )?;
     Ok(files.for_next_run())
 }
@@ -52,7 +54,15 @@ pub fn left_by(
     let mut files = feed_of(alloc, text)?;
     let mut written = Vec::new(alloc);
     let exchange = Exchange { from, to, plain };
-    let ended = replace_text(alloc, &mut written, &mut files, "a.feed", 4, &exchange);
+    let ended = replace_text(
+        alloc,
+        &mut written,
+        &mut files,
+        "a.feed",
+        4,
+        false,
+        &exchange,
+    );
     let text = text_of(alloc, &mut files)?;
     Ok(Left {
         written,

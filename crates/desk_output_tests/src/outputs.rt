@@ -1,0 +1,3 @@
+//! The tests of desk_outputs.
+mod kinds;
+mod storing;
