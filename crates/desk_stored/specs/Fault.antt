@@ -22,11 +22,13 @@ of_stop stop NoMemory = openings.NoMemory
 -- the name of a stored feed was not taken for a run, and no file has changed: Missing comes only where no file can have the name
 abbrev pub IsUntaken : List ℕ → Shelf → Shelf → FileRefusal → Type 0
 IsUntaken name before after why =
-    (why ≢ refusals.Large) × (why ≡ refusals.Missing → IsNowhere (before.kept name)) × IsCounted why before after × Stays before after
+    (why ≢ refusals.Large) × (why ≡ refusals.Missing → IsNowhere (before.kept name)) × IsCounted why before after
+    × Stays before after
 
 -- a stored feed was not read, for another cause than that no file is there, and no file has changed
 abbrev pub IsUnread : List ℕ → Shelf → Shelf → FileRefusal → Type 0
-IsUnread name before after why = (why ≢ refusals.Missing) × Reads (before.kept name) (Err why) × IsCounted why before after × Stays before after
+IsUnread name before after why = (why ≢ refusals.Missing) × Reads (before.kept name) (Err why)
+    × IsCounted why before after × Stays before after
 
 -- a replica would hold more operations than it may
 abbrev pub IsCrowded : List Op → Stopped → Type 0
@@ -44,10 +46,12 @@ AsksMemory None = ⊥
 -- why a stored feed was not opened, by what was read of it
 abbrev pub IsUnopened : Option (List ℕ) → OpenFault → Type 0
 IsUnopened read (openings.Feed fault) = (bytes : List ℕ) × (read ≡ Some bytes) × IsFirstFault bytes fault
-IsUnopened read (openings.Opening stop) = (bytes : List ℕ) × (read ≡ Some bytes) × (ops : List Op) × IsFeed bytes ops × IsCrowded ops stop
+IsUnopened read (openings.Opening stop) = (bytes : List ℕ) × (read ≡ Some bytes) × (ops : List Op) × IsFeed bytes ops
+    × IsCrowded ops stop
 IsUnopened read openings.NoMemory = AsksMemory read
 
 -- a feed was not stored, and nothing but what stands under the name of the writing may have changed: Missing comes only where no file can have that name or the feed's
 abbrev pub IsNotStored : List ℕ → Shelf → Shelf → FileRefusal → Type 0
 IsNotStored name before after why =
-    Spares (new_name name) before.kept after.kept × (why ≢ refusals.Large) × (why ≡ refusals.Missing → HasNoPlace name before.kept) × IsCounted why before after
+    Spares (new_name name) before.kept after.kept × (why ≢ refusals.Large)
+    × (why ≡ refusals.Missing → HasNoPlace name before.kept) × IsCounted why before after

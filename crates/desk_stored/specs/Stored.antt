@@ -29,4 +29,5 @@ as_read None = Err refusals.Missing
 -- these bytes were stored, or nothing was written, since they were what was read
 abbrev pub IsStoredAs : List ℕ → List ℕ → Option (List ℕ) → Shelf → Shelf → Type 0
 IsStoredAs name bytes read before last =
-    (read ≡ Some bytes → last ≡ before) × (read ≢ Some bytes → IsReplaced name bytes before.kept last.kept) × (last.failures ≡ before.failures)
+    (read ≡ Some bytes → last ≡ before) × (read ≢ Some bytes → IsReplaced name bytes before.kept last.kept)
+    × (last.failures ≡ before.failures)

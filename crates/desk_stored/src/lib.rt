@@ -1,5 +1,7 @@
-//! A feed that is stored in a file: read, opened as a replica, and stored anew where it changed; and bytes that are written
-//! whole or reported as failed.
+//! A feed that is stored in a file: read, opened as a replica, and stored anew where it changed.
+//!
+//! It also writes bytes whole, or reports that they are not written. It refuses bytes that are no feed, with their
+//! first fault, and a feed of more than 1,048,576 different operations.
 #![tactic(auto)]
 
 mod fault;

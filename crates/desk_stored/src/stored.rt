@@ -23,7 +23,8 @@ pub fn stored_bytes<F: Files, A: Allocator + Copy>(
     files: &mut F,
     name: &str,
 ) -> Result<Option<Vec<u8, A>>, FileRefusal>
-    ensures ok { IfOk result (λ old. Reads ((F.shelf files.old).kept name.now) (as_read (was_read old)) × Counts (as_read (was_read old)) (F.shelf files.old) (F.shelf files.new)) }
+    ensures ok { IfOk result (λ old. Reads ((F.shelf files.old).kept name.now) (as_read (was_read old))
+        × Counts (as_read (was_read old)) (F.shelf files.old) (F.shelf files.new)) }
     ensures err { IfErr result (IsUnread name.now (F.shelf files.old) (F.shelf files.new)) }
     ensures stays { Stays (F.shelf files.old) (F.shelf files.new) }
 {
@@ -82,7 +83,8 @@ fn is_stored<A: Allocator + Copy>(old: &Option<Vec<u8, A>>, feed: &[u8]) -> bool
     }
 }
 
-/// Stores the feed of a replica under a name, if it is not what was stored there. After an `Err` no file has changed but
+/// Stores the feed of a replica under a name, if it is not what was stored there. After an `Err` no file has changed
+/// but
 /// `name.new`.
 pub fn keep_replica<F: Files, A: Allocator + Copy>(
     alloc: A,
@@ -91,7 +93,8 @@ pub fn keep_replica<F: Files, A: Allocator + Copy>(
     name: &str,
     old: &Option<Vec<u8, A>>,
 ) -> Result<(), FileRefusal>
-    ensures ok { OnOk result (IsStoredAs name.now (set_feed replica.now.ops) (was_read old.now) (F.shelf files.old) (F.shelf files.new)) }
+    ensures ok { OnOk result
+        (IsStoredAs name.now (set_feed replica.now.ops) (was_read old.now) (F.shelf files.old) (F.shelf files.new)) }
     ensures err { IfErr result (IsNotStored name.now (F.shelf files.old) (F.shelf files.new)) }
     ensures held { HoldsOn (F.shelf files.old).held (F.shelf files.new).held }
 {

@@ -1,4 +1,6 @@
 //! The desk as a library: two rooms correct one copy, apart, and then both have the same copy and the same ribbon.
+//!
+//! docs/GUIDE.md shows this code. The gate runs it with the case and the wedge of `data`.
 #![tactic(auto)]
 
 use anyhow::{Result, ensure};
