@@ -1,9 +1,11 @@
 #!/usr/bin/env bash
 # A day at two sites over stored feeds: each room keeps its own feed, and takes the other's when the line is up.
-# usage: examples/day.sh [PROGRAM]; it works in a folder of its own, which it removes.
+# usage: examples/day.sh [PROGRAM]; else it takes copydesk from the path, or as it is built beside the examples. It works in
+# a folder of its own, which it removes.
 set -euo pipefail
 here="$(cd "$(dirname "$0")" && pwd)"
-desk="${1:-$here/../crates/copydesk/out/copydesk}"
+built="$here/../crates/copydesk/out/copydesk"
+desk="$(realpath "${1:-$(command -v copydesk || echo "$built")}")"
 room="$(mktemp -d)"
 trap 'rm -r "$room"' EXIT
 cp "$here/case12.toml" "$here/wedge5.toml" "$room"

@@ -11,7 +11,8 @@ space continues the one before, and a label may stand more than once. The labels
   edits    wrong bodies that these clauses refuse: files NAME.edit of the crate's must-fail, which `rt ci` tries, or of its
            wrong-bodies, which tests/wrong_bodies.py tries
   tests    test functions of the crate, or files of this repository (a name with a dot)
-  note     what else a reader must know
+  note     what limits the promise: what no clause says, or what is weaker than one would wish (on the page, docs/PROOF.md)
+  aside    what else a reader must know, which limits nothing
   state    `proved`, `tested only` or `open`
 
 Names stand apart by spaces. A name of another crate begins with it, as `desk_held::add/full`, `desk_held/edit` and
@@ -24,8 +25,9 @@ import sys
 
 ROOT = os.path.dirname(os.path.dirname(os.path.abspath(__file__)))
 CRATES, FOLDER = os.path.join(ROOT, "crates"), os.path.join(ROOT, "docs", "claims")
+HEAD = "head.txt"  # the head of docs/PROOF.md, which is no list of promises
 STATES = {"proved": "clauses", "tested only": "tests", "open": None}
-LABELS = ("promise", "calls", "clauses", "edits", "tests", "note", "state")
+LABELS = ("promise", "calls", "clauses", "edits", "tests", "note", "aside", "state")
 EDITS = ("must-fail", "wrong-bodies")
 WIDEST, LONGEST = 120, 40
 SEEN = {}
@@ -221,7 +223,7 @@ def page(files):
 
 def main(words):
     faults, counts, named, called, files, said = [], dict.fromkeys(CHECKS, 0), set(), set(), [], set()
-    for name in sorted(os.listdir(FOLDER)):
+    for name in sorted(set(os.listdir(FOLDER)) - {HEAD}):
         home, ending = os.path.splitext(name)
         if ending != ".txt":
             faults.append("docs/claims/%s is no list of promises" % name)

@@ -38,7 +38,10 @@ def has(texts, name):
 
 def row_faults(crates, row):
     """What a row names and is not there."""
-    specs = {name: text for crate in crates for name, text in sources(crate, "specs", ".antt").items()}
+    specs = {}
+    for crate in crates:
+        for name, text in sources(crate, "specs", ".antt").items():
+            specs[name] = specs.get(name, "") + text
     code = [text for crate in crates for text in sources(crate, "src", ".rt").values()]
     for name in re.findall(r"`([^`]+)`", row["name"]):
         if not has(list(specs.values()) + code, name):
@@ -46,7 +49,7 @@ def row_faults(crates, row):
     for name in re.findall(r"[A-Z]\w+", row["file"]):
         if name not in specs:
             yield "no file specs/%s.antt in %s" % (name, " or ".join(crates))
-    for other, name in re.findall(r"(?:(desk_\w+) )?`(\w+)`", row["law"].partition(", clause")[0]):
+    for other, name in re.findall(r"(?:((?:desk|feed)_\w+) )?`(\w+)`", row["law"].partition(", clause")[0]):
         texts = sources(other, "src", ".rt").values() if other else code
         if not has(texts, "fn " + name):
             yield "no law %s in %s" % (name, other or " and ".join(crates))
@@ -56,7 +59,7 @@ def definitions(text):
     crates, columns = ["desk_ops"], None
     for number, line in enumerate(text.split("\n"), 1):
         if line.startswith("#"):
-            crates = re.findall(r"\b(?:desk_\w+|copydesk)\b", line) or ["desk_ops"]
+            crates = re.findall(r"\b(?:(?:desk|feed)_\w+|copydesk)\b", line) or ["desk_ops"]
         if not line.startswith("|"):
             columns = None
             continue

@@ -4,9 +4,10 @@
 Pairs of runs on one feed end together, or one of them is killed at a random moment, on a feed of a few operations and on
 one of 30,000: a run with status 0 has stored its edit, the feed is whole and is what the runs with status 0 made of it in
 some order, and every run that was refused says so and answers nothing. The same with four runs at a time. Then, one by
-one: a feed that is open is refused under every name that leads to it; links, modes and what stands beside a feed; what
+one: a feed that is open is refused under every name that leads to it; links, modes and what stands beside a feed, which says
+how far its sites have come and never more than the feed holds; what
 cannot be stored is refused before the first answer; an unchanged feed is not written; the order of sync and rename, as
-a preloaded library sees it; and the second line on standard error.
+a preloaded library sees it, of a feed that is renewed or renumbered too; and the second line on standard error.
 """
 import os
 import pty
@@ -42,6 +43,9 @@ def feed(count, letters=()):
 
 
 def put(path, data):
+    """A file with these bytes, beside which nothing says what was made of a file before it."""
+    if os.path.exists(path + ".last"):
+        os.remove(path + ".last")
     with open(path, "wb") as file:
         file.write(data)
 
@@ -124,7 +128,18 @@ def trial(program, folder, count, runs, chance):
     now = get(path)
     if now not in may:
         return "%s were done, and the feed of %d bytes is none that they can have made" % (done, len(now))
-    return None
+    return wrong_last(path, count, now, whole=not also)
+
+
+def wrong_last(path, count, now, whole):
+    """What is wrong with how far site 3 has come by what stands beside a feed: never further than the feed, and as far where no
+    run was killed."""
+    made = (len(now) - len(feed(count))) // len(insert(1, 3, "a"))
+    due = [b"site 3 %d\n" % (count + k if k else 0) for k in range(made + 1)]
+    last = get(path + ".last") if os.path.exists(path + ".last") else None
+    if last == due[made] or not whole and last in [None, *due]:
+        return None
+    return "%d edits are stored, and %r stands beside the feed" % (made, last)
 
 
 def pairs(program, folder):
@@ -225,6 +240,19 @@ def beside(program, folder):
         expect(faults, "beside", edit(program, folder, "one.feed", "a"), DONE)
         expect(faults, "the other feed", get(other), feed(5))
         expect(faults, "the feed", (get(path), os.path.islink(path), os.path.exists(new)), (feed(3, "a"), False, False))
+    for name in (path + ".last.new", path + ".last"):
+        put(path, feed(3))
+        put(other, b"site 9 9\n")
+        os.symlink(other, name)
+        expect(faults, "a link beside", edit(program, folder, "one.feed", "a"), DONE)
+        expect(faults, "what the link leads to", get(other), b"site 9 9\n")
+    os.remove(path + ".last")
+    os.mkdir(path + ".last")
+    put(other, feed(3))
+    shutil.copy(other, path)
+    expect(faults, "a folder beside", edit(program, folder, "one.feed", "a"), DONE)
+    expect(faults, "the feed", (get(path), os.path.isdir(path + ".last")), (feed(3, "a"), True))
+    os.rmdir(path + ".last")
     put(path, feed(3))
     os.remove(path + ".lock")
     os.symlink(other, path + ".lock")
@@ -256,7 +284,9 @@ def unstored(program, folder):
     for name in ("", "none/a.feed", "folder.feed", "folder.feed/", ".", "plain/a.feed", "pipe.feed", long, "n" * 252, "n" * 255, "n" * 300):
         expect(faults, "no feed %s" % name[:20], edit(program, folder, name, "a"), REFUSED)
     expect(faults, "what was left", sorted(os.listdir(folder)), sorted(["plain", "shut", "pipe.feed", "folder.feed"]))
-    expect(faults, "a long name", edit(program, folder, "n" * 250, "a")[0], 0)
+    for size in (246, 247, 250):  # beside the longest names nothing says how far a site has come
+        expect(faults, "a long name", edit(program, folder, "n" * size, "a")[0], 0)
+        expect(faults, "beside a long name", os.path.exists(os.path.join(folder, "n" * size + ".last")), size <= 246)
     os.chmod(os.path.join(folder, "shut"), 0o555)
     os.chmod(folder, 0o755)
     put(os.path.join(folder, "shut", "own.feed"), feed(3))
@@ -277,12 +307,28 @@ def synced(program, folder):
     environment = dict(os.environ, LD_PRELOAD=library, LOG=log)
     expect(faults, "a watched run", edit(program, folder, "a.feed", "a", env=environment), DONE)
     real = os.path.realpath(folder)
-    want = "fsync %s/a.feed.new\nrename a.feed.new a.feed\nfsync %s\n" % (real, real)
+    want = "".join("fsync %s/%s.new\nrename %s.new %s\nfsync %s\n" % (real, name, name, name, real) for name in ("a.feed", "a.feed.last"))
     expect(faults, "sync and rename", get(log).decode(), want)
+    expect(faults, "how far the site has come", get(path + ".last"), b"site 3 4\n")
     os.remove(log)
     desk = Desk(program, "a.feed", folder, env=environment)
     expect(faults, "a watched look", desk.end(), (0, b"", b""))
     expect(faults, "what a look writes", os.path.exists(log), False)
+    put(os.path.join(folder, "twin.feed"), feed(3, "b"))
+    for words, name, data in (
+        ("renew new.feed a.feed --site 7", "new.feed", MAGIC + setting(1, 7) + insert(2, 7, "a")),
+        ("renumber a.feed twin.feed --site 7", "a.feed", feed(3) + insert(4, 7, "a")),
+    ):
+        run = subprocess.run([program, *words.split()], cwd=folder, env=environment, capture_output=True, timeout=60)
+        expect(faults, words, (run.returncode, run.stdout.split()[-1:], run.stderr), (0, [b"1"], b""))
+        expect(faults, "what is stored by " + words, get(os.path.join(folder, name)), data)
+        want = "fsync %s/%s.new\nrename %s.new %s\nfsync %s\n" % (real, name, name, name, real)
+        expect(faults, "sync and rename by " + words, get(log).decode(), want)
+        os.remove(log)
+    words = "renumber a.feed twin.feed --site 8"
+    run = subprocess.run([program, *words.split()], cwd=folder, env=environment, capture_output=True, timeout=60)
+    expect(faults, words, (run.returncode, run.stdout, run.stderr), (0, b"ok renumbered 0\n", b""))
+    expect(faults, "what is written by " + words, os.path.exists(log), False)
     return faults
 
 
@@ -302,6 +348,12 @@ def words(program, folder):
     desk.run.stdout.readline()
     expect(faults, "an open feed", told("two.feed", "--why"), "two.feed: another desk has it open\n")
     desk.end()
+    with open(path, "wb") as file:
+        file.write(feed(3))
+    for flags in ([], ["--why"], ["--strict"]):
+        expect(faults, "an older feed", told("two.feed", *flags), "two.feed: site 3 made 4 here, and it holds 0\n")
+    expect(faults, "the older feed", get(path), feed(3))
+    expect(faults, "an older feed that is wanted", edit(program, folder, "two.feed", "b", "--older"), DONE)
     expect(faults, "no folder", told("none/a", "--why"), "none/a.lock: it cannot be opened: No such file or directory (os error 2)\n")
     expect(faults, "a folder", told(".", "--why"), ".: it cannot be stored anew: is a directory\n")
     with open(os.path.join(folder, "large"), "wb") as file:

@@ -3,6 +3,8 @@
 
 usage: differential.py PROGRAM [SCRIPTS [SEED]]      random ones, all commands; ends with status 1 at the first difference
        differential.py PROGRAM --stored [RUNS [SEED]] random scripts on stored feeds, strict and numbered sheets among them
+       differential.py PROGRAM --files [RUNS [SEED]] random commands on files: merges, imports, renewals, renumberings, ribbons
+       differential.py PROGRAM --joins [RUNS [SEED]] merges and differences of rooms that correct one text, and what they leave open
        differential.py PLAYS --plays [LISTS [SEED]]  random lists of events, each through one `World::play`; PLAYS is the program desk_plays
        differential.py PROGRAM --only WORD,WORD ..   some commands alone
        differential.py PROGRAM --jobs                the directed jobs of jobs.py, which stand at the limits of lines and wedges
@@ -184,6 +186,28 @@ def random_script(seed, k, only=None):
     return Scripts(random.Random(seed * 1000003 + k), only).script()
 
 
+def last_of(pick, stored, site):
+    """A FEED.last for a feed, or none: of what its site made there, of a later or an earlier feed, of other sites, or garbled."""
+    try:
+        ops = oracle.read_feed(stored or b"MFD2")
+    except oracle.Feed:
+        ops = []
+    made, kind = max((op[1][0] for op in ops if op[1][1] == site), default=0), pick.random()
+    if kind < 0.25:
+        return None
+    made = max(0, made + pick.choice([0, 0, 0, 1, 1, 2, 9, -1, -2, 1 << 40]))
+    lines = [(number, pick.choice([0, 1, 5, 785])) for number in (0, 1, 2, 3, 5, 7, 9, 300, 65535) if number != site and pick.random() < 0.2]
+    lines += [(site, made)] if kind < 0.9 else []
+    text = b"".join(b"site %d %d\n" % line for line in sorted(lines))
+    if pick.random() < 0.6:
+        return text
+    line, wide = b"site %d %d\n" % (site, made + 1), b"site %d %d\n" % (site, 1 << 64)
+    garbled = [text[:-1], text + b"\n", b"\n" + text, text + line, line + line, text.replace(b" ", b"  "), text.replace(b"\n", b"\r\n"), b"site 65536 1\n", wide,
+               line.replace(b"site ", b"site 0"), b"site %d 0%d\n" % (site, made + 1), line + b"site 0 1\n", b"Site 1 1\n", b"MFD2", b"\0", b"\xff" + line, line + b"x",
+               line.replace(b"\n", b" \n"), b"site %d +%d\n" % (site, made + 1), b"site %d %d\n" % (site, (1 << 64) - 1)]
+    return pick.choice(garbled + [text + line[:-1], line[:-1], line.replace(b"site ", b"site 0"), text + b"x", b"site %d 0%d\n" % (site, made + 1)])
+
+
 class Run:
     """A random script on a stored feed, or on a missing one, or as a script of its own: what is stored, by which site, in what manner,
     and whether another run has the feed."""
@@ -194,6 +218,7 @@ class Run:
         self.site, self.strict, self.number = pick.choice([1, 2, 3, 7, 65535, None]), pick.random() < 0.6, pick.random() < 0.5
         self.held, self.stored = pick.random() < 0.04, self.feed(pick, scripts) if pick.random() < 0.85 else None
         self.data = self.sheet(pick, scripts.script())
+        self.last, self.older = last_of(pick, self.stored, self.site or 1), pick.random() < 0.25
 
     def feed(self, pick, scripts):
         """What sites of another script hold, in one of the two forms, or operations in any order and more than once; a few are damaged."""
@@ -222,13 +247,15 @@ class Run:
 
     def words(self):
         flags = ["--strict"] * self.strict + ["--number"] * self.number
-        return ["desk", "a.feed", "--site", str(self.site), *flags] if self.site else ["script", *flags]
+        if self.site is None:
+            return ["script", *flags]
+        return ["desk", "a.feed", "--site", str(self.site), *flags] + ["--older"] * self.older
 
     def due(self, runs=oracle_runs):
-        """Its status, what it writes and says, and what then is stored."""
+        """Its status, what it writes and says, and what then is stored as the feed and as FEED.last."""
         if self.site is None:
-            return (*runs.script(self.data, self.strict, self.number), self.stored)
-        return runs.desk(self.stored, self.site, self.data, self.strict, self.number, self.held)
+            return (*runs.script(self.data, self.strict, self.number), self.stored, self.last)
+        return runs.desk(self.stored, self.site, self.data, self.strict, self.number, self.held, self.last, self.older)
 
     def got(self, program):
         """The same by the program, in a folder of its own beside the files."""
@@ -236,19 +263,22 @@ class Run:
             for name in FILES:
                 os.symlink("../" + name, os.path.join(folder, name))
             path = os.path.join(folder, "a.feed")
-            if self.stored is not None:
-                with open(path, "wb") as file:
-                    file.write(self.stored)
+            for name, data in (("a.feed", self.stored), ("a.feed.last", self.last)):
+                if data is not None:
+                    with open(os.path.join(folder, name), "wb") as file:
+                        file.write(data)
             with open(path + ".lock", "wb") as lock:
                 if self.held:
                     fcntl.flock(lock, fcntl.LOCK_EX)
                 done = subprocess.run([program, *self.words()], input=self.data, capture_output=True, cwd=folder, timeout=300)
-            left = sorted(set(os.listdir(folder)) - set(FILES) - {"a.feed", "a.feed.lock"})
-            now = None
-            if os.path.exists(path):
-                with open(path, "rb") as file:
-                    now = file.read()
-            return done.returncode, done.stdout.decode("utf-8", "surrogateescape"), done.stderr.decode() + "".join("left: %s\n" % name for name in left), now
+            left = sorted(set(os.listdir(folder)) - set(FILES) - {"a.feed", "a.feed.lock", "a.feed.last"})
+            now = [None, None]
+            for k, name in enumerate((path, path + ".last")):
+                if os.path.exists(name):
+                    with open(name, "rb") as file:
+                        now[k] = file.read()
+            told = done.stderr.decode() + "".join("left: %s\n" % name for name in left)
+            return done.returncode, done.stdout.decode("utf-8", "surrogateescape"), told, *now
 
 
 def compare_stored(name, run):
@@ -256,9 +286,9 @@ def compare_stored(name, run):
     due, got = run.due(), run.got(PROGRAM)
     if due == got:
         return due[1].count("\n"), ""
-    differs = next(k for k in range(4) if due[k] != got[k])
-    return 0, "%s (`%s`%s) differs in %s\n wanted %r\n    got %r\n of %r\n%r" % (
-        name, " ".join(run.words()), ", held" if run.held else "", ("status", "output", "standard error", "the stored feed")[differs], due[differs], got[differs], run.stored, run.data)
+    differs = next(k for k in range(5) if due[k] != got[k])
+    return 0, "%s (`%s`%s) differs in %s\n wanted %r\n    got %r\n of %r\n and %r\n%r" % (
+        name, " ".join(run.words()), ", held" if run.held else "", ("status", "output", "standard error", "the stored feed", "FEED.last")[differs], due[differs], got[differs], run.stored, run.last, run.data)
 
 
 class Play:
@@ -439,6 +469,8 @@ def call(given):
     name, given = given
     if isinstance(given, Play):
         return compare_play(name, given)
+    if hasattr(given, "differs"):
+        return given.compared(name, PROGRAM)
     return compare(name, given) if isinstance(given, bytes) else compare_stored(name, given)
 
 
@@ -473,6 +505,17 @@ def main():
         count, seed = int(rest[1]) if len(rest) > 1 else 1000, int(rest[2]) if len(rest) > 2 else 1
         answers = compare_all(FILES, (("run %d of seed %d" % (k, seed), Run(seed, k)) for k in range(count)))
         what = "%d runs as sheets and on stored feeds" % count
+    elif rest and rest[0] == "--files":
+        import differential_files  # which imports this file
+        count, seed = int(rest[1]) if len(rest) > 1 else 1000, int(rest[2]) if len(rest) > 2 else 1
+        asked = (("command %d of seed %d" % (k, seed), differential_files.Asked(seed, k)) for k in range(count))
+        answers = compare_all({}, asked)
+        what = "%d commands on files" % count
+    elif rest and rest[0] == "--joins":
+        import differential_files
+        count, seed = int(rest[1]) if len(rest) > 1 else 1000, int(rest[2]) if len(rest) > 2 else 1
+        answers = compare_all({}, (("join %d of seed %d" % (k, seed), differential_files.Joined(seed, k)) for k in range(count)))
+        what = "%d merges and differences of rooms that correct one text" % count
     elif rest and rest[0] == "--plays":
         count, seed = int(rest[1]) if len(rest) > 1 else 1000, int(rest[2]) if len(rest) > 2 else 1
         answers = compare_all({}, (("list %d of seed %d" % (k, seed), Play(seed, k)) for k in range(count)))

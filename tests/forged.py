@@ -4,11 +4,13 @@
 Each set of operations is taken in every order, one operation a line: the copy, the faults and the settings are the same
 after each. A feed cut anywhere has the fault that the format says. The counter next to the last leaves room for one
 symbol. A full site tells each operation and each edit what is due, and a text, a merge and a look at feeds that are full or
-more than full are refused as such. And the worst orders of a large feed: each is opened
-in at most ten times what an honest feed of its size takes, lists that fork stamps of their own are taken so too, and a
-script of a million refused commands is read at the speed of its bytes.
+more than full are refused as such, and as full where they fork stamps too. And the worst orders of a large feed: each is opened
+in at most ten times what an honest feed of its size takes, lists that fork stamps of their own are taken so too, large feeds of
+one number are refused, merged, renumbered and renewed so, and a script of a million refused commands is read at the speed of its
+bytes.
 """
 import itertools
+import os
 import resource
 import subprocess
 import sys
@@ -128,12 +130,20 @@ def full_by_hand(program, folder):
     feed("full", 1, LIMIT, 1)
     feed("over", 1, LIMIT + 1, 1)
     feed("one", 1, 1, 2)
+    with open(f"{folder}/forking.feed", "wb") as file:
+        file.write(bytes_of([setting((1, 1), 90), setting((1, 2), 90)]))
     held, full = "copydesk: as many operations are held as may be", "copydesk: full"
     asked = [
         (["import", "full.feed", "--site", "1"], held, "full.feed"),
         (["replace", "full.feed", "--site", "1", "", "x"], held, "full.feed"),
         (["merge", "full.feed", "one.feed"], full, "one.feed"),
+        (["merge", "full.feed", "forking.feed"], full, "forking.feed"),
+        (["merge", "full.feed", "forking.feed", "--forks"], full, "forking.feed"),
+        (["merge", "one.feed", "over.feed"], full, "over.feed"),
         (["merge", "over.feed", "one.feed"], full, "over.feed"),
+        (["renew", "new.feed", "over.feed", "--site", "3"], full, "over.feed"),
+        (["renumber", "over.feed", "one.feed", "--site", "3"], full, "over.feed"),
+        (["renumber", "one.feed", "over.feed", "--site", "3"], full, "over.feed"),
         (["export", "over.feed"], full, "over.feed"),
         (["diff", "over.feed", "full.feed"], full, "over.feed"),
         (["diff", "full.feed", "over.feed"], full, "over.feed"),
@@ -144,8 +154,55 @@ def full_by_hand(program, folder):
         lines = run.stderr.splitlines()
         causes = [line[: len(name) + 2] for line in lines[1:]]
         check(" ".join(words), (run.returncode, run.stdout, lines[:1], causes), (1, "", [fault], [f"{name}: "]))
+    check("a feed renewed", os.path.exists(f"{folder}/new.feed"), False)
     check("the feeds after it", [open(f"{folder}/{name}.feed", "rb").read() for name in ("full", "over", "one")] == before, True)
     print(f"full by hand: {len(asked)} runs are refused as full, and change nothing")
+
+
+def by_hand(program, folder, *words):
+    """The processor time, the status, the lines and the faults of a run in the folder."""
+    before = resource.getrusage(resource.RUSAGE_CHILDREN)
+    run = subprocess.run([program, *words], capture_output=True, text=True, stdin=subprocess.DEVNULL, cwd=folder)
+    after = resource.getrusage(resource.RUSAGE_CHILDREN)
+    return after.ru_utime + after.ru_stime - before.ru_utime - before.ru_stime, run.returncode, run.stdout, run.stderr
+
+
+def number_used_twice(program, folder, n):
+    """Two feeds of one number that have every second counter, and other letters: they are refused with each counter, merged
+    where forks are asked for, renumbered and renewed, each in at most ten times what a merge of two numbers takes."""
+    half = n // 2
+    for name, site, letter in (("ours", 1, "a"), ("theirs", 1, "b"), ("others", 2, "b")):
+        ops = [insert((2 * k, site), (2 * k - 2, site) if k > 1 else HEAD, letter) for k in range(1, half + 1)]
+        with open(f"{folder}/{name}.feed", "wb") as file:
+            file.write(bytes_of(ops))
+    counters = " ".join(str(2 * k) for k in range(1, half + 1))
+    told = f"copydesk: number used twice\ntheirs.feed: site 1 made {counters} here and there\n"
+    forks = "faults " + ", ".join(f"forked {2 * k}.1" for k in range(1, half + 1))
+    new = f"feed ok new {half} known 0\n"
+
+    def opens(now):
+        """One word of letters alone in each feed, and none in common: the merged copy is no merge of the two."""
+        lines = (("now  ", now), ("here ", "a"), ("there", "b"), ("was  ", ""))
+        return "open at 0\n" + "".join(f"  {sign}" + (f" {24 * letter}..\n" if letter else "\n") for sign, letter in lines)
+
+    asked = [
+        ("merge both.feed ours.feed others.feed", (0, f"ours.{new}others.{new}{opens('b')}faults none\n", "")),
+        ("merge ours.feed theirs.feed", (1, "", told)),
+        ("renew new.feed ours.feed --site 3", (0, f"ok renewed {half}\n", "")),
+        ("merge forked.feed ours.feed theirs.feed --forks", (0, f"ours.{new}theirs.{new}{opens('')}{forks}\n", "")),
+        ("renumber ours.feed theirs.feed --site 4", (0, f"ok renumbered {half}\n", "")),
+        ("merge ours.feed theirs.feed", (0, f"theirs.{new}{opens('a')}faults none\n", "")),
+    ]
+    honest = None
+    for words, due in asked:
+        used, *found = by_hand(program, folder, *words.split())
+        for name, one, other in zip(("status", "output", "standard error"), found, due):
+            if one != other:
+                sys.exit(f"{words}: {name} {str(one)[:300]}, due is {str(other)[:300]}")
+        honest = honest or used
+        print(f"{words}, {half} operations each: {used:.2f} s, {used / honest:.1f} times an honest merge")
+        if used > 10 * honest + 0.05:
+            sys.exit(f"{words}: more than ten times an honest merge")
 
 
 def seconds(program, folder, name, ops):
@@ -228,6 +285,7 @@ def main():
     with tempfile.TemporaryDirectory() as folder:
         full_set(program, folder)
         full_by_hand(program, folder)
+        number_used_twice(program, folder, int(sys.argv[2]) if len(sys.argv) > 2 else LARGE)
         hostile(program, folder, int(sys.argv[2]) if len(sys.argv) > 2 else LARGE)
     forks_in_lists(program, 40000, 1000)
     refused_commands(program, 1000000)

@@ -9,6 +9,7 @@ import xml.etree.ElementTree as ElementTree
 import zlib
 
 import oracle
+import oracle_readings
 import oracle_runs
 import pictures
 import reported
@@ -20,6 +21,8 @@ PIECES = [b"_", b"^", b"\\", b"\r\n", b"\n", b"\t", b"\xff", b"\xe2\x82", b" ", 
 
 
 def write(name, data):
+    """A file with these bytes, beside which nothing says what was made of a file before it."""
+    there(name + ".last")
     with open(name, "wb") as file:
         file.write(data)
 
@@ -65,8 +68,8 @@ def pick_of(*parts):
 
 
 def differing(name, got, due):
-    """What differs of a status, an output and the lines on standard error."""
-    if got == due:
+    """What differs of a status, an output and the lines on standard error; where these end in `..` any more may follow."""
+    if got == due or due[2].endswith(b"..") and got[:2] == due[:2] and got[2].startswith(due[2][:-2]):
         return None
     return "%s: status %s, %r, %r, due %s, %r, %r" % (name, got[0], got[1][:400], got[2][:200], due[0], due[1][:400], due[2][:200])
 
@@ -108,9 +111,9 @@ def sheet(program, script):
         write("desk.feed", before)
     due, name = oracle_runs.desk(before, site, script, strict, numbered), "desk --site %d %s" % (site, " ".join(flags))
     wrong = differing(name, ran(program, ["desk", "desk.feed", "--site", str(site), *flags], script), bytes_of(due[:3]))
-    now = there("desk.feed")
-    if not wrong and now != due[3]:
-        wrong = "%s: it has stored %r, due %r" % (name, now, due[3])
+    now = (there("desk.feed"), there("desk.feed.last"))
+    if not wrong and now != due[3:]:
+        wrong = "%s: it has stored %r, due %r" % (name, now, due[3:])
     return wrong, forms_of("sheet on a feed", due[2])
 
 
@@ -127,24 +130,23 @@ def changed_by_hand(name, before, site, copy, got):
     after = reported.held_in(now)
     if after is None or now != oracle.runs_feed(after):
         return "%s: it has stored %s" % (name, now.hex())
-    wrong = reported_copy.edited(held, after, site, copy, got[1].decode())
+    wrong, last = reported_copy.edited(held, after, site, copy, got[1].decode()), there("one.last")
+    if not wrong and last != oracle_readings.noted(None, site, after):
+        wrong = "%r stands beside the feed" % last
     return wrong and name + ": " + wrong
 
 
-def imported(program, data, text, plain):
+def imported(program, data, text, plain, everything):
     """An import of a text."""
     write("one", data)
-    name, site = "import of %r%s" % (text[:300], " --plain" if plain else ""), 7
-    got = ran(program, ["import", "one", "--site", str(site)] + ["--plain"] * plain, text)
-    why = refused("one", data)
-    if not why:
-        try:
-            copy = reported_copy.read_text(text, plain)
-            return changed_by_hand(name, data, site, copy, got), {"import done"}
-        except reported_copy.NoText as fault:
-            why = "copydesk: %s\n" % fault
-    wrong = differing(name, got, (1, b"", why.encode())) or (None if read("one") == data else name + ": the feed changed")
-    return wrong, forms_of("import", why)
+    flags, site = ["--plain"] * plain + ["--all"] * everything, 7
+    name = "import of %r %s" % (text[:300], " ".join(flags))
+    got = ran(program, ["import", "one", "--site", str(site), *flags], text)
+    due = oracle_runs.run(oracle_runs.import_text, {"one": data}, "one", text, plain, everything)
+    if due[0] == 0:
+        return changed_by_hand(name, data, site, reported_copy.read_text(text, plain), got), {"import done"}
+    wrong = differing(name, got, bytes_of(due)) or (None if read("one") == data else name + ": the feed changed")
+    return wrong, forms_of("import", due[2])
 
 
 def replaced(program, data, old, new, plain):
@@ -184,11 +186,13 @@ def texts_of(data, other):
     text = reported.exported((copy, their, copy[:len(copy) // 2] + their[len(their) // 3:], their + copy)[number % 4]).encode()
     if number & 4:
         text = with_piece(text, number >> 4)
+    if number % 17 == 0:
+        text = b""
     at, size = (number >> 5) % (len(copy) + 1), (number >> 9) % 4
     old, new = reported.exported(copy[at:at + size]), reported.exported(their[:(number >> 11) % 5])
     if number % 7 == 0:
         old, new = (old, new + "_") if number & 16 else (old + "\\", new)
-    return (text, number % 11 == 0), (old, new, number % 13 == 0)
+    return (text, number % 11 == 0, number % 3 == 0), (old, new, number % 13 == 0)
 
 
 def by_hand(program, data, other):
@@ -203,15 +207,62 @@ def by_hand(program, data, other):
 
 def merged(program, data, other):
     """A merge with more than one feed, of which one may be the feed itself."""
-    write("one", data)
-    write("two", other)
-    names = [("two", "one", "two"), ("one", "two")][pick_of(data) & 1]
-    of = {"one": data, "two": other}
-    due = oracle_runs.merge(data, [(name, of[name]) for name in names])
-    status, out, why = ran(program, ["merge", "one", *names])
-    bad = next((name for name in ("one", *names) if refused(name, of[name])), None)
-    wrong = differing("merge one %s" % " ".join(names), (status, out, why), bytes_of((due[0], due[1], refused(bad, of[bad]) if bad else "")))
-    return wrong or (None if read("one") == due[3] else "merge: it has stored %s" % read("one").hex()), forms_of("merge", due[1])
+    names, forks = [("two", "one", "two"), ("one", "two")][pick_of(data) & 1], pick_of(other) & 1
+    words = ["merge", "one", *names] + ["--forks"] * forks
+    return on_files(program, words, {"one": data, "two": other}, oracle_runs.merge, "one", *names, forks=bool(forks))
+
+
+def on_files(program, words, files, command, *names, **flags):
+    """A command on files: what differs, or none, of what it says and of what then is stored, and the forms of it."""
+    for file, data in files.items():
+        write(file, data)
+    due, name = oracle_runs.run(command, files, *names, **flags), " ".join(words)
+    wrong, left = differing(name, ran(program, words), bytes_of(due)), unlike(name, due[3])
+    return wrong or left, forms_of(words[0], due[1] + due[2])
+
+
+def unlike(name, files):
+    """What is wrong with the files that a command has left; they are taken away."""
+    left = {file: there(file) for file in {"new", *files}}
+    if all(data == files.get(file) for file, data in left.items()):
+        return None
+    return "%s: it has left %r" % (name, {file: data and data.hex() for file, data in left.items()})
+
+
+def renewed(program, data, other):
+    """A feed renewed, and a feed renumbered by the other."""
+    number = pick_of(other, data)
+    renewal = ["renew", "new", "one", "--site", str(number % 4 + 1)]
+    wrong, forms = on_files(program, renewal, {"one": data}, oracle_runs.renew, "new", "one", number % 4 + 1)
+    if wrong:
+        return wrong, forms
+    wrong, more = renumbered(program, {"one": data, "two": other}, "one", "two", (1, 2, 4, 9)[number >> 2 & 3])
+    return wrong, forms | more
+
+
+def renumbered(program, files, feed, other, site):
+    """A feed renumbered: behind the first line are words that read otherwise, and no others."""
+    for file, data in files.items():
+        write(file, data)
+    words = ["renumber", feed, other, "--site", str(site)]
+    due = oracle_runs.run(oracle_runs.renumber, files, feed, other, site)
+    got, name = ran(program, words), " ".join(words)
+    wrong, left = differing(name, first_line(got), bytes_of(due)), unlike(name, due[3])
+    if not wrong and due[0] == 0:
+        wrong = reads_otherwise(files.get(feed), due[3].get(feed), got[1])
+        wrong = wrong and "%s: %s" % (name, wrong)
+    return wrong or left, forms_of(words[0], due[1] + due[2])
+
+
+def first_line(got):
+    """A status, the first line of an output, and the lines on standard error."""
+    return got[0], got[1][:got[1].find(b"\n") + 1] or got[1], got[2]
+
+
+def reads_otherwise(before, after, out):
+    """What is wrong with the words behind a first line: those in which the copy of a feed, or of none, differs from another."""
+    copies = [oracle.Meaning(set(oracle.read_feed(data or b"MFD2"))).copy for data in (before, after)]
+    return reported_copy.differs_in(*copies, out.decode().split("\n")[1:-1])
 
 
 def sorted_out(program, feed, data, case_data):

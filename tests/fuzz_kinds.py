@@ -15,8 +15,11 @@ import differential
 import fuzz_asks
 import jobs
 import oracle
+import oracle_readings
+import oracle_runs
 import reported
 import reported_copy
+import reported_galley
 from fuzz_asks import form, ran, read, there, write
 
 oracle.spelling = functools.lru_cache(4096)(oracle.spelling)  # many commands go over the same operations
@@ -48,12 +51,23 @@ def checked(program, names):
     """What `check` says of files, without their names; or what is wrong with the run."""
     status, out, _ = ran(program, ["check", *names])
     lines = out.decode("utf-8", "replace").split("\n")[:-1]
+    last = reported.unfit([(name, read(name)) for name in names])
+    if last is not None:
+        if status != 1 or lines[len(names):] != [last]:
+            return "check: status %s, %r and not %r" % (status, lines[len(names):], last), lines
+        lines.pop()
     if status not in (0, 1) or len(lines) != len(names) or any(not line.startswith(name + " ") for line, name in zip(lines, names)):
         return "check: status %s, %d lines of %d" % (status, len(lines), len(names)), lines
     said = [line[len(name) + 1:] for line, name in zip(lines, names)]
-    if (status == 0) != all(line.startswith("ok: ") for line in said):
+    if (status == 0) != (last is None and all(line.startswith("ok: ") for line in said)):
         return "check: status %s for %r" % (status, said), said
     return None, said
+
+
+def punched(held, answer):
+    """The line of `punch` where `ribbon` answers so of the operations that are held."""
+    faults = answer.decode()[len("no ribbon: "):].split(", ")
+    return reported_galley.no_ribbon(faults, oracle.Meaning(held).settings).encode()
 
 
 def at_limits(name, *values):
@@ -330,7 +344,10 @@ class Feeds(Kind):
             if status != 1 or out or not why:
                 return "diff: status %s, %r %r" % (status, out[:300], why), None
         else:
-            lines = out.decode().split("\n")[:-1]
+            readings = oracle_readings.reported(oracle_readings.readings(held, theirs))
+            if not out.decode().endswith(readings):
+                return "diff: %r, which does not end with %r" % (out[:400], readings), None
+            lines = out.decode()[:len(out.decode()) - len(readings)].split("\n")[:-1]
             due = [reported.alone("one", held, theirs), reported.alone("two", theirs, held)]
             same = oracle.Meaning(held).copy == oracle.Meaning(theirs).copy
             if status != (0 if held == theirs else 1) or why or lines[:2] != due or same != (len(lines) == 2):
@@ -345,17 +362,11 @@ class Feeds(Kind):
             return "export: status %s, %r and not %r" % (status, out[:300], due), None
         if due:
             forms.add("export " + re.sub(r"(.)\1+", r"\1", re.sub(r"[^_^\\ \n]", "a", due.decode()))[:9])
-        status, out, why = ran(program, ["merge", "one", "two"])
-        if held is None or theirs is None:
-            if status != 1 or out or read("one") != data:
-                return "merge: status %s, %r %r" % (status, out[:300], why), None
-        else:
-            world = reported.world_of(1, held | theirs)
-            known = "two %s" % reported.world_of(1, held).gain(1, oracle.read_feed(other))
-            due = (known + "\n" + world.answer(b"faults 1") + "\n").encode()
-            stored = read("one")
-            if status != 0 or why or out != due or stored != oracle.runs_feed(held | theirs):
-                return "merge: status %s, %r %r and not %r, stored %s" % (status, out[:300], why, due, stored.hex()), None
+        files, words = {"one": data, "two": other}, ["merge", "one", "two", "--forks"]
+        wrong, more = fuzz_asks.on_files(program, words, files, oracle_runs.merge, "one", "two", forks=True)
+        if wrong:
+            return wrong, None
+        forms |= more
         write("one", data)
         status, out, why = ran(program, ["desk", "one", "--site", "7"], b"\n".join(self.after) + b"\n")
         if held is None:
@@ -376,7 +387,8 @@ class Feeds(Kind):
         case, wedge = self.metal[number % len(self.metal)]
         trial = self.trial + [("measure", 12 + number % 200), ("loose", number % 260)][:number % 3]
         asks = [lambda: fuzz_asks.by_hand(program, data, other), lambda: fuzz_asks.sorted_out(program, "two", other, case),
-                lambda: fuzz_asks.merged(program, data, other), lambda: fuzz_asks.proofed(program, "two", other, case, wedge, trial, True)]
+                lambda: fuzz_asks.merged(program, data, other),
+                lambda: fuzz_asks.proofed(program, "two", other, case, wedge, trial, True), lambda: fuzz_asks.renewed(program, data, other)]
         for ask in asks[number >> 8 & 1::2]:
             wrong, more = ask()
             if wrong:
@@ -535,7 +547,7 @@ class Files(Kind):
             wrong = fuzz_asks.read_again(program, stored, files, ("case%d" % k, "wedge%d" % k), cast)
             if wrong:
                 return wrong, None
-        elif status != 1 or stored is not None or (out != answer + b"\n" if answer.startswith(b"no ribbon: ") else out or not why):
+        elif status != 1 or stored is not None or (out != punched(world.sites[k], answer) if answer.startswith(b"no ribbon: ") else out or not why):
             return "punch: status %s, %r %r, due %r" % (status, out, why, answer[:300]), None
         forms = {"punch " + re.sub(r"[0-9]+", "#", why.decode("utf-8", "replace"))[:80]}
         trial = [("loose", 240), ("tight", 16 + len(files[0]) % 40), ("measure", 12 + len(files[1]) % 150)][:fuzz_asks.pick_of(*files) % 4]

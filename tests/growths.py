@@ -9,8 +9,10 @@ where the next line is longer than all before it, so that there was no memory to
 lines. Then all growths from one on are refused, for each twentieth, and the same holds. Out of memory is never reported as another
 refusal, of the wedge or the case file too, whose text `toml` reads with the global allocator. On a stored feed a run may end
 so also at its end, where it stores; the file holds the old feed then, and the followed one after an end with status 0. Words
-that are refused or ask for help keep their status, or end in that way too. A merge, an export and an import are done as with
-all memory, or end so with the stored feed as it was; a proof, a punch, a reading and a list of sorts too, with no ribbon and no picture.
+that are refused or ask for help keep their status, or end in that way too. A merge, an export, an import, a renewal and a
+renumbering are done or refused as with all memory, but for the second line, or end so with the stored feeds as they were; a
+proof, a punch, a reading and a list of sorts too, with no ribbon and no picture, and with what stood in their place. How far a
+site has come stands beside a feed as it did, or as after a run with all memory: the feed is stored either way.
 """
 import functools
 import os
@@ -20,6 +22,7 @@ import sys
 import tempfile
 
 import oracle
+import oracle_readings
 import oracle_runs
 
 oracle.first_fault_case = functools.lru_cache(64)(oracle.first_fault_case)  # each run reads the same files
@@ -250,22 +253,26 @@ class Sweep:
         return self.kept(follower)
 
     def kept(self, follower):
-        """What is wrong with the stored feed: it is the followed one, or where the run ended early the old one."""
+        """What is wrong with the stored feed: it is the followed one, or where the run ended early the old one. What stands
+        beside it is the old one's or, if there was memory for it, the followed one's."""
         if self.feed is None:
             return None
         path, old, site = self.feed
-        with open(path, "rb") as file:
-            now = file.read()
-        with open(path, "wb") as file:
-            file.write(old)
+        now, last = get(path), get(path + ".last")
+        put(path, old)
+        lasts = [oracle_readings.noted(None, site, set(oracle.read_feed(data))) for data in (old, now)]
+        put(path + ".last", lasts[0])
+        if last not in lasts:
+            return "what stands beside the stored feed is %r" % last
         return None if now == (follower.feed(site) if follower else old) else "the stored feed is another one"
 
     def all(self, step=20):
         os.chdir(self.runs.folder)  # the independent program reads its files there
         growths = self.runs.count()
         if self.feed:
-            with open(self.feed[0], "wb") as file:
-                file.write(self.feed[1])
+            path, old, site = self.feed
+            put(path, old)
+            put(path + ".last", oracle_readings.noted(None, site, set(oracle.read_feed(old))))
         self.note("undisturbed", self.once(0, False))
         if self.early or self.lacked:
             self.faults.append("memory was wanted with nothing refused")
@@ -331,46 +338,91 @@ def words(program, folder, library):
 
 
 def by_hand(program, folder, library):
-    """What is done by hand and a strict sheet: done as undisturbed, or ended out of memory with the stored feed as it was."""
-    path = os.path.join(folder, "hand.feed")
-    for name, text in (("hand.feed", "Send _word_\nby noon.\n"), ("other.feed", "Word was sent.\n")):
-        site = "1" if name == "hand.feed" else "2"
+    """What is done by hand and a strict sheet: done as undisturbed, or ended out of memory with the stored feeds as they were."""
+    feeds = [os.path.join(folder, name) for name in ("hand.feed", "new.feed")]
+    texts = (("hand.feed", "1", "Send _word_\nby noon.\n"), ("other.feed", "2", "Word was sent.\n"), ("twin.feed", "1", "Sent.\n"))
+    for name, site, text in texts:
         subprocess.run([program, "import", name, "--site", site], input=text.encode(), cwd=folder, capture_output=True, check=True)
-    with open(path, "rb") as file:
-        old = file.read()
+    feeds += [os.path.join(folder, "older.feed")]
+    old, lasts = [get(feeds[0]), None, get(feeds[0])], [get(feeds[0] + ".last"), None, b"site 1 999\n"]
 
     def once(runs, number, always):
-        with open(path, "wb") as file:
-            file.write(old)
-        status, written, told = runs.run(number, always)
-        with open(path, "rb") as file:
-            return status, written, told, file.read()
+        for feed, data, last in zip(feeds, old, lasts):
+            put(feed, data)
+            put(feed + ".last", last)
+        return *runs.run(number, always), [get(feed) for feed in feeds], [get(feed + ".last") for feed in feeds]
 
     sweep = Sweep(Runs(program, [], "", folder, library))
     asked = (
-        ("merge hand.feed other.feed other.feed", ""),
-        ("export hand.feed", ""),
-        ("diff hand.feed hand.feed", ""),
-        ("import hand.feed --site 1", "Sent _word_ by ^noon^.\n"),
-        ("replace hand.feed --site 1 noon ^noon^", ""),
-        ("check hand.feed other.feed case12.toml wedge5.toml", ""),
-        ("desk hand.feed --site 1 --strict --number", "# a note\ninsert 1 4 r\" a\"\n\ninsert 1 6 i\"b\"\n"),
+        ("merge hand.feed other.feed other.feed", "", ""),
+        ("merge --review hand.feed other.feed other.feed", "", ""),
+        ("diff hand.feed other.feed", "", ""),
+        ("merge hand.feed other.feed twin.feed", "", "number used twice"),
+        ("merge hand.feed twin.feed other.feed --forks", "", ""),
+        ("export hand.feed", "", ""),
+        ("diff hand.feed hand.feed", "", ""),
+        ("import hand.feed --site 1", "Sent _word_ by ^noon^.\n", ""),
+        ("import hand.feed --site 1", "", "19 of 19 symbols would be deleted"),
+        ("import hand.feed --site 1 --all", "", ""),
+        ("replace hand.feed --site 1 noon ^noon^", "", ""),
+        ("import older.feed --site 1", "Send word.\n", "older feed"),
+        ("import older.feed --site 1 --older", "Send _word_ by ^noon^.\n", ""),
+        ("replace older.feed --site 1 noon ^noon^", "", "older feed"),
+        ("desk older.feed --site 1 --strict", "insert 1 4 r\" a\"\n", "older feed"),
+        ("renew new.feed hand.feed --site 3", "", ""),
+        ("renew other.feed hand.feed --site 3", "", "already there"),
+        ("renumber hand.feed twin.feed --site 3", "", ""),
+        ("renumber hand.feed twin.feed --site 1", "", "number in use"),
+        ("check hand.feed other.feed case12.toml wedge5.toml", "", ""),
+        ("desk hand.feed --site 1 --strict --number", "# a note\ninsert 1 4 r\" a\"\n\ninsert 1 6 i\"b\"\n", ""),
     )
-    for words, text in asked:
+    for words, text, why in asked:
         runs = Runs(program, words.split(), text, folder, library)
         whole = once(runs, 0, False)
-        due = 1 if "lacking" in words else 0
-        sweep.note(words, None if whole[0] == due and not whole[2] else "ended with %d and %r" % (whole[0], whole[2]))
-        growths, named = runs.count(), words.startswith(("check ", "desk "))
+        review = words.startswith("merge --review") and whole[0] == 1 and whole[2] in (b"", b"copydesk: open readings\n")
+        sweep.note(words, None if review else unlike_due(whole, 1 if why or words.startswith("diff hand.feed other") else 0, why))
+        growths, named = runs.count(), words.startswith(("check ", "desk ", "renew other")) or why == "older feed"
         for number, always in [(k, False) for k in range(1, growths + 1)] + [(k, True) for k in range(1, growths + 1, 20)]:
-            got = once(runs, number, always)
+            *got, beside = once(runs, number, always)
+            if beside != lasts and (beside, got[3]) != (whole[4], whole[3]):
+                sweep.note("%s, growth %d" % (words, number), "what stands beside the feeds is %r" % beside)
             ended = got[0] == 1 and bool(NO_MEMORY.fullmatch(got[2])) and whole[1].startswith(got[1]) and got[3] == old
             named = named or ended and b": out of memory" in got[2]
             stopped = got[0] == 1 and got[2].startswith(b"copydesk: line ") and got[1].endswith(b" refused memory\n") and got[3] == old
             sweep.early += ended or stopped
-            sweep.note("%s, growth %d" % (words, number), None if ended or stopped or got == whole else "ended with %d, %r and %r" % got[:3])
+            same = got == list(whole[:4]) or why and cut_short(got, whole)
+            sweep.note("%s, growth %d" % (words, number), None if ended or stopped or same else "ended with %d, %r and %r" % tuple(got[:3]))
         sweep.note(words, None if named else "no run has said over which file memory ran out")
     return sweep
+
+
+def get(path):
+    """The bytes of a file, or none."""
+    if not os.path.exists(path):
+        return None
+    with open(path, "rb") as file:
+        return file.read()
+
+
+def put(path, data):
+    """A file with these bytes, or none."""
+    if data is not None:
+        with open(path, "wb") as file:
+            file.write(data)
+    elif os.path.exists(path):
+        os.remove(path)
+
+
+def cut_short(got, whole):
+    """Whether a run was refused as undisturbed, but for the second line on standard error, for which there was no memory."""
+    return (*got[:2], got[3]) == (*whole[:2], whole[3]) and got[2] == whole[2].split(b"\n")[0] + b"\n"
+
+
+def unlike_due(whole, status, why):
+    """What is wrong with a run of which no growth is refused: its status, and what it says on standard error, if at all."""
+    if (whole[0], whole[2].split(b"\n")[0].decode()) == (status, "copydesk: " + why if why else ""):
+        return None
+    return "ended with %d and %r" % (whole[0], whole[2])
 
 
 SETTINGS = """set 1 measure 120
@@ -380,44 +432,60 @@ set 1 case 12
 set 1 wedge 5
 insert 1 0 r"Send word by noon at the latest."
 """
+# a delete of what has not come
+FAULTY = "take 1 4d464431020000000000000063000900000000000000620009\n"
 # symbols that the case lacks, the first at more places than a row of the list has
 LACKED = 'insert 1 0 r"%s"\n' % ("n~ |" * 12)
 
 
 def previews(program, folder, library):
     """A proof, a punch, a reading and a list of sorts: done as undisturbed, or ended out of memory, and then no ribbon or
-    picture is there."""
-    ribbon = os.path.join(folder, "preview.rib")
-    for feed, commands in (("preview.feed", SETTINGS), ("lacking.feed", LACKED)):
+    picture is there, and what stood in its place is."""
+    ribbon, note = os.path.join(folder, "preview.rib"), os.path.join(folder, "note.txt")
+    for feed, commands in (("preview.feed", SETTINGS), ("lacking.feed", LACKED), ("faulty.feed", SETTINGS + FAULTY)):
         subprocess.run([program, "desk", feed, "--site", "1"], input=commands.encode(), cwd=folder, capture_output=True, check=True)
+    old = [None, b"a note"]
 
     def once(runs, number, always):
         if os.path.exists(ribbon):
             os.remove(ribbon)
-        got = runs.run(number, always)
-        if not os.path.exists(ribbon):
-            return got[0], got[1], got[2], None
-        with open(ribbon, "rb") as file:
-            return got[0], got[1], got[2], file.read()
+        with open(note, "wb") as file:
+            file.write(old[1])
+        return *runs.run(number, always), [get(ribbon), get(note)]
 
     sweep = Sweep(Runs(program, [], "", folder, library))
-    metal = "preview.feed --case case12.toml --wedge wedge5.toml"
-    of_ribbon = "read made.rib --case case12.toml --wedge wedge5.toml"
+    files = " --case case12.toml --wedge wedge5.toml"
+    metal, of_ribbon, faulty = "preview.feed" + files, "read made.rib" + files, "faulty.feed" + files
     subprocess.run([program, *("punch -o made.rib " + metal).split()], cwd=folder, capture_output=True, check=True)
-    kinds = ("proof " + metal, "proof --faults " + metal, "punch -o preview.rib " + metal, "proof --set loose=150 --svg preview.rib " + metal,
-             of_ribbon, of_ribbon + " --svg preview.rib", "sorts preview.feed --case case12.toml --layout", "sorts lacking.feed --case case12.toml")
-    for words in kinds:
+    kinds = (
+        ("proof " + metal, 0, ""),
+        ("proof --faults " + metal, 0, ""),
+        ("punch -o preview.rib " + metal, 0, ""),
+        ("punch -o made.rib " + metal, 0, ""),
+        ("punch -o note.txt " + metal, 1, "not replaced"),
+        ("punch -o note.txt --force " + metal, 0, ""),
+        ("punch -o preview.rib " + faulty, 1, "copy faults"),
+        ("punch -o preview.rib --faulty " + faulty, 0, ""),
+        ("proof --set loose=150 --svg preview.rib " + metal, 0, ""),
+        ("proof --svg note.txt " + metal, 1, "not replaced"),
+        (of_ribbon, 0, ""),
+        (of_ribbon + " --svg preview.rib", 0, ""),
+        (of_ribbon + " --svg note.txt", 1, "not replaced"),
+        ("sorts preview.feed --case case12.toml --layout", 0, ""),
+        ("sorts lacking.feed --case case12.toml", 1, ""),
+    )
+    for words, due, why in kinds:
         runs = Runs(program, words.split(), "", folder, library)
         whole = once(runs, 0, False)
-        due = 1 if "lacking" in words else 0
-        sweep.note(words, None if whole[0] == due and not whole[2] else "ended with %d and %r" % (whole[0], whole[2]))
+        sweep.note(words, unlike_due(whole, due, why))
         growths, named = runs.count(), False
         for number, always in [(k, False) for k in range(1, growths + 1)] + [(k, True) for k in range(1, growths + 1, 20)]:
             got = once(runs, number, always)
-            ended = got[0] == 1 and bool(NO_MEMORY.fullmatch(got[2])) and whole[1].startswith(got[1]) and got[3] is None
+            ended = got[0] == 1 and bool(NO_MEMORY.fullmatch(got[2])) and whole[1].startswith(got[1]) and got[3] == old
             named = named or ended and b": out of memory" in got[2]
             sweep.early += ended
-            sweep.note("%s, growth %d" % (words, number), None if ended or got == whole else "ended with %d, %r and %r" % got[:3])
+            same = got == whole or why and cut_short(got, whole)
+            sweep.note("%s, growth %d" % (words, number), None if ended or same else "ended with %d, %r and %r" % got[:3])
         sweep.note(words, None if named else "no run has said over which file memory ran out")
     return sweep
 

@@ -1,6 +1,6 @@
 #!/usr/bin/env bash
-# Kills a run on a stored feed at many moments: afterwards the old feed stands, or the new one, and never a part:
-# kill.sh [PROGRAM].
+# Kills a run on a stored feed at many moments: afterwards the old feed stands, or the new one, and never a part; and FEED.last,
+# which is written after the feed, stands beside the new one alone, whole or not at all: kill.sh [PROGRAM].
 set -euo pipefail
 program=$(realpath "${1:-$(dirname "$0")/../crates/copydesk/out/copydesk}")
 folder=$(mktemp -d)
@@ -22,6 +22,8 @@ start=${EPOCHREALTIME/./}
 "$program" desk a.feed --site 3 < input > written
 end=${EPOCHREALTIME/./}
 cmp written answers
+printf 'site 3 20001\n' | cmp - a.feed.last
+cp a.feed.last last
 cp a.feed new
 if cmp -s old new; then
   echo "the feed was not stored" >&2
@@ -31,7 +33,9 @@ fi
 rounds=150
 olds=0
 news=0
+lasts=0
 for ((i = 0; i < rounds; i++)); do
+  rm -f a.feed.last a.feed.last.new
   cp old a.feed
   "$program" desk a.feed --site 3 < input > written 2> /dev/null &
   run=$!
@@ -41,20 +45,32 @@ for ((i = 0; i < rounds; i++)); do
   wait "$run" 2> /dev/null || true
   if cmp -s a.feed old; then
     olds=$((olds + 1))
+    if [ -e a.feed.last ]; then
+      echo "the old feed stands, and FEED.last is that of the new one (round $i)" >&2
+      exit 1
+    fi
   elif cmp -s a.feed new; then
     news=$((news + 1))
   else
     echo "neither the old feed nor the new one stands after a kill (round $i)" >&2
     exit 1
   fi
+  if [ -e a.feed.last ]; then
+    cmp a.feed.last last
+    lasts=$((lasts + 1))
+  fi
 done
 
 # What a killed run left behind does no harm.
 cp old a.feed
+rm -f a.feed.last
 printf 'left over' > a.feed.new
+printf 'site 3 99999' > a.feed.last.new
 "$program" desk a.feed --site 3 < input > written
 cmp a.feed new
-echo "killed $rounds runs: the old feed stands after $olds, the new one after $news"
+cmp a.feed.last last
+[ ! -e a.feed.last.new ]
+echo "killed $rounds runs: the old feed stands after $olds, the new one after $news, with FEED.last after $lasts"
 if ((olds == 0 || news == 0)); then
   echo "the kills came too early or too late" >&2
   exit 1

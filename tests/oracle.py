@@ -204,6 +204,60 @@ class Meaning:
         self.copy = [op[3] for op in self.shown]
 
 
+# ---- numbers used twice: forks, renewal, renumbering
+
+class Refused(Exception):
+    """A set that is not made, and why."""
+
+
+def bearing_of(held):
+    """Of each stamp the operations of a set that bear it."""
+    out = {}
+    for op in held:
+        out.setdefault(op[1], []).append(op)
+    return out
+
+
+def forked(held):
+    return {stamp for stamp, ops in bearing_of(held).items() if len(ops) > 1}
+
+
+def renewed(held, site):
+    """The copy and the settings of a set, made by one site: the settings first, then each symbol after the one before."""
+    meaning, ops = Meaning(held), []
+    for key in KEYS:
+        if meaning.settings[key] is not None:
+            ops.append(("set", (len(ops) + 1, site), key, meaning.settings[key]))
+    parent = HEAD
+    for symbol in meaning.copy:
+        ops.append(("insert", (len(ops) + 1, site), parent, symbol))
+        parent = ops[-1][1]
+    return set(ops)
+
+
+def collisions(one, other):
+    """The stamps that are clear in both sets and borne by two operations."""
+    theirs = bearing_of(other)
+    return {stamp for stamp, ops in bearing_of(one).items() if len(ops) == 1 == len(theirs.get(stamp, ())) and ops != theirs[stamp]}
+
+
+def renumbered(one, other, site):
+    """The one set with a new number on what collides with the other and on what its site made after it; and what was moved."""
+    least = {}
+    for counter, number in collisions(one, other):
+        least[number] = min(counter, least.get(number, counter))
+    moved = {op for op in one - other if op[1][0] >= least.get(op[1][1], MAX_COUNTER + 1)}
+    stamps, theirs = {op[1] for op in moved}, bearing_of(other)
+    if any(site in (op[1][1], op[2][1]) for op in one | other):  # that it is borne, or named: of a setting this is a letter
+        raise Refused("number in use")
+    if any(op[2] in stamps for op in one - moved) or any(op[2] in stamps and op[2] not in theirs for op in other):
+        raise Refused("seen by another room")
+    anew = lambda stamp: (stamp[0], site) if stamp in stamps else stamp
+    if len({stamp[0] for stamp in stamps}) < len(stamps):
+        raise Refused("number in use")
+    return one - moved | {(op[0], anew(op[1]), anew(op[2]), *op[3:]) for op in moved}, moved
+
+
 # ---- units, lines, the ribbon
 
 def first_fault_wedge(data):

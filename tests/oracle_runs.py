@@ -1,11 +1,16 @@
 #!/usr/bin/env python3
-"""Runs of the independent program: sheets of commands, stored feeds, lists of events, and lines that memory stops, from docs/FORMATS.md.
+"""Runs of the independent program: sheets of commands, stored feeds, lists of events, commands on files, and lines that
+memory stops, from docs/FORMATS.md.
 
 usage: oracle_runs.py < LIST     writes what desk_plays is to write of a list of events, and ends with its status
 """
 import sys
 
 import oracle
+import oracle_readings
+import reported
+import reported_copy
+import reported_galley
 
 
 def is_passed_over(line):
@@ -43,18 +48,23 @@ def brought(site, stored):
     return world
 
 
-def desk(stored, site, data, strict=False, number=False, held=False):
-    """A run on a stored feed, or on a missing one: its status, what it writes and says, and the bytes that then are stored."""
+def desk(stored, site, data, strict=False, number=False, held=False, last=None, older=False):
+    """A run on a stored feed, or on a missing one, with its FEED.last: its status, what it writes and says, and the bytes that
+    then are stored as feed and as FEED.last."""
     if held:
-        return 1, "", "copydesk: file fault\n", stored
+        return 1, "", "copydesk: file fault\n", stored, last
     try:
         world = brought(site, stored)
     except oracle.Feed:
-        return 1, "", "copydesk: feed refused\n", stored
+        return 1, "", "copydesk: feed refused\n", stored, last
+    why = oracle_readings.older("a.feed", last, site, world.sites[site])
+    if why and stored is not None and not older:
+        return 1, "", why, stored, last
     written, stop = told(world, data, strict, number)
     if stop:
-        return 1, written, "copydesk: line %d refused\n" % stop, stored
-    return 0, written, "", oracle.runs_feed(world.sites[site])
+        return 1, written, "copydesk: line %d refused\n" % stop, stored, last
+    now = oracle.runs_feed(world.sites[site])
+    return 0, written, "", now, oracle_readings.noted(last, site, world.sites[site])
 
 
 def is_event(command):
@@ -99,17 +109,231 @@ def play(data):
     return 0, "".join(line + "\n" for line in (*told, *what_is_held(world)))
 
 
-def merge(stored, others, held=False):
-    """A merge of a stored feed with others, by name and bytes: its status, what it writes and says first, and what then is stored."""
-    if held:
-        return 1, "", "copydesk: file fault\n", stored
+class Stops(Exception):
+    """What ends a command on files with status 1: its lines on standard error, where `..` at the end stands for any rest, and
+    what it has written before."""
+
+    def __init__(self, told, written=""):
+        super().__init__(told)
+        self.told, self.written = told, written
+
+
+def run(command, files, *words, **flags):
+    """A command on files, by name and bytes: its status, what it writes, what it says, and the files after it."""
+    after = dict(files)
     try:
-        world, out = brought(1, stored), []
-        for name, data in others:
-            out.append("%s %s\n" % (name, world.gain(1, oracle.read_feed(data))))
-    except oracle.Feed:
-        return 1, "", "copydesk: feed refused\n", stored
-    return 0, "".join(out) + world.answer(b"faults 1") + "\n", "", oracle.runs_feed(world.sites[1])
+        return 0, command(after, *words, **flags), "", after
+    except Stops as stop:
+        return 1, stop.written, stop.told, after
+
+
+def held_in(files, name, missing=None):
+    """The operations of a feed among files; one that is not there is refused, or holds what is given."""
+    if name not in files and missing is not None:
+        return missing
+    if name not in files:
+        raise Stops("copydesk: file fault\n%s: it cannot be read.." % name)
+    try:
+        held = set(oracle.read_feed(files[name]))
+    except oracle.Feed as fault:
+        raise Stops("copydesk: feed refused\n%s: byte %d: %s\n" % (name, fault.at, reported.CAUSES[fault.word]))
+    if len(held) > oracle.LIMIT:
+        raise Stops("copydesk: full\n%s: .." % name)
+    return held
+
+
+def faults_of(held):
+    faults = oracle.Meaning(held).faults
+    return "faults %s\n" % (", ".join("%s %s" % (kind, oracle.stamp_text(stamp)) for kind, stamp in faults) or "none")
+
+
+def made(stamps):
+    """Who made stamps: by site the counters, of which those that follow one another stand as the first and the last."""
+    sites = {}
+    for counter, site in sorted(stamps):
+        runs = sites.setdefault(site, [])
+        if runs and runs[-1][-1] + 1 == counter:
+            runs[-1] = [runs[-1][0], counter]
+        else:
+            runs.append([counter])
+    texts = {site: " ".join("..".join(map(str, run)) for run in runs) for site, runs in sites.items()}
+    return ", ".join("site %d made %s" % (site, texts[site]) for site in sorted(texts))
+
+
+def room_in(files, feed, site, older):
+    """The operations of a feed that a site goes on with: one that is not there holds none, and one that is older than what
+    the site made here is refused, but where that is wanted."""
+    held = held_in(files, feed, set())
+    why = oracle_readings.older(feed, files.get(feed + ".last"), site, held)
+    if why and feed in files and not older:
+        raise Stops(why)
+    return held
+
+
+def mark(files, feed, site, held):
+    """Notes in FEED.last what of a site is stored."""
+    files[feed + ".last"] = oracle_readings.noted(files.get(feed + ".last"), site, held)
+
+
+def diff(files, feed, other):
+    """What `diff` writes after the words that differ: how the merge that would be reads."""
+    one, two = held_in(files, feed), held_in(files, other)
+    return oracle_readings.reported(oracle_readings.readings(one, two))
+
+
+def merge(files, feed, *others, forks=False, review=False):
+    """A merge of a feed with others, one after the other: without `forks` none may fork a stamp that was not forked before.
+    Behind the line of each stands how the join reads; with `review` an open reading gives status 1."""
+    held, out, opened = held_in(files, feed, set()), "", []
+    for name in others:
+        theirs = held_in(files, name)
+        both, new = held | theirs, theirs - held
+        if len(both) > oracle.LIMIT:
+            raise Stops("copydesk: full\n%s: .." % name)
+        twice = oracle.forked(both) - oracle.forked(held)
+        if twice and not forks:
+            raise Stops("copydesk: number used twice\n%s: %s here and there\n" % (reported.plain(name), made(twice)))
+        out += "%s ok new %d known %d\n" % (reported.plain(name), len(new), len(oracle.read_feed(files[name])) - len(new))
+        found = oracle_readings.readings(held, theirs)
+        out += oracle_readings.reported(found)
+        opened += found
+        held = both
+    files[feed] = oracle.runs_feed(held)
+    if opened and review:
+        raise Stops("", out + faults_of(held))
+    return out + faults_of(held)
+
+
+def changes_of(held, feed, copy, new):
+    """How many symbols come and how many go, at least, where another copy takes a copy's place."""
+    changes = reported_copy.fewest(copy, new)
+    if max((op[1][0] for op in held), default=0) + changes > oracle.MAX_COUNTER:
+        raise Stops("copydesk: the greatest counter is held\n%s: the text does not fit into it\n" % feed)
+    return (changes + len(new) - len(copy)) // 2, (changes + len(copy) - len(new)) // 2
+
+
+def import_text(files, feed, text, plain=False, everything=False, site=1, older=False):
+    """What an import of a text says, which stores as few changes as there can be: which ones is its own choice. One that would
+    delete most of a copy, or all of it, is refused, but where it may delete everything."""
+    held = room_in(files, feed, site, older)
+    try:
+        new = reported_copy.read_text(text, plain)
+    except reported_copy.NoText as fault:
+        raise Stops("copydesk: %s\n" % fault)
+    copy = oracle.Meaning(held).copy
+    inserted, deleted = changes_of(held, feed, copy, new)
+    most = len(copy) >= 200 and 2 * deleted > len(copy)
+    if not everything and (most or copy and not new):
+        raise Stops("copydesk: %d of %d symbols would be deleted\n" % (deleted, len(copy)))
+    return "ok inserted %d deleted %d\n" % (inserted, deleted)
+
+
+def replace(files, feed, old, new, site=1, plain=False, older=False):
+    """What is said where a text takes the place of another: both are read before the feed."""
+    texts = []
+    for called, text in (("OLD", old), ("NEW", new)):
+        try:
+            texts.append(reported_copy.read_text(text, plain))
+        except reported_copy.NoText as fault:
+            raise Stops("copydesk: %s, %s\n" % (called, fault))
+    held = room_in(files, feed, site, older)
+    copy = oracle.Meaning(held).copy
+    places = reported_copy.places_of(texts[0], copy)
+    if len(places) != 1:
+        why = "%d places" % len(places) if places else "no place"
+        raise Stops("copydesk: %s\n" % why, reported_copy.reported_places(texts[0], copy))
+    return "ok inserted %d deleted %d\n" % changes_of(held, feed, copy, replaced(copy, places[0], *texts))
+
+
+def replaced(copy, place, old, new):
+    return copy[:place] + new + copy[place + len(old):]
+
+
+def spare(name, sources, what):
+    """Refuses to store a ribbon or a picture in the place of what it is made of."""
+    if name in sources:
+        raise Stops("copydesk: file fault\n%s: the %s would take its place\n" % (name, what))
+
+
+def put(files, name, data, force, out=""):
+    """Stores a ribbon or a picture in the place of nothing but a file of its own kind, unless it is forced."""
+    there = files.get(name, b"")
+    kinds = {b"MFD1": "a feed", b"MFD2": "a feed", b"MRB1": "a ribbon", b"<svg": "a picture"}
+    large = len(there) > oracle.MAX_FILE
+    if there and (large or there[:4] != data[:4]) and not force:
+        kind = "a file of more than 67,108,864 bytes" if large else kinds.get(there[:4], "another file")
+        raise Stops("copydesk: not replaced\n%s: %s stands there\n" % (name, kind), out)
+    files[name] = data
+
+
+def metal_in(files, case, wedge):
+    """The case and the wedge of two files."""
+    metal = reported_galley.inputs((case, wedge), files[case], files[wedge])
+    if isinstance(metal, str):
+        raise Stops("copydesk: input refused\n" + metal)
+    return metal
+
+
+def punch(files, feed, case, wedge, to, force=False, faulty=False):
+    """The ribbon of a feed, stored: of a copy with faults only if it is asked for, and never of a job with faults."""
+    spare(to, (feed, case, wedge), "ribbon")
+    held, metal = held_in(files, feed), metal_in(files, case, wedge)
+    meaning = oracle.Meaning(held)
+    if meaning.faults and not faulty:
+        raise Stops("copydesk: copy faults\n", faults_of(held))
+    faults, images = oracle.job(meaning.copy, meaning.settings, *metal)
+    if faults:
+        other = reported_galley.other_number(meaning.settings, *metal)
+        why = "{0}: it is {1} {3}, and the setting {1} is {2}\n".format({"case": case, "wedge": wedge}[other[0]], *other) if other else ""
+        raise Stops("copydesk: no ribbon\n" + why, reported_galley.no_ribbon(faults, meaning.settings))
+    put(files, to, oracle.ribbon_bytes(images), force)
+    return ""
+
+
+def proof(files, feed, case, wedge, to, force=False):
+    """The galley of a feed as text, and then its picture, of which only the beginning is given here."""
+    spare(to, (feed, case, wedge), "picture")
+    held, metal = held_in(files, feed), metal_in(files, case, wedge)
+    meaning = oracle.Meaning(held)
+    return drawn(files, to, force, *reported_galley.proof(meaning, meaning.settings, *metal, False)[:2])
+
+
+def read(files, ribbon, case, wedge, to, force=False):
+    """What a caster would cast of a ribbon, and then its picture, if it is one."""
+    spare(to, (ribbon, case, wedge), "picture")
+    out, whole = reported.reading(files[ribbon], *metal_in(files, case, wedge))
+    if out.startswith("no ribbon: "):
+        raise Stops("", out)
+    return drawn(files, to, force, out, whole)
+
+
+def drawn(files, to, force, out, whole):
+    put(files, to, b"<svg", force, out)
+    if not whole:
+        raise Stops("", out)
+    return out
+
+
+def renew(files, new, feed, site):
+    """The copy and the settings of a feed as a new feed, made by one site alone."""
+    if new in files:
+        raise Stops("copydesk: already there\n%s: it is there already\n" % new)
+    held = held_in(files, feed)
+    files[new] = oracle.runs_feed(oracle.renewed(held, site))
+    return "ok renewed %d\n" % len(oracle.Meaning(held).copy)
+
+
+def renumber(files, feed, other, site):
+    """What in a feed collides with another one, and what came after it, under another number: the first line of what is
+    written, behind which stand the words that then read otherwise. Where nothing is moved the file stays as it is."""
+    held, theirs = held_in(files, feed, set()), held_in(files, other)
+    try:
+        now, moved = oracle.renumbered(held, theirs, site)
+    except oracle.Refused as why:
+        raise Stops("copydesk: %s\n.." % why)
+    if moved:
+        files[feed] = oracle.runs_feed(now)
+    return "ok renumbered %d\n" % len(moved)
 
 
 def front(world, line, count):

@@ -16,6 +16,8 @@ import tempfile
 import time
 import xml.etree.ElementTree as ElementTree
 
+from reported import plain
+
 ROOT = pathlib.Path(__file__).resolve().parent.parent
 EXAMPLES = ROOT / "examples"
 SVG = "{http://www.w3.org/2000/svg}"
@@ -62,12 +64,12 @@ def shown(text):
 
 
 def galley_lines(proof):
-    """Of each row of a proof its number, its place, whether it is at fault, its words and its fills."""
+    """Of each row of a proof its number, its place, whether it is at fault, its words without their marks, and its fills."""
     rows = proof.split("loose\n", 1)[1].split("\n\n", 1)[0].split("\n") if "tight ...... loose\n" in proof else []
     out = []
     for row in rows:
         if row.strip():
-            words = row[53:]
+            words = re.sub(r"\\(.)|[_^]", r"\1", row[53:])
             bare = words.rstrip("\u00b7").rstrip(" ") if words.endswith("\u00b7") else words
             out.append((int(row[:6]), int(row[6:14]), row[51] == "!", bare, len(words) - len(words.rstrip("\u00b7"))))
     return out
@@ -105,7 +107,8 @@ def held(room, name, measure, *more, status=None):
         where = "%s, line %d: " % (name, number)
         if (number, place, faulty, fills) != (line["number"], line["place"], line["faulty"], len(line["boxes"])):
             fail(where + "%r in the picture" % (line,))
-        if line["text"].rstrip(" ") != shown(words).rstrip(" "):
+        # (the picture keeps a directional mark, which the proof writes out)
+        if plain(line["text"]).rstrip(" ") != shown(words).rstrip(" "):
             fail(where + "%r in the proof, %r in the picture" % (words, line["text"]))
         if len(line["x"]) != len(line["text"]):
             fail(where + "%d places for %r" % (len(line["x"]), line["text"]))

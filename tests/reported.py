@@ -18,6 +18,7 @@ STRANGE = "neither a feed, a ribbon, a case nor a wedge"
 # A number of a fault, and what the line of `check` has of it.
 CASE_FAULTS = {1: "it is not TOML", 2: "` is missing", 3: "` is of another type, number, length or name", 4: " has a text that is no symbol",
                5: ", which stands in ", 6: ", the space or a fill, holds a symbol"}
+DIRECTIONAL = {0x61C, 0x200E, 0x200F, *range(0x202A, 0x202F), *range(0x2066, 0x206A)}
 WEDGE_FAULTS = {1: "it is not TOML", 2: "` is missing", 3: "` is of another type, length or value", 4: " has fewer units than the row before"}
 
 
@@ -79,7 +80,7 @@ def sent_out(images, case, wedge):
             if cell not in (*case["cells"], case["space"], *case["fill"]):
                 return "row %d: no matrix: the case has neither a symbol, its space nor a fill there" % place
             line[3].append(wedge["units"][cell[1] - 1] * unit + (oracle.STEP * (15 * line[1] + line[2] - 53) if s else 0))
-            line[4] = (" " if s else chr(case["cells"][cell][1]) if cell in case["cells"] else "\u00b7") + line[4]
+            line[4] = (" " if s else plain(chr(case["cells"][cell][1])) if cell in case["cells"] else "\u00b7") + line[4]
     if line:
         return "row %d: not sent out: nothing sends out the line that this row starts" % line[0]
     return out[::-1]
@@ -117,6 +118,31 @@ def toml(data):
         return None
 
 
+def counted(count, name):
+    return "%d %s%s" % (count, name, "" if count == 1 else "s")
+
+
+def rows_fault(rows):
+    """The number that is wrong in the rows of a case: of rows, or of the texts of the first row that has not as many as are wanted."""
+    if not isinstance(rows, list):
+        return None
+    if len(rows) != 15:
+        return "%s, and 15 are wanted" % counted(len(rows), "row")
+    texts = [len(row) if isinstance(row, list) and all(isinstance(text, str) for text in row) else None for row in rows]
+    wanted = 17 if texts[0] == 17 else 15
+    for place, count in enumerate(texts, 1):
+        if count != wanted:
+            return None if count is None else "row %d has %s, and %d are wanted" % (place, counted(count, "text"), wanted)
+    return None
+
+
+def case_fault(document, fault):
+    """What the line of a case begins with and holds; the whole line where a number of its rows is wrong."""
+    number = document.get("case")
+    wrong = rows_fault(document.get("rows")) if fault == 3 and type(number) is int and 1 <= number <= 65535 else None
+    return ("case refused: `rows`: " + wrong, "") if wrong else ("case refused: ", CASE_FAULTS[fault])
+
+
 def of(data):
     """Of a file: the whole line, or what it begins and ends with and holds."""
     if data[:4] in (b"MFD1", b"MFD2"):
@@ -129,7 +155,7 @@ def of(data):
     if "case" in document or "rows" in document:
         fault, case = oracle.first_fault_case(data)
         if fault:
-            return "case refused: ", CASE_FAULTS[fault]
+            return case_fault(document, fault)
         return "ok: case %d, %d cells, %d sorts" % (case["number"], 15 * len(document["rows"][0]), len(case["symbols"])), ""
     if "wedge" in document or "units" in document:
         fault, wedge = oracle.first_fault_wedge(data)
@@ -149,6 +175,20 @@ def differs(data, said):
         line = said[len(due):]
         return not (said.startswith(due) and line.isdigit() and 1 <= int(line) <= data.count(b"\n") + 1)
     return not (said.startswith(due) and holds in said)
+
+
+def plain(text):
+    """A text with control characters as `\\x1b` and directional marks as `<U+202E>`."""
+    control = lambda ch: ch < 32 or 127 <= ch < 160
+    return "".join("\\x%02x" % ord(c) if control(ord(c)) else "<U+%04X>" % ord(c) if ord(c) in DIRECTIONAL else c for c in text)
+
+
+def shown(copy):
+    """Symbols as they are shown: a line feed as a space, a directional mark by its name in its style."""
+    out = []
+    for style, ch in copy:
+        out += [(0, 32)] if ch == 10 else [(style, ord(c)) for c in plain(chr(ch))]
+    return out
 
 
 def exported(copy):
@@ -175,4 +215,31 @@ def alone(name, held, others):
         else:
             runs.append([counter, counter])
     texts = ["%d: %s" % (site, " ".join(str(a) if a == b else "%d..%d" % (a, b) for a, b in sites[site])) for site in sorted(sites)]
-    return "%s alone %s" % (name, ", ".join(texts) or "none")
+    return "%s alone %s" % (plain(name), ", ".join(texts) or "none")
+
+
+def metal_of(data):
+    """The case or the wedge that a file gives, where it is in order, and which of the two."""
+    document = toml(data)
+    if data[:4] in (b"MFD1", b"MFD2", b"MRB1") or document is None:
+        return None, None
+    if "case" in document or "rows" in document:
+        return "case", oracle.first_fault_case(data)[1]
+    if "wedge" in document or "units" in document:
+        return "wedge", oracle.first_fault_wedge(data)[1]
+    return None, None
+
+
+def unfit(files):
+    """The last line of `check` for files by their names: of the only case and the only wedge, where they do not go together."""
+    found = {"case": [], "wedge": []}
+    for name, data in files:
+        kind, metal = metal_of(data)
+        if metal is not None:
+            found[kind].append((name, metal))
+    if len(found["case"]) != 1 or len(found["wedge"]) != 1:
+        return None
+    (case_name, case), (wedge_name, wedge) = found["case"][0], found["wedge"][0]
+    units = [wedge["units"][cell[1] - 1] for cell in case["fill"]]
+    falls = all(units[k] > units[k + 1] for k in range(len(units) - 1))
+    return None if falls else "%s with %s: the units of the fills do not descend" % (plain(case_name), plain(wedge_name))

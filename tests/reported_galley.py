@@ -1,9 +1,8 @@
 """What `proof` and `sorts` write of a copy, from the independent program beside this file, docs/FORMATS.md and docs/DEFINITIONS.md."""
 import oracle
+import reported
 
-NO_GALLEY = {"missing " + key: "the setting %s has no value" % key for key in oracle.KEYS}
-NO_GALLEY.update({"other case": "the setting case is not the number of the case", "other wedge": "the setting wedge is not the number of the wedge",
-                  "crossed": "the setting tight is above loose", "fill order": "the units of the fills do not descend", "space vanishes": "a space at tight has no width"})
+NO_GALLEY = {"crossed": "the setting tight is above loose", "fill order": "the units of the fills do not descend", "space vanishes": "a space at tight has no width"}
 COPY_FAULTS = {"forked": "more than one operation has this stamp", "void": "what it hangs on cannot act", "waiting": "what it hangs on has not come"}
 CASE_WORDS = {1: "it is not TOML", 2: "a key of a case is missing", 3: "a key of a case is of another type, number, length or name",
               4: "the text of a cell is no symbol", 5: "a symbol stands in two cells", 6: "the space or a fill holds a symbol"}
@@ -23,11 +22,16 @@ def inputs(names, case_data, wedge_data):
 
 
 def bare(symbols):
-    return "".join(" " if ch == 10 else chr(ch) for _, ch in symbols)
+    return "".join(chr(ch) for _, ch in reported.shown(symbols))
+
+
+def marked(symbols):
+    """The same with the marks of an export."""
+    return reported.exported(reported.shown(symbols))
 
 
 def name_of(symbol):
-    return "%s '%s' (U+%04X)" % (STYLES[symbol[0]], chr(symbol[1]), symbol[1])
+    return "%s '%s' (U+%04X)" % (STYLES[symbol[0]], bare([symbol]), symbol[1])
 
 
 class Line:
@@ -39,7 +43,7 @@ class Line:
         self.rest = left + sum(count * width for count, width in zip(self.fills, widths["fills"]))
         self.sum = 53 + left // (oracle.STEP * self.spaces) if self.spaces else None
         self.free = widths["measure"] - sum(map(widths["word"], self.words)) - len(self.words) * widths["tight"]
-        self.next, self.fault = None, None
+        self.next, self.fault, self.space = None, None, widths["tight"]
 
     def judge(self, tight, loose):
         if self.sum is None:
@@ -50,25 +54,30 @@ class Line:
             self.fault = "too loose (wedge sum %d, limit %d)" % (self.sum, loose)
 
     def text(self):
-        return " ".join(map(bare, self.words)) + (" " + "\u00b7" * sum(self.fills) if any(self.fills) else "")
+        symbols = [symbol for word in self.words for symbol in [(0, 32)] + word][1:]
+        return marked(symbols) + (" " + "\u00b7" * sum(self.fills) if any(self.fills) else "")
 
     def row(self, tight, loose):
         pair, gauge = "     - ", "." * (GAUGE + 1)
         if self.sum is not None:
             at = 0 if self.sum <= tight else GAUGE if self.sum >= loose else (self.sum - tight) * GAUGE // (loose - tight)
             gauge = "." * at + ("<" if self.sum < tight else ">" if self.sum > loose else "|") + "." * (GAUGE - at)
+            if not self.fault:
+                gauge = gauge.replace(">", "+")
             if 16 <= self.sum <= GREATEST:
                 pair = "%4d/%-2d" % ((self.sum - 1) // 15, (self.sum - 1) % 15 + 1)
         return "%6d%8d%s%6s  %s %s %s\n" % (self.number, self.begin, pair, "-" if self.sum is None else self.sum, gauge, "!" if self.fault else " ", self.text())
 
     def way_out(self, point, width):
         down, up = (lambda atoms: "%d.%d" % divmod(abs(atoms) * 10 // point, 10)), (lambda atoms: "%d.%d" % divmod(-(-abs(atoms) * 10 // point), 10))
-        out = {0: "no space", 1: "1 space"}.get(self.spaces, "%d spaces" % self.spaces)
+        if self.spaces == 0:
+            return "one word and no space to justify it; with one of at least %s points it is %s points too wide" % (up(self.space), up(self.space - self.rest))
+        out = "1 space" if self.spaces == 1 else "%d spaces" % self.spaces
         if self.fault.startswith("too loose"):
             if self.next is None:
                 return out
             part = "%s points are free" % down(self.free) if self.free > 0 else "nothing is free"
-            return out + "; the next word, '%s', is %s points too wide; %s for a part of it" % (bare(self.next), up(width(self.next) - self.free), part)
+            return out + "; the next word, '%s', is %s points too wide; %s for a part of it" % (marked(self.next), up(width(self.next) - self.free), part)
         if self.rest < 0:
             return out + "; %s points wider than the measure at neutral" % up(self.rest)
         return out + "; %s points short of the measure at neutral" % down(self.rest)
@@ -100,9 +109,10 @@ class Galley:
 
     def text(self, alone):
         tight, loose, faulty = self.settings["tight"], self.settings["loose"], [line for line in self.lines if line.fault]
-        out = "GALLEY %d lines, %d at fault, measure %d points, tight %d, loose %d\n" % (len(self.lines), len(faulty), self.settings["measure"], tight, loose)
+        missing = "" if not self.lacking else "%d missing sort%s, " % (len(self.lacking), "" if len(self.lacking) == 1 else "s")
+        out = "GALLEY %d lines, %d at fault, %smeasure %d points, tight %d, loose %d\n" % (len(self.lines), len(faulty), missing, self.settings["measure"], tight, loose)
         for at in self.lacking:
-            out += "\nno matrix for %s at place %d\n  | %s\n" % (name_of(self.copy[at]), at, bare(self.copy[max(0, at - 24):at + 25]))
+            out += "\nno matrix for %s at place %d\n  | %s\n" % (name_of(self.copy[at]), at, marked(self.copy[max(0, at - 24):at + 25]))
         if not alone:
             out += "\n  line   place   c/f    sum  tight ...... loose\n" + "".join(line.row(tight, loose) for line in self.lines)
         return out + "".join(line.at_its_text(72 * self.pica, self.width) for line in faulty)
@@ -111,12 +121,43 @@ class Galley:
         return not self.lacking and not any(line.fault for line in self.lines)
 
 
+def missing_in(settings):
+    """The keys that have no value, in their order."""
+    return [key for key in oracle.KEYS if settings[key] is None]
+
+
+def other_number(settings, case, wedge):
+    """The key of the case or of the wedge whose number is another, what is set, and the number of the file; none where a key has no value."""
+    if missing_in(settings):
+        return None
+    numbers = [("case", settings["case"], case["number"]), ("wedge", settings["wedge"], wedge["wedge"])]
+    return next((found for found in numbers if found[1] != found[2]), None)
+
+
+def no_galley(fault, settings, case, wedge):
+    """Why there is no galley, if there is none for this first fault of the job."""
+    keys, other = missing_in(settings), other_number(settings, case, wedge)
+    if len(keys) == 1:
+        return "the setting %s has no value" % keys[0]
+    if keys:
+        return "the settings %s and %s have no value" % (", ".join(keys[:-1]), keys[-1])
+    if other:
+        return "the setting {0} is {1}, and the {0} has the number {2}".format(*other)
+    return NO_GALLEY.get(fault)
+
+
+def no_ribbon(faults, settings):
+    """The line of `punch` for the faults of a job: all the settings that are missing."""
+    return "no ribbon: %s\n" % ", ".join(["missing " + key for key in missing_in(settings)] or faults)
+
+
 def proof(meaning, settings, case, wedge, alone=False):
     """What `proof` writes of a copy by settings, whether no fault stands, and the galley, if there is one."""
     above = "".join("%s %s: %s\n" % (kind, oracle.stamp_text(stamp), COPY_FAULTS[kind]) for kind, stamp in meaning.faults)
     first = (oracle.job(meaning.copy, settings, case, wedge)[0] or [""])[0]
-    if first in NO_GALLEY:
-        return above + "no galley: %s\n" % NO_GALLEY[first], False, None
+    why = no_galley(first, settings, case, wedge)
+    if why:
+        return above + "no galley: %s\n" % why, False, None
     galley = Galley(meaning.copy, settings, case, wedge)
     return above + galley.text(alone), galley.is_clean() and not meaning.faults, galley
 
@@ -130,7 +171,7 @@ def table(case):
         for cell in ((column, row) for column in order):
             if cell in case["cells"]:
                 style, ch = case["cells"][cell]
-                out += "  " + " _^"[style] + chr(ch)
+                out += "  " + " _^"[style] + bare([(style, ch)])
             elif cell == case["space"]:
                 out += "  sp"
             else:
@@ -151,7 +192,7 @@ def sorts(copy, case, layout=False):
     out = "SORTS %d kinds, %d wanted, %d missing\n" % (len(places), sum(map(len, places.values())), len(missing))
     for symbol in missing:
         first = places[symbol][0]
-        out += "missing %s, wanted %d, first at place %d\n  | %s" % (called(symbol), len(places[symbol]), first, bare(copy[max(0, first - 24):first + 25]))
+        out += "missing %s, wanted %d, first at place %d\n  | %s" % (called(symbol), len(places[symbol]), first, marked(copy[max(0, first - 24):first + 25]))
         out += "".join(("" if k % 10 else "\n  at") + " %7d" % at for k, at in enumerate(places[symbol])) + "\n"
     out += "\n  cell   wanted  sort\n"
     for symbol in sorted(places):

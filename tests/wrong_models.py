@@ -1,12 +1,12 @@
 #!/usr/bin/env python3
 """A test of the tests: wrong programs that a composing room would fear, each told from the right one by the jobs of `jobs.py`, by the
-random scripts and runs of `differential.py`, by the scripts of `growths.py`, or by the corpus of `fuzz.py`.
+random scripts, runs and commands on files of `differential.py`, by the scripts of `growths.py`, or by the corpus of `fuzz.py`.
 
 usage: wrong_models.py             ends with 1 where fewer than 3 jobs, or 3 scripts, answer otherwise by a wrong model
        wrong_models.py --count     runs all of them, and prints of each wrong model how many answer otherwise
 
 Each wrong model is the independent program with one or two of its texts replaced, so no proved program is needed. Each old text has
-to stand exactly once in the four files of SOURCE together.
+to stand exactly once in the files of SOURCE together.
 """
 import collections
 import functools
@@ -20,6 +20,7 @@ import types
 HERE = os.path.dirname(os.path.abspath(__file__))
 sys.path.insert(0, HERE)
 import differential
+import differential_files
 import fuzz
 import fuzz_asks
 import fuzz_kinds
@@ -28,7 +29,7 @@ import jobs
 import oracle
 import reported
 
-SOURCE = ("oracle.py", "oracle_runs.py", "reported_copy.py", "reported_galley.py")
+SOURCE = ("oracle.py", "oracle_runs.py", "oracle_readings.py", "reported_copy.py", "reported_galley.py")
 
 # Of the ribbon half: lines, justification, faults, units, rows, the caster, the two files.
 RIBBON = {
@@ -237,18 +238,41 @@ RUNS = {
     "only lines with an answer are counted": [("(\"%d \" % k if number else \"\")", "(\"%d \" % (len(out) + 1) if number else \"\")")],
     "lines count from 0": [("(\"%d \" % k if number else \"\")", "(\"%d \" % (k - 1) if number else \"\")")],
     "every strict sheet is numbered": [("(\"%d \" % k if number else \"\")", "(\"%d \" % k if number or strict else \"\")")],
-    "what a stopped sheet did is stored": [("        return 1, written, \"copydesk: line %d refused\\n\" % stop, stored\n", "        return 1, written, \"copydesk: line %d refused\\n\" % stop, oracle.runs_feed(world.sites[site])\n")],
-    "a stopped sheet ends well": [("        return 1, written, \"copydesk: line %d refused\\n\" % stop, stored\n", "        return 0, written, \"\", stored\n")],
-    "a run stores nothing": [("    return 0, written, \"\", oracle.runs_feed(world.sites[site])", "    return 0, written, \"\", stored")],
-    "a run stores single operations": [("    return 0, written, \"\", oracle.runs_feed(world.sites[site])", "    return 0, written, \"\", oracle.singles_feed(world.sites[site])")],
-    "another site is stored": [("    return 0, written, \"\", oracle.runs_feed(world.sites[site])", "    return 0, written, \"\", oracle.runs_feed(world.sites[max(world.sites)])")],
-    "all sites are stored": [("    return 0, written, \"\", oracle.runs_feed(world.sites[site])", "    return 0, written, \"\", oracle.runs_feed(set().union(*world.sites.values()))")],
+    "what a stopped sheet did is stored": [("% stop, stored, last\n", "% stop, oracle.runs_feed(world.sites[site]), last\n")],
+    "a stopped sheet ends well": [("        return 1, written, \"copydesk: line %d refused\\n\" % stop, stored, last\n", "        return 0, written, \"\", stored, last\n")],
+    "a run stores nothing": [("    now = oracle.runs_feed(world.sites[site])", "    now = stored")],
+    "a run stores single operations": [("    now = oracle.runs_feed(world.sites[site])", "    now = oracle.singles_feed(world.sites[site])")],
+    "another site is stored": [("    now = oracle.runs_feed(world.sites[site])", "    now = oracle.runs_feed(world.sites[max(world.sites)])")],
+    "all sites are stored": [("    now = oracle.runs_feed(world.sites[site])", "    now = oracle.runs_feed(set().union(*world.sites.values()))")],
     "what was stored is not brought": [("    world.gain(site, oracle.read_feed(stored) if stored is not None else [])\n", "    oracle.read_feed(stored) if stored is not None else []\n")],
     "a missing feed is refused": [("oracle.read_feed(stored) if stored is not None else []", "oracle.read_feed(stored or b\"\")")],
-    "what was stored is brought up to its fault": [("        world = brought(site, stored)\n    except oracle.Feed:\n        return 1, \"\", \"copydesk: feed refused\\n\", stored\n    written",
-                                                  "        world = brought(site, stored)\n    except oracle.Feed as fault:\n        world = brought(site, stored[:fault.at] or None)\n    written")],
+    "what was stored is brought up to its fault": [("        world = brought(site, stored)\n    except oracle.Feed:\n        return 1, \"\", \"copydesk: feed refused\\n\", stored, last\n    why",
+                                                  "        world = brought(site, stored)\n    except oracle.Feed as fault:\n        world = brought(site, stored[:fault.at] or None)\n    why")],
     "new counters do not follow what was stored": [("    world.gain(site, oracle.read_feed(stored) if stored is not None else [])\n", "    world.gain(site, oracle.read_feed(stored) if stored is not None else [])\n    world.greatest.pop(site, None)\n")],
-    "there is no lock": [("    if held:\n        return 1, \"\", \"copydesk: file fault\\n\", stored\n    try:\n        world = brought(site, stored)", "    try:\n        world = brought(site, stored)")],
+    "there is no lock": [("    if held:\n        return 1, \"\", \"copydesk: file fault\\n\", stored, last\n    try:\n        world = brought(site, stored)", "    try:\n        world = brought(site, stored)")],
+}
+
+# Of FEED.last, in runs on stored feeds.
+RUNS |= {
+    "FEED.last is ignored": [("    if why and stored is not None and not older:", "    if False:")],
+    "FEED.last of another site guards": [("made, holds = lasts(data).get(site, 0),", "made, holds = max(lasts(data).values(), default=0),")],
+    "older is not heard by a desk": [("    if why and stored is not None and not older:", "    if why and stored is not None:")],
+    "a missing feed is guarded by what was made": [("    if why and stored is not None and not older:", "    if why and not older:")],
+    "a feed as far as FEED.last is older": [("if holds < made else", "if holds <= made else")],
+    "a feed one short is not older": [("if holds < made else", "if holds + 1 < made else")],
+    "counters of all sites are compared": [("for op in held if op[1][1] == site), default=0)\n\n\ndef noted", "for op in held), default=0)\n\n\ndef noted")],
+    "the operations of a site are counted": [("max((op[1][0] for op in held if op[1][1] == site), default=0)\n\n\ndef noted", "sum(op[1][1] == site for op in held)\n\n\ndef noted")],
+    "a garbled FEED.last guards up to its fault": [("        if line is None:\n            return {}\n", "        if line is None:\n            break\n")],
+    "a zero may stand before a number": [("rb\"site (0|[1-9][0-9]*) (0|[1-9][0-9]*)\\n\"", "rb\"site ([0-9]+) ([0-9]+)\\n\"")],
+    "the last line may lack its end": [("(0|[1-9][0-9]*)\\n\")", "(0|[1-9][0-9]*)(?:\\n|$)\")")],
+    "sites may stand in any order": [("sites != sorted(set(sites)) or", "len(set(sites)) < len(sites) or")],
+    "the greatest counter that ever was is noted": [("site: greatest(held, site)}", "site: max(greatest(held, site), lasts(data).get(site, 0))}")],
+    "the lines of other sites are lost": [("{**lasts(data), site:", "{site:")],
+    "what was garbled is kept": [("    made = {**lasts(data), site: greatest(held, site)}\n", "    made = {**lasts(data), site: greatest(held, site)}\n    if data and not lasts(data):\n        return data\n")],
+    "an older feed that is wanted is not noted": [("now, oracle_readings.noted(last, site, world.sites[site])", "now, last if why else oracle_readings.noted(last, site, world.sites[site])")],
+    "a stopped sheet is noted": [("% stop, stored, last\n", "% stop, stored, oracle_readings.noted(last, site, world.sites[site])\n")],
+    "an older feed is found at the end": [("        return 1, \"\", why, stored, last\n", "        return 1, told(world, data, strict, number)[0], why, stored, last\n")],
+    "made and held are exchanged": [("(name, site, made, holds)", "(name, site, holds, made)")],
 }
 
 # Of a line that memory stops: which operations stand, and whether there were more.
@@ -311,6 +335,165 @@ REPORTED = {
     "NI and NL stand last": [("order = [15, 16] + list(range(15))", "order = list(range(17))")],
 }
 
+# Of commands on files: numbers used twice, imports that delete most, outputs in the place of others, renewals, renumberings.
+FILES = {
+    # merges
+    "a fork that the other holds already is missed": [("twice = oracle.forked(both) - oracle.forked(held)", "twice = oracle.forked(both) - oracle.forked(held) - oracle.forked(theirs)")],
+    "a fork that the feed holds already is told": [("twice = oracle.forked(both) - oracle.forked(held)", "twice = oracle.forked(both)")],
+    "forks are looked for in what the feed bears alone": [("oracle.forked(both) - oracle.forked(held)", "(oracle.forked(both) - oracle.forked(held)) & {op[1] for op in held}")],
+    "a merge adds forks": [("        if twice and not forks:", "        if False:")],
+    "forks are never allowed": [("        if twice and not forks:", "        if twice:")],
+    "forks are allowed to all but the last": [("        if twice and not forks:", "        if twice and name == others[-1] and not forks:")],
+    "what came before the fork is stored": [("        if twice and not forks:\n", "        if twice and not forks:\n            files[feed] = oracle.runs_feed(held)\n")],
+    "what came before the fork is told": [("% (reported.plain(name), made(twice)))", "% (reported.plain(name), made(twice)), out)")],
+    "all are read before one is joined": [("    held, out, opened = held_in(files, feed, set()), \"\", []\n", "    held, out, opened = held_in(files, feed, set()), \"\", []\n    for name in others:\n        held_in(files, name)\n")],
+    "the last of the others is named": [("% (reported.plain(name), made(twice)))", "% (reported.plain(others[-1]), made(twice)))")],
+    "the first fork alone is named": [("made(twice))", "made(sorted(twice)[:1]))")],
+    "the first site alone is named": [("for site in sorted(texts))", "for site in sorted(texts)[:1])")],
+    "sites in the order of their counters": [("for site in sorted(texts))", "for site in texts)")],
+    "a run goes over a gap": [("runs[-1][-1] + 1 == counter", "runs[-1][-1] + 1 <= counter")],
+    "no runs": [("runs[-1][-1] + 1 == counter", "False")],
+    "a run has three at least": [("\" \".join(\"..\".join(map(str, run)) for run in runs)", "\" \".join((\" \" if len(run) == 2 and run[0] + 1 == run[1] else \"..\").join(map(str, run)) for run in runs)")],
+    "what is known counts once": [("len(oracle.read_feed(files[name])) - len(new))", "len(theirs) - len(new))")],
+    # imports
+    "half counted as more": [("2 * deleted > len(copy)", "2 * deleted >= len(copy)")],
+    "half of an odd number and one more passes": [("2 * deleted > len(copy)", "deleted > (len(copy) + 1) // 2")],
+    "199 symbols are many": [("len(copy) >= 200", "len(copy) >= 199")],
+    "200 symbols are few": [("len(copy) >= 200", "len(copy) > 200")],
+    "what is inserted counts": [("2 * deleted > len(copy)", "2 * (deleted + inserted) > len(copy)")],
+    "what is inserted makes up for it": [("2 * deleted > len(copy)", "2 * (deleted - inserted) > len(copy)")],
+    "more than half of both copies": [("2 * deleted > len(copy)", "2 * deleted > max(len(copy), len(new))")],
+    "a small copy is wiped": [("(most or copy and not new)", "most")],
+    "a text of marks alone wipes": [("(most or copy and not new)", "(most or copy and not text)")],
+    "an empty copy is guarded": [("(most or copy and not new)", "(most or not new)")],
+    "all is not heard": [("    if not everything and (most", "    if (most")],
+    "all is for an empty text alone": [("    if not everything and (most or copy and not new)", "    if (most and new) or not everything and copy and not new")],
+    # ribbons and pictures
+    "a kind is looked for in two bytes": [("there[:4] != data[:4]", "there[:2] != data[:2]")],
+    "a kind may stand further on": [("there[:4] != data[:4]", "data[:4] not in there[:9]")],
+    "an empty file is kept": [("    if there and (large", "    if name in files and (large")],
+    "nothing is kept": [("    if there and (large", "    if False and (large")],
+    "a ribbon gives way to a picture": [("there[:4] != data[:4]", "there[:4] not in (data[:4], b\"MRB1\")")],
+    "a picture gives way to a ribbon": [("there[:4] != data[:4]", "there[:4] not in (data[:4], b\"<svg\")")],
+    "nothing but a feed is kept": [("there[:4] != data[:4]", "there[:4] in (b\"MFD1\", b\"MFD2\")")],
+    "force is not heard": [("!= data[:4]) and not force:", "!= data[:4]):")],
+    "a feed of single operations is another file": [("kinds = {b\"MFD1\": \"a feed\", ", "kinds = {")],
+    "force takes the place of what it is made of": [("    spare(to, (feed, case, wedge), \"ribbon\")\n", "    spare(to, () if force else (feed, case, wedge), \"ribbon\")\n")],
+    "the case is no source": [("    spare(to, (feed, case, wedge), \"ribbon\")\n", "    spare(to, (feed, wedge), \"ribbon\")\n")],
+    "a picture in the place of the ribbon that it shows": [("    spare(to, (ribbon, case, wedge), \"picture\")\n", "    spare(to, (case, wedge), \"picture\")\n")],
+    "what stands there hides the text": [("there\\n\" % (name, kind), out)", "there\\n\" % (name, kind))")],
+    "what stands there is seen before the job": [("    held, metal = held_in(files, feed), metal_in(files, case, wedge)\n    meaning = oracle.Meaning(held)\n    if meaning", "    put(dict(files), to, b\"MRB1\", force)\n    held, metal = held_in(files, feed), metal_in(files, case, wedge)\n    meaning = oracle.Meaning(held)\n    if meaning")],
+    "copy faults are punched": [("    if meaning.faults and not faulty:", "    if False:")],
+    "copy faults are never punched": [("    if meaning.faults and not faulty:", "    if meaning.faults:")],
+    "forks alone stop a punch": [("    if meaning.faults and not faulty:", "    if any(kind == \"forked\" for kind, _ in meaning.faults) and not faulty:")],
+    "what waits stops no punch": [("    if meaning.faults and not faulty:", "    if any(kind != \"waiting\" for kind, _ in meaning.faults) and not faulty:")],
+    "copy faults come after those of the job": [("    if meaning.faults and not faulty:", "    if meaning.faults and not faulty and not oracle.job(meaning.copy, meaning.settings, *metal)[0]:")],
+    "a faulty copy is punched, faulty job or not": [("    faults, images = oracle.job(meaning.copy, meaning.settings, *metal)\n    if faults:", "    faults, images = oracle.job(meaning.copy, meaning.settings, *metal)\n    images = images or []\n    if faults and not faulty:")],
+    "copy faults are not written": [("raise Stops(\"copydesk: copy faults\\n\", faults_of(held))", "raise Stops(\"copydesk: copy faults\\n\")")],
+    # renewals
+    "settings are left out": [("        if meaning.settings[key] is not None:\n", "        if False:\n")],
+    "settings in another order": [("    meaning, ops = Meaning(held), []\n    for key in KEYS:", "    meaning, ops = Meaning(held), []\n    for key in sorted(KEYS):")],
+    "settings come after the copy": [("            ops.append((\"set\", (len(ops) + 1, site), key,", "            ops.append((\"set\", (len(ops) + 1 + len(meaning.copy), site), key,"), ("(\"insert\", (len(ops) + 1, site), parent, symbol)", "(\"insert\", (sum(op[0] == \"insert\" for op in ops) + 1, site), parent, symbol)")],
+    "counters begin behind the old ones": [("            ops.append((\"set\", (len(ops) + 1, site), key,", "            ops.append((\"set\", (len(ops) + 1 + len(held), site), key,"), ("(\"insert\", (len(ops) + 1, site), parent, symbol)", "(\"insert\", (len(ops) + 1 + len(held), site), parent, symbol)")],
+    "each symbol at the front": [("        parent = ops[-1][1]\n    return set(ops)", "    return set(ops)")],
+    "made by site 1": [("(\"insert\", (len(ops) + 1, site), parent, symbol)", "(\"insert\", (len(ops) + 1, 1), parent, symbol)")],
+    "italics are lost": [("(\"insert\", (len(ops) + 1, site), parent, symbol)", "(\"insert\", (len(ops) + 1, site), parent, (0, symbol[1]))")],
+    "deletes are kept": [("    parent = HEAD\n    for symbol in meaning.copy:", "    ops += [op for op in held if op[0] == \"delete\"]\n    parent = HEAD\n    for symbol in meaning.copy:")],
+    "an empty file is renewed": [("    if new in files:", "    if files.get(new):")],
+    "a feed is renewed in its place": [("    if new in files:", "    if new in files and new != feed:")],
+    "all operations are counted": [("\"ok renewed %d\\n\" % len(oracle.Meaning(held).copy)", "\"ok renewed %d\\n\" % len(oracle.renewed(held, site))")],
+    # renumberings
+    "a moved operation's parent is left": [("(op[0], anew(op[1]), anew(op[2]), *op[3:])", "(op[0], anew(op[1]), op[2], *op[3:])")],
+    "a delete's target is left": [("(op[0], anew(op[1]), anew(op[2]), *op[3:])", "(op[0], anew(op[1]), op[2] if op[0] == \"delete\" else anew(op[2]), *op[3:])")],
+    "the greatest collision in place of the least": [("min(counter, least.get(number, counter))", "max(counter, least.get(number, counter))")],
+    "what comes after a collision is left": [("    moved = {op for op in one - other if op[1][0] >=", "    moved = {op for op in one - other if op[1] in collisions(one, other) and op[1][0] >=")],
+    "the first collision is left": [("if op[1][0] >= least.get", "if op[1][0] > least.get")],
+    "all of a number that collides is moved": [("if op[1][0] >= least.get(op[1][1], MAX_COUNTER + 1)}", "if op[1][1] in least}")],
+    "what the other holds too is moved": [("    moved = {op for op in one - other if", "    moved = {op for op in one if")],
+    "all numbers from one collision on": [("least.get(op[1][1], MAX_COUNTER + 1)}", "min(least.values(), default=MAX_COUNTER + 1)}")],
+    "one number's collisions alone": [("        least[number] = min(", "        if least and number not in least:\n            continue\n        least[number] = min(")],
+    "a stamp that the feed forks collides": [("if len(ops) == 1 == len(theirs.get(stamp, ())) and ops != theirs[stamp]", "if len(theirs.get(stamp, ())) == 1 and ops != theirs[stamp]")],
+    "a stamp that the other forks collides": [("if len(ops) == 1 == len(theirs.get(stamp, ())) and ops != theirs[stamp]", "if len(ops) == 1 and stamp in theirs and ops != theirs[stamp]")],
+    "what both have alike collides": [("== len(theirs.get(stamp, ())) and ops != theirs[stamp]", "== len(theirs.get(stamp, ()))")],
+    "the number is in use in the feed alone": [("if any(site in (op[1][1], op[2][1]) for op in one | other):", "if any(site in (op[1][1], op[2][1]) for op in one):")],
+    "the number is in use in the other alone": [("if any(site in (op[1][1], op[2][1]) for op in one | other):", "if any(site in (op[1][1], op[2][1]) for op in other):")],
+    "a number in use is refused where something is moved": [("if any(site in (op[1][1], op[2][1]) for op in one | other):", "if moved and any(site in (op[1][1], op[2][1]) for op in one | other):")],
+    "a number that is named alone is free": [("if any(site in (op[1][1], op[2][1]) for op in one | other):", "if any(op[1][1] == site for op in one | other):")],
+    "what another room made of it is left": [("    if any(op[2] in stamps for op in one - moved) or any(", "    if any(")],
+    "what waits in the other is left": [(" or any(op[2] in stamps and op[2] not in theirs for op in other):", ":")],
+    "what hangs on the other's own is seen": [("op[2] in stamps and op[2] not in theirs for op in other", "op[2] in stamps for op in other")],
+    "two operations get one stamp": [("    if len({stamp[0] for stamp in stamps}) < len(stamps):", "    if False:")],
+    "a fork is not moved": [("    if len({stamp[0] for stamp in stamps}) < len(stamps):", "    if len({op[1][0] for op in moved}) < len(moved):")],
+    "a missing feed is not renumbered": [("    held, theirs = held_in(files, feed, set()), held_in(files, other)\n", "    held, theirs = held_in(files, feed), held_in(files, other)\n")],
+    "what is moved is counted by stamps of the other": [("\"ok renumbered %d\\n\" % len(moved)", "\"ok renumbered %d\\n\" % len(oracle.collisions(held, theirs))")],
+    "the other is renumbered": [("        files[feed] = oracle.runs_feed(now)\n    return \"ok renumbered", "        files[other] = oracle.runs_feed(now)\n    return \"ok renumbered")],
+    "a feed in which nothing is moved is stored anew": [("    if moved:\n        files[feed] = oracle.runs_feed(now)", "    if True:\n        files[feed] = oracle.runs_feed(now)")],
+}
+
+# Of FEED.last, in imports and replacements.
+FILES |= {
+    "FEED.last is ignored by hand": [("    if why and feed in files and not older:", "    if False:")],
+    "older is not heard by hand": [("    if why and feed in files and not older:", "    if why and feed in files:")],
+    "a missing feed is guarded by hand": [("    if why and feed in files and not older:", "    if why and not older:")],
+    "a replacement takes the feed first": [("    texts = []\n    for called", "    room_in(files, feed, site, older)\n    texts = []\n    for called")],
+    "an import reads its text first": [("    held = room_in(files, feed, site, older)\n    try:", "    reported_copy.read_text(text, plain)\n    held = room_in(files, feed, site, older)\n    try:")],
+    "a text is replaced at the first of its places": [("    if len(places) != 1:", "    if not places:")],
+    "a text that stands nowhere is put at the end": [("    if len(places) != 1:", "    places = places or [len(copy)]\n    if len(places) != 1:")],
+}
+
+# Of merges and differences of rooms that correct one text: what they leave open.
+READINGS = {
+    # cuts and pieces
+    "cuts by symbol and not by stamp": [("return set.intersection(", "return set.union(")],
+    "spaces of one copy are cuts": [("cuts = cuts_of(lists)", "cuts = cuts_of([lists[1], lists[3]])")],
+    "line ends are no cuts": [("WHITE = ((0, 32), (0, 10))", "WHITE = ((0, 32),)")],
+    "spaces are no cuts": [("WHITE = ((0, 32), (0, 10))", "WHITE = ((0, 10),)")],
+    "every element is a cut": [("if symbol in WHITE}", "}")],
+    "the last piece is left out": [("at + [len(elements)]))", "at + [len(elements)]))[:-1]")],
+    "the first piece is left out": [("at + [len(elements)]))", "at + [len(elements)]))[1:]")],
+    "a cut belongs to the piece behind it": [("[0] + [place + 1 for place in at]", "[0] + at")],
+    # what a piece settles as
+    "a piece is compared with the one copy alone": [("        if settled(base, here, there) == now:", "        if here == now:")],
+    "a piece is compared with either copy": [("        if settled(base, here, there) == now:", "        if now in (here, there):")],
+    "as the stored copy where both changed": [("return one if base == other else None", "return one")],
+    "as the other copy where both changed": [("return one if base == other else None", "return one if base == other else other")],
+    "what both have alike is not looked at": [("        if settled(base, here, there) == now:", "        if here == there or settled(base, here, there) == now:")],
+    "what both have alike is open": [("    if one == other:\n        return one\n", "")],
+    "what one alone has changed is open": [("    if base == one:\n        return other\n", "")],
+    "what both have changed is open, and nothing else": [("        if settled(base, here, there) == now:", "        if base in (here, there):")],
+    "by places, not by symbols": [("        if settled(base, here, there) == now:", "        if settled(*(end - begin for begin, end in piece[:3])) == piece[3][1] - piece[3][0]:")],
+    "what they have in common is what the one has": [("(one & other, one, other, one | other)", "(one, one, other, one | other)")],
+    "what they have in common is nothing": [("(one & other, one, other, one | other)", "(set(), one, other, one | other)")],
+    "what makes no sense is looked for in what is alone": [("(one & other, one, other, one | other)", "(one & other, one, other, other)")],
+    # rows
+    "each open piece is a reading": [("        if last == number - 1 and rows:", "        if False:")],
+    "all open pieces are one reading": [("        if last == number - 1 and rows:", "        if rows:")],
+    "the first open piece of a row alone": [("rows[-1] = [(row[0], ends[1]) for row, ends in zip(rows[-1], piece)]", "pass")],
+    "the last open piece of a row alone": [("rows[-1] = [(row[0], ends[1]) for row, ends in zip(rows[-1], piece)]", "rows[-1] = list(piece)")],
+    # joins
+    "a loss by a fork is missed": [("found = oracle_readings.readings(held, theirs)", "found = [] if oracle.forked(both) - oracle.forked(held) else oracle_readings.readings(held, theirs)")],
+    "each is compared with the stored feed": [("found = oracle_readings.readings(held, theirs)", "found = oracle_readings.readings(held_in(files, feed, set()), theirs)")],
+    "each is compared with what comes of all": [("found = oracle_readings.readings(held, theirs)", "found = oracle_readings.readings(both, theirs)")],
+    "the last join alone": [("        opened += found\n", "        opened = found\n")],
+    "a reading has status 0": [("    if opened and review:", "    if False:")],
+    "a reading has status 1 where nobody asked": [("    if opened and review:", "    if opened:")],
+    "a merge with readings is not stored": [("    files[feed] = oracle.runs_feed(held)\n    if opened and review:", "    if not (opened and review):\n        files[feed] = oracle.runs_feed(held)\n    if opened and review:")],
+    "faults have status 1 too": [("    if opened and review:", "    if review and (opened or oracle.Meaning(held).faults):")],
+    # lines
+    "the place in the stored copy": [("return [(row[3][0], *", "return [(row[1][0], *")],
+    "places count from 1": [("return [(row[3][0], *", "return [(row[3][0] + 1, *")],
+    "here and there are exchanged": [("for k in (3, 1, 2, 0)))", "for k in (3, 2, 1, 0)))")],
+    "shown from 9 before": [("BEFORE, MOST = 8, 24", "BEFORE, MOST = 9, 24")],
+    "25 are shown": [("BEFORE, MOST = 8, 24", "BEFORE, MOST = 8, 25")],
+    "shown from the first": [("    begin = max(0, min(", "    begin = min(0, min(")],
+    "shown from where the one copy differs": [("for words in (here, there, was)) - BEFORE", "for words in (here,)) - BEFORE")],
+    "shown from where the other copy differs": [("for words in (here, there, was)) - BEFORE", "for words in (there,)) - BEFORE")],
+    "what is left out behind is not told": [("\"..\" if begin + MOST < len(words) else \"\"", "\"\"")],
+    "what is left out before is not told": [("\"..\" if begin > 0 else \"\"", "\"\"")],
+    "what is not there is a space": [("        return sign + \"\\n\"\n", "        return sign + \" \\n\"\n")],
+    "styles are not shown": [("reported_copy.shown(words[begin:begin + MOST])", "reported_copy.shown([(0, ch) for _, ch in words[begin:begin + MOST]])")],
+}
+
 TOML = types.SimpleNamespace(loads=functools.lru_cache(None)(tomllib.loads))
 
 
@@ -325,10 +508,12 @@ def model(changes, files):
         if len(stands) != 1:
             raise ValueError("`%s` stands %d times in %s" % (old.strip(), len(stands), ", ".join(SOURCE)))
         texts[stands[0]] = texts[stands[0]].replace(old, new)
-    made, runs, copies, galleys = (types.ModuleType("wrong " + name) for name in SOURCE)
-    for module, name in zip((made, runs, copies, galleys), SOURCE):
+    made, runs, readings, copies, galleys = modules = [types.ModuleType("wrong " + name) for name in SOURCE]
+    for module, name in zip(modules, SOURCE):
         exec(compile(texts[name], "wrong " + name, "exec"), module.__dict__)
     made.runs, made.copies, made.galleys, runs.oracle = runs, copies, galleys, made
+    runs.reported_copy, runs.reported_galley, runs.oracle_readings = copies, galleys, readings
+    readings.oracle, readings.reported_copy = made, copies
     made.tomllib = TOML
     made.first_fault_case = functools.lru_cache(None)(made.first_fault_case)
     made.first_fault_wedge = functools.lru_cache(None)(made.first_fault_wedge)
@@ -469,6 +654,33 @@ class Played:
                 yield "a list of events"
 
 
+class Filed:
+    """Random commands on files."""
+
+    models, kind, count = FILES, differential_files.Asked, 3000
+
+    def __init__(self):
+        self.files = {}
+        runs = model([], self.files).runs
+        self.made = [self.kind(1, k) for k in range(self.count)]
+        self.wanted = [asked.due(runs) for asked in self.made]
+
+    def told(self, made):
+        for asked, wanted in zip(self.made, self.wanted):
+            try:
+                told = asked.due(made.runs)
+            except Exception as fault:
+                told = "broke down: " + type(fault).__name__
+            if told != wanted:
+                yield asked.words[0]
+
+
+class Joins(Filed):
+    """Random merges and differences of rooms that correct one text."""
+
+    models, kind, count = READINGS, differential_files.Joined, 700
+
+
 class Told:
     """The feeds and the files of the fuzzer's corpus: what is said of their copies, galleys and sorts."""
 
@@ -527,7 +739,7 @@ SOURCES = []
 
 
 def main():
-    SOURCES.extend([Jobs(), Scripts(), Runs(), Stops(), Played(), Told()])
+    SOURCES.extend([Jobs(), Scripts(), Runs(), Stops(), Played(), Told(), Filed(), Joins()])
     bad = 0
     with multiprocessing.get_context("fork").Pool(2) as lanes:
         for name, found in lanes.imap(tell, [name for source in SOURCES for name in source.models]):
@@ -535,7 +747,7 @@ def main():
             bad += number < ENOUGH
             if COUNT or number < ENOUGH:
                 print("%5d  %s: %s" % (number, name, found if isinstance(found, str) else ", ".join("%d %s" % (n, aim) for aim, n in found.most_common(3))), flush=True)
-    print("%d wrong models of the ribbon half, %d of the copy half, %d of runs, %d of what memory stops, %d of lists of events and %d of what is said of copies, %d not found" % (*[len(source.models) for source in SOURCES], bad))
+    print("%d wrong models of the ribbon half, %d of the copy half, %d of runs, %d of what memory stops, %d of lists of events, %d of what is said of copies, %d of commands on files and %d of what merges leave open, %d not found" % (*[len(source.models) for source in SOURCES], bad))
     return 1 if bad else 0
 
 

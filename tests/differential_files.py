@@ -1,0 +1,438 @@
+"""Random commands on files, for differential.py: merges with and without forks, imports around their limits, replacements,
+renewals, renumberings, and ribbons and pictures that would take the place of other files; and merges of rooms that correct one
+text, with what they leave open."""
+import os
+import random
+import subprocess
+import tempfile
+
+import differential
+import fuzz_asks
+import oracle
+import oracle_readings
+import oracle_runs
+import reported
+import reported_copy
+
+JOB = [b"set 1 measure 120", b"set 1 tight 38", b"set 1 loose 150", b"set 1 case 1", b"set 1 wedge 5"]
+WORDS = ["nn", "mtn", "a", "n.", "Mnt", "tnmn", "nnnnn"]
+STANDS = [None, None, b"", b"MRB1", b"MRB1\0\0\0\0", b"<svg></svg>", b"<svg", b"<sv", b"MR", b"MRB2\0\0\0\0", b"MR\0\0\0\0",
+          b"MFD1", b"MFD2", b"MFD3", b"MF", b"<svG>", b"\n<svg>", b" MRB1", b"case = 1\n", b"\0"]
+
+
+class Asked:
+    """A random command: its words, what it reads from standard input, and the files that are there."""
+
+    often = {"merge": 3, "diff": 1, "renumber": 4, "import": 3, "replace": 2, "punch": 2, "proof": 1, "read": 1, "renew": 1}
+
+    def __init__(self, seed, k):
+        self.pick = random.Random(seed * 1000081 + k)
+        self.files, self.text = {name: differential.FILES[name].encode() for name in ("c", "w", "w6")}, b""
+        kind = self.pick.choice([kind for kind, times in self.often.items() for _ in range(times)])
+        self.command, self.names, self.words, self.flags = getattr(self, "of_" + kind)()
+        self.name = " ".join(self.words)
+
+    def edits(self, held, site, count):
+        """A set after some edits by one site."""
+        world = reported.world_of(site, held)
+        for _ in range(count):
+            size, kind = len(world.meaning(site).shown), self.pick.random()
+            if kind < 0.6 or not size:
+                text = " ".join(self.pick.choice(WORDS) for _ in range(self.pick.choice([1, 1, 1, 2, 4])))
+                style = self.pick.choice("rrrrrri")
+                text = "r\"%s \"" % text if style == "r" else "i\"a\""
+                world.answer(("insert %d %d %s" % (site, self.pick.randrange(size + 1), text)).encode())
+            elif kind < 0.85:
+                world.answer(b"delete %d %d" % (site, self.pick.randrange(size)))
+            else:
+                world.answer(b"set %d measure %d" % (site, self.pick.choice([60, 120, 144])))
+        return world.sites[site]
+
+    def some(self, held):
+        """A part of a set: mostly its oldest operations, or what a feed has that was cut off, or any."""
+        ops, kind = sorted(held, key=oracle.order), self.pick.random()
+        if kind < 0.6:
+            return set(ops[:self.pick.randrange(len(ops) + 1)])
+        return {op for op in ops if self.pick.random() < 0.8}
+
+    def forged(self, count):
+        """Operations that are lawful, and that no site may have made."""
+        out, scripts = set(), differential.Scripts(self.pick, None)
+        while len(out) < count:
+            data = scripts.op()
+            if not oracle.unlawful(data[0], data):
+                out.add(oracle.read_op(data))
+        return out
+
+    def rooms(self):
+        """What three rooms hold that began with one set, and what they have of one another; two may use one number."""
+        pick, begun = self.pick, self.edits(set(), 1, self.pick.choice([0, 0, 1, 3, 6]))
+        rooms = [set(begun) if pick.random() < 0.9 else self.some(begun) for _ in range(3)]
+        if pick.random() < 0.6:
+            third = self.edits(begun, pick.choice([2, 2, 3, 5]), 2)
+            rooms = [self.edits(room, 1, 1) | (third if pick.random() < 0.4 else set()) for room in rooms]
+            rooms = [self.edits(room, 2, 1) | room if pick.random() < 0.1 else room for room in rooms]
+        for _ in range(pick.choice([0, 1, 2, 4])):
+            at = pick.randrange(3)
+            rooms[at] = self.edits(rooms[at], pick.choice([at + 1, at + 1, 1, 2]), pick.choice([1, 1, 2, 4]))
+            if pick.random() < 0.25:
+                other = rooms[pick.randrange(3)]
+                rooms[at] = rooms[at] | (other if pick.random() < 0.6 else self.some(other))
+        if pick.random() < 0.12:
+            rooms[pick.randrange(2)] |= self.forged(pick.choice([1, 2, 5]))
+        if pick.random() < 0.2:  # the second has an answer to what the first alone may have
+            seen = pick.choice(sorted(rooms[0], key=oracle.order) or [("", oracle.HEAD)])[1]
+            rooms[1].add(("insert", (seen[0] + pick.choice([1, 2, 40]), pick.choice([3, 5])), seen, (0, ord("z"))))
+        for _ in range(pick.choice([0, 0, 0, 1, 3, 9, 16])):  # settings, some of one stamp, in two rooms or in one
+            room, stamp = rooms[pick.randrange(2)], (pick.choice([90, 91, 92, 93, 95]), pick.choice([1, 5, 6]))
+            room.add(("set", stamp, "measure", pick.choice([60, 120, 144])))
+        if pick.random() < 0.08:  # a number that is named, and that nobody is seen to have
+            rooms[pick.randrange(2)].add(("delete", (120, 3), (110, pick.choice([4, 7, 9]))))
+        for site in (1, 5) if pick.random() < 0.06 else ():
+            rooms[0].add(("set", (99, site), "measure", 60))
+            rooms[1].add(("set", (99, site), "measure", pick.choice([60, 120, 120])))
+        return rooms
+
+    def feed(self, held):
+        """The bytes of a set's feed, in one of the two forms, or in any order and with some twice; a few are damaged."""
+        ops = [oracle.spelling(op) for op in held] + [oracle.spelling(op) for op in list(held)[:2]]
+        self.pick.shuffle(ops)
+        forms = [oracle.runs_feed(held)] * 6 + [oracle.singles_feed(held), b"MFD1" + b"".join(ops), b"MFD2" + b"".join(ops)]
+        data = self.pick.choice(forms)
+        return data[:self.pick.randrange(len(data) + 1)] if self.pick.random() < 0.02 else data
+
+    def feeds(self, *names):
+        """Feeds of some rooms under these names; a few are not there."""
+        for name, held in zip(names, self.rooms()):
+            if self.pick.random() < 0.97:
+                self.files[name] = self.feed(held)
+        if self.pick.random() < 0.2:  # what only some commands look at
+            self.files["one.last"] = b"site 1 785\nsite 2 1\n"
+
+    def site(self):
+        return self.pick.choice([1, 2, 4, 4, 7, 7, 9, 65535])
+
+    def of_merge(self):
+        self.feeds("one", "two", "three")
+        others = self.pick.choices(["two", "two", "three", "three", "one"], k=self.pick.choice([1, 1, 2, 3]))
+        if self.pick.random() < 0.05:
+            others.insert(self.pick.randrange(len(others) + 1), "none")
+        return self.merging("one", *others, forks=self.pick.random() < 0.4)
+
+    def merging(self, *names, forks):
+        """A merge of feeds, which may be one that looks for open readings."""
+        review = self.pick.random() < 0.4
+        words = ["merge", *names] + ["--forks"] * forks + ["--review"] * review
+        return oracle_runs.merge, list(names), words, {"forks": forks, "review": review}
+
+    def of_diff(self):
+        self.feeds("one", "two")
+        return self.differing(*self.pick.choice([("one", "two")] * 9 + [("one", "one")]))
+
+    def differing(self, *names):
+        return oracle_runs.diff, list(names), ["diff", *names], {}
+
+    def of_renumber(self):
+        self.feeds("one", "two")
+        other, site = "two" if self.pick.random() < 0.96 else "one", self.site()
+        return oracle_runs.renumber, ["one", other, site], ["renumber", "one", other, "--site", str(site)], {}
+
+    def of_renew(self):
+        self.feeds("one", "two")
+        new, feed = self.pick.choice(["three"] * 5 + ["one", "two"]), self.pick.choice(["one", "two"])
+        site = self.site()
+        if self.pick.random() < 0.05:
+            self.files["three"] = b""
+        if self.pick.random() < 0.3 and feed in self.files and reported.held_in(self.files[feed]):
+            world = reported.world_of(2, reported.held_in(self.files[feed]))
+            for _ in range(4):
+                world.answer(b"set 2 %s" % differential.Scripts(self.pick, None).setting().encode())
+            self.files[feed] = oracle.runs_feed(world.sites[2])
+        return oracle_runs.renew, [new, feed, site], ["renew", new, feed, "--site", str(site)], {}
+
+    def of_import(self):
+        """A copy of about as many symbols as have a limit, and a text that deletes about as many of them as may go."""
+        size = self.pick.choice([0, 1, 9, 198, 199, 199, 200, 200, 200, 201, 201, 202, 203, 260])
+        copy = [(self.pick.choice([0, 0, 0, 1]), ord(self.pick.choice("ntamntam\u00e9"))) for _ in range(size)]
+        world = reported.world_of(1, set())
+        if copy:
+            world.answer(b"insert 1 0 %s" % oracle.text_of(copy).encode())
+        self.files["one"] = oracle.runs_feed(self.edits(world.sites[1], 2, self.pick.choice([0, 0, 0, 1])))
+        copy = oracle.Meaning(reported.held_in(self.files["one"])).copy
+        kind = self.pick.randrange(8)
+        if kind < 6 and copy:
+            gone = len(copy) // 2 + self.pick.choice([-1, 0, 0, 1, 1, 2, len(copy)])
+            gone = min(len(copy), max(0, gone))
+            out = set(self.pick.sample(range(len(copy)), gone) if self.pick.random() < 0.5 else range(gone))
+            copy = [symbol for at, symbol in enumerate(copy) if at not in out]
+            copy[len(copy) // 2:len(copy) // 2] = [(0, ord("Z"))] * self.pick.choice([0, 0, 1, 3, 200])
+        elif kind == 6:
+            copy = [(0, ord("Z"))] * self.pick.choice([0, 0, 1, 250])
+        self.text = reported.exported(copy).encode()
+        if self.pick.random() < 0.15:
+            self.text = self.pick.choice([b"__", b"^^", b"__^^", b"^^__", b"_", b"\r", b"\r\n", b"\\", b"\t"])
+        if self.pick.random() < 0.08:
+            del self.files["one"]
+        plain, everything = self.pick.random() < 0.1, self.pick.random() < 0.2
+        site, older = self.room()
+        words = ["import", "one", "--site", str(site)] + ["--plain"] * plain + ["--all"] * everything + ["--older"] * older
+        flags = {"text": self.text, "plain": plain, "everything": everything, "site": site, "older": older}
+        return oracle_runs.import_text, ["one"], words, flags
+
+    def room(self):
+        """The site that goes on with the feed, with a FEED.last or without, and whether an older feed is wanted."""
+        site, last = self.pick.choice([1, 2, 2, 3]), None
+        if self.pick.random() < 0.6:
+            last = differential.last_of(self.pick, self.files.get("one"), site)
+        if last is not None:
+            self.files["one.last"] = last
+        return site, self.pick.random() < 0.25
+
+    def of_replace(self):
+        """A text that stands in a copy once, or nowhere, or often, and another in its place."""
+        self.feeds("one")
+        if self.pick.random() < 0.05:
+            self.files.pop("one", None)
+        copy = oracle.Meaning(reported.held_in(self.files.get("one", b"MFD2")) or ()).copy
+        at = self.pick.randrange(len(copy) + 1)
+        old = reported.exported(copy[at:at + self.pick.choice([1, 2, 3, 5])])
+        new = self.pick.choice(WORDS + ["", "_a_", "^M^", "a b", "_a", "\\", "t"])
+        old = self.pick.choice([old] * 8 + ["n", "zz", "", "_n", "^n_"])
+        plain, (site, older) = self.pick.random() < 0.1, self.room()
+        words = ["replace", "one", "--site", str(site)] + ["--plain"] * plain + ["--older"] * older + ["--", old, new]
+        flags = {"old": old.encode(), "new": new.encode(), "site": site, "plain": plain, "older": older}
+        return oracle_runs.replace, ["one"], words, flags
+
+    def stands(self, *sources):
+        """A target: nothing, one of the files that it is made of, or something else."""
+        if self.pick.random() < 0.08:
+            return self.pick.choice(sources)
+        data = self.pick.choice(STANDS)
+        if data is not None:
+            self.files["target"] = data
+        return "target"
+
+    def job(self):
+        """A feed of a job, whose copy may have faults and whose settings may have some."""
+        world = reported.world_of(1, set())
+        for line in JOB + [b"insert 1 0 r\"nnn mmm nnn. \""]:
+            world.answer(line)
+        held = world.sites[1]
+        if self.pick.random() < 0.3:
+            held = self.edits(held, 2, 2)
+        if self.pick.random() < 0.35:
+            fork, waits = ("insert", (6, 1), oracle.HEAD, (0, 110)), ("delete", (30, 2), (29, 2))
+            twice = {("set", (40, 3), "tight", 40), ("set", (40, 3), "tight", 41)}
+            held = held | self.pick.choice([{fork}, {waits}, {("set", (1, 1), "loose", 150)}, twice, self.forged(2)])
+        self.files["one"] = oracle.runs_feed(held)
+        return ["one", "c", self.pick.choice(["w"] * 9 + ["w6"])]
+
+    def of_punch(self):
+        job, force, faulty = self.job(), self.pick.random() < 0.25, self.pick.random() < 0.4
+        to = self.stands(*job)
+        words = ["punch", "one", "--case", job[1], "--wedge", job[2], "-o", to]
+        words += ["--force"] * force + ["--faulty"] * faulty
+        return oracle_runs.punch, [*job, to], words, {"force": force, "faulty": faulty}
+
+    def of_proof(self):
+        return self.drawn(oracle_runs.proof, self.job())
+
+    def of_read(self):
+        """A ribbon with a picture: that of a job, or one that is damaged."""
+        job, files = self.job(), {name: self.files[name] for name in ("one", "c", "w")}
+        made = oracle_runs.run(oracle_runs.punch, files, "one", "c", "w", "rib", faulty=True)[3]
+        ribbon = made.get("rib", oracle.ribbon_bytes([oracle.image_fine(8)]))
+        damaged = [ribbon[:-4], ribbon[:-1], b"MRB1\0\0\0\1\0\0\0\0", b""]
+        self.files["rib"] = ribbon if self.pick.random() < 0.7 else self.pick.choice(damaged)
+        return self.drawn(oracle_runs.read, ["rib", *job[1:]])
+
+    def drawn(self, command, job):
+        to, force = self.stands(*job), self.pick.random() < 0.25
+        words = [command.__name__, job[0], "--case", job[1], "--wedge", job[2], "--svg", to]
+        return command, [*job, to], words + ["--force"] * force, {"force": force}
+
+    def due(self, runs=oracle_runs):
+        """Its status, what it writes and says, and the files after it."""
+        return runs.run(getattr(runs, self.command.__name__), self.files, *self.names, **self.flags)
+
+    def got(self, program):
+        """The same by the program, in a folder of its own."""
+        with tempfile.TemporaryDirectory(dir=".") as folder:
+            for name, data in self.files.items():
+                with open(os.path.join(folder, name), "wb") as file:
+                    file.write(data)
+            done = subprocess.run([program, *self.words], input=self.text, capture_output=True, cwd=folder, timeout=300)
+            left = {}
+            for name in os.listdir(folder):
+                if not name.endswith(".lock"):
+                    with open(os.path.join(folder, name), "rb") as file:
+                        left[name] = file.read()
+            return done.returncode, done.stdout, done.stderr, left
+
+    def differs(self, got):
+        """What differs from what is due, or none."""
+        due, kind = self.due(), self.words[0]
+        status, out, why, left = got
+        if kind == "diff" and not due[0]:
+            return self.differs_in_diff(got, due[1])
+        if self.flags.get("review") and due[0] and not due[2] and why == b"copydesk: open readings\n":
+            why = b""
+        told = fuzz_asks.first_line((status, out, why)) if kind == "renumber" else (status, out, why)
+        wrong = fuzz_asks.differing(self.name, told, fuzz_asks.bytes_of(due))
+        if wrong or due[0] and left == self.files == due[3]:
+            return wrong
+        if kind in ("import", "replace") and not due[0]:
+            return self.differs_in_edits(left, out.decode())
+        if kind in ("proof", "read"):
+            left = {name: data[:4] if data != due[3].get(name) else data for name, data in left.items()}
+        if left != due[3]:
+            return "%s: it has left %r, due %r" % (self.name, left, due[3])
+        if kind == "renumber":
+            return fuzz_asks.reads_otherwise(self.files.get("one"), left.get("one"), out)
+        return None
+
+    def differs_in_diff(self, got, readings):
+        """What is wrong with what `diff` has written of two feeds: what each has alone, the words that differ, and the readings."""
+        status, out, why, left = got
+        sets = [set(oracle.read_feed(self.files[name])) for name in self.names]
+        copies = [oracle.Meaning(held).copy for held in sets]
+        out = out.decode()
+        due = (0 if sets[0] == sets[1] else 1, b"", self.files)
+        if (status, why, left) != due or not out.endswith(readings):
+            return "%s: %r, due %r and the end %r" % (self.name, got, due, readings)
+        lines = out[:len(out) - len(readings)].split("\n")[:-1]
+        alone = [reported.alone(self.names[k], sets[k], sets[1 - k]) for k in (0, 1)]
+        if lines[:2] != alone or (copies[0] == copies[1]) != (len(lines) == 2):
+            return "%s: %r, due %r" % (self.name, lines, alone)
+        return reported_copy.differs_in(*copies, lines[2:])
+
+    def text_due(self):
+        """The copy that an import or a replacement makes."""
+        if self.words[0] == "import":
+            return reported_copy.read_text(self.text, self.flags["plain"])
+        old, new = (reported_copy.read_text(self.flags[name], self.flags["plain"]) for name in ("old", "new"))
+        copy = oracle.Meaning(reported.held_in(self.files.get("one", b"MFD2"))).copy
+        return oracle_runs.replaced(copy, reported_copy.places_of(old, copy)[0], old, new)
+
+    def differs_in_edits(self, left, out):
+        before, after = (reported.held_in(files.get("one", b"MFD2")) for files in (self.files, left))
+        last = oracle_readings.noted(self.files.get("one.last"), self.flags["site"], after or ())
+        due = {**self.files, "one": oracle_runs.oracle.runs_feed(after or ()), "one.last": last}
+        if left != due:
+            return "%s: it has left %r, due %r" % (self.name, left, due)
+        return reported_copy.edited(before, after, self.flags["site"], self.text_due(), out)
+
+    def compared(self, name, program):
+        """The command through both: 1, and what differs or an empty text."""
+        wrong = self.differs(self.got(program))
+        if not wrong:
+            return 1, ""
+        files = {name: data for name, data in self.files.items() if name not in differential.FILES}
+        return 0, "%s: %s\n of %r\n %r" % (name, wrong, files, self.text)
+
+
+TEXTS = ["agian", "teh", "recieve", "sheetss", "thee", "sheets", "galleys", "the", "of", "a", "noon.", "word", "Monday", "Friday", "a_b", "^", "\\",
+         "unabridgeabilityandothersuch", "press", "type", "come", "to", "us"]
+MENDED = {"agian": "again", "sheetss": "sheets", "thee": "the", "teh": "the", "recieve": "receive", "Monday": "Tuesday", "come": "reach", "word": "words"}
+
+
+class Joined(Asked):
+    """A merge, or a difference, of feeds of two to four rooms that began with one text and have corrected it."""
+
+    often = {"merge": 5, "diff": 1}
+
+    def rooms(self):
+        pick = self.pick
+        begun = self.typed(set(), 9, 0, "".join(pick.choice(TEXTS) + pick.choice("     \n") for _ in range(pick.choice([2, 5, 9, 14]))))
+        count, rooms = pick.choice([2, 3, 3, 4]), []
+        for number in range(count):
+            held = begun if pick.random() < 0.95 else self.some(begun)
+            site = pick.choice([number + 1] * 12 + [1, 2])
+            for _ in range(pick.choice([0, 1, 2, 3, 5])):
+                held = self.corrected(held, site)
+                if rooms and pick.random() < 0.15:
+                    other = pick.choice(rooms)
+                    held = held | (other if pick.random() < 0.5 else self.some(other))
+            rooms.append(held)
+        if pick.random() < 0.08:
+            rooms[0] = rooms[0] | self.forged(2)
+        return rooms
+
+    def typed(self, held, site, place, text, style=0):
+        world = reported.world_of(site, held)
+        if text:
+            world.insert(site, place, [(0 if ch in " \n" else style, ord(ch)) for ch in text])
+        return world.sites[site]
+
+    def deleted(self, held, site, begin, end):
+        world = reported.world_of(site, held)
+        for _ in range(end - begin):
+            world.answer(b"delete %d %d" % (site, begin))
+        return world.sites[site]
+
+    def put(self, held, site, begin, end, text):
+        """A text in the place of some symbols: what both begin and end with may stay, and what comes may come first."""
+        old = "".join(chr(ch) for _, ch in oracle.Meaning(held).copy[begin:end])
+        if self.pick.random() < 0.8:
+            while old and text and old[0] == text[0]:
+                old, text, begin = old[1:], text[1:], begin + 1
+            while old and text and old[-1] == text[-1]:
+                old, text, end = old[:-1], text[:-1], end - 1
+        style = self.pick.choice([0] * 9 + [1])
+        if self.pick.random() < 0.5:
+            return self.typed(self.deleted(held, site, begin, end), site, begin, text, style)
+        return self.deleted(self.typed(held, site, end, text, style), site, begin, end)
+
+    def corrected(self, held, site):
+        """A word mended or exchanged, words taken out or put in, a line or words moved, two lines joined, or a setting."""
+        pick, copy = self.pick, oracle.Meaning(held).copy
+        text = "".join(chr(ch) for _, ch in copy)
+        ends = [at for at, ch in enumerate(text) if ch in " \n"] + [len(text)]
+        words = [(begin, end) for begin, end in zip([0] + [end + 1 for end in ends], ends) if begin < end]
+        kind = pick.random()
+        if not words or kind < 0.1:
+            return self.typed(held, site, pick.randrange(len(copy) + 1), pick.choice(["", " ", "\n", "s", "x y", pick.choice(TEXTS) + " "]))
+        typos = [(begin, end) for begin, end in words if text[begin:end] in MENDED]
+        if typos and kind < 0.55:
+            begin, end = pick.choice(typos[:2] if pick.random() < 0.7 else typos)
+            return self.put(held, site, begin, end, MENDED[text[begin:end]] if pick.random() < 0.8 else pick.choice(TEXTS))
+        at = pick.randrange(len(words))
+        begin, end = words[at][0], words[min(len(words) - 1, at + pick.choice([0, 0, 1, 2]))][1]
+        if kind < 0.75:
+            return self.put(held, site, begin, end, " ".join(pick.choice(TEXTS) for _ in range(pick.choice([1, 1, 2, 3]))))
+        if kind < 0.83:
+            return self.deleted(held, site, begin, min(len(text), end + 1))
+        if kind < 0.95:  # a line moved, or some words
+            if pick.random() < 0.6:
+                begin, end = text.rfind("\n", 0, begin) + 1, (text.find("\n", end) + len(text)) % len(text) + 1
+            gone = self.deleted(held, site, begin, min(len(text), end + 1))
+            return self.typed(gone, site, pick.choice([0, len(oracle.Meaning(gone).copy)]), text[begin:end + 1])
+        if kind < 0.98 and "\n" in text:
+            at = text.find("\n")
+            return self.put(held, site, at, at + 1, " ")
+        return self.edits(held, site, 1)
+
+    def feeds(self, *names):
+        self.named = ["one", "two", "three", "four"]
+        for name, held in zip(self.named, self.rooms()):
+            self.files[name] = self.feed(held)
+        self.named = [name for name in self.named if name in self.files]
+
+    def of_merge(self):
+        self.feeds()
+        others = self.named[1:]
+        self.pick.shuffle(others)
+        if self.pick.random() < 0.1:
+            others.insert(self.pick.randrange(len(others) + 1), self.pick.choice(self.named))
+        if self.pick.random() < 0.05:
+            del self.files["one"]
+        return self.merging("one", *others, forks=self.pick.random() < 0.5)
+
+    def of_diff(self):
+        self.feeds()
+        return self.differing(*self.pick.sample(self.named, 2))
+
+    def compared(self, name, program):
+        """The joins of which both say how they read, and what differs or an empty text."""
+        done, wrong = super().compared(name, program)
+        return (1 if self.words[0] == "diff" else self.due()[1].count(" ok new ")) * done, wrong
