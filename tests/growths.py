@@ -322,16 +322,20 @@ def stored(program, folder, library):
 
 
 def words(program, folder, library):
-    """Words that ask for help, and words that are refused: their texts may be cut short, their status may not change."""
+    """Words that ask for help, and words that are refused: their texts may be cut short, their status may not change. Where the last
+    growth is refused, that of the report of refused words, one line takes its place, there and nowhere else."""
     sweep = Sweep(Runs(program, [], "", folder, library))
     for line in ("--help", "desk --help", "jump", "desk a.feed", "desk a.feed --site 0", "script now"):
         runs = Runs(program, line.split(), "site 1\n", folder, library)
         whole = runs.run(0)
-        for number in range(1, runs.count() + 1):
+        many = runs.count()
+        for number in range(1, many + 1):
             status, written, told = runs.run(number)
             ended = status == 1 and told == b"copydesk: no memory\n"
             sweep.early += ended
-            same = status == whole[0] and whole[2].startswith(told)
+            shortened = whole[0] == 2 and number == many
+            report = b"error: the words of the command line are refused\n" if shortened else whole[2]
+            same = status == whole[0] and (told == report if shortened else report.startswith(told))
             fine = whole[1].startswith(written) and (ended or same)
             sweep.note("%s, growth %d" % (line, number), None if fine else "ended with %d and %r" % (status, told))
     return sweep
