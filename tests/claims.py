@@ -84,7 +84,7 @@ def public(crate):
     modules, and those that it gives on by `pub use`, alone or with their type or trait."""
     folder = os.path.join(CRATES, crate, "src")
     files = [os.path.join(base, name) for base, _, names in os.walk(folder) for name in names if name.endswith(".rt")]
-    if crate.endswith("_tests") or os.path.join(folder, "lib.rt") not in files:
+    if crate.startswith("test_") or os.path.join(folder, "lib.rt") not in files:
         return []
     texts = {os.path.relpath(path, folder)[:-3]: open(path, encoding="utf-8").read() for path in files}
     whole = {"lib"} | set(re.findall(r"^pub mod (\w+);", texts["lib"], re.M))

@@ -49,7 +49,7 @@ def row_faults(crates, row):
     for name in re.findall(r"[A-Z]\w+", row["file"]):
         if name not in specs:
             yield "no file specs/%s.antt in %s" % (name, " or ".join(crates))
-    for other, name in re.findall(r"(?:((?:desk|feed)_\w+) )?`(\w+)`", row["law"].partition(", clause")[0]):
+    for other, name in re.findall(r"(?:((?:desk|list|text|feed|view|script|program)_\w+) )?`(\w+)`", row["law"].partition(", clause")[0]):
         texts = sources(other, "src", ".rt").values() if other else code
         if not has(texts, "fn " + name):
             yield "no law %s in %s" % (name, other or " and ".join(crates))
@@ -59,7 +59,7 @@ def definitions(text):
     crates, columns = ["desk_ops"], None
     for number, line in enumerate(text.split("\n"), 1):
         if line.startswith("#"):
-            crates = re.findall(r"\b(?:(?:desk|feed)_\w+|copydesk)\b", line) or ["desk_ops"]
+            crates = re.findall(r"\b(?:(?:desk|list|text|feed|view|script|program)_\w+|copydesk)\b", line) or ["desk_ops"]
         if not line.startswith("|"):
             columns = None
             continue
@@ -83,7 +83,7 @@ def design(text):
         if not os.path.exists(os.path.join(CRATES, place)):
             yield "docs/DESIGN.md: no file crates/%s" % place
     for crate in re.findall(r"^(\w+)(?: staticlib)?:", text_of("crates.txt"), re.M):
-        if not crate.endswith("_tests") and not re.search(r"^\| %s \|" % crate, text, re.M):
+        if not crate.startswith("test_") and not re.search(r"^\| %s \|" % crate, text, re.M):
             yield "docs/DESIGN.md: no row of %s" % crate
 
 

@@ -5,7 +5,7 @@ usage: differential.py PROGRAM [SCRIPTS [SEED]]      random ones, all commands; 
        differential.py PROGRAM --stored [RUNS [SEED]] random scripts on stored feeds, strict and numbered sheets among them
        differential.py PROGRAM --files [RUNS [SEED]] random commands on files: merges, imports, renewals, renumberings, ribbons
        differential.py PROGRAM --joins [RUNS [SEED]] merges and differences of rooms that correct one text, and what they leave open
-       differential.py PLAYS --plays [LISTS [SEED]]  random lists of events, each through one `World::play`; PLAYS is the program desk_plays
+       differential.py PLAYS --plays [LISTS [SEED]]  random lists of events, each through one `World::play`; PLAYS is the program script_plays
        differential.py PROGRAM --only WORD,WORD ..   some commands alone
        differential.py PROGRAM --jobs                the directed jobs of jobs.py, which stand at the limits of lines and wedges
        differential.py PROGRAM --large               one job of over 100,000 symbols

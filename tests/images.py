@@ -1,7 +1,7 @@
 #!/usr/bin/env python3
 """All images of at most two letters and two numbers, with and without 0005, 0075 and S: what the independent program says of each.
 
-usage: images.py            ends with 1 unless the test of desk_metal_tests expects the answers of the independent program
+usage: images.py            ends with 1 unless the test of test_metal expects the answers of the independent program
        images.py --list     prints each image and its answer
 
 The test reads the same 89,888 images by the proved code, in the same order, and compares how often each answer comes and the
@@ -16,7 +16,7 @@ HERE = os.path.dirname(os.path.abspath(__file__))
 sys.path.insert(0, HERE)
 import oracle
 
-TEST = os.path.join(HERE, "..", "crates", "desk_metal_tests", "src", "every_image.rt")
+TEST = os.path.join(HERE, "..", "crates", "test_metal", "src", "every_image.rt")
 CAUSES = ["two letters", "two numbers", "0005 without 0075", "0075 with a letter", "0075 with S"]
 
 

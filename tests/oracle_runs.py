@@ -2,7 +2,7 @@
 """Runs of the independent program: sheets of commands, stored feeds, lists of events, commands on files, and lines that
 memory stops, from docs/FORMATS.md.
 
-usage: oracle_runs.py < LIST     writes what desk_plays is to write of a list of events, and ends with its status
+usage: oracle_runs.py < LIST     writes what script_plays is to write of a list of events, and ends with its status
 """
 import sys
 

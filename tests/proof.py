@@ -57,7 +57,7 @@ def limit(block, often):
 
 def page():
     crates = [line.split(":")[0] for line in text_of("crates.txt").split("\n") if ":" in line and line[0] != "#"]
-    tests = [crate for crate in crates if crate.endswith("_tests")]
+    tests = [crate for crate in crates if crate.startswith("test_")]
     ours = [crate for crate in crates if crate not in tests]
     homes = {home: claims.promises(os.path.join(claims.FOLDER, home + ".txt"), []) for home in ["headline"] + ours}
     blocks = [block for told in homes.values() for block in told]

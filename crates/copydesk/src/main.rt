@@ -1,11 +1,11 @@
-//! The copy desk's command line: it hands the words, streams and files of the machine to `desk_program`.
+//! The copy desk's command line: it hands the words, streams and files of the machine to `program_desk`.
 //!
-//! `main` has no contract: what is proved is in `desk_program`. At a terminal `desk` reports the cause of a stop, and
-//! `desk_host` reports how far a run is. docs/FORMATS.md has the subcommands and docs/GUIDE.md their use.
+//! `main` has no contract: what is proved is in `program_desk`. At a terminal `desk` reports the cause of a stop, and
+//! `program_host` reports how far a run is. docs/FORMATS.md has the subcommands and docs/GUIDE.md their use.
 #![tactic(auto)]
 
-use desk_host::{HostFiles, Progress, Watched};
-use desk_program::{program, unread};
+use program_desk::{program, unread};
+use program_host::{HostFiles, Progress, Watched};
 use std::alloc::Global;
 use std::io::{BufWriter, IsTerminal};
 use std::process::ExitCode;

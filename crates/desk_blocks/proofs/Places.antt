@@ -12,7 +12,7 @@ use Rattle.desk_ops.proofs.Stamps.{by_cases, same-true, same-symm}
 use Rattle.desk_seq.specs.declared.Entry.{Entry}
 use Rattle.desk_seq.specs.Entries.{stamps_of, IsAbsent, AreDistinct, IsFoundAt, IsFirstBelow, shown_in, IsShownAt, is_shown}
 use Rattle.desk_seq.proofs.Entries.{length-stamps, stamps-at, absent-at}
-use Rattle.desk_pages.specs.Pages.{IsNth, IsShort}
+use Rattle.list_pages.specs.Pages.{IsNth, IsShort}
 use Rattle.desk_blocks.specs.Tally.{is_smaller, is_of, IsAt}
 
 none : Entry

@@ -8,7 +8,7 @@ use Rattle.desk_ops.specs.Stamp.{same, before, head}
 use Rattle.desk_ops.proofs.Stamps.{before-trans, before-other, before-apart, before-apart_left, same-true}
 use Rattle.desk_blocks.specs.Home.{Home}
 use Rattle.desk_blocks.specs.Rank.{homes_of, IsRising, IsRank, IsNoneOf, Knows}
-use Rattle.desk_pages.specs.Pages.{IsEdge}
+use Rattle.list_pages.specs.Pages.{IsEdge}
 use Rattle.desk_ops.proofs.Stamps.{by_cases}
 use Rattle.desk_seq.specs.declared.Entry.{Entry}
 use Rattle.desk_seq.specs.Entries.{stamps_of, IsAbsent}

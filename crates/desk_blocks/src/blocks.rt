@@ -8,8 +8,8 @@ use crate::index::Index;
 use crate::slot::{Slot, add_shown, slots_of};
 use crate::tally::{Bearing, Below, Shown, Tally};
 use desk_ops::{Stamp, Symbol};
-use desk_pages::{FULL, Pages};
 use desk_seq::{Entry, Sequence};
+use list_pages::{FULL, Pages};
 use std::alloc::{AllocError, Allocator};
 use std::marker::Model;
 

@@ -6,8 +6,8 @@ ghost use Rattle.desk_blocks.specs.Rank.{homes_of, IsNoneOf, Knows};
 ghost use Rattle.desk_seq.specs.Entries.{AreDistinct, stamps_of};
 
 use desk_ops::Stamp;
-use desk_pages::{FULL, Pages, Pick};
 use desk_seq::Entry;
+use list_pages::{FULL, Pages, Pick};
 use std::alloc::{AllocError, Allocator};
 use std::marker::Model;
 

@@ -2,7 +2,7 @@
 
 use crate::slot::Slot;
 use desk_ops::Stamp;
-use desk_pages::{Pick, Summary};
+use list_pages::{Pick, Summary};
 
 /// How many are shown, and a stamp that none is smaller than.
 #[derive(Clone, Copy)]

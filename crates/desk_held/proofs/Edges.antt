@@ -25,7 +25,7 @@ use Rattle.desk_ops.proofs.Lists.{among-filter, among-filter_from}
 use Rattle.desk_ops.proofs.Deletes.{any_some, some_any}
 use Rattle.desk_ops.proofs.Tree.{filter-hit}
 use Rattle.desk_ops.proofs.Bearers.{stamp_not_before, ordered_rising, bearing-older, bearing-first}
-use Rattle.desk_pages.specs.Pages.{IsEdge}
+use Rattle.list_pages.specs.Pages.{IsEdge}
 
 pub taken : (P : Op → Type 0) (ops : List Op) (i : ℕ) → AllWithin P ops 0 i → i ≤ length ops → AllByRecursion P (take i ops)
 taken P [] zero all le = tt

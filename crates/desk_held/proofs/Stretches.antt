@@ -11,7 +11,7 @@ use Rattle.desk_ops.specs.OrderLaws.{op_total}
 use Rattle.desk_ops.specs.OpSet.{is_rising}
 use Rattle.desk_ops.proofs.OpSets.{rising_less}
 use Rattle.desk_ops.proofs.Stamps.{is_less}
-use Rattle.desk_pages.specs.Pages.{IsEdge}
+use Rattle.list_pages.specs.Pages.{IsEdge}
 use Rattle.desk_held.specs.Passing.{IsPart, IsPassed}
 use Rattle.desk_held.proofs.Edges.{earlier}
 

@@ -7,8 +7,8 @@ ghost use Rattle.desk_held.specs.Joining.{IsStopped};
 use crate::search::{are_rising, comes_before, is_rising};
 use crate::{AddRefusal, Held, LIMIT};
 use desk_ops::Op;
-use desk_pages::Pages;
 use desk_slots::{Slot, add_ops, slots_of};
+use list_pages::Pages;
 use std::alloc::{AllocError, Allocator};
 use thiserror::Error;
 

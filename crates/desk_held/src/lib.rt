@@ -11,8 +11,8 @@ ghost use Rattle.desk_ops.specs.Held.{is_borne_in, is_clear_in, clear_op_in, gre
 
 use desk_memory::NoMemory;
 use desk_ops::{Op, Stamp};
-use desk_pages::Pages;
 use desk_slots::{Slot, append, entry, insert_in_order, seek};
+use list_pages::Pages;
 use rising::all_rise;
 use search::{Below, Earlier, UpTo};
 use std::alloc::Allocator;

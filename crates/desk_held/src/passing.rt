@@ -3,13 +3,13 @@ ghost use Rattle.std.specs.Prelude.{◌≡◌, ◌+◌, ◌-◌, ◌≤◌, ◌<
 ghost use Rattle.std.specs.Ordering.{is_lt};
 ghost use Rattle.desk_ops.specs.Order.{op_cmp};
 ghost use Rattle.desk_ops.specs.OpSet.{has_op, is_rising, from_rising};
-ghost use Rattle.desk_pages.specs.Pages.{IsEdge};
+ghost use Rattle.list_pages.specs.Pages.{IsEdge};
 ghost use Rattle.desk_held.specs.Passing.{IsPart, IsPassed};
 
 use crate::search::comes_before;
 use desk_ops::Op;
-use desk_pages::Pages;
 use desk_slots::Slot;
+use list_pages::Pages;
 use std::alloc::Allocator;
 
 /// The first place of a stretch, from a place on, of what does not come before an operation. Where the last of it does, all

@@ -4,8 +4,8 @@ ghost use Rattle.desk_ops.specs.Stamp.{head};
 ghost use Rattle.desk_held.specs.Rising.{rise_from, last_from};
 
 use desk_ops::Stamp;
-use desk_pages::Pages;
 use desk_slots::Slot;
+use list_pages::Pages;
 use std::alloc::Allocator;
 
 /// The last stamp of a stretch, where its stamps rise, the first from the one given.

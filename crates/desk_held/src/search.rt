@@ -5,8 +5,8 @@ ghost use Rattle.desk_ops.specs.Order.{op_cmp};
 ghost use Rattle.desk_ops.specs.OpSet.{is_rising};
 
 use desk_ops::{Op, Stamp};
-use desk_pages::Pick;
 use desk_slots::Slot;
+use list_pages::Pick;
 
 /// Whether the first operation comes before the second. Their stamps decide it, but where these are one.
 fn is_earlier(a: &Op, b: &Op) -> bool

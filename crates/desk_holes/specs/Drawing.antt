@@ -6,15 +6,15 @@ use Rattle.desk_wedge.specs.Wedge.{WedgeValues}
 use Rattle.desk_caster.specs.Reading.{IsRibbon, Reports}
 use Rattle.desk_caster.specs.declared.RibbonFault.{RibbonFault}
 use Rattle.desk_caster.specs.declared.RibbonFault.TheVariants as ribbons
-use Rattle.desk_files.specs.Files.{IsReplaced, Shelf, Stays}
+use Rattle.feed_files.specs.Files.{IsReplaced, Shelf, Stays}
 use Rattle.desk_outputs.specs.Outputs.{Destination, GivesWay, IsNotPut}
 use Rattle.desk_outputs.specs.declared.fault.OutputFault.{OutputFault}
 use Rattle.desk_outputs.specs.declared.fault.OutputFault.TheVariants as outputs
 use Rattle.desk_outputs.specs.declared.kinds.Kind.TheVariants as kinds
-use Rattle.desk_reading.specs.Sources.{AreRefused, Give, GiveAll, Sources, of_sources}
-use Rattle.desk_reading.specs.declared.fault.ReadingFault.{ReadingFault}
-use Rattle.desk_reading.specs.declared.fault.ReadingFault.TheVariants as faults
-use Rattle.desk_reading.specs.declared.fault.SourcesFault.{SourcesFault}
+use Rattle.view_ribbon.specs.Sources.{AreRefused, Give, GiveAll, Sources, of_sources}
+use Rattle.view_ribbon.specs.declared.fault.ReadingFault.{ReadingFault}
+use Rattle.view_ribbon.specs.declared.fault.ReadingFault.TheVariants as faults
+use Rattle.view_ribbon.specs.declared.fault.SourcesFault.{SourcesFault}
 use Rattle.desk_holes.specs.Picture.{picture_text}
 
 -- this is the picture of the rows whose ribbon the bytes are, by a case

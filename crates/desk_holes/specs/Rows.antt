@@ -11,8 +11,8 @@ use Rattle.desk_signals.specs.declared.RibbonRow.TheVariants as row
 use Rattle.desk_signals.specs.Rows.{signals_of}
 use Rattle.desk_case.specs.Case.{CaseValues, symbol_at, is_fill}
 use Rattle.desk_case.specs.Names.{same_cell}
-use Rattle.desk_svg.specs.Escape.{escaped_char}
-use Rattle.desk_svg.specs.Text.{text_end}
+use Rattle.view_svg.specs.Escape.{escaped_char}
+use Rattle.view_svg.specs.Text.{text_end}
 use Rattle.desk_holes.specs.Parts.{between}
 use Rattle.desk_holes.specs.Channels.{x_of}
 

@@ -6,8 +6,8 @@ ghost use Rattle.desk_holes.specs.Channels.{channel_name, channel_text, channels
 
 use crate::parts::put_between;
 use desk_signals::{SIGNALS, Signal};
-use desk_svg::text_end;
 use std::alloc::{AllocError, Allocator};
+use view_svg::text_end;
 
 /// The name of a signal's channel.
 fn channel_name(signal: Signal) -> &'static str

@@ -1,22 +1,22 @@
 //! The picture of a ribbon's file, stored under a name.
 
 ghost use Rattle.std.specs.Prelude.{◌≡◌, IfErr, IfOk, MatchOption, OnOk, string_bytes};
-ghost use Rattle.desk_files.specs.Files.{HoldsOn};
+ghost use Rattle.feed_files.specs.Files.{HoldsOn};
 ghost use Rattle.desk_outputs.specs.Outputs.{destination};
 ghost use Rattle.desk_holes.specs.Drawing.{IsDrawn, IsNoRibbon, IsPicture, IsUndrawn, of_output};
 ghost use Rattle.desk_holes.specs.Picture.{picture_text};
-ghost use Rattle.desk_reading.specs.Sources.{sources};
+ghost use Rattle.view_ribbon.specs.Sources.{sources};
 
 use crate::picture::put_holes;
 use desk_case::MatrixCase;
 use desk_caster::{RibbonFault, read_ribbon};
-use desk_files::Files;
 use desk_inputs::Memory;
 use desk_memory::NoMemory;
 use desk_outputs::{Kind, OutputFault, Target, store_over};
-use desk_reading::{ReadingFault, take_in};
 use desk_signals::RibbonRow;
+use feed_files::Files;
 use std::alloc::Allocator;
+use view_ribbon::{ReadingFault, take_in};
 
 /// The picture of rows.
 fn picture_of<A: Allocator + Copy>(

@@ -16,7 +16,7 @@ use Rattle.desk_caster.specs.declared.RibbonFault.{RibbonFault}
 use Rattle.desk_caster.specs.declared.RibbonFault.TheVariants as ribbons
 use Rattle.desk_caster.specs.declared.CastFault.{CastFault}
 use Rattle.desk_caster.specs.declared.CastFault.TheVariants as casts
-use Rattle.desk_answers.specs.Reply.{ReplyValues}
+use Rattle.script_answers.specs.Reply.{ReplyValues}
 use Rattle.desk_inputs.specs.Job.{ReportsCast, ReportsLines}
 
 reports : (case : CaseValues) (wedge : WedgeValues) (bytes : List ℕ) (made : Result (List RibbonRow) (List JobFault)) (reply : ReplyValues) → IsMade bytes made → ReportsCast case wedge bytes reply → ReportsLines case wedge made reply

@@ -2,11 +2,11 @@
 use Rattle.std.proofs.Common.{◌≡◌, ℕ, ◌∙◌, List, ap, arith, inl, inr, refl, subst, sym}
 use Rattle.std.specs.Prelude.{◌≢◌, Option, Some, None, Result, Ok, Err}
 use Rattle.toml.specs.Errors.{IsBlank}
-use Rattle.desk_answers.specs.declared.text.Refusal.{Refusal}
-use Rattle.desk_answers.specs.declared.text.Refusal.TheVariants as refusals
-use Rattle.desk_answers.specs.declared.failure.Failure.{Failure}
-use Rattle.desk_answers.specs.declared.failure.Failure.TheVariants as failures
-use Rattle.desk_answers.specs.Failure.{case_refused, failure, file_refused, wedge_refused}
+use Rattle.script_answers.specs.declared.text.Refusal.{Refusal}
+use Rattle.script_answers.specs.declared.text.Refusal.TheVariants as refusals
+use Rattle.script_answers.specs.declared.failure.Failure.{Failure}
+use Rattle.script_answers.specs.declared.failure.Failure.TheVariants as failures
+use Rattle.script_answers.specs.Failure.{case_refused, failure, file_refused, wedge_refused}
 use Rattle.desk_case.specs.Case.{CaseValues}
 use Rattle.desk_case.specs.File.{case_of}
 use Rattle.desk_case.specs.declared.CaseFault.{CaseFault}
@@ -15,10 +15,10 @@ use Rattle.desk_wedge.specs.Wedge.{WedgeValues}
 use Rattle.desk_wedge.specs.File.{wedge_of}
 use Rattle.desk_wedge.specs.declared.WedgeFault.{WedgeFault}
 use Rattle.desk_wedge.specs.declared.WedgeFault.TheVariants as wedges
-use Rattle.desk_files.specs.declared.files.FileRefusal.{FileRefusal}
-use Rattle.desk_files.specs.declared.files.FileRefusal.TheVariants as files
-use Rattle.desk_files.specs.Files.{Counts, IsCounted, Reads, Shelf, Stays}
-use Rattle.desk_files.proofs.Shelves.{same_shelf}
+use Rattle.feed_files.specs.declared.files.FileRefusal.{FileRefusal}
+use Rattle.feed_files.specs.declared.files.FileRefusal.TheVariants as files
+use Rattle.feed_files.specs.Files.{Counts, IsCounted, Reads, Shelf, Stays}
+use Rattle.feed_files.proofs.Shelves.{same_shelf}
 use Rattle.desk_inputs.specs.Inputs.{Answers, BothGive, BothLackMemory, FileGives, FileLacksMemory, Reports, ReportsBytes, ThenWedge, with_case}
 
 -- ---- where nothing has changed

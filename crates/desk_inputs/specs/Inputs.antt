@@ -5,13 +5,13 @@ use Rattle.desk_case.specs.Case.{CaseValues}
 use Rattle.desk_case.specs.File.{case_of}
 use Rattle.desk_wedge.specs.Wedge.{WedgeValues}
 use Rattle.desk_wedge.specs.File.{wedge_of}
-use Rattle.desk_answers.specs.declared.text.Refusal.{Refusal}
-use Rattle.desk_answers.specs.Failure.{case_refused, file_refused, wedge_refused}
-use Rattle.desk_answers.specs.declared.failure.Failure.{Failure}
-use Rattle.desk_answers.specs.declared.failure.Failure.TheVariants as failures
-use Rattle.desk_files.specs.declared.files.FileRefusal.{FileRefusal}
-use Rattle.desk_files.specs.declared.files.FileRefusal.TheVariants as files
-use Rattle.desk_files.specs.Files.{Counts, Reads, Shelf, Stays}
+use Rattle.script_answers.specs.declared.text.Refusal.{Refusal}
+use Rattle.script_answers.specs.Failure.{case_refused, file_refused, wedge_refused}
+use Rattle.script_answers.specs.declared.failure.Failure.{Failure}
+use Rattle.script_answers.specs.declared.failure.Failure.TheVariants as failures
+use Rattle.feed_files.specs.declared.files.FileRefusal.{FileRefusal}
+use Rattle.feed_files.specs.declared.files.FileRefusal.TheVariants as files
+use Rattle.feed_files.specs.Files.{Counts, Reads, Shelf, Stays}
 
 -- the one holds of what was returned or refused, and the other where memory ran out
 abbrev pub Answers : {V : Type 0} → (Result V Refusal → Type 0) → Type 0 → Result V Failure → Type 0

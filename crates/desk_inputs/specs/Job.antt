@@ -11,10 +11,10 @@ use Rattle.desk_caster.specs.Caster.{Line as CastLine, cast}
 use Rattle.desk_caster.specs.Reading.{IsRibbon}
 use Rattle.desk_job.specs.Job.{job}
 use Rattle.desk_job.specs.declared.JobFault.{JobFault}
-use Rattle.desk_files.specs.Files.{Shelf}
-use Rattle.desk_answers.specs.Reply.{ReplyValues, Refused, lines_reported}
-use Rattle.desk_answers.specs.Reply as replies
-use Rattle.desk_answers.specs.declared.text.Refusal.{Refusal}
+use Rattle.feed_files.specs.Files.{Shelf}
+use Rattle.script_answers.specs.Reply.{ReplyValues, Refused, lines_reported}
+use Rattle.script_answers.specs.Reply as replies
+use Rattle.script_answers.specs.declared.text.Refusal.{Refusal}
 use Rattle.desk_inputs.specs.Inputs.{BothGive, BothLackMemory}
 use Rattle.desk_inputs.specs.declared.job.Wanted.{Wanted}
 use Rattle.desk_inputs.specs.declared.job.Wanted.TheVariants as wants

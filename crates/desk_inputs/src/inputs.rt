@@ -3,15 +3,15 @@
 ghost use Rattle.std.specs.Prelude.{◌≡◌, OnOk};
 ghost use Rattle.desk_case.specs.File.{case_of};
 ghost use Rattle.desk_wedge.specs.File.{wedge_of};
-ghost use Rattle.desk_answers.specs.Failure.{case_refused, wedge_refused};
-ghost use Rattle.desk_files.specs.Files.{Stays};
+ghost use Rattle.script_answers.specs.Failure.{case_refused, wedge_refused};
+ghost use Rattle.feed_files.specs.Files.{Stays};
 ghost use Rattle.desk_inputs.specs.Inputs.{Answers, BothGive, BothLackMemory, FileGives, FileLacksMemory};
 
 use crate::memory::Memory;
-use desk_answers::Failure;
 use desk_case::MatrixCase;
-use desk_files::Files;
 use desk_wedge::Wedge;
+use feed_files::Files;
+use script_answers::Failure;
 use std::alloc::Allocator;
 
 /// The case that a file gives, or the refusal of it. `toml` takes the global allocator alone.

@@ -4,23 +4,23 @@ ghost use Rattle.std.specs.Prelude.{◌≡◌, ◌<◌, ◌^◌, length, List, O
 ghost use Rattle.desk_signals.specs.declared.RibbonRow.{RibbonRow};
 ghost use Rattle.desk_caster.specs.Caster.{Line, cast};
 ghost use Rattle.desk_caster.specs.Reading.{IsRibbon};
-ghost use Rattle.desk_files.specs.Files.{Stays};
-ghost use Rattle.desk_answers.specs.Failure.{IfReplied};
-ghost use Rattle.desk_answers.specs.Reply.{reply_values};
+ghost use Rattle.feed_files.specs.Files.{Stays};
+ghost use Rattle.script_answers.specs.Failure.{IfReplied};
+ghost use Rattle.script_answers.specs.Reply.{reply_values};
 ghost use Rattle.desk_inputs.specs.Job.{IsJobByFiles, JobLacksMemory, ReportsCast, ReportsJob, job_of};
 
 use crate::inputs::both;
 use crate::memory::Memory;
-use desk_answers::{Failure, Reply};
 use desk_blocks::Blocks;
 use desk_case::MatrixCase;
 use desk_caster::{CastFault, CastLine, RibbonFault, cast, read_ribbon};
-use desk_files::Files;
 use desk_job::{JobRefusal, make};
 use desk_memory::NoMemory;
 use desk_replica::Replica;
 use desk_signals::RibbonRow;
 use desk_wedge::Wedge;
+use feed_files::Files;
+use script_answers::{Failure, Reply};
 use std::alloc::Allocator;
 
 /// The rows of bytes that are a ribbon.

@@ -1,9 +1,9 @@
 -- The kinds of files, by their first bytes.
 use Rattle.std.specs.Prelude.{◌≡◌, ◌==◌, ◌||◌, ℕ, Bool, if◌then◌else◌, List, Option, Some, None, Result, Ok, Err, codes, eqb, length}
 use Rattle.std.specs.List.{starts_with}
-use Rattle.desk_files.specs.Files.{Kept, Reads}
-use Rattle.desk_files.specs.declared.files.FileRefusal.{FileRefusal}
-use Rattle.desk_files.specs.declared.files.FileRefusal.TheVariants as refusals
+use Rattle.feed_files.specs.Files.{Kept, Reads}
+use Rattle.feed_files.specs.declared.files.FileRefusal.{FileRefusal}
+use Rattle.feed_files.specs.declared.files.FileRefusal.TheVariants as refusals
 use Rattle.desk_outputs.specs.declared.kinds.Kind.{Kind}
 use Rattle.desk_outputs.specs.declared.kinds.Kind.TheVariants as kinds
 

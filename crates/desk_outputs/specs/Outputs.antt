@@ -1,8 +1,8 @@
 -- Files that are made, each stored over a file of its own kind alone.
 use Rattle.std.specs.Prelude.{◌≡◌, ◌≢◌, ◌⊎◌, ℕ, Bool, false, List, Some, None, Err}
-use Rattle.desk_files.specs.Files.{HasNoPlace, IsCounted, Kept, Names, Reads, Shelf, Spares, Stays, new_name}
-use Rattle.desk_files.specs.declared.files.FileRefusal.{FileRefusal}
-use Rattle.desk_files.specs.declared.files.FileRefusal.TheVariants as refusals
+use Rattle.feed_files.specs.Files.{HasNoPlace, IsCounted, Kept, Names, Reads, Shelf, Spares, Stays, new_name}
+use Rattle.feed_files.specs.declared.files.FileRefusal.{FileRefusal}
+use Rattle.feed_files.specs.declared.files.FileRefusal.TheVariants as refusals
 use Rattle.desk_outputs.specs.Kinds.{Stands}
 use Rattle.desk_outputs.specs.declared.kinds.Kind.{Kind}
 use Rattle.desk_outputs.specs.declared.fault.OutputFault.{OutputFault}

@@ -4,7 +4,7 @@ ghost use Rattle.std.specs.Prelude.{◌≡◌};
 ghost use Rattle.desk_outputs.specs.declared.fault.OutputFault.TheVariants as faults;
 
 use crate::kinds::Kind;
-use desk_files::FileRefusal;
+use feed_files::FileRefusal;
 use thiserror::Error;
 
 /// Why a file that was made is not stored under its name.

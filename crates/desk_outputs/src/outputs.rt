@@ -1,13 +1,13 @@
 //! A file that was made, stored over a file of its own kind alone.
 
 ghost use Rattle.std.specs.Prelude.{◌≡◌, IfErr, IfOk, OnOk, false};
-ghost use Rattle.desk_files.specs.Files.{HoldsOn, IsReplaced, touched};
+ghost use Rattle.feed_files.specs.Files.{HoldsOn, IsReplaced, touched};
 ghost use Rattle.desk_outputs.specs.Kinds.{Stands};
 ghost use Rattle.desk_outputs.specs.Outputs.{GivesWay, IsFree, IsNotPut, IsUnseen, destination};
 
 use crate::fault::OutputFault;
 use crate::kinds::{Kind, kind_of};
-use desk_files::{FileRefusal, Files, store};
+use feed_files::{FileRefusal, Files, store};
 use std::alloc::Allocator;
 
 /// Where a file that was made is stored.

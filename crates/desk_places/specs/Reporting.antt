@@ -2,8 +2,8 @@
 use Rattle.std.specs.Prelude.{ℕ, ◌+◌, ◌-◌, ◌==◌, List, [], ◌∷◌, ◌++◌, length, take, drop, codes, if◌then◌else◌}
 use Rattle.std.specs.Fmt.{decimal}
 use Rattle.desk_ops.specs.declared.op.Symbol.{Symbol}
-use Rattle.desk_text.specs.Plain.{all_shown}
-use Rattle.desk_text.specs.Writing.{text_bytes}
+use Rattle.text_copy.specs.Plain.{all_shown}
+use Rattle.text_copy.specs.Writing.{text_bytes}
 use Rattle.desk_places.specs.Places.{places_of}
 
 -- from 20 symbols before a place to 20 behind a text of so many symbols there, as far as the copy goes

@@ -6,8 +6,8 @@ ghost use Rattle.desk_places.specs.Reporting.{more_line, place_line, place_lines
 
 use desk_memory::NoMemory;
 use desk_ops::Symbol;
-use desk_text::{all_shown, write_text};
 use std::alloc::{AllocError, Allocator};
+use text_copy::{all_shown, write_text};
 
 /// So many symbols are shown before a place, and behind the text there.
 const AROUND: usize = 20;

@@ -10,7 +10,7 @@ use Rattle.desk_ops.specs.Shown.{copy_of, shown_of}
 use Rattle.desk_ops.proofs.Lists.{each-among}
 use Rattle.desk_ops.proofs.Means.{clear_insert, live-parts, some-same}
 use Rattle.desk_ops.proofs.Parts.{shown_live}
-use Rattle.desk_text.specs.Laws.{AreLawful}
+use Rattle.text_copy.specs.Laws.{AreLawful}
 
 insert_symbol : (o : Op) (x : Insertion) → insertion o ≡ Some x → IsLawful o → IsSymbol x.symbol
 insert_symbol (Insert s p y) x e l = subst (λ (x : Insertion). IsSymbol x.symbol) (some-same (record { stamp = s; parent = p; symbol = y }) x e) l.3

@@ -3,17 +3,17 @@ use Rattle.std.specs.Prelude.{◌≡◌, ◌≢◌, ℕ, ◌+◌, Bool, List, []
 use Rattle.desk_ops.specs.declared.op.Symbol.{Symbol}
 use Rattle.desk_ops.specs.OpSet.{OpSet}
 use Rattle.desk_ops.specs.Shown.{copy_of}
-use Rattle.desk_text.specs.Reading.{reading}
-use Rattle.desk_text.specs.declared.fault.TextFault.{TextFault}
-use Rattle.desk_text.specs.declared.fault.TextFault.TheVariants as texts
-use Rattle.desk_files.specs.Files.{Shelf}
+use Rattle.text_copy.specs.Reading.{reading}
+use Rattle.text_copy.specs.declared.fault.TextFault.{TextFault}
+use Rattle.text_copy.specs.declared.fault.TextFault.TheVariants as texts
+use Rattle.feed_files.specs.Files.{Shelf}
 use Rattle.desk_places.specs.Places.{places_of}
-use Rattle.desk_hand.specs.Editing.{IsRevised, IsSparing, IsUnrevised}
-use Rattle.desk_hand.specs.Keeping.{IsKept, IsUnkept, edited_line}
-use Rattle.desk_hand.specs.Merging.{IsBarred}
-use Rattle.desk_hand.specs.Room.{IsBarredHere, IsOpenedHere}
+use Rattle.feed_edit.specs.Editing.{IsRevised, IsSparing, IsUnrevised}
+use Rattle.feed_edit.specs.Keeping.{IsKept, IsUnkept, edited_line}
+use Rattle.feed_edit.specs.Merging.{IsBarred}
+use Rattle.feed_edit.specs.Room.{IsBarredHere, IsOpenedHere}
 use Rattle.feed_last.specs.Room.{IsMarked}
-use Rattle.desk_hand.specs.declared.fault.RevisionFault.TheVariants as revisions
+use Rattle.feed_edit.specs.declared.fault.RevisionFault.TheVariants as revisions
 use Rattle.desk_replace.specs.Reporting.{IsReported}
 use Rattle.desk_replace.specs.declared.texts.Exchange.{Exchange}
 use Rattle.desk_replace.specs.declared.fault.ExchangeFault.{ExchangeFault}

@@ -2,7 +2,7 @@
 use Rattle.std.specs.Prelude.{◌≡◌, ◌≢◌, ℕ, ◌<◌, List, [], Option, length}
 use Rattle.std.specs.Io.KnownBytes.{Appends}
 use Rattle.desk_ops.specs.declared.op.Symbol.{Symbol}
-use Rattle.desk_stored.specs.Sending.{WritesPrefix}
+use Rattle.feed_stored.specs.Sending.{WritesPrefix}
 use Rattle.desk_places.specs.Places.{places_of}
 use Rattle.desk_places.specs.Reporting.{reported_of}
 use Rattle.desk_replace.specs.declared.fault.PlaceFault.{PlaceFault}

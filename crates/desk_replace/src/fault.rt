@@ -4,10 +4,10 @@ ghost use Rattle.std.specs.Prelude.{◌≡◌};
 ghost use Rattle.desk_replace.specs.declared.fault.PlaceFault.TheVariants as places;
 ghost use Rattle.desk_replace.specs.declared.fault.ReplaceFault.TheVariants as faults;
 
-use desk_hand::{KeepFault, RevisionFault, TakeFault};
 use desk_memory::NoMemory;
-use desk_text::TextFault;
+use feed_edit::{KeepFault, RevisionFault, TakeFault};
 use feed_last::LastFault;
+use text_copy::TextFault;
 use thiserror::Error;
 
 /// Why the two texts are not read. Nothing was begun.

@@ -2,8 +2,8 @@
 
 ghost use Rattle.std.specs.Prelude.{◌≡◌, ◌≤◌, ◌+◌, ◌⊎◌, length, IfErr, IfOk, OnOk};
 ghost use Rattle.desk_ops.specs.Shown.{copy_of};
-ghost use Rattle.desk_files.specs.Files.{IsHeldAlone, Stays};
-ghost use Rattle.desk_text.specs.Laws.{AreLawful};
+ghost use Rattle.feed_files.specs.Files.{IsHeldAlone, Stays};
+ghost use Rattle.text_copy.specs.Laws.{AreLawful};
 ghost use Rattle.desk_replace.specs.Replacing.{IsExchanged, IsReplaced, IsUnreplaced, replaced};
 ghost use Rattle.desk_replace.specs.Reporting.{IsReported};
 
@@ -11,11 +11,11 @@ use crate::fault::{PlaceFault, ReplaceFault};
 use crate::reporting::only_place;
 use crate::texts::{Exchange, read_both};
 use desk_blocks::Blocks;
-use desk_files::Files;
-use desk_hand::{report_and_keep, revise, take_feed};
 use desk_memory::NoMemory;
 use desk_ops::Symbol;
 use desk_replica::Replica;
+use feed_edit::{report_and_keep, revise, take_feed};
+use feed_files::Files;
 use feed_last::{let_in, mark};
 use std::alloc::Allocator;
 use std::io::Write;
@@ -60,7 +60,7 @@ fn exchanged<W: Write, A: Allocator + Copy>(
 }
 
 /// Makes a text another in the copy of a stored feed, at the one place where it stands, by few inserts and deletes of the
-/// site; no other operation is made, and nothing that the feed held is lost. Both texts are read as `desk_text` reads
+/// site; no other operation is made, and nothing that the feed held is lost. Both texts are read as `text_copy` reads
 /// them,
 /// with marks for their styles or plain, before anything is begun; `Exchange` is the first fault of one. The name of
 /// the feed is then taken, for this run alone; a missing one holds nothing. `Last` comes unless an older feed is

@@ -7,7 +7,7 @@ ghost use Rattle.desk_replace.specs.Reporting.{IsReported};
 use crate::fault::PlaceFault;
 use desk_ops::Symbol;
 use desk_places::{places_of, reported_places};
-use desk_stored::write_out;
+use feed_stored::write_out;
 use std::alloc::Allocator;
 use std::io::Write;
 

@@ -1,15 +1,15 @@
 //! The text that is to be replaced, and the one that is to take its place.
 
 ghost use Rattle.std.specs.Prelude.{◌≡◌, IfErr, IfOk};
-ghost use Rattle.desk_text.specs.Laws.{AreLawful};
+ghost use Rattle.text_copy.specs.Laws.{AreLawful};
 ghost use Rattle.desk_replace.specs.Replacing.{AreRead, AreUnread, fault_of};
 
 use crate::fault::ExchangeFault;
 use desk_ops::Symbol;
-use desk_text::{TextFault, read_text};
 use std::alloc::Allocator;
+use text_copy::{TextFault, read_text};
 
-/// A text that is to be replaced, and one that is to take its place. Both have marks for their styles, as `desk_text`
+/// A text that is to be replaced, and one that is to take its place. Both have marks for their styles, as `text_copy`
 /// reads them, or both are plain.
 #[derive(Clone, Copy)]
 pub struct Exchange<'a> {

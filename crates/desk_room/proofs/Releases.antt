@@ -17,7 +17,7 @@ use Rattle.desk_ops.specs.OpSet.{OpSet, has_op, with_op}
 use Rattle.desk_ops.proofs.Stamps.{by_cases, is_equal, same-refl, same-symm, before-other}
 use Rattle.desk_ops.proofs.Joined.{has_op-with_op_own}
 use Rattle.desk_ops.proofs.Lists.{each-at}
-use Rattle.desk_pages.specs.Pages.{IsEdge}
+use Rattle.list_pages.specs.Pages.{IsEdge}
 use Rattle.desk_room.specs.Waiting.{HasTarget, is_some_same, waits_for, waiting_at, IsReleased}
 use Rattle.desk_room.specs.Turn.{target_or_head, turn_cmp, IsInTurn, IsKept, set_of}
 use Rattle.desk_room.proofs.Turns.{IsDown, earlier-down, above-down, edge-below, behind, after, absent-at_edge, apart-remove, each-remove, turn-remove, has-target, no_one-waits, first-waits}

@@ -9,8 +9,8 @@ ghost use Rattle.desk_room.specs.Waiting.{HasTarget, waits_for, waiting_at, IsRe
 
 use desk_memory::NoMemory;
 use desk_ops::{Op, Stamp};
-use desk_pages::Pages;
 use desk_slots::{Slot, insert_in_order, remove_in_order, seek, slots_of};
+use list_pages::Pages;
 use std::alloc::Allocator;
 use std::marker::Model;
 

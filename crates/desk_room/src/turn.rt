@@ -6,8 +6,8 @@ ghost use Rattle.std.specs.Ordering.{is_lt};
 ghost use Rattle.desk_room.specs.Turn.{target_or_head, turn_cmp, IsInTurn};
 
 use desk_ops::{Op, Stamp};
-use desk_pages::Pick;
 use desk_slots::Slot;
+use list_pages::Pick;
 use std::cmp::Ordering;
 
 /// The target, and the head where there is none.

@@ -5,9 +5,9 @@ use Rattle.std.specs.Io.KnownBytes.{Consumes, IsAtEnd}
 use Rattle.std.proofs.lemmas.List.{append-nil}
 use Rattle.desk_steps.specs.Line.{Line, line_of}
 use Rattle.desk_script.specs.Lines.{without_cr, lines}
-use Rattle.desk_answers.specs.Text.{output}
-use Rattle.desk_files.specs.Files.{Shelf, Stays}
-use Rattle.desk_world.specs.Sites.{Sites}
+use Rattle.script_answers.specs.Text.{output}
+use Rattle.feed_files.specs.Files.{Shelf, Stays}
+use Rattle.script_world.specs.Sites.{Sites}
 use Rattle.desk_steps.specs.Desk.{Desk, desk}
 use Rattle.desk_script.specs.Script.{Turn, StopsWithin, StopsBefore, Answers, AnswersBefore, AnswersPrefix}
 use Rattle.desk_script.specs.Pending.{Breaks, BreaksBefore, Carries, Moves, Progress, last_line, lines_from}

@@ -7,18 +7,18 @@ use Rattle.std.proofs.lemmas.Cmp.{eq_by_cmp_equiv}
 use Rattle.std.specs.FinMap as fin
 use Rattle.desk_ops.specs.declared.op.Op.{Op}
 use Rattle.desk_ops.specs.OpSet.{OpSet, no_ops, with_all}
-use Rattle.desk_files.specs.declared.files.FileRefusal.{FileRefusal}
-use Rattle.desk_files.specs.declared.files.FileRefusal.TheVariants as refusals
-use Rattle.desk_files.specs.Files.{HasFailed, HasRisen, IsCounted, Shelf}
-use Rattle.desk_world.specs.Sites.{Sites, no_sites}
+use Rattle.feed_files.specs.declared.files.FileRefusal.{FileRefusal}
+use Rattle.feed_files.specs.declared.files.FileRefusal.TheVariants as refusals
+use Rattle.feed_files.specs.Files.{HasFailed, HasRisen, IsCounted, Shelf}
+use Rattle.script_world.specs.Sites.{Sites, no_sites}
 use Rattle.desk_steps.specs.Desk.{KeepsSites}
-use Rattle.desk_stored.specs.declared.fault.OpenFault.{OpenFault}
-use Rattle.desk_stored.specs.declared.fault.OpenFault.TheVariants as openings
+use Rattle.feed_stored.specs.declared.fault.OpenFault.{OpenFault}
+use Rattle.feed_stored.specs.declared.fault.OpenFault.TheVariants as openings
 use Rattle.desk_script.specs.declared.fault.LineFault.{LineFault}
 use Rattle.desk_script.specs.declared.fault.LineFault.TheVariants as lines
 use Rattle.desk_script.specs.declared.fault.RunFault.TheVariants as faults
 use Rattle.desk_script.specs.Fault.{of_file, of_lines, of_opening}
-use Rattle.desk_stored.specs.Stored.{Stores}
+use Rattle.feed_stored.specs.Stored.{Stores}
 use Rattle.desk_script.specs.FeedRun.{IsUnbegun, one_site}
 
 -- the site of the feed is there to the end

@@ -1,6 +1,6 @@
 -- Runs in a room.
 use Rattle.std.proofs.Common.{◌≡◌, ℕ}
-use Rattle.desk_files.specs.declared.files.FileRefusal.TheVariants as refusals
+use Rattle.feed_files.specs.declared.files.FileRefusal.TheVariants as refusals
 use Rattle.desk_script.specs.Fault.{of_last}
 use Rattle.desk_script.specs.declared.fault.RoomFault.TheVariants as rooms
 use Rattle.desk_script.specs.declared.fault.RunFault.{RunFault}

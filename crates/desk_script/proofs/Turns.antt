@@ -3,14 +3,14 @@ use Rattle.std.proofs.Common.{◌≡◌, ℕ, inl, inr, true, false, List, [], �
 use Rattle.std.specs.Io.KnownBytes.{Appends, Keeps}
 use Rattle.std.proofs.KnownBytes.{Appends-kept, Appends-nil, Appends-trans}
 use Rattle.std.proofs.lemmas.List.{append-nil}
-use Rattle.desk_answers.specs.Reply.{ReplyValues, Refused, is_long}
-use Rattle.desk_answers.specs.declared.text.Refusal.{Refusal}
-use Rattle.desk_answers.specs.declared.text.Refusal.TheVariants as refusals
-use Rattle.desk_answers.specs.Text.{text, output}
-use Rattle.desk_files.specs.Files.{Shelf, Stays}
+use Rattle.script_answers.specs.Reply.{ReplyValues, Refused, is_long}
+use Rattle.script_answers.specs.declared.text.Refusal.{Refusal}
+use Rattle.script_answers.specs.declared.text.Refusal.TheVariants as refusals
+use Rattle.script_answers.specs.Text.{text, output}
+use Rattle.feed_files.specs.Files.{Shelf, Stays}
 use Rattle.desk_steps.specs.Desk.{Desk}
 use Rattle.desk_steps.specs.Line.{Allows, Bytes, Line, Long}
-use Rattle.desk_stored.specs.Sending.{WritesPrefix}
+use Rattle.feed_stored.specs.Sending.{WritesPrefix}
 use Rattle.desk_script.specs.Script.{Script, Turn, StopsWithin, StopsBefore, IsReported}
 
 pub no_turn : (old : Desk) (a : Option (List ℕ)) → Turn old old a a []

@@ -1,9 +1,9 @@
 -- Why a run stopped, by the phase in which it did.
 use Rattle.std.specs.Prelude.{◌≡◌}
-use Rattle.desk_files.specs.declared.files.FileRefusal.{FileRefusal}
-use Rattle.desk_files.specs.declared.files.FileRefusal.TheVariants as refusals
-use Rattle.desk_stored.specs.declared.fault.OpenFault.{OpenFault}
-use Rattle.desk_stored.specs.declared.fault.OpenFault.TheVariants as openings
+use Rattle.feed_files.specs.declared.files.FileRefusal.{FileRefusal}
+use Rattle.feed_files.specs.declared.files.FileRefusal.TheVariants as refusals
+use Rattle.feed_stored.specs.declared.fault.OpenFault.{OpenFault}
+use Rattle.feed_stored.specs.declared.fault.OpenFault.TheVariants as openings
 use Rattle.desk_script.specs.declared.fault.LineFault.{LineFault}
 use Rattle.desk_script.specs.declared.fault.LineFault.TheVariants as lines
 use Rattle.desk_script.specs.declared.fault.RunFault.{RunFault}

@@ -4,18 +4,18 @@ use Rattle.std.specs.FinMap as fin
 use Rattle.desk_ops.specs.declared.op.Op.{Op}
 use Rattle.desk_ops.specs.OpSet.{OpSet, max_ops, no_ops, size, with_all}
 use Rattle.desk_codec.specs.Runs.{set_feed}
-use Rattle.desk_files.specs.Files.{Counts, IsNowHeld, Reads, Shelf, Stays}
+use Rattle.feed_files.specs.Files.{Counts, IsNowHeld, Reads, Shelf, Stays}
 use Rattle.desk_script.specs.Fault.{of_file, of_lines, of_opening}
-use Rattle.desk_stored.specs.Fault.{IsNotStored, IsUnopened, IsUnread, IsUntaken}
-use Rattle.desk_stored.specs.Stored.{IsStoredAs, Stores, as_read}
-use Rattle.desk_stored.specs.declared.fault.OpenFault.{OpenFault}
-use Rattle.desk_stored.specs.declared.fault.OpenFault.TheVariants as openings
+use Rattle.feed_stored.specs.Fault.{IsNotStored, IsUnopened, IsUnread, IsUntaken}
+use Rattle.feed_stored.specs.Stored.{IsStoredAs, Stores, as_read}
+use Rattle.feed_stored.specs.declared.fault.OpenFault.{OpenFault}
+use Rattle.feed_stored.specs.declared.fault.OpenFault.TheVariants as openings
 use Rattle.desk_script.specs.declared.fault.LineFault.{LineFault}
 use Rattle.desk_script.specs.declared.fault.LineFault.TheVariants as faults
 use Rattle.desk_script.specs.declared.fault.RunFault.{RunFault}
-use Rattle.desk_files.specs.declared.files.FileRefusal.{FileRefusal}
+use Rattle.feed_files.specs.declared.files.FileRefusal.{FileRefusal}
 use Rattle.desk_script.specs.Lines.{lines}
-use Rattle.desk_world.specs.Sites.{Sites, no_sites}
+use Rattle.script_world.specs.Sites.{Sites, no_sites}
 use Rattle.desk_steps.specs.Desk.{Desk}
 use Rattle.desk_script.specs.Script.{Turn, StopsWithin, StopsBefore}
 

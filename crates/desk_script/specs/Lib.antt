@@ -1,12 +1,12 @@
 -- The words of what a script is made of stay reachable from here, used in the repository or not.
-pub use Rattle.desk_files.specs.Files
-pub use Rattle.desk_stored.specs.Sending
-pub use Rattle.desk_world.specs.Sites
-pub use Rattle.desk_world.specs.World
-pub use Rattle.desk_commands.specs.Command
-pub use Rattle.desk_commands.specs.Grammar
-pub use Rattle.desk_answers.specs.Reply
-pub use Rattle.desk_answers.specs.Text
+pub use Rattle.feed_files.specs.Files
+pub use Rattle.feed_stored.specs.Sending
+pub use Rattle.script_world.specs.Sites
+pub use Rattle.script_world.specs.World
+pub use Rattle.script_commands.specs.Command
+pub use Rattle.script_commands.specs.Grammar
+pub use Rattle.script_answers.specs.Reply
+pub use Rattle.script_answers.specs.Text
 pub use Rattle.desk_inputs.specs.Inputs
 pub use Rattle.desk_inputs.specs.Job
 pub use Rattle.desk_steps.specs.Desk

@@ -1,7 +1,7 @@
 -- Lines while their bytes come in.
 use Rattle.std.specs.Prelude.{◌≡◌, ℕ, ◌==◌, true, false, List, [], ◌∷◌, ◌++◌, Option, Some, None}
-use Rattle.desk_files.specs.Files.{Shelf}
-use Rattle.desk_world.specs.Sites.{Sites}
+use Rattle.feed_files.specs.Files.{Shelf}
+use Rattle.script_world.specs.Sites.{Sites}
 use Rattle.desk_steps.specs.Line.{Line, line_of}
 use Rattle.desk_script.specs.Lines.{without_cr}
 use Rattle.desk_steps.specs.Desk.{Desk, desk}

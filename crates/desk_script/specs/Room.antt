@@ -2,11 +2,11 @@
 use Rattle.std.specs.Prelude.{◌≡◌, ◌⊎◌, ℕ, Bool, true, false, List, Option, Some, IfSome}
 use Rattle.std.specs.FinMap as fin
 use Rattle.desk_ops.specs.OpSet.{OpSet}
-use Rattle.desk_files.specs.declared.files.FileRefusal.{FileRefusal}
-use Rattle.desk_files.specs.Files.{IsNowHeld, Shelf, Stays}
+use Rattle.feed_files.specs.declared.files.FileRefusal.{FileRefusal}
+use Rattle.feed_files.specs.Files.{IsNowHeld, Shelf, Stays}
 use Rattle.desk_steps.specs.Desk.{Desk, desk}
-use Rattle.desk_stored.specs.Fault.{IsNotStored, IsUnread, IsUntaken}
-use Rattle.desk_stored.specs.declared.fault.OpenFault.{OpenFault}
+use Rattle.feed_stored.specs.Fault.{IsNotStored, IsUnread, IsUntaken}
+use Rattle.feed_stored.specs.declared.fault.OpenFault.{OpenFault}
 use Rattle.desk_script.specs.Fault.{of_file, of_last, of_lines, of_opening}
 use Rattle.desk_script.specs.FeedRun.{AnswersAll, IsClosed, IsStart, IsStored}
 use Rattle.desk_script.specs.Lines.{lines}

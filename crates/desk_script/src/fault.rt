@@ -6,10 +6,10 @@ ghost use Rattle.desk_script.specs.declared.fault.LineFault.TheVariants as lines
 ghost use Rattle.desk_script.specs.declared.fault.RoomFault.TheVariants as rooms;
 
 use desk_codec::FeedFault;
-use desk_files::FileRefusal;
 use desk_replica::Stopped;
-use desk_stored::{OpenFault, Unsent};
+use feed_files::FileRefusal;
 use feed_last::LastFault;
+use feed_stored::{OpenFault, Unsent};
 use std::alloc::AllocFailed;
 use thiserror::Error;
 

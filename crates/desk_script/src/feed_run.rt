@@ -5,18 +5,18 @@ ghost use Rattle.std.specs.FinMap as fin;
 ghost use Rattle.std.specs.Io.KnownBytes.{IsAtEnd};
 ghost use Rattle.desk_ops.specs.declared.op.Op.{Op};
 ghost use Rattle.desk_ops.specs.OpSet.{OpSet, max_ops, no_ops, size, with_all};
-ghost use Rattle.desk_stored.specs.Fault.{IsNotStored};
-ghost use Rattle.desk_files.specs.Files.{HasFailed, HoldsOn, IsHeldAlone, Stays};
+ghost use Rattle.feed_stored.specs.Fault.{IsNotStored};
+ghost use Rattle.feed_files.specs.Files.{HasFailed, HoldsOn, IsHeldAlone, Stays};
 ghost use Rattle.desk_steps.specs.Desk.{desk};
-ghost use Rattle.desk_stored.specs.Stored.{Stores, was_read};
+ghost use Rattle.feed_stored.specs.Stored.{Stores, was_read};
 ghost use Rattle.desk_script.specs.FeedRun.{AnswersStored, IsStoppedOnFeed, IsStored, IsUnbegun, one_site};
 
 use crate::fault::RunFault;
 use crate::stream::answer_all;
-use desk_files::{FileRefusal, Files};
 use desk_inputs::Memory;
-use desk_stored::{OpenFault, keep_replica, open_replica, stored_bytes};
-use desk_world::World;
+use feed_files::{FileRefusal, Files};
+use feed_stored::{OpenFault, keep_replica, open_replica, stored_bytes};
+use script_world::World;
 use std::alloc::{Allocator, Global};
 use std::io::{Read, Write};
 

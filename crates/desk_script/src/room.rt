@@ -4,7 +4,7 @@ ghost use Rattle.std.specs.Prelude.{◌≡◌, ◌≤◌, ◌⊎◌, IfErr, IsEr
 ghost use Rattle.std.specs.FinMap as fin;
 ghost use Rattle.std.specs.Io.KnownBytes.{IsAtEnd};
 ghost use Rattle.desk_ops.specs.OpSet.{OpSet};
-ghost use Rattle.desk_files.specs.Files.{HasFailed, HoldsOn, IsHeldAlone, Stays};
+ghost use Rattle.feed_files.specs.Files.{HasFailed, HoldsOn, IsHeldAlone, Stays};
 ghost use Rattle.desk_steps.specs.Desk.{desk};
 ghost use Rattle.desk_script.specs.Room.{AnswersInRoom, IsKeptOut, IsLetIn, IsMarked, IsStoppedInRoom};
 ghost use Rattle.feed_last.specs.Last.{SparesAll};
@@ -12,11 +12,11 @@ ghost use Rattle.feed_last.specs.Last.{SparesAll};
 use crate::fault::{RoomFault, RunFault};
 use crate::feed_run::{keep_feed, opened};
 use crate::stream::answer_all;
-use desk_files::{FileRefusal, Files};
 use desk_inputs::Memory;
-use desk_stored::stored_bytes;
-use desk_world::World;
+use feed_files::{FileRefusal, Files};
 use feed_last::{LastFault, check_last, is_compared, note_last};
+use feed_stored::stored_bytes;
+use script_world::World;
 use std::alloc::{Allocator, Global};
 use std::io::{Read, Write};
 

@@ -4,24 +4,24 @@ ghost use Rattle.std.specs.Prelude.{◌≡◌, ◌≢◌, ℕ, ◌≤◌, ◌++�
 ghost use Rattle.std.specs.Io.KnownBytes.{Appends, IsAtEnd, Keeps};
 ghost use Rattle.desk_steps.specs.Line.{Line, line_of};
 ghost use Rattle.desk_script.specs.Lines.{without_cr};
-ghost use Rattle.desk_answers.specs.Reply.{ReplyValues, reply_values};
-ghost use Rattle.desk_answers.specs.Text.{text};
-ghost use Rattle.desk_world.specs.Sites.{Sites, no_sites};
+ghost use Rattle.script_answers.specs.Reply.{ReplyValues, reply_values};
+ghost use Rattle.script_answers.specs.Text.{text};
+ghost use Rattle.script_world.specs.Sites.{Sites, no_sites};
 ghost use Rattle.desk_steps.specs.Desk.{KeepsSites, desk};
-ghost use Rattle.desk_files.specs.Files.{Stays};
+ghost use Rattle.feed_files.specs.Files.{Stays};
 ghost use Rattle.desk_script.specs.Script.{Turn, StopsWithin, Answers, AnswersBefore, AnswersPrefix, IsReported};
-ghost use Rattle.desk_stored.specs.Sending.{WritesPrefix};
+ghost use Rattle.feed_stored.specs.Sending.{WritesPrefix};
 ghost use Rattle.desk_script.specs.Fault.{IsOfLines};
 ghost use Rattle.desk_script.specs.Pending.{Breaks, BreaksBefore, Moves, last_line, lines_from, progress};
 
 use crate::fault::{LineFault, RunFault};
-use desk_answers::{Reply, put, short};
-use desk_files::Files;
 use desk_inputs::Memory;
 use desk_memory::NoMemory;
 use desk_steps::{MAX_LINE, answer};
-use desk_stored::let_out;
-use desk_world::World;
+use feed_files::Files;
+use feed_stored::let_out;
+use script_answers::{Reply, put, short};
+use script_world::World;
 use std::alloc::{Allocator, Global};
 use std::io::{Read, Write};
 
@@ -46,7 +46,7 @@ fn send<W: Write>(writer: &mut W, bytes: &[u8]) -> Result<(), LineFault>
     ensures err { OnErr result (WritesPrefix (W.contents writer.old) (W.contents writer.new) bytes.now) }
     ensures fault { IfErr result (λ fault. fault ≡ LineFault.Write) }
 {
-    Ok(desk_stored::send(writer, bytes)?)
+    Ok(feed_stored::send(writer, bytes)?)
 }
 
 /// Lets out what the writer holds back.

@@ -1,5 +1,5 @@
 -- Why a sheet was not carried out, by the phase in which it stopped.
-use Rattle.desk_files.specs.declared.input.ReaderFault.TheVariants as readers
+use Rattle.feed_files.specs.declared.input.ReaderFault.TheVariants as readers
 use Rattle.desk_script.specs.Fault.{of_file, of_opening}
 use Rattle.desk_script.specs.declared.fault.RunFault.TheVariants as runs
 use Rattle.desk_sheet.specs.declared.fault.AnswerFault.{AnswerFault}

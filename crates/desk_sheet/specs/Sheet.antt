@@ -2,12 +2,12 @@
 use Rattle.std.specs.Prelude.{◌≡◌, ℕ, ◌+◌, ◌==◌, ◌&&◌, Bool, true, false, MatchBool, List, [], ◌∷◌, ◌++◌, length, codes, Option, None, Some, if◌then◌else◌}
 use Rattle.std.specs.Fmt.{decimal}
 use Rattle.std.specs.Io.KnownBytes.{Appends, IsAtEnd}
-use Rattle.desk_answers.specs.Reply.{ReplyValues, Done, Made, MadeMany, Counted, Copy, Feed, Faults, Settings, Ribbon, NoRibbon, Lines, Refused, Stopped}
-use Rattle.desk_answers.specs.Text.{text}
-use Rattle.desk_files.specs.Input.{HasTaken, IsInput, IsNotWhole, IsReadTo}
+use Rattle.script_answers.specs.Reply.{ReplyValues, Done, Made, MadeMany, Counted, Copy, Feed, Faults, Settings, Ribbon, NoRibbon, Lines, Refused, Stopped}
+use Rattle.script_answers.specs.Text.{text}
+use Rattle.feed_files.specs.Input.{HasTaken, IsInput, IsNotWhole, IsReadTo}
 use Rattle.desk_steps.specs.Desk.{Desk}
 use Rattle.desk_steps.specs.Line.{Line, Bytes, Long, Allows}
-use Rattle.desk_stored.specs.Sending.{WritesPrefix}
+use Rattle.feed_stored.specs.Sending.{WritesPrefix}
 use Rattle.desk_script.specs.Lines.{lines}
 use Rattle.desk_sheet.specs.Phases.{of_answers}
 use Rattle.desk_sheet.specs.declared.fault.AnswerFault.{AnswerFault}

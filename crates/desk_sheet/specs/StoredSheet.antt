@@ -1,9 +1,9 @@
 -- A sheet of commands on a stored feed.
 use Rattle.std.specs.Prelude.{◌≡◌, ◌⊎◌, ℕ, Bool, List, Option}
 use Rattle.std.specs.Io.KnownBytes.{IsAtEnd}
-use Rattle.desk_files.specs.declared.files.FileRefusal.{FileRefusal}
-use Rattle.desk_files.specs.Files.{IsNowHeld, Shelf, Stays}
-use Rattle.desk_stored.specs.Fault.{IsNotStored, IsUnread, IsUntaken}
+use Rattle.feed_files.specs.declared.files.FileRefusal.{FileRefusal}
+use Rattle.feed_files.specs.Files.{IsNowHeld, Shelf, Stays}
+use Rattle.feed_stored.specs.Fault.{IsNotStored, IsUnread, IsUntaken}
 use Rattle.desk_script.specs.Fault.{of_file}
 use Rattle.desk_script.specs.FeedRun.{IsClosed, IsStart, IsStored}
 use Rattle.desk_script.specs.Room as room

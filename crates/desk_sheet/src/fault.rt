@@ -2,17 +2,17 @@
 
 ghost use Rattle.std.specs.Prelude.{◌≡◌};
 ghost use Rattle.desk_script.specs.Fault.{of_file};
-ghost use Rattle.desk_stored.specs.declared.fault.OpenFault.TheVariants as openings;
+ghost use Rattle.feed_stored.specs.declared.fault.OpenFault.TheVariants as openings;
 ghost use Rattle.desk_sheet.specs.Phases.{of_answers, of_letting, of_taking};
 ghost use Rattle.desk_sheet.specs.declared.fault.AnswerFault.TheVariants as answers;
 ghost use Rattle.desk_sheet.specs.declared.fault.SheetFault.TheVariants as faults;
 ghost use Rattle.desk_sheet.specs.declared.fault.TakeFault.TheVariants as takes;
 
-use desk_files::{FileRefusal, ReaderFault};
 use desk_memory::NoMemory;
 use desk_script::RunFault;
-use desk_stored::{OpenFault, Unsent};
+use feed_files::{FileRefusal, ReaderFault};
 use feed_last::LastFault;
+use feed_stored::{OpenFault, Unsent};
 use thiserror::Error;
 
 // ---- the phases

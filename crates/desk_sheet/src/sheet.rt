@@ -2,23 +2,23 @@
 
 ghost use Rattle.std.specs.Prelude.{◌≡◌, ◌<◌, ◌++◌, Bool, IfErr, IfOk, MatchBool, OnErr, OnOk, length, string_bytes};
 ghost use Rattle.std.specs.Io.KnownBytes.{IsAtEnd};
-ghost use Rattle.desk_answers.specs.Reply.{reply_values};
-ghost use Rattle.desk_files.specs.Files.{Stays};
+ghost use Rattle.script_answers.specs.Reply.{reply_values};
+ghost use Rattle.feed_files.specs.Files.{Stays};
 ghost use Rattle.desk_script.specs.Lines.{lines};
 ghost use Rattle.desk_steps.specs.Desk.{KeepsSites, desk};
 ghost use Rattle.desk_steps.specs.Line.{line_of};
-ghost use Rattle.desk_world.specs.Sites.{Sites, no_sites};
+ghost use Rattle.script_world.specs.Sites.{Sites, no_sites};
 ghost use Rattle.desk_sheet.specs.Sheet.{Ends, IsDone, IsLeft, IsStopped, IsUnanswered, LeavesOff, Stops, Reports, answer_line, head, is_passed_over, is_refusal};
 
 use crate::fault::{AnswerFault, SheetFault};
 use crate::lines::next_line;
-use desk_answers::{Reply, put};
-use desk_files::{Files, read_whole};
 use desk_inputs::Memory;
 use desk_memory::NoMemory;
 use desk_steps::{MAX_LINE, answer};
-use desk_stored::write_out;
-use desk_world::World;
+use feed_files::{Files, read_whole};
+use feed_stored::write_out;
+use script_answers::{Reply, put};
+use script_world::World;
 use std::alloc::{AllocError, Allocator, Global};
 use std::io::{Read, Write};
 

@@ -2,19 +2,19 @@
 
 ghost use Rattle.std.specs.Prelude.{◌≡◌, ◌≤◌, ◌⊎◌, IfErr, IfOk, OnOk};
 ghost use Rattle.std.specs.Io.KnownBytes.{IsAtEnd};
-ghost use Rattle.desk_files.specs.Files.{IsHeldAlone, Stays};
+ghost use Rattle.feed_files.specs.Files.{IsHeldAlone, Stays};
 ghost use Rattle.desk_steps.specs.Desk.{desk};
-ghost use Rattle.desk_stored.specs.Stored.{was_read};
+ghost use Rattle.feed_stored.specs.Stored.{was_read};
 ghost use Rattle.desk_sheet.specs.StoredSheet.{IsBarred, IsStoppedOnFeed, IsOpened, IsStoredSheet, LeavesOffOnFeed};
 
 use crate::fault::{SheetFault, TakeFault};
 use crate::sheet::{Mode, answer_sheet};
-use desk_files::Files;
 use desk_inputs::Memory;
 use desk_script::{keep_feed, let_in, mark};
-use desk_stored::{open_replica, stored_bytes};
-use desk_world::World;
+use feed_files::Files;
 use feed_last::is_compared;
+use feed_stored::{open_replica, stored_bytes};
+use script_world::World;
 use std::alloc::{Allocator, Global};
 use std::io::{Read, Write};
 

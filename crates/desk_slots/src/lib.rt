@@ -4,10 +4,10 @@
 ghost use Rattle.std.specs.Prelude.{◌≡◌, ◌+◌, ◌≤◌, ◌<◌, ◌++◌, ℕ, length, slice_index_or, IfOk, IfSome, IsNone};
 ghost use Rattle.std.specs.List.{insert, remove};
 ghost use Rattle.desk_ops.specs.Op.{stamp_of};
-ghost use Rattle.desk_pages.specs.Pages.{IsEdge};
+ghost use Rattle.list_pages.specs.Pages.{IsEdge};
 
 use desk_ops::{Key, Op, Stamp, Style, Symbol};
-use desk_pages::{Pages, Pick};
+use list_pages::{Pages, Pick};
 use std::alloc::{AllocError, Allocator};
 use std::marker::Model;
 

@@ -9,25 +9,25 @@ use Rattle.desk_ops.specs.OpSet.{OpSet, in_order}
 use Rattle.desk_ops.specs.Shown.{copy_of}
 use Rattle.desk_held.specs.declared.AddRefusal.{AddRefusal}
 use Rattle.desk_held.specs.declared.AddRefusal.TheVariants as adds
-use Rattle.desk_commands.specs.Grammar.{command_of}
-use Rattle.desk_commands.specs.Command.{CommandValues, Site, Insert, Delete, SetTo, Take, Send, Merge, Show, Faults, Settings, Feed, Ribbon, Cast, Restart}
-use Rattle.desk_answers.specs.NotDone.{event_reply, stopped_after}
-use Rattle.desk_answers.specs.Reply.{ReplyValues, Refused, Stopped, is_long}
-use Rattle.desk_answers.specs.Reply as replies
-use Rattle.desk_answers.specs.declared.text.Refusal.{Refusal}
-use Rattle.desk_answers.specs.declared.text.Refusal.TheVariants as refusals
-use Rattle.desk_files.specs.Files.{Shelf}
+use Rattle.script_commands.specs.Grammar.{command_of}
+use Rattle.script_commands.specs.Command.{CommandValues, Site, Insert, Delete, SetTo, Take, Send, Merge, Show, Faults, Settings, Feed, Ribbon, Cast, Restart}
+use Rattle.script_answers.specs.NotDone.{event_reply, stopped_after}
+use Rattle.script_answers.specs.Reply.{ReplyValues, Refused, Stopped, is_long}
+use Rattle.script_answers.specs.Reply as replies
+use Rattle.script_answers.specs.declared.text.Refusal.{Refusal}
+use Rattle.script_answers.specs.declared.text.Refusal.TheVariants as refusals
+use Rattle.feed_files.specs.Files.{Shelf}
 use Rattle.desk_inputs.specs.Job.{IsJobByFiles}
 use Rattle.desk_inputs.proofs.Gives.{both_same}
 use Rattle.desk_inputs.specs.declared.job.Wanted.{Wanted}
 use Rattle.desk_inputs.specs.declared.job.Wanted.TheVariants as wants
-use Rattle.desk_world.specs.Sites.{Sites}
-use Rattle.desk_world.specs.World.{taken}
-use Rattle.desk_world.specs.World as events
-use Rattle.desk_world.specs.declared.world.Answer.{Answer}
-use Rattle.desk_world.specs.declared.world.Answer.TheVariants as answers
-use Rattle.desk_world.specs.declared.world.StepRefusal.{StepRefusal}
-use Rattle.desk_world.specs.declared.world.StepRefusal.TheVariants as steps
+use Rattle.script_world.specs.Sites.{Sites}
+use Rattle.script_world.specs.World.{taken}
+use Rattle.script_world.specs.World as events
+use Rattle.script_world.specs.declared.world.Answer.{Answer}
+use Rattle.script_world.specs.declared.world.Answer.TheVariants as answers
+use Rattle.script_world.specs.declared.world.StepRefusal.{StepRefusal}
+use Rattle.script_world.specs.declared.world.StepRefusal.TheVariants as steps
 use Rattle.desk_steps.specs.Act.{Does, GivesPart, Jobs, Performs, Takes, sent}
 use Rattle.desk_steps.specs.Desk.{Desk}
 use Rattle.desk_steps.specs.Event.{Happens, set_of}

@@ -5,13 +5,13 @@ use Rattle.desk_ops.specs.declared.op.Op.{Op}
 use Rattle.desk_ops.specs.declared.op.Stamp.{Stamp}
 use Rattle.desk_ops.specs.declared.op.Symbol.{Symbol}
 use Rattle.desk_ops.specs.Op.{stamp_of}
-use Rattle.desk_answers.specs.NotDone.{event_reply}
-use Rattle.desk_answers.specs.Reply.{ReplyValues}
-use Rattle.desk_world.specs.Sites.{Sites}
-use Rattle.desk_world.specs.World.{Steps}
-use Rattle.desk_world.specs.World as events
-use Rattle.desk_world.specs.declared.world.Answer.TheVariants as answers
-use Rattle.desk_world.specs.declared.world.StepRefusal.{StepRefusal}
+use Rattle.script_answers.specs.NotDone.{event_reply}
+use Rattle.script_answers.specs.Reply.{ReplyValues}
+use Rattle.script_world.specs.Sites.{Sites}
+use Rattle.script_world.specs.World.{Steps}
+use Rattle.script_world.specs.World as events
+use Rattle.script_world.specs.declared.world.Answer.TheVariants as answers
+use Rattle.script_world.specs.declared.world.StepRefusal.{StepRefusal}
 use Rattle.desk_steps.specs.Insert.{Inserts, first_of, after}
 
 -- the next symbol is refused

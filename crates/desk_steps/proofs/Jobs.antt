@@ -2,15 +2,15 @@
 use Rattle.std.proofs.Common.{◌≡◌, ℕ, ◌⊎◌, inl, inr, List, refl, ap, subst}
 use Rattle.std.specs.Prelude.{Some, Err, MatchOption}
 use Rattle.desk_ops.specs.OpSet.{OpSet}
-use Rattle.desk_files.specs.Files.{Shelf}
-use Rattle.desk_answers.specs.Failure.{IfReplied, refusal_of}
-use Rattle.desk_answers.specs.Reply.{ReplyValues, Refused}
-use Rattle.desk_answers.specs.declared.text.Refusal.TheVariants as refusals
-use Rattle.desk_answers.specs.declared.failure.Failure.{Failure}
-use Rattle.desk_answers.specs.declared.failure.Failure.TheVariants as failures
+use Rattle.feed_files.specs.Files.{Shelf}
+use Rattle.script_answers.specs.Failure.{IfReplied, refusal_of}
+use Rattle.script_answers.specs.Reply.{ReplyValues, Refused}
+use Rattle.script_answers.specs.declared.text.Refusal.TheVariants as refusals
+use Rattle.script_answers.specs.declared.failure.Failure.{Failure}
+use Rattle.script_answers.specs.declared.failure.Failure.TheVariants as failures
 use Rattle.desk_inputs.specs.Job.{IsJobByFiles, JobLacksMemory}
 use Rattle.desk_inputs.specs.declared.job.Wanted.{Wanted}
-use Rattle.desk_world.specs.Sites.{Sites}
+use Rattle.script_world.specs.Sites.{Sites}
 use Rattle.desk_steps.specs.Act.{Jobs, LacksMemory, Refuses}
 use Rattle.desk_steps.specs.Desk.{desk}
 use Rattle.desk_steps.specs.Event.{set_of}

@@ -10,18 +10,18 @@ use Rattle.desk_ops.specs.Op.{stamp_of}
 use Rattle.desk_ops.specs.OpSet.{OpSet, in_order}
 use Rattle.desk_ops.specs.Shown.{copy_of}
 use Rattle.desk_replica.specs.declared.Count.{Count}
-use Rattle.desk_commands.specs.Grammar.{command_of}
-use Rattle.desk_commands.specs.Command.{CommandValues, Site, Insert, Delete, SetTo, Take, Send, Merge, Show, Faults, Settings, Feed, Ribbon, Cast, Restart}
-use Rattle.desk_answers.specs.Reply.{ReplyValues}
+use Rattle.script_commands.specs.Grammar.{command_of}
+use Rattle.script_commands.specs.Command.{CommandValues, Site, Insert, Delete, SetTo, Take, Send, Merge, Show, Faults, Settings, Feed, Ribbon, Cast, Restart}
+use Rattle.script_answers.specs.Reply.{ReplyValues}
 use Rattle.desk_inputs.specs.declared.job.Wanted.{Wanted}
 use Rattle.desk_inputs.specs.declared.job.Wanted.TheVariants as wants
-use Rattle.desk_world.specs.Sites.{Sites, all_held}
-use Rattle.desk_world.specs.World.{Brings, EditsSite, Steps, site_refusal}
-use Rattle.desk_world.specs.World as events
-use Rattle.desk_world.specs.declared.world.Answer.{Answer}
-use Rattle.desk_world.specs.declared.world.LocalEdit.{LocalEdit}
-use Rattle.desk_world.specs.declared.world.LocalEdit.TheVariants as kinds
-use Rattle.desk_world.specs.declared.world.StepRefusal.{StepRefusal}
+use Rattle.script_world.specs.Sites.{Sites, all_held}
+use Rattle.script_world.specs.World.{Brings, EditsSite, Steps, site_refusal}
+use Rattle.script_world.specs.World as events
+use Rattle.script_world.specs.declared.world.Answer.{Answer}
+use Rattle.script_world.specs.declared.world.LocalEdit.{LocalEdit}
+use Rattle.script_world.specs.declared.world.LocalEdit.TheVariants as kinds
+use Rattle.script_world.specs.declared.world.StepRefusal.{StepRefusal}
 use Rattle.desk_steps.specs.Act.{Does, GivesPart, Jobs, Performs, Takes, sent}
 use Rattle.desk_steps.specs.Desk.{Desk, KeepsSites}
 use Rattle.desk_steps.specs.Event.{Happens, set_of}

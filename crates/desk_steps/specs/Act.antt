@@ -13,18 +13,18 @@ use Rattle.desk_replica.specs.JobSettings.{settings_of}
 use Rattle.desk_inputs.specs.Job.{IsJobByFiles}
 use Rattle.desk_inputs.specs.declared.job.Wanted.{Wanted}
 use Rattle.desk_inputs.specs.declared.job.Wanted.TheVariants as wants
-use Rattle.desk_answers.specs.NotDone.{event_reply}
-use Rattle.desk_answers.specs.declared.failure.Failure.{Failure}
-use Rattle.desk_answers.specs.declared.failure.Failure.TheVariants as failures
-use Rattle.desk_answers.specs.declared.text.Refusal.{Refusal}
-use Rattle.desk_answers.specs.declared.text.Refusal.TheVariants as refusals
-use Rattle.desk_answers.specs.Reply.{ReplyValues, Copy, Refused}
-use Rattle.desk_answers.specs.Reply as replies
-use Rattle.desk_commands.specs.Command.{CommandValues, Site, Insert, Delete, SetTo, Take, Send, Merge, Show, Faults, Settings, Feed, Ribbon, Cast, Restart}
-use Rattle.desk_world.specs.Sites.{Sites}
-use Rattle.desk_world.specs.World.{Brings, taken}
-use Rattle.desk_world.specs.World as events
-use Rattle.desk_world.specs.declared.world.StepRefusal.{StepRefusal}
+use Rattle.script_answers.specs.NotDone.{event_reply}
+use Rattle.script_answers.specs.declared.failure.Failure.{Failure}
+use Rattle.script_answers.specs.declared.failure.Failure.TheVariants as failures
+use Rattle.script_answers.specs.declared.text.Refusal.{Refusal}
+use Rattle.script_answers.specs.declared.text.Refusal.TheVariants as refusals
+use Rattle.script_answers.specs.Reply.{ReplyValues, Copy, Refused}
+use Rattle.script_answers.specs.Reply as replies
+use Rattle.script_commands.specs.Command.{CommandValues, Site, Insert, Delete, SetTo, Take, Send, Merge, Show, Faults, Settings, Feed, Ribbon, Cast, Restart}
+use Rattle.script_world.specs.Sites.{Sites}
+use Rattle.script_world.specs.World.{Brings, taken}
+use Rattle.script_world.specs.World as events
+use Rattle.script_world.specs.declared.world.StepRefusal.{StepRefusal}
 use Rattle.desk_steps.specs.Desk.{Desk}
 use Rattle.desk_steps.specs.Event.{Happens, Says, set_of}
 use Rattle.desk_steps.specs.Insert.{Inserts, all_symbols}

@@ -2,8 +2,8 @@
 use Rattle.std.specs.Prelude.{◌≡◌, ℕ, Some}
 use Rattle.std.specs.FinMap as fin
 use Rattle.desk_ops.specs.OpSet.{OpSet}
-use Rattle.desk_files.specs.Files.{Shelf}
-use Rattle.desk_world.specs.Sites.{Sites}
+use Rattle.feed_files.specs.Files.{Shelf}
+use Rattle.script_world.specs.Sites.{Sites}
 
 -- the sites of a world, and the files
 pub record Desk : Type 0 where

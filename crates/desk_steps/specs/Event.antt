@@ -2,13 +2,13 @@
 use Rattle.std.specs.Prelude.{◌≡◌, ℕ, nat_lt, Option, None, Result, if◌then◌else◌}
 use Rattle.std.specs.FinMap as fin
 use Rattle.desk_ops.specs.OpSet.{OpSet}
-use Rattle.desk_answers.specs.NotDone.{event_reply}
-use Rattle.desk_answers.specs.Reply.{ReplyValues}
-use Rattle.desk_world.specs.Sites.{Sites}
-use Rattle.desk_world.specs.World.{Steps}
-use Rattle.desk_world.specs.World as events
-use Rattle.desk_world.specs.declared.world.Answer.{Answer}
-use Rattle.desk_world.specs.declared.world.StepRefusal.{StepRefusal}
+use Rattle.script_answers.specs.NotDone.{event_reply}
+use Rattle.script_answers.specs.Reply.{ReplyValues}
+use Rattle.script_world.specs.Sites.{Sites}
+use Rattle.script_world.specs.World.{Steps}
+use Rattle.script_world.specs.World as events
+use Rattle.script_world.specs.declared.world.Answer.{Answer}
+use Rattle.script_world.specs.declared.world.StepRefusal.{StepRefusal}
 
 -- an event happens, and the reply is that of its result
 abbrev pub Happens : Sites → events.EventValues → ReplyValues → Sites → Type 0

@@ -1,8 +1,8 @@
 -- A line of a script, and the answer that it may get.
 use Rattle.std.specs.Prelude.{ℕ, ◌⊎◌, nat_le, List, length, MatchOption, if◌then◌else◌}
-use Rattle.desk_answers.specs.Reply.{ReplyValues}
-use Rattle.desk_answers.specs.declared.text.Refusal.TheVariants as refusals
-use Rattle.desk_commands.specs.Grammar.{command_of}
+use Rattle.script_answers.specs.Reply.{ReplyValues}
+use Rattle.script_answers.specs.declared.text.Refusal.TheVariants as refusals
+use Rattle.script_commands.specs.Grammar.{command_of}
 use Rattle.desk_steps.specs.Act.{LacksMemory, Performs, Refuses}
 use Rattle.desk_steps.specs.Desk.{Desk}
 

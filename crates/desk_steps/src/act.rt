@@ -1,10 +1,10 @@
 //! What each command does.
 
 ghost use Rattle.std.specs.Prelude.{◌≡◌, ◌⊎◌, All, IfErr, IfOk, Some};
-ghost use Rattle.desk_answers.specs.NotDone.{reply_to};
-ghost use Rattle.desk_commands.specs.Command as commands;
-ghost use Rattle.desk_commands.specs.Command.{command_values};
-ghost use Rattle.desk_files.specs.Files.{Stays};
+ghost use Rattle.script_answers.specs.NotDone.{reply_to};
+ghost use Rattle.script_commands.specs.Command as commands;
+ghost use Rattle.script_commands.specs.Command.{command_values};
+ghost use Rattle.feed_files.specs.Files.{Stays};
 ghost use Rattle.desk_ops.specs.Op.{IsLawful};
 ghost use Rattle.desk_ops.specs.OpSet.{in_order};
 ghost use Rattle.desk_steps.specs.Act.{Attempts, Does, IsBrought, IsNoPart, Jobs, Lacks, LacksMemory, Takes, Tries, sent};
@@ -12,15 +12,15 @@ ghost use Rattle.desk_steps.specs.Desk.{desk};
 
 use crate::event::{happen, number_of, replica_of};
 use crate::insert::insert;
-use desk_answers::{Failure, NotDone, Refusal, Reply};
 use desk_blocks::Blocks;
 use desk_codec::{ReadFault, read_feed};
-use desk_commands::Command;
-use desk_files::Files;
 use desk_inputs::{Memory, Wanted, job_by_files};
 use desk_ops::{Key, Op};
 use desk_replica::Replica;
-use desk_world::{Answer, Event, World};
+use feed_files::Files;
+use script_answers::{Failure, NotDone, Refusal, Reply};
+use script_commands::Command;
+use script_world::{Answer, Event, World};
 use std::alloc::Allocator;
 
 fn add_site<A: Allocator + Copy>(world: &mut World<A>, site: u32) -> Result<Reply<A>, NotDone>

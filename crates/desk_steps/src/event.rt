@@ -2,14 +2,14 @@
 
 ghost use Rattle.std.specs.Prelude.{◌≡◌, IfErr, IfOk, MatchResult, None, Some};
 ghost use Rattle.desk_ops.specs.OpSet.{OpSet};
-ghost use Rattle.desk_answers.specs.NotDone.{reply_to};
+ghost use Rattle.script_answers.specs.NotDone.{reply_to};
 ghost use Rattle.desk_steps.specs.Event.{Happens, set_of};
-ghost use Rattle.desk_world.specs.World.{IsSound, event_values};
+ghost use Rattle.script_world.specs.World.{IsSound, event_values};
 
-use desk_answers::{Failure, NotDone, Refusal, Reply};
 use desk_blocks::Blocks;
 use desk_replica::Replica;
-use desk_world::{Event, World};
+use script_answers::{Failure, NotDone, Refusal, Reply};
+use script_world::{Event, World};
 use std::alloc::Allocator;
 
 /// The replica of the site that a command names.

@@ -1,17 +1,17 @@
 //! Symbols inserted one after another.
 
 ghost use Rattle.std.specs.Prelude.{◌≡◌, ◌+◌, ◌<◌, ◌^◌, length, None};
-ghost use Rattle.desk_answers.specs.NotDone.{reply_of, reply_to};
-ghost use Rattle.desk_answers.specs.Reply.{reply_values};
-ghost use Rattle.desk_commands.specs.Command as commands;
+ghost use Rattle.script_answers.specs.NotDone.{reply_of, reply_to};
+ghost use Rattle.script_answers.specs.Reply.{reply_values};
+ghost use Rattle.script_commands.specs.Command as commands;
 ghost use Rattle.desk_ops.specs.Op.{stamp_of};
 ghost use Rattle.desk_steps.specs.Act.{Does};
 ghost use Rattle.desk_steps.specs.Insert.{Inserts, after, all_made, all_symbols, first_of};
 
 use crate::event::replica_of;
-use desk_answers::{NotDone, Refusal, Reply};
 use desk_ops::{Op, Stamp, Symbol};
-use desk_world::{Answer, Event, World};
+use script_answers::{NotDone, Refusal, Reply};
+use script_world::{Answer, Event, World};
 use std::alloc::Allocator;
 
 /// A refusal after that many edits says that these stand.

@@ -1,18 +1,18 @@
 //! A line, carried out and answered.
 
 ghost use Rattle.std.specs.Prelude.{◌≡◌, true};
-ghost use Rattle.desk_answers.specs.NotDone.{reply_to};
-ghost use Rattle.desk_answers.specs.Reply.{is_long, reply_values};
-ghost use Rattle.desk_files.specs.Files.{Stays};
+ghost use Rattle.script_answers.specs.NotDone.{reply_to};
+ghost use Rattle.script_answers.specs.Reply.{is_long, reply_values};
+ghost use Rattle.feed_files.specs.Files.{Stays};
 ghost use Rattle.desk_steps.specs.Desk.{KeepsSites, desk};
 ghost use Rattle.desk_steps.specs.Line.{Allows, line_of};
 
 use crate::act::act;
-use desk_answers::{NotDone, Refusal, Reply};
-use desk_commands::parse;
-use desk_files::Files;
 use desk_inputs::Memory;
-use desk_world::World;
+use feed_files::Files;
+use script_answers::{NotDone, Refusal, Reply};
+use script_commands::parse;
+use script_world::World;
 use std::alloc::Allocator;
 
 /// The most bytes of a command's line, without its end: a longer one is refused.

@@ -12,10 +12,10 @@ use Rattle.desk_ops.specs.declared.op.Key.TheVariants as keys
 use Rattle.desk_replica.specs.JobSettings.{settings_of}
 use Rattle.desk_replica.specs.declared.settings.Settings.{Settings}
 use Rattle.desk_job.specs.Answer.{by_key}
-use Rattle.desk_commands.specs.Grammar.{command_of}
-use Rattle.desk_commands.specs.Reading.{◌>>=◌}
-use Rattle.desk_commands.specs.Command.{CommandValues, SetTo}
-use Rattle.desk_commands.specs.Command as commands
+use Rattle.script_commands.specs.Grammar.{command_of}
+use Rattle.script_commands.specs.Reading.{◌>>=◌}
+use Rattle.script_commands.specs.Command.{CommandValues, SetTo}
+use Rattle.script_commands.specs.Command as commands
 use Rattle.desk_trial.specs.declared.TrialFault.{TrialFault}
 use Rattle.desk_trial.specs.declared.TrialFault.TheVariants as fault
 

@@ -9,17 +9,17 @@
 pub mod laws;
 
 ghost use Rattle.std.specs.Prelude.{◌≡◌, ◌≢◌, ◌≤◌, length, Err, IfErr, IfOk, IfSome, None, Some, option_map, string_bytes};
-ghost use Rattle.desk_commands.specs.Command.{command_values};
-ghost use Rattle.desk_commands.specs.Memory.{AsksMemory};
+ghost use Rattle.script_commands.specs.Command.{command_values};
+ghost use Rattle.script_commands.specs.Memory.{AsksMemory};
 ghost use Rattle.desk_job.specs.Answer.{AreValues};
 ghost use Rattle.desk_ops.specs.Op.{IsValue};
 ghost use Rattle.desk_trial.specs.Trial.{HasLine, HasPlace, line_of, no_trial, set_by, set_in, trial_of, tried_by, tried_with, with_value};
 ghost use Rattle.desk_trial.specs.declared.TrialFault.TheVariants as fault;
 
-use desk_commands::{Command, ParseError, parse};
 use desk_memory::NoMemory;
 use desk_ops::Key;
 use desk_replica::Settings;
+use script_commands::{Command, ParseError, parse};
 use std::alloc::{AllocError, Allocator};
 use thiserror::Error;
 

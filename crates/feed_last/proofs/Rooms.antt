@@ -1,7 +1,7 @@
 -- Runs in a room.
 use Rattle.std.proofs.Common.{◌≡◌, ap, refl, inl, inr, ◌∙◌}
 use Rattle.std.specs.Prelude.{◌⊎◌, OnErr, OnOk, Result, Ok, Err}
-use Rattle.desk_files.specs.Files.{Hold, Free, HoldsOn, Touched, Untouched, touched}
+use Rattle.feed_files.specs.Files.{Hold, Free, HoldsOn, Touched, Untouched, touched}
 
 -- either way a call went
 pub either : {V E P Q : Type 0} (result : Result V E) → OnOk result P → OnErr result Q → P ⊎ Q

@@ -1,10 +1,10 @@
 -- FEED.last beside FEED: when it refuses a run, and what is written of it.
 use Rattle.std.specs.Prelude.{◌≡◌, ◌≢◌, ◌<◌, ◌⊎◌, ℕ, List, [], ◌++◌, MatchOption, Option, None, Some, Result, Ok, Err, codes}
 use Rattle.desk_ops.specs.declared.op.Stamp.{Stamp}
-use Rattle.desk_files.specs.Files.{Counts, Kept, Names, Reads, Shelf, new_name}
-use Rattle.desk_files.specs.declared.files.FileRefusal.{FileRefusal}
-use Rattle.desk_files.specs.declared.files.FileRefusal.TheVariants as refusals
-use Rattle.desk_stored.specs.Stored.{IsStoredAs, as_read}
+use Rattle.feed_files.specs.Files.{Counts, Kept, Names, Reads, Shelf, new_name}
+use Rattle.feed_files.specs.declared.files.FileRefusal.{FileRefusal}
+use Rattle.feed_files.specs.declared.files.FileRefusal.TheVariants as refusals
+use Rattle.feed_stored.specs.Stored.{IsStoredAs, as_read}
 use Rattle.feed_last.specs.declared.fault.LastFault.{LastFault}
 use Rattle.feed_last.specs.declared.fault.LastFault.TheVariants as faults
 use Rattle.desk_ops.specs.OpSet.{OpSet}

@@ -1,7 +1,7 @@
 -- A stored feed that a room works on: when FEED.last lets it in, and what is noted of it.
 use Rattle.std.specs.Prelude.{◌≡◌, ◌⊎◌, ℕ, Bool, true, false, not, List, Option, None, Some}
 use Rattle.desk_ops.specs.OpSet.{OpSet}
-use Rattle.desk_files.specs.Files.{Shelf, Spares, Stays, new_name}
+use Rattle.feed_files.specs.Files.{Shelf, Spares, Stays, new_name}
 use Rattle.feed_last.specs.Greatest.{greatest_of}
 use Rattle.feed_last.specs.Last.{IsHeldBack, IsNotOlder, IsNoted, last_name, stamp_by}
 use Rattle.feed_last.specs.declared.fault.LastFault.{LastFault}

@@ -1,8 +1,8 @@
 //! FEED.last, read before a run and written after it.
 
 ghost use Rattle.std.specs.Prelude.{◌≡◌, ◌↔◌, IfErr, IfOk, IsTrue, List, MatchOption, OnErr, OnOk, Some, ℕ, string_bytes};
-ghost use Rattle.desk_files.specs.Files.{HoldsOn, Spares, Stays, new_name};
-ghost use Rattle.desk_stored.specs.Stored.{was_read};
+ghost use Rattle.feed_files.specs.Files.{HoldsOn, Spares, Stays, new_name};
+ghost use Rattle.feed_stored.specs.Stored.{was_read};
 ghost use Rattle.feed_last.specs.Last.{HadStamps, IsHeldBack, IsNoted, IsNotOlder, SaysAll, SparesAll, last_name, stamp_by};
 ghost use Rattle.feed_last.specs.Greatest.{greatest_of};
 ghost use Rattle.feed_last.specs.Text.{Records, last_text, with_stamp};
@@ -12,11 +12,11 @@ use crate::fault::LastFault;
 use crate::greatest::greatest_in;
 use crate::text::{counter_of, stamps_in, text_with};
 use desk_blocks::Blocks;
-use desk_files::{FileRefusal, Files, store};
 use desk_memory::NoMemory;
 use desk_ops::Stamp;
 use desk_replica::Replica;
-use desk_stored::stored_bytes;
+use feed_files::{FileRefusal, Files, store};
+use feed_stored::stored_bytes;
 use std::alloc::{AllocError, Allocator};
 
 /// The name of the file beside a feed.

@@ -1,15 +1,15 @@
 //! A stored feed that a room works on, which keeps how far its sites have come there.
 
 ghost use Rattle.std.specs.Prelude.{◌≡◌, IfErr, OnOk};
-ghost use Rattle.desk_files.specs.Files.{HoldsOn, Stays};
-ghost use Rattle.desk_stored.specs.Stored.{was_read};
+ghost use Rattle.feed_files.specs.Files.{HoldsOn, Stays};
+ghost use Rattle.feed_stored.specs.Stored.{was_read};
 ghost use Rattle.feed_last.specs.Room.{IsKeptOut, IsLetIn, IsMarked, is_compared};
 
 use crate::fault::LastFault;
 use crate::last::{check_last, note_last};
 use desk_blocks::Blocks;
-use desk_files::Files;
 use desk_replica::Replica;
+use feed_files::Files;
 use std::alloc::Allocator;
 
 /// Whether a feed is compared with FEED.last: one was read, and an older one is not wanted.

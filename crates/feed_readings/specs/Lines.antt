@@ -3,8 +3,8 @@ use Rattle.std.specs.Prelude.{ℕ, ◌+◌, ◌-◌, Bool, nat_lt, min, if◌the
 use Rattle.std.specs.Fmt.{decimal}
 use Rattle.desk_ops.specs.OpSet.{OpSet, union}
 use Rattle.desk_ops.specs.declared.op.Symbol.{Symbol}
-use Rattle.desk_text.specs.Plain.{all_shown}
-use Rattle.desk_text.specs.Writing.{text_bytes}
+use Rattle.text_copy.specs.Plain.{all_shown}
+use Rattle.text_copy.specs.Writing.{text_bytes}
 use Rattle.feed_readings.specs.declared.reading.Reading.{Reading}
 use Rattle.feed_readings.specs.declared.reading.Shown.{Shown}
 use Rattle.feed_readings.specs.Merged.{in_common, readings_of, shown_list}

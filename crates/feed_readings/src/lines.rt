@@ -10,8 +10,8 @@ use crate::reading::{Reading, Shown};
 use crate::walk::{open_readings, part};
 use desk_memory::NoMemory;
 use desk_ops::Symbol;
-use desk_text::{all_shown, write_text};
 use std::alloc::{AllocError, Allocator};
+use text_copy::{all_shown, write_text};
 
 /// Four lists of shown elements: what two copies have in common, the one, the other, and what both make.
 #[derive(Drop)]

@@ -6,7 +6,7 @@ use Rattle.std.specs.Cmp.Lexicographic.{pointwise, same_text}
 use Rattle.std.proofs.lemmas.Bool.{false≢true}
 use Rattle.std.proofs.lemmas.Cmp.{nat_list_eq_equiv}
 use Rattle.std.proofs.lemmas.List.{take-append-drop}
-use Rattle.desk_files.specs.Files.{new_name}
+use Rattle.feed_files.specs.Files.{new_name}
 
 pub named_front : (new feed : List ℕ) → feed ≡ new_name new → take (length new) feed ≡ new
 named_front new feed named = ap (take (length new)) named ∙ take-append_seam new (codes ".new")

@@ -2,7 +2,7 @@
 use Rattle.std.proofs.Common.{◌≡◌, ◌∙◌, ℕ, Bool, false, IsTrue, List, ap, sym}
 use Rattle.std.specs.Prelude.{◌≢◌, ◌↔◌}
 use Rattle.std.proofs.lemmas.Bool.{false≢true}
-use Rattle.desk_files.specs.Files.{Names, new_name}
+use Rattle.feed_files.specs.Files.{Names, new_name}
 
 -- other names stand for what they stood for, over three calls of which the one between changes nothing
 pub others_stay : (new : List ℕ) (first held opened last : Names) → ((other : List ℕ) → other ≢ new → other ≢ new_name new → held other ≡ first other) → opened ≡ held

@@ -5,12 +5,12 @@ use Rattle.std.specs.Io.KnownBytes.{Appends}
 use Rattle.desk_ops.specs.OpSet.{OpSet}
 use Rattle.desk_ops.specs.Shown.{copy_of}
 use Rattle.desk_codec.specs.Runs.{set_feed}
-use Rattle.desk_files.specs.Files.{IsNowHeld, IsReplaced, Reads, Shelf, Stays, new_name}
-use Rattle.desk_files.specs.declared.files.FileRefusal.{FileRefusal}
-use Rattle.desk_files.specs.declared.files.FileRefusal.TheVariants as refusals
-use Rattle.desk_hand.specs.Exporting.{IsClosedBy, IsSetOf}
-use Rattle.desk_hand.specs.Keeping.{IsUnkept}
-use Rattle.desk_hand.specs.Merging.{IsBarred}
+use Rattle.feed_files.specs.Files.{IsNowHeld, IsReplaced, Reads, Shelf, Stays, new_name}
+use Rattle.feed_files.specs.declared.files.FileRefusal.{FileRefusal}
+use Rattle.feed_files.specs.declared.files.FileRefusal.TheVariants as refusals
+use Rattle.feed_edit.specs.Exporting.{IsClosedBy, IsSetOf}
+use Rattle.feed_edit.specs.Keeping.{IsUnkept}
+use Rattle.feed_edit.specs.Merging.{IsBarred}
 use Rattle.feed_renew.specs.Anew.{IsAnew}
 use Rattle.feed_renew.specs.declared.fault.RenewFault.{RenewFault}
 use Rattle.feed_renew.specs.declared.fault.RenewFault.TheVariants as faults

@@ -7,7 +7,7 @@ ghost use Rattle.desk_ops.specs.OpSet.{max_ops, size};
 ghost use Rattle.desk_ops.specs.Shown.{copy_of};
 ghost use Rattle.desk_ops.specs.Settings.{setting_of};
 ghost use Rattle.desk_replica.specs.JobSettings.{settings_of};
-ghost use Rattle.desk_text.specs.Laws.{AreLawful};
+ghost use Rattle.text_copy.specs.Laws.{AreLawful};
 ghost use Rattle.feed_renew.specs.Anew.{AreInRange, HasNone, IsAnew, IsOwn, one_if, values_in, with_value};
 
 use desk_blocks::Blocks;

@@ -1,11 +1,11 @@
 //! Why no new feed was made, by the phase in which it stopped.
 
 ghost use Rattle.std.specs.Prelude.{◌≡◌};
-ghost use Rattle.desk_hand.specs.declared.fault.KeepFault.TheVariants as keeps;
+ghost use Rattle.feed_edit.specs.declared.fault.KeepFault.TheVariants as keeps;
 ghost use Rattle.feed_renew.specs.declared.fault.RenewFault.TheVariants as renewals;
 
-use desk_hand::{FeedTrouble, KeepFault, TakeFault};
 use desk_memory::NoMemory;
+use feed_edit::{FeedTrouble, KeepFault, TakeFault};
 use thiserror::Error;
 
 /// Why no new feed was made of a stored one.

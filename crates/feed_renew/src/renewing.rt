@@ -3,18 +3,18 @@
 ghost use Rattle.std.specs.Prelude.{◌≡◌, ◌≢◌, ◌↔◌, ◌≤◌, ◌⊎◌, IfErr, IfOk, IsTrue, List, OnOk, ℕ, string_bytes};
 ghost use Rattle.std.specs.Io.KnownBytes.{Appends};
 ghost use Rattle.desk_codec.specs.Runs.{set_feed};
-ghost use Rattle.desk_files.specs.Files.{HoldsOn, IsHeldAlone, IsReplaced, Stays, new_name};
-ghost use Rattle.desk_hand.specs.Keeping.{IsUnkept};
+ghost use Rattle.feed_files.specs.Files.{HoldsOn, IsHeldAlone, IsReplaced, Stays, new_name};
+ghost use Rattle.feed_edit.specs.Keeping.{IsUnkept};
 ghost use Rattle.feed_renew.specs.Renewing.{IsFree, IsNotFree, IsNotRenewed, IsRenewed, renewed_line};
 
 use crate::anew::made_anew;
 use crate::fault::RenewFault;
 use desk_blocks::Blocks;
-use desk_files::{FileRefusal, Files};
-use desk_hand::{FeedTrouble, KeepFault, TakeFault, open_feed};
 use desk_memory::NoMemory;
 use desk_replica::Replica;
-use desk_stored::{keep_replica, write_out};
+use feed_edit::{FeedTrouble, KeepFault, TakeFault, open_feed};
+use feed_files::{FileRefusal, Files};
+use feed_stored::{keep_replica, write_out};
 use std::alloc::Allocator;
 use std::io::Write;
 

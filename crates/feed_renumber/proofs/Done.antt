@@ -3,10 +3,10 @@ use Rattle.std.proofs.Common.{◌≡◌, ◌∙◌, ◌<◌, ◌⊎◌, inl, inr
 use Rattle.std.specs.Prelude.{◌↔◌, IsTrue, Option}
 use Rattle.std.proofs.lemmas.Bool.{true≢false}
 use Rattle.desk_ops.specs.OpSet.{OpSet, size}
-use Rattle.desk_files.specs.Files.{IsHeldAlone, Shelf, Stays}
-use Rattle.desk_hand.specs.Keeping.{IsUnkept}
-use Rattle.desk_hand.specs.declared.fault.KeepFault.{KeepFault}
-use Rattle.desk_hand.specs.declared.fault.KeepFault.TheVariants as keeps
+use Rattle.feed_files.specs.Files.{IsHeldAlone, Shelf, Stays}
+use Rattle.feed_edit.specs.Keeping.{IsUnkept}
+use Rattle.feed_edit.specs.declared.fault.KeepFault.{KeepFault}
+use Rattle.feed_edit.specs.declared.fault.KeepFault.TheVariants as keeps
 use Rattle.feed_renumber.specs.Renumbering.{IsUndone, IsUnopened, IsUnrenumbered, IsUnwritten, Reports}
 use Rattle.feed_renumber.specs.declared.fault.RenumberFault.{RenumberFault}
 use Rattle.feed_renumber.specs.declared.fault.RenumberFault.TheVariants as faults

@@ -3,15 +3,15 @@ use Rattle.std.specs.Prelude.{◌≡◌, ◌⊎◌, ◌<◌, ℕ, true, List, []
 use Rattle.std.specs.Fmt.{decimal}
 use Rattle.std.specs.Io.KnownBytes.{Appends}
 use Rattle.desk_ops.specs.OpSet.{OpSet, size}
-use Rattle.desk_files.specs.Files.{Shelf, Stays}
-use Rattle.desk_stored.specs.Fault.{IsNotStored}
-use Rattle.desk_stored.specs.Sending.{WritesPrefix}
-use Rattle.desk_hand.specs.Exporting.{IsClosedBy, IsSetOf}
-use Rattle.desk_hand.specs.Keeping.{IsKept}
-use Rattle.desk_hand.specs.Merging.{IsBarred, IsOpened}
-use Rattle.desk_hand.specs.declared.fault.KeepFault.{KeepFault}
-use Rattle.desk_hand.specs.declared.fault.KeepFault.TheVariants as keeps
-use Rattle.desk_difference.specs.Reported.{ReportsWords}
+use Rattle.feed_files.specs.Files.{Shelf, Stays}
+use Rattle.feed_stored.specs.Fault.{IsNotStored}
+use Rattle.feed_stored.specs.Sending.{WritesPrefix}
+use Rattle.feed_edit.specs.Exporting.{IsClosedBy, IsSetOf}
+use Rattle.feed_edit.specs.Keeping.{IsKept}
+use Rattle.feed_edit.specs.Merging.{IsBarred, IsOpened}
+use Rattle.feed_edit.specs.declared.fault.KeepFault.{KeepFault}
+use Rattle.feed_edit.specs.declared.fault.KeepFault.TheVariants as keeps
+use Rattle.feed_compare.specs.Reported.{ReportsWords}
 use Rattle.feed_renumber.specs.Moving.{set_renumbered}
 use Rattle.feed_renumber.specs.Refusing.{IsRefused, MayMove}
 use Rattle.feed_renumber.specs.declared.fault.RenumberFault.{RenumberFault}

@@ -4,9 +4,9 @@ ghost use Rattle.std.specs.Prelude.{◌≡◌};
 ghost use Rattle.feed_renumber.specs.declared.fault.NumberFault.TheVariants as numbers;
 ghost use Rattle.feed_renumber.specs.declared.fault.RenumberFault.TheVariants as faults;
 
-use desk_hand::{FeedTrouble, KeepFault, TakeFault};
 use desk_memory::NoMemory;
 use desk_ops::Stamp;
+use feed_edit::{FeedTrouble, KeepFault, TakeFault};
 use thiserror::Error;
 
 /// Why a number does not serve.

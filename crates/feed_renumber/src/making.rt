@@ -10,11 +10,11 @@ use crate::fault::NumberFault;
 use crate::moving::{all_renumbered, moved_of};
 use crate::refusals::{any_uses, clashes, first_seen};
 use desk_blocks::Blocks;
-use desk_hand::ANY_SITE;
 use desk_held::Held;
 use desk_memory::NoMemory;
 use desk_ops::Op;
 use desk_replica::Replica;
+use feed_edit::ANY_SITE;
 use std::alloc::Allocator;
 
 /// The operations of a replica as a set.

@@ -1,19 +1,19 @@
 //! A stored feed whose number another room used too, renumbered.
 
 ghost use Rattle.std.specs.Prelude.{◌≡◌, ◌≤◌, ◌⊎◌, IfErr, IfOk, OnOk};
-ghost use Rattle.desk_files.specs.Files.{HoldsOn, IsHeldAlone, Stays};
+ghost use Rattle.feed_files.specs.Files.{HoldsOn, IsHeldAlone, Stays};
 ghost use Rattle.std.specs.Io.KnownBytes.{Appends};
-ghost use Rattle.desk_stored.specs.Stored.{was_read};
+ghost use Rattle.feed_stored.specs.Stored.{was_read};
 ghost use Rattle.feed_renumber.specs.Renumbering.{AreOpened, IsDone, IsRenumbered, IsUndone, IsUnopened, IsUnrenumbered, IsUnwritten, renumbered_line};
 
 use crate::fault::RenumberFault;
 use crate::making::{Made, made_of};
 use crate::reporting::{renumbered_line, reported_of};
 use desk_blocks::Blocks;
-use desk_files::Files;
-use desk_hand::{ANY_SITE, KeepFault, open_feed, take_feed, write_and_keep};
 use desk_replica::Replica;
-use desk_stored::write_out;
+use feed_edit::{ANY_SITE, KeepFault, open_feed, take_feed, write_and_keep};
+use feed_files::Files;
+use feed_stored::write_out;
 use std::alloc::Allocator;
 use std::io::Write;
 

@@ -5,9 +5,9 @@ ghost use Rattle.feed_renumber.specs.Renumbering.{Reports, renumbered_line};
 
 use crate::making::Made;
 use desk_blocks::Blocks;
-use desk_difference::put_words;
 use desk_memory::NoMemory;
 use desk_replica::Replica;
+use feed_compare::put_words;
 use std::alloc::Allocator;
 
 /// The line of how many operations were moved.

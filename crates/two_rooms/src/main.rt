@@ -9,10 +9,10 @@ use desk_case::MatrixCase;
 use desk_job::{JobRefusal, make};
 use desk_ops::Key;
 use desk_replica::Replica;
-use desk_text::{read_text, write_text};
 use desk_wedge::Wedge;
 use std::alloc::Global;
 use std::fs;
+use text_copy::{read_text, write_text};
 
 /// A site and the operations that it holds.
 type Room = Replica<Blocks<Global>>;

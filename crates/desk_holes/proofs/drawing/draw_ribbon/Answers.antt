@@ -1,7 +1,7 @@
 use Rattle.std.proofs.Common.{inl, inr, rules, subst}
 use Rattle.std.proofs.lemmas.Result.{err_from_is_err_and}
 use Rattle.std.specs.Prelude.{string_bytes}
-use Rattle.desk_files.specs.Files.{IsReplaced, Shelf}
+use Rattle.feed_files.specs.Files.{IsReplaced, Shelf}
 use Rattle.desk_outputs.specs.Outputs.{GivesWay, IsNotPut, destination}
 use Rattle.desk_outputs.specs.declared.kinds.Kind.TheVariants as kinds
 use Rattle.desk_holes.specs.Drawing.{IsPicture}

@@ -1,9 +1,9 @@
 use Rattle.std.proofs.Common.{ap}
 use Rattle.std.proofs.lemmas.Result.{err_from_is_err_and}
 use Rattle.std.specs.Prelude.{Err}
-use Rattle.desk_answers.specs.Failure.{case_refused}
+use Rattle.script_answers.specs.Failure.{case_refused}
 use Rattle.desk_case.specs.File.{case_of}
-use Rattle.desk_files.proofs.Shelves.{same_shelf}
+use Rattle.feed_files.proofs.Shelves.{same_shelf}
 use Rattle.desk_inputs.proofs.Gives.{misread, no_memory_case, no_number_case, read_as, stays_by, unread}
 use Rattle.desk_inputs.proofs.inputs.case_in.Goals as goal
 

@@ -4,7 +4,7 @@ use Rattle.desk_ops.specs.Settings.{setting_of}
 use Rattle.desk_ops.specs.Shown.{copy_of}
 use Rattle.desk_inputs.specs.declared.job.Wanted.{Wanted}
 use Rattle.desk_inputs.specs.Job.{ReportsJob, job_of}
-use Rattle.desk_answers.specs.Reply.{reply_values}
+use Rattle.script_answers.specs.Reply.{reply_values}
 use Rattle.desk_inputs.proofs.Casts.{castable, of_job}
 use Rattle.desk_inputs.proofs.job.made.Goals as goal
 

@@ -1,6 +1,6 @@
 use Rattle.std.proofs.Common.{◌≡◌, ◌∙◌, ap, inr, rules, subst}
 use Rattle.std.specs.Prelude.{Option, Some}
-use Rattle.desk_files.specs.Files.{Shelf}
+use Rattle.feed_files.specs.Files.{Shelf}
 use Rattle.desk_outputs.specs.Kinds.{Stands}
 use Rattle.desk_outputs.specs.declared.kinds.Kind.{Kind}
 use Rattle.desk_outputs.proofs.outputs.leave_others.Goals as goal

@@ -1,6 +1,6 @@
 use Rattle.std.proofs.Common.{◌+◌, ◌≤◌, ◌∙◌, List, length, subst, sym}
 use Rattle.desk_ops.specs.declared.op.Symbol.{Symbol}
-use Rattle.desk_text.specs.Laws.{AreLawful}
+use Rattle.text_copy.specs.Laws.{AreLawful}
 use Rattle.desk_replace.proofs.Lawful.{copy_lawful, replaced_lawful}
 use Rattle.desk_replace.proofs.Once.{ends_within}
 use Rattle.desk_replace.proofs.replacing.exchanged.Goals as goal

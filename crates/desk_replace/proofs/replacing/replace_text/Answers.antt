@@ -1,17 +1,17 @@
 use Rattle.std.proofs.Common.{◌≡◌, ◌+◌, List, ◌∙◌, ap, inl, refl, subst, sym}
 use Rattle.std.proofs.lemmas.Result.{err_from_is_err_and}
-use Rattle.desk_files.proofs.Shelves.{held_alone}
-use Rattle.desk_files.specs.Files.{HoldsOn, Shelf}
-use Rattle.desk_stored.specs.Stored.{was_read}
-use Rattle.desk_hand.specs.Editing.{IsRevised, IsSparing, IsUnrevised}
-use Rattle.desk_hand.specs.Keeping.{IsKept, IsUnkept, edited_line}
-use Rattle.desk_hand.specs.Room.{IsOpenedHere}
+use Rattle.feed_files.proofs.Shelves.{held_alone}
+use Rattle.feed_files.specs.Files.{HoldsOn, Shelf}
+use Rattle.feed_stored.specs.Stored.{was_read}
+use Rattle.feed_edit.specs.Editing.{IsRevised, IsSparing, IsUnrevised}
+use Rattle.feed_edit.specs.Keeping.{IsKept, IsUnkept, edited_line}
+use Rattle.feed_edit.specs.Room.{IsOpenedHere}
 use Rattle.feed_last.specs.Room.{IsKeptOut, IsLetIn, IsMarked, is_compared}
-use Rattle.desk_hand.specs.declared.fault.RevisionFault.TheVariants as revisions
+use Rattle.feed_edit.specs.declared.fault.RevisionFault.TheVariants as revisions
 use Rattle.feed_last.proofs.Rooms.{holds_through}
 use Rattle.desk_ops.specs.declared.op.Symbol.{Symbol}
 use Rattle.desk_ops.specs.Shown.{copy_of}
-use Rattle.desk_text.specs.Laws.{AreLawful}
+use Rattle.text_copy.specs.Laws.{AreLawful}
 use Rattle.desk_replace.specs.Replacing.{AreRead}
 use Rattle.desk_replace.specs.Reporting.{IsReported}
 use Rattle.desk_replace.proofs.replacing.replace_text.Goals as goal

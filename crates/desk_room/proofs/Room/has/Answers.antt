@@ -1,7 +1,7 @@
 use Rattle.std.proofs.Common.{◌∙◌, ap, refl, length}
 use Rattle.desk_ops.specs.OpSet.{has_op}
 use Rattle.desk_ops.specs.OrderLaws.{op_tie}
-use Rattle.desk_pages.specs.Pages.{IsEdge}
+use Rattle.list_pages.specs.Pages.{IsEdge}
 use Rattle.desk_room.specs.Waiting.{Waiting}
 use Rattle.desk_room.proofs.Releases.{earlier, has-at, has-none}
 use Rattle.desk_room.proofs.Room.has.Goals as goal

@@ -8,7 +8,7 @@ use Rattle.desk_ops.specs.Order.{op_cmp}
 use Rattle.desk_ops.specs.OpSet.{has_op, with_op}
 use Rattle.desk_ops.proofs.Stamps.{is_less}
 use Rattle.desk_ops.proofs.Lists.{Each-weaker, Each-insert}
-use Rattle.desk_pages.specs.Pages.{IsEdge}
+use Rattle.list_pages.specs.Pages.{IsEdge}
 use Rattle.desk_room.specs.Waiting.{Waiting, HasTarget}
 use Rattle.desk_room.specs.Turn.{turn_cmp, IsKept, set_of}
 use Rattle.desk_room.proofs.Turns.{edge-below, edge-above, earlier-down, above-all, turn-insert}

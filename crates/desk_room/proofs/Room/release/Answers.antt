@@ -5,7 +5,7 @@ use Rattle.desk_ops.specs.declared.op.Op.{Op}
 use Rattle.desk_ops.specs.Stamp.{same}
 use Rattle.desk_ops.specs.OpSet.{has_op}
 use Rattle.desk_ops.proofs.Stamps.{same-true}
-use Rattle.desk_pages.specs.Pages.{IsEdge}
+use Rattle.list_pages.specs.Pages.{IsEdge}
 use Rattle.desk_room.specs.Waiting.{Waiting, waits_for, waiting_at, IsReleased}
 use Rattle.desk_room.specs.Turn.{target_or_head, set_of}
 use Rattle.desk_room.proofs.Sets.{no_list}

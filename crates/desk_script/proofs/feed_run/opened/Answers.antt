@@ -1,5 +1,5 @@
 use Rattle.std.proofs.lemmas.Result.{err_from_is_err_and}
-use Rattle.desk_stored.specs.Stored.{was_read}
+use Rattle.feed_stored.specs.Stored.{was_read}
 use Rattle.desk_script.proofs.Feeds.{unbegun}
 use Rattle.desk_script.proofs.feed_run.opened.Goals as goal
 

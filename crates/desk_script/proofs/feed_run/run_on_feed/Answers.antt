@@ -1,10 +1,10 @@
 use Rattle.std.proofs.Common.{◌∙◌, ap, inl, inr, refl}
 use Rattle.std.proofs.lemmas.Result.{err_from_is_err_and}
 use Rattle.std.specs.Prelude.{Err}
-use Rattle.desk_files.specs.Files.{Shelf}
-use Rattle.desk_files.proofs.Shelves.{held_alone, holds_on}
+use Rattle.feed_files.specs.Files.{Shelf}
+use Rattle.feed_files.proofs.Shelves.{held_alone, holds_on}
 use Rattle.desk_steps.specs.Desk.{desk}
-use Rattle.desk_stored.specs.Stored.{was_read}
+use Rattle.feed_stored.specs.Stored.{was_read}
 use Rattle.desk_script.specs.FeedRun.{IsStart}
 use Rattle.desk_script.proofs.Bytes.{reported_fault}
 use Rattle.desk_script.proofs.Feeds.{counts_up, fails_from, fails_later, file_failed, is_there, no_line_fails, no_opening_fails}

@@ -1,10 +1,10 @@
 use Rattle.std.proofs.Common.{◌∙◌, ap, arith, inl, inr, refl, subst, sym}
 use Rattle.std.proofs.lemmas.Result.{err_from_is_err_and}
 use Rattle.std.specs.Prelude.{Bool, Err}
-use Rattle.desk_files.specs.Files.{HoldsOn, Shelf}
-use Rattle.desk_files.proofs.Shelves.{held_alone, holds_on}
+use Rattle.feed_files.specs.Files.{HoldsOn, Shelf}
+use Rattle.feed_files.proofs.Shelves.{held_alone, holds_on}
 use Rattle.desk_steps.specs.Desk.{desk}
-use Rattle.desk_stored.specs.Stored.{was_read}
+use Rattle.feed_stored.specs.Stored.{was_read}
 use Rattle.desk_script.specs.FeedRun.{IsStart}
 use Rattle.desk_script.specs.Room.{IsBegun, IsKeptOut, IsLetIn}
 use Rattle.feed_last.specs.Room.{is_compared}

@@ -1,4 +1,4 @@
-use Rattle.desk_files.proofs.Shelves.{stays_same, stays_trans}
+use Rattle.feed_files.proofs.Shelves.{stays_same, stays_trans}
 use Rattle.std.proofs.Common.{rules, ◌<◌, length, refl, take, subst}
 use Rattle.std.specs.Io.KnownBytes.{Consumes}
 use Rattle.std.proofs.lemmas.Result.{err_from_is_err_and, on_err_weaker, on_ok_weaker}

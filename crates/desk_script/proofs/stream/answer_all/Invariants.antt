@@ -1,5 +1,5 @@
 use Rattle.std.proofs.Common.{◌+◌, ◌≤◌, length}
-use Rattle.desk_files.specs.Files.{Stays}
+use Rattle.feed_files.specs.Files.{Stays}
 use Rattle.desk_steps.specs.Desk.{KeepsSites, desk}
 use Rattle.desk_steps.specs.Line.{max_line}
 use Rattle.desk_script.specs.Pending.{Carries}

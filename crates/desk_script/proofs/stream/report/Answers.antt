@@ -1,10 +1,10 @@
 use Rattle.std.proofs.Common.{◌≡◌, ◌++◌, ◌∷◌, [], inl, inr, refl, rules, subst, true}
 use Rattle.std.proofs.lemmas.Result.{on_err_weaker, on_ok_weaker}
 use Rattle.std.specs.Io.KnownBytes.{Appends}
-use Rattle.desk_answers.specs.Reply.{Refused, is_long, reply_values}
-use Rattle.desk_answers.specs.Text.{text}
-use Rattle.desk_answers.specs.declared.text.Refusal.TheVariants as refusals
-use Rattle.desk_stored.specs.Sending.{WritesPrefix}
+use Rattle.script_answers.specs.Reply.{Refused, is_long, reply_values}
+use Rattle.script_answers.specs.Text.{text}
+use Rattle.script_answers.specs.declared.text.Refusal.TheVariants as refusals
+use Rattle.feed_stored.specs.Sending.{WritesPrefix}
 use Rattle.desk_script.proofs.stream.report.Goals as goal
 
 pub returns-in-Some-clause-err : goal.returns-in-Some-clause-err

@@ -1,7 +1,7 @@
 use Rattle.std.proofs.lemmas.Result.{err_from_is_err_and}
 use Rattle.std.proofs.Common.{ap}
 use Rattle.std.specs.Prelude.{Err}
-use Rattle.desk_world.specs.Sites.{no_sites}
+use Rattle.script_world.specs.Sites.{no_sites}
 use Rattle.desk_script.proofs.Bytes.{on_err, reported_fault}
 use Rattle.desk_script.proofs.Carry.{run_before, run_whole, run_prefix}
 use Rattle.desk_script.proofs.Feeds.{line_memory}

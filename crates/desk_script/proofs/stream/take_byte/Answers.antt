@@ -1,4 +1,4 @@
-use Rattle.desk_files.proofs.Shelves.{stays_same}
+use Rattle.feed_files.proofs.Shelves.{stays_same}
 use Rattle.std.proofs.Common.{◌∷◌, [], ap, ◌∙◌, eq-eqb, refl}
 use Rattle.std.proofs.lemmas.Bool.{ne_eqb}
 use Rattle.std.proofs.lemmas.Result.{err_from_is_err_and, on_ok_weaker}

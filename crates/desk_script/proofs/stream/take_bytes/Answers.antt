@@ -1,5 +1,5 @@
 use Rattle.std.proofs.Common.{sym, subst}
-use Rattle.desk_files.proofs.Shelves.{stays_same}
+use Rattle.feed_files.proofs.Shelves.{stays_same}
 use Rattle.desk_steps.specs.Desk.{desk}
 use Rattle.desk_script.specs.Script.{StopsWithin}
 use Rattle.desk_script.specs.Pending.{lines_from}

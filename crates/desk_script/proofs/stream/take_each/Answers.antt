@@ -1,4 +1,4 @@
-use Rattle.desk_files.proofs.Shelves.{stays_same, stays_trans}
+use Rattle.feed_files.proofs.Shelves.{stays_same, stays_trans}
 use Rattle.std.proofs.Common.{◌≡◌, ℕ, ◌+◌, ◌<◌, length, ◌++◌, ◌∷◌, [], drop, get_or, ap, ◌∙◌, sym, append_assoc, add-one, drop-cons, subst, refl}
 use Rattle.std.proofs.lemmas.List.{at_drop_all}
 use Rattle.desk_steps.specs.Desk.{desk}

@@ -1,5 +1,5 @@
 use Rattle.std.proofs.Common.{[], ◌∷◌}
-use Rattle.desk_files.proofs.Shelves.{stays_same}
+use Rattle.feed_files.proofs.Shelves.{stays_same}
 use Rattle.desk_steps.specs.Desk.{desk}
 use Rattle.desk_steps.specs.Line.{line_of}
 use Rattle.desk_script.proofs.Bytes.{on_err, on_ok}

@@ -1,5 +1,5 @@
 use Rattle.std.proofs.Common.{◌≡◌, false, true, ◌+◌, arith, refl, rules, string_bytes}
-use Rattle.desk_files.proofs.Shelves.{stays_same, stays_trans}
+use Rattle.feed_files.proofs.Shelves.{stays_same, stays_trans}
 use Rattle.desk_script.specs.Lines.{lines}
 use Rattle.desk_steps.specs.Desk.{desk}
 use Rattle.desk_steps.specs.Line.{line_of}

@@ -1,5 +1,5 @@
 use Rattle.std.proofs.Common.{◌+◌, ◌≤◌, length, string_bytes}
-use Rattle.desk_files.specs.Files.{Stays}
+use Rattle.feed_files.specs.Files.{Stays}
 use Rattle.desk_script.specs.Lines.{lines}
 use Rattle.desk_steps.specs.Desk.{KeepsSites, desk}
 use Rattle.desk_sheet.proofs.Reporting.{Reaches}

@@ -1,7 +1,7 @@
 use Rattle.std.proofs.Common.{subst}
 use Rattle.std.proofs.lemmas.Result.{err_from_is_err_and}
 use Rattle.desk_steps.specs.Desk.{desk}
-use Rattle.desk_world.specs.Sites.{Sites}
+use Rattle.script_world.specs.Sites.{Sites}
 use Rattle.desk_sheet.specs.Sheet.{IsDone, IsUnanswered}
 use Rattle.desk_sheet.proofs.sheet.run_sheet.Goals as goal
 

@@ -1,10 +1,10 @@
 use Rattle.std.proofs.Common.{◌∙◌, inl, inr, refl, subst}
 use Rattle.std.specs.Prelude.{Bool}
 use Rattle.std.proofs.lemmas.Result.{err_from_is_err_and}
-use Rattle.desk_files.specs.Files.{HoldsOn, Shelf}
-use Rattle.desk_files.proofs.Shelves.{held_alone, holds_on}
+use Rattle.feed_files.specs.Files.{HoldsOn, Shelf}
+use Rattle.feed_files.proofs.Shelves.{held_alone, holds_on}
 use Rattle.desk_steps.specs.Desk.{desk}
-use Rattle.desk_stored.specs.Stored.{was_read}
+use Rattle.feed_stored.specs.Stored.{was_read}
 use Rattle.desk_script.specs.Room.{IsKeptOut, IsLetIn}
 use Rattle.desk_script.proofs.Feeds.{is_there}
 use Rattle.feed_last.proofs.Rooms.{holds_through}

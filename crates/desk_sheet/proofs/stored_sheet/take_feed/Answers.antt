@@ -1,12 +1,12 @@
 use Rattle.std.proofs.Common.{◌≤◌, ◌∙◌, ap₂, rules, subst}
 use Rattle.std.specs.FinMap as fin
 use Rattle.std.proofs.lemmas.Result.{err_from_is_err_and}
-use Rattle.desk_files.specs.Files.{Counts, IsNowHeld, Reads}
+use Rattle.feed_files.specs.Files.{Counts, IsNowHeld, Reads}
 use Rattle.desk_ops.specs.OpSet.{max_ops, size}
-use Rattle.desk_world.specs.Sites.{no_sites}
+use Rattle.script_world.specs.Sites.{no_sites}
 use Rattle.desk_script.proofs.Feeds.{unbegun}
-use Rattle.desk_stored.specs.Stored.{as_read, was_read}
-use Rattle.desk_files.proofs.Behind.{ok_behind}
+use Rattle.feed_stored.specs.Stored.{as_read, was_read}
+use Rattle.feed_files.proofs.Behind.{ok_behind}
 use Rattle.desk_sheet.proofs.stored_sheet.take_feed.Goals as goal
 
 pub returns-in_err-world-clause-err : goal.returns-in_err-world-clause-err

@@ -1,6 +1,6 @@
 use Rattle.std.proofs.Common.{inl}
 use Rattle.std.proofs.lemmas.Result.{err_from_is_err_and}
-use Rattle.desk_answers.specs.Reply.{reply_values}
+use Rattle.script_answers.specs.Reply.{reply_values}
 use Rattle.desk_steps.proofs.Jobs.{refused, replied}
 use Rattle.desk_steps.proofs.act.job_at.Goals as goal
 

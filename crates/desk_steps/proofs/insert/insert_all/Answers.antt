@@ -2,7 +2,7 @@ use Rattle.std.proofs.Common.{◌+◌, ◌∙◌, ap, drop, subst}
 use Rattle.std.specs.Prelude.{Some}
 use Rattle.desk_ops.specs.declared.op.Stamp.{Stamp}
 use Rattle.desk_ops.specs.declared.op.Style.TheVariants.{Roman}
-use Rattle.desk_answers.specs.NotDone.{reply_of}
+use Rattle.script_answers.specs.NotDone.{reply_of}
 use Rattle.desk_steps.specs.Insert.{Inserts, after}
 use Rattle.desk_steps.proofs.Inserting.{goes_on, stops_at}
 use Rattle.desk_steps.proofs.insert.insert_all.Goals as goal

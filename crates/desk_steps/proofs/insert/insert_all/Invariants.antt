@@ -1,7 +1,7 @@
 use Rattle.std.proofs.Common.{◌≡◌, drop}
 use Rattle.std.specs.Prelude.{None}
-use Rattle.desk_answers.specs.Reply.{ReplyValues}
-use Rattle.desk_world.specs.Sites.{Sites}
+use Rattle.script_answers.specs.Reply.{ReplyValues}
+use Rattle.script_world.specs.Sites.{Sites}
 use Rattle.desk_steps.specs.Insert.{Inserts}
 use Rattle.desk_steps.proofs.insert.insert_all.Given as goal
 

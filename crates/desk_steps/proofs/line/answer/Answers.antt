@@ -1,6 +1,6 @@
 use Rattle.std.proofs.Common.{◌≡◌, subst, true}
-use Rattle.desk_answers.specs.NotDone.{reply_of}
-use Rattle.desk_answers.specs.Reply.{is_long, reply_values}
+use Rattle.script_answers.specs.NotDone.{reply_of}
+use Rattle.script_answers.specs.Reply.{is_long, reply_values}
 use Rattle.desk_steps.specs.Desk.{desk}
 use Rattle.desk_steps.specs.Line.{line_of}
 use Rattle.desk_steps.proofs.Asking.{allows_same}

@@ -1,7 +1,7 @@
 use Rattle.std.proofs.Common.{◌≡◌, ◌∙◌, ℕ, ◌<◌, ◌≤◌, List, ap, sym, subst, arith}
 use Rattle.std.specs.Prelude.{Result, Ok, Err}
-use Rattle.desk_files.specs.Files.{Shelf}
-use Rattle.desk_files.specs.declared.files.FileRefusal.{FileRefusal}
+use Rattle.feed_files.specs.Files.{Shelf}
+use Rattle.feed_files.specs.declared.files.FileRefusal.{FileRefusal}
 use Rattle.feed_last.specs.Greatest.{greatest_of}
 use Rattle.feed_last.specs.Last.{IsNotOlder, Says}
 use Rattle.feed_last.proofs.Places.{says_one, some_of}

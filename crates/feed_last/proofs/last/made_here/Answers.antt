@@ -1,7 +1,7 @@
 use Rattle.std.proofs.Common.{◌≡◌, ◌∙◌, List, ℕ, ap, subst}
 use Rattle.std.specs.Prelude.{MatchOption, Ok, Err}
 use Rattle.std.proofs.lemmas.Result.{IfOk-weaker}
-use Rattle.desk_files.specs.Files.{Reads, Shelf}
+use Rattle.feed_files.specs.Files.{Reads, Shelf}
 use Rattle.feed_last.specs.Text.{Records}
 use Rattle.feed_last.proofs.last.made_here.Goals as goal
 

@@ -1,7 +1,7 @@
 use Rattle.std.proofs.Common.{◌+◌, ◌∙◌, ap, sym}
 use Rattle.desk_ops.specs.OpSet.{size}
 use Rattle.desk_replica.specs.Edits.{IsSetTo}
-use Rattle.desk_files.proofs.Behind.{ok_behind}
+use Rattle.feed_files.proofs.Behind.{ok_behind}
 use Rattle.feed_renew.specs.Anew.{one_if}
 use Rattle.feed_renew.proofs.Edited.{set_own, set_size}
 use Rattle.feed_renew.proofs.anew.give.Goals as goal

@@ -4,7 +4,7 @@ use Rattle.desk_ops.specs.OpSet.{OpSet, size}
 use Rattle.desk_ops.specs.Settings.{setting_of}
 use Rattle.desk_ops.specs.Shown.{copy_of}
 use Rattle.desk_replica.specs.declared.settings.Settings.{Settings}
-use Rattle.desk_text.specs.Laws.{AreLawful}
+use Rattle.text_copy.specs.Laws.{AreLawful}
 use Rattle.feed_renew.specs.Anew.{AreInRange, IsOwn}
 use Rattle.feed_renew.proofs.Lawful.{copy_lawful}
 use Rattle.feed_renew.proofs.Made.{anew, has_room, none_shown}

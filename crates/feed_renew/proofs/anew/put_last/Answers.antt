@@ -1,5 +1,5 @@
 use Rattle.desk_replica.specs.Edits.{IsInserted}
-use Rattle.desk_files.proofs.Behind.{ok_behind}
+use Rattle.feed_files.proofs.Behind.{ok_behind}
 use Rattle.feed_renew.proofs.Edited.{insert_own, insert_size}
 use Rattle.feed_renew.proofs.anew.put_last.Goals as goal
 

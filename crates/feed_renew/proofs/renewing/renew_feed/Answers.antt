@@ -2,9 +2,9 @@ use Rattle.std.proofs.Common.{◌∙◌, ℕ, List, length, ap, refl, subst}
 use Rattle.std.specs.Io.KnownBytes.{Appends}
 use Rattle.std.proofs.lemmas.Result.{err_from_is_err_and}
 use Rattle.desk_codec.specs.Runs.{set_feed}
-use Rattle.desk_files.specs.Files.{IsReplaced, Shelf}
-use Rattle.desk_files.proofs.Shelves.{same_shelf}
-use Rattle.desk_hand.specs.Keeping.{IsUnkept}
+use Rattle.feed_files.specs.Files.{IsReplaced, Shelf}
+use Rattle.feed_files.proofs.Shelves.{same_shelf}
+use Rattle.feed_edit.specs.Keeping.{IsUnkept}
 use Rattle.feed_renew.specs.Renewing.{renewed_line}
 use Rattle.feed_renew.proofs.Shelves.{not_writing, others_stay}
 use Rattle.feed_renew.proofs.renewing.renew_feed.Goals as goal

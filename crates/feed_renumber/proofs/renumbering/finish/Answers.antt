@@ -2,9 +2,9 @@ use Rattle.std.proofs.Common.{List, ℕ, ◌<◌, inl, inr, refl, subst}
 use Rattle.std.specs.Prelude.{Option}
 use Rattle.std.proofs.lemmas.Result.{IfErr-weaker, on_ok_weaker}
 use Rattle.desk_ops.specs.OpSet.{size}
-use Rattle.desk_files.specs.Files.{Shelf}
-use Rattle.desk_hand.specs.Keeping.{IsKept, IsUnkept}
-use Rattle.desk_stored.specs.Stored.{was_read}
+use Rattle.feed_files.specs.Files.{Shelf}
+use Rattle.feed_edit.specs.Keeping.{IsKept, IsUnkept}
+use Rattle.feed_stored.specs.Stored.{was_read}
 use Rattle.feed_renumber.specs.Renumbering.{IsUndone, IsUnwritten}
 use Rattle.feed_renumber.proofs.Done.{none_unwritten, some_there, unkept}
 use Rattle.feed_renumber.proofs.renumbering.finish.Goals as goal

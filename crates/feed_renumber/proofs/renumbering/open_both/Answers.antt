@@ -1,10 +1,10 @@
 use Rattle.std.proofs.Common.{inl, subst, sym}
 use Rattle.std.proofs.lemmas.Result.{err_from_is_err_and}
-use Rattle.desk_files.specs.Files.{Shelf}
-use Rattle.desk_files.proofs.Shelves.{held_alone, same_shelf}
-use Rattle.desk_stored.specs.Stored.{was_read}
-use Rattle.desk_hand.specs.Exporting.{IsSetOf}
-use Rattle.desk_hand.specs.Merging.{IsOpened}
+use Rattle.feed_files.specs.Files.{Shelf}
+use Rattle.feed_files.proofs.Shelves.{held_alone, same_shelf}
+use Rattle.feed_stored.specs.Stored.{was_read}
+use Rattle.feed_edit.specs.Exporting.{IsSetOf}
+use Rattle.feed_edit.specs.Merging.{IsOpened}
 use Rattle.feed_renumber.proofs.renumbering.open_both.Goals as goal
 
 pub returns-in_err-old-clause-err : goal.returns-in_err-old-clause-err

@@ -2,9 +2,9 @@ use Rattle.std.proofs.Common.{List, ℕ, inl, refl, subst}
 use Rattle.std.specs.Prelude.{Option}
 use Rattle.std.proofs.lemmas.Result.{err_from_is_err_and}
 use Rattle.desk_ops.specs.OpSet.{OpSet}
-use Rattle.desk_files.specs.Files.{Shelf}
-use Rattle.desk_files.proofs.Shelves.{held_alone}
-use Rattle.desk_stored.specs.Stored.{was_read}
+use Rattle.feed_files.specs.Files.{Shelf}
+use Rattle.feed_files.proofs.Shelves.{held_alone}
+use Rattle.feed_stored.specs.Stored.{was_read}
 use Rattle.feed_renumber.specs.Renumbering.{IsDone, IsUndone}
 use Rattle.feed_renumber.proofs.Done.{held_or_same, unopened}
 use Rattle.feed_renumber.proofs.renumbering.renumber_feed.Goals as goal

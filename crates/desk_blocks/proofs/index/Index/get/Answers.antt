@@ -1,5 +1,5 @@
 use Rattle.std.proofs.Common.{◌≡◌, ◌<◌, ◌∙◌, sym, ap, subst, length, get_or, arith, refl}
-use Rattle.desk_pages.specs.Pages.{IsEdge}
+use Rattle.list_pages.specs.Pages.{IsEdge}
 use Rattle.desk_ops.specs.declared.op.Stamp.{Stamp}
 use Rattle.desk_ops.specs.Stamp.{before, same, head}
 use Rattle.desk_ops.proofs.Stamps.{same-true}

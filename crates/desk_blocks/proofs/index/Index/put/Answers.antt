@@ -1,6 +1,6 @@
 use Rattle.std.proofs.Common.{◌≡◌, ◌≤◌, ◌∙◌, sym, ap, subst, length}
 use Rattle.std.specs.List.{insert}
-use Rattle.desk_pages.specs.Pages.{IsEdge}
+use Rattle.list_pages.specs.Pages.{IsEdge}
 use Rattle.desk_ops.specs.Stamp.{before}
 use Rattle.desk_seq.proofs.Entries.{map-insert}
 use Rattle.desk_blocks.specs.Home.{Home}

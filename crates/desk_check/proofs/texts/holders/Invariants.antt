@@ -1,9 +1,0 @@
-use Rattle.std.proofs.Common.{◌≡◌}
-use Rattle.toml.specs.View.{view}
-use Rattle.desk_check.specs.Texts.{holders}
-use Rattle.desk_check.proofs.texts.holders.Given as goal
-
-abbrev pub invariant-loop-place : goal.invariant-loop-place
-invariant-loop-place g l = record {
-  found : l.cells.items ≡ holders (view l.rows) l.text l.place;
-}

@@ -1,6 +1,0 @@
-use Rattle.std.proofs.Common.{All}
-use Rattle.desk_ops.specs.Op.{IsLawful}
-use Rattle.desk_copy_tests.proofs.held.row_of.Given as goal
-
-abbrev pub invariant-loop-k : goal.invariant-loop-k
-invariant-loop-k l = All IsLawful l.ops.items

@@ -1,9 +1,0 @@
-//! The tests of desk_check.
-mod cases;
-mod feeds;
-mod metal;
-mod ribbons;
-mod rooms;
-mod runs;
-mod wedges;
-mod words;

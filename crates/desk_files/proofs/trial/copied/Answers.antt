@@ -1,5 +1,0 @@
-use Rattle.std.proofs.Common.{rules}
-use Rattle.desk_files.proofs.trial.copied.Goals as goal
-
-pub returns-clause-within : goal.returns-clause-within
-returns-clause-within g c = search rules steps 2000000

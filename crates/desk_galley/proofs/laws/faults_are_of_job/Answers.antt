@@ -1,5 +1,0 @@
-use Rattle.desk_galley.proofs.Lines.{faults_are_of_job as law}
-use Rattle.desk_galley.proofs.laws.faults_are_of_job.Goals as goal
-
-pub returns : goal.returns
-returns c = law

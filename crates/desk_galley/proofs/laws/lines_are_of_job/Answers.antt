@@ -1,5 +1,0 @@
-use Rattle.desk_galley.proofs.Lines.{lines_are_of_job as law}
-use Rattle.desk_galley.proofs.laws.lines_are_of_job.Goals as goal
-
-pub returns : goal.returns
-returns c = law

@@ -1,5 +1,0 @@
-use Rattle.desk_galley.proofs.Lines.{rows_are_of_galley as law}
-use Rattle.desk_galley.proofs.laws.rows_are_of_galley.Goals as goal
-
-pub returns : goal.returns
-returns c = law

@@ -1,4 +1,0 @@
-//! The tests of desk_picture.
-mod feeds;
-mod galleys;
-mod pictures;

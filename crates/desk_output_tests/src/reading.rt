@@ -1,4 +1,0 @@
-//! The tests of desk_reading.
-mod reading;
-mod rooms;
-mod words;

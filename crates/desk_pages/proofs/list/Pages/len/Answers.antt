@@ -1,5 +1,0 @@
-use Rattle.std.proofs.Common.{rules}
-use Rattle.desk_pages.proofs.list.Pages.len.Goals as goal
-
-pub returns : goal.returns
-returns g c = search rules steps 300000

@@ -1,9 +1,0 @@
-use Rattle.std.proofs.Common.{◌≡◌, ◌≤◌, ◌+◌, ◌*◌, ◌++◌, string_bytes, drop}
-use Rattle.desk_lines.specs.Groups.{widest_matrix}
-use Rattle.desk_picture.specs.Places.{after_word, symbol_places}
-use Rattle.desk_picture.proofs.places.put_symbol_places.Given as goal
-
-abbrev pub invariant-loop-symbol : goal.invariant-loop-symbol
-invariant-loop-symbol g l =
-    (string_bytes l.out ++ symbol_places l.terms l.pica l.end (drop l.symbol-index l.word) ≡ string_bytes l.fn.out ++ symbol_places l.terms l.pica l.here l.word)
-    × ((after_word l.terms l.end (drop l.symbol-index l.word) ≡ after_word l.terms l.here l.word) × (l.end ≤ l.here + l.symbol-index * widest_matrix))

@@ -1,6 +1,0 @@
-use Rattle.std.proofs.Common.{◌≡◌, ◌≤◌, ◌^◌, drop}
-use Rattle.desk_picture.specs.Widths.{widest, widest_from}
-use Rattle.desk_picture.proofs.widths.widest.Given as goal
-
-abbrev pub invariant-loop-line : goal.invariant-loop-line
-invariant-loop-line g l = (widest_from l.terms l.most (drop l.line-index l.lines) ≡ widest l.terms l.lines) × (l.most ≤ 2 ^ 90)

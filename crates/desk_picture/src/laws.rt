@@ -1,9 +1,0 @@
-//! What holds of the pictures of galleys.
-
-ghost use Rattle.desk_picture.specs.Laws.{PicturesAreKnown, RefusalsAreKnown};
-
-/// A picture that was stored is known by its first bytes, so the next one takes its place.
-pub fn pictures_are_known()
-    ensures galleys { PicturesAreKnown }
-    ensures refusals { RefusalsAreKnown }
-{}

@@ -1,7 +1,0 @@
-use Rattle.std.proofs.Common.{All}
-use Rattle.desk_world.specs.World.{IsSound, event_values}
-use Rattle.desk_plays.proofs.events_of.Given as goal
-
--- the events so far give what is lawful
-abbrev pub invariant-loop-line : goal.invariant-loop-line
-invariant-loop-line l = All (λ event. IsSound (event_values event)) l.events.items

@@ -1,7 +1,0 @@
-use Rattle.std.proofs.Common.{All}
-use Rattle.desk_plays.specs.Line.{GivesLawful}
-use Rattle.desk_plays.proofs.lines_of.Given as goal
-
--- the lines so far give what is lawful
-abbrev pub invariant-loop-words : goal.invariant-loop-words
-invariant-loop-words l = All GivesLawful l.lines.items

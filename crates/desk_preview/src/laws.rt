@@ -1,8 +1,0 @@
-//! What holds of the ribbons that are stored.
-
-ghost use Rattle.desk_preview.specs.Laws.{RibbonsAreKnown};
-
-/// A ribbon that was stored is known by its first bytes, so the next punch takes its place.
-pub fn ribbons_are_known()
-    ensures { RibbonsAreKnown }
-{}

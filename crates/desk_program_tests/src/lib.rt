@@ -1,5 +1,0 @@
-//! The tests of desk_program.
-#![tactic(auto)]
-
-#[cfg(test)]
-mod program;

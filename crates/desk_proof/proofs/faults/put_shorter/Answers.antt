@@ -1,7 +1,0 @@
-use Rattle.std.proofs.Common.{string_bytes}
-use Rattle.desk_proof.proofs.Texts.{two}
-use Rattle.desk_proof.proofs.faults.put_shorter.Goals as goal
-
-pub returns : goal.returns
-returns g c =
-    two c.put_down.result (string_bytes c.args.out.now) (string_bytes c.push_str.new.self) (string_bytes c.put_down.new.out) _ _ c.in_ok-push_str.ensures.bytes c.put_down.ensures

@@ -1,6 +1,0 @@
-use Rattle.std.proofs.Common.{◌≡◌, ◌++◌, string_bytes, drop}
-use Rattle.desk_proof.specs.Reasons.{more_names}
-use Rattle.desk_proof.proofs.reasons.put_more_names.Given as goal
-
-abbrev pub invariant-loop-at : goal.invariant-loop-at
-invariant-loop-at g l = string_bytes l.out ++ more_names (drop l.at l.keys) ≡ string_bytes l.fn.out ++ more_names l.keys

@@ -1,8 +1,0 @@
-use Rattle.std.proofs.Common.{◌≡◌, ◌++◌, string_bytes, drop}
-use Rattle.desk_reading.specs.Lines.{lines_from}
-use Rattle.desk_reading.proofs.lines.put_lines.Given as goal
-
-abbrev pub invariant-loop-line : goal.invariant-loop-line
-invariant-loop-line g l =
-    (string_bytes l.out ++ lines_from l.pica l.longest l.before (drop l.line-index l.lines) ≡ string_bytes l.fn.out ++ lines_from l.pica l.longest 0 l.lines)
-    × (l.before ≡ l.line-index)

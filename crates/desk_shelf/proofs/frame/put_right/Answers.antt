@@ -1,6 +1,0 @@
-use Rattle.std.proofs.Common.{add-one}
-use Rattle.desk_shelf.proofs.Slides.{inserted}
-use Rattle.desk_shelf.proofs.frame.put_right.Goals as goal
-
-pub returns-clause-put : goal.returns-clause-put
-returns-clause-put g c = rw add-one (inserted c.args.part.now c.copy_within.new.self c.args.n c.args.j c.args.x c.requires.within c.requires.room (rw add-one at c.copy_within.ensures.after))

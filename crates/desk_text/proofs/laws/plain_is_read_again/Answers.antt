@@ -1,5 +1,0 @@
-use Rattle.desk_text.proofs.Again.{plain_read_again}
-use Rattle.desk_text.proofs.laws.plain_is_read_again.Goals as goal
-
-pub returns : goal.returns
-returns c = plain_read_again

@@ -1,5 +1,0 @@
-use Rattle.desk_text.proofs.Grammar.{text_is_grammar}
-use Rattle.desk_text.proofs.laws.reading_goes_by_grammar.Goals as goal
-
-pub returns : goal.returns
-returns c = text_is_grammar

@@ -1,9 +1,0 @@
-use Rattle.std.proofs.Common.{subst}
-use Rattle.clap.specs.Words.{found_of, rows_of}
-use Rattle.desk_words.specs.Words.{AreSources}
-use Rattle.desk_words.specs.declared.wishes.Subcommand.TheVariants as subcommands
-use Rattle.desk_words.proofs.Asked.{no_wish}
-use Rattle.desk_words.proofs.wishes.proof_wish.Goals as goal
-
-pub returns-in_default-clause-wish : goal.returns-in_default-clause-wish
-returns-in_default-clause-wish c = no_wish (rows_of (found_of c.args.matches.now)) subcommands.Proof (subst (AreSources (rows_of (found_of c.args.matches.now))) c.in_default.is c.sources_of.ensures)

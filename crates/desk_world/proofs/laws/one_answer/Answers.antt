@@ -1,5 +1,0 @@
-use Rattle.desk_world.proofs.OneAnswer.{one_answer}
-use Rattle.desk_world.proofs.laws.one_answer.Goals as goal
-
-pub returns : goal.returns
-returns c = one_answer

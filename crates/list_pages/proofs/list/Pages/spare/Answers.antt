@@ -1,0 +1,5 @@
+use Rattle.std.proofs.Common.{rules}
+use Rattle.list_pages.proofs.list.Pages.spare.Goals as goal
+
+pub returns : goal.returns
+returns g c = search rules steps 300000

@@ -1,0 +1,232 @@
+-- The cause of what stopped: which file it was, or which end of the program, and why.
+use Rattle.std.specs.Prelude.{ℕ, List, Option, None, Some, slice_get}
+use Rattle.std.specs.Borrow.{Bor}
+use Rattle.clap.specs.Words.{Text}
+use Rattle.feed_files.specs.declared.files.FileRefusal.{FileRefusal}
+use Rattle.feed_files.specs.declared.files.FileRefusal.TheVariants as refusals
+use Rattle.feed_edit.specs.Importing.{max_text}
+use Rattle.feed_edit.specs.declared.fault.FeedTrouble.{FeedTrouble}
+use Rattle.feed_edit.specs.declared.fault.FeedTrouble.TheVariants as troubles
+use Rattle.feed_edit.specs.declared.fault.TakeFault.{TakeFault}
+use Rattle.feed_edit.specs.declared.fault.TakeFault.TheVariants as takes
+use Rattle.feed_edit.specs.declared.fault.InputFault.{InputFault}
+use Rattle.feed_edit.specs.declared.fault.InputFault.TheVariants as inputs
+use Rattle.feed_edit.specs.declared.fault.RevisionFault.{RevisionFault}
+use Rattle.feed_edit.specs.declared.fault.RevisionFault.TheVariants as revisions
+use Rattle.feed_edit.specs.declared.fault.KeepFault.{KeepFault}
+use Rattle.feed_edit.specs.declared.fault.KeepFault.TheVariants as keeps
+use Rattle.feed_edit.specs.declared.fault.MergeFault.{MergeFault}
+use Rattle.feed_edit.specs.declared.fault.MergeFault.TheVariants as merges
+use Rattle.feed_edit.specs.declared.fault.ExportFault.{ExportFault}
+use Rattle.feed_edit.specs.declared.fault.ExportFault.TheVariants as exports
+use Rattle.feed_edit.specs.declared.fault.ImportFault.{ImportFault}
+use Rattle.feed_edit.specs.declared.fault.ImportFault.TheVariants as imports
+use Rattle.desk_script.specs.declared.fault.RoomFault.{RoomFault}
+use Rattle.desk_script.specs.declared.fault.RoomFault.TheVariants as rooms
+use Rattle.desk_script.specs.declared.fault.RunFault.{RunFault}
+use Rattle.desk_script.specs.declared.fault.RunFault.TheVariants as runs
+use Rattle.desk_sheet.specs.Sheet.{max_sheet}
+use Rattle.desk_replace.specs.declared.fault.ExchangeFault.{ExchangeFault}
+use Rattle.desk_replace.specs.declared.fault.ExchangeFault.TheVariants as exchanges
+use Rattle.desk_replace.specs.declared.fault.PlaceFault.{PlaceFault}
+use Rattle.desk_replace.specs.declared.fault.PlaceFault.TheVariants as places
+use Rattle.desk_replace.specs.declared.fault.ReplaceFault.{ReplaceFault}
+use Rattle.desk_replace.specs.declared.fault.ReplaceFault.TheVariants as replacements
+use Rattle.feed_compare.specs.declared.fault.DifferenceFault.{DifferenceFault}
+use Rattle.feed_compare.specs.declared.fault.DifferenceFault.TheVariants as differences
+use Rattle.view_proof.specs.declared.reasons.OtherNumber.{OtherNumber}
+use Rattle.view_proof.specs.declared.reasons.OtherNumber.TheVariants as others
+use Rattle.view_punch.specs.declared.fault.PreviewFault.{PreviewFault}
+use Rattle.view_punch.specs.declared.fault.PreviewFault.TheVariants as previews
+use Rattle.view_ribbon.specs.declared.fault.ReadingFault.{ReadingFault}
+use Rattle.view_ribbon.specs.declared.fault.ReadingFault.TheVariants as readings
+use Rattle.view_sorts.specs.declared.fault.SortsFault.{SortsFault}
+use Rattle.view_sorts.specs.declared.fault.SortsFault.TheVariants as sorts
+use Rattle.program_words.specs.declared.wishes.Sources.{Sources}
+use Rattle.feed_last.specs.declared.fault.LastFault.{LastFault}
+use Rattle.feed_last.specs.declared.fault.LastFault.TheVariants as lasts
+use Rattle.feed_renumber.specs.declared.fault.NumberFault.TheVariants as numbers
+use Rattle.feed_renumber.specs.declared.fault.RenumberFault.{RenumberFault}
+use Rattle.feed_renumber.specs.declared.fault.RenumberFault.TheVariants as renumberings
+use Rattle.feed_renew.specs.declared.fault.RenewFault.{RenewFault}
+use Rattle.feed_renew.specs.declared.fault.RenewFault.TheVariants as renewals
+use Rattle.program_desk.specs.declared.causes.Cause.{Cause}
+use Rattle.program_desk.specs.declared.causes.Cause.TheVariants as causes
+use Rattle.program_desk.specs.declared.causes.ReadingSources.{ReadingSources}
+
+-- ---- files and feeds
+
+-- a file was refused
+abbrev pub file_cause : Bor Text → FileRefusal → Cause
+file_cause name refusals.Missing = causes.File name
+file_cause name refusals.Device = causes.File name
+file_cause name refusals.Large = causes.File name
+file_cause name refusals.NoMemory = causes.NoMemory name
+
+-- the feed of a file does not come in
+abbrev pub feed_cause : Bor Text → FeedTrouble → Cause
+feed_cause feed (troubles.File why) = file_cause feed why
+feed_cause feed (troubles.Feed fault) = causes.Feed feed fault
+feed_cause feed troubles.Full = causes.Full feed
+feed_cause feed troubles.NoMemory = causes.NoMemory feed
+
+-- a stored feed was not taken
+abbrev pub take_cause : Bor Text → TakeFault → Cause
+take_cause feed (takes.Untaken why) = file_cause feed why
+take_cause feed (takes.Feed why) = feed_cause feed why
+
+-- what was done was not written, or the feed not stored
+abbrev pub keep_cause : Bor Text → KeepFault → Cause
+keep_cause feed keeps.Write = causes.Output
+keep_cause feed (keeps.Unstored why) = file_cause feed why
+keep_cause feed keeps.NoMemory = causes.NoMemory feed
+
+-- ---- commands on a feed
+
+-- one by one
+abbrev pub desk_cause : Bor Text → RunFault → Cause
+desk_cause feed runs.Read = causes.Input
+desk_cause feed runs.Write = causes.Output
+desk_cause feed runs.TooLong = causes.Endless
+desk_cause feed runs.NoMemory = causes.NoMemory feed
+desk_cause feed (runs.Feed fault) = causes.Feed feed fault
+desk_cause feed (runs.File why) = causes.File feed
+desk_cause feed (runs.Opening stop) = causes.TooMany feed
+
+-- a feed was not let in
+abbrev pub last_cause : Bor Text → ℕ → LastFault → Cause
+last_cause feed site (lasts.Older made held) = causes.Older feed site made held
+last_cause feed site lasts.NoMemory = causes.NoMemory feed
+
+-- in a room
+abbrev pub room_cause : Bor Text → ℕ → RoomFault → Cause
+room_cause feed site (rooms.Older made held) = causes.Older feed site made held
+room_cause feed site (rooms.Run fault) = desk_cause feed fault
+
+-- as a sheet, which has a limit
+abbrev pub sheet_cause : Bor Text → RunFault → Cause
+sheet_cause feed runs.Read = causes.Input
+sheet_cause feed runs.Write = causes.Output
+sheet_cause feed runs.TooLong = causes.TooLong max_sheet
+sheet_cause feed runs.NoMemory = causes.NoMemory feed
+sheet_cause feed (runs.Feed fault) = causes.Feed feed fault
+sheet_cause feed (runs.File why) = causes.File feed
+sheet_cause feed (runs.Opening stop) = causes.TooMany feed
+
+-- ---- by hand
+
+-- no text was read; of the text itself the first line has the place
+abbrev pub input_cause : Bor Text → InputFault → Cause
+input_cause feed inputs.Read = causes.Input
+input_cause feed inputs.TooLong = causes.TooLong max_text
+input_cause feed (inputs.Text fault) = causes.Reported
+input_cause feed inputs.NoMemory = causes.NoMemory feed
+
+-- a copy was not made a text
+abbrev pub revision_cause : Bor Text → RevisionFault → Cause
+revision_cause feed revisions.Full = causes.Text feed
+revision_cause feed revisions.ClockFull = causes.Text feed
+revision_cause feed revisions.Value = causes.Text feed
+revision_cause feed revisions.NoMemory = causes.NoMemory feed
+
+-- another feed does not come in
+abbrev pub other_cause : Option (Bor Text) → FeedTrouble → Cause
+other_cause None why = causes.Reported
+other_cause (Some other) why = feed_cause other why
+
+-- feeds were not merged: of the others the one at the place; the counters of a number that was used twice have a line
+-- of their own
+abbrev pub merge_cause : {A : Type 0} → Bor Text → List (Bor Text) → MergeFault A → Cause
+merge_cause feed others (merges.Take why) = take_cause feed why
+merge_cause feed others (merges.Other at why) = other_cause (slice_get others at) why
+merge_cause feed others (merges.Forks at stamps) = causes.Reported
+merge_cause feed others (merges.Keep why) = keep_cause feed why
+
+abbrev pub export_cause : Bor Text → ExportFault → Cause
+export_cause feed (exports.Feed why) = feed_cause feed why
+export_cause feed exports.Write = causes.ReportOutput
+export_cause feed exports.NoMemory = causes.NoMemory feed
+
+abbrev pub import_cause : Bor Text → ℕ → ImportFault → Cause
+import_cause feed site (imports.Take why) = take_cause feed why
+import_cause feed site (imports.Last why) = last_cause feed site why
+import_cause feed site (imports.Input why) = input_cause feed why
+import_cause feed site (imports.Revision why) = revision_cause feed why
+import_cause feed site (imports.Wipes deleted of) = causes.Reported
+import_cause feed site (imports.Keep why) = keep_cause feed why
+
+-- a feed got no other number for what another feed bears under the same
+abbrev pub renumber_cause : Bor Text → Bor Text → ℕ → RenumberFault → Cause
+renumber_cause feed other site (renumberings.Take why) = take_cause feed why
+renumber_cause feed other site (renumberings.Other why) = feed_cause other why
+renumber_cause feed other site (renumberings.Number numbers.InUse) = causes.Number site numbers.InUse
+renumber_cause feed other site (renumberings.Number (numbers.Seen stamp)) = causes.Number site (numbers.Seen stamp)
+renumber_cause feed other site (renumberings.Number numbers.Clash) = causes.Number site numbers.Clash
+renumber_cause feed other site (renumberings.Number numbers.NoMemory) = causes.NoMemory feed
+renumber_cause feed other site (renumberings.Keep why) = keep_cause feed why
+
+-- no new feed was made of a stored one
+abbrev pub renew_cause : Bor Text → Bor Text → RenewFault → Cause
+renew_cause new feed (renewals.Take why) = take_cause new why
+renew_cause new feed renewals.There = causes.There new
+renew_cause new feed (renewals.Feed why) = feed_cause feed why
+renew_cause new feed (renewals.Keep why) = keep_cause new why
+
+-- nothing was replaced; the places stand on standard output
+abbrev pub replace_cause : Bor Text → ℕ → ReplaceFault → Cause
+replace_cause feed site (replacements.Exchange (exchanges.Old fault)) = causes.Reported
+replace_cause feed site (replacements.Exchange (exchanges.New fault)) = causes.Reported
+replace_cause feed site (replacements.Exchange exchanges.NoMemory) = causes.NoMemory feed
+replace_cause feed site (replacements.Take why) = take_cause feed why
+replace_cause feed site (replacements.Last why) = last_cause feed site why
+replace_cause feed site (replacements.Place places.NoPlace) = causes.Reported
+replace_cause feed site (replacements.Place (places.ManyPlaces count)) = causes.Reported
+replace_cause feed site (replacements.Place places.Write) = causes.ReportOutput
+replace_cause feed site (replacements.Place places.NoMemory) = causes.NoMemory feed
+replace_cause feed site (replacements.Revision why) = revision_cause feed why
+replace_cause feed site (replacements.Keep why) = keep_cause feed why
+
+abbrev pub difference_cause : Bor Text → Bor Text → DifferenceFault → Cause
+difference_cause one other (differences.One why) = feed_cause one why
+difference_cause one other (differences.Other why) = feed_cause other why
+difference_cause one other differences.Write = causes.ReportOutput
+difference_cause one other differences.NoMemory = causes.NoMemory one
+
+-- ---- what is made of a feed or of a ribbon; what was not stored is the target
+
+abbrev pub unstored_cause : Bor Text → Bor Text → FileRefusal → Cause
+unstored_cause source target refusals.Missing = causes.File target
+unstored_cause source target refusals.Device = causes.File target
+unstored_cause source target refusals.Large = causes.File target
+unstored_cause source target refusals.NoMemory = causes.NoMemory source
+
+-- the file whose number is another, with both numbers
+abbrev pub number_cause : Sources → OtherNumber → Cause
+number_cause from (others.Case set number) = causes.Other from.case (others.Case set number)
+number_cause from (others.Wedge set number) = causes.Other from.wedge (others.Wedge set number)
+
+-- the faults of a copy or of a job stand on standard output
+abbrev pub preview_cause : Sources → Bor Text → PreviewFault → Cause
+preview_cause from target (previews.Feed why) = feed_cause from.feed why
+preview_cause from target (previews.Input why) = causes.CaseOrWedge from.case from.wedge why
+preview_cause from target previews.CopyFaults = causes.Reported
+preview_cause from target (previews.Faulty None) = causes.Reported
+preview_cause from target (previews.Faulty (Some other)) = number_cause from other
+preview_cause from target previews.Write = causes.ReportOutput
+preview_cause from target (previews.Taken kind) = causes.Taken target kind
+preview_cause from target (previews.Unstored why) = unstored_cause from.feed target why
+preview_cause from target previews.NoMemory = causes.NoMemory from.feed
+
+abbrev pub reading_cause : ReadingSources → Bor Text → ReadingFault → Cause
+reading_cause from target (readings.Ribbon why) = causes.File from.ribbon
+reading_cause from target (readings.Input why) = causes.CaseOrWedge from.case from.wedge why
+reading_cause from target readings.Write = causes.ReportOutput
+reading_cause from target (readings.Taken kind) = causes.Taken target kind
+reading_cause from target (readings.Unstored why) = unstored_cause from.ribbon target why
+reading_cause from target readings.NoMemory = causes.NoMemory from.ribbon
+
+abbrev pub sorts_cause : Bor Text → Bor Text → SortsFault → Cause
+sorts_cause feed case (sorts.Feed why) = feed_cause feed why
+sorts_cause feed case (sorts.Input why) = causes.Case case why
+sorts_cause feed case sorts.Write = causes.ReportOutput
+sorts_cause feed case sorts.NoMemory = causes.NoMemory feed

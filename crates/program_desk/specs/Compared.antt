@@ -1,0 +1,20 @@
+-- What a difference has written, and what it left.
+use Rattle.std.specs.Prelude.{◌⊎◌, ℕ, Bool, true, false, List, Option}
+use Rattle.clap.specs.Words.{Text}
+use Rattle.feed_files.specs.Files.{Shelf, Stays}
+use Rattle.feed_compare.specs.Reporting.{IsReported, IsUnreported}
+use Rattle.feed_compare.specs.declared.fault.DifferenceFault.{DifferenceFault}
+
+-- what is said of two feeds was written, they hold the same or not; no file has changed
+abbrev pub IsCompared : (one other : Text) → Shelf → Shelf → Option (List ℕ) → Option (List ℕ) → Bool → Type 0
+IsCompared one other first last before after same = Stays first last × IsReported one other first before after same
+
+-- they hold the same
+abbrev pub AreOne : (one other : Text) → Shelf → Shelf → Option (List ℕ) → Option (List ℕ) → Type 0
+AreOne one other first last before after = IsCompared one other first last before after true
+
+-- they do not; or it was not written
+abbrev pub AreNotOne : (one other : Text) → Shelf → Shelf → Option (List ℕ) → Option (List ℕ) → Type 0
+AreNotOne one other first last before after =
+    IsCompared one other first last before after false
+    ⊎ (Stays first last × (fault : DifferenceFault) × IsUnreported one other first last before after fault)

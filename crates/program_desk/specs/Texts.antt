@@ -1,0 +1,33 @@
+-- What a replacement and a check have done, and what they left.
+use Rattle.std.specs.Prelude.{◌⊎◌, ℕ, Bool, true, false, List, Option}
+use Rattle.std.specs.Borrow.{Bor}
+use Rattle.clap.specs.Words.{Text}
+use Rattle.feed_files.specs.Files.{Shelf, Stays}
+use Rattle.feed_check.specs.Checking.{IsChecked, IsUnchecked}
+use Rattle.feed_check.specs.declared.fault.CheckFault.{CheckFault}
+use Rattle.desk_replace.specs.Replacing.{IsUnreplaced}
+use Rattle.desk_replace.specs.declared.fault.ReplaceFault.{ReplaceFault}
+use Rattle.desk_replace.specs.declared.texts.Exchange.{Exchange}
+
+-- a text, and the one that takes its place
+abbrev pub exchange : Bor Text → Bor Text → Bool → Exchange
+exchange old new plain = record { from = old; to = new; plain = plain }
+
+-- why the one text was not made the other, and what was left
+abbrev pub IsUnchanged : Text → ℕ → Bool → Exchange → Shelf → Shelf → Option (List ℕ) → Option (List ℕ) → Type 0
+IsUnchanged feed site older exchange first last before after = (fault : ReplaceFault)
+    × IsUnreplaced feed site older exchange first last before after fault
+
+-- each file has its line, all are in order or one is not; no file has changed
+abbrev pub AreReported : List Text → Shelf → Shelf → Option (List ℕ) → Option (List ℕ) → Bool → Type 0
+AreReported names first last before after well = Stays first last × IsChecked names first last before after well
+
+-- all are in order
+abbrev pub AreFound : List Text → Shelf → Shelf → Option (List ℕ) → Option (List ℕ) → Type 0
+AreFound names first last before after = AreReported names first last before after true
+
+-- one is not; or a line was not written
+abbrev pub AreNotInOrder : List Text → Shelf → Shelf → Option (List ℕ) → Option (List ℕ) → Type 0
+AreNotInOrder names first last before after =
+    AreReported names first last before after false
+    ⊎ (Stays first last × (fault : CheckFault) × IsUnchecked names first last before after fault)

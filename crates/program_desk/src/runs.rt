@@ -1,0 +1,195 @@
+//! What the words of the command line ask for, done.
+
+ghost use Rattle.std.specs.Prelude.{◌≡◌, ◌≢◌, ◌≤◌, ◌⊎◌, map, string_bytes};
+ghost use Rattle.clap.specs.Words.{kind_of};
+ghost use Rattle.program_desk.specs.Runs.{Does, IsRun, IsStopped, Stops};
+ghost use Rattle.program_words.specs.Words.{AsksHelp, AsksNothing, IsLawful};
+
+use crate::by_hand::{exported, imported, merged, renewed, renumbered};
+use crate::causes::ReadingSources;
+use crate::compared::compared;
+use crate::previews::{proofed, punched};
+use crate::readings::{listed, read_whole};
+use crate::reporting::stopped;
+use crate::sheets::{on_desk, scripted};
+use crate::texts::{checked, replaced};
+use clap::Error;
+use clap::error::ErrorKind;
+use desk_outputs::Target;
+use desk_replace::Exchange;
+use desk_script::RunFault;
+use feed_files::Files;
+use program_host::{Explains, Plain};
+use program_words::{Wish, read_words};
+use std::alloc::Global;
+use std::io::{Read, Write};
+
+/// Does what is asked for, and gives the status.
+fn fulfilled<R: Read, W: Write, E: Write, F: Files + Explains>(
+    alloc: Global,
+    wish: &Wish<'_>,
+    reader: &mut R,
+    writer: &mut W,
+    faults: &mut E,
+    files: &mut F,
+) -> u8
+    requires { IsLawful wish.now }
+    ensures within { result ≤ 1 }
+    ensures done { result ≡ 0
+        → Does wish.now (F.shelf files.old) (F.shelf files.new) (R.remaining reader.old) (W.contents writer.old)
+        (W.contents writer.new) }
+    ensures stopped { result ≡ 1
+        → Stops wish.now (F.shelf files.old) (F.shelf files.new) (R.remaining reader.old) (W.contents writer.old)
+        (W.contents writer.new) }
+{
+    match wish {
+        Wish::Script { manner } => scripted(alloc, *manner, reader, writer, faults, files),
+        Wish::Desk {
+            feed,
+            site,
+            older,
+            why,
+            manner,
+        } => on_desk(
+            alloc, *manner, feed, *site, *older, *why, reader, writer, faults, files,
+        ),
+        Wish::Merge {
+            feed,
+            others,
+            forks,
+            review,
+        } => merged(alloc, feed, others, *forks, *review, writer, faults, files),
+        Wish::Diff { one, other } => compared(alloc, one, other, writer, faults, files),
+        Wish::Export { feed } => exported(alloc, feed, writer, faults, files),
+        Wish::Import {
+            feed,
+            site,
+            older,
+            plain,
+            all,
+        } => imported(
+            alloc, feed, *site, *older, *plain, *all, reader, writer, faults, files,
+        ),
+        Wish::Replace {
+            feed,
+            site,
+            older,
+            old,
+            new,
+            plain,
+        } => {
+            let exchange = Exchange {
+                from: old,
+                to: new,
+                plain: *plain,
+            };
+            replaced(alloc, feed, *site, *older, &exchange, writer, faults, files)
+        }
+        Wish::Check { files: names } => checked(alloc, names, writer, faults, files),
+        Wish::Proof {
+            from,
+            faults: alone,
+            picture,
+            force,
+            sets,
+        } => proofed(
+            alloc, from, *alone, *picture, *force, sets, writer, faults, files,
+        ),
+        Wish::Punch {
+            from,
+            target,
+            force,
+            faulty,
+        } => {
+            let to = Target {
+                name: target,
+                force: *force,
+            };
+            punched(alloc, from, &to, *faulty, writer, faults, files)
+        }
+        Wish::Read {
+            ribbon,
+            case,
+            wedge,
+            picture,
+            force,
+        } => {
+            let from = ReadingSources {
+                ribbon,
+                case,
+                wedge,
+            };
+            read_whole(alloc, &from, *picture, *force, writer, faults, files)
+        }
+        Wish::Sorts { feed, case, layout } => {
+            listed(alloc, feed, case, *layout, writer, faults, files)
+        }
+        Wish::Renumber { feed, other, site } => {
+            renumbered(alloc, feed, other, *site, writer, faults, files)
+        }
+        Wish::Renew { new, feed, site } => renewed(alloc, new, feed, *site, writer, faults, files),
+    }
+}
+
+/// Writes what `clap` says of words that it refuses, with the words as a terminal shows them.
+fn report_words<E: Write>(alloc: Global, faults: &mut E, error: &Error) {
+    let Ok(text) = format!(in alloc; "{error}") else {
+        let _ = writeln!(faults, "error: the words of the command line are refused");
+        return;
+    };
+    for line in text.as_str().lines() {
+        let _ = writeln!(faults, "{}", Plain(line));
+    }
+}
+
+/// What `clap` says of the words: its help and the version go to the writer, and a refusal to the faults.
+fn refused<W: Write, E: Write>(alloc: Global, writer: &mut W, faults: &mut E, error: &Error) -> u8
+    ensures within { result ≤ 2 }
+    ensures help { result ≡ 0 → (kind_of error.now ≡ ErrorKind.DisplayHelp)
+        ⊎ (kind_of error.now ≡ ErrorKind.DisplayVersion) }
+    ensures memory { result ≡ 1 → (kind_of error.now ≡ ErrorKind.OutOfMemory) × (writer.new ≡ writer.old) }
+    ensures reported { result ≢ 1 → kind_of error.now ≢ ErrorKind.OutOfMemory }
+    ensures fault { result ≡ 2 → (kind_of error.now ≢ ErrorKind.DisplayHelp)
+        × (kind_of error.now ≢ ErrorKind.DisplayVersion) × (writer.new ≡ writer.old) }
+{
+    let kind = error.kind();
+    if kind == ErrorKind::OutOfMemory {
+        return stopped(faults, RunFault::NoMemory);
+    }
+    if kind == ErrorKind::DisplayHelp || kind == ErrorKind::DisplayVersion {
+        let _ = write!(writer, "{error}");
+        return 0;
+    }
+    report_words(alloc, faults, error);
+    2
+}
+
+/// Does what the words ask for, and gives the status: 0 only where it was done and no fault or difference found, or help or the
+/// version was asked for; 1 where it stopped, or a fault or a difference was found; and 2 where the words were refused. A
+/// failure to write the help or a fault's line changes no status.
+pub fn program<R: Read, W: Write, E: Write, F: Files + Explains>(
+    alloc: Global,
+    words: &[String],
+    reader: &mut R,
+    writer: &mut W,
+    faults: &mut E,
+    files: &mut F,
+) -> u8
+    ensures status { result ≤ 2 }
+    ensures done { result ≡ 0
+        → IsRun (F.shelf files.old) (F.shelf files.new) (map string_bytes words.now) (R.remaining reader.old)
+        (W.contents writer.old) (W.contents writer.new)
+        ⊎ (AsksHelp (map string_bytes words.now) × (reader.new ≡ reader.old) × (files.new ≡ files.old)) }
+    ensures stopped { result ≡ 1
+        → IsStopped (F.shelf files.old) (F.shelf files.new) (map string_bytes words.now) (R.remaining reader.old)
+        (W.contents writer.old) (W.contents writer.new)
+        ⊎ ((reader.new ≡ reader.old) × (writer.new ≡ writer.old) × (files.new ≡ files.old)) }
+    ensures refused { result ≡ 2 → AsksNothing (map string_bytes words.now) × (reader.new ≡ reader.old)
+        × (writer.new ≡ writer.old) × (files.new ≡ files.old) }
+{
+    match read_words(alloc, words) {
+        Ok(Some(wish)) => fulfilled(alloc, &wish, reader, writer, faults, files),
+        Ok(None) => 2,
+        Err(error) => refused(alloc, writer, faults, &error),
+    }
+}

@@ -1,0 +1,8 @@
+use Rattle.std.proofs.Common.{refl}
+use Rattle.clap.specs.Words.{found_of, rows_of}
+use Rattle.program_words.specs.declared.wishes.Subcommand.TheVariants as subcommands
+use Rattle.program_words.proofs.Asked.{no_wish}
+use Rattle.program_words.proofs.wishes.desk_wish.Goals as goal
+
+pub returns-in-None : goal.returns-in-None
+returns-in-None c = no_wish (rows_of (found_of c.args.matches.now)) subcommands.Desk (c.in-None.ensures.none refl)

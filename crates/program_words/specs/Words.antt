@@ -1,0 +1,359 @@
+-- What the words of the command line ask for, as `clap` reads them.
+use Rattle.std.specs.Prelude.{◌≡◌, ◌≢◌, ◌≤◌, ◌<◌, ◌⊎◌, ℕ, Bool, List, [], Option, Some, None, Vec, true, false, map, option_map, pos, codes}
+use Rattle.std.specs.Borrow.{Bor}
+use Rattle.std.specs.Str.Parse.{IsNumeral, digits_value, without_leading_plus}
+use Rattle.std.specs.declared.alloc.Global.{Global}
+use Rattle.clap.specs.Words.{App, IsAmong, Row, Rule, Text, all_of, fault_of, first_of, new_app, new_rule, one_of, subcommand_of, with_rule, with_subcommand}
+use Rattle.clap.specs.declared.builder.action.ArgAction.TheVariants.{Append, SetTrue}
+use Rattle.clap.specs.declared.builder.value_parser.ValueParser.TheVariants as parsers
+use Rattle.clap.specs.declared.error.kind.ErrorKind.{ErrorKind}
+use Rattle.clap.specs.declared.error.kind.ErrorKind.TheVariants as kind
+use Rattle.program_words.specs.declared.wishes.Manner.{Manner}
+use Rattle.program_words.specs.declared.wishes.Sources.{Sources}
+use Rattle.program_words.specs.declared.wishes.Subcommand.{Subcommand}
+use Rattle.program_words.specs.declared.wishes.Subcommand.TheVariants as subcommands
+use Rattle.program_words.specs.declared.wishes.Wish.{Wish}
+use Rattle.program_words.specs.declared.wishes.Wish.TheVariants as wishes
+
+-- ---- the program's command
+
+abbrev pub feed_rule : Rule
+feed_rule = record (new_rule (codes "feed")) { required = true }
+
+abbrev pub site_rule : Rule
+site_rule = record (new_rule (codes "site")) {
+  long = Some (codes "site");
+  parser = Some (parsers.Signed (pos 1) (pos 65535));
+  required = true;
+}
+
+-- one name or more
+abbrev pub names_rule : Text → Rule
+names_rule name = record (new_rule name) { action = Some Append; required = true }
+
+abbrev pub others_rule : Rule
+others_rule = names_rule (codes "other")
+
+abbrev pub files_rule : Rule
+files_rule = names_rule (codes "file")
+
+abbrev pub flag_rule : Text → Rule
+flag_rule name = record (new_rule name) { long = Some name; action = Some SetTrue }
+
+-- an option with the name of a file
+abbrev pub file_rule : Text → Rule
+file_rule name = record (new_rule name) { long = Some name; required = true }
+
+-- an option with the name of a file, which may be left out
+abbrev pub choice_rule : Text → Rule
+choice_rule name = record (new_rule name) { long = Some name }
+
+-- an option that may stand more than once
+abbrev pub each_rule : Text → Rule
+each_rule name = record (new_rule name) { long = Some name; action = Some Append }
+
+-- `--output` or `-o`
+abbrev pub target_rule : Rule
+target_rule = record (file_rule (codes "output")) { short = Some 111 }
+
+-- with the two flags of how commands are carried out
+abbrev pub with_manner : App → App
+with_manner app = with_rule (with_rule app (flag_rule (codes "strict"))) (flag_rule (codes "number"))
+
+abbrev pub script_app : App
+script_app = with_manner (new_app (codes "script"))
+
+-- one text, as the name of a file or what stands in a copy
+abbrev pub text_rule : Text → Rule
+text_rule name = record (new_rule name) { required = true }
+
+-- a feed that a site works on, though it be older than what was stored there
+abbrev pub on_site : Text → App
+on_site name = with_rule (with_rule (with_rule (new_app name) feed_rule) site_rule) (flag_rule (codes "older"))
+
+abbrev pub desk_app : App
+desk_app = with_manner (with_rule (on_site (codes "desk")) (flag_rule (codes "why")))
+
+abbrev pub merge_app : App
+merge_app = with_rule (with_rule (with_rule (with_rule (new_app (codes "merge")) feed_rule) others_rule) (flag_rule (codes "forks"))) (flag_rule (codes "review"))
+
+abbrev pub diff_app : App
+diff_app = with_rule (with_rule (new_app (codes "diff")) feed_rule) (text_rule (codes "other"))
+
+abbrev pub export_app : App
+export_app = with_rule (new_app (codes "export")) feed_rule
+
+abbrev pub import_app : App
+import_app = with_rule (with_rule (on_site (codes "import")) (flag_rule (codes "plain"))) (flag_rule (codes "all"))
+
+-- a feed, a case and a wedge
+abbrev pub sources_app : Text → App
+sources_app name = with_rule (with_rule (with_rule (new_app name) feed_rule) (file_rule (codes "case"))) (file_rule (codes "wedge"))
+
+-- what stands under the name of an output is replaced, whatever it is
+abbrev pub force_rule : Rule
+force_rule = flag_rule (codes "force")
+
+-- with the name of a file for a picture
+abbrev pub with_picture : App → App
+with_picture app = with_rule (with_rule app (choice_rule (codes "svg"))) force_rule
+
+abbrev pub proof_app : App
+proof_app = with_rule (with_picture (with_rule (sources_app (codes "proof")) (flag_rule (codes "faults")))) (each_rule (codes "set"))
+
+abbrev pub punch_app : App
+punch_app = with_rule (with_rule (with_rule (sources_app (codes "punch")) target_rule) force_rule) (flag_rule (codes "faulty"))
+
+-- a ribbon, a case and a wedge
+abbrev pub ribbon_app : App
+ribbon_app = with_rule (with_rule (with_rule (new_app (codes "read")) (text_rule (codes "ribbon"))) (file_rule (codes "case"))) (file_rule (codes "wedge"))
+
+abbrev pub read_app : App
+read_app = with_picture ribbon_app
+
+abbrev pub sorts_app : App
+sorts_app = with_rule (with_rule (with_rule (new_app (codes "sorts")) feed_rule) (file_rule (codes "case"))) (flag_rule (codes "layout"))
+
+abbrev pub replace_app : App
+replace_app = with_rule (with_rule (with_rule (on_site (codes "replace")) (flag_rule (codes "plain"))) (text_rule (codes "old"))) (text_rule (codes "new"))
+
+abbrev pub check_app : App
+check_app = with_rule (new_app (codes "check")) files_rule
+
+abbrev pub renumber_app : App
+renumber_app = with_rule (with_rule (with_rule (new_app (codes "renumber")) feed_rule) (text_rule (codes "other"))) site_rule
+
+abbrev pub renew_app : App
+renew_app = with_rule (with_rule (with_rule (new_app (codes "renew")) (text_rule (codes "new"))) feed_rule) site_rule
+
+abbrev pub no_subcommand : App
+no_subcommand = record {
+  top = record (new_app (codes "copydesk")).top { no_binary_name = true; subcommand_required = true };
+  subs = [];
+}
+
+-- with its first subcommands, up to `merge`
+abbrev pub up_to_merge : App
+up_to_merge = with_subcommand (with_subcommand (with_subcommand no_subcommand script_app.top) desk_app.top) merge_app.top
+
+-- with those up to `import`
+abbrev pub up_to_import : App
+up_to_import = with_subcommand (with_subcommand (with_subcommand up_to_merge diff_app.top) export_app.top) import_app.top
+
+-- with those up to `proof`
+abbrev pub up_to_proof : App
+up_to_proof = with_subcommand (with_subcommand (with_subcommand up_to_import replace_app.top) check_app.top) proof_app.top
+
+-- with those up to `sorts`
+abbrev pub up_to_sorts : App
+up_to_sorts = with_subcommand (with_subcommand (with_subcommand up_to_proof punch_app.top) read_app.top) sorts_app.top
+
+-- with a version
+abbrev pub with_version : App → App
+with_version app = record app { top = record app.top { has_version = true } }
+
+-- the program with its subcommands
+abbrev pub copydesk : App
+copydesk = with_version (with_subcommand (with_subcommand up_to_sorts renumber_app.top) renew_app.top)
+
+-- ---- what a subcommand's matches hold
+
+-- the text is a whole number in digits, where a plus may stand first
+abbrev pub IsNumber : Text → ℕ → Type 0
+IsNumber text n = IsNumeral 10 (without_leading_plus text) × (digits_value 10 (without_leading_plus text) ≡ n)
+
+-- the number of a site
+abbrev pub HasSite : List Row → ℕ → Type 0
+HasSite rows site = (text : Text) × (one_of (codes "site") rows ≡ Some text) × IsNumber text site × (1 ≤ site) × (site < 65536)
+
+-- the name that an argument gives
+abbrev pub Names : Text → List Row → Text → Type 0
+Names argument rows name = first_of argument rows ≡ Some name
+
+-- the name of a feed
+abbrev pub NamesFeed : List Row → Text → Type 0
+NamesFeed = Names (codes "feed")
+
+-- the names of a feed, a case and a wedge
+abbrev pub NamesSources : List Row → Sources → Type 0
+NamesSources rows from = NamesFeed rows from.feed.now × Names (codes "case") rows from.case.now × Names (codes "wedge") rows from.wedge.now
+
+-- both
+abbrev pub NamesDesk : List Row → Text → ℕ → Type 0
+NamesDesk rows feed site = NamesFeed rows feed × HasSite rows site
+
+-- the names of a ribbon, a case and a wedge
+abbrev pub NamesRibbon : List Row → Text → Text → Text → Type 0
+NamesRibbon rows ribbon case wedge = Names (codes "ribbon") rows ribbon × Names (codes "case") rows case × Names (codes "wedge") rows wedge
+
+-- the name that an option gives, or that it was left out
+abbrev pub Chooses : Text → List Row → Option (Bor Text) → Type 0
+Chooses argument rows name = first_of argument rows ≡ option_map (λ n. n.now) name
+
+-- the texts behind names
+abbrev pub texts_of : List (Bor Text) → List Text
+texts_of = map (λ name. name.now)
+
+-- the texts that an option gives, none where it was left out
+abbrev pub all_given : Option (List Text) → List Text
+all_given (Some texts) = texts
+all_given None = []
+
+-- the flag is set or not
+abbrev pub HasFlag : Text → List Row → Bool → Type 0
+HasFlag name rows flag =
+    (one_of name rows ≡ None → flag ≡ false) × (one_of name rows ≡ Some (codes "false") → flag ≡ false) × (one_of name rows ≡ Some (codes "true") → flag ≡ true)
+
+-- both, and whether a feed that is older is taken
+abbrev pub NamesRoom : List Row → Text → ℕ → Bool → Type 0
+NamesRoom rows feed site older = NamesDesk rows feed site × HasFlag (codes "older") rows older
+
+-- the name of the file for a picture, or that there is none, and whether whatever stands there is replaced
+abbrev pub Pictures : List Row → Option (Bor Text) → Bool → Type 0
+Pictures rows picture force = Chooses (codes "svg") rows picture × HasFlag (codes "force") rows force
+
+-- how commands are carried out
+abbrev pub HasManner : List Row → Manner → Type 0
+HasManner rows manner = HasFlag (codes "strict") rows manner.strict × HasFlag (codes "number") rows manner.number
+
+-- ---- what is asked for
+
+-- the name of a subcommand
+abbrev pub name_of : Subcommand → Text
+name_of subcommands.Script = codes "script"
+name_of subcommands.Desk = codes "desk"
+name_of subcommands.Merge = codes "merge"
+name_of subcommands.Diff = codes "diff"
+name_of subcommands.Export = codes "export"
+name_of subcommands.Import = codes "import"
+name_of subcommands.Replace = codes "replace"
+name_of subcommands.Check = codes "check"
+name_of subcommands.Proof = codes "proof"
+name_of subcommands.Punch = codes "punch"
+name_of subcommands.Read = codes "read"
+name_of subcommands.Sorts = codes "sorts"
+name_of subcommands.Renumber = codes "renumber"
+name_of subcommands.Renew = codes "renew"
+
+-- the subcommand of a wish
+abbrev pub subcommand_asked : Wish → Subcommand
+subcommand_asked (wishes.Script manner) = subcommands.Script
+subcommand_asked (wishes.Desk feed site older why manner) = subcommands.Desk
+subcommand_asked (wishes.Merge feed others forks review) = subcommands.Merge
+subcommand_asked (wishes.Diff one other) = subcommands.Diff
+subcommand_asked (wishes.Export feed) = subcommands.Export
+subcommand_asked (wishes.Import feed site older plain all) = subcommands.Import
+subcommand_asked (wishes.Replace feed site older old new plain) = subcommands.Replace
+subcommand_asked (wishes.Check files) = subcommands.Check
+subcommand_asked (wishes.Proof from faults picture force sets) = subcommands.Proof
+subcommand_asked (wishes.Punch from target force faulty) = subcommands.Punch
+subcommand_asked (wishes.Read ribbon case wedge picture force) = subcommands.Read
+subcommand_asked (wishes.Sorts feed case layout) = subcommands.Sorts
+subcommand_asked (wishes.Renumber feed other site) = subcommands.Renumber
+subcommand_asked (wishes.Renew new feed site) = subcommands.Renew
+
+-- its matches hold what the wish says
+abbrev pub Reports : List Row → Wish → Type 0
+Reports rows (wishes.Script manner) = HasManner rows manner
+Reports rows (wishes.Desk feed site older why manner) = NamesRoom rows feed.now site older × HasFlag (codes "why") rows why × HasManner rows manner
+Reports rows (wishes.Merge feed others forks review) =
+    NamesFeed rows feed.now × (all_of (codes "other") rows ≡ Some (texts_of others.items)) × HasFlag (codes "forks") rows forks × HasFlag (codes "review") rows review
+Reports rows (wishes.Diff one other) = NamesFeed rows one.now × Names (codes "other") rows other.now
+Reports rows (wishes.Export feed) = NamesFeed rows feed.now
+Reports rows (wishes.Import feed site older plain all) = NamesRoom rows feed.now site older × HasFlag (codes "plain") rows plain × HasFlag (codes "all") rows all
+Reports rows (wishes.Replace feed site older old new plain) =
+    NamesRoom rows feed.now site older × Names (codes "old") rows old.now × Names (codes "new") rows new.now × HasFlag (codes "plain") rows plain
+Reports rows (wishes.Check files) = all_of (codes "file") rows ≡ Some (texts_of files.items)
+Reports rows (wishes.Proof from faults picture force sets) =
+    NamesSources rows from × HasFlag (codes "faults") rows faults × Pictures rows picture force × (texts_of sets.items ≡ all_given (all_of (codes "set") rows))
+Reports rows (wishes.Punch from target force faulty) =
+    NamesSources rows from × Names (codes "output") rows target.now × HasFlag (codes "force") rows force × HasFlag (codes "faulty") rows faulty
+Reports rows (wishes.Read ribbon case wedge picture force) = NamesRibbon rows ribbon.now case.now wedge.now × Pictures rows picture force
+Reports rows (wishes.Sorts feed case layout) = NamesFeed rows feed.now × Names (codes "case") rows case.now × HasFlag (codes "layout") rows layout
+Reports rows (wishes.Renumber feed other site) = NamesDesk rows feed.now site × Names (codes "other") rows other.now
+Reports rows (wishes.Renew new feed site) = NamesDesk rows feed.now site × Names (codes "new") rows new.now
+
+-- a subcommand with its matches asks for this
+abbrev pub Wishes : Option (Text × List Row) → Wish → Type 0
+Wishes asked wish = (rows : List Row) × (asked ≡ Some (name_of (subcommand_asked wish), rows)) × Reports rows wish
+
+-- the words have no fault, and ask for this
+abbrev pub AsksFor : List Text → Wish → Type 0
+AsksFor words wish = (fault_of copydesk words ≡ []) × Wishes (subcommand_of copydesk words) wish
+
+-- the words ask for help, or for the program's version
+abbrev pub AsksHelp : List Text → Type 0
+AsksHelp words = IsAmong kind.DisplayHelp (fault_of copydesk words) ⊎ IsAmong kind.DisplayVersion (fault_of copydesk words)
+
+-- the words have a fault
+abbrev pub HasFault : List Text → Type 0
+HasFault words = (k : ErrorKind) × IsAmong k (fault_of copydesk words) × (k ≢ kind.DisplayHelp) × (k ≢ kind.DisplayVersion)
+
+-- the words have a fault, or ask for nothing that can be done
+abbrev pub AsksNothing : List Text → Type 0
+AsksNothing words = HasFault words ⊎ ((wish : Wish) → AsksFor words wish → ⊥)
+
+-- ---- what is made of the matches
+
+-- the names, or that there are none
+abbrev pub AreNames : Option (List Text) → Option (Vec (Bor Text) Global) → Type 0
+AreNames asked (Some names) = asked ≡ Some (texts_of names.items)
+AreNames asked None = asked ≡ None
+
+-- the names of a feed, a case and a wedge, or that they are not all there
+abbrev pub AreSources : List Row → Option Sources → Type 0
+AreSources rows (Some from) = NamesSources rows from
+AreSources rows None = (from : Sources) → NamesSources rows from → ⊥
+
+-- what the matches of a subcommand hold, or that they hold nothing that can be done
+abbrev pub IsReported : List Row → Subcommand → Option Wish → Type 0
+IsReported rows subcommand (Some wish) = (subcommand_asked wish ≡ subcommand) × Reports rows wish
+IsReported rows subcommand None = (wish : Wish) → subcommand_asked wish ≡ subcommand → Reports rows wish → ⊥
+
+-- the matches of a subcommand hold the list that it may be given: other feeds, files, or settings to be tried
+abbrev pub HasList : List Row → Subcommand → Type 0
+HasList rows subcommands.Script = ⊥
+HasList rows subcommands.Desk = ⊥
+HasList rows subcommands.Merge = all_of (codes "other") rows ≢ None
+HasList rows subcommands.Diff = ⊥
+HasList rows subcommands.Export = ⊥
+HasList rows subcommands.Import = ⊥
+HasList rows subcommands.Replace = ⊥
+HasList rows subcommands.Check = all_of (codes "file") rows ≢ None
+HasList rows subcommands.Proof = all_of (codes "set") rows ≢ None
+HasList rows subcommands.Punch = ⊥
+HasList rows subcommands.Read = ⊥
+HasList rows subcommands.Sorts = ⊥
+HasList rows subcommands.Renumber = ⊥
+HasList rows subcommands.Renew = ⊥
+
+-- a subcommand was given such a list
+abbrev pub ListsNames : Option (Text × List Row) → Type 0
+ListsNames asked = (subcommand : Subcommand) × (rows : List Row) × (asked ≡ Some (name_of subcommand, rows)) × HasList rows subcommand
+
+-- what a subcommand with its matches asks for, or that it asks for nothing that can be done
+abbrev pub IsWished : Option (Text × List Row) → Option Wish → Type 0
+IsWished asked (Some wish) = Wishes asked wish
+IsWished asked None = (wish : Wish) → Wishes asked wish → ⊥
+
+-- what the words ask for, or that they ask for nothing that can be done
+abbrev pub IsAsked : List Text → Option Wish → Type 0
+IsAsked words (Some wish) = AsksFor words wish
+IsAsked words None = (wish : Wish) → AsksFor words wish → ⊥
+
+-- the number of its site may be one
+abbrev pub IsLawful : Wish → Type 0
+IsLawful (wishes.Script manner) = Unit {0}
+IsLawful (wishes.Desk feed site older why manner) = 1 ≤ site
+IsLawful (wishes.Merge feed others forks review) = Unit {0}
+IsLawful (wishes.Diff one other) = Unit {0}
+IsLawful (wishes.Export feed) = Unit {0}
+IsLawful (wishes.Import feed site older plain all) = 1 ≤ site
+IsLawful (wishes.Replace feed site older old new plain) = 1 ≤ site
+IsLawful (wishes.Check files) = Unit {0}
+IsLawful (wishes.Proof from faults picture force sets) = Unit {0}
+IsLawful (wishes.Punch from target force faulty) = Unit {0}
+IsLawful (wishes.Read ribbon case wedge picture force) = Unit {0}
+IsLawful (wishes.Sorts feed case layout) = Unit {0}
+IsLawful (wishes.Renumber feed other site) = 1 ≤ site
+IsLawful (wishes.Renew new feed site) = 1 ≤ site

@@ -1,0 +1,550 @@
+//! What the matches of the command line hold.
+
+ghost use Rattle.std.specs.Prelude.{◌≡◌, ◌≢◌, ℕ, None, IfOk, IfSome, IsErr, IsNone, codes};
+ghost use Rattle.clap.specs.Words.{Text, all_of, found_of, rows_of, subcommand_rows_of};
+ghost use Rattle.program_words.specs.Words.{AreNames, AreSources, Chooses, HasFlag, HasList, HasManner, HasSite, IsReported, IsWished, ListsNames, NamesDesk, all_given, name_of, texts_of};
+
+use clap::ArgMatches;
+use std::alloc::{AllocError, Global};
+
+/// The subcommands.
+#[derive(Clone, Copy, Debug, PartialEq, Eq)]
+pub enum Subcommand {
+    Script,
+    Desk,
+    Merge,
+    Diff,
+    Export,
+    Import,
+    Replace,
+    Check,
+    Proof,
+    Punch,
+    Read,
+    Sorts,
+    Renumber,
+    Renew,
+}
+
+/// The names of a stored feed, of a case file and of a wedge file.
+#[derive(Clone, Copy, Debug, PartialEq, Eq)]
+pub struct Sources<'a> {
+    pub feed: &'a str,
+    pub case: &'a str,
+    pub wedge: &'a str,
+}
+
+/// How commands are to be carried out and answered, as the flags say.
+#[derive(Clone, Copy, Debug, PartialEq, Eq)]
+pub struct Manner {
+    /// The run ends at the first line that is refused.
+    pub strict: bool,
+    /// The number of its line stands before each answer.
+    pub number: bool,
+}
+
+/// What the words ask for.
+#[derive(Drop)]
+pub enum Wish<'a> {
+    /// A script, and how it is carried out.
+    Script {
+        manner: Manner,
+    },
+    /// A script on a stored feed, for a site, whether an older feed is taken, whether a line is to say why a run stopped, and
+    /// how it is carried out.
+    Desk {
+        feed: &'a str,
+        site: u16,
+        older: bool,
+        why: bool,
+        manner: Manner,
+    },
+    /// The feeds of other files, merged into a stored one, whether numbers that were used twice are merged too, and whether words
+    /// that a person must look at are a fault.
+    Merge {
+        feed: &'a str,
+        others: Vec<&'a str>,
+        forks: bool,
+        review: bool,
+    },
+    /// What each of two stored feeds has alone.
+    Diff {
+        one: &'a str,
+        other: &'a str,
+    },
+    /// The copy of a stored feed as text.
+    Export {
+        feed: &'a str,
+    },
+    /// A text, made the copy of a stored feed by operations of a site, whether an older feed is taken, whether all of the text is
+    /// Roman, and whether it may delete most of the copy.
+    Import {
+        feed: &'a str,
+        site: u16,
+        older: bool,
+        plain: bool,
+        all: bool,
+    },
+    /// A text in the copy of a stored feed, made another by operations of a site, whether an older feed is taken, and whether all
+    /// of both is Roman.
+    Replace {
+        feed: &'a str,
+        site: u16,
+        older: bool,
+        old: &'a str,
+        new: &'a str,
+        plain: bool,
+    },
+    /// Files, known by their content.
+    Check {
+        files: Vec<&'a str>,
+    },
+    /// The galley of a stored feed by a case and a wedge, whether its faults alone are wanted, the name of the file that its
+    /// picture is stored in, whether whatever stands there is replaced, and the settings that are tried in place of the copy's.
+    Proof {
+        from: Sources<'a>,
+        faults: bool,
+        picture: Option<&'a str>,
+        force: bool,
+        sets: Vec<&'a str>,
+    },
+    /// The ribbon of a stored feed by a case and a wedge, stored under the name of a target; whether whatever stands there is
+    /// replaced, and whether a copy with faults is punched.
+    Punch {
+        from: Sources<'a>,
+        target: &'a str,
+        force: bool,
+        faulty: bool,
+    },
+    /// What a caster would cast of a stored ribbon by a case and a wedge, the name of the file that its picture is stored in, and
+    /// whether whatever stands there is replaced.
+    Read {
+        ribbon: &'a str,
+        case: &'a str,
+        wedge: &'a str,
+        picture: Option<&'a str>,
+        force: bool,
+    },
+    /// The sorts that the copy of a stored feed wants of a case, and whether the case's layout is wanted too.
+    Sorts {
+        feed: &'a str,
+        case: &'a str,
+        layout: bool,
+    },
+    /// Another number for the operations of a stored feed whose stamps another feed bears with other content.
+    Renumber {
+        feed: &'a str,
+        other: &'a str,
+        site: u16,
+    },
+    /// A new feed, with the copy and the settings of a stored one, made by a site.
+    Renew {
+        new: &'a str,
+        feed: &'a str,
+        site: u16,
+    },
+}
+
+/// The subcommand of a name.
+fn subcommand_named(name: &str) -> Option<Subcommand>
+    ensures some { IfSome result (λ subcommand. name.now ≡ name_of subcommand) }
+    ensures none { IsNone result → (subcommand : _) → name.now ≢ name_of subcommand }
+{
+    if name == "script" {
+        return Some(Subcommand::Script);
+    }
+    if name == "desk" {
+        return Some(Subcommand::Desk);
+    }
+    if name == "merge" {
+        return Some(Subcommand::Merge);
+    }
+    if name == "diff" {
+        return Some(Subcommand::Diff);
+    }
+    if name == "export" {
+        return Some(Subcommand::Export);
+    }
+    if name == "import" {
+        return Some(Subcommand::Import);
+    }
+    if name == "replace" {
+        return Some(Subcommand::Replace);
+    }
+    if name == "check" {
+        return Some(Subcommand::Check);
+    }
+    if name == "proof" {
+        return Some(Subcommand::Proof);
+    }
+    if name == "punch" {
+        return Some(Subcommand::Punch);
+    }
+    if name == "read" {
+        return Some(Subcommand::Read);
+    }
+    if name == "sorts" {
+        return Some(Subcommand::Sorts);
+    }
+    if name == "renumber" {
+        return Some(Subcommand::Renumber);
+    }
+    if name == "renew" {
+        return Some(Subcommand::Renew);
+    }
+    None
+}
+
+/// The site's number that a subcommand's matches hold.
+fn site_of(matches: &ArgMatches<'_>) -> Option<u16>
+    ensures some { IfSome result (HasSite (rows_of (found_of matches.now))) }
+    ensures none { IsNone result → (site : ℕ) → HasSite (rows_of (found_of matches.now)) site → ⊥ }
+{
+    match matches.get_one::<u16>("site") {
+        Some(site) => {
+            if site == 0 {
+                return None;
+            }
+            Some(site)
+        }
+        None => None,
+    }
+}
+
+/// Whether a flag is set.
+fn flag_of(matches: &ArgMatches<'_>, name: &str) -> bool
+    ensures { HasFlag name.now (rows_of (found_of matches.now)) result }
+{
+    matches.get_flag(name)
+}
+
+/// The feed's name and the site's number that a subcommand's matches hold.
+fn feed_and_site<'a>(matches: &ArgMatches<'a>) -> Option<(&'a str, u16)>
+    ensures some { IfSome result (λ p. NamesDesk (rows_of (found_of matches.now)) p.0.now p.1) }
+    ensures none { IsNone result → (feed : Text) (site : ℕ) → NamesDesk (rows_of (found_of matches.now)) feed site → ⊥ }
+{
+    match matches.get_str("feed") {
+        Some(feed) => match site_of(matches) {
+            Some(site) => Some((feed, site)),
+            None => None,
+        },
+        None => None,
+    }
+}
+
+/// How the commands of a subcommand's matches are carried out.
+fn manner_of(matches: &ArgMatches<'_>) -> Manner
+    ensures { HasManner (rows_of (found_of matches.now)) result }
+{
+    Manner {
+        strict: flag_of(matches, "strict"),
+        number: flag_of(matches, "number"),
+    }
+}
+
+fn desk_wish<'a>(matches: &ArgMatches<'a>) -> Option<Wish<'a>>
+    ensures { IsReported (rows_of (found_of matches.now)) Subcommand.Desk result }
+{
+    match feed_and_site(matches) {
+        Some((feed, site)) => Some(Wish::Desk {
+            feed,
+            site,
+            older: flag_of(matches, "older"),
+            why: flag_of(matches, "why"),
+            manner: manner_of(matches),
+        }),
+        None => None,
+    }
+}
+
+/// All the names that an argument of a subcommand's matches has.
+fn names_of<'a>(
+    alloc: Global,
+    matches: &ArgMatches<'a>,
+    argument: &str,
+) -> Result<Option<Vec<&'a str>>, AllocError>
+    ensures names { IfOk result (AreNames (all_of argument.now (rows_of (found_of matches.now)))) }
+    ensures memory { IsErr result → all_of argument.now (rows_of (found_of matches.now)) ≢ None }
+{
+    match matches.get_strs(argument) {
+        Some(names) => Ok(Some(Vec::from_slice(alloc, names)?)),
+        None => Ok(None),
+    }
+}
+
+fn merge_wish<'a>(alloc: Global, matches: &ArgMatches<'a>) -> Result<Option<Wish<'a>>, AllocError>
+    ensures wish { IfOk result (IsReported (rows_of (found_of matches.now)) Subcommand.Merge) }
+    ensures memory { IsErr result → HasList (rows_of (found_of matches.now)) Subcommand.Merge }
+{
+    let Some(feed) = matches.get_str("feed") else {
+        return Ok(None);
+    };
+    match names_of(alloc, matches, "other")? {
+        Some(others) => {
+            let forks = flag_of(matches, "forks");
+            let review = flag_of(matches, "review");
+            Ok(Some(Wish::Merge {
+                feed,
+                others,
+                forks,
+                review,
+            }))
+        }
+        None => Ok(None),
+    }
+}
+
+fn diff_wish<'a>(matches: &ArgMatches<'a>) -> Option<Wish<'a>>
+    ensures { IsReported (rows_of (found_of matches.now)) Subcommand.Diff result }
+{
+    let Some(one) = matches.get_str("feed") else {
+        return None;
+    };
+    match matches.get_str("other") {
+        Some(other) => Some(Wish::Diff { one, other }),
+        None => None,
+    }
+}
+
+fn export_wish<'a>(matches: &ArgMatches<'a>) -> Option<Wish<'a>>
+    ensures { IsReported (rows_of (found_of matches.now)) Subcommand.Export result }
+{
+    match matches.get_str("feed") {
+        Some(feed) => Some(Wish::Export { feed }),
+        None => None,
+    }
+}
+
+fn import_wish<'a>(matches: &ArgMatches<'a>) -> Option<Wish<'a>>
+    ensures { IsReported (rows_of (found_of matches.now)) Subcommand.Import result }
+{
+    match feed_and_site(matches) {
+        Some((feed, site)) => Some(Wish::Import {
+            feed,
+            site,
+            older: flag_of(matches, "older"),
+            plain: flag_of(matches, "plain"),
+            all: flag_of(matches, "all"),
+        }),
+        None => None,
+    }
+}
+
+fn replace_wish<'a>(matches: &ArgMatches<'a>) -> Option<Wish<'a>>
+    ensures { IsReported (rows_of (found_of matches.now)) Subcommand.Replace result }
+{
+    let Some((feed, site)) = feed_and_site(matches) else {
+        return None;
+    };
+    let Some(old) = matches.get_str("old") else {
+        return None;
+    };
+    match matches.get_str("new") {
+        Some(new) => {
+            let plain = flag_of(matches, "plain");
+            let older = flag_of(matches, "older");
+            Some(Wish::Replace {
+                feed,
+                site,
+                older,
+                old,
+                new,
+                plain,
+            })
+        }
+        None => None,
+    }
+}
+
+fn check_wish<'a>(alloc: Global, matches: &ArgMatches<'a>) -> Result<Option<Wish<'a>>, AllocError>
+    ensures wish { IfOk result (IsReported (rows_of (found_of matches.now)) Subcommand.Check) }
+    ensures memory { IsErr result → HasList (rows_of (found_of matches.now)) Subcommand.Check }
+{
+    match names_of(alloc, matches, "file")? {
+        Some(files) => Ok(Some(Wish::Check { files })),
+        None => Ok(None),
+    }
+}
+
+/// The names of a feed, a case and a wedge that a subcommand's matches hold.
+fn sources_of<'a>(matches: &ArgMatches<'a>) -> Option<Sources<'a>>
+    ensures { AreSources (rows_of (found_of matches.now)) result }
+{
+    let Some(feed) = matches.get_str("feed") else {
+        return None;
+    };
+    let Some(case) = matches.get_str("case") else {
+        return None;
+    };
+    match matches.get_str("wedge") {
+        Some(wedge) => Some(Sources { feed, case, wedge }),
+        None => None,
+    }
+}
+
+/// The name that an option gives.
+fn choice_of<'a>(matches: &ArgMatches<'a>, name: &str) -> Option<&'a str>
+    ensures { Chooses name.now (rows_of (found_of matches.now)) result }
+{
+    matches.get_str(name)
+}
+
+/// The texts of the option that sets values to be tried.
+fn sets_of<'a>(alloc: Global, matches: &ArgMatches<'a>) -> Result<Vec<&'a str>, AllocError>
+    ensures texts { IfOk result (λ v. texts_of v.items ≡ all_given (all_of (codes "set") (rows_of (found_of matches.now)))) }
+    ensures memory { IsErr result → all_of (codes "set") (rows_of (found_of matches.now)) ≢ None }
+{
+    match names_of(alloc, matches, "set")? {
+        Some(sets) => Ok(sets),
+        None => Ok(Vec::new(alloc)),
+    }
+}
+
+fn proof_wish<'a>(alloc: Global, matches: &ArgMatches<'a>) -> Result<Option<Wish<'a>>, AllocError>
+    ensures wish { IfOk result (IsReported (rows_of (found_of matches.now)) Subcommand.Proof) }
+    ensures memory { IsErr result → HasList (rows_of (found_of matches.now)) Subcommand.Proof }
+{
+    let Some(from) = sources_of(matches) else {
+        return Ok(None);
+    };
+    let faults = flag_of(matches, "faults");
+    let picture = choice_of(matches, "svg");
+    let force = flag_of(matches, "force");
+    let sets = sets_of(alloc, matches)?;
+    Ok(Some(Wish::Proof {
+        from,
+        faults,
+        picture,
+        force,
+        sets,
+    }))
+}
+
+fn read_wish<'a>(matches: &ArgMatches<'a>) -> Option<Wish<'a>>
+    ensures { IsReported (rows_of (found_of matches.now)) Subcommand.Read result }
+{
+    let Some(ribbon) = matches.get_str("ribbon") else {
+        return None;
+    };
+    let Some(case) = matches.get_str("case") else {
+        return None;
+    };
+    match matches.get_str("wedge") {
+        Some(wedge) => {
+            let picture = choice_of(matches, "svg");
+            let force = flag_of(matches, "force");
+            Some(Wish::Read {
+                ribbon,
+                case,
+                wedge,
+                picture,
+                force,
+            })
+        }
+        None => None,
+    }
+}
+
+fn sorts_wish<'a>(matches: &ArgMatches<'a>) -> Option<Wish<'a>>
+    ensures { IsReported (rows_of (found_of matches.now)) Subcommand.Sorts result }
+{
+    let Some(feed) = matches.get_str("feed") else {
+        return None;
+    };
+    match matches.get_str("case") {
+        Some(case) => {
+            let layout = flag_of(matches, "layout");
+            Some(Wish::Sorts { feed, case, layout })
+        }
+        None => None,
+    }
+}
+
+fn punch_wish<'a>(matches: &ArgMatches<'a>) -> Option<Wish<'a>>
+    ensures { IsReported (rows_of (found_of matches.now)) Subcommand.Punch result }
+{
+    match sources_of(matches) {
+        Some(from) => match matches.get_str("output") {
+            Some(target) => {
+                let force = flag_of(matches, "force");
+                let faulty = flag_of(matches, "faulty");
+                Some(Wish::Punch {
+                    from,
+                    target,
+                    force,
+                    faulty,
+                })
+            }
+            None => None,
+        },
+        None => None,
+    }
+}
+
+fn renumber_wish<'a>(matches: &ArgMatches<'a>) -> Option<Wish<'a>>
+    ensures { IsReported (rows_of (found_of matches.now)) Subcommand.Renumber result }
+{
+    let Some((feed, site)) = feed_and_site(matches) else {
+        return None;
+    };
+    match matches.get_str("other") {
+        Some(other) => Some(Wish::Renumber { feed, other, site }),
+        None => None,
+    }
+}
+
+fn renew_wish<'a>(matches: &ArgMatches<'a>) -> Option<Wish<'a>>
+    ensures { IsReported (rows_of (found_of matches.now)) Subcommand.Renew result }
+{
+    let Some((feed, site)) = feed_and_site(matches) else {
+        return None;
+    };
+    match matches.get_str("new") {
+        Some(new) => Some(Wish::Renew { new, feed, site }),
+        None => None,
+    }
+}
+
+/// What the matches of a subcommand hold.
+fn reported<'a>(
+    alloc: Global,
+    subcommand: Subcommand,
+    matches: &ArgMatches<'a>,
+) -> Result<Option<Wish<'a>>, AllocError>
+    ensures wish { IfOk result (IsReported (rows_of (found_of matches.now)) subcommand) }
+    ensures memory { IsErr result → HasList (rows_of (found_of matches.now)) subcommand }
+{
+    match subcommand {
+        Subcommand::Script => Ok(Some(Wish::Script {
+            manner: manner_of(matches),
+        })),
+        Subcommand::Desk => Ok(desk_wish(matches)),
+        Subcommand::Merge => merge_wish(alloc, matches),
+        Subcommand::Diff => Ok(diff_wish(matches)),
+        Subcommand::Export => Ok(export_wish(matches)),
+        Subcommand::Import => Ok(import_wish(matches)),
+        Subcommand::Replace => Ok(replace_wish(matches)),
+        Subcommand::Check => check_wish(alloc, matches),
+        Subcommand::Proof => proof_wish(alloc, matches),
+        Subcommand::Punch => Ok(punch_wish(matches)),
+        Subcommand::Read => Ok(read_wish(matches)),
+        Subcommand::Sorts => Ok(sorts_wish(matches)),
+        Subcommand::Renumber => Ok(renumber_wish(matches)),
+        Subcommand::Renew => Ok(renew_wish(matches)),
+    }
+}
+
+/// What the matches ask for. Out of memory comes only of a subcommand that was given a list: other feeds, files, or settings to
+/// be tried.
+pub fn wish_of<'a>(alloc: Global, matches: &ArgMatches<'a>) -> Result<Option<Wish<'a>>, AllocError>
+    ensures wish { IfOk result (IsWished (subcommand_rows_of matches.now)) }
+    ensures memory { IsErr result → ListsNames (subcommand_rows_of matches.now) }
+{
+    let Some((name, inner)) = matches.subcommand() else {
+        return Ok(None);
+    };
+    match subcommand_named(name) {
+        Some(subcommand) => reported(alloc, subcommand, inner),
+        None => Ok(None),
+    }
+}

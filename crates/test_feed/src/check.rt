@@ -1,0 +1,9 @@
+//! The tests of feed_check.
+mod cases;
+mod feeds;
+mod metal;
+mod ribbons;
+mod rooms;
+mod runs;
+mod wedges;
+mod words;

@@ -1,0 +1,11 @@
+//! The tests of feed_compare, feed_check and feed_edit.
+#![tactic(auto)]
+
+#[cfg(test)]
+mod check;
+#[cfg(test)]
+mod difference;
+#[cfg(test)]
+mod hand;
+#[cfg(test)]
+mod readings;

@@ -1,0 +1,5 @@
+//! The tests of program_host.
+#![tactic(auto)]
+
+#[cfg(test)]
+mod host;

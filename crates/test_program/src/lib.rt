@@ -1,0 +1,5 @@
+//! The tests of program_desk.
+#![tactic(auto)]
+
+#[cfg(test)]
+mod program;

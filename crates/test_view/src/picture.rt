@@ -1,0 +1,4 @@
+//! The tests of view_picture.
+mod feeds;
+mod galleys;
+mod pictures;

@@ -1,0 +1,7 @@
+//! The tests of view_punch.
+mod faults;
+mod proofing;
+mod punching;
+mod rooms;
+mod targets;
+mod words;

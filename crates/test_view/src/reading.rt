@@ -1,0 +1,4 @@
+//! The tests of view_ribbon.
+mod reading;
+mod rooms;
+mod words;

@@ -1,0 +1,187 @@
+use crate::reading::rooms::{memory, rooms};
+use desk_inputs::Memory;
+use feed_files::FileRefusal;
+use feed_files::trial::{AtEnd, TrialWriter};
+use linked_list_allocator::LocalHeap;
+use script_answers::Refusal;
+use std::alloc::Global;
+use std::test::Fail;
+use view_ribbon::{ReadingFault, read_job};
+
+/// At a wedge sum of 70 the space is 17 steps of 648 atoms wider than its 60,000, so the first line has 120,000, 71,016 and
+/// 96,000 atoms: 15.9453 points. The second has 108,000 and 216,000, and the first is 36,984 short: 2.0547 points.
+const LINES: &str = "RIBBON 2 lines, 10 rows, longest 18.0 points\n\
+\n  line    c/f     points   short  text\n\
+\x20    1    4/10      15.9     2.1  n t\n\
+\x20    2    3/8       18.0     0.0  a·\n";
+
+/// The same by a case that has U+202E in place of the `t`.
+const MARKED: &str = "RIBBON 2 lines, 10 rows, longest 18.0 points\n\
+\n  line    c/f     points   short  text\n\
+\x20    1    4/10      15.9     2.1  n <U+202E>\n\
+\x20    2    3/8       18.0     0.0  a·\n";
+
+/// At the sum 16 the space is 37 steps narrower than its 5,000 atoms: 18,976 less than nothing, 1.0542 points.
+const SPACE: &str = "RIBBON 1 lines, 4 rows, longest -1.1 points\n\
+\n  line    c/f     points   short  text\n\
+\x20    1    1/1       -1.1     0.0   \n";
+
+/// A ribbon may have no line.
+const HEAD: &str = "RIBBON 0 lines, 1 rows, longest 0.0 points\n\
+\n  line    c/f     points   short  text\n";
+
+/// What a reading writes, and how it ends.
+#[derive(Drop)]
+struct Left {
+    written: Vec<u8, Global>,
+    ended: Result<bool, ReadingFault>,
+}
+
+/// Reads a ribbon: where it ends with a fault nothing is written.
+fn read(alloc: Global, k: u64, names: (&str, &str, &str)) -> Result<Left, Fail> {
+    let (ribbon, case, wedge) = names;
+    let mut files = rooms(alloc, k)?;
+    let mut written = Vec::new(alloc);
+    let ended = read_job(memory(alloc), &mut written, &mut files, ribbon, case, wedge);
+    if ended.is_err() && !written.is_empty() {
+        return Err(Fail::new("bytes before a fault"));
+    }
+    Ok(Left { written, ended })
+}
+
+/// A directional mark is shown by its name.
+#[test]
+fn mark_of_a_case_is_read(rt: HostRuntime) -> Result<(), Fail> {
+    let reading = read(rt.alloc(), 0, ("lines", "marked", "w"))?;
+    assert_eq!(rt; reading.written.as_slice(), MARKED.as_bytes());
+    assert_eq!(rt; reading.ended, Ok(true));
+    Ok(())
+}
+
+/// Whether this is said of a ribbon by a wedge, and it is whole or not.
+fn is_reported(
+    alloc: Global,
+    ribbon: &str,
+    wedge: &str,
+    text: &str,
+    whole: bool,
+) -> Result<bool, Fail> {
+    let reading = read(alloc, 0, (ribbon, "c", wedge))?;
+    Ok(reading.written.as_slice() == text.as_bytes() && reading.ended == Ok(whole))
+}
+
+#[test]
+fn lines_are_reported(rt: HostRuntime) -> Result<(), Fail> {
+    assert!(rt; is_reported(rt.alloc(), "lines", "w", LINES, true)?);
+    assert!(rt; is_reported(rt.alloc(), "space", "small", SPACE, true)?);
+    assert!(rt; is_reported(rt.alloc(), "head", "w", HEAD, true)?);
+    Ok(())
+}
+
+/// Bytes that are no ribbon, and rows that are not cast.
+const FAULTS: [(&str, &str); 7] = [
+    ("feed", "no ribbon: it does not begin with MRB1\n"),
+    ("cut", "no ribbon: it has not as many rows as it says\n"),
+    ("two", "no ribbon: row 1: two letters\n"),
+    ("high", "no ribbon: row 0: bit 31 is set\n"),
+    (
+        "alone",
+        "row 1: no wedges: the caster meets it before the wedges of a line are set\n",
+    ),
+    (
+        "blank",
+        "row 1: no matrix: the case has neither a symbol, its space nor a fill there\n",
+    ),
+    (
+        "open",
+        "row 0: not sent out: nothing sends out the line that this row starts\n",
+    ),
+];
+
+#[test]
+fn first_fault_is_reported(rt: HostRuntime) -> Result<(), Fail> {
+    for &(ribbon, line) in &FAULTS {
+        assert!(rt; is_reported(rt.alloc(), ribbon, "w", line, false)?);
+    }
+    Ok(())
+}
+
+/// Why nothing is written.
+fn fault_of(
+    alloc: Global,
+    k: u64,
+    names: (&str, &str, &str),
+) -> Result<Option<ReadingFault>, Fail> {
+    let reading = read(alloc, k, names)?;
+    Ok(reading.ended.err())
+}
+
+#[test]
+fn files_that_are_not_read(rt: HostRuntime) -> Result<(), Fail> {
+    let missing = ReadingFault::Ribbon(FileRefusal::Missing);
+    assert_eq!(rt; fault_of(rt.alloc(), 0, ("none", "c", "w"))?, Some(missing));
+    let no_case = ReadingFault::Input(Refusal::FileMissing);
+    assert_eq!(rt; fault_of(rt.alloc(), 0, ("feed", "d", "w"))?, Some(no_case));
+    let no_wedge = ReadingFault::Input(Refusal::Wedge(1));
+    assert_eq!(rt;
+        fault_of(rt.alloc(), 0, ("lines", "c", "broken"))?,
+        Some(no_wedge)
+    );
+    let device = ReadingFault::Ribbon(FileRefusal::Device);
+    assert_eq!(rt; fault_of(rt.alloc(), 1, ("lines", "c", "w"))?, Some(device));
+    for k in 2..4u64 {
+        let input = ReadingFault::Input(Refusal::FileDevice);
+        assert_eq!(rt; fault_of(rt.alloc(), k, ("lines", "c", "w"))?, Some(input));
+    }
+    Ok(())
+}
+
+#[test]
+fn closed_output_of_a_reading(rt: HostRuntime) -> Result<(), Fail> {
+    let mut files = rooms(rt.alloc(), 0)?;
+    let mut writer = TrialWriter::new(rt.alloc()).with_room(9, AtEnd::Fails);
+    let ended = read_job(
+        memory(rt.alloc()),
+        &mut writer,
+        &mut files,
+        "lines",
+        "c",
+        "w",
+    );
+    assert_eq!(rt; ended, Err(ReadingFault::Write));
+    assert!(rt; LINES.as_bytes().starts_with(writer.written()));
+    Ok(())
+}
+
+/// The bytes of the heap of the next test.
+const HEAP: usize = 65_536;
+
+/// Whether a reading in a cut heap is out of memory, and nothing was written then.
+fn is_refused(alloc: Global, cut: usize) -> Result<bool, Fail> {
+    let heap = LocalHeap::new(alloc, HEAP)?;
+    let kept = HEAP.saturating_sub(cut.saturating_mul(64));
+    let ballast: Option<Vec<u8, &LocalHeap>> = Vec::with_capacity(&heap, kept).ok();
+    let mut files = rooms(alloc, 0)?;
+    let mut written = Vec::new(alloc);
+    let cut_memory = Memory {
+        own: &heap,
+        global: alloc,
+    };
+    let ended = read_job(cut_memory, &mut written, &mut files, "lines", "c", "w");
+    drop(ballast);
+    match ended {
+        Ok(true) if written.as_slice() == LINES.as_bytes() => Ok(false),
+        Err(ReadingFault::NoMemory) if written.is_empty() => Ok(true),
+        _ => Err(Fail::new("another end")),
+    }
+}
+
+#[test]
+fn growths_of_a_reading_refused(rt: HostRuntime) -> Result<(), Fail> {
+    let mut refused = 0u32;
+    for cut in 0..256usize {
+        refused = refused.saturating_add(u32::from(is_refused(rt.alloc(), cut)?));
+    }
+    assert!(rt; 6 <= refused && refused <= 250, "refused {refused} times");
+    Ok(())
+}

@@ -1,0 +1,50 @@
+//! The files of the tests.
+
+use crate::metal::{ROWS, WEDGE, case_with, case_with_mark};
+use desk_inputs::Memory;
+use feed_files::trial::TrialFiles;
+use std::alloc::{AllocError, Global};
+
+/// The space of this wedge has 5,000 atoms.
+const SMALL: &[u8] =
+    b"wedge = 6\nset_q = 20\npica = \"sixth\"\nunits = [1, 6, 7, 8, 9, 9, 9, 10, 10, 11, 12, 13, 14, 15, 18]\n";
+
+/// The head; n, a space, t, and the wedges at 4 and 10; a, a fill, and the wedges at 3 and 8.
+const LINES: &[u8] =
+    b"MRB1\0\0\0\x0a\0\0\x02\x06\x40\0\x02\0\x01\x01\0\x01\x40\0\x20\0\0\0\x20\x02\0\0\0\x86\x20\0\x10\0\0\0\0\0\0\0\x40\x02\0\0\x02\x06";
+
+/// The head; a space, and the wedges at 1 and 1.
+const SPACE: &[u8] = b"MRB1\0\0\0\x04\0\0\x02\x06\x01\x01\0\x01\0\x01\0\x02\0\x01\0\x06";
+
+/// Files of which the k-th call fails: ribbons, bytes that are none, a case and wedges.
+pub fn rooms(alloc: Global, k: u64) -> Result<TrialFiles<Global>, AllocError> {
+    let mut files = TrialFiles::new(alloc).failing_at_call(k);
+    files.put("lines", LINES)?;
+    files.put("space", SPACE)?;
+    files.put("head", b"MRB1\0\0\0\x01\0\0\x02\x06")?;
+    files.put("feed", b"MFD2\0\0\0\0")?;
+    files.put("cut", b"MRB1\0\0\0\x02\0\0\x02\x06")?;
+    files.put("two", b"MRB1\0\0\0\x02\0\0\x02\x06\x60\0\x02\0")?;
+    files.put("high", b"MRB1\0\0\0\x01\x80\0\x02\x06")?;
+    files.put("alone", b"MRB1\0\0\0\x02\0\0\x02\x06\x40\0\x02\0")?;
+    files.put(
+        "blank",
+        b"MRB1\0\0\0\x04\0\0\x02\x06\x20\x01\0\0\0\0\x40\x02\0\0\x02\x06",
+    )?;
+    files.put("open", b"MRB1\0\0\0\x02\0\0\x40\x02\0\0\x02\x06")?;
+    let case = case_with(alloc, ROWS)?;
+    files.put("c", &case)?;
+    files.put("marked", &case_with_mark(alloc)?)?;
+    files.put("w", WEDGE)?;
+    files.put("small", SMALL)?;
+    files.put("broken", b"wedge =")?;
+    Ok(files)
+}
+
+/// All memory is the global.
+pub fn memory(alloc: Global) -> Memory<Global> {
+    Memory {
+        own: alloc,
+        global: alloc,
+    }
+}

@@ -1,0 +1,62 @@
+-- The characters of a word, with their styles.
+use Rattle.std.specs.Prelude.{ℕ, Bool, true, false, is_some, List, [], ◌∷◌, ◌++◌, codes, if◌then◌else◌}
+use Rattle.desk_ops.specs.declared.op.Style.{Style}
+use Rattle.desk_ops.specs.declared.op.Style.TheVariants as styles
+use Rattle.desk_ops.specs.declared.op.Symbol.{Symbol}
+use Rattle.desk_case.specs.Case.{CaseValues, cell_of}
+use Rattle.view_svg.specs.Escape.{escaped_char}
+use Rattle.view_picture.specs.declared.letters.Dress.{Dress}
+use Rattle.view_picture.specs.declared.letters.Dress.TheVariants.{Roman, Italic, SmallCap, Missing}
+
+abbrev pub dress_of_style : Style → Dress
+dress_of_style styles.Roman = Roman
+dress_of_style styles.Italic = Italic
+dress_of_style styles.SmallCap = SmallCap
+
+-- how a symbol is shown: by its style, or as one that the case lacks
+abbrev pub dress_of : CaseValues → Symbol → Dress
+dress_of case symbol = if is_some (cell_of case symbol) then dress_of_style symbol.style else Missing
+
+abbrev pub same_dress : Dress → Dress → Bool
+same_dress Roman Roman = true
+same_dress Roman Italic = false
+same_dress Roman SmallCap = false
+same_dress Roman Missing = false
+same_dress Italic Roman = false
+same_dress Italic Italic = true
+same_dress Italic SmallCap = false
+same_dress Italic Missing = false
+same_dress SmallCap Roman = false
+same_dress SmallCap Italic = false
+same_dress SmallCap SmallCap = true
+same_dress SmallCap Missing = false
+same_dress Missing Roman = false
+same_dress Missing Italic = false
+same_dress Missing SmallCap = false
+same_dress Missing Missing = true
+
+abbrev pub opened : Dress → List ℕ
+opened Roman = []
+opened Italic = codes "<tspan class=\"i\">"
+opened SmallCap = codes "<tspan class=\"s\">"
+opened Missing = codes "<tspan class=\"m\">"
+
+abbrev pub closed : Dress → List ℕ
+closed Roman = []
+closed Italic = codes "</tspan>"
+closed SmallCap = codes "</tspan>"
+closed Missing = codes "</tspan>"
+
+-- from one dress to another
+abbrev pub changed : Dress → Dress → List ℕ
+changed worn next = if same_dress worn next then [] else closed worn ++ opened next
+
+-- symbols after one of this dress
+abbrev pub letters_from : CaseValues → Dress → List Symbol → List ℕ
+letters_from case worn [] = closed worn
+letters_from case worn (symbol ∷ word) =
+    changed worn (dress_of case symbol) ++ escaped_char symbol.ch ++ letters_from case (dress_of case symbol) word
+
+-- the symbols of a word
+abbrev pub word_letters : CaseValues → List Symbol → List ℕ
+word_letters case word = letters_from case Roman word

@@ -1,0 +1,93 @@
+//! The characters of a word, with their styles.
+
+ghost use Rattle.std.specs.Prelude.{◌≡◌, ◌++◌, OnOk, string_bytes};
+ghost use Rattle.view_picture.specs.Letters.{changed, closed, dress_of, dress_of_style, opened, word_letters};
+
+use desk_case::MatrixCase;
+use desk_ops::{Style, Symbol};
+use std::alloc::{AllocError, Allocator};
+use view_svg::put_escaped;
+
+/// How a symbol is shown: by its style, or as one that the case lacks.
+#[derive(Clone, Copy, PartialEq, Eq, Debug)]
+pub enum Dress {
+    Roman,
+    Italic,
+    SmallCap,
+    Missing,
+}
+
+fn dress_of_style(style: Style) -> Dress
+    ensures { result ≡ dress_of_style style }
+{
+    match style {
+        Style::Roman => Dress::Roman,
+        Style::Italic => Dress::Italic,
+        Style::SmallCap => Dress::SmallCap,
+    }
+}
+
+fn dress_of(case: &MatrixCase, symbol: Symbol) -> Dress
+    ensures { result ≡ dress_of case.now symbol }
+{
+    if case.cell_of(symbol).is_some() {
+        dress_of_style(symbol.style)
+    } else {
+        Dress::Missing
+    }
+}
+
+/// What stands before symbols of a dress.
+fn opened(dress: Dress) -> &'static str
+    ensures { result.now ≡ opened dress }
+{
+    match dress {
+        Dress::Roman => "",
+        Dress::Italic => "<tspan class=\"i\">",
+        Dress::SmallCap => "<tspan class=\"s\">",
+        Dress::Missing => "<tspan class=\"m\">",
+    }
+}
+
+/// What stands behind symbols of a dress.
+fn closed(dress: Dress) -> &'static str
+    ensures { result.now ≡ closed dress }
+{
+    match dress {
+        Dress::Roman => "",
+        Dress::Italic | Dress::SmallCap | Dress::Missing => "</tspan>",
+    }
+}
+
+/// Writes what stands between symbols of one dress and of another.
+fn put_change<A: Allocator + Copy>(
+    out: &mut String<A>,
+    worn: Dress,
+    next: Dress,
+) -> Result<(), AllocError>
+    ensures { OnOk result (string_bytes out.new ≡ string_bytes out.old ++ changed worn next) }
+{
+    if worn == next {
+        return Ok(());
+    }
+    out.push_str(closed(worn))?;
+    out.push_str(opened(next))
+}
+
+/// Writes the characters of a word.
+pub fn put_word_letters<A: Allocator + Copy>(
+    out: &mut String<A>,
+    case: &MatrixCase,
+    word: &[Symbol],
+) -> Result<(), AllocError>
+    ensures { OnOk result (string_bytes out.new ≡ string_bytes out.old ++ word_letters case.now word.now) }
+{
+    let mut worn = Dress::Roman;
+    for symbol in word {
+        let next = dress_of(case, *symbol);
+        put_change(out, worn, next)?;
+        put_escaped(out, symbol.ch)?;
+        worn = next;
+    }
+    out.push_str(closed(worn))
+}
