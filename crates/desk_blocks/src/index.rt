@@ -1,5 +1,6 @@
 //! Which stamps there are, and the page in which each was put.
-ghost use Rattle.std.specs.Prelude.{◌≡◌, ◌≤◌, ◌<◌, ◌+◌, ℕ, [], length, slice_index_or, OnOk, IfOk, IsOk, IsNone, IsSome};
+ghost use Rattle.std.specs.Prelude.{◌≡◌, ◌≤◌, ◌<◌, ◌+◌, ℕ, [], length, slice_index_or, OnOk, IfOk, IsOk, IsNone};
+ghost use Rattle.std.specs.Prelude.{IsSome};
 ghost use Rattle.std.specs.List.{insert};
 ghost use Rattle.desk_ops.specs.Stamp.{head};
 ghost use Rattle.desk_blocks.specs.Rank.{homes_of, IsNoneOf, Knows};

@@ -1,5 +1,7 @@
 -- The values of a case file, or its first fault.
-use Rattle.std.specs.Prelude.{ℕ, ◌+◌, ◌-◌, nat_lt, Bool, true, ◌&&◌, if◌then◌else◌, List, [], ◌∷◌, ◌++◌, codes, length, replicate, Option, Some, None, Result, Ok, Err, ok_or, map, option_map, option_and_then, is_some}
+use Rattle.std.specs.Prelude.{ℕ, ◌+◌, ◌-◌, nat_lt, Bool, true, ◌&&◌, if◌then◌else◌, List, [], ◌∷◌, ◌++◌, codes, length}
+use Rattle.std.specs.Prelude.{replicate, Option, Some, None, Result, Ok, Err, ok_or, map, option_map, option_and_then}
+use Rattle.std.specs.Prelude.{is_some}
 use Rattle.std.specs.List.{flat_map}
 use Rattle.std.specs.Str.{chars}
 use Rattle.toml.specs.Data.{Data, Members, as_str}
@@ -15,7 +17,8 @@ use Rattle.desk_case.specs.declared.TheConstants.{COLUMNS, NARROW, ROWS}
 use Rattle.desk_case.specs.declared.CaseKey.{CaseKey}
 use Rattle.desk_case.specs.declared.CaseKey.TheVariants as key
 use Rattle.desk_case.specs.declared.CaseFault.{CaseFault}
-use Rattle.desk_case.specs.declared.CaseFault.TheVariants.{NotToml, Missing, Shape, BadText, Doubled, NotBlank, FillOrder, NoMemory}
+use Rattle.desk_case.specs.declared.CaseFault.TheVariants.{NotToml, Missing, Shape, BadText, Doubled, NotBlank}
+use Rattle.desk_case.specs.declared.CaseFault.TheVariants.{FillOrder, NoMemory}
 use Rattle.desk_case.specs.Texts.{matrix_of_text}
 use Rattle.desk_case.specs.Names.{cell_named, cell_of_place}
 use Rattle.desk_case.specs.Case.{CaseValues, symbol_in, place_in}
@@ -44,7 +47,8 @@ row_of columns d = array_of columns columns as_str d
 
 -- the cell that a text names, where a file of so many columns has it
 abbrev pub cell_within : ℕ → List ℕ → Option Cell
-cell_within columns text = option_and_then (λ cell. if nat_lt (index cell.column) columns then Some cell else None) (cell_named text)
+cell_within columns text = option_and_then (λ cell. if nat_lt (index cell.column) columns then Some cell else None)
+    (cell_named text)
 
 abbrev pub cell_of_data : ℕ → Data → Option Cell
 cell_of_data columns d = option_and_then (cell_within columns) (as_str d)

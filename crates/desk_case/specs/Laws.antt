@@ -1,5 +1,6 @@
 -- What the words of a case mean, said of cells, places and names.
-use Rattle.std.specs.Prelude.{◌≡◌, ◌≢◌, ℕ, ◌<◌, ◌≤◌, ◌↔◌, IsTrue, List, [], ◌∷◌, drop, All, Option, Some, None, Ok, MatchOption}
+use Rattle.std.specs.Prelude.{◌≡◌, ◌≢◌, ℕ, ◌<◌, ◌≤◌, ◌↔◌, IsTrue, List, [], ◌∷◌, drop, All, Option, Some, None, Ok}
+use Rattle.std.specs.Prelude.{MatchOption}
 use Rattle.std.specs.List.{AllPairs}
 use Rattle.toml.specs.Data.{Members}
 use Rattle.desk_signals.specs.declared.Cell.{Cell}
@@ -14,7 +15,8 @@ use Rattle.desk_case.specs.File.{Sheet, at_key, sheet_of, case_of_members, first
 
 -- a symbol's cell is the cell that holds it
 abbrev pub CellsAndSymbolsAreInverse : Type 0
-CellsAndSymbolsAreInverse = (case : CaseValues) → IsCase case → (symbol : Symbol) (cell : Cell) → (cell_of case symbol ≡ Some cell) ↔ ((symbol_at case cell ≡ Some symbol) × IsCell cell)
+CellsAndSymbolsAreInverse = (case : CaseValues) → IsCase case → (symbol : Symbol) (cell : Cell)
+    → (cell_of case symbol ≡ Some cell) ↔ ((symbol_at case cell ≡ Some symbol) × IsCell cell)
 
 -- a text names a cell exactly where it is the cell's name
 abbrev pub NamesAreOneToOne : Type 0
@@ -34,7 +36,8 @@ pub record IsFirstDoubled (grid : List (Option Symbol)) (symbol : Symbol) : Type
   pub least : (other : Symbol) (n : ℕ) → n < at → IsDoubledAt grid other n → ⊥
 
 abbrev pub DoubledIsFirst : Type 0
-DoubledIsFirst = (grid : List (Option Symbol)) → MatchOption (first_doubled grid) (IsDistinct grid) (IsFirstDoubled grid)
+DoubledIsFirst = (grid : List (Option Symbol))
+    → MatchOption (first_doubled grid) (IsDistinct grid) (IsFirstDoubled grid)
 
 -- each number is above every later one
 abbrev pub DescentIsOfAllPairs : Type 0
@@ -47,6 +50,7 @@ NarrowFilesLackNiAndNl = drop NARROW the_columns ≡ column.NI ∷ column.NL ∷
 -- where a file has not the columns NI and NL, its case has no symbol there, and neither its space nor a fill
 abbrev pub NarrowCasesLackColumns : Type 0
 NarrowCasesLackColumns =
-    (members : Members) (sheet : Sheet) (case : CaseValues) → at_key key.Rows sheet_of members ≡ Ok sheet → case_of_members members ≡ Ok case
+    (members : Members) (sheet : Sheet) (case : CaseValues) → at_key key.Rows sheet_of members ≡ Ok sheet
+    → case_of_members members ≡ Ok case
     → (cell : Cell) → IsCell cell → sheet.columns ≤ index cell.column
     → (symbol_at case cell ≡ None) × (cell ≢ case.space) × All (λ fill. cell ≢ fill) case.fill

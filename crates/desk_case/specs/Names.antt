@@ -1,5 +1,6 @@
 -- The names of cells, and their places in a grid of all columns.
-use Rattle.std.specs.Prelude.{ℕ, Bool, ◌-◌, ◌+◌, ◌*◌, ◌/◌, ◌%◌, ◌≤◌, ◌==◌, ◌&&◌, nat_le, nat_lt, if◌then◌else◌, List, [], ◌∷◌, ◌++◌, codes, Option, Some, None}
+use Rattle.std.specs.Prelude.{ℕ, Bool, ◌-◌, ◌+◌, ◌*◌, ◌/◌, ◌%◌, ◌≤◌, ◌==◌, ◌&&◌, nat_le, nat_lt, if◌then◌else◌, List}
+use Rattle.std.specs.Prelude.{[], ◌∷◌, ◌++◌, codes, Option, Some, None}
 use Rattle.std.specs.Option.{unwrap_or}
 use Rattle.desk_signals.specs.declared.Column.{Column}
 use Rattle.desk_signals.specs.declared.Column.TheVariants as column

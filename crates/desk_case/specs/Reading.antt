@@ -12,7 +12,8 @@ Gives value file (Ok b) = file ≡ Ok (value b)
 Gives value file (Err e) = e ≢ NoMemory → file ≡ Err e
 
 -- what the texts of a row stand for comes after what is there, and the answer is whether it is a row
-abbrev pub AddsRow : List (Option (Option Symbol)) → List (Option (Option Symbol)) → Option (List (List ℕ)) → Bool → Type 0
+abbrev pub AddsRow : List (Option (Option Symbol)) → List (Option (Option Symbol)) → Option (List (List ℕ)) → Bool
+    → Type 0
 AddsRow before after (Some texts) added = (added ≡ true) × (after ≡ before ++ cells_of texts)
 AddsRow before after None added = added ≡ false
 

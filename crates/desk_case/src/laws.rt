@@ -1,6 +1,7 @@
 //! The laws over the definitions alone, each the contract of a function that does nothing.
 
-ghost use Rattle.desk_case.specs.Laws.{CellsAndSymbolsAreInverse, DescentIsOfAllPairs, DoubledIsFirst, NamesAreOneToOne, NarrowCasesLackColumns, NarrowFilesLackNiAndNl};
+ghost use Rattle.desk_case.specs.Laws.{CellsAndSymbolsAreInverse, DescentIsOfAllPairs, DoubledIsFirst};
+ghost use Rattle.desk_case.specs.Laws.{NamesAreOneToOne, NarrowCasesLackColumns, NarrowFilesLackNiAndNl};
 
 /// A symbol's cell is the cell that holds it, in every case.
 pub fn cells_and_symbols_are_inverse()
@@ -27,7 +28,8 @@ pub fn narrow_files_lack_ni_and_nl()
     ensures { NarrowFilesLackNiAndNl }
 {}
 
-/// Where a file has not the columns NI and NL, its case holds nothing there, and has neither its space nor a fill there.
+/// Where a file has not the columns NI and NL, its case holds nothing there, and has neither its space nor a fill
+/// there.
 pub fn narrow_cases_lack_columns()
     ensures { NarrowCasesLackColumns }
 {}

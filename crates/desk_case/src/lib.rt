@@ -1,7 +1,7 @@
 //! The matrix case: which symbol each of its cells holds, read from the case's file.
 //!
-//! In the Monotype system the case is moved until the wanted matrix stands over the mould; a row of the ribbon names its
-//! column and its row. The file is TOML; of several faults the first in a fixed order is reported.
+//! In the Monotype system the case is moved until the wanted matrix stands over the mould; a row of the ribbon names
+//! its column and its row. The file is TOML; of several faults the first in a fixed order is reported.
 #![tactic(auto)]
 
 pub mod laws;
@@ -11,7 +11,8 @@ mod texts;
 
 ghost use Rattle.std.specs.Prelude.{◌≡◌, ◌≢◌, Ok, Err, Some, None, IfOk, IfErr, IfSome, All};
 ghost use Rattle.toml.specs.Errors.{IsBlank};
-ghost use Rattle.desk_case.specs.File.{key_name, fault_number, table_fault, case_of, checked, is_descending, units_of_cells};
+ghost use Rattle.desk_case.specs.File.{key_name, fault_number, table_fault, case_of, checked, is_descending};
+ghost use Rattle.desk_case.specs.File.{units_of_cells};
 ghost use Rattle.desk_case.specs.Case.{symbol_at, cell_of, is_fill, IsCase};
 ghost use Rattle.desk_case.specs.declared.CaseFault.TheVariants as fault;
 
@@ -164,7 +165,12 @@ impl Model for MatrixCase {
 
     ghost view = { λ c. record { number = c.number; grid = c.grid.items; space = c.space; fill = c.fill.items } };
 
-    ghost invariant = { λ c. IsCase (record { number = c.number; grid = c.grid.items; space = c.space; fill = c.fill.items }) × IsIndexOf c.cells.entries c.grid.items };
+    ghost invariant = { λ c. IsCase (record {
+      number = c.number;
+      grid = c.grid.items;
+      space = c.space;
+      fill = c.fill.items;
+    }) × IsIndexOf c.cells.entries c.grid.items };
 }
 
 impl MatrixCase {
@@ -200,8 +206,8 @@ impl MatrixCase {
         self.space
     }
 
-    /// The cells of the fills, 1 to 4, as the file has them; `check` looks whether each is wider than the next. None holds a
-    /// symbol.
+    /// The cells of the fills, 1 to 4, as the file has them; `check` looks whether each is wider than the next. None
+    /// holds a symbol.
     pub fn fill(&self) -> &[Cell]
         ensures value { result.now ≡ self.now.fill }
         ensures blank { All (λ cell. symbol_at self.now cell ≡ None) result.now }
@@ -228,7 +234,8 @@ impl MatrixCase {
         }
     }
 
-    /// Reads a case file: its values, or its first fault, which is never `FillOrder`. Out of memory may come in place of either.
+    /// Reads a case file: its values, or its first fault, which is never `FillOrder`. Out of memory may come in place
+    /// of either.
     pub fn read(alloc: Global, bytes: &[u8]) -> Result<MatrixCase, CaseFault>
         ensures ok { IfOk result (λ c. case_of bytes.now ≡ Ok c) }
         ensures err { IfErr result (λ e. e ≢ fault.NoMemory → case_of bytes.now ≡ Err e) }

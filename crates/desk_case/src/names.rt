@@ -1,6 +1,7 @@
 //! The names and places of cells.
 ghost use Rattle.std.specs.Prelude.{◌≡◌, ◌+◌, ◌*◌, ◌<◌, IfSome};
-ghost use Rattle.desk_case.specs.Names.{column_of_letter, row_of_digits, cell_named, place, same_cell, cell_of_place, IsCell};
+ghost use Rattle.desk_case.specs.Names.{column_of_letter, row_of_digits, cell_named, place, same_cell, cell_of_place};
+ghost use Rattle.desk_case.specs.Names.{IsCell};
 
 use crate::{COLUMNS, ROWS};
 use desk_signals::{Cell, Column, RowNo};

@@ -1,11 +1,13 @@
 //! The values of a case file, key by key.
-ghost use Rattle.std.specs.Prelude.{◌≡◌, ◌≢◌, ◌≤◌, ◌*◌, ◌++◌, [], ◌∷◌, Ok, Err, Some, None, OnOk, IfOk, IfErr, MatchOption, length, replicate, option_map, is_some, true, false};
+ghost use Rattle.std.specs.Prelude.{◌≡◌, ◌≢◌, ◌≤◌, ◌*◌, ◌++◌, [], ◌∷◌, Ok, Err, Some, None, OnOk, IfOk, IfErr};
+ghost use Rattle.std.specs.Prelude.{MatchOption, length, replicate, option_map, is_some, true, false};
 ghost use Rattle.toml.specs.Data.{no_members};
 ghost use Rattle.toml.specs.View.{view, table_view};
 ghost use Rattle.desk_keys.specs.Keys.{number_of};
 ghost use Rattle.desk_case.specs.Case.{symbol_in, IsIndexOf};
 ghost use Rattle.desk_case.specs.Names.{IsCell};
-ghost use Rattle.desk_case.specs.File.{at_key, row_of, matrices_of, sheet_of, cell_of_data, fill_of, grid_from, first_doubled, first_held, case_of_members};
+ghost use Rattle.desk_case.specs.File.{at_key, row_of, matrices_of, sheet_of, cell_of_data, fill_of, grid_from};
+ghost use Rattle.desk_case.specs.File.{first_doubled, first_held, case_of_members};
 ghost use Rattle.desk_case.specs.Reading.{Gives, AddsRow, sheet_seen};
 ghost use Rattle.desk_case.specs.declared.CaseFault.TheVariants as fault;
 
@@ -84,8 +86,8 @@ fn add_blanks(matrices: &mut Vec<Option<Option<Symbol>>>, count: usize) -> Resul
     Ok(())
 }
 
-/// Adds what the texts of a row stand for, with blanks in the columns that it has not, and returns whether it is a row of
-/// so many texts.
+/// Adds what the texts of a row stand for, with blanks in the columns that it has not, and returns whether it is a row
+/// of so many texts.
 fn add_row(
     columns: usize,
     matrices: &mut Vec<Option<Option<Symbol>>>,

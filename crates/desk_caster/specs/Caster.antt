@@ -1,5 +1,6 @@
 -- The caster, which reads a ribbon from its last row to the first.
-use Rattle.std.specs.Prelude.{ℕ, suc, Bool, cond, if◌then◌else◌, ◌||◌, is_some, ℤ, pos, ◌+ℤ◌, List, [], ◌∷◌, Option, Some, None, Result, Ok, Err}
+use Rattle.std.specs.Prelude.{ℕ, suc, Bool, cond, if◌then◌else◌, ◌||◌, is_some, ℤ, pos, ◌+ℤ◌, List, [], ◌∷◌, Option}
+use Rattle.std.specs.Prelude.{Some, None, Result, Ok, Err}
 use Rattle.desk_units.specs.Widths.{units_width}
 use Rattle.desk_units.specs.WedgeSum.{sum_at, widening}
 use Rattle.desk_wedge.specs.Wedge.{WedgeValues, units_of_row}
@@ -54,7 +55,13 @@ pub record State : Type 0 where
 
 -- the line as it is sent out
 abbrev pub sent_out : Begun → Line
-sent_out line = record { coarse = line.coarse; fine = line.fine; matrices = line.matrices; total = total_width line.matrices }
+sent_out line = record {
+  coarse = line.coarse;
+  fine = line.fine;
+  matrices = line.matrices;
+  total = total_width
+      line.matrices;
+}
 
 -- The lines sent out, with the line in progress before them: reading goes backwards, so what comes later stands first.
 abbrev pub all_sent : Option Begun → List Line → List Line
@@ -66,14 +73,28 @@ abbrev pub start_line : ℕ → ℕ → Option ℕ → Option Begun → List Lin
 start_line place coarse None line sent = Err (NoWedges place)
 start_line place coarse (Some fine) (Some line) sent = Err (NotSentOut line.started)
 start_line place coarse (Some fine) None sent =
-    Ok (record { fine = Some fine; line = Some (record { started = place; coarse = coarse; fine = fine; matrices = [] }); sent = sent })
+    Ok (record {
+      fine = Some fine;
+      line = Some
+          (record { started = place; coarse = coarse; fine = fine; matrices = [] });
+      sent = sent;
+    })
 
 -- A matrix is cast before the others of the line in progress.
-abbrev pub cast_onto : CaseValues → WedgeValues → ℕ → Cell → Bool → Option ℕ → Option Begun → List Line → Result State CastFault
+abbrev pub cast_onto : CaseValues → WedgeValues → ℕ → Cell → Bool → Option ℕ → Option Begun → List Line
+    → Result State CastFault
 cast_onto case wedge place cell s fine None sent = Err (NoWedges place)
 cast_onto case wedge place cell s fine (Some line) sent =
     if has_matrix case cell
-    then Ok (record { fine = fine; line = Some (record line { matrices = cast_matrix case wedge (sum_at line.coarse line.fine) cell s ∷ line.matrices }); sent = sent })
+    then Ok (record {
+      fine = fine;
+      line = Some
+          (record line {
+            matrices = cast_matrix case wedge (sum_at line.coarse line.fine) cell s
+                ∷ line.matrices;
+          });
+      sent = sent;
+    })
     else Err (NoMatrix place)
 
 -- what the caster does at the row of this place

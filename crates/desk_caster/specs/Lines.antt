@@ -22,7 +22,8 @@ LinesHaveAll case (line ∷ lines) = HasAll case line.matrices × LinesHaveAll c
 -- the line as it is to be cast: its matrices at its positions
 abbrev pub line_cast : {A : Type 0} → CaseValues → WedgeValues → PunchLine A → Line
 line_cast case wedge line =
-    let matrices = map (λ punch. cast_matrix case wedge (sum_at line.coarse line.fine) punch.cell punch.s) line.matrices in
+    let matrices = map (λ punch. cast_matrix case wedge (sum_at line.coarse line.fine) punch.cell punch.s)
+    line.matrices in
     record { coarse = line.coarse; fine = line.fine; matrices = matrices; total = total_width matrices }
 
 -- what a matrix means to a reader: one with S is a Roman space, one without S that has a symbol is that symbol

@@ -7,7 +7,8 @@ use Rattle.desk_caster.specs.Reading.{IsRibbon, Reports}
 
 -- No ribbon has a fault.
 abbrev pub RibbonsHaveNoFault : Type 0
-RibbonsHaveNoFault = (bytes : List ℕ) (rows : List RibbonRow) (why : RibbonFault) → why ≢ fault.NoMemory → IsRibbon bytes rows → Reports bytes why → ⊥
+RibbonsHaveNoFault = (bytes : List ℕ) (rows : List RibbonRow) (why : RibbonFault) → why ≢ fault.NoMemory
+    → IsRibbon bytes rows → Reports bytes why → ⊥
 
 -- Bytes are the ribbon of one list of rows at most.
 abbrev pub RibbonsHaveOneReading : Type 0

@@ -1,6 +1,8 @@
 //! The caster as a machine over rows, from the last to the first.
-ghost use Rattle.std.specs.Prelude.{◌≡◌, ◌≢◌, ◌+◌, ◌<◌, ◌&&◌, true, is_some, ◌^◌, [], ◌∷◌, ◌++◌, IfOk, IfErr, Ok, Err, Some, None, length, cond, pos, ◌+ℤ◌, ◌-ℤ◌, ◌≤ℤ◌};
-ghost use Rattle.desk_caster.specs.Caster.{idle, cast, cast_row, cast_onto, start_line, all_sent, finish, has_matrix, cast_matrix, row_width};
+ghost use Rattle.std.specs.Prelude.{◌≡◌, ◌≢◌, ◌+◌, ◌<◌, ◌&&◌, true, is_some, ◌^◌, [], ◌∷◌, ◌++◌, IfOk, IfErr, Ok, Err};
+ghost use Rattle.std.specs.Prelude.{Some, None, length, cond, pos, ◌+ℤ◌, ◌-ℤ◌, ◌≤ℤ◌};
+ghost use Rattle.desk_caster.specs.Caster.{idle, cast, cast_row, cast_onto, start_line, all_sent, finish, has_matrix};
+ghost use Rattle.desk_caster.specs.Caster.{cast_matrix, row_width};
 ghost use Rattle.desk_units.specs.WedgeSum.{widening};
 ghost use Rattle.desk_caster.specs.Bounds.{in_progress, IsWithin};
 ghost use Rattle.desk_caster.specs.Memory.{MayTakeMemory, takes_memory};
@@ -76,7 +78,8 @@ impl<A: Allocator + Copy> Caster<A> {
 
     /// Sends out the line in progress, if there is one, and sets the fine wedge.
     fn send_out(self, fine: Position) -> Result<Self, CastFault>
-        ensures ok { IfOk result (λ c. c ≡ record { fine = Some fine; line = None; sent = all_sent self.line self.sent }) }
+        ensures ok { IfOk result (λ c. c
+            ≡ record { fine = Some fine; line = None; sent = all_sent self.line self.sent }) }
         ensures err { IfErr result (λ e. e ≡ fault.NoMemory) }
         ensures memory { IfErr result (λ _. is_some self.line ≡ true) }
     {
@@ -133,7 +136,8 @@ impl<A: Allocator + Copy> Caster<A> {
     ) -> Result<Self, CastFault>
         requires { in_progress self + 1 < 2 ^ 32 }
         ensures ok { IfOk result (λ c. cast_onto case.now wedge.now place cell s self.fine self.line self.sent ≡ Ok c) }
-        ensures err { IfErr result (λ e. e ≢ fault.NoMemory → cast_onto case.now wedge.now place cell s self.fine self.line self.sent ≡ Err e) }
+        ensures err { IfErr result (λ e. e ≢ fault.NoMemory
+            → cast_onto case.now wedge.now place cell s self.fine self.line self.sent ≡ Err e) }
         ensures memory { result ≡ Err fault.NoMemory → (is_some self.line && has_matrix case.now cell) ≡ true }
     {
         let Caster {
@@ -227,9 +231,9 @@ fn matrix_width(wedge: &Wedge, sum: WedgeSum, row: RowNo, s: bool) -> Atoms
     }
 }
 
-/// Casts the rows of a ribbon, given in punched order, at most 4,294,967,295 of them: the lines in reading order, or the
-/// first fault that the caster meets. Out of memory may come in place of either where a matrix was to be cast onto a line,
-/// or a line to be sent out.
+/// Casts the rows of a ribbon, given in punched order, at most 4,294,967,295 of them: the lines in reading order, or
+/// the first fault that the caster meets. Out of memory may come in place of either where a matrix was to be cast onto
+/// a line, or a line to be sent out.
 pub fn cast<A: Allocator + Copy>(
     alloc: A,
     rows: &[RibbonRow],

@@ -1,7 +1,8 @@
 //! The caster: what a ribbon's bytes mean, and the lines that it casts.
 //!
-//! The Monotype caster reads a ribbon from its end, so it meets the wedge positions of a line before the line's matrices.
-//! Which rows set and send out a line is this project's choice: Coarse starts a line, FineOut ends the one before.
+//! The Monotype caster reads a ribbon from its end, so it meets the wedge positions of a line before the line's
+//! matrices. Which rows set and send out a line is this project's choice: Coarse starts a line, FineOut ends the one
+//! before.
 #![tactic(auto)]
 
 mod caster;
@@ -56,7 +57,8 @@ impl From<AllocError> for RibbonFault {
     }
 }
 
-/// Why rows cast no lines: the first fault that the caster meets, with a row's place in punched order from 0, or out of memory.
+/// Why rows cast no lines: the first fault that the caster meets, with a row's place in punched order from 0, or out of
+/// memory.
 #[derive(Clone, Copy, PartialEq, Eq, Debug, Error)]
 pub enum CastFault {
     /// The row met needs positions of the wedges that are not there.

@@ -75,7 +75,12 @@ impl<A: Allocator> Model for Begun<A> {
 
     ghost Value = { caster.Begun };
 
-    ghost view = { λ b. record { started = b.started; coarse = b.coarse; fine = b.fine; matrices = reverse b.met.items } };
+    ghost view = { λ b. record {
+      started = b.started;
+      coarse = b.coarse;
+      fine = b.fine;
+      matrices = reverse b.met.items;
+    } };
 
     ghost invariant = { λ b. IsTotal b.total (reverse b.met.items) };
 }

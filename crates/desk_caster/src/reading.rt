@@ -45,9 +45,9 @@ fn rows_of<A: Allocator>(
     Ok(rows)
 }
 
-/// The rows of a ribbon, in punched order, or the first fault of bytes that are none: Magic where the first four bytes are
-/// not `MRB1` or not there, Count where the length is not that of the number of rows, and then the first row whose image
-/// has no meaning. Out of memory may come in place of that row, or of the rows.
+/// The rows of a ribbon, in punched order, or the first fault of bytes that are none: Magic where the first four bytes
+/// are not `MRB1` or not there, Count where the length is not that of the number of rows, and then the first row whose
+/// image has no meaning. Out of memory may come in place of that row, or of the rows.
 pub fn read_ribbon<A: Allocator>(alloc: A, bytes: &[u8]) -> Result<Vec<RibbonRow, A>, RibbonFault>
     ensures ribbon { IfOk result (λ rows. IsRibbon bytes.now rows.items) }
     ensures fault { IfErr result (λ fault. Reports bytes.now fault) }

@@ -21,15 +21,17 @@ pub record GivesItem (form : FeedForm) (bytes : List ℕ) (before after : Option
   pub prefix : bytes ≡ item_spelling item ++ rest
 
 -- items stand at the start, whose operations come after those before
-pub record GivesItems (form : FeedForm) (bytes : List ℕ) (before after : Option (List Op)) (rest : List ℕ) : Type 0 where
-  pub items : List Item
-  pub prefix : List ℕ
-  pub spells : Spells form prefix items
-  pub is : Adds before after (ops_in items)
-  pub split : bytes ≡ prefix ++ rest
+pub record GivesItems (form : FeedForm) (bytes : List ℕ) (before after : Option (List Op)) (rest : List ℕ) : Type 0
+  where
+    pub items : List Item
+    pub prefix : List ℕ
+    pub spells : Spells form prefix items
+    pub is : Adds before after (ops_in items)
+    pub split : bytes ≡ prefix ++ rest
 
 -- items stand at the start, and no whole one after them
-pub record GivesRest (form : FeedForm) (bytes : List ℕ) (before : Option (List Op)) (read : FeedForm) (after : Option (List Op)) (kept : List ℕ) : Type 0 where
+pub record GivesRest (form : FeedForm) (bytes : List ℕ) (before : Option (List Op)) (read : FeedForm)
+    (after : Option (List Op)) (kept : List ℕ) : Type 0 where
   pub same : form ≡ read
   pub items : GivesItems form bytes before after kept
   pub unended : IsUnended form kept
@@ -41,7 +43,8 @@ pub record RunPrefix (bytes : List ℕ) (stamp parent : Stamp) (count : ℕ) (re
   pub parent_value : IsStampValue parent
 
 -- so many symbols stand at the start, and the inserts of a run of them are lawful, and come after the operations before
-pub record GivesInserts (stamp parent : Stamp) (count : ℕ) (bytes : List ℕ) (before after : Option (List Op)) (rest : List ℕ) : Type 0 where
+pub record GivesInserts (stamp parent : Stamp) (count : ℕ) (bytes : List ℕ) (before after : Option (List Op))
+    (rest : List ℕ) : Type 0 where
   pub symbols : List Symbol
   pub many : length symbols ≡ count
   pub each : AllByRecursion IsHeld (run_ops stamp parent symbols)

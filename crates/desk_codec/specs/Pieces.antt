@@ -1,5 +1,6 @@
 -- Feeds in pieces: what a reader has, and what each piece that it is fed shows.
-use Rattle.std.specs.Prelude.{◌≡◌, ◌≢◌, ℕ, ◌+◌, ◌-◌, ◌≤◌, ◌<◌, Bool, true, false, List, [], ◌++◌, length, Option, Some, None, ◌⊎◌}
+use Rattle.std.specs.Prelude.{◌≡◌, ◌≢◌, ℕ, ◌+◌, ◌-◌, ◌≤◌, ◌<◌, Bool, true, false, List, [], ◌++◌, length, Option, Some}
+use Rattle.std.specs.Prelude.{None, ◌⊎◌}
 use Rattle.desk_ops.specs.declared.op.Op.{Op}
 use Rattle.desk_codec.specs.declared.fault.FeedWhy.TheVariants as why
 use Rattle.desk_codec.specs.declared.fault.FeedFault.{FeedFault}
@@ -44,7 +45,8 @@ abbrev pub IsUnended : FeedForm → List ℕ → Type 0
 IsUnended form bytes = (bytes ≡ []) ⊎ IsCut form bytes
 
 -- the feed begins with these bytes, which may become a magic
-pub record AwaitsMagic (before : Option FeedForm) (bytes : List ℕ) (ops : List Op) (after : Option FeedForm) (kept : List ℕ) : Type 0 where
+pub record AwaitsMagic (before : Option FeedForm) (bytes : List ℕ) (ops : List Op) (after : Option FeedForm)
+    (kept : List ℕ) : Type 0 where
   pub prefix : before ≡ None
   pub still : after ≡ None
   pub short : length bytes < 4
@@ -53,14 +55,15 @@ pub record AwaitsMagic (before : Option FeedForm) (bytes : List ℕ) (ops : List
 
 -- The bytes are, after the magic, those of items, followed by bytes of no whole one; the operations are those of the
 -- items.
-pub record Reads (before : Option FeedForm) (bytes : List ℕ) (ops : List Op) (form : FeedForm) (kept : List ℕ) : Type 0 where
-  pub agrees : Agrees before form
-  pub items : List Item
-  pub prefix : List ℕ
-  pub spells : Spells form prefix items
-  pub joined : ops ≡ ops_in items
-  pub split : bytes ≡ due before form ++ (prefix ++ kept)
-  pub unended : IsUnended form kept
+pub record Reads (before : Option FeedForm) (bytes : List ℕ) (ops : List Op) (form : FeedForm) (kept : List ℕ) : Type 0
+  where
+    pub agrees : Agrees before form
+    pub items : List Item
+    pub prefix : List ℕ
+    pub spells : Spells form prefix items
+    pub joined : ops ≡ ops_in items
+    pub split : bytes ≡ due before form ++ (prefix ++ kept)
+    pub unended : IsUnended form kept
 
 -- what is read of bytes, and what is kept of them
 abbrev pub IsRead : Option FeedForm → List ℕ → List Op → Option FeedForm → List ℕ → Type 0

@@ -1,9 +1,11 @@
 //! The fields of an operation as its bytes have them.
 
-ghost use Rattle.std.specs.Prelude.{◌≡◌, ◌+◌, ◌≤◌, ◌<◌, ◌^◌, ◌∷◌, ◌++◌, length, MatchOption, IfOk, IfErr, Err, Some, None};
+ghost use Rattle.std.specs.Prelude.{◌≡◌, ◌+◌, ◌≤◌, ◌<◌, ◌^◌, ◌∷◌, ◌++◌, length, MatchOption, IfOk, IfErr, Err, Some};
+ghost use Rattle.std.specs.Prelude.{None};
 ghost use Rattle.std.specs.Int.{w32, to_be_bytes};
 ghost use Rattle.desk_codec.specs.Spelling.{stamp_spelling, IsStampValue, IsHeld};
-ghost use Rattle.desk_codec.specs.Fault.{fields_of, bytes_of, AreValues, style_of, key_of, symbol_in, setting_cause, cause};
+ghost use Rattle.desk_codec.specs.Fault.{fields_of, bytes_of, AreValues, style_of, key_of, symbol_in, setting_cause};
+ghost use Rattle.desk_codec.specs.Fault.{cause};
 ghost use Rattle.desk_codec.specs.Form.{kind_byte, kind_size};
 
 use crate::form::Kind;

@@ -1,6 +1,7 @@
 //! Reading a feed in pieces.
 
-ghost use Rattle.std.specs.Prelude.{◌≡◌, ◌≢◌, ℕ, ◌+◌, ◌*◌, ◌<◌, ◌≤◌, ◌^◌, List, ◌++◌, true, false, length, get_or, IfSome, IfOk, IfErr, Some, None, Err};
+ghost use Rattle.std.specs.Prelude.{◌≡◌, ◌≢◌, ℕ, ◌+◌, ◌*◌, ◌<◌, ◌≤◌, ◌^◌, List, ◌++◌, true, false, length, get_or};
+ghost use Rattle.std.specs.Prelude.{IfSome, IfOk, IfErr, Some, None, Err};
 ghost use Rattle.arrayvec.specs.ArrayVec.{array_vec_len};
 ghost use Rattle.desk_codec.specs.declared.form.FeedForm.{FeedForm};
 ghost use Rattle.desk_codec.specs.Feed.{magic_of};
@@ -43,7 +44,12 @@ impl Model for FeedReader {
 
     ghost view = { λ r. record { form = r.form; taken = r.taken; kept = r.kept.items; failed = r.failed } };
 
-    ghost invariant = { λ r. IsReader (record { form = r.form; taken = r.taken; kept = r.kept.items; failed = r.failed }) r.missing };
+    ghost invariant = { λ r. IsReader (record {
+      form = r.form;
+      taken = r.taken;
+      kept = r.kept.items;
+      failed = r.failed;
+    }) r.missing };
 }
 
 /// What was read of a piece: the form of the feed, the operations, and the end of the piece that is to be kept, behind
@@ -178,7 +184,8 @@ fn keep(kept: &mut ArrayVec<u8, MOST_SIZE>, is_behind: bool, rest: &[u8])
     put(kept, rest);
 }
 
-/// How many bytes a run takes that begins with these bytes, or how many come before its symbols where its count is lacking.
+/// How many bytes a run takes that begins with these bytes, or how many come before its symbols where its count is
+/// lacking.
 fn run_size(bytes: &[u8]) -> usize
     ensures prefix { length bytes.now < 22 → result ≡ 22 }
     ensures whole { 22 ≤ length bytes.now → result ≡ 22 + 5 * get_or bytes.now 21 0 }
@@ -216,7 +223,8 @@ fn join(prefix: &[u8], end: &[u8]) -> ArrayVec<u8, 4>
     all
 }
 
-/// The form of the feed whose magic the start of the piece makes whole, and what follows it, or none where other bytes stand.
+/// The form of the feed whose magic the start of the piece makes whole, and what follows it, or none where other bytes
+/// stand.
 fn after_magic<'a>(kept: &[u8], piece: &'a [u8]) -> Option<(FeedForm, &'a [u8])>
     requires few { length kept.now < 4 }
     requires enough { 4 ≤ length kept.now + length piece.now }

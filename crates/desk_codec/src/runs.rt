@@ -1,6 +1,7 @@
 //! Writing feeds of runs.
 
-ghost use Rattle.std.specs.Prelude.{◌≡◌, [], ◌+◌, ◌-◌, ◌*◌, ◌≤◌, ◌<◌, ◌++◌, ◌∷◌, T, true, false, if◌then◌else◌, List, length, slice_index_or, All, IfOk, IfSome, OnOk, Some, None};
+ghost use Rattle.std.specs.Prelude.{◌≡◌, [], ◌+◌, ◌-◌, ◌*◌, ◌≤◌, ◌<◌, ◌++◌, ◌∷◌, T, true, false, if◌then◌else◌, List};
+ghost use Rattle.std.specs.Prelude.{length, slice_index_or, All, IfOk, IfSome, OnOk, Some, None};
 ghost use Rattle.std.specs.List.Sorted.{IsPermutation};
 ghost use Rattle.desk_ops.specs.declared.op.Op.{Op};
 ghost use Rattle.desk_ops.specs.declared.op.Op.TheVariants.{Insert};
@@ -23,8 +24,8 @@ use desk_memory::NoMemory;
 use desk_ops::{Op, Stamp, Symbol};
 use std::alloc::{AllocError, Allocator};
 
-/// The first place after `at` whose operation does not bear a smaller stamp, where the one at `at` does. What is near is
-/// found first.
+/// The first place after `at` whose operation does not bear a smaller stamp, where the one at `at` does. What is near
+/// is found first.
 fn seek(ops: &[Op], at: usize, stamp: Stamp) -> usize
     requires within { at < length ops.now }
     requires smaller { (d : Op) → before (stamp_of (slice_index_or ops.now at d)) stamp ≡ true }
@@ -164,8 +165,8 @@ fn follow<A: Allocator>(
     Ok(())
 }
 
-/// The symbols of the item that begins with the operation at a place, or none where it is no clear insert. The places of
-/// the item's operations are marked.
+/// The symbols of the item that begins with the operation at a place, or none where it is no clear insert. The places
+/// of the item's operations are marked.
 fn take_item<A: Allocator>(
     ops: &[Op],
     at: usize,

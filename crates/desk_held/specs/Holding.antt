@@ -14,7 +14,8 @@ pub record Holding : Type 0 where
   pub spare : ℕ
 
 abbrev pub holding_code : Coded Holding
-holding_code = code_by (OpSet × ℕ) (coded× op_set_code coded_ℕ) (λ h. (h.ops, h.spare)) (λ p. record { ops = p.0; spare = p.1 }) (λ _. refl)
+holding_code = code_by (OpSet
+    × ℕ) (coded× op_set_code coded_ℕ) (λ h. (h.ops, h.spare)) (λ p. record { ops = p.0; spare = p.1 }) (λ _. refl)
 
 -- the operations are lawful and rise, and are no more than the limit
 pub record IsKept (ops : List Op) : Type 0 where

@@ -38,14 +38,16 @@ fn add_before<A: Allocator>(
     Ok(count)
 }
 
-/// Adds a stretch of what is held, and before each operation of it those of a list that come first; how many of the list.
+/// Adds a stretch of what is held, and before each operation of it those of a list that come first; how many of the
+/// list.
 fn add_part<A: Allocator>(
     slots: &mut Vec<Slot, A>,
     part: &[Slot],
     ops: &[Op],
 ) -> Result<usize, AllocError>
     ensures within { IfOk result (λ n. n ≤ length ops.now) }
-    ensures added { IfOk result (λ n. with_all no_ops slots.new.items ≡ with_all (with_all (with_all no_ops slots.old.items) part.now) (take n ops.now)) }
+    ensures added { IfOk result (λ n. with_all no_ops slots.new.items
+        ≡ with_all (with_all (with_all no_ops slots.old.items) part.now) (take n ops.now)) }
 {
     let mut count = 0;
     for at in 0..part.len() {
@@ -58,8 +60,8 @@ fn add_part<A: Allocator>(
 }
 
 impl<A: Allocator + Copy> Held<A> {
-    /// The set of operations that rise, in full pages; none where they do not, where they are too many or memory does not
-    /// allow it.
+    /// The set of operations that rise, in full pages; none where they do not, where they are too many or memory does
+    /// not allow it.
     fn of_slots(alloc: A, slots: &[Slot]) -> Option<Self>
         requires { All IsLawful slots.now }
         ensures ops { IfSome result (λ h. h.ops ≡ with_all no_ops slots.now) }
@@ -109,8 +111,8 @@ impl<A: Allocator + Copy> Held<A> {
         Ok(slots)
     }
 
-    /// The set with the operations of a list that rises and of which none is held; none where the list is another, they are too
-    /// many or memory does not allow it.
+    /// The set with the operations of a list that rises and of which none is held; none where the list is another, they
+    /// are too many or memory does not allow it.
     pub fn joined(&self, ops: &[Op]) -> Option<Self>
         requires { All IsLawful ops.now }
         ensures ops { IfSome result (λ h. h.ops ≡ with_all self.now.ops ops.now) }
@@ -139,13 +141,14 @@ impl<A: Allocator + Copy> Held<A> {
 
     /// Adds the operations of a list, one after the other, up to the first that is refused: `Full` comes exactly where
     /// 1,048,576 operations are held and the next is not among them; out of memory only where the set has gained as
-    /// many as there was room for. Where nothing is held and there is no room for all, a list that has no operation twice is
-    /// sorted, if it does not rise, and laid out at once, where memory and the limit allow it.
+    /// many as there was room for. Where nothing is held and there is no room for all, a list that has no operation
+    /// twice is sorted, if it does not rise, and laid out at once, where memory and the limit allow it.
     pub fn add_all(&mut self, ops: &[Op]) -> Result<(), Stopped>
         requires { All IsLawful ops.now }
         ensures ok { OnOk result (self.new.ops ≡ with_all self.old.ops ops.now) }
         ensures err { IfErr result (λ s. IsStopped self.old.ops self.new.ops ops.now s) }
-        ensures memory { IfErr result (λ s. s.why ≡ AddRefusal.NoMemory → self.old.spare + size self.old.ops ≤ size self.new.ops) }
+        ensures memory { IfErr result (λ s. s.why ≡ AddRefusal.NoMemory
+            → self.old.spare + size self.old.ops ≤ size self.new.ops) }
         ensures spare { self.old.spare ≤ self.new.spare + length ops.now }
     {
         if self.is_empty()
@@ -163,7 +166,8 @@ impl<A: Allocator + Copy> Held<A> {
         requires { All IsLawful ops.now }
         ensures ok { OnOk result (self.new.ops ≡ with_all self.old.ops ops.now) }
         ensures err { IfErr result (λ s. IsStopped self.old.ops self.new.ops ops.now s) }
-        ensures memory { IfErr result (λ s. s.why ≡ AddRefusal.NoMemory → self.old.spare + size self.old.ops ≤ size self.new.ops) }
+        ensures memory { IfErr result (λ s. s.why ≡ AddRefusal.NoMemory
+            → self.old.spare + size self.old.ops ≤ size self.new.ops) }
         ensures spare { self.old.spare ≤ self.new.spare + length ops.now }
     {
         for (taken, op) in ops.iter().enumerate() {

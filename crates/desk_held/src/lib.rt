@@ -1,10 +1,11 @@
 //! The operations that a replica holds: a finite set, kept in order.
 //!
-//! It is kept by stamp and then by bytes, so that equal sets are written alike byte for byte. What is newest stands last, where
-//! a site's own operations are added.
+//! It is kept by stamp and then by bytes, so that equal sets are written alike byte for byte. What is newest stands
+//! last, where a site's own operations are added.
 #![tactic(auto)]
 
-ghost use Rattle.std.specs.Prelude.{◌≡◌, ◌+◌, ◌-◌, ◌≤◌, ◌<◌, ◌↔◌, take, drop, IfOk, OnOk, OnErr, IsErrOf, IsOk, IsTrue, All, true, false, slice_index_or};
+ghost use Rattle.std.specs.Prelude.{◌≡◌, ◌+◌, ◌-◌, ◌≤◌, ◌<◌, ◌↔◌, take, drop, IfOk, OnOk, OnErr, IsErrOf, IsOk, IsTrue};
+ghost use Rattle.std.specs.Prelude.{All, true, false, slice_index_or};
 ghost use Rattle.desk_ops.specs.Op.{IsLawful};
 ghost use Rattle.desk_ops.specs.OpSet.{no_ops, has_op, with_op, in_order, size, AllLawful};
 ghost use Rattle.desk_ops.specs.Held.{is_borne_in, is_clear_in, clear_op_in, greatest_counter_of, IsUnforked};
@@ -152,7 +153,8 @@ impl<A: Allocator + Copy> Held<A> {
         ensures added { IfOk result (λ a. a ≡ added_to self.old.ops op) }
         ensures ok { OnOk result (self.new.ops ≡ with_op self.old.ops op) }
         ensures err { OnErr result (self.new.ops ≡ self.old.ops) }
-        ensures full { IsErrOf result AddRefusal.Full ↔ ((has_op self.old.ops op ≡ false) × (size self.old.ops ≡ LIMIT)) }
+        ensures full { IsErrOf result AddRefusal.Full
+            ↔ ((has_op self.old.ops op ≡ false) × (size self.old.ops ≡ LIMIT)) }
         ensures memory { IsErrOf result AddRefusal.NoMemory → (has_op self.old.ops op ≡ false) × (self.old.spare ≡ 0) }
 
         // A known operation takes no room, another at most one, and a refusal none.

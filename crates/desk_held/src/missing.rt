@@ -13,11 +13,12 @@ use desk_ops::Op;
 use desk_slots::Slot;
 use std::alloc::Allocator;
 
-/// Below this part of what is held each operation of a list is searched: a pass beside the list would look at each page.
+/// Below this part of what is held each operation of a list is searched: a pass beside the list would look at each
+/// page.
 const SPARSE: usize = 256;
 
-/// Puts the operations of a list in order, each once, in its own memory. A list that rises stays as it is, and one that falls
-/// is turned round.
+/// Puts the operations of a list in order, each once, in its own memory. A list that rises stays as it is, and one that
+/// falls is turned round.
 pub fn put_in_turn<A: Allocator>(ops: &mut Vec<Op, A>)
     ensures turn { IsInTurn ops.old.items ops.new.items }
     ensures lawful { All IsLawful ops.old.items → All IsLawful ops.new.items }
@@ -69,8 +70,8 @@ impl<A: Allocator + Copy> Held<A> {
         ops.len() < self.len() / SPARSE
     }
 
-    /// Whether each operation of a list is held. A list that rises and is not short is passed beside what is held: one look at
-    /// each operation and each page. It cannot run out of memory.
+    /// Whether each operation of a list is held. A list that rises and is not short is passed beside what is held: one
+    /// look at each operation and each page. It cannot run out of memory.
     pub fn has_all(&self, ops: &[Op]) -> bool
         ensures { result ≡ list_all (has_op self.now.ops) ops.now }
     {
@@ -116,9 +117,9 @@ impl<A: Allocator + Copy> Held<A> {
         true
     }
 
-    /// The operations of a list that are not held, in order, each once. A list that does not rise is put in order first, in
-    /// memory of its own. Then each operation of a short one is searched, and a longer one is passed beside what is held: one
-    /// look at each operation and each page.
+    /// The operations of a list that are not held, in order, each once. A list that does not rise is put in order
+    /// first, in memory of its own. Then each operation of a short one is searched, and a longer one is passed beside
+    /// what is held: one look at each operation and each page.
     pub fn missing(&self, ops: &[Op]) -> Result<Vec<Op, A>, NoMemory>
         ensures missing { IfOk result (λ v. IsMissing self.now.ops ops.now v.items) }
         ensures lawful { All IsLawful ops.now → IfOk result (λ v. All IsLawful v.items) }

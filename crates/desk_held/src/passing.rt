@@ -12,8 +12,8 @@ use desk_slots::Slot;
 use list_pages::Pages;
 use std::alloc::Allocator;
 
-/// The first place of a stretch, from a place on, of what does not come before an operation. Where the last of it does, all
-/// do: that is looked at first.
+/// The first place of a stretch, from a place on, of what does not come before an operation. Where the last of it does,
+/// all do: that is looked at first.
 fn skip(part: &[Slot], from: usize, op: &Op) -> usize
     requires { from ≤ length part.now }
     ensures order { from ≤ result }
@@ -32,8 +32,8 @@ fn skip(part: &[Slot], from: usize, op: &Op) -> usize
     at
 }
 
-/// Passes what comes before an operation, from a place of a stretch on: where the stretch begins in which the first stands
-/// that does not, that stretch, and its place there.
+/// Passes what comes before an operation, from a place of a stretch on: where the stretch begins in which the first
+/// stands that does not, that stretch, and its place there.
 fn onward<'a, A: Allocator + Copy>(
     ops: &'a Pages<Slot, (), A>,
     start: usize,

@@ -1,5 +1,6 @@
 -- Images: signals as the bits of a number.
-use Rattle.std.specs.Prelude.{◌≡◌, ℕ, ◌-◌, ◌^◌, ◌<◌, cond, if◌then◌else◌, ◌==◌, nat_le, List, [], ◌∷◌, bit_or, Option, Some, None}
+use Rattle.std.specs.Prelude.{◌≡◌, ℕ, ◌-◌, ◌^◌, ◌<◌, cond, if◌then◌else◌, ◌==◌, nat_le, List, [], ◌∷◌, bit_or, Option}
+use Rattle.std.specs.Prelude.{Some, None}
 use Rattle.std.specs.Int.{bit_at}
 use Rattle.std.specs.List.{filter}
 use Rattle.desk_signals.specs.declared.BadRow.{BadRow}

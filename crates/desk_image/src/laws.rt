@@ -1,6 +1,7 @@
 //! Laws of the definitions alone, each the contract of a function that does nothing.
 
-ghost use Rattle.desk_image.specs.ImageLaws.{ImagesShowSignals, RowsHaveLawfulImages, SignalsHaveOneImage, ImagesAreOneToOne};
+ghost use Rattle.desk_image.specs.ImageLaws.{ImagesShowSignals, RowsHaveLawfulImages, SignalsHaveOneImage};
+ghost use Rattle.desk_image.specs.ImageLaws.{ImagesAreOneToOne};
 
 /// The image of signals shows them.
 pub fn images_show_signals()

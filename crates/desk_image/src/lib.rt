@@ -1,7 +1,7 @@
 //! Images of ribbon rows: the 31 channels of a row as the bits of a number.
 //!
-//! Everything else speaks of rows by their signals; images are for what comes from outside or goes there. So any number is
-//! read, and one that is the image of no row is refused with its first cause.
+//! Everything else speaks of rows by their signals; images are for what comes from outside or goes there. So any number
+//! is read, and one that is the image of no row is refused with its first cause.
 #![tactic(auto)]
 
 ghost use Rattle.std.specs.Prelude.{◌≡◌, ℕ, ◌-◌, ◌^◌, ◌<◌, if◌then◌else◌, ◌==◌, IfOk, slice_index};

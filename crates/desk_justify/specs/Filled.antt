@@ -1,5 +1,6 @@
 -- What fills a line that isn't justified by its own spaces.
-use Rattle.std.specs.Prelude.{◌≡◌, ℕ, ◌+◌, ◌-◌, ◌*◌, ◌/◌, ◌<◌, ℤ, pos, negsuc, ◌<ℤ◌, unsigned_abs, List, [], ◌∷◌, length, take, get_or}
+use Rattle.std.specs.Prelude.{◌≡◌, ℕ, ◌+◌, ◌-◌, ◌*◌, ◌/◌, ◌<◌, ℤ, pos, negsuc, ◌<ℤ◌, unsigned_abs, List, [], ◌∷◌}
+use Rattle.std.specs.Prelude.{length, take, get_or}
 use Rattle.std.specs.List.{AllByRecursion}
 
 -- what may be filled: nothing where the rest is negative
@@ -24,7 +25,8 @@ taken [] widths = 0
 taken (count ∷ counts) [] = 0
 taken (count ∷ counts) (width ∷ widths) = count * unsigned_abs width + taken counts widths
 
--- Each fill is used as often as it fits in what the fills before it leave of the rest, and none is where the rest is negative.
+-- Each fill is used as often as it fits in what the fills before it leave of the rest, and none is where the rest is
+-- negative.
 pub record AreFills (rest : ℤ) (widths : List ℤ) (counts : List ℕ) : Type 0 where
   pub number : length counts ≡ length widths
   pub each : (j : ℕ) → j < length widths →

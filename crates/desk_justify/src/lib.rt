@@ -1,8 +1,8 @@
 //! Wedge positions that justify a line, and fills for a line that its own spaces do not.
 //!
-//! The wedges move all spaces of a line by one width, in whole steps of 0.0005 inch. The steps are rounded down, so that no
-//! line is wider than its measure, and each is short of it by less than a step for each space. Fills are taken widest
-//! first, as often as each fits: few matrices then come near the measure.
+//! The wedges move all spaces of a line by one width, in whole steps of 0.0005 inch. The steps are rounded down, so
+//! that no line is wider than its measure, and each is short of it by less than a step for each space. Fills are taken
+//! widest first, as often as each fits: few matrices then come near the measure.
 #![tactic(auto)]
 
 ghost use Rattle.std.specs.Prelude.{◌≡◌, ◌≤◌, ◌^◌, ◌↔◌, pos, ◌≤ℤ◌, IfSome, IsNone, MatchOption, length};
@@ -16,12 +16,13 @@ use arrayvec::ArrayVec;
 use desk_signals::Position;
 use desk_units::{Atoms, WedgeSum, floor_steps};
 
-/// The wedge sum at which 1 to 2^32 spaces take up the rest, but for less than a step for each; none where the wedges do
-/// not reach so far.
+/// The wedge sum at which 1 to 2^32 spaces take up the rest, but for less than a step for each; none where the wedges
+/// do not reach so far.
 pub fn wedge_sum(rest: Atoms, spaces: u64) -> Option<WedgeSum>
     requires some { 1 ≤ spaces }
     requires limit { spaces ≤ 2 ^ 32 }
-    ensures { MatchOption result (IsOutside (sum_of rest spaces)) (λ sum. (pos sum ≡ sum_of rest spaces) × IsWedgeSum sum) }
+    ensures { MatchOption result (IsOutside (sum_of rest spaces)) (λ sum. (pos sum ≡ sum_of rest spaces)
+        × IsWedgeSum sum) }
 {
     WedgeSum::from_steps(floor_steps(rest, spaces))
 }
@@ -46,8 +47,8 @@ fn room(rest: Atoms) -> u64
     u64::try_from(rest.get()).unwrap_or(0)
 }
 
-/// How often each of one to four fills is used, the widest first: as often as it fits in what those before it leave
-/// of the rest, and never where the rest is negative. The rest is at most 2^31 atoms, the widths are above 0, and each is
+/// How often each of one to four fills is used, the widest first: as often as it fits in what those before it leave of
+/// the rest, and never where the rest is negative. The rest is at most 2^31 atoms, the widths are above 0, and each is
 /// less than the one before.
 pub fn fill(rest: Atoms, widths: &[Atoms]) -> ArrayVec<u32, 4>
     requires some { 1 ≤ length widths.now }

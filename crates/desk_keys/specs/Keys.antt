@@ -1,5 +1,6 @@
 -- What stands at a key of a document, read in its turn, and a file's values or its first fault.
-use Rattle.std.specs.Prelude.{ℕ, ℤ, pos, negsuc, nat_le, ◌&&◌, if◌then◌else◌, List, Option, Some, None, Result, Ok, Err, ok_or, option_and_then}
+use Rattle.std.specs.Prelude.{ℕ, ℤ, pos, negsuc, nat_le, ◌&&◌, if◌then◌else◌, List, Option, Some, None, Result, Ok, Err}
+use Rattle.std.specs.Prelude.{ok_or, option_and_then}
 use Rattle.std.specs.Str.{is_utf8}
 use Rattle.toml.specs.Data.{Data, Members, as_integer, get_member}
 use Rattle.toml.specs.Parse.{parse_document}
@@ -18,7 +19,8 @@ number_in low high (negsuc n) = None
 abbrev pub number_of : ℕ → ℕ → Data → Option ℕ
 number_of low high d = option_and_then (number_in low high) (as_integer d)
 
--- what the key of a name holds, read; else `missing` where there is no such key, and `wrong` where it holds no such value
+-- what the key of a name holds, read; else `missing` where there is no such key, and `wrong` where it holds no such
+-- value
 abbrev pub value_at : {A E : Type 0} → List ℕ → E → E → (Data → Option A) → Members → Result A E
 value_at name missing wrong read members = ok_or (get_member name members) missing >>= (λ d. ok_or (read d) wrong)
 

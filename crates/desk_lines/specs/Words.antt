@@ -1,5 +1,6 @@
 -- Paragraphs and words of a copy.
-use Rattle.std.specs.Prelude.{◌≡◌, ℕ, ◌+◌, ◌-◌, ◌≤◌, Bool, true, false, ◌&&◌, ◌==◌, List, [], ◌∷◌, ◌++◌, length, map, take, drop}
+use Rattle.std.specs.Prelude.{◌≡◌, ℕ, ◌+◌, ◌-◌, ◌≤◌, Bool, true, false, ◌&&◌, ◌==◌, List, [], ◌∷◌, ◌++◌, length, map}
+use Rattle.std.specs.Prelude.{take, drop}
 use Rattle.std.specs.List.{slice_split, All}
 use Rattle.desk_ops.specs.Op.{is_line_feed, is_space}
 use Rattle.desk_ops.specs.OpSet.{max_ops}

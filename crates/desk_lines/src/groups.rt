@@ -1,7 +1,7 @@
 //! The words of a paragraph in groups, each of which is set in one line.
 //!
-//! Each line takes as many words as fit, from the first line on, as an operator at the keyboard does: what follows cannot
-//! change a line that is punched. So one pass over the words is enough.
+//! Each line takes as many words as fit, from the first line on, as an operator at the keyboard does: what follows
+//! cannot change a line that is punched. So one pass over the words is enough.
 
 ghost use Rattle.std.specs.Prelude.{◌≡◌, ◌≤◌, ◌^◌, pos, ◌+ℤ◌, ◌≤ℤ◌, ◌<ℤ◌, IfErr, IfOk, MatchBool, length};
 ghost use Rattle.desk_lines.specs.Groups.{AreWidths, IsWidth, groups_of, widest_matrix};

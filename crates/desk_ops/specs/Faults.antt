@@ -66,7 +66,8 @@ pub record IsStuck (h : OpSet) (s t : Stamp) : Type 0 where
   pub targets : target_of op ≡ Some target
   pub ends : EndsAt h t target
 
--- more than one operation bears the stamp; or it is stuck at a stamp that some operation bears; or at one that none does
+-- more than one operation bears the stamp; or it is stuck at a stamp that some operation bears; or at one that none
+-- does
 abbrev pub HasFault : OpSet → Stamp → FaultKind → Type 0
 HasFault h s Forked = is_forked_in h s ≡ true
 HasFault h s Void = (t : Stamp) × IsStuck h s t × (is_borne_in h t ≡ true)

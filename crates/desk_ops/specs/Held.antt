@@ -50,7 +50,8 @@ clear_ops ops = filter (λ op. is_clear ops (stamp_of op)) ops
 unfoldable pub clear_inserts : List Op → List Insertion
 clear_inserts ops = filter_map insertion (clear_ops ops)
 
--- of inserts, greatest stamp first: from s on from insert to parent, where that ends: at the first stamp that none of them bears
+-- of inserts, greatest stamp first: from s on from insert to parent, where that ends: at the first stamp that none of
+-- them bears
 unfoldable pub way_end : List Insertion → Stamp → Stamp
 way_end [] s = s
 way_end (x ∷ older) s = elim (same x.stamp s) [ true ↦ way_end older x.parent | false ↦ way_end older s ]

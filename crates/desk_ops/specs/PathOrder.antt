@@ -15,7 +15,8 @@ use Rattle.desk_ops.specs.Held.{live_inserts}
 -- of inserts, greatest stamp first: the stamps from the first that hangs on none of them down to s
 unfoldable pub path_in : List Insertion → Stamp → List Stamp
 path_in [] s = []
-path_in (x ∷ older) s = elim (same x.stamp s) [ true ↦ path_in older x.parent ++ x.stamp ∷ [] | false ↦ path_in older s ]
+path_in (x ∷ older) s = elim (same x.stamp s)
+    [ true ↦ path_in older x.parent ++ x.stamp ∷ [] | false ↦ path_in older s ]
 
 -- from the child of the head down to the live insert
 abbrev pub path : List Op → Stamp → List Stamp

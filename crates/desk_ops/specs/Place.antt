@@ -7,7 +7,8 @@ use Rattle.desk_ops.specs.Stamp.{same, before, head}
 abbrev pub IsStart : List Stamp → Stamp → ℕ → Type 0
 IsStart ts parent start =
     ((parent ≡ head) × (start ≡ 0))
-    ⊎ ((same head parent ≡ false) × (k : ℕ) × (start ≡ k + 1) × (k < length ts) × (slice_index_or ts k head ≡ parent) × ((j : ℕ) → j < k → same (slice_index_or ts j head) parent ≡ false))
+    ⊎ ((same head parent ≡ false) × (k : ℕ) × (start ≡ k + 1) × (k < length ts) × (slice_index_or ts k head ≡ parent)
+    × ((j : ℕ) → j < k → same (slice_index_or ts j head) parent ≡ false))
 
 -- the first place from there on whose stamp is smaller, or the end
 pub record IsPlace (ts : List Stamp) (parent s : Stamp) (place : ℕ) : Type 0 where

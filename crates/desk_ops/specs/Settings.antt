@@ -34,4 +34,5 @@ setting_of h key = setting (in_order h) key
 abbrev pub IsSetting : OpSet → Key → Option ℕ → Type 0
 IsSetting h key None = (s : Stamp) (n : ℕ) → IsLiveOp h (Set s key n) → ⊥
 IsSetting h key (Some value) =
-    (s : Stamp) × IsLiveOp h (Set s key value) × ((t : Stamp) (n : ℕ) → IsLiveOp h (Set t key n) → (t ≡ s) ⊎ (before t s ≡ true))
+    (s : Stamp) × IsLiveOp h (Set s key value)
+    × ((t : Stamp) (n : ℕ) → IsLiveOp h (Set t key n) → (t ≡ s) ⊎ (before t s ≡ true))

@@ -33,36 +33,48 @@ fault stamp kind = record { stamp = stamp; kind = kind }
 
 -- of two that hang on one element the later stands first, whichever came first
 pub record LaterSiblingFirst : Type 0 where
-  pub one : text (held (typed (at 1 1) head 97 ∷ typed (at 2 1) (at 1 1) 98 ∷ typed (at 2 2) (at 1 1) 99 ∷ [])) ≡ 97 ∷ 99 ∷ 98 ∷ []
-  pub other : text (held (typed (at 1 1) head 97 ∷ typed (at 2 2) (at 1 1) 99 ∷ typed (at 2 1) (at 1 1) 98 ∷ [])) ≡ 97 ∷ 99 ∷ 98 ∷ []
+  pub one : text (held (typed (at 1 1) head 97 ∷ typed (at 2 1) (at 1 1) 98 ∷ typed (at 2 2) (at 1 1) 99 ∷ []))
+      ≡ 97 ∷ 99 ∷ 98 ∷ []
+  pub other : text (held (typed (at 1 1) head 97 ∷ typed (at 2 2) (at 1 1) 99 ∷ typed (at 2 1) (at 1 1) 98 ∷ []))
+      ≡ 97 ∷ 99 ∷ 98 ∷ []
 
 -- a, ac, ace, aceb, zaceb
 pub record FiveArrivals : Type 0 where
   pub first : text (held (typed (at 1 1) head 97 ∷ [])) ≡ 97 ∷ []
   pub second : text (held (typed (at 1 1) head 97 ∷ typed (at 2 2) (at 1 1) 99 ∷ [])) ≡ 97 ∷ 99 ∷ []
-  pub third : text (held (typed (at 1 1) head 97 ∷ typed (at 2 2) (at 1 1) 99 ∷ typed (at 3 2) (at 2 2) 101 ∷ [])) ≡ 97 ∷ 99 ∷ 101 ∷ []
-  pub fourth : text (held (typed (at 1 1) head 97 ∷ typed (at 2 2) (at 1 1) 99 ∷ typed (at 3 2) (at 2 2) 101 ∷ typed (at 2 1) (at 1 1) 98 ∷ [])) ≡ 97 ∷ 99 ∷ 101 ∷ 98 ∷ []
-  pub fifth : text (held (typed (at 1 1) head 97 ∷ typed (at 2 2) (at 1 1) 99 ∷ typed (at 3 2) (at 2 2) 101 ∷ typed (at 2 1) (at 1 1) 98 ∷ typed (at 4 3) head 122 ∷ [])) ≡ 122 ∷ 97 ∷ 99 ∷ 101 ∷ 98 ∷ []
+  pub third : text (held (typed (at 1 1) head 97 ∷ typed (at 2 2) (at 1 1) 99 ∷ typed (at 3 2) (at 2 2) 101 ∷ []))
+      ≡ 97 ∷ 99 ∷ 101 ∷ []
+  pub fourth : text (held (typed (at 1 1) head 97 ∷ typed (at 2 2) (at 1 1) 99 ∷ typed (at 3 2) (at 2 2) 101
+      ∷ typed (at 2 1) (at 1 1) 98 ∷ [])) ≡ 97 ∷ 99 ∷ 101 ∷ 98 ∷ []
+  pub fifth : text (held (typed (at 1 1) head 97 ∷ typed (at 2 2) (at 1 1) 99 ∷ typed (at 3 2) (at 2 2) 101
+      ∷ typed (at 2 1) (at 1 1) 98 ∷ typed (at 4 3) head 122 ∷ [])) ≡ 122 ∷ 97 ∷ 99 ∷ 101 ∷ 98 ∷ []
 
 -- a forked stamp acts not at all, and what hangs on it is void
 pub record ForkedStamp : Type 0 where
-  pub shows : text (held (typed (at 1 1) head 97 ∷ typed (at 2 1) (at 1 1) 98 ∷ typed (at 2 1) (at 1 1) 120 ∷ typed (at 3 2) (at 2 1) 99 ∷ [])) ≡ 97 ∷ []
-  pub faults : faults_of (held (typed (at 1 1) head 97 ∷ typed (at 2 1) (at 1 1) 98 ∷ typed (at 2 1) (at 1 1) 120 ∷ typed (at 3 2) (at 2 1) 99 ∷ [])) ≡ fault (at 2 1) Forked ∷ fault (at 3 2) Void ∷ []
+  pub shows : text (held (typed (at 1 1) head 97 ∷ typed (at 2 1) (at 1 1) 98 ∷ typed (at 2 1) (at 1 1) 120
+      ∷ typed (at 3 2) (at 2 1) 99 ∷ [])) ≡ 97 ∷ []
+  pub faults : faults_of (held (typed (at 1 1) head 97 ∷ typed (at 2 1) (at 1 1) 98 ∷ typed (at 2 1) (at 1 1) 120
+      ∷ typed (at 3 2) (at 2 1) 99 ∷ [])) ≡ fault (at 2 1) Forked ∷ fault (at 3 2) Void ∷ []
 
 -- what waits shows nothing; once what it hangs on has come it is live
 pub record WaitingThenLive : Type 0 where
   pub empty : text (held (Delete (at 4 2) (at 3 1) ∷ typed (at 3 1) (at 2 1) 99 ∷ typed (at 2 1) (at 1 1) 98 ∷ [])) ≡ []
-  pub waiting : faults_of (held (Delete (at 4 2) (at 3 1) ∷ typed (at 3 1) (at 2 1) 99 ∷ typed (at 2 1) (at 1 1) 98 ∷ [])) ≡ fault (at 2 1) Waiting ∷ fault (at 3 1) Waiting ∷ fault (at 4 2) Waiting ∷ []
-  pub shows : text (held (Delete (at 4 2) (at 3 1) ∷ typed (at 3 1) (at 2 1) 99 ∷ typed (at 2 1) (at 1 1) 98 ∷ typed (at 1 1) head 97 ∷ [])) ≡ 97 ∷ 98 ∷ []
-  pub none : faults_of (held (Delete (at 4 2) (at 3 1) ∷ typed (at 3 1) (at 2 1) 99 ∷ typed (at 2 1) (at 1 1) 98 ∷ typed (at 1 1) head 97 ∷ [])) ≡ []
+  pub waiting : faults_of (held (Delete (at 4 2) (at 3 1) ∷ typed (at 3 1) (at 2 1) 99 ∷ typed (at 2 1) (at 1 1) 98
+      ∷ [])) ≡ fault (at 2 1) Waiting ∷ fault (at 3 1) Waiting ∷ fault (at 4 2) Waiting ∷ []
+  pub shows : text (held (Delete (at 4 2) (at 3 1) ∷ typed (at 3 1) (at 2 1) 99 ∷ typed (at 2 1) (at 1 1) 98
+      ∷ typed (at 1 1) head 97 ∷ [])) ≡ 97 ∷ 98 ∷ []
+  pub none : faults_of (held (Delete (at 4 2) (at 3 1) ∷ typed (at 3 1) (at 2 1) 99 ∷ typed (at 2 1) (at 1 1) 98
+      ∷ typed (at 1 1) head 97 ∷ [])) ≡ []
 
 -- what hangs on a deleted element keeps its place: bd
 abbrev pub TombstonesKept : Type 0
-TombstonesKept = text (held (typed (at 1 1) head 97 ∷ typed (at 2 1) (at 1 1) 100 ∷ Delete (at 3 1) (at 1 1) ∷ typed (at 3 2) (at 1 1) 98 ∷ [])) ≡ 98 ∷ 100 ∷ []
+TombstonesKept = text (held (typed (at 1 1) head 97 ∷ typed (at 2 1) (at 1 1) 100 ∷ Delete (at 3 1) (at 1 1)
+    ∷ typed (at 3 2) (at 1 1) 98 ∷ [])) ≡ 98 ∷ 100 ∷ []
 
 -- a delete at one site and an insert at another act both
 abbrev pub ConcurrentDeleteAndInsert : Type 0
-ConcurrentDeleteAndInsert = text (held (typed (at 1 1) head 97 ∷ Delete (at 2 1) (at 1 1) ∷ typed (at 2 2) (at 1 1) 98 ∷ [])) ≡ 98 ∷ []
+ConcurrentDeleteAndInsert = text (held (typed (at 1 1) head 97 ∷ Delete (at 2 1) (at 1 1) ∷ typed (at 2 2) (at 1 1) 98
+    ∷ [])) ≡ 98 ∷ []
 
 -- the greater stamp's value stays, whatever came last
 pub record SettingsByStamps : Type 0 where

@@ -1,12 +1,15 @@
-//! The laws of the definitions, each on a function with an empty body. What a law says of a set it says of one whose operations
-//! are lawful.
+//! The laws of the definitions, each on a function with an empty body. What a law says of a set it says of one whose
+//! operations are lawful.
 ghost use Rattle.std.specs.Prelude.{◌≡◌, ◌^◌};
 ghost use Rattle.desk_ops.specs.Stamp.{head, max_counter};
 ghost use Rattle.desk_ops.specs.Op.{line_feed, space};
-ghost use Rattle.desk_ops.specs.Worked.{ConcurrentDeleteAndInsert, FiveArrivals, ForkedStamp, LaterSiblingFirst, SettingsByStamps, TombstonesKept, WaitingThenLive};
+ghost use Rattle.desk_ops.specs.Worked.{ConcurrentDeleteAndInsert, FiveArrivals, ForkedStamp, LaterSiblingFirst};
+ghost use Rattle.desk_ops.specs.Worked.{SettingsByStamps, TombstonesKept, WaitingThenLive};
 ghost use Rattle.desk_ops.specs.Laws.{DrainGivesWalk, FaultsByEnds, HeldByMembers, LawfulByTests, LiveByParents};
-ghost use Rattle.desk_ops.specs.Laws.{MergingIsUnion, NewestActs, OneOrder, OrderGoesByStamp, OrderIsKept, PlaceGivesWalk};
-ghost use Rattle.desk_ops.specs.Laws.{ScanGivesWalk, SettingsByStamp, ShownIsWhatIsLeft, WalkGoesByKids, WalkHoldsTheLive};
+ghost use Rattle.desk_ops.specs.Laws.{MergingIsUnion, NewestActs, OneOrder, OrderGoesByStamp, OrderIsKept};
+ghost use Rattle.desk_ops.specs.Laws.{PlaceGivesWalk};
+ghost use Rattle.desk_ops.specs.Laws.{ScanGivesWalk, SettingsByStamp, ShownIsWhatIsLeft, WalkGoesByKids};
+ghost use Rattle.desk_ops.specs.Laws.{WalkHoldsTheLive};
 
 use crate::op::{MAX_COUNTER, Stamp, Symbol};
 
@@ -78,8 +81,8 @@ pub fn scan_gives_walk()
     ensures { ScanGivesWalk }
 {}
 
-/// With one insert more, whose stamp is new, on which none hangs and whose parent is older, the place that the walk's stamps
-/// say gives the walk with it.
+/// With one insert more, whose stamp is new, on which none hangs and whose parent is older, the place that the walk's
+/// stamps say gives the walk with it.
 pub fn place_gives_walk()
     ensures { PlaceGivesWalk }
 {}

@@ -27,13 +27,15 @@ pub record IsSet (settings : List Setting) (key : Key) (stamp : Stamp) (value : 
 
 -- after settings in any order, of each key the one of the greatest stamp is kept
 abbrev pub GreatestIsKept : Type 0
-GreatestIsKept = (settings : List Setting) (key : Key) → IsGreatestOf (IsSet settings key) (kept_after nothing settings key)
+GreatestIsKept = (settings : List Setting) (key : Key)
+    → IsGreatestOf (IsSet settings key) (kept_after nothing settings key)
 
 -- a stamp sets a key to one value
 abbrev pub HasOneValue : List Setting → Key → Type 0
 HasOneValue settings key = (stamp : Stamp) (m n : ℕ) → IsSet settings key stamp m → IsSet settings key stamp n → m ≡ n
 
--- where a stamp sets the key to one value, which is the greatest depends on what the settings are alone, and so not on their order or repetition
+-- where a stamp sets the key to one value, which is the greatest depends on what the settings are alone, and so not on
+-- their order or repetition
 abbrev pub OneGreatest : Type 0
 OneGreatest = (a b : List Setting) (key : Key) → HasOneValue a key
     → ((stamp : Stamp) (value : ℕ) → IsSet a key stamp value → IsSet b key stamp value)

@@ -24,7 +24,8 @@ greater (Some old) new = if before old.stamp new.stamp then new else old
 -- what is kept once a setting is taken: of its key the one of the greater stamp, of another key what was kept
 abbrev pub kept_with : (Key → Option Kept) → Stamp → Key → ℕ → Key → Option Kept
 kept_with before_it stamp key value k =
-    if key_code k == key_code key then Some (greater (before_it k) (record { stamp = stamp; value = value })) else before_it k
+    if key_code k == key_code key then Some (greater (before_it k) (record { stamp = stamp; value = value })) else
+    before_it k
 
 -- no setting is kept
 abbrev pub nothing : Key → Option Kept
@@ -38,4 +39,5 @@ IsOther (Some old) stamp = old.stamp ≡ stamp → ⊥
 -- of the stamps and values that P holds of: none where there are none, else the one whose stamp none of them exceeds
 abbrev pub IsGreatestOf : (Stamp → ℕ → Type 0) → Option Kept → Type 0
 IsGreatestOf P None = (stamp : Stamp) (value : ℕ) → P stamp value → ⊥
-IsGreatestOf P (Some k) = P k.stamp k.value × ((stamp : Stamp) (value : ℕ) → P stamp value → (stamp ≡ k.stamp) ⊎ (before stamp k.stamp ≡ true))
+IsGreatestOf P (Some k) = P k.stamp k.value
+    × ((stamp : Stamp) (value : ℕ) → P stamp value → (stamp ≡ k.stamp) ⊎ (before stamp k.stamp ≡ true))

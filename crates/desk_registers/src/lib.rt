@@ -1,7 +1,7 @@
 //! The settings of a job: of each key the value with the greatest stamp.
 //!
-//! Each is a last-writer-wins register: it keeps the value of the greatest stamp and that stamp alone, and takes settings in any
-//! order, but none that bears the stamp of the kept one.
+//! Each is a last-writer-wins register: it keeps the value of the greatest stamp and that stamp alone, and takes
+//! settings in any order, but none that bears the stamp of the kept one.
 #![tactic(auto)]
 
 ghost use Rattle.std.specs.Prelude.{◌≡◌, None, option_map};

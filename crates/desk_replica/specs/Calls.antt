@@ -1,6 +1,7 @@
 -- Calls of a replica as values: what each answers and leaves, by what its contract says of site and operations.
 -- What it says of spare is left aside. No kind of sequence stands in it: a contract is over every kind.
-use Rattle.std.specs.Prelude.{◌≡◌, ℕ, Bool, ◌≤◌, ◌-◌, ◌↔◌, ◌⊎◌, false, List, [], ◌∷◌, length, take, drop, Option, None, Some, Result, IfOk, IfErr, OnOk, OnErr, IsOk, IsErrOf, ⊤}
+use Rattle.std.specs.Prelude.{◌≡◌, ℕ, Bool, ◌≤◌, ◌-◌, ◌↔◌, ◌⊎◌, false, List, [], ◌∷◌, length, take, drop, Option, None}
+use Rattle.std.specs.Prelude.{Some, Result, IfOk, IfErr, OnOk, OnErr, IsOk, IsErrOf, ⊤}
 use Rattle.std.specs.List.{list_all}
 use Rattle.desk_memory.specs.declared.NoMemory.{NoMemory}
 use Rattle.desk_ops.specs.declared.fault.CopyFault.{CopyFault}

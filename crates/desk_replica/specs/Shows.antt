@@ -11,7 +11,8 @@ use Rattle.desk_replica.specs.JobSettings.{AreKept}
 -- a site of a number and lawful operations, no more than may be held; of each key its setting; the walk with its
 -- marks, and what waits; and all that
 -- waits has a place in the sequence
-pub record IsSound (site : ℕ) (ops : OpSet) (registers : Registers) (es : List Entry) (waiting : OpSet) (left : ℕ) : Type 0 where
+pub record IsSound (site : ℕ) (ops : OpSet) (registers : Registers) (es : List Entry) (waiting : OpSet) (left : ℕ) :
+    Type 0 where
   pub held : IsKept site ops
   pub within : size ops ≤ max_ops
   pub settings : AreKept ops (kept registers)

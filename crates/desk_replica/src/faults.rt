@@ -5,7 +5,8 @@ ghost use Rattle.desk_ops.specs.declared.op.Stamp.{Stamp};
 ghost use Rattle.desk_ops.specs.Op.{target_of};
 ghost use Rattle.desk_ops.specs.OpSet.{in_order, AllLawful};
 ghost use Rattle.desk_ops.specs.Faults.{faults_of, fault_of, marked};
-ghost use Rattle.desk_replica.specs.Ways.{kind_at, AreRising, IsNone, IsOne, AreWays, ends_with, ways_with, AreReported};
+ghost use Rattle.desk_replica.specs.Ways.{kind_at, AreRising, IsNone, IsOne, AreWays, ends_with, ways_with};
+ghost use Rattle.desk_replica.specs.Ways.{AreReported};
 
 use desk_held::Held;
 use desk_memory::NoMemory;

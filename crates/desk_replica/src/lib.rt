@@ -10,7 +10,8 @@
 //! first operations.
 #![tactic(auto)]
 
-ghost use Rattle.std.specs.Prelude.{◌≡◌, ◌+◌, ◌-◌, ◌≤◌, ◌<◌, ◌↔◌, ◌⊎◌, ◌++◌, ◌^◌, [], drop, All, IfOk, IfErr, IfSome, IsNone, IsOk, OnOk, OnErr, IsErrOf, length, take, true, false};
+ghost use Rattle.std.specs.Prelude.{◌≡◌, ◌+◌, ◌-◌, ◌≤◌, ◌<◌, ◌↔◌, ◌⊎◌, ◌++◌, ◌^◌, [], drop, All, IfOk, IfErr, IfSome};
+ghost use Rattle.std.specs.Prelude.{IsNone, IsOk, OnOk, OnErr, IsErrOf, length, take, true, false};
 ghost use Rattle.std.specs.List.{AllByRecursion, list_all};
 ghost use Rattle.desk_ops.specs.Op.{IsLawful};
 ghost use Rattle.desk_ops.specs.OpSet.{no_ops, has_op, with_op, with_all, union, in_order, size, AllLawful};
@@ -26,7 +27,8 @@ ghost use Rattle.desk_replica.specs.JobSettings.{AreKept, settings_of};
 ghost use Rattle.desk_registers.specs.Registers.{kept};
 ghost use Rattle.desk_walk.specs.Following.{entries_of, IsSettled, IsWaiting};
 ghost use Rattle.desk_replica.specs.Orders.{KeepsOrder, ShareOneOrder};
-ghost use Rattle.desk_replica.specs.Edits.{new_stamp, parent_at, stamp_at, edit_refusal, insert_refusal, delete_refusal, set_refusal, IsInserted, IsDeleted, IsSetTo};
+ghost use Rattle.desk_replica.specs.Edits.{new_stamp, parent_at, stamp_at, edit_refusal, insert_refusal};
+ghost use Rattle.desk_replica.specs.Edits.{delete_refusal, set_refusal, IsInserted, IsDeleted, IsSetTo};
 
 use desk_codec::write_runs;
 use desk_held::{AddRefusal, Held, LIMIT};
@@ -108,10 +110,10 @@ pub struct Count {
     pub known: usize,
 }
 
-/// A site, and the operations that it holds; with them a sequence that is their walk, a room of what waits, and registers
-/// of the settings. These follow the set: an operation that comes is put where it acts, with all that waited for it; they are
-/// made anew where one forks a stamp, and for a list that is long beside what is held. The place where the last one acted is
-/// kept as a hint: what is typed or comes in order hangs there.
+/// A site, and the operations that it holds; with them a sequence that is their walk, a room of what waits, and
+/// registers of the settings. These follow the set: an operation that comes is put where it acts, with all that waited
+/// for it; they are made anew where one forks a stamp, and for a list that is long beside what is held. The place where
+/// the last one acted is kept as a hint: what is typed or comes in order hangs there.
 pub struct Replica<Q: Sequence> {
     site: u16,
     held: Held<Q::Memory>,
@@ -212,10 +214,9 @@ impl<Q: Sequence> Replica<Q> {
         }
     }
 
-    /// A replica that holds the operations of a list. `Full` comes only where the list has more than 1,048,576 different
-    /// operations, and of such a list none is made, since no replica holds more. Nothing is taken in of a refused
-    /// list, and
-    /// an empty list is never refused.
+    /// A replica that holds the operations of a list. `Full` comes only where the list has more than 1,048,576
+    /// different operations, and of such a list none is made, since no replica holds more. Nothing is taken in of a
+    /// refused list, and an empty list is never refused.
     pub fn open(alloc: Q::Memory, site: u16, ops: &[Op]) -> Result<Self, Stopped>
         requires numbered { 1 ≤ site }
         requires lawful { All IsLawful ops.now }
@@ -311,8 +312,8 @@ impl<Q: Sequence> Replica<Q> {
         reserve_all(&mut self.held, &mut self.sequence, &mut self.room, n)
     }
 
-    /// Takes in an operation whose stamp none bears, where there is room for it. It cannot run out of memory. Its target is
-    /// looked for at the place first, or where the last one acted.
+    /// Takes in an operation whose stamp none bears, where there is room for it. It cannot run out of memory. Its
+    /// target is looked for at the place first, or where the last one acted.
     fn enter(&mut self, op: Op, place: Option<usize>)
         requires lawful { IsLawful op }
         requires new { is_borne_in self.old.ops (stamp_of op) ≡ false }
@@ -390,8 +391,8 @@ impl<Q: Sequence> Replica<Q> {
         true
     }
 
-    /// Takes in a list that rises where nothing is held: it is laid out as it is. False where it does not rise or memory does
-    /// not allow it.
+    /// Takes in a list that rises where nothing is held: it is laid out as it is. False where it does not rise or
+    /// memory does not allow it.
     fn begin(&mut self, ops: &[Op]) -> bool
         requires lawful { All IsLawful ops.now }
         requires none { size self.old.ops ≡ 0 }
@@ -460,10 +461,10 @@ impl<Q: Sequence> Replica<Q> {
         Ok(Took::New)
     }
 
-    /// Takes in an operation, and with it all that waited for it. `Full` comes exactly where 1,048,576 operations are held
-    /// and this one is not; out of memory only where this one is not held and there was no room, or it forks a stamp. No
-    /// other refusal comes, and after one the set is as it was. Elements that are shown before and after keep their
-    /// order.
+    /// Takes in an operation, and with it all that waited for it. `Full` comes exactly where 1,048,576 operations are
+    /// held and this one is not; out of memory only where this one is not held and there was no room, or it forks a
+    /// stamp. No other refusal comes, and after one the set is as it was. Elements that are shown before and after keep
+    /// their order.
     pub fn take(&mut self, op: Op) -> Result<Took, Refusal>
         requires { IsLawful op }
         ensures site { self.new.site ≡ self.old.site }
@@ -486,12 +487,11 @@ impl<Q: Sequence> Replica<Q> {
     }
 
     /// Takes in the operations of another replica, by stamp and then by bytes, up to the first that is refused: `Full`
-    /// comes exactly where 1,048,576 operations are held and the next is not among them. None is refused where all can be
-    /// held, there is room for as many, and none forks a stamp. The other is only read. A long list takes memory for
-    /// both
-    /// sets, where that is to be had. Elements that are shown before and after keep their order, whatever the outcome, and
-    /// so do those that the other shows, where the merge succeeds; where no stamp of the union is forked, its path order is
-    /// one total order in which stands what both showed and what is shown after.
+    /// comes exactly where 1,048,576 operations are held and the next is not among them. None is refused where all can
+    /// be held, there is room for as many, and none forks a stamp. The other is only read. A long list takes memory for
+    /// both sets, where that is to be had. Elements that are shown before and after keep their order, whatever the
+    /// outcome, and so do those that the other shows, where the merge succeeds; where no stamp of the union is forked,
+    /// its path order is one total order in which stands what both showed and what is shown after.
     pub fn merge(&mut self, other: &Replica<Q>) -> Result<Count, Stopped>
         ensures site { self.new.site ≡ self.old.site }
         ensures ok { OnOk result (self.new.ops ≡ union self.old.ops other.now.ops) }
@@ -622,8 +622,8 @@ impl<Q: Sequence> Replica<Q> {
         }
     }
 
-    /// What an element at the place stands after: the head, or the element that is shown before it; with it a hint where
-    /// in the sequence that stands.
+    /// What an element at the place stands after: the head, or the element that is shown before it; with it a hint
+    /// where in the sequence that stands.
     fn parent_at(&self, place: usize) -> Option<(Stamp, usize)>
         ensures within { IfSome result (λ r. place ≤ length (shown_of self.now.ops)) }
         ensures is { IfSome result (λ r. r.0 ≡ parent_at (shown_of self.now.ops) place) }
@@ -679,8 +679,8 @@ impl<Q: Sequence> Replica<Q> {
     }
 
     /// Inserts a symbol at a place of the copy, and returns the operation made. `Place` comes where the place is above
-    /// the copy's length, `Value` where the symbol is not lawful, `Full` and `ClockFull` where nothing more can be made,
-    /// the first of these that holds. Out of memory comes only where none of them holds and there was no room.
+    /// the copy's length, `Value` where the symbol is not lawful, `Full` and `ClockFull` where nothing more can be
+    /// made, the first of these that holds. Out of memory comes only where none of them holds and there was no room.
     pub fn insert_at(&mut self, place: usize, symbol: Symbol) -> Result<Op, Refusal>
         ensures site { self.new.site ≡ self.old.site }
         ensures made { IfOk result (λ op. IsInserted self.old self.new place symbol op) }
@@ -711,8 +711,8 @@ impl<Q: Sequence> Replica<Q> {
     }
 
     /// Deletes the element at a place of the copy, and returns the operation made. `Place` comes where the place is not
-    /// below the copy's length, `Full` and `ClockFull` where nothing more can be made, the first of these that holds. Out
-    /// of memory comes only where none of them holds and there was no room.
+    /// below the copy's length, `Full` and `ClockFull` where nothing more can be made, the first of these that holds.
+    /// Out of memory comes only where none of them holds and there was no room.
     pub fn delete_at(&mut self, place: usize) -> Result<Op, Refusal>
         ensures site { self.new.site ≡ self.old.site }
         ensures made { IfOk result (λ op. IsDeleted self.old self.new place op) }
@@ -731,9 +731,9 @@ impl<Q: Sequence> Replica<Q> {
         self.make(Op::Delete { stamp, target }, Some(at))
     }
 
-    /// Gives a setting of the job a value, and returns the operation made. `Value` comes where the key does not take the
-    /// value, `Full` and `ClockFull` where nothing more can be made, the first of these that holds. Out of memory comes
-    /// only where none of them holds and there was no room.
+    /// Gives a setting of the job a value, and returns the operation made. `Value` comes where the key does not take
+    /// the value, `Full` and `ClockFull` where nothing more can be made, the first of these that holds. Out of memory
+    /// comes only where none of them holds and there was no room.
     pub fn set(&mut self, key: Key, value: u32) -> Result<Op, Refusal>
         ensures site { self.new.site ≡ self.old.site }
         ensures made { IfOk result (λ op. IsSetTo self.old self.new key value op) }

@@ -1,5 +1,6 @@
 //! Lists of operations, taken in one by one or all at once.
-ghost use Rattle.std.specs.Prelude.{◌≡◌, ◌+◌, ◌≤◌, ◌⊎◌, All, IfErr, IfOk, IfSome, IsOk, OnOk, length, take, true, false, vec_len};
+ghost use Rattle.std.specs.Prelude.{◌≡◌, ◌+◌, ◌≤◌, ◌⊎◌, All, IfErr, IfOk, IfSome, IsOk, OnOk, length, take, true};
+ghost use Rattle.std.specs.Prelude.{false, vec_len};
 ghost use Rattle.desk_ops.specs.Op.{IsLawful};
 ghost use Rattle.desk_ops.specs.OpSet.{with_all, size};
 ghost use Rattle.desk_replica.specs.Orders.{KeepsOrder};
@@ -20,8 +21,8 @@ impl<Q: Sequence> Replica<Q> {
     ghost use Rattle.desk_held.specs.Joining.{IsStopped};
     ghost use Rattle.desk_replica.specs.State.{AreApart, HasRoom, IsCounted};
 
-    /// Takes in the operations of a list of which none bears a stamp that is borne, where there is room for them. No memory
-    /// is taken.
+    /// Takes in the operations of a list of which none bears a stamp that is borne, where there is room for them. No
+    /// memory is taken.
     fn enter_all(&mut self, ops: &[Op])
         requires lawful { All IsLawful ops.now }
         requires apart { AreApart self.old.ops ops.now }
@@ -43,8 +44,8 @@ impl<Q: Sequence> Replica<Q> {
         }
     }
 
-    /// Turns a list round where its oldest operation would wait, and with it what hangs on it: where a chain is sent end
-    /// first, each is then put before all that is held, and behind all that waits.
+    /// Turns a list round where its oldest operation would wait, and with it what hangs on it: where a chain is sent
+    /// end first, each is then put before all that is held, and behind all that waits.
     fn put_in_turn(&self, ops: &mut Vec<Op, Q::Memory>)
         requires lawful { All IsLawful ops.old.items }
         requires apart { AreApart self.now.ops ops.old.items }
@@ -67,9 +68,9 @@ impl<Q: Sequence> Replica<Q> {
         self.held.joined(&ops)
     }
 
-    /// Takes in the operations of a list that rises and of which none is held: where they are many, or one of them forks a
-    /// stamp, by making all anew; else one by one, once there is room for all. False where memory does not allow it: then
-    /// the set stays.
+    /// Takes in the operations of a list that rises and of which none is held: where they are many, or one of them
+    /// forks a stamp, by making all anew; else one by one, once there is room for all. False where memory does not
+    /// allow it: then the set stays.
     fn take_new(&mut self, ops: Vec<Op, Q::Memory>) -> bool
         requires lawful { All IsLawful ops.items }
         requires below { size self.old.ops + vec_len ops ≤ LIMIT }
@@ -160,10 +161,9 @@ impl<Q: Sequence> Replica<Q> {
     }
 
     /// Takes in the operations of a list, one after the other, up to the first that is refused: `Full` comes exactly
-    /// where 1,048,576 operations are held and the next is not among them. None is refused where all can be held, there is
-    /// room for as many, and none forks a stamp. Elements that are shown before and after keep their order, whatever
-    /// the
-    /// outcome.
+    /// where 1,048,576 operations are held and the next is not among them. None is refused where all can be held, there
+    /// is room for as many, and none forks a stamp. Elements that are shown before and after keep their order, whatever
+    /// the outcome.
     pub fn take_all(&mut self, ops: &[Op]) -> Result<Count, Stopped>
         requires { All IsLawful ops.now }
         ensures site { self.new.site ≡ self.old.site }

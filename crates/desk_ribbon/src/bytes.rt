@@ -23,7 +23,8 @@ pub fn row_of(punch: Punch) -> RibbonRow
     }
 }
 
-/// The row before the first line, which the caster reads last: it sends that line out and leaves the fine wedge at neutral.
+/// The row before the first line, which the caster reads last: it sends that line out and leaves the fine wedge at
+/// neutral.
 fn first_row() -> RibbonRow
     ensures { result ≡ head_row }
 {

@@ -1,4 +1,5 @@
--- The list in which waiting operations are kept: those of the greatest target first, and those of one target by stamp and bytes.
+-- The list in which waiting operations are kept: those of the greatest target first, and those of one target by stamp
+-- and bytes.
 use Rattle.std.specs.Prelude.{◌≡◌, List, [], ◌∷◌}
 use Rattle.std.specs.Option.{unwrap_or}
 use Rattle.std.specs.List.{AllByRecursion}

@@ -16,7 +16,8 @@ pub record Waiting : Type 0 where
   pub spare : ℕ
 
 abbrev pub waiting_code : Coded Waiting
-waiting_code = code_by (OpSet × ℕ) (coded× op_set_code coded_ℕ) (λ w. (w.ops, w.spare)) (λ p. record { ops = p.0; spare = p.1 }) (λ _. refl)
+waiting_code = code_by (OpSet
+    × ℕ) (coded× op_set_code coded_ℕ) (λ w. (w.ops, w.spare)) (λ p. record { ops = p.0; spare = p.1 }) (λ _. refl)
 
 abbrev pub HasTarget : Op → Type 0
 HasTarget op = IsSome (target_of op)
@@ -41,5 +42,6 @@ pub record IsReleased (old new : OpSet) (s : Stamp) (op : Op) : Type 0 where
   pub lawful : IsLawful op
   pub gone : has_op new op ≡ false
   pub rest : old ≡ with_op new op
-  pub first : (other : Op) → has_op old other ≡ true → waits_for s other ≡ true → (other ≡ op) ⊎ (op_cmp op other ≡ Less)
+  pub first : (other : Op) → has_op old other ≡ true → waits_for s other ≡ true
+      → (other ≡ op) ⊎ (op_cmp op other ≡ Less)
   pub at : waiting_at old s ≡ op ∷ waiting_at new s

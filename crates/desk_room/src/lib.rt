@@ -18,10 +18,10 @@ mod turn;
 
 use turn::{Above, Earlier, compare, is_in_turn, target_of};
 
-/// The operations that wait: a set, and with it of each target the list of what waits for it, by stamp and bytes; and how
-/// many more can be put with no new memory. It is kept in pages, the greatest target first, then by stamp and bytes, so that
-/// a put and a release look at a few pages and change one or two. No call but `reserve` and `from_ops` can be out of memory:
-/// the others return no `NoMemory`.
+/// The operations that wait: a set, and with it of each target the list of what waits for it, by stamp and bytes; and
+/// how many more can be put with no new memory. It is kept in pages, the greatest target first, then by stamp and
+/// bytes, so that a put and a release look at a few pages and change one or two. No call but `reserve` and `from_ops`
+/// can be out of memory: the others return no `NoMemory`.
 pub struct Room<A: Allocator + Copy> {
     ops: Pages<Slot, (), A>,
 }
@@ -56,8 +56,8 @@ impl<A: Allocator + Copy> Room<A> {
         }
     }
 
-    /// The room of a list's operations, in any order; one that the list has twice waits once. A list that has none twice
-    /// is sorted and laid out at once.
+    /// The room of a list's operations, in any order; one that the list has twice waits once. A list that has none
+    /// twice is sorted and laid out at once.
     pub fn from_ops(alloc: A, ops: &[Op]) -> Result<Self, NoMemory>
         requires lawful { All IsLawful ops.now }
         requires targets { All HasTarget ops.now }

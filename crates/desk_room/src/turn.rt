@@ -1,6 +1,6 @@
 //! The order in which waiting operations are kept: those of the greatest target first, and those of one target by stamp
-//! and bytes. Of a chain that comes last element first, each waits for a smaller target than those before it: it is put at
-//! the end of the list, which is quick, and taken out of there.
+//! and bytes. Of a chain that comes last element first, each waits for a smaller target than those before it: it is put
+//! at the end of the list, which is quick, and taken out of there.
 ghost use Rattle.std.specs.Prelude.{◌≡◌, IsTrue};
 ghost use Rattle.std.specs.Ordering.{is_lt};
 ghost use Rattle.desk_room.specs.Turn.{target_or_head, turn_cmp, IsInTurn};

@@ -1,5 +1,6 @@
 -- Entries in their order: their stamps, and what is asked of them.
-use Rattle.std.specs.Prelude.{◌≡◌, ℕ, ◌<◌, ◌≤◌, ◌+◌, Bool, true, false, not, cond, List, [], ◌∷◌, length, map, slice_index_or, take, refl, zero, suc}
+use Rattle.std.specs.Prelude.{◌≡◌, ℕ, ◌<◌, ◌≤◌, ◌+◌, Bool, true, false, not, cond, List, [], ◌∷◌, length, map}
+use Rattle.std.specs.Prelude.{slice_index_or, take, refl, zero, suc}
 use Rattle.std.specs.List.{AllByRecursion, filter}
 use Rattle.std.specs.Coded.{Coded, code_by, coded×, coded_ℕ, coded_list}
 use Rattle.desk_ops.specs.declared.op.Stamp.{Stamp}
@@ -62,8 +63,8 @@ pub record IsShownAt (es : List Entry) (i place : ℕ) : Type 0 where
   pub shown : (d : Entry) → (slice_index_or es place d).deleted ≡ false
   pub before_it : shown_in (take place es) ≡ i
 
--- where the entries' stamps are those of the walk of some inserts, of which none bears the new one's stamp or hangs on it, and its parent is older,
--- they become those of the walk with one more
+-- where the entries' stamps are those of the walk of some inserts, of which none bears the new one's stamp or hangs on
+-- it, and its parent is older, they become those of the walk with one more
 abbrev pub KeepsWalk : List Entry → List Entry → Stamp → Stamp → Type 0
 KeepsWalk old new parent stamp = (xs : List Insertion) (x : Insertion) → IsAscending xs
     → AllByRecursion (λ y. same y.stamp head ≡ false) xs → IsNext x xs → x.stamp ≡ stamp → x.parent ≡ parent

@@ -2,7 +2,8 @@
 ghost use Rattle.std.specs.Prelude.{◌≡◌, ◌-◌, vec_capacity, vec_len};
 ghost use Rattle.std.specs.Prelude.{IfSome, IsNone, ◌≤◌, ◌<◌, ◌+◌, ◌^◌, length};
 ghost use Rattle.std.specs.List.{insert};
-ghost use Rattle.desk_seq.specs.Entries.{Listing, listing_code, AreDistinct, IsFoundAt, IsFirstBelow, stamps_of, IsAbsent};
+ghost use Rattle.desk_seq.specs.Entries.{Listing, listing_code, AreDistinct, IsFoundAt, IsFirstBelow, stamps_of};
+ghost use Rattle.desk_seq.specs.Entries.{IsAbsent};
 ghost use Rattle.desk_seq.specs.contracts.Entry as entry;
 
 use crate::{Entry, Sequence};

@@ -10,9 +10,11 @@
 //! The scan refuses nothing. Only `reserve`, `symbols` and `from_entries` can run out of memory.
 #![tactic(auto)]
 
-ghost use Rattle.std.specs.Prelude.{◌≡◌, ℕ, ◌+◌, ◌≤◌, ◌<◌, ◌^◌, List, [], length, IfSome, IfOk, IsNone, OnOk, IsOk, slice_index_or};
+ghost use Rattle.std.specs.Prelude.{◌≡◌, ℕ, ◌+◌, ◌≤◌, ◌<◌, ◌^◌, List, [], length, IfSome, IfOk, IsNone, OnOk, IsOk};
+ghost use Rattle.std.specs.Prelude.{slice_index_or};
 ghost use Rattle.std.specs.List.{insert};
-ghost use Rattle.desk_seq.specs.Entries.{stamps_of, IsAbsent, AreDistinct, IsFoundAt, IsFirstBelow, with_mark, shown_in, shown_symbols, IsShownAt};
+ghost use Rattle.desk_seq.specs.Entries.{stamps_of, IsAbsent, AreDistinct, IsFoundAt, IsFirstBelow, with_mark};
+ghost use Rattle.desk_seq.specs.Entries.{shown_in, shown_symbols, IsShownAt};
 ghost use Rattle.desk_seq.specs.declared.Entry.{Entry};
 
 use desk_ops::{Stamp, Symbol};

@@ -29,8 +29,8 @@ fn start_of<Q: Sequence>(sequence: &Q, parent: Stamp) -> usize
     }
 }
 
-/// Puts a new element where the scan from a place leads, and returns where that is. An arrival that knows its parent's place
-/// takes this step, and `integrate` takes it once the parent is found.
+/// Puts a new element where the scan from a place leads, and returns where that is. An arrival that knows its parent's
+/// place takes this step, and `integrate` takes it once the parent is found.
 pub fn integrate_at<Q: Sequence>(sequence: &mut Q, at: usize, entry: Entry) -> usize
     requires within { at ≤ length (Q.entries sequence.old) }
     requires spare { 1 ≤ Q.free sequence.old }

@@ -5,7 +5,8 @@ use Rattle.desk_signals.specs.declared.Column.TheVariants as column
 
 -- A to O, and after them the two that a wide case adds
 abbrev pub the_columns : List Column
-the_columns = column.A ∷ column.B ∷ column.C ∷ column.D ∷ column.E ∷ column.F ∷ column.G ∷ column.H ∷ column.I ∷ column.J ∷ column.K ∷ column.L ∷ column.M ∷ column.N ∷ column.O ∷ column.NI ∷ column.NL ∷ []
+the_columns = column.A ∷ column.B ∷ column.C ∷ column.D ∷ column.E ∷ column.F ∷ column.G ∷ column.H ∷ column.I
+    ∷ column.J ∷ column.K ∷ column.L ∷ column.M ∷ column.N ∷ column.O ∷ column.NI ∷ column.NL ∷ []
 
 -- the column with an index, from 0
 abbrev pub column_at : ℕ → Option Column

@@ -1,5 +1,6 @@
 -- The rows of a ribbon and their signals.
-use Rattle.std.specs.Prelude.{◌≡◌, ℕ, ◌+◌, ◌<◌, ◌≤◌, Bool, false, cond, if◌then◌else◌, not, ◌&&◌, ◌||◌, ◌==◌, nat_le, nat_lt, List, [], ◌∷◌, ◌++◌, length, take, drop, slice_index_or, Option, Some, None}
+use Rattle.std.specs.Prelude.{◌≡◌, ℕ, ◌+◌, ◌<◌, ◌≤◌, Bool, false, cond, if◌then◌else◌, not, ◌&&◌, ◌||◌, ◌==◌, nat_le}
+use Rattle.std.specs.Prelude.{nat_lt, List, [], ◌∷◌, ◌++◌, length, take, drop, slice_index_or, Option, Some, None}
 use Rattle.std.specs.List.{filter, list_any}
 use Rattle.std.specs.List.Sorted.{IsPermutation}
 use Rattle.desk_signals.specs.declared.Column.{Column}
@@ -8,13 +9,17 @@ use Rattle.desk_signals.specs.Columns.{index}
 use Rattle.desk_signals.specs.declared.Signal.{Signal}
 use Rattle.desk_signals.specs.declared.Signal.TheVariants as signal
 use Rattle.desk_signals.specs.declared.BadRow.{BadRow}
-use Rattle.desk_signals.specs.declared.BadRow.TheVariants.{TwoLetters, TwoNumbers, FineAlone, WedgeWithLetter, WedgeWithS, Repeated}
+use Rattle.desk_signals.specs.declared.BadRow.TheVariants.{TwoLetters, TwoNumbers, FineAlone, WedgeWithLetter}
+use Rattle.desk_signals.specs.declared.BadRow.TheVariants.{WedgeWithS, Repeated}
 use Rattle.desk_signals.specs.declared.RibbonRow.{RibbonRow}
 use Rattle.desk_signals.specs.declared.RibbonRow.TheVariants.{Cell, Coarse, FineOut}
 
 -- the 31 signals, in signal order
 abbrev pub the_signals : List Signal
-the_signals = signal.A ∷ signal.B ∷ signal.C ∷ signal.D ∷ signal.E ∷ signal.F ∷ signal.G ∷ signal.H ∷ signal.I ∷ signal.J ∷ signal.K ∷ signal.L ∷ signal.M ∷ signal.N ∷ signal.One ∷ signal.Two ∷ signal.Three ∷ signal.Four ∷ signal.Five ∷ signal.Six ∷ signal.Seven ∷ signal.Eight ∷ signal.Nine ∷ signal.Ten ∷ signal.Eleven ∷ signal.Twelve ∷ signal.Thirteen ∷ signal.Fourteen ∷ signal.Fine ∷ signal.Coarse ∷ signal.S ∷ []
+the_signals = signal.A ∷ signal.B ∷ signal.C ∷ signal.D ∷ signal.E ∷ signal.F ∷ signal.G ∷ signal.H ∷ signal.I
+    ∷ signal.J ∷ signal.K ∷ signal.L ∷ signal.M ∷ signal.N ∷ signal.One ∷ signal.Two ∷ signal.Three ∷ signal.Four
+    ∷ signal.Five ∷ signal.Six ∷ signal.Seven ∷ signal.Eight ∷ signal.Nine ∷ signal.Ten ∷ signal.Eleven ∷ signal.Twelve
+    ∷ signal.Thirteen ∷ signal.Fourteen ∷ signal.Fine ∷ signal.Coarse ∷ signal.S ∷ []
 
 -- the signals of a column: its letter, none for O, and two for each of the columns after it
 abbrev pub letters_of : Column → List Signal
@@ -99,7 +104,8 @@ numbers signals = filter is_number signals
 
 -- exactly the letters N and I, or N and L
 abbrev pub is_pair : List Signal → Bool
-is_pair signals = length (letters signals) == 2 && has signals signal.N && (has signals signal.I || has signals signal.L)
+is_pair signals = length (letters signals) == 2 && has signals signal.N &&
+    (has signals signal.I || has signals signal.L)
 
 -- two or more letters that are not
 abbrev pub two_letters : List Signal → Bool
@@ -117,7 +123,8 @@ cause_number Repeated = 6
 -- Two places hold the same signal.
 abbrev pub Repeats : List Signal → Type 0
 Repeats signals =
-    (i : ℕ) × (j : ℕ) × (i < j) × (j < length signals) × ((x : Signal) → slice_index_or signals i x ≡ slice_index_or signals j x)
+    (i : ℕ) × (j : ℕ) × (i < j) × (j < length signals)
+    × ((x : Signal) → slice_index_or signals i x ≡ slice_index_or signals j x)
 
 abbrev pub repeats : List Signal → Bool
 repeats [] = false
@@ -137,4 +144,5 @@ fault_of signals =
     if repeats signals then Some Repeated
     else if two_letters signals then Some TwoLetters
     else if nat_lt 1 (length (numbers signals)) then Some TwoNumbers
-    else wedge_fault (has signals signal.Fine) (has signals signal.Coarse) (nat_lt 0 (length (letters signals))) (has signals signal.S)
+    else wedge_fault (has signals signal.Fine) (has signals signal.Coarse) (nat_lt 0 (length (letters signals)))
+    (has signals signal.S)

@@ -1,17 +1,20 @@
 //! Rows of a controller ribbon and the signals of its 31 channels.
 //!
-//! The signals are those of the Lanston Monotype system: A to N and 1 to 14 for the columns and rows of the matrix case, S
-//! for a justifying space, 0005 and 0075 for the justification wedges. A column has one letter, the column O none, and the
-//! columns NI and NL two. How the signals lie across the paper is left out.
+//! The signals are those of the Lanston Monotype system: A to N and 1 to 14 for the columns and rows of the matrix
+//! case, S for a justifying space, 0005 and 0075 for the justification wedges. A column has one letter, the column O
+//! none, and the columns NI and NL two. How the signals lie across the paper is left out.
 #![tactic(auto)]
 
-ghost use Rattle.std.specs.Prelude.{◌≡◌, ℕ, ◌<◌, ◌≤◌, ◌↔◌, IsTrue, SomeIff, IfSome, IfNone, IfOk, MatchOption, false, true, length, [], ◌∷◌};
+ghost use Rattle.std.specs.Prelude.{◌≡◌, ℕ, ◌<◌, ◌≤◌, ◌↔◌, IsTrue, SomeIff, IfSome, IfNone, IfOk, MatchOption, false};
+ghost use Rattle.std.specs.Prelude.{true, length, [], ◌∷◌};
 ghost use Rattle.std.specs.List.Sorted.{IsPermutation};
 ghost use Rattle.std.specs.Option.{option_to_list};
 ghost use Rattle.std.specs.Result.{result_err};
 ghost use Rattle.desk_signals.specs.declared.RibbonRow.{RibbonRow};
 ghost use Rattle.desk_signals.specs.Columns.{column_at, index};
-ghost use Rattle.desk_signals.specs.Rows.{IsRow, Spells, cause_number, fault_of, has, is_letter, is_number, is_pair, letters, letters_of, number_of, numbers, place, repeats, signals_of, two_letters, wedge_fault};
+ghost use Rattle.desk_signals.specs.Rows.{IsRow, Spells, cause_number, fault_of, has, is_letter, is_number, is_pair};
+ghost use Rattle.desk_signals.specs.Rows.{letters, letters_of, number_of, numbers, place, repeats, signals_of};
+ghost use Rattle.desk_signals.specs.Rows.{two_letters, wedge_fault};
 
 use arrayvec::ArrayVec;
 use std::marker::Model;

@@ -41,19 +41,43 @@ impl Model for Slot {
 
     ghost coded = { (op_contract.the_row).coded };
 
-    ghost view = { λ s. op_with (record { counter = s.counter; site = s.site }) (record { counter = s.other_counter; site = s.other_site }) s.tail };
+    ghost view = { λ s. op_with (record { counter = s.counter; site = s.site }) (record {
+      counter = s.other_counter;
+      site = s.other_site;
+    }) s.tail };
 
     // a setting has no other stamp, and keeps the head in its place
     ghost invariant = { λ s. IsPlain (record { counter = s.other_counter; site = s.other_site }) s.tail };
 
-    ghost inverse = { λ o. record { counter = (stamp_of o).counter; other_counter = (other_of o).counter; site = (stamp_of o).site; other_site = (other_of o).site; tail = tail_of o } };
+    ghost inverse = { λ o. record {
+      counter = (stamp_of o).counter;
+      other_counter = (other_of o).counter;
+      site = (stamp_of o).site;
+      other_site = (other_of o).site;
+      tail = tail_of o;
+    } };
 
     ghost inverse_ok = { λ s h i. record {
-      counter = (stamp-back (record { counter = s.counter; site = s.site }) (record { counter = s.other_counter; site = s.other_site }) s.tail i).counter;
-      other_counter = (other-back (record { counter = s.counter; site = s.site }) (record { counter = s.other_counter; site = s.other_site }) s.tail h i).counter;
-      site = (stamp-back (record { counter = s.counter; site = s.site }) (record { counter = s.other_counter; site = s.other_site }) s.tail i).site;
-      other_site = (other-back (record { counter = s.counter; site = s.site }) (record { counter = s.other_counter; site = s.other_site }) s.tail h i).site;
-      tail = tail-back (record { counter = s.counter; site = s.site }) (record { counter = s.other_counter; site = s.other_site }) s.tail i;
+      counter = (stamp-back (record { counter = s.counter; site = s.site }) (record {
+        counter = s.other_counter;
+        site = s.other_site;
+      }) s.tail i).counter;
+      other_counter = (other-back (record { counter = s.counter; site = s.site }) (record {
+        counter = s.other_counter;
+        site = s.other_site;
+      }) s.tail h i).counter;
+      site = (stamp-back (record { counter = s.counter; site = s.site }) (record {
+        counter = s.other_counter;
+        site = s.other_site;
+      }) s.tail i).site;
+      other_site = (other-back (record { counter = s.counter; site = s.site }) (record {
+        counter = s.other_counter;
+        site = s.other_site;
+      }) s.tail h i).site;
+      tail = tail-back (record { counter = s.counter; site = s.site }) (record {
+        counter = s.other_counter;
+        site = s.other_site;
+      }) s.tail i;
     } };
 }
 
@@ -130,7 +154,8 @@ pub fn seek<P: Pick<Slot, ()>, A: Allocator + Copy>(
     ops: &Pages<Slot, (), A>,
     pick: &P,
 ) -> Option<Op>
-    ensures found { IfSome result (λ x. (i : ℕ) × IsEdge (P.picked pick.now) ops.now.entries i × (i < length ops.now.entries) × (x ≡ slice_index_or ops.now.entries i x)) }
+    ensures found { IfSome result (λ x. (i : ℕ) × IsEdge (P.picked pick.now) ops.now.entries i
+        × (i < length ops.now.entries) × (x ≡ slice_index_or ops.now.entries i x)) }
     ensures none { IsNone result → IsEdge (P.picked pick.now) ops.now.entries (length ops.now.entries) }
 {
     let Some(slot) = ops.seek(pick) else {
@@ -146,7 +171,8 @@ pub fn insert_in_order<P: Pick<Slot, ()>, A: Allocator + Copy>(
     op: Op,
 )
     requires spare { 1 ≤ ops.old.spare }
-    ensures put { (i : ℕ) × IsEdge (P.picked pick.now) ops.old.entries i × (ops.new.entries ≡ insert ops.old.entries i op) }
+    ensures put { (i : ℕ) × IsEdge (P.picked pick.now) ops.old.entries i
+        × (ops.new.entries ≡ insert ops.old.entries i op) }
     ensures spare { ops.old.spare ≤ ops.new.spare + 1 }
 {
     ops.insert_in_order(pick, Slot::of(op));
@@ -157,8 +183,11 @@ pub fn remove_in_order<P: Pick<Slot, ()>, A: Allocator + Copy>(
     ops: &mut Pages<Slot, (), A>,
     pick: &P,
 ) -> Option<Op>
-    ensures some { IfSome result (λ x. (i : ℕ) × IsEdge (P.picked pick.now) ops.old.entries i × (i < length ops.old.entries) × (x ≡ slice_index_or ops.old.entries i x) × (ops.new.entries ≡ remove ops.old.entries i)) }
-    ensures none { IsNone result → IsEdge (P.picked pick.now) ops.old.entries (length ops.old.entries) × (ops.new.entries ≡ ops.old.entries) }
+    ensures some { IfSome result (λ x. (i : ℕ) × IsEdge (P.picked pick.now) ops.old.entries i
+        × (i < length ops.old.entries) × (x ≡ slice_index_or ops.old.entries i x)
+        × (ops.new.entries ≡ remove ops.old.entries i)) }
+    ensures none { IsNone result → IsEdge (P.picked pick.now) ops.old.entries (length ops.old.entries)
+        × (ops.new.entries ≡ ops.old.entries) }
     ensures spare { ops.old.spare ≤ ops.new.spare }
 {
     let Some(slot) = ops.remove_in_order(pick) else {

@@ -1,8 +1,10 @@
 -- Wedge sums: the positions of the two justification wedges as one number.
-use Rattle.std.specs.Prelude.{◌≡◌, ℕ, ◌+◌, ◌-◌, ◌*◌, ◌/◌, ◌%◌, ◌≤◌, ◌⊎◌, ◌↔◌, ℤ, pos, negsuc, ◌+ℤ◌, ◌-ℤ◌, ◌*ℤ◌, ◌<ℤ◌, if◌then◌else◌, nat_le, ◌&&◌, Option, Some, None, IfSome, IsNone}
+use Rattle.std.specs.Prelude.{◌≡◌, ℕ, ◌+◌, ◌-◌, ◌*◌, ◌/◌, ◌%◌, ◌≤◌, ◌⊎◌, ◌↔◌, ℤ, pos, negsuc, ◌+ℤ◌, ◌-ℤ◌, ◌*ℤ◌, ◌<ℤ◌}
+use Rattle.std.specs.Prelude.{if◌then◌else◌, nat_le, ◌&&◌, Option, Some, None, IfSome, IsNone}
 use Rattle.desk_units.specs.Widths.{step}
 
--- the sum of a position of the coarse wedge and one of the fine wedge: one position of the coarse one is as far as 15 of the fine one
+-- the sum of a position of the coarse wedge and one of the fine wedge: one position of the coarse one is as far as 15
+-- of the fine one
 abbrev pub sum_at : (coarse fine : ℕ) → ℕ
 sum_at coarse fine = 15 * coarse + fine
 

@@ -41,4 +41,5 @@ steps_of rest spaces = floor_div rest (step * spaces)
 -- There is one number of steps that leaves less than a step for each space.
 abbrev pub OneNumberOfSteps : Type 0
 OneNumberOfSteps = (rest : ℤ) (spaces : ℕ) → 1 ≤ spaces →
-    IsSteps rest spaces (steps_of rest spaces) × ((steps : ℤ) → IsSteps rest spaces steps → steps_of rest spaces ≡ steps)
+    IsSteps rest spaces (steps_of rest spaces)
+    × ((steps : ℤ) → IsSteps rest spaces steps → steps_of rest spaces ≡ steps)

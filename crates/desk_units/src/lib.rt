@@ -1,8 +1,8 @@
 //! Widths of type in atoms, of which a step of 0.0005 inch has 648, and the sums of wedge positions.
 //!
-//! In the Monotype system a unit is an 18th of the set, and a set of q quarter points is q/4 points. Where a pica, 12 points,
-//! is a sixth of an inch, u units are u*q/5184 inch, which is u*q*250/648 steps, and where it is 0.1660 inch they are
-//! u*q*249/648. So in atoms all widths and measures are whole numbers, and no width is rounded.
+//! In the Monotype system a unit is an 18th of the set, and a set of q quarter points is q/4 points. Where a pica, 12
+//! points, is a sixth of an inch, u units are u*q/5184 inch, which is u*q*250/648 steps, and where it is 0.1660 inch
+//! they are u*q*249/648. So in atoms all widths and measures are whole numbers, and no width is rounded.
 #![tactic(auto)]
 
 ghost use Rattle.std.specs.Prelude.{◌≡◌, ◌≤◌, ◌^◌, SomeIff, pos};

@@ -1,9 +1,10 @@
 //! Wedge sums: how far the justification wedges of the Monotype caster drive the spaces of a line apart.
 //!
-//! The caster sets the width of a justified space by two wedges, each at one of 15 positions. A step of the coarse wedge
-//! is 0.0075 inch and one of the fine wedge 0.0005 inch, so 15 times the first position and the second together are one
-//! number in steps of 0.0005 inch, and each number from 16 to 240 is that of one pair. The signals of the wedges are
-//! named 0075 and 0005 for these steps. That a space has the width of its units at 3 and 8 is this project's choice.
+//! The caster sets the width of a justified space by two wedges, each at one of 15 positions. A step of the coarse
+//! wedge is 0.0075 inch and one of the fine wedge 0.0005 inch, so 15 times the first position and the second together
+//! are one number in steps of 0.0005 inch, and each number from 16 to 240 is that of one pair. The signals of the
+//! wedges are named 0075 and 0005 for these steps. That a space has the width of its units at 3 and 8 is this project's
+//! choice.
 
 use crate::Atoms;
 use crate::widths::ATOMS_PER_STEP;
@@ -31,7 +32,8 @@ impl Model for WedgeSum {
 
 impl WedgeSum {
     ghost use Rattle.std.specs.Prelude.{◌≡◌, ◌≤◌, ◌≤ℤ◌, pos, SomeIff, MatchOption};
-    ghost use Rattle.desk_units.specs.WedgeSum.{IsOutside, IsWedgeSum, coarse_of, driven, fine_of, greatest, least, neutral, sum_at, widening};
+    ghost use Rattle.desk_units.specs.WedgeSum.{IsOutside, IsWedgeSum, coarse_of, driven, fine_of, greatest, least};
+    ghost use Rattle.desk_units.specs.WedgeSum.{neutral, sum_at, widening};
 
     /// The sum at which a space has the width of its units: the positions 3 and 8.
     pub const NEUTRAL: WedgeSum = WedgeSum { sum: 15 * 3 + 8 };
@@ -50,7 +52,8 @@ impl WedgeSum {
         }
     }
 
-    /// The wedge sum so many steps of 0.0005 inch above neutral, or below it, or none where the wedges do not reach so far.
+    /// The wedge sum so many steps of 0.0005 inch above neutral, or below it, or none where the wedges do not reach so
+    /// far.
     pub fn from_steps(steps: i64) -> Option<WedgeSum>
         ensures { MatchOption result (IsOutside (driven steps)) (λ sum. pos sum ≡ driven steps) }
     {

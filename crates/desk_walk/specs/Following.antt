@@ -1,5 +1,6 @@
 -- A sequence and the operations that wait, as they follow a set.
-use Rattle.std.specs.Prelude.{◌≡◌, ◌↔◌, ◌⊎◌, ℕ, ◌-◌, ◌<◌, ◌≤◌, Bool, true, false, List, ◌∷◌, map, length, slice_index_or, Some}
+use Rattle.std.specs.Prelude.{◌≡◌, ◌↔◌, ◌⊎◌, ℕ, ◌-◌, ◌<◌, ◌≤◌, Bool, true, false, List, ◌∷◌, map, length}
+use Rattle.std.specs.Prelude.{slice_index_or, Some}
 use Rattle.std.specs.List.{insert}
 use Rattle.desk_ops.specs.declared.op.Stamp.{Stamp}
 use Rattle.desk_ops.specs.declared.op.Symbol.{Symbol}
@@ -52,8 +53,8 @@ places es = head ∷ stamps_of es
 abbrev pub place_at : List Entry → ℕ → Stamp
 place_at es j = slice_index_or (places es) j head
 
--- the entries are the walk of some clear inserts of the set, marked where a clear delete that does not wait targets them;
--- each other clear insert or delete waits
+-- the entries are the walk of some clear inserts of the set, marked where a clear delete that does not wait targets
+-- them; each other clear insert or delete waits
 pub record IsFollowing (h : OpSet) (waits : Op → Bool) (es : List Entry) : Type 0 where
   pub inserts : List Insertion
   pub taken : IsTakenIn h inserts
@@ -85,7 +86,8 @@ pub record IsWithout (old new : Op → Bool) (op : Op) : Type 0 where
 abbrev pub new_entry : Stamp → Symbol → Entry
 new_entry stamp symbol = record { stamp = stamp; symbol = symbol; deleted = false }
 
--- what an operation does that hangs on the place: an insert stands where the scan from there leads, a delete marks the entry
+-- what an operation does that hangs on the place: an insert stands where the scan from there leads, a delete marks the
+-- entry
 abbrev pub IsActed : Op → ℕ → ℕ → List Entry → List Entry → ℕ → Type 0
 IsActed (Insert stamp parent symbol) at last es after reach =
     (place : ℕ) × IsFirstBelow (stamps_of es) at stamp place × (after ≡ insert es place (new_entry stamp symbol))

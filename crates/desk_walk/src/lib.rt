@@ -14,7 +14,8 @@ ghost use Rattle.desk_ops.specs.Op.{target_of};
 ghost use Rattle.desk_ops.specs.OpSet.{OpSet, has_op, with_op, in_order, size, AllLawful};
 ghost use Rattle.desk_seq.specs.Entries.{stamps_of, AreDistinct, IsAbsent, IsFirstBelow};
 ghost use Rattle.desk_walk.specs.Tree.{AreSettled};
-ghost use Rattle.desk_walk.specs.Following.{places, place_at, new_entry, IsActed, CanAct, IsDraining, IsSettled, IsArrival};
+ghost use Rattle.desk_walk.specs.Following.{places, place_at, new_entry, IsActed, CanAct, IsDraining, IsSettled};
+ghost use Rattle.desk_walk.specs.Following.{IsArrival};
 
 use desk_held::Held;
 use desk_memory::NoMemory;

@@ -4,7 +4,8 @@ ghost use Rattle.std.specs.Prelude.{◌≡◌, ◌+◌, ◌^◌, ◌<◌, ◌≤
 ghost use Rattle.desk_ops.specs.Op.{target_of, stamp_of};
 ghost use Rattle.desk_ops.specs.OpSet.{in_order, size};
 ghost use Rattle.desk_ops.specs.Held.{is_clear_in};
-ghost use Rattle.desk_walk.specs.Tree.{op_at, entry_by, linked, passed, IsLinking, IsActing, IsPlaceOf, walked, AreSettled};
+ghost use Rattle.desk_walk.specs.Tree.{op_at, entry_by, linked, passed, IsLinking, IsActing, IsPlaceOf, walked};
+ghost use Rattle.desk_walk.specs.Tree.{AreSettled};
 
 use desk_held::Held;
 use desk_memory::NoMemory;

@@ -1,5 +1,6 @@
 -- The values of a wedge file, or its first fault.
-use Rattle.std.specs.Prelude.{ℕ, ◌+◌, nat_lt, if◌then◌else◌, List, [], ◌∷◌, codes, Option, Some, None, Result, Ok, Err, option_and_then}
+use Rattle.std.specs.Prelude.{ℕ, ◌+◌, nat_lt, if◌then◌else◌, List, [], ◌∷◌, codes, Option, Some, None, Result, Ok, Err}
+use Rattle.std.specs.Prelude.{option_and_then}
 use Rattle.std.specs.Str.{bytes_eq}
 use Rattle.toml.specs.Data.{Data, Members, as_str}
 use Rattle.desk_units.specs.declared.Pica.{Pica}
@@ -30,7 +31,8 @@ fault_number (Descending row) = Some 4
 fault_number NoMemory = None
 
 abbrev pub pica_named : List ℕ → Option Pica
-pica_named text = if bytes_eq text (codes "sixth") then Some Sixth else if bytes_eq text (codes "american") then Some American else None
+pica_named text = if bytes_eq text (codes "sixth") then Some Sixth else if bytes_eq text (codes "american") then Some
+    American else None
 
 abbrev pub pica_of : Data → Option Pica
 pica_of d = option_and_then pica_named (as_str d)

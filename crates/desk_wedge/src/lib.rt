@@ -8,7 +8,8 @@ pub mod laws;
 
 ghost use Rattle.std.specs.Prelude.{◌≡◌, ◌≢◌, ◌≤◌, Ok, Err, None, IfOk, IfErr, IfSome, option_and_then};
 ghost use Rattle.std.specs.List.Sorted.{IsNonDecreasing};
-ghost use Rattle.desk_wedge.specs.File.{key_name, fault_number, table_fault, pica_of, units_of, first_descent, at_key, wedge_of_members, wedge_of};
+ghost use Rattle.desk_wedge.specs.File.{key_name, fault_number, table_fault, pica_of, units_of, first_descent, at_key};
+ghost use Rattle.desk_wedge.specs.File.{wedge_of_members, wedge_of};
 ghost use Rattle.desk_wedge.specs.Wedge.{units_of_row, IsUnits, AreUnits, IsWedge};
 ghost use Rattle.desk_keys.specs.Keys.{number_of};
 ghost use Rattle.desk_keys.specs.Items.{each_of, so_many};

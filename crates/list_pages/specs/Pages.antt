@@ -1,5 +1,6 @@
 -- A list in pages.
-use Rattle.std.specs.Prelude.{◌≡◌, true, false, ℕ, zero, suc, ◌<◌, ◌≤◌, ◌+◌, ◌-◌, ◌*◌, ◌^◌, min, max, Bool, List, [], ◌∷◌, ◌++◌, length, slice_index_or, slice_set, take, drop}
+use Rattle.std.specs.Prelude.{◌≡◌, true, false, ℕ, zero, suc, ◌<◌, ◌≤◌, ◌+◌, ◌-◌, ◌*◌, ◌^◌, min, max, Bool, List, []}
+use Rattle.std.specs.Prelude.{◌∷◌, ◌++◌, length, slice_index_or, slice_set, take, drop}
 use Rattle.std.specs.List.{count_by}
 
 -- the pages, one after another
@@ -66,8 +67,9 @@ IsClosed [] = Unit {0}
 IsClosed (r ∷ []) = length r ≡ 256
 IsClosed (r ∷ s ∷ pages) = IsClosed (s ∷ pages)
 
--- how many more fit with no new memory, whichever pages they come to: as many as pages are free, since each cuts one page
--- at most, or, where that is more, as many as all pages but two have room for when each is half full; and 2 ^ 47 entries at most
+-- how many more fit with no new memory, whichever pages they come to: as many as pages are free, since each cuts one
+-- page at most, or, where that is more, as many as all pages but two have room for when each is half full; and 2 ^ 47
+-- entries at most
 abbrev pub spare_of : (free all len : ℕ) → ℕ
 spare_of free all len = min (max free (128 * (all - 2) - len)) (2 ^ 47 - len)
 
@@ -99,7 +101,8 @@ IsGroups sums_up pages starts sums = IsStarts pages starts × IsSums sums_up pag
 -- what group g summed up is summed up with another entry written over the old one, wherever that stands
 abbrev pub IsSumReplaced : {X S : Type 0} → (S → List X → Type 0) → List S → List S → ℕ → X → X → Type 0
 IsSumReplaced {X} {S} sums_up before after g old new =
-    (xs : List X) (i : ℕ) (d : S) → g < length before → length xs < 2 ^ 48 → i < length xs → old ≡ slice_index_or xs i old →
+    (xs : List X) (i : ℕ) (d : S) → g < length before → length xs < 2 ^ 48 → i < length xs
+    → old ≡ slice_index_or xs i old →
     sums_up (slice_index_or before g d) xs → sums_up (slice_index_or after g d) (slice_set xs i new)
 
 -- a list, and how many more it takes with no new memory

@@ -1,5 +1,6 @@
 //! What is kept of each group of pages, so that a look-up by place and a search by summaries go over few pages.
-ghost use Rattle.std.specs.Prelude.{◌≡◌, ◌≢◌, ◌+◌, ◌*◌, ◌≤◌, ◌<◌, ◌^◌, ℕ, List, [], length, take, drop, slice_index_or, slice_set, vec_len, vec_capacity};
+ghost use Rattle.std.specs.Prelude.{◌≡◌, ◌≢◌, ◌+◌, ◌*◌, ◌≤◌, ◌<◌, ◌^◌, ℕ, List, [], length, take, drop, slice_index_or};
+ghost use Rattle.std.specs.Prelude.{slice_set, vec_len, vec_capacity};
 ghost use Rattle.std.specs.List.{insert, remove};
 ghost use Rattle.list_pages.specs.Pages.{joined, start_of, HasMore, IsGap, IsHalfFull, IsSumReplaced, IsSums, IsGroups};
 
@@ -34,15 +35,16 @@ impl<S: Copy, A: Allocator> Groups<S, A> {
     }
 }
 
-/// Finds where each group begins, and sums each whole one up, as far as there is room to keep it. What is known of the first
-/// `kept` groups is still right.
+/// Finds where each group begins, and sums each whole one up, as far as there is room to keep it. What is known of the
+/// first `kept` groups is still right.
 pub fn find_groups<T: Copy, S: Summary<T>, A: Allocator>(
     pages: &Shelf<T, S, A>,
     groups: &mut Groups<S, A>,
     kept: usize,
 )
     requires fits { length (joined pages.now.pages) < 2 ^ 48 }
-    requires kept { IsGroups S.sums_up pages.now.pages (take kept groups.old.starts.items) (take kept groups.old.sums.items) }
+    requires kept { IsGroups S.sums_up pages.now.pages (take kept groups.old.starts.items)
+        (take kept groups.old.sums.items) }
     ensures { IsGroups S.sums_up pages.now.pages groups.new.starts.items groups.new.sums.items }
 {
     find_starts(pages, &mut groups.starts, kept);
@@ -108,7 +110,9 @@ pub fn put_inside<T: Copy, S: Summary<T>, A: Allocator>(
 fn sum_with<T: Copy, S: Summary<T>, A: Allocator>(sums: &mut Vec<S, A>, g: usize, x: T)
     ensures len { length sums.new.items ≡ length sums.old.items }
     ensures others { (n : ℕ) (d : S) → n ≢ g → slice_index_or sums.new.items n d ≡ slice_index_or sums.old.items n d }
-    ensures more { (xs : List T) (i : ℕ) (d : S) → g < length sums.old.items → length xs < 2 ^ 48 → i ≤ length xs → S.sums_up (slice_index_or sums.old.items g d) xs → S.sums_up (slice_index_or sums.new.items g d) (insert xs i x) }
+    ensures more { (xs : List T) (i : ℕ) (d : S) → g < length sums.old.items → length xs < 2 ^ 48 → i ≤ length xs
+        → S.sums_up (slice_index_or sums.old.items g d) xs
+        → S.sums_up (slice_index_or sums.new.items g d) (insert xs i x) }
 {
     if g < sums.len() {
         sums[g] = sums[g].with(x);
@@ -192,7 +196,8 @@ fn sum_again<T: Copy, S: Summary<T>, A: Allocator>(
     requires fits { length (joined pages.now.pages) < 2 ^ 48 }
     ensures len { length sums.new.items ≡ length sums.old.items }
     ensures others { (n : ℕ) (d : S) → n ≢ g → slice_index_or sums.new.items n d ≡ slice_index_or sums.old.items n d }
-    ensures summed { (d : S) → g < length sums.old.items → S.sums_up (slice_index_or sums.new.items g d) (joined (take 32 (drop (32 * g) pages.now.pages))) }
+    ensures summed { (d : S) → g < length sums.old.items
+        → S.sums_up (slice_index_or sums.new.items g d) (joined (take 32 (drop (32 * g) pages.now.pages))) }
 {
     if g < sums.len() {
         sums[g] = sum_of(pages, g);

@@ -1,5 +1,6 @@
 //! A list in pages.
-ghost use Rattle.std.specs.Prelude.{◌≡◌, ◌+◌, ◌≤◌, ◌<◌, ◌^◌, ℕ, [], length, take, drop, slice_index_or, slice_set, IfSome, IsNone, OnOk, IfOk, IfErr, IsOk, true, false};
+ghost use Rattle.std.specs.Prelude.{◌≡◌, ◌+◌, ◌≤◌, ◌<◌, ◌^◌, ℕ, [], length, take, drop, slice_index_or, slice_set};
+ghost use Rattle.std.specs.Prelude.{IfSome, IsNone, OnOk, IfOk, IfErr, IsOk, true, false};
 ghost use Rattle.std.specs.List.{count_by, insert, remove};
 ghost use Rattle.list_pages.specs.Pages.{Kept, joined, spare_of, IsKept, IsGroups, IsNth, IsShort, IsEdge};
 
@@ -49,9 +50,13 @@ impl<T: Copy, S: Summary<T>, A: Allocator> Drop for Pages<T, S, A> {
 impl<T: Copy, S: Summary<T>, A: Allocator> Model for Pages<T, S, A> {
     ghost Value = { Kept T };
 
-    ghost view = { λ a. record { entries = joined a.pages.pages; spare = spare_of a.pages.free (length a.pages.pages + a.pages.free) a.len } };
+    ghost view = { λ a. record {
+      entries = joined a.pages.pages;
+      spare = spare_of a.pages.free (length a.pages.pages + a.pages.free) a.len;
+    } };
 
-    ghost invariant = { λ a. IsKept a.pages.pages a.len (length a.pages.pages + a.pages.free) × IsGroups S.sums_up a.pages.pages a.groups.starts.items a.groups.sums.items };
+    ghost invariant = { λ a. IsKept a.pages.pages a.len (length a.pages.pages + a.pages.free)
+        × IsGroups S.sums_up a.pages.pages a.groups.starts.items a.groups.sums.items };
 }
 
 impl<T: Copy, S: Summary<T>, A: Allocator + Copy> Pages<T, S, A> {
@@ -126,7 +131,8 @@ impl<T: Copy, S: Summary<T>, A: Allocator + Copy> Pages<T, S, A> {
         pages::name_of(&self.pages, p)
     }
 
-    /// A page and the place of its first entry: the page of that name, where the hints that are kept of names lead to it.
+    /// A page and the place of its first entry: the page of that name, where the hints that are kept of names lead to
+    /// it.
     pub fn named(&self, name: usize) -> Option<(usize, &[T])>
         ensures is { IfSome result (λ r. r.1.now ≡ take (length r.1.now) (drop r.0 self.now.entries)) }
         ensures few { length self.now.entries < 2 ^ 48 }
@@ -252,8 +258,8 @@ impl<T: Copy, S: Summary<T>, A: Allocator + Copy> Pages<T, S, A> {
         search::nth(&self.pages, &self.groups, self.len, from, pick, n)
     }
 
-    /// The place of the n-th of all that is picked, or how many are missing, where it is known how many are picked: looked
-    /// for from the nearer end, or n itself where all are.
+    /// The place of the n-th of all that is picked, or how many are missing, where it is known how many are picked:
+    /// looked for from the nearer end, or n itself where all are.
     pub fn nth_of_all<P: Pick<T, S>>(&self, pick: &P, all: usize, n: usize) -> Result<usize, usize>
         requires { all ≡ count_by (P.picked pick.now) self.now.entries }
         ensures found { IfOk result (λ place. IsNth (P.picked pick.now) self.now.entries 0 n place) }
@@ -267,7 +273,8 @@ impl<T: Copy, S: Summary<T>, A: Allocator + Copy> Pages<T, S, A> {
 
     /// The first that is not picked, where those that are picked stand first.
     pub fn seek<P: Pick<T, S>>(&self, pick: &P) -> Option<T>
-        ensures found { IfSome result (λ x. (i : ℕ) × IsEdge (P.picked pick.now) self.now.entries i × (i < length self.now.entries) × (x ≡ slice_index_or self.now.entries i x)) }
+        ensures found { IfSome result (λ x. (i : ℕ) × IsEdge (P.picked pick.now) self.now.entries i
+            × (i < length self.now.entries) × (x ≡ slice_index_or self.now.entries i x)) }
         ensures none { IsNone result → IsEdge (P.picked pick.now) self.now.entries (length self.now.entries) }
     {
         let (p, j) = search::edge(&self.pages, pick);
@@ -277,11 +284,16 @@ impl<T: Copy, S: Summary<T>, A: Allocator + Copy> Pages<T, S, A> {
         Some(pages::read(&self.pages, p, j))
     }
 
-    /// Writes another over the first that is not picked, where those that are picked stand first and a second search picks that;
-    /// whether it did.
+    /// Writes another over the first that is not picked, where those that are picked stand first and a second search
+    /// picks that; whether it did.
     pub fn overwrite<P: Pick<T, S>, Q: Pick<T, S>>(&mut self, pick: &P, only: &Q, x: T) -> bool
-        ensures set { result ≡ true → (i : ℕ) × IsEdge (P.picked pick.now) self.old.entries i × (i < length self.old.entries) × (Q.picked only.now (slice_index_or self.old.entries i x) ≡ true) × (self.new.entries ≡ slice_set self.old.entries i x) }
-        ensures none { result ≡ false → (i : ℕ) × IsEdge (P.picked pick.now) self.old.entries i × (i < length self.old.entries → Q.picked only.now (slice_index_or self.old.entries i x) ≡ false) × (self.new.entries ≡ self.old.entries) }
+        ensures set { result ≡ true → (i : ℕ) × IsEdge (P.picked pick.now) self.old.entries i
+            × (i < length self.old.entries) × (Q.picked only.now (slice_index_or self.old.entries i x) ≡ true)
+            × (self.new.entries ≡ slice_set self.old.entries i x) }
+        ensures none { result ≡ false
+            → (i : ℕ) × IsEdge (P.picked pick.now) self.old.entries i
+            × (i < length self.old.entries → Q.picked only.now (slice_index_or self.old.entries i x) ≡ false)
+            × (self.new.entries ≡ self.old.entries) }
         ensures spare { self.new.spare ≡ self.old.spare }
     {
         let (p, j) = search::edge(&self.pages, pick);
@@ -298,7 +310,8 @@ impl<T: Copy, S: Summary<T>, A: Allocator + Copy> Pages<T, S, A> {
     /// Puts one before the first that is not picked, where those that are picked stand first.
     pub fn insert_in_order<P: Pick<T, S>>(&mut self, pick: &P, x: T)
         requires spare { 1 ≤ self.old.spare }
-        ensures put { (i : ℕ) × IsEdge (P.picked pick.now) self.old.entries i × (self.new.entries ≡ insert self.old.entries i x) }
+        ensures put { (i : ℕ) × IsEdge (P.picked pick.now) self.old.entries i
+            × (self.new.entries ≡ insert self.old.entries i x) }
         ensures spare { self.old.spare ≤ self.new.spare + 1 }
     {
         let (p, j) = search::edge(&self.pages, pick);
@@ -316,8 +329,11 @@ impl<T: Copy, S: Summary<T>, A: Allocator + Copy> Pages<T, S, A> {
 
     /// Takes out the first that is not picked, where there is one and those that are picked stand first.
     pub fn remove_in_order<P: Pick<T, S>>(&mut self, pick: &P) -> Option<T>
-        ensures some { IfSome result (λ x. (i : ℕ) × IsEdge (P.picked pick.now) self.old.entries i × (i < length self.old.entries) × (x ≡ slice_index_or self.old.entries i x) × (self.new.entries ≡ remove self.old.entries i)) }
-        ensures none { IsNone result → IsEdge (P.picked pick.now) self.old.entries (length self.old.entries) × (self.new.entries ≡ self.old.entries) }
+        ensures some { IfSome result (λ x. (i : ℕ) × IsEdge (P.picked pick.now) self.old.entries i
+            × (i < length self.old.entries) × (x ≡ slice_index_or self.old.entries i x)
+            × (self.new.entries ≡ remove self.old.entries i)) }
+        ensures none { IsNone result → IsEdge (P.picked pick.now) self.old.entries (length self.old.entries)
+            × (self.new.entries ≡ self.old.entries) }
         ensures spare { self.old.spare ≤ self.new.spare }
     {
         let (p, j) = search::edge(&self.pages, pick);

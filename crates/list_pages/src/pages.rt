@@ -1,7 +1,9 @@
 //! Places in pages, and pages that are cut, opened and joined.
-ghost use Rattle.std.specs.Prelude.{◌≡◌, ◌+◌, ◌≤◌, ◌<◌, List, [], ◌∷◌, ◌++◌, take, drop, length, slice_index_or, OnOk, IfOk, ◌-◌, ◌^◌, IfSome, IsNone, true};
+ghost use Rattle.std.specs.Prelude.{◌≡◌, ◌+◌, ◌≤◌, ◌<◌, List, [], ◌∷◌, ◌++◌, take, drop, length, slice_index_or, OnOk};
+ghost use Rattle.std.specs.Prelude.{IfOk, ◌-◌, ◌^◌, IfSome, IsNone, true};
 ghost use Rattle.std.specs.List.{insert, remove};
-ghost use Rattle.list_pages.specs.Pages.{joined, start_of, HasMore, IsShortAt, IsStarts, IsGroups, IsSpot, IsSpotOrEnd, IsGap, IsHalfFull, IsClosed, IsKept, spare_of};
+ghost use Rattle.list_pages.specs.Pages.{joined, start_of, HasMore, IsShortAt, IsStarts, IsGroups, IsSpot, IsSpotOrEnd};
+ghost use Rattle.list_pages.specs.Pages.{IsGap, IsHalfFull, IsClosed, IsKept, spare_of};
 ghost use Rattle.list_shelf.specs.Shelf.{cut_at};
 
 use crate::groups::{Groups, find_groups, put_inside, take_inside};
@@ -81,8 +83,8 @@ fn locate_on<T: Copy, S: Summary<T>, A: Allocator>(
     (p, left)
 }
 
-/// The page of the i-th entry, and its place there; the number of pages at the end. The last page is looked at first, and
-/// then its group, from the nearer end.
+/// The page of the i-th entry, and its place there; the number of pages at the end. The last page is looked at first,
+/// and then its group, from the nearer end.
 pub fn locate_to_end<T: Copy, S: Summary<T>, A: Allocator>(
     pages: &Shelf<T, S, A>,
     starts: &[usize],
@@ -206,8 +208,8 @@ fn open_first<T: Copy, S: Summary<T>, A: Allocator>(pages: &mut Shelf<T, S, A>, 
     pages.open(0, x);
 }
 
-/// Puts an entry at the j-th place of page p, or behind all pages, and cuts a page or takes a free one where there is no room.
-/// What comes before all opens a page, so that a list that grows there is kept in full pages.
+/// Puts an entry at the j-th place of page p, or behind all pages, and cuts a page or takes a free one where there is
+/// no room. What comes before all opens a page, so that a list that grows there is kept in full pages.
 fn put_anywhere<T: Copy, S: Summary<T>, A: Allocator>(
     pages: &mut Shelf<T, S, A>,
     p: usize,

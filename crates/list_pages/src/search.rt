@@ -1,7 +1,9 @@
 //! The n-th entry that is picked, found by passing pages by.
-ghost use Rattle.std.specs.Prelude.{◌≡◌, ◌+◌, ◌-◌, ◌≤◌, ◌<◌, ◌^◌, ℕ, List, [], length, take, slice_index_or, IfSome, IsSome, IfOk, IfErr, Bool, true};
+ghost use Rattle.std.specs.Prelude.{◌≡◌, ◌+◌, ◌-◌, ◌≤◌, ◌<◌, ◌^◌, ℕ, List, [], length, take, slice_index_or, IfSome};
+ghost use Rattle.std.specs.Prelude.{IsSome, IfOk, IfErr, Bool, true};
 ghost use Rattle.std.specs.List.{count_by};
-ghost use Rattle.list_pages.specs.Pages.{joined, start_of, ends_in, IsSpotOrEnd, IsHalfFull, IsGroups, IsNth, IsShort, IsEdge};
+ghost use Rattle.list_pages.specs.Pages.{joined, start_of, ends_in, IsSpotOrEnd, IsHalfFull, IsGroups, IsNth, IsShort};
+ghost use Rattle.list_pages.specs.Pages.{IsEdge};
 
 use crate::groups::Groups;
 use crate::pages::locate;
@@ -19,13 +21,14 @@ pub trait Pick<T: Copy, S: Summary<T>> {
 
     /// How many of a page, where the page's summary and length say it.
     fn count(&self, _summary: S, _len: usize) -> Option<usize>
-        ensures { IfSome result (λ n. (xs : List T) → S.sums_up _summary xs → length xs ≡ _len → count_by (picked self.now) xs ≡ n) }
+        ensures { IfSome result (λ n. (xs : List T) → S.sums_up _summary xs → length xs ≡ _len
+            → count_by (picked self.now) xs ≡ n) }
     {
         None
     }
 
-    /// Where in a page those that are picked may end, by the last entry before the page and the page's own last: a hint,
-    /// by which a search begins there and not in the middle.
+    /// Where in a page those that are picked may end, by the last entry before the page and the page's own last: a
+    /// hint, by which a search begins there and not in the middle.
     fn guess(&self, _before: T, _last: T, _len: usize) -> Option<usize> {
         None
     }
@@ -63,7 +66,8 @@ fn count_between<T: Copy, S: Summary<T>, P: Pick<T, S>>(
 ) -> usize
     requires order { from ≤ to }
     requires within { to ≤ length items.now }
-    ensures { count_by (P.picked pick.now) (take from items.now) + result ≡ count_by (P.picked pick.now) (take to items.now) }
+    ensures { count_by (P.picked pick.now) (take from items.now) + result
+        ≡ count_by (P.picked pick.now) (take to items.now) }
 {
     let mut count: usize = 0;
     for j in from..to {
@@ -111,7 +115,8 @@ fn nth_back_by_one<T: Copy, S: Summary<T>, P: Pick<T, S>>(
     requires enough { n ≤ count_by (P.picked pick.now) (take before items.now) }
     ensures within { result < length items.now }
     ensures picked { (d : T) → P.picked pick.now (slice_index_or items.now result d) ≡ true }
-    ensures count { count_by (P.picked pick.now) (take result items.now) + n ≡ count_by (P.picked pick.now) (take before items.now) }
+    ensures count { count_by (P.picked pick.now) (take result items.now) + n
+        ≡ count_by (P.picked pick.now) (take before items.now) }
 {
     let mut left = n;
     let mut at = before;
@@ -169,7 +174,8 @@ fn nth_of<T: Copy, S: Summary<T>, A: Allocator, P: Pick<T, S>>(
     nth_in(pages.items(p), 0, pick, n)
 }
 
-/// How many are missing behind a group that begins at a page, and where the next begins, where the group may be passed by.
+/// How many are missing behind a group that begins at a page, and where the next begins, where the group may be passed
+/// by.
 fn pass<T: Copy, S: Summary<T>, A: Allocator, P: Pick<T, S>>(
     pages: &Shelf<T, S, A>,
     groups: &Groups<S, A>,
@@ -181,7 +187,8 @@ fn pass<T: Copy, S: Summary<T>, A: Allocator, P: Pick<T, S>>(
     ensures within { IsSome result → at + 32 ≤ length pages.now.pages }
     ensures less { IfSome result (λ r. r.0 ≤ n) }
     ensures start { IfSome result (λ r. r.1 ≡ start_of pages.now.pages (at + 32)) }
-    ensures count { IfSome result (λ r. count_by (P.picked pick.now) (joined (take (at + 32) pages.now.pages)) + r.0 ≡ count_by (P.picked pick.now) (joined (take at pages.now.pages)) + n) }
+    ensures count { IfSome result (λ r. count_by (P.picked pick.now) (joined (take (at + 32) pages.now.pages)) + r.0
+        ≡ count_by (P.picked pick.now) (joined (take at pages.now.pages)) + n) }
 {
     let _ = pages;
     let g = at / GROUP;
@@ -289,7 +296,8 @@ fn group_before<T: Copy, S: Summary<T>, A: Allocator, P: Pick<T, S>>(
     requires end { end ≡ start_of pages.now.pages at }
     ensures within { IsSome result → 32 ≤ at }
     ensures start { IfSome result (λ r. r.1 ≡ start_of pages.now.pages (at - 32)) }
-    ensures count { IfSome result (λ r. count_by (P.picked pick.now) (joined (take at pages.now.pages)) ≡ count_by (P.picked pick.now) (joined (take (at - 32) pages.now.pages)) + r.0) }
+    ensures count { IfSome result (λ r. count_by (P.picked pick.now) (joined (take at pages.now.pages))
+        ≡ count_by (P.picked pick.now) (joined (take (at - 32) pages.now.pages)) + r.0) }
 {
     let _ = pages;
     if at < GROUP || at % GROUP != 0 {
@@ -306,8 +314,8 @@ fn group_before<T: Copy, S: Summary<T>, A: Allocator, P: Pick<T, S>>(
     Some((count, start))
 }
 
-/// A page before which n are picked at most, where it begins, and how many are picked before it: the last such, or the first
-/// of its group.
+/// A page before which n are picked at most, where it begins, and how many are picked before it: the last such, or the
+/// first of its group.
 fn page_before<T: Copy, S: Summary<T>, A: Allocator, P: Pick<T, S>>(
     pages: &Shelf<T, S, A>,
     groups: &Groups<S, A>,
@@ -423,8 +431,8 @@ fn guess_among<T: Copy, S: Summary<T>, A: Allocator, P: Pick<T, S>>(
     }
 }
 
-/// The first page whose last entry is not picked, as far as the one before it shows: looked for near a guess first, where there
-/// is one.
+/// The first page whose last entry is not picked, as far as the one before it shows: looked for near a guess first,
+/// where there is one.
 fn edge_among<T: Copy, S: Summary<T>, A: Allocator, P: Pick<T, S>>(
     pages: &Shelf<T, S, A>,
     pick: &P,

@@ -108,8 +108,8 @@ fn keep_start<T: Copy, S: Summary<T>, A: Allocator>(
     }
 }
 
-/// Finds where each group begins, as far as there is room to keep it. Of the groups as they were, the first `kept` still
-/// begin where they did.
+/// Finds where each group begins, as far as there is room to keep it. Of the groups as they were, the first `kept`
+/// still begin where they did.
 pub fn find_starts<T: Copy, S: Summary<T>, A: Allocator>(
     pages: &Shelf<T, S, A>,
     starts: &mut Vec<usize, A>,
@@ -132,7 +132,8 @@ pub fn find_starts<T: Copy, S: Summary<T>, A: Allocator>(
 fn raise_all(starts: &mut [usize])
     requires { (n : ℕ) → n < length starts.old → slice_index_or starts.old n 0 < 2 ^ 48 }
     ensures len { length starts.new ≡ length starts.old }
-    ensures raised { (n : ℕ) → n < length starts.old → slice_index_or starts.new n 0 ≡ slice_index_or starts.old n 0 + 1 }
+    ensures raised { (n : ℕ) → n < length starts.old
+        → slice_index_or starts.new n 0 ≡ slice_index_or starts.old n 0 + 1 }
 {
     for start in starts.iter_mut() {
         *start += 1;
@@ -142,7 +143,8 @@ fn raise_all(starts: &mut [usize])
 /// One less in each.
 fn lower_all(starts: &mut [usize])
     ensures len { length starts.new ≡ length starts.old }
-    ensures lowered { (n : ℕ) → n < length starts.old → slice_index_or starts.new n 0 ≡ slice_index_or starts.old n 0 - 1 }
+    ensures lowered { (n : ℕ) → n < length starts.old
+        → slice_index_or starts.new n 0 ≡ slice_index_or starts.old n 0 - 1 }
 {
     for start in starts.iter_mut() {
         *start = start.saturating_sub(1);
@@ -154,7 +156,8 @@ pub fn raise<A: Allocator>(starts: &mut Vec<usize, A>, g: usize)
     requires { (n : ℕ) → n < length starts.old.items → slice_index_or starts.old.items n 0 < 2 ^ 48 }
     ensures len { length starts.new.items ≡ length starts.old.items }
     ensures below { (n : ℕ) → n < g → slice_index_or starts.new.items n 0 ≡ slice_index_or starts.old.items n 0 }
-    ensures raised { (n : ℕ) → g ≤ n → n < length starts.old.items → slice_index_or starts.new.items n 0 ≡ slice_index_or starts.old.items n 0 + 1 }
+    ensures raised { (n : ℕ) → g ≤ n → n < length starts.old.items
+        → slice_index_or starts.new.items n 0 ≡ slice_index_or starts.old.items n 0 + 1 }
 {
     let count = starts.len();
     if g < count {
@@ -166,7 +169,8 @@ pub fn raise<A: Allocator>(starts: &mut Vec<usize, A>, g: usize)
 pub fn lower<A: Allocator>(starts: &mut Vec<usize, A>, g: usize)
     ensures len { length starts.new.items ≡ length starts.old.items }
     ensures below { (n : ℕ) → n < g → slice_index_or starts.new.items n 0 ≡ slice_index_or starts.old.items n 0 }
-    ensures lowered { (n : ℕ) → g ≤ n → n < length starts.old.items → slice_index_or starts.new.items n 0 ≡ slice_index_or starts.old.items n 0 - 1 }
+    ensures lowered { (n : ℕ) → g ≤ n → n < length starts.old.items
+        → slice_index_or starts.new.items n 0 ≡ slice_index_or starts.old.items n 0 - 1 }
 {
     let count = starts.len();
     if g < count {

@@ -1,5 +1,6 @@
 -- Pages that lie in frames of one piece of memory, and what is kept of each.
-use Rattle.std.specs.Prelude.{◌≡◌, ℕ, zero, suc, ◌<◌, ◌≤◌, ◌+◌, ◌-◌, ◌*◌, eqb, List, [], ◌∷◌, length, slice_index_or, take, drop, map}
+use Rattle.std.specs.Prelude.{◌≡◌, ℕ, zero, suc, ◌<◌, ◌≤◌, ◌+◌, ◌-◌, ◌*◌, eqb, List, [], ◌∷◌, length, slice_index_or}
+use Rattle.std.specs.Prelude.{take, drop, map}
 use Rattle.std.specs.List.{count_by, All}
 use Rattle.list_shelf.specs.declared.frame.Head.{Head}
 
@@ -37,7 +38,8 @@ abbrev pub pages_of : {X S : Type 0} → List (List X) → List (Head X S) → L
 pages_of frames heads = map (page_of frames) heads
 
 -- a head says what is true of its page
-pub record IsHead {X S : Type 0} (sums_up : S → List X → Type 0) (frames : List (List X)) (head : Head X S) : Type 0 where
+pub record IsHead {X S : Type 0} (sums_up : S → List X
+    → Type 0) (frames : List (List X)) (head : Head X S) : Type 0 where
   pub within : head.frame < length frames
   pub few : head.start + head.len ≤ 256
   pub summed : sums_up head.summary (page_of frames head)
@@ -57,7 +59,8 @@ abbrev pub frees : ℕ → List ℕ → ℕ
 frees f free = count_by (λ g. eqb g f) free
 
 -- each frame is free or one page's alone; all is how many frames and pages there is memory for
-pub record IsShelf {X S : Type 0} (sums_up : S → List X → Type 0) (cells : List X) (heads : List (Head X S)) (free : List ℕ) (all : ℕ) : Type 0 where
+pub record IsShelf {X S : Type 0} (sums_up : S → List X
+    → Type 0) (cells : List X) (heads : List (Head X S)) (free : List ℕ) (all : ℕ) : Type 0 where
   pub each : AreHeads sums_up (framed (length heads + length free) cells) heads
   pub freed : All (λ f. f < length heads + length free) free
   pub apart : (f : ℕ) → uses f heads + frees f free ≤ 1

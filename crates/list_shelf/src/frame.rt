@@ -1,12 +1,14 @@
 //! Frames: parts of 256 places of one piece of memory, each for one page.
-ghost use Rattle.std.specs.Prelude.{◌≡◌, ◌+◌, ◌-◌, ◌*◌, ◌≤◌, ◌<◌, ◌^◌, List, ◌++◌, replicate, length, take, drop, slice_index_or, slice_set, vec_len, vec_capacity};
+ghost use Rattle.std.specs.Prelude.{◌≡◌, ◌+◌, ◌-◌, ◌*◌, ◌≤◌, ◌<◌, ◌^◌, List, ◌++◌, replicate, length, take, drop};
+ghost use Rattle.std.specs.Prelude.{slice_index_or, slice_set, vec_len, vec_capacity};
 ghost use Rattle.std.specs.List.{insert, remove};
 ghost use Rattle.list_shelf.specs.Shelf.{frame_at, IsWritten};
 
 use crate::summary::FULL;
 use std::alloc::Allocator;
 
-/// What is kept of a page: its frame, where in it the page begins, how many entries it has, the last of them, and a summary.
+/// What is kept of a page: its frame, where in it the page begins, how many entries it has, the last of them, and a
+/// summary.
 #[derive(Clone, Copy)]
 pub struct Head<T: Copy, S: Copy> {
     pub frame: usize,
@@ -19,7 +21,8 @@ pub struct Head<T: Copy, S: Copy> {
 impl<T: Copy, S: Copy> Head<T, S> {
     /// The same page, where it begins elsewhere in its frame.
     pub fn at(self, start: usize) -> Self
-        ensures { result ≡ record { frame = self.frame; start = start; len = self.len; last = self.last; summary = self.summary } }
+        ensures { result
+            ≡ record { frame = self.frame; start = start; len = self.len; last = self.last; summary = self.summary } }
     {
         Head {
             frame: self.frame,
@@ -83,7 +86,8 @@ fn take_left<T: Copy>(part: &mut [T], n: usize, j: usize)
     part.copy_within(0..j, 1);
 }
 
-/// Puts one before the j-th of the n from place s on, and moves the fewer, if there is room beside them; where they begin then.
+/// Puts one before the j-th of the n from place s on, and moves the fewer, if there is room beside them; where they
+/// begin then.
 fn put_in<T: Copy>(frame: &mut [T], s: usize, n: usize, j: usize, x: T) -> usize
     requires wide { length frame.old ≡ 256 }
     requires within { j ≤ n }
@@ -141,7 +145,8 @@ pub fn put<T: Copy, A: Allocator>(
     requires within { j ≤ n }
     requires few { s + n ≤ 256 }
     requires room { n < 256 }
-    ensures put { take (n + 1) (drop result (frame_at cells.new.items f)) ≡ insert (take n (drop s (frame_at cells.old.items f))) j x }
+    ensures put { take (n + 1) (drop result (frame_at cells.new.items f))
+        ≡ insert (take n (drop s (frame_at cells.old.items f))) j x }
     ensures few { result + (n + 1) ≤ 256 }
     ensures others { IsWritten cells.old.items cells.new.items f }
     ensures len { vec_len cells.new ≡ vec_len cells.old }
@@ -161,7 +166,8 @@ pub fn take<T: Copy, A: Allocator>(
     requires frame { 256 * f + 256 ≤ vec_len cells.old }
     requires within { j < n }
     requires few { s + n ≤ 256 }
-    ensures rest { take (n - 1) (drop result (frame_at cells.new.items f)) ≡ remove (take n (drop s (frame_at cells.old.items f))) j }
+    ensures rest { take (n - 1) (drop result (frame_at cells.new.items f))
+        ≡ remove (take n (drop s (frame_at cells.old.items f))) j }
     ensures few { result + (n - 1) ≤ 256 }
     ensures others { IsWritten cells.old.items cells.new.items f }
     ensures len { vec_len cells.new ≡ vec_len cells.old }
@@ -186,7 +192,8 @@ pub fn set<T: Copy, A: Allocator>(cells: &mut Vec<T, A>, f: usize, j: usize, x: 
 pub fn append<T: Copy, A: Allocator>(cells: &mut Vec<T, A>, f: usize, n: usize, items: &[T])
     requires frame { 256 * f + 256 ≤ vec_len cells.old }
     requires few { n + length items.now ≤ 256 }
-    ensures put { take (n + length items.now) (frame_at cells.new.items f) ≡ take n (frame_at cells.old.items f) ++ items.now }
+    ensures put { take (n + length items.now) (frame_at cells.new.items f) ≡ take n (frame_at cells.old.items f)
+        ++ items.now }
     ensures others { IsWritten cells.old.items cells.new.items f }
     ensures len { vec_len cells.new ≡ vec_len cells.old }
     ensures capacity { vec_capacity cells.new ≡ vec_capacity cells.old }
@@ -208,7 +215,8 @@ pub fn copy<T: Copy, A: Allocator>(
     requires order { from ≤ to }
     requires within { to ≤ 256 }
     requires few { n + (to - from) ≤ 256 }
-    ensures put { take (n + (to - from)) (frame_at cells.new.items g) ≡ take n (frame_at cells.old.items g) ++ drop from (take to (frame_at cells.old.items f)) }
+    ensures put { take (n + (to - from)) (frame_at cells.new.items g) ≡ take n (frame_at cells.old.items g)
+        ++ drop from (take to (frame_at cells.old.items f)) }
     ensures others { IsWritten cells.old.items cells.new.items g }
     ensures len { vec_len cells.new ≡ vec_len cells.old }
     ensures capacity { vec_capacity cells.new ≡ vec_capacity cells.old }
@@ -229,7 +237,8 @@ pub fn shift<T: Copy, A: Allocator>(cells: &mut Vec<T, A>, f: usize, s: usize, n
     copy(cells, f, s, s + n, f, to);
 }
 
-/// Moves the n from place s of frame f on to its first place, where so many have no room from s on; where they begin then.
+/// Moves the n from place s of frame f on to its first place, where so many have no room from s on; where they begin
+/// then.
 pub fn settle<T: Copy, A: Allocator>(
     cells: &mut Vec<T, A>,
     f: usize,

@@ -1,8 +1,9 @@
 //! Pages in frames that lie side by side in one piece of memory; a frame which no page has needed yet is not touched.
 //!
-//! The pages stand in a list of heads, in order. A head says in which frame its page lies and where in it, so a page that is put
-//! between two others moves heads alone. The number of its frame is the name of a page.
-ghost use Rattle.std.specs.Prelude.{◌≡◌, ◌≢◌, ◌+◌, ◌-◌, ◌*◌, ◌≤◌, ◌<◌, ◌^◌, List, [], ◌∷◌, ◌++◌, length, take, drop, slice_index_or, slice_set, vec_len, vec_capacity, max, suc, OnOk};
+//! The pages stand in a list of heads, in order. A head says in which frame its page lies and where in it, so a page
+//! that is put between two others moves heads alone. The number of its frame is the name of a page.
+ghost use Rattle.std.specs.Prelude.{◌≡◌, ◌≢◌, ◌+◌, ◌-◌, ◌*◌, ◌≤◌, ◌<◌, ◌^◌, List, [], ◌∷◌, ◌++◌, length, take, drop};
+ghost use Rattle.std.specs.Prelude.{slice_index_or, slice_set, vec_len, vec_capacity, max, suc, OnOk};
 ghost use Rattle.std.specs.List.{insert, remove};
 ghost use Rattle.list_shelf.specs.Shelf.{cut_at};
 ghost use Rattle.list_shelf.specs.Shelf.{Shelved, IsShelf, framed, frame_at, pages_of};
@@ -40,7 +41,8 @@ impl<T: Copy, S: Summary<T>, A: Allocator> Model for Shelf<T, S, A> {
 
     ghost view = { λ s. record { pages = pages_of (framed (length s.heads.items + length s.free.items) s.cells.items) s.heads.items; free = s.all - length s.heads.items } };
 
-    ghost invariant = { λ s. IsShelf S.sums_up s.cells.items s.heads.items s.free.items s.all × (s.all ≤ vec_capacity s.heads) × (256 * s.all ≤ vec_capacity s.cells) × (s.all ≤ vec_capacity s.free) };
+    ghost invariant = { λ s. IsShelf S.sums_up s.cells.items s.heads.items s.free.items s.all
+        × (s.all ≤ vec_capacity s.heads) × (256 * s.all ≤ vec_capacity s.cells) × (s.all ≤ vec_capacity s.free) };
 }
 
 impl<T: Copy, S: Summary<T>, A: Allocator + Copy> Shelf<T, S, A> {
@@ -107,7 +109,9 @@ impl<T: Copy, S: Summary<T>, A: Allocator> Shelf<T, S, A> {
     pub fn last(&self, p: usize) -> T
         requires within { p < length self.now.pages }
         requires some { 0 < length (slice_index_or self.now.pages p []) }
-        ensures { result ≡ slice_index_or (slice_index_or self.now.pages p []) (length (slice_index_or self.now.pages p []) - 1) result }
+        ensures { result
+            ≡ slice_index_or (slice_index_or self.now.pages p []) (length (slice_index_or self.now.pages p []) - 1)
+            result }
     {
         self.heads[p].last
     }
@@ -183,7 +187,8 @@ impl<T: Copy, S: Summary<T>, A: Allocator> Shelf<T, S, A> {
         requires inside { to ≤ length (slice_index_or self.old.pages p []) }
         requires some { n ≤ length (slice_index_or self.old.pages q []) }
         requires few { n + (to - from) ≤ 256 }
-        ensures put { self.new.pages ≡ slice_set self.old.pages q (take n (slice_index_or self.old.pages q []) ++ drop from (take to (slice_index_or self.old.pages p []))) }
+        ensures put { self.new.pages ≡ slice_set self.old.pages q (take n (slice_index_or self.old.pages q [])
+            ++ drop from (take to (slice_index_or self.old.pages p []))) }
         ensures free { self.new.free ≡ self.old.free }
     {
         let many = n + (to - from);
@@ -210,7 +215,8 @@ impl<T: Copy, S: Summary<T>, A: Allocator> Shelf<T, S, A> {
         requires within { p < length self.old.pages }
         requires order { from ≤ to }
         requires inside { to ≤ length (slice_index_or self.old.pages p []) }
-        ensures kept { self.new.pages ≡ slice_set self.old.pages p (drop from (take to (slice_index_or self.old.pages p []))) }
+        ensures kept { self.new.pages
+            ≡ slice_set self.old.pages p (drop from (take to (slice_index_or self.old.pages p []))) }
         ensures free { self.new.free ≡ self.old.free }
     {
         let head = self.heads[p];
@@ -314,8 +320,11 @@ impl<T: Copy, S: Summary<T>, A: Allocator> Shelf<T, S, A> {
     pub fn join(&mut self, p: usize, next: usize)
         requires next { next ≡ p + 1 }
         requires within { next < length self.old.pages }
-        requires few { length (slice_index_or self.old.pages p []) + length (slice_index_or self.old.pages next []) ≤ 256 }
-        ensures joined { self.new.pages ≡ remove (slice_set self.old.pages p (slice_index_or self.old.pages p [] ++ slice_index_or self.old.pages next [])) next }
+        requires few { length (slice_index_or self.old.pages p []) + length (slice_index_or self.old.pages next []) ≤
+            256 }
+        ensures joined { self.new.pages
+            ≡ remove (slice_set self.old.pages p (slice_index_or self.old.pages p []
+            ++ slice_index_or self.old.pages next [])) next }
         ensures free { self.new.free ≡ self.old.free + 1 }
     {
         let n = self.len_of(next);
@@ -329,7 +338,9 @@ impl<T: Copy, S: Summary<T>, A: Allocator> Shelf<T, S, A> {
         requires within { next < length self.old.pages }
         requires some { n ≤ length (slice_index_or self.old.pages next []) }
         requires few { length (slice_index_or self.old.pages p []) + n ≤ 256 }
-        ensures shared { self.new.pages ≡ slice_set (slice_set self.old.pages p (slice_index_or self.old.pages p [] ++ take n (slice_index_or self.old.pages next []))) next (drop n (slice_index_or self.old.pages next [])) }
+        ensures shared { self.new.pages
+            ≡ slice_set (slice_set self.old.pages p (slice_index_or self.old.pages p []
+            ++ take n (slice_index_or self.old.pages next []))) next (drop n (slice_index_or self.old.pages next [])) }
         ensures free { self.new.free ≡ self.old.free }
     {
         let len = self.len_of(next);
@@ -356,7 +367,8 @@ impl<T: Copy, S: Summary<T>, A: Allocator> Shelf<T, S, A> {
     }
 }
 
-/// Where in its frame a page begins that is opened before page p of so many: one before all others is to grow to the left.
+/// Where in its frame a page begins that is opened before page p of so many: one before all others is to grow to the
+/// left.
 fn first_start(p: usize, pages: usize) -> usize
     ensures { result < 256 }
 {

@@ -21,15 +21,18 @@ pub trait Summary<T: Copy>: Copy {
 
     /// That with one entry more, wherever it is put.
     fn with(self, x: T) -> Self
-        ensures { (xs : List T) (i : ℕ) → length xs < 2 ^ 48 → i ≤ length xs → sums_up self xs → sums_up result (insert xs i x) };
+        ensures { (xs : List T) (i : ℕ) → length xs < 2 ^ 48 → i ≤ length xs → sums_up self xs
+            → sums_up result (insert xs i x) };
 
     /// That with one entry written over another, wherever that stands.
     fn replaced(self, old: T, new: T) -> Self
-        ensures { (xs : List T) (i : ℕ) → length xs < 2 ^ 48 → i < length xs → old ≡ slice_index_or xs i old → sums_up self xs → sums_up result (slice_set xs i new) };
+        ensures { (xs : List T) (i : ℕ) → length xs < 2 ^ 48 → i < length xs → old ≡ slice_index_or xs i old
+            → sums_up self xs → sums_up result (slice_set xs i new) };
 
     /// That of two lists in one.
     fn join(self, other: Self) -> Self
-        ensures { (xs ys : List T) → length xs + length ys < 2 ^ 48 → sums_up self xs → sums_up other ys → sums_up result (xs ++ ys) };
+        ensures { (xs ys : List T) → length xs + length ys < 2 ^ 48 → sums_up self xs → sums_up other ys
+            → sums_up result (xs ++ ys) };
 }
 
 /// Nothing is kept.
