@@ -19,7 +19,8 @@ fn main(rt: HostRuntime) -> ExitCode {
 }
 
 /// Does what the words ask for, and gives the status. Answers are gathered in a buffer: it is let out before more
-/// commands are read, and at the end. How far the run is, is reported where standard error is a terminal, once a second at most.
+/// commands are read, and at the end. How far the run is, is reported where standard error is a terminal, once a second
+/// at most.
 fn on_streams(rt: &HostRuntime) -> io::Result<u8> {
     let progress = Progress::new(rt);
     let words = words_of(rt)?;

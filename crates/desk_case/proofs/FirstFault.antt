@@ -2,8 +2,8 @@
 use Rattle.std.proofs.Common.{◌≡◌, ◌≢◌, ◌∙◌, ℕ, ◌+◌, List, [], ◌∷◌, Option, Some, None, Result, Ok, Err, ap}
 use Rattle.toml.specs.Data.{Data, Members}
 use Rattle.desk_ops.specs.declared.op.Symbol.{Symbol}
-use Rattle.desk_keys.specs.Keys.{number_of}
-use Rattle.desk_keys.proofs.FirstFault.{IsNever, then_never, value_never, never_err}
+use Rattle.desk_wedge.specs.Keys.{number_of}
+use Rattle.desk_wedge.proofs.FirstFault.{IsNever, then_never, value_never, never_err}
 use Rattle.desk_case.specs.Case.{CaseValues}
 use Rattle.desk_case.specs.File.{key_name, at_key, sheet_of, cell_of_data, fill_of, grid_from, first_doubled, first_held, unless, case_of_members}
 use Rattle.desk_case.specs.Reading.{Gives}

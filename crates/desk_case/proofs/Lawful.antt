@@ -9,10 +9,10 @@ use Rattle.desk_signals.specs.declared.Cell.{Cell}
 use Rattle.desk_signals.specs.Columns.{index}
 use Rattle.desk_ops.specs.declared.op.Symbol.{Symbol}
 use Rattle.desk_ops.proofs.Lists.{none_of}
-use Rattle.desk_keys.specs.Keys.{◌>>=◌, number_of}
-use Rattle.desk_keys.specs.Items.{array_of}
-use Rattle.desk_keys.proofs.Values.{IsReadFrom, value_read, IsArrayOf, array_read, all_read}
-use Rattle.desk_keys.proofs.Numbers.{number_range}
+use Rattle.desk_wedge.specs.Keys.{◌>>=◌, number_of}
+use Rattle.desk_wedge.specs.Items.{array_of}
+use Rattle.desk_wedge.proofs.Values.{IsReadFrom, value_read, IsArrayOf, array_read, all_read}
+use Rattle.desk_wedge.proofs.Numbers.{number_range}
 use Rattle.desk_case.specs.declared.CaseKey.{CaseKey}
 use Rattle.desk_case.specs.declared.CaseKey.TheVariants as key
 use Rattle.desk_case.specs.declared.CaseFault.{CaseFault}

@@ -10,9 +10,9 @@ use Rattle.toml.specs.Data.{Data, Members, as_str}
 use Rattle.desk_signals.specs.declared.Cell.{Cell}
 use Rattle.desk_signals.specs.Columns.{index}
 use Rattle.desk_ops.specs.declared.op.Symbol.{Symbol}
-use Rattle.desk_keys.specs.Keys.{◌>>=◌, number_of}
-use Rattle.desk_keys.specs.Items.{array_of}
-use Rattle.desk_keys.proofs.Values.{array_read, all_read}
+use Rattle.desk_wedge.specs.Keys.{◌>>=◌, number_of}
+use Rattle.desk_wedge.specs.Items.{array_of}
+use Rattle.desk_wedge.proofs.Values.{array_read, all_read}
 use Rattle.desk_case.specs.declared.CaseKey.TheVariants as key
 use Rattle.desk_case.specs.declared.CaseFault.{CaseFault}
 use Rattle.desk_case.specs.declared.CaseFault.TheVariants.{Doubled, NotBlank}

@@ -12,7 +12,7 @@ use Rattle.desk_ops.specs.declared.op.Symbol.{Symbol}
 use Rattle.desk_case.specs.declared.CaseFault.{CaseFault}
 use Rattle.desk_case.specs.File.{row_of, matrix_of, cells_of, matrices_of, grid_from}
 use Rattle.desk_case.specs.Reading.{AddsRow}
-use Rattle.desk_keys.proofs.Items.{AreReadTo, one_read, fault_read, all_read, each_length, right_length, wrong_length}
+use Rattle.desk_wedge.proofs.Items.{AreReadTo, one_read, fault_read, all_read, each_length, right_length, wrong_length}
 
 abbrev pub Matrices : Type 0
 Matrices = List (Option (Option Symbol))

@@ -8,10 +8,10 @@ use Rattle.toml.specs.Data.{Data, Members, as_str}
 use Rattle.desk_signals.specs.declared.Cell.{Cell}
 use Rattle.desk_signals.specs.Columns.{index}
 use Rattle.desk_ops.specs.declared.op.Symbol.{Symbol}
-use Rattle.desk_keys.specs.Keys.{◌>>=◌, number_of, value_at, file_of}
-use Rattle.desk_keys.specs.Items.{array_of}
-use Rattle.desk_keys.specs.declared.TableFault.{TableFault}
-use Rattle.desk_keys.specs.declared.TableFault.TheVariants as table
+use Rattle.desk_wedge.specs.Keys.{◌>>=◌, number_of, value_at, file_of}
+use Rattle.desk_wedge.specs.Items.{array_of}
+use Rattle.desk_wedge.specs.declared.keys.TableFault.{TableFault}
+use Rattle.desk_wedge.specs.declared.keys.TableFault.TheVariants as table
 use Rattle.desk_wedge.specs.Wedge.{WedgeValues, units_of_row}
 use Rattle.desk_case.specs.declared.TheConstants.{COLUMNS, NARROW, ROWS}
 use Rattle.desk_case.specs.declared.CaseKey.{CaseKey}

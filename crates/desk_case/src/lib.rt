@@ -16,10 +16,9 @@ ghost use Rattle.desk_case.specs.File.{units_of_cells};
 ghost use Rattle.desk_case.specs.Case.{symbol_at, cell_of, is_fill, IsCase};
 ghost use Rattle.desk_case.specs.declared.CaseFault.TheVariants as fault;
 
-use desk_keys::TableFault;
 use desk_ops::Symbol;
 use desk_signals::Cell;
-use desk_wedge::Wedge;
+use desk_wedge::{TableFault, Wedge};
 use indexmap::IndexMap;
 use std::alloc::{AllocError, AllocFailed, Global};
 use std::marker::Model;
@@ -242,7 +241,7 @@ impl MatrixCase {
         ensures order { result ≢ Err fault.FillOrder }
         ensures memory { result ≡ Err fault.NoMemory → ¬ IsBlank bytes.now }
     {
-        let table = desk_keys::table(alloc, bytes)?;
+        let table = desk_wedge::table(alloc, bytes)?;
         read::case(alloc, &table)
     }
 }

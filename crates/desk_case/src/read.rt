@@ -3,7 +3,7 @@ ghost use Rattle.std.specs.Prelude.{◌≡◌, ◌≢◌, ◌≤◌, ◌*◌, �
 ghost use Rattle.std.specs.Prelude.{MatchOption, length, replicate, option_map, is_some, true, false};
 ghost use Rattle.toml.specs.Data.{no_members};
 ghost use Rattle.toml.specs.View.{view, table_view};
-ghost use Rattle.desk_keys.specs.Keys.{number_of};
+ghost use Rattle.desk_wedge.specs.Keys.{number_of};
 ghost use Rattle.desk_case.specs.Case.{symbol_in, IsIndexOf};
 ghost use Rattle.desk_case.specs.Names.{IsCell};
 ghost use Rattle.desk_case.specs.File.{at_key, row_of, matrices_of, sheet_of, cell_of_data, fill_of, grid_from};
@@ -12,9 +12,9 @@ ghost use Rattle.desk_case.specs.Reading.{Gives, AddsRow, sheet_seen};
 ghost use Rattle.desk_case.specs.declared.CaseFault.TheVariants as fault;
 
 use crate::{COLUMNS, CaseFault, CaseKey, MatrixCase, NARROW, ROWS, names, texts};
-use desk_keys::{member, whole_number};
 use desk_ops::Symbol;
 use desk_signals::Cell;
+use desk_wedge::{member, whole_number};
 use indexmap::IndexMap;
 use std::alloc::{AllocError, Global};
 use toml::{Table, Value};

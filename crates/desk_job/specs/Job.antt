@@ -1,5 +1,7 @@
 -- What a ribbon is made of, and why there may be none.
-use Rattle.std.specs.Prelude.{ℕ, suc, ◌+◌, ◌-◌, ◌*◌, Bool, true, false, not, if◌then◌else◌, ◌&&◌, ◌||◌, ◌==◌, nat_lt, is_some, ℤ, pos, ◌+ℤ◌, ◌-ℤ◌, int_le, int_lt, List, [], ◌∷◌, ◌++◌, map, length, replicate, take, drop, sum_by, Option, Some, None, Result, Ok, Err}
+use Rattle.std.specs.Prelude.{ℕ, suc, ◌+◌, ◌-◌, ◌*◌, Bool, true, false, not, if◌then◌else◌, ◌&&◌, ◌||◌, ◌==◌, nat_lt}
+use Rattle.std.specs.Prelude.{is_some, ℤ, pos, ◌+ℤ◌, ◌-ℤ◌, int_le, int_lt, List, [], ◌∷◌, ◌++◌, map, length, replicate}
+use Rattle.std.specs.Prelude.{take, drop, sum_by, Option, Some, None, Result, Ok, Err}
 use Rattle.std.specs.List.{flat_map, zip}
 use Rattle.desk_ops.specs.declared.op.Symbol.{Symbol}
 use Rattle.desk_ops.specs.declared.op.Key.{Key}
@@ -22,7 +24,8 @@ use Rattle.desk_ribbon.specs.declared.Punch.{Punch}
 use Rattle.desk_caster.specs.Caster.{row_width}
 use Rattle.desk_job.specs.declared.terms.Values.{Values}
 use Rattle.desk_job.specs.declared.JobFault.{JobFault}
-use Rattle.desk_job.specs.declared.JobFault.TheVariants.{MissingSetting, OtherCase, OtherWedge, Crossed, FillOrder, SpaceVanishes, NoMatrix, TooWide, TooLoose, CannotFill}
+use Rattle.desk_job.specs.declared.JobFault.TheVariants.{MissingSetting, OtherCase, OtherWedge, Crossed, FillOrder}
+use Rattle.desk_job.specs.declared.JobFault.TheVariants.{SpaceVanishes, NoMatrix, TooWide, TooLoose, CannotFill}
 
 -- what a line is set by: the case, the wedge, the measure in points, and the least and the greatest wedge sum
 pub record Terms : Type 0 where

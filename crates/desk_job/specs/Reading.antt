@@ -49,7 +49,8 @@ pub record CastsLines (terms : Terms) (ls : List SetLine) (bytes : List ℕ) : T
   pub are : AreLines terms ls got
 
 -- the bytes are a ribbon, and its rows cast with the same case and wedge are the copy line by line
-pub record CastsCopy (copy : List Symbol) (settings : Key → Option ℕ) (case : CaseValues) (wedge : WedgeValues) (bytes : List ℕ) : Type 0 where
+pub record CastsCopy (copy : List Symbol) (settings : Key
+    → Option ℕ) (case : CaseValues) (wedge : WedgeValues) (bytes : List ℕ) : Type 0 where
   pub values : Values
   pub given : values_of settings ≡ Ok values
   pub rows : List RibbonRow

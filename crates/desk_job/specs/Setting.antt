@@ -6,7 +6,8 @@ use Rattle.desk_lines.specs.Words.{spelled}
 use Rattle.desk_units.specs.WedgeSum.{coarse_of, fine_of, pair_of}
 use Rattle.desk_signals.specs.declared.RibbonRow.{RibbonRow}
 use Rattle.desk_lines.specs.Groups.{FitsIn}
-use Rattle.desk_job.specs.Job.{Terms, SetLine, measure, widths, tight_space, has_added, fills, wedge_sum, sum_fault, line_fault, line_punches, rows_at}
+use Rattle.desk_job.specs.Job.{Terms, SetLine, measure, widths, tight_space, has_added, fills, wedge_sum, sum_fault}
+use Rattle.desk_job.specs.Job.{line_fault, line_punches, rows_at}
 use Rattle.desk_job.specs.declared.JobFault.{JobFault}
 use Rattle.desk_job.specs.declared.setting.Setting.{Setting}
 

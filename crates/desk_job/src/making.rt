@@ -2,7 +2,8 @@
 //!
 //! Each line is set once, for its fault or for its rows; after the first fault no more rows are punched.
 
-ghost use Rattle.std.specs.Prelude.{◌≡◌, ◌+◌, ◌≤◌, ◌<◌, ◌∷◌, [], ◌-◌, ◌||◌, ◌==◌, length, drop, All, Err, OnOk, IfOk, IfErr};
+ghost use Rattle.std.specs.Prelude.{◌≡◌, ◌+◌, ◌≤◌, ◌<◌, ◌∷◌, [], ◌-◌, ◌||◌, ◌==◌, length, drop, All, Err, OnOk, IfOk};
+ghost use Rattle.std.specs.Prelude.{IfErr};
 ghost use Rattle.desk_ribbon.specs.Ribbon.{head_row, ribbon};
 ghost use Rattle.desk_job.specs.Answer.{IsMade, IsRefused, HasFaults, set_copy};
 ghost use Rattle.desk_lines.specs.Groups.{AreWidths};

@@ -4,7 +4,8 @@
 //! other
 //! line has only its spaces.
 
-ghost use Rattle.std.specs.Prelude.{◌≡◌, ◌+◌, ◌-◌, ◌*◌, ◌≤◌, ◌^◌, [], false, pos, ◌+ℤ◌, ◌-ℤ◌, ◌*ℤ◌, ◌≤ℤ◌, int_le, unsigned_abs, sum_by, length, All, if◌then◌else◌, ◌&&◌};
+ghost use Rattle.std.specs.Prelude.{◌≡◌, ◌+◌, ◌-◌, ◌*◌, ◌≤◌, ◌^◌, [], false, pos, ◌+ℤ◌, ◌-ℤ◌, ◌*ℤ◌, ◌≤ℤ◌, int_le};
+ghost use Rattle.std.specs.Prelude.{unsigned_abs, sum_by, length, All, if◌then◌else◌, ◌&&◌};
 ghost use Rattle.desk_lines.specs.Groups.{AreWidths};
 ghost use Rattle.desk_lines.specs.Words.{most_words};
 ghost use Rattle.desk_justify.specs.Filled.{fills_of, taken};

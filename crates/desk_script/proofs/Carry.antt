@@ -3,12 +3,12 @@ use Rattle.std.proofs.Common.{◌≡◌, ℕ, ◌==◌, true, false, List, [], �
 use Rattle.std.specs.Prelude.{Option, Some, None, IfSome}
 use Rattle.std.specs.Io.KnownBytes.{Consumes, IsAtEnd}
 use Rattle.std.proofs.lemmas.List.{append-nil}
-use Rattle.desk_steps.specs.Line.{Line, line_of}
+use Rattle.desk_script.specs.Line.{Line, line_of}
 use Rattle.desk_script.specs.Lines.{without_cr, lines}
 use Rattle.script_answers.specs.Text.{output}
 use Rattle.feed_files.specs.Files.{Shelf, Stays}
 use Rattle.script_world.specs.Sites.{Sites}
-use Rattle.desk_steps.specs.Desk.{Desk, desk}
+use Rattle.desk_script.specs.Desk.{Desk, desk}
 use Rattle.desk_script.specs.Script.{Turn, StopsWithin, StopsBefore, Answers, AnswersBefore, AnswersPrefix}
 use Rattle.desk_script.specs.Pending.{Breaks, BreaksBefore, Carries, Moves, Progress, last_line, lines_from}
 use Rattle.desk_script.proofs.Turns.{no_turn, turn_before, turn_turn, turn_prefix}

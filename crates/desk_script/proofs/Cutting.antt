@@ -6,7 +6,7 @@ use Rattle.std.proofs.lemmas.Bool.{ne_eqb}
 use Rattle.std.proofs.lemmas.Bool.Decides.{nat_tests}
 use Rattle.std.specs.List.{onto_first}
 use Rattle.std.proofs.lemmas.List.{append-nil}
-use Rattle.desk_steps.specs.Line.{Line, Bytes, Long, line_of, max_line}
+use Rattle.desk_script.specs.Line.{Line, Bytes, Long, line_of, max_line}
 use Rattle.desk_script.specs.Lines.{is_empty, pieces, without_cr, ended, lines_of_pieces, lines}
 use Rattle.desk_script.specs.Pending.{last_line, lines_from}
 use Rattle.desk_ops.proofs.Stamps.{by_cases}

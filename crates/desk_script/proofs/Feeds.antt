@@ -11,7 +11,7 @@ use Rattle.feed_files.specs.declared.files.FileRefusal.{FileRefusal}
 use Rattle.feed_files.specs.declared.files.FileRefusal.TheVariants as refusals
 use Rattle.feed_files.specs.Files.{HasFailed, HasRisen, IsCounted, Shelf}
 use Rattle.script_world.specs.Sites.{Sites, no_sites}
-use Rattle.desk_steps.specs.Desk.{KeepsSites}
+use Rattle.desk_script.specs.Desk.{KeepsSites}
 use Rattle.feed_stored.specs.declared.fault.OpenFault.{OpenFault}
 use Rattle.feed_stored.specs.declared.fault.OpenFault.TheVariants as openings
 use Rattle.desk_script.specs.declared.fault.LineFault.{LineFault}

@@ -5,8 +5,8 @@ use Rattle.desk_script.specs.Fault.{of_last}
 use Rattle.desk_script.specs.declared.fault.RoomFault.TheVariants as rooms
 use Rattle.desk_script.specs.declared.fault.RunFault.{RunFault}
 use Rattle.desk_script.specs.declared.fault.RunFault.TheVariants as faults
-use Rattle.feed_last.specs.declared.fault.LastFault.{LastFault}
-use Rattle.feed_last.specs.declared.fault.LastFault.TheVariants as lasts
+use Rattle.feed_stored.specs.declared.last_fault.LastFault.{LastFault}
+use Rattle.feed_stored.specs.declared.last_fault.LastFault.TheVariants as lasts
 
 pub run_same : (one other : RunFault) → rooms.Run one ≡ rooms.Run other → one ≡ other
 run_same one other is = cc

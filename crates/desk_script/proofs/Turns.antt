@@ -8,8 +8,8 @@ use Rattle.script_answers.specs.declared.text.Refusal.{Refusal}
 use Rattle.script_answers.specs.declared.text.Refusal.TheVariants as refusals
 use Rattle.script_answers.specs.Text.{text, output}
 use Rattle.feed_files.specs.Files.{Shelf, Stays}
-use Rattle.desk_steps.specs.Desk.{Desk}
-use Rattle.desk_steps.specs.Line.{Allows, Bytes, Line, Long}
+use Rattle.desk_script.specs.Desk.{Desk}
+use Rattle.desk_script.specs.Line.{Allows, Bytes, Line, Long}
 use Rattle.feed_stored.specs.Sending.{WritesPrefix}
 use Rattle.desk_script.specs.Script.{Script, Turn, StopsWithin, StopsBefore, IsReported}
 

@@ -10,8 +10,8 @@ use Rattle.desk_script.specs.declared.fault.RunFault.{RunFault}
 use Rattle.desk_script.specs.declared.fault.RunFault.TheVariants as faults
 use Rattle.desk_script.specs.declared.fault.RoomFault.{RoomFault}
 use Rattle.desk_script.specs.declared.fault.RoomFault.TheVariants as rooms
-use Rattle.feed_last.specs.declared.fault.LastFault.{LastFault}
-use Rattle.feed_last.specs.declared.fault.LastFault.TheVariants as lasts
+use Rattle.feed_stored.specs.declared.last_fault.LastFault.{LastFault}
+use Rattle.feed_stored.specs.declared.last_fault.LastFault.TheVariants as lasts
 
 -- the fault of a run, by that of the phase
 

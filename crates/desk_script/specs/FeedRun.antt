@@ -16,7 +16,7 @@ use Rattle.desk_script.specs.declared.fault.RunFault.{RunFault}
 use Rattle.feed_files.specs.declared.files.FileRefusal.{FileRefusal}
 use Rattle.desk_script.specs.Lines.{lines}
 use Rattle.script_world.specs.Sites.{Sites, no_sites}
-use Rattle.desk_steps.specs.Desk.{Desk}
+use Rattle.desk_script.specs.Desk.{Desk}
 use Rattle.desk_script.specs.Script.{Turn, StopsWithin, StopsBefore}
 
 -- a world of one site, which holds these operations
@@ -48,7 +48,8 @@ AnswersStored name n first last input before after =
     × IsStart name n held read start
     × (new : Desk) × AnswersAll start new input before after × IsStored name n new read last
 
--- a run that stopped among the lines: a prefix of the answers was written, and no file has changed; where a line was not kept, all answers before it were written
+-- a run that stopped among the lines: a prefix of the answers was written, and no file has changed; where a line was
+-- not kept, all answers before it were written
 abbrev pub IsBroken : List ℕ → ℕ → Shelf → Shelf → Option (List ℕ) → Option (List ℕ) → Option (List ℕ) → LineFault
     → Type 0
 IsBroken name n held last input before after why =

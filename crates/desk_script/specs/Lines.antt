@@ -1,7 +1,7 @@
 -- The lines of a script.
 use Rattle.std.specs.Prelude.{ℕ, Bool, true, false, ◌==◌, ◌&&◌, List, [], ◌∷◌, map, if◌then◌else◌}
 use Rattle.std.specs.List.{onto_first}
-use Rattle.desk_steps.specs.Line.{Line, line_of}
+use Rattle.desk_script.specs.Line.{Line, line_of}
 
 -- the pieces between line feeds, of which the last has no end
 abbrev pub pieces : List ℕ → List (List ℕ)

@@ -2,9 +2,9 @@
 use Rattle.std.specs.Prelude.{◌≡◌, ℕ, ◌==◌, true, false, List, [], ◌∷◌, ◌++◌, Option, Some, None}
 use Rattle.feed_files.specs.Files.{Shelf}
 use Rattle.script_world.specs.Sites.{Sites}
-use Rattle.desk_steps.specs.Line.{Line, line_of}
+use Rattle.desk_script.specs.Line.{Line, line_of}
 use Rattle.desk_script.specs.Lines.{without_cr}
-use Rattle.desk_steps.specs.Desk.{Desk, desk}
+use Rattle.desk_script.specs.Desk.{Desk, desk}
 use Rattle.desk_script.specs.Script.{Turn, StopsWithin, StopsBefore}
 
 -- a last line without an end counts if it is not empty

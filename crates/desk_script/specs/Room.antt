@@ -4,7 +4,7 @@ use Rattle.std.specs.FinMap as fin
 use Rattle.desk_ops.specs.OpSet.{OpSet}
 use Rattle.feed_files.specs.declared.files.FileRefusal.{FileRefusal}
 use Rattle.feed_files.specs.Files.{IsNowHeld, Shelf, Stays}
-use Rattle.desk_steps.specs.Desk.{Desk, desk}
+use Rattle.desk_script.specs.Desk.{Desk, desk}
 use Rattle.feed_stored.specs.Fault.{IsNotStored, IsUnread, IsUntaken}
 use Rattle.feed_stored.specs.declared.fault.OpenFault.{OpenFault}
 use Rattle.desk_script.specs.Fault.{of_file, of_last, of_lines, of_opening}
@@ -15,11 +15,11 @@ use Rattle.desk_script.specs.declared.fault.LineFault.{LineFault}
 use Rattle.desk_script.specs.declared.fault.LineFault.TheVariants as faults
 use Rattle.desk_script.specs.declared.fault.RoomFault.{RoomFault}
 use Rattle.desk_script.specs.declared.fault.RoomFault.TheVariants as rooms
-use Rattle.feed_last.specs.Greatest.{greatest_of}
-use Rattle.feed_last.specs.Last.{IsHeldBack, IsNotOlder}
-use Rattle.feed_last.specs.Room.{is_compared}
-use Rattle.feed_last.specs.Room as of_set
-use Rattle.feed_last.specs.declared.fault.LastFault.{LastFault}
+use Rattle.feed_stored.specs.Greatest.{greatest_of}
+use Rattle.feed_stored.specs.Last.{IsHeldBack, IsNotOlder}
+use Rattle.feed_stored.specs.Room.{is_compared}
+use Rattle.feed_stored.specs.Room as of_set
+use Rattle.feed_stored.specs.declared.last_fault.LastFault.{LastFault}
 
 -- the feed was compared, and holds no less of the site than it has made here; or it was not compared, and nothing was
 -- done
@@ -61,7 +61,8 @@ IsBarred name n older held last why =
     (read : Option (List ℕ)) × (start : Desk) × IsStart name n held read start
     × IsKeptOut name n (is_compared older read) start last why
 
--- a run that stopped among the lines: a prefix of the answers was written, and no file has changed; where a line was not kept, all answers before it were written
+-- a run that stopped among the lines: a prefix of the answers was written, and no file has changed; where a line was
+-- not kept, all answers before it were written
 abbrev pub IsBroken : List ℕ → ℕ → Bool → Shelf → Shelf → Option (List ℕ) → Option (List ℕ) → Option (List ℕ)
     → LineFault → Type 0
 IsBroken name n older held last input before after why =
@@ -76,7 +77,8 @@ IsUnstored name n older held last input before after why =
     (read : Option (List ℕ)) × (begun : Desk) × IsBegun name n older held read begun × (new : Desk)
     × AnswersAll begun new input before after × IsNotStored name new.shelf last why
 
--- Why a run stopped that had taken the name, and what it left: as a run on a feed; and where the feed was not let in nothing was written.
+-- Why a run stopped that had taken the name, and what it left: as a run on a feed; and where the feed was not let in
+-- nothing was written.
 abbrev pub IsStoppedHere : List ℕ → ℕ → Bool → Shelf → Shelf → Option (List ℕ) → Option (List ℕ) → Option (List ℕ)
     → RoomFault → Type 0
 IsStoppedHere name n older held last input before after fault =

@@ -1,14 +1,14 @@
 -- Which answers a script may get.
 use Rattle.std.specs.Prelude.{◌≡◌, ◌⊎◌, ℕ, true, List, [], ◌∷◌, ◌++◌, Option}
 use Rattle.std.specs.Io.KnownBytes.{Appends}
-use Rattle.desk_steps.specs.Line.{Line}
+use Rattle.desk_script.specs.Line.{Line}
 use Rattle.desk_script.specs.Lines.{lines}
 use Rattle.script_answers.specs.Reply.{ReplyValues, Refused, is_long}
 use Rattle.script_answers.specs.declared.text.Refusal.TheVariants as refusals
 use Rattle.script_answers.specs.Text.{output}
 use Rattle.feed_files.specs.Files.{Shelf, Stays}
-use Rattle.desk_steps.specs.Desk.{Desk}
-use Rattle.desk_steps.specs.Line.{Allows}
+use Rattle.desk_script.specs.Desk.{Desk}
+use Rattle.desk_script.specs.Line.{Allows}
 use Rattle.feed_stored.specs.Sending.{WritesPrefix}
 
 -- what is written for a reply: it, or if it is a long one and its text finds no memory, that refusal

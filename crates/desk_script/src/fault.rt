@@ -8,8 +8,7 @@ ghost use Rattle.desk_script.specs.declared.fault.RoomFault.TheVariants as rooms
 use desk_codec::FeedFault;
 use desk_replica::Stopped;
 use feed_files::FileRefusal;
-use feed_last::LastFault;
-use feed_stored::{OpenFault, Unsent};
+use feed_stored::{LastFault, OpenFault, Unsent};
 use std::alloc::AllocFailed;
 use thiserror::Error;
 

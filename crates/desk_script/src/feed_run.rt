@@ -7,15 +7,15 @@ ghost use Rattle.desk_ops.specs.declared.op.Op.{Op};
 ghost use Rattle.desk_ops.specs.OpSet.{OpSet, max_ops, no_ops, size, with_all};
 ghost use Rattle.feed_stored.specs.Fault.{IsNotStored};
 ghost use Rattle.feed_files.specs.Files.{HasFailed, HoldsOn, IsHeldAlone, Stays};
-ghost use Rattle.desk_steps.specs.Desk.{desk};
+ghost use Rattle.desk_script.specs.Desk.{desk};
 ghost use Rattle.feed_stored.specs.Stored.{Stores, was_read};
 ghost use Rattle.desk_script.specs.FeedRun.{AnswersStored, IsStoppedOnFeed, IsStored, IsUnbegun, one_site};
 
 use crate::fault::RunFault;
 use crate::stream::answer_all;
-use desk_inputs::Memory;
 use feed_files::{FileRefusal, Files};
 use feed_stored::{OpenFault, keep_replica, open_replica, stored_bytes};
+use script_answers::Memory;
 use script_world::World;
 use std::alloc::{Allocator, Global};
 use std::io::{Read, Write};
@@ -56,10 +56,10 @@ pub fn keep_feed<F: Files, A: Allocator + Copy>(
     keep_replica(alloc, replica, files, name, old)
 }
 
-/// Runs a script on a stored feed, whose name it takes first, and for itself alone: where another run has it, nothing is
-/// read, answered or stored. Then the site holds the operations of the named file, or none where that is not there. Once
-/// all commands were answered the feed of that site alone is stored under the name, in place of the old one, unless the
-/// file has these bytes; before that no file is changed, and after an `Err` none but `name.new`. What was
+/// Runs a script on a stored feed, whose name it takes first, and for itself alone: where another run has it, nothing
+/// is read, answered or stored. Then the site holds the operations of the named file, or none where that is not there.
+/// Once all commands were answered the feed of that site alone is stored under the name, in place of the old one,
+/// unless the file has these bytes; before that no file is changed, and after an `Err` none but `name.new`. What was
 /// written then is a prefix of answer lines, or nothing. The name stays taken until the files end.
 pub fn run_on_feed<R: Read, W: Write, F: Files, A: Allocator + Copy>(
     alloc: A,

@@ -1,13 +1,14 @@
 //! Scripts, read and answered line by line.
 
-ghost use Rattle.std.specs.Prelude.{◌≡◌, ◌≢◌, ℕ, ◌≤◌, ◌++◌, ◌∷◌, [], List, OnOk, OnErr, IfErr, IfOk, IfSome, IsErrOf, length, string_bytes};
+ghost use Rattle.std.specs.Prelude.{◌≡◌, ◌≢◌, ℕ, ◌≤◌, ◌++◌, ◌∷◌, [], List, OnOk, OnErr, IfErr, IfOk, IfSome, IsErrOf};
+ghost use Rattle.std.specs.Prelude.{length, string_bytes};
 ghost use Rattle.std.specs.Io.KnownBytes.{Appends, IsAtEnd, Keeps};
-ghost use Rattle.desk_steps.specs.Line.{Line, line_of};
+ghost use Rattle.desk_script.specs.Line.{Line, line_of};
 ghost use Rattle.desk_script.specs.Lines.{without_cr};
 ghost use Rattle.script_answers.specs.Reply.{ReplyValues, reply_values};
 ghost use Rattle.script_answers.specs.Text.{text};
 ghost use Rattle.script_world.specs.Sites.{Sites, no_sites};
-ghost use Rattle.desk_steps.specs.Desk.{KeepsSites, desk};
+ghost use Rattle.desk_script.specs.Desk.{KeepsSites, desk};
 ghost use Rattle.feed_files.specs.Files.{Stays};
 ghost use Rattle.desk_script.specs.Script.{Turn, StopsWithin, Answers, AnswersBefore, AnswersPrefix, IsReported};
 ghost use Rattle.feed_stored.specs.Sending.{WritesPrefix};
@@ -15,12 +16,11 @@ ghost use Rattle.desk_script.specs.Fault.{IsOfLines};
 ghost use Rattle.desk_script.specs.Pending.{Breaks, BreaksBefore, Moves, last_line, lines_from, progress};
 
 use crate::fault::{LineFault, RunFault};
-use desk_inputs::Memory;
+use crate::{MAX_LINE, answer};
 use desk_memory::NoMemory;
-use desk_steps::{MAX_LINE, answer};
 use feed_files::Files;
 use feed_stored::let_out;
-use script_answers::{Reply, put, short};
+use script_answers::{Memory, Reply, put, short};
 use script_world::World;
 use std::alloc::{Allocator, Global};
 use std::io::{Read, Write};
@@ -311,10 +311,9 @@ pub fn answer_all<R: Read, W: Write, F: Files, A: Allocator + Copy>(
 }
 
 /// Reads commands to their end, on a world that has no site yet, and writes the line of each one's answer. Memory that
-/// is
-/// refused to a command is an answer: `NoMemory` comes only where a line cannot be kept, and then every answer before it
-/// was written. After any other `Err` what was written is a prefix of such lines. The reading of a case or a wedge
-/// takes the global allocator alone.
+/// is refused to a command is an answer: `NoMemory` comes only where a line cannot be kept, and then every answer
+/// before it was written. After any other `Err` what was written is a prefix of such lines. The reading of a case or a
+/// wedge takes the global allocator alone.
 pub fn run<R: Read, W: Write, F: Files, A: Allocator + Copy>(
     alloc: A,
     global: Global,

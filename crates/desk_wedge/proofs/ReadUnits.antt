@@ -7,9 +7,9 @@ use Rattle.std.proofs.lemmas.List.Elements.{All-push, All-nil}
 use Rattle.std.proofs.Math.ListN.{set, length-set}
 use Rattle.toml.specs.declared.value.Value.{Value}
 use Rattle.toml.specs.View.{view, items_view}
-use Rattle.desk_keys.specs.Keys.{number_of}
-use Rattle.desk_keys.specs.Items.{each_of, so_many}
-use Rattle.desk_keys.proofs.Items.{AreReadTo, none_read, one_read, fault_read, wrong_length, right_length}
+use Rattle.desk_wedge.specs.Keys.{number_of}
+use Rattle.desk_wedge.specs.Items.{each_of, so_many}
+use Rattle.desk_wedge.proofs.Items.{AreReadTo, none_read, one_read, fault_read, wrong_length, right_length}
 use Rattle.desk_wedge.specs.Wedge.{IsUnits, AreUnits}
 
 pub other_length : (vs : List Value) → length vs ≢ 15 → None ≡ option_and_then (so_many 15 15) (each_of (number_of 1 24) (items_view vs))

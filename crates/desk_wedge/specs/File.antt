@@ -5,10 +5,10 @@ use Rattle.std.specs.Str.{bytes_eq}
 use Rattle.toml.specs.Data.{Data, Members, as_str}
 use Rattle.desk_units.specs.declared.Pica.{Pica}
 use Rattle.desk_units.specs.declared.Pica.TheVariants.{Sixth, American}
-use Rattle.desk_keys.specs.Keys.{◌>>=◌, number_of, value_at, file_of}
-use Rattle.desk_keys.specs.Items.{array_of}
-use Rattle.desk_keys.specs.declared.TableFault.{TableFault}
-use Rattle.desk_keys.specs.declared.TableFault.TheVariants as table
+use Rattle.desk_wedge.specs.Keys.{◌>>=◌, number_of, value_at, file_of}
+use Rattle.desk_wedge.specs.Items.{array_of}
+use Rattle.desk_wedge.specs.declared.keys.TableFault.{TableFault}
+use Rattle.desk_wedge.specs.declared.keys.TableFault.TheVariants as table
 use Rattle.desk_wedge.specs.declared.WedgeKey.{WedgeKey}
 use Rattle.desk_wedge.specs.declared.WedgeKey.TheVariants as key
 use Rattle.desk_wedge.specs.declared.WedgeFault.{WedgeFault}

@@ -1,9 +1,11 @@
 //! The normal wedge: the units of each row of the matrix case, read from the wedge's file.
 //!
 //! In the Monotype system the wedge gives all matrices of a row one width, so how wide a symbol is depends on its row
-//! alone. The file is TOML; of several faults the first in a fixed order is reported.
+//! alone. The file is TOML; of several faults the first in a fixed order is reported. `keys` reads the keys of such a
+//! file, one after another.
 #![tactic(auto)]
 
+mod keys;
 pub mod laws;
 
 ghost use Rattle.std.specs.Prelude.{◌≡◌, ◌≢◌, ◌≤◌, Ok, Err, None, IfOk, IfErr, IfSome, option_and_then};
@@ -11,16 +13,17 @@ ghost use Rattle.std.specs.List.Sorted.{IsNonDecreasing};
 ghost use Rattle.desk_wedge.specs.File.{key_name, fault_number, table_fault, pica_of, units_of, first_descent, at_key};
 ghost use Rattle.desk_wedge.specs.File.{wedge_of_members, wedge_of};
 ghost use Rattle.desk_wedge.specs.Wedge.{units_of_row, IsUnits, AreUnits, IsWedge};
-ghost use Rattle.desk_keys.specs.Keys.{number_of};
-ghost use Rattle.desk_keys.specs.Items.{each_of, so_many};
+ghost use Rattle.desk_wedge.specs.Keys.{number_of};
+ghost use Rattle.desk_wedge.specs.Items.{each_of, so_many};
 ghost use Rattle.desk_wedge.specs.declared.WedgeFault.TheVariants as fault;
 ghost use Rattle.desk_wedge.specs.declared.WedgeKey.TheVariants as key;
 ghost use Rattle.toml.specs.Errors.{IsBlank};
 ghost use Rattle.toml.specs.View.{view, items_view, table_view};
 
-use desk_keys::{TableFault, member, whole_number};
+use crate::{TableFault, member, whole_number};
 use desk_signals::RowNo;
 use desk_units::{Pica, SetQ};
+pub use keys::{TableFault, member, table, whole_number};
 use std::alloc::Global;
 use std::marker::Model;
 use thiserror::Error;
@@ -216,7 +219,7 @@ impl Wedge {
         ensures err { IfErr result (λ e. e ≢ fault.NoMemory → wedge_of bytes.now ≡ Err e) }
         ensures memory { result ≡ Err fault.NoMemory → ¬ IsBlank bytes.now }
     {
-        let table = desk_keys::table(alloc, bytes)?;
+        let table = crate::table(alloc, bytes)?;
         Wedge::from_table(&table)
     }
 

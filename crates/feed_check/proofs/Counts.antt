@@ -7,8 +7,8 @@ use Rattle.toml.specs.Data.{Data, Items, as_array, as_str, item, no_items}
 use Rattle.toml.specs.declared.value.Value.{Value}
 use Rattle.toml.specs.View.{view, items_view}
 use Rattle.toml.proofs.Views.{items_view-drop}
-use Rattle.desk_keys.specs.Items.{each_of}
-use Rattle.desk_keys.proofs.Items.{AreReadTo, all_read, each_length, fault_read, none_read, one_read}
+use Rattle.desk_wedge.specs.Items.{each_of}
+use Rattle.desk_wedge.proofs.Items.{AreReadTo, all_read, each_length, fault_read, none_read, one_read}
 use Rattle.feed_check.specs.Rows.{count, first_row, row_or, rows_fault_of, texts_in, wanted_by}
 use Rattle.feed_check.specs.declared.rows.RowsFault.{RowsFault}
 use Rattle.feed_check.specs.declared.rows.RowsFault.TheVariants as faults

@@ -2,7 +2,7 @@
 use Rattle.std.specs.Prelude.{ℕ, Bool, ◌||◌, if◌then◌else◌, List, Option, Some, None, eqb, is_some}
 use Rattle.std.specs.List.{starts_with}
 use Rattle.toml.specs.Data.{Members, get_member}
-use Rattle.desk_keys.specs.Keys.{document}
+use Rattle.desk_wedge.specs.Keys.{document}
 use Rattle.desk_codec.specs.Feed as feeds
 use Rattle.desk_caster.specs.Reading as ribbons
 use Rattle.desk_case.specs.File as case_files

@@ -1,7 +1,8 @@
 -- The rows of a case file, where their number, or the number of the texts of one, is not the one wanted.
-use Rattle.std.specs.Prelude.{ℕ, suc, ◌==◌, if◌then◌else◌, List, length, Option, Some, None, option_and_then, option_map}
+use Rattle.std.specs.Prelude.{ℕ, suc, ◌==◌, if◌then◌else◌, List, length, Option, Some, None, option_and_then}
+use Rattle.std.specs.Prelude.{option_map}
 use Rattle.toml.specs.Data.{Data, Items, as_array, as_str, item, no_items}
-use Rattle.desk_keys.specs.Items.{each_of}
+use Rattle.desk_wedge.specs.Items.{each_of}
 use Rattle.desk_case.specs.declared.CaseFault.{CaseFault}
 use Rattle.desk_case.specs.declared.CaseFault.TheVariants as cases
 use Rattle.desk_case.specs.declared.CaseKey.TheVariants as keys

@@ -1,8 +1,9 @@
 -- Bytes of no kind, with the line where they are no document.
-use Rattle.std.specs.Prelude.{◌≡◌, ◌⊎◌, ◌≤◌, ℕ, ◌+◌, ◌==◌, if◌then◌else◌, List, [], ◌∷◌, ◌++◌, codes, length, take, Some, None}
+use Rattle.std.specs.Prelude.{◌≡◌, ◌⊎◌, ◌≤◌, ℕ, ◌+◌, ◌==◌, if◌then◌else◌, List, [], ◌∷◌, ◌++◌, codes, length, take}
+use Rattle.std.specs.Prelude.{Some, None}
 use Rattle.std.specs.Fmt.{decimal}
 use Rattle.toml.specs.Data.{Members}
-use Rattle.desk_keys.specs.Keys.{document}
+use Rattle.desk_wedge.specs.Keys.{document}
 
 abbrev pub strange_words : List ℕ
 strange_words = codes "neither a feed, a ribbon, a case nor a wedge"

@@ -1,5 +1,6 @@
 -- What is said of a file, without its name.
-use Rattle.std.specs.Prelude.{ℕ, ◌/◌, ◌%◌, ◌==◌, if◌then◌else◌, List, [], ◌∷◌, ◌++◌, length, codes, Option, Some, None, option_map, Result, Ok, Err}
+use Rattle.std.specs.Prelude.{ℕ, ◌/◌, ◌%◌, ◌==◌, if◌then◌else◌, List, [], ◌∷◌, ◌++◌, length, codes, Option, Some, None}
+use Rattle.std.specs.Prelude.{option_map, Result, Ok, Err}
 use Rattle.std.specs.Fmt.{decimal}
 use Rattle.desk_ops.specs.declared.op.Symbol.{Symbol}
 use Rattle.desk_ops.specs.OpSet.{OpSet, max_ops, size}
@@ -175,8 +176,8 @@ abbrev pub shape_words : CaseKey → Option RowsFault → List ℕ
 shape_words key None = codes "`" ++ case_files.key_name key ++ codes "` is of another type, number, length or name"
 shape_words key (Some fault) = codes "`" ++ case_files.key_name key ++ codes "`: " ++ rows_fault_words fault
 
--- the fault of a case file, with the cells that hold its symbol and the number that is wrong in its rows; where memory ran out,
--- nothing is written
+-- the fault of a case file, with the cells that hold its symbol and the number that is wrong in its rows; where memory
+-- ran out, nothing is written
 abbrev pub case_fault_words : List Cell → Option RowsFault → CaseFault → Option (List ℕ)
 case_fault_words holders rows_fault cases.NotToml = Some (codes "it is not TOML")
 case_fault_words holders rows_fault (cases.Missing key) =

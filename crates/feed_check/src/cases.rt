@@ -1,6 +1,7 @@
 //! What is said of the bytes of a case file.
 
-ghost use Rattle.std.specs.Prelude.{◌≡◌, ◌≤◌, ◌<◌, ◌*◌, ◌++◌, Err, IfOk, Ok, OnOk, Some, false, option_map, string_bytes, true};
+ghost use Rattle.std.specs.Prelude.{◌≡◌, ◌≤◌, ◌<◌, ◌*◌, ◌++◌, Err, IfOk, Ok, OnOk, Some, false, option_map};
+ghost use Rattle.std.specs.Prelude.{string_bytes, true};
 ghost use Rattle.desk_case.specs.Case.{IsCase};
 ghost use Rattle.desk_case.specs.File.{case_of};
 ghost use Rattle.feed_check.specs.Lines.{SaysCase};
@@ -8,7 +9,8 @@ ghost use Rattle.feed_check.specs.Metal.{of_case};
 ghost use Rattle.feed_check.specs.Rows.{fault_rows};
 ghost use Rattle.feed_check.specs.Sorts.{sort_at, sorts};
 ghost use Rattle.feed_check.specs.Texts.{cells_in, fault_holders};
-ghost use Rattle.feed_check.specs.Words.{around_words, case_fault_words, case_words, cell_fault_words, cells_words, counted_words};
+ghost use Rattle.feed_check.specs.Words.{around_words, case_fault_words, case_words, cell_fault_words, cells_words};
+ghost use Rattle.feed_check.specs.Words.{counted_words};
 ghost use Rattle.feed_check.specs.Words.{doubled_from, doubled_words, held_words, number_words, other_words, row_words};
 ghost use Rattle.feed_check.specs.Words.{rows_fault_words, shape_words, sorts_words, twice_words};
 

@@ -2,7 +2,8 @@
 
 ghost use Rattle.std.specs.Prelude.{◌≡◌, ◌&&◌, false, IfErr, IfOk, OnErr, Some, map, option_map, string_bytes};
 ghost use Rattle.feed_files.specs.Files.{Stays};
-ghost use Rattle.feed_check.specs.Checking.{IsChecked, IsEnded, IsLine, IsRead, IsUnchecked, IsUnended, IsUnsaid, SaysLine};
+ghost use Rattle.feed_check.specs.Checking.{IsChecked, IsEnded, IsLine, IsRead, IsUnchecked, IsUnended, IsUnsaid};
+ghost use Rattle.feed_check.specs.Checking.{SaysLine};
 ghost use Rattle.feed_check.specs.Lines.{line_of};
 ghost use Rattle.feed_check.specs.Metal.{unfit_of};
 ghost use Rattle.feed_check.specs.Words.{refusal_words};
@@ -10,10 +11,10 @@ ghost use Rattle.feed_check.specs.Words.{refusal_words};
 use crate::fault::CheckFault;
 use crate::metal::{Found, Metal, unfit};
 use crate::reported::{Reported, reported_of};
-use desk_inputs::Memory;
 use desk_memory::NoMemory;
 use feed_files::{FileRefusal, Files};
 use feed_stored::write_out;
+use script_answers::Memory;
 use std::alloc::Allocator;
 use std::io::Write;
 use text_copy::put_plain;
@@ -89,7 +90,8 @@ fn check_file<W: Write, F: Files, A: Allocator + Copy>(
     Ok((well, found))
 }
 
-/// Writes the line of the only case and the only wedge, where they do not go together, and returns whether none is written.
+/// Writes the line of the only case and the only wedge, where they do not go together, and returns whether none is
+/// written.
 fn check_metal<W: Write, A: Allocator + Copy>(
     alloc: A,
     writer: &mut W,

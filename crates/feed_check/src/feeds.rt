@@ -2,7 +2,8 @@
 
 ghost use Rattle.std.specs.Prelude.{◌≡◌, ◌++◌, IfOk, OnOk, false, string_bytes, true};
 ghost use Rattle.feed_check.specs.Lines.{SaysFeed};
-ghost use Rattle.feed_check.specs.Words.{crowded_words, feed_fault_words, operations_words, set_words, shown_words, why_words};
+ghost use Rattle.feed_check.specs.Words.{crowded_words, feed_fault_words, operations_words, set_words, shown_words};
+ghost use Rattle.feed_check.specs.Words.{why_words};
 
 use crate::reported::Reported;
 use desk_blocks::Blocks;

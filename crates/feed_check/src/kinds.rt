@@ -2,13 +2,12 @@
 
 ghost use Rattle.std.specs.Prelude.{◌≡◌, IfOk, option_map};
 ghost use Rattle.toml.specs.View.{table_view};
-ghost use Rattle.desk_keys.specs.Keys.{document};
+ghost use Rattle.desk_wedge.specs.Keys.{document};
 ghost use Rattle.feed_check.specs.Kinds.{begins, has_key, kind_of, kind_of_members};
 
 use desk_case::CaseKey;
-use desk_keys::{TableFault, member, table};
 use desk_memory::NoMemory;
-use desk_wedge::WedgeKey;
+use desk_wedge::{TableFault, WedgeKey, member, table};
 use std::alloc::Global;
 use toml::Table;
 

@@ -11,8 +11,8 @@ use crate::metal::Found;
 use crate::ribbons::ribbon_reported;
 use crate::strange::strange_reported;
 use crate::wedges::wedge_reported;
-use desk_inputs::Memory;
 use desk_memory::NoMemory;
+use script_answers::Memory;
 use std::alloc::Allocator;
 
 /// What is said of a file, without its name, and whether it is in order.

@@ -2,13 +2,14 @@
 
 ghost use Rattle.std.specs.Prelude.{◌≡◌, IfOk, option_map};
 ghost use Rattle.toml.specs.View.{items_view, view};
-ghost use Rattle.feed_check.specs.Rows.{fault_rows, first_row, rows_fault, rows_fault_in, rows_fault_of, texts_in, wanted_by, wanted_of};
+ghost use Rattle.feed_check.specs.Rows.{fault_rows, first_row, rows_fault, rows_fault_in, rows_fault_of, texts_in};
+ghost use Rattle.feed_check.specs.Rows.{wanted_by, wanted_of};
 ghost use Rattle.feed_check.specs.Texts.{rows_in};
 
 use crate::kinds::document;
 use desk_case::{COLUMNS, CaseFault, CaseKey, ROWS};
-use desk_keys::member;
 use desk_memory::NoMemory;
+use desk_wedge::member;
 use std::alloc::Global;
 use toml::Value;
 

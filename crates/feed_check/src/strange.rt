@@ -1,7 +1,8 @@
 //! What is said of bytes of no kind.
 
 ghost use Rattle.std.specs.Prelude.{◌≡◌, ◌≤◌, ◌++◌, IfOk, MatchOption, OnOk, false, length, string_bytes};
-ghost use Rattle.feed_check.specs.Strange.{IsDocument, IsNone, SaysStrange, line_at, line_feeds, line_words, strange_words};
+ghost use Rattle.feed_check.specs.Strange.{IsDocument, IsNone, SaysStrange, line_at, line_feeds, line_words};
+ghost use Rattle.feed_check.specs.Strange.{strange_words};
 
 use crate::reported::Reported;
 use desk_memory::NoMemory;

@@ -1,17 +1,19 @@
 //! The texts of a case file's cells.
 
-ghost use Rattle.std.specs.Prelude.{◌≡◌, ◌≤◌, ◌++◌, ◌<◌, ◌*◌, IfOk, OnOk, Some, option_and_then, option_map, string_bytes};
+ghost use Rattle.std.specs.Prelude.{◌≡◌, ◌≤◌, ◌++◌, ◌<◌, ◌*◌, IfOk, OnOk, Some, option_and_then, option_map};
+ghost use Rattle.std.specs.Prelude.{string_bytes};
 ghost use Rattle.toml.specs.View.{table_view, view};
-ghost use Rattle.desk_keys.specs.Keys.{document};
-ghost use Rattle.feed_check.specs.Texts.{cells_in, cells_of, fault_holders, holder, holders, holders_of, is_text, mark_in_file, one_text, rows_in, text_at, text_in_file, texts};
+ghost use Rattle.desk_wedge.specs.Keys.{document};
+ghost use Rattle.feed_check.specs.Texts.{cells_in, cells_of, fault_holders, holder, holders, holders_of, is_text};
+ghost use Rattle.feed_check.specs.Texts.{mark_in_file, one_text, rows_in, text_at, text_in_file, texts};
 
 use crate::kinds::document;
 use desk_case::names::cell_of_place;
 use desk_case::{COLUMNS, CaseFault, CaseKey, ROWS};
-use desk_keys::member;
 use desk_memory::NoMemory;
 use desk_ops::{Style, Symbol};
 use desk_signals::Cell;
+use desk_wedge::member;
 use std::alloc::{AllocError, Allocator, Global};
 use toml::Value;
 

@@ -4,7 +4,8 @@ ghost use Rattle.std.specs.Prelude.{◌≡◌, ◌++◌, ◌<◌, Err, IfOk, OnO
 ghost use Rattle.feed_check.specs.Lines.{SaysWedge};
 ghost use Rattle.feed_check.specs.Metal.{of_wedge};
 ghost use Rattle.desk_wedge.specs.File.{wedge_of};
-ghost use Rattle.feed_check.specs.Words.{count_words, pica_word, points_words, quarter_words, set_q_words, values_words, wedge_fault_words, wedge_words};
+ghost use Rattle.feed_check.specs.Words.{count_words, pica_word, points_words, quarter_words, set_q_words};
+ghost use Rattle.feed_check.specs.Words.{values_words, wedge_fault_words, wedge_words};
 
 use crate::metal::Found;
 use crate::reported::Reported;

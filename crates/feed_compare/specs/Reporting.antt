@@ -41,7 +41,8 @@ abbrev pub IsReported : List ℕ → List ℕ → Shelf → Option (List ℕ) �
 IsReported one other shelf before after same = (reported : List ℕ) × IsDifference one other shelf reported same
     × Appends before after reported
 
--- why not all of it was written, and what was: nothing, or under Write a prefix. Write and out of memory come where both feeds were opened and no file call failed
+-- why not all of it was written, and what was: nothing, or under Write a prefix. Write and out of memory come where
+-- both feeds were opened and no file call failed
 abbrev pub IsUnreported : List ℕ → List ℕ → Shelf → Shelf → Option (List ℕ) → Option (List ℕ) → DifferenceFault → Type 0
 IsUnreported one other first last before after (faults.One why) = (after ≡ before) × IsClosedBy one first last why
 IsUnreported one other first last before after (faults.Other why) =

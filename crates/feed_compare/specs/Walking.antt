@@ -4,7 +4,8 @@ use Rattle.desk_ops.specs.declared.op.Symbol.{Symbol}
 use Rattle.feed_compare.specs.declared.stretch.Point.{Point}
 use Rattle.feed_compare.specs.declared.stretch.Stretch.{Stretch}
 use Rattle.feed_compare.specs.declared.stretches.Front.{Front}
-use Rattle.feed_compare.specs.Stretches.{AreApart, AreSame, BeginsApart, DifferIn, IsReached, is_whole, of_one, of_other, start}
+use Rattle.feed_compare.specs.Stretches.{AreApart, AreSame, BeginsApart, DifferIn, IsReached, is_whole, of_one}
+use Rattle.feed_compare.specs.Stretches.{of_other, start}
 
 -- no prefix of what two copies have behind a point is the same
 abbrev pub IsParted : List Symbol → List Symbol → Point → Type 0
@@ -22,7 +23,8 @@ pub record IsStep (one other : List Symbol) (from to : Point) : Type 0 where
   pub farther : from.one + from.other < to.one + to.other
   pub along : IsAlong one other from to ⊎ IsParted one other from
 
--- the copies are the same between a point where words are whole and another, and no word that is whole ends in between, up to a place
+-- the copies are the same between a point where words are whole and another, and no word that is whole ends in between,
+-- up to a place
 pub record IsAlike (one other : List Symbol) (front : Front) (point : Point) (limit : ℕ) : Type 0 where
   pub same : AreSame one other front.open point
   pub last : front.last ≡ front.open
@@ -36,7 +38,8 @@ EndBefore place (stretch ∷ stretches) = (stretch.to.one < place) × EndBefore 
 
 -- how far a walk that has come to a point has compared the copies: the stretches are those up to `open`, and `last` is
 -- the last point at which words are whole; up to the limit no words behind `open` are the same in both
-pub record HasReported (one other : List Symbol) (stretches : List Stretch) (front : Front) (point : Point) (limit : ℕ) : Type 0 where
+pub record HasReported (one other : List Symbol) (stretches : List Stretch) (front : Front) (point : Point) (limit : ℕ)
+    : Type 0 where
   pub reported : DifferIn one other start stretches front.open
   pub apart : AreApart stretches
   pub behind : EndBefore front.open.one stretches

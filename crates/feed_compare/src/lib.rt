@@ -2,7 +2,7 @@
 //! differ.
 //!
 //! Stamps go by site and then by counter. A stretch of words begins and ends where words are whole in both copies.
-//! `desk_changes` only advises where copies part, so no clause says that stretches are few. Last come the readings that
+//! `text_copy` only advises where copies part, so no clause says that stretches are few. Last come the readings that
 //! a merge would open (`feed_readings`), unless both together are more than a replica holds.
 //!
 //! It takes no name. It refuses a feed that is missing or does not open, the first before the other.

@@ -81,8 +81,8 @@ pub fn put_words<A: Allocator + Copy>(
     put_stretches(alloc, out, &one, &other, &stretches)
 }
 
-/// The lines of the readings that are open where the second replica joins the first. Where that brings nothing new, or both
-/// are more than a replica holds, there are none.
+/// The lines of the readings that are open where the second replica joins the first. Where that brings nothing new, or
+/// both are more than a replica holds, there are none.
 fn readings_lines<A: Allocator + Copy>(
     alloc: A,
     mut first: Replica<Blocks<A>>,

@@ -54,15 +54,13 @@ fn write_difference<W: Write, A: Allocator + Copy>(
 
 /// Writes in what two stored feeds differ, and answers whether they hold the same operations. Each feed has a line,
 /// `one.feed alone 1: 20..25 31, 3: 7` or `one.feed alone none`: the stamps of the operations that it holds and the
-/// other
-/// does not, by site, each site with its counters, and two or more that follow one another as the first and the last.
-/// An operation whose stamp the other holds with other content is one of them. Then each stretch of words in which the
-/// copies differ has two lines, `- 12 the quick` with its place in the first copy, from 0, and the words there, and
-/// `+ 12 the slow` with those of the other: text with marks for its styles, the end of a line as a space. Outside the
-/// stretches the copies are the same. Last stand the readings that would be open, if the other feed were merged into
-/// the
-/// first, as `merge_feeds` has them; none where both are more than a replica holds. Both files must be there. No name is
-/// taken, and no file changes. A refusal of a feed or of memory comes before anything is written.
+/// other does not, by site, each site with its counters, and two or more that follow one another as the first and the
+/// last. An operation whose stamp the other holds with other content is one of them. Then each stretch of words in
+/// which the copies differ has two lines, `- 12 the quick` with its place in the first copy, from 0, and the words
+/// there, and `+ 12 the slow` with those of the other: text with marks for its styles, the end of a line as a space.
+/// Outside the stretches the copies are the same. Last stand the readings that would be open, if the other feed were
+/// merged into the first, as `merge_feeds` has them; none where both are more than a replica holds. Both files must be
+/// there. No name is taken, and no file changes. A refusal of a feed or of memory comes before anything is written.
 pub fn report_difference<W: Write, F: Files, A: Allocator + Copy>(
     alloc: A,
     writer: &mut W,

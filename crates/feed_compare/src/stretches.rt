@@ -1,14 +1,15 @@
 //! The words in which two copies differ.
 
 ghost use Rattle.std.specs.Prelude.{◌≡◌, ◌↔◌, ◌⊎◌, ◌+◌, ◌<◌, IfOk, OnOk, length, true};
-ghost use Rattle.feed_compare.specs.Stretches.{AreApart, AreStretches, BeginsApart, DifferIn, IsReached, ends, is_whole, of_one, of_other, start};
+ghost use Rattle.feed_compare.specs.Stretches.{AreApart, AreStretches, BeginsApart, DifferIn, IsReached, ends};
+ghost use Rattle.feed_compare.specs.Stretches.{is_whole, of_one, of_other, start};
 ghost use Rattle.feed_compare.specs.Walking.{EndBefore, HasReported, IsStep};
 
 use crate::stretch::{Point, Stretch, is_whole};
-use desk_changes::{Change, changes};
 use desk_memory::NoMemory;
 use desk_ops::Symbol;
 use std::alloc::{AllocError, Allocator};
+use text_copy::{Change, changes};
 
 /// How far two copies were compared: their stretches are known up to `open`, and words are whole at `last`.
 #[derive(Clone, Copy)]

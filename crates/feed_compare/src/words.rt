@@ -3,7 +3,8 @@
 ghost use Rattle.std.specs.Prelude.{◌≡◌, ◌++◌, ◌≤◌, IfOk, OnOk, length, string_bytes};
 ghost use Rattle.std.specs.Fmt.{decimal};
 ghost use Rattle.feed_compare.specs.Stretches.{AreStretches, IsReached};
-ghost use Rattle.feed_compare.specs.Words.{stretch_lines, stretches_lines, words_between, words_end, words_line, words_text};
+ghost use Rattle.feed_compare.specs.Words.{stretch_lines, stretches_lines, words_between, words_end, words_line};
+ghost use Rattle.feed_compare.specs.Words.{words_text};
 
 use crate::stretch::{Stretch, begins_word};
 use desk_memory::NoMemory;

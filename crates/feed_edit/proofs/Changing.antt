@@ -14,9 +14,9 @@ use Rattle.desk_ops.specs.OpSet.{OpSet, max_ops, size, with_op}
 use Rattle.desk_ops.specs.Held.{greatest_counter_of}
 use Rattle.desk_ops.specs.Shown.{copy_of, shown_of}
 use Rattle.text_copy.specs.Laws.{AreLawful}
-use Rattle.desk_changes.specs.Changes.{AddsOf, AreSparing, all_changed, and_then, between, changed}
-use Rattle.desk_changes.specs.declared.making.Change.{Change}
-use Rattle.desk_changes.specs.declared.making.Change.TheVariants as changes
+use Rattle.text_copy.specs.Changes.{AddsOf, AreSparing, all_changed, and_then, between, changed}
+use Rattle.text_copy.specs.declared.making.Change.{Change}
+use Rattle.text_copy.specs.declared.making.Change.TheVariants as changes
 use Rattle.desk_replica.specs.Edits.{IsDeleted, IsInserted, delete_refusal, edit_refusal, insert_refusal, new_insert}
 use Rattle.desk_replica.specs.State.{State}
 use Rattle.desk_replica.specs.declared.Refusal.{Refusal}

@@ -10,3 +10,5 @@ pub mod Fresh
 pub mod Forking
 pub mod Unmerged
 pub mod Barred
+pub mod Once
+pub mod Lawful

@@ -5,8 +5,8 @@ use Rattle.desk_ops.specs.declared.op.Op.{Op}
 use Rattle.desk_ops.specs.Op.{stamp_of}
 use Rattle.desk_ops.specs.OpSet.{OpSet, has_op, with_all, with_op}
 use Rattle.desk_ops.proofs.Joined.{with-cases, within-with_op}
-use Rattle.desk_changes.specs.declared.making.Change.{Change}
-use Rattle.desk_changes.specs.declared.making.Change.TheVariants as changes
+use Rattle.text_copy.specs.declared.making.Change.{Change}
+use Rattle.text_copy.specs.declared.making.Change.TheVariants as changes
 use Rattle.feed_edit.specs.Editing.{AreOwn, Extends, delete_count, delete_count_of, deletes_in, deletes_of, insert_count, insert_count_of, inserts_in, inserts_of, stamp_after}
 
 pub own_more : (site : ℕ) (set : OpSet) (ops : List Op) (op : Op) → AreOwn site set ops → stamp_of op ≡ stamp_after site (with_all set ops) → AreOwn site set (ops ++ op ∷ [])

@@ -8,10 +8,10 @@ use Rattle.desk_ops.specs.Op.{stamp_of}
 use Rattle.desk_ops.specs.OpSet.{OpSet, IsWithin, has_op, with_all, with_op}
 use Rattle.desk_ops.specs.Held.{greatest_counter_of}
 use Rattle.desk_ops.specs.Shown.{copy_of}
-use Rattle.desk_changes.specs.Changes.{AreSparing, all_changed, between, changed}
-use Rattle.desk_changes.specs.Ends.{IsSharedEnd, IsSharedPrefix}
-use Rattle.desk_changes.specs.declared.making.Change.{Change}
-use Rattle.desk_changes.specs.declared.making.Change.TheVariants as changes
+use Rattle.text_copy.specs.Changes.{AreSparing, all_changed, between, changed}
+use Rattle.text_copy.specs.Ends.{IsSharedEnd, IsSharedPrefix}
+use Rattle.text_copy.specs.declared.making.Change.{Change}
+use Rattle.text_copy.specs.declared.making.Change.TheVariants as changes
 use Rattle.desk_replica.specs.Edits.{delete_refusal, insert_refusal}
 use Rattle.desk_replica.specs.declared.Refusal.{Refusal}
 use Rattle.desk_replica.specs.declared.Refusal.TheVariants as refusals

@@ -1,5 +1,6 @@
 -- Stamps that are forked by a merge: two operations bear them, one here and one there.
-use Rattle.std.specs.Prelude.{◌≡◌, ◌↔◌, ◌⊎◌, ℕ, Bool, true, false, not, ◌&&◌, if◌then◌else◌, List, [], ◌∷◌, ◌++◌, None, codes}
+use Rattle.std.specs.Prelude.{◌≡◌, ◌↔◌, ◌⊎◌, ℕ, Bool, true, false, not, ◌&&◌, if◌then◌else◌, List, [], ◌∷◌, ◌++◌, None}
+use Rattle.std.specs.Prelude.{codes}
 use Rattle.std.specs.List.{list_any}
 use Rattle.std.specs.List.Sorted.{IsStrictlySortedBy}
 use Rattle.desk_ops.specs.declared.fault.CopyFault.{CopyFault}
@@ -54,7 +55,8 @@ pub record IsKnown {A : Type 0} (set : OpSet) (known : Known A) : Type 0 where
   pub rise : IsStrictlySortedBy site_cmp known.stamps.items
   pub forked : known.forks ≡ false → AreForkedBeside [] set known.stamps.items
 
--- unless forks are asked for, these are the stamps that the new set forks and that are not known; they are not looked for where it is the old one
+-- unless forks are asked for, these are the stamps that the new set forks and that are not known; they are not looked
+-- for where it is the old one
 abbrev pub AreFound : {A : Type 0} → Known A → OpSet → OpSet → List SiteStamp → Type 0
 AreFound known old new stamps =
     ((stamps ≡ []) × ((known.forks ≡ true) ⊎ (new ≡ old)))

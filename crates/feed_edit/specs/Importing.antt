@@ -1,5 +1,6 @@
 -- The copy of a stored feed, made a text that is read.
-use Rattle.std.specs.Prelude.{◌≡◌, ◌≢◌, ◌≤◌, ◌<◌, ◌⊎◌, ◌||◌, ◌&&◌, ℕ, ◌+◌, nat_le, nat_lt, Bool, true, false, List, [], ◌∷◌, Option, IfSome, Ok, Err, length}
+use Rattle.std.specs.Prelude.{◌≡◌, ◌≢◌, ◌≤◌, ◌<◌, ◌⊎◌, ◌||◌, ◌&&◌, ℕ, ◌+◌, nat_le, nat_lt, Bool, true, false, List, []}
+use Rattle.std.specs.Prelude.{◌∷◌, Option, IfSome, Ok, Err, length}
 use Rattle.std.specs.Io.KnownBytes.{Appends, Consumes, IsAtEnd}
 use Rattle.desk_ops.specs.declared.op.Symbol.{Symbol}
 use Rattle.desk_ops.specs.OpSet.{OpSet}
@@ -12,7 +13,7 @@ use Rattle.feed_edit.specs.Editing.{IsRevised, IsUnrevised}
 use Rattle.feed_edit.specs.Keeping.{IsKept, IsUnkept, edited_line}
 use Rattle.feed_edit.specs.Merging.{IsBarred, IsOpened}
 use Rattle.feed_edit.specs.Room.{IsBarredHere, IsOpenedHere}
-use Rattle.feed_last.specs.Room.{IsMarked}
+use Rattle.feed_stored.specs.Room.{IsMarked}
 use Rattle.feed_edit.specs.declared.fault.InputFault.{InputFault}
 use Rattle.feed_edit.specs.declared.fault.InputFault.TheVariants as inputs
 use Rattle.feed_edit.specs.declared.fault.RevisionFault.TheVariants as revisions
@@ -44,7 +45,9 @@ IsNoText plain input inputs.NoMemory = Unit {0}
 abbrev pub IsReadOut : Option (List ℕ) → Option (List ℕ) → Type 0
 IsReadOut before after = (read : List ℕ) × Consumes before after read × (length read ≤ max_text) × IsAtEnd after
 
--- How far a reader was read that gave no copy: up to where it failed, or beyond what a text may have; to its end, where the text is refused. Where memory ran out, on the way, with some bytes read and no more than a text may have, or at its end.
+-- How far a reader was read that gave no copy: up to where it failed, or beyond what a text may have; to its end, where
+-- the text is refused. Where memory ran out, on the way, with some bytes read and no more than a text may have, or at
+-- its end.
 abbrev pub IsLeft : Option (List ℕ) → Option (List ℕ) → InputFault → Type 0
 IsLeft before after inputs.Read = IsReadTo max_text before after readers.Failed
 IsLeft before after inputs.TooLong = IsReadTo max_text before after readers.TooLong
@@ -142,7 +145,8 @@ IsUnimported name site older plain all first last input before after (imports.Ke
     × (set : OpSet) × (inserted deleted : ℕ) × TakesText site plain all input old set inserted deleted
     × IsUnkept name (edited_line inserted deleted) opened last before after why
 
--- how far the reader of an import that stopped was read: not at all, where the feed was not taken or not let in; as no text was read; or to its end, where the text was read
+-- how far the reader of an import that stopped was read: not at all, where the feed was not taken or not let in; as no
+-- text was read; or to its end, where the text was read
 abbrev pub LeavesOff : Option (List ℕ) → Option (List ℕ) → ImportFault → Type 0
 LeavesOff before after (imports.Take why) = after ≡ before
 LeavesOff before after (imports.Last why) = after ≡ before

@@ -22,7 +22,8 @@ abbrev pub IsKept : List ℕ → OpSet → List ℕ → Option (List ℕ) → Sh
 IsKept name set text read held last before after = Appends before after text
     × IsStoredAs name (set_feed set) read held last
 
--- why it was not stored, and what was written: a prefix under Write, all of the text under Unstored, or nothing; out of memory only where all files are as they were and the device has not failed
+-- why it was not stored, and what was written: a prefix under Write, all of the text under Unstored, or nothing; out of
+-- memory only where all files are as they were and the device has not failed
 abbrev pub IsUnkept : List ℕ → List ℕ → Shelf → Shelf → Option (List ℕ) → Option (List ℕ) → KeepFault → Type 0
 IsUnkept name text held last before after keeps.Write = (last ≡ held) × WritesPrefix before after text
 IsUnkept name text held last before after (keeps.Unstored why) = Appends before after text

@@ -8,3 +8,5 @@ pub mod Editing
 pub mod Importing
 pub mod Exporting
 pub mod Room
+pub mod Reporting
+pub mod Replacing

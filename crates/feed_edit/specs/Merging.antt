@@ -1,5 +1,6 @@
 -- Feeds of files, merged into a stored feed.
-use Rattle.std.specs.Prelude.{All, ◌≡◌, ◌≢◌, ◌==◌, ◌&&◌, ℕ, ◌-◌, Bool, true, false, List, [], ◌∷◌, ◌++◌, Option, Ok, Err, codes, length}
+use Rattle.std.specs.Prelude.{All, ◌≡◌, ◌≢◌, ◌==◌, ◌&&◌, ℕ, ◌-◌, Bool, true, false, List, [], ◌∷◌, ◌++◌, Option, Ok}
+use Rattle.std.specs.Prelude.{Err, codes, length}
 use Rattle.desk_ops.specs.declared.op.Op.{Op}
 use Rattle.desk_ops.specs.OpSet.{OpSet, max_ops, no_ops, size, with_all}
 use Rattle.desk_ops.specs.Faults.{faults_of}
@@ -148,7 +149,8 @@ GaveBytes name before after bytes = Reads (before.kept name) (Ok bytes) × (afte
 abbrev pub IsFull : OpSet → List Op → Type 0
 IsFull set ops = (after : OpSet) × (stop : Stopped) × IsStopped set after ops stop × (size after ≡ max_ops)
 
--- why the feed of a file does not come into a set: `NoMemory` only where its bytes were read, and are such that memory is asked for
+-- why the feed of a file does not come into a set: `NoMemory` only where its bytes were read, and are such that memory
+-- is asked for
 abbrev pub Refuses : OpSet → List ℕ → Shelf → Shelf → FeedTrouble → Type 0
 Refuses set name before after (troubles.File why) = Reads (before.kept name) (Err why) × IsCounted why before after
 Refuses set name before after (troubles.Feed fault) = (bytes : List ℕ) × GaveBytes name before after bytes

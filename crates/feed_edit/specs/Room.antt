@@ -3,8 +3,8 @@ use Rattle.std.specs.Prelude.{ℕ, Bool, List, Option}
 use Rattle.desk_ops.specs.OpSet.{OpSet}
 use Rattle.feed_files.specs.Files.{Shelf}
 use Rattle.feed_edit.specs.Merging.{IsOpened}
-use Rattle.feed_last.specs.Room.{IsKeptOut, IsLetIn, is_compared}
-use Rattle.feed_last.specs.declared.fault.LastFault.{LastFault}
+use Rattle.feed_stored.specs.Room.{IsKeptOut, IsLetIn, is_compared}
+use Rattle.feed_stored.specs.declared.last_fault.LastFault.{LastFault}
 
 -- the name was taken, a feed of this set was read under it, or no file was there, and it was let in
 abbrev pub IsOpenedHere : List ℕ → ℕ → Bool → Shelf → Shelf → Option (List ℕ) → OpSet → Type 0

@@ -1,7 +1,8 @@
 //! Stamps in a line, by site: counters, and runs of them.
 
 ghost use Rattle.std.specs.Prelude.{◌≡◌, ◌++◌, None, OnOk, string_bytes};
-ghost use Rattle.feed_edit.specs.Counters.{counter_words, counters_words, first, first_words, follows, goes_on, is_followed, last_words, lead, site_words};
+ghost use Rattle.feed_edit.specs.Counters.{counter_words, counters_words, first, first_words, follows, goes_on};
+ghost use Rattle.feed_edit.specs.Counters.{is_followed, last_words, lead, site_words};
 
 use crate::stamps::SiteStamp;
 use std::alloc::{AllocError, Allocator};

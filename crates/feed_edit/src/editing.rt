@@ -5,14 +5,15 @@ ghost use Rattle.desk_ops.specs.declared.op.Op.{Op};
 ghost use Rattle.desk_ops.specs.Shown.{copy_of};
 ghost use Rattle.feed_edit.specs.Fault.{refusal_of};
 ghost use Rattle.text_copy.specs.Laws.{AreLawful};
-ghost use Rattle.feed_edit.specs.Editing.{AreMade, IsMade, IsRefusedAmong, IsRefusedBy, IsRevised, IsSparing, IsUnrevised, deletes_of, inserts_of};
+ghost use Rattle.feed_edit.specs.Editing.{AreMade, IsMade, IsRefusedAmong, IsRefusedBy, IsRevised, IsSparing};
+ghost use Rattle.feed_edit.specs.Editing.{IsUnrevised, deletes_of, inserts_of};
 
 use crate::fault::RevisionFault;
 use desk_blocks::Blocks;
-use desk_changes::{Change, changes};
 use desk_ops::Symbol;
 use desk_replica::{Refusal, Replica};
 use std::alloc::Allocator;
+use text_copy::{Change, changes};
 
 /// How many symbols were inserted, and how many deleted.
 #[derive(Clone, Copy, Debug, PartialEq, Eq)]
@@ -88,9 +89,9 @@ fn fault_of(why: Refusal) -> RevisionFault
 
 /// Makes the copy of a replica a text, by operations of its site alone, never more than the copy and the text have
 /// symbols together between what both begin with, which stays, and what both end with. Where the text is the copy
-/// already nothing changes, and only memory can run out. A change that is
-/// refused leaves those before it made, and no other; the fault is the first cause for which the set that they left
-/// refuses it, and that is never its place, nor its value where the text is lawful. Out of memory comes only where that set does not refuse the change, or where
+/// already nothing changes, and only memory can run out. A change that is refused leaves those before it made, and no
+/// other; the fault is the first cause for which the set that they left refuses it, and that is never its place, nor
+/// its value where the text is lawful. Out of memory comes only where that set does not refuse the change, or where
 /// nothing has changed.
 pub fn revise<A: Allocator + Copy>(
     alloc: A,

@@ -4,7 +4,8 @@ ghost use Rattle.std.specs.Prelude.{◌≡◌, ◌++◌, [], IfOk, IsOk, OnOk, s
 ghost use Rattle.std.specs.List.{list_any};
 ghost use Rattle.std.specs.List.Sorted.{IsStrictlySortedBy};
 ghost use Rattle.desk_ops.specs.Faults.{faults_of};
-ghost use Rattle.feed_edit.specs.Forks.{AreForkedBeside, AreFreshForks, IsKnown, forks_line, fresh_fork, fresh_forks, is_fork};
+ghost use Rattle.feed_edit.specs.Forks.{AreForkedBeside, AreFreshForks, IsKnown, forks_line, fresh_fork, fresh_forks};
+ghost use Rattle.feed_edit.specs.Forks.{is_fork};
 ghost use Rattle.feed_edit.specs.Stamps.{same_stamp, site_cmp};
 
 use crate::counters::{Naming, put_counters};

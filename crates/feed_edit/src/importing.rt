@@ -4,7 +4,8 @@ ghost use Rattle.std.specs.Prelude.{◌≡◌, ◌≤◌, ◌⊎◌, IfErr, IfOk
 ghost use Rattle.feed_files.specs.Files.{IsHeldAlone, Stays};
 ghost use Rattle.text_copy.specs.Laws.{AreLawful};
 ghost use Rattle.feed_edit.specs.Editing.{IsRevised};
-ghost use Rattle.feed_edit.specs.Importing.{IsImported, IsLeft, IsNoText, IsReadAs, IsReadOut, IsSpared, IsUnimported, IsUnspared, LeavesOff, RefusesText, SparesCopy, TakesText, is_wiped};
+ghost use Rattle.feed_edit.specs.Importing.{IsImported, IsLeft, IsNoText, IsReadAs, IsReadOut, IsSpared, IsUnimported};
+ghost use Rattle.feed_edit.specs.Importing.{IsUnspared, LeavesOff, RefusesText, SparesCopy, TakesText, is_wiped};
 
 use crate::editing::{Tally, revise};
 use crate::fault::{ImportFault, InputFault};
@@ -14,7 +15,7 @@ use desk_blocks::Blocks;
 use desk_ops::Symbol;
 use desk_replica::Replica;
 use feed_files::{Files, read_whole};
-use feed_last::{let_in, mark};
+use feed_stored::{let_in, mark};
 use std::alloc::Allocator;
 use std::io::{Read, Write};
 use text_copy::read_text;

@@ -1,6 +1,7 @@
 //! The feeds of other files, merged into a stored feed.
 
-ghost use Rattle.std.specs.Prelude.{◌≡◌, ◌≢◌, ◌+◌, ◌≤◌, ◌⊎◌, ◌++◌, ◌&&◌, All, IfErr, IfOk, List, OnOk, false, map, string_bytes};
+ghost use Rattle.std.specs.Prelude.{◌≡◌, ◌≢◌, ◌+◌, ◌≤◌, ◌⊎◌, ◌++◌, ◌&&◌, All, IfErr, IfOk, List, OnOk, false, map};
+ghost use Rattle.std.specs.Prelude.{string_bytes};
 ghost use Rattle.std.specs.List.Sorted.{IsStrictlySortedBy};
 ghost use Rattle.desk_ops.specs.Op.{IsLawful};
 ghost use Rattle.desk_ops.specs.OpSet.{OpSet, size, with_all};
@@ -10,7 +11,9 @@ ghost use Rattle.feed_files.specs.Files.{IsHeldAlone, Reads, Stays};
 ghost use Rattle.feed_stored.specs.Stored.{Opens, as_read, was_read};
 ghost use Rattle.feed_readings.specs.Before.{IsJoin};
 ghost use Rattle.feed_edit.specs.Forks.{AreFound, IsAllowed, IsKnown};
-ghost use Rattle.feed_edit.specs.Merging.{IsBarred, IsBarredBy, IsFeedOf, IsJoined, IsMerged, IsOpened, IsTaken, IsUnmerged, JoinsKnown, Refuses, StopsJoining, StoresNoNewFork, counted_line, faults_line, is_clean, line_of};
+ghost use Rattle.feed_edit.specs.Merging.{IsBarred, IsBarredBy, IsFeedOf, IsJoined, IsMerged, IsOpened, IsTaken};
+ghost use Rattle.feed_edit.specs.Merging.{IsUnmerged, JoinsKnown, Refuses, StopsJoining, StoresNoNewFork, counted_line};
+ghost use Rattle.feed_edit.specs.Merging.{faults_line, is_clean, line_of};
 ghost use Rattle.feed_edit.specs.Stamps.{site_cmp};
 
 use crate::fault::{FeedTrouble, MergeFault, TakeFault};

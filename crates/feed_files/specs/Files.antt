@@ -3,7 +3,8 @@ use Rattle.std.specs.Prelude.{◌≡◌, ◌≢◌, ◌≤◌, ℕ, ◌<◌, ◌
 use Rattle.feed_files.specs.declared.files.FileRefusal.{FileRefusal}
 use Rattle.feed_files.specs.declared.files.FileRefusal.TheVariants as refusals
 
--- what a name stands for: Unknown where that is not known of the files, Nowhere where no file can have it, as in a folder that is not there. A name that is known is the only one of its file, and of no folder.
+-- what a name stands for: Unknown where that is not known of the files, Nowhere where no file can have it, as in a
+-- folder that is not there. A name that is known is the only one of its file, and of no folder.
 pub data Kept : Type 0 where
   Unknown : Kept
   Nowhere : Kept
@@ -14,7 +15,8 @@ pub data Kept : Type 0 where
 abbrev pub Names : Type 0
 Names = List ℕ → Kept
 
--- what is held for one run alone: no name; a name, since when this run has asked for no writing and no renaming; or a name, since when it has
+-- what is held for one run alone: no name; a name, since when this run has asked for no writing and no renaming; or a
+-- name, since when it has
 pub data Hold : Type 0 where
   Free : Hold
   Untouched : List ℕ → Hold
@@ -47,7 +49,8 @@ HasRisen before after = (before < after) ⊎ (before ≡ 18446744073709551615)
 abbrev pub HasFailed : Shelf → Shelf → Type 0
 HasFailed before after = HasRisen before.failures after.failures
 
--- no file has changed, the count has not fallen, and what is held is as it was: no writing and no renaming was asked for while a name is held
+-- no file has changed, the count has not fallen, and what is held is as it was: no writing and no renaming was asked
+-- for while a name is held
 abbrev pub Stays : Shelf → Shelf → Type 0
 Stays before after = (after.kept ≡ before.kept) × (before.failures ≤ after.failures) × (after.held ≡ before.held)
 
@@ -72,7 +75,8 @@ abbrev pub bytes_read : {V : Type 0} → (V → List ℕ) → Result V FileRefus
 bytes_read view (Ok v) = Ok (view v)
 bytes_read view (Err why) = Err why
 
--- what may be read of a name: its bytes, that it is not there, that it is too large, or that the device or memory failed. Where no file can be nothing is wanted of memory.
+-- what may be read of a name: its bytes, that it is not there, that it is too large, or that the device or memory
+-- failed. Where no file can be nothing is wanted of memory.
 abbrev pub Reads : Kept → Result (List ℕ) FileRefusal → Type 0
 Reads Unknown read = Unit {0}
 Reads Nowhere (Ok bytes) = ⊥
@@ -145,7 +149,8 @@ pub record IsRenamed (from to : List ℕ) (before after : Names) : Type 0 where
 abbrev pub new_name : List ℕ → List ℕ
 new_name name = name ++ codes ".new"
 
--- no name was held, and this one is now. What stands under it, and under the name of the writing, is what other runs left until now, and nothing that this run wrote; no other name stands for something else.
+-- no name was held, and this one is now. What stands under it, and under the name of the writing, is what other runs
+-- left until now, and nothing that this run wrote; no other name stands for something else.
 pub record IsNowHeld (name : List ℕ) (before after : Shelf) : Type 0 where
   pub free : before.held ≡ Free
   pub held : after.held ≡ Untouched name

@@ -18,7 +18,8 @@ IsNotWhole most input faults.NoMemory = Unit {0}
 abbrev pub HasTaken : ℕ → Option (List ℕ) → Option (List ℕ) → Type 0
 HasTaken most before after = (read : List ℕ) × Consumes before after read × (0 < length read) × (length read ≤ most)
 
--- Where a read failed, no more had been read before it than there may be; where the reader has too many, more had; and where memory ran out, some bytes had.
+-- Where a read failed, no more had been read before it than there may be; where the reader has too many, more had; and
+-- where memory ran out, some bytes had.
 abbrev pub IsReadTo : ℕ → Option (List ℕ) → Option (List ℕ) → ReaderFault → Type 0
 IsReadTo most before after faults.Failed = (read : List ℕ) × Consumes before after read × (length read ≤ most)
 IsReadTo most before after faults.TooLong = (read : List ℕ) × Consumes before after read × (most < length read)

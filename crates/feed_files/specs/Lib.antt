@@ -1,3 +1,6 @@
 pub mod Files
 pub mod Input
 pub mod Trial
+pub mod Kinds
+pub mod OutputLaws
+pub mod Outputs

@@ -1,5 +1,7 @@
 -- Files in memory, by their changes, newest first.
-use Rattle.std.specs.Prelude.{◌≡◌, ◌≤◌, ◌<◌, ◌⊎◌, ℕ, ◌+◌, ◌-◌, ◌&&◌, List, [], ◌∷◌, Option, Some, None, Result, IsErrOf, String, Vec, if◌then◌else◌, length, max, min, nat_eq, nat_lt, string_bytes, vec_capacity, vec_len}
+use Rattle.std.specs.Prelude.{◌≡◌, ◌≤◌, ◌<◌, ◌⊎◌, ℕ, ◌+◌, ◌-◌, ◌&&◌, List, [], ◌∷◌, Option, Some, None, Result, IsErrOf}
+use Rattle.std.specs.Prelude.{String, Vec, if◌then◌else◌, length, max, min, nat_eq, nat_lt, string_bytes, vec_capacity}
+use Rattle.std.specs.Prelude.{vec_len}
 use Rattle.std.specs.Str.{bytes_eq}
 use Rattle.feed_files.specs.declared.files.FileRefusal.{FileRefusal}
 use Rattle.feed_files.specs.declared.files.FileRefusal.TheVariants as refusals
@@ -9,7 +11,8 @@ use Rattle.feed_files.specs.declared.trial.HeldName.{HeldName}
 use Rattle.feed_files.specs.declared.trial.AtEnd.TheVariants as ends
 use Rattle.feed_files.specs.declared.trial.TrialFiles.{TrialFiles}
 use Rattle.feed_files.specs.declared.trial.TrialWriter.{TrialWriter}
-use Rattle.feed_files.specs.Files.{Kept, Unknown, Nowhere, Absent, Holds, Names, Hold, Free, Shelf, Touched, Untouched, max_file, shelf}
+use Rattle.feed_files.specs.Files.{Kept, Unknown, Nowhere, Absent, Holds, Names, Hold, Free, Shelf, Touched, Untouched}
+use Rattle.feed_files.specs.Files.{max_file, shelf}
 
 -- one more, of a count that stays at its greatest value
 abbrev pub one_more : ℕ → ℕ
@@ -40,9 +43,11 @@ HasFailed writer buf =
 -- the bytes of a file: it was put there, or took the name of one that was
 abbrev pub bytes_in : {A : Type 0} → List (FileChange A) → List ℕ → Option (List ℕ)
 bytes_in [] name = None
-bytes_in (Put put bytes ∷ older) name = if bytes_eq (string_bytes put) name then Some bytes.items else bytes_in older name
+bytes_in (Put put bytes
+    ∷ older) name = if bytes_eq (string_bytes put) name then Some bytes.items else bytes_in older name
 bytes_in (Move from to ∷ older) name =
-    if bytes_eq (string_bytes to) name then bytes_in older (string_bytes from) else (if bytes_eq (string_bytes from) name then None else bytes_in older name)
+    if bytes_eq (string_bytes to) name then bytes_in older (string_bytes from) else
+    (if bytes_eq (string_bytes from) name then None else bytes_in older name)
 
 abbrev pub kept_of : Option (List ℕ) → Kept
 kept_of None = Absent
@@ -53,7 +58,8 @@ kept_in changes name = kept_of (bytes_in changes name)
 
 -- a file was put there
 abbrev pub IsPut : {A : Type 0} → List ℕ → List ℕ → List (FileChange A) → List (FileChange A) → Type 0
-IsPut {A} name bytes before after = (put : String A) × (kept : Vec ℕ A) × (string_bytes put ≡ name) × (kept.items ≡ bytes) × (after ≡ Put put kept ∷ before)
+IsPut {A} name bytes before after = (put : String A) × (kept : Vec ℕ A) × (string_bytes put ≡ name)
+    × (kept.items ≡ bytes) × (after ≡ Put put kept ∷ before)
 
 -- what is held, by the name and whether it was touched
 abbrev pub held_in : {A : Type 0} → Option (HeldName A) → Hold

@@ -1,7 +1,8 @@
 //! Files by name.
 
 ghost use Rattle.std.specs.Prelude.{◌≢◌, ◌≤◌, ◌⊎◌, IfErr, IfOk, IsErrOf, ◌≡◌, length};
-ghost use Rattle.feed_files.specs.Files.{CanBe, Counts, IsGone, IsNowHeld, IsNowhere, IsRenamed, IsWritten, Reads, Shelf, Spares, Stays, bytes_read, max_file, shelf, touched};
+ghost use Rattle.feed_files.specs.Files.{CanBe, Counts, IsGone, IsNowHeld, IsNowhere, IsRenamed, IsWritten, Reads};
+ghost use Rattle.feed_files.specs.Files.{Shelf, Spares, Stays, bytes_read, max_file, shelf, touched};
 ghost use Rattle.feed_files.specs.declared.files.FileRefusal.TheVariants as refusals;
 
 use std::alloc::{AllocError, AllocFailed, Allocator};
@@ -55,10 +56,10 @@ pub trait Files {
         ensures { result ≡ (shelf self.now).failures };
 
     /// Takes a name for this run alone, which must hold none yet: no other run takes it until these files end, and none
-    /// but this run changes what stands under it and under `name.new`. Until now another run may have changed that. Where
-    /// another run has the name, or it could not be written, the call is refused as `Device`, and no file changes.
-    /// `Missing` comes only where no file can have the name, out of memory only where one can, `Device` as from `read`, and
-    /// `Large` never.
+    /// but this run changes what stands under it and under `name.new`. Until now another run may have changed that.
+    /// Where another run has the name, or it could not be written, the call is refused as `Device`, and no file
+    /// changes. `Missing` comes only where no file can have the name, out of memory only where one can, `Device` as
+    /// from `read`, and `Large` never.
     fn hold(&mut self, name: &str) -> Result<(), FileRefusal>
         ensures counted { Counts result (shelf self.old) (shelf self.new) }
         ensures small { IfErr result (λ e. e ≢ FileRefusal.Large) }
@@ -67,8 +68,8 @@ pub trait Files {
         ensures taken { IfOk result (λ _. IsNowHeld name.now (shelf self.old) (shelf self.new)) }
         ensures refused { IfErr result (λ _. Stays (shelf self.old) (shelf self.new)) };
 
-    /// A file's bytes, `MAX_FILE` at most. No file changes. `Device` comes exactly where the device failed in this call, by
-    /// the count while it can rise.
+    /// A file's bytes, `MAX_FILE` at most. No file changes. `Device` comes exactly where the device failed in this
+    /// call, by the count while it can rise.
     fn read<A: Allocator + Copy>(&mut self, alloc: A, name: &str) -> Result<Vec<u8, A>, FileRefusal>
         ensures counted { Counts result (shelf self.old) (shelf self.new) }
         ensures kept { (shelf self.new).kept ≡ (shelf self.old).kept }
@@ -76,26 +77,29 @@ pub trait Files {
         ensures within { IfOk result (λ v. length v.items ≤ max_file) }
         ensures given { Reads ((shelf self.old).kept name.now) (bytes_read (λ v. v.items) result) };
 
-    /// Writes a file anew, in place of one that had the name. A refused write may leave anything under the name. `Missing`
-    /// comes only where no file can have the name, out of memory only where one can, `Device` as from `read`, and `Large`
-    /// never.
+    /// Writes a file anew, in place of one that had the name. A refused write may leave anything under the name.
+    /// `Missing` comes only where no file can have the name, out of memory only where one can, `Device` as from `read`,
+    /// and `Large` never.
     fn write_new(&mut self, name: &str, bytes: &[u8]) -> Result<(), FileRefusal>
         ensures counted { Counts result (shelf self.old) (shelf self.new) }
         ensures small { IfErr result (λ e. e ≢ FileRefusal.Large) }
         ensures missing { IsErrOf result FileRefusal.Missing → IsNowhere ((shelf self.old).kept name.now) }
         ensures memory { IsErrOf result FileRefusal.NoMemory → CanBe ((shelf self.old).kept name.now) }
-        ensures written { IfOk result (λ _. IsWritten bytes.now ((shelf self.old).kept name.now) ((shelf self.new).kept name.now)) }
+        ensures written { IfOk result
+            (λ _. IsWritten bytes.now ((shelf self.old).kept name.now) ((shelf self.new).kept name.now)) }
         ensures held { (shelf self.new).held ≡ touched (shelf self.old).held }
         ensures others { Spares name.now (shelf self.old).kept (shelf self.new).kept };
 
     /// Gives a file another name, in place of a file that had it. A refused call changes no file. `Missing` comes only
-    /// where no file has the one name or none can have the other, out of memory only where a file can have each, `Device` as
-    /// from `read`, and `Large` never.
+    /// where no file has the one name or none can have the other, out of memory only where a file can have each,
+    /// `Device` as from `read`, and `Large` never.
     fn rename(&mut self, from: &str, to: &str) -> Result<(), FileRefusal>
         ensures counted { Counts result (shelf self.old) (shelf self.new) }
         ensures small { IfErr result (λ e. e ≢ FileRefusal.Large) }
-        ensures missing { IsErrOf result FileRefusal.Missing → IsGone ((shelf self.old).kept from.now) ⊎ IsNowhere ((shelf self.old).kept to.now) }
-        ensures memory { IsErrOf result FileRefusal.NoMemory → CanBe ((shelf self.old).kept from.now) × CanBe ((shelf self.old).kept to.now) }
+        ensures missing { IsErrOf result FileRefusal.Missing
+            → IsGone ((shelf self.old).kept from.now) ⊎ IsNowhere ((shelf self.old).kept to.now) }
+        ensures memory { IsErrOf result FileRefusal.NoMemory
+            → CanBe ((shelf self.old).kept from.now) × CanBe ((shelf self.old).kept to.now) }
         ensures renamed { IfOk result (λ _. IsRenamed from.now to.now (shelf self.old).kept (shelf self.new).kept) }
         ensures held { (shelf self.new).held ≡ touched (shelf self.old).held }
         ensures refused { IfErr result (λ _. (shelf self.new).kept ≡ (shelf self.old).kept) };

@@ -15,9 +15,10 @@ fn new_name<A: Allocator + Copy>(alloc: A, name: &str) -> Result<String<A>, Allo
     Ok(new)
 }
 
-/// Stores bytes under a name: they are written as `name.new`, which then takes the name. So whatever fails, the file has
-/// its old bytes or the new ones: after an `Err` the old ones, and what stands under `name.new` is open. No other file
-/// changes. `Missing` comes only where no file can have the name or `name.new`, `Device` only where the device failed in this call, by the count while it can rise, and `Large` never.
+/// Stores bytes under a name: they are written as `name.new`, which then takes the name. So whatever fails, the file
+/// has its old bytes or the new ones: after an `Err` the old ones, and what stands under `name.new` is open. No other
+/// file changes. `Missing` comes only where no file can have the name or `name.new`, `Device` only where the device
+/// failed in this call, by the count while it can rise, and `Large` never.
 pub fn store<F: Files, A: Allocator + Copy>(
     alloc: A,
     files: &mut F,

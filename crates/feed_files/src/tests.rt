@@ -62,8 +62,8 @@ fn read_from_memory(rt: HostRuntime) -> Result<(), Fail> {
     Ok(())
 }
 
-/// Stores over `a` in a small heap, where the files too have no more than that: whether a growth was refused. Then the file
-/// is as it was, and with memory it has the new bytes.
+/// Stores over `a` in a small heap, where the files too have no more than that: whether a growth was refused. Then the
+/// file is as it was, and with memory it has the new bytes.
 fn refused_store(alloc: Global, cut: usize) -> Result<bool, Fail> {
     let heap = LocalHeap::new(alloc, 2048)?;
     let mut files = TrialFiles::new(&heap);

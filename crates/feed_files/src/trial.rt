@@ -1,11 +1,14 @@
 //! A reader, a writer and files in memory, which fail where a test wants it. For tests.
 
-ghost use Rattle.std.specs.Prelude.{◌≡◌, ◌≤◌, ◌<◌, ◌≢◌, ◌⊎◌, ◌↔◌, ◌-◌, [], IfErr, IfOk, IsErr, IsErrOf, IsFalse, IsOk, IsTrue, nat_eq, Some, length, option_map, string_bytes};
+ghost use Rattle.std.specs.Prelude.{◌≡◌, ◌≤◌, ◌<◌, ◌≢◌, ◌⊎◌, ◌↔◌, ◌-◌, [], IfErr, IfOk, IsErr, IsErrOf, IsFalse, IsOk};
+ghost use Rattle.std.specs.Prelude.{IsTrue, nat_eq, Some, length, option_map, string_bytes};
 ghost use Rattle.std.specs.Io.{ReadsAtMost, WritesAtMost};
 ghost use Rattle.std.specs.IoError.{error_kind};
 ghost use Rattle.std.specs.Io.KnownBytes.{Keeps, ReadConsumes, WriteAppends};
-ghost use Rattle.feed_files.specs.Files.{CanBe, Counts, Free, HasRisen, IsGone, IsNowHeld, IsNowhere, IsRenamed, IsThere, IsWritten, Reads, Spares, Stays, bytes_read, max_file, touched};
-ghost use Rattle.feed_files.specs.Trial.{HasEnded, HasFailed, IsDue, IsPut, IsTurn, TakesMemory, bytes_in, calls_left, held_in, kept_in, most_given, most_taken, one_more, shelf_in};
+ghost use Rattle.feed_files.specs.Files.{CanBe, Counts, Free, HasRisen, IsGone, IsNowHeld, IsNowhere, IsRenamed};
+ghost use Rattle.feed_files.specs.Files.{IsThere, IsWritten, Reads, Spares, Stays, bytes_read, max_file, touched};
+ghost use Rattle.feed_files.specs.Trial.{HasEnded, HasFailed, IsDue, IsPut, IsTurn, TakesMemory, bytes_in, calls_left};
+ghost use Rattle.feed_files.specs.Trial.{held_in, kept_in, most_given, most_taken, one_more, shelf_in};
 
 use crate::files::{FileRefusal, Files, MAX_FILE};
 use std::alloc::{AllocError, Allocator};
@@ -361,7 +364,8 @@ impl<A: Allocator + Copy> TrialFiles<A> {
         ensures failures { self.new.failures ≡ self.old.failures }
         ensures calls { (self.new.calls ≡ self.old.calls) × (self.new.failing_call ≡ self.old.failing_call) }
         ensures held { self.new.held ≡ self.old.held }
-        ensures ok { IfOk result (λ _. IsRenamed from.now to.now (kept_in self.old.changes.items) (kept_in self.new.changes.items)) }
+        ensures ok { IfOk result (λ _. IsRenamed from.now to.now (kept_in self.old.changes.items)
+            (kept_in self.new.changes.items)) }
         ensures err { IfErr result (λ _. self.new.changes.items ≡ self.old.changes.items) }
     {
         if self.bytes_of(from).is_none() {
@@ -433,7 +437,9 @@ impl<A: Allocator + Copy> Files for TrialFiles<A> {
         ensures small { IfErr result (λ e. e ≢ FileRefusal.Large) }
         ensures missing { IsErrOf result FileRefusal.Missing → IsNowhere (kept_in self.old.changes.items name.now) }
         ensures memory { IsErrOf result FileRefusal.NoMemory → CanBe (kept_in self.old.changes.items name.now) }
-        ensures written { IfOk result (λ _. IsWritten bytes.now (kept_in self.old.changes.items name.now) (kept_in self.new.changes.items name.now)) }
+        ensures written { IfOk result
+            (λ _. IsWritten bytes.now (kept_in self.old.changes.items name.now)
+            (kept_in self.new.changes.items name.now)) }
         ensures held { held_in self.new.held ≡ touched (held_in self.old.held) }
         ensures others { Spares name.now (kept_in self.old.changes.items) (kept_in self.new.changes.items) }
         ensures device { IsErrOf result FileRefusal.Device → IsDue self.old }
@@ -451,12 +457,15 @@ impl<A: Allocator + Copy> Files for TrialFiles<A> {
     fn rename(&mut self, from: &str, to: &str) -> Result<(), FileRefusal>
         ensures counted { Counts result (shelf_in self.old) (shelf_in self.new) }
         ensures small { IfErr result (λ e. e ≢ FileRefusal.Large) }
-        ensures missing { IsErrOf result FileRefusal.Missing → IsGone (kept_in self.old.changes.items from.now) ⊎ IsNowhere (kept_in self.old.changes.items to.now) }
-        ensures renamed { IfOk result (λ _. IsRenamed from.now to.now (kept_in self.old.changes.items) (kept_in self.new.changes.items)) }
+        ensures missing { IsErrOf result FileRefusal.Missing
+            → IsGone (kept_in self.old.changes.items from.now) ⊎ IsNowhere (kept_in self.old.changes.items to.now) }
+        ensures renamed { IfOk result
+            (λ _. IsRenamed from.now to.now (kept_in self.old.changes.items) (kept_in self.new.changes.items)) }
         ensures held { held_in self.new.held ≡ touched (held_in self.old.held) }
         ensures refused { IfErr result (λ _. kept_in self.new.changes.items ≡ kept_in self.old.changes.items) }
         ensures device { IsErrOf result FileRefusal.Device → IsDue self.old }
-        ensures memory { IsErrOf result FileRefusal.NoMemory → CanBe (kept_in self.old.changes.items from.now) × CanBe (kept_in self.old.changes.items to.now) }
+        ensures memory { IsErrOf result FileRefusal.NoMemory
+            → CanBe (kept_in self.old.changes.items from.now) × CanBe (kept_in self.old.changes.items to.now) }
         ensures kept { IsErrOf result FileRefusal.NoMemory → IsThere (kept_in self.old.changes.items from.now) }
         ensures turn { IsTurn result self.old self.new }
     {

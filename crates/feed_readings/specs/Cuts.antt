@@ -30,7 +30,8 @@ point_of (Some base) None other both = None
 point_of (Some base) (Some one) None both = None
 point_of (Some base) (Some one) (Some other) both = Some (record { base = base; one = one; other = other; both = both })
 
--- the point of an element that stands at a place of the fourth list: it is a cut where it is white, and each of the others has a white one with its stamp
+-- the point of an element that stands at a place of the fourth list: it is a cut where it is white, and each of the
+-- others has a white one with its stamp
 abbrev pub cut_of : List Shown → List Shown → List Shown → ℕ → Shown → Option Point
 cut_of base one other both element =
     if is_white element.symbol

@@ -14,7 +14,8 @@ text list from to place = map (λ (element : Shown). element.symbol) (part list 
 
 -- ---- settled
 
--- what was, two copies of it, and what came of both: the same that both have, or what the one has where the other is as it was
+-- what was, two copies of it, and what came of both: the same that both have, or what the one has where the other is as
+-- it was
 abbrev pub SettleAs : List Symbol → List Symbol → List Symbol → List Symbol → Type 0
 SettleAs base one other both = ((one ≡ other) × (both ≡ one))
     ⊎ (((base ≡ one) × (both ≡ other)) ⊎ ((base ≡ other) × (both ≡ one)))

@@ -1,5 +1,6 @@
 -- Open readings as text: of each its place in the merged copy, and how the copies read there.
-use Rattle.std.specs.Prelude.{ℕ, ◌+◌, ◌-◌, Bool, nat_lt, min, if◌then◌else◌, List, [], ◌∷◌, ◌++◌, codes, drop, length, map, take}
+use Rattle.std.specs.Prelude.{ℕ, ◌+◌, ◌-◌, Bool, nat_lt, min, if◌then◌else◌, List, [], ◌∷◌, ◌++◌, codes, drop, length}
+use Rattle.std.specs.Prelude.{map, take}
 use Rattle.std.specs.Fmt.{decimal}
 use Rattle.desk_ops.specs.OpSet.{OpSet, union}
 use Rattle.desk_ops.specs.declared.op.Symbol.{Symbol}

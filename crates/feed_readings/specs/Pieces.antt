@@ -46,7 +46,8 @@ reads_same [] (second ∷ seconds) = false
 reads_same (first ∷ firsts) [] = false
 reads_same (first ∷ firsts) (second ∷ seconds) = same_symbol first.symbol second.symbol && reads_same firsts seconds
 
--- What was, two copies of it, and what came of both: where the copies are the same that came of it, where one is as it was the other, and else nothing does.
+-- What was, two copies of it, and what came of both: where the copies are the same that came of it, where one is as it
+-- was the other, and else nothing does.
 abbrev pub settles : List Shown → List Shown → List Shown → List Shown → Bool
 settles base one other both =
     if reads_same one other then reads_same one both

@@ -22,7 +22,8 @@ pub record AreSides {A : Type 0} (ones ops : List Op) (sides : Sides A) : Type 0
 -- operations
 -- bear one stamp. The olds are those of the one alone, the news those of the other, and the targets of what both
 -- delete.
-pub record ArePassed (ones ops : List Op) (last : Stamp) (olds news : List Op) (shared : BTreeMap Stamp (Unit {0})) : Type 0 where
+pub record ArePassed (ones ops : List Op) (last : Stamp) (olds news : List Op) (shared : BTreeMap Stamp (Unit {0})) :
+    Type 0 where
   pub ones_rise : T (is_rising ones)
   pub ops_rise : T (is_rising ops)
   pub ones_end : (op : Op) → Among op ones → before last (stamp_of op) ≡ false

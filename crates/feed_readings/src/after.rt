@@ -63,9 +63,8 @@ fn told_apart<A: Allocator + Copy>(
 }
 
 /// What is kept of a replica before a list of operations is joined to it. Where one of the two has all that the other
-/// does
-/// that is nothing, and where the list brings nothing new no copy is made to see it. Out of memory comes only where a growth
-/// was refused.
+/// does that is nothing, and where the list brings nothing new no copy is made to see it. Out of memory comes only
+/// where a growth was refused.
 pub fn before_of<Q: Sequence>(
     alloc: Q::Memory,
     replica: &Replica<Q>,

@@ -2,7 +2,8 @@
 
 ghost use Rattle.std.specs.Prelude.{◌≡◌, ◌++◌, [], ◌∷◌, All, IfOk, OnOk, codes, drop, length, string_bytes, take};
 ghost use Rattle.std.specs.Fmt.{decimal};
-ghost use Rattle.feed_readings.specs.Lines.{alike_for, begins_at, left_out, reading_lines, readings_lines, symbols_of, words_line, words_lines, words_text};
+ghost use Rattle.feed_readings.specs.Lines.{alike_for, begins_at, left_out, reading_lines, readings_lines, symbols_of};
+ghost use Rattle.feed_readings.specs.Lines.{words_line, words_lines, words_text};
 ghost use Rattle.feed_readings.specs.Pieces.{LiesIn, part};
 ghost use Rattle.feed_readings.specs.Readings.{open_readings};
 

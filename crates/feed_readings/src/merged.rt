@@ -178,10 +178,9 @@ fn told<Q: Sequence>(
     Ok((lines, count))
 }
 
-/// The open readings of two replicas and of what both make: where their merged copy is not the three-way merge of the two
-/// copies, word by word. Where one replica holds all that the other does there are none, and no copy is looked at. Out
-/// of
-/// memory comes only where a growth was refused.
+/// The open readings of two replicas and of what both make: where their merged copy is not the three-way merge of the
+/// two copies, word by word. Where one replica holds all that the other does there are none, and no copy is looked at.
+/// Out of memory comes only where a growth was refused.
 pub fn readings_of<Q: Sequence>(
     alloc: Q::Memory,
     one: &Replica<Q>,
@@ -205,11 +204,10 @@ pub fn readings_of<Q: Sequence>(
     compared(alloc, one, other, both)
 }
 
-/// The open readings of two replicas and of what both make as text, and how many they are: of each a line `open at
-/// 33`, by its
-/// place in the merged copy, and how the copies read there, `now` of both, `here` of the one, `there` of the other,
-/// and `was`
-/// of what they have in common. The end of a line is shown as a space. Out of memory comes only where a growth was refused.
+/// The open readings of two replicas and of what both make as text, and how many they are: of each a line `open at 33`,
+/// by its place in the merged copy, and how the copies read there, `now` of both, `here` of the one, `there` of the
+/// other, and `was` of what they have in common. The end of a line is shown as a space. Out of memory comes only where
+/// a growth was refused.
 pub fn report_readings<Q: Sequence>(
     alloc: Q::Memory,
     one: &Replica<Q>,

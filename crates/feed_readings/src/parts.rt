@@ -9,7 +9,8 @@ ghost use Rattle.desk_ops.specs.Stamp.{same};
 ghost use Rattle.desk_ops.specs.declared.op.Stamp.{Stamp};
 ghost use Rattle.desk_seq.specs.declared.Entry.{Entry};
 ghost use Rattle.feed_readings.specs.From.{IsFrom};
-ghost use Rattle.feed_readings.specs.Parts.{AreNews, AreParts, AreTargets, IsBeside, base_shows, hangs_on, is_target, one_shows, other_shows};
+ghost use Rattle.feed_readings.specs.Parts.{AreNews, AreParts, AreTargets, IsBeside, base_shows, hangs_on, is_target};
+ghost use Rattle.feed_readings.specs.Parts.{one_shows, other_shows};
 
 use desk_held::Held;
 use desk_memory::NoMemory;
@@ -159,8 +160,8 @@ fn one_hangs_on<A: Allocator + Copy>(ops: &[Op], others: &Alone<A>) -> bool
     false
 }
 
-/// What two lists have alone, and what is deleted, by what each has that the other has not; none where an insert of a list
-/// hangs on what the list has not, or memory does not allow it.
+/// What two lists have alone, and what is deleted, by what each has that the other has not; none where an insert of a
+/// list hangs on what the list has not, or memory does not allow it.
 pub fn parts_of<A: Allocator + Copy>(
     alloc: A,
     ones: &[Op],

@@ -160,8 +160,8 @@ fn sides_of_rising<A: Allocator + Copy>(
     }))
 }
 
-/// What each of two lists has that the other has not; the second may come in any order. None where the first does not rise by
-/// stamp, two operations bear one stamp, or memory does not allow a copy of the second in order.
+/// What each of two lists has that the other has not; the second may come in any order. None where the first does not
+/// rise by stamp, two operations bear one stamp, or memory does not allow a copy of the second in order.
 pub fn sides_of<A: Allocator + Copy>(
     alloc: A,
     ones: &[Op],

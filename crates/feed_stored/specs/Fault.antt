@@ -19,7 +19,8 @@ abbrev pub of_stop : Stopped → AddRefusal → OpenFault
 of_stop stop Full = openings.Opening stop
 of_stop stop NoMemory = openings.NoMemory
 
--- the name of a stored feed was not taken for a run, and no file has changed: Missing comes only where no file can have the name
+-- the name of a stored feed was not taken for a run, and no file has changed: Missing comes only where no file can have
+-- the name
 abbrev pub IsUntaken : List ℕ → Shelf → Shelf → FileRefusal → Type 0
 IsUntaken name before after why =
     (why ≢ refusals.Large) × (why ≡ refusals.Missing → IsNowhere (before.kept name)) × IsCounted why before after
@@ -50,7 +51,8 @@ IsUnopened read (openings.Opening stop) = (bytes : List ℕ) × (read ≡ Some b
     × IsCrowded ops stop
 IsUnopened read openings.NoMemory = AsksMemory read
 
--- a feed was not stored, and nothing but what stands under the name of the writing may have changed: Missing comes only where no file can have that name or the feed's
+-- a feed was not stored, and nothing but what stands under the name of the writing may have changed: Missing comes only
+-- where no file can have that name or the feed's
 abbrev pub IsNotStored : List ℕ → Shelf → Shelf → FileRefusal → Type 0
 IsNotStored name before after why =
     Spares (new_name name) before.kept after.kept × (why ≢ refusals.Large)

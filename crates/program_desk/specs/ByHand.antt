@@ -8,10 +8,10 @@ use Rattle.feed_edit.specs.Merging.{IsMerged, IsUnmerged}
 use Rattle.feed_edit.specs.declared.fault.ExportFault.{ExportFault}
 use Rattle.feed_edit.specs.declared.fault.ImportFault.{ImportFault}
 use Rattle.feed_edit.specs.declared.fault.MergeFault.{MergeFault}
-use Rattle.feed_renew.specs.Renewing.{IsNotRenewed}
-use Rattle.feed_renew.specs.declared.fault.RenewFault.{RenewFault}
-use Rattle.feed_renumber.specs.Renumbering.{IsUnrenumbered}
-use Rattle.feed_renumber.specs.declared.fault.RenumberFault.{RenumberFault}
+use Rattle.feed_sites.specs.Renewing.{IsNotRenewed}
+use Rattle.feed_sites.specs.declared.renew_fault.RenewFault.{RenewFault}
+use Rattle.feed_sites.specs.Renumbering.{IsUnrenumbered}
+use Rattle.feed_sites.specs.declared.fault.RenumberFault.{RenumberFault}
 
 -- the status of a merge that was done, by whether words are to be reviewed, and whether none is open
 abbrev pub status_of : Bool → Bool → ℕ

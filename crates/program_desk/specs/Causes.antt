@@ -25,13 +25,13 @@ use Rattle.desk_script.specs.declared.fault.RoomFault.{RoomFault}
 use Rattle.desk_script.specs.declared.fault.RoomFault.TheVariants as rooms
 use Rattle.desk_script.specs.declared.fault.RunFault.{RunFault}
 use Rattle.desk_script.specs.declared.fault.RunFault.TheVariants as runs
-use Rattle.desk_sheet.specs.Sheet.{max_sheet}
-use Rattle.desk_replace.specs.declared.fault.ExchangeFault.{ExchangeFault}
-use Rattle.desk_replace.specs.declared.fault.ExchangeFault.TheVariants as exchanges
-use Rattle.desk_replace.specs.declared.fault.PlaceFault.{PlaceFault}
-use Rattle.desk_replace.specs.declared.fault.PlaceFault.TheVariants as places
-use Rattle.desk_replace.specs.declared.fault.ReplaceFault.{ReplaceFault}
-use Rattle.desk_replace.specs.declared.fault.ReplaceFault.TheVariants as replacements
+use Rattle.desk_script.specs.Sheet.{max_sheet}
+use Rattle.feed_edit.specs.declared.replace_fault.ExchangeFault.{ExchangeFault}
+use Rattle.feed_edit.specs.declared.replace_fault.ExchangeFault.TheVariants as exchanges
+use Rattle.feed_edit.specs.declared.replace_fault.PlaceFault.{PlaceFault}
+use Rattle.feed_edit.specs.declared.replace_fault.PlaceFault.TheVariants as places
+use Rattle.feed_edit.specs.declared.replace_fault.ReplaceFault.{ReplaceFault}
+use Rattle.feed_edit.specs.declared.replace_fault.ReplaceFault.TheVariants as replacements
 use Rattle.feed_compare.specs.declared.fault.DifferenceFault.{DifferenceFault}
 use Rattle.feed_compare.specs.declared.fault.DifferenceFault.TheVariants as differences
 use Rattle.view_proof.specs.declared.reasons.OtherNumber.{OtherNumber}
@@ -43,13 +43,13 @@ use Rattle.view_ribbon.specs.declared.fault.ReadingFault.TheVariants as readings
 use Rattle.view_sorts.specs.declared.fault.SortsFault.{SortsFault}
 use Rattle.view_sorts.specs.declared.fault.SortsFault.TheVariants as sorts
 use Rattle.program_words.specs.declared.wishes.Sources.{Sources}
-use Rattle.feed_last.specs.declared.fault.LastFault.{LastFault}
-use Rattle.feed_last.specs.declared.fault.LastFault.TheVariants as lasts
-use Rattle.feed_renumber.specs.declared.fault.NumberFault.TheVariants as numbers
-use Rattle.feed_renumber.specs.declared.fault.RenumberFault.{RenumberFault}
-use Rattle.feed_renumber.specs.declared.fault.RenumberFault.TheVariants as renumberings
-use Rattle.feed_renew.specs.declared.fault.RenewFault.{RenewFault}
-use Rattle.feed_renew.specs.declared.fault.RenewFault.TheVariants as renewals
+use Rattle.feed_stored.specs.declared.last_fault.LastFault.{LastFault}
+use Rattle.feed_stored.specs.declared.last_fault.LastFault.TheVariants as lasts
+use Rattle.feed_sites.specs.declared.fault.NumberFault.TheVariants as numbers
+use Rattle.feed_sites.specs.declared.fault.RenumberFault.{RenumberFault}
+use Rattle.feed_sites.specs.declared.fault.RenumberFault.TheVariants as renumberings
+use Rattle.feed_sites.specs.declared.renew_fault.RenewFault.{RenewFault}
+use Rattle.feed_sites.specs.declared.renew_fault.RenewFault.TheVariants as renewals
 use Rattle.program_desk.specs.declared.causes.Cause.{Cause}
 use Rattle.program_desk.specs.declared.causes.Cause.TheVariants as causes
 use Rattle.program_desk.specs.declared.causes.ReadingSources.{ReadingSources}

@@ -2,7 +2,7 @@
 use Rattle.std.specs.Prelude.{◌≡◌, ◌≢◌, ◌⊎◌, ◌≤◌, length, ℕ, Bool, true, false, List, Option, Some, None}
 use Rattle.std.specs.Borrow.{Bor}
 use Rattle.feed_files.specs.Files.{Shelf, Stays}
-use Rattle.desk_outputs.specs.Outputs.{destination}
+use Rattle.feed_files.specs.Outputs.{destination}
 use Rattle.view_punch.specs.Sources.{sources}
 use Rattle.view_punch.specs.Proofing.{IsProofed, IsUnproofed}
 use Rattle.view_punch.specs.Punching.{IsPunched, IsUnpunched}
@@ -10,7 +10,7 @@ use Rattle.view_punch.specs.declared.fault.PreviewFault.{PreviewFault}
 use Rattle.view_punch.specs.declared.fault.PreviewFault.TheVariants as faults
 use Rattle.view_picture.specs.Picturing.{IsPictured, IsUnpictured}
 use Rattle.desk_replica.specs.declared.settings.Settings.{Settings}
-use Rattle.desk_trial.specs.Trial.{trial_of}
+use Rattle.view_punch.specs.Trial.{trial_of}
 use Rattle.view_proof.specs.declared.proof.Extent.{Extent}
 use Rattle.view_proof.specs.declared.proof.Extent.TheVariants as extents
 use Rattle.program_words.specs.declared.wishes.Sources.{Sources}

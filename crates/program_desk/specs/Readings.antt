@@ -1,8 +1,8 @@
 -- What a reading of a ribbon and a list of sorts have done, and what they left.
 use Rattle.std.specs.Prelude.{◌≡◌, ◌≢◌, ◌⊎◌, ℕ, Bool, true, false, List, Option, Some, None}
 use Rattle.feed_files.specs.Files.{Shelf, Stays}
-use Rattle.desk_holes.specs.Drawing.{IsDrawn, IsUndrawn}
-use Rattle.desk_outputs.specs.Outputs.{destination}
+use Rattle.view_ribbon.specs.Drawing.{IsDrawn, IsUndrawn}
+use Rattle.feed_files.specs.Outputs.{destination}
 use Rattle.view_ribbon.specs.Reading.{IsRead, IsUnread}
 use Rattle.view_ribbon.specs.Sources.{Sources}
 use Rattle.view_ribbon.specs.declared.fault.ReadingFault.{ReadingFault}

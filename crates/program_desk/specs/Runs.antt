@@ -6,16 +6,17 @@ use Rattle.feed_files.specs.Files.{Shelf, Stays}
 use Rattle.feed_edit.specs.Exporting.{IsExported}
 use Rattle.feed_edit.specs.Importing.{IsImported}
 use Rattle.program_words.specs.Words.{AsksFor, texts_of}
-use Rattle.feed_renew.specs.Renewing.{IsRenewed}
-use Rattle.feed_renumber.specs.Renumbering.{IsRenumbered}
-use Rattle.program_desk.specs.ByHand.{IsMergedAs, IsNotExported, IsNotImported, IsNotMadeAnew, IsNotMerged, IsNotNumbered}
+use Rattle.feed_sites.specs.Renewing.{IsRenewed}
+use Rattle.feed_sites.specs.Renumbering.{IsRenumbered}
+use Rattle.program_desk.specs.ByHand.{IsMergedAs, IsNotExported, IsNotImported, IsNotMadeAnew, IsNotMerged}
+use Rattle.program_desk.specs.ByHand.{IsNotNumbered}
 use Rattle.program_desk.specs.Compared.{AreNotOne, AreOne}
 use Rattle.program_desk.specs.Sheets.{IsOffDesk, IsOnDesk, IsScripted, IsUnscripted}
 use Rattle.program_desk.specs.Previews.{IsInFile, IsInNoFile, IsSeen, IsUnseen}
 use Rattle.program_desk.specs.Readings.{IsListed, IsNotListed, IsNotReadWhole, IsReadWhole}
 use Rattle.view_ribbon.specs.Sources.{sources}
 use Rattle.view_sorts.specs.Sources as sorts
-use Rattle.desk_replace.specs.Replacing.{IsReplaced}
+use Rattle.feed_edit.specs.Replacing.{IsReplaced}
 use Rattle.program_desk.specs.Texts.{AreFound, AreNotInOrder, IsUnchanged, exchange}
 use Rattle.program_words.specs.declared.wishes.Wish.{Wish}
 use Rattle.program_words.specs.declared.wishes.Wish.TheVariants as wishes

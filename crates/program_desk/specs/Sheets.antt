@@ -7,11 +7,11 @@ use Rattle.desk_script.specs.Desk.{desk}
 use Rattle.desk_script.specs.Script.{Answers, AnswersPrefix}
 use Rattle.desk_script.specs.Room.{AnswersInRoom, IsStoppedInRoom}
 use Rattle.desk_script.specs.declared.fault.RoomFault.{RoomFault}
-use Rattle.desk_sheet.specs.Sheet.{IsDone, IsStopped}
-use Rattle.desk_sheet.specs.StoredSheet.{IsStoredSheet}
-use Rattle.desk_sheet.specs.StoredSheet as sheets
-use Rattle.desk_sheet.specs.declared.fault.SheetFault.{SheetFault}
-use Rattle.desk_sheet.specs.declared.sheet.Mode.{Mode}
+use Rattle.desk_script.specs.Sheet.{IsDone, IsStopped}
+use Rattle.desk_script.specs.StoredSheet.{IsStoredSheet}
+use Rattle.desk_script.specs.StoredSheet as sheets
+use Rattle.desk_script.specs.declared.sheet_fault.SheetFault.{SheetFault}
+use Rattle.desk_script.specs.declared.sheet.Mode.{Mode}
 use Rattle.program_words.specs.declared.wishes.Manner.{Manner}
 
 -- the commands are read as a sheet: to their end, before the first is carried out

@@ -5,9 +5,9 @@ use Rattle.clap.specs.Words.{Text}
 use Rattle.feed_files.specs.Files.{Shelf, Stays}
 use Rattle.feed_check.specs.Checking.{IsChecked, IsUnchecked}
 use Rattle.feed_check.specs.declared.fault.CheckFault.{CheckFault}
-use Rattle.desk_replace.specs.Replacing.{IsUnreplaced}
-use Rattle.desk_replace.specs.declared.fault.ReplaceFault.{ReplaceFault}
-use Rattle.desk_replace.specs.declared.texts.Exchange.{Exchange}
+use Rattle.feed_edit.specs.Replacing.{IsUnreplaced}
+use Rattle.feed_edit.specs.declared.replace_fault.ReplaceFault.{ReplaceFault}
+use Rattle.feed_edit.specs.declared.texts.Exchange.{Exchange}
 
 -- a text, and the one that takes its place
 abbrev pub exchange : Bor Text → Bor Text → Bool → Exchange

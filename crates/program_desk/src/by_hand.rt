@@ -6,10 +6,11 @@ ghost use Rattle.std.specs.Prelude.{◌≡◌, ◌≤◌, MatchResult};
 ghost use Rattle.feed_edit.specs.Exporting.{IsExported};
 ghost use Rattle.feed_edit.specs.Importing.{IsImported};
 ghost use Rattle.feed_files.specs.Files.{Stays};
-ghost use Rattle.feed_renew.specs.Renewing.{IsRenewed};
-ghost use Rattle.feed_renumber.specs.Renumbering.{IsRenumbered};
+ghost use Rattle.feed_sites.specs.Renewing.{IsRenewed};
+ghost use Rattle.feed_sites.specs.Renumbering.{IsRenumbered};
 ghost use Rattle.program_words.specs.Words.{texts_of};
-ghost use Rattle.program_desk.specs.ByHand.{IsMergedAs, IsNotExported, IsNotImported, IsNotMadeAnew, IsNotMerged, IsNotNumbered, status_of};
+ghost use Rattle.program_desk.specs.ByHand.{IsMergedAs, IsNotExported, IsNotImported, IsNotMadeAnew, IsNotMerged};
+ghost use Rattle.program_desk.specs.ByHand.{IsNotNumbered, status_of};
 
 use crate::causes::{export_cause, import_cause, merge_cause, renew_cause, renumber_cause};
 use crate::reporting::reported;
@@ -17,8 +18,7 @@ use feed_edit::{
     ExportFault, ImportFault, MergeFault, export_feed, forks_line, import_text, merge_feeds,
 };
 use feed_files::Files;
-use feed_renew::{RenewFault, renew_feed};
-use feed_renumber::{RenumberFault, renumber_feed};
+use feed_sites::{RenewFault, RenumberFault, renew_feed, renumber_feed};
 use program_host::Explains;
 use std::alloc::{Allocator, Global};
 use std::io::{Read, Write};
@@ -70,7 +70,8 @@ fn merge_status<E: Write, F: Explains>(
     }
 }
 
-/// Merges feeds of other files into a stored one, and gives the status: 1 also where words are open, if that is to be reviewed.
+/// Merges feeds of other files into a stored one, and gives the status: 1 also where words are open, if that is to be
+/// reviewed.
 pub fn merged<W: Write, E: Write, F: Files + Explains>(
     alloc: Global,
     feed: &str,

@@ -1,22 +1,22 @@
 //! The cause of what stopped, as its second line says it: which file it was, or which end of the program, and why.
 
 ghost use Rattle.std.specs.Prelude.{◌≡◌, slice_get};
-ghost use Rattle.program_desk.specs.Causes.{desk_cause, difference_cause, export_cause, feed_cause, file_cause, import_cause, input_cause, keep_cause, merge_cause, number_cause, other_cause, preview_cause, reading_cause, renew_cause, renumber_cause, replace_cause, revision_cause, sheet_cause, sorts_cause, take_cause, unstored_cause, last_cause, room_cause};
+ghost use Rattle.program_desk.specs.Causes.{desk_cause, difference_cause, export_cause, feed_cause, file_cause};
+ghost use Rattle.program_desk.specs.Causes.{import_cause, input_cause, keep_cause, merge_cause, number_cause};
+ghost use Rattle.program_desk.specs.Causes.{other_cause, preview_cause, reading_cause, renew_cause, renumber_cause};
+ghost use Rattle.program_desk.specs.Causes.{replace_cause, revision_cause, sheet_cause, sorts_cause, take_cause};
+ghost use Rattle.program_desk.specs.Causes.{unstored_cause, last_cause, room_cause};
 
 use desk_codec::FeedFault;
-use desk_outputs::Kind;
-use desk_replace::{ExchangeFault, PlaceFault, ReplaceFault};
-use desk_script::{RoomFault, RunFault};
-use desk_sheet::MAX_SHEET;
+use desk_script::{MAX_SHEET, RoomFault, RunFault};
 use feed_compare::DifferenceFault;
 use feed_edit::{
-    ExportFault, FeedTrouble, ImportFault, InputFault, KeepFault, MAX_TEXT, MergeFault,
-    RevisionFault, TakeFault,
+    ExchangeFault, ExportFault, FeedTrouble, ImportFault, InputFault, KeepFault, MAX_TEXT,
+    MergeFault, PlaceFault, ReplaceFault, RevisionFault, TakeFault,
 };
-use feed_files::FileRefusal;
-use feed_last::LastFault;
-use feed_renew::RenewFault;
-use feed_renumber::{NumberFault, RenumberFault};
+use feed_files::{FileRefusal, Kind};
+use feed_sites::{NumberFault, RenewFault, RenumberFault};
+use feed_stored::LastFault;
 use program_words::Sources;
 use script_answers::Refusal;
 use std::alloc::Allocator;

@@ -1,9 +1,9 @@
 //! What the words of the command line ask for, done over any files, reader and writer; its status and the lines on what
 //! stopped it.
 //!
-//! `program_words` reads the words, and `copydesk` calls `program` with the machine's files. Status 0: it is done. Status
-//! 1: it stopped, or what it looked at is not in order. Status 2: the words are refused. At most two lines report a
-//! stop: the fault, and the file with the cause.
+//! `program_words` reads the words, and `copydesk` calls `program` with the machine's files. Status 0: it is done.
+//! Status 1: it stopped, or what it looked at is not in order. Status 2: the words are refused. At most two lines
+//! report a stop: the fault, and the file with the cause.
 #![tactic(auto)]
 
 mod by_hand;

@@ -3,23 +3,23 @@
 ghost use Rattle.std.specs.Option.{option_copied};
 ghost use Rattle.std.specs.Prelude.{◌≡◌, ◌≤◌, ◌↔◌, IfErr, IfOk, MatchResult, false, true};
 ghost use Rattle.desk_job.specs.Answer.{AreValues};
-ghost use Rattle.program_desk.specs.Previews.{IsInFile, IsInNoFile, IsPictureAbsent, IsPictureThere, IsSeen, IsSeenBy, IsShown, IsSource, IsUnseen, IsUnseenBy, IsUnshown, TakesSource, extent_of};
+ghost use Rattle.program_desk.specs.Previews.{IsInFile, IsInNoFile, IsPictureAbsent, IsPictureThere, IsSeen, IsSeenBy};
+ghost use Rattle.program_desk.specs.Previews.{IsShown, IsSource, IsUnseen, IsUnseenBy, IsUnshown, TakesSource};
+ghost use Rattle.program_desk.specs.Previews.{extent_of};
 
 use crate::causes::preview_cause;
 use crate::reporting::{report_target, reported, stopped};
-use desk_inputs::Memory;
-use desk_outputs::Target;
 use desk_replica::Settings;
 use desk_script::RunFault;
-use desk_trial::{TrialFault, trial_of};
-use feed_files::Files;
+use feed_files::{Files, Target};
 use program_host::{Explains, Plain};
 use program_words::Sources;
+use script_answers::Memory;
 use std::alloc::Global;
 use std::io::Write;
 use view_picture::picture_feed;
 use view_proof::Extent;
-use view_punch::{PreviewFault, proof_feed, punch_feed};
+use view_punch::{PreviewFault, TrialFault, proof_feed, punch_feed, trial_of};
 
 /// The status of a punch.
 fn punch_status<E: Write, F: Explains>(
@@ -139,8 +139,8 @@ fn pictured<E: Write, F: Files + Explains>(
     }
 }
 
-/// Writes the proof of a stored feed, stores its picture where one is asked for, and gives the status. The picture is stored also
-/// where the writer failed: whoever reads the proof may have seen enough of it.
+/// Writes the proof of a stored feed, stores its picture where one is asked for, and gives the status. The picture is
+/// stored also where the writer failed: whoever reads the proof may have seen enough of it.
 fn seen_by<W: Write, E: Write, F: Files + Explains>(
     alloc: Global,
     from: &Sources<'_>,
@@ -208,9 +208,9 @@ fn takes_source<E: Write>(faults: &mut E, from: &Sources<'_>, picture: Option<&s
     true
 }
 
-/// Writes the proof of a stored feed by its settings and those that texts as `loose=200` try, stores its picture where one is
-/// asked for, and gives the status: 0 where no fault stands and all was written. The picture replaces only a picture, or, by
-/// force, any file but the feed, the case and the wedge.
+/// Writes the proof of a stored feed by its settings and those that texts as `loose=200` try, stores its picture where
+/// one is asked for, and gives the status: 0 where no fault stands and all was written. The picture replaces only a
+/// picture, or, by force, any file but the feed, the case and the wedge.
 pub fn proofed<W: Write, E: Write, F: Files + Explains>(
     alloc: Global,
     from: &Sources<'_>,

@@ -2,20 +2,19 @@
 
 ghost use Rattle.std.specs.Option.{option_copied};
 ghost use Rattle.std.specs.Prelude.{◌≡◌, ◌≤◌, ◌↔◌, ◌⊎◌, IfErr, IfOk, MatchResult, false, true};
-ghost use Rattle.program_desk.specs.Readings.{AreHolesAbsent, AreHolesThere, IsListed, IsNotListed, IsNotReadOut, IsNotReadWhole, IsReadOut, IsReadWhole, TakesSource};
+ghost use Rattle.program_desk.specs.Readings.{AreHolesAbsent, AreHolesThere, IsListed, IsNotListed, IsNotReadOut};
+ghost use Rattle.program_desk.specs.Readings.{IsNotReadWhole, IsReadOut, IsReadWhole, TakesSource};
 ghost use Rattle.view_ribbon.specs.Sources.{sources};
 ghost use Rattle.view_sorts.specs.Sources as of_sorts;
 
 use crate::causes::{ReadingSources, reading_cause, sorts_cause};
 use crate::previews::memory_of;
 use crate::reporting::{report_target, reported};
-use desk_holes::draw_ribbon;
-use desk_outputs::Target;
-use feed_files::Files;
+use feed_files::{Files, Target};
 use program_host::Explains;
 use std::alloc::Global;
 use std::io::Write;
-use view_ribbon::{ReadingFault, read_job};
+use view_ribbon::{ReadingFault, draw_ribbon, read_job};
 use view_sorts::{SortsFault, report_sorts};
 
 /// Writes the reading of a ribbon, and says whether it is cast whole, or why it was not written.
@@ -107,9 +106,9 @@ fn takes_source<E: Write>(faults: &mut E, from: &ReadingSources<'_>, picture: Op
     true
 }
 
-/// Writes what a caster would cast of a stored ribbon by a case and a wedge, stores its picture where one is asked for, and gives
-/// the status: 0 where it is cast whole and all was written. The picture is stored also where the writer failed. It replaces only
-/// a picture, or, by force, any file but the ribbon, the case and the wedge.
+/// Writes what a caster would cast of a stored ribbon by a case and a wedge, stores its picture where one is asked for,
+/// and gives the status: 0 where it is cast whole and all was written. The picture is stored also where the writer
+/// failed. It replaces only a picture, or, by force, any file but the ribbon, the case and the wedge.
 pub fn read_whole<W: Write, E: Write, F: Files + Explains>(
     alloc: Global,
     from: &ReadingSources<'_>,

@@ -7,7 +7,7 @@ use crate::causes::{Cause, room_cause};
 use desk_ops::Stamp;
 use desk_script::{RoomFault, RunFault};
 use feed_files::FileRefusal;
-use feed_renumber::NumberFault;
+use feed_sites::NumberFault;
 use program_host::{Explains, Plain};
 use script_answers::Refusal;
 use std::fmt::Display;
@@ -248,8 +248,8 @@ pub fn report_target<E: Write>(faults: &mut E, target: &str, made: &str) {
     let _ = writeln!(faults, "{target}: the {made} would take its place");
 }
 
-/// Says why the words could not be read, and gives the status of it: 1 where memory ran out, as of a run, and else 2, as of
-/// words that `clap` refuses. A failure to write the line changes no status.
+/// Says why the words could not be read, and gives the status of it: 1 where memory ran out, as of a run, and else 2,
+/// as of words that `clap` refuses. A failure to write the line changes no status.
 pub fn unread<E: Write>(faults: &mut E, error: &io::Error) -> u8
     ensures within { (result ≡ 1) ⊎ (result ≡ 2) }
     ensures memory { (result ≡ 1) ↔ (error_kind error.now ≡ ErrorKind.OutOfMemory) }

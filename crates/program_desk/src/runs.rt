@@ -15,10 +15,9 @@ use crate::sheets::{on_desk, scripted};
 use crate::texts::{checked, replaced};
 use clap::Error;
 use clap::error::ErrorKind;
-use desk_outputs::Target;
-use desk_replace::Exchange;
 use desk_script::RunFault;
-use feed_files::Files;
+use feed_edit::Exchange;
+use feed_files::{Files, Target};
 use program_host::{Explains, Plain};
 use program_words::{Wish, read_words};
 use std::alloc::Global;
@@ -164,9 +163,9 @@ fn refused<W: Write, E: Write>(alloc: Global, writer: &mut W, faults: &mut E, er
     2
 }
 
-/// Does what the words ask for, and gives the status: 0 only where it was done and no fault or difference found, or help or the
-/// version was asked for; 1 where it stopped, or a fault or a difference was found; and 2 where the words were refused. A
-/// failure to write the help or a fault's line changes no status.
+/// Does what the words ask for, and gives the status: 0 only where it was done and no fault or difference found, or
+/// help or the version was asked for; 1 where it stopped, or a fault or a difference was found; and 2 where the words
+/// were refused. A failure to write the help or a fault's line changes no status.
 pub fn program<R: Read, W: Write, E: Write, F: Files + Explains>(
     alloc: Global,
     words: &[String],

@@ -5,8 +5,7 @@ ghost use Rattle.program_desk.specs.Sheets.{IsOffDesk, IsOnDesk, IsScripted, IsU
 
 use crate::causes::{Cause, sheet_cause};
 use crate::reporting::{explain, status_of, status_on};
-use desk_script::{run, run_in_room};
-use desk_sheet::{Mode, SheetFault, run_sheet, run_sheet_on_feed};
+use desk_script::{Mode, SheetFault, run, run_in_room, run_sheet, run_sheet_on_feed};
 use feed_files::Files;
 use program_host::{Explains, Plain};
 use program_words::Manner;

@@ -2,15 +2,15 @@
 
 ghost use Rattle.std.specs.Prelude.{◌≡◌, ◌≤◌, MatchResult, false, true};
 ghost use Rattle.program_words.specs.Words.{texts_of};
-ghost use Rattle.desk_replace.specs.Replacing.{IsReplaced};
+ghost use Rattle.feed_edit.specs.Replacing.{IsReplaced};
 ghost use Rattle.program_desk.specs.Texts.{AreFound, AreNotInOrder, IsUnchanged, exchange};
 
 use crate::causes::{Cause, replace_cause};
 use crate::previews::memory_of;
 use crate::reporting::{reported, stopped};
-use desk_replace::{Exchange, ReplaceFault, replace_text};
 use desk_script::RunFault;
 use feed_check::{CheckFault, check_files};
+use feed_edit::{Exchange, ReplaceFault, replace_text};
 use feed_files::Files;
 use program_host::Explains;
 use std::alloc::Global;

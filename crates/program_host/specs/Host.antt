@@ -7,7 +7,8 @@ use Rattle.feed_files.specs.declared.files.FileRefusal.TheVariants as refusals
 use Rattle.feed_files.specs.Files as files
 use Rattle.program_host.specs.declared.hold.Hold.{Hold}
 
--- by the kind of the error: that the file or its folder is not there, that memory ran out, or of all other kinds that the device failed
+-- by the kind of the error: that the file or its folder is not there, that memory ran out, or of all other kinds that
+-- the device failed
 abbrev pub IsReportedOf : ErrorKind → FileRefusal → Type 0
 IsReportedOf kind refusals.Missing = (kind ≡ kinds.NotFound) ⊎ (kind ≡ kinds.NotADirectory)
 IsReportedOf kind refusals.Device = (kind ≢ kinds.NotFound) × (kind ≢ kinds.NotADirectory) × (kind ≢ kinds.OutOfMemory)
@@ -17,7 +18,8 @@ IsReportedOf kind refusals.NoMemory = kind ≡ kinds.OutOfMemory
 -- what is held, by the name and whether it was touched
 abbrev pub held_in : Option Hold → files.Hold
 held_in None = files.Free
-held_in (Some hold) = if hold.is_touched then files.Touched (string_bytes hold.name) else files.Untouched (string_bytes hold.name)
+held_in (Some hold) = if hold.is_touched then files.Touched (string_bytes hold.name) else files.Untouched
+    (string_bytes hold.name)
 
 -- Where a name leads: the held one and that of its writing to their places, any other to itself.
 pub record LeadsTo (hold : Hold) (name place : List ℕ) : Type 0 where

@@ -13,8 +13,8 @@ use std::path::Path;
 /// How many links are followed from a name.
 const MAX_LINKS: u32 = 40;
 
-/// A name that is held: where it leads, and the open file that is locked. The system gives the lock back where that file
-/// is closed, and so at the end of every run, however it ends.
+/// A name that is held: where it leads, and the open file that is locked. The system gives the lock back where that
+/// file is closed, and so at the end of every run, however it ends.
 #[derive(Drop)]
 pub struct Hold {
     /// The name as it was given.
@@ -185,8 +185,8 @@ fn locked(host: &HostRuntime, place: &str) -> Result<File, Trouble> {
     }
 }
 
-/// The file beside the place that is locked. It is made where it is not there, and never written or removed. Where it is
-/// another user's it is opened to be read.
+/// The file beside the place that is locked. It is made where it is not there, and never written or removed. Where it
+/// is another user's it is opened to be read.
 fn lock_file(host: &HostRuntime, place: &str) -> io::Result<File> {
     let name = beside(host, place, ".lock")?;
     match fs::symlink_metadata(host, name.as_str()) {

@@ -1,6 +1,7 @@
 //! Files of the machine.
 
-ghost use Rattle.std.specs.Prelude.{◌≡◌, ◌≢◌, ◌<◌, ◌≤◌, Err, IfErr, IfOk, IfSome, IsErrAnd, IsNone, IsSomeAnd, MatchOption, MatchResult, None, Ok, Some, length, string_bytes};
+ghost use Rattle.std.specs.Prelude.{◌≡◌, ◌≢◌, ◌<◌, ◌≤◌, Err, IfErr, IfOk, IfSome, IsErrAnd, IsNone, IsSomeAnd};
+ghost use Rattle.std.specs.Prelude.{MatchOption, MatchResult, None, Ok, Some, length, string_bytes};
 ghost use Rattle.std.specs.Fs.{metadata_mode};
 ghost use Rattle.std.specs.IoError.{error_kind};
 ghost use Rattle.feed_files.specs.Files.{Counts, Free, IsCounted, Unknown, max_file, shelf, touched};
@@ -17,8 +18,8 @@ use std::io::{self, ErrorKind, Read, Write};
 use std::os::unix::fs::{OpenOptionsExt, PermissionsExt};
 use std::path::Path;
 
-/// Files of the machine, by their paths, with a count of the failures, the name that is held, and what failed last. What is
-/// read of them and written is reported as the run's progress.
+/// Files of the machine, by their paths, with a count of the failures, the name that is held, and what failed last.
+/// What is read of them and written is reported as the run's progress.
 #[derive(Drop)]
 pub struct HostFiles<'a> {
     host: &'a HostRuntime,
@@ -49,7 +50,8 @@ impl<'a> HostFiles<'a> {
     /// Counts a failed call, if it was the device that failed, and keeps it to be reported.
     fn refused(&mut self, trouble: Trouble) -> FileRefusal
         ensures reported { IsReportedOf (error_kind trouble.error) result }
-        ensures counted { IsCounted result (shelf (λ _. Unknown) self.old.failures Free) (shelf (λ _. Unknown) self.new.failures Free) }
+        ensures counted { IsCounted result (shelf (λ _. Unknown) self.old.failures Free)
+            (shelf (λ _. Unknown) self.new.failures Free) }
         ensures held { self.new.hold ≡ self.old.hold }
         ensures kept { self.new.trouble ≡ Some trouble }
     {
@@ -79,7 +81,8 @@ impl<'a> HostFiles<'a> {
         }
     }
 
-    /// Keeps the name of a file whose reading was refused. At a terminal a held feed that is not there is reported as new.
+    /// Keeps the name of a file whose reading was refused. At a terminal a held feed that is not there is reported as
+    /// new.
     fn note_unread(&mut self, name: &str, why: FileRefusal)
         ensures failures { self.new.failures ≡ self.old.failures }
         ensures held { self.new.hold ≡ self.old.hold }
@@ -103,8 +106,10 @@ impl<'a> HostFiles<'a> {
 
     /// The file whose mode a writing takes: that of the held feed, where the writing will take its place.
     fn model_of<'b>(&'b self, name: &str) -> Option<&'b str>
-        ensures writing { IfSome self.now.hold (λ hold. name.now ≡ string_bytes hold.new → IsSomeAnd result (λ place. place.now ≡ string_bytes hold.place)) }
-        ensures other { MatchOption self.now.hold (IsNone result) (λ hold. name.now ≢ string_bytes hold.new → IsNone result) }
+        ensures writing { IfSome self.now.hold (λ hold. name.now ≡ string_bytes hold.new
+            → IsSomeAnd result (λ place. place.now ≡ string_bytes hold.place)) }
+        ensures other { MatchOption self.now.hold (IsNone result) (λ hold. name.now ≢ string_bytes hold.new
+            → IsNone result) }
     {
         match &self.hold {
             Some(hold) => {
@@ -119,7 +124,8 @@ impl<'a> HostFiles<'a> {
 
     /// The mode that a file is written with: that of the held feed's file, where it will take its place.
     fn mode_of(&self, name: &str) -> io::Result<Option<u32>>
-        ensures other { MatchOption self.now.hold (result ≡ Ok None) (λ hold. name.now ≢ string_bytes hold.new → result ≡ Ok None) }
+        ensures other { MatchOption self.now.hold (result ≡ Ok None) (λ hold. name.now ≢ string_bytes hold.new
+            → result ≡ Ok None) }
         ensures missing { IfErr result (λ error. error_kind error ≢ ErrorKind.NotFound) }
     {
         match self.model_of(name) {
@@ -133,9 +139,13 @@ impl<'a> HostFiles<'a> {
         &mut self,
         read: io::Result<Option<Vec<u8, A>>>,
     ) -> Result<Vec<u8, A>, FileRefusal>
-        ensures given { MatchResult read (λ o. MatchOption o (result ≡ Err FileRefusal.Large) (λ bytes. result ≡ Ok bytes)) (λ error. IsErrAnd result (IsReportedOf (error_kind error))) }
-        ensures kept { MatchResult read (λ o. MatchOption o (self.new.trouble ≡ None) (λ _. self.new.trouble ≡ self.old.trouble)) (λ error. IsSomeAnd self.new.trouble (λ t. (t.asked ≡ Asked.Read) × (t.error ≡ error))) }
-        ensures counted { Counts result (shelf (λ _. Unknown) self.old.failures Free) (shelf (λ _. Unknown) self.new.failures Free) }
+        ensures given { MatchResult read (λ o. MatchOption o (result ≡ Err FileRefusal.Large) (λ bytes. result
+            ≡ Ok bytes)) (λ error. IsErrAnd result (IsReportedOf (error_kind error))) }
+        ensures kept { MatchResult read (λ o. MatchOption o (self.new.trouble ≡ None) (λ _. self.new.trouble
+            ≡ self.old.trouble)) (λ error. IsSomeAnd self.new.trouble (λ t. (t.asked ≡ Asked.Read)
+            × (t.error ≡ error))) }
+        ensures counted { Counts result (shelf (λ _. Unknown) self.old.failures Free)
+            (shelf (λ _. Unknown) self.new.failures Free) }
         ensures held { self.new.hold ≡ self.old.hold }
     {
         match read {
@@ -247,8 +257,8 @@ fn folder_of(host: &HostRuntime, name: &str) -> Option<File> {
     File::open(host, folder).ok()
 }
 
-/// Gives a file another name, and waits until the device has that, where the system lets it wait for the folder. A folder
-/// that was not synced is not reported: the file has its name by then.
+/// Gives a file another name, and waits until the device has that, where the system lets it wait for the folder. A
+/// folder that was not synced is not reported: the file has its name by then.
 fn rename_file(host: &HostRuntime, from: &str, to: &str) -> io::Result<()> {
     let folder = folder_of(host, to);
     fs::rename(host, from, to)?;

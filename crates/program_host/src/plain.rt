@@ -3,8 +3,8 @@
 use std::fmt::{self, Display, Formatter};
 use text_copy::is_directional;
 
-/// A name of which each control character is written as `\x1b`, and each directional mark as `<U+202E>`. So a terminal obeys
-/// nothing in it, and turns no line round. It takes no memory.
+/// A name of which each control character is written as `\x1b`, and each directional mark as `<U+202E>`. So a terminal
+/// obeys nothing in it, and turns no line round. It takes no memory.
 #[derive(Clone, Copy, Debug, PartialEq, Eq)]
 pub struct Plain<'a>(pub &'a str);
 

@@ -11,8 +11,8 @@ use std::time::{Duration, Instant};
 /// The most bytes that are handed to a writer at once, so that a slow one is reported on the way.
 const PIECE: usize = 65_536;
 
-/// When a line was written last, somebody typed or saw something, or the run began, whichever came last. None is written where
-/// standard error is no terminal, or while the clock fails.
+/// When a line was written last, somebody typed or saw something, or the run began, whichever came last. None is
+/// written where standard error is no terminal, or while the clock fails.
 #[derive(Drop)]
 pub struct Progress<'a> {
     host: &'a HostRuntime,

@@ -9,11 +9,13 @@ a_script : fault_of copydesk (codes "script" ∷ []) ≡ []
 unfolding clap_on_literals
 a_script = refl
 
-a_strict_script : option_map (λ p. one_of (codes "strict") p.1) (subcommand_of copydesk (codes "script" ∷ codes "--strict" ∷ [])) ≡ Some (Some (codes "true"))
+a_strict_script : option_map (λ p. one_of (codes "strict") p.1) (subcommand_of copydesk (codes "script"
+    ∷ codes "--strict" ∷ [])) ≡ Some (Some (codes "true"))
 unfolding clap_on_literals
 a_strict_script = refl
 
-numbers_of_a_desk : option_map (λ p. one_of (codes "number") p.1) (subcommand_of copydesk (codes "desk" ∷ codes "a.feed" ∷ codes "--site" ∷ codes "3" ∷ codes "--number" ∷ [])) ≡ Some (Some (codes "true"))
+numbers_of_a_desk : option_map (λ p. one_of (codes "number") p.1) (subcommand_of copydesk (codes "desk"
+    ∷ codes "a.feed" ∷ codes "--site" ∷ codes "3" ∷ codes "--number" ∷ [])) ≡ Some (Some (codes "true"))
 unfolding clap_on_literals
 numbers_of_a_desk = refl
 
@@ -24,7 +26,8 @@ a_desk = refl
 found : Option (Text × List Row) → Option (Text × (Option Text × Option Text))
 found = option_map (λ p. (p.0, (first_of (codes "feed") p.1, one_of (codes "site") p.1)))
 
-a_feed_and_a_site : found (subcommand_of copydesk (codes "desk" ∷ codes "a.feed" ∷ codes "--site" ∷ codes "3" ∷ [])) ≡ Some (codes "desk", (Some (codes "a.feed"), Some (codes "3")))
+a_feed_and_a_site : found (subcommand_of copydesk (codes "desk" ∷ codes "a.feed" ∷ codes "--site" ∷ codes "3" ∷ []))
+    ≡ Some (codes "desk", (Some (codes "a.feed"), Some (codes "3")))
 unfolding clap_on_literals found
 a_feed_and_a_site = refl
 
@@ -35,7 +38,8 @@ a_merge = refl
 merged : Option (Text × List Row) → Option (Text × (Option Text × Option (List Text)))
 merged = option_map (λ p. (p.0, (first_of (codes "feed") p.1, all_of (codes "other") p.1)))
 
-a_feed_and_two_others : merged (subcommand_of copydesk (codes "merge" ∷ codes "a.feed" ∷ codes "b.feed" ∷ codes "c.feed" ∷ []))
+a_feed_and_two_others : merged (subcommand_of copydesk (codes "merge" ∷ codes "a.feed" ∷ codes "b.feed"
+    ∷ codes "c.feed" ∷ []))
     ≡ Some (codes "merge", (Some (codes "a.feed"), Some (codes "b.feed" ∷ codes "c.feed" ∷ [])))
 unfolding clap_on_literals merged
 a_feed_and_two_others = refl
@@ -44,7 +48,8 @@ nothing_to_merge : fault_of copydesk (codes "merge" ∷ codes "a.feed" ∷ []) �
 unfolding clap_on_literals
 nothing_to_merge = refl
 
-an_import : option_map (λ p. one_of (codes "plain") p.1) (subcommand_of copydesk (codes "import" ∷ codes "a.feed" ∷ codes "--plain" ∷ codes "--site" ∷ codes "3" ∷ [])) ≡ Some (Some (codes "true"))
+an_import : option_map (λ p. one_of (codes "plain") p.1) (subcommand_of copydesk (codes "import" ∷ codes "a.feed"
+    ∷ codes "--plain" ∷ codes "--site" ∷ codes "3" ∷ [])) ≡ Some (Some (codes "true"))
 unfolding clap_on_literals
 an_import = refl
 
@@ -52,11 +57,13 @@ two_exports : fault_of copydesk (codes "export" ∷ codes "a.feed" ∷ codes "b.
 unfolding clap_on_literals
 two_exports = refl
 
-site_zero : fault_of copydesk (codes "desk" ∷ codes "a.feed" ∷ codes "--site" ∷ codes "0" ∷ []) ≡ kind.ValueValidation ∷ []
+site_zero : fault_of copydesk (codes "desk" ∷ codes "a.feed" ∷ codes "--site" ∷ codes "0" ∷ [])
+    ≡ kind.ValueValidation ∷ []
 unfolding clap_on_literals
 site_zero = refl
 
-site_above_all : fault_of copydesk (codes "desk" ∷ codes "a.feed" ∷ codes "--site=65536" ∷ []) ≡ kind.ValueValidation ∷ []
+site_above_all : fault_of copydesk (codes "desk" ∷ codes "a.feed" ∷ codes "--site=65536" ∷ [])
+    ≡ kind.ValueValidation ∷ []
 unfolding clap_on_literals
 site_above_all = refl
 
@@ -85,29 +92,36 @@ unfolding clap_on_literals
 one_word_more = refl
 
 proofed : Option (Text × List Row) → Option (Text × (Option Text × (Option Text × Option Text)))
-proofed = option_map (λ p. (p.0, (first_of (codes "case") p.1, (first_of (codes "wedge") p.1, one_of (codes "faults") p.1))))
+proofed = option_map
+    (λ p. (p.0, (first_of (codes "case") p.1, (first_of (codes "wedge") p.1, one_of (codes "faults") p.1))))
 
-a_proof : proofed (subcommand_of copydesk (codes "proof" ∷ codes "a.feed" ∷ codes "--case" ∷ codes "c.toml" ∷ codes "--faults" ∷ codes "--wedge=w.toml" ∷ []))
+a_proof : proofed (subcommand_of copydesk (codes "proof" ∷ codes "a.feed" ∷ codes "--case" ∷ codes "c.toml"
+    ∷ codes "--faults" ∷ codes "--wedge=w.toml" ∷ []))
     ≡ Some (codes "proof", (Some (codes "c.toml"), (Some (codes "w.toml"), Some (codes "true"))))
 unfolding clap_on_literals proofed
 a_proof = refl
 
 punched : Option (Text × List Row) → Option (Text × (Option Text × (Option Text × Option Text)))
-punched = option_map (λ p. (p.0, (first_of (codes "case") p.1, (first_of (codes "wedge") p.1, first_of (codes "output") p.1))))
+punched = option_map
+    (λ p. (p.0, (first_of (codes "case") p.1, (first_of (codes "wedge") p.1, first_of (codes "output") p.1))))
 
-a_punch : punched (subcommand_of copydesk (codes "punch" ∷ codes "a.feed" ∷ codes "--case" ∷ codes "c.toml" ∷ codes "--wedge" ∷ codes "w.toml" ∷ codes "-o" ∷ codes "a.rib" ∷ []))
+a_punch : punched (subcommand_of copydesk (codes "punch" ∷ codes "a.feed" ∷ codes "--case" ∷ codes "c.toml"
+    ∷ codes "--wedge" ∷ codes "w.toml" ∷ codes "-o" ∷ codes "a.rib" ∷ []))
     ≡ Some (codes "punch", (Some (codes "c.toml"), (Some (codes "w.toml"), Some (codes "a.rib"))))
 unfolding clap_on_literals punched
 a_punch = refl
 
-a_punch_without_a_target : fault_of copydesk (codes "punch" ∷ codes "a.feed" ∷ codes "--case" ∷ codes "c.toml" ∷ codes "--wedge" ∷ codes "w.toml" ∷ []) ≡ kind.MissingRequiredArgument ∷ []
+a_punch_without_a_target : fault_of copydesk (codes "punch" ∷ codes "a.feed" ∷ codes "--case" ∷ codes "c.toml"
+    ∷ codes "--wedge" ∷ codes "w.toml" ∷ []) ≡ kind.MissingRequiredArgument ∷ []
 unfolding clap_on_literals
 a_punch_without_a_target = refl
 
 replaced : Option (Text × List Row) → Option (Text × (Option Text × (Option Text × Option Text)))
-replaced = option_map (λ p. (p.0, (first_of (codes "feed") p.1, (first_of (codes "old") p.1, first_of (codes "new") p.1))))
+replaced = option_map
+    (λ p. (p.0, (first_of (codes "feed") p.1, (first_of (codes "old") p.1, first_of (codes "new") p.1))))
 
-a_replacement : replaced (subcommand_of copydesk (codes "replace" ∷ codes "a.feed" ∷ codes "--site" ∷ codes "3" ∷ codes "--" ∷ codes "-x" ∷ codes "y" ∷ []))
+a_replacement : replaced (subcommand_of copydesk (codes "replace" ∷ codes "a.feed" ∷ codes "--site" ∷ codes "3"
+    ∷ codes "--" ∷ codes "-x" ∷ codes "y" ∷ []))
     ≡ Some (codes "replace", (Some (codes "a.feed"), (Some (codes "-x"), Some (codes "y"))))
 unfolding clap_on_literals replaced
 a_replacement = refl
@@ -115,51 +129,65 @@ a_replacement = refl
 checked : Option (Text × List Row) → Option (Text × Option (List Text))
 checked = option_map (λ p. (p.0, all_of (codes "file") p.1))
 
-a_check : checked (subcommand_of copydesk (codes "check" ∷ codes "a.feed" ∷ codes "c.toml" ∷ [])) ≡ Some (codes "check", Some (codes "a.feed" ∷ codes "c.toml" ∷ []))
+a_check : checked (subcommand_of copydesk (codes "check" ∷ codes "a.feed" ∷ codes "c.toml" ∷ []))
+    ≡ Some (codes "check", Some (codes "a.feed" ∷ codes "c.toml" ∷ []))
 unfolding clap_on_literals checked
 a_check = refl
 
 seen : Option (Text × List Row) → Option (Text × (Option Text × Option (List Text)))
 seen = option_map (λ p. (p.0, (first_of (codes "svg") p.1, all_of (codes "set") p.1)))
 
-a_picture : seen (subcommand_of copydesk (codes "proof" ∷ codes "a.feed" ∷ codes "--case" ∷ codes "c.toml" ∷ codes "--wedge" ∷ codes "w.toml" ∷ codes "--svg" ∷ codes "a.svg" ∷ codes "--set" ∷ codes "loose=200" ∷ codes "--set=tight=20" ∷ []))
+a_picture : seen (subcommand_of copydesk (codes "proof" ∷ codes "a.feed" ∷ codes "--case" ∷ codes "c.toml"
+    ∷ codes "--wedge" ∷ codes "w.toml" ∷ codes "--svg" ∷ codes "a.svg" ∷ codes "--set" ∷ codes "loose=200"
+    ∷ codes "--set=tight=20" ∷ []))
     ≡ Some (codes "proof", (Some (codes "a.svg"), Some (codes "loose=200" ∷ codes "tight=20" ∷ [])))
 unfolding clap_on_literals seen
 a_picture = refl
 
-no_picture : seen (subcommand_of copydesk (codes "proof" ∷ codes "a.feed" ∷ codes "--case" ∷ codes "c.toml" ∷ codes "--wedge" ∷ codes "w.toml" ∷ []))
+no_picture : seen (subcommand_of copydesk (codes "proof" ∷ codes "a.feed" ∷ codes "--case" ∷ codes "c.toml"
+    ∷ codes "--wedge" ∷ codes "w.toml" ∷ []))
     ≡ Some (codes "proof", (None, None))
 unfolding clap_on_literals seen
 no_picture = refl
 
 ribbon_read : Option (Text × List Row) → Option (Text × (Option Text × (Option Text × Option Text)))
-ribbon_read = option_map (λ p. (p.0, (first_of (codes "ribbon") p.1, (first_of (codes "case") p.1, first_of (codes "wedge") p.1))))
+ribbon_read = option_map (λ p.
+    (p.0, (first_of (codes "ribbon") p.1, (first_of (codes "case") p.1, first_of (codes "wedge") p.1))))
 
-a_reading : ribbon_read (subcommand_of copydesk (codes "read" ∷ codes "a.rib" ∷ codes "--case" ∷ codes "c.toml" ∷ codes "--wedge" ∷ codes "w.toml" ∷ []))
+a_reading : ribbon_read (subcommand_of copydesk (codes "read" ∷ codes "a.rib" ∷ codes "--case" ∷ codes "c.toml"
+    ∷ codes "--wedge" ∷ codes "w.toml" ∷ []))
     ≡ Some (codes "read", (Some (codes "a.rib"), (Some (codes "c.toml"), Some (codes "w.toml"))))
 unfolding clap_on_literals ribbon_read
 a_reading = refl
 
 sorted : Option (Text × List Row) → Option (Text × (Option Text × (Option Text × Option Text)))
-sorted = option_map (λ p. (p.0, (first_of (codes "feed") p.1, (first_of (codes "case") p.1, one_of (codes "layout") p.1))))
+sorted = option_map (λ p. (
+  p.0,
+  (first_of (codes "feed") p.1, (first_of (codes "case") p.1, one_of (codes "layout") p.1)),
+))
 
-some_sorts : sorted (subcommand_of copydesk (codes "sorts" ∷ codes "a.feed" ∷ codes "--case" ∷ codes "c.toml" ∷ codes "--layout" ∷ []))
+some_sorts : sorted (subcommand_of copydesk (codes "sorts" ∷ codes "a.feed" ∷ codes "--case" ∷ codes "c.toml"
+    ∷ codes "--layout" ∷ []))
     ≡ Some (codes "sorts", (Some (codes "a.feed"), (Some (codes "c.toml"), Some (codes "true"))))
 unfolding clap_on_literals sorted
 some_sorts = refl
 
 renumbered : Option (Text × List Row) → Option (Text × (Option Text × (Option Text × Option Text)))
-renumbered = option_map (λ p. (p.0, (first_of (codes "feed") p.1, (first_of (codes "other") p.1, one_of (codes "site") p.1))))
+renumbered = option_map
+    (λ p. (p.0, (first_of (codes "feed") p.1, (first_of (codes "other") p.1, one_of (codes "site") p.1))))
 
-a_renumbering : renumbered (subcommand_of copydesk (codes "renumber" ∷ codes "a.feed" ∷ codes "b.feed" ∷ codes "--site" ∷ codes "9" ∷ []))
+a_renumbering : renumbered (subcommand_of copydesk (codes "renumber" ∷ codes "a.feed" ∷ codes "b.feed" ∷ codes "--site"
+    ∷ codes "9" ∷ []))
     ≡ Some (codes "renumber", (Some (codes "a.feed"), (Some (codes "b.feed"), Some (codes "9"))))
 unfolding clap_on_literals renumbered
 a_renumbering = refl
 
 renewed : Option (Text × List Row) → Option (Text × (Option Text × (Option Text × Option Text)))
-renewed = option_map (λ p. (p.0, (first_of (codes "new") p.1, (first_of (codes "feed") p.1, one_of (codes "site") p.1))))
+renewed = option_map
+    (λ p. (p.0, (first_of (codes "new") p.1, (first_of (codes "feed") p.1, one_of (codes "site") p.1))))
 
-a_renewal : renewed (subcommand_of copydesk (codes "renew" ∷ codes "b.feed" ∷ codes "a.feed" ∷ codes "--site" ∷ codes "1" ∷ []))
+a_renewal : renewed (subcommand_of copydesk (codes "renew" ∷ codes "b.feed" ∷ codes "a.feed" ∷ codes "--site"
+    ∷ codes "1" ∷ []))
     ≡ Some (codes "renew", (Some (codes "b.feed"), (Some (codes "a.feed"), Some (codes "1"))))
 unfolding clap_on_literals renewed
 a_renewal = refl

@@ -1,9 +1,11 @@
 -- What the words of the command line ask for, as `clap` reads them.
-use Rattle.std.specs.Prelude.{◌≡◌, ◌≢◌, ◌≤◌, ◌<◌, ◌⊎◌, ℕ, Bool, List, [], Option, Some, None, Vec, true, false, map, option_map, pos, codes}
+use Rattle.std.specs.Prelude.{◌≡◌, ◌≢◌, ◌≤◌, ◌<◌, ◌⊎◌, ℕ, Bool, List, [], Option, Some, None, Vec, true, false, map}
+use Rattle.std.specs.Prelude.{option_map, pos, codes}
 use Rattle.std.specs.Borrow.{Bor}
 use Rattle.std.specs.Str.Parse.{IsNumeral, digits_value, without_leading_plus}
 use Rattle.std.specs.declared.alloc.Global.{Global}
-use Rattle.clap.specs.Words.{App, IsAmong, Row, Rule, Text, all_of, fault_of, first_of, new_app, new_rule, one_of, subcommand_of, with_rule, with_subcommand}
+use Rattle.clap.specs.Words.{App, IsAmong, Row, Rule, Text, all_of, fault_of, first_of, new_app, new_rule, one_of}
+use Rattle.clap.specs.Words.{subcommand_of, with_rule, with_subcommand}
 use Rattle.clap.specs.declared.builder.action.ArgAction.TheVariants.{Append, SetTrue}
 use Rattle.clap.specs.declared.builder.value_parser.ValueParser.TheVariants as parsers
 use Rattle.clap.specs.declared.error.kind.ErrorKind.{ErrorKind}
@@ -75,7 +77,8 @@ abbrev pub desk_app : App
 desk_app = with_manner (with_rule (on_site (codes "desk")) (flag_rule (codes "why")))
 
 abbrev pub merge_app : App
-merge_app = with_rule (with_rule (with_rule (with_rule (new_app (codes "merge")) feed_rule) others_rule) (flag_rule (codes "forks"))) (flag_rule (codes "review"))
+merge_app = with_rule (with_rule (with_rule (with_rule (new_app (codes "merge")) feed_rule) others_rule)
+    (flag_rule (codes "forks"))) (flag_rule (codes "review"))
 
 abbrev pub diff_app : App
 diff_app = with_rule (with_rule (new_app (codes "diff")) feed_rule) (text_rule (codes "other"))
@@ -88,7 +91,8 @@ import_app = with_rule (with_rule (on_site (codes "import")) (flag_rule (codes "
 
 -- a feed, a case and a wedge
 abbrev pub sources_app : Text → App
-sources_app name = with_rule (with_rule (with_rule (new_app name) feed_rule) (file_rule (codes "case"))) (file_rule (codes "wedge"))
+sources_app name = with_rule (with_rule (with_rule (new_app name) feed_rule) (file_rule (codes "case")))
+    (file_rule (codes "wedge"))
 
 -- what stands under the name of an output is replaced, whatever it is
 abbrev pub force_rule : Rule
@@ -99,29 +103,35 @@ abbrev pub with_picture : App → App
 with_picture app = with_rule (with_rule app (choice_rule (codes "svg"))) force_rule
 
 abbrev pub proof_app : App
-proof_app = with_rule (with_picture (with_rule (sources_app (codes "proof")) (flag_rule (codes "faults")))) (each_rule (codes "set"))
+proof_app = with_rule (with_picture (with_rule (sources_app (codes "proof")) (flag_rule (codes "faults"))))
+    (each_rule (codes "set"))
 
 abbrev pub punch_app : App
-punch_app = with_rule (with_rule (with_rule (sources_app (codes "punch")) target_rule) force_rule) (flag_rule (codes "faulty"))
+punch_app = with_rule (with_rule (with_rule (sources_app (codes "punch")) target_rule) force_rule)
+    (flag_rule (codes "faulty"))
 
 -- a ribbon, a case and a wedge
 abbrev pub ribbon_app : App
-ribbon_app = with_rule (with_rule (with_rule (new_app (codes "read")) (text_rule (codes "ribbon"))) (file_rule (codes "case"))) (file_rule (codes "wedge"))
+ribbon_app = with_rule (with_rule (with_rule (new_app (codes "read")) (text_rule (codes "ribbon")))
+    (file_rule (codes "case"))) (file_rule (codes "wedge"))
 
 abbrev pub read_app : App
 read_app = with_picture ribbon_app
 
 abbrev pub sorts_app : App
-sorts_app = with_rule (with_rule (with_rule (new_app (codes "sorts")) feed_rule) (file_rule (codes "case"))) (flag_rule (codes "layout"))
+sorts_app = with_rule (with_rule (with_rule (new_app (codes "sorts")) feed_rule) (file_rule (codes "case")))
+    (flag_rule (codes "layout"))
 
 abbrev pub replace_app : App
-replace_app = with_rule (with_rule (with_rule (on_site (codes "replace")) (flag_rule (codes "plain"))) (text_rule (codes "old"))) (text_rule (codes "new"))
+replace_app = with_rule (with_rule (with_rule (on_site (codes "replace")) (flag_rule (codes "plain")))
+    (text_rule (codes "old"))) (text_rule (codes "new"))
 
 abbrev pub check_app : App
 check_app = with_rule (new_app (codes "check")) files_rule
 
 abbrev pub renumber_app : App
-renumber_app = with_rule (with_rule (with_rule (new_app (codes "renumber")) feed_rule) (text_rule (codes "other"))) site_rule
+renumber_app = with_rule (with_rule (with_rule (new_app (codes "renumber")) feed_rule) (text_rule (codes "other")))
+    site_rule
 
 abbrev pub renew_app : App
 renew_app = with_rule (with_rule (with_rule (new_app (codes "renew")) (text_rule (codes "new"))) feed_rule) site_rule
@@ -134,15 +144,18 @@ no_subcommand = record {
 
 -- with its first subcommands, up to `merge`
 abbrev pub up_to_merge : App
-up_to_merge = with_subcommand (with_subcommand (with_subcommand no_subcommand script_app.top) desk_app.top) merge_app.top
+up_to_merge = with_subcommand (with_subcommand (with_subcommand no_subcommand script_app.top) desk_app.top)
+    merge_app.top
 
 -- with those up to `import`
 abbrev pub up_to_import : App
-up_to_import = with_subcommand (with_subcommand (with_subcommand up_to_merge diff_app.top) export_app.top) import_app.top
+up_to_import = with_subcommand (with_subcommand (with_subcommand up_to_merge diff_app.top) export_app.top)
+    import_app.top
 
 -- with those up to `proof`
 abbrev pub up_to_proof : App
-up_to_proof = with_subcommand (with_subcommand (with_subcommand up_to_import replace_app.top) check_app.top) proof_app.top
+up_to_proof = with_subcommand (with_subcommand (with_subcommand up_to_import replace_app.top) check_app.top)
+    proof_app.top
 
 -- with those up to `sorts`
 abbrev pub up_to_sorts : App
@@ -164,7 +177,8 @@ IsNumber text n = IsNumeral 10 (without_leading_plus text) × (digits_value 10 (
 
 -- the number of a site
 abbrev pub HasSite : List Row → ℕ → Type 0
-HasSite rows site = (text : Text) × (one_of (codes "site") rows ≡ Some text) × IsNumber text site × (1 ≤ site) × (site < 65536)
+HasSite rows site = (text : Text) × (one_of (codes "site") rows ≡ Some text) × IsNumber text site × (1 ≤ site)
+    × (site < 65536)
 
 -- the name that an argument gives
 abbrev pub Names : Text → List Row → Text → Type 0
@@ -176,7 +190,8 @@ NamesFeed = Names (codes "feed")
 
 -- the names of a feed, a case and a wedge
 abbrev pub NamesSources : List Row → Sources → Type 0
-NamesSources rows from = NamesFeed rows from.feed.now × Names (codes "case") rows from.case.now × Names (codes "wedge") rows from.wedge.now
+NamesSources rows from = NamesFeed rows from.feed.now × Names (codes "case") rows from.case.now
+    × Names (codes "wedge") rows from.wedge.now
 
 -- both
 abbrev pub NamesDesk : List Row → Text → ℕ → Type 0
@@ -184,7 +199,8 @@ NamesDesk rows feed site = NamesFeed rows feed × HasSite rows site
 
 -- the names of a ribbon, a case and a wedge
 abbrev pub NamesRibbon : List Row → Text → Text → Text → Type 0
-NamesRibbon rows ribbon case wedge = Names (codes "ribbon") rows ribbon × Names (codes "case") rows case × Names (codes "wedge") rows wedge
+NamesRibbon rows ribbon case wedge = Names (codes "ribbon") rows ribbon × Names (codes "case") rows case
+    × Names (codes "wedge") rows wedge
 
 -- the name that an option gives, or that it was left out
 abbrev pub Chooses : Text → List Row → Option (Bor Text) → Type 0
@@ -202,7 +218,8 @@ all_given None = []
 -- the flag is set or not
 abbrev pub HasFlag : Text → List Row → Bool → Type 0
 HasFlag name rows flag =
-    (one_of name rows ≡ None → flag ≡ false) × (one_of name rows ≡ Some (codes "false") → flag ≡ false) × (one_of name rows ≡ Some (codes "true") → flag ≡ true)
+    (one_of name rows ≡ None → flag ≡ false) × (one_of name rows ≡ Some (codes "false") → flag ≡ false)
+    × (one_of name rows ≡ Some (codes "true") → flag ≡ true)
 
 -- both, and whether a feed that is older is taken
 abbrev pub NamesRoom : List Row → Text → ℕ → Bool → Type 0
@@ -255,21 +272,29 @@ subcommand_asked (wishes.Renew new feed site) = subcommands.Renew
 -- its matches hold what the wish says
 abbrev pub Reports : List Row → Wish → Type 0
 Reports rows (wishes.Script manner) = HasManner rows manner
-Reports rows (wishes.Desk feed site older why manner) = NamesRoom rows feed.now site older × HasFlag (codes "why") rows why × HasManner rows manner
+Reports rows (wishes.Desk feed site older why manner) = NamesRoom rows feed.now site older
+    × HasFlag (codes "why") rows why × HasManner rows manner
 Reports rows (wishes.Merge feed others forks review) =
-    NamesFeed rows feed.now × (all_of (codes "other") rows ≡ Some (texts_of others.items)) × HasFlag (codes "forks") rows forks × HasFlag (codes "review") rows review
+    NamesFeed rows feed.now × (all_of (codes "other") rows ≡ Some (texts_of others.items))
+    × HasFlag (codes "forks") rows forks × HasFlag (codes "review") rows review
 Reports rows (wishes.Diff one other) = NamesFeed rows one.now × Names (codes "other") rows other.now
 Reports rows (wishes.Export feed) = NamesFeed rows feed.now
-Reports rows (wishes.Import feed site older plain all) = NamesRoom rows feed.now site older × HasFlag (codes "plain") rows plain × HasFlag (codes "all") rows all
+Reports rows (wishes.Import feed site older plain all) = NamesRoom rows feed.now site older
+    × HasFlag (codes "plain") rows plain × HasFlag (codes "all") rows all
 Reports rows (wishes.Replace feed site older old new plain) =
-    NamesRoom rows feed.now site older × Names (codes "old") rows old.now × Names (codes "new") rows new.now × HasFlag (codes "plain") rows plain
+    NamesRoom rows feed.now site older × Names (codes "old") rows old.now × Names (codes "new") rows new.now
+    × HasFlag (codes "plain") rows plain
 Reports rows (wishes.Check files) = all_of (codes "file") rows ≡ Some (texts_of files.items)
 Reports rows (wishes.Proof from faults picture force sets) =
-    NamesSources rows from × HasFlag (codes "faults") rows faults × Pictures rows picture force × (texts_of sets.items ≡ all_given (all_of (codes "set") rows))
+    NamesSources rows from × HasFlag (codes "faults") rows faults × Pictures rows picture force
+    × (texts_of sets.items ≡ all_given (all_of (codes "set") rows))
 Reports rows (wishes.Punch from target force faulty) =
-    NamesSources rows from × Names (codes "output") rows target.now × HasFlag (codes "force") rows force × HasFlag (codes "faulty") rows faulty
-Reports rows (wishes.Read ribbon case wedge picture force) = NamesRibbon rows ribbon.now case.now wedge.now × Pictures rows picture force
-Reports rows (wishes.Sorts feed case layout) = NamesFeed rows feed.now × Names (codes "case") rows case.now × HasFlag (codes "layout") rows layout
+    NamesSources rows from × Names (codes "output") rows target.now × HasFlag (codes "force") rows force
+    × HasFlag (codes "faulty") rows faulty
+Reports rows (wishes.Read ribbon case wedge picture force) = NamesRibbon rows ribbon.now case.now wedge.now
+    × Pictures rows picture force
+Reports rows (wishes.Sorts feed case layout) = NamesFeed rows feed.now × Names (codes "case") rows case.now
+    × HasFlag (codes "layout") rows layout
 Reports rows (wishes.Renumber feed other site) = NamesDesk rows feed.now site × Names (codes "other") rows other.now
 Reports rows (wishes.Renew new feed site) = NamesDesk rows feed.now site × Names (codes "new") rows new.now
 
@@ -283,11 +308,13 @@ AsksFor words wish = (fault_of copydesk words ≡ []) × Wishes (subcommand_of c
 
 -- the words ask for help, or for the program's version
 abbrev pub AsksHelp : List Text → Type 0
-AsksHelp words = IsAmong kind.DisplayHelp (fault_of copydesk words) ⊎ IsAmong kind.DisplayVersion (fault_of copydesk words)
+AsksHelp words = IsAmong kind.DisplayHelp (fault_of copydesk words)
+    ⊎ IsAmong kind.DisplayVersion (fault_of copydesk words)
 
 -- the words have a fault
 abbrev pub HasFault : List Text → Type 0
-HasFault words = (k : ErrorKind) × IsAmong k (fault_of copydesk words) × (k ≢ kind.DisplayHelp) × (k ≢ kind.DisplayVersion)
+HasFault words = (k : ErrorKind) × IsAmong k (fault_of copydesk words) × (k ≢ kind.DisplayHelp)
+    × (k ≢ kind.DisplayVersion)
 
 -- the words have a fault, or ask for nothing that can be done
 abbrev pub AsksNothing : List Text → Type 0
@@ -329,7 +356,8 @@ HasList rows subcommands.Renew = ⊥
 
 -- a subcommand was given such a list
 abbrev pub ListsNames : Option (Text × List Row) → Type 0
-ListsNames asked = (subcommand : Subcommand) × (rows : List Row) × (asked ≡ Some (name_of subcommand, rows)) × HasList rows subcommand
+ListsNames asked = (subcommand : Subcommand) × (rows : List Row) × (asked ≡ Some (name_of subcommand, rows))
+    × HasList rows subcommand
 
 -- what a subcommand with its matches asks for, or that it asks for nothing that can be done
 abbrev pub IsWished : Option (Text × List Row) → Option Wish → Type 0

@@ -4,10 +4,14 @@ ghost use Rattle.std.specs.Prelude.{◌≡◌, Some, IfOk, codes, false};
 ghost use Rattle.clap.specs.Words.{app_of, new_app, rule_of, with_rule};
 ghost use Rattle.clap.specs.declared.builder.command.Command.TheViews.{out-Command};
 ghost use Rattle.program_words.specs.Help.{HasTexts, IsShown, version_of};
-ghost use Rattle.program_words.specs.Words.{check_app, choice_rule, copydesk, desk_app, diff_app, each_rule, export_app};
-ghost use Rattle.program_words.specs.Words.{feed_rule, file_rule, flag_rule, import_app, merge_app, names_rule, no_subcommand, on_site};
-ghost use Rattle.program_words.specs.Words.{proof_app, punch_app, read_app, renew_app, renumber_app, replace_app, ribbon_app, script_app, site_rule};
-ghost use Rattle.program_words.specs.Words.{sorts_app, sources_app, target_rule, text_rule, up_to_import, up_to_merge, up_to_proof, up_to_sorts, with_version};
+ghost use Rattle.program_words.specs.Words.{check_app, choice_rule, copydesk, desk_app, diff_app, each_rule};
+ghost use Rattle.program_words.specs.Words.{export_app};
+ghost use Rattle.program_words.specs.Words.{feed_rule, file_rule, flag_rule, import_app, merge_app, names_rule};
+ghost use Rattle.program_words.specs.Words.{no_subcommand, on_site};
+ghost use Rattle.program_words.specs.Words.{proof_app, punch_app, read_app, renew_app, renumber_app, replace_app};
+ghost use Rattle.program_words.specs.Words.{ribbon_app, script_app, site_rule};
+ghost use Rattle.program_words.specs.Words.{sorts_app, sources_app, target_rule, text_rule, up_to_import, up_to_merge};
+ghost use Rattle.program_words.specs.Words.{up_to_proof, up_to_sorts, with_version};
 
 use crate::help::{
     ABOUT, CHECK, COMMANDS, DESK, DIFF, EXPORT, FEED, FORCE, IMPORT, MERGE, NUMBER, OLDER,
@@ -23,7 +27,8 @@ fn with_help<'a>(arg: Arg<'a>, help: &'a str) -> Arg<'a>
     ensures rule { rule_of result ≡ rule_of arg.entry }
     ensures local { result.global ≡ arg.entry.global }
     ensures help { IsShown result help.now }
-    ensures only { result ≡ record arg.entry { help = result.help; hide = false; hide_short_help = false; hide_long_help = false } }
+    ensures only { result
+        ≡ record arg.entry { help = result.help; hide = false; hide_short_help = false; hide_long_help = false } }
 {
     arg.help(help)
         .hide(false)
@@ -127,7 +132,9 @@ fn with_texts<'a>(command: Command<'a>, about: &'a str, help: &'a str) -> Comman
     ensures app { app_of result ≡ app_of command.entry }
     ensures local { (out-Command result).has_globals ≡ (out-Command command.entry).has_globals }
     ensures texts { HasTexts result about.now help.now }
-    ensures only { out-Command result ≡ record (out-Command command.entry) { about = (out-Command result).about; after_help = (out-Command result).after_help } }
+    ensures only { out-Command result
+        ≡ record (out-Command command.entry)
+        { about = (out-Command result).about; after_help = (out-Command result).after_help } }
 {
     command.about(about).after_help(help)
 }
@@ -481,7 +488,13 @@ fn with_version<'a>(command: Command<'a>) -> Command<'a>
     ensures app { app_of result ≡ with_version (app_of command.entry) }
     ensures version { version_of result ≡ Some VERSION.now }
     ensures texts { HasTexts result ABOUT.now ON_SUBCOMMANDS.now }
-    ensures only { out-Command result ≡ record (out-Command command.entry) { about = (out-Command result).about; after_help = (out-Command result).after_help; version = (out-Command result).version } }
+    ensures only { out-Command result
+        ≡ record (out-Command command.entry) {
+          about = (out-Command result).about;
+          after_help = (out-Command result).after_help;
+          version =
+              (out-Command result).version;
+        } }
 {
     with_texts(command, ABOUT, ON_SUBCOMMANDS).version(VERSION)
 }

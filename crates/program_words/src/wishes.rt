@@ -2,7 +2,8 @@
 
 ghost use Rattle.std.specs.Prelude.{◌≡◌, ◌≢◌, ℕ, None, IfOk, IfSome, IsErr, IsNone, codes};
 ghost use Rattle.clap.specs.Words.{Text, all_of, found_of, rows_of, subcommand_rows_of};
-ghost use Rattle.program_words.specs.Words.{AreNames, AreSources, Chooses, HasFlag, HasList, HasManner, HasSite, IsReported, IsWished, ListsNames, NamesDesk, all_given, name_of, texts_of};
+ghost use Rattle.program_words.specs.Words.{AreNames, AreSources, Chooses, HasFlag, HasList, HasManner, HasSite};
+ghost use Rattle.program_words.specs.Words.{IsReported, IsWished, ListsNames, NamesDesk, all_given, name_of, texts_of};
 
 use clap::ArgMatches;
 use std::alloc::{AllocError, Global};
@@ -50,8 +51,8 @@ pub enum Wish<'a> {
     Script {
         manner: Manner,
     },
-    /// A script on a stored feed, for a site, whether an older feed is taken, whether a line is to say why a run stopped, and
-    /// how it is carried out.
+    /// A script on a stored feed, for a site, whether an older feed is taken, whether a line is to say why a run
+    /// stopped, and how it is carried out.
     Desk {
         feed: &'a str,
         site: u16,
@@ -59,8 +60,8 @@ pub enum Wish<'a> {
         why: bool,
         manner: Manner,
     },
-    /// The feeds of other files, merged into a stored one, whether numbers that were used twice are merged too, and whether words
-    /// that a person must look at are a fault.
+    /// The feeds of other files, merged into a stored one, whether numbers that were used twice are merged too, and
+    /// whether words that a person must look at are a fault.
     Merge {
         feed: &'a str,
         others: Vec<&'a str>,
@@ -76,8 +77,8 @@ pub enum Wish<'a> {
     Export {
         feed: &'a str,
     },
-    /// A text, made the copy of a stored feed by operations of a site, whether an older feed is taken, whether all of the text is
-    /// Roman, and whether it may delete most of the copy.
+    /// A text, made the copy of a stored feed by operations of a site, whether an older feed is taken, whether all of
+    /// the text is Roman, and whether it may delete most of the copy.
     Import {
         feed: &'a str,
         site: u16,
@@ -85,8 +86,8 @@ pub enum Wish<'a> {
         plain: bool,
         all: bool,
     },
-    /// A text in the copy of a stored feed, made another by operations of a site, whether an older feed is taken, and whether all
-    /// of both is Roman.
+    /// A text in the copy of a stored feed, made another by operations of a site, whether an older feed is taken, and
+    /// whether all of both is Roman.
     Replace {
         feed: &'a str,
         site: u16,
@@ -99,8 +100,9 @@ pub enum Wish<'a> {
     Check {
         files: Vec<&'a str>,
     },
-    /// The galley of a stored feed by a case and a wedge, whether its faults alone are wanted, the name of the file that its
-    /// picture is stored in, whether whatever stands there is replaced, and the settings that are tried in place of the copy's.
+    /// The galley of a stored feed by a case and a wedge, whether its faults alone are wanted, the name of the file
+    /// that its picture is stored in, whether whatever stands there is replaced, and the settings that are tried in
+    /// place of the copy's.
     Proof {
         from: Sources<'a>,
         faults: bool,
@@ -108,16 +110,16 @@ pub enum Wish<'a> {
         force: bool,
         sets: Vec<&'a str>,
     },
-    /// The ribbon of a stored feed by a case and a wedge, stored under the name of a target; whether whatever stands there is
-    /// replaced, and whether a copy with faults is punched.
+    /// The ribbon of a stored feed by a case and a wedge, stored under the name of a target; whether whatever stands
+    /// there is replaced, and whether a copy with faults is punched.
     Punch {
         from: Sources<'a>,
         target: &'a str,
         force: bool,
         faulty: bool,
     },
-    /// What a caster would cast of a stored ribbon by a case and a wedge, the name of the file that its picture is stored in, and
-    /// whether whatever stands there is replaced.
+    /// What a caster would cast of a stored ribbon by a case and a wedge, the name of the file that its picture is
+    /// stored in, and whether whatever stands there is replaced.
     Read {
         ribbon: &'a str,
         case: &'a str,
@@ -391,7 +393,8 @@ fn choice_of<'a>(matches: &ArgMatches<'a>, name: &str) -> Option<&'a str>
 
 /// The texts of the option that sets values to be tried.
 fn sets_of<'a>(alloc: Global, matches: &ArgMatches<'a>) -> Result<Vec<&'a str>, AllocError>
-    ensures texts { IfOk result (λ v. texts_of v.items ≡ all_given (all_of (codes "set") (rows_of (found_of matches.now)))) }
+    ensures texts { IfOk result (λ v. texts_of v.items
+        ≡ all_given (all_of (codes "set") (rows_of (found_of matches.now)))) }
     ensures memory { IsErr result → all_of (codes "set") (rows_of (found_of matches.now)) ≢ None }
 {
     match names_of(alloc, matches, "set")? {
@@ -534,8 +537,8 @@ fn reported<'a>(
     }
 }
 
-/// What the matches ask for. Out of memory comes only of a subcommand that was given a list: other feeds, files, or settings to
-/// be tried.
+/// What the matches ask for. Out of memory comes only of a subcommand that was given a list: other feeds, files, or
+/// settings to be tried.
 pub fn wish_of<'a>(alloc: Global, matches: &ArgMatches<'a>) -> Result<Option<Wish<'a>>, AllocError>
     ensures wish { IfOk result (IsWished (subcommand_rows_of matches.now)) }
     ensures memory { IsErr result → ListsNames (subcommand_rows_of matches.now) }

@@ -1,5 +1,6 @@
 -- What answers say.
-use Rattle.std.specs.Prelude.{ℕ, ℤ, length, ◌+◌, ◌/◌, ◌%◌, nat_lt, Bool, true, false, List, [], ◌∷◌, ◌++◌, Option, Some, None, codes, if◌then◌else◌}
+use Rattle.std.specs.Prelude.{ℕ, ℤ, length, ◌+◌, ◌/◌, ◌%◌, nat_lt, Bool, true, false, List, [], ◌∷◌, ◌++◌, Option, Some}
+use Rattle.std.specs.Prelude.{None, codes, if◌then◌else◌}
 use Rattle.std.specs.Fmt.{decimal, signed_decimal}
 use Rattle.script_commands.specs.Writing.{copy_text}
 use Rattle.desk_ops.specs.declared.op.Symbol.{Symbol}
@@ -12,7 +13,8 @@ use Rattle.desk_ops.specs.declared.fault.CopyFault.{CopyFault}
 use Rattle.desk_replica.specs.declared.settings.Settings.{Settings as JobSettings}
 use Rattle.desk_job.specs.declared.JobFault.{JobFault}
 use Rattle.desk_job.specs.declared.JobFault.TheVariants as jobs
-use Rattle.script_answers.specs.Reply.{ReplyValues, Done, Made, MadeMany, Counted, Copy, Feed, Faults, Settings, Ribbon, NoRibbon, Lines, Refused, Stopped}
+use Rattle.script_answers.specs.Reply.{ReplyValues, Done, Made, MadeMany, Counted, Copy, Feed, Faults, Settings, Ribbon}
+use Rattle.script_answers.specs.Reply.{NoRibbon, Lines, Refused, Stopped}
 use Rattle.script_answers.specs.declared.text.Refusal.{Refusal}
 use Rattle.script_answers.specs.declared.text.Refusal.TheVariants as refusals
 

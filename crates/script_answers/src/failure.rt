@@ -1,7 +1,8 @@
 //! Why nothing was done.
 
 ghost use Rattle.std.specs.Prelude.{◌≡◌, None};
-ghost use Rattle.script_answers.specs.Failure.{case_refused, edit_refused, failure, file_refused, refusal_of, wedge_refused};
+ghost use Rattle.script_answers.specs.Failure.{case_refused, edit_refused, failure, file_refused, refusal_of};
+ghost use Rattle.script_answers.specs.Failure.{wedge_refused};
 
 use crate::text::Refusal;
 use desk_case::CaseFault;

@@ -1,13 +1,16 @@
 //! Answers, and what they say.
 
-ghost use Rattle.std.specs.Prelude.{◌≡◌, ◌+◌, ◌<◌, ◌≤◌, ◌++◌, ◌∷◌, [], true, false, length, List, IfSome, OnOk, codes, is_some, string_bytes, ℕ};
+ghost use Rattle.std.specs.Prelude.{◌≡◌, ◌+◌, ◌<◌, ◌≤◌, ◌++◌, ◌∷◌, [], true, false, length, List, IfSome, OnOk, codes};
+ghost use Rattle.std.specs.Prelude.{is_some, string_bytes, ℕ};
 ghost use Rattle.std.specs.Fmt.{decimal, signed_decimal};
 ghost use Rattle.std.specs.Io.{StartsWith};
 ghost use Rattle.arrayvec.specs.ArrayString.{array_string_len};
 ghost use Rattle.desk_ops.specs.Words.{copy_fault_words, stamp_words};
 ghost use Rattle.script_answers.specs.Reply.{is_long, reply_values, lines_reported};
 ghost use Rattle.script_answers.specs.Reply as replies;
-ghost use Rattle.script_answers.specs.Text.{hex_digit, hex_text, refusal_text, cause_number, fault_text, separator, list_text, faults_text, value_text, settings_text, job_fault_text, lines_text, text};
+ghost use Rattle.script_answers.specs.Text.{hex_digit, hex_text, refusal_text, cause_number, fault_text, separator};
+ghost use Rattle.script_answers.specs.Text.{list_text, faults_text, value_text, settings_text, job_fault_text};
+ghost use Rattle.script_answers.specs.Text.{lines_text, text};
 
 use arrayvec::ArrayString;
 use desk_caster::CastLine;
@@ -478,8 +481,8 @@ fn done() -> Short
     out
 }
 
-/// An answer's text without its end of line, where it is a refusal or says what a command did: it cannot run out of memory. The
-/// other answers say what there is, at any length.
+/// An answer's text without its end of line, where it is a refusal or says what a command did: it cannot run out of
+/// memory. The other answers say what there is, at any length.
 pub fn short<A: Allocator + Copy>(answer: &Reply<A>) -> Option<Short>
     ensures text { IfSome result (λ s. s.bytes ≡ text (reply_values answer.now)) }
     ensures len { IfSome result (λ s. array_string_len s < SHORT) }

@@ -7,7 +7,8 @@ use Rattle.script_commands.specs.declared.reader.Verb.{Verb}
 use Rattle.script_commands.specs.declared.reader.Verb.TheVariants as verbs
 use Rattle.script_commands.specs.Reading.{◌>>=◌, Rest, word_at, number_at, file_at, range_at, hex_at, at_end}
 use Rattle.script_commands.specs.Copy.{copy_at}
-use Rattle.script_commands.specs.Command.{CommandValues, Site, Insert, Delete, SetTo, Take, Send, Merge, Show, Faults, Settings, Feed, Ribbon, Cast, Restart}
+use Rattle.script_commands.specs.Command.{CommandValues, Site, Insert, Delete, SetTo, Take, Send, Merge, Show, Faults}
+use Rattle.script_commands.specs.Command.{Settings, Feed, Ribbon, Cast, Restart}
 
 unfoldable pub verb_of : List ℕ → Option Verb
 verb_of word =

@@ -43,7 +43,8 @@ feed_behind rest = do
   site ← number_at rest
   site.1
 
--- `insert` asks for memory where it comes to a symbol, `take` where two bytes or more stand behind its number, and no other does
+-- `insert` asks for memory where it comes to a symbol, `take` where two bytes or more stand behind its number, and no
+-- other does
 abbrev pub FormAsksMemory : Verb → Rest → Type 0
 FormAsksMemory verbs.Site rest = ⊥
 FormAsksMemory verbs.Insert rest = IsSomeAnd (copy_behind rest) ComesToSymbol

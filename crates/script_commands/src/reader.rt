@@ -2,12 +2,15 @@
 
 ghost use Rattle.std.specs.Prelude.{◌≡◌, ◌≢◌, ℕ, List, IsSomeAnd};
 ghost use Rattle.std.specs.Option.{option_copied};
-ghost use Rattle.script_commands.specs.Reading.{Gives, word_at, number_at, file_at, range_of, range_at, hex_at, at_end, dotted};
+ghost use Rattle.script_commands.specs.Reading.{Gives, word_at, number_at, file_at, range_of, range_at, hex_at, at_end};
+ghost use Rattle.script_commands.specs.Reading.{dotted};
 ghost use Rattle.script_commands.specs.Copy.{copy_at};
-ghost use Rattle.script_commands.specs.Memory.{AsksMemory, ComesToSymbol, FormAsksMemory, MayHoldByte, WordsAskMemory, copy_behind, feed_behind};
+ghost use Rattle.script_commands.specs.Memory.{AsksMemory, ComesToSymbol, FormAsksMemory, MayHoldByte, WordsAskMemory};
+ghost use Rattle.script_commands.specs.Memory.{copy_behind, feed_behind};
 ghost use Rattle.script_commands.specs.Command.{CommandValues, command_values};
 ghost use Rattle.script_commands.specs.Command as commands;
-ghost use Rattle.script_commands.specs.Grammar.{verb_of, key_of, one_site, insert_form, two_numbers, set_form, take_form, send_form, two_files, form_of, words_of, command_of};
+ghost use Rattle.script_commands.specs.Grammar.{verb_of, key_of, one_site, insert_form, two_numbers, set_form};
+ghost use Rattle.script_commands.specs.Grammar.{take_form, send_form, two_files, form_of, words_of, command_of};
 
 use crate::command::{Command, ParseError};
 use crate::copy::copy_of;

@@ -1,6 +1,7 @@
 //! A world of sites, and the events that change it.
 
-ghost use Rattle.std.specs.Prelude.{◌≡◌, true, All, Err, IfOk, IfSome, MatchOption, None, OnErr, option_map, map, nat_eq};
+ghost use Rattle.std.specs.Prelude.{◌≡◌, true, All, Err, IfOk, IfSome, MatchOption, None, OnErr, option_map, map};
+ghost use Rattle.std.specs.Prelude.{nat_eq};
 ghost use Rattle.std.specs.FinMap as fin;
 ghost use Rattle.std.specs.List.{list_all, list_any};
 ghost use Rattle.std.specs.Map.{lookup};
@@ -8,7 +9,8 @@ ghost use Rattle.desk_ops.specs.Op.{IsLawful};
 ghost use Rattle.desk_ops.specs.OpSet.{has_op};
 ghost use Rattle.desk_replica.specs.State.{State};
 ghost use Rattle.script_world.specs.Sites.{no_sites, is_held, all_held, sites_of, IsUpdated};
-ghost use Rattle.script_world.specs.World.{Steps, event_values, IsSound, Edits, EditsSite, Gains, Brings, taken, IsReopened};
+ghost use Rattle.script_world.specs.World.{Steps, event_values, IsSound, Edits, EditsSite, Gains, Brings, taken};
+ghost use Rattle.script_world.specs.World.{IsReopened};
 ghost use Rattle.script_world.specs.Plays.{Plays};
 ghost use Rattle.script_world.specs.Honest.{IsHonest, StandsIn};
 ghost use Rattle.script_world.specs.World as world;
@@ -301,10 +303,9 @@ impl<A: Allocator + Copy> World<A> {
         Ok(World { alloc, sites })
     }
 
-    /// The replica of a site, if it is there. In an honest world it has no forked and no void fault, and none at all where
-    /// it holds all that the sites hold; what it shows stands in the one order of all of that; and a site that holds
-    /// the
-    /// same operations answers the same.
+    /// The replica of a site, if it is there. In an honest world it has no forked and no void fault, and none at all
+    /// where it holds all that the sites hold; what it shows stands in the one order of all of that; and a site that
+    /// holds the same operations answers the same.
     pub fn replica(&self, site: u16) -> Option<&Replica<Blocks<A>>>
         ensures ops { option_map (λ r. r.now.ops) result ≡ fin.get self.now site }
         ensures number { IfSome result (λ r. r.now.site ≡ site) }

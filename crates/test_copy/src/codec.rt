@@ -299,8 +299,8 @@ fn writings_refused(alloc: Global) -> Result<u32, Fail> {
     Ok(refused)
 }
 
-/// A refused growth is out of memory; of other magic, and of too few bytes for an operation, the fault comes in any case.
-/// What is written takes its memory at once, so few sizes of a heap refuse it.
+/// A refused growth is out of memory; of other magic, and of too few bytes for an operation, the fault comes in any
+/// case. What is written takes its memory at once, so few sizes of a heap refuse it.
 #[test]
 fn growth_refused(rt: HostRuntime) -> Result<(), Fail> {
     assert!(rt; are_most_refused(rt.alloc(), &FEED_AB)?);

@@ -159,7 +159,8 @@ fn holds_what_is_added(rt: HostRuntime) -> Result<(), Fail> {
     Ok(())
 }
 
-/// Whether a set of 600 operations has no stamp that two bear, and one once the k-th of its stamps is borne by another too.
+/// Whether a set of 600 operations has no stamp that two bear, and one once the k-th of its stamps is borne by another
+/// too.
 fn is_forked_at(alloc: Global, k: u64) -> Result<bool, Fail> {
     let mut held = Held::new(alloc);
     let stop = add_row(alloc, &mut held, 1, 600, false)?;
@@ -337,8 +338,8 @@ fn is_refused_in<'a>(
     Ok(true)
 }
 
-/// Whether additions are refused in a heap of which each time more is left, more than three of 256 or none; never nearly
-/// all.
+/// Whether additions are refused in a heap of which each time more is left, more than three of 256 or none; never
+/// nearly all.
 fn are_refused(
     alloc: Global,
     op: Op,

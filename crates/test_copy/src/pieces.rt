@@ -328,8 +328,8 @@ fn refused_rooms(alloc: Global) -> Result<u32, Fail> {
     Ok(refused)
 }
 
-/// A piece that was refused memory was not taken: given again with memory it is answered as it would have been. One that shows
-/// a fault is reported by it, with memory or without.
+/// A piece that was refused memory was not taken: given again with memory it is answered as it would have been. One
+/// that shows a fault is reported by it, with memory or without.
 #[test]
 fn growth_refused_in_pieces(rt: HostRuntime) -> Result<(), Fail> {
     for place in 0..56usize {

@@ -399,8 +399,8 @@ fn reported_of(
     }
 }
 
-/// Of a ribbon of which each bit is changed in turn: how many changes its start refused, its rows, and the caster, and how
-/// many were cast.
+/// Of a ribbon of which each bit is changed in turn: how many changes its start refused, its rows, and the caster, and
+/// how many were cast.
 fn tally_of_bits(alloc: Global, bytes: &[u8]) -> Result<[u32; 4], Fail> {
     let wedge = wedge_of(alloc, WEDGE)?;
     let case = case_with(alloc, FILLS)?;
@@ -417,9 +417,9 @@ fn tally_of_bits(alloc: Global, bytes: &[u8]) -> Result<[u32; 4], Fail> {
     Ok(tally)
 }
 
-/// Each bit of a ribbon changed in turn: of the empty paragraph's, and of that of two lines. A bit of `MRB1` and one of the
-/// number of rows are refused as such, and any other is refused in its own row, or read as the row that it spells. How many
-/// are refused and how many cast is as the independent caster counts them.
+/// Each bit of a ribbon changed in turn: of the empty paragraph's, and of that of two lines. A bit of `MRB1` and one of
+/// the number of rows are refused as such, and any other is refused in its own row, or read as the row that it spells.
+/// How many are refused and how many cast is as the independent caster counts them.
 #[test]
 fn each_bit_of_a_ribbon(rt: HostRuntime) -> Result<(), Fail> {
     let empty = tally_of_bits(rt.alloc(), &RIBBON)?;
@@ -465,8 +465,8 @@ fn refusals_of_reading(
     Ok(refused)
 }
 
-/// Each growth of reading refused in turn is out of memory, also of a ribbon whose second row has no meaning; with memory
-/// the answer is the same.
+/// Each growth of reading refused in turn is out of memory, also of a ribbon whose second row has no meaning; with
+/// memory the answer is the same.
 #[test]
 fn refused_growths_of_reading(rt: HostRuntime) -> Result<(), Fail> {
     let rows = empty_paragraph(rt.alloc())?;

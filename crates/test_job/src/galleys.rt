@@ -1,5 +1,6 @@
-//! Galleys: what is known of each line of a copy, and its matrices. Wanted values are worked out by hand from the rules: at
-//! a set of 12 points and the old pica a unit is 12,000 atoms, a step 648, and the measure of 120 points 2,160,000.
+//! Galleys: what is known of each line of a copy, and its matrices. Wanted values are worked out by hand from the
+//! rules: at a set of 12 points and the old pica a unit is 12,000 atoms, a step 648, and the measure of 120 points
+//! 2,160,000.
 
 ghost use Rattle.std.specs.Prelude.{◌≤◌, All, length};
 ghost use Rattle.desk_lines.specs.Words.{most_symbols};
@@ -218,8 +219,8 @@ const LACKING: &str = "the case has no matrix for the symbol at place 1\n\
     1 0..3 4..5, filled, added, 2 spaces, 468000 and 1692000, fills 7 1, sum 108 by 7/3; \
     B5 A8 G1* A8 G1* O15 O15 O15 O15 O15 O15 O15 A5\n";
 
-/// Five words with four spaces of 60,000, and 46 steps for each, too loose for 60; the sixth is wider by 251,400 than what
-/// five spaces of 50,280 leave, and stands in a line of its own, with 8 fills, and 18 steps for its added space.
+/// Five words with four spaces of 60,000, and 46 steps for each, too loose for 60; the sixth is wider by 251,400 than
+/// what five spaces of 50,280 leave, and stands in a line of its own, with 8 fills, and 18 steps for its added space.
 const LOOSE: &str =
     "1 0..3 4..7 8..11 12..15 16..19, 4 spaces, 2040000 and 120000, fills, sum 99 by 6/9, faulty: line 1 is too \
     loose, next 20..23 over 251400 free 108600; \

@@ -85,8 +85,8 @@ fn is_out<A: Allocator>(answer: &Result<Vec<u8, A>, JobRefusal<A>>) -> bool {
     matches!(answer, Err(JobRefusal::NoMemory))
 }
 
-/// Whether `make` was out of memory where one heap has so many bytes left. With memory the answer is the one wanted, and
-/// so is any other.
+/// Whether `make` was out of memory where one heap has so many bytes left. With memory the answer is the one wanted,
+/// and so is any other.
 fn is_refused<'a>(
     alloc: Global,
     small: &LocalHeap,
@@ -183,8 +183,8 @@ fn refuse_each(alloc: Global, job: Job<'_>, want: Want<'_>) -> Result<Tally, Fai
     refuse_in(alloc, &own, &heap, job, (&case, &wedge), want)
 }
 
-/// What is reported of the growths of a text's job, all else as it is in most. Its ribbon is that of the empty paragraph
-/// where it is one.
+/// What is reported of the growths of a text's job, all else as it is in most. Its ribbon is that of the empty
+/// paragraph where it is one.
 fn tally_of(alloc: Global, text: &str) -> Result<Tally, Fail> {
     let job = Job {
         text,
@@ -215,8 +215,8 @@ fn growths_of_ribbons(rt: HostRuntime) -> Result<(), Fail> {
     Ok(())
 }
 
-/// Symbols that the case lacks, lines with no space, lines that are not to be filled and too loose, each followed by one
-/// that can be set, and lines that cannot be filled.
+/// Symbols that the case lacks, lines with no space, lines that are not to be filled and too loose, each followed by
+/// one that can be set, and lines that cannot be filled.
 const FAULTS: [(&str, &str, &[(Key, u32)], &[JobFault]); 4] = [
     (
         "aqnzaqnzaq",

@@ -11,8 +11,8 @@ use desk_wedge::Wedge;
 use std::alloc::{Allocator, Global};
 use std::test::Fail;
 
-/// A job: the copy's text, all Roman, the fills of the case, and what is set once measure 120, tight 38, loose 150, case 1 and
-/// wedge 5 are.
+/// A job: the copy's text, all Roman, the fills of the case, and what is set once measure 120, tight 38, loose 150,
+/// case 1 and wedge 5 are.
 #[derive(Clone, Copy)]
 pub struct Job<'a> {
     pub text: &'a str,

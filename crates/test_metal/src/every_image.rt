@@ -1,5 +1,5 @@
-//! All images of at most two letters and two numbers, with and without 0005, 0075 and S. The numbers here are those of the
-//! independent program, as tests/images.py makes and compares them.
+//! All images of at most two letters and two numbers, with and without 0005, 0075 and S. The numbers here are those of
+//! the independent program, as tests/images.py makes and compares them.
 
 use desk_image::{BadImage, Image};
 use desk_signals::RibbonRow;

@@ -1,4 +1,4 @@
-//! The tests of desk_signals, desk_image, desk_units, desk_wedge and desk_case.
+//! The tests of desk_signals, desk_image, desk_units, desk_wedge, desk_case, desk_lines, desk_justify and desk_ribbon.
 #![tactic(auto)]
 
 #[cfg(test)]
@@ -9,6 +9,12 @@ mod every_image;
 mod hostile;
 #[cfg(test)]
 mod image;
+#[cfg(test)]
+mod justify;
+#[cfg(test)]
+mod lines;
+#[cfg(test)]
+mod ribbon;
 #[cfg(test)]
 mod rows;
 #[cfg(test)]

@@ -329,8 +329,8 @@ const DEPTHS: [(u32, WedgeFault); 4] = [
     (5000, WedgeFault::NotToml),
 ];
 
-/// Whether a value that nests so deep, under a key that is passed over, and then a number out of its range, answers this
-/// fault.
+/// Whether a value that nests so deep, under a key that is passed over, and then a number out of its range, answers
+/// this fault.
 fn is_faulty_at(alloc: Global, depth: u32, fault: WedgeFault) -> bool {
     match nested(alloc, "other = ", "[", depth, "]", "\nwedge = 0\n") {
         Ok(text) => is_faulty(alloc, text.as_bytes(), fault),

@@ -81,8 +81,8 @@ pub fn are_lawful(ops: &[Op]) -> bool
     ops.iter().all(|op| op.check().is_ok())
 }
 
-/// What a replica is to answer: the copy, all Roman, the copy faults, how many operations wait, and the measure, the only
-/// setting.
+/// What a replica is to answer: the copy, all Roman, the copy faults, how many operations wait, and the measure, the
+/// only setting.
 #[derive(Clone, Copy)]
 pub struct Want<'a> {
     pub copy: &'a str,

@@ -1,4 +1,5 @@
-//! Each growth refused in turn: in a heap of fixed size, of which all is taken but for a piece that differs from run to run.
+//! Each growth refused in turn: in a heap of fixed size, of which all is taken but for a piece that differs from run to
+//! run.
 use crate::calls::{Answer, Call, ask, takes};
 use crate::cases::{
     Want, answers, are_alike, arrivals, at, deleted, forked, measure, plain, typed, waiting,
@@ -13,8 +14,8 @@ use linked_list_allocator::LocalHeap;
 use std::alloc::{AllocError, Allocator, Global};
 use std::test::Fail;
 
-/// The bytes of a heap: a page of what waits takes some 8,000, one of a copy in blocks 4,000, and where all is made anew
-/// both stand twice.
+/// The bytes of a heap: a page of what waits takes some 8,000, one of a copy in blocks 4,000, and where all is made
+/// anew both stand twice.
 pub const HEAP: usize = 524_288;
 
 /// What is held, a call, its answer with memory, and what the replica answers after it.
@@ -100,7 +101,8 @@ fn is_as_one<P: Sequence, Q: Sequence>(
     takes(&mut one, held) && takes(&mut one, ops) && are_alike(&one, replica)
 }
 
-/// Whether a replica whose call was refused is as one that took in so many of the list, and gives its answer with memory.
+/// Whether a replica whose call was refused is as one that took in so many of the list, and gives its answer with
+/// memory.
 fn goes_on<P: Sequence, Q: Sequence>(
     ample: P::Memory,
     memory: Q::Memory,
@@ -121,9 +123,9 @@ enum Seen {
     Refused(usize),
 }
 
-/// Whether the call was refused in a heap that has so many bytes left, and where; none where it answers or does anything
-/// else. What it took in then is what it reported, in the order of its list; with memory it gives its answer. What a
-/// merge reads stands in a heap of its own.
+/// Whether the call was refused in a heap that has so many bytes left, and where; none where it answers or does
+/// anything else. What it took in then is what it reported, in the order of its list; with memory it gives its answer.
+/// What a merge reads stands in a heap of its own.
 fn is_refused<P: Sequence, Q: Sequence>(
     ample: P::Memory,
     memory: Q::Memory,
@@ -187,8 +189,8 @@ fn seen_in(
     })
 }
 
-/// Refuses each growth of the call in turn, over a plain list or over blocks. Answers in how many heaps one was refused, and
-/// before it how many of its list were taken in at most.
+/// Refuses each growth of the call in turn, over a plain list or over blocks. Answers in how many heaps one was
+/// refused, and before it how many of its list were taken in at most.
 fn refuse_each(alloc: Global, is_flat: bool, case: Case<'_>) -> Result<(usize, usize), Fail> {
     let (mut refused, mut most) = (0usize, 0usize);
     for pieces in 0..HEAPS {
@@ -215,8 +217,8 @@ fn is_refused_in_turn(alloc: Global, case: Case<'_>) -> Result<bool, Fail> {
     Ok(true)
 }
 
-/// Whether growths of the call are refused in some heaps and in some not, and in some once so many of its list were taken
-/// in, over both kinds of sequence.
+/// Whether growths of the call are refused in some heaps and in some not, and in some once so many of its list were
+/// taken in, over both kinds of sequence.
 fn is_stopped_after(alloc: Global, case: Case<'_>, taken: usize) -> Result<bool, Fail> {
     for is_flat in [true, false] {
         let (refused, most) = refuse_each(alloc, is_flat, case)?;
@@ -245,7 +247,8 @@ fn four_with(copy: &str, value: u32) -> Want<'_> {
     }
 }
 
-/// These operations behind settings of the measure: 257 in all, one more than a page has, for which a held set has just room.
+/// These operations behind settings of the measure: 257 in all, one more than a page has, for which a held set has just
+/// room.
 fn filled(alloc: Global, ops: &[Op]) -> Result<Vec<Op>, NoMemory> {
     let mut list = Vec::new(alloc);
     for site in ops.len()..257 {
@@ -354,8 +357,8 @@ fn are_lists_refused(alloc: Global, ops: &[Op], after: Want<'_>) -> Result<bool,
     Ok(true)
 }
 
-/// Of the five arrivals in their order. Each growth of their list is refused in turn: it stops before the last at the latest,
-/// and as many stand as it counted. With memory the same list then gives the whole copy.
+/// Of the five arrivals in their order. Each growth of their list is refused in turn: it stops before the last at the
+/// latest, and as many stand as it counted. With memory the same list then gives the whole copy.
 #[test]
 fn each_growth_of_five_arrivals(rt: HostRuntime) -> Result<(), Fail> {
     let arrivals = arrivals();
@@ -380,9 +383,9 @@ fn growths_of_short_lists(rt: HostRuntime) -> Result<(), Fail> {
     Ok(())
 }
 
-/// Of lists with an operation that forks a stamp, for which all is made anew, on a replica that holds something: some stop
-/// once all before it are taken in, for which there is room. A list is taken in its own order, and what another replica
-/// holds by stamp and then by bytes.
+/// Of lists with an operation that forks a stamp, for which all is made anew, on a replica that holds something: some
+/// stop once all before it are taken in, for which there is room. A list is taken in its own order, and what another
+/// replica holds by stamp and then by bytes.
 #[test]
 fn stopped_at_k(rt: HostRuntime) -> Result<(), Fail> {
     let [a, c, e, b, z] = arrivals();
@@ -472,7 +475,8 @@ fn growths_of_copy_faults(rt: HostRuntime) -> Result<(), Fail> {
     Ok(())
 }
 
-/// A known operation, what is refused for another cause, and a look for faults where there are none, are never refused for memory.
+/// A known operation, what is refused for another cause, and a look for faults where there are none, are never refused
+/// for memory.
 #[test]
 fn known_and_wrong_take_no_memory(rt: HostRuntime) -> Result<(), Fail> {
     let four = four();

@@ -106,8 +106,8 @@ fn are_put_once(alloc: Global, ops: &[Op], puts: &[Stamp]) -> Result<bool, Alloc
     Ok(flat && are_put::<Blocks<&LocalHeap>, Global>(alloc, &other, &other, ops, puts))
 }
 
-/// Where room was reserved the arrivals are new though every growth is refused, and so they are where they come backwards;
-/// each is put once, in the order in which it acts, since nothing is made anew.
+/// Where room was reserved the arrivals are new though every growth is refused, and so they are where they come
+/// backwards; each is put once, in the order in which it acts, since nothing is made anew.
 #[test]
 fn sequence_made_anew(rt: HostRuntime) -> Result<(), Fail> {
     let [a, c, e, b, z] = arrivals();

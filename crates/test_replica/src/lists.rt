@@ -35,7 +35,8 @@ fn has_all_of<Q: Sequence>(one: &Replica<Q>, other: &Replica<Q>) -> bool {
     }
 }
 
-/// Two sites share 700 symbols, type 3 and 300 more apart, and merge: few that are new are taken in one by one, many at once.
+/// Two sites share 700 symbols, type 3 and 300 more apart, and merge: few that are new are taken in one by one, many at
+/// once.
 fn diverge<Q: Sequence>(one: &mut Replica<Q>, two: &mut Replica<Q>) -> bool {
     types(one, 700)
         && merges(two, one, 700, 0)

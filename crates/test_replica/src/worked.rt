@@ -205,7 +205,8 @@ fn merge_counted<Q: Sequence>(
         && are_alike(one, two)
 }
 
-/// Whether site 1 that deletes, and site 2 that inserts after what is deleted, are alike once each merged with the other.
+/// Whether site 1 that deletes, and site 2 that inserts after what is deleted, are alike once each merged with the
+/// other.
 fn merge_both<Q: Sequence>(memory: Q::Memory) -> bool {
     let mut one = Replica::<Q>::new(memory, 1);
     let mut two = Replica::<Q>::new(memory, 2);

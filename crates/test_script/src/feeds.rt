@@ -176,8 +176,8 @@ const TWO_INSERTS: &[u8] =
 const ONE_DELETED: &[u8] =
     b"MFD2\x01\0\0\0\0\0\0\0\x01\0\x03\0\0\0\0\0\0\0\0\0\0\0\0\0\0x\x02\0\0\0\0\0\0\0\x02\0\x03\0\0\0\0\0\0\0\x01\0\x03";
 
-/// A run on a feed of which the writing or the renaming fails: all is answered and the old feed stays, beside it is what is
-/// given, the new feed or nothing, and the next run stores its own.
+/// A run on a feed of which the writing or the renaming fails: all is answered and the old feed stays, beside it is
+/// what is given, the new feed or nothing, and the next run stores its own.
 fn not_stored_at(alloc: Global, failing_call: u64, beside: Option<&[u8]>) -> Result<(), Fail> {
     let mut files = TrialFiles::new(alloc).failing_at_call(failing_call);
     files.put("a.feed", ONE_INSERT)?;
@@ -234,7 +234,8 @@ fn not_stored_where_no_file_can_be(rt: HostRuntime) -> Result<(), Fail> {
     Ok(())
 }
 
-/// A failed read of a case is reported in its line, and is no fault of the feed: it is stored, or the writer's fault is returned.
+/// A failed read of a case is reported in its line, and is no fault of the feed: it is stored, or the writer's fault is
+/// returned.
 #[test]
 fn stored_after_a_failed_read(rt: HostRuntime) -> Result<(), Fail> {
     const INPUT: &[u8] = b"insert 3 0 r\"x\"\nribbon 3 c w\n";

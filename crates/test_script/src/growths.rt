@@ -58,8 +58,8 @@ const BEFORE: &[u8] =
 
 const BEFORE_ANSWERS: &[u8] = b"ok\nok\nok 1.1..2.1\nrefused command\n";
 
-/// What needs memory is refused for that, and what needs none is done, or refused for its own cause: a site, a value and the
-/// place of a delete come before memory. The text of an insert takes memory before its place is looked at.
+/// What needs memory is refused for that, and what needs none is done, or refused for its own cause: a site, a value
+/// and the place of a delete come before memory. The text of an insert takes memory before its place is looked at.
 const PINCHED: &[u8] =
     b"insert 1 0 r\"xy\"\nshow 1\nfaults 1\nsettings 1\nfeed 1\nsend 1 2\nmerge 2 1\nrestart 1\ntake 2 4d464431\nshow 3\nsend 1 3\njump\nset 1 measure 11\ndelete 1 9\ndelete 1 0\n";
 

@@ -55,7 +55,8 @@ fn silent_on(alloc: Global, files: &mut TrialFiles<Global>) -> Result<(), RoomFa
     )
 }
 
-/// A run leaves FEED.last; an older feed that comes back is refused, for that site alone, and is taken where that is wanted.
+/// A run leaves FEED.last; an older feed that comes back is refused, for that site alone, and is taken where that is
+/// wanted.
 #[test]
 fn older_feed_is_refused(rt: HostRuntime) -> Result<(), Fail> {
     let mut files = TrialFiles::new(rt.alloc());
@@ -158,8 +159,8 @@ fn no_feed_beside_last(rt: HostRuntime) -> Result<(), Fail> {
     Ok(())
 }
 
-/// A run whose k-th call of the files fails: 1 takes the name, 2 reads the feed, 3 FEED.last; 4 and 5 store the feed; 6, 7 and
-/// 8 write FEED.last.
+/// A run whose k-th call of the files fails: 1 takes the name, 2 reads the feed, 3 FEED.last; 4 and 5 store the feed;
+/// 6, 7 and 8 write FEED.last.
 fn failing_at(alloc: Global, k: u64) -> Result<(), Fail> {
     let mut files = TrialFiles::new(alloc).failing_at_call(k);
     files.put("a.feed", ONE_INSERT)?;

@@ -183,8 +183,8 @@ impl<'a> Read for Counting<'a> {
     }
 }
 
-/// A read that failed is not tried again, nor is one that found the end: what was written is the answers to the lines that
-/// were read to their end.
+/// A read that failed is not tried again, nor is one that found the end: what was written is the answers to the lines
+/// that were read to their end.
 fn read_up_to(alloc: Global, failing_call: usize, kind: ErrorKind) -> Result<(), Fail> {
     let mut reader = Counting {
         bytes: TWO_SITES,

@@ -172,8 +172,8 @@ fn goes_on_alike<Q: Sequence, R: Sequence>(
     Ok(are_alike(one, &made) && run(one, &mut made, 2, 4_000)?)
 }
 
-/// Whether both kinds answer 20,000 random calls alike, which leave more than 5,000 entries, and so do a sequence made of
-/// these and the first.
+/// Whether both kinds answer 20,000 random calls alike, which leave more than 5,000 entries, and so do a sequence made
+/// of these and the first.
 fn are_calls_alike<Q: Sequence, R: Sequence>(
     alloc: Global,
     memory: Q::Memory,
@@ -388,8 +388,8 @@ fn fill<Q: Sequence>(sequence: &mut Q) -> Result<(), AllocError> {
     Ok(())
 }
 
-/// Whether a reserve of 1,000 was refused beside a ballast of so many bytes: the sequence stays as it was, and with memory
-/// the same call gives room that takes none.
+/// Whether a reserve of 1,000 was refused beside a ballast of so many bytes: the sequence stays as it was, and with
+/// memory the same call gives room that takes none.
 fn is_reserve_refused<Q: Sequence, R: Sequence>(
     filled: &Q,
     memory: R::Memory,
@@ -439,8 +439,8 @@ fn refused_reserves_change_nothing(rt: HostRuntime) -> Result<(), Fail> {
 /// The bytes of a heap that has room for a sequence of 600 and little more.
 const LIST_HEAP: usize = 65_536;
 
-/// Whether no sequence is made of the entries of another where so many bytes are left: all memory is given back, so that
-/// the same call makes it.
+/// Whether no sequence is made of the entries of another where so many bytes are left: all memory is given back, so
+/// that the same call makes it.
 fn is_list_refused<Q: Sequence, R: Sequence>(
     listed: &Q,
     alloc: Global,

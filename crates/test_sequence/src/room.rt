@@ -213,7 +213,8 @@ fn refusals_in_heap(alloc: Global, bytes: usize) -> Result<(u32, u32), Fail> {
     refusals(&heap, bytes)
 }
 
-/// Each growth of `reserve` and `from_ops` refused: the room is as it was, and the call repeated with memory does its work.
+/// Each growth of `reserve` and `from_ops` refused: the room is as it was, and the call repeated with memory does its
+/// work.
 #[test]
 fn refused_growths_of_room(rt: HostRuntime) -> Result<(), Fail> {
     let mut refused = 0u32;

@@ -199,8 +199,8 @@ fn refusals_in_heap(alloc: Global, bytes: usize) -> Result<(u32, u32, u32), Fail
     refusals(&heap, bytes)
 }
 
-/// Each growth of `reserve`, `symbols` and `from_entries` refused: the sequence is as it was, and the call repeated with memory
-/// leaves room for all that was asked for.
+/// Each growth of `reserve`, `symbols` and `from_entries` refused: the sequence is as it was, and the call repeated
+/// with memory leaves room for all that was asked for.
 #[test]
 fn refused_growths_of_flat(rt: HostRuntime) -> Result<(), Fail> {
     let mut refused = 0u32;

@@ -1,4 +1,4 @@
-//! The tests of desk_replace, feed_renew, feed_renumber and desk_sheet.
+//! The tests of feed_edit, feed_sites, feed_sites and desk_script.
 #![tactic(auto)]
 
 #[cfg(test)]

@@ -1,5 +1,4 @@
-use desk_script::RunFault;
-use desk_sheet::{Mode, SheetFault, run_sheet_on_feed};
+use desk_script::{Mode, RunFault, SheetFault, run_sheet_on_feed};
 use feed_files::trial::{AtEnd, TrialFiles, TrialReader, TrialWriter};
 use feed_files::{FileRefusal, Files};
 use std::alloc::{AllocError, Global};

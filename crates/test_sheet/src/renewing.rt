@@ -1,16 +1,16 @@
-//! The tests of feed_renew.
+//! The tests of feed_sites.
 
 use desk_codec::{FeedFault, FeedWhy};
 use feed_edit::{FeedTrouble, KeepFault, TakeFault, export_feed, import_text};
 use feed_files::trial::{AtEnd, TrialFiles, TrialReader, TrialWriter};
 use feed_files::{FileRefusal, Files};
-use feed_renew::{RenewFault, renew_feed};
+use feed_sites::{RenewFault, renew_feed};
 use linked_list_allocator::LocalHeap;
 use std::alloc::{AllocError, Global};
 use std::test::Fail;
 
-/// 1.3 and 2.3 insert x and an italic z. 3.4 is forked, 4.5 hangs on it, and 8.3 waits for 7.9. 5.3 and 6.4 set the measure
-/// to 300 and to 252, and 7.3 the case to 3.
+/// 1.3 and 2.3 insert x and an italic z. 3.4 is forked, 4.5 hangs on it, and 8.3 waits for 7.9. 5.3 and 6.4 set the
+/// measure to 300 and to 252, and 7.3 the case to 3.
 const FORKED: &[u8] = b"MFD2\
 \x01\0\0\0\0\0\0\0\x01\0\x03\0\0\0\0\0\0\0\0\0\0\0\0\0\0x\
 \x01\0\0\0\0\0\0\0\x02\0\x03\0\0\0\0\0\0\0\x01\0\x03\x01\0\0\0z\

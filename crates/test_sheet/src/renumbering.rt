@@ -1,9 +1,9 @@
-//! The tests of feed_renumber.
+//! The tests of feed_sites.
 use desk_ops::Stamp;
 use feed_edit::{FeedTrouble, KeepFault, TakeFault, export_feed, import_text, merge_feeds};
 use feed_files::trial::{AtEnd, TrialFiles, TrialReader, TrialWriter};
 use feed_files::{FileRefusal, Files};
-use feed_renumber::{NumberFault, RenumberFault, renumber_feed};
+use feed_sites::{NumberFault, RenumberFault, renumber_feed};
 use linked_list_allocator::LocalHeap;
 use std::alloc::{AllocError, Allocator, Global};
 use std::test::Fail;

@@ -1,4 +1,4 @@
-//! The tests of desk_replace and desk_places.
+//! The tests of feed_edit and text_copy.
 mod older;
 mod refusals;
 mod replacing;

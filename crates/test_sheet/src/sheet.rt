@@ -1,3 +1,3 @@
-//! The tests of desk_sheet.
+//! The tests of desk_script.
 mod sheets;
 mod stored_sheets;

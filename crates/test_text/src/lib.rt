@@ -1,4 +1,4 @@
-//! The tests of text_copy, desk_changes and feed_readings.
+//! The tests of text_copy, text_copy and feed_readings.
 #![tactic(auto)]
 
 #[cfg(test)]

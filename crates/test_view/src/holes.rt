@@ -1,3 +1,3 @@
-//! The tests of desk_holes.
+//! The tests of view_ribbon.
 mod drawing;
 mod rooms;

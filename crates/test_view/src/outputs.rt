@@ -1,3 +1,3 @@
-//! The tests of desk_outputs.
+//! The tests of feed_files.
 mod kinds;
 mod storing;

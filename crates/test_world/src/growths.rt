@@ -35,8 +35,8 @@ fn measure(stamp: Stamp, value: u32) -> Op {
     }
 }
 
-/// What site 1 holds before the call: two inserts, and the measure set thirty times. It is made at once, with no room for
-/// more.
+/// What site 1 holds before the call: two inserts, and the measure set thirty times. It is made at once, with no room
+/// for more.
 fn list(alloc: Global) -> Result<Vec<Op>, Fail>
     ensures { IfOk result (λ v. All IsLawful v.items) }
 {
@@ -49,8 +49,8 @@ fn list(alloc: Global) -> Result<Vec<Op>, Fail>
     lawful_of(alloc, &all)
 }
 
-/// 1.1 `a` after the head, 2.2 `c` after 1.1, 3.2 `e` after 2.2, 2.1 `b` after 1.1, 4.3 `z` after the head, and 4.3 `y`,
-/// which forks it, so that all is made anew.
+/// 1.1 `a` after the head, 2.2 `c` after 1.1, 3.2 `e` after 2.2, 2.1 `b` after 1.1, 4.3 `z` after the head, and 4.3
+/// `y`, which forks it, so that all is made anew.
 fn arrivals() -> [Op; 6] {
     [
         typed(at(1, 1), Stamp::HEAD, 'a'),
@@ -75,8 +75,8 @@ pub fn lawful_of(alloc: Global, all: &[Op]) -> Result<Vec<Op>, Fail>
     Ok(ops)
 }
 
-/// What site 2 holds before the call: a symbol of its own. So the fork among the arrivals has all of site 2 made anew, while
-/// the arrivals before it find room beside that symbol.
+/// What site 2 holds before the call: a symbol of its own. So the fork among the arrivals has all of site 2 made anew,
+/// while the arrivals before it find room beside that symbol.
 fn own() -> Op {
     typed(at(1, 2), Stamp::HEAD, 's')
 }
@@ -246,8 +246,8 @@ fn fill(
     Ok(parts)
 }
 
-/// A call in a heap of which all is taken but for one piece; the greater the cut the greater it is. Where memory ran out the sites are as
-/// before, but for the operations that were taken, and the same call succeeds with memory.
+/// A call in a heap of which all is taken but for one piece; the greater the cut the greater it is. Where memory ran
+/// out the sites are as before, but for the operations that were taken, and the same call succeeds with memory.
 fn refused(
     alloc: Global,
     call: Call,

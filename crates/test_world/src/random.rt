@@ -101,8 +101,8 @@ fn place_of(ops: &[Op], stamp: Stamp) -> Option<usize> {
     None
 }
 
-/// Of each insert the stamps from the child of the head down to it; of operations in order, so that a parent stands before
-/// what hangs on it.
+/// Of each insert the stamps from the child of the head down to it; of operations in order, so that a parent stands
+/// before what hangs on it.
 fn paths(alloc: Global, ops: &[Op]) -> Result<Vec<Vec<Stamp>>, NoMemory> {
     let mut paths: Vec<Vec<Stamp>> = Vec::new(alloc);
     for op in ops {

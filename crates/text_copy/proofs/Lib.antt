@@ -4,3 +4,8 @@ pub mod Again
 pub mod Lawful
 pub mod Grammar
 pub mod WrittenOut
+pub mod Changed
+pub mod Few
+pub mod Shared
+pub mod Finding
+pub mod Lines

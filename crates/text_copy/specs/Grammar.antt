@@ -15,9 +15,15 @@ symbol style c = record { style = style; ch = c }
 pub data IsText : Style → List ℕ → List Symbol → Type 0 where
   Nothing : IsText Roman [] []
   Line : {cs : List ℕ} {copy : List Symbol} → IsText Roman cs copy → IsText Roman (10 ∷ cs) (line_feed ∷ copy)
-  ReturnedLine : {cs : List ℕ} {copy : List Symbol} → IsText Roman cs copy → IsText Roman (13 ∷ 10 ∷ cs) (line_feed ∷ copy)
-  Space : {style : Style} {cs : List ℕ} {copy : List Symbol} → IsText style cs copy → IsText style (32 ∷ cs) (space ∷ copy)
-  Itself : {style : Style} {c : ℕ} {cs : List ℕ} {copy : List Symbol} → 32 < c → is_mark c ≡ false → IsSymbol (symbol style c) → IsText style cs copy → IsText style (c ∷ cs) (symbol style c ∷ copy)
-  Escaped : {style : Style} {c : ℕ} {cs : List ℕ} {copy : List Symbol} → is_mark c ≡ true → IsText style cs copy → IsText style (92 ∷ c ∷ cs) (symbol style c ∷ copy)
-  Opens : {style : Style} {m : ℕ} {cs : List ℕ} {copy : List Symbol} → mark style ≡ m ∷ [] → IsText style cs copy → IsText Roman (m ∷ cs) copy
-  Closes : {style : Style} {m : ℕ} {cs : List ℕ} {copy : List Symbol} → mark style ≡ m ∷ [] → IsText Roman cs copy → IsText style (m ∷ cs) copy
+  ReturnedLine : {cs : List ℕ} {copy : List Symbol} → IsText Roman cs copy
+      → IsText Roman (13 ∷ 10 ∷ cs) (line_feed ∷ copy)
+  Space : {style : Style} {cs : List ℕ} {copy : List Symbol} → IsText style cs copy
+      → IsText style (32 ∷ cs) (space ∷ copy)
+  Itself : {style : Style} {c : ℕ} {cs : List ℕ} {copy : List Symbol} → 32 < c → is_mark c ≡ false
+      → IsSymbol (symbol style c) → IsText style cs copy → IsText style (c ∷ cs) (symbol style c ∷ copy)
+  Escaped : {style : Style} {c : ℕ} {cs : List ℕ} {copy : List Symbol} → is_mark c ≡ true → IsText style cs copy
+      → IsText style (92 ∷ c ∷ cs) (symbol style c ∷ copy)
+  Opens : {style : Style} {m : ℕ} {cs : List ℕ} {copy : List Symbol} → mark style ≡ m ∷ [] → IsText style cs copy
+      → IsText Roman (m ∷ cs) copy
+  Closes : {style : Style} {m : ℕ} {cs : List ℕ} {copy : List Symbol} → mark style ≡ m ∷ [] → IsText Roman cs copy
+      → IsText style (m ∷ cs) copy

@@ -31,11 +31,13 @@ TextIsReadAgain = (copy : List Symbol) → AreLawful copy → AreCharacters copy
 -- the characters of a lawful Roman copy, read as plain text, are that copy
 abbrev pub PlainIsReadAgain : Type 0
 PlainIsReadAgain =
-    (copy : List Symbol) → AreLawful copy → AreCharacters copy → AreRoman copy → reading true (encode_utf8_all (map (λ s. s.ch) copy)) ≡ Ok copy
+    (copy : List Symbol) → AreLawful copy → AreCharacters copy → AreRoman copy
+    → reading true (encode_utf8_all (map (λ s. s.ch) copy)) ≡ Ok copy
 
 -- what is read of characters is what the cases of the grammar allow
 abbrev pub ReadIsGrammar : Type 0
-ReadIsGrammar = (bytes : List ℕ) (copy : List Symbol) → IsUtf8 bytes → (reading false bytes ≡ Ok copy) ↔ IsText Roman (chars bytes) copy
+ReadIsGrammar = (bytes : List ℕ) (copy : List Symbol) → IsUtf8 bytes
+    → (reading false bytes ≡ Ok copy) ↔ IsText Roman (chars bytes) copy
 
 -- ---- what is shown to a person
 
@@ -46,7 +48,8 @@ ArePlain (c ∷ cs) = IsPlain c × ArePlain cs
 -- a text written out has neither a control character nor a directional mark, and one that has none is itself
 abbrev pub TextIsPlain : Type 0
 TextIsPlain =
-    (text : List ℕ) → IsUtf8 text → ArePlain (chars (plain_text text)) × (ArePlain (chars text) → plain_text text ≡ text)
+    (text : List ℕ) → IsUtf8 text
+    → ArePlain (chars (plain_text text)) × (ArePlain (chars text) → plain_text text ≡ text)
 
 abbrev pub characters : List Symbol → List ℕ
 characters symbols = map (λ (s : Symbol). s.ch) symbols

@@ -4,3 +4,8 @@ pub mod Reading
 pub mod Grammar
 pub mod Plain
 pub mod Laws
+pub mod Ends
+pub mod Changes
+pub mod Places
+pub mod Reporting
+pub mod PlaceLaws

@@ -1,5 +1,6 @@
 -- Characters that a terminal obeys or that turn a line round, written out by their codes.
-use Rattle.std.specs.Prelude.{◌≡◌, ℕ, ◌/◌, ◌%◌, Bool, false, ◌&&◌, ◌||◌, ◌==◌, nat_lt, nat_le, List, [], ◌∷◌, ◌++◌, map, get_or, codes, if◌then◌else◌}
+use Rattle.std.specs.Prelude.{◌≡◌, ℕ, ◌/◌, ◌%◌, Bool, false, ◌&&◌, ◌||◌, ◌==◌, nat_lt, nat_le, List, [], ◌∷◌, ◌++◌, map}
+use Rattle.std.specs.Prelude.{get_or, codes, if◌then◌else◌}
 use Rattle.std.specs.Str.{chars, encode_utf8_all}
 use Rattle.desk_ops.specs.declared.op.Style.{Style}
 use Rattle.desk_ops.specs.declared.op.Symbol.{Symbol}
@@ -12,7 +13,8 @@ is_control c = nat_lt c 32 || (nat_lt 126 c && nat_lt c 160)
 -- U+061C; U+200E and U+200F; U+202A to U+202E; U+2066 to U+2069
 abbrev pub is_directional : ℕ → Bool
 is_directional c =
-    (c == 1564) || ((c == 8206) || ((c == 8207) || ((nat_le 8234 c && nat_le c 8238) || (nat_le 8294 c && nat_le c 8297))))
+    (c == 1564) || ((c == 8206) ||
+    ((c == 8207) || ((nat_le 8234 c && nat_le c 8238) || (nat_le 8294 c && nat_le c 8297))))
 
 -- a character that is neither
 abbrev pub IsPlain : ℕ → Type 0

@@ -1,5 +1,6 @@
 -- Text, read as a copy character by character.
-use Rattle.std.specs.Prelude.{◌≡◌, ℕ, ◌+◌, Bool, ◌==◌, List, [], ◌∷◌, ◌++◌, take, length, Option, Some, None, Result, Ok, Err, if◌then◌else◌, option_to_list}
+use Rattle.std.specs.Prelude.{◌≡◌, ℕ, ◌+◌, Bool, ◌==◌, List, [], ◌∷◌, ◌++◌, take, length, Option, Some, None, Result}
+use Rattle.std.specs.Prelude.{Ok, Err, if◌then◌else◌, option_to_list}
 use Rattle.std.specs.Str.{chars}
 use Rattle.std.specs.Str.Lossy.{utf8_valid_len}
 use Rattle.desk_ops.specs.declared.op.Style.{Style}
@@ -48,17 +49,20 @@ symbol_of style c = if c == 32 then space else record { style = style; ch = c }
 
 -- a character that stands for itself
 abbrev pub taken : Style → Place → ℕ → Step
-taken style here c = if is_symbol (symbol_of style c) then Ok (Within style, Some (symbol_of style c)) else Err (fault here causes.Symbol)
+taken style here c = if is_symbol (symbol_of style c) then Ok (Within style, Some (symbol_of style c)) else Err
+    (fault here causes.Symbol)
 
 -- a mark closes its own style, opens it in Roman, and may not stand in the other
 abbrev pub turned : Style → Style → Place → Step
 turned mark style here =
-    if same_style style mark then Ok (Within Roman, None) else (if same_style style Roman then Ok (Within mark, None) else Err (fault here causes.Inside))
+    if same_style style mark then Ok (Within Roman, None) else
+    (if same_style style Roman then Ok (Within mark, None) else Err (fault here causes.Inside))
 
 unfoldable pub marked : Style → Place → ℕ → Step
 marked style here c =
     if c == 92 then Ok (Escape style here, None)
-    else (if c == 95 then turned Italic style here else (if c == 94 then turned SmallCap style here else taken style here c))
+    else (if c == 95 then turned Italic style here else
+    (if c == 94 then turned SmallCap style here else taken style here c))
 
 -- a carriage return is dropped before a line feed, and else no symbol; where all is plain, marks stand for themselves
 unfoldable pub step : Bool → State → Place → ℕ → Step
@@ -74,12 +78,14 @@ start = record { line = 1; column = 1 }
 
 -- the place behind a character
 abbrev pub after : Place → ℕ → Place
-after here c = if c == 10 then record { line = here.line + 1; column = 1 } else record { line = here.line; column = here.column + 1 }
+after here c = if c == 10 then record { line = here.line + 1; column = 1 } else record
+    { line = here.line; column = here.column + 1 }
 
 -- at the end, where the bytes that follow, if the text is not whole, are no UTF-8
 abbrev pub ends : Bool → State → Place → Result (Unit {0}) TextFault
 ends whole (Within style) here =
-    if whole then (if same_style style Roman then Ok tt else Err (fault here causes.Unclosed)) else Err (fault here causes.Encoding)
+    if whole then (if same_style style Roman then Ok tt else Err (fault here causes.Unclosed)) else Err
+    (fault here causes.Encoding)
 ends whole (Escape style back) here = Err (fault back causes.Escape)
 ends whole (Return style back) here = Err (fault back causes.Symbol)
 

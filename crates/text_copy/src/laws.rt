@@ -18,8 +18,8 @@ pub fn reading_goes_by_grammar()
     ensures { ReadIsGrammar }
 {}
 
-/// A text that is written out has neither a control character nor a directional mark, and one that has none is itself. So
-/// it is with a lawful copy as it is shown.
+/// A text that is written out has neither a control character nor a directional mark, and one that has none is itself.
+/// So it is with a lawful copy as it is shown.
 pub fn what_is_shown_is_plain()
     ensures text { TextIsPlain }
     ensures copy { CopyIsPlain }

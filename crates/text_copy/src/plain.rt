@@ -2,7 +2,8 @@
 
 ghost use Rattle.std.specs.Prelude.{◌≡◌, ◌++◌, IfOk, OnOk, map, string_bytes};
 ghost use Rattle.std.specs.Str.{encode_utf8_all};
-ghost use Rattle.text_copy.specs.Plain.{all_shown, capital, control_name, digit, directional_name, in_style, is_control, is_directional, plain_text, shown, written_out};
+ghost use Rattle.text_copy.specs.Plain.{all_shown, capital, control_name, digit, directional_name, in_style};
+ghost use Rattle.text_copy.specs.Plain.{is_control, is_directional, plain_text, shown, written_out};
 
 use desk_ops::{Style, Symbol};
 use std::alloc::{AllocError, Allocator};
@@ -148,8 +149,8 @@ fn push_shown<A: Allocator + Copy>(
     Ok(())
 }
 
-/// Symbols as they are shown to a person: the end of a line as a space, a directional mark by its name in its style, and
-/// any other symbol as it is.
+/// Symbols as they are shown to a person: the end of a line as a space, a directional mark by its name in its style,
+/// and any other symbol as it is.
 pub fn all_shown<A: Allocator + Copy>(
     alloc: A,
     symbols: &[Symbol],

@@ -5,7 +5,8 @@ ghost use Rattle.std.specs.Str.{chars};
 ghost use Rattle.desk_ops.specs.declared.op.Style.TheVariants.{Roman};
 ghost use Rattle.text_copy.specs.declared.reader.State.TheVariants.{Within};
 ghost use Rattle.text_copy.specs.Laws.{AreLawful};
-ghost use Rattle.text_copy.specs.Reading.{Gives, fault, line_end, taken, turned, marked, step, after, ends, start, read_from, reading};
+ghost use Rattle.text_copy.specs.Reading.{Gives, fault, line_end, taken, turned, marked, step, after, ends, start};
+ghost use Rattle.text_copy.specs.Reading.{read_from, reading};
 
 use crate::fault::{Cause, Place, TextFault};
 use crate::marks::{is_mark, is_same};
@@ -201,10 +202,10 @@ fn read_bytes<A: Allocator + Copy>(
     }
 }
 
-/// The copy that a text in UTF-8 is, or its first fault from the left. `_` opens and closes italics, `^` small capitals; a
-/// backslash stands before each of `_`, `^` and a backslash where it is itself. A space inside a style is Roman; the end
-/// of a line inside a style is a fault, and so is a mark inside the other style. A carriage return before a line feed is
-/// dropped. A plain text has no marks and no backslashes: each of its characters is Roman.
+/// The copy that a text in UTF-8 is, or its first fault from the left. `_` opens and closes italics, `^` small
+/// capitals; a backslash stands before each of `_`, `^` and a backslash where it is itself. A space inside a style is
+/// Roman; the end of a line inside a style is a fault, and so is a mark inside the other style. A carriage return
+/// before a line feed is dropped. A plain text has no marks and no backslashes: each of its characters is Roman.
 pub fn read_text<A: Allocator + Copy>(
     alloc: A,
     bytes: &[u8],

@@ -32,7 +32,8 @@ abbrev pub no_terms : CaseValues → WedgeValues → Result Values Key → List 
 no_terms case wedge (Err key) = MissingSetting key ∷ []
 no_terms case wedge (Ok values) = terms_fault (terms_of case wedge values) values
 
--- There is no galley for this fault of the settings, the case and the wedge; out of memory comes only where there is none.
+-- There is no galley for this fault of the settings, the case and the wedge; out of memory comes only where there is
+-- none.
 abbrev pub IsOfTerms : GalleyRefusal → List JobFault → Type 0
 IsOfTerms (refusal.Fault fault) found = found ≡ fault ∷ []
 IsOfTerms refusal.NoMemory found = found ≡ []

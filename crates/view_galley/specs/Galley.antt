@@ -1,5 +1,6 @@
 -- The lines of a copy, one by one.
-use Rattle.std.specs.Prelude.{◌≡◌, ℕ, suc, ◌+◌, ◌-◌, ◌≤◌, Bool, not, ◌||◌, ◌==◌, pos, List, [], ◌∷◌, ◌++◌, length, drop, Option, Ok, IfSome, option_and_then}
+use Rattle.std.specs.Prelude.{◌≡◌, ℕ, suc, ◌+◌, ◌-◌, ◌≤◌, Bool, not, ◌||◌, ◌==◌, pos, List, [], ◌∷◌, ◌++◌, length, drop}
+use Rattle.std.specs.Prelude.{Option, Ok, IfSome, option_and_then}
 use Rattle.std.specs.List.{All, flat_map}
 use Rattle.desk_ops.specs.declared.op.Symbol.{Symbol}
 use Rattle.desk_ops.specs.declared.op.Key.{Key}
@@ -13,7 +14,8 @@ use Rattle.desk_ribbon.specs.declared.Punch.{Punch}
 use Rattle.desk_signals.specs.declared.RibbonRow.{RibbonRow}
 use Rattle.desk_units.specs.WedgeSum.{pair_of}
 use Rattle.desk_job.specs.declared.JobFault.{JobFault}
-use Rattle.desk_job.specs.Job.{Terms, measure, tight_space, widths, lacking, terms_of, terms_fault, values_of as given_values, line_punches, rows_at, or_faults}
+use Rattle.desk_job.specs.Job.{Terms, measure, tight_space, widths, lacking, terms_of, terms_fault}
+use Rattle.desk_job.specs.Job.{values_of as given_values, line_punches, rows_at, or_faults}
 use Rattle.desk_job.specs.Making.{group_words}
 use Rattle.desk_job.specs.Setting.{IsWord, words_at}
 use Rattle.view_galley.specs.Line.{Placed, values_of}
@@ -52,7 +54,8 @@ abbrev pub with_lines : Terms → List Symbol → List LineValues → List Place
 with_lines terms copy done more = done ++ numbered terms copy (length done + 1) more
 
 -- the galley of a copy, by settings that have values and go with the case and the wedge
-pub record IsGalley (copy : List Symbol) (settings : Key → Option ℕ) (case : CaseValues) (wedge : WedgeValues) (galley : GalleyValues) : Type 0 where
+pub record IsGalley (copy : List Symbol) (settings : Key
+    → Option ℕ) (case : CaseValues) (wedge : WedgeValues) (galley : GalleyValues) : Type 0 where
   pub wedge_is : galley.wedge ≡ wedge
   pub given : given_values settings ≡ Ok galley.values
   pub terms : galley.terms ≡ terms_of case wedge galley.values

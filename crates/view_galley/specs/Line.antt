@@ -1,9 +1,11 @@
 -- What is known of a line by the definitions of the job.
-use Rattle.std.specs.Prelude.{ℕ, ◌+◌, ◌*◌, Bool, ◌==◌, ℤ, pos, ◌+ℤ◌, ◌-ℤ◌, List, [], ◌∷◌, Option, Some, None, if◌then◌else◌, sum_by}
+use Rattle.std.specs.Prelude.{ℕ, ◌+◌, ◌*◌, Bool, ◌==◌, ℤ, pos, ◌+ℤ◌, ◌-ℤ◌, List, [], ◌∷◌, Option, Some, None}
+use Rattle.std.specs.Prelude.{if◌then◌else◌, sum_by}
 use Rattle.desk_ops.specs.declared.op.Symbol.{Symbol}
 use Rattle.desk_lines.specs.declared.words.Word.{Word}
 use Rattle.desk_lines.specs.Groups.{group_width}
-use Rattle.desk_job.specs.Job.{Terms, SetLine, measure, widths, word_width, space_width, tight_space, has_added, spaces, rest, fills, wedge_sum, line_fault}
+use Rattle.desk_job.specs.Job.{Terms, SetLine, measure, widths, word_width, space_width, tight_space, has_added, spaces}
+use Rattle.desk_job.specs.Job.{rest, fills, wedge_sum, line_fault}
 use Rattle.desk_job.specs.Setting.{line_at, words_at}
 use Rattle.view_galley.specs.Values.{LineValues}
 use Rattle.view_galley.specs.declared.line.Next.{Next}

@@ -8,7 +8,8 @@ ghost use Rattle.desk_job.specs.Job as job;
 ghost use Rattle.desk_job.specs.Making.{AreWordsOf, IsRange};
 ghost use Rattle.desk_job.specs.Setting.{IsWord, words_at};
 ghost use Rattle.view_galley.specs.Answer.{IsOfTerms, IsRefused, no_terms, rows_of_galley};
-ghost use Rattle.view_galley.specs.Galley.{IsGalley, Stands, all_placed, galley_faults, galley_of, placed_at, placed_in, with_lines};
+ghost use Rattle.view_galley.specs.Galley.{IsGalley, Stands, all_placed, galley_faults, galley_of, placed_at};
+ghost use Rattle.view_galley.specs.Galley.{placed_in, with_lines};
 ghost use Rattle.desk_job.specs.declared.JobFault.TheVariants.{MissingSetting};
 ghost use Rattle.view_galley.specs.declared.galley.GalleyRefusal.TheVariants as refusal;
 

@@ -1,6 +1,7 @@
 //! A line as it is set, or as it fails.
 
-ghost use Rattle.std.specs.Prelude.{◌≡◌, ◌+◌, ◌-◌, ◌*◌, ◌≤◌, ◌^◌, pos, ◌+ℤ◌, ◌-ℤ◌, ◌*ℤ◌, ◌≤ℤ◌, int_lt, length, drop, option_and_then, IfOk};
+ghost use Rattle.std.specs.Prelude.{◌≡◌, ◌+◌, ◌-◌, ◌*◌, ◌≤◌, ◌^◌, pos, ◌+ℤ◌, ◌-ℤ◌, ◌*ℤ◌, ◌≤ℤ◌, int_lt, length, drop};
+ghost use Rattle.std.specs.Prelude.{option_and_then, IfOk};
 ghost use Rattle.std.specs.Option.{option_to_list};
 ghost use Rattle.desk_lines.specs.Groups.{AreWidths};
 ghost use Rattle.desk_lines.specs.Words.{most_words};
@@ -131,8 +132,8 @@ impl<A: Allocator> Line<A> {
         self.fills.as_slice()
     }
 
-    /// The wedge sum at which its spaces take up what is left, also where the wedges do not reach it; none where the line
-    /// has no space.
+    /// The wedge sum at which its spaces take up what is left, also where the wedges do not reach it; none where the
+    /// line has no space.
     pub fn wedge_sum(&self) -> Option<i64>
         ensures { result ≡ self.now.wedge_sum }
     {

@@ -4,8 +4,8 @@ use Rattle.desk_ops.specs.declared.op.Symbol.{Symbol}
 use Rattle.desk_ops.specs.declared.fault.CopyFault.{CopyFault}
 use Rattle.view_proof.specs.declared.reasons.NoGalley.{NoGalley}
 use Rattle.view_galley.specs.Values.{GalleyValues}
-use Rattle.desk_outputs.specs.Kinds.{kind_of}
-use Rattle.desk_outputs.specs.declared.kinds.Kind.TheVariants as kinds
+use Rattle.feed_files.specs.Kinds.{kind_of}
+use Rattle.feed_files.specs.declared.kinds.Kind.TheVariants as kinds
 use Rattle.view_picture.specs.Picture.{no_galley_picture, picture_text}
 
 -- the picture of a galley is a picture by its first bytes

@@ -7,13 +7,13 @@ use Rattle.desk_case.specs.Case.{CaseValues}
 use Rattle.desk_wedge.specs.Wedge.{WedgeValues}
 use Rattle.desk_replica.specs.declared.settings.Settings.{Settings}
 use Rattle.desk_job.specs.declared.JobFault.{JobFault}
-use Rattle.desk_trial.specs.Trial.{tried}
+use Rattle.view_punch.specs.Trial.{tried}
 use Rattle.view_galley.specs.Values.{GalleyValues}
 use Rattle.view_galley.specs.Galley.{IsGalley}
 use Rattle.feed_files.specs.Files.{IsReplaced, Shelf, Stays}
-use Rattle.desk_outputs.specs.Outputs.{Destination, GivesWay, IsNotPut}
-use Rattle.desk_outputs.specs.declared.fault.OutputFault.{OutputFault}
-use Rattle.desk_outputs.specs.declared.kinds.Kind.TheVariants as kinds
+use Rattle.feed_files.specs.Outputs.{Destination, GivesWay, IsNotPut}
+use Rattle.feed_files.specs.declared.output_fault.OutputFault.{OutputFault}
+use Rattle.feed_files.specs.declared.kinds.Kind.TheVariants as kinds
 use Rattle.view_punch.specs.Proofing.{LacksGalley, reason_of}
 use Rattle.view_punch.specs.Punching.{of_output}
 use Rattle.view_punch.specs.Sources.{AreRefused, Give, GiveAll, Sources, of_sources}

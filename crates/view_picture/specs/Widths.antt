@@ -1,5 +1,6 @@
 -- The widths of a line as it is drawn, in atoms.
-use Rattle.std.specs.Prelude.{ℕ, ◌+◌, ◌-◌, ◌*◌, max, true, ℤ, pos, negsuc, List, [], ◌∷◌, Option, Some, None, option_and_then}
+use Rattle.std.specs.Prelude.{ℕ, ◌+◌, ◌-◌, ◌*◌, max, true, ℤ, pos, negsuc, List, [], ◌∷◌, Option, Some, None}
+use Rattle.std.specs.Prelude.{option_and_then}
 use Rattle.desk_units.specs.WedgeSum.{pair_of, sum_at}
 use Rattle.desk_caster.specs.Caster.{cast_width}
 use Rattle.desk_job.specs.Job.{Terms, measure, space_width}

@@ -1,7 +1,8 @@
 //! What stands above the galley: the faults of the copy, the head, and the symbols that the case lacks.
 
 ghost use Rattle.std.specs.Prelude.{◌≡◌, ◌+◌, ◌++◌, ◌≤◌, ◌<◌, ◌^◌, length, OnOk, Some, slice_get, string_bytes};
-ghost use Rattle.view_picture.specs.Heads.{copy_fault, copy_faults, head, head_count, head_y, heads_text, lack, lacking_at, lacking_of, lacks, name_if, name_text};
+ghost use Rattle.view_picture.specs.Heads.{copy_fault, copy_faults, head, head_count, head_y, heads_text, lack};
+ghost use Rattle.view_picture.specs.Heads.{lacking_at, lacking_of, lacks, name_if, name_text};
 
 use crate::lines::put_text_at;
 use desk_job::JobFault;

@@ -3,7 +3,8 @@
 ghost use Rattle.std.specs.Prelude.{◌≡◌, ◌+◌, ◌++◌, ◌≤◌, ◌^◌, length, All, IfOk, OnOk, string_bytes};
 ghost use Rattle.desk_lines.specs.Words.{most_symbols};
 ghost use Rattle.view_galley.specs.Galley.{Stands};
-ghost use Rattle.view_picture.specs.Lines.{class_of, fault_text, line_at, line_boxes, line_text, line_words, lines_text, margin_text, number_text, text_at, words_at, words_end};
+ghost use Rattle.view_picture.specs.Lines.{class_of, fault_text, line_at, line_boxes, line_text, line_words};
+ghost use Rattle.view_picture.specs.Lines.{lines_text, margin_text, number_text, text_at, words_at, words_end};
 
 use crate::boxes::put_fills;
 use crate::paper::{Paper, across, foot};

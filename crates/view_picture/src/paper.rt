@@ -10,8 +10,8 @@ use view_proof::Scale;
 /// Where the frame begins, from the left.
 pub const EDGE: u128 = 10_000;
 
-/// What a galley is drawn by: the pica and the limits of a wedge sum; the set of the wedge; and where the frame begins, from
-/// the top.
+/// What a galley is drawn by: the pica and the limits of a wedge sum; the set of the wedge; and where the frame begins,
+/// from the top.
 #[derive(Clone, Copy, PartialEq, Eq, Debug)]
 pub struct Paper {
     pub scale: Scale,

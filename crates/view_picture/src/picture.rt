@@ -3,8 +3,10 @@
 ghost use Rattle.std.specs.Prelude.{◌≡◌, ◌+◌, ◌*◌, ◌++◌, ◌≤◌, ◌^◌, length, All, OnOk, string_bytes};
 ghost use Rattle.desk_lines.specs.Words.{most_symbols};
 ghost use Rattle.view_galley.specs.Galley.{Stands};
-ghost use Rattle.view_picture.specs.Picture.{begin_text, frame_height, frame_text, galley_frame, galley_height, group_text};
-ghost use Rattle.view_picture.specs.Picture.{looks_text, no_galley_picture, page_height, page_text, page_width, paper_of};
+ghost use Rattle.view_picture.specs.Picture.{begin_text, frame_height, frame_text, galley_frame, galley_height};
+ghost use Rattle.view_picture.specs.Picture.{group_text};
+ghost use Rattle.view_picture.specs.Picture.{looks_text, no_galley_picture, page_height, page_text, page_width};
+ghost use Rattle.view_picture.specs.Picture.{paper_of};
 ghost use Rattle.view_picture.specs.Picture.{picture_on, picture_text, points_text, size_text, why_text, why_words};
 
 use crate::heads::{head_count, head_y, put_copy_faults, put_heads};

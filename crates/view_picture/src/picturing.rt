@@ -3,7 +3,7 @@
 ghost use Rattle.std.specs.Prelude.{◌≡◌, ◌≤◌, length, All, IfErr, IfOk, OnOk, string_bytes};
 ghost use Rattle.feed_files.specs.Files.{HoldsOn};
 ghost use Rattle.desk_lines.specs.Words.{most_symbols};
-ghost use Rattle.desk_outputs.specs.Outputs.{destination};
+ghost use Rattle.feed_files.specs.Outputs.{destination};
 ghost use Rattle.view_galley.specs.Galley.{Stands};
 ghost use Rattle.desk_job.specs.Answer.{AreValues};
 ghost use Rattle.view_punch.specs.Sources.{sources};
@@ -13,18 +13,16 @@ ghost use Rattle.view_picture.specs.Picturing.{IsDrawn, IsPictured, IsUnpictured
 use crate::picture::{put_no_galley_picture, put_picture};
 use desk_blocks::Blocks;
 use desk_case::MatrixCase;
-use desk_inputs::Memory;
 use desk_memory::NoMemory;
 use desk_ops::{CopyFault, Symbol};
-use desk_outputs::{Kind, Target, store_over};
 use desk_replica::{Replica, Settings};
-use desk_trial::tried;
 use desk_wedge::Wedge;
-use feed_files::Files;
+use feed_files::{Files, Kind, Target, store_over};
+use script_answers::Memory;
 use std::alloc::Allocator;
 use view_galley::{Galley, GalleyRefusal, make_galley};
 use view_proof::{NoGalley, why_none};
-use view_punch::{PreviewFault, take_in};
+use view_punch::{PreviewFault, take_in, tried};
 
 /// The picture of a galley of a copy.
 fn picture_of<'a, A: Allocator + Copy>(
@@ -85,15 +83,11 @@ fn drawn_of<A: Allocator + Copy>(
 }
 
 /// Draws the galley of a stored feed by a case and a wedge, as `put_picture` does, and stores the picture under the
-/// name of
-/// a target; where there is no galley, a picture that says why. A line that can't be set is drawn with its fault, and no
-/// refusal. Settings that are tried count in place of the copy's, and are stored nowhere. No name is taken: a feed is
-/// stored
-/// by a rename, so what is read is a whole feed. Where a file that is no picture stands under the target, which is not
-/// forced,
-/// the fault is `Taken`. A target that is forced, and is the feed, the case or the wedge, is replaced as any other.
-/// After an
-/// `Err` the target has its old bytes.
+/// name of a target; where there is no galley, a picture that says why. A line that can't be set is drawn with its
+/// fault, and no refusal. Settings that are tried count in place of the copy's, and are stored nowhere. No name is
+/// taken: a feed is stored by a rename, so what is read is a whole feed. Where a file that is no picture stands under
+/// the target, which is not forced, the fault is `Taken`. A target that is forced, and is the feed, the case or the
+/// wedge, is replaced as any other. After an `Err` the target has its old bytes.
 pub fn picture_feed<F: Files, A: Allocator + Copy>(
     memory: Memory<A>,
     files: &mut F,

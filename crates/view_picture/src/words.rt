@@ -37,7 +37,8 @@ fn put_word<A: Allocator + Copy>(
     Ok(end)
 }
 
-/// Writes words from the edge of the frame on, with a space of this width after each, and returns where the last space ends.
+/// Writes words from the edge of the frame on, with a space of this width after each, and returns where the last space
+/// ends.
 pub fn put_words<A: Allocator + Copy>(
     out: &mut String<A>,
     terms: &Terms,

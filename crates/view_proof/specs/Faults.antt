@@ -1,5 +1,7 @@
 -- Faults at their text, and the way out in figures.
-use Rattle.std.specs.Prelude.{ℕ, ◌+◌, ◌-◌, ◌^◌, Bool, true, false, ◌==◌, ℤ, pos, ◌-ℤ◌, int_le, int_lt, unsigned_abs, min, List, [], ◌∷◌, ◌++◌, length, take, drop, slice_get, Option, Some, None, codes, if◌then◌else◌}
+use Rattle.std.specs.Prelude.{ℕ, ◌+◌, ◌-◌, ◌^◌, Bool, true, false, ◌==◌, ℤ, pos, ◌-ℤ◌, int_le, int_lt, unsigned_abs}
+use Rattle.std.specs.Prelude.{min, List, [], ◌∷◌, ◌++◌, length, take, drop, slice_get, Option, Some, None, codes}
+use Rattle.std.specs.Prelude.{if◌then◌else◌}
 use Rattle.std.specs.Fmt.{decimal, digits, format_spec, padded_integral}
 use Rattle.desk_ops.specs.declared.op.Key.{Key}
 use Rattle.desk_ops.specs.declared.op.Key.TheVariants as keys

@@ -1,5 +1,6 @@
 -- A line of a galley as text, with its figures.
-use Rattle.std.specs.Prelude.{ℕ, ◌-◌, ◌*◌, ◌/◌, Bool, true, false, ℤ, pos, int_le, int_lt, unsigned_abs, List, [], ◌∷◌, ◌++◌, Option, Some, None, IfSome, option_and_then, codes, if◌then◌else◌}
+use Rattle.std.specs.Prelude.{ℕ, ◌-◌, ◌*◌, ◌/◌, Bool, true, false, ℤ, pos, int_le, int_lt, unsigned_abs, List, [], ◌∷◌}
+use Rattle.std.specs.Prelude.{◌++◌, Option, Some, None, IfSome, option_and_then, codes, if◌then◌else◌}
 use Rattle.std.specs.Fmt.{decimal, signed_decimal}
 use Rattle.std.specs.Char.{encode_utf8}
 use Rattle.std.specs.List.{All}

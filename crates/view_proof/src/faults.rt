@@ -6,10 +6,14 @@ ghost use Rattle.desk_units.specs.WedgeSum.{greatest};
 ghost use Rattle.desk_job.specs.Setting.{IsWord};
 ghost use Rattle.view_proof.specs.Parts.{points_down, points_up};
 ghost use Rattle.view_proof.specs.Lines.{HasWords};
-ghost use Rattle.view_proof.specs.Faults.{cause_and_limits, cause_text, copy_fault_text, copy_faults_text, fault_if_any};
-ghost use Rattle.view_proof.specs.Faults.{fault_text, filling_text, free_text, is_loose, lead_text, limit_text, limits_text};
-ghost use Rattle.view_proof.specs.Faults.{line_faults_text, lone_text, meaning_text, missing_text, next_text, next_word_text};
-ghost use Rattle.view_proof.specs.Faults.{over_text, places_text, rest_text, shorter_text, shown_text, spaced_text, spaces_text};
+ghost use Rattle.view_proof.specs.Faults.{cause_and_limits, cause_text, copy_fault_text, copy_faults_text};
+ghost use Rattle.view_proof.specs.Faults.{fault_if_any};
+ghost use Rattle.view_proof.specs.Faults.{fault_text, filling_text, free_text, is_loose, lead_text, limit_text};
+ghost use Rattle.view_proof.specs.Faults.{limits_text};
+ghost use Rattle.view_proof.specs.Faults.{line_faults_text, lone_text, meaning_text, missing_text, next_text};
+ghost use Rattle.view_proof.specs.Faults.{next_word_text};
+ghost use Rattle.view_proof.specs.Faults.{over_text, places_text, rest_text, shorter_text, shown_text, spaced_text};
+ghost use Rattle.view_proof.specs.Faults.{spaces_text};
 ghost use Rattle.view_proof.specs.Faults.{title_text, too_wide_text, way_line, way_text, wider_text};
 
 use crate::lines::{put_set, put_sum};

@@ -1,7 +1,8 @@
 //! Symbols that the case lacks, at their text.
 
 ghost use Rattle.std.specs.Prelude.{◌≡◌, ◌++◌, ◌<◌, length, OnOk, Some, slice_get, string_bytes};
-ghost use Rattle.view_proof.specs.Faults.{around_text, at_text, code_text, lack_text, lack_title, lacking_fault_text, lacking_text, name_text, style_text};
+ghost use Rattle.view_proof.specs.Faults.{around_text, at_text, code_text, lack_text, lack_title, lacking_fault_text};
+ghost use Rattle.view_proof.specs.Faults.{lacking_text, name_text, style_text};
 
 use crate::marked::put_marked;
 use crate::parts::put_symbols;

@@ -2,7 +2,8 @@
 
 ghost use Rattle.std.specs.Prelude.{◌≡◌, ◌++◌, ◌≤◌, All, OnOk, option_and_then, string_bytes};
 ghost use Rattle.desk_job.specs.Setting.{IsWord};
-ghost use Rattle.view_proof.specs.Lines.{HasWords, above_hand, figures_text, gauge_text, hand, hand_text, mark_text, pair_text, place_between, line_text, lines_text, set_text, sum_text};
+ghost use Rattle.view_proof.specs.Lines.{HasWords, above_hand, figures_text, gauge_text, hand, hand_text, mark_text};
+ghost use Rattle.view_proof.specs.Lines.{pair_text, place_between, line_text, lines_text, set_text, sum_text};
 ghost use Rattle.view_proof.specs.Parts.{right};
 
 use crate::marked::put_words;

@@ -2,7 +2,8 @@
 
 ghost use Rattle.std.specs.Prelude.{◌≡◌, [], ◌∷◌, ◌++◌, ◌≤◌, ◌^◌, OnOk, string_bytes};
 ghost use Rattle.std.specs.Fmt.{decimal};
-ghost use Rattle.view_proof.specs.Parts.{begin_of, dots_text, end_of, fills_text, has_fills, left, many, points_down, points_up, right, symbols_text, tenths_text};
+ghost use Rattle.view_proof.specs.Parts.{begin_of, dots_text, end_of, fills_text, has_fills, left, many, points_down};
+ghost use Rattle.view_proof.specs.Parts.{points_up, right, symbols_text, tenths_text};
 
 use desk_lines::Word;
 use desk_ops::Symbol;

@@ -2,7 +2,8 @@
 
 ghost use Rattle.std.specs.Prelude.{◌≡◌, ◌++◌, All, OnOk, string_bytes};
 ghost use Rattle.view_proof.specs.Lines.{HasWords, columns_text};
-ghost use Rattle.view_proof.specs.Proof.{body_text, counts_text, faulty_lines, head_text, head_words, no_galley_text, proof_text, scale_of, sorts_text, values_text, whole_text};
+ghost use Rattle.view_proof.specs.Proof.{body_text, counts_text, faulty_lines, head_text, head_words, no_galley_text};
+ghost use Rattle.view_proof.specs.Proof.{proof_text, scale_of, sorts_text, values_text, whole_text};
 
 use crate::faults::{put_copy_faults, put_line_faults};
 use crate::lacking::put_lacking;
@@ -139,10 +140,9 @@ fn put_body<'a, A: Allocator + Copy>(
     }
 }
 
-/// Writes a galley of a copy as text at the end, and the faults of the copy, which mean that a correction is not
-/// shown. They
-/// stand above all; then the head, the symbols that the case lacks, each line where it is wanted, and the faults of lines.
-/// Widths are written in points to a tenth, what is free rounded down, what is too much rounded up.
+/// Writes a galley of a copy as text at the end, and the faults of the copy, which mean that a correction is not shown.
+/// They stand above all; then the head, the symbols that the case lacks, each line where it is wanted, and the faults
+/// of lines. Widths are written in points to a tenth, what is free rounded down, what is too much rounded up.
 pub fn put_proof<'a, A: Allocator + Copy>(
     out: &mut String<A>,
     copy: &[Symbol],

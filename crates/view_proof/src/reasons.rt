@@ -2,7 +2,8 @@
 
 ghost use Rattle.std.specs.Prelude.{◌≡◌, ◌++◌, IfOk, OnOk, string_bytes};
 ghost use Rattle.desk_job.specs.Answer.{by_key};
-ghost use Rattle.view_proof.specs.Reasons.{before_name, has_text, is_text, missing, missing_if, missing_text, more_names};
+ghost use Rattle.view_proof.specs.Reasons.{before_name, has_text, is_text, missing, missing_if, missing_text};
+ghost use Rattle.view_proof.specs.Reasons.{more_names};
 ghost use Rattle.view_proof.specs.Reasons.{number_text, numbers_text, one_text, other_number, other_of, other_text};
 ghost use Rattle.view_proof.specs.Reasons.{reason_text, set_text, several_text, why_none};
 
@@ -134,8 +135,8 @@ fn other_of(values: Values, case: &MatrixCase, wedge: &Wedge) -> Option<OtherNum
     None
 }
 
-/// The number of the case or of the wedge that is not that of its setting, where all settings have values: that of the case,
-/// where both are.
+/// The number of the case or of the wedge that is not that of its setting, where all settings have values: that of the
+/// case, where both are.
 pub fn other_number(settings: &Settings, case: &MatrixCase, wedge: &Wedge) -> Option<OtherNumber>
     ensures { result ≡ other_number (by_key settings.now) case.now wedge.now }
 {

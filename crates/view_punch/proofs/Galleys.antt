@@ -12,7 +12,7 @@ use Rattle.desk_replica.specs.declared.settings.Settings.{Settings}
 use Rattle.desk_job.specs.Answer.{by_key}
 use Rattle.desk_job.specs.Job.{job, values_of}
 use Rattle.desk_job.specs.declared.JobFault.{JobFault}
-use Rattle.desk_trial.specs.Trial.{tried, tried_with}
+use Rattle.view_punch.specs.Trial.{tried, tried_with}
 use Rattle.view_galley.specs.Answer.{no_terms}
 use Rattle.view_galley.specs.Galley.{IsGalley, Stands}
 use Rattle.view_galley.specs.Values.{GalleyValues, LineValues}

@@ -8,8 +8,8 @@ use Rattle.script_answers.specs.declared.failure.Failure.{Failure}
 use Rattle.script_answers.specs.declared.failure.Failure.TheVariants as failures
 use Rattle.feed_files.specs.Files.{Shelf, Stays}
 use Rattle.feed_edit.specs.Exporting.{IsSetOf}
-use Rattle.desk_inputs.specs.Inputs.{Answers, BothGive, BothLackMemory}
-use Rattle.desk_outputs.specs.Outputs.{Destination}
+use Rattle.script_answers.specs.Inputs.{Answers, BothGive, BothLackMemory}
+use Rattle.feed_files.specs.Outputs.{Destination}
 use Rattle.view_punch.specs.Punching.{IsUnpunched}
 use Rattle.view_punch.specs.Sources.{AreRefused, Sources, of_input, of_sources}
 use Rattle.view_punch.specs.declared.fault.SourcesFault.{SourcesFault}

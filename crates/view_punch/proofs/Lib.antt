@@ -1,3 +1,4 @@
 pub mod Gives
 pub mod Punches
 pub mod Galleys
+mod Turns

@@ -8,13 +8,13 @@ use Rattle.desk_job.specs.declared.JobFault.{JobFault}
 use Rattle.desk_ops.specs.OpSet.{OpSet}
 use Rattle.desk_case.specs.Case.{CaseValues}
 use Rattle.desk_wedge.specs.Wedge.{WedgeValues}
-use Rattle.desk_inputs.specs.Job.{job_of}
+use Rattle.script_answers.specs.Job.{job_of}
 use Rattle.feed_files.specs.Files.{Shelf}
 use Rattle.feed_edit.specs.Merging.{faults_line}
-use Rattle.desk_outputs.specs.Outputs.{Destination, IsNotPut}
-use Rattle.desk_outputs.specs.declared.fault.OutputFault.{OutputFault}
-use Rattle.desk_outputs.specs.declared.fault.OutputFault.TheVariants as outputs
-use Rattle.desk_outputs.specs.declared.kinds.Kind.TheVariants as kinds
+use Rattle.feed_files.specs.Outputs.{Destination, IsNotPut}
+use Rattle.feed_files.specs.declared.output_fault.OutputFault.{OutputFault}
+use Rattle.feed_files.specs.declared.output_fault.OutputFault.TheVariants as outputs
+use Rattle.feed_files.specs.declared.kinds.Kind.TheVariants as kinds
 use Rattle.view_punch.specs.Lines.{IsUnreported, job_line}
 use Rattle.view_punch.specs.Punching.{IsLetThrough, IsMadeOnly, IsStopped, IsUnpunched, missing_of, of_line, of_output, other_of}
 use Rattle.view_punch.specs.Sources.{Give, Sources}

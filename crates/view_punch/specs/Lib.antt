@@ -3,3 +3,4 @@ pub mod Sources
 pub mod Lines
 pub mod Punching
 pub mod Proofing
+pub mod Trial

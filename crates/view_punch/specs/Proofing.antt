@@ -20,7 +20,7 @@ use Rattle.feed_stored.specs.Sending.{WritesPrefix}
 use Rattle.desk_replica.specs.declared.settings.Settings.{Settings}
 use Rattle.desk_job.specs.Job.{job, values_of}
 use Rattle.desk_replica.specs.JobSettings.{settings_of}
-use Rattle.desk_trial.specs.Trial.{tried, tried_with}
+use Rattle.view_punch.specs.Trial.{tried, tried_with}
 use Rattle.view_punch.specs.Sources.{AreRefused, Give, GiveAll, Sources, of_sources}
 use Rattle.view_punch.specs.declared.fault.PreviewFault.{PreviewFault}
 use Rattle.view_punch.specs.declared.fault.PreviewFault.TheVariants as faults
@@ -73,7 +73,8 @@ abbrev pub IsProofed : Sources → Settings → Extent → Shelf → Option (Lis
 IsProofed from trial extent shelf before after clean = (reported : List ℕ)
     × IsProofOf from shelf trial extent reported clean × Appends before after reported
 
--- Why not all of it was written, and what was: nothing, where the sources give nothing, or memory ran out once they had given all; or a prefix, under Write.
+-- Why not all of it was written, and what was: nothing, where the sources give nothing, or memory ran out once they had
+-- given all; or a prefix, under Write.
 abbrev pub IsUnproofed : Sources → Settings → Extent → Shelf → Shelf → Option (List ℕ) → Option (List ℕ) → PreviewFault
     → Type 0
 IsUnproofed from trial extent first last before after fault =

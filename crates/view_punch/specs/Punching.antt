@@ -15,13 +15,13 @@ use Rattle.view_proof.specs.Reasons.{missing, other_number}
 use Rattle.view_proof.specs.declared.reasons.OtherNumber.{OtherNumber}
 use Rattle.view_punch.specs.Lines.{job_line}
 use Rattle.feed_files.specs.Files.{IsReplaced, Shelf, Stays}
-use Rattle.desk_outputs.specs.Outputs.{Destination, GivesWay, IsNotPut}
-use Rattle.desk_outputs.specs.declared.fault.OutputFault.{OutputFault}
-use Rattle.desk_outputs.specs.declared.fault.OutputFault.TheVariants as outputs
-use Rattle.desk_outputs.specs.declared.kinds.Kind.TheVariants as kinds
+use Rattle.feed_files.specs.Outputs.{Destination, GivesWay, IsNotPut}
+use Rattle.feed_files.specs.declared.output_fault.OutputFault.{OutputFault}
+use Rattle.feed_files.specs.declared.output_fault.OutputFault.TheVariants as outputs
+use Rattle.feed_files.specs.declared.kinds.Kind.TheVariants as kinds
 use Rattle.feed_stored.specs.Sending.{WritesPrefix}
 use Rattle.feed_edit.specs.Merging.{faults_line}
-use Rattle.desk_inputs.specs.Job.{job_of}
+use Rattle.script_answers.specs.Job.{job_of}
 use Rattle.view_punch.specs.Sources.{AreRefused, Give, LackMemory, Sources}
 use Rattle.view_punch.specs.declared.fault.LineFault.{LineFault}
 use Rattle.view_punch.specs.declared.fault.LineFault.TheVariants as lines
@@ -98,7 +98,8 @@ abbrev pub IsMadeOnly : Sources → Destination → Bool → Shelf → Shelf →
 IsMadeOnly from to faulty first last why = (rows : List RibbonRow) × IsJobOf from faulty first (Ok rows)
     × IsNotPut to kinds.Ribbon first last why
 
--- Why no ribbon was stored, and what was written. No file has changed but, where the ribbon was not stored, that of the writing.
+-- Why no ribbon was stored, and what was written. No file has changed but, where the ribbon was not stored, that of the
+-- writing.
 abbrev pub IsUnpunched : Sources → Destination → Bool → Shelf → Shelf → Option (List ℕ) → Option (List ℕ) → PreviewFault
     → Type 0
 IsUnpunched from to faulty first last before after (faults.Feed why) = (after ≡ before) × Stays first last

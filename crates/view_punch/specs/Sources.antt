@@ -7,7 +7,7 @@ use Rattle.script_answers.specs.declared.failure.Failure.{Failure}
 use Rattle.script_answers.specs.declared.failure.Failure.TheVariants as failures
 use Rattle.feed_files.specs.Files.{Shelf}
 use Rattle.feed_edit.specs.Exporting.{IsClosedBy, IsSetOf}
-use Rattle.desk_inputs.specs.Inputs.{BothGive, BothLackMemory}
+use Rattle.script_answers.specs.Inputs.{BothGive, BothLackMemory}
 use Rattle.view_punch.specs.declared.fault.PreviewFault.{PreviewFault}
 use Rattle.view_punch.specs.declared.fault.PreviewFault.TheVariants as faults
 use Rattle.view_punch.specs.declared.fault.SourcesFault.{SourcesFault}

@@ -8,9 +8,8 @@ ghost use Rattle.view_punch.specs.declared.fault.PreviewFault.TheVariants as fau
 ghost use Rattle.view_punch.specs.declared.fault.SourcesFault.TheVariants as refusals;
 
 use desk_memory::NoMemory;
-use desk_outputs::{Kind, OutputFault};
 use feed_edit::FeedTrouble;
-use feed_files::FileRefusal;
+use feed_files::{FileRefusal, Kind, OutputFault};
 use feed_stored::Unsent;
 use script_answers::{Failure, Refusal};
 use thiserror::Error;

@@ -10,16 +10,16 @@ ghost use Rattle.view_punch.specs.Sources.{sources};
 
 use crate::fault::PreviewFault;
 use crate::sources::take_in;
+use crate::tried;
 use desk_blocks::Blocks;
 use desk_case::MatrixCase;
-use desk_inputs::Memory;
 use desk_memory::NoMemory;
 use desk_ops::{CopyFault, Symbol};
 use desk_replica::{Replica, Settings};
-use desk_trial::tried;
 use desk_wedge::Wedge;
 use feed_files::Files;
 use feed_stored::write_out;
+use script_answers::Memory;
 use std::alloc::Allocator;
 use std::io::Write;
 use view_galley::{Galley, GalleyRefusal, Line, make_galley};
@@ -104,12 +104,10 @@ fn reported_of<A: Allocator + Copy>(
 }
 
 /// Writes the proof of a stored feed by a case and a wedge: the faults of its copy, and its galley as text, as
-/// `view_proof`
-/// writes it; or why there is no galley. It is true exactly where no fault stands at all: no correction is missing, the case
-/// has every symbol, and each line is set. Settings that are tried count in place of the copy's, and are stored nowhere; where none is
-/// tried it is the galley that would be cast. No name is taken, and no file changes. A refusal of the feed, the case
-/// or the
-/// wedge, or of memory, comes before anything is written.
+/// `view_proof` writes it; or why there is no galley. It is true exactly where no fault stands at all: no correction is
+/// missing, the case has every symbol, and each line is set. Settings that are tried count in place of the copy's, and
+/// are stored nowhere; where none is tried it is the galley that would be cast. No name is taken, and no file changes.
+/// A refusal of the feed, the case or the wedge, or of memory, comes before anything is written.
 pub fn proof_feed<W: Write, F: Files, A: Allocator + Copy>(
     memory: Memory<A>,
     writer: &mut W,

@@ -2,7 +2,7 @@
 
 ghost use Rattle.std.specs.Prelude.{◌≡◌, IfErr, OnOk};
 ghost use Rattle.feed_files.specs.Files.{HoldsOn};
-ghost use Rattle.desk_outputs.specs.Outputs.{destination};
+ghost use Rattle.feed_files.specs.Outputs.{destination};
 ghost use Rattle.view_punch.specs.Punching.{IsLetThrough, IsPunched, IsStopped, IsUnpunched};
 ghost use Rattle.view_punch.specs.Sources.{sources};
 
@@ -10,18 +10,16 @@ use crate::fault::PreviewFault;
 use crate::job_line::{report, report_job};
 use crate::sources::take_in;
 use desk_blocks::Blocks;
-use desk_inputs::Memory;
 use desk_job::{JobRefusal, make};
-use desk_outputs::{Kind, Target, store_over};
 use desk_replica::Replica;
-use feed_files::Files;
-use script_answers::Reply;
+use feed_files::{Files, Kind, Target, store_over};
+use script_answers::{Memory, Reply};
 use std::alloc::Allocator;
 use std::io::Write;
 use view_proof::other_number;
 
-/// Lets the copy of a replica through where it has no fault, or where faults are let through. Else the line that the command
-/// `faults` has for them is written, and the fault is `CopyFaults`, or another where that line is not written.
+/// Lets the copy of a replica through where it has no fault, or where faults are let through. Else the line that the
+/// command `faults` has for them is written, and the fault is `CopyFaults`, or another where that line is not written.
 fn let_through<W: Write, A: Allocator + Copy>(
     alloc: A,
     writer: &mut W,
@@ -44,17 +42,13 @@ fn let_through<W: Write, A: Allocator + Copy>(
 }
 
 /// Makes the ribbon of a stored feed by a case and a wedge, and stores it under the name of a target; nothing is
-/// written
-/// then. Where the copy has faults, and these are not let through as `faulty`, the line that the command `faults` has
-/// for them
-/// is written, and the fault is `CopyFaults`. Else, where the job has faults, the line that the command `ribbon` has for them is
-/// written, with all the settings that are missing, and the fault is `Faulty`, with the number that is another, if one
-/// is. It
-/// is another where such a line is not written. No file changes then, nor where a file that is no ribbon stands under the
-/// target, which is not forced: the fault is `Taken` then. No name is taken: a feed is stored by a rename, so what is
-/// read is a
-/// whole feed, and so is the ribbon. A target that is forced, and is the feed, the case or the wedge, is replaced as
-/// any other.
+/// written then. Where the copy has faults, and these are not let through as `faulty`, the line that the command
+/// `faults` has for them is written, and the fault is `CopyFaults`. Else, where the job has faults, the line that the
+/// command `ribbon` has for them is written, with all the settings that are missing, and the fault is `Faulty`, with
+/// the number that is another, if one is. It is another where such a line is not written. No file changes then, nor
+/// where a file that is no ribbon stands under the target, which is not forced: the fault is `Taken` then. No name is
+/// taken: a feed is stored by a rename, so what is read is a whole feed, and so is the ribbon. A target that is forced,
+/// and is the feed, the case or the wedge, is replaced as any other.
 pub fn punch_feed<W: Write, F: Files, A: Allocator + Copy>(
     memory: Memory<A>,
     writer: &mut W,

@@ -7,15 +7,16 @@ ghost use Rattle.view_punch.specs.Sources.{AreRefused, Give, sources};
 use crate::fault::SourcesFault;
 use desk_blocks::Blocks;
 use desk_case::MatrixCase;
-use desk_inputs::{Memory, both};
 use desk_replica::Replica;
 use desk_wedge::Wedge;
 use feed_edit::open_feed;
 use feed_files::Files;
+use script_answers::{Memory, both};
 use std::alloc::Allocator;
 
-/// Opens the feed of a file, and reads a case and a wedge. No name is taken, and no file changes. `NoMemory` comes only where
-/// the device did not fail in the call, the feed was opened, and the case, where the wedge was read, was not refused.
+/// Opens the feed of a file, and reads a case and a wedge. No name is taken, and no file changes. `NoMemory` comes only
+/// where the device did not fail in the call, the feed was opened, and the case, where the wedge was read, was not
+/// refused.
 pub fn take_in<F: Files, A: Allocator + Copy>(
     memory: Memory<A>,
     files: &mut F,

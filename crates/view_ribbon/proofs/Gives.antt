@@ -8,7 +8,7 @@ use Rattle.script_answers.specs.declared.failure.Failure.TheVariants as failures
 use Rattle.feed_files.specs.Files.{IsCounted, Reads, Shelf, Stays}
 use Rattle.feed_files.specs.declared.files.FileRefusal.{FileRefusal}
 use Rattle.feed_files.specs.declared.files.FileRefusal.TheVariants as files
-use Rattle.desk_inputs.specs.Inputs.{Answers, BothGive, BothLackMemory}
+use Rattle.script_answers.specs.Inputs.{Answers, BothGive, BothLackMemory}
 use Rattle.feed_files.proofs.Shelves.{same_shelf}
 use Rattle.view_ribbon.specs.Sources.{AreRefused, Sources, of_input, of_ribbon}
 

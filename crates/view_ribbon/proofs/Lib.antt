@@ -1,2 +1,3 @@
 pub mod Reportings
 pub mod Gives
+pub mod Texts

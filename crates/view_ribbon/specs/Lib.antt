@@ -3,3 +3,8 @@ pub mod Faults
 pub mod Reported
 pub mod Sources
 pub mod Reading
+pub mod Parts
+pub mod Channels
+pub mod Rows
+pub mod Picture
+pub mod Drawing

@@ -22,7 +22,8 @@ abbrev pub IsRead : Sources → Shelf → Option (List ℕ) → Option (List ℕ
 IsRead from shelf before after whole = (reported : List ℕ) × IsReadingOf from shelf reported whole
     × Appends before after reported
 
--- Why not all of it was written, and what was: nothing, where the sources give nothing, or memory ran out once they had given all; or a prefix, under Write.
+-- Why not all of it was written, and what was: nothing, where the sources give nothing, or memory ran out once they had
+-- given all; or a prefix, under Write.
 abbrev pub IsUnread : Sources → Shelf → Shelf → Option (List ℕ) → Option (List ℕ) → ReadingFault → Type 0
 IsUnread from first last before after fault =
     ((after ≡ before) × (why : SourcesFault) × (fault ≡ of_sources why) × AreRefused from first last why)

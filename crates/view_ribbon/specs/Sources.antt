@@ -7,7 +7,7 @@ use Rattle.script_answers.specs.declared.failure.Failure.TheVariants as failures
 use Rattle.feed_files.specs.Files.{IsCounted, Reads, Shelf}
 use Rattle.feed_files.specs.declared.files.FileRefusal.{FileRefusal}
 use Rattle.feed_files.specs.declared.files.FileRefusal.TheVariants as files
-use Rattle.desk_inputs.specs.Inputs.{BothGive, BothLackMemory}
+use Rattle.script_answers.specs.Inputs.{BothGive, BothLackMemory}
 use Rattle.view_ribbon.specs.declared.fault.ReadingFault.{ReadingFault}
 use Rattle.view_ribbon.specs.declared.fault.ReadingFault.TheVariants as faults
 use Rattle.view_ribbon.specs.declared.fault.SourcesFault.{SourcesFault}

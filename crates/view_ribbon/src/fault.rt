@@ -5,8 +5,7 @@ ghost use Rattle.view_ribbon.specs.Sources.{of_input, of_ribbon, of_sources};
 ghost use Rattle.view_ribbon.specs.declared.fault.ReadingFault.TheVariants as faults;
 
 use desk_memory::NoMemory;
-use desk_outputs::Kind;
-use feed_files::FileRefusal;
+use feed_files::{FileRefusal, Kind};
 use feed_stored::Unsent;
 use script_answers::{Failure, Refusal};
 use thiserror::Error;

@@ -3,7 +3,8 @@
 ghost use Rattle.std.specs.Prelude.{◌≡◌, ◌≢◌, ◌++◌, OnOk, string_bytes};
 ghost use Rattle.desk_caster.specs.declared.CastFault.TheVariants as casts;
 ghost use Rattle.desk_caster.specs.declared.RibbonFault.TheVariants as ribbons;
-ghost use Rattle.view_ribbon.specs.Faults.{cast_fault_text, cast_fault_words, ribbon_fault_text, ribbon_fault_words, row_text};
+ghost use Rattle.view_ribbon.specs.Faults.{cast_fault_text, cast_fault_words, ribbon_fault_text, ribbon_fault_words};
+ghost use Rattle.view_ribbon.specs.Faults.{row_text};
 
 use desk_caster::{CastFault, RibbonFault};
 use std::alloc::{AllocError, Allocator};

@@ -1,4 +1,4 @@
-//! What the caster makes of a ribbon from anywhere: its lines as text, or its first fault.
+//! What the caster makes of a ribbon from anywhere: its lines as text, or its first fault; and its holes as a picture.
 //!
 //! It reads the ribbon, the case and the wedge, in this order, and takes no name. A file has at most 67,108,864 bytes.
 //!
@@ -6,20 +6,30 @@
 //! wide as the longest lacks `0.0`. Rows count from 0 in punched order, though the caster goes from the last to the
 //! first.
 //!
+//! The picture is SVG: the paper has 31 channels, and the last row of the ribbon comes first. Each row has its place, a
+//! circle for each signal, and its meaning by the case. Rows that the caster would not cast are drawn too.
+//!
 //! It refuses a file that it cannot read, and a case or a wedge with a fault. A ribbon with a fault has one line, of
-//! that fault.
+//! that fault. A picture refuses bytes that are no ribbon, and a target of another kind, unless the caller forces it.
 #![tactic(auto)]
 
+mod channels;
+mod drawing;
 mod fault;
 mod faults;
 mod lines;
+mod parts;
+mod picture;
 mod reading;
 mod reported;
+mod rows;
 mod sources;
 
+pub use drawing::draw_ribbon;
 pub use fault::{ReadingFault, SourcesFault};
 pub use faults::{put_cast_fault, put_ribbon_fault};
 pub use lines::put_ribbon;
+pub use picture::put_holes;
 pub use reading::read_job;
 pub use reported::reported_of;
 pub use sources::take_in;

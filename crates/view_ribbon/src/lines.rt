@@ -2,7 +2,9 @@
 
 ghost use Rattle.std.specs.Prelude.{◌≡◌, ◌++◌, ◌<◌, ◌^◌, IfOk, OnOk, string_bytes, unsigned_abs, ◌-ℤ◌};
 ghost use Rattle.desk_caster.specs.Lines.{meaning};
-ghost use Rattle.view_ribbon.specs.Lines.{columns_text, counts_text, figures_text, head_text, line_text, lines_from, longest_from, longest_of, matrices_text, meaning_text, pair_text, ribbon_text, short_text, width_text, widths_text};
+ghost use Rattle.view_ribbon.specs.Lines.{columns_text, counts_text, figures_text, head_text, line_text, lines_from};
+ghost use Rattle.view_ribbon.specs.Lines.{longest_from, longest_of, matrices_text, meaning_text, pair_text};
+ghost use Rattle.view_ribbon.specs.Lines.{ribbon_text, short_text, width_text, widths_text};
 
 use desk_caster::{CastLine, CastMatrix};
 use desk_ops::Symbol;
@@ -229,12 +231,10 @@ fn columns() -> &'static str
     "\n  line    c/f     points   short  text\n"
 }
 
-/// Writes the lines that so many rows cast, in reading order: how many there are and how long the longest is; then
-/// each with
-/// its number from 1, the positions of its wedges, its width and how short of the longest it is, both in points to a
-/// tenth,
-/// the width rounded down and what it is short rounded up; and its text, where a space stands for a matrix with S, and a
-/// middle dot for one that means nothing, as a fill.
+/// Writes the lines that so many rows cast, in reading order: how many there are and how long the longest is; then each
+/// with its number from 1, the positions of its wedges, its width and how short of the longest it is, both in points to
+/// a tenth, the width rounded down and what it is short rounded up; and its text, where a space stands for a matrix
+/// with S, and a middle dot for one that means nothing, as a fill.
 pub fn put_ribbon<A: Allocator + Copy>(
     alloc: A,
     out: &mut String<A>,

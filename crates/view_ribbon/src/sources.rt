@@ -6,9 +6,9 @@ ghost use Rattle.view_ribbon.specs.Sources.{AreRefused, Give, sources};
 
 use crate::fault::SourcesFault;
 use desk_case::MatrixCase;
-use desk_inputs::{Memory, both};
 use desk_wedge::Wedge;
 use feed_files::Files;
+use script_answers::{Memory, both};
 use std::alloc::Allocator;
 
 /// Reads the bytes of a ribbon, then a case and then a wedge, each by the name of its file. Each file is read whole:

@@ -9,7 +9,7 @@ use Rattle.script_answers.specs.declared.failure.Failure.{Failure}
 use Rattle.script_answers.specs.declared.failure.Failure.TheVariants as failures
 use Rattle.feed_files.specs.Files.{Shelf}
 use Rattle.feed_edit.specs.Exporting.{IsSetOf}
-use Rattle.desk_inputs.specs.Inputs.{Answers, FileGives, FileLacksMemory}
+use Rattle.script_answers.specs.Inputs.{Answers, FileGives, FileLacksMemory}
 use Rattle.view_sorts.specs.Sources.{AreRefused, Sources, of_input, of_sources}
 use Rattle.view_sorts.specs.Reporting.{AreUnlisted}
 use Rattle.view_sorts.specs.declared.fault.SourcesFault.{SourcesFault}

@@ -1,5 +1,6 @@
 -- A case as a table: a row of the case a line, and four characters for each cell that holds no directional mark.
-use Rattle.std.specs.Prelude.{ℕ, ◌+◌, ◌*◌, ◌%◌, List, [], ◌∷◌, ◌++◌, codes, Option, Some, None, if◌then◌else◌, suc, zero}
+use Rattle.std.specs.Prelude.{ℕ, ◌+◌, ◌*◌, ◌%◌, List, [], ◌∷◌, ◌++◌, codes, Option, Some, None, if◌then◌else◌, suc}
+use Rattle.std.specs.Prelude.{zero}
 use Rattle.std.specs.Fmt.{decimal}
 use Rattle.desk_signals.specs.declared.Cell.{Cell}
 use Rattle.desk_signals.specs.Words.{column_name}

@@ -8,7 +8,7 @@ use Rattle.script_answers.specs.declared.failure.Failure.{Failure}
 use Rattle.script_answers.specs.declared.failure.Failure.TheVariants as failures
 use Rattle.feed_files.specs.Files.{Shelf}
 use Rattle.feed_edit.specs.Exporting.{IsClosedBy, IsSetOf}
-use Rattle.desk_inputs.specs.Inputs.{FileGives, FileLacksMemory}
+use Rattle.script_answers.specs.Inputs.{FileGives, FileLacksMemory}
 use Rattle.view_sorts.specs.declared.fault.SortsFault.{SortsFault}
 use Rattle.view_sorts.specs.declared.fault.SortsFault.TheVariants as faults
 use Rattle.view_sorts.specs.declared.fault.SourcesFault.{SourcesFault}

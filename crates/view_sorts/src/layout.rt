@@ -2,7 +2,8 @@
 
 ghost use Rattle.std.specs.Prelude.{◌≡◌, ◌++◌, ◌<◌, OnOk, string_bytes};
 ghost use Rattle.desk_case.specs.Case.{symbol_at};
-ghost use Rattle.view_sorts.specs.Layout.{blank_text, case_text, cells_to, fill_from, fill_text, held_text, line_text, lines_to, mark_in_table, names_to, shown_cell, text_in_table};
+ghost use Rattle.view_sorts.specs.Layout.{blank_text, case_text, cells_to, fill_from, fill_text, held_text, line_text};
+ghost use Rattle.view_sorts.specs.Layout.{lines_to, mark_in_table, names_to, shown_cell, text_in_table};
 
 use desk_case::{COLUMNS, MatrixCase, ROWS, names};
 use desk_ops::{Style, Symbol};

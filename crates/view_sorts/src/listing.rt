@@ -1,8 +1,10 @@
 //! The sorts of a copy as text, by a case.
 
 ghost use Rattle.std.specs.Prelude.{◌≡◌, ◌++◌, All, OnOk, string_bytes};
-ghost use Rattle.view_sorts.specs.Listing.{IsWithin, cast_of, cell_text, columns_text, first_text, head_text, is_missing};
-ghost use Rattle.view_sorts.specs.Listing.{line_begin, missing_lines, missing_of, missing_text, place_lines, place_text};
+ghost use Rattle.view_sorts.specs.Listing.{IsWithin, cast_of, cell_text, columns_text, first_text, head_text};
+ghost use Rattle.view_sorts.specs.Listing.{is_missing};
+ghost use Rattle.view_sorts.specs.Listing.{line_begin, missing_lines, missing_of, missing_text, place_lines};
+ghost use Rattle.view_sorts.specs.Listing.{place_text};
 ghost use Rattle.view_sorts.specs.Listing.{sort_line, sort_lines, sort_name, sorts_text, title_text};
 ghost use Rattle.view_sorts.specs.Places.{AreFound, places_of};
 

@@ -12,11 +12,11 @@ use crate::reported::reported_of;
 use crate::sources::take_in;
 use desk_blocks::Blocks;
 use desk_case::MatrixCase;
-use desk_inputs::Memory;
 use desk_memory::NoMemory;
 use desk_replica::Replica;
 use feed_files::Files;
 use feed_stored::write_out;
+use script_answers::Memory;
 use std::alloc::Allocator;
 use std::io::Write;
 
@@ -34,13 +34,10 @@ fn reported_of_replica<A: Allocator + Copy>(
 }
 
 /// Writes which sorts the copy of a stored feed needs by a case, as `sorts_of` has them: how many there are, and how
-/// many
-/// matrices are cast for them; those that the case lacks, each with all its places; and all with their cells. With
-/// `layout`
-/// a table of what the case holds comes after. Fills are not counted: how many a line takes depends on the lines that
-/// are
-/// set. It is true exactly where the case lacks no sort. No name is taken, and no file changes. A refusal of the feed or of
-/// the case, or of memory, comes before anything is written.
+/// many matrices are cast for them; those that the case lacks, each with all its places; and all with their cells. With
+/// `layout` a table of what the case holds comes after. Fills are not counted: how many a line takes depends on the
+/// lines that are set. It is true exactly where the case lacks no sort. No name is taken, and no file changes. A
+/// refusal of the feed or of the case, or of memory, comes before anything is written.
 pub fn report_sorts<W: Write, F: Files, A: Allocator + Copy>(
     memory: Memory<A>,
     writer: &mut W,

@@ -7,14 +7,14 @@ ghost use Rattle.view_sorts.specs.Sources.{AreRefused, Give, sources};
 use crate::fault::SourcesFault;
 use desk_blocks::Blocks;
 use desk_case::MatrixCase;
-use desk_inputs::{Memory, case_in};
 use desk_replica::Replica;
 use feed_edit::open_feed;
 use feed_files::Files;
+use script_answers::{Memory, case_in};
 use std::alloc::Allocator;
 
-/// Opens the feed of a file, and reads a case. No name is taken, and no file changes. `NoMemory` comes only where the device
-/// did not fail in the call and the feed was opened.
+/// Opens the feed of a file, and reads a case. No name is taken, and no file changes. `NoMemory` comes only where the
+/// device did not fail in the call and the feed was opened.
 pub fn take_in<F: Files, A: Allocator + Copy>(
     memory: Memory<A>,
     files: &mut F,

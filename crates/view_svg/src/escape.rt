@@ -21,8 +21,9 @@ fn allowed(ch: char) -> char
     if is_allowed(ch) { ch } else { '\u{FFFD}' }
 }
 
-/// Writes a character at the end as it stands in a text of XML, or between the quotes of an attribute: `&`, `<`, `>` and `"`
-/// by their names, and U+FFFD in place of a character that XML 1.0 does not allow. It fails only where memory runs out.
+/// Writes a character at the end as it stands in a text of XML, or between the quotes of an attribute: `&`, `<`, `>`
+/// and `"` by their names, and U+FFFD in place of a character that XML 1.0 does not allow. It fails only where memory
+/// runs out.
 #[tactic(auto, using(crate::proofs::Prefixes::prefixes))]
 pub fn put_escaped<A: Allocator + Copy>(out: &mut String<A>, ch: char) -> Result<(), AllocError>
     ensures text { OnOk result (string_bytes out.new ≡ string_bytes out.old ++ escaped_char ch) }

@@ -30,8 +30,8 @@ pub fn put_hundredths<A: Allocator + Copy>(out: &mut String<A>, n: u128) -> Resu
     put_number(out, n % 10)
 }
 
-/// Writes an attribute of this name at the end, whose value is so many hundredths, behind a space: ` x="12.34"`. It fails
-/// only where memory runs out.
+/// Writes an attribute of this name at the end, whose value is so many hundredths, behind a space: ` x="12.34"`. It
+/// fails only where memory runs out.
 #[tactic(auto, using(crate::proofs::Prefixes::prefixes))]
 pub fn put_attribute<A: Allocator + Copy>(
     out: &mut String<A>,

@@ -19,7 +19,8 @@ fn wedge_of(alloc: Global, units: &str) -> Result<String, Fail> {
     Ok(format!(in alloc; "wedge = 5\nset_q = 48\npica = 'sixth'\n{units}\n")?)
 }
 
-/// Two case files, whose fills stand in the rows 15 and 5, and wedge files: `fit` has more units for row 15, `w` as many.
+/// Two case files, whose fills stand in the rows 15 and 5, and wedge files: `fit` has more units for row 15, `w` as
+/// many.
 fn rooms(alloc: Global) -> Result<TrialFiles<Global>, Fail> {
     let mut files = TrialFiles::new(alloc);
     let case = file_of(alloc, 15, &[])?;

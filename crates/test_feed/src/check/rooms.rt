@@ -1,8 +1,8 @@
 //! The files of the tests, and what is said of them.
 
-use desk_inputs::Memory;
 use feed_check::{CheckFault, check_files};
 use feed_files::trial::TrialFiles;
+use script_answers::Memory;
 use std::alloc::Global;
 use std::test::Fail;
 

@@ -1,8 +1,8 @@
 use crate::check::rooms::{checked, memory, says};
-use desk_inputs::Memory;
 use feed_check::{CheckFault, check_files};
 use feed_files::trial::{AtEnd, TrialFiles, TrialWriter};
 use linked_list_allocator::LocalHeap;
+use script_answers::Memory;
 use std::alloc::{AllocError, Global};
 use std::test::Fail;
 

@@ -35,8 +35,8 @@ fn room_of(alloc: Global, letter: u8) -> Result<Vec<u8>, AllocError> {
     feed_of(alloc, &letters)
 }
 
-/// Files with two such feeds, one that shares no number with them, one that uses a number twice itself, and one in which
-/// that is one of two.
+/// Files with two such feeds, one that shares no number with them, one that uses a number twice itself, and one in
+/// which that is one of two.
 fn rooms(alloc: Global) -> Result<TrialFiles<Global>, AllocError> {
     let mut files = TrialFiles::new(alloc);
     files.put("one.feed", &room_of(alloc, b'a')?)?;

@@ -6,7 +6,7 @@ use feed_edit::{
 };
 use feed_files::trial::{AtEnd, TrialFiles, TrialReader, TrialWriter};
 use feed_files::{FileRefusal, Files};
-use feed_last::LastFault;
+use feed_stored::LastFault;
 use linked_list_allocator::LocalHeap;
 use std::alloc::{AllocError, Global};
 use std::test::Fail;

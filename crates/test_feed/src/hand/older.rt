@@ -2,7 +2,7 @@
 
 use feed_edit::{ImportFault, import_text};
 use feed_files::trial::{TrialFiles, TrialReader};
-use feed_last::LastFault;
+use feed_stored::LastFault;
 use std::alloc::Global;
 use std::test::Fail;
 

@@ -38,8 +38,8 @@ fn imported(
     }
 }
 
-/// What an import of a text writes into the feed of another, and whether the feed stays; where it writes nothing no file
-/// changes.
+/// What an import of a text writes into the feed of another, and whether the feed stays; where it writes nothing no
+/// file changes.
 fn over(alloc: Global, first: &[u8], text: &[u8], all: bool) -> Result<Option<ImportFault>, Fail> {
     let mut files = TrialFiles::new(alloc);
     imported(alloc, &mut files, first, false)?;

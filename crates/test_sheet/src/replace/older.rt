@@ -3,11 +3,12 @@
 ghost use Rattle.std.specs.Prelude.{◌≤◌};
 
 use crate::replace::rooms::{X, feed_of, text_of};
-use desk_replace::{Exchange, PlaceFault, ReplaceFault, replace_text};
-use feed_edit::{FeedTrouble, KeepFault, TakeFault};
+use feed_edit::{
+    Exchange, FeedTrouble, KeepFault, PlaceFault, ReplaceFault, TakeFault, replace_text,
+};
 use feed_files::trial::{AtEnd, TrialFiles, TrialWriter};
 use feed_files::{FileRefusal, Files};
-use feed_last::LastFault;
+use feed_stored::LastFault;
 use linked_list_allocator::LocalHeap;
 use std::alloc::{AllocError, Global};
 use std::test::Fail;

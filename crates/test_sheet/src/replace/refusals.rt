@@ -1,10 +1,12 @@
 use crate::replace::rooms::{X, feed_of, left_by, text_of};
 use desk_codec::{FeedFault, FeedWhy};
-use desk_replace::{Exchange, ExchangeFault, PlaceFault, ReplaceFault, replace_text};
-use feed_edit::{FeedTrouble, KeepFault, RevisionFault, TakeFault};
+use feed_edit::{
+    Exchange, ExchangeFault, FeedTrouble, KeepFault, PlaceFault, ReplaceFault, RevisionFault,
+    TakeFault, replace_text,
+};
 use feed_files::trial::{AtEnd, TrialFiles, TrialWriter};
 use feed_files::{FileRefusal, Files};
-use feed_last::LastFault;
+use feed_stored::LastFault;
 use linked_list_allocator::LocalHeap;
 use std::alloc::{AllocError, Global};
 use std::test::Fail;

@@ -1,5 +1,5 @@
 use crate::replace::rooms::{X, left_by};
-use desk_replace::{Exchange, replace_text};
+use feed_edit::{Exchange, replace_text};
 use feed_files::trial::TrialFiles;
 use std::alloc::Global;
 use std::test::Fail;

@@ -1,9 +1,8 @@
 use crate::replace::rooms::left_by;
-use desk_places::{places_of, reported_places};
-use desk_replace::{PlaceFault, ReplaceFault};
+use feed_edit::{PlaceFault, ReplaceFault};
 use std::alloc::Global;
 use std::test::Fail;
-use text_copy::read_text;
+use text_copy::{places_of, read_text, reported_places};
 
 /// A copy as text, what is looked for, what is said, and how it ends.
 type Row = (&'static str, &'static str, &'static str, PlaceFault);

@@ -1,7 +1,6 @@
 //! Feeds of texts, and what a run on one leaves.
 
-use desk_replace::{Exchange, ReplaceFault, replace_text};
-use feed_edit::{export_feed, import_text};
+use feed_edit::{Exchange, ReplaceFault, export_feed, import_text, replace_text};
 use feed_files::trial::{TrialFiles, TrialReader};
 use std::alloc::Global;
 use std::test::Fail;

@@ -1,5 +1,4 @@
-use desk_script::RunFault;
-use desk_sheet::{Mode, SheetFault, run_sheet};
+use desk_script::{Mode, RunFault, SheetFault, run_sheet};
 use feed_files::NoFiles;
 use feed_files::trial::{AtEnd, TrialReader, TrialWriter};
 use std::alloc::Global;

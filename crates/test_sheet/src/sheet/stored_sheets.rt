@@ -1,7 +1,6 @@
 use crate::sheet::sheets::same;
 use desk_codec::{FeedFault, FeedWhy};
-use desk_script::RunFault;
-use desk_sheet::{Mode, SheetFault, run_sheet_on_feed};
+use desk_script::{Mode, RunFault, SheetFault, run_sheet_on_feed};
 use feed_files::trial::{AtEnd, TrialFiles, TrialReader, TrialWriter};
 use feed_files::{FileRefusal, Files};
 use linked_list_allocator::LocalHeap;
@@ -99,7 +98,8 @@ fn not_stored_after_a_stop(rt: HostRuntime) -> Result<(), Fail> {
     Ok(())
 }
 
-/// A feed that is refused, and files that fail at each of their calls: nothing is written until the feed is to be stored.
+/// A feed that is refused, and files that fail at each of their calls: nothing is written until the feed is to be
+/// stored.
 #[test]
 fn files_that_refuse(rt: HostRuntime) -> Result<(), Fail> {
     let mut files = rooms(rt.alloc(), 0)?;

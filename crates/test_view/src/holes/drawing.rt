@@ -1,14 +1,11 @@
 use crate::holes::rooms::{OLD, TARGET, memory, rooms};
-use desk_holes::draw_ribbon;
-use desk_inputs::Memory;
-use desk_outputs::{Kind, Target};
-use feed_files::FileRefusal;
 use feed_files::trial::TrialFiles;
+use feed_files::{FileRefusal, Kind, Target};
 use linked_list_allocator::LocalHeap;
-use script_answers::Refusal;
+use script_answers::{Memory, Refusal};
 use std::alloc::Global;
 use std::test::Fail;
-use view_ribbon::ReadingFault;
+use view_ribbon::{ReadingFault, draw_ribbon};
 
 /// Eight rows at 13 each: the picture is 174 high, its paper 110, and that ends at 160.
 const FRONT: &[u8] =

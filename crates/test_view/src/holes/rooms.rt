@@ -1,9 +1,9 @@
 //! The files of the tests.
 
 use crate::metal::{WEDGE, case_with};
-use desk_inputs::Memory;
-use desk_outputs::Target;
+use feed_files::Target;
 use feed_files::trial::TrialFiles;
+use script_answers::Memory;
 use std::alloc::{AllocError, Global};
 
 #[rattlefmt::skip]
@@ -38,7 +38,8 @@ pub const TARGET: Target<'static> = Target {
     force: false,
 };
 
-/// Files of which the k-th call fails: a ribbon, bytes that are none, a case, a wedge, and what stands under the target.
+/// Files of which the k-th call fails: a ribbon, bytes that are none, a case, a wedge, and what stands under the
+/// target.
 pub fn rooms(alloc: Global, k: u64) -> Result<TrialFiles<Global>, AllocError> {
     let mut files = TrialFiles::new(alloc).failing_at_call(k);
     files.put("ribbon", RIBBON)?;

@@ -1,7 +1,6 @@
 //! The kinds of files, and their words.
 
-use desk_outputs::{Kind, OutputFault, kind_of};
-use feed_files::FileRefusal;
+use feed_files::{FileRefusal, Kind, OutputFault, kind_of};
 use std::alloc::{AllocError, Global};
 
 /// Bytes, and what they are.

@@ -1,8 +1,7 @@
 //! Files that are stored over others.
 
-use desk_outputs::{Kind, OutputFault, Target, store_over};
 use feed_files::trial::TrialFiles;
-use feed_files::{FileRefusal, Files};
+use feed_files::{FileRefusal, Files, Kind, OutputFault, Target, store_over};
 use linked_list_allocator::LocalHeap;
 use std::alloc::Global;
 use std::test::Fail;
@@ -10,7 +9,8 @@ use std::test::Fail;
 /// What is stored.
 const NEW: &[u8] = b"MRB1 new";
 
-/// Stores over what stands under a name, of which the k-th call fails: the new bytes stand there afterwards, or the old.
+/// Stores over what stands under a name, of which the k-th call fails: the new bytes stand there afterwards, or the
+/// old.
 fn stored_over(
     alloc: Global,
     k: u64,

@@ -1,17 +1,14 @@
 use crate::picture::galleys::{WEDGE, case_text};
 use crate::picture::pictures::LINE;
-use desk_inputs::Memory;
-use desk_outputs::{Kind, Target};
-use desk_trial::no_trial;
 use feed_edit::FeedTrouble;
-use feed_files::FileRefusal;
 use feed_files::trial::TrialFiles;
+use feed_files::{FileRefusal, Kind, Target};
 use linked_list_allocator::LocalHeap;
-use script_answers::Refusal;
+use script_answers::{Memory, Refusal};
 use std::alloc::{AllocError, Allocator, Global};
 use std::test::Fail;
 use view_picture::picture_feed;
-use view_punch::PreviewFault;
+use view_punch::{PreviewFault, no_trial};
 
 /// What stands under the target before a picture is stored there.
 const OLD: &[u8] = b"<svg old";

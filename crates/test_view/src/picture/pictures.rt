@@ -12,9 +12,9 @@ use view_proof::{NoGalley, OtherNumber};
 const BEGIN: &str =
     "<svg xmlns=\"http://www.w3.org/2000/svg\" xml:space=\"preserve\" viewBox=\"0 0 490.00 64.00\" width=\"490.00pt\" height=\"64.00pt\">\n<style>";
 
-/// A unit is two thirds of a point, so `n` with its 10 units is 6.67 points wide. The line is filled: 7 fills of 12 points and
-/// one of 6 leave 3.33 points, which 46 steps for each of its two spaces take up, and these are 3.33 points and 46 of 0.036,
-/// which are 89,808 atoms. The line ends 336 atoms before the frame.
+/// A unit is two thirds of a point, so `n` with its 10 units is 6.67 points wide. The line is filled: 7 fills of 12
+/// points and one of 6 leave 3.33 points, which 46 steps for each of its two spaces take up, and these are 3.33 points
+/// and 46 of 0.036, which are 89,808 atoms. The line ends 336 atoms before the frame.
 pub const LINE: &str =
     "<rect class=\"frame\" x=\"100.00\" y=\"32.00\" width=\"120.00\" height=\"22.00\"/>\n\
 <g font-size=\"12.00\">\n\
@@ -60,8 +60,8 @@ fn line_with_its_fills(rt: HostRuntime) -> Result<(), Fail> {
     Ok(())
 }
 
-/// Italic and small capitals stand in spans, one for each run; a symbol that the case lacks stands in one of its own, has no
-/// width, and is reported above, where `<` is escaped.
+/// Italic and small capitals stand in spans, one for each run; a symbol that the case lacks stands in one of its own,
+/// has no width, and is reported above, where `<` is escaped.
 #[test]
 fn styles_and_escapes(rt: HostRuntime) -> Result<(), Fail> {
     let copy = [
@@ -81,7 +81,8 @@ fn styles_and_escapes(rt: HostRuntime) -> Result<(), Fail> {
     Ok(())
 }
 
-/// Five words of `nnn` and a sixth: the first line is of five, its wedge sum is 99, and its four spaces are 89,808 atoms each.
+/// Five words of `nnn` and a sixth: the first line is of five, its wedge sum is 99, and its four spaces are 89,808
+/// atoms each.
 #[test]
 fn faulty_line_and_its_cause(rt: HostRuntime) -> Result<(), Fail> {
     let alloc = rt.alloc();

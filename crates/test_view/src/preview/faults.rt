@@ -2,9 +2,9 @@
 
 use crate::preview::punching::{LINE, RIBBON, is_of_memory};
 use crate::preview::rooms::{OLD, TARGET, memory, rooms};
-use desk_inputs::Memory;
 use feed_files::trial::{AtEnd, TrialWriter};
 use linked_list_allocator::LocalHeap;
+use script_answers::Memory;
 use std::alloc::Global;
 use std::test::Fail;
 use view_punch::{PreviewFault, punch_feed};

@@ -1,5 +1,4 @@
 use crate::preview::rooms::{OLD, memory, rooms};
-use desk_trial::{TrialFault, no_trial, trial_of};
 use feed_edit::FeedTrouble;
 use feed_files::FileRefusal;
 use feed_files::trial::{AtEnd, TrialWriter};
@@ -7,15 +6,15 @@ use script_answers::Refusal;
 use std::alloc::Global;
 use std::test::Fail;
 use view_proof::Extent;
-use view_punch::{PreviewFault, proof_feed};
+use view_punch::{PreviewFault, TrialFault, no_trial, proof_feed, trial_of};
 
 /// The galley of one empty paragraph: its wedge sum is 127 of 38 to 150, and ten fills stand in it.
 const SET: &str = "GALLEY 1 lines, 0 at fault, measure 120 points, tight 38, loose 150\n\
 \n  line   place   c/f    sum  tight ...... loose\n\
 \x20    1       0   8/7    127  ...............|.....    ··········\n";
 
-/// Five words and four spaces leave 6.66 points, which 46 steps for each space take up: 53 and 46 are 99. At tight the next
-/// word is 251,400 atoms too wide, and 108,600 are free; a point has 18,000.
+/// Five words and four spaces leave 6.66 points, which 46 steps for each space take up: 53 and 46 are 99. At tight the
+/// next word is 251,400 atoms too wide, and 108,600 are free; a point has 18,000.
 const LOOSE: &str = "GALLEY 2 lines, 1 at fault, measure 120 points, tight 38, loose 60\n\
 \nline 1: too loose (wedge sum 99, limit 60), places 0..19\n\
 \x20 | nnn nnn nnn nnn nnn\n\
@@ -26,15 +25,15 @@ const ABOVE: &str = "GALLEY 1 lines, 0 at fault, measure 120 points, tight 38, l
 \n  line   place   c/f    sum  tight ...... loose\n\
 \x20    1       0   8/7    127  ....................+    ··········\n";
 
-/// The word has 17 times 120,000 atoms and once 96,000, and 24,000 are left of the measure. A space has 60,000 atoms, and at
-/// tight 15 steps fewer, which are 50,280: the word is 26,280 atoms too wide, and a point has 18,000.
+/// The word has 17 times 120,000 atoms and once 96,000, and 24,000 are left of the measure. A space has 60,000 atoms,
+/// and at tight 15 steps fewer, which are 50,280: the word is 26,280 atoms too wide, and a point has 18,000.
 const LONE: &str = "GALLEY 1 lines, 1 at fault, measure 120 points, tight 38, loose 150\n\
 \nline 1: too wide, places 0..18\n\
 \x20 | nnnnnnnnnnnnnnnnnt\n\
 \x20 = one word and no space to justify it; with one of at least 2.8 points it is 1.5 points too wide\n";
 
-/// The symbols have 660,000 atoms and two spaces 120,000. Six fills of 216,000 leave 84,000 of the measure, which 64 steps for
-/// each of the two spaces take up: 53 and 64 are 117.
+/// The symbols have 660,000 atoms and two spaces 120,000. Six fills of 216,000 leave 84,000 of the measure, which 64
+/// steps for each of the two spaces take up: 53 and 64 are 117.
 const STYLES: &str = "GALLEY 1 lines, 0 at fault, measure 120 points, tight 38, loose 150\n\
 \n  line   place   c/f    sum  tight ...... loose\n\
 \x20    1       0   7/12   117  ..............|......   _aa a_n^M^ ······\n";

@@ -1,10 +1,9 @@
 use crate::preview::rooms::{OLD, TARGET, memory, rooms};
-use desk_inputs::Memory;
 use feed_edit::FeedTrouble;
 use feed_files::FileRefusal;
 use feed_files::trial::{AtEnd, TrialFiles, TrialWriter};
 use linked_list_allocator::LocalHeap;
-use script_answers::Refusal;
+use script_answers::{Memory, Refusal};
 use std::alloc::Global;
 use std::test::Fail;
 use view_proof::OtherNumber;

@@ -1,9 +1,9 @@
 //! The files of the tests.
 
 use crate::metal::{ROWS, WEDGE, case_with};
-use desk_inputs::Memory;
-use desk_outputs::Target;
+use feed_files::Target;
 use feed_files::trial::TrialFiles;
+use script_answers::Memory;
 use std::alloc::{AllocError, Global};
 
 /// What stands under the target before a ribbon is stored there.
@@ -34,7 +34,8 @@ fn put_copy(out: &mut Vec<u8, Global>, copy: &[u8]) -> Result<(), AllocError> {
     Ok(())
 }
 
-/// A feed of empty copy whose settings have these numbers of a case and of a wedge, and lack `loose` where it is to be missing.
+/// A feed of empty copy whose settings have these numbers of a case and of a wedge, and lack `loose` where it is to be
+/// missing.
 fn feed_of_numbers(
     alloc: Global,
     missing: bool,

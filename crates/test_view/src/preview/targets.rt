@@ -2,13 +2,13 @@
 
 use crate::preview::punching::RIBBON;
 use crate::preview::rooms::{memory, rooms};
-use desk_outputs::{Kind, Target};
-use feed_files::FileRefusal;
+use feed_files::{FileRefusal, Kind, Target};
 use std::alloc::Global;
 use std::test::Fail;
 use view_punch::{PreviewFault, punch_feed};
 
-/// Punches over what stands under a name, of which the k-th call fails: the ribbon stands there afterwards, or what did.
+/// Punches over what stands under a name, of which the k-th call fails: the ribbon stands there afterwards, or what
+/// did.
 fn punched_over(
     alloc: Global,
     k: u64,

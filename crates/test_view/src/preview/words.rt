@@ -1,13 +1,11 @@
 //! The texts of faults, of view_punch and of settings that are tried.
 
-use desk_outputs::Kind;
-use desk_trial::TrialFault;
 use feed_edit::FeedTrouble;
-use feed_files::FileRefusal;
+use feed_files::{FileRefusal, Kind};
 use script_answers::Refusal;
 use std::alloc::{AllocError, Global};
 use view_proof::OtherNumber;
-use view_punch::PreviewFault;
+use view_punch::{PreviewFault, TrialFault};
 
 /// Of a feed they are those of its trouble.
 const WORDS: [(PreviewFault, &str); 10] = [

@@ -1,15 +1,14 @@
 use crate::reading::rooms::{memory, rooms};
-use desk_inputs::Memory;
 use feed_files::FileRefusal;
 use feed_files::trial::{AtEnd, TrialWriter};
 use linked_list_allocator::LocalHeap;
-use script_answers::Refusal;
+use script_answers::{Memory, Refusal};
 use std::alloc::Global;
 use std::test::Fail;
 use view_ribbon::{ReadingFault, read_job};
 
-/// At a wedge sum of 70 the space is 17 steps of 648 atoms wider than its 60,000, so the first line has 120,000, 71,016 and
-/// 96,000 atoms: 15.9453 points. The second has 108,000 and 216,000, and the first is 36,984 short: 2.0547 points.
+/// At a wedge sum of 70 the space is 17 steps of 648 atoms wider than its 60,000, so the first line has 120,000, 71,016
+/// and 96,000 atoms: 15.9453 points. The second has 108,000 and 216,000, and the first is 36,984 short: 2.0547 points.
 const LINES: &str = "RIBBON 2 lines, 10 rows, longest 18.0 points\n\
 \n  line    c/f     points   short  text\n\
 \x20    1    4/10      15.9     2.1  n t\n\

@@ -1,8 +1,8 @@
 //! The files of the tests.
 
 use crate::metal::{ROWS, WEDGE, case_with, case_with_mark};
-use desk_inputs::Memory;
 use feed_files::trial::TrialFiles;
+use script_answers::Memory;
 use std::alloc::{AllocError, Global};
 
 /// The space of this wedge has 5,000 atoms.

@@ -1,7 +1,6 @@
 //! The texts of faults.
 
-use desk_outputs::Kind;
-use feed_files::FileRefusal;
+use feed_files::{FileRefusal, Kind};
 use script_answers::Refusal;
 use std::alloc::{AllocError, Global};
 use view_ribbon::ReadingFault;

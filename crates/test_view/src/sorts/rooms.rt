@@ -1,8 +1,8 @@
 //! The files of the tests.
 
 use crate::metal::{ROWS, case_with, case_with_mark};
-use desk_inputs::Memory;
 use feed_files::trial::TrialFiles;
+use script_answers::Memory;
 use std::alloc::{AllocError, Global};
 
 /// Adds the inserts of symbols in one run from 6.1 on: of each its style, 0 to 2, and its character.

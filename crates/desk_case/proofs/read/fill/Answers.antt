@@ -2,7 +2,7 @@ use Rattle.std.proofs.Common.{◌≡◌, ◌≤◌, false, length, ◌&&◌, ari
 use Rattle.std.specs.Prelude.{nat_le}
 use Rattle.std.proofs.lemmas.Bool.Decides.{nat_tests}
 use Rattle.desk_case.specs.File.{cell_of_data}
-use Rattle.desk_keys.proofs.Items.{wrong_length, right_length}
+use Rattle.desk_wedge.proofs.Items.{wrong_length, right_length}
 use Rattle.desk_case.proofs.read.fill.Goals as goal
 use Rattle.desk_case.proofs.read.fill.Goals.{then-is_empty-via-then-is_empty, then-is_empty-via-else-is_empty+then-len-gt4}
 

@@ -3,7 +3,7 @@ use Rattle.std.proofs.lemmas.Result.{err_from_is_err_and}
 use Rattle.std.specs.Prelude.{Err}
 use Rattle.feed_files.specs.Files.{Shelf}
 use Rattle.feed_files.proofs.Shelves.{held_alone, holds_on}
-use Rattle.desk_steps.specs.Desk.{desk}
+use Rattle.desk_script.specs.Desk.{desk}
 use Rattle.feed_stored.specs.Stored.{was_read}
 use Rattle.desk_script.specs.FeedRun.{IsStart}
 use Rattle.desk_script.proofs.Bytes.{reported_fault}

@@ -2,9 +2,9 @@ use Rattle.std.proofs.Common.{◌≡◌, ℕ, sym, subst, true, rules}
 use Rattle.std.specs.Prelude.{Bool, IfErr, OnOk}
 use Rattle.std.proofs.lemmas.Result.{IfErr-weaker, on_ok_weaker}
 use Rattle.feed_files.specs.Files.{Shelf}
-use Rattle.desk_steps.specs.Desk.{desk}
-use Rattle.feed_last.specs.Greatest.{greatest_of}
-use Rattle.feed_last.specs.Last.{IsHeldBack, IsNotOlder}
+use Rattle.desk_script.specs.Desk.{desk}
+use Rattle.feed_stored.specs.Greatest.{greatest_of}
+use Rattle.feed_stored.specs.Last.{IsHeldBack, IsNotOlder}
 use Rattle.desk_script.specs.Room.{IsKeptOut, IsLetIn}
 use Rattle.desk_script.proofs.room.let_in.Goals as goal
 

@@ -1,8 +1,8 @@
 use Rattle.std.proofs.Common.{◌≡◌, ℕ, sym, subst}
 use Rattle.std.specs.Prelude.{◌⊎◌}
 use Rattle.feed_files.specs.Files.{Shelf, Spares, new_name}
-use Rattle.feed_last.specs.Last.{IsNoted, last_name, stamp_by}
-use Rattle.feed_last.proofs.Rooms.{either}
+use Rattle.feed_stored.specs.Last.{IsNoted, last_name, stamp_by}
+use Rattle.feed_stored.proofs.Rooms.{either}
 use Rattle.desk_script.proofs.room.mark.Goals as goal
 
 pub returns-clause-marked : goal.returns-clause-marked

@@ -3,14 +3,14 @@ use Rattle.std.proofs.lemmas.Result.{err_from_is_err_and}
 use Rattle.std.specs.Prelude.{Bool, Err}
 use Rattle.feed_files.specs.Files.{HoldsOn, Shelf}
 use Rattle.feed_files.proofs.Shelves.{held_alone, holds_on}
-use Rattle.desk_steps.specs.Desk.{desk}
+use Rattle.desk_script.specs.Desk.{desk}
 use Rattle.feed_stored.specs.Stored.{was_read}
 use Rattle.desk_script.specs.FeedRun.{IsStart}
 use Rattle.desk_script.specs.Room.{IsBegun, IsKeptOut, IsLetIn}
-use Rattle.feed_last.specs.Room.{is_compared}
+use Rattle.feed_stored.specs.Room.{is_compared}
 use Rattle.desk_script.proofs.Bytes.{reported_fault}
 use Rattle.desk_script.proofs.Feeds.{counts_up, fails_from, fails_later, file_failed, is_there, no_line_fails, no_opening_fails}
-use Rattle.feed_last.proofs.Rooms.{holds_through}
+use Rattle.feed_stored.proofs.Rooms.{holds_through}
 use Rattle.desk_script.proofs.Rooms.{no_last_fails, run_not_older, run_same}
 use Rattle.desk_script.proofs.room.run_in_room.Goals as goal
 

@@ -4,10 +4,10 @@ use Rattle.std.specs.Io.KnownBytes.{Consumes}
 use Rattle.std.proofs.lemmas.Result.{err_from_is_err_and, on_err_weaker, on_ok_weaker}
 use Rattle.std.proofs.Common.{ap}
 use Rattle.std.specs.Prelude.{Err}
-use Rattle.desk_steps.specs.Desk.{desk}
+use Rattle.desk_script.specs.Desk.{desk}
 use Rattle.desk_script.specs.Script.{Turn, StopsWithin}
 use Rattle.desk_script.specs.Pending.{last_line, progress}
-use Rattle.desk_steps.proofs.Keeping.{keeps_same, keeps_trans}
+use Rattle.desk_script.proofs.Keeping.{keeps_same, keeps_trans}
 use Rattle.desk_script.proofs.Bytes.{on_err, reported_fault}
 use Rattle.desk_script.proofs.Carry.{carries_before, carries_more, carries_prefix, carries_end, carries_end_prefix, carries_stop}
 use Rattle.desk_script.proofs.stream.answer_all.Goals as goal

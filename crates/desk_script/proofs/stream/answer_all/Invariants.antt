@@ -1,7 +1,7 @@
 use Rattle.std.proofs.Common.{◌+◌, ◌≤◌, length}
 use Rattle.feed_files.specs.Files.{Stays}
-use Rattle.desk_steps.specs.Desk.{KeepsSites, desk}
-use Rattle.desk_steps.specs.Line.{max_line}
+use Rattle.desk_script.specs.Desk.{KeepsSites, desk}
+use Rattle.desk_script.specs.Line.{max_line}
 use Rattle.desk_script.specs.Pending.{Carries}
 use Rattle.desk_script.proofs.stream.answer_all.Given as goal
 

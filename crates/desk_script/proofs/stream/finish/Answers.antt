@@ -1,6 +1,6 @@
 use Rattle.std.proofs.Common.{rules, [], sym, subst}
 use Rattle.std.proofs.lemmas.Result.{on_err_weaker}
-use Rattle.desk_steps.specs.Desk.{desk}
+use Rattle.desk_script.specs.Desk.{desk}
 use Rattle.desk_script.specs.Script.{StopsWithin}
 use Rattle.desk_script.proofs.Cutting.{last_some}
 use Rattle.desk_script.proofs.stream.finish.Goals as goal

@@ -1,6 +1,6 @@
 use Rattle.std.proofs.Common.{◌+◌, ◌≤◌, length, rules}
 use Rattle.std.proofs.lemmas.Bool.{ne_eqb}
-use Rattle.desk_steps.specs.Line.{max_line}
+use Rattle.desk_script.specs.Line.{max_line}
 use Rattle.desk_script.proofs.Cutting.{skips}
 use Rattle.desk_script.proofs.stream.keep.Goals as goal
 

@@ -3,9 +3,9 @@ use Rattle.std.proofs.Common.{◌∷◌, [], ap, ◌∙◌, eq-eqb, refl}
 use Rattle.std.proofs.lemmas.Bool.{ne_eqb}
 use Rattle.std.proofs.lemmas.Result.{err_from_is_err_and, on_ok_weaker}
 use Rattle.desk_script.specs.declared.fault.LineFault.TheVariants as lines
-use Rattle.desk_steps.specs.Desk.{desk}
-use Rattle.desk_steps.specs.Line.{line_of}
-use Rattle.desk_steps.proofs.Keeping.{keeps_same}
+use Rattle.desk_script.specs.Desk.{desk}
+use Rattle.desk_script.specs.Line.{line_of}
+use Rattle.desk_script.proofs.Keeping.{keeps_same}
 use Rattle.desk_script.specs.Lines.{without_cr}
 use Rattle.desk_script.proofs.Turns.{no_prefix, no_turn}
 use Rattle.desk_script.proofs.Bytes.{on_err, reported_fault}

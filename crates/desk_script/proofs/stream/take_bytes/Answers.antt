@@ -1,6 +1,6 @@
 use Rattle.std.proofs.Common.{sym, subst}
 use Rattle.feed_files.proofs.Shelves.{stays_same}
-use Rattle.desk_steps.specs.Desk.{desk}
+use Rattle.desk_script.specs.Desk.{desk}
 use Rattle.desk_script.specs.Script.{StopsWithin}
 use Rattle.desk_script.specs.Pending.{lines_from}
 use Rattle.desk_script.proofs.Bytes.{on_err, on_ok}

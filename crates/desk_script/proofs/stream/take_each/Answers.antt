@@ -1,10 +1,10 @@
 use Rattle.feed_files.proofs.Shelves.{stays_same, stays_trans}
 use Rattle.std.proofs.Common.{◌≡◌, ℕ, ◌+◌, ◌<◌, length, ◌++◌, ◌∷◌, [], drop, get_or, ap, ◌∙◌, sym, append_assoc, add-one, drop-cons, subst, refl}
 use Rattle.std.proofs.lemmas.List.{at_drop_all}
-use Rattle.desk_steps.specs.Desk.{desk}
+use Rattle.desk_script.specs.Desk.{desk}
 use Rattle.desk_script.specs.Script.{StopsWithin, StopsBefore}
 use Rattle.desk_script.specs.Pending.{lines_from}
-use Rattle.desk_steps.proofs.Keeping.{keeps_same, keeps_trans}
+use Rattle.desk_script.proofs.Keeping.{keeps_same, keeps_trans}
 use Rattle.std.proofs.lemmas.Result.{err_from_is_err_and}
 use Rattle.std.specs.Prelude.{Err}
 use Rattle.desk_script.proofs.Bytes.{on_err, reported_fault}

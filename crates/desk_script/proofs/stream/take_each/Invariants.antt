@@ -1,7 +1,7 @@
 use Rattle.std.proofs.Common.{◌≡◌, ℕ, ◌+◌, ◌≤◌, List, ◌++◌, drop, length}
 use Rattle.feed_files.specs.Files.{Stays}
-use Rattle.desk_steps.specs.Desk.{KeepsSites, desk}
-use Rattle.desk_steps.specs.Line.{Line, max_line}
+use Rattle.desk_script.specs.Desk.{KeepsSites, desk}
+use Rattle.desk_script.specs.Line.{Line, max_line}
 use Rattle.desk_script.specs.Script.{Turn}
 use Rattle.desk_script.specs.Pending.{lines_from}
 use Rattle.desk_script.proofs.stream.take_each.Given as goal

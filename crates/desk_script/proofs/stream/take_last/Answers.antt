@@ -1,7 +1,7 @@
 use Rattle.std.proofs.Common.{[], ◌∷◌}
 use Rattle.feed_files.proofs.Shelves.{stays_same}
-use Rattle.desk_steps.specs.Desk.{desk}
-use Rattle.desk_steps.specs.Line.{line_of}
+use Rattle.desk_script.specs.Desk.{desk}
+use Rattle.desk_script.specs.Line.{line_of}
 use Rattle.desk_script.proofs.Bytes.{on_err, on_ok}
 use Rattle.desk_script.proofs.Turns.{turn_kept, turn_stops}
 use Rattle.desk_script.proofs.stream.take_last.Goals as goal

@@ -2,8 +2,8 @@ use Rattle.feed_files.proofs.Shelves.{stays_same}
 use Rattle.std.proofs.Common.{ap₂, refl}
 use Rattle.std.proofs.lemmas.Result.{on_err_weaker, on_ok_weaker}
 use Rattle.script_answers.specs.Reply.{reply_values}
-use Rattle.desk_steps.specs.Desk.{desk}
-use Rattle.desk_steps.specs.Line.{line_of}
+use Rattle.desk_script.specs.Desk.{desk}
+use Rattle.desk_script.specs.Line.{line_of}
 use Rattle.desk_script.proofs.Turns.{one_prefix, one_turn, reported_allowed}
 use Rattle.desk_script.proofs.stream.take_line.Goals as goal
 

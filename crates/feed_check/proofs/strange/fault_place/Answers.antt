@@ -2,7 +2,7 @@ use Rattle.std.proofs.Common.{arith, ℕ, subst, sym}
 use Rattle.std.specs.Prelude.{IfOk, MatchOption, Option, Result}
 use Rattle.toml.specs.View.{table_view}
 use Rattle.desk_memory.specs.declared.NoMemory.{NoMemory}
-use Rattle.desk_keys.proofs.Documents.{document_is, no_document}
+use Rattle.desk_wedge.proofs.Documents.{document_is, no_document}
 use Rattle.feed_check.specs.Strange.{IsDocument, IsNone}
 use Rattle.feed_check.proofs.strange.fault_place.Goals.{in-Ok, in-Err+in-Some, in-Err+in-None}
 use Rattle.feed_check.proofs.strange.fault_place.Goals as goal

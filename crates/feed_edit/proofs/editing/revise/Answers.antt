@@ -3,8 +3,8 @@ use Rattle.std.proofs.lemmas.Result.{IfErr-at_err, err_from_is_err_and}
 use Rattle.desk_ops.specs.declared.op.Op.{Op}
 use Rattle.desk_ops.specs.declared.op.Symbol.{Symbol}
 use Rattle.desk_ops.specs.Shown.{copy_of}
-use Rattle.desk_changes.specs.Changes.{AreSparing, all_changed}
-use Rattle.desk_changes.specs.declared.making.Change.{Change}
+use Rattle.text_copy.specs.Changes.{AreSparing, all_changed}
+use Rattle.text_copy.specs.declared.making.Change.{Change}
 use Rattle.feed_edit.specs.Fault.{refusal_of}
 use Rattle.feed_edit.specs.Editing.{AreMade, IsRefusedAmong, deletes_of, inserts_of}
 use Rattle.feed_files.proofs.Behind.{err_behind, ok_behind}

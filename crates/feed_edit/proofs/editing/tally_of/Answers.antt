@@ -1,5 +1,5 @@
 use Rattle.std.proofs.Common.{arith}
-use Rattle.desk_changes.specs.declared.making.Change.TheVariants as changes
+use Rattle.text_copy.specs.declared.making.Change.TheVariants as changes
 use Rattle.feed_edit.proofs.Sites.{deletes_next, inserts_next}
 use Rattle.feed_edit.proofs.editing.tally_of.Goals as goal
 use Rattle.feed_edit.proofs.editing.tally_of.Goals.{in-Insert, in-Delete}

@@ -6,8 +6,8 @@ use Rattle.feed_files.specs.Files.{HoldsOn, Shelf}
 use Rattle.feed_stored.specs.Stored.{was_read}
 use Rattle.feed_edit.specs.Importing.{RefusesText, TakesText}
 use Rattle.feed_edit.specs.Room.{IsBarredHere, IsOpenedHere}
-use Rattle.feed_last.specs.Room.{IsKeptOut, IsLetIn, IsMarked, is_compared}
-use Rattle.feed_last.proofs.Rooms.{holds_through}
+use Rattle.feed_stored.specs.Room.{IsKeptOut, IsLetIn, IsMarked, is_compared}
+use Rattle.feed_stored.proofs.Rooms.{holds_through}
 use Rattle.feed_edit.proofs.Unimported.{unimported}
 use Rattle.feed_edit.proofs.importing.import_text.Goals as goal
 

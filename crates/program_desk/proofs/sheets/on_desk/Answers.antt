@@ -1,7 +1,7 @@
 use Rattle.std.proofs.Common.{subst, sym, ◌∙◌}
-use Rattle.desk_sheet.specs.StoredSheet.{IsStoppedOnFeed, IsStoredSheet}
-use Rattle.desk_sheet.specs.declared.fault.SheetFault.{SheetFault}
-use Rattle.desk_sheet.specs.declared.sheet.Mode.{Mode}
+use Rattle.desk_script.specs.StoredSheet.{IsStoppedOnFeed, IsStoredSheet}
+use Rattle.desk_script.specs.declared.sheet_fault.SheetFault.{SheetFault}
+use Rattle.desk_script.specs.declared.sheet.Mode.{Mode}
 use Rattle.program_desk.specs.Sheets.{is_sheet}
 use Rattle.program_desk.proofs.Statuses.{done_of, halt_of, when_not, when_so}
 use Rattle.program_desk.proofs.sheets.on_desk.Goals as goal

@@ -1,5 +1,5 @@
 use Rattle.std.proofs.Common.{subst, sym, ◌∙◌}
-use Rattle.desk_sheet.specs.declared.sheet.Mode.{Mode}
+use Rattle.desk_script.specs.declared.sheet.Mode.{Mode}
 use Rattle.program_desk.specs.Sheets.{IsDoneSheet, IsStoppedSheet, is_sheet}
 use Rattle.program_desk.proofs.Statuses.{done_of, halt_of, left_of, when_not, when_so}
 use Rattle.program_desk.proofs.sheets.scripted.Goals as goal

@@ -4,7 +4,7 @@ use Rattle.desk_replica.specs.declared.settings.Settings.{Settings}
 use Rattle.desk_job.specs.Answer.{AreValues, by_key}
 use Rattle.desk_job.specs.Job.{job, values_of}
 use Rattle.desk_job.proofs.Replicas.{copy_short, settings_in}
-use Rattle.desk_trial.specs.Trial.{tried_with}
+use Rattle.view_punch.specs.Trial.{tried_with}
 use Rattle.view_galley.specs.Answer.{no_terms}
 use Rattle.view_proof.specs.Reasons.{why_none}
 use Rattle.view_punch.proofs.Galleys.{none_of_set, of_set}

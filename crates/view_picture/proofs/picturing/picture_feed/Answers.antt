@@ -3,8 +3,8 @@ use Rattle.std.proofs.lemmas.Result.{err_from_is_err_and}
 use Rattle.std.specs.Prelude.{string_bytes}
 use Rattle.feed_files.specs.Files.{IsReplaced, Shelf}
 use Rattle.feed_files.proofs.Shelves.{holds_on}
-use Rattle.desk_outputs.specs.Outputs.{GivesWay, IsNotPut, destination}
-use Rattle.desk_outputs.specs.declared.kinds.Kind.TheVariants as kinds
+use Rattle.feed_files.specs.Outputs.{GivesWay, IsNotPut, destination}
+use Rattle.feed_files.specs.declared.kinds.Kind.TheVariants as kinds
 use Rattle.view_picture.proofs.picturing.picture_feed.Goals as goal
 
 pub returns-in_err-replica-clause-err : goal.returns-in_err-replica-clause-err

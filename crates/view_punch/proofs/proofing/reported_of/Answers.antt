@@ -7,7 +7,7 @@ use Rattle.desk_job.proofs.Replicas.{copy_short, settings_in}
 use Rattle.view_galley.specs.Answer.{no_terms}
 use Rattle.view_proof.specs.Proof.{no_galley_text, proof_text}
 use Rattle.view_proof.specs.Reasons.{why_none}
-use Rattle.desk_trial.specs.Trial.{tried_with}
+use Rattle.view_punch.specs.Trial.{tried_with}
 use Rattle.view_punch.specs.Proofing.{is_clean}
 use Rattle.view_punch.proofs.Galleys.{have_words, none_of_set, of_set}
 use Rattle.view_punch.proofs.proofing.reported_of.Goals as goal

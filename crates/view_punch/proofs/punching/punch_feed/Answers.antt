@@ -7,9 +7,9 @@ use Rattle.desk_ribbon.specs.Ribbon.{ribbon}
 use Rattle.desk_replica.specs.declared.settings.Settings.{Settings}
 use Rattle.desk_job.specs.Answer.{IsRefused, by_key}
 use Rattle.view_proof.specs.Reasons.{missing, other_number}
-use Rattle.desk_inputs.specs.Job.{job_of}
-use Rattle.desk_outputs.specs.Outputs.{GivesWay, IsNotPut, destination}
-use Rattle.desk_outputs.specs.declared.kinds.Kind.TheVariants as kinds
+use Rattle.script_answers.specs.Job.{job_of}
+use Rattle.feed_files.specs.Outputs.{GivesWay, IsNotPut, destination}
+use Rattle.feed_files.specs.declared.kinds.Kind.TheVariants as kinds
 use Rattle.view_punch.specs.Lines.{IsUnreported, job_line}
 use Rattle.view_punch.specs.Punching.{missing_of, other_of}
 use Rattle.view_punch.specs.Sources.{sources}

@@ -3,8 +3,8 @@ use Rattle.std.proofs.lemmas.Result.{err_from_is_err_and}
 use Rattle.std.specs.Prelude.{Ok}
 use Rattle.feed_files.specs.Files.{Shelf}
 use Rattle.feed_files.proofs.Shelves.{same_shelf}
-use Rattle.desk_inputs.proofs.Gives.{still_at}
-use Rattle.desk_inputs.specs.Inputs.{BothGive}
+use Rattle.script_answers.proofs.Gives.{still_at}
+use Rattle.script_answers.specs.Inputs.{BothGive}
 use Rattle.view_punch.specs.Sources.{sources}
 use Rattle.view_punch.proofs.Gives.{no_inputs}
 use Rattle.view_punch.proofs.sources.take_in.Goals as goal

@@ -3,8 +3,8 @@ use Rattle.std.proofs.lemmas.Result.{err_from_is_err_and}
 use Rattle.std.specs.Prelude.{Ok}
 use Rattle.feed_files.specs.Files.{Shelf}
 use Rattle.feed_files.proofs.Shelves.{same_shelf}
-use Rattle.desk_inputs.proofs.Gives.{stays_by, still_at}
-use Rattle.desk_inputs.specs.Inputs.{BothGive}
+use Rattle.script_answers.proofs.Gives.{stays_by, still_at}
+use Rattle.script_answers.specs.Inputs.{BothGive}
 use Rattle.view_ribbon.specs.Sources.{sources}
 use Rattle.view_ribbon.proofs.Gives.{no_inputs, no_ribbon}
 use Rattle.view_ribbon.proofs.sources.take_in.Goals as goal

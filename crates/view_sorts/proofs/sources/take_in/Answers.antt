@@ -5,8 +5,8 @@ use Rattle.script_answers.specs.Failure.{case_refused}
 use Rattle.desk_case.specs.File.{case_of}
 use Rattle.feed_files.specs.Files.{Shelf}
 use Rattle.feed_files.proofs.Shelves.{same_shelf}
-use Rattle.desk_inputs.proofs.Gives.{still_at}
-use Rattle.desk_inputs.specs.Inputs.{FileGives}
+use Rattle.script_answers.proofs.Gives.{still_at}
+use Rattle.script_answers.specs.Inputs.{FileGives}
 use Rattle.view_sorts.specs.Sources.{sources}
 use Rattle.view_sorts.proofs.Gives.{no_inputs}
 use Rattle.view_sorts.proofs.sources.take_in.Goals as goal

@@ -1,9 +1,0 @@
-use Rattle.std.proofs.Common.{◌≡◌, ◌++◌, ◌≤◌, string_bytes, drop}
-use Rattle.desk_holes.specs.Rows.{rows_text}
-use Rattle.desk_holes.proofs.rows.put_rows.Given as goal
-
-abbrev pub invariant-rows : goal.invariant-rows
-invariant-rows g l = (string_bytes l.out ≡ string_bytes l.fn.out ++ rows_text l.case l.count l.place (drop l.place l.rows)) × (l.place ≤ l.count)
-
-abbrev pub decreases-rows : goal.decreases-rows
-decreases-rows g l = l.place

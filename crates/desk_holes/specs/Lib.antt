@@ -1,5 +1,0 @@
-pub mod Parts
-pub mod Channels
-pub mod Rows
-pub mod Picture
-pub mod Drawing

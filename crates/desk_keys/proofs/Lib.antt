@@ -1,5 +1,0 @@
-pub mod Documents
-pub mod Numbers
-pub mod Items
-pub mod Values
-pub mod FirstFault

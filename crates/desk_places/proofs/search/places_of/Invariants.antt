@@ -1,7 +1,0 @@
-use Rattle.std.proofs.Common.{◌≡◌}
-use Rattle.std.specs.List.{filter, range_with_len}
-use Rattle.desk_places.specs.Places.{stands}
-use Rattle.desk_places.proofs.search.places_of.Given as goal
-
-abbrev pub invariant-loop-place : goal.invariant-loop-place
-invariant-loop-place g l = l.places.items ≡ filter (stands l.text l.copy) (range_with_len 0 l.place)

@@ -1,9 +1,0 @@
-//! What holds of the places of a text, whoever looks for them.
-
-ghost use Rattle.desk_places.specs.Laws.{AreAllPlaces};
-
-/// The places that are found rise, and are those at which the text stands: it ends within the copy, and the symbols from
-/// there on are its own.
-pub fn all_places_are_found()
-    ensures { AreAllPlaces }
-{}

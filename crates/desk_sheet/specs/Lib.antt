@@ -1,3 +1,0 @@
-pub mod Phases
-pub mod Sheet
-pub mod StoredSheet

@@ -1,5 +1,0 @@
-pub mod Desk
-pub mod Event
-pub mod Insert
-pub mod Act
-pub mod Line

@@ -1,8 +1,0 @@
-//! The law over the definitions alone, the contract of a function that does nothing.
-
-ghost use Rattle.desk_trial.specs.Trial.{NothingIsAsSet};
-
-/// Where nothing is tried each key has the value that the set gives it.
-pub fn nothing_is_as_set()
-    ensures { NothingIsAsSet }
-{}

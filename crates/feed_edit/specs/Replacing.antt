@@ -1,0 +1,97 @@
+-- A text in the copy of a stored feed, made another at the one place where it stands.
+use Rattle.std.specs.Prelude.{◌≡◌, ◌≢◌, ℕ, ◌+◌, Bool, List, [], ◌∷◌, ◌++◌, Option, Ok, Err, length, take, drop}
+use Rattle.desk_ops.specs.declared.op.Symbol.{Symbol}
+use Rattle.desk_ops.specs.OpSet.{OpSet}
+use Rattle.desk_ops.specs.Shown.{copy_of}
+use Rattle.text_copy.specs.Reading.{reading}
+use Rattle.text_copy.specs.declared.fault.TextFault.{TextFault}
+use Rattle.text_copy.specs.declared.fault.TextFault.TheVariants as texts
+use Rattle.feed_files.specs.Files.{Shelf}
+use Rattle.text_copy.specs.Places.{places_of}
+use Rattle.feed_edit.specs.Editing.{IsRevised, IsSparing, IsUnrevised}
+use Rattle.feed_edit.specs.Keeping.{IsKept, IsUnkept, edited_line}
+use Rattle.feed_edit.specs.Merging.{IsBarred}
+use Rattle.feed_edit.specs.Room.{IsBarredHere, IsOpenedHere}
+use Rattle.feed_stored.specs.Room.{IsMarked}
+use Rattle.feed_edit.specs.declared.fault.RevisionFault.TheVariants as revisions
+use Rattle.feed_edit.specs.Reporting.{IsReported}
+use Rattle.feed_edit.specs.declared.texts.Exchange.{Exchange}
+use Rattle.feed_edit.specs.declared.replace_fault.ExchangeFault.{ExchangeFault}
+use Rattle.feed_edit.specs.declared.replace_fault.ExchangeFault.TheVariants as exchanges
+use Rattle.feed_edit.specs.declared.replace_fault.ReplaceFault.{ReplaceFault}
+use Rattle.feed_edit.specs.declared.replace_fault.ReplaceFault.TheVariants as faults
+
+-- ---- the two texts
+
+-- they are read as these; where all is plain, without marks
+abbrev pub AreRead : Exchange → List Symbol → List Symbol → Type 0
+AreRead exchange old new = (reading exchange.plain (exchange.from).now ≡ Ok old)
+    × (reading exchange.plain (exchange.to).now ≡ Ok new)
+
+-- why they are not: the first fault of the one, or, where that is read, of the other; or memory ran out
+abbrev pub AreUnread : Exchange → ExchangeFault → Type 0
+AreUnread exchange (exchanges.Old why) = reading exchange.plain (exchange.from).now ≡ Err why
+AreUnread exchange (exchanges.New why) = ((old : List Symbol) × (reading exchange.plain (exchange.from).now ≡ Ok old))
+    × (reading exchange.plain (exchange.to).now ≡ Err why)
+AreUnread exchange exchanges.NoMemory = Unit {0}
+
+-- the fault of a text that is not read: the one that names the text, unless memory ran out
+abbrev pub fault_of : TextFault → ExchangeFault → ExchangeFault
+fault_of (texts.At line column cause) named = named
+fault_of texts.NoMemory named = exchanges.NoMemory
+
+-- ---- in a copy
+
+-- a copy with a text in place of so many symbols from a place on
+abbrev pub replaced : ℕ → ℕ → List Symbol → List Symbol → List Symbol
+replaced place count new copy = take place copy ++ new ++ drop (place + count) copy
+
+-- the one text stands at exactly one place of a copy, and this is the copy with the other there instead
+abbrev pub IsExchanged : List Symbol → List Symbol → List Symbol → List Symbol → Type 0
+IsExchanged old new copy text = (place : ℕ) × (places_of old copy ≡ place ∷ [])
+    × (text ≡ replaced place (length old) new copy)
+
+-- The one text stands at exactly one place of the copy of the old set. In that of the new set the other stands there
+-- instead, by so many inserts and so many deletes of the site: no more than both copies have symbols between what they
+-- begin and end with alike, and none where the copy stays.
+abbrev pub Replaces : ℕ → List Symbol → List Symbol → OpSet → OpSet → ℕ → ℕ → Type 0
+Replaces site old new was set inserted deleted = (text : List Symbol) × IsExchanged old new (copy_of was) text
+    × IsRevised site was set text inserted deleted
+    × IsSparing (copy_of was) text (inserted + deleted) × (copy_of was ≡ text → set ≡ was)
+
+-- ---- a replacement
+
+-- The set is that of the stored feed, which was let in, with operations of the site that make the one text the other at
+-- the one place where it stands. The line was written, its feed stands under the name, and FEED.last has its greatest
+-- counter, or is as it was.
+abbrev pub IsReplaced : List ℕ → ℕ → Bool → Exchange → Shelf → Shelf → Option (List ℕ) → Option (List ℕ) → Type 0
+IsReplaced name site older exchange first last before after =
+    (old new : List Symbol) × AreRead exchange old new × (opened : Shelf) × (read : Option (List ℕ)) × (was : OpSet)
+    × IsOpenedHere name site older first opened read was
+    × (set : OpSet) × (inserted deleted : ℕ) × Replaces site old new was set inserted deleted
+    × (stored : Shelf) × IsKept name set (edited_line inserted deleted) read opened stored before after
+    × IsMarked name site set stored last
+
+-- Why a replacement stopped, and what it left. Until the copy was changed the files are as they were when the feed was
+-- let in, and nothing was written but the places.
+abbrev pub IsUnreplaced : List ℕ → ℕ → Bool → Exchange → Shelf → Shelf → Option (List ℕ) → Option (List ℕ)
+    → ReplaceFault → Type 0
+IsUnreplaced name site older exchange first last before after (faults.Exchange why) = (after ≡ before) × (last ≡ first)
+    × AreUnread exchange why
+IsUnreplaced name site older exchange first last before after (faults.Take why) =
+    (after ≡ before) × (old new : List Symbol) × AreRead exchange old new × IsBarred name first last why
+IsUnreplaced name site older exchange first last before after (faults.Last why) =
+    (after ≡ before) × (old new : List Symbol) × AreRead exchange old new × IsBarredHere name site older first last why
+IsUnreplaced name site older exchange first last before after (faults.Place why) =
+    (old new : List Symbol) × AreRead exchange old new × (read : Option (List ℕ)) × (was : OpSet)
+    × IsOpenedHere name site older first last read was × IsReported old (copy_of was) before after why
+IsUnreplaced name site older exchange first last before after (faults.Revision why) =
+    (after ≡ before) × (old new : List Symbol) × AreRead exchange old new × (read : Option (List ℕ)) × (was : OpSet)
+    × IsOpenedHere name site older first last read was
+    × (text : List Symbol) × IsExchanged old new (copy_of was) text × (now : OpSet) × IsUnrevised site was now text why
+    × (copy_of was ≡ text → why ≡ revisions.NoMemory) × (why ≢ revisions.Value)
+IsUnreplaced name site older exchange first last before after (faults.Keep why) =
+    (old new : List Symbol) × AreRead exchange old new × (opened : Shelf) × (read : Option (List ℕ)) × (was : OpSet)
+    × IsOpenedHere name site older first opened read was
+    × (set : OpSet) × (inserted deleted : ℕ) × Replaces site old new was set inserted deleted
+    × IsUnkept name (edited_line inserted deleted) opened last before after why

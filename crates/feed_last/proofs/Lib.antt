@@ -1,6 +1,0 @@
-pub mod Cuts
-pub mod Lines
-pub mod Places
-pub mod Counters
-pub mod Putting
-pub mod Rooms

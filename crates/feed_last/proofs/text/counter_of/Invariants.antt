@@ -1,6 +1,0 @@
-use Rattle.std.proofs.Common.{◌≡◌, drop}
-use Rattle.feed_last.specs.Text.{counter_of}
-use Rattle.feed_last.proofs.text.counter_of.Given as goal
-
-abbrev pub invariant-loop-stamp : goal.invariant-loop-stamp
-invariant-loop-stamp l = counter_of (drop l.stamp-index l.stamps) l.site ≡ counter_of l.stamps l.site

@@ -1,5 +1,0 @@
-pub mod Greatest
-pub mod Text
-pub mod Last
-pub mod Room
-pub mod Laws

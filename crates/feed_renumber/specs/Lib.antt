@@ -1,4 +1,0 @@
-pub mod Moving
-pub mod Refusing
-pub mod Laws
-pub mod Renumbering

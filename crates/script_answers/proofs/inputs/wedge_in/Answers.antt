@@ -1,0 +1,38 @@
+use Rattle.std.proofs.Common.{ap}
+use Rattle.std.proofs.lemmas.Result.{err_from_is_err_and}
+use Rattle.std.specs.Prelude.{Err}
+use Rattle.script_answers.specs.Failure.{wedge_refused}
+use Rattle.desk_wedge.specs.File.{wedge_of}
+use Rattle.feed_files.proofs.Shelves.{same_shelf}
+use Rattle.script_answers.proofs.Gives.{misread, no_memory_wedge, no_number_wedge, read_as, stays_by, unread}
+use Rattle.script_answers.proofs.inputs.wedge_in.Goals as goal
+
+pub returns-in_err-bytes-clause-given : goal.returns-in_err-bytes-clause-given
+returns-in_err-bytes-clause-given g c =
+    let first = g.F.Files.shelf c.args.files.now in
+    let mid = g.F.Files.shelf c.read.new.self in
+    let p = err_from_is_err_and c.from_residual.result c.from_residual.ensures.1 in
+    rw p.1 (rw p.2 (unread wedge_of wedge_refused c.args.name.now first mid c.in_err-bytes.field-0.0 (stays_by c.read.result first mid c.in_err-bytes.ensures.kept c.in_err-bytes.ensures.held c.read.ensures.counted)
+    c.in_err-bytes.ensures.given c.in_err-bytes.ensures.counted))
+
+pub returns-in_err-wedge-clause-given : goal.returns-in_err-wedge-clause-given
+returns-in_err-wedge-clause-given g c =
+    let first = g.F.Files.shelf c.args.files.now in
+    let mid = g.F.Files.shelf c.read.new.self in
+    let fault = c.in_err-wedge.field-0.0 in
+    let p = err_from_is_err_and c.from_residual-in_err-wedge.result c.from_residual-in_err-wedge.ensures.1 in
+    rw p.1 (rw p.2 (misread wedge_of wedge_refused c.args.name.now first mid c.in_ok-bytes.bytes.items c.deref.result.now fault (stays_by c.read.result first mid c.in_ok-bytes.ensures.kept c.in_ok-bytes.ensures.held c.read.ensures.counted)
+    c.in_ok-bytes.ensures.given c.in_ok-bytes.ensures.counted c.deref.ensures.value (λ reported is. c.in_err-wedge.ensures.err (no_memory_wedge fault reported is)) (λ none. c.in_err-wedge.ensures.memory (ap Err (no_number_wedge fault none)))))
+
+pub returns-clause-given : goal.returns-clause-given
+returns-clause-given g c =
+    let first = g.F.Files.shelf c.args.files.now in
+    let mid = g.F.Files.shelf c.read.new.self in
+    read_as wedge_of wedge_refused c.args.name.now first mid c.in_ok-bytes.bytes.items c.deref.result.now c.in_ok-wedge.wedge (stays_by c.read.result first mid c.in_ok-bytes.ensures.kept c.in_ok-bytes.ensures.held c.read.ensures.counted)
+    c.in_ok-bytes.ensures.given c.in_ok-bytes.ensures.counted c.deref.ensures.value c.in_ok-wedge.ensures.ok
+
+pub returns-clause-still : goal.returns-clause-still
+returns-clause-still g c =
+    let first = g.F.Files.shelf c.args.files.now in
+    let mid = g.F.Files.shelf c.read.new.self in
+    same_shelf first mid (stays_by c.read.result first mid c.in_ok-bytes.ensures.kept c.in_ok-bytes.ensures.held c.read.ensures.counted) c.in_ok-bytes.ensures.counted

@@ -1,5 +1,0 @@
-//! The tests of program_host.
-#![tactic(auto)]
-
-#[cfg(test)]
-mod host;
