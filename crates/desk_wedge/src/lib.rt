@@ -20,7 +20,6 @@ ghost use Rattle.desk_wedge.specs.declared.WedgeKey.TheVariants as key;
 ghost use Rattle.toml.specs.Errors.{IsBlank};
 ghost use Rattle.toml.specs.View.{view, items_view, table_view};
 
-use crate::{TableFault, member, whole_number};
 use desk_signals::RowNo;
 use desk_units::{Pica, SetQ};
 pub use keys::{TableFault, member, table, whole_number};
