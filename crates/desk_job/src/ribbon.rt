@@ -58,9 +58,8 @@ fn one_fault<A: Allocator>(alloc: A, fault: JobFault) -> JobRefusal<A>
 }
 
 /// The ribbon of a copy of at most 1,048,576 symbols, or the faults of its job: the first that holds of a missing
-/// setting, another case, another wedge, settings that cross, fills in no order and a space that vanishes; or the
-/// place of
-/// each symbol that the case lacks; or the fault of each line that can't be set. Out of memory may come in place of
+/// setting, another case, another wedge, settings that cross, fills in no order and a space that vanishes; or the place
+/// of each symbol that the case lacks; or the fault of each line that can't be set. Out of memory may come in place of
 /// any.
 ///
 /// The ribbon, cast with the same case and wedge, is the copy line by line, each line short of the measure by less than

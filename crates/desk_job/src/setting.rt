@@ -1,8 +1,7 @@
 //! What a line is set by: first the space that may be added, then the fills, then the wedge sum for what is left.
 //!
 //! A line that is to be filled is brought near the measure by fills, so that the wedges have little left to do; any
-//! other
-//! line has only its spaces.
+//! other line has only its spaces.
 
 ghost use Rattle.std.specs.Prelude.{◌≡◌, ◌+◌, ◌-◌, ◌*◌, ◌≤◌, ◌^◌, [], false, pos, ◌+ℤ◌, ◌-ℤ◌, ◌*ℤ◌, ◌≤ℤ◌, int_le};
 ghost use Rattle.std.specs.Prelude.{unsigned_abs, sum_by, length, All, if◌then◌else◌, ◌&&◌};
@@ -105,8 +104,7 @@ pub fn left(terms: &Terms, rest: Atoms, counts: &[u32]) -> Atoms
 }
 
 /// The wedge sum at which so many spaces take up what is left, or the line's fault. A line that is not to be filled
-/// fits
-/// at tight, so its sum is not below that.
+/// fits at tight, so its sum is not below that.
 fn line_sum(
     terms: &Terms,
     n: usize,

@@ -21,8 +21,7 @@ use desk_wedge::Wedge;
 use std::marker::Model;
 
 /// The case, the wedge, the measure in points, and the least and the greatest wedge sum. A space at the least sum is
-/// wider
-/// than 0, and the fills descend.
+/// wider than 0, and the fills descend.
 #[derive(Drop)]
 pub struct Terms<'a> {
     case: &'a MatrixCase,
@@ -199,8 +198,7 @@ impl<'a> Terms<'a> {
     }
 
     /// The case. It and all other terms are in their ranges, the fills descend, and a space at the least wedge sum is
-    /// wider
-    /// than 0.
+    /// wider than 0.
     pub fn case(&self) -> &MatrixCase
         ensures value { result.now ≡ self.now.case }
         ensures usable { IsUsable self.now }

@@ -201,8 +201,7 @@ abbrev pub sorts_words : ℕ → List ℕ
 sorts_words sorts = codes ", " ++ decimal sorts ++ codes " sorts"
 
 -- what a case file gives, with how many cells it has texts for; or its fault, with the cells that hold its symbol and
--- the number
--- that is wrong in its rows
+-- the number that is wrong in its rows
 abbrev pub case_words : ℕ → (CaseFault → List Cell) → (CaseFault → Option RowsFault) → Result CaseValues CaseFault
     → Option (List ℕ)
 case_words cells holders rows_fault (Ok case) =

@@ -226,8 +226,7 @@ fn put_shape<A: Allocator + Copy>(
 }
 
 /// Writes the first fault of a case file, with its key, its cell, its symbol and the cells that hold it, or the number
-/// that is
-/// wrong in its rows. Where the fault is that memory ran out, nothing is written.
+/// that is wrong in its rows. Where the fault is that memory ran out, nothing is written.
 fn put_case_fault<A: Allocator + Copy>(
     out: &mut String<A>,
     fault: CaseFault,

@@ -117,12 +117,10 @@ fn both(before: bool, one: bool) -> bool
 }
 
 /// Checks files by their names, in their order. Each has one line, written before the next file is read: what is in it
-/// as a
-/// feed, a ribbon, a case or a wedge, by its content, or its first fault, or that it is none of these, or why it was
-/// not read.
-/// Where exactly one is a case in order and exactly one a wedge in order, and they do not go together, a last line
-/// says so. It is
-/// true exactly where every file is in order and there is no such line. No name is taken, and no file changes.
+/// as a feed, a ribbon, a case or a wedge, by its content, or its first fault, or that it is none of these, or why it
+/// was not read. Where exactly one is a case in order and exactly one a wedge in order, and they do not go together, a
+/// last line says so. It is true exactly where every file is in order and there is no such line. No name is taken, and
+/// no file changes.
 pub fn check_files<W: Write, F: Files, A: Allocator + Copy>(
     memory: Memory<A>,
     writer: &mut W,

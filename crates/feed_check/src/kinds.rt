@@ -65,8 +65,7 @@ pub fn document(global: Global, bytes: &[u8]) -> Result<Option<Table>, NoMemory>
 }
 
 /// The kind of bytes: a feed or a ribbon by the first four, else a case or a wedge by the keys of the document that
-/// they
-/// are.
+/// they are.
 pub fn kind_of(global: Global, bytes: &[u8]) -> Result<Kind, NoMemory>
     ensures { IfOk result (λ kind. kind ≡ kind_of bytes.now) }
 {

@@ -62,10 +62,8 @@ fn alone_of<A: Allocator + Copy>(
 }
 
 /// Writes the lines of the words in which the copies of two replicas differ at the end: of each stretch `- 12 the
-/// quick`,
-/// with its place in the first copy, from 0, and the words there, and `+ 12 the slow` with those of the second. Where
-/// the
-/// copies are one it writes nothing.
+/// quick`, with its place in the first copy, from 0, and the words there, and `+ 12 the slow` with those of the second.
+/// Where the copies are one it writes nothing.
 pub fn put_words<A: Allocator + Copy>(
     alloc: A,
     out: &mut Vec<u8, A>,

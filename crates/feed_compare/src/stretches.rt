@@ -35,8 +35,7 @@ fn are_kept(one: &[Symbol], other: &[Symbol], from: Point, to: Point) -> bool
 }
 
 /// The point behind the next step of two copies, of which one at least has symbols left. Where they have the same
-/// symbol
-/// both go on. Else a change that is due at the point goes on in one of them.
+/// symbol both go on. Else a change that is due at the point goes on in one of them.
 fn step(one: &[Symbol], other: &[Symbol], change: Option<Change>, point: Point) -> Point
     requires within { IsReached one.now other.now point point }
     requires left { (point.one < length one.now) ⊎ (point.other < length other.now) }
@@ -98,8 +97,7 @@ fn close<A: Allocator + Copy>(
 }
 
 /// What was reported once a walk comes to a point. Where words are whole there, those behind the last such point are
-/// one
-/// stretch with what is open, if they differ; else they are kept, and what was open is a stretch.
+/// one stretch with what is open, if they differ; else they are kept, and what was open is a stretch.
 fn pass<A: Allocator + Copy>(
     one: &[Symbol],
     other: &[Symbol],

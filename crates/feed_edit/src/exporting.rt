@@ -17,9 +17,8 @@ use std::alloc::Allocator;
 use std::io::Write;
 use text_copy::write_text;
 
-/// Opens the feed of a file, which must be there, to be read alone: its name is not taken, and no file changes.
-/// Nothing is to
-/// be edited in the replica, which has a number of no meaning.
+/// Opens the feed of a file, which must be there, to be read alone: its name is not taken, and no file changes. Nothing
+/// is to be edited in the replica, which has a number of no meaning.
 pub fn open_feed<F: Files, A: Allocator + Copy>(
     alloc: A,
     files: &mut F,
@@ -46,9 +45,8 @@ fn text_of<A: Allocator + Copy>(
 }
 
 /// Writes the copy of a stored feed as text with marks for its styles, as `text_copy` writes it, and nothing else. The
-/// file
-/// must be there. Its name is not taken, and no file changes: a feed is stored by a rename, so what is read is a whole
-/// feed. A refusal of the feed or of memory comes before anything is written.
+/// file must be there. Its name is not taken, and no file changes: a feed is stored by a rename, so what is read is a
+/// whole feed. A refusal of the feed or of memory comes before anything is written.
 pub fn export_feed<W: Write, F: Files, A: Allocator + Copy>(
     alloc: A,
     writer: &mut W,

@@ -92,8 +92,7 @@ fn forks_among<A: Allocator + Copy>(
 }
 
 /// The stamps that a replica forks and that are not among others, which rise. Where its copy has no fault it is never
-/// out
-/// of memory.
+/// out of memory.
 pub fn forks_beside<A: Allocator + Copy>(
     alloc: A,
     replica: &Replica<Blocks<A>>,
@@ -127,8 +126,7 @@ pub fn known_in<A: Allocator + Copy>(
 }
 
 /// The line of a feed with which a stored one shares numbers that both used: `two.feed: site 1 made 775..791 805, site
-/// 3
-/// made 7 here and there`.
+/// 3 made 7 here and there`.
 pub fn forks_line<A: Allocator + Copy>(
     alloc: A,
     name: &str,

@@ -39,9 +39,8 @@ fn text_from<R: Read, A: Allocator + Copy>(
     Ok(read_text(alloc, &bytes, plain)?)
 }
 
-/// Whether a copy of so many symbols is wiped: it has some and the text none; or it has 200 or more, and more than
-/// half of
-/// them are deleted.
+/// Whether a copy of so many symbols is wiped: it has some and the text none; or it has 200 or more, and more than half
+/// of them are deleted.
 fn is_wiped(of: usize, text: &[Symbol], deleted: usize) -> bool
     ensures { result ≡ is_wiped of text.now deleted }
 {
@@ -93,22 +92,16 @@ fn take_text<R: Read, A: Allocator + Copy>(
 }
 
 /// Makes the copy of a stored feed the text that a reader has left, whole: with marks for its styles as `text_copy`
-/// reads
-/// it, or plain. The name of the feed is taken first and for this run alone; a missing one holds nothing. Each change
-/// is
-/// an operation of the site, and no other is made; nothing that the feed held is lost. The line `ok inserted 12
-/// deleted 7`
-/// is written, and then the feed is stored, unless the file has these bytes. `Input` has the first fault of the text,
-/// that
-/// it has more than `MAX_TEXT` bytes, or that the reader or memory failed, and `Revision` that the feed would have more
-/// operations than a replica holds or counters above the greatest, or that memory ran out. `Wipes` comes unless all
-/// may be
-/// deleted: the text is empty and the copy is not, or the copy has 200 symbols or more, and more than half of them
-/// would be
-/// deleted. `Last` comes unless an older feed is wanted: the feed holds less of the site than FEED.last says that it
-/// made
-/// here; then nothing is read. Until the line is written no file has changed, and where the feed is not stored none but
-/// `name.new`. Once it is stored FEED.last has the greatest counter of the site; where that cannot be written it stays.
+/// reads it, or plain. The name of the feed is taken first and for this run alone; a missing one holds nothing. Each
+/// change is an operation of the site, and no other is made; nothing that the feed held is lost. The line `ok inserted
+/// 12 deleted 7` is written, and then the feed is stored, unless the file has these bytes. `Input` has the first fault
+/// of the text, that it has more than `MAX_TEXT` bytes, or that the reader or memory failed, and `Revision` that the
+/// feed would have more operations than a replica holds or counters above the greatest, or that memory ran out. `Wipes`
+/// comes unless all may be deleted: the text is empty and the copy is not, or the copy has 200 symbols or more, and
+/// more than half of them would be deleted. `Last` comes unless an older feed is wanted: the feed holds less of the
+/// site than FEED.last says that it made here; then nothing is read. Until the line is written no file has changed, and
+/// where the feed is not stored none but `name.new`. Once it is stored FEED.last has the greatest counter of the site;
+/// where that cannot be written it stays.
 pub fn import_text<R: Read, W: Write, F: Files, A: Allocator + Copy>(
     alloc: A,
     reader: &mut R,

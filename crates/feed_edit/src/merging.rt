@@ -79,8 +79,7 @@ fn counted_line<A: Allocator + Copy>(
 }
 
 /// The line of a file and its open readings, and whether there are none: by what was kept of a replica, the operations
-/// that
-/// were joined to it, and the replica that holds both.
+/// that were joined to it, and the replica that holds both.
 fn lines_of<A: Allocator + Copy>(
     alloc: A,
     name: &str,
@@ -162,8 +161,7 @@ enum Joined<A: Allocator> {
 }
 
 /// Joins the feed of a file to what a replica holds, and writes its lines at the end, and whether no reading is open;
-/// or the
-/// stamps that are forked then and not known to be, unless forks are asked for. Then no reading is looked for.
+/// or the stamps that are forked then and not known to be, unless forks are asked for. Then no reading is looked for.
 fn join_known<F: Files, A: Allocator + Copy>(
     alloc: A,
     replica: &mut Replica<Blocks<A>>,
@@ -197,9 +195,8 @@ fn are_both(one: bool, other: bool) -> bool
     one && other
 }
 
-/// Joins the feeds of files to what a replica holds, in their order: the lines of each and whether no reading was
-/// open, or
-/// the place of the first that does not come in or that adds a fork, and why. Known are the stamps that the replica
+/// Joins the feeds of files to what a replica holds, in their order: the lines of each and whether no reading was open,
+/// or the place of the first that does not come in or that adds a fork, and why. Known are the stamps that the replica
 /// forks.
 fn join_files<F: Files, A: Allocator + Copy>(
     alloc: A,
@@ -238,8 +235,7 @@ fn join_files<F: Files, A: Allocator + Copy>(
 }
 
 /// Opens the feed that is stored under a name as a replica of a site; with it the bytes that were read. Where no file
-/// is
-/// there it holds nothing.
+/// is there it holds nothing.
 fn open_stored<F: Files, A: Allocator + Copy>(
     alloc: A,
     files: &mut F,
@@ -260,8 +256,7 @@ fn open_stored<F: Files, A: Allocator + Copy>(
 }
 
 /// Takes a name for this run alone, and opens the feed that is stored under it as a replica of a site; with it the
-/// bytes
-/// that were read. Where no file is there it holds nothing.
+/// bytes that were read. Where no file is there it holds nothing.
 pub fn take_feed<F: Files, A: Allocator + Copy>(
     alloc: A,
     files: &mut F,
@@ -280,8 +275,7 @@ pub fn take_feed<F: Files, A: Allocator + Copy>(
 }
 
 /// Takes a name for this run alone, and opens the feed that is stored under it; with it the bytes that were read, and
-/// the
-/// stamps that it forks, unless forks are asked for.
+/// the stamps that it forks, unless forks are asked for.
 fn take_known<F: Files, A: Allocator + Copy>(
     alloc: A,
     files: &mut F,
@@ -316,13 +310,11 @@ fn put_faults<A: Allocator + Copy>(
 }
 
 /// Merges the feeds of files into a stored feed, whose name it takes first and for itself alone: a missing one holds
-/// nothing. Each of the others must be there, and may be that feed itself. In their order each has a line,
-/// `NAME ok new 45 known 29857`, and behind it the open readings of what was joined so far and of that feed, as
-/// `report_readings` has them. At the end stand the faults of the copy, as the command `faults` has them. Once all
-/// that is
-/// written the feed of the union is stored, unless the file has these bytes; the answer is whether no reading was open.
-/// Unless forks are asked for, the first of the others with which a stamp is forked that the stored feed does not fork
-/// stops
+/// nothing. Each of the others must be there, and may be that feed itself. In their order each has a line, `NAME ok new
+/// 45 known 29857`, and behind it the open readings of what was joined so far and of that feed, as `report_readings`
+/// has them. At the end stand the faults of the copy, as the command `faults` has them. Once all that is written the
+/// feed of the union is stored, unless the file has these bytes; the answer is whether no reading was open. Unless
+/// forks are asked for, the first of the others with which a stamp is forked that the stored feed does not fork stops
 /// all: `Forks` has all such stamps. Where it stops no file has changed but, once all was written, `name.new`.
 pub fn merge_feeds<W: Write, F: Files, A: Allocator + Copy>(
     alloc: A,

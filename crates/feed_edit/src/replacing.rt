@@ -39,8 +39,7 @@ fn replaced<A: Allocator + Copy>(
 }
 
 /// The copy of a replica with a text in place of another, at the one place at which that stands. Where there is none,
-/// or
-/// more than one, they are reported.
+/// or more than one, they are reported.
 fn exchanged<W: Write, A: Allocator + Copy>(
     alloc: A,
     replica: &Replica<Blocks<A>>,

@@ -65,8 +65,7 @@ abbrev pub Deletes : OpSet → Stamp → Type 0
 Deletes set stamp = (op : Op) × (has_op set op ≡ true) × (deletes stamp op ≡ true)
 
 -- The union forks no stamp. These are what the other set has alone, and what the one has. No insert of a set hangs on
--- what
--- the set has not. And the targets are those of the deletes of each, and of what both have in common.
+-- what the set has not. And the targets are those of the deletes of each, and of what both have in common.
 pub record AreParts {A : Type 0} (one other : OpSet) (parts : Parts A) : Type 0 where
   pub unforked : IsUnforked (union one other)
   pub news : (op : Op) → has_op parts.news op ≡ (has_op other op && not (has_op one op))

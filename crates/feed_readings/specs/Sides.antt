@@ -19,9 +19,8 @@ pub record AreSides {A : Type 0} (ones ops : List Op) (sides : Sides A) : Type 0
   pub news : AreNews (with_all no_ops ones) ops sides.news.items
 
 -- Two lists were passed side by side. Both rise, and none of their stamps comes after the last. No two of their
--- operations
--- bear one stamp. The olds are those of the one alone, the news those of the other, and the targets of what both
--- delete.
+-- operations bear one stamp. The olds are those of the one alone, the news those of the other, and the targets of what
+-- both delete.
 pub record ArePassed (ones ops : List Op) (last : Stamp) (olds news : List Op) (shared : BTreeMap Stamp (Unit {0})) :
     Type 0 where
   pub ones_rise : T (is_rising ones)

@@ -105,8 +105,7 @@ fn other_of<Q: Sequence>(
 }
 
 /// The elements of the four lists of all of a replica, of another, and of what both make: the other and what they have
-/// in
-/// common are opened as replicas.
+/// in common are opened as replicas.
 fn copies_after<Q: Sequence>(
     alloc: Q::Memory,
     whole: Whole<Q::Memory>,
@@ -157,14 +156,10 @@ fn report_apart<Q: Sequence>(
 }
 
 /// The open readings of what was kept of a replica and of a list of operations that was joined to it as text, and how
-/// many
-/// they are, as `report_readings` has them: `here` is the replica before, `there` the list, and `now` what both make.
-/// Where
-/// one of the two holds all that the other does there are none, and no copy is looked at. Where no stamp is forked and
-/// no
-/// insert waits in one of the two, all four copies are read off the walk of what both make; else the list and what
-/// both have
-/// in common are opened as replicas. Out of memory comes only where a growth was refused.
+/// many they are, as `report_readings` has them: `here` is the replica before, `there` the list, and `now` what both
+/// make. Where one of the two holds all that the other does there are none, and no copy is looked at. Where no stamp is
+/// forked and no insert waits in one of the two, all four copies are read off the walk of what both make; else the list
+/// and what both have in common are opened as replicas. Out of memory comes only where a growth was refused.
 pub fn report_after<Q: Sequence>(
     alloc: Q::Memory,
     before: Before<Q::Memory>,

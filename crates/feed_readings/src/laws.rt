@@ -15,8 +15,7 @@ pub fn readings_are_sound()
 {}
 
 /// Where no stamp of a set is forked, and a part of it holds what its inserts hang on, the part shows the set's walk:
-/// all
-/// elements whose stamps it bears and that it does not delete, in that order.
+/// all elements whose stamps it bears and that it does not delete, in that order.
 pub fn parts_show_of_the_walk()
     ensures { PartsShowOfTheWalk }
 {}

@@ -58,8 +58,7 @@ impl<A: Allocator + Copy> Model for Alone<A> {
 }
 
 /// What the other of two sets has alone, what the one has, and the targets of the deletes of both of these and of what
-/// the
-/// two have in common.
+/// the two have in common.
 #[derive(Drop)]
 pub struct Parts<A: Allocator + Copy> {
     news: Alone<A>,

@@ -20,8 +20,7 @@ pub struct Sides<A: Allocator + Copy> {
 }
 
 /// What was passed of two lists: what the one has alone and what the other, the targets of the deletes that both have,
-/// and
-/// the last stamp.
+/// and the last stamp.
 #[derive(Drop)]
 pub struct Pass<A: Allocator + Copy> {
     olds: Vec<Op, A>,

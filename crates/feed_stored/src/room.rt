@@ -47,8 +47,7 @@ pub fn let_in<F: Files, A: Allocator + Copy>(
 }
 
 /// Puts the greatest counter of a replica's site into FEED.last, once its feed is stored. Where that fails the file is
-/// as it
-/// was, and guards as before.
+/// as it was, and guards as before.
 pub fn mark<F: Files, A: Allocator + Copy>(
     alloc: A,
     files: &mut F,

@@ -61,9 +61,8 @@ fn put_close<A: Allocator + Copy>(out: &mut String<A>, run: Option<Style>) -> Re
     }
 }
 
-/// Writes a COPY at the end: nothing for a copy of no symbols, which cannot run out of memory. Where memory is
-/// refused, what
-/// stood before still stands there.
+/// Writes a COPY at the end: nothing for a copy of no symbols, which cannot run out of memory. Where memory is refused,
+/// what stood before still stands there.
 #[tactic(auto, using(crate::proofs::Prefixes::prefixes))]
 pub fn put_copy<A: Allocator + Copy>(out: &mut String<A>, copy: &[Symbol]) -> Result<(), AllocError>
     ensures text { OnOk result (string_bytes out.new ≡ string_bytes out.old ++ copy_text copy.now) }

@@ -349,8 +349,7 @@ impl<A: Allocator + Copy> World<A> {
     }
 
     /// Whether some site holds each of the operations. What is given comes mostly from one site, so each is asked for
-    /// all of
-    /// it first; and where none has all, an operation is asked of the site that had the one before it.
+    /// all of it first; and where none has all, an operation is asked of the site that had the one before it.
     fn all_held(&self, ops: &[Op]) -> bool
         ensures { result ≡ all_held self.now ops.now }
     {
@@ -423,8 +422,7 @@ impl<A: Allocator + Copy> World<A> {
     }
 
     /// Lets an event happen. It changes the named site alone, and `Give` asks for lawful operations. An honest world
-    /// stays
-    /// honest, after a refusal too.
+    /// stays honest, after a refusal too.
     pub fn step(&mut self, event: &Event<'_>) -> Result<Answer, StepRefusal>
         requires { IsSound (event_values event.now) }
         ensures steps { Steps self.old (event_values event.now) result self.new }
@@ -445,10 +443,8 @@ impl<A: Allocator + Copy> World<A> {
         }
     }
     /// Lets the events of a list happen, one after the other, and returns what `step` returns of each, in their order.
-    /// A
-    /// refused event changes nothing but what `Halted` says was taken, and those after it still happen. Out of memory
-    /// comes
-    /// only where the list of answers finds no room; no event has happened then. An honest world stays honest.
+    /// A refused event changes nothing but what `Halted` says was taken, and those after it still happen. Out of memory
+    /// comes only where the list of answers finds no room; no event has happened then. An honest world stays honest.
     pub fn play(
         &mut self,
         events: &[Event<'_>],

@@ -29,4 +29,4 @@ pub use places::places_of;
 pub use plain::{all_shown, is_directional, put_directional_name, put_plain};
 pub use reader::read_text;
 pub use reporting::reported_places;
-pub use writing::write_text;
+pub use writing::{put_quoted, put_turn, write_text};

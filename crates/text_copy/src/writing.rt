@@ -29,7 +29,9 @@ fn put_spaces<A: Allocator + Copy>(out: &mut String<A>, count: u64) -> Result<()
     Ok(())
 }
 
-fn put_turn<A: Allocator + Copy>(
+/// Writes the end of a run, if the style is another, so many spaces, and the beginning of the next run. Where memory is
+/// refused a part of that may be written.
+pub fn put_turn<A: Allocator + Copy>(
     out: &mut String<A>,
     run: Style,
     count: u64,
@@ -45,7 +47,8 @@ fn put_turn<A: Allocator + Copy>(
     put_mark(out, style)
 }
 
-fn put_quoted<A: Allocator + Copy>(out: &mut String<A>, c: char) -> Result<(), AllocError>
+/// Writes a character, behind a backslash where it would be a mark. Where memory is refused the backslash may be written.
+pub fn put_quoted<A: Allocator + Copy>(out: &mut String<A>, c: char) -> Result<(), AllocError>
     ensures { OnOk result (string_bytes out.new ≡ string_bytes out.old ++ encode_utf8_all (quoted c)) }
 {
     if is_mark(c) {

@@ -26,8 +26,7 @@ IsRefused (refusal.Fault fault) made = made ≡ Err (fault ∷ [])
 IsRefused refusal.NoMemory made = Unit {0}
 
 -- why nothing is set by what the settings give, a case and a wedge, if so: a key has no value, or what these have
--- against one
--- another
+-- against one another
 abbrev pub no_terms : CaseValues → WedgeValues → Result Values Key → List JobFault
 no_terms case wedge (Err key) = MissingSetting key ∷ []
 no_terms case wedge (Ok values) = terms_fault (terms_of case wedge values) values

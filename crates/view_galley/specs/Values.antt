@@ -9,8 +9,7 @@ use Rattle.view_galley.specs.declared.line.Next.{Next}
 
 -- a line: its number, its words by their places, whether it is to be filled, whether a space is added, its spaces, its
 -- width at neutral, the rest of the measure, how often each fill is used, the number that drives its spaces, its fault
--- if
--- there is one, and the word after it
+-- if there is one, and the word after it
 pub record LineValues : Type 0 where
   pub number : ℕ
   pub words : List Word

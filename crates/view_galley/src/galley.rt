@@ -227,9 +227,9 @@ fn all_lines<A: Allocator + Copy>(
 }
 
 /// The galley of a copy of at most 1,048,576 symbols: each line of the job as it is set, or as it fails, and the place
-/// of
-/// each symbol that the case lacks. There is none where a setting has no value, or settings, case and wedge do not go
-/// together, and for no other cause; out of memory comes only where they go together, and of a copy that is not empty.
+/// of each symbol that the case lacks. There is none where a setting has no value, or settings, case and wedge do not
+/// go together, and for no other cause; out of memory comes only where they go together, and of a copy that is not
+/// empty.
 pub fn make_galley<'a, A: Allocator + Copy>(
     alloc: A,
     copy: &[Symbol],

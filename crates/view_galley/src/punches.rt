@@ -13,8 +13,7 @@ use desk_ribbon::Punch;
 use std::alloc::Allocator;
 
 /// The matrices of a line of a copy: its words with a space between each two, the added space, and the fills. Of a
-/// galley
-/// without a fault, with its case, these are the ones that are punched.
+/// galley without a fault, with its case, these are the ones that are punched.
 pub fn matrices<A: Allocator + Copy>(
     alloc: A,
     case: &MatrixCase,

@@ -14,10 +14,9 @@ use Rattle.view_picture.specs.Lines.{lines_text, text_at}
 use Rattle.view_picture.specs.Heads.{copy_faults, head_count, head_y, heads_text}
 use Rattle.view_picture.specs.declared.paper.Paper.{Paper}
 
--- how the classes of texts and boxes look: letters of a line from left to right as they
--- stand in the copy and none of them joined, italic, small capitals, and those that the case lacks; lines at fault,
--- causes,
--- heads, numbers at the margin; boxes and the frame
+-- how the classes of texts and boxes look: letters of a line from left to right as they stand in the copy and none of
+-- them joined, italic, small capitals, and those that the case lacks; lines at fault, causes, heads, numbers at the
+-- margin; boxes and the frame
 abbrev pub looks_text : List ℕ
 looks_text =
     codes "<style>text{font-family:Times New Roman,Liberation Serif,Times,serif;white-space:pre}.w{direction:ltr;unicode-bidi:bidi-override;font-variant-ligatures:none;font-kerning:none}.i{font-style:italic}.s{font-variant:small-caps;font-variant-caps:all-small-caps}.m{fill:#c00}.f,.c{fill:#b00}.c,.h,.n{font-family:sans-serif;font-size:8px}.n{fill:#777;text-anchor:end;user-select:none}.b{fill:#e4e9ef;stroke:#a9b4c0;stroke-width:.3}.frame{fill:#fff;stroke:#999;stroke-width:.5}</style>\n"

@@ -206,8 +206,7 @@ fn put_picture_on<'a, A: Allocator + Copy>(
 }
 
 /// Writes a galley of a copy of at most 1,048,576 symbols as a picture in the form SVG at the end, and the faults of
-/// the
-/// copy, which mean that a correction is not shown.
+/// the copy, which mean that a correction is not shown.
 pub fn put_picture<'a, A: Allocator + Copy>(
     out: &mut String<A>,
     copy: &[Symbol],

@@ -2,66 +2,14 @@
 
 ghost use Rattle.std.specs.Prelude.{◌≡◌, ◌==◌, ◌||◌, ◌++◌, ◌-◌, ◌≤◌, length, take, drop, All, OnOk, string_bytes};
 ghost use Rattle.std.specs.Str.{encode_utf8_all};
-ghost use Rattle.desk_ops.specs.Op.{same_style};
 ghost use Rattle.desk_job.specs.Setting.{IsWord};
-ghost use Rattle.text_copy.specs.Marks.{is_mark, mark};
-ghost use Rattle.text_copy.specs.Writing.{quoted, turn};
 ghost use Rattle.view_proof.specs.Parts.{marked_text, shown_quoted, word_text, words_text};
 
-use crate::parts::{begin_of, end_of, put_many};
+use crate::parts::{begin_of, end_of};
 use desk_lines::Word;
 use desk_ops::{Style, Symbol};
 use std::alloc::{AllocError, Allocator};
-use text_copy::{is_directional, put_directional_name};
-
-fn put_mark<A: Allocator + Copy>(out: &mut String<A>, style: Style) -> Result<(), AllocError>
-    ensures { OnOk result (string_bytes out.new ≡ string_bytes out.old ++ encode_utf8_all (mark style)) }
-{
-    match style {
-        Style::Roman => Ok(()),
-        Style::Italic => out.push('_'),
-        Style::SmallCap => out.push('^'),
-    }
-}
-
-fn is_same(one: Style, other: Style) -> bool
-    ensures { result ≡ same_style one other }
-{
-    one == other
-}
-
-/// Writes the end of a run, if the style is another, so many spaces, and the beginning of the next run.
-fn put_turn<A: Allocator + Copy>(
-    out: &mut String<A>,
-    run: Style,
-    count: usize,
-    style: Style,
-) -> Result<(), AllocError>
-    ensures { OnOk result (string_bytes out.new ≡ string_bytes out.old ++ encode_utf8_all (turn run count style)) }
-{
-    if is_same(run, style) {
-        return put_many(out, ' ', count);
-    }
-    put_mark(out, run)?;
-    put_many(out, ' ', count)?;
-    put_mark(out, style)
-}
-
-/// Whether it stands for itself only behind a backslash.
-fn is_mark(ch: char) -> bool
-    ensures { result ≡ is_mark ch }
-{
-    matches!(ch, '\\' | '^' | '_')
-}
-
-fn put_quoted<A: Allocator + Copy>(out: &mut String<A>, ch: char) -> Result<(), AllocError>
-    ensures { OnOk result (string_bytes out.new ≡ string_bytes out.old ++ encode_utf8_all (quoted ch)) }
-{
-    if is_mark(ch) {
-        out.push('\\')?;
-    }
-    out.push(ch)
-}
+use text_copy::{is_directional, put_directional_name, put_quoted, put_turn};
 
 /// Whether it is shown as a space.
 fn is_gap(ch: char) -> bool
@@ -90,7 +38,7 @@ pub fn put_marked<A: Allocator + Copy>(
     ensures { OnOk result (string_bytes out.new ≡ string_bytes out.old ++ marked_text symbols.now) }
 {
     let mut run = Style::Roman;
-    let mut count: usize = 0;
+    let mut count: u64 = 0;
     for symbol in symbols {
         if is_gap(symbol.ch) {
             count += 1;

@@ -79,8 +79,7 @@ fn put_values<A: Allocator + Copy>(out: &mut String<A>, values: Values) -> Resul
 }
 
 /// Writes how many lines a galley has, how many of them are at fault, how many symbols the case lacks, and what the
-/// lines
-/// are set by.
+/// lines are set by.
 pub fn put_head_words<'a, A: Allocator + Copy>(
     out: &mut String<A>,
     galley: &Galley<'a, A>,

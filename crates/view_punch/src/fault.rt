@@ -50,9 +50,8 @@ pub enum PreviewFault {
     /// The copy has faults, and these were written.
     #[error("copy faults")]
     CopyFaults,
-    /// The job has faults, and these were written. Where one is that the number of the case or of the wedge is
-    /// another, both
-    /// numbers are here.
+    /// The job has faults, and these were written. Where one is that the number of the case or of the wedge is another,
+    /// both numbers are here.
     #[error("no ribbon")]
     Faulty(Option<OtherNumber>),
     /// The writer failed, or took no byte.

@@ -173,9 +173,8 @@ fn with_value(settings: Settings, key: Key, value: u32) -> Settings
 }
 
 /// The settings that texts as `loose=200` try, each KEY=VALUE as in the command `set`; of one key the last counts. A
-/// text that
-/// names no setting, or gives it no value that it may have, is refused by its place, the first of them, and so is the
-/// whole.
+/// text that names no setting, or gives it no value that it may have, is refused by its place, the first of them, and
+/// so is the whole.
 pub fn trial_of<A: Allocator + Copy>(alloc: A, texts: &[&str]) -> Result<Settings, TrialFault>
     ensures value { IfOk result (λ s. trial_of texts.now ≡ Some s) }
     ensures lawful { IfOk result AreValues }

@@ -38,8 +38,7 @@ fn put_ribbon_words<A: Allocator + Copy>(
 }
 
 /// Writes the line of the first fault of bytes that are no ribbon, as `no ribbon: row 12: two numbers`. The place of a
-/// row
-/// counts from 0 in punched order. Where the fault is that memory ran out, there is no line, and that is returned.
+/// row counts from 0 in punched order. Where the fault is that memory ran out, there is no line, and that is returned.
 pub fn put_ribbon_fault<A: Allocator + Copy>(
     out: &mut String<A>,
     fault: RibbonFault,
@@ -81,11 +80,9 @@ fn put_cast_words<A: Allocator + Copy>(
     }
 }
 
-/// Writes the line of the first fault that the caster meets, as `row 12: no matrix: ..`. The place of a row counts
-/// from 0 in
-/// punched order, though the caster goes from the last row to the first. Where the fault is that memory ran out, there
-/// is
-/// no line, and that is returned.
+/// Writes the line of the first fault that the caster meets, as `row 12: no matrix: ..`. The place of a row counts from
+/// 0 in punched order, though the caster goes from the last row to the first. Where the fault is that memory ran out,
+/// there is no line, and that is returned.
 pub fn put_cast_fault<A: Allocator + Copy>(
     out: &mut String<A>,
     fault: CastFault,

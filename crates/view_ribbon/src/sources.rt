@@ -12,10 +12,9 @@ use script_answers::{Memory, both};
 use std::alloc::Allocator;
 
 /// Reads the bytes of a ribbon, then a case and then a wedge, each by the name of its file. Each file is read whole:
-/// one of
-/// more than `MAX_FILE` bytes is refused. Whether the bytes are a ribbon is not asked here. No name is taken, and no
-/// file
-/// changes. Out of memory comes only where the device did not fail in the call and no file that was read was refused.
+/// one of more than `MAX_FILE` bytes is refused. Whether the bytes are a ribbon is not asked here. No name is taken,
+/// and no file changes. Out of memory comes only where the device did not fail in the call and no file that was read
+/// was refused.
 pub fn take_in<F: Files, A: Allocator + Copy>(
     memory: Memory<A>,
     files: &mut F,

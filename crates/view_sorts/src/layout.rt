@@ -140,9 +140,8 @@ fn put_lines<A: Allocator + Copy>(out: &mut String<A>, case: &MatrixCase) -> Res
 }
 
 /// Writes a case as a table at the end, a row of the case a line, its number above it. A cell has four characters: a
-/// symbol
-/// with `_` before it where it is italic and `^` where it is a small capital, `sp` for the space, `f1` to `f4` for the
-/// fills, and two dots where nothing stands.
+/// symbol with `_` before it where it is italic and `^` where it is a small capital, `sp` for the space, `f1` to `f4`
+/// for the fills, and two dots where nothing stands.
 pub fn put_case<A: Allocator + Copy>(
     out: &mut String<A>,
     case: &MatrixCase,

@@ -217,10 +217,8 @@ fn put_sort_lines<A: Allocator + Copy>(
 }
 
 /// Writes the sorts of a copy at the end: how many there are, those that the case lacks, each with all its places, and
-/// all
-/// of them with their cells. Fills are not counted: how many a line takes depends on the lines that are set. Places
-/// take
-/// their memory from `alloc`.
+/// all of them with their cells. Fills are not counted: how many a line takes depends on the lines that are set. Places
+/// take their memory from `alloc`.
 pub fn put_sorts<A: Allocator + Copy>(
     alloc: A,
     out: &mut String<A>,

@@ -71,8 +71,7 @@ fn tallies_of<A: Allocator + Copy>(
 
 /// The sorts that a copy needs, in the order of their symbols: by style, and then by character. A line feed ends a
 /// paragraph, and no matrix is cast for it, so it is none of them; the space is one. The steps are as many as the
-/// symbols
-/// of the copy times the logarithm of the number of sorts.
+/// symbols of the copy times the logarithm of the number of sorts.
 pub fn sorts_of<A: Allocator + Copy>(alloc: A, copy: &[Symbol]) -> Result<Vec<Sort, A>, NoMemory>
     ensures { IfOk result (λ sorts. AreSortsOf copy.now sorts.items) }
 {
