@@ -8,52 +8,84 @@ use linked_list_allocator::LocalHeap;
 use std::alloc::{AllocError, Allocator, Global};
 use std::test::Fail;
 
-// ---- feeds, by the bytes of their operations
+// ---- feeds, by their operations
 
 /// A stamp: its counter and its site.
 type Place = (u64, u16);
+
+/// An operation: a Roman letter behind a parent, a delete of a target, or a value of the measure.
+#[derive(Clone, Copy)]
+enum Made {
+    Insert(Place, Place, u8),
+    Delete(Place, Place),
+    Measure(Place, u8),
+}
+
+/// The first letter of a copy, by site 1.
+fn first(letter: u8) -> Made {
+    Made::Insert((1, 1), (0, 0), letter)
+}
 
 fn put_stamp(feed: &mut Vec<u8>, stamp: Place) -> Result<(), AllocError> {
     feed.extend_from_slice(&stamp.0.to_be_bytes())?;
     feed.extend_from_slice(&stamp.1.to_be_bytes())
 }
 
-/// A Roman letter is inserted behind a parent.
-fn put_insert(
-    feed: &mut Vec<u8>,
-    stamp: Place,
-    parent: Place,
-    letter: u8,
+fn put_made(feed: &mut Vec<u8>, made: Made) -> Result<(), AllocError> {
+    match made {
+        Made::Insert(stamp, parent, letter) => {
+            feed.push(1)?;
+            put_stamp(feed, stamp)?;
+            put_stamp(feed, parent)?;
+            feed.extend_from_slice(&[0, 0, 0, 0, letter])
+        }
+        Made::Delete(stamp, target) => {
+            feed.push(2)?;
+            put_stamp(feed, stamp)?;
+            put_stamp(feed, target)
+        }
+        Made::Measure(stamp, value) => {
+            feed.push(3)?;
+            put_stamp(feed, stamp)?;
+            feed.extend_from_slice(&[1, 0, 0, 0, value])
+        }
+    }
+}
+
+fn feed_of(alloc: Global, made: &[Made]) -> Result<Vec<u8>, AllocError> {
+    let mut feed = Vec::from_slice(alloc, b"MFD2")?;
+    for one in made {
+        put_made(&mut feed, *one)?;
+    }
+    Ok(feed)
+}
+
+/// Puts two feeds in files.
+fn put_rooms(
+    alloc: Global,
+    files: &mut TrialFiles<Global>,
+    one: &[Made],
+    two: &[Made],
 ) -> Result<(), AllocError> {
-    feed.push(1)?;
-    put_stamp(feed, stamp)?;
-    put_stamp(feed, parent)?;
-    feed.extend_from_slice(&[0, 0, 0, 0, letter])
-}
-
-fn put_delete(feed: &mut Vec<u8>, stamp: Place, target: Place) -> Result<(), AllocError> {
-    feed.push(2)?;
-    put_stamp(feed, stamp)?;
-    put_stamp(feed, target)
-}
-
-/// The measure is set.
-fn put_measure(feed: &mut Vec<u8>, stamp: Place, value: u8) -> Result<(), AllocError> {
-    feed.push(3)?;
-    put_stamp(feed, stamp)?;
-    feed.extend_from_slice(&[1, 0, 0, 0, value])
-}
-
-fn empty_feed(alloc: Global) -> Result<Vec<u8>, AllocError> {
-    Vec::from_slice(alloc, b"MFD2")
+    files.put("one.feed", &feed_of(alloc, one)?)?;
+    files.put("two.feed", &feed_of(alloc, two)?)
 }
 
 /// Files with two feeds.
-fn rooms(alloc: Global, one: &[u8], two: &[u8]) -> Result<TrialFiles<Global>, AllocError> {
+fn rooms(alloc: Global, one: &[Made], two: &[Made]) -> Result<TrialFiles<Global>, AllocError> {
     let mut files = TrialFiles::new(alloc);
-    files.put("one.feed", one)?;
-    files.put("two.feed", two)?;
+    put_rooms(alloc, &mut files, one, two)?;
     Ok(files)
+}
+
+/// Whether a feed has these operations, in this order.
+fn has(
+    alloc: Global,
+    files: &TrialFiles<Global>,
+    name: &str,
+    made: &[Made],
+) -> Result<bool, AllocError> {
+    Ok(files.holds(name, &feed_of(alloc, made)?))
 }
 
 // ---- feeds that are keyed
@@ -151,19 +183,41 @@ fn corrections_of_both_rooms_stand(rt: HostRuntime) -> Result<(), Fail> {
     Ok(())
 }
 
-/// What stands behind an operation that is moved goes with it. The newest of those behind one parent stands first.
+/// Whether of two feeds the first is renumbered to site 9, if this is written, and the second is kept.
+fn is_renumbered(alloc: Global, one: &[Made], two: &[Made], text: &[u8]) -> Result<bool, Fail> {
+    let mut files = rooms(alloc, one, two)?;
+    Ok(renumbers(alloc, &mut files, 9, text)? && has(alloc, &files, "two.feed", two)?)
+}
+
+/// Why of two feeds the first is not renumbered to a site, and kept as it is.
+fn refusal_of(
+    alloc: Global,
+    one: &[Made],
+    two: &[Made],
+    site: u16,
+) -> Result<Option<NumberFault>, Fail> {
+    let mut files = rooms(alloc, one, two)?;
+    let fault = fault_of(alloc, &mut files, site)?;
+    if !has(alloc, &files, "one.feed", one)? {
+        return Err(Fail::new("another feed"));
+    }
+    match fault {
+        Some(RenumberFault::Number(why)) => Ok(Some(why)),
+        _ => Ok(None),
+    }
+}
+
+/// What is behind an operation that is moved goes with it. The newest of those behind one parent is first.
 #[test]
 fn parents_go_along(rt: HostRuntime) -> Result<(), Fail> {
-    let mut one = empty_feed(rt.alloc())?;
-    put_insert(&mut one, (1, 1), (0, 0), b'a')?;
-    put_insert(&mut one, (2, 1), (1, 1), b'b')?;
-    put_insert(&mut one, (3, 1), (2, 1), b'c')?;
-    let mut two = empty_feed(rt.alloc())?;
-    put_insert(&mut two, (1, 1), (0, 0), b'a')?;
-    put_insert(&mut two, (2, 1), (1, 1), b'x')?;
+    let one = [
+        first(b'a'),
+        Made::Insert((2, 1), (1, 1), b'b'),
+        Made::Insert((3, 1), (2, 1), b'c'),
+    ];
+    let two = [first(b'a'), Made::Insert((2, 1), (1, 1), b'x')];
     let mut files = rooms(rt.alloc(), &one, &two)?;
     assert!(rt; renumbers(rt.alloc(), &mut files, 9, b"ok renumbered 2\n")?);
-    assert!(rt; files.holds("two.feed", &two));
     let mut files = files.for_next_run();
     let lines =
         b"one.feed ok new 2 known 1\nopen at 0\n  now   abcx\n  here  ax\n  there abc\n  was   a\nfaults none\n";
@@ -175,22 +229,24 @@ fn parents_go_along(rt: HostRuntime) -> Result<(), Fail> {
 /// number.
 #[test]
 fn deletes_and_settings_that_collide(rt: HostRuntime) -> Result<(), Fail> {
-    let mut one = empty_feed(rt.alloc())?;
-    put_insert(&mut one, (1, 1), (0, 0), b'a')?;
-    put_delete(&mut one, (2, 1), (1, 1))?;
-    put_measure(&mut one, (3, 1), 20)?;
-    let mut two = empty_feed(rt.alloc())?;
-    put_insert(&mut two, (1, 1), (0, 0), b'a')?;
-    put_insert(&mut two, (2, 1), (1, 1), b'b')?;
-    put_measure(&mut two, (3, 1), 30)?;
-    let mut moved = empty_feed(rt.alloc())?;
-    put_insert(&mut moved, (1, 1), (0, 0), b'a')?;
-    put_delete(&mut moved, (2, 9), (1, 1))?;
-    put_measure(&mut moved, (3, 9), 20)?;
+    let one = [
+        first(b'a'),
+        Made::Delete((2, 1), (1, 1)),
+        Made::Measure((3, 1), 20),
+    ];
+    let two = [
+        first(b'a'),
+        Made::Insert((2, 1), (1, 1), b'b'),
+        Made::Measure((3, 1), 30),
+    ];
+    let moved = [
+        first(b'a'),
+        Made::Delete((2, 9), (1, 1)),
+        Made::Measure((3, 9), 20),
+    ];
     let mut files = rooms(rt.alloc(), &one, &two)?;
     assert!(rt; renumbers(rt.alloc(), &mut files, 9, b"ok renumbered 2\n")?);
-    assert!(rt; files.holds("one.feed", &moved));
-    assert!(rt; files.holds("two.feed", &two));
+    assert!(rt; has(rt.alloc(), &files, "one.feed", &moved)?);
     assert!(rt; files.bytes_of("one.feed.new").is_none());
     let mut files = files.for_next_run();
     let lines =
@@ -199,23 +255,12 @@ fn deletes_and_settings_that_collide(rt: HostRuntime) -> Result<(), Fail> {
     Ok(())
 }
 
-/// Beside an insert of another site with its counter, one that is moved may come to stand first: the words say so.
+/// Beside an insert of another site with its counter, one that is moved may come first: the words say so.
 #[test]
 fn copy_that_reads_otherwise(rt: HostRuntime) -> Result<(), Fail> {
-    let mut one = empty_feed(rt.alloc())?;
-    put_insert(&mut one, (1, 1), (0, 0), b'a')?;
-    put_insert(&mut one, (1, 2), (0, 0), b'b')?;
-    let mut two = empty_feed(rt.alloc())?;
-    put_insert(&mut two, (1, 1), (0, 0), b'x')?;
-    let mut files = rooms(rt.alloc(), &one, &two)?;
-    assert!(rt;
-        renumbers(
-            rt.alloc(),
-            &mut files,
-            9,
-            b"ok renumbered 1\n- 0 ba\n+ 0 ab\n"
-        )?
-    );
+    let one = [first(b'a'), Made::Insert((1, 2), (0, 0), b'b')];
+    let text = b"ok renumbered 1\n- 0 ba\n+ 0 ab\n";
+    assert!(rt; is_renumbered(rt.alloc(), &one, &[first(b'x')], text)?);
     Ok(())
 }
 
@@ -224,17 +269,13 @@ fn copy_that_reads_otherwise(rt: HostRuntime) -> Result<(), Fail> {
 /// Then nothing is stored, not even the same operations in order; a feed that is missing stays so.
 #[test]
 fn nothing_collides(rt: HostRuntime) -> Result<(), Fail> {
-    let mut one = empty_feed(rt.alloc())?;
-    put_insert(&mut one, (2, 1), (0, 0), b'b')?;
-    put_insert(&mut one, (1, 1), (0, 0), b'a')?;
-    let mut two = empty_feed(rt.alloc())?;
-    put_insert(&mut two, (1, 1), (0, 0), b'a')?;
-    put_insert(&mut two, (3, 1), (0, 0), b'c')?;
+    let one = [Made::Insert((2, 1), (0, 0), b'b'), first(b'a')];
+    let two = [first(b'a'), Made::Insert((3, 1), (0, 0), b'c')];
     let mut files = rooms(rt.alloc(), &one, &two)?;
     assert!(rt; renumbers(rt.alloc(), &mut files, 9, b"ok renumbered 0\n")?);
-    assert!(rt; files.holds("one.feed", &one));
+    assert!(rt; has(rt.alloc(), &files, "one.feed", &one)?);
     let mut files = TrialFiles::new(rt.alloc());
-    files.put("two.feed", &two)?;
+    files.put("two.feed", &feed_of(rt.alloc(), &two)?)?;
     assert!(rt; renumbers(rt.alloc(), &mut files, 9, b"ok renumbered 0\n")?);
     assert!(rt; files.bytes_of("one.feed").is_none());
     Ok(())
@@ -243,13 +284,8 @@ fn nothing_collides(rt: HostRuntime) -> Result<(), Fail> {
 /// A stamp that is forked in one of them does not collide.
 #[test]
 fn forked_stamp_does_not_collide(rt: HostRuntime) -> Result<(), Fail> {
-    let mut one = empty_feed(rt.alloc())?;
-    put_insert(&mut one, (1, 1), (0, 0), b'a')?;
-    put_insert(&mut one, (1, 1), (0, 0), b'b')?;
-    let mut two = empty_feed(rt.alloc())?;
-    put_insert(&mut two, (1, 1), (0, 0), b'c')?;
-    let mut files = rooms(rt.alloc(), &one, &two)?;
-    assert!(rt; renumbers(rt.alloc(), &mut files, 9, b"ok renumbered 0\n")?);
+    let one = [first(b'a'), first(b'b')];
+    assert!(rt; is_renumbered(rt.alloc(), &one, &[first(b'c')], b"ok renumbered 0\n")?);
     Ok(())
 }
 
@@ -258,102 +294,90 @@ fn forked_stamp_does_not_collide(rt: HostRuntime) -> Result<(), Fail> {
 /// A number that bears a stamp in one of them, or that one of them names.
 #[test]
 fn number_in_use(rt: HostRuntime) -> Result<(), Fail> {
-    let used = Some(RenumberFault::Number(NumberFault::InUse));
-    let mut one = empty_feed(rt.alloc())?;
-    put_insert(&mut one, (1, 1), (0, 0), b'a')?;
-    put_insert(&mut one, (2, 5), (1, 6), b'b')?;
-    let mut two = empty_feed(rt.alloc())?;
-    put_insert(&mut two, (1, 1), (0, 0), b'x')?;
-    put_delete(&mut two, (2, 7), (1, 8))?;
+    let one = [first(b'a'), Made::Insert((2, 5), (1, 6), b'b')];
+    let two = [first(b'x'), Made::Delete((2, 7), (1, 8))];
     for site in [1, 5, 6, 7, 8] {
-        let mut files = rooms(rt.alloc(), &one, &two)?;
-        assert_eq!(rt; fault_of(rt.alloc(), &mut files, site)?, used);
-        assert!(rt; files.holds("one.feed", &one));
+        assert_eq!(rt;
+            refusal_of(rt.alloc(), &one, &two, site)?,
+            Some(NumberFault::InUse)
+        );
     }
-    let mut files = rooms(rt.alloc(), &one, &two)?;
-    assert!(rt; renumbers(rt.alloc(), &mut files, 9, b"ok renumbered 1\n")?);
+    assert!(rt; is_renumbered(rt.alloc(), &one, &two, b"ok renumbered 1\n")?);
     Ok(())
 }
 
-/// Another site has built upon what is to be moved.
+/// Another site has built upon what is to be moved. An operation of the other room that names its own is no witness.
 #[test]
 fn seen_by_another(rt: HostRuntime) -> Result<(), Fail> {
-    let mut one = empty_feed(rt.alloc())?;
-    put_insert(&mut one, (1, 1), (0, 0), b'a')?;
-    put_insert(&mut one, (2, 1), (1, 1), b'b')?;
-    put_insert(&mut one, (3, 1), (2, 1), b'c')?;
-    let mut two = empty_feed(rt.alloc())?;
-    put_insert(&mut two, (1, 1), (0, 0), b'a')?;
-    put_insert(&mut two, (2, 1), (1, 1), b'x')?;
-    // An operation of the other room that names its own is no witness.
-    put_insert(&mut two, (4, 3), (2, 1), b'y')?;
-    let mut files = rooms(rt.alloc(), &one, &two)?;
-    assert!(rt; renumbers(rt.alloc(), &mut files, 9, b"ok renumbered 2\n")?);
-    put_delete(&mut two, (5, 3), (3, 1))?;
-    let mut files = rooms(rt.alloc(), &one, &two)?;
+    let one = [
+        first(b'a'),
+        Made::Insert((2, 1), (1, 1), b'b'),
+        Made::Insert((3, 1), (2, 1), b'c'),
+        Made::Insert((3, 2), (2, 1), b'd'),
+    ];
+    let two = [
+        first(b'a'),
+        Made::Insert((2, 1), (1, 1), b'x'),
+        Made::Insert((4, 3), (2, 1), b'y'),
+        Made::Delete((5, 3), (3, 1)),
+    ];
+    assert!(rt; is_renumbered(rt.alloc(), &one[..3], &two[..3], b"ok renumbered 2\n")?);
     let there = NumberFault::Seen(Stamp {
         counter: 5,
         site: 3,
     });
-    assert_eq!(rt;
-        fault_of(rt.alloc(), &mut files, 9)?,
-        Some(RenumberFault::Number(there))
-    );
-    put_insert(&mut one, (3, 2), (2, 1), b'd')?;
-    let mut files = rooms(rt.alloc(), &one, &two)?;
+    assert_eq!(rt; refusal_of(rt.alloc(), &one[..3], &two, 9)?, Some(there));
     let here = NumberFault::Seen(Stamp {
         counter: 3,
         site: 2,
     });
-    assert_eq!(rt;
-        fault_of(rt.alloc(), &mut files, 9)?,
-        Some(RenumberFault::Number(here))
-    );
-    assert!(rt; files.holds("one.feed", &one));
+    assert_eq!(rt; refusal_of(rt.alloc(), &one, &two, 9)?, Some(here));
     Ok(())
 }
 
 /// Two numbers collide, and one counter of both is to be moved; with other counters both are.
 #[test]
 fn collisions_of_two_sites(rt: HostRuntime) -> Result<(), Fail> {
-    let mut one = empty_feed(rt.alloc())?;
-    put_insert(&mut one, (1, 1), (0, 0), b'a')?;
-    put_insert(&mut one, (2, 2), (0, 0), b'b')?;
-    let mut two = empty_feed(rt.alloc())?;
-    put_insert(&mut two, (1, 1), (0, 0), b'x')?;
-    put_insert(&mut two, (2, 2), (0, 0), b'y')?;
-    let mut files = rooms(rt.alloc(), &one, &two)?;
-    assert!(rt; renumbers(rt.alloc(), &mut files, 9, b"ok renumbered 2\n")?);
-    put_insert(&mut one, (2, 1), (0, 0), b'c')?;
-    let mut files = rooms(rt.alloc(), &one, &two)?;
-    let clash = Some(RenumberFault::Number(NumberFault::Clash));
-    assert_eq!(rt; fault_of(rt.alloc(), &mut files, 9)?, clash);
-    assert!(rt; files.holds("one.feed", &one));
+    let one = [
+        first(b'a'),
+        Made::Insert((2, 2), (0, 0), b'b'),
+        Made::Insert((2, 1), (0, 0), b'c'),
+    ];
+    let two = [first(b'x'), Made::Insert((2, 2), (0, 0), b'y')];
+    assert!(rt; is_renumbered(rt.alloc(), &one[..2], &two, b"ok renumbered 2\n")?);
+    assert_eq!(rt;
+        refusal_of(rt.alloc(), &one, &two, 9)?,
+        Some(NumberFault::Clash)
+    );
     Ok(())
 }
 
 #[test]
 fn other_feed_is_missing(rt: HostRuntime) -> Result<(), Fail> {
-    let mut one = empty_feed(rt.alloc())?;
-    put_insert(&mut one, (1, 1), (0, 0), b'a')?;
     let mut files = TrialFiles::new(rt.alloc());
-    files.put("one.feed", &one)?;
+    files.put("one.feed", &feed_of(rt.alloc(), &[first(b'a')])?)?;
     let missing = RenumberFault::Other(FeedTrouble::File(FileRefusal::Missing));
     assert_eq!(rt; fault_of(rt.alloc(), &mut files, 9)?, Some(missing));
-    assert!(rt; files.holds("one.feed", &one));
+    assert!(rt; has(rt.alloc(), &files, "one.feed", &[first(b'a')])?);
     Ok(())
 }
 
 /// Two feeds of one operation that collide, of files of which the k-th call fails.
 fn failing_at(alloc: Global, k: u64) -> Result<TrialFiles<Global>, AllocError> {
     let mut files = TrialFiles::new(alloc).failing_at_call(k);
-    let mut one = empty_feed(alloc)?;
-    put_insert(&mut one, (1, 1), (0, 0), b'a')?;
-    files.put("one.feed", &one)?;
-    let mut two = empty_feed(alloc)?;
-    put_insert(&mut two, (1, 1), (0, 0), b'x')?;
-    files.put("two.feed", &two)?;
+    put_rooms(alloc, &mut files, &[first(b'a')], &[first(b'x')])?;
     Ok(files)
+}
+
+/// How a renumbering of those files ends at the k-th call, and whether nothing was written.
+fn ended_at(alloc: Global, k: u64) -> Result<(Option<RenumberFault>, bool), Fail> {
+    let mut files = failing_at(alloc, k)?;
+    let mut written = Vec::new(alloc);
+    let ended = renumber_feed(alloc, &mut written, &mut files, "one.feed", "two.feed", 9);
+    if !has(alloc, &files, "one.feed", &[first(b'a')])? {
+        return Err(Fail::new("another feed"));
+    }
+    Ok((ended.err(), written.is_empty()))
 }
 
 #[test]
@@ -366,48 +390,32 @@ fn files_that_fail_at_each_call(rt: HostRuntime) -> Result<(), Fail> {
         RenumberFault::Keep(KeepFault::Unstored(device)),
         RenumberFault::Keep(KeepFault::Unstored(device)),
     ];
-    let mut one = empty_feed(rt.alloc())?;
-    put_insert(&mut one, (1, 1), (0, 0), b'a')?;
     for at in 0..faults.len() {
         let k = (at as u64).saturating_add(1);
-        let mut files = failing_at(rt.alloc(), k)?;
-        let mut written = Vec::new(rt.alloc());
-        let ended = renumber_feed(
-            rt.alloc(),
-            &mut written,
-            &mut files,
-            "one.feed",
-            "two.feed",
-            9,
-        );
-        assert_eq!(rt; ended, Err(faults[at]));
-        assert_eq!(rt; written.is_empty(), k < 4);
-        assert!(rt; files.holds("one.feed", &one));
+        let (ended, is_silent) = ended_at(rt.alloc(), k)?;
+        assert_eq!(rt; ended, Some(faults[at]));
+        assert_eq!(rt; is_silent, k < 4);
     }
     Ok(())
 }
 
+/// Whether a renumbering with so much room in its output stops there, and keeps the feed.
+fn is_closed(alloc: Global, room: usize, end: AtEnd) -> Result<bool, Fail> {
+    let mut files = failing_at(alloc, 0)?;
+    let mut writer = TrialWriter::new(alloc).with_room(room, end);
+    let ended = renumber_feed(alloc, &mut writer, &mut files, "one.feed", "two.feed", 9);
+    Ok(
+        ended == Err(RenumberFault::Keep(KeepFault::Write))
+            && b"ok renumbered 1\n".starts_with(writer.written())
+            && has(alloc, &files, "one.feed", &[first(b'a')])?,
+    )
+}
+
 #[test]
 fn closed_output_renumbers_nothing(rt: HostRuntime) -> Result<(), Fail> {
-    let text = b"ok renumbered 1\n";
-    let mut one = empty_feed(rt.alloc())?;
-    put_insert(&mut one, (1, 1), (0, 0), b'a')?;
-    for end in [AtEnd::Fails, AtEnd::TakesNone] {
-        for room in 0..text.len() {
-            let mut files = failing_at(rt.alloc(), 0)?;
-            let mut writer = TrialWriter::new(rt.alloc()).with_room(room, end);
-            let ended = renumber_feed(
-                rt.alloc(),
-                &mut writer,
-                &mut files,
-                "one.feed",
-                "two.feed",
-                9,
-            );
-            assert_eq!(rt; ended, Err(RenumberFault::Keep(KeepFault::Write)));
-            assert!(rt; text.starts_with(writer.written()));
-            assert!(rt; files.holds("one.feed", &one));
-        }
+    for room in 0..16usize {
+        assert!(rt; is_closed(rt.alloc(), room, AtEnd::Fails)?);
+        assert!(rt; is_closed(rt.alloc(), room, AtEnd::TakesNone)?);
     }
     Ok(())
 }
@@ -483,40 +491,15 @@ fn words_of_renumber_faults(rt: HostRuntime) -> Result<(), Fail> {
         counter: 5,
         site: 3,
     });
-    assert!(rt;
-        says(
-            rt.alloc(),
-            RenumberFault::Number(NumberFault::InUse),
-            "number in use"
-        )?
-    );
-    assert!(rt;
-        says(
-            rt.alloc(),
-            RenumberFault::Number(seen),
-            "seen by another room"
-        )?
-    );
-    assert!(rt;
-        says(
-            rt.alloc(),
-            RenumberFault::Number(NumberFault::Clash),
-            "number in use"
-        )?
-    );
-    assert!(rt;
-        says(
-            rt.alloc(),
-            RenumberFault::Number(NumberFault::NoMemory),
-            "no memory"
-        )?
-    );
-    assert!(rt;
-        says(
-            rt.alloc(),
-            RenumberFault::Keep(KeepFault::Write),
-            "write fault"
-        )?
-    );
+    let words = [
+        (RenumberFault::Number(NumberFault::InUse), "number in use"),
+        (RenumberFault::Number(seen), "seen by another room"),
+        (RenumberFault::Number(NumberFault::Clash), "number in use"),
+        (RenumberFault::Number(NumberFault::NoMemory), "no memory"),
+        (RenumberFault::Keep(KeepFault::Write), "write fault"),
+    ];
+    for (fault, said) in words {
+        assert!(rt; says(rt.alloc(), fault, said)?);
+    }
     Ok(())
 }
