@@ -1,6 +1,7 @@
 //! The tests of desk_replica, and with it of desk_walk.
 #![tactic(auto)]
 
+pub mod asked;
 #[cfg(test)]
 mod calls;
 #[cfg(test)]
@@ -19,6 +20,8 @@ mod lists;
 mod long;
 #[cfg(test)]
 mod orders;
+#[cfg(test)]
+mod runs;
 #[cfg(test)]
 mod words;
 #[cfg(test)]
