@@ -60,6 +60,12 @@ line_memory lines.Write is = absurd (cc)
 line_memory lines.TooLong is = absurd (cc)
 line_memory lines.NoMemory is = refl
 
+pub line_too_long : (why : LineFault) → of_lines why ≡ faults.TooLong → why ≡ lines.TooLong
+line_too_long lines.Read is = absurd (cc)
+line_too_long lines.Write is = absurd (cc)
+line_too_long lines.TooLong is = refl
+line_too_long lines.NoMemory is = absurd (cc)
+
 pub no_line_fails : (why : LineFault) → of_lines why ≡ faults.File refusals.Device → ⊥
 no_line_fails lines.Read is = cc
 no_line_fails lines.Write is = cc

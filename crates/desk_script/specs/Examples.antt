@@ -4,7 +4,7 @@ use Rattle.std.specs.Str.{chars, is_utf8}
 use Rattle.std.proofs.Math.Utf8.{encode}
 use Rattle.desk_ops.specs.declared.op.Key.TheVariants as keys
 use Rattle.desk_ops.specs.declared.op.Style.TheVariants.{Roman, Italic}
-use Rattle.desk_steps.specs.Line.{Line, Bytes, Long}
+use Rattle.desk_script.specs.Line.{Line, Bytes, Long}
 use Rattle.desk_script.specs.Lines.{lines}
 use Rattle.script_commands.specs.Reading.{word_at, number_of, number_at, range_of, range_at, file_at, nibble, hex_at}
 use Rattle.script_commands.specs.Copy.{symbol, step, copy_at}

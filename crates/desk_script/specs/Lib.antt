@@ -29,3 +29,6 @@ pub mod Line
 pub mod Phases
 pub mod Sheet
 pub mod StoredSheet
+pub mod Reads
+pub mod OneReply
+pub mod Taking

@@ -20,6 +20,7 @@ mod event;
 mod fault;
 mod feed_run;
 mod insert;
+pub mod laws;
 mod line;
 mod lines;
 mod room;

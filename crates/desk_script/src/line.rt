@@ -36,10 +36,8 @@ fn do_line<F: Files, A: Allocator + Copy>(
 }
 
 /// Does what a line says, and returns its answer. Where memory is refused before anything has changed the answer is
-/// that
-/// refusal, and after k operations that these stand; but a line that is too long is refused as such. No line takes a
-/// site
-/// away, and where the answer may be long nothing has changed, and no device has failed.
+/// that refusal, and after k operations that these stand. A line that is too long is refused as such. No line takes a
+/// site away. Where the answer may be long nothing has changed, and no device has failed.
 pub fn answer<F: Files, A: Allocator + Copy>(
     memory: Memory<A>,
     world: &mut World<A>,

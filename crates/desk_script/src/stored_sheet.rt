@@ -18,8 +18,7 @@ use std::alloc::{Allocator, Global};
 use std::io::{Read, Write};
 
 /// Takes a name for this run alone, and opens a world of one site, which holds the operations of the feed that is
-/// stored
-/// under it; with it the bytes that were read. Where no file is there it holds none.
+/// stored under it; with it the bytes that were read. Where no file is there it holds none.
 fn take_feed<F: Files, A: Allocator + Copy>(
     alloc: A,
     files: &mut F,

@@ -14,6 +14,7 @@ ghost use Rattle.desk_script.specs.Script.{Turn, StopsWithin, Answers, AnswersBe
 ghost use Rattle.feed_stored.specs.Sending.{WritesPrefix};
 ghost use Rattle.desk_script.specs.Fault.{IsOfLines};
 ghost use Rattle.desk_script.specs.Pending.{Breaks, BreaksBefore, Moves, last_line, lines_from, progress};
+ghost use Rattle.desk_script.specs.Taking.{IsTakenIn, IsTakenWithin, max_reads};
 
 use crate::fault::{LineFault, RunFault};
 use crate::{MAX_LINE, answer};
@@ -131,6 +132,7 @@ fn keep<A: Allocator + Copy>(line: &mut Vec<u8, A>, byte: u8) -> Result<(), Line
     ensures kept { length line.new.items ≤ PENDING_LIMIT }
     ensures ok { OnOk result ((more : List ℕ)
         → lines_from line.old.items (byte ∷ more) ≡ lines_from line.new.items more) }
+    ensures own { IfErr result (λ fault. fault ≢ LineFault.TooLong) }
 {
     if line.len() == PENDING_LIMIT {
         return Ok(());
@@ -158,6 +160,7 @@ fn take_byte<W: Write, F: Files, A: Allocator + Copy>(
     ensures memory { IsErrOf result LineFault.NoMemory
         → BreaksBefore (progress world.old (F.shelf files.old) (W.contents writer.old) line.old.items)
         (progress world.new (F.shelf files.new) (W.contents writer.new) line.new.items) (byte ∷ []) }
+    ensures own { IfErr result (λ fault. fault ≢ LineFault.TooLong) }
     ensures sites { OnOk result (KeepsSites world.old world.new) }
     ensures stays { Stays (F.shelf files.old) (F.shelf files.new) }
 {
@@ -189,6 +192,7 @@ fn take_each<W: Write, F: Files, A: Allocator + Copy>(
     ensures memory { IsErrOf result LineFault.NoMemory
         → BreaksBefore (progress world.old (F.shelf files.old) (W.contents writer.old) line.old.items)
         (progress world.new (F.shelf files.new) (W.contents writer.new) line.new.items) bytes.now }
+    ensures own { IfErr result (λ fault. fault ≢ LineFault.TooLong) }
     ensures sites { OnOk result (KeepsSites world.old world.new) }
     ensures stays { Stays (F.shelf files.old) (F.shelf files.new) }
 {
@@ -218,6 +222,7 @@ fn take_bytes<W: Write, F: Files, A: Allocator + Copy>(
     ensures memory { IsErrOf result LineFault.NoMemory
         → BreaksBefore (progress world.old (F.shelf files.old) (W.contents writer.old) line.old.items)
         (progress world.new (F.shelf files.new) (W.contents writer.new) line.new.items) bytes.now }
+    ensures own { IfErr result (λ fault. fault ≢ LineFault.TooLong) }
     ensures sites { OnOk result (KeepsSites world.old world.new) }
     ensures stays { Stays (F.shelf files.old) (F.shelf files.new) }
 {
@@ -274,7 +279,7 @@ fn finish<W: Write, F: Files, A: Allocator + Copy>(
 /// Reads commands to their end, and writes the line of each one's answer. A writer may hold them back: it is flushed
 /// before each read, and at the end. Memory that is refused to a command is an answer, and the run goes on: `NoMemory`
 /// comes only where a line cannot be kept, and then every answer before it was written. After any other `Err` what was
-/// written is a prefix of such lines.
+/// written is a prefix of such lines. `TooLong` comes only after `MAX_READS` calls of `read` that each gave bytes.
 pub fn answer_all<R: Read, W: Write, F: Files, A: Allocator + Copy>(
     memory: Memory<A>,
     world: &mut World<A>,
@@ -294,6 +299,9 @@ pub fn answer_all<R: Read, W: Write, F: Files, A: Allocator + Copy>(
         → IfSome (R.remaining reader.old)
         (λ input. AnswersBefore (desk world.old (F.shelf files.old)) (F.shelf files.new) input (W.contents writer.old)
         (W.contents writer.new)) }
+    ensures taken { IsTakenWithin max_reads (R.remaining reader.old) (R.remaining reader.new) }
+    ensures long { IsErrOf result LineFault.TooLong
+        → IsTakenIn max_reads (R.remaining reader.old) (R.remaining reader.new) }
     ensures sites { OnOk result (KeepsSites world.old world.new) }
     ensures stays { Stays (F.shelf files.old) (F.shelf files.new) }
     ensures end { OnOk result (IsAtEnd (R.remaining reader.new)) }
@@ -312,8 +320,8 @@ pub fn answer_all<R: Read, W: Write, F: Files, A: Allocator + Copy>(
 
 /// Reads commands to their end, on a world that has no site yet, and writes the line of each one's answer. Memory that
 /// is refused to a command is an answer: `NoMemory` comes only where a line cannot be kept, and then every answer
-/// before it was written. After any other `Err` what was written is a prefix of such lines. The reading of a case or a
-/// wedge takes the global allocator alone.
+/// before it was written. After any other `Err` what was written is a prefix of such lines. `TooLong` comes only after
+/// `MAX_READS` calls of `read` that each gave bytes. The reading of a case or a wedge takes the global allocator alone.
 pub fn run<R: Read, W: Write, F: Files, A: Allocator + Copy>(
     alloc: A,
     global: Global,
@@ -333,6 +341,9 @@ pub fn run<R: Read, W: Write, F: Files, A: Allocator + Copy>(
         → IfSome (R.remaining reader.old)
         (λ input. AnswersBefore (desk no_sites (F.shelf files.old)) (F.shelf files.new) input (W.contents writer.old)
         (W.contents writer.new)) }
+    ensures taken { IsTakenWithin max_reads (R.remaining reader.old) (R.remaining reader.new) }
+    ensures long { IsErrOf result RunFault.TooLong
+        → IsTakenIn max_reads (R.remaining reader.old) (R.remaining reader.new) }
     ensures stays { Stays (F.shelf files.old) (F.shelf files.new) }
     ensures own { IfErr result IsOfLines }
     ensures end { OnOk result (IsAtEnd (R.remaining reader.new)) }

@@ -1,5 +1,5 @@
 use Rattle.feed_files.proofs.Shelves.{stays_same, stays_trans}
-use Rattle.std.proofs.Common.{rules, ◌<◌, length, refl, take, subst}
+use Rattle.std.proofs.Common.{rules, arith, ◌<◌, ◌+◌, length, refl, take, subst}
 use Rattle.std.specs.Io.KnownBytes.{Consumes}
 use Rattle.std.proofs.lemmas.Result.{err_from_is_err_and, on_err_weaker, on_ok_weaker}
 use Rattle.std.proofs.Common.{ap}
@@ -10,10 +10,11 @@ use Rattle.desk_script.specs.Pending.{last_line, progress}
 use Rattle.desk_script.proofs.Keeping.{keeps_same, keeps_trans}
 use Rattle.desk_script.proofs.Bytes.{on_err, reported_fault}
 use Rattle.desk_script.proofs.Carry.{carries_before, carries_more, carries_prefix, carries_end, carries_end_prefix, carries_stop}
+use Rattle.desk_script.proofs.Taking.{none_taken, given_more, still_taken, end_taken}
 use Rattle.desk_script.proofs.stream.answer_all.Goals as goal
 
 pub reads-init : goal.reads-init
-reads-init g c = record { kept = search rules; stays = stays_same _; sites = keeps_same _ _ refl; carries = search rules }
+reads-init g c = record { kept = search rules; stays = stays_same _; sites = keeps_same _ _ refl; taken = none_taken _; carries = search rules }
 
 pub returns-in-Err-clause-err : goal.returns-in-Err-clause-err
 returns-in-Err-clause-err g c = carries_stop (desk c.args.world.now (g.F.Files.shelf c.args.files.now)) (desk c.reads.world (g.F.Files.shelf c.reads.files)) _ _ _ _ _ c.reads.line.items (stays_same _) c.reads.invariant.carries
@@ -50,6 +51,7 @@ reads-preserved g c = record {
   kept = c.take_bytes.ensures.kept;
   stays = stays_trans c.reads.invariant.stays c.take_bytes.ensures.stays;
   sites = keeps_trans c.args.world.now c.reads.world c.take_bytes.new.world c.reads.invariant.sites c.in_ok-take_bytes-in-Ok.ensures.sites;
+  taken = given_more c.reads.counter _ _ _ c.in-Ok.n c.read.new.buf c.reads.invariant.taken c.in-Ok.ensures.bytes.0 (grind (arith, c.in-Ok.n-test)) (search rules) (search rules);
   carries = carries_more (desk c.args.world.now (g.F.Files.shelf c.args.files.now)) (progress c.reads.world (g.F.Files.shelf c.reads.files) (g.W.Write.contents c.reads.writer) c.reads.line.items) (progress c.take_bytes.new.world (g.F.Files.shelf c.take_bytes.new.files) (g.W.Write.contents c.take_bytes.new.writer) c.take_bytes.new.line.items) _ _ _ _ (take c.in-Ok.n c.read.new.buf) c.reads.invariant.carries c.in-Ok.ensures.bytes.0 c.in_ok-take_bytes-in-Ok.ensures.ok;
 }
 
@@ -58,3 +60,25 @@ returns-clause-err g c = carries_stop (desk c.args.world.now (g.F.Files.shelf c.
 
 pub returns-in-Ok-eq0-clause-sites : goal.returns-in-Ok-eq0-clause-sites
 returns-in-Ok-eq0-clause-sites g c = on_ok_weaker c.finish.result (λ kept. keeps_trans c.args.world.now c.reads.world c.finish.new.world c.reads.invariant.sites kept) c.finish.ensures.sites
+
+-- ---- what was taken
+
+pub returns-in-Err-clause-taken : goal.returns-in-Err-clause-taken
+returns-in-Err-clause-taken g c = (c.reads.counter, omega (arith, c.reads-test.true), still_taken c.reads.counter _ _ _ c.reads.invariant.taken c.in-Err.ensures.bytes)
+
+pub returns-in-Ok-eq0-clause-taken : goal.returns-in-Ok-eq0-clause-taken
+returns-in-Ok-eq0-clause-taken g c =
+    let read = subst (λ n. Consumes (g.R.Read.remaining c.reads.reader) (g.R.Read.remaining c.read.new.self) (take n c.read.new.buf)) c.in-Ok-eq0.field-0-test c.in-Ok-eq0.ensures.bytes.0 in
+    (c.reads.counter, omega (arith, c.reads-test.true), end_taken c.reads.counter _ _ _ c.reads.invariant.taken read)
+
+pub returns-in_err-take_bytes-in-Ok-clause-taken : goal.returns-in_err-take_bytes-in-Ok-clause-taken
+returns-in_err-take_bytes-in-Ok-clause-taken g c =
+    (c.reads.counter + 1, omega (arith, c.reads-test.true), given_more c.reads.counter _ _ _ c.in-Ok.n c.read.new.buf c.reads.invariant.taken c.in-Ok.ensures.bytes.0 (grind (arith, c.in-Ok.n-test)) (search rules) (search rules))
+
+pub returns-clause-taken : goal.returns-clause-taken
+returns-clause-taken g c = (c.reads.counter, search rules, c.reads.invariant.taken)
+
+pub returns-clause-long : goal.returns-clause-long
+returns-clause-long g c is =
+    let (bytes, gave, low, high) = c.reads.invariant.taken in
+    (bytes, gave, grind (arith, low, c.reads-test.false), grind (arith, high, c.reads.auto.counter-end))
