@@ -1,2 +1,4 @@
 pub mod Statuses
 pub mod Merged
+pub mod Telling
+pub mod Explaining

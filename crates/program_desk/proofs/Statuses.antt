@@ -1,6 +1,6 @@
 -- What a status says of a run.
-use Rattle.std.proofs.Common.{◌≡◌, ◌⊎◌, inl, inr, ℕ, Bool, true, false, refl, arith}
-use Rattle.std.specs.Prelude.{Result, Ok, Err, MatchBool, MatchResult, IfErr, IfOk, OnErr, OnOk}
+use Rattle.std.proofs.Common.{◌≡◌, ap, ◌⊎◌, inl, inr, ℕ, Bool, true, false, refl, arith}
+use Rattle.std.specs.Prelude.{Result, Ok, Err, MatchBool, MatchResult, IfErr, IfOk, IsErrOf, OnErr, OnOk}
 
 -- a status is not both
 apart : {X : Type 0} (status : ℕ) → status ≡ 0 → status ≡ 1 → X
@@ -16,10 +16,24 @@ pub halt_of : {A E : Type 0} (r : Result A E) (Why : E → Type 0) (status : ℕ
 halt_of (Ok a) Why status reported why one = apart status reported one
 halt_of (Err e) Why status reported why one = (e, why)
 
--- the same, where what is left does not go by the fault
-pub left_of : {A E X : Type 0} (r : Result A E) (status : ℕ) → MatchResult r (λ _. status ≡ 0) (λ _. status ≡ 1) → OnErr r X → status ≡ 1 → X
-left_of (Ok a) status reported x one = apart status reported one
-left_of (Err e) status reported x one = x
+-- ---- a status with what was written of a fault
+
+-- the status 0
+pub ended_of : {A E X : Type 0} (r : Result A E) (Said : E → Type 0) (status : ℕ) → MatchResult r (λ _. status ≡ 0) (λ e. (status ≡ 1) × Said e) → OnOk r X → status ≡ 0 → X
+ended_of (Ok a) Said status reported x zero = x
+ended_of (Err e) Said status reported x zero = apart status zero reported.0
+
+-- the status 1, of a fault of which this was written
+pub stop_of : {A E : Type 0} (r : Result A E) (Why Said : E → Type 0) (status : ℕ) → MatchResult r (λ _. status ≡ 0) (λ e. (status ≡ 1) × Said e) → IfErr r Why → status ≡ 1 → (e : E) × Why e × Said e
+stop_of (Ok a) Why Said status reported why one = apart status reported one
+stop_of (Err e) Why Said status reported why one = (e, why, reported.1)
+
+-- what is known of a fault, by what is left of any, and of this one
+pub cut_of : {A E : Type 0} (X Y : Type 0) (r : Result A E) (Own : E → Type 0) (one : E) → IfErr r Own → OnErr r X → (IsErrOf r one → Y) → IfErr r (λ e. Own e × X × (e ≡ one → Y))
+cut_of X Y (Ok a) Own one own x y = tt
+cut_of X Y (Err e) Own one own x y = (own, x, λ same. y (ap Err same))
+
+-- ---- answers that are yes or no
 
 -- the status of an answer that is yes or no
 abbrev pub ReportsOf : {E : Type 0} → Result Bool E → ℕ → Type 0

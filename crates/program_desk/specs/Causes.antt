@@ -26,6 +26,8 @@ use Rattle.desk_script.specs.declared.fault.RoomFault.TheVariants as rooms
 use Rattle.desk_script.specs.declared.fault.RunFault.{RunFault}
 use Rattle.desk_script.specs.declared.fault.RunFault.TheVariants as runs
 use Rattle.desk_script.specs.Sheet.{max_sheet}
+use Rattle.desk_script.specs.declared.sheet_fault.SheetFault.{SheetFault}
+use Rattle.desk_script.specs.declared.sheet_fault.SheetFault.TheVariants as stops
 use Rattle.feed_edit.specs.declared.replace_fault.ExchangeFault.{ExchangeFault}
 use Rattle.feed_edit.specs.declared.replace_fault.ExchangeFault.TheVariants as exchanges
 use Rattle.feed_edit.specs.declared.replace_fault.PlaceFault.{PlaceFault}
@@ -112,6 +114,12 @@ sheet_cause feed runs.NoMemory = causes.NoMemory feed
 sheet_cause feed (runs.Feed fault) = causes.Feed feed fault
 sheet_cause feed (runs.File why) = causes.File feed
 sheet_cause feed (runs.Opening stop) = causes.TooMany feed
+
+-- a sheet stopped, at a line of it, or for the feed or the run
+abbrev pub stop_cause : Bor Text → ℕ → SheetFault → Cause
+stop_cause feed site (stops.Line number) = causes.Line feed number
+stop_cause feed site (stops.Older made held) = causes.Older feed site made held
+stop_cause feed site (stops.Run fault) = sheet_cause feed fault
 
 -- ---- by hand
 

@@ -6,3 +6,6 @@ pub mod Texts
 pub mod Runs
 pub mod Sheets
 pub mod Compared
+pub mod Told
+pub mod Headlines
+pub mod Explained

@@ -1,5 +1,5 @@
 -- What the program has done, by its status and by the files before and after.
-use Rattle.std.specs.Prelude.{ℕ, true, List, Option}
+use Rattle.std.specs.Prelude.{ℕ, Bool, true, List, Option}
 use Rattle.std.specs.Option.{option_copied}
 use Rattle.clap.specs.Words.{Text}
 use Rattle.feed_files.specs.Files.{Shelf, Stays}
@@ -49,31 +49,37 @@ Does (wishes.Renumber feed other site) first last input before after =
 Does (wishes.Renew new feed site) first last input before after =
     IsRenewed new.now feed.now site first last before after
 
--- it stopped or was not begun, or a fault or a difference was found, and this is what it left
-abbrev pub Stops : Wish → Shelf → Shelf → Option (List ℕ) → Option (List ℕ) → Option (List ℕ) → Type 0
-Stops (wishes.Script manner) first last input before after = IsUnscripted manner first last input before after
-Stops (wishes.Desk feed site older why manner) first last input before after =
-    IsOffDesk manner feed.now site older first last input before after
-Stops (wishes.Merge feed others forks review) first last input before after =
+-- It stopped or was not begun, or a fault or a difference was found, and this is what it left. Of commands standard
+-- error has the lines on the fault, or a prefix of them where it failed.
+abbrev pub Stops : Wish → Shelf → Shelf → Option (List ℕ) → Option (List ℕ) → Option (List ℕ)
+    → Bool → Option (List ℕ) → Option (List ℕ) → Type 0
+Stops (wishes.Script manner) first last input before after whole quiet said =
+    IsUnscripted manner first last input before after whole quiet said
+Stops (wishes.Desk feed site older why manner) first last input before after whole quiet said =
+    IsOffDesk manner feed site older why first last input before after whole quiet said
+Stops (wishes.Merge feed others forks review) first last input before after whole quiet said =
     IsNotMerged feed.now (texts_of others.items) forks review first last before after
-Stops (wishes.Diff one other) first last input before after = AreNotOne one.now other.now first last before after
-Stops (wishes.Export feed) first last input before after = IsNotExported feed.now first last before after
-Stops (wishes.Import feed site older plain all) first last input before after =
+Stops (wishes.Diff one other) first last input before after whole quiet said =
+    AreNotOne one.now other.now first last before after
+Stops (wishes.Export feed) first last input before after whole quiet said =
+    IsNotExported feed.now first last before after
+Stops (wishes.Import feed site older plain all) first last input before after whole quiet said =
     IsNotImported feed.now site older plain all first last input before after
-Stops (wishes.Replace feed site older old new plain) first last input before after =
+Stops (wishes.Replace feed site older old new plain) first last input before after whole quiet said =
     IsUnchanged feed.now site older (exchange old new plain) first last before after
-Stops (wishes.Check files) first last input before after = AreNotInOrder (texts_of files.items) first last before after
-Stops (wishes.Proof from faults picture force sets) first last input before after =
+Stops (wishes.Check files) first last input before after whole quiet said =
+    AreNotInOrder (texts_of files.items) first last before after
+Stops (wishes.Proof from faults picture force sets) first last input before after whole quiet said =
     IsUnseen from faults (option_copied picture) force sets.items first last before after
-Stops (wishes.Punch from target force faulty) first last input before after =
+Stops (wishes.Punch from target force faulty) first last input before after whole quiet said =
     IsInNoFile from target.now force faulty first last before after
-Stops (wishes.Read ribbon case wedge picture force) first last input before after =
+Stops (wishes.Read ribbon case wedge picture force) first last input before after whole quiet said =
     IsNotReadWhole (sources ribbon.now case.now wedge.now) (option_copied picture) force first last before after
-Stops (wishes.Sorts feed case layout) first last input before after =
+Stops (wishes.Sorts feed case layout) first last input before after whole quiet said =
     IsNotListed (sorts.sources feed.now case.now) layout first last before after
-Stops (wishes.Renumber feed other site) first last input before after =
+Stops (wishes.Renumber feed other site) first last input before after whole quiet said =
     IsNotNumbered feed.now other.now site first last before after
-Stops (wishes.Renew new feed site) first last input before after =
+Stops (wishes.Renew new feed site) first last input before after whole quiet said =
     IsNotMadeAnew new.now feed.now first last before after
 
 -- what the words ask for was done
@@ -81,6 +87,7 @@ abbrev pub IsRun : Shelf → Shelf → List Text → Option (List ℕ) → Optio
 IsRun first last words input before after = (wish : Wish) × AsksFor words wish × Does wish first last input before after
 
 -- so of what the words ask for
-abbrev pub IsStopped : Shelf → Shelf → List Text → Option (List ℕ) → Option (List ℕ) → Option (List ℕ) → Type 0
-IsStopped first last words input before after = (wish : Wish) × AsksFor words wish
-    × Stops wish first last input before after
+abbrev pub IsStopped : Shelf → Shelf → List Text → Option (List ℕ) → Option (List ℕ) → Option (List ℕ)
+    → Option (List ℕ) → Option (List ℕ) → Type 0
+IsStopped first last words input before after quiet said = (wish : Wish) × AsksFor words wish
+    × (whole : Bool) × Stops wish first last input before after whole quiet said

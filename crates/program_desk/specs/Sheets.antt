@@ -1,18 +1,28 @@
 -- What a run of commands has done, and what it left, by how they are carried out.
-use Rattle.std.specs.Prelude.{ℕ, Bool, List, Option, IfSome, MatchBool, ◌||◌}
+use Rattle.std.specs.Prelude.{◌≡◌, ℕ, Bool, true, false, List, Option, IfSome, MatchBool, ◌||◌}
+use Rattle.std.specs.Borrow.{Bor}
 use Rattle.clap.specs.Words.{Text}
 use Rattle.feed_files.specs.Files.{Shelf, Stays}
 use Rattle.script_world.specs.Sites.{Sites, no_sites}
 use Rattle.desk_script.specs.Desk.{desk}
-use Rattle.desk_script.specs.Script.{Answers, AnswersPrefix}
+use Rattle.desk_script.specs.Fault.{IsOfLines}
+use Rattle.desk_script.specs.Script.{Answers, AnswersBefore, AnswersPrefix}
 use Rattle.desk_script.specs.Room.{AnswersInRoom, IsStoppedInRoom}
 use Rattle.desk_script.specs.declared.fault.RoomFault.{RoomFault}
+use Rattle.desk_script.specs.declared.fault.RoomFault.TheVariants as rooms
+use Rattle.desk_script.specs.declared.fault.RunFault.{RunFault}
+use Rattle.desk_script.specs.declared.fault.RunFault.TheVariants as runs
 use Rattle.desk_script.specs.Sheet.{IsDone, IsStopped}
 use Rattle.desk_script.specs.StoredSheet.{IsStoredSheet}
 use Rattle.desk_script.specs.StoredSheet as sheets
 use Rattle.desk_script.specs.declared.sheet_fault.SheetFault.{SheetFault}
+use Rattle.desk_script.specs.declared.sheet_fault.SheetFault.TheVariants as stops
 use Rattle.desk_script.specs.declared.sheet.Mode.{Mode}
 use Rattle.program_words.specs.declared.wishes.Manner.{Manner}
+use Rattle.program_desk.specs.Causes.{room_cause, stop_cause}
+use Rattle.program_desk.specs.Explained.{TellsOf}
+use Rattle.program_desk.specs.Headlines.{room_line, run_line, sheet_line}
+use Rattle.program_desk.specs.Told.{Tells}
 
 -- the commands are read as a sheet: to their end, before the first is carried out
 abbrev pub is_sheet : Manner → Bool
@@ -28,18 +38,22 @@ abbrev pub IsAnswered : Shelf → Shelf → Option (List ℕ) → Option (List �
 IsAnswered first last input before after =
     IfSome input (λ bytes. (new : Sites) × Answers (desk no_sites first) (desk new last) bytes before after)
 
--- a prefix of it was
-abbrev pub IsCutOff : Shelf → Shelf → Option (List ℕ) → Option (List ℕ) → Option (List ℕ) → Type 0
-IsCutOff first last input before after =
-    IfSome input (λ bytes. AnswersPrefix (desk no_sites first) last bytes before after)
+-- a prefix of it was, for this fault of the commands themselves; where a line was not kept, all answers before it were
+-- written
+abbrev pub IsCutOff : Shelf → Shelf → Option (List ℕ) → Option (List ℕ) → Option (List ℕ) → RunFault → Type 0
+IsCutOff first last input before after fault =
+    IsOfLines fault
+    × IfSome input (λ bytes. AnswersPrefix (desk no_sites first) last bytes before after)
+    × (fault ≡ runs.NoMemory → IfSome input (λ bytes. AnswersBefore (desk no_sites first) last bytes before after))
 
 -- as a sheet
 abbrev pub IsDoneSheet : Mode → Shelf → Shelf → Option (List ℕ) → Option (List ℕ) → Option (List ℕ) → Type 0
 IsDoneSheet mode first last input before after =
     (new : Sites) × IsDone mode (desk no_sites first) (desk new last) input before after
 
-abbrev pub IsStoppedSheet : Mode → Shelf → Shelf → Option (List ℕ) → Option (List ℕ) → Option (List ℕ) → Type 0
-IsStoppedSheet mode first last input before after = (fault : SheetFault) × (new : Sites)
+abbrev pub IsStoppedSheet : Mode → Shelf → Shelf → Option (List ℕ) → Option (List ℕ) → Option (List ℕ) → SheetFault
+    → Type 0
+IsStoppedSheet mode first last input before after fault = (new : Sites)
     × IsStopped mode (desk no_sites first) (desk new last) input before after fault
 
 -- the commands are carried out, and no file has changed
@@ -49,12 +63,14 @@ IsScripted manner first last input before after =
     × MatchBool (is_sheet manner) (IsDoneSheet (mode_of manner) first last input before after)
     (IsAnswered first last input before after)
 
--- they stopped
-abbrev pub IsUnscripted : Manner → Shelf → Shelf → Option (List ℕ) → Option (List ℕ) → Option (List ℕ) → Type 0
-IsUnscripted manner first last input before after =
+-- they stopped for a fault, and standard error has the line of this fault
+abbrev pub IsUnscripted : Manner → Shelf → Shelf → Option (List ℕ) → Option (List ℕ) → Option (List ℕ)
+    → Bool → Option (List ℕ) → Option (List ℕ) → Type 0
+IsUnscripted manner first last input before after whole quiet said =
     Stays first last
-    × MatchBool (is_sheet manner) (IsStoppedSheet (mode_of manner) first last input before after)
-    (IsCutOff first last input before after)
+    × MatchBool (is_sheet manner) ((fault : SheetFault)
+    × IsStoppedSheet (mode_of manner) first last input before after fault × Tells whole quiet said (sheet_line fault))
+    ((fault : RunFault) × IsCutOff first last input before after fault × Tells whole quiet said (run_line fault))
 
 -- ---- a desk
 
@@ -66,10 +82,23 @@ IsOnDesk manner feed site older first last input before after =
     MatchBool (is_sheet manner) (IsStoredSheet (mode_of manner) feed site older first last input before after)
     (AnswersInRoom feed site older first last input before after)
 
--- they stopped, and this is what they left
-abbrev pub IsOffDesk : Manner → Text → ℕ → Bool → Shelf → Shelf → Option (List ℕ) → Option (List ℕ) → Option (List ℕ)
-    → Type 0
-IsOffDesk manner feed site older first last input before after =
+-- whether a second line is written, though none asks why
+abbrev pub is_older : RoomFault → Bool
+is_older (rooms.Older made held) = true
+is_older (rooms.Run fault) = false
+
+abbrev pub is_older_sheet : SheetFault → Bool
+is_older_sheet (stops.Line number) = false
+is_older_sheet (stops.Older made held) = true
+is_older_sheet (stops.Run fault) = false
+
+-- They stopped for a fault, this is what they left, and standard error has the lines on this fault: the first and,
+-- where it is asked why or the feed is older, the second.
+abbrev pub IsOffDesk : Manner → Bor Text → ℕ → Bool → Bool → Shelf → Shelf → Option (List ℕ) → Option (List ℕ)
+    → Option (List ℕ) → Bool → Option (List ℕ) → Option (List ℕ) → Type 0
+IsOffDesk manner feed site older why first last input before after whole quiet said =
     MatchBool (is_sheet manner) ((fault : SheetFault)
-    × sheets.IsStoppedOnFeed (mode_of manner) feed site older first last input before after fault)
-    ((fault : RoomFault) × IsStoppedInRoom feed site older first last input before after fault)
+    × sheets.IsStoppedOnFeed (mode_of manner) feed.now site older first last input before after fault
+    × TellsOf (sheet_line fault) (why || is_older_sheet fault) (stop_cause feed site fault) whole quiet said)
+    ((fault : RoomFault) × IsStoppedInRoom feed.now site older first last input before after fault
+    × TellsOf (room_line fault) (why || is_older fault) (room_cause feed site fault) whole quiet said)

@@ -63,7 +63,13 @@ fn merge_status<E: Write, F: Explains>(
     match outcome {
         Ok(clean) => status_of(review, clean),
         Err(fault) => {
-            let status = reported(faults, files, &fault, merge_cause(feed, others, &fault));
+            let status = reported(
+                alloc,
+                faults,
+                files,
+                &fault,
+                merge_cause(feed, others, &fault),
+            );
             explain_forks(alloc, faults, others, &fault);
             status
         }
@@ -96,6 +102,7 @@ pub fn merged<W: Write, E: Write, F: Files + Explains>(
 
 /// The status of an export.
 fn export_status<E: Write, F: Explains>(
+    alloc: Global,
     faults: &mut E,
     files: &F,
     feed: &str,
@@ -105,7 +112,7 @@ fn export_status<E: Write, F: Explains>(
 {
     match outcome {
         Ok(()) => 0,
-        Err(fault) => reported(faults, files, &fault, export_cause(feed, fault)),
+        Err(fault) => reported(alloc, faults, files, &fault, export_cause(feed, fault)),
     }
 }
 
@@ -125,11 +132,12 @@ pub fn exported<W: Write, E: Write, F: Files + Explains>(
         (W.contents writer.new) }
 {
     let outcome = export_feed(alloc, writer, files, feed);
-    export_status(faults, files, feed, outcome)
+    export_status(alloc, faults, files, feed, outcome)
 }
 
 /// The status of an import.
 fn import_status<E: Write, F: Explains>(
+    alloc: Global,
     faults: &mut E,
     files: &F,
     feed: &str,
@@ -140,7 +148,13 @@ fn import_status<E: Write, F: Explains>(
 {
     match outcome {
         Ok(()) => 0,
-        Err(fault) => reported(faults, files, &fault, import_cause(feed, site, fault)),
+        Err(fault) => reported(
+            alloc,
+            faults,
+            files,
+            &fault,
+            import_cause(feed, site, fault),
+        ),
     }
 }
 
@@ -167,11 +181,12 @@ pub fn imported<R: Read, W: Write, E: Write, F: Files + Explains>(
         (W.contents writer.old) (W.contents writer.new) }
 {
     let outcome = import_text(alloc, reader, writer, files, feed, site, older, plain, all);
-    import_status(faults, files, feed, site, outcome)
+    import_status(alloc, faults, files, feed, site, outcome)
 }
 
 /// The status of a renewal.
 fn renew_status<E: Write, F: Explains>(
+    alloc: Global,
     faults: &mut E,
     files: &F,
     new: &str,
@@ -182,7 +197,7 @@ fn renew_status<E: Write, F: Explains>(
 {
     match outcome {
         Ok(()) => 0,
-        Err(fault) => reported(faults, files, &fault, renew_cause(new, feed, fault)),
+        Err(fault) => reported(alloc, faults, files, &fault, renew_cause(new, feed, fault)),
     }
 }
 
@@ -206,11 +221,12 @@ pub fn renewed<W: Write, E: Write, F: Files + Explains>(
         (W.contents writer.new) }
 {
     let outcome = renew_feed(alloc, writer, files, new, feed, site);
-    renew_status(faults, files, new, feed, outcome)
+    renew_status(alloc, faults, files, new, feed, outcome)
 }
 
 /// The status of a renumbering.
 fn renumber_status<E: Write, F: Explains>(
+    alloc: Global,
     faults: &mut E,
     files: &F,
     feed: &str,
@@ -224,6 +240,7 @@ fn renumber_status<E: Write, F: Explains>(
         Ok(()) => 0,
         Err(fault) => {
             reported(
+                alloc,
                 faults,
                 files,
                 &fault,
@@ -253,5 +270,5 @@ pub fn renumbered<W: Write, E: Write, F: Files + Explains>(
         (W.contents writer.new) }
 {
     let outcome = renumber_feed(alloc, writer, files, feed, other, site);
-    renumber_status(faults, files, feed, other, site, outcome)
+    renumber_status(alloc, faults, files, feed, other, site, outcome)
 }

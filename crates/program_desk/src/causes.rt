@@ -5,10 +5,10 @@ ghost use Rattle.program_desk.specs.Causes.{desk_cause, difference_cause, export
 ghost use Rattle.program_desk.specs.Causes.{import_cause, input_cause, keep_cause, merge_cause, number_cause};
 ghost use Rattle.program_desk.specs.Causes.{other_cause, preview_cause, reading_cause, renew_cause, renumber_cause};
 ghost use Rattle.program_desk.specs.Causes.{replace_cause, revision_cause, sheet_cause, sorts_cause, take_cause};
-ghost use Rattle.program_desk.specs.Causes.{unstored_cause, last_cause, room_cause};
+ghost use Rattle.program_desk.specs.Causes.{unstored_cause, last_cause, room_cause, stop_cause};
 
 use desk_codec::FeedFault;
-use desk_script::{MAX_SHEET, RoomFault, RunFault};
+use desk_script::{MAX_SHEET, RoomFault, RunFault, SheetFault};
 use feed_compare::DifferenceFault;
 use feed_edit::{
     ExchangeFault, ExportFault, FeedTrouble, ImportFault, InputFault, KeepFault, MAX_TEXT,
@@ -65,6 +65,8 @@ pub enum Cause<'a> {
     Case(&'a str, Refusal),
     /// The number of the case or of the wedge of this file is not that of its setting.
     Other(&'a str, OtherNumber),
+    /// The line of this number of a sheet was refused: its answer says why, and this feed is as it was.
+    Line(&'a str, u64),
     /// Standard input failed.
     Input,
     /// Standard input did not come to its end within `MAX_READS` calls of `read`.
@@ -135,7 +137,7 @@ pub fn room_cause<'a>(feed: &'a str, site: u16, fault: RoomFault) -> Cause<'a>
 }
 
 /// The cause where a sheet on a feed stopped. A sheet is read whole, and has a limit.
-pub fn sheet_cause<'a>(feed: &'a str, fault: RunFault) -> Cause<'a>
+fn sheet_cause<'a>(feed: &'a str, fault: RunFault) -> Cause<'a>
     ensures { result ≡ sheet_cause feed.entry fault }
 {
     match fault {
@@ -146,6 +148,17 @@ pub fn sheet_cause<'a>(feed: &'a str, fault: RunFault) -> Cause<'a>
         | RunFault::Feed(_)
         | RunFault::File(_)
         | RunFault::Opening(_) => desk_cause(feed, fault),
+    }
+}
+
+/// The cause where a sheet on a feed stopped, at a line of it, or for the feed or the run.
+pub fn stop_cause<'a>(feed: &'a str, site: u16, fault: SheetFault) -> Cause<'a>
+    ensures { result ≡ stop_cause feed.entry site fault }
+{
+    match fault {
+        SheetFault::Line(number) => Cause::Line(feed, number),
+        SheetFault::Older { made, held } => Cause::Older(feed, site, made, held),
+        SheetFault::Run(fault) => sheet_cause(feed, fault),
     }
 }
 

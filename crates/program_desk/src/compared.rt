@@ -13,6 +13,7 @@ use std::io::Write;
 
 /// The status of a difference: 1 also where it was written and the feeds do not hold the same.
 fn difference_status<E: Write, F: Explains>(
+    alloc: Global,
     faults: &mut E,
     files: &F,
     one: &str,
@@ -24,7 +25,13 @@ fn difference_status<E: Write, F: Explains>(
     match outcome {
         Ok(true) => 0,
         Ok(false) => 1,
-        Err(fault) => reported(faults, files, &fault, difference_cause(one, other, fault)),
+        Err(fault) => reported(
+            alloc,
+            faults,
+            files,
+            &fault,
+            difference_cause(one, other, fault),
+        ),
     }
 }
 
@@ -46,5 +53,5 @@ pub fn compared<W: Write, E: Write, F: Files + Explains>(
         (W.contents writer.new) }
 {
     let outcome = report_difference(alloc, writer, files, one, other);
-    difference_status(faults, files, one, other, outcome)
+    difference_status(alloc, faults, files, one, other, outcome)
 }

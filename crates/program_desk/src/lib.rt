@@ -9,12 +9,16 @@
 mod by_hand;
 mod causes;
 mod compared;
+mod explained;
+mod headlines;
 mod previews;
 mod readings;
 mod reporting;
 mod runs;
 mod sheets;
 mod texts;
+mod told;
+mod words;
 
 pub use reporting::unread;
 pub use runs::program;

@@ -23,6 +23,7 @@ use view_punch::{PreviewFault, TrialFault, proof_feed, punch_feed, trial_of};
 
 /// The status of a punch.
 fn punch_status<E: Write, F: Explains>(
+    alloc: Global,
     faults: &mut E,
     files: &F,
     from: &Sources<'_>,
@@ -33,7 +34,13 @@ fn punch_status<E: Write, F: Explains>(
 {
     match outcome {
         Ok(()) => 0,
-        Err(fault) => reported(faults, files, &fault, preview_cause(from, target, fault)),
+        Err(fault) => reported(
+            alloc,
+            faults,
+            files,
+            &fault,
+            preview_cause(from, target, fault),
+        ),
     }
 }
 
@@ -93,7 +100,7 @@ fn shown<W: Write, E: Write, F: Files + Explains>(
     match outcome {
         Ok(clean) => Ok(clean),
         Err(fault) => {
-            let _ = reported(faults, files, &fault, preview_cause(from, "", fault));
+            let _ = reported(alloc, faults, files, &fault, preview_cause(from, "", fault));
             Err(fault)
         }
     }
@@ -133,7 +140,13 @@ fn pictured<E: Write, F: Files + Explains>(
     match outcome {
         Ok(()) => true,
         Err(fault) => {
-            let _ = reported(faults, files, &fault, preview_cause(from, name, fault));
+            let _ = reported(
+                alloc,
+                faults,
+                files,
+                &fault,
+                preview_cause(from, name, fault),
+            );
             false
         }
     }
@@ -190,7 +203,7 @@ fn untried<E: Write>(faults: &mut E, sets: &[&str], fault: TrialFault) -> u8
             );
             1
         }
-        TrialFault::NoMemory => stopped(faults, RunFault::NoMemory),
+        TrialFault::NoMemory => stopped(faults, RunFault::NoMemory).status,
     }
 }
 
@@ -275,5 +288,5 @@ pub fn punched<W: Write, E: Write, F: Files + Explains>(
         target,
         faulty,
     );
-    punch_status(faults, files, from, target.name, outcome)
+    punch_status(alloc, faults, files, from, target.name, outcome)
 }

@@ -41,7 +41,7 @@ fn read_out<W: Write, E: Write, F: Files + Explains>(
         from.wedge,
     );
     if let Err(fault) = outcome {
-        let _ = reported(faults, files, &fault, reading_cause(from, "", fault));
+        let _ = reported(alloc, faults, files, &fault, reading_cause(from, "", fault));
     }
     outcome
 }
@@ -77,7 +77,13 @@ fn drawn<E: Write, F: Files + Explains>(
     match outcome {
         Ok(there) => there,
         Err(fault) => {
-            let _ = reported(faults, files, &fault, reading_cause(from, name, fault));
+            let _ = reported(
+                alloc,
+                faults,
+                files,
+                &fault,
+                reading_cause(from, name, fault),
+            );
             false
         }
     }
@@ -148,6 +154,7 @@ pub fn read_whole<W: Write, E: Write, F: Files + Explains>(
 
 /// The status of a list of sorts: 1 also where it was written and a sort is missing.
 fn sorts_status<E: Write, F: Explains>(
+    alloc: Global,
     faults: &mut E,
     files: &F,
     feed: &str,
@@ -160,7 +167,7 @@ fn sorts_status<E: Write, F: Explains>(
     match outcome {
         Ok(true) => 0,
         Ok(false) => 1,
-        Err(fault) => reported(faults, files, &fault, sorts_cause(feed, case, fault)),
+        Err(fault) => reported(alloc, faults, files, &fault, sorts_cause(feed, case, fault)),
     }
 }
 
@@ -183,5 +190,5 @@ pub fn listed<W: Write, E: Write, F: Files + Explains>(
         (W.contents writer.old) (W.contents writer.new) }
 {
     let outcome = report_sorts(memory_of(alloc), writer, files, feed, case, layout);
-    sorts_status(faults, files, feed, case, outcome)
+    sorts_status(alloc, faults, files, feed, case, outcome)
 }

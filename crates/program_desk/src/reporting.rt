@@ -1,215 +1,116 @@
 //! What is reported of a run that stopped.
 
-ghost use Rattle.std.specs.Prelude.{◌≡◌, ◌↔◌, ◌⊎◌, MatchResult};
+ghost use Rattle.std.specs.Prelude.{◌≡◌, ◌↔◌, ◌⊎◌, ◌||◌, MatchResult};
 ghost use Rattle.std.specs.IoError.{error_kind};
+ghost use Rattle.program_desk.specs.Causes.{room_cause};
+ghost use Rattle.program_desk.specs.Explained.{TellsOf};
+ghost use Rattle.program_desk.specs.Headlines.{room_line, run_line};
+ghost use Rattle.program_desk.specs.Sheets.{is_older};
+ghost use Rattle.program_desk.specs.Told.{Tells};
 
 use crate::causes::{Cause, room_cause};
-use desk_ops::Stamp;
+use crate::explained::{explain, explain_if};
+use crate::headlines::{tell_room, tell_run};
+use crate::told::{Ending, Told, silent};
 use desk_script::{RoomFault, RunFault};
 use feed_files::FileRefusal;
-use feed_sites::NumberFault;
 use program_host::{Explains, Plain};
-use script_answers::Refusal;
+use std::alloc::Global;
 use std::fmt::Display;
 use std::io::{self, ErrorKind, Write};
-use view_proof::OtherNumber;
 
 /// Writes what stopped a run, and gives the status of it.
-pub fn stopped<E: Write>(faults: &mut E, fault: RunFault) -> u8
-    ensures { result ≡ 1 }
+pub fn stopped<E: Write>(faults: &mut E, fault: RunFault) -> Ending
+    ensures status { result.status ≡ 1 }
+    ensures told { Tells result.told.is_whole (E.contents faults.old) (E.contents faults.new) (run_line fault) }
 {
-    let _ = writeln!(faults, "copydesk: {fault}");
-    1
+    let told = tell_run(faults, fault);
+    Ending { status: 1, told }
 }
 
-/// The status of a run.
-pub fn status_of<E: Write>(faults: &mut E, outcome: Result<(), RunFault>) -> u8
-    ensures { MatchResult outcome (λ _. result ≡ 0) (λ _. result ≡ 1) }
+/// How a run ended, with its line where it stopped.
+pub fn ending_of<E: Write>(faults: &mut E, outcome: Result<(), RunFault>) -> Ending
+    ensures { MatchResult outcome (λ _. result.status ≡ 0)
+        (λ fault. (result.status ≡ 1)
+        × Tells result.told.is_whole (E.contents faults.old) (E.contents faults.new) (run_line fault)) }
 {
     match outcome {
-        Ok(()) => 0,
+        Ok(()) => Ending {
+            status: 0,
+            told: silent(),
+        },
         Err(fault) => stopped(faults, fault),
     }
 }
 
-/// The status of a run on a feed. Where it is asked why, or the feed is older, a second line says it.
-pub fn status_on<E: Write, F: Explains>(
+/// Whether a feed is older than what was made in this room.
+fn is_older(fault: RoomFault) -> bool
+    ensures { result ≡ is_older fault }
+{
+    match fault {
+        RoomFault::Older { .. } => true,
+        RoomFault::Run(_) => false,
+    }
+}
+
+/// Whether a second line is written: where it is asked why, or the feed is older.
+fn is_explained(why: bool, fault: RoomFault) -> bool
+    ensures { result ≡ (why || is_older fault) }
+{
+    why || is_older(fault)
+}
+
+/// Writes what stopped a run on a feed. Where it is asked why, or the feed is older, a second line says it.
+fn tell_room_stop<E: Write, F: Explains>(
+    alloc: Global,
+    faults: &mut E,
+    files: &F,
+    feed: &str,
+    site: u16,
+    why: bool,
+    fault: RoomFault,
+) -> Told
+    ensures { TellsOf (room_line fault) (why || is_older fault) (room_cause feed.entry site fault) result.is_whole
+        (E.contents faults.old) (E.contents faults.new) }
+{
+    let begun = tell_room(faults, fault);
+    let asked = is_explained(why, fault);
+    let cause = room_cause(feed, site, fault);
+    explain_if(alloc, faults, begun, files, asked, cause)
+}
+
+/// How a run on a feed ended, with its lines where it stopped.
+pub fn ending_on<E: Write, F: Explains>(
+    alloc: Global,
     faults: &mut E,
     files: &F,
     feed: &str,
     site: u16,
     why: bool,
     outcome: Result<(), RoomFault>,
-) -> u8
-    ensures { MatchResult outcome (λ _. result ≡ 0) (λ _. result ≡ 1) }
+) -> Ending
+    ensures { MatchResult outcome (λ _. result.status ≡ 0)
+        (λ fault. (result.status ≡ 1)
+        × TellsOf (room_line fault) (why || is_older fault) (room_cause feed.entry site fault) result.told.is_whole
+        (E.contents faults.old) (E.contents faults.new)) }
 {
     match outcome {
-        Ok(()) => 0,
+        Ok(()) => Ending {
+            status: 0,
+            told: silent(),
+        },
         Err(fault) => {
-            let _ = writeln!(faults, "copydesk: {fault}");
-            if why || matches!(fault, RoomFault::Older { .. }) {
-                explain(faults, files, room_cause(feed, site, fault));
-            }
-            1
+            let told = tell_room_stop(alloc, faults, files, feed, site, why, fault);
+            Ending { status: 1, told }
         }
     }
-}
-
-/// Why a case file is refused, by the number of its fault.
-fn case_words(number: u8) -> &'static str {
-    match number {
-        1 => "it is not TOML",
-        2 => "a key of a case is missing",
-        3 => "a key of a case is of another type, number, length or name",
-        4 => "the text of a cell is no symbol",
-        5 => "a symbol stands in two cells",
-        6 => "the space or a fill holds a symbol",
-        _ => "by this wedge the units of the fills do not descend",
-    }
-}
-
-/// Why a wedge file is refused, by the number of its fault.
-fn wedge_words(number: u8) -> &'static str {
-    match number {
-        1 => "it is not TOML",
-        2 => "a key of a wedge is missing",
-        3 => "a key of a wedge is of another type, length or value",
-        _ => "a row has fewer units than the row before",
-    }
-}
-
-/// Writes a line on why a case does not come in: the file, and the cause.
-fn explain_case<E: Write, F: Explains>(
-    faults: &mut E,
-    files: &F,
-    case: &str,
-    why: Refusal,
-) -> io::Result<()> {
-    match why {
-        Refusal::Case(number) => writeln!(faults, "{}: {}", Plain(case), case_words(number)),
-        _ => files.explain(case, faults),
-    }
-}
-
-/// Writes a line on why a case and a wedge do not come in: the file, and the cause. Files know which of them they
-/// refused.
-fn explain_input<E: Write, F: Explains>(
-    faults: &mut E,
-    files: &F,
-    case: &str,
-    wedge: &str,
-    why: Refusal,
-) -> io::Result<()> {
-    match why {
-        Refusal::Case(_) => explain_case(faults, files, case, why),
-        Refusal::Wedge(number) => writeln!(faults, "{}: {}", Plain(wedge), wedge_words(number)),
-        _ => files.explain(wedge, faults),
-    }
-}
-
-/// Writes a line on why a number does not serve.
-fn explain_number<E: Write>(faults: &mut E, site: u16, why: NumberFault) -> io::Result<()> {
-    match why {
-        NumberFault::Seen(stamp) => {
-            let Stamp { counter, site } = stamp;
-            writeln!(
-                faults,
-                "operation {counter}.{site} builds on one that would get another number"
-            )
-        }
-        NumberFault::Clash => {
-            writeln!(
-                faults,
-                "site {site}: two operations of one counter would get this number"
-            )
-        }
-        NumberFault::InUse | NumberFault::NoMemory => {
-            writeln!(faults, "site {site}: one of the feeds has stamps of it")
-        }
-    }
-}
-
-/// Writes a line on a case or a wedge whose number is not that of its setting: the file, and both numbers.
-fn explain_other<E: Write>(faults: &mut E, name: &str, other: OtherNumber) -> io::Result<()> {
-    let name = Plain(name);
-    match other {
-        OtherNumber::Case { set, number } => {
-            writeln!(
-                faults,
-                "{name}: it is case {number}, and the setting case is {set}"
-            )
-        }
-        OtherNumber::Wedge { set, number } => {
-            writeln!(
-                faults,
-                "{name}: it is wedge {number}, and the setting wedge is {set}"
-            )
-        }
-    }
-}
-
-/// Writes a line on a cause.
-fn explain_cause<E: Write, F: Explains>(
-    faults: &mut E,
-    files: &F,
-    cause: Cause<'_>,
-) -> io::Result<()> {
-    match cause {
-        Cause::Reported => Ok(()),
-        Cause::NoMemory(feed) => writeln!(faults, "{}: out of memory", Plain(feed)),
-        Cause::File(name) => files.explain(name, faults),
-        Cause::Feed(feed, fault) => {
-            let (at, why) = (fault.at, fault.why);
-            writeln!(faults, "{}: byte {at}: {why}", Plain(feed))
-        }
-        Cause::TooMany(feed) => {
-            writeln!(
-                faults,
-                "{}: it has more operations than a desk can hold",
-                Plain(feed)
-            )
-        }
-        Cause::Full(feed) => {
-            writeln!(
-                faults,
-                "{}: with its operations there would be more than a desk can hold",
-                Plain(feed)
-            )
-        }
-        Cause::Text(feed) => writeln!(faults, "{}: the text does not fit into it", Plain(feed)),
-        Cause::Older(feed, site, made, held) => {
-            writeln!(
-                faults,
-                "{}: site {site} made {made} here, and it holds {held}",
-                Plain(feed)
-            )
-        }
-        Cause::Taken(name, kind) => writeln!(faults, "{}: {kind}", Plain(name)),
-        Cause::There(name) => writeln!(faults, "{}: it is there already", Plain(name)),
-        Cause::Number(site, why) => explain_number(faults, site, why),
-        Cause::CaseOrWedge(case, wedge, why) => explain_input(faults, files, case, wedge, why),
-        Cause::Case(case, why) => explain_case(faults, files, case, why),
-        Cause::Other(name, other) => explain_other(faults, name, other),
-        Cause::Input => writeln!(faults, "standard input: it cannot be read"),
-        Cause::Endless => writeln!(faults, "standard input: it has no end"),
-        Cause::TooLong(most) => writeln!(faults, "standard input: it has more than {most} bytes"),
-        Cause::Output | Cause::ReportOutput => {
-            writeln!(faults, "standard output: it cannot be written")
-        }
-    }
-}
-
-/// Writes a second line on what stopped something, unless the first says all: which file it was, or which end of the
-/// program,
-/// and the cause. A failure to write it changes nothing.
-pub fn explain<E: Write, F: Explains>(faults: &mut E, files: &F, cause: Cause<'_>) {
-    let _ = explain_cause(faults, files, cause);
 }
 
 /// Writes a line on a fault and, unless that says all, a second one on its cause. Out of memory is reported as such,
 /// whatever
 /// it was wanted for.
 fn report<E: Write, F: Explains, T: Display>(
+    alloc: Global,
     faults: &mut E,
     files: &F,
     fault: &T,
@@ -219,7 +120,7 @@ fn report<E: Write, F: Explains, T: Display>(
         Cause::NoMemory(_) => writeln!(faults, "copydesk: {}", RunFault::NoMemory),
         _ => writeln!(faults, "copydesk: {fault}"),
     };
-    explain(faults, files, cause);
+    let _ = explain(alloc, faults, silent(), files, cause);
 }
 
 /// Reports a fault and its cause, and gives the status of it. Where the reader of a report has closed standard output,
@@ -227,6 +128,7 @@ fn report<E: Write, F: Explains, T: Display>(
 /// `head` does, nothing is written: nobody waits for more. Of a command that would have stored something it is still
 /// reported.
 pub fn reported<E: Write, F: Explains, T: Display>(
+    alloc: Global,
     faults: &mut E,
     files: &F,
     fault: &T,
@@ -236,7 +138,7 @@ pub fn reported<E: Write, F: Explains, T: Display>(
 {
     let is_over = matches!(cause, Cause::ReportOutput) && files.is_output_closed();
     if !is_over {
-        report(faults, files, fault, cause);
+        report(alloc, faults, files, fault, cause);
     }
     1
 }

@@ -1,8 +1,10 @@
 //! What the words of the command line ask for, done.
 
-ghost use Rattle.std.specs.Prelude.{◌≡◌, ◌≢◌, ◌≤◌, ◌⊎◌, map, string_bytes};
+ghost use Rattle.std.specs.Prelude.{◌≡◌, ◌≢◌, ◌≤◌, ◌⊎◌, Bool, map, string_bytes};
 ghost use Rattle.clap.specs.Words.{kind_of};
+ghost use Rattle.program_desk.specs.Headlines.{run_line};
 ghost use Rattle.program_desk.specs.Runs.{Does, IsRun, IsStopped, Stops};
+ghost use Rattle.program_desk.specs.Told.{Tells};
 ghost use Rattle.program_words.specs.Words.{AsksHelp, AsksNothing, IsLawful};
 
 use crate::by_hand::{exported, imported, merged, renewed, renumbered};
@@ -13,6 +15,7 @@ use crate::readings::{listed, read_whole};
 use crate::reporting::stopped;
 use crate::sheets::{on_desk, scripted};
 use crate::texts::{checked, replaced};
+use crate::told::{Ending, silent};
 use clap::Error;
 use clap::error::ErrorKind;
 use desk_script::RunFault;
@@ -23,7 +26,7 @@ use program_words::{Wish, read_words};
 use std::alloc::Global;
 use std::io::{Read, Write};
 
-/// Does what is asked for, and gives the status.
+/// Does what is asked for, and says how it ended. Of commands it says whether the lines on a stop were written whole.
 fn fulfilled<R: Read, W: Write, E: Write, F: Files + Explains>(
     alloc: Global,
     wish: &Wish<'_>,
@@ -31,15 +34,15 @@ fn fulfilled<R: Read, W: Write, E: Write, F: Files + Explains>(
     writer: &mut W,
     faults: &mut E,
     files: &mut F,
-) -> u8
+) -> Ending
     requires { IsLawful wish.now }
-    ensures within { result ≤ 1 }
-    ensures done { result ≡ 0
+    ensures within { result.status ≤ 1 }
+    ensures done { result.status ≡ 0
         → Does wish.now (F.shelf files.old) (F.shelf files.new) (R.remaining reader.old) (W.contents writer.old)
         (W.contents writer.new) }
-    ensures stopped { result ≡ 1
+    ensures stopped { result.status ≡ 1
         → Stops wish.now (F.shelf files.old) (F.shelf files.new) (R.remaining reader.old) (W.contents writer.old)
-        (W.contents writer.new) }
+        (W.contents writer.new) result.told.is_whole (E.contents faults.old) (E.contents faults.new) }
 {
     match wish {
         Wish::Script { manner } => scripted(alloc, *manner, reader, writer, faults, files),
@@ -57,18 +60,30 @@ fn fulfilled<R: Read, W: Write, E: Write, F: Files + Explains>(
             others,
             forks,
             review,
-        } => merged(alloc, feed, others, *forks, *review, writer, faults, files),
-        Wish::Diff { one, other } => compared(alloc, one, other, writer, faults, files),
-        Wish::Export { feed } => exported(alloc, feed, writer, faults, files),
+        } => Ending {
+            status: merged(alloc, feed, others, *forks, *review, writer, faults, files),
+            told: silent(),
+        },
+        Wish::Diff { one, other } => Ending {
+            status: compared(alloc, one, other, writer, faults, files),
+            told: silent(),
+        },
+        Wish::Export { feed } => Ending {
+            status: exported(alloc, feed, writer, faults, files),
+            told: silent(),
+        },
         Wish::Import {
             feed,
             site,
             older,
             plain,
             all,
-        } => imported(
-            alloc, feed, *site, *older, *plain, *all, reader, writer, faults, files,
-        ),
+        } => Ending {
+            status: imported(
+                alloc, feed, *site, *older, *plain, *all, reader, writer, faults, files,
+            ),
+            told: silent(),
+        },
         Wish::Replace {
             feed,
             site,
@@ -82,18 +97,27 @@ fn fulfilled<R: Read, W: Write, E: Write, F: Files + Explains>(
                 to: new,
                 plain: *plain,
             };
-            replaced(alloc, feed, *site, *older, &exchange, writer, faults, files)
+            Ending {
+                status: replaced(alloc, feed, *site, *older, &exchange, writer, faults, files),
+                told: silent(),
+            }
         }
-        Wish::Check { files: names } => checked(alloc, names, writer, faults, files),
+        Wish::Check { files: names } => Ending {
+            status: checked(alloc, names, writer, faults, files),
+            told: silent(),
+        },
         Wish::Proof {
             from,
             faults: alone,
             picture,
             force,
             sets,
-        } => proofed(
-            alloc, from, *alone, *picture, *force, sets, writer, faults, files,
-        ),
+        } => Ending {
+            status: proofed(
+                alloc, from, *alone, *picture, *force, sets, writer, faults, files,
+            ),
+            told: silent(),
+        },
         Wish::Punch {
             from,
             target,
@@ -104,7 +128,10 @@ fn fulfilled<R: Read, W: Write, E: Write, F: Files + Explains>(
                 name: target,
                 force: *force,
             };
-            punched(alloc, from, &to, *faulty, writer, faults, files)
+            Ending {
+                status: punched(alloc, from, &to, *faulty, writer, faults, files),
+                told: silent(),
+            }
         }
         Wish::Read {
             ribbon,
@@ -118,15 +145,27 @@ fn fulfilled<R: Read, W: Write, E: Write, F: Files + Explains>(
                 case,
                 wedge,
             };
-            read_whole(alloc, &from, *picture, *force, writer, faults, files)
+            Ending {
+                status: read_whole(alloc, &from, *picture, *force, writer, faults, files),
+                told: silent(),
+            }
         }
         Wish::Sorts { feed, case, layout } => {
-            listed(alloc, feed, case, *layout, writer, faults, files)
+            Ending {
+                status: listed(alloc, feed, case, *layout, writer, faults, files),
+                told: silent(),
+            }
         }
         Wish::Renumber { feed, other, site } => {
-            renumbered(alloc, feed, other, *site, writer, faults, files)
+            Ending {
+                status: renumbered(alloc, feed, other, *site, writer, faults, files),
+                told: silent(),
+            }
         }
-        Wish::Renew { new, feed, site } => renewed(alloc, new, feed, *site, writer, faults, files),
+        Wish::Renew { new, feed, site } => Ending {
+            status: renewed(alloc, new, feed, *site, writer, faults, files),
+            told: silent(),
+        },
     }
 }
 
@@ -142,13 +181,19 @@ fn report_words<E: Write>(alloc: Global, faults: &mut E, error: &Error) {
 }
 
 /// What `clap` says of the words: its help and the version go to the writer, and a refusal to the faults.
-fn refused<W: Write, E: Write>(alloc: Global, writer: &mut W, faults: &mut E, error: &Error) -> u8
-    ensures within { result ≤ 2 }
-    ensures help { result ≡ 0 → (kind_of error.now ≡ ErrorKind.DisplayHelp)
+fn refused<W: Write, E: Write>(
+    alloc: Global,
+    writer: &mut W,
+    faults: &mut E,
+    error: &Error,
+) -> Ending
+    ensures within { result.status ≤ 2 }
+    ensures help { result.status ≡ 0 → (kind_of error.now ≡ ErrorKind.DisplayHelp)
         ⊎ (kind_of error.now ≡ ErrorKind.DisplayVersion) }
-    ensures memory { result ≡ 1 → (kind_of error.now ≡ ErrorKind.OutOfMemory) × (writer.new ≡ writer.old) }
-    ensures reported { result ≢ 1 → kind_of error.now ≢ ErrorKind.OutOfMemory }
-    ensures fault { result ≡ 2 → (kind_of error.now ≢ ErrorKind.DisplayHelp)
+    ensures memory { result.status ≡ 1 → (kind_of error.now ≡ ErrorKind.OutOfMemory) × (writer.new ≡ writer.old)
+        × Tells result.told.is_whole (E.contents faults.old) (E.contents faults.new) (run_line RunFault.NoMemory) }
+    ensures reported { result.status ≢ 1 → kind_of error.now ≢ ErrorKind.OutOfMemory }
+    ensures fault { result.status ≡ 2 → (kind_of error.now ≢ ErrorKind.DisplayHelp)
         × (kind_of error.now ≢ ErrorKind.DisplayVersion) × (writer.new ≡ writer.old) }
 {
     let kind = error.kind();
@@ -157,10 +202,16 @@ fn refused<W: Write, E: Write>(alloc: Global, writer: &mut W, faults: &mut E, er
     }
     if kind == ErrorKind::DisplayHelp || kind == ErrorKind::DisplayVersion {
         let _ = write!(writer, "{error}");
-        return 0;
+        return Ending {
+            status: 0,
+            told: silent(),
+        };
     }
     report_words(alloc, faults, error);
-    2
+    Ending {
+        status: 2,
+        told: silent(),
+    }
 }
 
 /// Does what the words ask for, and gives the status: 0 only where it was done and no fault or difference found, or
@@ -181,14 +232,15 @@ pub fn program<R: Read, W: Write, E: Write, F: Files + Explains>(
         ⊎ (AsksHelp (map string_bytes words.now) × (reader.new ≡ reader.old) × (files.new ≡ files.old)) }
     ensures stopped { result ≡ 1
         → IsStopped (F.shelf files.old) (F.shelf files.new) (map string_bytes words.now) (R.remaining reader.old)
-        (W.contents writer.old) (W.contents writer.new)
-        ⊎ ((reader.new ≡ reader.old) × (writer.new ≡ writer.old) × (files.new ≡ files.old)) }
+        (W.contents writer.old) (W.contents writer.new) (E.contents faults.old) (E.contents faults.new)
+        ⊎ ((reader.new ≡ reader.old) × (writer.new ≡ writer.old) × (files.new ≡ files.old) × (whole : Bool)
+        × Tells whole (E.contents faults.old) (E.contents faults.new) (run_line RunFault.NoMemory)) }
     ensures refused { result ≡ 2 → AsksNothing (map string_bytes words.now) × (reader.new ≡ reader.old)
         × (writer.new ≡ writer.old) × (files.new ≡ files.old) }
 {
     match read_words(alloc, words) {
-        Ok(Some(wish)) => fulfilled(alloc, &wish, reader, writer, faults, files),
+        Ok(Some(wish)) => fulfilled(alloc, &wish, reader, writer, faults, files).status,
         Ok(None) => 2,
-        Err(error) => refused(alloc, writer, faults, &error),
+        Err(error) => refused(alloc, writer, faults, &error).status,
     }
 }

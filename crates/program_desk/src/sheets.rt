@@ -1,13 +1,21 @@
 //! Commands carried out, each answered at once, or as a sheet.
 
-ghost use Rattle.std.specs.Prelude.{◌≡◌, ◌≤◌, MatchResult};
-ghost use Rattle.program_desk.specs.Sheets.{IsOffDesk, IsOnDesk, IsScripted, IsUnscripted, is_sheet, mode_of};
+ghost use Rattle.std.specs.Prelude.{◌≡◌, ◌≤◌, ◌||◌, MatchResult};
+ghost use Rattle.program_desk.specs.Causes.{stop_cause};
+ghost use Rattle.program_desk.specs.Explained.{TellsOf};
+ghost use Rattle.program_desk.specs.Headlines.{sheet_line};
+ghost use Rattle.program_desk.specs.Sheets.{IsOffDesk, IsOnDesk, IsScripted, IsUnscripted, is_older_sheet, is_sheet};
+ghost use Rattle.program_desk.specs.Sheets.{mode_of};
+ghost use Rattle.program_desk.specs.Told.{Tells};
 
-use crate::causes::{Cause, sheet_cause};
-use crate::reporting::{explain, status_of, status_on};
+use crate::causes::stop_cause;
+use crate::explained::explain_if;
+use crate::headlines::tell_sheet;
+use crate::reporting::{ending_of, ending_on};
+use crate::told::{Ending, Told, silent};
 use desk_script::{Mode, SheetFault, run, run_in_room, run_sheet, run_sheet_on_feed};
 use feed_files::Files;
-use program_host::{Explains, Plain};
+use program_host::Explains;
 use program_words::Manner;
 use std::alloc::Global;
 use std::io::{Read, Write};
@@ -29,71 +37,88 @@ fn mode_of(manner: Manner) -> Mode
     }
 }
 
-/// Writes what stopped a sheet, and gives the status of it.
-fn sheet_stopped<E: Write>(faults: &mut E, fault: SheetFault) -> u8
-    ensures { result ≡ 1 }
-{
-    let _ = writeln!(faults, "copydesk: {fault}");
-    1
-}
-
-/// The status of a sheet, with a line on what stopped it.
-fn sheet_status<E: Write>(faults: &mut E, outcome: Result<(), SheetFault>) -> u8
-    ensures { MatchResult outcome (λ _. result ≡ 0) (λ _. result ≡ 1) }
+/// How a sheet ended, with its line where it stopped.
+fn sheet_ending<E: Write>(faults: &mut E, outcome: Result<(), SheetFault>) -> Ending
+    ensures { MatchResult outcome (λ _. result.status ≡ 0)
+        (λ fault. (result.status ≡ 1)
+        × Tells result.told.is_whole (E.contents faults.old) (E.contents faults.new) (sheet_line fault)) }
 {
     match outcome {
-        Ok(()) => 0,
-        Err(fault) => sheet_stopped(faults, fault),
+        Ok(()) => Ending {
+            status: 0,
+            told: silent(),
+        },
+        Err(fault) => {
+            let told = tell_sheet(faults, fault);
+            Ending { status: 1, told }
+        }
     }
 }
 
-/// Writes a second line on what stopped a sheet on a feed.
-fn explain_sheet<E: Write, F: Explains>(
+/// Whether a feed is older than what was made in this room.
+fn is_older_sheet(fault: SheetFault) -> bool
+    ensures { result ≡ is_older_sheet fault }
+{
+    match fault {
+        SheetFault::Older { .. } => true,
+        SheetFault::Line(_) | SheetFault::Run(_) => false,
+    }
+}
+
+/// Whether a second line is written: where it is asked why, or the feed is older.
+fn is_explained(why: bool, fault: SheetFault) -> bool
+    ensures { result ≡ (why || is_older_sheet fault) }
+{
+    why || is_older_sheet(fault)
+}
+
+/// Writes what stopped a sheet on a feed. Where it is asked why, or the feed is older, a second line says it.
+fn tell_stop<E: Write, F: Explains>(
+    alloc: Global,
     faults: &mut E,
     files: &F,
     feed: &str,
     site: u16,
+    why: bool,
     fault: SheetFault,
-) {
-    match fault {
-        SheetFault::Line(number) => {
-            let _ = writeln!(
-                faults,
-                "standard input: the answer to line {number} says why; {} is as it was",
-                Plain(feed)
-            );
-        }
-        SheetFault::Older { made, held } => {
-            explain(faults, files, Cause::Older(feed, site, made, held));
-        }
-        SheetFault::Run(fault) => explain(faults, files, sheet_cause(feed, fault)),
-    }
+) -> Told
+    ensures { TellsOf (sheet_line fault) (why || is_older_sheet fault) (stop_cause feed.entry site fault)
+        result.is_whole (E.contents faults.old) (E.contents faults.new) }
+{
+    let begun = tell_sheet(faults, fault);
+    let asked = is_explained(why, fault);
+    let cause = stop_cause(feed, site, fault);
+    explain_if(alloc, faults, begun, files, asked, cause)
 }
 
-/// The status of a sheet on a feed. Where it is asked why, or the feed is older, a second line says it.
-fn sheet_status_on<E: Write, F: Explains>(
+/// How a sheet on a feed ended, with its lines where it stopped.
+fn sheet_ending_on<E: Write, F: Explains>(
+    alloc: Global,
     faults: &mut E,
     files: &F,
     feed: &str,
     site: u16,
     why: bool,
     outcome: Result<(), SheetFault>,
-) -> u8
-    ensures { MatchResult outcome (λ _. result ≡ 0) (λ _. result ≡ 1) }
+) -> Ending
+    ensures { MatchResult outcome (λ _. result.status ≡ 0)
+        (λ fault. (result.status ≡ 1)
+        × TellsOf (sheet_line fault) (why || is_older_sheet fault) (stop_cause feed.entry site fault)
+        result.told.is_whole (E.contents faults.old) (E.contents faults.new)) }
 {
     match outcome {
-        Ok(()) => 0,
+        Ok(()) => Ending {
+            status: 0,
+            told: silent(),
+        },
         Err(fault) => {
-            let status = sheet_stopped(faults, fault);
-            if why || matches!(fault, SheetFault::Older { .. }) {
-                explain_sheet(faults, files, feed, site, fault);
-            }
-            status
+            let told = tell_stop(alloc, faults, files, feed, site, why, fault);
+            Ending { status: 1, told }
         }
     }
 }
 
-/// Carries out a script, and gives the status.
+/// Carries out a script, and says how it ended.
 pub fn scripted<R: Read, W: Write, E: Write, F: Files + Explains>(
     alloc: Global,
     manner: Manner,
@@ -101,26 +126,26 @@ pub fn scripted<R: Read, W: Write, E: Write, F: Files + Explains>(
     writer: &mut W,
     faults: &mut E,
     files: &mut F,
-) -> u8
-    ensures within { result ≤ 1 }
-    ensures done { result ≡ 0
+) -> Ending
+    ensures within { result.status ≤ 1 }
+    ensures done { result.status ≡ 0
         → IsScripted manner (F.shelf files.old) (F.shelf files.new) (R.remaining reader.old) (W.contents writer.old)
         (W.contents writer.new) }
-    ensures stopped { result ≡ 1
+    ensures stopped { result.status ≡ 1
         → IsUnscripted manner (F.shelf files.old) (F.shelf files.new) (R.remaining reader.old) (W.contents writer.old)
-        (W.contents writer.new) }
+        (W.contents writer.new) result.told.is_whole (E.contents faults.old) (E.contents faults.new) }
 {
     if is_sheet(manner) {
         let mode = mode_of(manner);
         let outcome = run_sheet(alloc, alloc, mode, reader, writer, files);
-        sheet_status(faults, outcome)
+        sheet_ending(faults, outcome)
     } else {
         let outcome = run(alloc, alloc, reader, writer, files);
-        status_of(faults, outcome)
+        ending_of(faults, outcome)
     }
 }
 
-/// Carries out commands on a stored feed, and gives the status.
+/// Carries out commands on a stored feed, and says how that ended.
 pub fn on_desk<R: Read, W: Write, E: Write, F: Files + Explains>(
     alloc: Global,
     manner: Manner,
@@ -132,24 +157,25 @@ pub fn on_desk<R: Read, W: Write, E: Write, F: Files + Explains>(
     writer: &mut W,
     faults: &mut E,
     files: &mut F,
-) -> u8
+) -> Ending
     requires { 1 ≤ site }
-    ensures within { result ≤ 1 }
-    ensures done { result ≡ 0
+    ensures within { result.status ≤ 1 }
+    ensures done { result.status ≡ 0
         → IsOnDesk manner feed.now site older (F.shelf files.old) (F.shelf files.new) (R.remaining reader.old)
         (W.contents writer.old) (W.contents writer.new) }
-    ensures stopped { result ≡ 1
-        → IsOffDesk manner feed.now site older (F.shelf files.old) (F.shelf files.new) (R.remaining reader.old)
-        (W.contents writer.old) (W.contents writer.new) }
+    ensures stopped { result.status ≡ 1
+        → IsOffDesk manner feed.entry site older why (F.shelf files.old) (F.shelf files.new) (R.remaining reader.old)
+        (W.contents writer.old) (W.contents writer.new) result.told.is_whole (E.contents faults.old)
+        (E.contents faults.new) }
 {
     if is_sheet(manner) {
         let mode = mode_of(manner);
         let outcome = run_sheet_on_feed(
             alloc, alloc, mode, reader, writer, files, feed, site, older,
         );
-        sheet_status_on(faults, files, feed, site, why, outcome)
+        sheet_ending_on(alloc, faults, files, feed, site, why, outcome)
     } else {
         let outcome = run_in_room(alloc, alloc, reader, writer, files, feed, site, older);
-        status_on(faults, files, feed, site, why, outcome)
+        ending_on(alloc, faults, files, feed, site, why, outcome)
     }
 }

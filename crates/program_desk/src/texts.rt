@@ -18,6 +18,7 @@ use std::io::Write;
 
 /// The status of a replacement.
 fn replace_status<E: Write, F: Explains>(
+    alloc: Global,
     faults: &mut E,
     files: &F,
     feed: &str,
@@ -28,7 +29,13 @@ fn replace_status<E: Write, F: Explains>(
 {
     match outcome {
         Ok(()) => 0,
-        Err(fault) => reported(faults, files, &fault, replace_cause(feed, site, fault)),
+        Err(fault) => reported(
+            alloc,
+            faults,
+            files,
+            &fault,
+            replace_cause(feed, site, fault),
+        ),
     }
 }
 
@@ -53,11 +60,12 @@ pub fn replaced<W: Write, E: Write, F: Files + Explains>(
         (W.contents writer.new) }
 {
     let outcome = replace_text(alloc, writer, files, feed, site, older, exchange);
-    replace_status(faults, files, feed, site, outcome)
+    replace_status(alloc, faults, files, feed, site, outcome)
 }
 
 /// The status of a check: 1 also where each file has its line and one is not in order.
 fn check_status<E: Write, F: Explains>(
+    alloc: Global,
     faults: &mut E,
     files: &F,
     outcome: Result<bool, CheckFault>,
@@ -67,8 +75,14 @@ fn check_status<E: Write, F: Explains>(
     match outcome {
         Ok(true) => 0,
         Ok(false) => 1,
-        Err(CheckFault::NoMemory) => stopped(faults, RunFault::NoMemory),
-        Err(CheckFault::Write) => reported(faults, files, &RunFault::Write, Cause::ReportOutput),
+        Err(CheckFault::NoMemory) => stopped(faults, RunFault::NoMemory).status,
+        Err(CheckFault::Write) => reported(
+            alloc,
+            faults,
+            files,
+            &RunFault::Write,
+            Cause::ReportOutput,
+        ),
     }
 }
 
@@ -89,5 +103,5 @@ pub fn checked<W: Write, E: Write, F: Files + Explains>(
         (W.contents writer.new) }
 {
     let outcome = check_files(memory_of(alloc), writer, files, names);
-    check_status(faults, files, outcome)
+    check_status(alloc, faults, files, outcome)
 }

@@ -219,6 +219,32 @@ fn failing_reader(rt: HostRuntime) {
     assert!(rt; script_ends(rt.alloc(), reader, None, b"ok\n", b"copydesk: read fault\n"));
 }
 
+/// Whether a script whose reader fails stops so, where standard error fails after this many bytes.
+fn is_cut_off(alloc: Global, room: usize, reported: &[u8]) -> bool {
+    let Ok(words) = words(alloc, "script") else {
+        return false;
+    };
+    let mut reader = TrialReader::new(b"site 1\n").failing_at_call(1);
+    let mut written = TrialWriter::new(alloc);
+    let mut faults = TrialWriter::new(alloc).with_room(room, AtEnd::Fails);
+    let status = program(
+        alloc,
+        &words,
+        &mut reader,
+        &mut written,
+        &mut faults,
+        &mut NoFiles,
+    );
+    status == 1 && faults.written() == reported
+}
+
+#[test]
+fn standard_error_that_fails(rt: HostRuntime) {
+    assert!(rt; is_cut_off(rt.alloc(), 0, b""));
+    assert!(rt; is_cut_off(rt.alloc(), 14, b"copydesk: read"));
+    assert!(rt; is_cut_off(rt.alloc(), 21, b"copydesk: read fault\n"));
+}
+
 #[test]
 fn feeds_are_compared(rt: HostRuntime) -> Result<(), Fail> {
     let mut files = two_feeds(rt.alloc(), ONE_INSERT, ONE_INSERT)?;

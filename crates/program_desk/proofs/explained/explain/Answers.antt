@@ -1,0 +1,68 @@
+use Rattle.std.proofs.Common.{refl, sym, subst, ◌++◌, [], List, ℕ}
+use Rattle.program_desk.specs.Explained.{IsExplainedBy, older_words}
+use Rattle.program_desk.proofs.Telling.{goes_on_twice, stays}
+use Rattle.program_desk.proofs.explained.explain.Goals as goal
+
+pub returns-in-Reported : goal.returns-in-Reported
+returns-in-Reported g c = subst (λ cause. IsExplainedBy cause c.args.told.is_whole c.args.told.is_whole (g.E.Write.contents c.args.faults.now) (g.E.Write.contents c.args.faults.now)) (sym c.in-Reported.is) ([], refl, stays c.args.told.is_whole (g.E.Write.contents c.args.faults.now))
+
+pub returns-in-NoMemory : goal.returns-in-NoMemory
+returns-in-NoMemory g c = subst (λ cause. IsExplainedBy cause c.args.told.is_whole c.tell_named.result.is_whole (g.E.Write.contents c.args.faults.now) (g.E.Write.contents c.tell_named.new.faults)) (sym c.in-NoMemory.is) (c.tell_named.ensures)
+
+pub returns-in-Feed : goal.returns-in-Feed
+returns-in-Feed g c = subst (λ cause. IsExplainedBy cause c.args.told.is_whole c.tell_named-in-Feed.result.is_whole (g.E.Write.contents c.args.faults.now) (g.E.Write.contents c.tell_named-in-Feed.new.faults)) (sym c.in-Feed.is) (c.tell_named-in-Feed.ensures.0, (_, c.tell_named-in-Feed.ensures.1), c.tell_named-in-Feed.ensures.2)
+
+pub returns-in-TooMany : goal.returns-in-TooMany
+returns-in-TooMany g c = subst (λ cause. IsExplainedBy cause c.args.told.is_whole c.tell_named-in-TooMany.result.is_whole (g.E.Write.contents c.args.faults.now) (g.E.Write.contents c.tell_named-in-TooMany.new.faults)) (sym c.in-TooMany.is) (c.tell_named-in-TooMany.ensures)
+
+pub returns-in-Full : goal.returns-in-Full
+returns-in-Full g c = subst (λ cause. IsExplainedBy cause c.args.told.is_whole c.tell_named-in-Full.result.is_whole (g.E.Write.contents c.args.faults.now) (g.E.Write.contents c.tell_named-in-Full.new.faults)) (sym c.in-Full.is) (c.tell_named-in-Full.ensures)
+
+pub returns-in-Text : goal.returns-in-Text
+returns-in-Text g c = subst (λ cause. IsExplainedBy cause c.args.told.is_whole c.tell_named-in-Text.result.is_whole (g.E.Write.contents c.args.faults.now) (g.E.Write.contents c.tell_named-in-Text.new.faults)) (sym c.in-Text.is) (c.tell_named-in-Text.ensures)
+
+pub returns-in-Taken : goal.returns-in-Taken
+returns-in-Taken g c = subst (λ cause. IsExplainedBy cause c.args.told.is_whole c.tell_named-in-Taken.result.is_whole (g.E.Write.contents c.args.faults.now) (g.E.Write.contents c.tell_named-in-Taken.new.faults)) (sym c.in-Taken.is) (c.tell_named-in-Taken.ensures.0, (_, c.tell_named-in-Taken.ensures.1), c.tell_named-in-Taken.ensures.2)
+
+pub returns-in-There : goal.returns-in-There
+returns-in-There g c = subst (λ cause. IsExplainedBy cause c.args.told.is_whole c.tell_named-in-There.result.is_whole (g.E.Write.contents c.args.faults.now) (g.E.Write.contents c.tell_named-in-There.new.faults)) (sym c.in-There.is) (c.tell_named-in-There.ensures)
+
+pub returns-in-Other : goal.returns-in-Other
+returns-in-Other g c = subst (λ cause. IsExplainedBy cause c.args.told.is_whole c.tell_named-in-Other.result.is_whole (g.E.Write.contents c.args.faults.now) (g.E.Write.contents c.tell_named-in-Other.new.faults)) (sym c.in-Other.is) (c.tell_named-in-Other.ensures.0, (_, c.tell_named-in-Other.ensures.1), c.tell_named-in-Other.ensures.2)
+
+pub returns-in-Older : goal.returns-in-Older
+returns-in-Older g c =
+    let shown = c.tell_name-named.ensures in
+    let words = older_words c.in-Older.site c.in-Older.made c.in-Older.held in
+    subst (λ cause. IsExplainedBy cause c.args.told.is_whole c.tell_counters.result.is_whole (g.E.Write.contents c.args.faults.now) (g.E.Write.contents c.tell_counters.new.faults)) (sym c.in-Older.is)
+    (shown.0 ++ words, (shown.0, shown.1, refl), goes_on_twice c.args.told.is_whole c.tell_name-named.result.is_whole c.tell_counters.result.is_whole (g.E.Write.contents c.args.faults.now) (g.E.Write.contents c.tell_name-named.new.faults) (g.E.Write.contents c.tell_counters.new.faults) shown.0 words shown.2 c.tell_counters.ensures)
+
+pub returns-in-Line : goal.returns-in-Line
+returns-in-Line g c = subst (λ cause. IsExplainedBy cause c.args.told.is_whole c.tell_line.result.is_whole (g.E.Write.contents c.args.faults.now) (g.E.Write.contents c.tell_line.new.faults)) (sym c.in-Line.is) (c.tell_line.ensures)
+
+pub returns-in-TooLong : goal.returns-in-TooLong
+returns-in-TooLong g c = subst (λ cause. IsExplainedBy cause c.args.told.is_whole c.tell_limit.result.is_whole (g.E.Write.contents c.args.faults.now) (g.E.Write.contents c.tell_limit.new.faults)) (sym c.in-TooLong.is) (_, refl, c.tell_limit.ensures)
+
+pub returns-in-Input : goal.returns-in-Input
+returns-in-Input g c = subst (λ cause. IsExplainedBy cause c.args.told.is_whole c.tell_more.result.is_whole (g.E.Write.contents c.args.faults.now) (g.E.Write.contents c.tell_more.new.faults)) (sym c.in-Input.is) (_, refl, c.tell_more.ensures)
+
+pub returns-in-Endless : goal.returns-in-Endless
+returns-in-Endless g c = subst (λ cause. IsExplainedBy cause c.args.told.is_whole c.tell_more-in-Endless.result.is_whole (g.E.Write.contents c.args.faults.now) (g.E.Write.contents c.tell_more-in-Endless.new.faults)) (sym c.in-Endless.is) (_, refl, c.tell_more-in-Endless.ensures)
+
+pub returns-in-Output : goal.returns-in-Output
+returns-in-Output g c = subst (λ cause. IsExplainedBy cause c.args.told.is_whole c.tell_more-in-Output.result.is_whole (g.E.Write.contents c.args.faults.now) (g.E.Write.contents c.tell_more-in-Output.new.faults)) (sym c.in-Output.is) (_, refl, c.tell_more-in-Output.ensures)
+
+pub returns-in-ReportOutput : goal.returns-in-ReportOutput
+returns-in-ReportOutput g c = subst (λ cause. IsExplainedBy cause c.args.told.is_whole c.tell_more-in-ReportOutput.result.is_whole (g.E.Write.contents c.args.faults.now) (g.E.Write.contents c.tell_more-in-ReportOutput.new.faults)) (sym c.in-ReportOutput.is) (_, refl, c.tell_more-in-ReportOutput.ensures)
+
+pub returns-in-File : goal.returns-in-File
+returns-in-File g c = subst (λ cause. IsExplainedBy cause c.args.told.is_whole c.tell_more-in-File.result.is_whole (g.E.Write.contents c.args.faults.now) (g.E.Write.contents c.tell_more-in-File.new.faults)) (sym c.in-File.is) (_, tt, c.tell_more-in-File.ensures)
+
+pub returns-in-Number : goal.returns-in-Number
+returns-in-Number g c = subst (λ cause. IsExplainedBy cause c.args.told.is_whole c.tell_more-in-Number.result.is_whole (g.E.Write.contents c.args.faults.now) (g.E.Write.contents c.tell_more-in-Number.new.faults)) (sym c.in-Number.is) (_, tt, c.tell_more-in-Number.ensures)
+
+pub returns-in-CaseOrWedge : goal.returns-in-CaseOrWedge
+returns-in-CaseOrWedge g c = subst (λ cause. IsExplainedBy cause c.args.told.is_whole c.tell_more-in-CaseOrWedge.result.is_whole (g.E.Write.contents c.args.faults.now) (g.E.Write.contents c.tell_more-in-CaseOrWedge.new.faults)) (sym c.in-CaseOrWedge.is) (_, tt, c.tell_more-in-CaseOrWedge.ensures)
+
+pub returns-in-Case : goal.returns-in-Case
+returns-in-Case g c = subst (λ cause. IsExplainedBy cause c.args.told.is_whole c.tell_more-in-Case.result.is_whole (g.E.Write.contents c.args.faults.now) (g.E.Write.contents c.tell_more-in-Case.new.faults)) (sym c.in-Case.is) (_, tt, c.tell_more-in-Case.ensures)

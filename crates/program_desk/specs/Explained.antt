@@ -1,0 +1,65 @@
+-- The second line on standard error of a run that stopped: which file it was, or which end of the program, and why.
+use Rattle.std.specs.Prelude.{◌≡◌, ⊤, ℕ, Bool, List, [], ◌++◌, MatchBool, Option, codes}
+use Rattle.std.specs.Fmt.{decimal}
+use Rattle.clap.specs.Words.{Text}
+use Rattle.program_desk.specs.Told.{GoesOn, IsNamed, IsShown, Tells}
+use Rattle.program_desk.specs.declared.causes.Cause.{Cause}
+use Rattle.program_desk.specs.declared.causes.Cause.TheVariants as causes
+
+-- a line on a file, which says something of it
+abbrev pub IsOf : Text → List ℕ → Type 0
+IsOf name line = (words : List ℕ) × IsNamed name words line
+
+-- what is said of a site's counters, made and held
+abbrev pub older_words : ℕ → ℕ → ℕ → List ℕ
+older_words site made held = codes ": site " ++ (decimal site ++ (codes " made " ++ (decimal made
+    ++ (codes " here, and it holds " ++ (decimal held ++ codes "\n")))))
+
+-- The line on a cause. What files say of a refusal themselves, and what is said of a number, a case or a wedge, is any
+-- text. Of a feed's fault, a kind and another number the line has the name of the file, and any text.
+abbrev pub IsExplained : Cause → List ℕ → Type 0
+IsExplained causes.Reported line = line ≡ []
+IsExplained (causes.NoMemory feed) line = IsNamed feed.now (codes ": out of memory\n") line
+IsExplained (causes.File name) line = ⊤
+IsExplained (causes.Feed feed fault) line = IsOf feed.now line
+IsExplained (causes.TooMany feed) line =
+    IsNamed feed.now (codes ": it has more operations than a desk can hold\n") line
+IsExplained (causes.Full feed) line =
+    IsNamed feed.now (codes ": with its operations there would be more than a desk can hold\n") line
+IsExplained (causes.Text feed) line = IsNamed feed.now (codes ": the text does not fit into it\n") line
+IsExplained (causes.Older feed site made held) line = IsNamed feed.now (older_words site made held) line
+IsExplained (causes.Taken name kind) line = IsOf name.now line
+IsExplained (causes.There name) line = IsNamed name.now (codes ": it is there already\n") line
+IsExplained (causes.Number site why) line = ⊤
+IsExplained (causes.CaseOrWedge case wedge why) line = ⊤
+IsExplained (causes.Case case why) line = ⊤
+IsExplained (causes.Other name other) line = IsOf name.now line
+IsExplained (causes.Line feed number) line = (shown : List ℕ) × IsShown feed.now shown
+    × (line ≡ codes "standard input: the answer to line " ++ (decimal number ++ (codes " says why; " ++ (shown
+    ++ codes " is as it was\n"))))
+IsExplained causes.Input line = line ≡ codes "standard input: it cannot be read\n"
+IsExplained causes.Endless line = line ≡ codes "standard input: it has no end\n"
+IsExplained (causes.TooLong most) line =
+    line ≡ codes "standard input: it has more than " ++ decimal most ++ codes " bytes\n"
+IsExplained causes.Output line = line ≡ codes "standard output: it cannot be written\n"
+IsExplained causes.ReportOutput line = line ≡ codes "standard output: it cannot be written\n"
+
+-- what was written goes on by the line on a cause
+abbrev pub IsExplainedBy : Cause → Bool → Bool → Option (List ℕ) → Option (List ℕ) → Type 0
+IsExplainedBy cause begun whole middle after = (line : List ℕ) × IsExplained cause line
+    × GoesOn begun whole middle after line
+
+-- where it is asked for, and else nothing is written
+abbrev pub ExplainsIf : Bool → Cause → Bool → Bool → Option (List ℕ) → Option (List ℕ) → Type 0
+ExplainsIf asked cause begun whole middle after = MatchBool asked (IsExplainedBy cause begun whole middle after)
+    ((whole ≡ begun) × (after ≡ middle))
+
+-- the lines on a fault: a first one and, where it is asked for, one on the cause
+abbrev pub AreLines : List ℕ → Bool → Cause → List ℕ → Type 0
+AreLines head asked cause lines = MatchBool asked
+    ((second : List ℕ) × IsExplained cause second × (lines ≡ head ++ second)) (lines ≡ head)
+
+-- these lines were written; or, where standard error failed, a prefix of them
+abbrev pub TellsOf : List ℕ → Bool → Cause → Bool → Option (List ℕ) → Option (List ℕ) → Type 0
+TellsOf head asked cause whole before after = (lines : List ℕ) × AreLines head asked cause lines
+    × Tells whole before after lines

@@ -1,0 +1,182 @@
+//! The second line on what stopped a run: which file it was, or which end of the program, and why.
+
+ghost use Rattle.std.specs.Prelude.{◌≡◌, ◌++◌, ℕ, List, true, codes};
+ghost use Rattle.std.specs.Fmt.{decimal};
+ghost use Rattle.program_desk.specs.Explained.{IsExplainedBy, ExplainsIf, older_words};
+ghost use Rattle.program_desk.specs.Told.{GoesOn, IsNamed, IsPrintable, IsShown};
+
+use crate::causes::Cause;
+use crate::told::{Told, tell_more, tell_number};
+use crate::words::{explain_case, explain_input, explain_number, explain_other};
+use program_host::{Explains, Plain};
+use std::alloc::Global;
+use std::io::Write;
+
+/// Whether each byte of a name is a printable character of ASCII.
+fn is_printable(name: &[u8]) -> bool
+    ensures { IsPrintable name.now → result ≡ true }
+{
+    for place in 0..name.len() {
+        if name[place] < 32 || name[place] > 126 {
+            return false;
+        }
+    }
+    true
+}
+
+/// Writes a name as a terminal shows it. A name that is not printable takes memory, and is cut off where that is
+/// refused.
+fn tell_name<E: Write>(alloc: Global, faults: &mut E, told: Told, name: &str) -> Told
+    ensures { (shown : List ℕ) × IsShown name.now shown
+        × GoesOn told.is_whole result.is_whole (E.contents faults.old) (E.contents faults.new) shown }
+{
+    let bytes = name.as_bytes();
+    if is_printable(bytes) {
+        return tell_more(faults, told, bytes);
+    }
+    let mut shown = Vec::new(alloc);
+    let _ = write!(shown, "{}", Plain(name));
+    tell_more(faults, told, &shown)
+}
+
+/// Writes a line on a file: its name, and words on it.
+fn tell_named<E: Write>(alloc: Global, faults: &mut E, told: Told, name: &str, words: &[u8]) -> Told
+    ensures { (line : List ℕ) × IsNamed name.now words.now line
+        × GoesOn told.is_whole result.is_whole (E.contents faults.old) (E.contents faults.new) line }
+{
+    let named = tell_name(alloc, faults, told, name);
+    tell_more(faults, named, words)
+}
+
+/// Writes what is said of a site's counters.
+fn tell_counters<E: Write>(faults: &mut E, told: Told, site: u16, made: u64, held: u64) -> Told
+    ensures { GoesOn told.is_whole result.is_whole (E.contents faults.old) (E.contents faults.new)
+        (older_words site made held) }
+{
+    let of = tell_more(faults, told, b": site ");
+    let at = tell_number(faults, of, site as u64);
+    let by = tell_more(faults, at, b" made ");
+    let here = tell_number(faults, by, made);
+    let and = tell_more(faults, here, b" here, and it holds ");
+    let there = tell_number(faults, and, held);
+    tell_more(faults, there, b"\n")
+}
+
+/// Writes that a sheet has more bytes than this.
+fn tell_limit<E: Write>(faults: &mut E, told: Told, most: usize) -> Told
+    ensures { GoesOn told.is_whole result.is_whole (E.contents faults.old) (E.contents faults.new)
+        (codes "standard input: it has more than " ++ decimal most ++ codes " bytes\n") }
+{
+    let begun = tell_more(faults, told, b"standard input: it has more than ");
+    let counted = tell_number(faults, begun, most as u64);
+    tell_more(faults, counted, b" bytes\n")
+}
+
+/// Writes that the answer to a line of a sheet says why, and that its feed is as it was.
+fn tell_line<E: Write>(alloc: Global, faults: &mut E, told: Told, feed: &str, number: u64) -> Told
+    ensures { IsExplainedBy (Cause.Line feed.entry number) told.is_whole result.is_whole (E.contents faults.old)
+        (E.contents faults.new) }
+{
+    let begun = tell_more(faults, told, b"standard input: the answer to line ");
+    let counted = tell_number(faults, begun, number);
+    let why = tell_more(faults, counted, b" says why; ");
+    let named = tell_name(alloc, faults, why, feed);
+    tell_more(faults, named, b" is as it was\n")
+}
+
+/// What is said of a cause in other words than these, where there is memory for it, or the first part of it. Of a
+/// feed's fault, a kind and another number it is what follows the name of the file.
+fn words_on<F: Explains>(alloc: Global, files: &F, cause: Cause<'_>) -> Vec<u8> {
+    let mut words = Vec::new(alloc);
+    let _ = match cause {
+        Cause::File(name) => files.explain(name, &mut words),
+        Cause::Feed(_, fault) => {
+            let (at, why) = (fault.at, fault.why);
+            writeln!(words, ": byte {at}: {why}")
+        }
+        Cause::Taken(_, kind) => writeln!(words, ": {kind}"),
+        Cause::Number(site, why) => explain_number(&mut words, site, why),
+        Cause::CaseOrWedge(case, wedge, why) => explain_input(&mut words, files, case, wedge, why),
+        Cause::Case(case, why) => explain_case(&mut words, files, case, why),
+        Cause::Other(_, other) => explain_other(&mut words, other),
+        _ => Ok(()),
+    };
+    words
+}
+
+/// Writes the line on a cause after what was written, unless that was cut off. A line that takes memory is cut off
+/// where that is refused.
+pub fn explain<E: Write, F: Explains>(
+    alloc: Global,
+    faults: &mut E,
+    told: Told,
+    files: &F,
+    cause: Cause<'_>,
+) -> Told
+    ensures { IsExplainedBy cause.entry told.is_whole result.is_whole (E.contents faults.old) (E.contents faults.new) }
+{
+    match cause {
+        Cause::Reported => told,
+        Cause::NoMemory(feed) => tell_named(alloc, faults, told, feed, b": out of memory\n"),
+        Cause::Feed(feed, _) => {
+            tell_named(alloc, faults, told, feed, &words_on(alloc, files, cause))
+        }
+        Cause::TooMany(feed) => {
+            let words = b": it has more operations than a desk can hold\n";
+            tell_named(alloc, faults, told, feed, words)
+        }
+        Cause::Full(feed) => {
+            let words = b": with its operations there would be more than a desk can hold\n";
+            tell_named(alloc, faults, told, feed, words)
+        }
+        Cause::Text(feed) => {
+            tell_named(
+                alloc,
+                faults,
+                told,
+                feed,
+                b": the text does not fit into it\n",
+            )
+        }
+        Cause::Older(feed, site, made, held) => {
+            let named = tell_name(alloc, faults, told, feed);
+            tell_counters(faults, named, site, made, held)
+        }
+        Cause::Taken(name, _) => {
+            tell_named(alloc, faults, told, name, &words_on(alloc, files, cause))
+        }
+        Cause::There(name) => tell_named(alloc, faults, told, name, b": it is there already\n"),
+        Cause::Other(name, _) => {
+            tell_named(alloc, faults, told, name, &words_on(alloc, files, cause))
+        }
+        Cause::Line(feed, number) => tell_line(alloc, faults, told, feed, number),
+        Cause::Input => tell_more(faults, told, b"standard input: it cannot be read\n"),
+        Cause::Endless => tell_more(faults, told, b"standard input: it has no end\n"),
+        Cause::TooLong(most) => tell_limit(faults, told, most),
+        Cause::Output => tell_more(faults, told, b"standard output: it cannot be written\n"),
+        Cause::ReportOutput => tell_more(faults, told, b"standard output: it cannot be written\n"),
+        Cause::File(_) => tell_more(faults, told, &words_on(alloc, files, cause)),
+        Cause::Number(_, _) => tell_more(faults, told, &words_on(alloc, files, cause)),
+        Cause::CaseOrWedge(_, _, _) => tell_more(faults, told, &words_on(alloc, files, cause)),
+        Cause::Case(_, _) => tell_more(faults, told, &words_on(alloc, files, cause)),
+    }
+}
+
+/// Writes the line on a cause where it is asked for.
+pub fn explain_if<E: Write, F: Explains>(
+    alloc: Global,
+    faults: &mut E,
+    told: Told,
+    files: &F,
+    asked: bool,
+    cause: Cause<'_>,
+) -> Told
+    ensures { ExplainsIf asked cause.entry told.is_whole result.is_whole (E.contents faults.old)
+        (E.contents faults.new) }
+{
+    if asked {
+        explain(alloc, faults, told, files, cause)
+    } else {
+        told
+    }
+}
