@@ -3,9 +3,11 @@
 
 In a table of DEFINITIONS the column `name` has words of the crates that the heading above it names (of desk_ops, where it
 names none), the column `file` the files of their specs/ without the ending, and `law` functions of their sources, or of
-another crate whose name stands before them; each table has its heads. In DESIGN each file is a path below crates/, or a name of a file in the
-folder that stands before it, and each crate of crates.txt but those of tests has a row.
+another crate whose name is before them; each table has its heads. In DESIGN each file is a path below crates/, or a name
+of a file in the folder that is named before it. Each crate of crates.txt has one row there, in that order, and those of
+tests have one in a table of their own. On every page a path, or a name like a crate's, is that of something that is there.
 """
+import glob
 import os
 import re
 import sys
@@ -60,6 +62,8 @@ def definitions(text):
     for number, line in enumerate(text.split("\n"), 1):
         if line.startswith("#"):
             crates = re.findall(r"\b(?:(?:desk|list|text|feed|view|script|program)_\w+|copydesk)\b", line) or ["desk_ops"]
+            if len(crates) != len(set(crates)):
+                yield "docs/DEFINITIONS.md:%d: a heading names a crate twice" % number
         if not line.startswith("|"):
             columns = None
             continue
@@ -82,16 +86,32 @@ def design(text):
         place = path if "/" in path else os.path.join(folder, path)
         if not os.path.exists(os.path.join(CRATES, place)):
             yield "docs/DESIGN.md: no file crates/%s" % place
-    for crate in re.findall(r"^(\w+)(?: staticlib)?:", text_of("crates.txt"), re.M):
-        if not crate.startswith("test_") and not re.search(r"^\| %s \|" % crate, text, re.M):
-            yield "docs/DESIGN.md: no row of %s" % crate
+    listed = re.findall(r"^(\w+)(?: staticlib)?:", text_of("crates.txt"), re.M)
+    rows = [name for name in re.findall(r"^\| (\w+) \|", text, re.M) if name in listed]
+    if rows != listed:
+        at = next((k for k, names in enumerate(zip(rows, listed)) if names[0] != names[1]), min(len(rows), len(listed)))
+        yield "docs/DESIGN.md: row %d of the crates is %s, and crates.txt has %s" % (at + 1, *(it[at] if at < len(it) else "none" for it in (rows, listed)))
+
+
+def paths(page, names):
+    """What a page names and is not there: a path of the repository, or a crate."""
+    for number, line in enumerate(text_of(page).split("\n"), 1):
+        for path in re.findall(r"`((?:crates|docs|tests|bench|examples|\.ci|(?:desk|list|text|feed|view|script|program|test)_\w+)/[\w./-]+)`", line):
+            if "/out/" not in path + "/" and not any(os.path.exists(os.path.join(ROOT, base, path)) for base in ("", "crates")):
+                yield "%s:%d: no file %s" % (page, number, path)
+        if page not in ("docs/DEFINITIONS.md", "docs/FORMATS.md"):
+            for name in re.findall(r"(?<![\w`/:])(?:desk|list|text|feed|view|script|program|test)_[a-z]+\b(?![_(`])", line):
+                if name not in names:
+                    yield "%s:%d: no crate %s" % (page, number, name)
 
 
 def main():
     faults = list(definitions(text_of("docs", "DEFINITIONS.md"))) + list(design(text_of("docs", "DESIGN.md")))
+    pages = ["README.md"] + sorted(os.path.relpath(it, ROOT) for it in glob.glob(os.path.join(ROOT, "docs", "*.md")))
+    faults += [fault for page in pages for fault in paths(page, os.listdir(CRATES))]
     for fault in faults:
         print(fault, file=sys.stderr)
-    print("docs/DEFINITIONS.md, docs/DESIGN.md: %d faults" % len(faults))
+    print("docs/DEFINITIONS.md, docs/DESIGN.md, paths of %d pages: %d faults" % (len(pages), len(faults)))
     return 1 if faults else 0
 
 

@@ -14,7 +14,7 @@ What is checked is named by the words behind a block's back quotes:
                that makes the copy of examples/, which is run with another folder, and the lines that tests/git.sh runs
 
 In what is written a line may end in `..`, where more follows, and a line `..` stands for any lines. Links to files of
-the repository must lead to one, README.md has at most 1,500 words and names the kit that is here, and docs/FORMATS.md
+the repository must lead to one, and to a head of it where they name one, README.md has at most 1,500 words and names the kit that is here, and docs/FORMATS.md
 names each subcommand and option that the help has, and no other.
 """
 import os
@@ -154,11 +154,19 @@ def fault_of(kind, lines, folder, program):
     return letter(lines) if kind == "text letter" else day(lines)
 
 
+def heads_of(text):
+    """The names by which a link leads to the heads of a page."""
+    return {re.sub(r"[^\w -]", "", head.lower()).replace(" ", "-") for head in re.findall(r"(?m)^#+ (.*)$", text)}
+
+
 def links(page, text):
     """The links of a page that lead nowhere."""
-    for target in re.findall(r"\]\(([^)#:]+)(?:#[^)]*)?\)", text):
-        if not os.path.exists(os.path.join(ROOT, os.path.dirname(page), target)):
+    for target, head in re.findall(r"\]\(([^)#:]*)(?:#([^)]*))?\)", text):
+        path = os.path.normpath(os.path.join(os.path.dirname(page), target)) if target else page
+        if not os.path.exists(os.path.join(ROOT, path)):
             yield "%s: no file %s" % (page, target)
+        elif head and head not in heads_of(text_of(path)):
+            yield "%s: %s has no head #%s" % (page, path, head)
 
 
 def options(program):
