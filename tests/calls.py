@@ -375,6 +375,8 @@ class Trial:
         """Runs of which each call moves one byte, or each second one is interrupted."""
         for how in (SHORT, errno.EINTR):
             got = self.bench.run(self.job, self.image, FAIL="each", HOW=str(how))
+            if how == errno.EINTR and self.whole.err.startswith(got.err):  # standard error is not written again after a signal
+                got = Outcome(got.status, got.out, self.whole.err, got.image)
             self.note("each call, %s" % errno.errorcode.get(how, "short"), None if got.same() == self.whole.same() else "it ends with %r" % got)
 
 
