@@ -4,7 +4,8 @@
 A library that is loaded before the C library (calls.c) lists the calls of an undisturbed run that open, read, write, name,
 lock, sync or close files. Then each of them fails, in each way in which it may. A call that a signal interrupts, and one
 that moves fewer bytes, changes nothing; nor does a run differ of which every read and write moves one byte, or every
-second call is interrupted: of standard input nothing is, and standard error may be cut short. A device that fails at a close, at the sync of a folder or at FEED.last changes nothing else.
+second call is interrupted: of standard input nothing is, and standard error may be cut short. A device that fails at a
+close, at the sync of a folder or at FEED.last changes nothing else.
 Any other failed call leaves all as it was, or the run ends as docs/FORMATS.md says: with status 1 or an answer that names
 the fault, the file that failed, and the number of the system's error. Each file is then the old or the new one, and the
 same run, undisturbed, does what it does where nothing was left behind.
