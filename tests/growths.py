@@ -418,8 +418,9 @@ def put(path, data):
 
 
 def cut_short(got, whole):
-    """Whether a run was refused as undisturbed, but for the second line on standard error, for which there was no memory."""
-    return (*got[:2], got[3]) == (*whole[:2], whole[3]) and got[2] == whole[2].split(b"\n")[0] + b"\n"
+    """Whether a run was refused as undisturbed, but that the second line on standard error lacks an end that takes memory."""
+    first = whole[2].split(b"\n")[0] + b"\n"
+    return (*got[:2], got[3]) == (*whole[:2], whole[3]) and got[2].startswith(first) and whole[2].startswith(got[2])
 
 
 def unlike_due(whole, status, why):
