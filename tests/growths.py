@@ -417,10 +417,15 @@ def put(path, data):
         os.remove(path)
 
 
+# the lines behind which the second is written in parts, of which some take memory
+IN_PARTS = (b"copydesk: not replaced\n", b"copydesk: number in use\n")
+
+
 def cut_short(got, whole):
-    """Whether a run was refused as undisturbed, but that the second line on standard error lacks an end that takes memory."""
+    """Whether a run was refused as undisturbed, but that the second line on standard error, or behind some its end, is missing."""
     first = whole[2].split(b"\n")[0] + b"\n"
-    return (*got[:2], got[3]) == (*whole[:2], whole[3]) and got[2].startswith(first) and whole[2].startswith(got[2])
+    fewer = got[2] == first or first in IN_PARTS and got[2].startswith(first) and whole[2].startswith(got[2])
+    return (*got[:2], got[3]) == (*whole[:2], whole[3]) and fewer
 
 
 def unlike_due(whole, status, why):
