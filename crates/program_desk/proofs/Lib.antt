@@ -2,3 +2,4 @@ pub mod Statuses
 pub mod Merged
 pub mod Telling
 pub mod Explaining
+pub mod Previewing

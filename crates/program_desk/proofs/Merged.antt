@@ -8,20 +8,20 @@ use Rattle.program_desk.specs.ByHand.{status_of}
 apart : {X : Type 0} (status : ℕ) → status ≡ 0 → status ≡ 1 → X
 apart status none one = absurd (omega (arith, none, one))
 
--- what a merge's status is
-abbrev pub ReportsMerge : {E : Type 0} → Bool → Result Bool E → ℕ → Type 0
-ReportsMerge review r status = MatchResult r (λ clean. status ≡ status_of review clean) (λ _. status ≡ 1)
+-- how a merge ends, with what was written of a fault, and of none
+abbrev pub EndsMerge : {E : Type 0} → Bool → Result Bool E → Type 0 → (E → Type 0) → ℕ → Type 0
+EndsMerge review r Quiet Said status = MatchResult r (λ clean. (status ≡ status_of review clean) × Quiet) (λ e. (status ≡ 1) × Said e)
 
-pub merged_as : {E : Type 0} (review : Bool) (r : Result Bool E) (X : Bool → Type 0) (status : ℕ) → ReportsMerge review r status → IfOk r X → status ≡ 0 → (clean : Bool) × X clean × (review ≡ true → clean ≡ true)
-merged_as review (Ok true) X status reported x zero = (true, x, λ _. refl)
-merged_as true (Ok false) X status reported x zero = apart status zero reported
-merged_as false (Ok false) X status reported x zero = (false, x, λ is. absurd (true≢false (sym is)))
-merged_as review (Err e) X status reported x zero = apart status zero reported
+pub merged_as : {E : Type 0} (review : Bool) (r : Result Bool E) (X : Bool → Type 0) (Quiet : Type 0) (Said : E → Type 0) (status : ℕ) → EndsMerge review r Quiet Said status → IfOk r X → status ≡ 0 → (clean : Bool) × X clean × (review ≡ true → clean ≡ true)
+merged_as review (Ok true) X Quiet Said status reported x zero = (true, x, λ _. refl)
+merged_as true (Ok false) X Quiet Said status reported x zero = apart status zero reported.0
+merged_as false (Ok false) X Quiet Said status reported x zero = (false, x, λ is. absurd (true≢false (sym is)))
+merged_as review (Err e) X Quiet Said status reported x zero = apart status zero reported.0
 
-pub not_merged : {E : Type 0} (review : Bool) (r : Result Bool E) (X : Bool → Type 0) (Why : E → Type 0) (status : ℕ) → ReportsMerge review r status → IfOk r X → IfErr r Why → status ≡ 1
-    → ((e : E) × Why e) ⊎ ((review ≡ true) × X false)
-not_merged true (Ok true) X Why status reported x why one = apart status reported one
-not_merged false (Ok true) X Why status reported x why one = apart status reported one
-not_merged true (Ok false) X Why status reported x why one = inr (refl, x)
-not_merged false (Ok false) X Why status reported x why one = apart status reported one
-not_merged review (Err e) X Why status reported x why one = inl (e, why)
+pub not_merged : {E : Type 0} (review : Bool) (r : Result Bool E) (X : Bool → Type 0) (Why : E → Type 0) (Quiet : Type 0) (Said : E → Type 0) (status : ℕ) → EndsMerge review r Quiet Said status → IfOk r X → IfErr r Why → status ≡ 1
+    → ((e : E) × Why e × Said e) ⊎ ((review ≡ true) × X false × Quiet)
+not_merged true (Ok true) X Why Quiet Said status reported x why one = apart status reported.0 one
+not_merged false (Ok true) X Why Quiet Said status reported x why one = apart status reported.0 one
+not_merged true (Ok false) X Why Quiet Said status reported x why one = inr (refl, x, reported.1)
+not_merged false (Ok false) X Why Quiet Said status reported x why one = apart status reported.0 one
+not_merged review (Err e) X Why Quiet Said status reported x why one = inl (e, why, reported.1)

@@ -6,16 +6,6 @@ use Rattle.std.specs.Prelude.{Result, Ok, Err, MatchBool, MatchResult, IfErr, If
 apart : {X : Type 0} (status : ℕ) → status ≡ 0 → status ≡ 1 → X
 apart status none one = absurd (omega (arith, none, one))
 
--- the status 0
-pub done_of : {A E X : Type 0} (r : Result A E) (status : ℕ) → MatchResult r (λ _. status ≡ 0) (λ _. status ≡ 1) → OnOk r X → status ≡ 0 → X
-done_of (Ok a) status reported x zero = x
-done_of (Err e) status reported x zero = apart status zero reported
-
--- the status 1, of a fault
-pub halt_of : {A E : Type 0} (r : Result A E) (Why : E → Type 0) (status : ℕ) → MatchResult r (λ _. status ≡ 0) (λ _. status ≡ 1) → IfErr r Why → status ≡ 1 → (e : E) × Why e
-halt_of (Ok a) Why status reported why one = apart status reported one
-halt_of (Err e) Why status reported why one = (e, why)
-
 -- ---- a status with what was written of a fault
 
 -- the status 0
@@ -35,21 +25,21 @@ cut_of X Y (Err e) Own one own x y = (own, x, λ same. y (ap Err same))
 
 -- ---- answers that are yes or no
 
--- the status of an answer that is yes or no
-abbrev pub ReportsOf : {E : Type 0} → Result Bool E → ℕ → Type 0
-ReportsOf r status = MatchResult r (λ (yes : Bool). (yes ≡ true → status ≡ 0) × (yes ≡ false → status ≡ 1)) (λ _. status ≡ 1)
+-- the status of an answer that is yes or no, with what was written of a fault, and of none
+abbrev pub EndsSo : {E : Type 0} → Result Bool E → Type 0 → (E → Type 0) → ℕ → Type 0
+EndsSo r Quiet Said status = MatchResult r (λ (yes : Bool). (yes ≡ true → status ≡ 0) × (yes ≡ false → status ≡ 1) × Quiet) (λ e. (status ≡ 1) × Said e)
 
 -- the status 0: yes
-pub yes_of : {E : Type 0} (r : Result Bool E) (X : Bool → Type 0) (status : ℕ) → ReportsOf r status → IfOk r X → status ≡ 0 → X true
-yes_of (Ok true) X status reported x zero = x
-yes_of (Ok false) X status reported x zero = apart status zero (reported.1 refl)
-yes_of (Err e) X status reported x zero = apart status zero reported
+pub yes_of : {E : Type 0} (r : Result Bool E) (X : Bool → Type 0) (Quiet : Type 0) (Said : E → Type 0) (status : ℕ) → EndsSo r Quiet Said status → IfOk r X → status ≡ 0 → X true
+yes_of (Ok true) X Quiet Said status reported x zero = x
+yes_of (Ok false) X Quiet Said status reported x zero = apart status zero (reported.1 refl)
+yes_of (Err e) X Quiet Said status reported x zero = apart status zero reported.0
 
 -- the status 1: no, or a fault
-pub no_of : {E : Type 0} (r : Result Bool E) (X : Bool → Type 0) (Why : E → Type 0) (status : ℕ) → ReportsOf r status → IfOk r X → IfErr r Why → status ≡ 1 → X false ⊎ ((e : E) × Why e)
-no_of (Ok true) X Why status reported x why one = apart status (reported.0 refl) one
-no_of (Ok false) X Why status reported x why one = inl x
-no_of (Err e) X Why status reported x why one = inr (e, why)
+pub no_of : {E : Type 0} (r : Result Bool E) (X : Bool → Type 0) (Why : E → Type 0) (Quiet : Type 0) (Said : E → Type 0) (status : ℕ) → EndsSo r Quiet Said status → IfOk r X → IfErr r Why → status ≡ 1 → (X false × Quiet) ⊎ ((e : E) × Why e × Said e)
+no_of (Ok true) X Why Quiet Said status reported x why one = apart status (reported.0 refl) one
+no_of (Ok false) X Why Quiet Said status reported x why one = inl (x, reported.2)
+no_of (Err e) X Why Quiet Said status reported x why one = inr (e, why, reported.1)
 
 -- what holds of a yes, and what of a no
 pub when_so : (A B : Type 0) (b : Bool) → b ≡ true → A → MatchBool b A B

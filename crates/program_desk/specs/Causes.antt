@@ -34,6 +34,8 @@ use Rattle.feed_edit.specs.declared.replace_fault.PlaceFault.{PlaceFault}
 use Rattle.feed_edit.specs.declared.replace_fault.PlaceFault.TheVariants as places
 use Rattle.feed_edit.specs.declared.replace_fault.ReplaceFault.{ReplaceFault}
 use Rattle.feed_edit.specs.declared.replace_fault.ReplaceFault.TheVariants as replacements
+use Rattle.feed_check.specs.declared.fault.CheckFault.{CheckFault}
+use Rattle.feed_check.specs.declared.fault.CheckFault.TheVariants as checks
 use Rattle.feed_compare.specs.declared.fault.DifferenceFault.{DifferenceFault}
 use Rattle.feed_compare.specs.declared.fault.DifferenceFault.TheVariants as differences
 use Rattle.view_proof.specs.declared.reasons.OtherNumber.{OtherNumber}
@@ -52,8 +54,15 @@ use Rattle.feed_sites.specs.declared.fault.RenumberFault.{RenumberFault}
 use Rattle.feed_sites.specs.declared.fault.RenumberFault.TheVariants as renumberings
 use Rattle.feed_sites.specs.declared.renew_fault.RenewFault.{RenewFault}
 use Rattle.feed_sites.specs.declared.renew_fault.RenewFault.TheVariants as renewals
+use Rattle.text_copy.specs.declared.fault.TextFault.{TextFault}
+use Rattle.text_copy.specs.declared.fault.TextFault.TheVariants as texts
+use Rattle.view_punch.specs.declared.trial.TrialFault.{TrialFault}
+use Rattle.view_punch.specs.declared.trial.TrialFault.TheVariants as trials
 use Rattle.program_desk.specs.declared.causes.Cause.{Cause}
 use Rattle.program_desk.specs.declared.causes.Cause.TheVariants as causes
+use Rattle.program_desk.specs.declared.causes.Origin.{Origin}
+use Rattle.program_desk.specs.declared.causes.Origin.TheVariants as origins
+use Rattle.program_desk.specs.declared.causes.Said.TheVariants as saids
 use Rattle.program_desk.specs.declared.causes.ReadingSources.{ReadingSources}
 
 -- ---- files and feeds
@@ -123,31 +132,36 @@ stop_cause feed site (stops.Run fault) = sheet_cause feed fault
 
 -- ---- by hand
 
--- no text was read; of the text itself the first line has the place
+-- a text is no copy
+abbrev pub text_cause : Bor Text → Origin → TextFault → Cause
+text_cause feed origin (texts.At line column why) = causes.Said (saids.Text origin line column why)
+text_cause feed origin texts.NoMemory = causes.NoMemory feed
+
+-- no text was read
 abbrev pub input_cause : Bor Text → InputFault → Cause
 input_cause feed inputs.Read = causes.Input
 input_cause feed inputs.TooLong = causes.TooLong max_text
-input_cause feed (inputs.Text fault) = causes.Reported
+input_cause feed (inputs.Text fault) = text_cause feed origins.Input fault
 input_cause feed inputs.NoMemory = causes.NoMemory feed
 
 -- a copy was not made a text
 abbrev pub revision_cause : Bor Text → RevisionFault → Cause
-revision_cause feed revisions.Full = causes.Text feed
-revision_cause feed revisions.ClockFull = causes.Text feed
-revision_cause feed revisions.Value = causes.Text feed
+revision_cause feed revisions.Full = causes.Unfit feed revisions.Full
+revision_cause feed revisions.ClockFull = causes.Unfit feed revisions.ClockFull
+revision_cause feed revisions.Value = causes.Unfit feed revisions.Value
 revision_cause feed revisions.NoMemory = causes.NoMemory feed
 
 -- another feed does not come in
-abbrev pub other_cause : Option (Bor Text) → FeedTrouble → Cause
-other_cause None why = causes.Reported
-other_cause (Some other) why = feed_cause other why
+abbrev pub other_cause : Bor Text → Option (Bor Text) → FeedTrouble → Cause
+other_cause feed None why = feed_cause feed why
+other_cause feed (Some other) why = feed_cause other why
 
 -- feeds were not merged: of the others the one at the place; the counters of a number that was used twice have a line
 -- of their own
 abbrev pub merge_cause : {A : Type 0} → Bor Text → List (Bor Text) → MergeFault A → Cause
 merge_cause feed others (merges.Take why) = take_cause feed why
-merge_cause feed others (merges.Other at why) = other_cause (slice_get others at) why
-merge_cause feed others (merges.Forks at stamps) = causes.Reported
+merge_cause feed others (merges.Other at why) = other_cause feed (slice_get others at) why
+merge_cause feed others (merges.Forks at stamps) = causes.Said saids.Forks
 merge_cause feed others (merges.Keep why) = keep_cause feed why
 
 abbrev pub export_cause : Bor Text → ExportFault → Cause
@@ -160,7 +174,7 @@ import_cause feed site (imports.Take why) = take_cause feed why
 import_cause feed site (imports.Last why) = last_cause feed site why
 import_cause feed site (imports.Input why) = input_cause feed why
 import_cause feed site (imports.Revision why) = revision_cause feed why
-import_cause feed site (imports.Wipes deleted of) = causes.Reported
+import_cause feed site (imports.Wipes deleted of) = causes.Said (saids.Wipes deleted of)
 import_cause feed site (imports.Keep why) = keep_cause feed why
 
 -- a feed got no other number for what another feed bears under the same
@@ -180,15 +194,15 @@ renew_cause new feed renewals.There = causes.There new
 renew_cause new feed (renewals.Feed why) = feed_cause feed why
 renew_cause new feed (renewals.Keep why) = keep_cause new why
 
--- nothing was replaced; the places stand on standard output
+-- nothing was replaced; the places are on standard output
 abbrev pub replace_cause : Bor Text → ℕ → ReplaceFault → Cause
-replace_cause feed site (replacements.Exchange (exchanges.Old fault)) = causes.Reported
-replace_cause feed site (replacements.Exchange (exchanges.New fault)) = causes.Reported
+replace_cause feed site (replacements.Exchange (exchanges.Old fault)) = text_cause feed origins.Old fault
+replace_cause feed site (replacements.Exchange (exchanges.New fault)) = text_cause feed origins.New fault
 replace_cause feed site (replacements.Exchange exchanges.NoMemory) = causes.NoMemory feed
 replace_cause feed site (replacements.Take why) = take_cause feed why
 replace_cause feed site (replacements.Last why) = last_cause feed site why
-replace_cause feed site (replacements.Place places.NoPlace) = causes.Reported
-replace_cause feed site (replacements.Place (places.ManyPlaces count)) = causes.Reported
+replace_cause feed site (replacements.Place places.NoPlace) = causes.Said saids.NoPlace
+replace_cause feed site (replacements.Place (places.ManyPlaces count)) = causes.Said (saids.ManyPlaces count)
 replace_cause feed site (replacements.Place places.Write) = causes.ReportOutput
 replace_cause feed site (replacements.Place places.NoMemory) = causes.NoMemory feed
 replace_cause feed site (replacements.Revision why) = revision_cause feed why
@@ -213,12 +227,12 @@ abbrev pub number_cause : Sources → OtherNumber → Cause
 number_cause from (others.Case set number) = causes.Other from.case (others.Case set number)
 number_cause from (others.Wedge set number) = causes.Other from.wedge (others.Wedge set number)
 
--- the faults of a copy or of a job stand on standard output
+-- the faults of a copy or of a job are on standard output
 abbrev pub preview_cause : Sources → Bor Text → PreviewFault → Cause
 preview_cause from target (previews.Feed why) = feed_cause from.feed why
 preview_cause from target (previews.Input why) = causes.CaseOrWedge from.case from.wedge why
-preview_cause from target previews.CopyFaults = causes.Reported
-preview_cause from target (previews.Faulty None) = causes.Reported
+preview_cause from target previews.CopyFaults = causes.Said saids.CopyFaults
+preview_cause from target (previews.Faulty None) = causes.Said saids.NoRibbon
 preview_cause from target (previews.Faulty (Some other)) = number_cause from other
 preview_cause from target previews.Write = causes.ReportOutput
 preview_cause from target (previews.Taken kind) = causes.Taken target kind
@@ -238,3 +252,18 @@ sorts_cause feed case (sorts.Feed why) = feed_cause feed why
 sorts_cause feed case (sorts.Input why) = causes.Case case why
 sorts_cause feed case sorts.Write = causes.ReportOutput
 sorts_cause feed case sorts.NoMemory = causes.NoMemory feed
+
+-- the text at a place tries no setting
+abbrev pub unset_cause : Option (Bor Text) → Cause
+unset_cause None = causes.Said saids.NoMemory
+unset_cause (Some text) = causes.NoSetting text
+
+-- texts try no settings
+abbrev pub trial_cause : List (Bor Text) → TrialFault → Cause
+trial_cause sets (trials.NoSetting place) = unset_cause (slice_get sets place)
+trial_cause sets trials.NoMemory = causes.Said saids.NoMemory
+
+-- files are not checked to their end
+abbrev pub check_cause : CheckFault → Cause
+check_cause checks.NoMemory = causes.Said saids.NoMemory
+check_cause checks.Write = causes.ReportOutput

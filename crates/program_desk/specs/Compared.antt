@@ -1,9 +1,12 @@
 -- What a difference has written, and what it left.
 use Rattle.std.specs.Prelude.{◌⊎◌, ℕ, Bool, true, false, List, Option}
+use Rattle.std.specs.Borrow.{Bor}
 use Rattle.clap.specs.Words.{Text}
 use Rattle.feed_files.specs.Files.{Shelf, Stays}
 use Rattle.feed_compare.specs.Reporting.{IsReported, IsUnreported}
 use Rattle.feed_compare.specs.declared.fault.DifferenceFault.{DifferenceFault}
+use Rattle.program_desk.specs.Causes.{difference_cause}
+use Rattle.program_desk.specs.Explained.{IsSilent, Reports}
 
 -- what is said of two feeds was written, they hold the same or not; no file has changed
 abbrev pub IsCompared : (one other : Text) → Shelf → Shelf → Option (List ℕ) → Option (List ℕ) → Bool → Type 0
@@ -13,8 +16,10 @@ IsCompared one other first last before after same = Stays first last × IsReport
 abbrev pub AreOne : (one other : Text) → Shelf → Shelf → Option (List ℕ) → Option (List ℕ) → Type 0
 AreOne one other first last before after = IsCompared one other first last before after true
 
--- they do not; or it was not written
-abbrev pub AreNotOne : (one other : Text) → Shelf → Shelf → Option (List ℕ) → Option (List ℕ) → Type 0
-AreNotOne one other first last before after =
-    IsCompared one other first last before after false
-    ⊎ (Stays first last × (fault : DifferenceFault) × IsUnreported one other first last before after fault)
+-- they do not; or it was not written, and standard error has the lines on the fault
+abbrev pub AreNotOne : (one other : Bor Text) → Shelf → Shelf → Option (List ℕ) → Option (List ℕ)
+    → Bool → Option (List ℕ) → Option (List ℕ) → Type 0
+AreNotOne one other first last before after whole quiet said =
+    (IsCompared one.now other.now first last before after false × IsSilent whole quiet said)
+    ⊎ (Stays first last × (fault : DifferenceFault) × IsUnreported one.now other.now first last before after fault
+    × Reports (difference_cause one other fault) whole quiet said)

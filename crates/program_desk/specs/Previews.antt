@@ -1,6 +1,7 @@
--- What a proof and a punch have done, and what they left.
-use Rattle.std.specs.Prelude.{◌≡◌, ◌≢◌, ◌⊎◌, ◌≤◌, length, ℕ, Bool, true, false, List, Option, Some, None}
+-- What a proof and a punch have done, what they left, and what standard error has.
+use Rattle.std.specs.Prelude.{◌≡◌, ◌≢◌, ◌⊎◌, ℕ, Bool, true, false, List, Option, Some, None}
 use Rattle.std.specs.Borrow.{Bor}
+use Rattle.std.specs.Option.{option_copied}
 use Rattle.feed_files.specs.Files.{Shelf, Stays}
 use Rattle.feed_files.specs.Outputs.{destination}
 use Rattle.view_punch.specs.Sources.{sources}
@@ -10,10 +11,16 @@ use Rattle.view_punch.specs.declared.fault.PreviewFault.{PreviewFault}
 use Rattle.view_punch.specs.declared.fault.PreviewFault.TheVariants as faults
 use Rattle.view_picture.specs.Picturing.{IsPictured, IsUnpictured}
 use Rattle.desk_replica.specs.declared.settings.Settings.{Settings}
-use Rattle.view_punch.specs.Trial.{trial_of}
+use Rattle.view_punch.specs.Trial.{HasLine, first_idle, trial_of}
+use Rattle.view_punch.specs.declared.trial.TrialFault.{TrialFault}
+use Rattle.view_punch.specs.declared.trial.TrialFault.TheVariants as trials
 use Rattle.view_proof.specs.declared.proof.Extent.{Extent}
 use Rattle.view_proof.specs.declared.proof.Extent.TheVariants as extents
 use Rattle.program_words.specs.declared.wishes.Sources.{Sources}
+use Rattle.program_desk.specs.Causes.{preview_cause, trial_cause}
+use Rattle.program_desk.specs.Explained.{IsSilent, Reports, ReportsMore, StaysSo, TellsOf}
+use Rattle.program_desk.specs.declared.causes.Cause.TheVariants as causes
+use Rattle.program_desk.specs.declared.causes.Output.TheVariants as outputs
 
 -- the faults alone, or all
 abbrev pub extent_of : Bool → Extent
@@ -41,13 +48,15 @@ IsPictureThere from trial None force first last = last ≡ first
 IsPictureThere from trial (Some target) force first last =
     IsPictured (sources from.feed.now from.case.now from.wedge.now) trial (destination target force) first last
 
--- one is asked for, and it does not
-abbrev pub IsPictureAbsent : Sources → Settings → Option (List ℕ) → Bool → Shelf → Shelf → Type 0
-IsPictureAbsent from trial None force first last = ⊥
-IsPictureAbsent from trial (Some target) force first last =
+-- one is asked for, and it does not; what was written on standard error goes on by the lines on the fault
+abbrev pub IsPictureAbsent : Sources → Settings → Option (Bor (List ℕ)) → Bool → Shelf → Shelf → Bool → Bool
+    → Option (List ℕ) → Option (List ℕ) → Type 0
+IsPictureAbsent from trial None force first last begun whole quiet said = ⊥
+IsPictureAbsent from trial (Some target) force first last begun whole quiet said =
     (fault : PreviewFault)
     × IsUnpictured (sources from.feed.now from.case.now from.wedge.now) trial
-    (destination target force) first last fault
+    (destination target.now force) first last fault
+    × ReportsMore (preview_cause from target fault) begun whole quiet said
 
 -- the proof by these settings was written, no fault stands, and then the picture was stored, if one is asked for
 abbrev pub IsSeenBy : Sources → Bool → Settings → Option (List ℕ) → Bool → Shelf → Shelf → Option (List ℕ)
@@ -56,19 +65,27 @@ IsSeenBy from alone trial picture force first last before after =
     (middle : Shelf) × IsShown from alone trial first middle before after true
     × IsPictureThere from trial picture force middle last
 
+-- standard error has the lines on a fault of a proof, which has no target
+abbrev pub ReportsProof : Sources → PreviewFault → Bool → Option (List ℕ) → Option (List ℕ) → Type 0
+ReportsProof from fault whole quiet said = (target : Bor (List ℕ)) × Reports (preview_cause from target fault) whole quiet said
+
 -- Why the status is 1. The proof was not written, for another fault than that of the writer. Or the writer failed, and
 -- the picture was stored all the same, or not; or the proof was written, and the picture not stored; or both were, and
--- a fault stands.
-abbrev pub IsUnseenBy : Sources → Bool → Settings → Option (List ℕ) → Bool → Shelf → Shelf → Option (List ℕ)
-    → Option (List ℕ) → Type 0
-IsUnseenBy from alone trial picture force first last before after =
-    ((fault : PreviewFault) × (fault ≢ faults.Write) × IsUnshown from alone trial first last before after fault)
-    ⊎ ((middle : Shelf) × IsUnshown from alone trial first middle before after faults.Write
-    × (IsPictureThere from trial picture force middle last ⊎ IsPictureAbsent from trial picture force middle last))
+-- a fault stands, of which standard error has nothing.
+abbrev pub IsUnseenBy : Sources → Bool → Settings → Option (Bor (List ℕ)) → Bool → Shelf → Shelf → Option (List ℕ)
+    → Option (List ℕ) → Bool → Option (List ℕ) → Option (List ℕ) → Type 0
+IsUnseenBy from alone trial picture force first last before after whole quiet said =
+    ((fault : PreviewFault) × (fault ≢ faults.Write) × IsUnshown from alone trial first last before after fault
+    × ReportsProof from fault whole quiet said)
+    ⊎ ((middle : Shelf) × (begun : Bool) × (between : Option (List ℕ))
+    × IsUnshown from alone trial first middle before after faults.Write
+    × Reports causes.ReportOutput begun quiet between
+    × ((IsPictureThere from trial (option_copied picture) force middle last × StaysSo begun whole between said)
+    ⊎ IsPictureAbsent from trial picture force middle last begun whole between said))
     ⊎ ((middle : Shelf) × (clean : Bool) × IsShown from alone trial first middle before after clean
-    × IsPictureAbsent from trial picture force middle last)
+    × IsPictureAbsent from trial picture force middle last true whole quiet said)
     ⊎ ((middle : Shelf) × IsShown from alone trial first middle before after false
-    × IsPictureThere from trial picture force middle last)
+    × IsPictureThere from trial (option_copied picture) force middle last × IsSilent whole quiet said)
 
 -- so by what the texts try
 abbrev pub IsSeen : Sources → Bool → Option (List ℕ) → Bool → List (Bor (List ℕ)) → Shelf → Shelf → Option (List ℕ)
@@ -80,20 +97,27 @@ IsSeen from alone picture force sets first last before after =
 abbrev pub IsSource : Sources → List ℕ → Type 0
 IsSource from target = (target ≡ from.feed.now) ⊎ (target ≡ from.case.now) ⊎ (target ≡ from.wedge.now)
 
--- a picture is asked for, and its name is that of what it is made of
-abbrev pub TakesSource : Sources → Option (List ℕ) → Type 0
-TakesSource from None = ⊥
-TakesSource from (Some target) = IsSource from target
+-- a picture is asked for, and its name is that of what it is made of; standard error says so
+abbrev pub TakesSource : Sources → Option (Bor (List ℕ)) → Bool → Option (List ℕ) → Option (List ℕ) → Type 0
+TakesSource from None whole quiet said = ⊥
+TakesSource from (Some target) whole quiet said =
+    IsSource from target.now × TellsOf true (causes.Source target outputs.Picture) whole quiet said
 
--- nothing was begun: the picture would take the place of what it is made of, or of the texts that were given one tries
--- no setting,
--- or memory ran out for them
-abbrev pub IsUnseen : Sources → Bool → Option (List ℕ) → Bool → List (Bor (List ℕ)) → Shelf → Shelf → Option (List ℕ)
-    → Option (List ℕ) → Type 0
-IsUnseen from alone picture force sets first last before after =
-    ((TakesSource from picture ⊎ (1 ≤ length sets)) × (last ≡ first) × (after ≡ before))
+-- of the texts the one at this place is the first that tries no setting; or memory ran out for them
+abbrev pub IsUntried : TrialFault → List (Bor (List ℕ)) → Type 0
+IsUntried (trials.NoSetting place) sets = first_idle 0 sets ≡ Some place
+IsUntried trials.NoMemory sets = HasLine sets
+
+-- Nothing was begun: the picture would take the place of what it is made of, or the texts try no settings. Or the proof
+-- was begun.
+abbrev pub IsUnseen : Sources → Bool → Option (Bor (List ℕ)) → Bool → List (Bor (List ℕ)) → Shelf → Shelf
+    → Option (List ℕ) → Option (List ℕ) → Bool → Option (List ℕ) → Option (List ℕ) → Type 0
+IsUnseen from alone picture force sets first last before after whole quiet said =
+    (TakesSource from picture whole quiet said × (last ≡ first) × (after ≡ before))
+    ⊎ ((fault : TrialFault) × IsUntried fault sets × (last ≡ first) × (after ≡ before)
+    × TellsOf true (trial_cause sets fault) whole quiet said)
     ⊎ ((trial : Settings) × (trial_of sets ≡ Some trial)
-    × IsUnseenBy from alone trial picture force first last before after)
+    × IsUnseenBy from alone trial picture force first last before after whole quiet said)
 
 -- the ribbon stands under the name, and nothing was written; it took the place of another file only by force, and the
 -- copy has no fault, unless such a copy is asked for
@@ -102,11 +126,14 @@ IsInFile from target force faulty first last before after =
     (after ≡ before)
     × IsPunched (sources from.feed.now from.case.now from.wedge.now) (destination target force) faulty first last
 
--- why there is no ribbon, and what was left: it would take the place of what it is made of, and nothing was begun; or
--- it was not made, or not stored
-abbrev pub IsInNoFile : Sources → List ℕ → Bool → Bool → Shelf → Shelf → Option (List ℕ) → Option (List ℕ) → Type 0
-IsInNoFile from target force faulty first last before after =
-    (IsSource from target × (last ≡ first) × (after ≡ before))
+-- why there is no ribbon, what was left, and what standard error has: it would take the place of what it is made of,
+-- and nothing was begun; or it was not made, or not stored
+abbrev pub IsInNoFile : Sources → Bor (List ℕ) → Bool → Bool → Shelf → Shelf → Option (List ℕ) → Option (List ℕ)
+    → Bool → Option (List ℕ) → Option (List ℕ) → Type 0
+IsInNoFile from target force faulty first last before after whole quiet said =
+    (IsSource from target.now × (last ≡ first) × (after ≡ before)
+    × TellsOf true (causes.Source target outputs.Ribbon) whole quiet said)
     ⊎ ((fault : PreviewFault)
     × IsUnpunched (sources from.feed.now from.case.now from.wedge.now)
-    (destination target force) faulty first last before after fault)
+    (destination target.now force) faulty first last before after fault
+    × Reports (preview_cause from target fault) whole quiet said)

@@ -1,17 +1,32 @@
--- What a reading of a ribbon and a list of sorts have done, and what they left.
+-- What a reading of a ribbon and a list of sorts have done, what they left, and what standard error has.
 use Rattle.std.specs.Prelude.{◌≡◌, ◌≢◌, ◌⊎◌, ℕ, Bool, true, false, List, Option, Some, None}
+use Rattle.std.specs.Borrow.{Bor}
+use Rattle.std.specs.Option.{option_copied}
 use Rattle.feed_files.specs.Files.{Shelf, Stays}
 use Rattle.view_ribbon.specs.Drawing.{IsDrawn, IsUndrawn}
 use Rattle.feed_files.specs.Outputs.{destination}
 use Rattle.view_ribbon.specs.Reading.{IsRead, IsUnread}
-use Rattle.view_ribbon.specs.Sources.{Sources}
+use Rattle.view_ribbon.specs.Sources.{Sources, sources}
 use Rattle.view_ribbon.specs.declared.fault.ReadingFault.{ReadingFault}
 use Rattle.view_ribbon.specs.declared.fault.ReadingFault.TheVariants as faults
 use Rattle.view_sorts.specs.Sources as of_sorts
 use Rattle.view_sorts.specs.Reporting.{AreListed, AreUnlisted}
 use Rattle.view_sorts.specs.declared.fault.SortsFault.{SortsFault}
+use Rattle.program_desk.specs.Causes.{reading_cause, sorts_cause}
+use Rattle.program_desk.specs.Explained.{IsSilent, Reports, ReportsMore, StaysSo, TellsOf}
+use Rattle.program_desk.specs.declared.causes.Cause.TheVariants as causes
+use Rattle.program_desk.specs.declared.causes.Output.TheVariants as outputs
+use Rattle.program_desk.specs.declared.causes.ReadingSources.{ReadingSources}
 
 -- ---- a ribbon
+
+-- the files that it is read with
+abbrev pub reading_sources : (ribbon case wedge : Bor (List ℕ)) → ReadingSources
+reading_sources ribbon case wedge = record { ribbon = ribbon; case = case; wedge = wedge }
+
+-- their names
+abbrev pub names_of : ReadingSources → Sources
+names_of from = sources from.ribbon.now from.case.now from.wedge.now
 
 -- the reading was written, and the ribbon is cast whole or not; no file has changed
 abbrev pub IsReadOut : Sources → Shelf → Shelf → Option (List ℕ) → Option (List ℕ) → Bool → Type 0
@@ -26,36 +41,55 @@ abbrev pub AreHolesThere : Sources → Option (List ℕ) → Bool → Shelf → 
 AreHolesThere from None force first last = last ≡ first
 AreHolesThere from (Some target) force first last = IsDrawn from (destination target force) first last true
 
--- one is asked for, and it does not: the bytes are no ribbon, or it was not made or not stored
-abbrev pub AreHolesAbsent : Sources → Option (List ℕ) → Bool → Shelf → Shelf → Type 0
-AreHolesAbsent from None force first last = ⊥
-AreHolesAbsent from (Some target) force first last =
-    IsDrawn from (destination target force) first last false
-    ⊎ ((fault : ReadingFault) × IsUndrawn from (destination target force) first last fault)
+-- one is asked for, and it does not: the bytes are no ribbon, or it was not made or not stored, and what was written on
+-- standard error goes on by the lines on the fault
+abbrev pub AreHolesAbsent : ReadingSources → Option (Bor (List ℕ)) → Bool → Shelf → Shelf → Bool → Bool
+    → Option (List ℕ) → Option (List ℕ) → Type 0
+AreHolesAbsent from None force first last begun whole quiet said = ⊥
+AreHolesAbsent from (Some target) force first last begun whole quiet said =
+    (IsDrawn (names_of from) (destination target.now force) first last false × StaysSo begun whole quiet said)
+    ⊎ ((fault : ReadingFault) × IsUndrawn (names_of from) (destination target.now force) first last fault
+    × ReportsMore (reading_cause from target fault) begun whole quiet said)
 
 -- the reading of a ribbon that is cast whole was written, and then the picture was stored, if one is asked for
 abbrev pub IsReadWhole : Sources → Option (List ℕ) → Bool → Shelf → Shelf → Option (List ℕ) → Option (List ℕ) → Type 0
 IsReadWhole from picture force first last before after =
     (middle : Shelf) × IsReadOut from first middle before after true × AreHolesThere from picture force middle last
 
--- a picture is asked for, and its name is that of what it is made of
-abbrev pub TakesSource : Sources → Option (List ℕ) → Type 0
-TakesSource from None = ⊥
-TakesSource from (Some target) = (target ≡ from.ribbon) ⊎ (target ≡ from.case) ⊎ (target ≡ from.wedge)
+-- the name is that of what a reading is made of
+abbrev pub IsSource : ReadingSources → List ℕ → Type 0
+IsSource from target = (target ≡ from.ribbon.now) ⊎ (target ≡ from.case.now) ⊎ (target ≡ from.wedge.now)
+
+-- a picture is asked for, and its name is that of what it is made of; standard error says so
+abbrev pub TakesSource : ReadingSources → Option (Bor (List ℕ)) → Bool → Option (List ℕ) → Option (List ℕ) → Type 0
+TakesSource from None whole quiet said = ⊥
+TakesSource from (Some target) whole quiet said =
+    IsSource from target.now × TellsOf true (causes.Source target outputs.Picture) whole quiet said
+
+-- standard error has the lines on a fault of a reading, which has no target
+abbrev pub ReportsReading : ReadingSources → ReadingFault → Bool → Option (List ℕ) → Option (List ℕ) → Type 0
+ReportsReading from fault whole quiet said =
+    (target : Bor (List ℕ)) × Reports (reading_cause from target fault) whole quiet said
 
 -- Why the status is 1. Nothing was begun, since the picture would take the place of what it is made of. Or the reading
 -- was not written, for another fault than that of the writer; or the writer failed, and the picture was stored all the
--- same, or not; or the reading was written, and the picture not stored; or both were, and the ribbon has a fault.
-abbrev pub IsNotReadWhole : Sources → Option (List ℕ) → Bool → Shelf → Shelf → Option (List ℕ) → Option (List ℕ)
-    → Type 0
-IsNotReadWhole from picture force first last before after =
-    (TakesSource from picture × (last ≡ first) × (after ≡ before))
-    ⊎ ((fault : ReadingFault) × (fault ≢ faults.Write) × IsNotReadOut from first last before after fault)
-    ⊎ ((middle : Shelf) × IsNotReadOut from first middle before after faults.Write
-    × (AreHolesThere from picture force middle last ⊎ AreHolesAbsent from picture force middle last))
-    ⊎ ((middle : Shelf) × (whole : Bool) × IsReadOut from first middle before after whole
-    × AreHolesAbsent from picture force middle last)
-    ⊎ ((middle : Shelf) × IsReadOut from first middle before after false × AreHolesThere from picture force middle last)
+-- same, or not; or the reading was written, and the picture not stored; or both were, and the ribbon has a fault, of
+-- which standard error has nothing.
+abbrev pub IsNotReadWhole : ReadingSources → Option (Bor (List ℕ)) → Bool → Shelf → Shelf → Option (List ℕ)
+    → Option (List ℕ) → Bool → Option (List ℕ) → Option (List ℕ) → Type 0
+IsNotReadWhole from picture force first last before after whole quiet said =
+    (TakesSource from picture whole quiet said × (last ≡ first) × (after ≡ before))
+    ⊎ ((fault : ReadingFault) × (fault ≢ faults.Write) × IsNotReadOut (names_of from) first last before after fault
+    × ReportsReading from fault whole quiet said)
+    ⊎ ((middle : Shelf) × (begun : Bool) × (between : Option (List ℕ))
+    × IsNotReadOut (names_of from) first middle before after faults.Write
+    × Reports causes.ReportOutput begun quiet between
+    × ((AreHolesThere (names_of from) (option_copied picture) force middle last × StaysSo begun whole between said)
+    ⊎ AreHolesAbsent from picture force middle last begun whole between said))
+    ⊎ ((middle : Shelf) × (cast : Bool) × IsReadOut (names_of from) first middle before after cast
+    × AreHolesAbsent from picture force middle last true whole quiet said)
+    ⊎ ((middle : Shelf) × IsReadOut (names_of from) first middle before after false
+    × AreHolesThere (names_of from) (option_copied picture) force middle last × IsSilent whole quiet said)
 
 -- ---- sorts
 
@@ -64,8 +98,11 @@ abbrev pub IsListed : of_sorts.Sources → Bool → Shelf → Shelf → Option (
 IsListed from layout first last before after complete =
     Stays first last × AreListed from layout first before after complete
 
--- it was written, and a sort is missing; or it was not written
-abbrev pub IsNotListed : of_sorts.Sources → Bool → Shelf → Shelf → Option (List ℕ) → Option (List ℕ) → Type 0
-IsNotListed from layout first last before after =
-    IsListed from layout first last before after false
-    ⊎ (Stays first last × (fault : SortsFault) × AreUnlisted from layout first last before after fault)
+-- it was written, and a sort is missing; or it was not written, and standard error has the lines on the fault
+abbrev pub IsNotListed : (feed case : Bor (List ℕ)) → Bool → Shelf → Shelf → Option (List ℕ) → Option (List ℕ)
+    → Bool → Option (List ℕ) → Option (List ℕ) → Type 0
+IsNotListed feed case layout first last before after whole quiet said =
+    (IsListed (of_sorts.sources feed.now case.now) layout first last before after false × IsSilent whole quiet said)
+    ⊎ (Stays first last × (fault : SortsFault)
+    × AreUnlisted (of_sorts.sources feed.now case.now) layout first last before after fault
+    × Reports (sorts_cause feed case fault) whole quiet said)

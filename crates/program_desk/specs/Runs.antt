@@ -13,7 +13,7 @@ use Rattle.program_desk.specs.ByHand.{IsNotNumbered}
 use Rattle.program_desk.specs.Compared.{AreNotOne, AreOne}
 use Rattle.program_desk.specs.Sheets.{IsOffDesk, IsOnDesk, IsScripted, IsUnscripted}
 use Rattle.program_desk.specs.Previews.{IsInFile, IsInNoFile, IsSeen, IsUnseen}
-use Rattle.program_desk.specs.Readings.{IsListed, IsNotListed, IsNotReadWhole, IsReadWhole}
+use Rattle.program_desk.specs.Readings.{IsListed, IsNotListed, IsNotReadWhole, IsReadWhole, reading_sources}
 use Rattle.view_ribbon.specs.Sources.{sources}
 use Rattle.view_sorts.specs.Sources as sorts
 use Rattle.feed_edit.specs.Replacing.{IsReplaced}
@@ -49,8 +49,8 @@ Does (wishes.Renumber feed other site) first last input before after =
 Does (wishes.Renew new feed site) first last input before after =
     IsRenewed new.now feed.now site first last before after
 
--- It stopped or was not begun, or a fault or a difference was found, and this is what it left. Of commands standard
--- error has the lines on the fault, or a prefix of them where it failed.
+-- It stopped or was not begun, or a fault or a difference was found, and this is what it left. Standard error has the
+-- lines on the fault, or a prefix of them where it failed.
 abbrev pub Stops : Wish → Shelf → Shelf → Option (List ℕ) → Option (List ℕ) → Option (List ℕ)
     → Bool → Option (List ℕ) → Option (List ℕ) → Type 0
 Stops (wishes.Script manner) first last input before after whole quiet said =
@@ -58,29 +58,29 @@ Stops (wishes.Script manner) first last input before after whole quiet said =
 Stops (wishes.Desk feed site older why manner) first last input before after whole quiet said =
     IsOffDesk manner feed site older why first last input before after whole quiet said
 Stops (wishes.Merge feed others forks review) first last input before after whole quiet said =
-    IsNotMerged feed.now (texts_of others.items) forks review first last before after
+    IsNotMerged feed others.items forks review first last before after whole quiet said
 Stops (wishes.Diff one other) first last input before after whole quiet said =
-    AreNotOne one.now other.now first last before after
+    AreNotOne one other first last before after whole quiet said
 Stops (wishes.Export feed) first last input before after whole quiet said =
-    IsNotExported feed.now first last before after
+    IsNotExported feed first last before after whole quiet said
 Stops (wishes.Import feed site older plain all) first last input before after whole quiet said =
-    IsNotImported feed.now site older plain all first last input before after
+    IsNotImported feed site older plain all first last input before after whole quiet said
 Stops (wishes.Replace feed site older old new plain) first last input before after whole quiet said =
-    IsUnchanged feed.now site older (exchange old new plain) first last before after
+    IsUnchanged feed site older (exchange old new plain) first last before after whole quiet said
 Stops (wishes.Check files) first last input before after whole quiet said =
-    AreNotInOrder (texts_of files.items) first last before after
+    AreNotInOrder (texts_of files.items) first last before after whole quiet said
 Stops (wishes.Proof from faults picture force sets) first last input before after whole quiet said =
-    IsUnseen from faults (option_copied picture) force sets.items first last before after
+    IsUnseen from faults picture force sets.items first last before after whole quiet said
 Stops (wishes.Punch from target force faulty) first last input before after whole quiet said =
-    IsInNoFile from target.now force faulty first last before after
+    IsInNoFile from target force faulty first last before after whole quiet said
 Stops (wishes.Read ribbon case wedge picture force) first last input before after whole quiet said =
-    IsNotReadWhole (sources ribbon.now case.now wedge.now) (option_copied picture) force first last before after
+    IsNotReadWhole (reading_sources ribbon case wedge) picture force first last before after whole quiet said
 Stops (wishes.Sorts feed case layout) first last input before after whole quiet said =
-    IsNotListed (sorts.sources feed.now case.now) layout first last before after
+    IsNotListed feed case layout first last before after whole quiet said
 Stops (wishes.Renumber feed other site) first last input before after whole quiet said =
-    IsNotNumbered feed.now other.now site first last before after
+    IsNotNumbered feed other site first last before after whole quiet said
 Stops (wishes.Renew new feed site) first last input before after whole quiet said =
-    IsNotMadeAnew new.now feed.now first last before after
+    IsNotMadeAnew new feed first last before after whole quiet said
 
 -- what the words ask for was done
 abbrev pub IsRun : Shelf → Shelf → List Text → Option (List ℕ) → Option (List ℕ) → Option (List ℕ) → Type 0

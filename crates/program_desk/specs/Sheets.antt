@@ -19,10 +19,8 @@ use Rattle.desk_script.specs.declared.sheet_fault.SheetFault.{SheetFault}
 use Rattle.desk_script.specs.declared.sheet_fault.SheetFault.TheVariants as stops
 use Rattle.desk_script.specs.declared.sheet.Mode.{Mode}
 use Rattle.program_words.specs.declared.wishes.Manner.{Manner}
-use Rattle.program_desk.specs.Causes.{room_cause, stop_cause}
+use Rattle.program_desk.specs.Causes.{desk_cause, room_cause, stop_cause}
 use Rattle.program_desk.specs.Explained.{TellsOf}
-use Rattle.program_desk.specs.Headlines.{room_line, run_line, sheet_line}
-use Rattle.program_desk.specs.Told.{Tells}
 
 -- the commands are read as a sheet: to their end, before the first is carried out
 abbrev pub is_sheet : Manner → Bool
@@ -63,14 +61,22 @@ IsScripted manner first last input before after =
     × MatchBool (is_sheet manner) (IsDoneSheet (mode_of manner) first last input before after)
     (IsAnswered first last input before after)
 
+-- standard error has the first line on this fault, which names no file
+abbrev pub TellsRun : RunFault → Bool → Option (List ℕ) → Option (List ℕ) → Type 0
+TellsRun fault whole quiet said = (name : Bor Text) × TellsOf false (desk_cause name fault) whole quiet said
+
+-- so of a sheet
+abbrev pub TellsSheet : SheetFault → Bool → Option (List ℕ) → Option (List ℕ) → Type 0
+TellsSheet fault whole quiet said = (name : Bor Text) × TellsOf false (stop_cause name 0 fault) whole quiet said
+
 -- they stopped for a fault, and standard error has the line of this fault
 abbrev pub IsUnscripted : Manner → Shelf → Shelf → Option (List ℕ) → Option (List ℕ) → Option (List ℕ)
     → Bool → Option (List ℕ) → Option (List ℕ) → Type 0
 IsUnscripted manner first last input before after whole quiet said =
     Stays first last
     × MatchBool (is_sheet manner) ((fault : SheetFault)
-    × IsStoppedSheet (mode_of manner) first last input before after fault × Tells whole quiet said (sheet_line fault))
-    ((fault : RunFault) × IsCutOff first last input before after fault × Tells whole quiet said (run_line fault))
+    × IsStoppedSheet (mode_of manner) first last input before after fault × TellsSheet fault whole quiet said)
+    ((fault : RunFault) × IsCutOff first last input before after fault × TellsRun fault whole quiet said)
 
 -- ---- a desk
 
@@ -82,7 +88,7 @@ IsOnDesk manner feed site older first last input before after =
     MatchBool (is_sheet manner) (IsStoredSheet (mode_of manner) feed site older first last input before after)
     (AnswersInRoom feed site older first last input before after)
 
--- whether a second line is written, though none asks why
+-- the feed is older: a second line is written, though none asks why
 abbrev pub is_older : RoomFault → Bool
 is_older (rooms.Older made held) = true
 is_older (rooms.Run fault) = false
@@ -99,6 +105,6 @@ abbrev pub IsOffDesk : Manner → Bor Text → ℕ → Bool → Bool → Shelf �
 IsOffDesk manner feed site older why first last input before after whole quiet said =
     MatchBool (is_sheet manner) ((fault : SheetFault)
     × sheets.IsStoppedOnFeed (mode_of manner) feed.now site older first last input before after fault
-    × TellsOf (sheet_line fault) (why || is_older_sheet fault) (stop_cause feed site fault) whole quiet said)
+    × TellsOf (why || is_older_sheet fault) (stop_cause feed site fault) whole quiet said)
     ((fault : RoomFault) × IsStoppedInRoom feed.now site older first last input before after fault
-    × TellsOf (room_line fault) (why || is_older fault) (room_cause feed site fault) whole quiet said)
+    × TellsOf (why || is_older fault) (room_cause feed site fault) whole quiet said)

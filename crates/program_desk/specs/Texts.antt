@@ -8,15 +8,19 @@ use Rattle.feed_check.specs.declared.fault.CheckFault.{CheckFault}
 use Rattle.feed_edit.specs.Replacing.{IsUnreplaced}
 use Rattle.feed_edit.specs.declared.replace_fault.ReplaceFault.{ReplaceFault}
 use Rattle.feed_edit.specs.declared.texts.Exchange.{Exchange}
+use Rattle.program_desk.specs.Causes.{check_cause, replace_cause}
+use Rattle.program_desk.specs.Explained.{IsSilent, Reports}
 
 -- a text, and the one that takes its place
 abbrev pub exchange : Bor Text → Bor Text → Bool → Exchange
 exchange old new plain = record { from = old; to = new; plain = plain }
 
--- why the one text was not made the other, and what was left
-abbrev pub IsUnchanged : Text → ℕ → Bool → Exchange → Shelf → Shelf → Option (List ℕ) → Option (List ℕ) → Type 0
-IsUnchanged feed site older exchange first last before after = (fault : ReplaceFault)
-    × IsUnreplaced feed site older exchange first last before after fault
+-- why the one text was not made the other, what was left, and what standard error has
+abbrev pub IsUnchanged : Bor Text → ℕ → Bool → Exchange → Shelf → Shelf → Option (List ℕ) → Option (List ℕ)
+    → Bool → Option (List ℕ) → Option (List ℕ) → Type 0
+IsUnchanged feed site older exchange first last before after whole quiet said = (fault : ReplaceFault)
+    × IsUnreplaced feed.now site older exchange first last before after fault
+    × Reports (replace_cause feed site fault) whole quiet said
 
 -- each file has its line, all are in order or one is not; no file has changed
 abbrev pub AreReported : List Text → Shelf → Shelf → Option (List ℕ) → Option (List ℕ) → Bool → Type 0
@@ -26,8 +30,10 @@ AreReported names first last before after well = Stays first last × IsChecked n
 abbrev pub AreFound : List Text → Shelf → Shelf → Option (List ℕ) → Option (List ℕ) → Type 0
 AreFound names first last before after = AreReported names first last before after true
 
--- one is not; or a line was not written
-abbrev pub AreNotInOrder : List Text → Shelf → Shelf → Option (List ℕ) → Option (List ℕ) → Type 0
-AreNotInOrder names first last before after =
-    AreReported names first last before after false
-    ⊎ (Stays first last × (fault : CheckFault) × IsUnchecked names first last before after fault)
+-- one is not; or a line was not written, and standard error has the lines on the fault
+abbrev pub AreNotInOrder : List Text → Shelf → Shelf → Option (List ℕ) → Option (List ℕ)
+    → Bool → Option (List ℕ) → Option (List ℕ) → Type 0
+AreNotInOrder names first last before after whole quiet said =
+    (AreReported names first last before after false × IsSilent whole quiet said)
+    ⊎ (Stays first last × (fault : CheckFault) × IsUnchecked names first last before after fault
+    × Reports (check_cause fault) whole quiet said)

@@ -1,43 +1,51 @@
-//! What is done by hand with a stored feed, and its status. Where it was not done a line says so, and a second one the
-//! cause,
-//! unless the first says all.
+//! What is done by hand with a stored feed, and how it ended. Where it was not done a line says so, and a second one the
+//! cause, unless the first says all.
 
-ghost use Rattle.std.specs.Prelude.{◌≡◌, ◌≤◌, MatchResult};
+ghost use Rattle.std.specs.Prelude.{◌≡◌, ◌≤◌, List, MatchResult, ℕ};
 ghost use Rattle.feed_edit.specs.Exporting.{IsExported};
 ghost use Rattle.feed_edit.specs.Importing.{IsImported};
 ghost use Rattle.feed_files.specs.Files.{Stays};
 ghost use Rattle.feed_sites.specs.Renewing.{IsRenewed};
 ghost use Rattle.feed_sites.specs.Renumbering.{IsRenumbered};
 ghost use Rattle.program_words.specs.Words.{texts_of};
-ghost use Rattle.program_desk.specs.ByHand.{IsMergedAs, IsNotExported, IsNotImported, IsNotMadeAnew, IsNotMerged};
-ghost use Rattle.program_desk.specs.ByHand.{IsNotNumbered, status_of};
+ghost use Rattle.program_desk.specs.ByHand.{IsForkLine, IsMergedAs, IsNotExported, IsNotImported, IsNotMadeAnew};
+ghost use Rattle.program_desk.specs.ByHand.{IsNotMerged, IsNotNumbered, TellsMerge, status_of};
+ghost use Rattle.program_desk.specs.Causes.{export_cause, import_cause, renew_cause, renumber_cause};
+ghost use Rattle.program_desk.specs.Explained.{IsSilent, Reports, TellsOf};
+ghost use Rattle.program_desk.specs.Told.{GoesOn};
 
 use crate::causes::{export_cause, import_cause, merge_cause, renew_cause, renumber_cause};
-use crate::reporting::reported;
+use crate::reporting::{reported, stopped};
+use crate::told::{Ending, Told, ended, tell_more};
 use feed_edit::{
     ExportFault, ImportFault, MergeFault, export_feed, forks_line, import_text, merge_feeds,
 };
 use feed_files::Files;
 use feed_sites::{RenewFault, RenumberFault, renew_feed, renumber_feed};
 use program_host::Explains;
-use std::alloc::{Allocator, Global};
+use std::alloc::Global;
 use std::io::{Read, Write};
 
-/// Writes the line on a number that was used twice, if that is the fault. Where there is no memory for it the first
-/// line says
-/// all.
-fn explain_forks<E: Write, A: Allocator + Copy>(
-    alloc: A,
+/// Writes the line on a number that was used twice, if that is the fault and there is memory for it.
+fn explain_forks<E: Write>(
+    alloc: Global,
     faults: &mut E,
+    told: Told,
     others: &[&str],
-    fault: &MergeFault<A>,
-) {
+    fault: &MergeFault<Global>,
+) -> Told
+    ensures { (line : List ℕ) × IsForkLine others.now fault.now line
+        × GoesOn told.is_whole result.is_whole (E.contents faults.old) (E.contents faults.new) line }
+{
     let MergeFault::Forks { at, stamps } = fault else {
-        return;
+        return told;
     };
-    let name = others.get(*at).copied().unwrap_or("");
-    if let Ok(line) = forks_line(alloc, name, stamps) {
-        let _ = faults.write_all(line.as_bytes());
+    if *at >= others.len() {
+        return told;
+    }
+    match forks_line(alloc, others[*at], stamps) {
+        Ok(line) => tell_more(faults, told, line.as_bytes()),
+        Err(_) => told,
     }
 }
 
@@ -48,8 +56,8 @@ fn status_of(review: bool, clean: bool) -> u8
     if review && !clean { 1 } else { 0 }
 }
 
-/// The status of a merge.
-fn merge_status<E: Write, F: Explains>(
+/// How a merge ended.
+fn merge_ending<E: Write, F: Explains>(
     alloc: Global,
     faults: &mut E,
     files: &F,
@@ -57,27 +65,26 @@ fn merge_status<E: Write, F: Explains>(
     others: &[&str],
     review: bool,
     outcome: Result<bool, MergeFault<Global>>,
-) -> u8
-    ensures { MatchResult outcome (λ clean. result ≡ status_of review clean) (λ _. result ≡ 1) }
+) -> Ending
+    ensures { MatchResult outcome
+        (λ clean. (result.status ≡ status_of review clean)
+        × IsSilent result.told.is_whole (E.contents faults.old) (E.contents faults.new))
+        (λ fault. (result.status ≡ 1)
+        × TellsMerge feed.entry others.now fault result.told.is_whole (E.contents faults.old) (E.contents faults.new)) }
 {
     match outcome {
-        Ok(clean) => status_of(review, clean),
+        Ok(clean) => ended(status_of(review, clean)),
         Err(fault) => {
-            let status = reported(
-                alloc,
-                faults,
-                files,
-                &fault,
-                merge_cause(feed, others, &fault),
-            );
-            explain_forks(alloc, faults, others, &fault);
-            status
+            let cause = merge_cause(feed, others, &fault);
+            let first = stopped(alloc, faults, files, true, cause);
+            let told = explain_forks(alloc, faults, first.told, others, &fault);
+            Ending { status: 1, told }
         }
     }
 }
 
-/// Merges feeds of other files into a stored one, and gives the status: 1 also where words are open, if that is to be
-/// reviewed.
+/// Merges feeds of other files into a stored one, and says how that ended: with status 1 also where words are open, if
+/// that is to be reviewed.
 pub fn merged<W: Write, E: Write, F: Files + Explains>(
     alloc: Global,
     feed: &str,
@@ -87,78 +94,77 @@ pub fn merged<W: Write, E: Write, F: Files + Explains>(
     writer: &mut W,
     faults: &mut E,
     files: &mut F,
-) -> u8
-    ensures within { result ≤ 1 }
-    ensures done { result ≡ 0
+) -> Ending
+    ensures within { result.status ≤ 1 }
+    ensures done { result.status ≡ 0
         → IsMergedAs feed.now (texts_of others.now) forks review (F.shelf files.old) (F.shelf files.new)
         (W.contents writer.old) (W.contents writer.new) }
-    ensures stopped { result ≡ 1
-        → IsNotMerged feed.now (texts_of others.now) forks review (F.shelf files.old) (F.shelf files.new)
-        (W.contents writer.old) (W.contents writer.new) }
+    ensures stopped { result.status ≡ 1
+        → IsNotMerged feed.entry others.now forks review (F.shelf files.old) (F.shelf files.new)
+        (W.contents writer.old) (W.contents writer.new) result.told.is_whole (E.contents faults.old)
+        (E.contents faults.new) }
 {
     let outcome = merge_feeds(alloc, writer, files, feed, others, forks);
-    merge_status(alloc, faults, files, feed, others, review, outcome)
+    merge_ending(alloc, faults, files, feed, others, review, outcome)
 }
 
-/// The status of an export.
-fn export_status<E: Write, F: Explains>(
+/// How an export ended.
+fn export_ending<E: Write, F: Explains>(
     alloc: Global,
     faults: &mut E,
     files: &F,
     feed: &str,
     outcome: Result<(), ExportFault>,
-) -> u8
-    ensures { MatchResult outcome (λ _. result ≡ 0) (λ _. result ≡ 1) }
+) -> Ending
+    ensures { MatchResult outcome (λ _. result.status ≡ 0)
+        (λ fault. (result.status ≡ 1) × Reports (export_cause feed.entry fault) result.told.is_whole
+        (E.contents faults.old) (E.contents faults.new)) }
 {
     match outcome {
-        Ok(()) => 0,
-        Err(fault) => reported(alloc, faults, files, &fault, export_cause(feed, fault)),
+        Ok(()) => ended(0),
+        Err(fault) => reported(alloc, faults, files, export_cause(feed, fault)),
     }
 }
 
-/// Writes the copy of a stored feed as text, and gives the status.
+/// Writes the copy of a stored feed as text, and says how that ended.
 pub fn exported<W: Write, E: Write, F: Files + Explains>(
     alloc: Global,
     feed: &str,
     writer: &mut W,
     faults: &mut E,
     files: &mut F,
-) -> u8
-    ensures within { result ≤ 1 }
-    ensures done { result ≡ 0 → Stays (F.shelf files.old) (F.shelf files.new)
+) -> Ending
+    ensures within { result.status ≤ 1 }
+    ensures done { result.status ≡ 0 → Stays (F.shelf files.old) (F.shelf files.new)
         × IsExported feed.now (F.shelf files.old) (W.contents writer.old) (W.contents writer.new) }
-    ensures stopped { result ≡ 1
-        → IsNotExported feed.now (F.shelf files.old) (F.shelf files.new) (W.contents writer.old)
-        (W.contents writer.new) }
+    ensures stopped { result.status ≡ 1
+        → IsNotExported feed.entry (F.shelf files.old) (F.shelf files.new) (W.contents writer.old)
+        (W.contents writer.new) result.told.is_whole (E.contents faults.old) (E.contents faults.new) }
 {
     let outcome = export_feed(alloc, writer, files, feed);
-    export_status(alloc, faults, files, feed, outcome)
+    export_ending(alloc, faults, files, feed, outcome)
 }
 
-/// The status of an import.
-fn import_status<E: Write, F: Explains>(
+/// How an import ended.
+fn import_ending<E: Write, F: Explains>(
     alloc: Global,
     faults: &mut E,
     files: &F,
     feed: &str,
     site: u16,
     outcome: Result<(), ImportFault>,
-) -> u8
-    ensures { MatchResult outcome (λ _. result ≡ 0) (λ _. result ≡ 1) }
+) -> Ending
+    ensures { MatchResult outcome (λ _. result.status ≡ 0)
+        (λ fault. (result.status ≡ 1) × TellsOf true (import_cause feed.entry site fault) result.told.is_whole
+        (E.contents faults.old) (E.contents faults.new)) }
 {
     match outcome {
-        Ok(()) => 0,
-        Err(fault) => reported(
-            alloc,
-            faults,
-            files,
-            &fault,
-            import_cause(feed, site, fault),
-        ),
+        Ok(()) => ended(0),
+        Err(fault) => stopped(alloc, faults, files, true, import_cause(feed, site, fault)),
     }
 }
 
-/// Makes the copy of a stored feed the text of a reader, and gives the status.
+/// Makes the copy of a stored feed the text of a reader, and says how that ended.
 pub fn imported<R: Read, W: Write, E: Write, F: Files + Explains>(
     alloc: Global,
     feed: &str,
@@ -170,38 +176,41 @@ pub fn imported<R: Read, W: Write, E: Write, F: Files + Explains>(
     writer: &mut W,
     faults: &mut E,
     files: &mut F,
-) -> u8
+) -> Ending
     requires { 1 ≤ site }
-    ensures within { result ≤ 1 }
-    ensures done { result ≡ 0
+    ensures within { result.status ≤ 1 }
+    ensures done { result.status ≡ 0
         → IsImported feed.now site older plain all (F.shelf files.old) (F.shelf files.new) (R.remaining reader.old)
         (W.contents writer.old) (W.contents writer.new) }
-    ensures stopped { result ≡ 1
-        → IsNotImported feed.now site older plain all (F.shelf files.old) (F.shelf files.new) (R.remaining reader.old)
-        (W.contents writer.old) (W.contents writer.new) }
+    ensures stopped { result.status ≡ 1
+        → IsNotImported feed.entry site older plain all (F.shelf files.old) (F.shelf files.new)
+        (R.remaining reader.old) (W.contents writer.old) (W.contents writer.new) result.told.is_whole
+        (E.contents faults.old) (E.contents faults.new) }
 {
     let outcome = import_text(alloc, reader, writer, files, feed, site, older, plain, all);
-    import_status(alloc, faults, files, feed, site, outcome)
+    import_ending(alloc, faults, files, feed, site, outcome)
 }
 
-/// The status of a renewal.
-fn renew_status<E: Write, F: Explains>(
+/// How a renewal ended.
+fn renew_ending<E: Write, F: Explains>(
     alloc: Global,
     faults: &mut E,
     files: &F,
     new: &str,
     feed: &str,
     outcome: Result<(), RenewFault>,
-) -> u8
-    ensures { MatchResult outcome (λ _. result ≡ 0) (λ _. result ≡ 1) }
+) -> Ending
+    ensures { MatchResult outcome (λ _. result.status ≡ 0)
+        (λ fault. (result.status ≡ 1) × TellsOf true (renew_cause new.entry feed.entry fault) result.told.is_whole
+        (E.contents faults.old) (E.contents faults.new)) }
 {
     match outcome {
-        Ok(()) => 0,
-        Err(fault) => reported(alloc, faults, files, &fault, renew_cause(new, feed, fault)),
+        Ok(()) => ended(0),
+        Err(fault) => stopped(alloc, faults, files, true, renew_cause(new, feed, fault)),
     }
 }
 
-/// Begins a new feed with the copy and the settings of a stored one, and gives the status.
+/// Begins a new feed with the copy and the settings of a stored one, and says how that ended.
 pub fn renewed<W: Write, E: Write, F: Files + Explains>(
     alloc: Global,
     new: &str,
@@ -210,22 +219,22 @@ pub fn renewed<W: Write, E: Write, F: Files + Explains>(
     writer: &mut W,
     faults: &mut E,
     files: &mut F,
-) -> u8
+) -> Ending
     requires { 1 ≤ site }
-    ensures within { result ≤ 1 }
-    ensures done { result ≡ 0
+    ensures within { result.status ≤ 1 }
+    ensures done { result.status ≡ 0
         → IsRenewed new.now feed.now site (F.shelf files.old) (F.shelf files.new) (W.contents writer.old)
         (W.contents writer.new) }
-    ensures stopped { result ≡ 1
-        → IsNotMadeAnew new.now feed.now (F.shelf files.old) (F.shelf files.new) (W.contents writer.old)
-        (W.contents writer.new) }
+    ensures stopped { result.status ≡ 1
+        → IsNotMadeAnew new.entry feed.entry (F.shelf files.old) (F.shelf files.new) (W.contents writer.old)
+        (W.contents writer.new) result.told.is_whole (E.contents faults.old) (E.contents faults.new) }
 {
     let outcome = renew_feed(alloc, writer, files, new, feed, site);
-    renew_status(alloc, faults, files, new, feed, outcome)
+    renew_ending(alloc, faults, files, new, feed, outcome)
 }
 
-/// The status of a renumbering.
-fn renumber_status<E: Write, F: Explains>(
+/// How a renumbering ended.
+fn renumber_ending<E: Write, F: Explains>(
     alloc: Global,
     faults: &mut E,
     files: &F,
@@ -233,24 +242,21 @@ fn renumber_status<E: Write, F: Explains>(
     other: &str,
     site: u16,
     outcome: Result<(), RenumberFault>,
-) -> u8
-    ensures { MatchResult outcome (λ _. result ≡ 0) (λ _. result ≡ 1) }
+) -> Ending
+    ensures { MatchResult outcome (λ _. result.status ≡ 0)
+        (λ fault. (result.status ≡ 1) × TellsOf true (renumber_cause feed.entry other.entry site fault)
+        result.told.is_whole (E.contents faults.old) (E.contents faults.new)) }
 {
     match outcome {
-        Ok(()) => 0,
+        Ok(()) => ended(0),
         Err(fault) => {
-            reported(
-                alloc,
-                faults,
-                files,
-                &fault,
-                renumber_cause(feed, other, site, fault),
-            )
+            let cause = renumber_cause(feed, other, site, fault);
+            stopped(alloc, faults, files, true, cause)
         }
     }
 }
 
-/// Gives another number to the operations of a stored feed whose stamps another feed bears too, and gives the status.
+/// Gives another number to the operations of a stored feed whose stamps another feed bears too, and says how that ended.
 pub fn renumbered<W: Write, E: Write, F: Files + Explains>(
     alloc: Global,
     feed: &str,
@@ -259,16 +265,16 @@ pub fn renumbered<W: Write, E: Write, F: Files + Explains>(
     writer: &mut W,
     faults: &mut E,
     files: &mut F,
-) -> u8
+) -> Ending
     requires { 1 ≤ site }
-    ensures within { result ≤ 1 }
-    ensures done { result ≡ 0
+    ensures within { result.status ≤ 1 }
+    ensures done { result.status ≡ 0
         → IsRenumbered feed.now other.now site (F.shelf files.old) (F.shelf files.new) (W.contents writer.old)
         (W.contents writer.new) }
-    ensures stopped { result ≡ 1
-        → IsNotNumbered feed.now other.now site (F.shelf files.old) (F.shelf files.new) (W.contents writer.old)
-        (W.contents writer.new) }
+    ensures stopped { result.status ≡ 1
+        → IsNotNumbered feed.entry other.entry site (F.shelf files.old) (F.shelf files.new) (W.contents writer.old)
+        (W.contents writer.new) result.told.is_whole (E.contents faults.old) (E.contents faults.new) }
 {
     let outcome = renumber_feed(alloc, writer, files, feed, other, site);
-    renumber_status(alloc, faults, files, feed, other, site, outcome)
+    renumber_ending(alloc, faults, files, feed, other, site, outcome)
 }

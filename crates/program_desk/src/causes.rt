@@ -1,14 +1,17 @@
 //! The cause of what stopped, as its second line says it: which file it was, or which end of the program, and why.
 
 ghost use Rattle.std.specs.Prelude.{◌≡◌, slice_get};
-ghost use Rattle.program_desk.specs.Causes.{desk_cause, difference_cause, export_cause, feed_cause, file_cause};
-ghost use Rattle.program_desk.specs.Causes.{import_cause, input_cause, keep_cause, merge_cause, number_cause};
-ghost use Rattle.program_desk.specs.Causes.{other_cause, preview_cause, reading_cause, renew_cause, renumber_cause};
-ghost use Rattle.program_desk.specs.Causes.{replace_cause, revision_cause, sheet_cause, sorts_cause, take_cause};
-ghost use Rattle.program_desk.specs.Causes.{unstored_cause, last_cause, room_cause, stop_cause};
+ghost use Rattle.program_desk.specs.Causes.{check_cause, desk_cause, difference_cause, export_cause, feed_cause};
+ghost use Rattle.program_desk.specs.Causes.{file_cause};
+ghost use Rattle.program_desk.specs.Causes.{import_cause, input_cause, keep_cause, last_cause, merge_cause};
+ghost use Rattle.program_desk.specs.Causes.{number_cause, other_cause, preview_cause, reading_cause, renew_cause};
+ghost use Rattle.program_desk.specs.Causes.{renumber_cause, replace_cause, revision_cause, room_cause, sheet_cause};
+ghost use Rattle.program_desk.specs.Causes.{sorts_cause, stop_cause, take_cause, text_cause, trial_cause};
+ghost use Rattle.program_desk.specs.Causes.{unset_cause, unstored_cause};
 
 use desk_codec::FeedFault;
 use desk_script::{MAX_SHEET, RoomFault, RunFault, SheetFault};
+use feed_check::CheckFault;
 use feed_compare::DifferenceFault;
 use feed_edit::{
     ExchangeFault, ExportFault, FeedTrouble, ImportFault, InputFault, KeepFault, MAX_TEXT,
@@ -20,8 +23,9 @@ use feed_stored::LastFault;
 use program_words::Sources;
 use script_answers::Refusal;
 use std::alloc::Allocator;
+use text_copy::TextFault;
 use view_proof::OtherNumber;
-use view_punch::PreviewFault;
+use view_punch::{PreviewFault, TrialFault};
 use view_ribbon::ReadingFault;
 use view_sorts::SortsFault;
 
@@ -33,11 +37,43 @@ pub struct ReadingSources<'a> {
     pub wedge: &'a str,
 }
 
+/// Which text is no copy.
+#[derive(Clone, Copy)]
+pub enum Origin {
+    /// That of standard input.
+    Input,
+    /// The text that is to be replaced.
+    Old,
+    /// The text that is to take its place.
+    New,
+}
+
+/// What stopped something, where the first line says all.
+#[derive(Clone, Copy)]
+pub enum Said {
+    /// Memory ran out for the words of the command line, or for what a check writes.
+    NoMemory,
+    /// The copy has faults, and they are on standard output.
+    CopyFaults,
+    /// The job has faults, and they are on standard output.
+    NoRibbon,
+    /// Two rooms used one number. Another line has the counters.
+    Forks,
+    /// The text has no place in the copy.
+    NoPlace,
+    /// The text has so many places.
+    ManyPlaces(usize),
+    /// So many symbols would be deleted of so many.
+    Wipes(usize, usize),
+    /// A text is no copy: its first fault, by line and column.
+    Text(Origin, u64, u64, text_copy::Cause),
+}
+
 /// What stopped something: which file, and the cause.
 #[derive(Clone, Copy)]
 pub enum Cause<'a> {
     /// The first line says all.
-    Reported,
+    Said(Said),
     /// Memory ran out, over this file or over what was read with it.
     NoMemory(&'a str),
     /// A call failed of this file.
@@ -49,7 +85,7 @@ pub enum Cause<'a> {
     /// With the operations of this feed there would be more than a desk can hold.
     Full(&'a str),
     /// The text does not fit into this feed.
-    Text(&'a str),
+    Unfit(&'a str, RevisionFault),
     /// This feed holds less of a site than was stored here: the site, the counter that it made, and the one that is
     /// held.
     Older(&'a str, u16, u64, u64),
@@ -57,6 +93,8 @@ pub enum Cause<'a> {
     Taken(&'a str, Kind),
     /// A file has this name already.
     There(&'a str),
+    /// This name is that of a file from which this output would be made.
+    Source(&'a str, Output),
     /// This number does not serve.
     Number(u16, NumberFault),
     /// Of these files, that of a case and that of a wedge, one is not read, or is refused.
@@ -65,6 +103,8 @@ pub enum Cause<'a> {
     Case(&'a str, Refusal),
     /// The number of the case or of the wedge of this file is not that of its setting.
     Other(&'a str, OtherNumber),
+    /// This text of `--set` names no setting, or gives it no value that it may have.
+    NoSetting(&'a str),
     /// The line of this number of a sheet was refused: its answer says why, and this feed is as it was.
     Line(&'a str, u64),
     /// Standard input failed.
@@ -77,6 +117,13 @@ pub enum Cause<'a> {
     Output,
     /// Standard output failed, to which a report goes. Nothing was to be stored.
     ReportOutput,
+}
+
+/// A file that is made.
+#[derive(Clone, Copy)]
+pub enum Output {
+    Ribbon,
+    Picture,
 }
 
 /// The cause where a file was refused.
@@ -102,7 +149,7 @@ fn feed_cause<'a>(feed: &'a str, why: FeedTrouble) -> Cause<'a>
 }
 
 /// The cause where a run of commands on a feed stopped.
-fn desk_cause<'a>(feed: &'a str, fault: RunFault) -> Cause<'a>
+pub fn desk_cause<'a>(feed: &'a str, fault: RunFault) -> Cause<'a>
     ensures { result ≡ desk_cause feed.entry fault }
 {
     match fault {
@@ -172,14 +219,24 @@ fn take_cause<'a>(feed: &'a str, why: TakeFault) -> Cause<'a>
     }
 }
 
-/// The cause where no text was read. Of the text itself the first line has the place.
+/// The cause where a text is no copy.
+fn text_cause<'a>(feed: &'a str, origin: Origin, why: TextFault) -> Cause<'a>
+    ensures { result ≡ text_cause feed.entry origin why }
+{
+    match why {
+        TextFault::At { line, column, cause } => Cause::Said(Said::Text(origin, line, column, cause)),
+        TextFault::NoMemory => Cause::NoMemory(feed),
+    }
+}
+
+/// The cause where no text was read.
 fn input_cause<'a>(feed: &'a str, why: InputFault) -> Cause<'a>
     ensures { result ≡ input_cause feed.entry why }
 {
     match why {
         InputFault::Read => Cause::Input,
         InputFault::TooLong => Cause::TooLong(MAX_TEXT),
-        InputFault::Text(_) => Cause::Reported,
+        InputFault::Text(fault) => text_cause(feed, Origin::Input, fault),
         InputFault::NoMemory => Cause::NoMemory(feed),
     }
 }
@@ -190,7 +247,7 @@ fn revision_cause<'a>(feed: &'a str, why: RevisionFault) -> Cause<'a>
 {
     match why {
         RevisionFault::NoMemory => Cause::NoMemory(feed),
-        RevisionFault::Full | RevisionFault::ClockFull | RevisionFault::Value => Cause::Text(feed),
+        RevisionFault::Full | RevisionFault::ClockFull | RevisionFault::Value => Cause::Unfit(feed, why),
     }
 }
 
@@ -206,11 +263,16 @@ fn keep_cause<'a>(feed: &'a str, why: KeepFault) -> Cause<'a>
 }
 
 /// The cause where one of some feeds does not come in, by its place among them.
-fn other_cause<'a>(others: &'a [&'a str], at: usize, why: FeedTrouble) -> Cause<'a>
-    ensures { result ≡ other_cause (slice_get others.now at) why }
+fn other_cause<'a>(
+    feed: &'a str,
+    others: &'a [&'a str],
+    at: usize,
+    why: FeedTrouble,
+) -> Cause<'a>
+    ensures { result ≡ other_cause feed.entry (slice_get others.now at) why }
 {
     if at >= others.len() {
-        return Cause::Reported;
+        return feed_cause(feed, why);
     }
     feed_cause(others[at], why)
 }
@@ -225,8 +287,8 @@ pub fn merge_cause<'a, A: Allocator>(
 {
     match fault {
         MergeFault::Take(why) => take_cause(feed, *why),
-        MergeFault::Other { at, why } => other_cause(others, *at, *why),
-        MergeFault::Forks { .. } => Cause::Reported,
+        MergeFault::Other { at, why } => other_cause(feed, others, *at, *why),
+        MergeFault::Forks { .. } => Cause::Said(Said::Forks),
         MergeFault::Keep(why) => keep_cause(feed, *why),
     }
 }
@@ -251,7 +313,7 @@ pub fn import_cause<'a>(feed: &'a str, site: u16, fault: ImportFault) -> Cause<'
         ImportFault::Last(why) => last_cause(feed, site, why),
         ImportFault::Input(why) => input_cause(feed, why),
         ImportFault::Revision(why) => revision_cause(feed, why),
-        ImportFault::Wipes { .. } => Cause::Reported,
+        ImportFault::Wipes { deleted, of } => Cause::Said(Said::Wipes(deleted, of)),
         ImportFault::Keep(why) => keep_cause(feed, why),
     }
 }
@@ -286,18 +348,20 @@ pub fn renew_cause<'a>(new: &'a str, feed: &'a str, fault: RenewFault) -> Cause<
     }
 }
 
-/// The cause where nothing was replaced. Of the texts the first line says all; the places stand on standard output.
+/// The cause where nothing was replaced. The places are on standard output.
 pub fn replace_cause<'a>(feed: &'a str, site: u16, fault: ReplaceFault) -> Cause<'a>
     ensures { result ≡ replace_cause feed.entry site fault }
 {
     match fault {
         ReplaceFault::Exchange(ExchangeFault::NoMemory) => Cause::NoMemory(feed),
-        ReplaceFault::Exchange(ExchangeFault::Old(_) | ExchangeFault::New(_)) => Cause::Reported,
+        ReplaceFault::Exchange(ExchangeFault::Old(why)) => text_cause(feed, Origin::Old, why),
+        ReplaceFault::Exchange(ExchangeFault::New(why)) => text_cause(feed, Origin::New, why),
         ReplaceFault::Take(why) => take_cause(feed, why),
         ReplaceFault::Last(why) => last_cause(feed, site, why),
         ReplaceFault::Place(PlaceFault::NoMemory) => Cause::NoMemory(feed),
         ReplaceFault::Place(PlaceFault::Write) => Cause::ReportOutput,
-        ReplaceFault::Place(PlaceFault::NoPlace | PlaceFault::ManyPlaces(_)) => Cause::Reported,
+        ReplaceFault::Place(PlaceFault::NoPlace) => Cause::Said(Said::NoPlace),
+        ReplaceFault::Place(PlaceFault::ManyPlaces(count)) => Cause::Said(Said::ManyPlaces(count)),
         ReplaceFault::Revision(why) => revision_cause(feed, why),
         ReplaceFault::Keep(why) => keep_cause(feed, why),
     }
@@ -335,14 +399,15 @@ fn number_cause<'a>(from: &Sources<'a>, other: OtherNumber) -> Cause<'a>
     }
 }
 
-/// The cause where one does not see what one asked for. The faults of a copy or of a job stand on standard output.
+/// The cause where one does not see what one asked for. The faults of a copy or of a job are on standard output.
 pub fn preview_cause<'a>(from: &Sources<'a>, target: &'a str, fault: PreviewFault) -> Cause<'a>
     ensures { result ≡ preview_cause from.now target.entry fault }
 {
     match fault {
         PreviewFault::Feed(why) => feed_cause(from.feed, why),
         PreviewFault::Input(why) => Cause::CaseOrWedge(from.case, from.wedge, why),
-        PreviewFault::CopyFaults | PreviewFault::Faulty(None) => Cause::Reported,
+        PreviewFault::CopyFaults => Cause::Said(Said::CopyFaults),
+        PreviewFault::Faulty(None) => Cause::Said(Said::NoRibbon),
         PreviewFault::Faulty(Some(other)) => number_cause(from, other),
         PreviewFault::Write => Cause::ReportOutput,
         PreviewFault::Taken(kind) => Cause::Taken(target, kind),
@@ -378,5 +443,35 @@ pub fn sorts_cause<'a>(feed: &'a str, case: &'a str, fault: SortsFault) -> Cause
         SortsFault::Input(why) => Cause::Case(case, why),
         SortsFault::Write => Cause::ReportOutput,
         SortsFault::NoMemory => Cause::NoMemory(feed),
+    }
+}
+
+/// The cause where texts try no settings.
+pub fn trial_cause<'a>(sets: &'a [&'a str], fault: TrialFault) -> Cause<'a>
+    ensures { result ≡ trial_cause sets.now fault }
+{
+    match fault {
+        TrialFault::NoSetting(place) => unset_cause(sets, place),
+        TrialFault::NoMemory => Cause::Said(Said::NoMemory),
+    }
+}
+
+/// The cause where the text at this place tries no setting.
+fn unset_cause<'a>(sets: &'a [&'a str], place: usize) -> Cause<'a>
+    ensures { result ≡ unset_cause (slice_get sets.now place) }
+{
+    if place >= sets.len() {
+        return Cause::Said(Said::NoMemory);
+    }
+    Cause::NoSetting(sets[place])
+}
+
+/// The cause where files are not checked to their end.
+pub fn check_cause(fault: CheckFault) -> Cause<'static>
+    ensures { result ≡ check_cause fault }
+{
+    match fault {
+        CheckFault::NoMemory => Cause::Said(Said::NoMemory),
+        CheckFault::Write => Cause::ReportOutput,
     }
 }

@@ -1,41 +1,45 @@
 //! Stored feeds compared.
 
 ghost use Rattle.std.specs.Prelude.{◌≡◌, ◌≤◌, MatchResult, false, true};
+ghost use Rattle.program_desk.specs.Causes.{difference_cause};
 ghost use Rattle.program_desk.specs.Compared.{AreNotOne, AreOne};
+ghost use Rattle.program_desk.specs.Explained.{IsSilent, Reports};
 
 use crate::causes::difference_cause;
 use crate::reporting::reported;
+use crate::told::{Ending, ended};
 use feed_compare::{DifferenceFault, report_difference};
 use feed_files::Files;
 use program_host::Explains;
 use std::alloc::Global;
 use std::io::Write;
 
-/// The status of a difference: 1 also where it was written and the feeds do not hold the same.
-fn difference_status<E: Write, F: Explains>(
+/// How a comparison ended: with status 1 also where the feeds do not hold the same.
+fn difference_ending<E: Write, F: Explains>(
     alloc: Global,
     faults: &mut E,
     files: &F,
     one: &str,
     other: &str,
     outcome: Result<bool, DifferenceFault>,
-) -> u8
-    ensures { MatchResult outcome (λ same. (same ≡ true → result ≡ 0) × (same ≡ false → result ≡ 1)) (λ _. result ≡ 1) }
+) -> Ending
+    ensures { MatchResult outcome
+        (λ same. (same ≡ true → result.status ≡ 0) × (same ≡ false → result.status ≡ 1)
+        × IsSilent result.told.is_whole (E.contents faults.old) (E.contents faults.new))
+        (λ fault. (result.status ≡ 1) × Reports (difference_cause one.entry other.entry fault) result.told.is_whole
+        (E.contents faults.old) (E.contents faults.new)) }
 {
     match outcome {
-        Ok(true) => 0,
-        Ok(false) => 1,
-        Err(fault) => reported(
-            alloc,
-            faults,
-            files,
-            &fault,
-            difference_cause(one, other, fault),
-        ),
+        Ok(true) => ended(0),
+        Ok(false) => ended(1),
+        Err(fault) => {
+            let cause = difference_cause(one, other, fault);
+            reported(alloc, faults, files, cause)
+        }
     }
 }
 
-/// Says in what two stored feeds differ, and gives the status: 0 only where they hold the same.
+/// Says in what two stored feeds differ, and how that ended: with status 0 only where they hold the same.
 pub fn compared<W: Write, E: Write, F: Files + Explains>(
     alloc: Global,
     one: &str,
@@ -43,15 +47,15 @@ pub fn compared<W: Write, E: Write, F: Files + Explains>(
     writer: &mut W,
     faults: &mut E,
     files: &mut F,
-) -> u8
-    ensures within { result ≤ 1 }
-    ensures done { result ≡ 0
+) -> Ending
+    ensures within { result.status ≤ 1 }
+    ensures done { result.status ≡ 0
         → AreOne one.now other.now (F.shelf files.old) (F.shelf files.new) (W.contents writer.old)
         (W.contents writer.new) }
-    ensures stopped { result ≡ 1
-        → AreNotOne one.now other.now (F.shelf files.old) (F.shelf files.new) (W.contents writer.old)
-        (W.contents writer.new) }
+    ensures stopped { result.status ≡ 1
+        → AreNotOne one.entry other.entry (F.shelf files.old) (F.shelf files.new) (W.contents writer.old)
+        (W.contents writer.new) result.told.is_whole (E.contents faults.old) (E.contents faults.new) }
 {
     let outcome = report_difference(alloc, writer, files, one, other);
-    difference_status(alloc, faults, files, one, other, outcome)
+    difference_ending(alloc, faults, files, one, other, outcome)
 }

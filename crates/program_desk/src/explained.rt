@@ -1,11 +1,12 @@
-//! The second line on what stopped a run: which file it was, or which end of the program, and why.
+//! The lines on what stopped a run. The second has the file, or the end of the program, and why.
 
 ghost use Rattle.std.specs.Prelude.{◌≡◌, ◌++◌, ℕ, List, true, codes};
 ghost use Rattle.std.specs.Fmt.{decimal};
-ghost use Rattle.program_desk.specs.Explained.{IsExplainedBy, ExplainsIf, older_words};
+ghost use Rattle.program_desk.specs.Explained.{IsExplainedBy, ExplainsIf, TellsMore, older_words, source_words};
 ghost use Rattle.program_desk.specs.Told.{GoesOn, IsNamed, IsPrintable, IsShown};
 
-use crate::causes::Cause;
+use crate::causes::{Cause, Output};
+use crate::headlines::tell_head;
 use crate::told::{Told, tell_more, tell_number};
 use crate::words::{explain_case, explain_input, explain_number, explain_other};
 use program_host::{Explains, Plain};
@@ -84,11 +85,35 @@ fn tell_line<E: Write>(alloc: Global, faults: &mut E, told: Told, feed: &str, nu
     tell_more(faults, named, b" is as it was\n")
 }
 
-/// What is said of a cause in other words than these, where there is memory for it, or the first part of it. Of a
-/// feed's fault, a kind and another number it is what follows the name of the file.
+/// What is said of an output that would take the place of its source.
+fn source_words(output: Output) -> &'static str
+    ensures { result.now ≡ source_words output }
+{
+    match output {
+        Output::Ribbon => ": the ribbon would take its place\n",
+        Output::Picture => ": the picture would take its place\n",
+    }
+}
+
+/// Writes that a text of `--set` tries no setting.
+fn tell_setting<E: Write>(alloc: Global, faults: &mut E, told: Told, text: &str) -> Told
+    ensures { IsExplainedBy (Cause.NoSetting text.entry) told.is_whole result.is_whole (E.contents faults.old)
+        (E.contents faults.new) }
+{
+    let begun = tell_more(faults, told, b"--set ");
+    let named = tell_name(alloc, faults, begun, text);
+    tell_more(
+        faults,
+        named,
+        b": no setting, or no value that it may have\n",
+    )
+}
+
+/// What is said of a cause in other words than these; nothing where there is no memory for it. Of a feed's fault, a
+/// kind and another number it is what follows the name of the file.
 fn words_on<F: Explains>(alloc: Global, files: &F, cause: Cause<'_>) -> Vec<u8> {
     let mut words = Vec::new(alloc);
-    let _ = match cause {
+    let written = match cause {
         Cause::File(name) => files.explain(name, &mut words),
         Cause::Feed(_, fault) => {
             let (at, why) = (fault.at, fault.why);
@@ -101,12 +126,34 @@ fn words_on<F: Explains>(alloc: Global, files: &F, cause: Cause<'_>) -> Vec<u8> 
         Cause::Other(_, other) => explain_other(&mut words, other),
         _ => Ok(()),
     };
+    if written.is_err() {
+        words.clear();
+    }
     words
 }
 
-/// Writes the line on a cause after what was written, unless that was cut off. A line that takes memory is cut off
-/// where that is refused.
-pub fn explain<E: Write, F: Explains>(
+/// Writes a line on a file: its name, and what is said of it, or that there is no memory for that.
+fn tell_of<E: Write, F: Explains>(
+    alloc: Global,
+    faults: &mut E,
+    told: Told,
+    files: &F,
+    name: &str,
+    cause: Cause<'_>,
+) -> Told
+    ensures { (words : List ℕ) × (line : List ℕ) × IsNamed name.now words line
+        × GoesOn told.is_whole result.is_whole (E.contents faults.old) (E.contents faults.new) line }
+{
+    let words = words_on(alloc, files, cause);
+    if words.is_empty() {
+        return tell_named(alloc, faults, told, name, b": out of memory\n");
+    }
+    tell_named(alloc, faults, told, name, &words)
+}
+
+/// Writes the line on a cause after what was written, unless that was cut off. A name that is not printable is cut off
+/// where memory is refused for it.
+fn explain<E: Write, F: Explains>(
     alloc: Global,
     faults: &mut E,
     told: Told,
@@ -116,11 +163,9 @@ pub fn explain<E: Write, F: Explains>(
     ensures { IsExplainedBy cause.entry told.is_whole result.is_whole (E.contents faults.old) (E.contents faults.new) }
 {
     match cause {
-        Cause::Reported => told,
+        Cause::Said(_) => told,
         Cause::NoMemory(feed) => tell_named(alloc, faults, told, feed, b": out of memory\n"),
-        Cause::Feed(feed, _) => {
-            tell_named(alloc, faults, told, feed, &words_on(alloc, files, cause))
-        }
+        Cause::Feed(feed, _) => tell_of(alloc, faults, told, files, feed, cause),
         Cause::TooMany(feed) => {
             let words = b": it has more operations than a desk can hold\n";
             tell_named(alloc, faults, told, feed, words)
@@ -129,26 +174,21 @@ pub fn explain<E: Write, F: Explains>(
             let words = b": with its operations there would be more than a desk can hold\n";
             tell_named(alloc, faults, told, feed, words)
         }
-        Cause::Text(feed) => {
-            tell_named(
-                alloc,
-                faults,
-                told,
-                feed,
-                b": the text does not fit into it\n",
-            )
+        Cause::Unfit(feed, _) => {
+            let words = b": the text does not fit into it\n";
+            tell_named(alloc, faults, told, feed, words)
         }
         Cause::Older(feed, site, made, held) => {
             let named = tell_name(alloc, faults, told, feed);
             tell_counters(faults, named, site, made, held)
         }
-        Cause::Taken(name, _) => {
-            tell_named(alloc, faults, told, name, &words_on(alloc, files, cause))
-        }
+        Cause::Taken(name, _) => tell_of(alloc, faults, told, files, name, cause),
         Cause::There(name) => tell_named(alloc, faults, told, name, b": it is there already\n"),
-        Cause::Other(name, _) => {
-            tell_named(alloc, faults, told, name, &words_on(alloc, files, cause))
+        Cause::Source(name, output) => {
+            tell_named(alloc, faults, told, name, source_words(output).as_bytes())
         }
+        Cause::Other(name, _) => tell_of(alloc, faults, told, files, name, cause),
+        Cause::NoSetting(text) => tell_setting(alloc, faults, told, text),
         Cause::Line(feed, number) => tell_line(alloc, faults, told, feed, number),
         Cause::Input => tell_more(faults, told, b"standard input: it cannot be read\n"),
         Cause::Endless => tell_more(faults, told, b"standard input: it has no end\n"),
@@ -163,7 +203,7 @@ pub fn explain<E: Write, F: Explains>(
 }
 
 /// Writes the line on a cause where it is asked for.
-pub fn explain_if<E: Write, F: Explains>(
+fn explain_if<E: Write, F: Explains>(
     alloc: Global,
     faults: &mut E,
     told: Told,
@@ -179,4 +219,21 @@ pub fn explain_if<E: Write, F: Explains>(
     } else {
         told
     }
+}
+
+/// Writes the lines on a cause after what was written, unless that was cut off: the first, and where it is asked for
+/// the second.
+pub fn tell_cause<E: Write, F: Explains>(
+    alloc: Global,
+    faults: &mut E,
+    told: Told,
+    files: &F,
+    asked: bool,
+    cause: Cause<'_>,
+) -> Told
+    ensures { TellsMore asked cause.entry told.is_whole result.is_whole (E.contents faults.old)
+        (E.contents faults.new) }
+{
+    let begun = tell_head(faults, told, cause);
+    explain_if(alloc, faults, begun, files, asked, cause)
 }

@@ -1,48 +1,26 @@
 //! A stored feed seen before it is cast: its galley as text, and its ribbon in a file.
 
 ghost use Rattle.std.specs.Option.{option_copied};
-ghost use Rattle.std.specs.Prelude.{◌≡◌, ◌≤◌, ◌↔◌, IfErr, IfOk, MatchResult, false, true};
+ghost use Rattle.std.specs.Prelude.{◌≡◌, ◌≤◌, ◌↔◌, IfErr, IfOk, MatchResult, true};
 ghost use Rattle.desk_job.specs.Answer.{AreValues};
+ghost use Rattle.program_desk.specs.Causes.{preview_cause};
+ghost use Rattle.program_desk.specs.Explained.{Reports, StaysSo};
 ghost use Rattle.program_desk.specs.Previews.{IsInFile, IsInNoFile, IsPictureAbsent, IsPictureThere, IsSeen, IsSeenBy};
-ghost use Rattle.program_desk.specs.Previews.{IsShown, IsSource, IsUnseen, IsUnseenBy, IsUnshown, TakesSource};
-ghost use Rattle.program_desk.specs.Previews.{extent_of};
+ghost use Rattle.program_desk.specs.Previews.{IsShown, IsSource, IsUnseen, IsUnseenBy, IsUnshown, extent_of};
 
-use crate::causes::preview_cause;
-use crate::reporting::{report_target, reported, stopped};
+use crate::causes::{Cause, Output, preview_cause, trial_cause};
+use crate::reporting::{reported, reported_more, stopped};
+use crate::told::{Ending, Told, ended, silent};
 use desk_replica::Settings;
-use desk_script::RunFault;
 use feed_files::{Files, Target};
-use program_host::{Explains, Plain};
+use program_host::Explains;
 use program_words::Sources;
 use script_answers::Memory;
 use std::alloc::Global;
 use std::io::Write;
 use view_picture::picture_feed;
 use view_proof::Extent;
-use view_punch::{PreviewFault, TrialFault, proof_feed, punch_feed, trial_of};
-
-/// The status of a punch.
-fn punch_status<E: Write, F: Explains>(
-    alloc: Global,
-    faults: &mut E,
-    files: &F,
-    from: &Sources<'_>,
-    target: &str,
-    outcome: Result<(), PreviewFault>,
-) -> u8
-    ensures { MatchResult outcome (λ _. result ≡ 0) (λ _. result ≡ 1) }
-{
-    match outcome {
-        Ok(()) => 0,
-        Err(fault) => reported(
-            alloc,
-            faults,
-            files,
-            &fault,
-            preview_cause(from, target, fault),
-        ),
-    }
-}
+use view_punch::{PreviewFault, proof_feed, punch_feed, trial_of};
 
 /// The memory of all that a preview is made of.
 pub fn memory_of(alloc: Global) -> Memory<Global> {
@@ -67,15 +45,13 @@ fn is_source(from: &Sources<'_>, target: &str) -> bool
 }
 
 /// Writes the proof of a stored feed by its settings and those that are tried, and says whether it is clean, or why it
-/// was not
-/// written.
-fn shown<W: Write, E: Write, F: Files + Explains>(
+/// was not written.
+fn shown<W: Write, F: Files>(
     alloc: Global,
     from: &Sources<'_>,
     alone: bool,
     trial: &Settings,
     writer: &mut W,
-    faults: &mut E,
     files: &mut F,
 ) -> Result<bool, PreviewFault>
     requires { AreValues trial.now }
@@ -86,73 +62,50 @@ fn shown<W: Write, E: Write, F: Files + Explains>(
         (IsUnshown from.now alone trial.now (F.shelf files.old) (F.shelf files.new) (W.contents writer.old)
         (W.contents writer.new)) }
 {
-    let extent = extent_of(alone);
-    let outcome = proof_feed(
-        memory_of(alloc),
-        writer,
-        files,
-        from.feed,
-        from.case,
-        from.wedge,
-        trial,
-        extent,
-    );
-    match outcome {
-        Ok(clean) => Ok(clean),
-        Err(fault) => {
-            let _ = reported(alloc, faults, files, &fault, preview_cause(from, "", fault));
-            Err(fault)
-        }
-    }
+    let (memory, extent) = (memory_of(alloc), extent_of(alone));
+    let Sources { feed, case, wedge } = *from;
+    proof_feed(memory, writer, files, feed, case, wedge, trial, extent)
 }
 
-/// Stores the picture of a stored feed's galley, where one is asked for, and says whether it stands there.
+/// Stores the picture of a stored feed's galley, where one is asked for, after what was written on standard error: with
+/// status 0 where none is asked for or it is there.
 fn pictured<E: Write, F: Files + Explains>(
     alloc: Global,
     from: &Sources<'_>,
     trial: &Settings,
     picture: Option<&str>,
     force: bool,
+    told: Told,
     faults: &mut E,
     files: &mut F,
-) -> bool
+) -> Ending
     requires { AreValues trial.now }
-    ensures yes { result ≡ true
-        → IsPictureThere from.now trial.now (option_copied picture.entry) force (F.shelf files.old)
-        (F.shelf files.new) }
-    ensures no { result ≡ false
-        → IsPictureAbsent from.now trial.now (option_copied picture.entry) force (F.shelf files.old)
-        (F.shelf files.new) }
+    ensures within { result.status ≤ 1 }
+    ensures there { result.status ≡ 0
+        → IsPictureThere from.now trial.now (option_copied picture.entry) force (F.shelf files.old) (F.shelf files.new)
+        × StaysSo told.is_whole result.told.is_whole (E.contents faults.old) (E.contents faults.new) }
+    ensures absent { result.status ≡ 1
+        → IsPictureAbsent from.now trial.now picture.entry force (F.shelf files.old) (F.shelf files.new) told.is_whole
+        result.told.is_whole (E.contents faults.old) (E.contents faults.new) }
 {
     let Some(name) = picture else {
-        return true;
+        return Ending { status: 0, told };
     };
     let target = Target { name, force };
-    let outcome = picture_feed(
-        memory_of(alloc),
-        files,
-        from.feed,
-        from.case,
-        from.wedge,
-        trial,
-        &target,
-    );
-    match outcome {
-        Ok(()) => true,
+    let memory = memory_of(alloc);
+    match picture_feed(
+        memory, files, from.feed, from.case, from.wedge, trial, &target,
+    ) {
+        Ok(()) => Ending { status: 0, told },
         Err(fault) => {
-            let _ = reported(
-                alloc,
-                faults,
-                files,
-                &fault,
-                preview_cause(from, name, fault),
-            );
-            false
+            let cause = preview_cause(from, name, fault);
+            let told = reported_more(alloc, faults, told, files, cause);
+            Ending { status: 1, told }
         }
     }
 }
 
-/// Writes the proof of a stored feed, stores its picture where one is asked for, and gives the status. The picture is
+/// Writes the proof of a stored feed, stores its picture where one is asked for, and says how that ended. The picture is
 /// stored also where the writer failed: whoever reads the proof may have seen enough of it.
 fn seen_by<W: Write, E: Write, F: Files + Explains>(
     alloc: Global,
@@ -164,66 +117,40 @@ fn seen_by<W: Write, E: Write, F: Files + Explains>(
     writer: &mut W,
     faults: &mut E,
     files: &mut F,
-) -> u8
+) -> Ending
     requires { AreValues trial.now }
-    ensures within { result ≤ 1 }
-    ensures done { result ≡ 0
+    ensures within { result.status ≤ 1 }
+    ensures done { result.status ≡ 0
         → IsSeenBy from.now alone trial.now (option_copied picture.entry) force (F.shelf files.old) (F.shelf files.new)
         (W.contents writer.old) (W.contents writer.new) }
-    ensures stopped { result ≡ 1
-        → IsUnseenBy from.now alone trial.now (option_copied picture.entry) force (F.shelf files.old)
-        (F.shelf files.new) (W.contents writer.old) (W.contents writer.new) }
+    ensures stopped { result.status ≡ 1
+        → IsUnseenBy from.now alone trial.now picture.entry force (F.shelf files.old) (F.shelf files.new)
+        (W.contents writer.old) (W.contents writer.new) result.told.is_whole (E.contents faults.old)
+        (E.contents faults.new) }
 {
-    match shown(alloc, from, alone, trial, writer, faults, files) {
+    match shown(alloc, from, alone, trial, writer, files) {
         Ok(clean) => {
-            if !pictured(alloc, from, trial, picture, force, faults, files) {
-                return 1;
+            let ending = pictured(alloc, from, trial, picture, force, silent(), faults, files);
+            if ending.status != 0 || clean {
+                return ending;
             }
-            if clean { 0 } else { 1 }
+            ended(1)
         }
         Err(PreviewFault::Write) => {
-            let _ = pictured(alloc, from, trial, picture, force, faults, files);
-            1
+            let told = reported(alloc, faults, files, Cause::ReportOutput).told;
+            let ending = pictured(alloc, from, trial, picture, force, told, faults, files);
+            Ending {
+                status: 1,
+                told: ending.told,
+            }
         }
-        Err(_) => 1,
+        Err(fault) => reported(alloc, faults, files, preview_cause(from, "", fault)),
     }
-}
-
-/// Writes why no settings are tried, and gives the status of it.
-fn untried<E: Write>(faults: &mut E, sets: &[&str], fault: TrialFault) -> u8
-    ensures { result ≡ 1 }
-{
-    match fault {
-        TrialFault::NoSetting(place) => {
-            let text = Plain(sets.get(place).copied().unwrap_or(""));
-            let _ = writeln!(faults, "copydesk: input refused");
-            let _ = writeln!(
-                faults,
-                "--set {text}: no setting, or no value that it may have"
-            );
-            1
-        }
-        TrialFault::NoMemory => stopped(faults, RunFault::NoMemory).status,
-    }
-}
-
-/// Whether the picture would take the place of what it is made of; then two lines say so.
-fn takes_source<E: Write>(faults: &mut E, from: &Sources<'_>, picture: Option<&str>) -> bool
-    ensures { result ≡ true ↔ TakesSource from.now (option_copied picture.entry) }
-{
-    let Some(target) = picture else {
-        return false;
-    };
-    if !is_source(from, target) {
-        return false;
-    }
-    report_target(faults, target, "picture");
-    true
 }
 
 /// Writes the proof of a stored feed by its settings and those that texts as `loose=200` try, stores its picture where
-/// one is asked for, and gives the status: 0 where no fault stands and all was written. The picture replaces only a
-/// picture, or, by force, any file but the feed, the case and the wedge.
+/// one is asked for, and says how that ended: with status 0 where there is no fault and all was written. The picture
+/// replaces only a picture, or, by force, any file but the feed, the case and the wedge.
 pub fn proofed<W: Write, E: Write, F: Files + Explains>(
     alloc: Global,
     from: &Sources<'_>,
@@ -234,29 +161,52 @@ pub fn proofed<W: Write, E: Write, F: Files + Explains>(
     writer: &mut W,
     faults: &mut E,
     files: &mut F,
-) -> u8
-    ensures within { result ≤ 1 }
-    ensures done { result ≡ 0
+) -> Ending
+    ensures within { result.status ≤ 1 }
+    ensures done { result.status ≡ 0
         → IsSeen from.now alone (option_copied picture.entry) force sets.now (F.shelf files.old) (F.shelf files.new)
         (W.contents writer.old) (W.contents writer.new) }
-    ensures stopped { result ≡ 1
-        → IsUnseen from.now alone (option_copied picture.entry) force sets.now (F.shelf files.old) (F.shelf files.new)
-        (W.contents writer.old) (W.contents writer.new) }
+    ensures stopped { result.status ≡ 1
+        → IsUnseen from.now alone picture.entry force sets.now (F.shelf files.old) (F.shelf files.new)
+        (W.contents writer.old) (W.contents writer.new) result.told.is_whole (E.contents faults.old)
+        (E.contents faults.new) }
 {
-    if takes_source(faults, from, picture) {
-        return 1;
+    if let Some(target) = picture {
+        if is_source(from, target) {
+            let cause = Cause::Source(target, Output::Picture);
+            return stopped(alloc, faults, files, true, cause);
+        }
     }
     match trial_of(alloc, sets) {
         Ok(trial) => seen_by(
             alloc, from, alone, &trial, picture, force, writer, faults, files,
         ),
-        Err(fault) => untried(faults, sets, fault),
+        Err(fault) => stopped(alloc, faults, files, true, trial_cause(sets, fault)),
     }
 }
 
-/// Stores the ribbon of a stored feed under the name of a target, and gives the status. The ribbon replaces only a
-/// ribbon, or, by
-/// force, any file but the feed, the case and the wedge. A copy with faults is punched only where that is asked for.
+/// How a punch ended.
+fn punch_ending<E: Write, F: Explains>(
+    alloc: Global,
+    faults: &mut E,
+    files: &F,
+    from: &Sources<'_>,
+    target: &str,
+    outcome: Result<(), PreviewFault>,
+) -> Ending
+    ensures { MatchResult outcome (λ _. result.status ≡ 0)
+        (λ fault. (result.status ≡ 1) × Reports (preview_cause from.now target.entry fault) result.told.is_whole
+        (E.contents faults.old) (E.contents faults.new)) }
+{
+    match outcome {
+        Ok(()) => ended(0),
+        Err(fault) => reported(alloc, faults, files, preview_cause(from, target, fault)),
+    }
+}
+
+/// Stores the ribbon of a stored feed under the name of a target, and says how that ended. The ribbon replaces only a
+/// ribbon, or, by force, any file but the feed, the case and the wedge. A copy with faults is punched only where that is
+/// asked for.
 pub fn punched<W: Write, E: Write, F: Files + Explains>(
     alloc: Global,
     from: &Sources<'_>,
@@ -265,18 +215,19 @@ pub fn punched<W: Write, E: Write, F: Files + Explains>(
     writer: &mut W,
     faults: &mut E,
     files: &mut F,
-) -> u8
-    ensures within { result ≤ 1 }
-    ensures done { result ≡ 0
+) -> Ending
+    ensures within { result.status ≤ 1 }
+    ensures done { result.status ≡ 0
         → IsInFile from.now target.now.name.now target.now.force faulty (F.shelf files.old) (F.shelf files.new)
         (W.contents writer.old) (W.contents writer.new) }
-    ensures stopped { result ≡ 1
-        → IsInNoFile from.now target.now.name.now target.now.force faulty (F.shelf files.old) (F.shelf files.new)
-        (W.contents writer.old) (W.contents writer.new) }
+    ensures stopped { result.status ≡ 1
+        → IsInNoFile from.now target.now.name target.now.force faulty (F.shelf files.old) (F.shelf files.new)
+        (W.contents writer.old) (W.contents writer.new) result.told.is_whole (E.contents faults.old)
+        (E.contents faults.new) }
 {
     if is_source(from, target.name) {
-        report_target(faults, target.name, "ribbon");
-        return 1;
+        let cause = Cause::Source(target.name, Output::Ribbon);
+        return stopped(alloc, faults, files, true, cause);
     }
     let outcome = punch_feed(
         memory_of(alloc),
@@ -288,5 +239,5 @@ pub fn punched<W: Write, E: Write, F: Files + Explains>(
         target,
         faulty,
     );
-    punch_status(alloc, faults, files, from, target.name, outcome)
+    punch_ending(alloc, faults, files, from, target.name, outcome)
 }

@@ -2,23 +2,22 @@
 
 ghost use Rattle.std.specs.Prelude.{◌≡◌, ◌≢◌, ◌≤◌, ◌⊎◌, Bool, map, string_bytes};
 ghost use Rattle.clap.specs.Words.{kind_of};
-ghost use Rattle.program_desk.specs.Headlines.{run_line};
+ghost use Rattle.program_desk.specs.Headlines.{said_line};
 ghost use Rattle.program_desk.specs.Runs.{Does, IsRun, IsStopped, Stops};
 ghost use Rattle.program_desk.specs.Told.{Tells};
 ghost use Rattle.program_words.specs.Words.{AsksHelp, AsksNothing, IsLawful};
 
 use crate::by_hand::{exported, imported, merged, renewed, renumbered};
-use crate::causes::ReadingSources;
+use crate::causes::{ReadingSources, Said};
 use crate::compared::compared;
 use crate::previews::{proofed, punched};
 use crate::readings::{listed, read_whole};
-use crate::reporting::stopped;
+use crate::reporting::out_of_memory;
 use crate::sheets::{on_desk, scripted};
 use crate::texts::{checked, replaced};
-use crate::told::{Ending, silent};
+use crate::told::{Ending, ended};
 use clap::Error;
 use clap::error::ErrorKind;
-use desk_script::RunFault;
 use feed_edit::Exchange;
 use feed_files::{Files, Target};
 use program_host::{Explains, Plain};
@@ -26,7 +25,7 @@ use program_words::{Wish, read_words};
 use std::alloc::Global;
 use std::io::{Read, Write};
 
-/// Does what is asked for, and says how it ended. Of commands it says whether the lines on a stop were written whole.
+/// Does what is asked for, and says how it ended, and whether the lines on a stop were written whole.
 fn fulfilled<R: Read, W: Write, E: Write, F: Files + Explains>(
     alloc: Global,
     wish: &Wish<'_>,
@@ -60,30 +59,18 @@ fn fulfilled<R: Read, W: Write, E: Write, F: Files + Explains>(
             others,
             forks,
             review,
-        } => Ending {
-            status: merged(alloc, feed, others, *forks, *review, writer, faults, files),
-            told: silent(),
-        },
-        Wish::Diff { one, other } => Ending {
-            status: compared(alloc, one, other, writer, faults, files),
-            told: silent(),
-        },
-        Wish::Export { feed } => Ending {
-            status: exported(alloc, feed, writer, faults, files),
-            told: silent(),
-        },
+        } => merged(alloc, feed, others, *forks, *review, writer, faults, files),
+        Wish::Diff { one, other } => compared(alloc, one, other, writer, faults, files),
+        Wish::Export { feed } => exported(alloc, feed, writer, faults, files),
         Wish::Import {
             feed,
             site,
             older,
             plain,
             all,
-        } => Ending {
-            status: imported(
-                alloc, feed, *site, *older, *plain, *all, reader, writer, faults, files,
-            ),
-            told: silent(),
-        },
+        } => imported(
+            alloc, feed, *site, *older, *plain, *all, reader, writer, faults, files,
+        ),
         Wish::Replace {
             feed,
             site,
@@ -97,27 +84,18 @@ fn fulfilled<R: Read, W: Write, E: Write, F: Files + Explains>(
                 to: new,
                 plain: *plain,
             };
-            Ending {
-                status: replaced(alloc, feed, *site, *older, &exchange, writer, faults, files),
-                told: silent(),
-            }
+            replaced(alloc, feed, *site, *older, &exchange, writer, faults, files)
         }
-        Wish::Check { files: names } => Ending {
-            status: checked(alloc, names, writer, faults, files),
-            told: silent(),
-        },
+        Wish::Check { files: names } => checked(alloc, names, writer, faults, files),
         Wish::Proof {
             from,
             faults: alone,
             picture,
             force,
             sets,
-        } => Ending {
-            status: proofed(
-                alloc, from, *alone, *picture, *force, sets, writer, faults, files,
-            ),
-            told: silent(),
-        },
+        } => proofed(
+            alloc, from, *alone, *picture, *force, sets, writer, faults, files,
+        ),
         Wish::Punch {
             from,
             target,
@@ -128,10 +106,7 @@ fn fulfilled<R: Read, W: Write, E: Write, F: Files + Explains>(
                 name: target,
                 force: *force,
             };
-            Ending {
-                status: punched(alloc, from, &to, *faulty, writer, faults, files),
-                told: silent(),
-            }
+            punched(alloc, from, &to, *faulty, writer, faults, files)
         }
         Wish::Read {
             ribbon,
@@ -145,27 +120,17 @@ fn fulfilled<R: Read, W: Write, E: Write, F: Files + Explains>(
                 case,
                 wedge,
             };
-            Ending {
-                status: read_whole(alloc, &from, *picture, *force, writer, faults, files),
-                told: silent(),
-            }
+            read_whole(alloc, &from, *picture, *force, writer, faults, files)
         }
         Wish::Sorts { feed, case, layout } => {
-            Ending {
-                status: listed(alloc, feed, case, *layout, writer, faults, files),
-                told: silent(),
-            }
+            listed(alloc, feed, case, *layout, writer, faults, files)
         }
         Wish::Renumber { feed, other, site } => {
-            Ending {
-                status: renumbered(alloc, feed, other, *site, writer, faults, files),
-                told: silent(),
-            }
+            renumbered(alloc, feed, other, *site, writer, faults, files)
         }
-        Wish::Renew { new, feed, site } => Ending {
-            status: renewed(alloc, new, feed, *site, writer, faults, files),
-            told: silent(),
-        },
+        Wish::Renew { new, feed, site } => {
+            renewed(alloc, new, feed, *site, writer, faults, files)
+        }
     }
 }
 
@@ -191,27 +156,21 @@ fn refused<W: Write, E: Write>(
     ensures help { result.status ≡ 0 → (kind_of error.now ≡ ErrorKind.DisplayHelp)
         ⊎ (kind_of error.now ≡ ErrorKind.DisplayVersion) }
     ensures memory { result.status ≡ 1 → (kind_of error.now ≡ ErrorKind.OutOfMemory) × (writer.new ≡ writer.old)
-        × Tells result.told.is_whole (E.contents faults.old) (E.contents faults.new) (run_line RunFault.NoMemory) }
+        × Tells result.told.is_whole (E.contents faults.old) (E.contents faults.new) (said_line Said.NoMemory) }
     ensures reported { result.status ≢ 1 → kind_of error.now ≢ ErrorKind.OutOfMemory }
     ensures fault { result.status ≡ 2 → (kind_of error.now ≢ ErrorKind.DisplayHelp)
         × (kind_of error.now ≢ ErrorKind.DisplayVersion) × (writer.new ≡ writer.old) }
 {
     let kind = error.kind();
     if kind == ErrorKind::OutOfMemory {
-        return stopped(faults, RunFault::NoMemory);
+        return out_of_memory(faults);
     }
     if kind == ErrorKind::DisplayHelp || kind == ErrorKind::DisplayVersion {
         let _ = write!(writer, "{error}");
-        return Ending {
-            status: 0,
-            told: silent(),
-        };
+        return ended(0);
     }
     report_words(alloc, faults, error);
-    Ending {
-        status: 2,
-        told: silent(),
-    }
+    ended(2)
 }
 
 /// Does what the words ask for, and gives the status: 0 only where it was done and no fault or difference found, or
@@ -234,7 +193,7 @@ pub fn program<R: Read, W: Write, E: Write, F: Files + Explains>(
         → IsStopped (F.shelf files.old) (F.shelf files.new) (map string_bytes words.now) (R.remaining reader.old)
         (W.contents writer.old) (W.contents writer.new) (E.contents faults.old) (E.contents faults.new)
         ⊎ ((reader.new ≡ reader.old) × (writer.new ≡ writer.old) × (files.new ≡ files.old) × (whole : Bool)
-        × Tells whole (E.contents faults.old) (E.contents faults.new) (run_line RunFault.NoMemory)) }
+        × Tells whole (E.contents faults.old) (E.contents faults.new) (said_line Said.NoMemory)) }
     ensures refused { result ≡ 2 → AsksNothing (map string_bytes words.now) × (reader.new ≡ reader.old)
         × (writer.new ≡ writer.old) × (files.new ≡ files.old) }
 {

@@ -1,19 +1,17 @@
 //! Commands carried out, each answered at once, or as a sheet.
 
 ghost use Rattle.std.specs.Prelude.{◌≡◌, ◌≤◌, ◌||◌, MatchResult};
-ghost use Rattle.program_desk.specs.Causes.{stop_cause};
+ghost use Rattle.program_desk.specs.Causes.{room_cause, stop_cause};
 ghost use Rattle.program_desk.specs.Explained.{TellsOf};
-ghost use Rattle.program_desk.specs.Headlines.{sheet_line};
-ghost use Rattle.program_desk.specs.Sheets.{IsOffDesk, IsOnDesk, IsScripted, IsUnscripted, is_older_sheet, is_sheet};
-ghost use Rattle.program_desk.specs.Sheets.{mode_of};
-ghost use Rattle.program_desk.specs.Told.{Tells};
+ghost use Rattle.program_desk.specs.Sheets.{IsOffDesk, IsOnDesk, IsScripted, IsUnscripted, TellsRun, TellsSheet};
+ghost use Rattle.program_desk.specs.Sheets.{is_older, is_older_sheet, is_sheet, mode_of};
 
-use crate::causes::stop_cause;
-use crate::explained::explain_if;
-use crate::headlines::tell_sheet;
-use crate::reporting::{ending_of, ending_on};
-use crate::told::{Ending, Told, silent};
-use desk_script::{Mode, SheetFault, run, run_in_room, run_sheet, run_sheet_on_feed};
+use crate::causes::{desk_cause, room_cause, stop_cause};
+use crate::reporting::stopped;
+use crate::told::{Ending, ended};
+use desk_script::{
+    Mode, RoomFault, RunFault, SheetFault, run, run_in_room, run_sheet, run_sheet_on_feed,
+};
 use feed_files::Files;
 use program_host::Explains;
 use program_words::Manner;
@@ -37,25 +35,51 @@ fn mode_of(manner: Manner) -> Mode
     }
 }
 
-/// How a sheet ended, with its line where it stopped.
-fn sheet_ending<E: Write>(faults: &mut E, outcome: Result<(), SheetFault>) -> Ending
+/// How a run of a script ended.
+fn run_ending<E: Write, F: Explains>(
+    alloc: Global,
+    faults: &mut E,
+    files: &F,
+    outcome: Result<(), RunFault>,
+) -> Ending
     ensures { MatchResult outcome (λ _. result.status ≡ 0)
         (λ fault. (result.status ≡ 1)
-        × Tells result.told.is_whole (E.contents faults.old) (E.contents faults.new) (sheet_line fault)) }
+        × TellsRun fault result.told.is_whole (E.contents faults.old) (E.contents faults.new)) }
 {
     match outcome {
-        Ok(()) => Ending {
-            status: 0,
-            told: silent(),
-        },
-        Err(fault) => {
-            let told = tell_sheet(faults, fault);
-            Ending { status: 1, told }
-        }
+        Ok(()) => ended(0),
+        Err(fault) => stopped(alloc, faults, files, false, desk_cause("", fault)),
+    }
+}
+
+/// How a sheet ended.
+fn sheet_ending<E: Write, F: Explains>(
+    alloc: Global,
+    faults: &mut E,
+    files: &F,
+    outcome: Result<(), SheetFault>,
+) -> Ending
+    ensures { MatchResult outcome (λ _. result.status ≡ 0)
+        (λ fault. (result.status ≡ 1)
+        × TellsSheet fault result.told.is_whole (E.contents faults.old) (E.contents faults.new)) }
+{
+    match outcome {
+        Ok(()) => ended(0),
+        Err(fault) => stopped(alloc, faults, files, false, stop_cause("", 0, fault)),
     }
 }
 
 /// Whether a feed is older than what was made in this room.
+fn is_older(fault: RoomFault) -> bool
+    ensures { result ≡ is_older fault }
+{
+    match fault {
+        RoomFault::Older { .. } => true,
+        RoomFault::Run(_) => false,
+    }
+}
+
+/// Whether the feed of a sheet is.
 fn is_older_sheet(fault: SheetFault) -> bool
     ensures { result ≡ is_older_sheet fault }
 {
@@ -65,34 +89,31 @@ fn is_older_sheet(fault: SheetFault) -> bool
     }
 }
 
-/// Whether a second line is written: where it is asked why, or the feed is older.
-fn is_explained(why: bool, fault: SheetFault) -> bool
-    ensures { result ≡ (why || is_older_sheet fault) }
-{
-    why || is_older_sheet(fault)
-}
-
-/// Writes what stopped a sheet on a feed. Where it is asked why, or the feed is older, a second line says it.
-fn tell_stop<E: Write, F: Explains>(
+/// How a run on a feed ended.
+fn room_ending<E: Write, F: Explains>(
     alloc: Global,
     faults: &mut E,
     files: &F,
     feed: &str,
     site: u16,
     why: bool,
-    fault: SheetFault,
-) -> Told
-    ensures { TellsOf (sheet_line fault) (why || is_older_sheet fault) (stop_cause feed.entry site fault)
-        result.is_whole (E.contents faults.old) (E.contents faults.new) }
+    outcome: Result<(), RoomFault>,
+) -> Ending
+    ensures { MatchResult outcome (λ _. result.status ≡ 0)
+        (λ fault. (result.status ≡ 1) × TellsOf (why || is_older fault) (room_cause feed.entry site fault)
+        result.told.is_whole (E.contents faults.old) (E.contents faults.new)) }
 {
-    let begun = tell_sheet(faults, fault);
-    let asked = is_explained(why, fault);
-    let cause = stop_cause(feed, site, fault);
-    explain_if(alloc, faults, begun, files, asked, cause)
+    match outcome {
+        Ok(()) => ended(0),
+        Err(fault) => {
+            let asked = why || is_older(fault);
+            stopped(alloc, faults, files, asked, room_cause(feed, site, fault))
+        }
+    }
 }
 
-/// How a sheet on a feed ended, with its lines where it stopped.
-fn sheet_ending_on<E: Write, F: Explains>(
+/// How a sheet on a feed ended.
+fn stored_ending<E: Write, F: Explains>(
     alloc: Global,
     faults: &mut E,
     files: &F,
@@ -102,18 +123,14 @@ fn sheet_ending_on<E: Write, F: Explains>(
     outcome: Result<(), SheetFault>,
 ) -> Ending
     ensures { MatchResult outcome (λ _. result.status ≡ 0)
-        (λ fault. (result.status ≡ 1)
-        × TellsOf (sheet_line fault) (why || is_older_sheet fault) (stop_cause feed.entry site fault)
+        (λ fault. (result.status ≡ 1) × TellsOf (why || is_older_sheet fault) (stop_cause feed.entry site fault)
         result.told.is_whole (E.contents faults.old) (E.contents faults.new)) }
 {
     match outcome {
-        Ok(()) => Ending {
-            status: 0,
-            told: silent(),
-        },
+        Ok(()) => ended(0),
         Err(fault) => {
-            let told = tell_stop(alloc, faults, files, feed, site, why, fault);
-            Ending { status: 1, told }
+            let asked = why || is_older_sheet(fault);
+            stopped(alloc, faults, files, asked, stop_cause(feed, site, fault))
         }
     }
 }
@@ -138,10 +155,10 @@ pub fn scripted<R: Read, W: Write, E: Write, F: Files + Explains>(
     if is_sheet(manner) {
         let mode = mode_of(manner);
         let outcome = run_sheet(alloc, alloc, mode, reader, writer, files);
-        sheet_ending(faults, outcome)
+        sheet_ending(alloc, faults, files, outcome)
     } else {
         let outcome = run(alloc, alloc, reader, writer, files);
-        ending_of(faults, outcome)
+        run_ending(alloc, faults, files, outcome)
     }
 }
 
@@ -173,9 +190,9 @@ pub fn on_desk<R: Read, W: Write, E: Write, F: Files + Explains>(
         let outcome = run_sheet_on_feed(
             alloc, alloc, mode, reader, writer, files, feed, site, older,
         );
-        sheet_ending_on(alloc, faults, files, feed, site, why, outcome)
+        stored_ending(alloc, faults, files, feed, site, why, outcome)
     } else {
         let outcome = run_in_room(alloc, alloc, reader, writer, files, feed, site, older);
-        ending_on(alloc, faults, files, feed, site, why, outcome)
+        room_ending(alloc, faults, files, feed, site, why, outcome)
     }
 }

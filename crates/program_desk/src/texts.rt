@@ -3,12 +3,14 @@
 ghost use Rattle.std.specs.Prelude.{◌≡◌, ◌≤◌, MatchResult, false, true};
 ghost use Rattle.program_words.specs.Words.{texts_of};
 ghost use Rattle.feed_edit.specs.Replacing.{IsReplaced};
-ghost use Rattle.program_desk.specs.Texts.{AreFound, AreNotInOrder, IsUnchanged, exchange};
+ghost use Rattle.program_desk.specs.Causes.{check_cause, replace_cause};
+ghost use Rattle.program_desk.specs.Explained.{IsSilent, Reports};
+ghost use Rattle.program_desk.specs.Texts.{AreFound, AreNotInOrder, IsUnchanged};
 
-use crate::causes::{Cause, replace_cause};
+use crate::causes::{check_cause, replace_cause};
 use crate::previews::memory_of;
-use crate::reporting::{reported, stopped};
-use desk_script::RunFault;
+use crate::reporting::reported;
+use crate::told::{Ending, ended};
 use feed_check::{CheckFault, check_files};
 use feed_edit::{Exchange, ReplaceFault, replace_text};
 use feed_files::Files;
@@ -16,30 +18,26 @@ use program_host::Explains;
 use std::alloc::Global;
 use std::io::Write;
 
-/// The status of a replacement.
-fn replace_status<E: Write, F: Explains>(
+/// How a replacement ended.
+fn replace_ending<E: Write, F: Explains>(
     alloc: Global,
     faults: &mut E,
     files: &F,
     feed: &str,
     site: u16,
     outcome: Result<(), ReplaceFault>,
-) -> u8
-    ensures { MatchResult outcome (λ _. result ≡ 0) (λ _. result ≡ 1) }
+) -> Ending
+    ensures { MatchResult outcome (λ _. result.status ≡ 0)
+        (λ fault. (result.status ≡ 1) × Reports (replace_cause feed.entry site fault) result.told.is_whole
+        (E.contents faults.old) (E.contents faults.new)) }
 {
     match outcome {
-        Ok(()) => 0,
-        Err(fault) => reported(
-            alloc,
-            faults,
-            files,
-            &fault,
-            replace_cause(feed, site, fault),
-        ),
+        Ok(()) => ended(0),
+        Err(fault) => reported(alloc, faults, files, replace_cause(feed, site, fault)),
     }
 }
 
-/// Makes a text another in the copy of a stored feed, where it stands once, and gives the status.
+/// Makes a text another in the copy of a stored feed, where it has one place, and says how that ended.
 pub fn replaced<W: Write, E: Write, F: Files + Explains>(
     alloc: Global,
     feed: &str,
@@ -49,59 +47,57 @@ pub fn replaced<W: Write, E: Write, F: Files + Explains>(
     writer: &mut W,
     faults: &mut E,
     files: &mut F,
-) -> u8
+) -> Ending
     requires { 1 ≤ site }
-    ensures within { result ≤ 1 }
-    ensures done { result ≡ 0
+    ensures within { result.status ≤ 1 }
+    ensures done { result.status ≡ 0
         → IsReplaced feed.now site older exchange.now (F.shelf files.old) (F.shelf files.new) (W.contents writer.old)
         (W.contents writer.new) }
-    ensures stopped { result ≡ 1
-        → IsUnchanged feed.now site older exchange.now (F.shelf files.old) (F.shelf files.new) (W.contents writer.old)
-        (W.contents writer.new) }
+    ensures stopped { result.status ≡ 1
+        → IsUnchanged feed.entry site older exchange.now (F.shelf files.old) (F.shelf files.new)
+        (W.contents writer.old) (W.contents writer.new) result.told.is_whole (E.contents faults.old)
+        (E.contents faults.new) }
 {
     let outcome = replace_text(alloc, writer, files, feed, site, older, exchange);
-    replace_status(alloc, faults, files, feed, site, outcome)
+    replace_ending(alloc, faults, files, feed, site, outcome)
 }
 
-/// The status of a check: 1 also where each file has its line and one is not in order.
-fn check_status<E: Write, F: Explains>(
+/// How a check ended: with status 1 also where each file has its line and one is not in order.
+fn check_ending<E: Write, F: Explains>(
     alloc: Global,
     faults: &mut E,
     files: &F,
     outcome: Result<bool, CheckFault>,
-) -> u8
-    ensures { MatchResult outcome (λ well. (well ≡ true → result ≡ 0) × (well ≡ false → result ≡ 1)) (λ _. result ≡ 1) }
+) -> Ending
+    ensures { MatchResult outcome
+        (λ well. (well ≡ true → result.status ≡ 0) × (well ≡ false → result.status ≡ 1)
+        × IsSilent result.told.is_whole (E.contents faults.old) (E.contents faults.new))
+        (λ fault. (result.status ≡ 1) × Reports (check_cause fault) result.told.is_whole (E.contents faults.old)
+        (E.contents faults.new)) }
 {
     match outcome {
-        Ok(true) => 0,
-        Ok(false) => 1,
-        Err(CheckFault::NoMemory) => stopped(faults, RunFault::NoMemory).status,
-        Err(CheckFault::Write) => reported(
-            alloc,
-            faults,
-            files,
-            &RunFault::Write,
-            Cause::ReportOutput,
-        ),
+        Ok(true) => ended(0),
+        Ok(false) => ended(1),
+        Err(fault) => reported(alloc, faults, files, check_cause(fault)),
     }
 }
 
-/// Says of files what they are, and gives the status: 0 only where all are in order.
+/// Says of files what they are, and how that ended: with status 0 only where all are in order.
 pub fn checked<W: Write, E: Write, F: Files + Explains>(
     alloc: Global,
     names: &[&str],
     writer: &mut W,
     faults: &mut E,
     files: &mut F,
-) -> u8
-    ensures within { result ≤ 1 }
-    ensures done { result ≡ 0
+) -> Ending
+    ensures within { result.status ≤ 1 }
+    ensures done { result.status ≡ 0
         → AreFound (texts_of names.now) (F.shelf files.old) (F.shelf files.new) (W.contents writer.old)
         (W.contents writer.new) }
-    ensures stopped { result ≡ 1
+    ensures stopped { result.status ≡ 1
         → AreNotInOrder (texts_of names.now) (F.shelf files.old) (F.shelf files.new) (W.contents writer.old)
-        (W.contents writer.new) }
+        (W.contents writer.new) result.told.is_whole (E.contents faults.old) (E.contents faults.new) }
 {
     let outcome = check_files(memory_of(alloc), writer, files, names);
-    check_status(alloc, faults, files, outcome)
+    check_ending(alloc, faults, files, outcome)
 }

@@ -28,8 +28,18 @@ pub fn silent() -> Told
     Told { is_whole: true }
 }
 
+/// A run that ended with this status, and writes nothing on standard error.
+pub fn ended(status: u8) -> Ending
+    ensures { (result.status ≡ status) × (result.told.is_whole ≡ true) }
+{
+    Ending {
+        status,
+        told: silent(),
+    }
+}
+
 /// Writes a text.
-pub fn tell<E: Write>(faults: &mut E, text: &[u8]) -> Told
+fn tell<E: Write>(faults: &mut E, text: &[u8]) -> Told
     ensures { Tells result.is_whole (E.contents faults.old) (E.contents faults.new) text.now }
 {
     match send(faults, text) {

@@ -1,8 +1,8 @@
-use Rattle.program_desk.proofs.Statuses.{done_of, halt_of}
+use Rattle.program_desk.proofs.Statuses.{ended_of, stop_of}
 use Rattle.program_desk.proofs.by_hand.renumbered.Goals as goal
 
 pub returns-clause-done : goal.returns-clause-done
-returns-clause-done g c zero = done_of c.renumber_feed-outcome.result c.renumber_status.result c.renumber_status.ensures c.renumber_feed-outcome.ensures.ok zero
+returns-clause-done g c zero = ended_of c.renumber_feed-outcome.result _ c.renumber_ending.result.status c.renumber_ending.ensures c.renumber_feed-outcome.ensures.ok zero
 
 pub returns-clause-stopped : goal.returns-clause-stopped
-returns-clause-stopped g c one = halt_of c.renumber_feed-outcome.result _ c.renumber_status.result c.renumber_status.ensures c.renumber_feed-outcome.ensures.err one
+returns-clause-stopped g c one = stop_of c.renumber_feed-outcome.result _ _ c.renumber_ending.result.status c.renumber_ending.ensures c.renumber_feed-outcome.ensures.err one

@@ -1,16 +1,17 @@
-use Rattle.std.proofs.Common.{refl, sym, subst, ◌++◌, [], List, ℕ}
+use Rattle.std.proofs.Common.{refl, sym, subst, ◌∙◌, ◌++◌, [], List, ℕ}
 use Rattle.program_desk.specs.Explained.{IsExplainedBy, older_words}
+use Rattle.program_desk.specs.Told.{IsNamed}
 use Rattle.program_desk.proofs.Telling.{goes_on_twice, stays}
 use Rattle.program_desk.proofs.explained.explain.Goals as goal
 
-pub returns-in-Reported : goal.returns-in-Reported
-returns-in-Reported g c = subst (λ cause. IsExplainedBy cause c.args.told.is_whole c.args.told.is_whole (g.E.Write.contents c.args.faults.now) (g.E.Write.contents c.args.faults.now)) (sym c.in-Reported.is) ([], refl, stays c.args.told.is_whole (g.E.Write.contents c.args.faults.now))
+pub returns-in-Said : goal.returns-in-Said
+returns-in-Said g c = subst (λ cause. IsExplainedBy cause c.args.told.is_whole c.args.told.is_whole (g.E.Write.contents c.args.faults.now) (g.E.Write.contents c.args.faults.now)) (sym c.in-Said.is) ([], refl, stays c.args.told.is_whole (g.E.Write.contents c.args.faults.now))
 
 pub returns-in-NoMemory : goal.returns-in-NoMemory
 returns-in-NoMemory g c = subst (λ cause. IsExplainedBy cause c.args.told.is_whole c.tell_named.result.is_whole (g.E.Write.contents c.args.faults.now) (g.E.Write.contents c.tell_named.new.faults)) (sym c.in-NoMemory.is) (c.tell_named.ensures)
 
 pub returns-in-Feed : goal.returns-in-Feed
-returns-in-Feed g c = subst (λ cause. IsExplainedBy cause c.args.told.is_whole c.tell_named-in-Feed.result.is_whole (g.E.Write.contents c.args.faults.now) (g.E.Write.contents c.tell_named-in-Feed.new.faults)) (sym c.in-Feed.is) (c.tell_named-in-Feed.ensures.0, (_, c.tell_named-in-Feed.ensures.1), c.tell_named-in-Feed.ensures.2)
+returns-in-Feed g c = subst (λ cause. IsExplainedBy cause c.args.told.is_whole c.tell_of.result.is_whole (g.E.Write.contents c.args.faults.now) (g.E.Write.contents c.tell_of.new.faults)) (sym c.in-Feed.is) (c.tell_of.ensures.1, (c.tell_of.ensures.0, c.tell_of.ensures.2), c.tell_of.ensures.3)
 
 pub returns-in-TooMany : goal.returns-in-TooMany
 returns-in-TooMany g c = subst (λ cause. IsExplainedBy cause c.args.told.is_whole c.tell_named-in-TooMany.result.is_whole (g.E.Write.contents c.args.faults.now) (g.E.Write.contents c.tell_named-in-TooMany.new.faults)) (sym c.in-TooMany.is) (c.tell_named-in-TooMany.ensures)
@@ -18,17 +19,17 @@ returns-in-TooMany g c = subst (λ cause. IsExplainedBy cause c.args.told.is_who
 pub returns-in-Full : goal.returns-in-Full
 returns-in-Full g c = subst (λ cause. IsExplainedBy cause c.args.told.is_whole c.tell_named-in-Full.result.is_whole (g.E.Write.contents c.args.faults.now) (g.E.Write.contents c.tell_named-in-Full.new.faults)) (sym c.in-Full.is) (c.tell_named-in-Full.ensures)
 
-pub returns-in-Text : goal.returns-in-Text
-returns-in-Text g c = subst (λ cause. IsExplainedBy cause c.args.told.is_whole c.tell_named-in-Text.result.is_whole (g.E.Write.contents c.args.faults.now) (g.E.Write.contents c.tell_named-in-Text.new.faults)) (sym c.in-Text.is) (c.tell_named-in-Text.ensures)
+pub returns-in-Unfit : goal.returns-in-Unfit
+returns-in-Unfit g c = subst (λ cause. IsExplainedBy cause c.args.told.is_whole c.tell_named-in-Unfit.result.is_whole (g.E.Write.contents c.args.faults.now) (g.E.Write.contents c.tell_named-in-Unfit.new.faults)) (sym c.in-Unfit.is) (c.tell_named-in-Unfit.ensures)
 
 pub returns-in-Taken : goal.returns-in-Taken
-returns-in-Taken g c = subst (λ cause. IsExplainedBy cause c.args.told.is_whole c.tell_named-in-Taken.result.is_whole (g.E.Write.contents c.args.faults.now) (g.E.Write.contents c.tell_named-in-Taken.new.faults)) (sym c.in-Taken.is) (c.tell_named-in-Taken.ensures.0, (_, c.tell_named-in-Taken.ensures.1), c.tell_named-in-Taken.ensures.2)
+returns-in-Taken g c = subst (λ cause. IsExplainedBy cause c.args.told.is_whole c.tell_of-in-Taken.result.is_whole (g.E.Write.contents c.args.faults.now) (g.E.Write.contents c.tell_of-in-Taken.new.faults)) (sym c.in-Taken.is) (c.tell_of-in-Taken.ensures.1, (c.tell_of-in-Taken.ensures.0, c.tell_of-in-Taken.ensures.2), c.tell_of-in-Taken.ensures.3)
 
 pub returns-in-There : goal.returns-in-There
 returns-in-There g c = subst (λ cause. IsExplainedBy cause c.args.told.is_whole c.tell_named-in-There.result.is_whole (g.E.Write.contents c.args.faults.now) (g.E.Write.contents c.tell_named-in-There.new.faults)) (sym c.in-There.is) (c.tell_named-in-There.ensures)
 
 pub returns-in-Other : goal.returns-in-Other
-returns-in-Other g c = subst (λ cause. IsExplainedBy cause c.args.told.is_whole c.tell_named-in-Other.result.is_whole (g.E.Write.contents c.args.faults.now) (g.E.Write.contents c.tell_named-in-Other.new.faults)) (sym c.in-Other.is) (c.tell_named-in-Other.ensures.0, (_, c.tell_named-in-Other.ensures.1), c.tell_named-in-Other.ensures.2)
+returns-in-Other g c = subst (λ cause. IsExplainedBy cause c.args.told.is_whole c.tell_of-in-Other.result.is_whole (g.E.Write.contents c.args.faults.now) (g.E.Write.contents c.tell_of-in-Other.new.faults)) (sym c.in-Other.is) (c.tell_of-in-Other.ensures.1, (c.tell_of-in-Other.ensures.0, c.tell_of-in-Other.ensures.2), c.tell_of-in-Other.ensures.3)
 
 pub returns-in-Older : goal.returns-in-Older
 returns-in-Older g c =
@@ -66,3 +67,10 @@ returns-in-CaseOrWedge g c = subst (λ cause. IsExplainedBy cause c.args.told.is
 
 pub returns-in-Case : goal.returns-in-Case
 returns-in-Case g c = subst (λ cause. IsExplainedBy cause c.args.told.is_whole c.tell_more-in-Case.result.is_whole (g.E.Write.contents c.args.faults.now) (g.E.Write.contents c.tell_more-in-Case.new.faults)) (sym c.in-Case.is) (_, tt, c.tell_more-in-Case.ensures)
+
+pub returns-in-Source : goal.returns-in-Source
+returns-in-Source g c = subst (λ cause. IsExplainedBy cause c.args.told.is_whole c.tell_named-in-Source.result.is_whole (g.E.Write.contents c.args.faults.now) (g.E.Write.contents c.tell_named-in-Source.new.faults)) (sym c.in-Source.is)
+    (c.tell_named-in-Source.ensures.0, subst (λ words. IsNamed c.in-Source.name.now words c.tell_named-in-Source.ensures.0) (c.as_bytes.ensures.value ∙ c.source_words.ensures) c.tell_named-in-Source.ensures.1, c.tell_named-in-Source.ensures.2)
+
+pub returns-in-NoSetting : goal.returns-in-NoSetting
+returns-in-NoSetting g c = subst (λ cause. IsExplainedBy cause c.args.told.is_whole c.tell_setting.result.is_whole (g.E.Write.contents c.args.faults.now) (g.E.Write.contents c.tell_setting.new.faults)) (sym c.in-NoSetting.is) (c.tell_setting.ensures)

@@ -37,8 +37,8 @@ returns-in-Merge-clause-done g c zero =
 
 pub returns-in-Merge-clause-stopped : goal.returns-in-Merge-clause-stopped
 returns-in-Merge-clause-stopped g c one =
-    subst (λ w. Stops w (g.F.Files.shelf c.args.files.now) (g.F.Files.shelf c.merged.new.files) (g.R.Read.remaining c.args.reader.now) (g.W.Write.contents c.args.writer.now) (g.W.Write.contents c.merged.new.writer) c.silent.result.is_whole (g.E.Write.contents c.args.faults.now) (g.E.Write.contents c.merged.new.faults)) (sym c.in-Merge.is)
-    (subst (λ (l : List (Bor Text)). IsNotMerged c.in-Merge.feed.now (texts_of l) c.in-Merge.forks c.in-Merge.review (g.F.Files.shelf c.args.files.now) (g.F.Files.shelf c.merged.new.files) (g.W.Write.contents c.args.writer.now) (g.W.Write.contents c.merged.new.writer)) c.deref.ensures.value
+    subst (λ w. Stops w (g.F.Files.shelf c.args.files.now) (g.F.Files.shelf c.merged.new.files) (g.R.Read.remaining c.args.reader.now) (g.W.Write.contents c.args.writer.now) (g.W.Write.contents c.merged.new.writer) c.merged.result.told.is_whole (g.E.Write.contents c.args.faults.now) (g.E.Write.contents c.merged.new.faults)) (sym c.in-Merge.is)
+    (subst (λ (l : List (Bor Text)). IsNotMerged c.in-Merge.feed l c.in-Merge.forks c.in-Merge.review (g.F.Files.shelf c.args.files.now) (g.F.Files.shelf c.merged.new.files) (g.W.Write.contents c.args.writer.now) (g.W.Write.contents c.merged.new.writer) c.merged.result.told.is_whole (g.E.Write.contents c.args.faults.now) (g.E.Write.contents c.merged.new.faults)) c.deref.ensures.value
     (c.merged.ensures.stopped one))
 
 pub returns-in-Import-clause-done : goal.returns-in-Import-clause-done
@@ -48,7 +48,7 @@ returns-in-Import-clause-done g c zero =
 
 pub returns-in-Import-clause-stopped : goal.returns-in-Import-clause-stopped
 returns-in-Import-clause-stopped g c one =
-    subst (λ w. Stops w (g.F.Files.shelf c.args.files.now) (g.F.Files.shelf c.imported.new.files) (g.R.Read.remaining c.args.reader.now) (g.W.Write.contents c.args.writer.now) (g.W.Write.contents c.imported.new.writer) c.silent-in-Import.result.is_whole (g.E.Write.contents c.args.faults.now) (g.E.Write.contents c.imported.new.faults)) (sym c.in-Import.is)
+    subst (λ w. Stops w (g.F.Files.shelf c.args.files.now) (g.F.Files.shelf c.imported.new.files) (g.R.Read.remaining c.args.reader.now) (g.W.Write.contents c.args.writer.now) (g.W.Write.contents c.imported.new.writer) c.imported.result.told.is_whole (g.E.Write.contents c.args.faults.now) (g.E.Write.contents c.imported.new.faults)) (sym c.in-Import.is)
     (c.imported.ensures.stopped one)
 
 pub returns-in-Export-clause-done : goal.returns-in-Export-clause-done
@@ -58,7 +58,7 @@ returns-in-Export-clause-done g c zero =
 
 pub returns-in-Export-clause-stopped : goal.returns-in-Export-clause-stopped
 returns-in-Export-clause-stopped g c one =
-    subst (λ w. Stops w (g.F.Files.shelf c.args.files.now) (g.F.Files.shelf c.exported.new.files) (g.R.Read.remaining c.args.reader.now) (g.W.Write.contents c.args.writer.now) (g.W.Write.contents c.exported.new.writer) c.silent-in-Export.result.is_whole (g.E.Write.contents c.args.faults.now) (g.E.Write.contents c.exported.new.faults)) (sym c.in-Export.is)
+    subst (λ w. Stops w (g.F.Files.shelf c.args.files.now) (g.F.Files.shelf c.exported.new.files) (g.R.Read.remaining c.args.reader.now) (g.W.Write.contents c.args.writer.now) (g.W.Write.contents c.exported.new.writer) c.exported.result.told.is_whole (g.E.Write.contents c.args.faults.now) (g.E.Write.contents c.exported.new.faults)) (sym c.in-Export.is)
     (c.exported.ensures.stopped one)
 
 pub returns-in-Proof-clause-done : goal.returns-in-Proof-clause-done
@@ -69,8 +69,8 @@ returns-in-Proof-clause-done g c zero =
 
 pub returns-in-Proof-clause-stopped : goal.returns-in-Proof-clause-stopped
 returns-in-Proof-clause-stopped g c one =
-    subst (λ w. Stops w (g.F.Files.shelf c.args.files.now) (g.F.Files.shelf c.proofed.new.files) (g.R.Read.remaining c.args.reader.now) (g.W.Write.contents c.args.writer.now) (g.W.Write.contents c.proofed.new.writer) c.silent-in-Proof.result.is_whole (g.E.Write.contents c.args.faults.now) (g.E.Write.contents c.proofed.new.faults)) (sym c.in-Proof.is)
-    (subst (λ (l : List (Bor Text)). IsUnseen c.in-Proof.from c.in-Proof.alone (option_copied c.in-Proof.picture) c.in-Proof.force l (g.F.Files.shelf c.args.files.now) (g.F.Files.shelf c.proofed.new.files) (g.W.Write.contents c.args.writer.now) (g.W.Write.contents c.proofed.new.writer)) c.deref-in-Proof.ensures.value
+    subst (λ w. Stops w (g.F.Files.shelf c.args.files.now) (g.F.Files.shelf c.proofed.new.files) (g.R.Read.remaining c.args.reader.now) (g.W.Write.contents c.args.writer.now) (g.W.Write.contents c.proofed.new.writer) c.proofed.result.told.is_whole (g.E.Write.contents c.args.faults.now) (g.E.Write.contents c.proofed.new.faults)) (sym c.in-Proof.is)
+    (subst (λ (l : List (Bor Text)). IsUnseen c.in-Proof.from c.in-Proof.alone c.in-Proof.picture c.in-Proof.force l (g.F.Files.shelf c.args.files.now) (g.F.Files.shelf c.proofed.new.files) (g.W.Write.contents c.args.writer.now) (g.W.Write.contents c.proofed.new.writer) c.proofed.result.told.is_whole (g.E.Write.contents c.args.faults.now) (g.E.Write.contents c.proofed.new.faults)) c.deref-in-Proof.ensures.value
     (c.proofed.ensures.stopped one))
 
 pub returns-in-Punch-clause-done : goal.returns-in-Punch-clause-done
@@ -80,7 +80,7 @@ returns-in-Punch-clause-done g c zero =
 
 pub returns-in-Punch-clause-stopped : goal.returns-in-Punch-clause-stopped
 returns-in-Punch-clause-stopped g c one =
-    subst (λ w. Stops w (g.F.Files.shelf c.args.files.now) (g.F.Files.shelf c.punched.new.files) (g.R.Read.remaining c.args.reader.now) (g.W.Write.contents c.args.writer.now) (g.W.Write.contents c.punched.new.writer) c.silent-in-Punch.result.is_whole (g.E.Write.contents c.args.faults.now) (g.E.Write.contents c.punched.new.faults)) (sym c.in-Punch.is)
+    subst (λ w. Stops w (g.F.Files.shelf c.args.files.now) (g.F.Files.shelf c.punched.new.files) (g.R.Read.remaining c.args.reader.now) (g.W.Write.contents c.args.writer.now) (g.W.Write.contents c.punched.new.writer) c.punched.result.told.is_whole (g.E.Write.contents c.args.faults.now) (g.E.Write.contents c.punched.new.faults)) (sym c.in-Punch.is)
     (c.punched.ensures.stopped one)
 
 pub returns-in-Replace-clause-done : goal.returns-in-Replace-clause-done
@@ -90,7 +90,7 @@ returns-in-Replace-clause-done g c zero =
 
 pub returns-in-Replace-clause-stopped : goal.returns-in-Replace-clause-stopped
 returns-in-Replace-clause-stopped g c one =
-    subst (λ w. Stops w (g.F.Files.shelf c.args.files.now) (g.F.Files.shelf c.replaced.new.files) (g.R.Read.remaining c.args.reader.now) (g.W.Write.contents c.args.writer.now) (g.W.Write.contents c.replaced.new.writer) c.silent-in-Replace.result.is_whole (g.E.Write.contents c.args.faults.now) (g.E.Write.contents c.replaced.new.faults)) (sym c.in-Replace.is)
+    subst (λ w. Stops w (g.F.Files.shelf c.args.files.now) (g.F.Files.shelf c.replaced.new.files) (g.R.Read.remaining c.args.reader.now) (g.W.Write.contents c.args.writer.now) (g.W.Write.contents c.replaced.new.writer) c.replaced.result.told.is_whole (g.E.Write.contents c.args.faults.now) (g.E.Write.contents c.replaced.new.faults)) (sym c.in-Replace.is)
     (c.replaced.ensures.stopped one)
 
 pub returns-in-Check-clause-done : goal.returns-in-Check-clause-done
@@ -101,8 +101,8 @@ returns-in-Check-clause-done g c zero =
 
 pub returns-in-Check-clause-stopped : goal.returns-in-Check-clause-stopped
 returns-in-Check-clause-stopped g c one =
-    subst (λ w. Stops w (g.F.Files.shelf c.args.files.now) (g.F.Files.shelf c.checked.new.files) (g.R.Read.remaining c.args.reader.now) (g.W.Write.contents c.args.writer.now) (g.W.Write.contents c.checked.new.writer) c.silent-in-Check.result.is_whole (g.E.Write.contents c.args.faults.now) (g.E.Write.contents c.checked.new.faults)) (sym c.in-Check.is)
-    (subst (λ (l : List (Bor Text)). AreNotInOrder (texts_of l) (g.F.Files.shelf c.args.files.now) (g.F.Files.shelf c.checked.new.files) (g.W.Write.contents c.args.writer.now) (g.W.Write.contents c.checked.new.writer)) c.deref-in-Check.ensures.value
+    subst (λ w. Stops w (g.F.Files.shelf c.args.files.now) (g.F.Files.shelf c.checked.new.files) (g.R.Read.remaining c.args.reader.now) (g.W.Write.contents c.args.writer.now) (g.W.Write.contents c.checked.new.writer) c.checked.result.told.is_whole (g.E.Write.contents c.args.faults.now) (g.E.Write.contents c.checked.new.faults)) (sym c.in-Check.is)
+    (subst (λ (l : List (Bor Text)). AreNotInOrder (texts_of l) (g.F.Files.shelf c.args.files.now) (g.F.Files.shelf c.checked.new.files) (g.W.Write.contents c.args.writer.now) (g.W.Write.contents c.checked.new.writer) c.checked.result.told.is_whole (g.E.Write.contents c.args.faults.now) (g.E.Write.contents c.checked.new.faults)) c.deref-in-Check.ensures.value
     (c.checked.ensures.stopped one))
 
 pub returns-in-Diff-clause-done : goal.returns-in-Diff-clause-done
@@ -112,7 +112,7 @@ returns-in-Diff-clause-done g c zero =
 
 pub returns-in-Diff-clause-stopped : goal.returns-in-Diff-clause-stopped
 returns-in-Diff-clause-stopped g c one =
-    subst (λ w. Stops w (g.F.Files.shelf c.args.files.now) (g.F.Files.shelf c.compared.new.files) (g.R.Read.remaining c.args.reader.now) (g.W.Write.contents c.args.writer.now) (g.W.Write.contents c.compared.new.writer) c.silent-in-Diff.result.is_whole (g.E.Write.contents c.args.faults.now) (g.E.Write.contents c.compared.new.faults)) (sym c.in-Diff.is)
+    subst (λ w. Stops w (g.F.Files.shelf c.args.files.now) (g.F.Files.shelf c.compared.new.files) (g.R.Read.remaining c.args.reader.now) (g.W.Write.contents c.args.writer.now) (g.W.Write.contents c.compared.new.writer) c.compared.result.told.is_whole (g.E.Write.contents c.args.faults.now) (g.E.Write.contents c.compared.new.faults)) (sym c.in-Diff.is)
     (c.compared.ensures.stopped one)
 
 pub returns-in-Read-clause-done : goal.returns-in-Read-clause-done
@@ -122,7 +122,7 @@ returns-in-Read-clause-done g c zero =
 
 pub returns-in-Read-clause-stopped : goal.returns-in-Read-clause-stopped
 returns-in-Read-clause-stopped g c one =
-    subst (λ w. Stops w (g.F.Files.shelf c.args.files.now) (g.F.Files.shelf c.read_whole.new.files) (g.R.Read.remaining c.args.reader.now) (g.W.Write.contents c.args.writer.now) (g.W.Write.contents c.read_whole.new.writer) c.silent-in-Read.result.is_whole (g.E.Write.contents c.args.faults.now) (g.E.Write.contents c.read_whole.new.faults)) (sym c.in-Read.is)
+    subst (λ w. Stops w (g.F.Files.shelf c.args.files.now) (g.F.Files.shelf c.read_whole.new.files) (g.R.Read.remaining c.args.reader.now) (g.W.Write.contents c.args.writer.now) (g.W.Write.contents c.read_whole.new.writer) c.read_whole.result.told.is_whole (g.E.Write.contents c.args.faults.now) (g.E.Write.contents c.read_whole.new.faults)) (sym c.in-Read.is)
     (c.read_whole.ensures.stopped one)
 
 pub returns-in-Sorts-clause-done : goal.returns-in-Sorts-clause-done
@@ -132,7 +132,7 @@ returns-in-Sorts-clause-done g c zero =
 
 pub returns-in-Sorts-clause-stopped : goal.returns-in-Sorts-clause-stopped
 returns-in-Sorts-clause-stopped g c one =
-    subst (λ w. Stops w (g.F.Files.shelf c.args.files.now) (g.F.Files.shelf c.listed.new.files) (g.R.Read.remaining c.args.reader.now) (g.W.Write.contents c.args.writer.now) (g.W.Write.contents c.listed.new.writer) c.silent-in-Sorts.result.is_whole (g.E.Write.contents c.args.faults.now) (g.E.Write.contents c.listed.new.faults)) (sym c.in-Sorts.is)
+    subst (λ w. Stops w (g.F.Files.shelf c.args.files.now) (g.F.Files.shelf c.listed.new.files) (g.R.Read.remaining c.args.reader.now) (g.W.Write.contents c.args.writer.now) (g.W.Write.contents c.listed.new.writer) c.listed.result.told.is_whole (g.E.Write.contents c.args.faults.now) (g.E.Write.contents c.listed.new.faults)) (sym c.in-Sorts.is)
     (c.listed.ensures.stopped one)
 
 pub returns-in-Renew-clause-done : goal.returns-in-Renew-clause-done
@@ -142,7 +142,7 @@ returns-in-Renew-clause-done g c zero =
 
 pub returns-in-Renew-clause-stopped : goal.returns-in-Renew-clause-stopped
 returns-in-Renew-clause-stopped g c one =
-    subst (λ w. Stops w (g.F.Files.shelf c.args.files.now) (g.F.Files.shelf c.renewed.new.files) (g.R.Read.remaining c.args.reader.now) (g.W.Write.contents c.args.writer.now) (g.W.Write.contents c.renewed.new.writer) c.silent-in-Renew.result.is_whole (g.E.Write.contents c.args.faults.now) (g.E.Write.contents c.renewed.new.faults)) (sym c.in-Renew.is)
+    subst (λ w. Stops w (g.F.Files.shelf c.args.files.now) (g.F.Files.shelf c.renewed.new.files) (g.R.Read.remaining c.args.reader.now) (g.W.Write.contents c.args.writer.now) (g.W.Write.contents c.renewed.new.writer) c.renewed.result.told.is_whole (g.E.Write.contents c.args.faults.now) (g.E.Write.contents c.renewed.new.faults)) (sym c.in-Renew.is)
     (c.renewed.ensures.stopped one)
 
 pub returns-in-Renumber-clause-done : goal.returns-in-Renumber-clause-done
@@ -152,5 +152,5 @@ returns-in-Renumber-clause-done g c zero =
 
 pub returns-in-Renumber-clause-stopped : goal.returns-in-Renumber-clause-stopped
 returns-in-Renumber-clause-stopped g c one =
-    subst (λ w. Stops w (g.F.Files.shelf c.args.files.now) (g.F.Files.shelf c.renumbered.new.files) (g.R.Read.remaining c.args.reader.now) (g.W.Write.contents c.args.writer.now) (g.W.Write.contents c.renumbered.new.writer) c.silent-in-Renumber.result.is_whole (g.E.Write.contents c.args.faults.now) (g.E.Write.contents c.renumbered.new.faults)) (sym c.in-Renumber.is)
+    subst (λ w. Stops w (g.F.Files.shelf c.args.files.now) (g.F.Files.shelf c.renumbered.new.files) (g.R.Read.remaining c.args.reader.now) (g.W.Write.contents c.args.writer.now) (g.W.Write.contents c.renumbered.new.writer) c.renumbered.result.told.is_whole (g.E.Write.contents c.args.faults.now) (g.E.Write.contents c.renumbered.new.faults)) (sym c.in-Renumber.is)
     (c.renumbered.ensures.stopped one)

@@ -1,0 +1,6 @@
+use Rattle.std.proofs.Common.{subst}
+use Rattle.program_desk.specs.Explained.{Reports}
+use Rattle.program_desk.proofs.compared.difference_ending.Goals as goal
+
+pub returns-in-Err : goal.returns-in-Err
+returns-in-Err g c = (c.reported.ensures.0, subst (λ cause. Reports cause c.reported.result.told.is_whole (g.E.Write.contents c.args.faults.now) (g.E.Write.contents c.reported.new.faults)) c.difference_cause-cause.ensures c.reported.ensures.1)

@@ -1,0 +1,13 @@
+use Rattle.std.proofs.Common.{refl, ◌++◌}
+use Rattle.std.specs.Prelude.{codes}
+use Rattle.program_desk.proofs.Telling.{goes_on_twice}
+use Rattle.program_desk.proofs.explained.tell_setting.Goals as goal
+
+pub returns : goal.returns
+returns g c =
+    let shown = c.tell_name-named.ensures in (
+      codes "--set " ++ (shown.0 ++ codes ": no setting, or no value that it may have\n"),
+      (shown.0, shown.1, refl),
+      goes_on_twice c.args.told.is_whole c.tell_more-begun.result.is_whole c.tell_more.result.is_whole (g.E.Write.contents c.args.faults.now) (g.E.Write.contents c.tell_more-begun.new.faults) (g.E.Write.contents c.tell_more.new.faults) (codes "--set ") (shown.0 ++ codes ": no setting, or no value that it may have\n") c.tell_more-begun.ensures
+          (goes_on_twice c.tell_more-begun.result.is_whole c.tell_name-named.result.is_whole c.tell_more.result.is_whole (g.E.Write.contents c.tell_more-begun.new.faults) (g.E.Write.contents c.tell_name-named.new.faults) (g.E.Write.contents c.tell_more.new.faults) shown.0 (codes ": no setting, or no value that it may have\n") shown.2 c.tell_more.ensures),
+    )
