@@ -1,7 +1,7 @@
 //! Jobs of a thousand lines.
 
-use crate::cases::{FILLS, WEDGE, case_with, wedge_of};
-use crate::jobs::{STANDARD, set_all};
+use crate::job::cases::{FILLS, WEDGE, case_with, wedge_of};
+use crate::job::jobs::{STANDARD, set_all};
 use desk_case::MatrixCase;
 use desk_caster::{CastLine, cast, read_ribbon};
 use desk_job::{JobFault, JobRefusal, make};

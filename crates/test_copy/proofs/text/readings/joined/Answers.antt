@@ -2,7 +2,7 @@ use Rattle.std.proofs.Common.{◌∙◌, List, ap, subst}
 use Rattle.desk_ops.specs.declared.op.Op.{Op}
 use Rattle.desk_ops.specs.OpSet.{with_all}
 use Rattle.feed_readings.specs.Before.{IsBefore}
-use Rattle.test_text.proofs.readings.joined.Goals as goal
+use Rattle.test_copy.proofs.text.readings.joined.Goals as goal
 
 pub report_after-requires-clause-joined : goal.report_after-requires-clause-joined
 report_after-requires-clause-joined c =

@@ -1,7 +1,7 @@
 ghost use Rattle.std.specs.Prelude.{◌≤◌};
 
-use crate::cases::{FILLS, WEDGE, ballast, case_with, wedge_of};
-use crate::jobs::TWO_LINES;
+use crate::job::cases::{FILLS, WEDGE, ballast, case_with, wedge_of};
+use crate::job::jobs::TWO_LINES;
 use crate::words::is_worded;
 use desk_case::MatrixCase;
 use desk_caster::{CastFault, CastLine, CastMatrix, RibbonFault, cast, read_ribbon};

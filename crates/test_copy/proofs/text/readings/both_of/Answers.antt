@@ -1,7 +1,7 @@
 use Rattle.std.proofs.Common.{◌∙◌, ap}
 use Rattle.desk_ops.specs.OpSet.{OpSet, union}
 use Rattle.desk_ops.proofs.Unions.{with_all-in_order}
-use Rattle.test_text.proofs.readings.both_of.Goals as goal
+use Rattle.test_copy.proofs.text.readings.both_of.Goals as goal
 
 pub returns : goal.returns
 returns c =

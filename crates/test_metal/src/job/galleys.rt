@@ -7,7 +7,7 @@ ghost use Rattle.desk_lines.specs.Words.{most_symbols};
 ghost use Rattle.desk_job.specs.Answer.{AreValues};
 ghost use Rattle.view_galley.specs.Galley.{Stands};
 
-use crate::cases::{FILLS, WEDGE, case_with, wedge_of};
+use crate::job::cases::{FILLS, WEDGE, case_with, wedge_of};
 use crate::words::is_worded;
 use desk_case::MatrixCase;
 use desk_job::JobFault;

@@ -1,6 +1,6 @@
 //! A random run over four sites: what they show is compared with the path order of all operations, computed here.
 
-use crate::events::roman;
+use crate::world::events::roman;
 use desk_blocks::Blocks;
 use desk_memory::NoMemory;
 use desk_ops::{FaultKind, Key, Op, Stamp};

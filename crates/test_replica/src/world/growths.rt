@@ -3,7 +3,7 @@
 ghost use Rattle.std.specs.Prelude.{All, IfOk};
 ghost use Rattle.desk_ops.specs.Op.{IsLawful};
 
-use crate::events::{at, roman, typed};
+use crate::world::events::{at, roman, typed};
 use desk_held::AddRefusal;
 use desk_memory::NoMemory;
 use desk_ops::{Key, Op, Stamp};

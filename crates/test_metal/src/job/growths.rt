@@ -1,7 +1,7 @@
 //! Each growth of `make` refused in turn.
 
-use crate::cases::{FILLS, WEDGE, case_with, wedge_of};
-use crate::jobs::{EMPTY_PARAGRAPH, Job, are_faults, replica_of, ribbon};
+use crate::job::cases::{FILLS, WEDGE, case_with, wedge_of};
+use crate::job::jobs::{EMPTY_PARAGRAPH, Job, are_faults, replica_of, ribbon};
 use desk_case::MatrixCase;
 use desk_job::{JobFault, JobRefusal, make};
 use desk_ops::Key;

@@ -1,7 +1,7 @@
 //! A job and its cast with a case of 17 columns.
 
-use crate::cases::{FILLS, WEDGE, case_with, wedge_of, wide_case};
-use crate::jobs::{Job, are_bytes_cast_as, has_faults, replica_of};
+use crate::job::cases::{FILLS, WEDGE, case_with, wedge_of, wide_case};
+use crate::job::jobs::{Job, are_bytes_cast_as, has_faults, replica_of};
 use desk_caster::{CastFault, cast, read_ribbon};
 use desk_job::{JobFault, make};
 use desk_signals::RibbonRow;

@@ -4,8 +4,8 @@ ghost use Rattle.std.specs.Prelude.{All};
 ghost use Rattle.desk_ops.specs.Op.{IsLawful};
 ghost use Rattle.script_world.specs.World.{event_values, IsSound};
 
-use crate::events::{at, held, roman, typed};
-use crate::growths::lawful_of;
+use crate::world::events::{at, held, roman, typed};
+use crate::world::growths::lawful_of;
 use desk_memory::NoMemory;
 use desk_ops::{Key, Op, Stamp};
 use desk_replica::{Count, Refusal};

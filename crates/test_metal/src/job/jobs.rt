@@ -1,4 +1,4 @@
-use crate::cases::{FILLS, SMALL_WEDGE, WEDGE, case_with, wedge_of};
+use crate::job::cases::{FILLS, SMALL_WEDGE, WEDGE, case_with, wedge_of};
 use crate::words::is_worded;
 use desk_case::MatrixCase;
 use desk_caster::{CastLine, cast, read_ribbon};
