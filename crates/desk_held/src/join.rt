@@ -5,9 +5,8 @@ ghost use Rattle.desk_ops.specs.OpSet.{no_ops, in_order, size, with_all};
 ghost use Rattle.desk_held.specs.Joining.{IsStopped};
 
 use crate::search::{are_rising, comes_before, is_rising};
-use crate::{AddRefusal, Held, LIMIT};
+use crate::{AddRefusal, Held, LIMIT, Slot, add_ops, slots_of};
 use desk_ops::Op;
-use desk_slots::{Slot, add_ops, slots_of};
 use list_pages::Pages;
 use std::alloc::{AllocError, Allocator};
 use thiserror::Error;

@@ -12,7 +12,6 @@ ghost use Rattle.desk_ops.specs.Held.{is_borne_in, is_clear_in, clear_op_in, gre
 
 use desk_memory::NoMemory;
 use desk_ops::{Op, Stamp};
-use desk_slots::{Slot, append, entry, insert_in_order, seek};
 use list_pages::Pages;
 use rising::all_rise;
 use search::{Below, Earlier, UpTo};
@@ -25,9 +24,11 @@ mod missing;
 mod passing;
 mod rising;
 mod search;
+mod slots;
 
 pub use join::Stopped;
 pub use missing::put_in_turn;
+pub use slots::{Slot, add_ops, append, entry, insert_in_order, remove_in_order, seek, slots_of};
 
 /// The greatest number of operations that are held.
 pub const LIMIT: usize = 1_048_576;

@@ -5,12 +5,11 @@ ghost use Rattle.desk_ops.specs.Op.{IsLawful};
 ghost use Rattle.desk_ops.specs.OpSet.{has_op, is_rising, AllLawful};
 ghost use Rattle.desk_held.specs.Passing.{missing_of, IsMissing, IsInTurn};
 
-use crate::Held;
 use crate::passing::look;
 use crate::search::is_rising;
+use crate::{Held, Slot};
 use desk_memory::NoMemory;
 use desk_ops::Op;
-use desk_slots::Slot;
 use std::alloc::Allocator;
 
 /// Below this part of what is held each operation of a list is searched: a pass beside the list would look at each

@@ -6,9 +6,9 @@ ghost use Rattle.desk_ops.specs.OpSet.{has_op, is_rising, from_rising};
 ghost use Rattle.list_pages.specs.Pages.{IsEdge};
 ghost use Rattle.desk_held.specs.Passing.{IsPart, IsPassed};
 
+use crate::Slot;
 use crate::search::comes_before;
 use desk_ops::Op;
-use desk_slots::Slot;
 use list_pages::Pages;
 use std::alloc::Allocator;
 

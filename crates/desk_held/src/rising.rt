@@ -3,8 +3,8 @@ ghost use Rattle.std.specs.Prelude.{◌≡◌, true, false, IfSome, IsNone};
 ghost use Rattle.desk_ops.specs.Stamp.{head};
 ghost use Rattle.desk_held.specs.Rising.{rise_from, last_from};
 
+use crate::Slot;
 use desk_ops::Stamp;
-use desk_slots::Slot;
 use list_pages::Pages;
 use std::alloc::Allocator;
 

@@ -4,8 +4,8 @@ ghost use Rattle.std.specs.Ordering.{is_lt};
 ghost use Rattle.desk_ops.specs.Order.{op_cmp};
 ghost use Rattle.desk_ops.specs.OpSet.{is_rising};
 
+use crate::Slot;
 use desk_ops::{Op, Stamp};
-use desk_slots::Slot;
 use list_pages::Pick;
 
 /// Whether the first operation comes before the second. Their stamps decide it, but where these are one.

@@ -9,8 +9,8 @@ use Rattle.desk_ops.specs.OpSet.{OpSet, in_order}
 use Rattle.desk_ops.specs.Shown.{copy_of}
 use Rattle.desk_held.specs.declared.AddRefusal.{AddRefusal}
 use Rattle.desk_held.specs.declared.AddRefusal.TheVariants as adds
-use Rattle.script_commands.specs.Grammar.{command_of}
-use Rattle.script_commands.specs.Command.{CommandValues, Site, Insert, Delete, SetTo, Take, Send, Merge, Show, Faults, Settings, Feed, Ribbon, Cast, Restart}
+use Rattle.script_answers.specs.Grammar.{command_of}
+use Rattle.script_answers.specs.Command.{CommandValues, Site, Insert, Delete, SetTo, Take, Send, Merge, Show, Faults, Settings, Feed, Ribbon, Cast, Restart}
 use Rattle.script_answers.specs.NotDone.{event_reply, stopped_after}
 use Rattle.script_answers.specs.Reply.{ReplyValues, Refused, Stopped, is_long}
 use Rattle.script_answers.specs.Reply as replies

@@ -10,8 +10,8 @@ use Rattle.desk_ops.specs.Op.{stamp_of}
 use Rattle.desk_ops.specs.OpSet.{OpSet, in_order}
 use Rattle.desk_ops.specs.Shown.{copy_of}
 use Rattle.desk_replica.specs.declared.Count.{Count}
-use Rattle.script_commands.specs.Grammar.{command_of}
-use Rattle.script_commands.specs.Command.{CommandValues, Site, Insert, Delete, SetTo, Take, Send, Merge, Show, Faults, Settings, Feed, Ribbon, Cast, Restart}
+use Rattle.script_answers.specs.Grammar.{command_of}
+use Rattle.script_answers.specs.Command.{CommandValues, Site, Insert, Delete, SetTo, Take, Send, Merge, Show, Faults, Settings, Feed, Ribbon, Cast, Restart}
 use Rattle.script_answers.specs.Reply.{ReplyValues}
 use Rattle.script_answers.specs.declared.job.Wanted.{Wanted}
 use Rattle.script_answers.specs.declared.job.Wanted.TheVariants as wants

@@ -39,8 +39,8 @@ use Rattle.script_answers.specs.declared.job.Wanted.{Wanted}
 use Rattle.script_answers.specs.declared.job.Wanted.TheVariants as wants
 use Rattle.script_answers.specs.declared.text.Refusal.{Refusal}
 use Rattle.script_answers.specs.declared.text.Refusal.TheVariants as refusals
-use Rattle.script_commands.specs.Command.{CommandValues, Site, Insert, Delete, SetTo, Take, Send, Merge, Show, Faults, Settings, Feed, Ribbon, Cast, Restart}
-use Rattle.script_commands.specs.Grammar.{command_of}
+use Rattle.script_answers.specs.Command.{CommandValues, Site, Insert, Delete, SetTo, Take, Send, Merge, Show, Faults, Settings, Feed, Ribbon, Cast, Restart}
+use Rattle.script_answers.specs.Grammar.{command_of}
 use Rattle.script_world.specs.declared.world.Answer.{Answer}
 use Rattle.script_world.specs.declared.world.StepRefusal.{StepRefusal}
 use Rattle.script_world.specs.declared.world.StepRefusal.TheVariants as steps

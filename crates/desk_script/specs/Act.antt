@@ -21,8 +21,8 @@ use Rattle.script_answers.specs.declared.text.Refusal.{Refusal}
 use Rattle.script_answers.specs.declared.text.Refusal.TheVariants as refusals
 use Rattle.script_answers.specs.Reply.{ReplyValues, Copy, Refused}
 use Rattle.script_answers.specs.Reply as replies
-use Rattle.script_commands.specs.Command.{CommandValues, Site, Insert, Delete, SetTo, Take, Send, Merge, Show, Faults}
-use Rattle.script_commands.specs.Command.{Settings, Feed, Ribbon, Cast, Restart}
+use Rattle.script_answers.specs.Command.{CommandValues, Site, Insert, Delete, SetTo, Take, Send, Merge, Show, Faults}
+use Rattle.script_answers.specs.Command.{Settings, Feed, Ribbon, Cast, Restart}
 use Rattle.script_world.specs.Sites.{Sites}
 use Rattle.script_world.specs.World.{Brings, taken}
 use Rattle.script_world.specs.World as events

@@ -6,10 +6,10 @@ use Rattle.desk_ops.specs.declared.op.Key.TheVariants as keys
 use Rattle.desk_ops.specs.declared.op.Style.TheVariants.{Roman, Italic}
 use Rattle.desk_script.specs.Line.{Line, Bytes, Long}
 use Rattle.desk_script.specs.Lines.{lines}
-use Rattle.script_commands.specs.Reading.{word_at, number_of, number_at, range_of, range_at, file_at, nibble, hex_at}
-use Rattle.script_commands.specs.Copy.{symbol, step, copy_at}
-use Rattle.script_commands.specs.Command.{CommandValues, Site, Insert, SetTo, Show, Feed, Send, Take, Ribbon}
-use Rattle.script_commands.specs.Grammar.{verb_of, key_of, one_site, insert_form, set_form, take_form, send_form, two_files, words_of, command_of}
+use Rattle.script_answers.specs.Reading.{word_at, number_of, number_at, range_of, range_at, file_at, nibble, hex_at}
+use Rattle.script_answers.specs.Copy.{symbol, step, copy_at}
+use Rattle.script_answers.specs.Command.{CommandValues, Site, Insert, SetTo, Show, Feed, Send, Take, Ribbon}
+use Rattle.script_answers.specs.Grammar.{verb_of, key_of, one_site, insert_form, set_form, take_form, send_form, two_files, words_of, command_of}
 
 command_on : Line → Option CommandValues
 command_on (Bytes bytes) = command_of bytes

@@ -3,8 +3,8 @@ pub use Rattle.feed_files.specs.Files
 pub use Rattle.feed_stored.specs.Sending
 pub use Rattle.script_world.specs.Sites
 pub use Rattle.script_world.specs.World
-pub use Rattle.script_commands.specs.Command
-pub use Rattle.script_commands.specs.Grammar
+pub use Rattle.script_answers.specs.Command
+pub use Rattle.script_answers.specs.Grammar
 pub use Rattle.script_answers.specs.Reply
 pub use Rattle.script_answers.specs.Text
 pub use Rattle.script_answers.specs.Inputs

@@ -2,7 +2,7 @@
 use Rattle.std.specs.Prelude.{ℕ, ◌⊎◌, nat_le, List, length, MatchOption, if◌then◌else◌}
 use Rattle.script_answers.specs.Reply.{ReplyValues}
 use Rattle.script_answers.specs.declared.text.Refusal.TheVariants as refusals
-use Rattle.script_commands.specs.Grammar.{command_of}
+use Rattle.script_answers.specs.Grammar.{command_of}
 use Rattle.desk_script.specs.Act.{LacksMemory, Performs, Refuses}
 use Rattle.desk_script.specs.Desk.{Desk}
 

@@ -13,8 +13,8 @@ use Rattle.script_answers.specs.declared.job.Wanted.{Wanted}
 use Rattle.script_answers.specs.declared.job.Wanted.TheVariants as wants
 use Rattle.script_answers.specs.declared.text.Refusal.{Refusal}
 use Rattle.script_answers.specs.declared.text.Refusal.TheVariants as refusals
-use Rattle.script_commands.specs.Command.{CommandValues, Ribbon, Cast}
-use Rattle.script_commands.specs.Grammar.{command_of}
+use Rattle.script_answers.specs.Command.{CommandValues, Ribbon, Cast}
+use Rattle.script_answers.specs.Grammar.{command_of}
 use Rattle.desk_script.specs.Act.{Performs, Refuses}
 use Rattle.desk_script.specs.Desk.{Desk}
 use Rattle.desk_script.specs.Event.{set_of}

@@ -2,8 +2,8 @@
 
 ghost use Rattle.std.specs.Prelude.{◌≡◌, ◌⊎◌, All, IfErr, IfOk, Some};
 ghost use Rattle.script_answers.specs.NotDone.{reply_to};
-ghost use Rattle.script_commands.specs.Command as commands;
-ghost use Rattle.script_commands.specs.Command.{command_values};
+ghost use Rattle.script_answers.specs.Command as commands;
+ghost use Rattle.script_answers.specs.Command.{command_values};
 ghost use Rattle.feed_files.specs.Files.{Stays};
 ghost use Rattle.desk_ops.specs.Op.{IsLawful};
 ghost use Rattle.desk_ops.specs.OpSet.{in_order};
@@ -18,8 +18,7 @@ use desk_codec::{ReadFault, read_feed};
 use desk_ops::{Key, Op};
 use desk_replica::Replica;
 use feed_files::Files;
-use script_answers::{Failure, Memory, NotDone, Refusal, Reply, Wanted, job_by_files};
-use script_commands::Command;
+use script_answers::{Command, Failure, Memory, NotDone, Refusal, Reply, Wanted, job_by_files};
 use script_world::{Answer, Event, World};
 use std::alloc::Allocator;
 

@@ -3,7 +3,7 @@
 ghost use Rattle.std.specs.Prelude.{◌≡◌, ◌+◌, ◌<◌, ◌^◌, length, None};
 ghost use Rattle.script_answers.specs.NotDone.{reply_of, reply_to};
 ghost use Rattle.script_answers.specs.Reply.{reply_values};
-ghost use Rattle.script_commands.specs.Command as commands;
+ghost use Rattle.script_answers.specs.Command as commands;
 ghost use Rattle.desk_ops.specs.Op.{stamp_of};
 ghost use Rattle.desk_script.specs.Act.{Does};
 ghost use Rattle.desk_script.specs.Insert.{Inserts, after, all_made, all_symbols, first_of};

@@ -35,9 +35,9 @@ pub use feed_files::{FileRefusal, Files, MAX_FILE, NoFiles, store, trial};
 pub use feed_run::{keep_feed, run_on_feed};
 pub use line::{MAX_LINE, answer};
 pub use room::{let_in, mark, run_in_room};
-pub use script_answers::{Refusal, Reply, put};
-pub use script_commands::{
-    Command, ParseError, copy_is_its_spelling, copy_is_read_again, parse, runs_are_longest,
+pub use script_answers::{
+    Command, ParseError, Refusal, Reply, copy_is_its_spelling, copy_is_read_again, parse, put,
+    runs_are_longest,
 };
 pub use script_world::{Answer, Event, MAX_SITES, StepRefusal, World};
 pub use sheet::{MAX_SHEET, Mode, run_sheet};

@@ -9,8 +9,7 @@ ghost use Rattle.desk_script.specs.Line.{Allows, line_of};
 
 use crate::act::act;
 use feed_files::Files;
-use script_answers::{Memory, NotDone, Refusal, Reply};
-use script_commands::parse;
+use script_answers::{Memory, NotDone, Refusal, Reply, parse};
 use script_world::World;
 use std::alloc::Allocator;
 

@@ -6,7 +6,7 @@ use Rattle.desk_ops.specs.OpSet.{OpSet, no_ops, has_op, size}
 use Rattle.desk_ops.specs.Live.{IsClearOp}
 use Rattle.desk_ops.specs.Walk.{walk_from}
 use Rattle.desk_ops.proofs.OpSets.{no_ops-from_rising, size-from_rising, none-held, none-lawful}
-use Rattle.desk_room.specs.Waiting.{HasTarget}
+use Rattle.desk_walk.specs.Waiting.{HasTarget}
 use Rattle.desk_seq.specs.declared.Entry.{Entry}
 use Rattle.desk_walk.specs.Following.{IsDraining, IsSettled}
 use Rattle.desk_walk.proofs.Drains.{ends}

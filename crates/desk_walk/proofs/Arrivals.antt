@@ -21,7 +21,7 @@ use Rattle.desk_ops.proofs.Joined.{has_op-with_op_own, within-with_op, with-case
 use Rattle.desk_ops.proofs.Fresh.{clear_old, clear_new, own_clear}
 use Rattle.desk_ops.proofs.Bearers.{op_borne}
 use Rattle.desk_ops.proofs.Deletes.{delete_live, deleted_from, deleted_by}
-use Rattle.desk_room.specs.Waiting.{HasTarget}
+use Rattle.desk_walk.specs.Waiting.{HasTarget}
 use Rattle.desk_seq.specs.declared.Entry.{Entry}
 use Rattle.desk_seq.specs.Entries.{stamps_of}
 use Rattle.desk_walk.specs.Following.{entry_of, entries_of, bare, IsWaiting, IsSettled, IsFollowing}

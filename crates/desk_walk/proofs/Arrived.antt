@@ -11,7 +11,7 @@ use Rattle.desk_ops.specs.OpSet.{OpSet, has_op, with_op, AllLawful}
 use Rattle.desk_ops.specs.Lists.{Among}
 use Rattle.desk_ops.proofs.Stamps.{by_cases}
 use Rattle.desk_ops.proofs.Joined.{lawful-with_op, has_op-with_op_own, within-with_op, with-cases}
-use Rattle.desk_room.specs.Waiting.{HasTarget}
+use Rattle.desk_walk.specs.Waiting.{HasTarget}
 use Rattle.desk_seq.specs.declared.Entry.{Entry}
 use Rattle.desk_seq.specs.Entries.{stamps_of, AreDistinct, IsAbsent, IsFirstBelow, with_mark}
 use Rattle.desk_seq.proofs.Entries.{map-insert, stamps-mark}

@@ -26,7 +26,7 @@ use Rattle.desk_ops.proofs.Unions.{size-with_op}
 use Rattle.desk_ops.proofs.Deletes.{deleted_from, deleted_by}
 use Rattle.desk_ops.proofs.Drains.{drained, taken_in, walk_taken}
 use Rattle.desk_ops.proofs.Places.{scan-at}
-use Rattle.desk_room.specs.Waiting.{IsReleased, waits_for}
+use Rattle.desk_walk.specs.Waiting.{IsReleased, waits_for}
 use Rattle.desk_seq.specs.declared.Entry.{Entry}
 use Rattle.desk_seq.specs.Entries.{stamps_of, IsAbsent, AreDistinct, IsFirstBelow, with_mark}
 use Rattle.desk_seq.proofs.Entries.{map-insert, length-stamps, stamps-mark}

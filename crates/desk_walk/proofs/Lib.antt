@@ -1,3 +1,6 @@
+mod Turns
+mod Sets
+mod Releases
 pub mod Lists
 pub mod Arrivals
 pub mod Drains

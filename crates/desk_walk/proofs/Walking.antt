@@ -17,7 +17,7 @@ use Rattle.desk_ops.proofs.Lists.{Each, each-among, each-from_among, among-filte
 use Rattle.desk_ops.proofs.Ends.{among_held, held_among}
 use Rattle.desk_ops.proofs.Unions.{size-few}
 use Rattle.desk_ops.proofs.OpSets.{length-in_order}
-use Rattle.desk_room.specs.Waiting.{HasTarget}
+use Rattle.desk_walk.specs.Waiting.{HasTarget}
 use Rattle.desk_seq.specs.declared.Entry.{Entry}
 use Rattle.desk_walk.specs.declared.tree.Node.{Node}
 use Rattle.desk_walk.specs.Following.{places, place_at, IsFollowing, IsFree}

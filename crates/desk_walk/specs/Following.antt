@@ -15,7 +15,7 @@ use Rattle.desk_ops.specs.Live.{insert_of, IsClearOp, IsLiveOp}
 use Rattle.desk_ops.specs.Walk.{walk_from, walk_of}
 use Rattle.desk_ops.specs.Shown.{is_deleted_in}
 use Rattle.desk_ops.specs.Drain.{IsTakenIn}
-use Rattle.desk_room.specs.Waiting.{HasTarget}
+use Rattle.desk_walk.specs.Waiting.{HasTarget}
 use Rattle.desk_seq.specs.declared.Entry.{Entry}
 use Rattle.desk_seq.specs.Entries.{stamps_of, IsAbsent, IsFirstBelow, with_mark}
 

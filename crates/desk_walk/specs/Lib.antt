@@ -1,2 +1,4 @@
+pub mod Turn
+pub mod Waiting
 pub mod Following
 pub mod Tree

@@ -14,7 +14,7 @@ use Rattle.desk_ops.specs.OpSet.{OpSet, no_ops, has_op, with_all, in_order, size
 use Rattle.desk_ops.specs.Lists.{Among}
 use Rattle.desk_ops.specs.Held.{is_clear_in}
 use Rattle.desk_ops.specs.Live.{insert_of}
-use Rattle.desk_room.specs.Waiting.{HasTarget}
+use Rattle.desk_walk.specs.Waiting.{HasTarget}
 use Rattle.desk_seq.specs.declared.Entry.{Entry}
 use Rattle.desk_seq.specs.Entries.{stamps_of, AreDistinct}
 use Rattle.desk_walk.specs.declared.tree.Node.{Node}

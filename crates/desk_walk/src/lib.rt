@@ -20,12 +20,15 @@ ghost use Rattle.desk_walk.specs.Following.{IsArrival};
 use desk_held::Held;
 use desk_memory::NoMemory;
 use desk_ops::{Op, Stamp, Symbol};
-use desk_room::Room;
 use desk_seq::{Entry, Sequence, integrate_at};
 use std::alloc::Allocator;
 use tree::settled_lists;
 
+mod room;
 mod tree;
+mod turn;
+
+pub use room::Room;
 
 /// The stamp at a place: the head's, or that of the entry before it.
 fn stamp_at<Q: Sequence>(sequence: &Q, place: usize) -> Stamp

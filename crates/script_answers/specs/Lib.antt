@@ -1,3 +1,11 @@
+pub mod Reading
+pub mod Copy
+pub mod Command
+pub mod Grammar
+pub mod Writing
+pub mod Spelling
+pub mod Laws
+pub mod Memory
 pub mod Text
 pub mod Reply
 pub mod Failure

@@ -3,8 +3,8 @@ use Rattle.std.specs.Prelude.{ℕ, ◌==◌, Option, Some, None, Result, Ok, Err
 use Rattle.desk_ops.specs.Op.{stamp_of}
 use Rattle.desk_held.specs.declared.AddRefusal.{AddRefusal}
 use Rattle.desk_held.specs.declared.AddRefusal.TheVariants as adds
-use Rattle.script_commands.specs.declared.command.ParseError.{ParseError}
-use Rattle.script_commands.specs.declared.command.ParseError.TheVariants as parses
+use Rattle.script_answers.specs.declared.command.ParseError.{ParseError}
+use Rattle.script_answers.specs.declared.command.ParseError.TheVariants as parses
 use Rattle.script_world.specs.declared.world.Answer.{Answer}
 use Rattle.script_world.specs.declared.world.Answer.TheVariants as answers
 use Rattle.script_world.specs.declared.world.StepRefusal.{StepRefusal}

@@ -2,7 +2,7 @@
 use Rattle.std.specs.Prelude.{ℕ, ℤ, length, ◌+◌, ◌/◌, ◌%◌, nat_lt, Bool, true, false, List, [], ◌∷◌, ◌++◌, Option, Some}
 use Rattle.std.specs.Prelude.{None, codes, if◌then◌else◌}
 use Rattle.std.specs.Fmt.{decimal, signed_decimal}
-use Rattle.script_commands.specs.Writing.{copy_text}
+use Rattle.script_answers.specs.Writing.{copy_text}
 use Rattle.desk_ops.specs.declared.op.Symbol.{Symbol}
 use Rattle.desk_ops.specs.Words.{copy_fault_words, key_words, stamp_words}
 use Rattle.desk_ops.specs.declared.op.Unlawful.{Unlawful}

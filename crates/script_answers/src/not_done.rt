@@ -7,12 +7,12 @@ ghost use Rattle.script_answers.specs.Reply.{reply_values};
 ghost use Rattle.script_world.specs.declared.world.StepRefusal.TheVariants as steps;
 ghost use Rattle.script_answers.specs.declared.not_done.NotDone.TheVariants as ends;
 
+use crate::ParseError;
 use crate::failure::Failure;
 use crate::text::{Refusal, Reply};
 use desk_held::AddRefusal;
 use desk_memory::NoMemory;
 use desk_replica::Stopped;
-use script_commands::ParseError;
 use script_world::{Answer, StepRefusal};
 use std::alloc::Allocator;
 

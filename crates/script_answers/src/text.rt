@@ -12,6 +12,7 @@ ghost use Rattle.script_answers.specs.Text.{hex_digit, hex_text, refusal_text, c
 ghost use Rattle.script_answers.specs.Text.{list_text, faults_text, value_text, settings_text, job_fault_text};
 ghost use Rattle.script_answers.specs.Text.{lines_text, text};
 
+use crate::put_copy;
 use arrayvec::ArrayString;
 use desk_caster::CastLine;
 use desk_codec::{FeedFault, FeedWhy};
@@ -19,7 +20,6 @@ use desk_job::{JobFault, JobFaults};
 use desk_ops::{CopyFault, Stamp, Symbol, Unlawful};
 use desk_replica::Settings;
 use itoa::{Buffer, Integer};
-use script_commands::put_copy;
 use std::alloc::{AllocError, Allocator};
 
 /// Why a line changed nothing, or why it stopped.
@@ -207,7 +207,7 @@ fn hex_digit(n: u8) -> &'static str
 }
 
 /// Writes bytes in hexadecimal at the end.
-#[tactic(auto, using(script_commands::proofs::Prefixes::prefixes))]
+#[tactic(auto, using(crate::proofs::Prefixes::prefixes))]
 fn put_hex<A: Allocator + Copy>(out: &mut String<A>, bytes: &[u8]) -> Result<(), AllocError>
     ensures text { OnOk result (string_bytes out.new ≡ string_bytes out.old ++ hex_text bytes.now) }
     ensures prefix { StartsWith (string_bytes out.new) (string_bytes out.old) }
@@ -237,7 +237,7 @@ fn stamp_of(stamp: Stamp) -> Short
 }
 
 /// Writes the faults of a copy at the end, or that there are none.
-#[tactic(auto, using(script_commands::proofs::Prefixes::prefixes))]
+#[tactic(auto, using(crate::proofs::Prefixes::prefixes))]
 fn put_faults<A: Allocator + Copy>(
     out: &mut String<A>,
     faults: &[CopyFault],
@@ -273,7 +273,7 @@ trait Entry: Copy {
 impl Entry for CopyFault {
     ghost words = { copy_fault_words };
 
-    #[tactic(auto, using(script_commands::proofs::Prefixes::prefixes))]
+    #[tactic(auto, using(crate::proofs::Prefixes::prefixes))]
     fn put_words<A: Allocator + Copy>(self, out: &mut String<A>) -> Result<(), AllocError> {
         out.push_str(self.kind.name())?;
         out.push_str(" ")?;
@@ -282,7 +282,7 @@ impl Entry for CopyFault {
 }
 
 /// Writes each behind a space, or a comma and a space.
-#[tactic(auto, using(script_commands::proofs::Prefixes::prefixes))]
+#[tactic(auto, using(crate::proofs::Prefixes::prefixes))]
 fn put_list<A: Allocator + Copy, E: Entry>(
     out: &mut String<A>,
     entries: &[E],
@@ -300,7 +300,7 @@ fn put_list<A: Allocator + Copy, E: Entry>(
 }
 
 /// Writes a number at the end.
-#[tactic(auto, using(script_commands::proofs::Prefixes::prefixes))]
+#[tactic(auto, using(crate::proofs::Prefixes::prefixes))]
 fn put_decimal<A: Allocator + Copy, N: Integer>(out: &mut String<A>, n: N) -> Result<(), AllocError>
     ensures text { OnOk result (string_bytes out.new ≡ string_bytes out.old ++ N.text n) }
     ensures prefix { StartsWith (string_bytes out.new) (string_bytes out.old) }
@@ -310,7 +310,7 @@ fn put_decimal<A: Allocator + Copy, N: Integer>(out: &mut String<A>, n: N) -> Re
 }
 
 /// Writes a setting's value at the end, or that it has none.
-#[tactic(auto, using(script_commands::proofs::Prefixes::prefixes))]
+#[tactic(auto, using(crate::proofs::Prefixes::prefixes))]
 fn put_value<A: Allocator + Copy>(out: &mut String<A>, value: Option<u32>) -> Result<(), AllocError>
     ensures text { OnOk result (string_bytes out.new ≡ string_bytes out.old ++ value_text value) }
     ensures prefix { StartsWith (string_bytes out.new) (string_bytes out.old) }
@@ -322,7 +322,7 @@ fn put_value<A: Allocator + Copy>(out: &mut String<A>, value: Option<u32>) -> Re
 }
 
 /// Writes a setting's name and its value at the end.
-#[tactic(auto, using(script_commands::proofs::Prefixes::prefixes))]
+#[tactic(auto, using(crate::proofs::Prefixes::prefixes))]
 fn put_setting<A: Allocator + Copy>(
     out: &mut String<A>,
     name: &str,
@@ -336,7 +336,7 @@ fn put_setting<A: Allocator + Copy>(
 }
 
 /// Writes the settings of the job at the end.
-#[tactic(auto, using(script_commands::proofs::Prefixes::prefixes))]
+#[tactic(auto, using(crate::proofs::Prefixes::prefixes))]
 fn put_settings<A: Allocator + Copy>(
     out: &mut String<A>,
     settings: &Settings,
@@ -352,7 +352,7 @@ fn put_settings<A: Allocator + Copy>(
 }
 
 /// Writes words, and a number behind them.
-#[tactic(auto, using(script_commands::proofs::Prefixes::prefixes))]
+#[tactic(auto, using(crate::proofs::Prefixes::prefixes))]
 fn put_counted<A: Allocator + Copy>(
     out: &mut String<A>,
     words: &str,
@@ -368,7 +368,7 @@ fn put_counted<A: Allocator + Copy>(
 impl Entry for JobFault {
     ghost words = { job_fault_text };
 
-    #[tactic(auto, using(script_commands::proofs::Prefixes::prefixes))]
+    #[tactic(auto, using(crate::proofs::Prefixes::prefixes))]
     fn put_words<A: Allocator + Copy>(self, out: &mut String<A>) -> Result<(), AllocError> {
         match self {
             JobFault::MissingSetting(key) => {
@@ -388,7 +388,7 @@ impl Entry for JobFault {
     }
 }
 
-#[tactic(auto, using(script_commands::proofs::Prefixes::prefixes))]
+#[tactic(auto, using(crate::proofs::Prefixes::prefixes))]
 fn put_line<A: Allocator + Copy>(out: &mut String<A>, line: &CastLine<A>) -> Result<(), AllocError>
     ensures text { OnOk result
         (string_bytes out.new ≡ string_bytes out.old ++ codes " " ++ decimal (length line.now.matrices) ++ codes "/"
@@ -401,7 +401,7 @@ fn put_line<A: Allocator + Copy>(out: &mut String<A>, line: &CastLine<A>) -> Res
 }
 
 /// Writes each line that was cast behind a space.
-#[tactic(auto, using(script_commands::proofs::Prefixes::prefixes))]
+#[tactic(auto, using(crate::proofs::Prefixes::prefixes))]
 fn put_lines<A: Allocator + Copy>(
     out: &mut String<A>,
     lines: &[CastLine<A>],
@@ -506,7 +506,7 @@ pub fn short<A: Allocator + Copy>(answer: &Reply<A>) -> Option<Short>
 }
 
 /// Writes a copy, behind a space where there is one.
-#[tactic(auto, using(script_commands::proofs::Prefixes::prefixes))]
+#[tactic(auto, using(crate::proofs::Prefixes::prefixes))]
 fn put_shown<A: Allocator + Copy>(out: &mut String<A>, copy: &[Symbol]) -> Result<(), AllocError>
     ensures text { OnOk result (string_bytes out.new ≡ string_bytes out.old ++ text (replies.Copy copy.now)) }
     ensures prefix { StartsWith (string_bytes out.new) (string_bytes out.old) }
@@ -520,7 +520,7 @@ fn put_shown<A: Allocator + Copy>(out: &mut String<A>, copy: &[Symbol]) -> Resul
 }
 
 /// Writes bytes behind a word.
-#[tactic(auto, using(script_commands::proofs::Prefixes::prefixes))]
+#[tactic(auto, using(crate::proofs::Prefixes::prefixes))]
 fn put_bytes<A: Allocator + Copy>(
     out: &mut String<A>,
     word: &str,
@@ -535,7 +535,7 @@ fn put_bytes<A: Allocator + Copy>(
 
 /// Writes an answer at the end, without its end of line. Where memory is refused, what is there begins with what stood
 /// before.
-#[tactic(auto, using(script_commands::proofs::Prefixes::prefixes))]
+#[tactic(auto, using(crate::proofs::Prefixes::prefixes))]
 pub fn put<A: Allocator + Copy>(out: &mut String<A>, answer: &Reply<A>) -> Result<(), AllocError>
     ensures text { OnOk result (string_bytes out.new ≡ string_bytes out.old ++ text (reply_values answer.now)) }
     ensures prefix { StartsWith (string_bytes out.new) (string_bytes out.old) }

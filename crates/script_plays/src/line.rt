@@ -7,7 +7,7 @@ ghost use Rattle.script_world.specs.World.{IsSound, event_values};
 use anyhow::{Result, bail};
 use desk_codec::read_feed;
 use desk_ops::{Key, Op, Symbol};
-use script_commands::{Command, parse};
+use script_answers::{Command, parse};
 use script_world::Event;
 use std::alloc::Global;
 

@@ -1,4 +1,4 @@
-//! The tests of desk_ops, desk_codec, desk_held and desk_registers.
+//! The tests of desk_ops, desk_codec, text_copy, desk_held, desk_registers and feed_readings.
 #![tactic(auto)]
 
 #[cfg(test)]
@@ -17,3 +17,5 @@ mod read_runs;
 mod registers;
 #[cfg(test)]
 mod runs;
+#[cfg(test)]
+mod text;

@@ -1,4 +1,5 @@
-//! The tests of desk_signals, desk_image, desk_units, desk_wedge, desk_case, desk_lines, desk_justify and desk_ribbon.
+//! The tests of desk_signals, desk_image, desk_units, desk_wedge, desk_case, desk_lines, desk_justify, desk_ribbon,
+//! desk_caster, desk_job and view_galley.
 #![tactic(auto)]
 
 #[cfg(test)]
@@ -9,6 +10,8 @@ mod every_image;
 mod hostile;
 #[cfg(test)]
 mod image;
+#[cfg(test)]
+mod job;
 #[cfg(test)]
 mod justify;
 #[cfg(test)]

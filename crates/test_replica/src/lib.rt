@@ -1,4 +1,4 @@
-//! The tests of desk_replica, and with it of desk_walk.
+//! The tests of desk_replica, with it of desk_walk, and of script_world.
 #![tactic(auto)]
 
 pub mod asked;
@@ -26,3 +26,5 @@ mod runs;
 mod words;
 #[cfg(test)]
 mod worked;
+#[cfg(test)]
+mod world;

@@ -1,4 +1,4 @@
-//! The tests of list_pages, desk_slots, desk_seq, desk_blocks and desk_room.
+//! The tests of list_pages, desk_seq and desk_blocks, of the slots of desk_held and the room of desk_walk.
 #![tactic(auto)]
 
 #[cfg(test)]

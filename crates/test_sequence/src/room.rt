@@ -2,11 +2,11 @@
 
 ghost use Rattle.std.specs.Prelude.{◌≡◌, true};
 ghost use Rattle.desk_ops.specs.Op.{IsLawful};
-ghost use Rattle.desk_room.specs.Waiting.{HasTarget};
+ghost use Rattle.desk_walk.specs.Waiting.{HasTarget};
 
 use desk_memory::NoMemory;
 use desk_ops::{Key, Op, Stamp, Style, Symbol};
-use desk_room::Room;
+use desk_walk::Room;
 use linked_list_allocator::LocalHeap;
 use std::alloc::{Allocator, Global};
 use std::test::Fail;

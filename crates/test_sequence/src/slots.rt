@@ -1,7 +1,7 @@
 //! Operations as they are kept in pages.
 
+use desk_held::{Slot, append, slots_of};
 use desk_ops::{Key, Op, Stamp, Style, Symbol};
-use desk_slots::{Slot, append, slots_of};
 use std::test::Fail;
 
 fn at(counter: u64, site: u16) -> Stamp {

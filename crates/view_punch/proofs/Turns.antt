@@ -4,7 +4,7 @@ use Rattle.std.specs.Prelude.{◌≢◌}
 use Rattle.std.specs.Borrow.{Bor}
 use Rattle.desk_ops.specs.declared.op.Key.{Key}
 use Rattle.desk_replica.specs.declared.settings.Settings.{Settings}
-use Rattle.script_commands.specs.Reading.{◌>>=◌}
+use Rattle.script_answers.specs.Reading.{◌>>=◌}
 use Rattle.view_punch.specs.Trial.{HasLine, first_idle, line_of, set_in, trial_from, tried_by, with_value}
 
 some_none : (found : Key × ℕ) (o : Option (Key × ℕ)) → o ≡ None → o ≡ Some found → ⊥

@@ -13,10 +13,10 @@ use Rattle.desk_ops.specs.declared.op.Key.TheVariants as keys
 use Rattle.desk_replica.specs.JobSettings.{settings_of}
 use Rattle.desk_replica.specs.declared.settings.Settings.{Settings}
 use Rattle.desk_job.specs.Answer.{by_key}
-use Rattle.script_commands.specs.Grammar.{command_of}
-use Rattle.script_commands.specs.Reading.{◌>>=◌}
-use Rattle.script_commands.specs.Command.{CommandValues, SetTo}
-use Rattle.script_commands.specs.Command as commands
+use Rattle.script_answers.specs.Grammar.{command_of}
+use Rattle.script_answers.specs.Reading.{◌>>=◌}
+use Rattle.script_answers.specs.Command.{CommandValues, SetTo}
+use Rattle.script_answers.specs.Command as commands
 use Rattle.view_punch.specs.declared.trial.TrialFault.{TrialFault}
 use Rattle.view_punch.specs.declared.trial.TrialFault.TheVariants as fault
 

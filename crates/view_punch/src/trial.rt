@@ -7,8 +7,8 @@
 
 ghost use Rattle.std.specs.Prelude.{◌≡◌, ◌≢◌, ◌≤◌, length, Err, IfErr, IfOk, IfSome, None, Some, option_map};
 ghost use Rattle.std.specs.Prelude.{string_bytes};
-ghost use Rattle.script_commands.specs.Command.{command_values};
-ghost use Rattle.script_commands.specs.Memory.{AsksMemory};
+ghost use Rattle.script_answers.specs.Command.{command_values};
+ghost use Rattle.script_answers.specs.Memory.{AsksMemory};
 ghost use Rattle.desk_job.specs.Answer.{AreValues};
 ghost use Rattle.desk_ops.specs.Op.{IsValue};
 ghost use Rattle.view_punch.specs.Trial.{HasLine, HasPlace, line_of, no_trial, set_by, set_in, trial_of, tried_by};
@@ -18,7 +18,7 @@ ghost use Rattle.view_punch.specs.declared.trial.TrialFault.TheVariants as fault
 use desk_memory::NoMemory;
 use desk_ops::Key;
 use desk_replica::Settings;
-use script_commands::{Command, ParseError, parse};
+use script_answers::{Command, ParseError, parse};
 use std::alloc::{AllocError, Allocator};
 use thiserror::Error;
 

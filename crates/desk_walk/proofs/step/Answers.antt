@@ -2,7 +2,7 @@ use Rattle.std.proofs.Common.{◌≡◌, ◌+◌, ◌≤◌, sym, refl, subst, a
 use Rattle.desk_ops.specs.declared.op.Stamp.{Stamp}
 use Rattle.desk_ops.specs.declared.op.Op.{Op}
 use Rattle.desk_ops.specs.OpSet.{OpSet, has_op, size}
-use Rattle.desk_room.specs.Waiting.{IsReleased, waits_for}
+use Rattle.desk_walk.specs.Waiting.{IsReleased, waits_for}
 use Rattle.desk_walk.specs.Following.{IsDraining, IsSettled}
 use Rattle.desk_walk.proofs.Drains.{acts, able, goes_on, ends, size-less}
 use Rattle.desk_walk.proofs.step.Goals as goal

@@ -1,0 +1,5 @@
+use Rattle.std.proofs.Common.{rules}
+use Rattle.desk_walk.proofs.room.Room.new.Goals as goal
+
+pub returns : goal.returns
+returns g c = search rules steps 300000

@@ -1,6 +1,0 @@
-use Rattle.script_commands.specs.declared.copy.Place.TheVariants.{Run}
-use Rattle.script_commands.proofs.Spelling.{spelled, read_whole}
-use Rattle.script_commands.proofs.laws.copy_is_its_spelling.Goals as goal
-
-pub returns : goal.returns
-returns c cs symbols = (λ h. spelled Run cs symbols h, λ h. read_whole cs symbols h)
