@@ -417,14 +417,11 @@ def put(path, data):
         os.remove(path)
 
 
-# the lines behind which the second is written in parts, of which some take memory
-IN_PARTS = (b"copydesk: not replaced\n", b"copydesk: number in use\n")
-
-
 def cut_short(got, whole):
-    """Whether a run was refused as undisturbed, but that the second line on standard error, or behind some its end, is missing."""
-    first = whole[2].split(b"\n")[0] + b"\n"
-    fewer = got[2] == first or first in IN_PARTS and got[2].startswith(first) and whole[2].startswith(got[2])
+    """Whether a run was refused as undisturbed, but that the second line on standard error is missing, or has the file and that memory ran out."""
+    first, second = whole[2].split(b"\n")[0] + b"\n", whole[2].split(b"\n")[1] + b"\n"
+    said, lacks = got[2][len(first):], b": out of memory\n"
+    fewer = got[2] == first or got[2].startswith(first) and said.endswith(lacks) and second.startswith(said[:-len(lacks)] + b":")
     return (*got[:2], got[3]) == (*whole[:2], whole[3]) and fewer
 
 

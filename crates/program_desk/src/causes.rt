@@ -224,7 +224,11 @@ fn text_cause<'a>(feed: &'a str, origin: Origin, why: TextFault) -> Cause<'a>
     ensures { result ≡ text_cause feed.entry origin why }
 {
     match why {
-        TextFault::At { line, column, cause } => Cause::Said(Said::Text(origin, line, column, cause)),
+        TextFault::At {
+            line,
+            column,
+            cause,
+        } => Cause::Said(Said::Text(origin, line, column, cause)),
         TextFault::NoMemory => Cause::NoMemory(feed),
     }
 }
@@ -247,7 +251,9 @@ fn revision_cause<'a>(feed: &'a str, why: RevisionFault) -> Cause<'a>
 {
     match why {
         RevisionFault::NoMemory => Cause::NoMemory(feed),
-        RevisionFault::Full | RevisionFault::ClockFull | RevisionFault::Value => Cause::Unfit(feed, why),
+        RevisionFault::Full | RevisionFault::ClockFull | RevisionFault::Value => Cause::Unfit(
+            feed, why,
+        ),
     }
 }
 
@@ -263,12 +269,7 @@ fn keep_cause<'a>(feed: &'a str, why: KeepFault) -> Cause<'a>
 }
 
 /// The cause where one of some feeds does not come in, by its place among them.
-fn other_cause<'a>(
-    feed: &'a str,
-    others: &'a [&'a str],
-    at: usize,
-    why: FeedTrouble,
-) -> Cause<'a>
+fn other_cause<'a>(feed: &'a str, others: &'a [&'a str], at: usize, why: FeedTrouble) -> Cause<'a>
     ensures { result ≡ other_cause feed.entry (slice_get others.now at) why }
 {
     if at >= others.len() {
