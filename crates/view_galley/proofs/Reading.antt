@@ -5,8 +5,7 @@ use Rattle.std.specs.Char.{encode_utf8}
 use Rattle.std.specs.Str.{encode_utf8_all}
 use Rattle.std.proofs.lemmas.Str.{encodes-append}
 use Rattle.std.proofs.lemmas.List.{append-nil}
-use Rattle.view_svg.specs.Escape.{allowed, escaped, is_allowed}
-use Rattle.view_svg.specs.Laws.{EscapedIsReadBack, before, read_from, read_text}
+use Rattle.view_galley.specs.Svg.{EscapedIsReadBack, allowed, before, escaped, is_allowed, read_from, read_text}
 
 -- the characters by which a character is written
 abbrev chosen : (amp less more quote : Bool) → ℕ → List ℕ
