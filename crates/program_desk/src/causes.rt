@@ -21,9 +21,8 @@ use program_words::Sources;
 use script_answers::Refusal;
 use std::alloc::Allocator;
 use view_proof::OtherNumber;
-use view_punch::PreviewFault;
+use view_punch::{PreviewFault, SortsFault};
 use view_ribbon::ReadingFault;
-use view_sorts::SortsFault;
 
 /// The names of a stored ribbon, of a case file and of a wedge file.
 #[derive(Clone, Copy)]

@@ -5,7 +5,7 @@ ghost use Rattle.std.specs.Prelude.{◌≡◌, ◌≤◌, ◌↔◌, ◌⊎◌, 
 ghost use Rattle.program_desk.specs.Readings.{AreHolesAbsent, AreHolesThere, IsListed, IsNotListed, IsNotReadOut};
 ghost use Rattle.program_desk.specs.Readings.{IsNotReadWhole, IsReadOut, IsReadWhole, TakesSource};
 ghost use Rattle.view_ribbon.specs.Sources.{sources};
-ghost use Rattle.view_sorts.specs.Sources as of_sorts;
+ghost use Rattle.view_punch.specs.SortsSources as of_sorts;
 
 use crate::causes::{ReadingSources, reading_cause, sorts_cause};
 use crate::previews::memory_of;
@@ -14,8 +14,8 @@ use feed_files::{Files, Target};
 use program_host::Explains;
 use std::alloc::Global;
 use std::io::Write;
+use view_punch::{SortsFault, report_sorts};
 use view_ribbon::{ReadingFault, draw_ribbon, read_job};
-use view_sorts::{SortsFault, report_sorts};
 
 /// Writes the reading of a ribbon, and says whether it is cast whole, or why it was not written.
 fn read_out<W: Write, E: Write, F: Files + Explains>(
