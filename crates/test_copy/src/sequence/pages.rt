@@ -1,5 +1,5 @@
 //! Pages against a list in one piece.
-use crate::numbers::{next, pick};
+use crate::sequence::numbers::{next, pick};
 use list_pages::{FULL, Pages, Pick};
 use std::alloc::{AllocError, Allocator, Global};
 use std::test::Fail;

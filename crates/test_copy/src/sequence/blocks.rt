@@ -1,7 +1,7 @@
 //! Blocks against `Flat`, which keeps its entries in one list.
 ghost use Rattle.std.specs.Prelude.{◌≡◌, IfOk};
 
-use crate::numbers::{next, pick};
+use crate::sequence::numbers::{next, pick};
 use desk_blocks::Blocks;
 use desk_ops::{Stamp, Style, Symbol};
 use desk_seq::{Entry, Flat, Sequence, integrate};

@@ -3,8 +3,8 @@ use Rattle.desk_ops.specs.Stamp.{head}
 use Rattle.desk_ops.proofs.Stamps.{same-true}
 use Rattle.desk_seq.specs.Entries.{stamps_of}
 use Rattle.desk_seq.proofs.Entries.{found-contains}
-use Rattle.test_sequence.proofs.seq.arrive.Goals as goal
-use Rattle.test_sequence.proofs.seq.arrive.Goals.{else-not-is_same-via-then-not-is_same+else-is_none, else-not-is_same-via-else-not-is_same}
+use Rattle.test_copy.proofs.sequence.seq.arrive.Goals as goal
+use Rattle.test_copy.proofs.sequence.seq.arrive.Goals.{else-not-is_same-via-then-not-is_same+else-is_none, else-not-is_same-via-else-not-is_same}
 
 pub integrate-requires-clause-parent : goal.integrate-requires-clause-parent
 integrate-requires-clause-parent g c = elim c.else-not-is_same.branch [
