@@ -44,8 +44,8 @@ use Rattle.view_punch.specs.declared.fault.PreviewFault.{PreviewFault}
 use Rattle.view_punch.specs.declared.fault.PreviewFault.TheVariants as previews
 use Rattle.view_ribbon.specs.declared.fault.ReadingFault.{ReadingFault}
 use Rattle.view_ribbon.specs.declared.fault.ReadingFault.TheVariants as readings
-use Rattle.view_sorts.specs.declared.fault.SortsFault.{SortsFault}
-use Rattle.view_sorts.specs.declared.fault.SortsFault.TheVariants as sorts
+use Rattle.view_punch.specs.declared.sorts_fault.SortsFault.{SortsFault}
+use Rattle.view_punch.specs.declared.sorts_fault.SortsFault.TheVariants as sorts
 use Rattle.program_words.specs.declared.wishes.Sources.{Sources}
 use Rattle.feed_stored.specs.declared.last_fault.LastFault.{LastFault}
 use Rattle.feed_stored.specs.declared.last_fault.LastFault.TheVariants as lasts

@@ -9,9 +9,9 @@ use Rattle.view_ribbon.specs.Reading.{IsRead, IsUnread}
 use Rattle.view_ribbon.specs.Sources.{Sources, sources}
 use Rattle.view_ribbon.specs.declared.fault.ReadingFault.{ReadingFault}
 use Rattle.view_ribbon.specs.declared.fault.ReadingFault.TheVariants as faults
-use Rattle.view_sorts.specs.Sources as of_sorts
-use Rattle.view_sorts.specs.Reporting.{AreListed, AreUnlisted}
-use Rattle.view_sorts.specs.declared.fault.SortsFault.{SortsFault}
+use Rattle.view_punch.specs.SortsSources as of_sorts
+use Rattle.view_punch.specs.Reporting.{AreListed, AreUnlisted}
+use Rattle.view_punch.specs.declared.sorts_fault.SortsFault.{SortsFault}
 use Rattle.program_desk.specs.Causes.{reading_cause, sorts_cause}
 use Rattle.program_desk.specs.Explained.{IsSilent, Reports, ReportsMore, StaysSo, TellsOf}
 use Rattle.program_desk.specs.declared.causes.Cause.TheVariants as causes

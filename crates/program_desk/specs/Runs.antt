@@ -15,7 +15,7 @@ use Rattle.program_desk.specs.Sheets.{IsOffDesk, IsOnDesk, IsScripted, IsUnscrip
 use Rattle.program_desk.specs.Previews.{IsInFile, IsInNoFile, IsSeen, IsUnseen}
 use Rattle.program_desk.specs.Readings.{IsListed, IsNotListed, IsNotReadWhole, IsReadWhole, reading_sources}
 use Rattle.view_ribbon.specs.Sources.{sources}
-use Rattle.view_sorts.specs.Sources as sorts
+use Rattle.view_punch.specs.SortsSources as sorts
 use Rattle.feed_edit.specs.Replacing.{IsReplaced}
 use Rattle.program_desk.specs.Texts.{AreFound, AreNotInOrder, IsUnchanged, exchange}
 use Rattle.program_words.specs.declared.wishes.Wish.{Wish}

@@ -25,9 +25,8 @@ use script_answers::Refusal;
 use std::alloc::Allocator;
 use text_copy::TextFault;
 use view_proof::OtherNumber;
-use view_punch::{PreviewFault, TrialFault};
+use view_punch::{PreviewFault, SortsFault, TrialFault};
 use view_ribbon::ReadingFault;
-use view_sorts::SortsFault;
 
 /// The names of a stored ribbon, of a case file and of a wedge file.
 #[derive(Clone, Copy)]

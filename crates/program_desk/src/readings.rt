@@ -6,7 +6,7 @@ ghost use Rattle.program_desk.specs.Causes.{sorts_cause};
 ghost use Rattle.program_desk.specs.Explained.{IsSilent, Reports, StaysSo};
 ghost use Rattle.program_desk.specs.Readings.{AreHolesAbsent, AreHolesThere, IsListed, IsNotListed, IsNotReadOut};
 ghost use Rattle.program_desk.specs.Readings.{IsNotReadWhole, IsReadOut, IsReadWhole, IsSource, names_of};
-ghost use Rattle.view_sorts.specs.Sources as of_sorts;
+ghost use Rattle.view_punch.specs.SortsSources as of_sorts;
 
 use crate::causes::{Cause, Output, ReadingSources, reading_cause, sorts_cause};
 use crate::previews::memory_of;
@@ -16,8 +16,8 @@ use feed_files::{Files, Target};
 use program_host::Explains;
 use std::alloc::Global;
 use std::io::Write;
+use view_punch::{SortsFault, report_sorts};
 use view_ribbon::{ReadingFault, draw_ribbon, read_job};
-use view_sorts::{SortsFault, report_sorts};
 
 /// Writes the reading of a ribbon, and says whether it is cast whole, or why it was not written.
 fn read_out<W: Write, F: Files>(

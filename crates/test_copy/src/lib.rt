@@ -1,4 +1,4 @@
-//! The tests of desk_ops, desk_codec, text_copy, desk_held, desk_registers and feed_readings.
+//! The tests of operations, copies as text, sets, readings, and the lists beneath.
 #![tactic(auto)]
 
 #[cfg(test)]
@@ -17,5 +17,7 @@ mod read_runs;
 mod registers;
 #[cfg(test)]
 mod runs;
+#[cfg(test)]
+mod sequence;
 #[cfg(test)]
 mod text;

@@ -1,4 +1,4 @@
-//! The tests of view_sorts.
+//! The tests of the sorts of view_punch.
 mod reporting;
 mod rooms;
 mod sorts;

@@ -1,3 +1,5 @@
+pub mod Prefixes
+pub mod Reading
 pub mod Numbered
 pub mod Lines
 pub mod Standing

@@ -3,3 +3,4 @@ pub mod Line
 pub mod Galley
 pub mod Answer
 pub mod Laws
+pub mod Svg

@@ -11,7 +11,9 @@ mod galley;
 pub mod laws;
 mod line;
 mod punches;
+mod svg;
 
 pub use galley::{Galley, GalleyRefusal, make_galley};
 pub use line::{Line, Next};
 pub use punches::matrices;
+pub use svg::{put_attribute, put_escaped, put_hundredths, put_number, text_end};

@@ -1,7 +1,7 @@
 -- The fills of a line as boxes.
 use Rattle.std.specs.Prelude.{ℕ, zero, suc, ◌+◌, ◌-◌, ◌*◌, ◌/◌, ℤ, unsigned_abs, List, [], ◌∷◌, ◌++◌, codes}
 use Rattle.desk_units.specs.declared.Pica.{Pica}
-use Rattle.view_svg.specs.Number.{attribute_text}
+use Rattle.view_galley.specs.Svg.{attribute_text}
 use Rattle.view_picture.specs.Paper.{across}
 use Rattle.view_picture.specs.declared.paper.Paper.{Paper}
 

@@ -9,8 +9,7 @@ use Rattle.desk_job.specs.declared.JobFault.TheVariants as jobs
 use Rattle.view_galley.specs.Values.{GalleyValues}
 use Rattle.view_proof.specs.Proof.{head_words}
 use Rattle.view_proof.specs.Faults.{cause_text, code_text, meaning_text}
-use Rattle.view_svg.specs.Escape.{escaped_char}
-use Rattle.view_svg.specs.Text.{text_end}
+use Rattle.view_galley.specs.Svg.{escaped_char, text_end}
 use Rattle.view_picture.specs.Lines.{text_at}
 
 -- where the head of this number stands, from 0

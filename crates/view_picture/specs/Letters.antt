@@ -4,7 +4,7 @@ use Rattle.desk_ops.specs.declared.op.Style.{Style}
 use Rattle.desk_ops.specs.declared.op.Style.TheVariants as styles
 use Rattle.desk_ops.specs.declared.op.Symbol.{Symbol}
 use Rattle.desk_case.specs.Case.{CaseValues, cell_of}
-use Rattle.view_svg.specs.Escape.{escaped_char}
+use Rattle.view_galley.specs.Svg.{escaped_char}
 use Rattle.view_picture.specs.declared.letters.Dress.{Dress}
 use Rattle.view_picture.specs.declared.letters.Dress.TheVariants.{Roman, Italic, SmallCap, Missing}
 

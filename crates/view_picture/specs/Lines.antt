@@ -9,8 +9,7 @@ use Rattle.view_galley.specs.Values.{LineValues}
 use Rattle.view_galley.specs.Galley.{is_faulty}
 use Rattle.view_proof.specs.Parts.{begin_of}
 use Rattle.view_proof.specs.Faults.{cause_and_limits}
-use Rattle.view_svg.specs.Number.{attribute_text}
-use Rattle.view_svg.specs.Text.{text_end}
+use Rattle.view_galley.specs.Svg.{attribute_text, text_end}
 use Rattle.view_picture.specs.Paper.{across, foot}
 use Rattle.view_picture.specs.Widths.{drawn_space, frame_or}
 use Rattle.view_picture.specs.Words.{words_text, after_words}

@@ -6,8 +6,7 @@ use Rattle.view_galley.specs.Values.{GalleyValues}
 use Rattle.view_proof.specs.Proof.{scale_of}
 use Rattle.view_proof.specs.Reasons.{reason_text}
 use Rattle.view_proof.specs.declared.reasons.NoGalley.{NoGalley}
-use Rattle.view_svg.specs.Number.{attribute_text, hundredths_text}
-use Rattle.view_svg.specs.Text.{text_end}
+use Rattle.view_galley.specs.Svg.{attribute_text, hundredths_text, text_end}
 use Rattle.view_picture.specs.Paper.{across, edge, leading}
 use Rattle.view_picture.specs.Widths.{widest}
 use Rattle.view_picture.specs.Lines.{lines_text, text_at}

@@ -3,7 +3,7 @@ use Rattle.std.specs.Prelude.{ℕ, ◌+◌, List, [], ◌∷◌, ◌++◌, codes
 use Rattle.desk_ops.specs.declared.op.Symbol.{Symbol}
 use Rattle.desk_units.specs.declared.Pica.{Pica}
 use Rattle.desk_job.specs.Job.{Terms, symbol_width}
-use Rattle.view_svg.specs.Number.{hundredths_text}
+use Rattle.view_galley.specs.Svg.{hundredths_text}
 use Rattle.view_picture.specs.Paper.{across}
 
 -- the place of a matrix that begins here

@@ -7,7 +7,7 @@ ghost use Rattle.view_picture.specs.Boxes.{box_text, boxes_text, fills_text, hei
 use crate::paper::{Paper, across};
 use desk_units::{Atoms, Pica};
 use std::alloc::{AllocError, Allocator};
-use view_svg::put_attribute;
+use view_galley::put_attribute;
 
 /// How high a box is: two thirds of the set of the wedge.
 fn height(paper: Paper) -> u128

@@ -8,9 +8,8 @@ use crate::lines::put_text_at;
 use desk_job::JobFault;
 use desk_ops::{CopyFault, Symbol};
 use std::alloc::{AllocError, Allocator};
-use view_galley::Galley;
+use view_galley::{Galley, put_escaped, text_end};
 use view_proof::{cause, meaning, put_code, put_head_words};
-use view_svg::{put_escaped, text_end};
 
 /// Where the head of a number stands, from 0.
 pub fn head_y(number: u128) -> u128
@@ -122,7 +121,7 @@ fn put_lacking_of<A: Allocator + Copy>(
 }
 
 /// Writes a symbol that the case lacks.
-#[tactic(auto, unfolding(view_svg::specs::Text::text_end))]
+#[tactic(auto, unfolding(view_galley::specs::Svg::text_end))]
 fn put_lack<A: Allocator + Copy>(
     out: &mut String<A>,
     copy: &[Symbol],

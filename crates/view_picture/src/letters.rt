@@ -6,7 +6,7 @@ ghost use Rattle.view_picture.specs.Letters.{changed, closed, dress_of, dress_of
 use desk_case::MatrixCase;
 use desk_ops::{Style, Symbol};
 use std::alloc::{AllocError, Allocator};
-use view_svg::put_escaped;
+use view_galley::put_escaped;
 
 /// How a symbol is shown: by its style, or as one that the case lacks.
 #[derive(Clone, Copy, PartialEq, Eq, Debug)]

@@ -13,9 +13,8 @@ use crate::words::put_words;
 use desk_job::terms::Terms;
 use desk_ops::Symbol;
 use std::alloc::{AllocError, Allocator};
-use view_galley::Line;
+use view_galley::{Line, put_attribute, put_number, text_end};
 use view_proof::{begin_of, put_cause};
-use view_svg::{put_attribute, put_number, text_end};
 
 /// Writes the beginning of a text of a class that stands here.
 pub fn put_text_at<A: Allocator + Copy>(
@@ -125,7 +124,7 @@ fn put_line_boxes<A: Allocator + Copy>(
 }
 
 /// Writes a fault beside its line.
-#[tactic(auto, unfolding(view_svg::specs::Text::text_end))]
+#[tactic(auto, unfolding(view_galley::specs::Svg::text_end))]
 fn put_fault<A: Allocator + Copy>(
     out: &mut String<A>,
     terms: &Terms,

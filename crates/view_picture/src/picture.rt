@@ -16,9 +16,8 @@ use crate::widths::widest;
 use desk_memory::NoMemory;
 use desk_ops::{CopyFault, Symbol};
 use std::alloc::{AllocError, Allocator};
-use view_galley::Galley;
+use view_galley::{Galley, put_attribute, put_hundredths, text_end};
 use view_proof::{NoGalley, put_reason, scale_of};
-use view_svg::{put_attribute, put_hundredths, text_end};
 
 /// How the classes of texts and boxes look.
 fn looks() -> &'static str

@@ -9,7 +9,7 @@ use desk_job::terms::Terms;
 use desk_ops::Symbol;
 use desk_units::Pica;
 use std::alloc::{AllocError, Allocator};
-use view_svg::put_hundredths;
+use view_galley::put_hundredths;
 
 /// Writes the place of a matrix that begins here.
 fn put_place<A: Allocator + Copy>(

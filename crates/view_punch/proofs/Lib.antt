@@ -2,3 +2,9 @@ pub mod Gives
 pub mod Punches
 pub mod Galleys
 mod Turns
+pub mod Tallies
+pub mod Finding
+pub mod Standing
+pub mod Texts
+pub mod Within
+pub mod SortsGives

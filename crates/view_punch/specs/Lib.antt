@@ -4,3 +4,12 @@ pub mod Lines
 pub mod Punching
 pub mod Proofing
 pub mod Trial
+pub mod Sorts
+pub mod Places
+pub mod SortsLaws
+pub mod Counting
+pub mod Listing
+pub mod Layout
+pub mod Reported
+pub mod SortsSources
+pub mod Reporting

@@ -1,4 +1,4 @@
-//! What one sees of a stored feed before it is cast: its ribbon in a file, its faults, or its galley as text.
+//! What one sees of a stored feed before it is cast: its ribbon in a file, its faults, its galley as text, or its sorts.
 //!
 //! It reads the feed, then the case, then the wedge; each file must be there. It takes no name: a store is a rename, so
 //! it reads a whole feed.
@@ -9,19 +9,43 @@
 //!
 //! `trial` has settings that are tried in place of those of a copy, each a text KEY=VALUE as `loose=200`. Nothing of
 //! them is stored.
+//!
+//! A list of sorts reads no wedge: what a copy needs, and what a case holds, as values and as text. A sort is a symbol
+//! of a style. The space is one, and the line feed is none. Fills are not counted, since their number depends on the
+//! lines that are set. Places count from 0. A missing sort has all its places, and the text around the first: up to 24
+//! symbols on each side.
+//!
+//! Steps are as many as the symbols times the logarithm of the number of sorts; no clause says so. A wide character, or
+//! a directional mark by its code, shifts its line of the table.
 #![tactic(auto)]
 
+mod cells;
 mod fault;
 mod job_line;
 pub mod laws;
+mod layout;
+mod listing;
+mod places;
 mod proofing;
 mod punching;
+mod reported;
+mod reporting;
+mod sorts;
+mod sorts_fault;
+mod sorts_laws;
+mod sorts_sources;
 mod sources;
 mod trial;
 pub mod trial_laws;
 
 pub use fault::{PreviewFault, SourcesFault};
+pub use layout::put_case;
+pub use listing::{missing_of, put_sorts};
 pub use proofing::proof_feed;
 pub use punching::punch_feed;
+pub use reporting::report_sorts;
+pub use sorts::{Sort, sorts_of};
+pub use sorts_fault::SortsFault;
+pub use sorts_laws::places_are_all;
 pub use sources::take_in;
 pub use trial::{TrialFault, no_trial, trial_of, tried};

@@ -3,7 +3,7 @@ use Rattle.std.specs.Prelude.{ℕ, ◌+◌, ◌*◌, List, [], ◌∷◌, ◌++�
 use Rattle.desk_signals.specs.declared.Signal.{Signal}
 use Rattle.desk_signals.specs.declared.Signal.TheVariants as signal
 use Rattle.desk_signals.specs.Rows.{place}
-use Rattle.view_svg.specs.Text.{text_end}
+use Rattle.view_galley.specs.Svg.{text_end}
 use Rattle.view_ribbon.specs.Parts.{between}
 
 -- the name of a signal's channel

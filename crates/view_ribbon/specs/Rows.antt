@@ -12,8 +12,7 @@ use Rattle.desk_signals.specs.declared.RibbonRow.TheVariants as row
 use Rattle.desk_signals.specs.Rows.{signals_of}
 use Rattle.desk_case.specs.Case.{CaseValues, symbol_at, is_fill}
 use Rattle.desk_case.specs.Names.{same_cell}
-use Rattle.view_svg.specs.Escape.{escaped_char}
-use Rattle.view_svg.specs.Text.{text_end}
+use Rattle.view_galley.specs.Svg.{escaped_char, text_end}
 use Rattle.view_ribbon.specs.Parts.{between}
 use Rattle.view_ribbon.specs.Channels.{x_of}
 

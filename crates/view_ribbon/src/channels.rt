@@ -8,7 +8,7 @@ ghost use Rattle.view_ribbon.specs.Channels.{name_place, x_of};
 use crate::parts::put_between;
 use desk_signals::{SIGNALS, Signal};
 use std::alloc::{AllocError, Allocator};
-use view_svg::text_end;
+use view_galley::text_end;
 
 /// The name of a signal's channel.
 fn channel_name(signal: Signal) -> &'static str

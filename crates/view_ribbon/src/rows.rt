@@ -17,7 +17,7 @@ use desk_case::names::is_same;
 use desk_ops::{Style, Symbol};
 use desk_signals::{Cell, Position, RibbonRow, Signal};
 use std::alloc::{AllocError, Allocator};
-use view_svg::{put_escaped, text_end};
+use view_galley::{put_escaped, text_end};
 
 /// Writes how far to the right a hole stands.
 #[tactic(auto, unfolding(crate::specs::Rows::hole_x))]

@@ -2,7 +2,7 @@ use desk_ops::{Style, Symbol};
 use linked_list_allocator::LocalHeap;
 use std::alloc::Global;
 use std::test::Fail;
-use view_sorts::{Sort, sorts_of};
+use view_punch::{Sort, sorts_of};
 
 /// An italic `b`, and Roman `b`, `a`, a line feed, `b`.
 const COPY: &[Symbol] = &[

@@ -4,7 +4,7 @@ use feed_edit::FeedTrouble;
 use feed_files::FileRefusal;
 use script_answers::Refusal;
 use std::alloc::{AllocError, Global};
-use view_sorts::SortsFault;
+use view_punch::SortsFault;
 
 /// Of a feed they are those of its trouble.
 const WORDS: [(SortsFault, &str); 5] = [

@@ -1,6 +1,6 @@
 use Rattle.std.proofs.Common.{inl, inr}
-use Rattle.view_sorts.specs.Sources.{sources}
-use Rattle.view_sorts.specs.Reporting.{AreListed, AreUnlisted}
+use Rattle.view_punch.specs.SortsSources.{sources}
+use Rattle.view_punch.specs.Reporting.{AreListed, AreUnlisted}
 use Rattle.program_desk.proofs.Statuses.{no_of, yes_of}
 use Rattle.program_desk.proofs.readings.listed.Goals as goal
 

@@ -2,7 +2,7 @@ use Rattle.std.proofs.Common.{◌≡◌, ◌∙◌, ◌+◌, ◌++◌, List, ap,
 use Rattle.std.specs.Prelude.{OnOk, codes, if◌then◌else◌, option_to_list}
 use Rattle.std.specs.Result.{is_ok}
 use Rattle.desk_job.specs.declared.JobFault.{JobFault}
-use Rattle.view_svg.specs.Text.{text_end}
+use Rattle.view_galley.specs.Svg.{text_end}
 use Rattle.view_proof.specs.Faults.{cause_and_limits}
 use Rattle.view_proof.proofs.Texts.{three}
 use Rattle.view_picture.specs.Lines.{fault_text, text_at}

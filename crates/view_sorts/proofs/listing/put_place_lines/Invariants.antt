@@ -1,6 +1,0 @@
-use Rattle.std.proofs.Common.{◌≡◌, ◌++◌, string_bytes, drop}
-use Rattle.view_sorts.specs.Listing.{place_lines}
-use Rattle.view_sorts.proofs.listing.put_place_lines.Given as goal
-
-abbrev pub invariant-loop-number : goal.invariant-loop-number
-invariant-loop-number g l = string_bytes l.out ++ place_lines l.number (drop l.number l.places) ≡ string_bytes l.fn.out ++ place_lines 0 l.places

@@ -1,5 +1,0 @@
-use Rattle.view_sorts.proofs.Within.{within}
-use Rattle.view_sorts.proofs.reported.text_of.Goals as goal
-
-pub put_sorts-requires : goal.put_sorts-requires
-put_sorts-requires g c = within c.args.copy.now c.args.sorts.now c.requires

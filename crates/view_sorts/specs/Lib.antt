@@ -1,9 +1,0 @@
-pub mod Sorts
-pub mod Places
-pub mod Laws
-pub mod Counting
-pub mod Listing
-pub mod Layout
-pub mod Reported
-pub mod Sources
-pub mod Reporting

@@ -1,4 +1,0 @@
-pub mod Escape
-pub mod Number
-pub mod Text
-pub mod Laws
