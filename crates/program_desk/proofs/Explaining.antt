@@ -23,4 +23,4 @@ told_first asked cause begun whole a c is (lines, are, goes) = (lines, are, goes
 
 pub reported_first : (cause : Cause) (begun whole : Bool) (a c : Option (List ℕ)) → begun ≡ true → ReportsMore cause begun whole a c → Reports cause whole a c
 reported_first cause begun whole a c is (inl more) = inl (told_first true cause begun whole a c is more)
-reported_first cause begun whole a c is (inr silent) = inr (silent.0, subst (λ b. whole ≡ b) is silent.1.0, silent.1.1)
+reported_first cause begun whole a c is (inr silent) = inr (silent.0, (subst (λ b. whole ≡ b) is silent.1.0, silent.1.1))

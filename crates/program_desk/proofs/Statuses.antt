@@ -1,5 +1,5 @@
 -- What a status says of a run.
-use Rattle.std.proofs.Common.{◌≡◌, ap, ◌⊎◌, inl, inr, ℕ, Bool, true, false, refl, arith}
+use Rattle.std.proofs.Common.{◌≡◌, ap, subst, sym, ◌⊎◌, inl, inr, ℕ, Bool, true, false, refl, arith}
 use Rattle.std.specs.Prelude.{Result, Ok, Err, MatchBool, MatchResult, IfErr, IfOk, IsErrOf, OnErr, OnOk}
 
 -- a status is not both
@@ -7,6 +7,10 @@ apart : {X : Type 0} (status : ℕ) → status ≡ 0 → status ≡ 1 → X
 apart status none one = absurd (omega (arith, none, one))
 
 -- ---- a status with what was written of a fault
+
+-- what holds of a fault
+pub said_in : {A E : Type 0} (Done : A → Type 0) (Said : E → Type 0) (r : Result A E) (e : E) → r ≡ Err e → Said e → MatchResult r Done Said
+said_in Done Said r e is said = subst (λ (r : Result A E). MatchResult r Done Said) (sym is) said
 
 -- the status 0
 pub ended_of : {A E X : Type 0} (r : Result A E) (Said : E → Type 0) (status : ℕ) → MatchResult r (λ _. status ≡ 0) (λ e. (status ≡ 1) × Said e) → OnOk r X → status ≡ 0 → X

@@ -1,7 +1,7 @@
 //! What is done by hand with a stored feed, and how it ended. Where it was not done a line says so, and a second one the
 //! cause, unless the first says all.
 
-ghost use Rattle.std.specs.Prelude.{◌≡◌, ◌≤◌, List, MatchResult, ℕ};
+ghost use Rattle.std.specs.Prelude.{◌≡◌, ◌≤◌, List, MatchResult, true, ℕ};
 ghost use Rattle.feed_edit.specs.Exporting.{IsExported};
 ghost use Rattle.feed_edit.specs.Importing.{IsImported};
 ghost use Rattle.feed_files.specs.Files.{Stays};

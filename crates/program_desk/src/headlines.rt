@@ -86,7 +86,7 @@ fn tell_two<E: Write>(
     other: u64,
 ) -> Told
     ensures { GoesOn told.is_whole result.is_whole (E.contents faults.old) (E.contents faults.new)
-        (words.0.now ++ (decimal number ++ (words.1.now ++ (decimal other ++ words.2.now)))) }
+        (words.entry.0.now ++ (decimal number ++ (words.entry.1.now ++ (decimal other ++ words.entry.2.now)))) }
 {
     let begun = tell_words(faults, told, words.0);
     let counted = tell_number(faults, begun, number);

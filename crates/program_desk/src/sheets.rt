@@ -69,23 +69,23 @@ fn sheet_ending<E: Write, F: Explains>(
     }
 }
 
-/// Whether a feed is older than what was made in this room.
-fn is_older(fault: RoomFault) -> bool
-    ensures { result ≡ is_older fault }
+/// Whether a second line is written: where it is asked why, or the feed is older than what was made in this room.
+fn is_explained(why: bool, fault: RoomFault) -> bool
+    ensures { result ≡ (why || is_older fault) }
 {
     match fault {
         RoomFault::Older { .. } => true,
-        RoomFault::Run(_) => false,
+        RoomFault::Run(_) => why,
     }
 }
 
-/// Whether the feed of a sheet is.
-fn is_older_sheet(fault: SheetFault) -> bool
-    ensures { result ≡ is_older_sheet fault }
+/// Whether it is of a sheet.
+fn is_explained_sheet(why: bool, fault: SheetFault) -> bool
+    ensures { result ≡ (why || is_older_sheet fault) }
 {
     match fault {
         SheetFault::Older { .. } => true,
-        SheetFault::Line(_) | SheetFault::Run(_) => false,
+        SheetFault::Line(_) | SheetFault::Run(_) => why,
     }
 }
 
@@ -106,7 +106,7 @@ fn room_ending<E: Write, F: Explains>(
     match outcome {
         Ok(()) => ended(0),
         Err(fault) => {
-            let asked = why || is_older(fault);
+            let asked = is_explained(why, fault);
             stopped(alloc, faults, files, asked, room_cause(feed, site, fault))
         }
     }
@@ -129,7 +129,7 @@ fn stored_ending<E: Write, F: Explains>(
     match outcome {
         Ok(()) => ended(0),
         Err(fault) => {
-            let asked = why || is_older_sheet(fault);
+            let asked = is_explained_sheet(why, fault);
             stopped(alloc, faults, files, asked, stop_cause(feed, site, fault))
         }
     }

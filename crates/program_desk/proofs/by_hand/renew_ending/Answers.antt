@@ -1,6 +1,10 @@
-use Rattle.std.proofs.Common.{subst}
+use Rattle.std.proofs.Common.{◌≡◌, subst, true, false}
+use Rattle.program_desk.specs.Causes.{renew_cause}
 use Rattle.program_desk.specs.Explained.{TellsOf}
+use Rattle.program_desk.proofs.Statuses.{said_in}
 use Rattle.program_desk.proofs.by_hand.renew_ending.Goals as goal
 
 pub returns-in-Err : goal.returns-in-Err
-returns-in-Err g c = (c.stopped.ensures.0, subst (λ cause. TellsOf true cause c.stopped.result.told.is_whole (g.E.Write.contents c.args.faults.now) (g.E.Write.contents c.stopped.new.faults)) c.renew_cause.ensures c.stopped.ensures.1)
+returns-in-Err g c = said_in (λ _. c.stopped.result.status ≡ 0)
+    (λ fault. (c.stopped.result.status ≡ 1) × TellsOf true (renew_cause c.args.new c.args.feed fault) c.stopped.result.told.is_whole (g.E.Write.contents c.args.faults.now) (g.E.Write.contents c.stopped.new.faults)) c.args.outcome c.in-Err.fault c.in-Err.is
+    (c.stopped.ensures.0, subst (λ cause. TellsOf true cause c.stopped.result.told.is_whole (g.E.Write.contents c.args.faults.now) (g.E.Write.contents c.stopped.new.faults)) c.renew_cause.ensures c.stopped.ensures.1)
