@@ -2,7 +2,13 @@
 use Rattle.std.proofs.Common.{◌≡◌, ◌∙◌, inl, inr, sym, ℕ, Bool, true, false, refl, arith}
 use Rattle.std.specs.Prelude.{◌⊎◌, Result, Ok, Err, MatchResult, IfErr, IfOk}
 use Rattle.std.proofs.lemmas.Bool.{true≢false}
-use Rattle.program_desk.specs.ByHand.{status_of}
+use Rattle.std.specs.Prelude.{⊥, List, []}
+use Rattle.std.specs.Borrow.{Bor}
+use Rattle.clap.specs.Words.{Text}
+use Rattle.feed_edit.specs.declared.fault.MergeFault.{MergeFault}
+use Rattle.feed_edit.specs.declared.fault.MergeFault.TheVariants as merges
+use Rattle.feed_edit.specs.declared.stamps.SiteStamp.{SiteStamp}
+use Rattle.program_desk.specs.ByHand.{IsForkLine, status_of}
 
 -- a status is not both
 apart : {X : Type 0} (status : ℕ) → status ≡ 0 → status ≡ 1 → X
@@ -25,3 +31,10 @@ not_merged false (Ok true) X Why Quiet Said status reported x why one = apart st
 not_merged true (Ok false) X Why Quiet Said status reported x why one = inr (refl, x, reported.1)
 not_merged false (Ok false) X Why Quiet Said status reported x why one = apart status reported.0 one
 not_merged review (Err e) X Why Quiet Said status reported x why one = inl (e, why, reported.1)
+
+-- another fault has no line on forks
+pub no_forks : {A : Type 0} (others : List (Bor Text)) (fault : MergeFault A) → ((at : ℕ) → (stamps : List SiteStamp) → fault ≡ merges.Forks at stamps → ⊥) → IsForkLine others fault []
+no_forks others (merges.Take why) none = refl
+no_forks others (merges.Other at why) none = refl
+no_forks others (merges.Forks at stamps) none = absurd (none at stamps refl)
+no_forks others (merges.Keep why) none = refl

@@ -10,7 +10,7 @@ apart status none one = absurd (omega (arith, none, one))
 
 -- what holds of a fault
 pub said_in : {A E : Type 0} (Done : A → Type 0) (Said : E → Type 0) (r : Result A E) (e : E) → r ≡ Err e → Said e → MatchResult r Done Said
-said_in Done Said r e is said = subst (λ (r : Result A E). MatchResult r Done Said) (sym is) said
+said_in {A = A} {E = E} Done Said r e is said = subst (λ (r : Result A E). MatchResult r Done Said) (sym is) said
 
 -- the status 0
 pub ended_of : {A E X : Type 0} (r : Result A E) (Said : E → Type 0) (status : ℕ) → MatchResult r (λ _. status ≡ 0) (λ e. (status ≡ 1) × Said e) → OnOk r X → status ≡ 0 → X

@@ -1,8 +1,9 @@
 //! What is done by hand with a stored feed, and how it ended. Where it was not done a line says so, and a second one the
 //! cause, unless the first says all.
 
-ghost use Rattle.std.specs.Prelude.{◌≡◌, ◌≤◌, List, MatchResult, true, ℕ};
+ghost use Rattle.std.specs.Prelude.{◌≡◌, ◌≤◌, ◌⊎◌, List, MatchResult, [], slice_get, true, ℕ};
 ghost use Rattle.feed_edit.specs.Exporting.{IsExported};
+ghost use Rattle.feed_edit.specs.Forks.{forks_line};
 ghost use Rattle.feed_edit.specs.Importing.{IsImported};
 ghost use Rattle.feed_files.specs.Files.{Stays};
 ghost use Rattle.feed_sites.specs.Renewing.{IsRenewed};
@@ -18,13 +19,41 @@ use crate::causes::{export_cause, import_cause, merge_cause, renew_cause, renumb
 use crate::reporting::{reported, stopped};
 use crate::told::{Ending, Told, ended, tell_more};
 use feed_edit::{
-    ExportFault, ImportFault, MergeFault, export_feed, forks_line, import_text, merge_feeds,
+    ExportFault, ImportFault, MergeFault, SiteStamps, export_feed, forks_line, import_text,
+    merge_feeds,
 };
 use feed_files::Files;
 use feed_sites::{RenewFault, RenumberFault, renew_feed, renumber_feed};
 use program_host::Explains;
 use std::alloc::Global;
 use std::io::{Read, Write};
+
+/// The name at a place, if there is one.
+fn name_at<'a>(others: &'a [&'a str], at: usize) -> Option<&'a str>
+    ensures { result ≡ slice_get others.now at }
+{
+    if at >= others.len() {
+        return None;
+    }
+    Some(others[at])
+}
+
+/// Writes the line on a number that was used twice, if there is memory for it.
+fn tell_forks<E: Write>(
+    alloc: Global,
+    faults: &mut E,
+    told: Told,
+    name: &str,
+    stamps: &SiteStamps<Global>,
+) -> Told
+    ensures { (line : List ℕ) × ((line ≡ []) ⊎ (line ≡ forks_line name.now stamps.now))
+        × GoesOn told.is_whole result.is_whole (E.contents faults.old) (E.contents faults.new) line }
+{
+    match forks_line(alloc, name, stamps) {
+        Ok(line) => tell_more(faults, told, line.as_bytes()),
+        Err(_) => told,
+    }
+}
 
 /// Writes the line on a number that was used twice, if that is the fault and there is memory for it.
 fn explain_forks<E: Write>(
@@ -40,13 +69,10 @@ fn explain_forks<E: Write>(
     let MergeFault::Forks { at, stamps } = fault else {
         return told;
     };
-    if *at >= others.len() {
+    let Some(name) = name_at(others, *at) else {
         return told;
-    }
-    match forks_line(alloc, others[*at], stamps) {
-        Ok(line) => tell_more(faults, told, line.as_bytes()),
-        Err(_) => told,
-    }
+    };
+    tell_forks(alloc, faults, told, name, stamps)
 }
 
 /// The status of a merge that was done: 1 where words are open, and that is to be reviewed.
