@@ -2,7 +2,7 @@
 use Rattle.std.proofs.Common.{◌≡◌, ◌∙◌, inl, inr, sym, ℕ, Bool, true, false, refl, arith}
 use Rattle.std.specs.Prelude.{◌⊎◌, Result, Ok, Err, MatchResult, IfErr, IfOk}
 use Rattle.std.proofs.lemmas.Bool.{true≢false}
-use Rattle.std.specs.Prelude.{⊥, List, []}
+use Rattle.std.specs.Prelude.{List, []}
 use Rattle.std.specs.Borrow.{Bor}
 use Rattle.clap.specs.Words.{Text}
 use Rattle.feed_edit.specs.declared.fault.MergeFault.{MergeFault}

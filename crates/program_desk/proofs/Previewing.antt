@@ -1,22 +1,18 @@
 -- What a proof and a picture leave.
-use Rattle.std.proofs.Common.{◌≡◌, ap, refl}
-use Rattle.std.specs.Prelude.{List, Result, Ok, Err, IfErr, IfOk}
-use Rattle.std.specs.Borrow.{Bor}
-use Rattle.view_punch.specs.Trial.{HasLine, HasPlace}
-use Rattle.view_punch.specs.declared.trial.TrialFault.{TrialFault}
-use Rattle.view_punch.specs.declared.trial.TrialFault.TheVariants as trials
-use Rattle.program_desk.specs.Previews.{IsUntried}
+use Rattle.std.proofs.Common.{◌≡◌, ◌≤◌, ◌⊎◌, inl, inr, refl, ℕ, zero, suc, arith}
+use Rattle.std.specs.Prelude.{Result, Ok, Err, IfErr, IfOk}
 
 -- what holds beside what is known of an answer
-pub shown_of : {A E X : Type 0} {P : A → Type 0} (r : Result A E) → X → IfOk r P → IfOk r (λ a. X × P a)
-shown_of (Ok a) x p = (x, p)
-shown_of (Err e) x p = tt
+pub shown_of : {A E X : Type 0} (P : A → Type 0) (r : Result A E) → X → IfOk r P → IfOk r (λ a. X × P a)
+shown_of P (Ok a) x p = (x, p)
+shown_of P (Err e) x p = tt
 
-pub unshown_of : {A E X : Type 0} {P : E → Type 0} (r : Result A E) → X → IfErr r P → IfErr r (λ e. X × P e)
-unshown_of (Ok a) x p = tt
-unshown_of (Err e) x p = (x, p)
+pub unshown_of : {A E X : Type 0} (P : E → Type 0) (r : Result A E) → X → IfErr r P → IfErr r (λ e. X × P e)
+unshown_of P (Ok a) x p = tt
+unshown_of P (Err e) x p = (x, p)
 
--- why texts try no settings
-pub untried_of : {A : Type 0} (fault : TrialFault) (sets : List (Bor (List ℕ))) → HasPlace fault sets → (Err {A} fault ≡ Err trials.NoMemory → HasLine sets) → IsUntried fault sets
-untried_of (trials.NoSetting place) sets place_is memory = place_is
-untried_of trials.NoMemory sets place_is memory = memory refl
+-- what holds by a status
+pub by_status : (A B : Type 0) (status : ℕ) → status ≤ 1 → (status ≡ 0 → A) → (status ≡ 1 → B) → A ⊎ B
+by_status A B zero within none one = inl (none refl)
+by_status A B (suc zero) within none one = inr (one refl)
+by_status A B (suc (suc n)) within none one = absurd (omega (arith, within))

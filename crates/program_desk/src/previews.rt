@@ -131,10 +131,13 @@ fn seen_by<W: Write, E: Write, F: Files + Explains>(
     match shown(alloc, from, alone, trial, writer, files) {
         Ok(clean) => {
             let ending = pictured(alloc, from, trial, picture, force, silent(), faults, files);
-            if ending.status != 0 || clean {
+            if clean {
                 return ending;
             }
-            ended(1)
+            Ending {
+                status: 1,
+                told: ending.told,
+            }
         }
         Err(PreviewFault::Write) => {
             let told = reported(alloc, faults, files, Cause::ReportOutput).told;

@@ -113,10 +113,13 @@ pub fn read_whole<W: Write, E: Write, F: Files + Explains>(
     match read_out(alloc, from, writer, files) {
         Ok(whole) => {
             let ending = drawn(alloc, from, picture, force, silent(), faults, files);
-            if ending.status != 0 || whole {
+            if whole {
                 return ending;
             }
-            ended(1)
+            Ending {
+                status: 1,
+                told: ending.told,
+            }
         }
         Err(ReadingFault::Write) => {
             let told = reported(alloc, faults, files, Cause::ReportOutput).told;

@@ -13,8 +13,8 @@ use Rattle.program_desk.proofs.by_hand.explain_forks.Goals as goal
 pub returns-in_default : goal.returns-in_default
 returns-in_default g c = ([], no_forks c.args.others.now c.args.fault.now (λ at stamps is. c.in_default.not-Forks at stamps is), stays c.args.told.is_whole (g.E.Write.contents c.args.faults.now))
 
-pub returns-in_default-2 : goal.returns-in_default-2
-returns-in_default-2 g c = ([], subst (λ (fault : MergeFault Global). IsForkLine c.args.others.now fault []) (sym c.in-Forks.is) (inl refl), stays c.args.told.is_whole (g.E.Write.contents c.args.faults.now))
+pub returns-in_default-name_at : goal.returns-in_default-name_at
+returns-in_default-name_at g c = ([], subst (λ (fault : MergeFault Global). IsForkLine c.args.others.now fault []) (sym c.in-Forks.is) (inl refl), stays c.args.told.is_whole (g.E.Write.contents c.args.faults.now))
 
 pub returns : goal.returns
 returns g c = elim c.tell_forks.ensures.1 [
