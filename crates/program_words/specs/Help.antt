@@ -1,6 +1,6 @@
 -- What the help and the version say.
 use Rattle.std.specs.Prelude.{◌≡◌, Option, Some, false, option_map}
-use Rattle.clap.specs.Words.{Text}
+use Rattle.clap.specs.Words.{App, Text, app_of}
 use Rattle.clap.specs.declared.builder.arg.Arg.{Arg}
 use Rattle.clap.specs.declared.builder.command.Command.{Command}
 use Rattle.clap.specs.declared.builder.command.Command.TheViews.{out-Command}
@@ -20,3 +20,9 @@ version_of command = option_map (λ s. s.now) (out-Command command).version
 pub record HasTexts (command : Command) (about help : Text) : Type 0 where
   pub above : option_map (λ s. s.now) (out-Command command).about ≡ Some about
   pub below : option_map (λ s. s.now) (out-Command command).after_help ≡ Some help
+
+-- a subcommand that is read so, and has these texts
+pub record IsMade (read : App) (about help : Text) (command : Command) : Type 0 where
+  pub app : app_of command ≡ read
+  pub local : (out-Command command).has_globals ≡ false
+  pub texts : HasTexts command about help

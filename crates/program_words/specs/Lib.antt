@@ -1,3 +1,4 @@
 pub mod Words
 pub mod Help
+pub mod Arguments
 pub mod Examples

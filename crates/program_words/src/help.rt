@@ -38,28 +38,6 @@ pub const READ: &str = "Writes what a caster would cast of a stored ribbon.";
 pub const SORTS: &str =
     "Writes which sorts the copy of a stored feed wants, and which the case lacks.";
 
-/// What the feed of a subcommand is.
-pub const FEED: &str = "The name of the file that the feed is stored in.";
-
-/// What the site of a feed is.
-pub const SITE: &str = "The number of the site whose feed it is, from 1 to 65535.";
-
-/// What the target of a ribbon is.
-pub const TARGET: &str = "The name of the file that the ribbon is stored in.";
-
-/// What goes on with an older feed.
-pub const OLDER: &str = "Goes on with a feed that is older than what this room stored there.";
-
-/// What is replaced by force.
-pub const FORCE: &str = "Replaces the file that the output goes to, whatever it is.";
-
-/// What a strict run does.
-pub const STRICT: &str = "\
-Ends at the first line that is refused; empty lines and lines that begin with # are passed over.";
-
-/// What numbered answers are.
-pub const NUMBER: &str = "Writes the number of its line before each answer.";
-
 /// What the subcommands are for.
 pub const ON_SUBCOMMANDS: &str = "\
 As in:

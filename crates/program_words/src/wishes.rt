@@ -152,49 +152,23 @@ fn subcommand_named(name: &str) -> Option<Subcommand>
     ensures some { IfSome result (λ subcommand. name.now ≡ name_of subcommand) }
     ensures none { IsNone result → (subcommand : _) → name.now ≢ name_of subcommand }
 {
-    if name == "script" {
-        return Some(Subcommand::Script);
+    match name {
+        "script" => Some(Subcommand::Script),
+        "desk" => Some(Subcommand::Desk),
+        "merge" => Some(Subcommand::Merge),
+        "diff" => Some(Subcommand::Diff),
+        "export" => Some(Subcommand::Export),
+        "import" => Some(Subcommand::Import),
+        "replace" => Some(Subcommand::Replace),
+        "check" => Some(Subcommand::Check),
+        "proof" => Some(Subcommand::Proof),
+        "punch" => Some(Subcommand::Punch),
+        "read" => Some(Subcommand::Read),
+        "sorts" => Some(Subcommand::Sorts),
+        "renumber" => Some(Subcommand::Renumber),
+        "renew" => Some(Subcommand::Renew),
+        _ => None,
     }
-    if name == "desk" {
-        return Some(Subcommand::Desk);
-    }
-    if name == "merge" {
-        return Some(Subcommand::Merge);
-    }
-    if name == "diff" {
-        return Some(Subcommand::Diff);
-    }
-    if name == "export" {
-        return Some(Subcommand::Export);
-    }
-    if name == "import" {
-        return Some(Subcommand::Import);
-    }
-    if name == "replace" {
-        return Some(Subcommand::Replace);
-    }
-    if name == "check" {
-        return Some(Subcommand::Check);
-    }
-    if name == "proof" {
-        return Some(Subcommand::Proof);
-    }
-    if name == "punch" {
-        return Some(Subcommand::Punch);
-    }
-    if name == "read" {
-        return Some(Subcommand::Read);
-    }
-    if name == "sorts" {
-        return Some(Subcommand::Sorts);
-    }
-    if name == "renumber" {
-        return Some(Subcommand::Renumber);
-    }
-    if name == "renew" {
-        return Some(Subcommand::Renew);
-    }
-    None
 }
 
 /// The site's number that a subcommand's matches hold.
