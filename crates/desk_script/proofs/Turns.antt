@@ -75,3 +75,8 @@ turn_kept old new a b c ls (rs, first, written) k = (rs, first, Appends-kept a b
 -- all of the first lines were answered, and what comes after them was not
 pub turn_stops : (old new : Desk) (last : Shelf) (a b : Option (List ℕ)) (ls more : List Line) → Stays new.shelf last → Turn old new a b ls → StopsWithin old last a b (ls ++ more)
 turn_stops old new last a b ls more still (rs, first, written) = (ls, more, refl, new, still, rs, first, (output rs, [], written, sym (append-nil (output rs))))
+
+-- before a line that was not kept all answers were written
+pub before_within : (old : Desk) (last : Shelf) (a b : Option (List ℕ)) (ls : List Line) → StopsBefore old last a b ls → StopsWithin old last a b ls
+before_within old last a b ls (prefix, tail, next, split, new, still, turn) =
+    subst (StopsWithin old last a b) (sym split) (turn_stops old new last a b prefix (next ∷ tail) still turn)
