@@ -1,6 +1,6 @@
 -- A loop of reads over lines.
 use Rattle.std.proofs.Common.{◌≡◌, ℕ, ◌==◌, true, false, List, [], ◌∷◌, ◌++◌, sym, ap, ◌∙◌, subst, append_assoc}
-use Rattle.std.specs.Prelude.{◌≢◌, Option, Some, None, Err, IfSome}
+use Rattle.std.specs.Prelude.{Option, Some, None, Err, IfSome}
 use Rattle.desk_script.specs.Fault.{IsOfLines}
 use Rattle.desk_script.specs.declared.fault.RunFault.{RunFault}
 use Rattle.desk_script.specs.declared.fault.RunFault.TheVariants as faults

@@ -85,10 +85,6 @@ no_letting_fails : (why : LastFault) → sheets.Run (faults.File refusals.Device
 no_letting_fails (lasts.Older made held) is = cc
 no_letting_fails lasts.NoMemory is = cc
 
-no_letting_stops : (why : LastFault) (k : ℕ) → sheets.Line k ≡ of_letting why → ⊥
-no_letting_stops (lasts.Older made held) k is = cc
-no_letting_stops lasts.NoMemory k is = cc
-
 -- the phase of a feed that was not taken
 pub barred_of : (name : List ℕ) (first last : Shelf) (fault : SheetFault) (why : RunFault) → fault ≡ sheets.Run why → IsBarred name first last why
     → ((w : FileRefusal) × (fault ≡ sheets.Run (of_file w))) ⊎ ((w : OpenFault) × (fault ≡ sheets.Run (of_opening w))) ⊎ ((w : LastFault) × (fault ≡ of_letting w))
@@ -99,24 +95,6 @@ barred_of name first last fault why e (inr (held, taken, inr (w, is, closed))) =
 pub broken_not_older : (mode : Option Mode) (old new : Desk) (i b a : Option (List ℕ)) (made had : ℕ) → IsBroken mode old new i b a (sheets.Older made had) → ⊥
 broken_not_older None old new i b a made had broken = broken
 broken_not_older (Some mode) old new i b a made had broken = broken
-
--- lines that are answered one by one stop at none
-pub no_line_stops : (name : List ℕ) (n : ℕ) (older : Bool) (first last : Shelf) (i b a : Option (List ℕ)) (k : ℕ) → IsStoppedBy None name n older first last i b a (sheets.Line k) → ⊥
-no_line_stops name n older first last i b a k (inl (same, why, is, barred)) = cc
-no_line_stops name n older first last i b a k (inr (inl (same, why, is, out))) = no_letting_stops why k is
-no_line_stops name n older first last i b a k (inr (inr (read, begun, entered, new, stays, inl (broken, same)))) = broken
-no_line_stops name n older first last i b a k (inr (inr (read, begun, entered, new, stays, inr (answered, why, is, left)))) = cc
-
-not_compared : (read : Option (List ℕ)) → is_compared true read ≡ true → ⊥
-not_compared None is = cc
-not_compared (Some bytes) is = cc
-
--- an older feed is let in where it is wanted
-pub none_is_older : (name : List ℕ) (n : ℕ) (first last : Shelf) (i b a : Option (List ℕ)) (made had : ℕ) → IsStoppedBy None name n true first last i b a (sheets.Older made had) → ⊥
-none_is_older name n first last i b a made had (inl (same, why, is, barred)) = cc
-none_is_older name n first last i b a made had (inr (inl (same, why, is, (read, start, opened, (set, there, (compared, stays, back)))))) = not_compared read compared
-none_is_older name n first last i b a made had (inr (inr (read, begun, entered, new, stays, inl (broken, same)))) = broken
-none_is_older name n first last i b a made had (inr (inr (read, begun, entered, new, stays, inr (answered, why, is, left)))) = cc
 
 barred_fails : (name : List ℕ) (first last : Shelf) (why : RunFault) → why ≡ faults.File refusals.Device → IsBarred name first last why → HasFailed first last
 barred_fails name first last why e (inl (w, is, untaken)) = file_failed w first last (sym is ∙ e) untaken.2

@@ -16,9 +16,6 @@ use Rattle.desk_script.specs.Script.{Script, Turn, StopsWithin, StopsBefore, IsR
 pub no_turn : (old : Desk) (a : Option (List ℕ)) → Turn old old a a []
 no_turn old a = ([], refl, Appends-nil a)
 
-pub no_prefix : (old : Desk) (last : Shelf) (a : Option (List ℕ)) (lines : List Line) → Stays old.shelf last → StopsWithin old last a a lines
-no_prefix old last a lines still = ([], lines, refl, old, still, [], refl, ([], [], Appends-nil a, refl))
-
 -- a refusal is not long
 never : (P : Type 0) (reply : ReplyValues) (why : Refusal) → reply ≡ Refused why → is_long reply ≡ true → P
 never P reply why is long = let short : is_long reply ≡ false = ap is_long is in absurd (cc)

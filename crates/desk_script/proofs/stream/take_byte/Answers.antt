@@ -1,5 +1,5 @@
 use Rattle.feed_files.proofs.Shelves.{stays_same}
-use Rattle.std.proofs.Common.{◌≡◌, ◌∷◌, [], ◌≤◌, ◌+◌, ◌==◌, ◌∙◌, ap, eq-eqb, false, length, rules, sym}
+use Rattle.std.proofs.Common.{◌∷◌, [], ◌≤◌, ◌+◌, ◌∙◌, ap, eq-eqb, length, rules, sym}
 use Rattle.std.proofs.lemmas.Bool.{ne_eqb}
 use Rattle.std.proofs.lemmas.Result.{err_from_is_err_and}
 use Rattle.desk_script.specs.Desk.{desk}
