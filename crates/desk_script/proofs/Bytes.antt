@@ -1,14 +1,10 @@
 -- What is answered, or not.
 use Rattle.std.proofs.Common.{◌≡◌, ◌∙◌, sym}
-use Rattle.std.specs.Prelude.{Result, Ok, Err, OnOk, OnErr}
+use Rattle.std.specs.Prelude.{Result, Ok, Err, OnErr}
 
 pub on_err : {A E P : Type 0} (r : Result A E) → P → OnErr r P
 on_err (Ok x) p = tt
 on_err (Err e) p = p
-
-pub on_ok : {A E P : Type 0} (r : Result A E) → P → OnOk r P
-on_ok (Ok x) p = p
-on_ok (Err e) p = tt
 
 -- the fault of a call that failed, by what the result is
 pub reported_fault : {V E : Type 0} (result : Result V E) (fault given wanted : E) → result ≡ Err fault → fault ≡ given → result ≡ Err wanted → given ≡ wanted

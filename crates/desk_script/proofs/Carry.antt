@@ -1,6 +1,9 @@
 -- A loop of reads over lines.
 use Rattle.std.proofs.Common.{◌≡◌, ℕ, ◌==◌, true, false, List, [], ◌∷◌, ◌++◌, sym, ap, ◌∙◌, subst, append_assoc}
-use Rattle.std.specs.Prelude.{Option, Some, None, IfSome}
+use Rattle.std.specs.Prelude.{Option, Some, None, Err, IfSome}
+use Rattle.desk_script.specs.Fault.{IsOfLines}
+use Rattle.desk_script.specs.declared.fault.RunFault.{RunFault}
+use Rattle.desk_script.specs.declared.fault.RunFault.TheVariants as faults
 use Rattle.std.specs.Io.KnownBytes.{Consumes, IsAtEnd}
 use Rattle.std.proofs.lemmas.List.{append-nil}
 use Rattle.desk_script.specs.Line.{Line, line_of}
@@ -10,8 +13,8 @@ use Rattle.feed_files.specs.Files.{Shelf, Stays}
 use Rattle.script_world.specs.Sites.{Sites}
 use Rattle.desk_script.specs.Desk.{Desk, desk}
 use Rattle.desk_script.specs.Script.{Turn, StopsWithin, StopsBefore, Answers, AnswersBefore, AnswersPrefix}
-use Rattle.desk_script.specs.Pending.{Breaks, BreaksBefore, Carries, Moves, Progress, last_line, lines_from}
-use Rattle.desk_script.proofs.Turns.{no_turn, turn_before, turn_turn, turn_prefix}
+use Rattle.desk_script.specs.Pending.{Breaks, BreaksBefore, Carries, Moves, Progress, Takes, last_line, lines_from}
+use Rattle.desk_script.proofs.Turns.{before_within, no_turn, turn_before, turn_turn, turn_prefix}
 use Rattle.desk_script.proofs.Cutting.{from_byte, from_end, line_to_come, lines-from}
 
 pub line_prefixes : (old : Desk) (last : Shelf) (a b : Option (List ℕ)) (line pending more : List ℕ) (byte : ℕ) → (byte == 10) ≡ true → line ≡ without_cr pending
@@ -87,3 +90,36 @@ run_prefix w none m n (Some input) a b e h = subst (λ s. AnswersPrefix (desk s 
 pub run_before : (w none : Sites) (m n : Shelf) (i a b : Option (List ℕ)) → w ≡ none → IfSome i (λ input. AnswersBefore (desk w m) n input a b) → IfSome i (λ input. AnswersBefore (desk none m) n input a b)
 run_before w none m n None a b e h = tt
 run_before w none m n (Some input) a b e h = subst (λ s. AnswersBefore (desk s m) n input a b) e h
+
+-- ---- a run that stops among bytes
+
+pub takes_within : (p q : Progress) (bytes : List ℕ) (fault : RunFault) → Takes (Err fault) p q bytes → Breaks p q bytes
+takes_within p q bytes faults.Write h = h
+takes_within p q bytes faults.NoMemory h = λ more. before_within p.state q.state.shelf p.written q.written (lines_from p.pending (bytes ++ more)) (h more)
+takes_within p q bytes faults.Read h = absurd h
+takes_within p q bytes faults.TooLong h = absurd h
+takes_within p q bytes (faults.Feed why) h = absurd h
+takes_within p q bytes (faults.File why) h = absurd h
+takes_within p q bytes (faults.Opening why) h = absurd h
+
+pub takes_own : (p q : Progress) (bytes : List ℕ) (fault : RunFault) → Takes (Err fault) p q bytes → IsOfLines fault
+takes_own p q bytes faults.Write h = tt
+takes_own p q bytes faults.NoMemory h = tt
+takes_own p q bytes faults.Read h = tt
+takes_own p q bytes faults.TooLong h = tt
+takes_own p q bytes (faults.Feed why) h = absurd h
+takes_own p q bytes (faults.File why) h = absurd h
+takes_own p q bytes (faults.Opening why) h = absurd h
+
+-- after lines that were answered
+pub takes_after : (p q r : Progress) (done : List Line) (bytes first rest : List ℕ) (fault : RunFault) → Turn p.state q.state p.written q.written done
+    → ((more : List ℕ) → lines_from p.pending (bytes ++ more) ≡ done ++ lines_from q.pending (first ++ (rest ++ more))) → Takes (Err fault) q r first → Takes (Err fault) p r bytes
+takes_after p q r done bytes first rest faults.Write turn split h = λ more.
+    subst (StopsWithin p.state r.state.shelf p.written r.written) (sym (split more)) (turn_prefix p.state q.state r.state.shelf p.written q.written r.written done (lines_from q.pending (first ++ (rest ++ more))) turn (h (rest ++ more)))
+takes_after p q r done bytes first rest faults.NoMemory turn split h = λ more.
+    subst (StopsBefore p.state r.state.shelf p.written r.written) (sym (split more)) (turn_before p.state q.state r.state.shelf p.written q.written r.written done (lines_from q.pending (first ++ (rest ++ more))) turn (h (rest ++ more)))
+takes_after p q r done bytes first rest faults.Read turn split h = absurd h
+takes_after p q r done bytes first rest faults.TooLong turn split h = absurd h
+takes_after p q r done bytes first rest (faults.Feed why) turn split h = absurd h
+takes_after p q r done bytes first rest (faults.File why) turn split h = absurd h
+takes_after p q r done bytes first rest (faults.Opening why) turn split h = absurd h

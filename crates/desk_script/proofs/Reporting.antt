@@ -2,7 +2,12 @@
 use Rattle.std.proofs.Common.{◌≡◌, ℕ, ◌+◌, List, [], ◌∷◌, ◌++◌, length, length-append, append_assoc, refl, sym, ap, ◌∙◌, subst, arith}
 use Rattle.desk_script.specs.Desk.{Desk}
 use Rattle.desk_script.specs.Line.{Line}
-use Rattle.desk_script.specs.Sheet.{Stops, StopsAt, Reports, AreReported}
+use Rattle.std.specs.Prelude.{Option}
+use Rattle.feed_files.specs.Input.{IsNotWhole, IsReadTo}
+use Rattle.feed_files.specs.declared.input.ReaderFault.{ReaderFault}
+use Rattle.feed_files.specs.declared.input.ReaderFault.TheVariants as readers
+use Rattle.desk_script.specs.Fault.{of_reader}
+use Rattle.desk_script.specs.Sheet.{AreReported, IsLeft, IsUnanswered, Reports, Stops, StopsAt, max_sheet}
 use Rattle.desk_script.specs.declared.sheet.Mode.{Mode}
 
 -- one line more
@@ -40,3 +45,15 @@ pub reaches_stop : (mode : Mode) (old mid new : Desk) (before reported after : L
     → StopsAt mode old before all (n + 1) new after
 reaches_stop mode old mid new before reported after all rest more line n (done, many, split, so_far) next stop =
     (done, more, line, split ∙ ap (λ l. done ++ l) next, ap (λ m. m + 1) (sym many), mid, reported, so_far, stop)
+
+-- ---- a sheet that was not read
+
+pub unread_sheet : (mode : Mode) (old : Desk) (input before : Option (List ℕ)) (why : ReaderFault) → IsNotWhole max_sheet input why → IsUnanswered mode old old input before before (of_reader why)
+unread_sheet mode old input before readers.Failed h = (refl, refl)
+unread_sheet mode old input before readers.TooLong h = (refl, refl, h)
+unread_sheet mode old input before readers.NoMemory h = refl
+
+pub left_sheet : (before after : Option (List ℕ)) (why : ReaderFault) → IsReadTo max_sheet before after why → IsLeft before after (of_reader why)
+left_sheet before after readers.Failed h = h
+left_sheet before after readers.TooLong h = h
+left_sheet before after readers.NoMemory h = h

@@ -16,9 +16,6 @@ use Rattle.desk_script.specs.Script.{Script, Turn, StopsWithin, StopsBefore, IsR
 pub no_turn : (old : Desk) (a : Option (List ℕ)) → Turn old old a a []
 no_turn old a = ([], refl, Appends-nil a)
 
-pub no_prefix : (old : Desk) (last : Shelf) (a : Option (List ℕ)) (lines : List Line) → Stays old.shelf last → StopsWithin old last a a lines
-no_prefix old last a lines still = ([], lines, refl, old, still, [], refl, ([], [], Appends-nil a, refl))
-
 -- a refusal is not long
 never : (P : Type 0) (reply : ReplyValues) (why : Refusal) → reply ≡ Refused why → is_long reply ≡ true → P
 never P reply why is long = let short : is_long reply ≡ false = ap is_long is in absurd (cc)
@@ -75,3 +72,8 @@ turn_kept old new a b c ls (rs, first, written) k = (rs, first, Appends-kept a b
 -- all of the first lines were answered, and what comes after them was not
 pub turn_stops : (old new : Desk) (last : Shelf) (a b : Option (List ℕ)) (ls more : List Line) → Stays new.shelf last → Turn old new a b ls → StopsWithin old last a b (ls ++ more)
 turn_stops old new last a b ls more still (rs, first, written) = (ls, more, refl, new, still, rs, first, (output rs, [], written, sym (append-nil (output rs))))
+
+-- before a line that was not kept all answers were written
+pub before_within : (old : Desk) (last : Shelf) (a b : Option (List ℕ)) (ls : List Line) → StopsBefore old last a b ls → StopsWithin old last a b ls
+before_within old last a b ls (prefix, tail, next, split, new, still, turn) =
+    subst (StopsWithin old last a b) (sym split) (turn_stops old new last a b prefix (next ∷ tail) still turn)

@@ -26,7 +26,6 @@ pub mod Event
 pub mod Insert
 pub mod Act
 pub mod Line
-pub mod Phases
 pub mod Sheet
 pub mod StoredSheet
 pub mod Reads

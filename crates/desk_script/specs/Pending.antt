@@ -1,5 +1,7 @@
 -- Lines while their bytes come in.
-use Rattle.std.specs.Prelude.{◌≡◌, ℕ, ◌==◌, true, false, List, [], ◌∷◌, ◌++◌, Option, Some, None}
+use Rattle.std.specs.Prelude.{◌≡◌, ℕ, ◌==◌, true, false, List, [], ◌∷◌, ◌++◌, Option, Some, None, Result, Ok, Err}
+use Rattle.desk_script.specs.declared.fault.RunFault.{RunFault}
+use Rattle.desk_script.specs.declared.fault.RunFault.TheVariants as faults
 use Rattle.feed_files.specs.Files.{Shelf}
 use Rattle.script_world.specs.Sites.{Sites}
 use Rattle.desk_script.specs.Line.{Line, line_of}
@@ -47,6 +49,17 @@ abbrev pub BreaksBefore : Progress → Progress → List ℕ → Type 0
 BreaksBefore old new bytes =
     (more : List ℕ) → StopsBefore old.state new.state.shelf old.written new.written
     (lines_from old.pending (bytes ++ more))
+
+-- bytes that come are taken; or a run stops among them where the writer failed, or before a line that was not kept
+abbrev pub Takes : Result (Unit {0}) RunFault → Progress → Progress → List ℕ → Type 0
+Takes (Ok x) old new bytes = Moves old new bytes
+Takes (Err faults.Write) old new bytes = Breaks old new bytes
+Takes (Err faults.NoMemory) old new bytes = BreaksBefore old new bytes
+Takes (Err faults.Read) old new bytes = ⊥
+Takes (Err faults.TooLong) old new bytes = ⊥
+Takes (Err (faults.Feed why)) old new bytes = ⊥
+Takes (Err (faults.File why)) old new bytes = ⊥
+Takes (Err (faults.Opening why)) old new bytes = ⊥
 
 -- What was answered and written, and the pending bytes and the bytes that are left, give the lines of all.
 abbrev pub Carries : Desk → Desk → Option (List ℕ) → Option (List ℕ) → Option (List ℕ) → Option (List ℕ) → List ℕ

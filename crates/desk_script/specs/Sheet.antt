@@ -11,10 +11,11 @@ use Rattle.desk_script.specs.Desk.{Desk}
 use Rattle.desk_script.specs.Line.{Line, Bytes, Long, Allows}
 use Rattle.feed_stored.specs.Sending.{WritesPrefix}
 use Rattle.desk_script.specs.Lines.{lines}
-use Rattle.desk_script.specs.Phases.{of_answers}
-use Rattle.desk_script.specs.declared.sheet_fault.AnswerFault.{AnswerFault}
-use Rattle.desk_script.specs.declared.sheet_fault.AnswerFault.TheVariants as answers
+use Rattle.feed_files.specs.declared.input.ReaderFault.TheVariants as readers
+use Rattle.desk_script.specs.declared.fault.RunFault.{RunFault}
+use Rattle.desk_script.specs.declared.fault.RunFault.TheVariants as runs
 use Rattle.desk_script.specs.declared.sheet_fault.SheetFault.{SheetFault}
+use Rattle.desk_script.specs.declared.sheet_fault.SheetFault.TheVariants as faults
 use Rattle.desk_script.specs.declared.sheet.Mode.{Mode}
 
 -- ---- one line
@@ -93,44 +94,52 @@ Ends mode old before lines (Some k) new after = StopsAt mode old before lines k 
 abbrev pub max_sheet : ℕ
 max_sheet = 67108864
 
--- how far a reader was read whose sheet was not answered to its end
-abbrev pub IsLeft : Option (List ℕ) → Option (List ℕ) → AnswerFault → Type 0
-IsLeft before after (answers.Input why) = IsReadTo max_sheet before after why
-IsLeft before after answers.NoMemory = HasTaken max_sheet before after
-IsLeft before after answers.Write = IsAtEnd after
-IsLeft before after (answers.Line k) = IsAtEnd after
+-- how far a reader was read whose sheet was not answered
+abbrev pub IsLeft : Option (List ℕ) → Option (List ℕ) → RunFault → Type 0
+IsLeft before after runs.Read = IsReadTo max_sheet before after readers.Failed
+IsLeft before after runs.TooLong = IsReadTo max_sheet before after readers.TooLong
+IsLeft before after runs.NoMemory = HasTaken max_sheet before after
+IsLeft before after runs.Write = IsAtEnd after
+IsLeft before after (runs.Feed why) = ⊥
+IsLeft before after (runs.File why) = ⊥
+IsLeft before after (runs.Opening why) = ⊥
 
 -- the answers to all that a reader has left, to the end or to the line of this number
 abbrev pub IsReported : Mode → Desk → Desk → Option (List ℕ) → Option ℕ → List ℕ → Type 0
 IsReported mode old new input end reported = (bytes : List ℕ) × IsInput input bytes
     × Ends mode old [] (lines bytes) end new reported
 
--- no line stopped the run, and the answers were written
-abbrev pub IsDone : Mode → Desk → Desk → Option (List ℕ) → Option (List ℕ) → Option (List ℕ) → Type 0
-IsDone mode old new input before after = (reported : List ℕ) × IsReported mode old new input None reported
+-- they were written
+abbrev pub IsWritten : Mode → Desk → Desk → Option (List ℕ) → Option (List ℕ) → Option (List ℕ) → Option ℕ → Type 0
+IsWritten mode old new input before after end = (reported : List ℕ) × IsReported mode old new input end reported
     × Appends before after reported
 
--- Why a sheet was not answered to its end, and what was written: nothing; a prefix of the answers; or all of them up
--- to that of the line that stopped the run.
--- Where the sheet could not be read, no line was carried out.
-abbrev pub IsUnanswered : Mode → Desk → Desk → Option (List ℕ) → Option (List ℕ) → Option (List ℕ) → AnswerFault
-    → Type 0
-IsUnanswered mode old new input before after (answers.Input why) = (new ≡ old) × (after ≡ before)
-    × IsNotWhole max_sheet input why
-IsUnanswered mode old new input before after answers.NoMemory = after ≡ before
-IsUnanswered mode old new input before after answers.Write =
+-- no line stopped the run, and the answers were written
+abbrev pub IsDone : Mode → Desk → Desk → Option (List ℕ) → Option (List ℕ) → Option (List ℕ) → Type 0
+IsDone mode old new input before after = IsWritten mode old new input before after None
+
+-- Why a sheet was not answered, and what was written: nothing, or a prefix of the answers. Where the sheet could not
+-- be read, no line was carried out.
+abbrev pub IsUnanswered : Mode → Desk → Desk → Option (List ℕ) → Option (List ℕ) → Option (List ℕ) → RunFault → Type 0
+IsUnanswered mode old new input before after runs.Read = (new ≡ old) × (after ≡ before)
+IsUnanswered mode old new input before after runs.TooLong = (new ≡ old) × (after ≡ before)
+    × IsNotWhole max_sheet input readers.TooLong
+IsUnanswered mode old new input before after runs.NoMemory = after ≡ before
+IsUnanswered mode old new input before after runs.Write =
     (end : Option ℕ) × (reported : List ℕ) × IsReported mode old new input end reported
     × WritesPrefix before after reported
-IsUnanswered mode old new input before after (answers.Line k) = (reported : List ℕ)
-    × IsReported mode old new input (Some k) reported × Appends before after reported
+IsUnanswered mode old new input before after (runs.Feed why) = ⊥
+IsUnanswered mode old new input before after (runs.File why) = ⊥
+IsUnanswered mode old new input before after (runs.Opening why) = ⊥
 
--- ---- by the fault of the run
-
--- why a run stopped, and what was written
+-- why a run stopped, and what was written: all answers up to that of the line that stopped it, or not all
 abbrev pub IsStopped : Mode → Desk → Desk → Option (List ℕ) → Option (List ℕ) → Option (List ℕ) → SheetFault → Type 0
-IsStopped mode old new input before after fault = (why : AnswerFault) × (fault ≡ of_answers why)
-    × IsUnanswered mode old new input before after why
+IsStopped mode old new input before after (faults.Line k) = IsWritten mode old new input before after (Some k)
+IsStopped mode old new input before after (faults.Older made held) = ⊥
+IsStopped mode old new input before after (faults.Run why) = IsUnanswered mode old new input before after why
 
 -- how far the reader of a run that stopped was read
 abbrev pub LeavesOff : Option (List ℕ) → Option (List ℕ) → SheetFault → Type 0
-LeavesOff before after fault = (why : AnswerFault) × (fault ≡ of_answers why) × IsLeft before after why
+LeavesOff before after (faults.Line k) = IsAtEnd after
+LeavesOff before after (faults.Older made held) = ⊥
+LeavesOff before after (faults.Run why) = IsLeft before after why

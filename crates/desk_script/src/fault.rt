@@ -1,15 +1,14 @@
-//! Why a run of a script stopped, by the phase in which it did.
+//! Why a run of a script stopped.
 
 ghost use Rattle.std.specs.Prelude.{◌≡◌};
-ghost use Rattle.desk_script.specs.Fault.{of_file, of_last, of_lines, of_opening};
-ghost use Rattle.desk_script.specs.declared.fault.LineFault.TheVariants as lines;
-ghost use Rattle.desk_script.specs.declared.fault.RoomFault.TheVariants as rooms;
+ghost use Rattle.desk_script.specs.Fault.{of_file, of_opening, of_reader};
+ghost use Rattle.desk_script.specs.declared.fault.RunFault.TheVariants as runs;
 
 use desk_codec::FeedFault;
+use desk_memory::NoMemory;
 use desk_replica::Stopped;
-use feed_files::FileRefusal;
-use feed_stored::{LastFault, OpenFault, Unsent};
-use std::alloc::AllocFailed;
+use feed_files::{FileRefusal, ReaderFault};
+use feed_stored::{OpenFault, Unsent};
 use thiserror::Error;
 
 /// Why a run stopped before its end.
@@ -56,45 +55,31 @@ pub enum RoomFault {
     Run(RunFault),
 }
 
-/// Why not all lines were answered.
-#[derive(Clone, Copy, Debug, PartialEq, Eq)]
-pub enum LineFault {
-    /// The reader failed.
-    Read,
-    /// The writer failed, or took no byte.
-    Write,
-    /// `MAX_READS` calls of `read` did not come to the end.
-    TooLong,
-    /// A line could not be kept.
-    NoMemory,
-}
+impl From<NoMemory> for RunFault {
+    ghost from_gives = { λ _ fault. fault ≡ runs.NoMemory };
 
-impl<T: Drop> From<AllocFailed<T>> for LineFault {
-    ghost from_gives = { λ _ fault. fault ≡ lines.NoMemory };
-
-    fn from(_error: AllocFailed<T>) -> LineFault {
-        LineFault::NoMemory
+    fn from(_: NoMemory) -> RunFault {
+        RunFault::NoMemory
     }
 }
 
-impl From<Unsent> for LineFault {
-    ghost from_gives = { λ _ fault. fault ≡ lines.Write };
+impl From<ReaderFault> for RunFault {
+    ghost from_gives = { λ why fault. fault ≡ of_reader why };
 
-    fn from(_: Unsent) -> LineFault {
-        LineFault::Write
-    }
-}
-
-impl From<LineFault> for RunFault {
-    ghost from_gives = { λ why fault. fault ≡ of_lines why };
-
-    fn from(why: LineFault) -> RunFault {
+    fn from(why: ReaderFault) -> RunFault {
         match why {
-            LineFault::Read => RunFault::Read,
-            LineFault::Write => RunFault::Write,
-            LineFault::TooLong => RunFault::TooLong,
-            LineFault::NoMemory => RunFault::NoMemory,
+            ReaderFault::Failed => RunFault::Read,
+            ReaderFault::TooLong => RunFault::TooLong,
+            ReaderFault::NoMemory => RunFault::NoMemory,
         }
+    }
+}
+
+impl From<Unsent> for RunFault {
+    ghost from_gives = { λ _ fault. fault ≡ runs.Write };
+
+    fn from(_: Unsent) -> RunFault {
+        RunFault::Write
     }
 }
 
@@ -118,40 +103,5 @@ impl From<FileRefusal> for RunFault {
             FileRefusal::NoMemory => RunFault::NoMemory,
             other => RunFault::File(other),
         }
-    }
-}
-
-impl From<LastFault> for RoomFault {
-    ghost from_gives = { λ why fault. fault ≡ of_last why };
-
-    fn from(why: LastFault) -> RoomFault {
-        match why {
-            LastFault::Older { made, held } => RoomFault::Older { made, held },
-            LastFault::NoMemory => RoomFault::Run(RunFault::NoMemory),
-        }
-    }
-}
-
-impl From<LineFault> for RoomFault {
-    ghost from_gives = { λ why fault. fault ≡ rooms.Run (of_lines why) };
-
-    fn from(why: LineFault) -> RoomFault {
-        RoomFault::Run(RunFault::from(why))
-    }
-}
-
-impl From<OpenFault> for RoomFault {
-    ghost from_gives = { λ why fault. fault ≡ rooms.Run (of_opening why) };
-
-    fn from(why: OpenFault) -> RoomFault {
-        RoomFault::Run(RunFault::from(why))
-    }
-}
-
-impl From<FileRefusal> for RoomFault {
-    ghost from_gives = { λ why fault. fault ≡ rooms.Run (of_file why) };
-
-    fn from(why: FileRefusal) -> RoomFault {
-        RoomFault::Run(RunFault::from(why))
     }
 }

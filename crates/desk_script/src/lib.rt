@@ -22,19 +22,15 @@ mod feed_run;
 mod insert;
 pub mod laws;
 mod line;
-mod lines;
-mod room;
 mod sheet;
 mod sheet_fault;
-mod stored_sheet;
 mod stream;
 
 // The names of what a script is made of stay reachable from here, used in the repository or not.
 pub use fault::{RoomFault, RunFault};
 pub use feed_files::{FileRefusal, Files, MAX_FILE, NoFiles, store, trial};
-pub use feed_run::{keep_feed, run_on_feed};
+pub use feed_run::{run_in_room, run_on_feed, run_sheet_on_feed};
 pub use line::{MAX_LINE, answer};
-pub use room::{let_in, mark, run_in_room};
 pub use script_answers::{
     Command, ParseError, Refusal, Reply, copy_is_its_spelling, copy_is_read_again, parse, put,
     runs_are_longest,
@@ -42,5 +38,4 @@ pub use script_answers::{
 pub use script_world::{Answer, Event, MAX_SITES, StepRefusal, World};
 pub use sheet::{MAX_SHEET, Mode, run_sheet};
 pub use sheet_fault::SheetFault;
-pub use stored_sheet::run_sheet_on_feed;
 pub use stream::{MAX_READS, run, without_cr};

@@ -1,19 +1,20 @@
 //! A sheet on a world of sites.
 
-ghost use Rattle.std.specs.Prelude.{◌≡◌, ◌<◌, ◌++◌, Bool, IfErr, IfOk, MatchBool, OnErr, OnOk, length, string_bytes};
+ghost use Rattle.std.specs.Prelude.{◌≡◌, ◌<◌, ◌++◌, ◌∷◌, [], Bool, IfErr, IfOk, IfSome, MatchBool, MatchOption, OnErr, OnOk};
+ghost use Rattle.std.specs.Prelude.{length, string_bytes};
 ghost use Rattle.std.specs.Io.KnownBytes.{IsAtEnd};
 ghost use Rattle.script_answers.specs.Reply.{reply_values};
 ghost use Rattle.feed_files.specs.Files.{Stays};
 ghost use Rattle.desk_script.specs.Lines.{lines};
 ghost use Rattle.desk_script.specs.Desk.{KeepsSites, desk};
 ghost use Rattle.desk_script.specs.Line.{line_of};
+ghost use Rattle.desk_script.specs.FeedRun.{HasAnswered, IsBroken, IsCutOff};
 ghost use Rattle.script_world.specs.Sites.{Sites, no_sites};
-ghost use Rattle.desk_script.specs.Sheet.{Ends, IsDone, IsLeft, IsStopped, IsUnanswered, LeavesOff, Stops, Reports};
-ghost use Rattle.desk_script.specs.Sheet.{answer_line, head, is_passed_over, is_refusal};
+ghost use Rattle.desk_script.specs.Sheet.{Ends, IsDone, IsLeft, IsStopped, IsUnanswered, IsWritten, LeavesOff, Stops};
+ghost use Rattle.desk_script.specs.Sheet.{Reports, answer_line, head, is_passed_over, is_refusal};
 
-use crate::lines::next_line;
-use crate::sheet_fault::{AnswerFault, SheetFault};
-use crate::{MAX_LINE, answer};
+use crate::stream::answer_all;
+use crate::{MAX_LINE, RunFault, SheetFault, answer, without_cr};
 use desk_memory::NoMemory;
 use feed_files::{Files, read_whole};
 use feed_stored::write_out;
@@ -51,6 +52,22 @@ fn is_refusal<A: Allocator + Copy>(reply: &Reply<A>) -> bool
     ensures { result ≡ is_refusal (reply_values reply.now) }
 {
     matches!(reply, Reply::Refused(_) | Reply::Stopped(_, _))
+}
+
+/// The first line without its end, and what follows that end; none where no byte is left.
+fn next_line(bytes: &[u8]) -> Option<(&[u8], &[u8])>
+    ensures first { MatchOption result (bytes.now ≡ []) (λ p. lines bytes.now ≡ line_of p.0.now ∷ lines p.1.now) }
+    ensures shorter { IfSome result (λ p. length p.1.now < length bytes.now) }
+{
+    for (at, byte) in bytes.iter().enumerate() {
+        if *byte == b'\n' {
+            return Some((without_cr(&bytes[..at]), &bytes[at + 1..]));
+        }
+    }
+    if bytes.is_empty() {
+        return None;
+    }
+    Some((bytes, &bytes[bytes.len()..]))
 }
 
 /// Writes what stands before the answer of a line.
@@ -136,17 +153,18 @@ fn report_lines<F: Files, A: Allocator + Copy>(
     Ok(None)
 }
 
-/// Carries out what a reader has left on a world, and writes the answers once all are there.
-pub fn answer_sheet<R: Read, W: Write, F: Files, A: Allocator + Copy>(
+/// Carries out what a reader has left on a world, and writes the answers once all are there: up to the end, or to the
+/// line that stops the run, whose number is returned.
+fn answer_sheet<R: Read, W: Write, F: Files, A: Allocator + Copy>(
     memory: Memory<A>,
     mode: Mode,
     world: &mut World<A>,
     reader: &mut R,
     writer: &mut W,
     files: &mut F,
-) -> Result<(), AnswerFault>
-    ensures ok { OnOk result
-        (IsDone mode (desk world.old (F.shelf files.old)) (desk world.new (F.shelf files.new)) (R.remaining reader.old)
+) -> Result<Option<u64>, RunFault>
+    ensures ok { IfOk result
+        (IsWritten mode (desk world.old (F.shelf files.old)) (desk world.new (F.shelf files.new)) (R.remaining reader.old)
         (W.contents writer.old) (W.contents writer.new)) }
     ensures err { IfErr result
         (IsUnanswered mode (desk world.old (F.shelf files.old)) (desk world.new (F.shelf files.new))
@@ -160,8 +178,34 @@ pub fn answer_sheet<R: Read, W: Write, F: Files, A: Allocator + Copy>(
     let mut reported = String::new(memory.own);
     let end = report_lines(memory, mode, world, files, &mut reported, &input)?;
     write_out(writer, reported.as_bytes())?;
-    match end {
-        Some(number) => Err(AnswerFault::Line(number)),
+    Ok(end)
+}
+
+/// Answers commands one by one, or as a sheet of a mode, which a line may stop.
+pub fn answer_lines<R: Read, W: Write, F: Files, A: Allocator + Copy>(
+    memory: Memory<A>,
+    mode: Option<Mode>,
+    world: &mut World<A>,
+    reader: &mut R,
+    writer: &mut W,
+    files: &mut F,
+) -> Result<(), SheetFault>
+    ensures ok { OnOk result
+        (HasAnswered mode (desk world.old (F.shelf files.old)) (desk world.new (F.shelf files.new))
+        (R.remaining reader.old) (W.contents writer.old) (W.contents writer.new)) }
+    ensures err { IfErr result
+        (IsBroken mode (desk world.old (F.shelf files.old)) (desk world.new (F.shelf files.new))
+        (R.remaining reader.old) (W.contents writer.old) (W.contents writer.new)) }
+    ensures sites { OnOk result (KeepsSites world.old world.new) }
+    ensures stays { Stays (F.shelf files.old) (F.shelf files.new) }
+    ensures end { OnOk result (IsAtEnd (R.remaining reader.new)) }
+    ensures left { IfErr result (IsCutOff mode (R.remaining reader.old) (R.remaining reader.new)) }
+{
+    let Some(mode) = mode else {
+        return Ok(answer_all(memory, world, reader, writer, files)?);
+    };
+    match answer_sheet(memory, mode, world, reader, writer, files)? {
+        Some(number) => Err(SheetFault::Line(number)),
         None => Ok(()),
     }
 }
@@ -192,5 +236,5 @@ pub fn run_sheet<R: Read, W: Write, F: Files, A: Allocator + Copy>(
 {
     let mut world = World::new(alloc);
     let memory = Memory { own: alloc, global };
-    Ok(answer_sheet(memory, mode, &mut world, reader, writer, files)?)
+    answer_lines(memory, Some(mode), &mut world, reader, writer, files)
 }

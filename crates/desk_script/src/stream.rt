@@ -1,8 +1,8 @@
 //! Scripts, read and answered line by line.
 
-ghost use Rattle.std.specs.Prelude.{◌≡◌, ◌≢◌, ℕ, ◌≤◌, ◌++◌, ◌∷◌, [], List, OnOk, OnErr, IfErr, IfOk, IfSome, IsErrOf};
+ghost use Rattle.std.specs.Prelude.{◌≡◌, ◌≤◌, ◌++◌, ◌∷◌, [], List, OnOk, OnErr, IfErr, IfOk, IfSome, IsErrOf};
 ghost use Rattle.std.specs.Prelude.{length, string_bytes};
-ghost use Rattle.std.specs.Io.KnownBytes.{Appends, IsAtEnd, Keeps};
+ghost use Rattle.std.specs.Io.KnownBytes.{Appends, IsAtEnd};
 ghost use Rattle.desk_script.specs.Line.{Line, line_of};
 ghost use Rattle.desk_script.specs.Lines.{without_cr};
 ghost use Rattle.script_answers.specs.Reply.{ReplyValues, reply_values};
@@ -13,14 +13,13 @@ ghost use Rattle.feed_files.specs.Files.{Stays};
 ghost use Rattle.desk_script.specs.Script.{Turn, StopsWithin, Answers, AnswersBefore, AnswersPrefix, IsReported};
 ghost use Rattle.feed_stored.specs.Sending.{WritesPrefix};
 ghost use Rattle.desk_script.specs.Fault.{IsOfLines};
-ghost use Rattle.desk_script.specs.Pending.{Breaks, BreaksBefore, Moves, last_line, lines_from, progress};
+ghost use Rattle.desk_script.specs.Pending.{Takes, last_line, progress};
 ghost use Rattle.desk_script.specs.Taking.{IsTakenIn, IsTakenWithin, max_reads};
 
-use crate::fault::{LineFault, RunFault};
-use crate::{MAX_LINE, answer};
+use crate::{MAX_LINE, RunFault, answer};
 use desk_memory::NoMemory;
 use feed_files::Files;
-use feed_stored::let_out;
+use feed_stored::{Unsent, let_out, send};
 use script_answers::{Memory, Reply, put, short};
 use script_world::World;
 use std::alloc::{Allocator, Global};
@@ -41,23 +40,6 @@ const NO_MEMORY: &str = "refused memory\n";
 /// So much is read at a time.
 const CHUNK: usize = 8192;
 
-/// Writes the bytes.
-fn send<W: Write>(writer: &mut W, bytes: &[u8]) -> Result<(), LineFault>
-    ensures ok { OnOk result (Appends (W.contents writer.old) (W.contents writer.new) bytes.now) }
-    ensures err { OnErr result (WritesPrefix (W.contents writer.old) (W.contents writer.new) bytes.now) }
-    ensures fault { IfErr result (λ fault. fault ≡ LineFault.Write) }
-{
-    Ok(feed_stored::send(writer, bytes)?)
-}
-
-/// Lets out what the writer holds back.
-fn flush<W: Write>(writer: &mut W) -> Result<(), LineFault>
-    ensures kept { Keeps (W.contents writer.old) (W.contents writer.new) }
-    ensures fault { IfErr result (λ fault. fault ≡ LineFault.Write) }
-{
-    Ok(let_out(writer)?)
-}
-
 /// The line of a long answer.
 fn spelled<A: Allocator + Copy>(alloc: A, answer: &Reply<A>) -> Result<String<A>, NoMemory>
     ensures { IfOk result (λ s. string_bytes s ≡ text (reply_values answer.now) ++ 10 ∷ []) }
@@ -74,12 +56,11 @@ fn report<W: Write, A: Allocator + Copy>(
     alloc: A,
     writer: &mut W,
     answer: &Reply<A>,
-) -> Result<(), LineFault>
+) -> Result<(), Unsent>
     ensures ok { OnOk result ((r : ReplyValues) × IsReported (reply_values answer.now) r
         × Appends (W.contents writer.old) (W.contents writer.new) (text r ++ 10 ∷ [])) }
     ensures err { OnErr result ((r : ReplyValues) × IsReported (reply_values answer.now) r
         × WritesPrefix (W.contents writer.old) (W.contents writer.new) (text r ++ 10 ∷ [])) }
-    ensures fault { IfErr result (λ fault. fault ≡ LineFault.Write) }
 {
     if let Some(mut line) = short(answer) {
         line.push_str("\n");
@@ -98,14 +79,13 @@ fn take_line<W: Write, F: Files, A: Allocator + Copy>(
     writer: &mut W,
     files: &mut F,
     line: &[u8],
-) -> Result<(), LineFault>
+) -> Result<(), Unsent>
     ensures ok { OnOk result
         (Turn (desk world.old (F.shelf files.old)) (desk world.new (F.shelf files.new)) (W.contents writer.old)
         (W.contents writer.new) (line_of line.now ∷ [])) }
     ensures err { OnErr result ((more : List Line)
         → StopsWithin (desk world.old (F.shelf files.old)) (F.shelf files.new) (W.contents writer.old)
         (W.contents writer.new) (line_of line.now ∷ more)) }
-    ensures fault { IfErr result (λ fault. fault ≡ LineFault.Write) }
     ensures sites { OnOk result (KeepsSites world.old world.new) }
     ensures stays { Stays (F.shelf files.old) (F.shelf files.new) }
 {
@@ -125,22 +105,7 @@ pub fn without_cr(line: &[u8]) -> &[u8]
     line
 }
 
-/// Keeps a byte of a line, where it can matter.
-fn keep<A: Allocator + Copy>(line: &mut Vec<u8, A>, byte: u8) -> Result<(), LineFault>
-    requires within { length line.old.items ≤ PENDING_LIMIT }
-    requires inside { byte ≢ 10 }
-    ensures kept { length line.new.items ≤ PENDING_LIMIT }
-    ensures ok { OnOk result ((more : List ℕ)
-        → lines_from line.old.items (byte ∷ more) ≡ lines_from line.new.items more) }
-    ensures own { IfErr result (λ fault. fault ≢ LineFault.TooLong) }
-{
-    if line.len() == PENDING_LIMIT {
-        return Ok(());
-    }
-    Ok(line.push(byte)?)
-}
-
-/// Takes the next byte, and answers the line that it ends.
+/// Takes the next byte: it is kept where it can matter, and the line that it ends is answered.
 fn take_byte<W: Write, F: Files, A: Allocator + Copy>(
     memory: Memory<A>,
     world: &mut World<A>,
@@ -148,58 +113,26 @@ fn take_byte<W: Write, F: Files, A: Allocator + Copy>(
     files: &mut F,
     line: &mut Vec<u8, A>,
     byte: u8,
-) -> Result<(), LineFault>
+) -> Result<(), RunFault>
     requires { length line.old.items ≤ PENDING_LIMIT }
     ensures kept { length line.new.items ≤ PENDING_LIMIT }
-    ensures ok { OnOk result
-        (Moves (progress world.old (F.shelf files.old) (W.contents writer.old) line.old.items)
-        (progress world.new (F.shelf files.new) (W.contents writer.new) line.new.items) (byte ∷ [])) }
-    ensures err { OnErr result
-        (Breaks (progress world.old (F.shelf files.old) (W.contents writer.old) line.old.items)
-        (progress world.new (F.shelf files.new) (W.contents writer.new) line.new.items) (byte ∷ [])) }
-    ensures memory { IsErrOf result LineFault.NoMemory
-        → BreaksBefore (progress world.old (F.shelf files.old) (W.contents writer.old) line.old.items)
+    ensures taken { Takes result (progress world.old (F.shelf files.old) (W.contents writer.old) line.old.items)
         (progress world.new (F.shelf files.new) (W.contents writer.new) line.new.items) (byte ∷ []) }
-    ensures own { IfErr result (λ fault. fault ≢ LineFault.TooLong) }
     ensures sites { OnOk result (KeepsSites world.old world.new) }
     ensures stays { Stays (F.shelf files.old) (F.shelf files.new) }
 {
-    if byte != b'\n' {
-        return keep(line, byte);
+    if byte == b'\n' {
+        take_line(memory, world, writer, files, without_cr(line))?;
+        line.clear();
+        return Ok(());
     }
-    take_line(memory, world, writer, files, without_cr(line))?;
-    line.clear();
-    Ok(())
-}
-
-/// Takes the next bytes, and answers each line that is whole now.
-fn take_each<W: Write, F: Files, A: Allocator + Copy>(
-    memory: Memory<A>,
-    world: &mut World<A>,
-    writer: &mut W,
-    files: &mut F,
-    line: &mut Vec<u8, A>,
-    bytes: &[u8],
-) -> Result<(), LineFault>
-    requires { length line.old.items ≤ PENDING_LIMIT }
-    ensures kept { length line.new.items ≤ PENDING_LIMIT }
-    ensures ok { OnOk result
-        (Moves (progress world.old (F.shelf files.old) (W.contents writer.old) line.old.items)
-        (progress world.new (F.shelf files.new) (W.contents writer.new) line.new.items) bytes.now) }
-    ensures err { OnErr result
-        (Breaks (progress world.old (F.shelf files.old) (W.contents writer.old) line.old.items)
-        (progress world.new (F.shelf files.new) (W.contents writer.new) line.new.items) bytes.now) }
-    ensures memory { IsErrOf result LineFault.NoMemory
-        → BreaksBefore (progress world.old (F.shelf files.old) (W.contents writer.old) line.old.items)
-        (progress world.new (F.shelf files.new) (W.contents writer.new) line.new.items) bytes.now }
-    ensures own { IfErr result (λ fault. fault ≢ LineFault.TooLong) }
-    ensures sites { OnOk result (KeepsSites world.old world.new) }
-    ensures stays { Stays (F.shelf files.old) (F.shelf files.new) }
-{
-    for b in bytes {
-        take_byte(memory, world, writer, files, line, *b)?;
+    if line.len() == PENDING_LIMIT {
+        return Ok(());
     }
-    Ok(())
+    match line.push(byte) {
+        Ok(()) => Ok(()),
+        Err(_) => Err(RunFault::NoMemory),
+    }
 }
 
 /// Takes the next bytes, and answers each line that is whole now: its answers are out before more is read.
@@ -210,70 +143,43 @@ fn take_bytes<W: Write, F: Files, A: Allocator + Copy>(
     files: &mut F,
     line: &mut Vec<u8, A>,
     bytes: &[u8],
-) -> Result<(), LineFault>
+) -> Result<(), RunFault>
     requires { length line.old.items ≤ PENDING_LIMIT }
     ensures kept { length line.new.items ≤ PENDING_LIMIT }
-    ensures ok { OnOk result
-        (Moves (progress world.old (F.shelf files.old) (W.contents writer.old) line.old.items)
-        (progress world.new (F.shelf files.new) (W.contents writer.new) line.new.items) bytes.now) }
-    ensures err { OnErr result
-        (Breaks (progress world.old (F.shelf files.old) (W.contents writer.old) line.old.items)
-        (progress world.new (F.shelf files.new) (W.contents writer.new) line.new.items) bytes.now) }
-    ensures memory { IsErrOf result LineFault.NoMemory
-        → BreaksBefore (progress world.old (F.shelf files.old) (W.contents writer.old) line.old.items)
+    ensures taken { Takes result (progress world.old (F.shelf files.old) (W.contents writer.old) line.old.items)
         (progress world.new (F.shelf files.new) (W.contents writer.new) line.new.items) bytes.now }
-    ensures own { IfErr result (λ fault. fault ≢ LineFault.TooLong) }
     ensures sites { OnOk result (KeepsSites world.old world.new) }
     ensures stays { Stays (F.shelf files.old) (F.shelf files.new) }
 {
-    take_each(memory, world, writer, files, line, bytes)?;
-    flush(writer)
+    for b in bytes {
+        take_byte(memory, world, writer, files, line, *b)?;
+    }
+    Ok(let_out(writer)?)
 }
 
-/// Answers a line, and lets its answer out.
-fn take_last<W: Write, F: Files, A: Allocator + Copy>(
-    memory: Memory<A>,
-    world: &mut World<A>,
-    writer: &mut W,
-    files: &mut F,
-    line: &[u8],
-) -> Result<(), LineFault>
-    ensures ok { OnOk result
-        (Turn (desk world.old (F.shelf files.old)) (desk world.new (F.shelf files.new)) (W.contents writer.old)
-        (W.contents writer.new) (line_of line.now ∷ [])) }
-    ensures err { OnErr result ((more : List Line)
-        → StopsWithin (desk world.old (F.shelf files.old)) (F.shelf files.new) (W.contents writer.old)
-        (W.contents writer.new) (line_of line.now ∷ more)) }
-    ensures fault { IfErr result (λ fault. fault ≡ LineFault.Write) }
-    ensures sites { OnOk result (KeepsSites world.old world.new) }
-    ensures stays { Stays (F.shelf files.old) (F.shelf files.new) }
-{
-    take_line(memory, world, writer, files, line)?;
-    flush(writer)
-}
-
-/// Answers a last line that has no end.
+/// Answers a last line that has no end, and lets its answer out.
 fn finish<W: Write, F: Files, A: Allocator + Copy>(
     memory: Memory<A>,
     world: &mut World<A>,
     writer: &mut W,
     files: &mut F,
     line: &[u8],
-) -> Result<(), LineFault>
+) -> Result<(), RunFault>
     ensures ok { OnOk result
         (Turn (desk world.old (F.shelf files.old)) (desk world.new (F.shelf files.new)) (W.contents writer.old)
         (W.contents writer.new) (last_line line.now)) }
     ensures err { OnErr result
         (StopsWithin (desk world.old (F.shelf files.old)) (F.shelf files.new) (W.contents writer.old)
         (W.contents writer.new) (last_line line.now)) }
-    ensures fault { IfErr result (λ fault. fault ≡ LineFault.Write) }
+    ensures fault { IfErr result (λ fault. fault ≡ RunFault.Write) }
     ensures sites { OnOk result (KeepsSites world.old world.new) }
     ensures stays { Stays (F.shelf files.old) (F.shelf files.new) }
 {
     if line.is_empty() {
         return Ok(());
     }
-    take_last(memory, world, writer, files, line)
+    take_line(memory, world, writer, files, line)?;
+    Ok(let_out(writer)?)
 }
 
 /// Reads commands to their end, and writes the line of each one's answer. A writer may hold them back: it is flushed
@@ -286,7 +192,7 @@ pub fn answer_all<R: Read, W: Write, F: Files, A: Allocator + Copy>(
     reader: &mut R,
     writer: &mut W,
     files: &mut F,
-) -> Result<(), LineFault>
+) -> Result<(), RunFault>
     ensures ok { OnOk result
         (IfSome (R.remaining reader.old)
         (λ input. Answers (desk world.old (F.shelf files.old)) (desk world.new (F.shelf files.new)) input
@@ -295,27 +201,28 @@ pub fn answer_all<R: Read, W: Write, F: Files, A: Allocator + Copy>(
         (IfSome (R.remaining reader.old)
         (λ input. AnswersPrefix (desk world.old (F.shelf files.old)) (F.shelf files.new) input
         (W.contents writer.old) (W.contents writer.new))) }
-    ensures memory { IsErrOf result LineFault.NoMemory
+    ensures memory { IsErrOf result RunFault.NoMemory
         → IfSome (R.remaining reader.old)
         (λ input. AnswersBefore (desk world.old (F.shelf files.old)) (F.shelf files.new) input (W.contents writer.old)
         (W.contents writer.new)) }
     ensures taken { IsTakenWithin max_reads (R.remaining reader.old) (R.remaining reader.new) }
-    ensures long { IsErrOf result LineFault.TooLong
+    ensures long { IsErrOf result RunFault.TooLong
         → IsTakenIn max_reads (R.remaining reader.old) (R.remaining reader.new) }
     ensures sites { OnOk result (KeepsSites world.old world.new) }
     ensures stays { Stays (F.shelf files.old) (F.shelf files.new) }
+    ensures own { IfErr result IsOfLines }
     ensures end { OnOk result (IsAtEnd (R.remaining reader.new)) }
 {
     let mut line = Vec::new(memory.own);
     let mut chunk = [0u8; CHUNK];
     'reads: for _ in 0..MAX_READS {
         match reader.read(&mut chunk) {
-            Err(_) => return Err(LineFault::Read),
+            Err(_) => return Err(RunFault::Read),
             Ok(0) => return finish(memory, world, writer, files, &line),
             Ok(n) => take_bytes(memory, world, writer, files, &mut line, &chunk[..n])?,
         }
     }
-    Err(LineFault::TooLong)
+    Err(RunFault::TooLong)
 }
 
 /// Reads commands to their end, on a world that has no site yet, and writes the line of each one's answer. Memory that
@@ -350,5 +257,5 @@ pub fn run<R: Read, W: Write, F: Files, A: Allocator + Copy>(
 {
     let mut world = World::new(alloc);
     let memory = Memory { own: alloc, global };
-    Ok(answer_all(memory, &mut world, reader, writer, files)?)
+    answer_all(memory, &mut world, reader, writer, files)
 }

@@ -4,7 +4,7 @@ use Rattle.desk_script.specs.Desk.{KeepsSites, desk}
 use Rattle.desk_script.specs.Line.{Line, max_line}
 use Rattle.desk_script.specs.Script.{Turn}
 use Rattle.desk_script.specs.Pending.{lines_from}
-use Rattle.desk_script.proofs.stream.take_each.Given as goal
+use Rattle.desk_script.proofs.stream.take_bytes.Given as goal
 
 abbrev pub invariant-loop-b : goal.invariant-loop-b
 invariant-loop-b g l = record {

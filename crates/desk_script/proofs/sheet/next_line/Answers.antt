@@ -1,6 +1,6 @@
 use Rattle.std.proofs.Common.{◌≡◌, ◌==◌, false, length, arith, rules}
 use Rattle.desk_script.proofs.SheetCutting.{first_ends, last_is, slice_end, slice_from}
-use Rattle.desk_script.proofs.lines.next_line.Goals as goal
+use Rattle.desk_script.proofs.sheet.next_line.Goals as goal
 
 pub returns-then-byte-eq10-clause-first : goal.returns-then-byte-eq10-clause-first
 returns-then-byte-eq10-clause-first c =
