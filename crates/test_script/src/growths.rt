@@ -1,8 +1,7 @@
 //! A run that finds no memory in its midst. Each growth of whole scripts is refused in turn over the built program, by
 //! `tests/growths.py`.
 
-use crate::scripts::same;
-use desk_script::run;
+use crate::running::{ran, same};
 use feed_files::NoFiles;
 use linked_list_allocator::LocalHeap;
 use std::alloc::Global;
@@ -84,16 +83,18 @@ fn refused_memory(rt: HostRuntime) -> Result<(), Fail> {
         taken: Vec::new(alloc),
     };
     let mut written = Vec::new(alloc);
-    let result = run(&heap, alloc, &mut reader, &mut written, &mut NoFiles);
+    let result = ran(&heap, alloc, &mut reader, &mut written, &mut NoFiles);
     assert!(rt; result.is_ok());
     let before = BEFORE_ANSWERS.len().saturating_add(PINCHED_ANSWERS.len());
     same(
         &written[..BEFORE_ANSWERS.len().min(written.len())],
         BEFORE_ANSWERS,
+        0,
     )?;
     same(
         &written[BEFORE_ANSWERS.len().min(written.len())..before.min(written.len())],
         PINCHED_ANSWERS,
+        1,
     )?;
-    same(&written[before.min(written.len())..], AFTER_ANSWERS)
+    same(&written[before.min(written.len())..], AFTER_ANSWERS, 2)
 }

@@ -1,11 +1,9 @@
 //! Scripts of jobs: ribbons, and what they cast.
 
-use crate::scripts::same;
-use crate::worked::script;
-use desk_script::run;
-use feed_files::trial::{TrialFiles, TrialReader};
+use crate::running::answered;
+use feed_files::trial::TrialFiles;
 use feed_files::{FileRefusal, Files, MAX_FILE};
-use std::alloc::{AllocError, Allocator, Global};
+use std::alloc::Allocator;
 use std::test::Fail;
 
 const WEDGE: &[u8] =
@@ -39,6 +37,11 @@ const ROWS: &[u8] =
  [\"m\",\"\",\"\",\"\",\"\",\"\",\"\",\"\",\"\",\"\",\"\",\"\",\"\",\"\",\"\"],\n\
  [\"M\",\"s:M\",\"\",\"\",\"\",\"\",\"\",\"\",\"\",\"\",\"\",\"\",\"\",\"\",\"\"]\n]\n";
 
+const NO_FILL: &[u8] = b"case = 1\nspace = \"G1\"\n";
+
+const SET_OF_19: &[u8] =
+    b"wedge = 5\nset_q = 19\npica = \"sixth\"\nunits = [5, 6, 7, 8, 9, 9, 9, 10, 10, 11, 12, 13, 14, 15, 18]\n";
+
 /// A few files by name, and how often their device has failed.
 #[derive(Drop)]
 struct Shelf {
@@ -54,6 +57,8 @@ fn parts(name: &str) -> Result<(&'static [u8], &'static [u8]), FileRefusal> {
         "w" => Ok((WEDGE, b"")),
         "narrow" => Ok((NARROW, b"")),
         "range" => Ok((b"wedge = 5\nset_q = 19\n", b"")),
+        "no-fill" => Ok((NO_FILL, ROWS)),
+        "set-of-19" => Ok((SET_OF_19, b"")),
         "broken" => Ok((b"wedge =", b"")),
         "large" => Err(FileRefusal::Large),
         _ => Err(FileRefusal::Missing),
@@ -106,299 +111,101 @@ impl Files for Shelf {
     }
 }
 
-/// Whether each command of a script, beside these files, has its answer.
-fn answered(alloc: Global, lines: &[(&str, &str)]) -> Result<(), Fail> {
-    let (input, want) = script(alloc, lines)?;
-    let mut written = Vec::new(alloc);
-    let mut reader = TrialReader::new(input.as_bytes());
-    let mut shelf = Shelf { failures: 0 };
-    run(alloc, alloc, &mut reader, &mut written, &mut shelf)?;
-    same(&written, want.as_bytes())
-}
+const JOBS: &str = r#"
+# empty_copy_ribbon: An empty copy has the head row alone.
+site 1 => ok; set 1 measure 120 => ok 1.1; set 1 tight 38 => ok 2.1; set 1 loose 150 => ok 3.1;
+set 1 case 1 => ok 4.1; set 1 wedge 5 => ok 5.1; ribbon 1 c w => ribbon 4d5242310000000100000206;
+cast 1 c w => lines 0; show 1 => copy; settings 1 => settings measure=120 tight=38 loose=150 case=1 wedge=5;
 
-const EMPTY_COPY_RIBBON: &[(&str, &str)] = &[
-    ("site 1", "ok"),
-    ("set 1 measure 120", "ok 1.1"),
-    ("set 1 tight 38", "ok 2.1"),
-    ("set 1 loose 150", "ok 3.1"),
-    ("set 1 case 1", "ok 4.1"),
-    ("set 1 wedge 5", "ok 5.1"),
-    ("ribbon 1 c w", "ribbon 4d5242310000000100000206"),
-    ("cast 1 c w", "lines 0"),
-    ("show 1", "copy"),
-    (
-        "settings 1",
-        "settings measure=120 tight=38 loose=150 case=1 wedge=5",
-    ),
-];
+# empty_paragraph_ribbon: One empty paragraph is one line with an added space and fills.
+site 1 => ok; set 1 measure 120 => ok 1.1; set 1 tight 38 => ok 2.1; set 1 loose 150 => ok 3.1;
+set 1 case 1 => ok 4.1; set 1 wedge 5 => ok 5.1; insert 1 0 r"\n" => ok 6.1;
+ribbon 1 c w => ribbon 4d5242310000000e0000020601010001000000000000000000000000000000000000000000000000000000000000000000000000400010000000020200000406;
+cast 1 c w => lines 1 11/2159952; show 1 => copy r"\n";
 
-/// An empty copy has the head row alone.
+# widest_lines: Lines that are as wide as may be, and one that is wider.
+site 1 => ok; set 1 measure 120 => ok 1.1; set 1 tight 38 => ok 2.1; set 1 loose 150 => ok 3.1;
+set 1 case 1 => ok 4.1; set 1 wedge 5 => ok 5.1; insert 1 0 r"nnnnnnnnnnnnnnnnnn" => ok 6.1..23.1;
+ribbon 1 c w => no ribbon: too wide 1; cast 1 c w => no ribbon: too wide 1; delete 1 17 => ok 24.1;
+delete 1 16 => ok 25.1; insert 1 16 r"m" => ok 26.1; set 1 tight 53 => ok 27.1; cast 1 c w => lines 1 18/2160000;
+delete 1 16 => ok 28.1; insert 1 16 r"tt" => ok 29.1..30.1; set 1 tight 16 => ok 31.1;
+cast 1 c w => lines 1 19/2159688;
+
+# two_lines: A paragraph of two lines, and spaces that would be too loose.
+site 1 => ok; set 1 measure 120 => ok 1.1; set 1 tight 38 => ok 2.1; set 1 loose 150 => ok 3.1;
+set 1 case 1 => ok 4.1; set 1 wedge 5 => ok 5.1; insert 1 0 r"nnn nnn nnn nnn nnn nnn" => ok 6.1..28.1;
+cast 1 c w => lines 2 19/2159232 12/2159664; set 1 loose 60 => ok 29.1; ribbon 1 c w => no ribbon: too loose 1;
+
+# cannot_fill: Spaces and fills that do not take up the rest of a line.
+site 1 => ok; set 1 measure 120 => ok 1.1; set 1 tight 38 => ok 2.1; set 1 loose 150 => ok 3.1;
+set 1 case 1 => ok 4.1; set 1 wedge 5 => ok 5.1; insert 1 0 r"\n" => ok 6.1;
+ribbon 1 one-fill w => no ribbon: cannot fill 1; set 1 tight 128 => ok 7.1;
+ribbon 1 c w => no ribbon: cannot fill 1; set 1 tight 127 => ok 8.1;
+ribbon 1 c w => ribbon 4d5242310000000e0000020601010001000000000000000000000000000000000000000000000000000000000000000000000000400010000000020200000406;
+
+# space_vanishes: A space that is not wider than nothing.
+site 1 => ok; set 1 measure 120 => ok 1.1; set 1 tight 38 => ok 2.1; set 1 loose 150 => ok 3.1;
+set 1 case 1 => ok 4.1; set 1 wedge 5 => ok 5.1; set 1 tight 16 => ok 6.1;
+ribbon 1 c narrow => no ribbon: space vanishes; cast 1 c narrow => no ribbon: space vanishes;
+
+# job_faults: The first fault of a job, or each symbol that the case lacks.
+site 1 => ok; ribbon 1 c w => no ribbon: missing measure; set 1 measure 120 => ok 1.1;
+ribbon 1 c w => no ribbon: missing tight; set 1 tight 38 => ok 2.1; ribbon 1 c w => no ribbon: missing loose;
+set 1 loose 150 => ok 3.1; ribbon 1 c w => no ribbon: missing case; set 1 case 1 => ok 4.1;
+cast 1 c w => no ribbon: missing wedge; set 1 wedge 5 => ok 5.1; insert 1 0 r"aqnz" => ok 6.1..9.1;
+ribbon 1 c w => no ribbon: no matrix 1, no matrix 3; cast 1 c w => no ribbon: no matrix 1, no matrix 3;
+ribbon 1 other-order w => no ribbon: fill order; set 1 tight 100 => ok 10.1; set 1 loose 60 => ok 11.1;
+ribbon 1 c w => no ribbon: crossed; set 1 wedge 6 => ok 12.1; ribbon 1 c w => no ribbon: other wedge;
+set 1 case 2 => ok 13.1; ribbon 1 c w => no ribbon: other case;
+
+# refused_files: The case file, its reading, the wedge file, its reading: the first refusal is the answer, after the site.
+site 1 => ok; ribbon 1 none.toml w => refused file missing; cast 1 none.toml none.toml => refused file missing;
+ribbon 1 c none.toml => refused file missing; ribbon 9 none.toml none.toml => refused site;
+cast 0 none.toml none.toml => refused site; ribbon 1 broken none.toml => refused case 1;
+ribbon 1 w none.toml => refused case 2; ribbon 1 c broken => refused wedge 1; cast 1 c c => refused wedge 2;
+cast 1 c range => refused wedge 3; ribbon 1 large w => refused file large; ribbon 1 c large => refused file large;
+ribbon 1 device none.toml => refused file device; cast 1 c device => refused file device;
+ribbon 1 none.toml device => refused file missing; cast 1 broken device => refused case 1;
+cast 1 large device => refused file large; ribbon 1 c => refused command; ribbon 1 c  => refused command;
+ribbon 1 c w w => refused command;
+cast 1 ccccccccccccccccccccccccccccccccccccccccccccccccccccccccccccccccccccccccccccccccccccccccccccccccccccccccccccccccccccccccccccccccccccccccccccccccccccccccccccccccccccccccccccccccccccccccccccccccccccccccccccccccccccccccccccccccccccccccccccccccccccccccccccccc w => refused file missing;
+cast 1 cccccccccccccccccccccccccccccccccccccccccccccccccccccccccccccccccccccccccccccccccccccccccccccccccccccccccccccccccccccccccccccccccccccccccccccccccccccccccccccccccccccccccccccccccccccccccccccccccccccccccccccccccccccccccccccccccccccccccccccccccccccccccccccccc w => refused command;
+ribbon 1 c w => no ribbon: missing measure;
+
+# refused_inputs: A case without fills, a wedge with too small a set, and both.
+site 1 => ok; ribbon 1 no-fill w => refused case 2; cast 1 no-fill w => refused case 2;
+ribbon 1 c set-of-19 => refused wedge 3; cast 1 c set-of-19 => refused wedge 3;
+ribbon 1 no-fill set-of-19 => refused case 2; cast 1 no-fill set-of-19 => refused case 2;
+ribbon 1 none.toml w => refused file missing; ribbon 1 c w => no ribbon: missing measure;
+
+# case_of_its_own: The case of the named file is used, and no other.
+site 1 => ok; insert 1 0 r"\n" => ok 1.1; set 1 measure 120 => ok 2.1; set 1 tight 38 => ok 3.1;
+set 1 loose 150 => ok 4.1; set 1 case 1 => ok 5.1; set 1 wedge 5 => ok 6.1; cast 1 c w => lines 1 11/2159952;
+cast 1 one-fill w => no ribbon: cannot fill 1; cast 1 other-order w => no ribbon: fill order;
+"#;
+
 #[test]
-fn empty_copy_ribbon(rt: HostRuntime) -> Result<(), Fail> {
-    answered(rt.alloc(), EMPTY_COPY_RIBBON)
+fn scripts_of_jobs(rt: HostRuntime) -> Result<(), Fail> {
+    answered(rt.alloc(), &mut Shelf { failures: 0 }, JOBS)
 }
 
-const EMPTY_PARAGRAPH_RIBBON: &[(&str, &str)] = &[
-    ("site 1", "ok"),
-    ("set 1 measure 120", "ok 1.1"),
-    ("set 1 tight 38", "ok 2.1"),
-    ("set 1 loose 150", "ok 3.1"),
-    ("set 1 case 1", "ok 4.1"),
-    ("set 1 wedge 5", "ok 5.1"),
-    ("insert 1 0 r\"\\n\"", "ok 6.1"),
-    (
-        "ribbon 1 c w",
-        "ribbon 4d5242310000000e0000020601010001000000000000000000000000000000000000000000000000000000000000000000000000400010000000020200000406",
-    ),
-    ("cast 1 c w", "lines 1 11/2159952"),
-    ("show 1", "copy r\"\\n\""),
-];
+const FAILED_READS: &str = r#"
+# failed_reads: The first read fails, or the second: that command alone is refused, and nothing else.
+site 1 => ok; ribbon 1 c w => refused file device; ribbon 1 c w => no ribbon: missing measure;
+cast 1 c w => no ribbon: missing measure;
+"#;
 
-/// One empty paragraph is one line with an added space and fills.
-#[test]
-fn empty_paragraph_ribbon(rt: HostRuntime) -> Result<(), Fail> {
-    answered(rt.alloc(), EMPTY_PARAGRAPH_RIBBON)
-}
-
-const WIDEST_LINES: &[(&str, &str)] = &[
-    ("site 1", "ok"),
-    ("set 1 measure 120", "ok 1.1"),
-    ("set 1 tight 38", "ok 2.1"),
-    ("set 1 loose 150", "ok 3.1"),
-    ("set 1 case 1", "ok 4.1"),
-    ("set 1 wedge 5", "ok 5.1"),
-    ("insert 1 0 r\"nnnnnnnnnnnnnnnnnn\"", "ok 6.1..23.1"),
-    ("ribbon 1 c w", "no ribbon: too wide 1"),
-    ("cast 1 c w", "no ribbon: too wide 1"),
-    ("delete 1 17", "ok 24.1"),
-    ("delete 1 16", "ok 25.1"),
-    ("insert 1 16 r\"m\"", "ok 26.1"),
-    ("set 1 tight 53", "ok 27.1"),
-    ("cast 1 c w", "lines 1 18/2160000"),
-    ("delete 1 16", "ok 28.1"),
-    ("insert 1 16 r\"tt\"", "ok 29.1..30.1"),
-    ("set 1 tight 16", "ok 31.1"),
-    ("cast 1 c w", "lines 1 19/2159688"),
-];
-
-/// Lines that are as wide as may be, and one that is wider.
-#[test]
-fn widest_lines(rt: HostRuntime) -> Result<(), Fail> {
-    answered(rt.alloc(), WIDEST_LINES)
-}
-
-const TWO_LINES: &[(&str, &str)] = &[
-    ("site 1", "ok"),
-    ("set 1 measure 120", "ok 1.1"),
-    ("set 1 tight 38", "ok 2.1"),
-    ("set 1 loose 150", "ok 3.1"),
-    ("set 1 case 1", "ok 4.1"),
-    ("set 1 wedge 5", "ok 5.1"),
-    ("insert 1 0 r\"nnn nnn nnn nnn nnn nnn\"", "ok 6.1..28.1"),
-    ("cast 1 c w", "lines 2 19/2159232 12/2159664"),
-    ("set 1 loose 60", "ok 29.1"),
-    ("ribbon 1 c w", "no ribbon: too loose 1"),
-];
-
-/// A paragraph of two lines, and spaces that would be too loose.
-#[test]
-fn two_lines(rt: HostRuntime) -> Result<(), Fail> {
-    answered(rt.alloc(), TWO_LINES)
-}
-
-const CANNOT_FILL: &[(&str, &str)] = &[
-    ("site 1", "ok"),
-    ("set 1 measure 120", "ok 1.1"),
-    ("set 1 tight 38", "ok 2.1"),
-    ("set 1 loose 150", "ok 3.1"),
-    ("set 1 case 1", "ok 4.1"),
-    ("set 1 wedge 5", "ok 5.1"),
-    ("insert 1 0 r\"\\n\"", "ok 6.1"),
-    ("ribbon 1 one-fill w", "no ribbon: cannot fill 1"),
-    ("set 1 tight 128", "ok 7.1"),
-    ("ribbon 1 c w", "no ribbon: cannot fill 1"),
-    ("set 1 tight 127", "ok 8.1"),
-    (
-        "ribbon 1 c w",
-        "ribbon 4d5242310000000e0000020601010001000000000000000000000000000000000000000000000000000000000000000000000000400010000000020200000406",
-    ),
-];
-
-/// Spaces and fills that do not take up the rest of a line.
-#[test]
-fn cannot_fill(rt: HostRuntime) -> Result<(), Fail> {
-    answered(rt.alloc(), CANNOT_FILL)
-}
-
-const SPACE_VANISHES: &[(&str, &str)] = &[
-    ("site 1", "ok"),
-    ("set 1 measure 120", "ok 1.1"),
-    ("set 1 tight 38", "ok 2.1"),
-    ("set 1 loose 150", "ok 3.1"),
-    ("set 1 case 1", "ok 4.1"),
-    ("set 1 wedge 5", "ok 5.1"),
-    ("set 1 tight 16", "ok 6.1"),
-    ("ribbon 1 c narrow", "no ribbon: space vanishes"),
-    ("cast 1 c narrow", "no ribbon: space vanishes"),
-];
-
-/// A space that is not wider than nothing.
-#[test]
-fn space_vanishes(rt: HostRuntime) -> Result<(), Fail> {
-    answered(rt.alloc(), SPACE_VANISHES)
-}
-
-const JOB_FAULTS: &[(&str, &str)] = &[
-    ("site 1", "ok"),
-    ("ribbon 1 c w", "no ribbon: missing measure"),
-    ("set 1 measure 120", "ok 1.1"),
-    ("ribbon 1 c w", "no ribbon: missing tight"),
-    ("set 1 tight 38", "ok 2.1"),
-    ("ribbon 1 c w", "no ribbon: missing loose"),
-    ("set 1 loose 150", "ok 3.1"),
-    ("ribbon 1 c w", "no ribbon: missing case"),
-    ("set 1 case 1", "ok 4.1"),
-    ("cast 1 c w", "no ribbon: missing wedge"),
-    ("set 1 wedge 5", "ok 5.1"),
-    ("insert 1 0 r\"aqnz\"", "ok 6.1..9.1"),
-    ("ribbon 1 c w", "no ribbon: no matrix 1, no matrix 3"),
-    ("cast 1 c w", "no ribbon: no matrix 1, no matrix 3"),
-    ("ribbon 1 other-order w", "no ribbon: fill order"),
-    ("set 1 tight 100", "ok 10.1"),
-    ("set 1 loose 60", "ok 11.1"),
-    ("ribbon 1 c w", "no ribbon: crossed"),
-    ("set 1 wedge 6", "ok 12.1"),
-    ("ribbon 1 c w", "no ribbon: other wedge"),
-    ("set 1 case 2", "ok 13.1"),
-    ("ribbon 1 c w", "no ribbon: other case"),
-];
-
-/// The first fault of a job, or each symbol that the case lacks.
-#[test]
-fn job_faults(rt: HostRuntime) -> Result<(), Fail> {
-    answered(rt.alloc(), JOB_FAULTS)
-}
-
-const REFUSED_FILES: &[(&str, &str)] = &[
-    ("site 1", "ok"),
-    ("ribbon 1 none.toml w", "refused file missing"),
-    ("cast 1 none.toml none.toml", "refused file missing"),
-    ("ribbon 1 c none.toml", "refused file missing"),
-    ("ribbon 9 none.toml none.toml", "refused site"),
-    ("cast 0 none.toml none.toml", "refused site"),
-    ("ribbon 1 broken none.toml", "refused case 1"),
-    ("ribbon 1 w none.toml", "refused case 2"),
-    ("ribbon 1 c broken", "refused wedge 1"),
-    ("cast 1 c c", "refused wedge 2"),
-    ("cast 1 c range", "refused wedge 3"),
-    ("ribbon 1 large w", "refused file large"),
-    ("ribbon 1 c large", "refused file large"),
-    ("ribbon 1 device none.toml", "refused file device"),
-    ("cast 1 c device", "refused file device"),
-    ("ribbon 1 none.toml device", "refused file missing"),
-    ("cast 1 broken device", "refused case 1"),
-    ("cast 1 large device", "refused file large"),
-    ("ribbon 1 c", "refused command"),
-    ("ribbon 1 c ", "refused command"),
-    ("ribbon 1 c w w", "refused command"),
-    (
-        "cast 1 ccccccccccccccccccccccccccccccccccccccccccccccccccccccccccccccccccccccccccccccccccccccccccccccccccccccccccccccccccccccccccccccccccccccccccccccccccccccccccccccccccccccccccccccccccccccccccccccccccccccccccccccccccccccccccccccccccccccccccccccccccccccccccccccc w",
-        "refused file missing",
-    ),
-    (
-        "cast 1 cccccccccccccccccccccccccccccccccccccccccccccccccccccccccccccccccccccccccccccccccccccccccccccccccccccccccccccccccccccccccccccccccccccccccccccccccccccccccccccccccccccccccccccccccccccccccccccccccccccccccccccccccccccccccccccccccccccccccccccccccccccccccccccccc w",
-        "refused command",
-    ),
-    ("ribbon 1 c w", "no ribbon: missing measure"),
-];
-
-/// The case file, its reading, the wedge file, its reading: the first refusal is the answer, after the site.
-#[test]
-fn refused_files(rt: HostRuntime) -> Result<(), Fail> {
-    answered(rt.alloc(), REFUSED_FILES)
-}
-
-const NO_FILL: &[u8] = b"case = 1\nspace = \"G1\"\n";
-
-const SET_OF_19: &[u8] =
-    b"wedge = 5\nset_q = 19\npica = \"sixth\"\nunits = [5, 6, 7, 8, 9, 9, 9, 10, 10, 11, 12, 13, 14, 15, 18]\n";
-
-/// The case `c` and the wedge `w`; the case without its fills, and the wedge with a set of 19.
-pub fn trial_files(alloc: Global) -> Result<TrialFiles<Global>, AllocError> {
-    let mut files = TrialFiles::new(alloc);
-    let mut case = Vec::new(alloc);
-    case.extend_from_slice(CASE)?;
-    case.extend_from_slice(ROWS)?;
-    files.put("c", &case)?;
-    case.clear();
-    case.extend_from_slice(NO_FILL)?;
-    case.extend_from_slice(ROWS)?;
-    files.put("no-fill", &case)?;
-    files.put("w", WEDGE)?;
-    files.put("set-of-19", SET_OF_19)?;
-    Ok(files)
-}
-
-/// Whether each command of a script, beside files in memory of which the k-th call fails, has its answer.
-fn answered_beside(alloc: Global, lines: &[(&str, &str)], k: u64) -> Result<(), Fail> {
-    let (input, want) = script(alloc, lines)?;
-    let mut files = trial_files(alloc)?.failing_at_call(k);
-    let mut written = Vec::new(alloc);
-    let mut reader = TrialReader::new(input.as_bytes());
-    run(alloc, alloc, &mut reader, &mut written, &mut files)?;
-    if files.failures() != u64::from(k > 0) {
-        return Err(Fail::new("another count of failures"));
-    }
-    same(&written, want.as_bytes())
-}
-
-const REFUSED_INPUTS: &[(&str, &str)] = &[
-    ("site 1", "ok"),
-    ("ribbon 1 no-fill w", "refused case 2"),
-    ("cast 1 no-fill w", "refused case 2"),
-    ("ribbon 1 c set-of-19", "refused wedge 3"),
-    ("cast 1 c set-of-19", "refused wedge 3"),
-    ("ribbon 1 no-fill set-of-19", "refused case 2"),
-    ("cast 1 no-fill set-of-19", "refused case 2"),
-    ("ribbon 1 none.toml w", "refused file missing"),
-    ("ribbon 1 c w", "no ribbon: missing measure"),
-];
-
-/// A case without fills, a wedge with too small a set, and both.
-#[test]
-fn refused_inputs(rt: HostRuntime) -> Result<(), Fail> {
-    answered_beside(rt.alloc(), REFUSED_INPUTS, 0)
-}
-
-const FAILED_READ: &[(&str, &str)] = &[
-    ("site 1", "ok"),
-    ("ribbon 1 c w", "refused file device"),
-    ("ribbon 1 c w", "no ribbon: missing measure"),
-    ("cast 1 c w", "no ribbon: missing measure"),
-];
-
-/// The first read fails, or the second: that command alone is refused, and nothing else.
 #[test]
 fn failed_reads(rt: HostRuntime) -> Result<(), Fail> {
-    answered_beside(rt.alloc(), FAILED_READ, 1)?;
-    answered_beside(rt.alloc(), FAILED_READ, 2)
-}
-
-const TWO_CASES: &[(&str, &str)] = &[
-    ("site 1", "ok"),
-    ("insert 1 0 r\"\\n\"", "ok 1.1"),
-    ("set 1 measure 120", "ok 2.1"),
-    ("set 1 tight 38", "ok 3.1"),
-    ("set 1 loose 150", "ok 4.1"),
-    ("set 1 case 1", "ok 5.1"),
-    ("set 1 wedge 5", "ok 6.1"),
-    ("cast 1 c w", "lines 1 11/2159952"),
-    ("cast 1 one-fill w", "no ribbon: cannot fill 1"),
-    ("cast 1 other-order w", "no ribbon: fill order"),
-];
-
-/// The case of the named file is used, and no other.
-#[test]
-fn case_of_its_own(rt: HostRuntime) -> Result<(), Fail> {
-    answered(rt.alloc(), TWO_CASES)
+    let mut case = Vec::new(rt.alloc());
+    case.extend_from_slice(CASE)?;
+    case.extend_from_slice(ROWS)?;
+    for k in 1..3u64 {
+        let mut files = TrialFiles::new(rt.alloc()).failing_at_call(k);
+        files.put("c", &case)?;
+        files.put("w", WEDGE)?;
+        answered(rt.alloc(), &mut files, FAILED_READS)?;
+        assert_eq!(rt; files.failures(), 1);
+    }
+    Ok(())
 }

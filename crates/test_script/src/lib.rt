@@ -10,6 +10,8 @@ mod jobs;
 #[cfg(test)]
 mod older;
 #[cfg(test)]
+mod running;
+#[cfg(test)]
 mod scripts;
 #[cfg(test)]
 mod words;

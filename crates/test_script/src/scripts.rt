@@ -1,34 +1,13 @@
-use desk_script::{RunFault, run};
+//! Readers and writers that fail, and lines of every form.
+
+use crate::running::{answers, ran, same};
+use desk_script::RunFault;
 use feed_files::NoFiles;
 use feed_files::trial::{AtEnd, TrialReader, TrialWriter};
 use linked_list_allocator::LocalHeap;
-use std::alloc::{Allocator, Global};
+use std::alloc::Global;
 use std::io::{self, ErrorKind, Read, Write};
 use std::test::Fail;
-
-/// What a script is answered, read in steps of so many bytes.
-pub fn answers<A: Allocator + Copy>(
-    alloc: A,
-    global: Global,
-    input: &[u8],
-    step: usize,
-) -> Result<Vec<u8, A>, RunFault> {
-    let mut reader = TrialReader::new(input).in_steps_of(step);
-    let mut written = Vec::new(alloc);
-    match run(alloc, global, &mut reader, &mut written, &mut NoFiles) {
-        Ok(()) => Ok(written),
-        Err(fault) => Err(fault),
-    }
-}
-
-/// Nothing, where both are the same bytes.
-pub fn same(got: &[u8], want: &[u8]) -> Result<(), Fail> {
-    if got == want {
-        Ok(())
-    } else {
-        Err(Fail::new("another answer"))
-    }
-}
 
 const FAILURES: &[u8] = b"site 1\nsite 2\n";
 
@@ -40,11 +19,11 @@ fn ends(
     end: RunFault,
     want: &[u8],
 ) -> Result<(), Fail> {
-    let got = run(alloc, alloc, &mut reader, &mut writer, &mut NoFiles);
+    let got = ran(alloc, alloc, &mut reader, &mut writer, &mut NoFiles);
     if got != Err(end) {
         return Err(Fail::new("another end"));
     }
-    same(writer.written(), want)
+    same(writer.written(), want, 0)
 }
 
 #[test]
@@ -116,7 +95,7 @@ fn written_up_to(alloc: Global, k: usize, kind: Option<ErrorKind>) -> Result<(),
         failing_call: k.saturating_add(1),
         kind,
     };
-    let end = run(alloc, alloc, &mut reader, &mut writer, &mut NoFiles);
+    let end = ran(alloc, alloc, &mut reader, &mut writer, &mut NoFiles);
     let (calls, want) = if k == TWO_SITES_ANSWERS.len() {
         (k, Ok(()))
     } else {
@@ -128,6 +107,7 @@ fn written_up_to(alloc: Global, k: usize, kind: Option<ErrorKind>) -> Result<(),
     same(
         &writer.written,
         &TWO_SITES_ANSWERS[..k.min(TWO_SITES_ANSWERS.len())],
+        k,
     )
 }
 
@@ -193,7 +173,7 @@ fn read_up_to(alloc: Global, failing_call: usize, kind: ErrorKind) -> Result<(),
         kind,
     };
     let mut written = Vec::new(alloc);
-    let end = run(alloc, alloc, &mut reader, &mut written, &mut NoFiles);
+    let end = ran(alloc, alloc, &mut reader, &mut written, &mut NoFiles);
     let whole = TWO_SITES.len().saturating_add(1);
     let calls = failing_call.min(whole);
     let right = if failing_call > whole {
@@ -208,7 +188,7 @@ fn read_up_to(alloc: Global, failing_call: usize, kind: ErrorKind) -> Result<(),
     let lines = ended(&TWO_SITES[..read]);
     let answers = TWO_SITES_ANSWERS;
     let length = length_of_lines(answers, lines).min(answers.len());
-    same(&written, &answers[..length])
+    same(&written, &answers[..length], failing_call)
 }
 
 #[test]
@@ -237,10 +217,10 @@ const TWO_SITES_ANSWERS: &[u8] =
 
 /// Scripts and their answers, read in steps of 1, 7 and 1,000 bytes.
 fn answered_in_steps(alloc: Global, scripts: &[(&[u8], &[u8])]) -> Result<(), Fail> {
-    for (input, want) in scripts {
+    for (row, (input, want)) in scripts.iter().enumerate() {
         for step in [1usize, 7, 1000] {
-            let got = answers(alloc, alloc, input, step)?;
-            same(&got, want)?;
+            let got = answers(alloc, alloc, input, step, &mut NoFiles)?;
+            same(&got, want, row)?;
         }
     }
     Ok(())
@@ -263,48 +243,22 @@ fn refused_inserts(rt: HostRuntime) -> Result<(), Fail> {
 }
 
 /// Scripts, and what they are answered.
+#[rattlefmt::skip]
 const SCRIPTS: &[(&[u8], &[u8])] = &[
     // A line ends with a line feed, and one carriage return before it goes; at the end none does.
     (b"site 1\nsite 2\r\nsite 3", b"ok\nok\nok\n"),
-    (
-        b"site 1\r\r\nsite 2\r",
-        b"refused command\nrefused command\n",
-    ),
-    (
-        b"\n\r\n\r",
-        b"refused command\nrefused command\nrefused command\n",
-    ),
-    (
-        b"\xef\xbb\xbfsite 1\n\xffsite 1\n",
-        b"refused command\nrefused command\n",
-    ),
+    (b"site 1\r\r\nsite 2\r", b"refused command\nrefused command\n"),
+    (b"\n\r\n\r", b"refused command\nrefused command\nrefused command\n"),
+    (b"\xef\xbb\xbfsite 1\n\xffsite 1\n", b"refused command\nrefused command\n"),
     // Words are separated by exactly one space.
-    (
-        b"site  1\n site 1\nsite 1 \nsite\t1\nsite\n",
-        b"refused command\nrefused command\nrefused command\nrefused command\nrefused command\n",
-    ),
+    (b"site  1\n site 1\nsite 1 \nsite\t1\nsite\n", b"refused command\nrefused command\nrefused command\nrefused command\nrefused command\n"),
     // A number has 1 to 10 digits.
-    (
-        b"site 0000000001\nsite 00000000001\nsite +1\nsite 4294967296\n",
-        b"ok\nrefused command\nrefused command\nrefused command\n",
-    ),
-    (
-        b"site 0\nsite 65535\nsite 65536\nsite 4294967295\n",
-        b"refused number\nok\nrefused number\nrefused number\n",
-    ),
-    (
-        b"site 1\nsend 1 65537\nsend 65537 1\nsend 0 1\nfeed 65537\nfeed 2\n",
-        b"ok\nrefused site\nrefused site\nrefused site\nrefused site\nrefused site\n",
-    ),
+    (b"site 0000000001\nsite 00000000001\nsite +1\nsite 4294967296\n", b"ok\nrefused command\nrefused command\nrefused command\n"),
+    (b"site 0\nsite 65535\nsite 65536\nsite 4294967295\n", b"refused number\nok\nrefused number\nrefused number\n"),
+    (b"site 1\nsend 1 65537\nsend 65537 1\nsend 0 1\nfeed 65537\nfeed 2\n", b"ok\nrefused site\nrefused site\nrefused site\nrefused site\nrefused site\n"),
     // The whole line's form comes before anything else.
-    (
-        b"insert 9 9 i\"\"\ntake 9 4d4\nsend 9 1 0..x\nset 9 Measure 1\n",
-        b"refused command\nrefused command\nrefused command\nrefused command\n",
-    ),
-    (
-        b"site 1\nsend 1 1\nfeed 1\nshow 1\n",
-        b"ok\nok new 0 known 0\nfeed 4d464432\ncopy\n",
-    ),
+    (b"insert 9 9 i\"\"\ntake 9 4d4\nsend 9 1 0..x\nset 9 Measure 1\n", b"refused command\nrefused command\nrefused command\nrefused command\n"),
+    (b"site 1\nsend 1 1\nfeed 1\nshow 1\n", b"ok\nok new 0 known 0\nfeed 4d464432\ncopy\n"),
 ];
 
 #[test]
@@ -325,10 +279,11 @@ fn long_line(
     input.extend_from_slice(start)?;
     input.resize(whole, byte)?;
     input.extend_from_slice(end)?;
-    let got = answers(alloc, alloc, &input, 1000)?;
-    same(&got, want)
+    let got = answers(alloc, alloc, &input, 1000, &mut NoFiles)?;
+    same(&got, want, length)
 }
 
+#[rattlefmt::skip]
 const LONG_LINES: &[(&[u8], usize, &[u8], &[u8])] = &[
     (b"", 65_536, b"\n", b"refused command\n"),
     (b"", 65_536, b"\r\n", b"refused command\n"),
@@ -336,18 +291,12 @@ const LONG_LINES: &[(&[u8], usize, &[u8], &[u8])] = &[
     (b"", 65_537, b"\n", b"refused line\n"),
     (b"", 65_536, b"\r", b"refused line\n"),
     (b"", 200_000, b"\r\nsite 1\n", b"refused line\nok\n"),
-    (
-        b"site 1\n",
-        65_536,
+    (b"site 1\n", 65_536,
         b"\nsite 2\n",
-        b"ok\nrefused command\nok\n",
-    ),
-    (
-        b"site 1\n",
-        65_537,
+        b"ok\nrefused command\nok\n"),
+    (b"site 1\n", 65_537,
         b"\nsite 2\n",
-        b"ok\nrefused line\nok\n",
-    ),
+        b"ok\nrefused line\nok\n"),
 ];
 
 #[test]
@@ -359,15 +308,10 @@ fn long_lines(rt: HostRuntime) -> Result<(), Fail> {
     Ok(())
 }
 
+#[rattlefmt::skip]
 const REFUSED_COMMANDS: &[(&[u8], &[u8])] = &[
-    (
-        b"site 1\nsite 1\nsite 0\nsend 1 3\ninsert 1 5 r\"a\"\ninsert 1 0 i\" \"\nset 1 measure 11\njump\nribbon 1 none.toml w\n",
-        b"ok\nrefused known\nrefused number\nrefused site\nrefused place\nrefused value\nrefused value\nrefused command\nrefused file missing\n",
-    ),
-    (
-        b"site 1\nsite 2\nsite 3\nsite 4\nsite 5\nsite 6\nsite 7\nsite 8\nsite 9\nsite 10\nsite 11\nsite 12\nsite 13\nsite 14\nsite 15\nsite 16\nsite 17\nsite 16\nsite 0\n",
-        b"ok\nok\nok\nok\nok\nok\nok\nok\nok\nok\nok\nok\nok\nok\nok\nok\nrefused sites\nrefused known\nrefused number\n",
-    ),
+    (b"site 1\nsite 1\nsite 0\nsend 1 3\ninsert 1 5 r\"a\"\ninsert 1 0 i\" \"\nset 1 measure 11\njump\nribbon 1 none.toml w\n", b"ok\nrefused known\nrefused number\nrefused site\nrefused place\nrefused value\nrefused value\nrefused command\nrefused file missing\n"),
+    (b"site 1\nsite 2\nsite 3\nsite 4\nsite 5\nsite 6\nsite 7\nsite 8\nsite 9\nsite 10\nsite 11\nsite 12\nsite 13\nsite 14\nsite 15\nsite 16\nsite 17\nsite 16\nsite 0\n", b"ok\nok\nok\nok\nok\nok\nok\nok\nok\nok\nok\nok\nok\nok\nok\nok\nrefused sites\nrefused known\nrefused number\n"),
 ];
 
 #[test]
@@ -378,6 +322,6 @@ fn refused_commands(rt: HostRuntime) -> Result<(), Fail> {
 #[test]
 fn always_out_of_memory(rt: HostRuntime) -> Result<(), Fail> {
     let heap = LocalHeap::new(rt.alloc(), 1 << 20)?;
-    let got = answers(&heap, rt.alloc(), TWO_SITES, 100)?;
-    same(&got, TWO_SITES_ANSWERS)
+    let got = answers(&heap, rt.alloc(), TWO_SITES, 100, &mut NoFiles)?;
+    same(&got, TWO_SITES_ANSWERS, 0)
 }
