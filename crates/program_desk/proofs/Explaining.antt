@@ -1,5 +1,5 @@
 -- What is written of a cause.
-use Rattle.std.proofs.Common.{subst, sym, refl, ap, ◌≡◌, ◌⊎◌, inl, inr, Bool, true, false, List, [], ℕ, ◌++◌, append-nil}
+use Rattle.std.proofs.Common.{subst, sym, refl, ◌≡◌, inl, inr, Bool, true, false, List, [], ℕ, ◌++◌, append-nil}
 use Rattle.std.specs.Prelude.{Option, None, Some}
 use Rattle.program_desk.specs.declared.causes.Cause.{Cause}
 use Rattle.program_desk.specs.Explained.{ExplainsIf, Reports, ReportsMore, TellsMore, TellsOf}

@@ -53,8 +53,3 @@ when_so A B false so a = absurd (let f : false ≡ true = so in cc)
 pub when_not : (A B : Type 0) (b : Bool) → b ≡ false → B → MatchBool b A B
 when_not A B true isnt b = absurd (let f : true ≡ false = isnt in cc)
 when_not A B false isnt b = b
-
--- what holds by an answer, yes or no
-pub one_of : (A B : Type 0) (b : Bool) → (b ≡ true → A) → (b ≡ false → B) → A ⊎ B
-one_of A B true so isnt = inl (so refl)
-one_of A B false so isnt = inr (isnt refl)

@@ -28,9 +28,7 @@ use Rattle.desk_script.specs.declared.fault.RunFault.TheVariants as runs
 use Rattle.desk_script.specs.Sheet.{max_sheet}
 use Rattle.desk_script.specs.declared.sheet_fault.SheetFault.{SheetFault}
 use Rattle.desk_script.specs.declared.sheet_fault.SheetFault.TheVariants as stops
-use Rattle.feed_edit.specs.declared.replace_fault.ExchangeFault.{ExchangeFault}
 use Rattle.feed_edit.specs.declared.replace_fault.ExchangeFault.TheVariants as exchanges
-use Rattle.feed_edit.specs.declared.replace_fault.PlaceFault.{PlaceFault}
 use Rattle.feed_edit.specs.declared.replace_fault.PlaceFault.TheVariants as places
 use Rattle.feed_edit.specs.declared.replace_fault.ReplaceFault.{ReplaceFault}
 use Rattle.feed_edit.specs.declared.replace_fault.ReplaceFault.TheVariants as replacements

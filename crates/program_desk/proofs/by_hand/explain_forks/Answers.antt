@@ -1,11 +1,7 @@
-use Rattle.std.proofs.Common.{◌≡◌, ◌∙◌, List, ℕ, [], inl, inr, refl, subst, sym}
-use Rattle.std.specs.Borrow.{Bor}
+use Rattle.std.proofs.Common.{◌∙◌, [], inl, inr, refl, subst, sym}
 use Rattle.std.specs.declared.alloc.Global.{Global}
-use Rattle.clap.specs.Words.{Text}
 use Rattle.feed_edit.specs.declared.fault.MergeFault.{MergeFault}
-use Rattle.feed_edit.specs.declared.fault.MergeFault.TheVariants as merges
 use Rattle.program_desk.specs.ByHand.{IsForkLine}
-use Rattle.program_desk.specs.Told.{GoesOn}
 use Rattle.program_desk.proofs.Merged.{no_forks}
 use Rattle.program_desk.proofs.Telling.{stays}
 use Rattle.program_desk.proofs.by_hand.explain_forks.Goals as goal
@@ -18,6 +14,6 @@ returns-in_default-name_at g c = ([], subst (λ (fault : MergeFault Global). IsF
 
 pub returns : goal.returns
 returns g c = elim c.tell_forks.ensures.1 [
-      | inl none ↦ (c.tell_forks.ensures.0, subst (λ (fault : MergeFault Global). IsForkLine c.args.others.now fault c.tell_forks.ensures.0) (sym c.in-Forks.is) (inl none), c.tell_forks.ensures.2)
-      | inr same ↦ (c.tell_forks.ensures.0, subst (λ (fault : MergeFault Global). IsForkLine c.args.others.now fault c.tell_forks.ensures.0) (sym c.in-Forks.is) (inr (c.in-Some.name, sym c.name_at.ensures ∙ c.in-Some.is, same)), c.tell_forks.ensures.2)
-    ]
+  | inl none ↦ (c.tell_forks.ensures.0, subst (λ (fault : MergeFault Global). IsForkLine c.args.others.now fault c.tell_forks.ensures.0) (sym c.in-Forks.is) (inl none), c.tell_forks.ensures.2)
+  | inr same ↦ (c.tell_forks.ensures.0, subst (λ (fault : MergeFault Global). IsForkLine c.args.others.now fault c.tell_forks.ensures.0) (sym c.in-Forks.is) (inr (c.in-Some.name, sym c.name_at.ensures ∙ c.in-Some.is, same)), c.tell_forks.ensures.2)
+]

@@ -1,4 +1,4 @@
-use Rattle.std.proofs.Common.{◌≡◌, subst, refl, true, ◌++◌}
+use Rattle.std.proofs.Common.{◌≡◌, subst, refl, true}
 use Rattle.program_desk.specs.ByHand.{TellsMerge, status_of}
 use Rattle.program_desk.specs.Explained.{IsSilent, TellsOf}
 use Rattle.program_desk.proofs.Statuses.{said_in}

@@ -1,4 +1,4 @@
-use Rattle.std.proofs.Common.{◌≡◌, subst, true, false}
+use Rattle.std.proofs.Common.{◌≡◌, subst, true}
 use Rattle.program_desk.specs.Causes.{renew_cause}
 use Rattle.program_desk.specs.Explained.{TellsOf}
 use Rattle.program_desk.proofs.Statuses.{said_in}

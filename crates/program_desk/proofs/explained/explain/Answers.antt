@@ -1,4 +1,4 @@
-use Rattle.std.proofs.Common.{refl, sym, subst, ◌∙◌, ◌++◌, [], List, ℕ}
+use Rattle.std.proofs.Common.{refl, sym, subst, ◌∙◌, ◌++◌, []}
 use Rattle.program_desk.specs.Explained.{IsExplainedBy, older_words}
 use Rattle.program_desk.specs.Told.{IsNamed}
 use Rattle.program_desk.proofs.Telling.{goes_on_twice, stays}

@@ -1,4 +1,3 @@
-use Rattle.std.proofs.Common.{subst}
 use Rattle.program_desk.proofs.Explaining.{told_more}
 use Rattle.program_desk.proofs.explained.tell_cause.Goals as goal
 

@@ -1,6 +1,5 @@
 use Rattle.std.proofs.Common.{subst}
 use Rattle.std.specs.Prelude.{IfErr, IfOk}
-use Rattle.program_desk.specs.Previews.{IsShown, IsUnshown}
 use Rattle.view_punch.specs.Proofing.{IsProofed, IsUnproofed}
 use Rattle.view_punch.specs.Sources.{sources}
 use Rattle.program_desk.proofs.Previewing.{shown_of, unshown_of}

@@ -1,7 +1,6 @@
 use Rattle.std.proofs.Common.{subst, sym, ◌∙◌}
 use Rattle.std.specs.Prelude.{◌||◌}
 use Rattle.desk_script.specs.StoredSheet.{IsStoppedOnFeed, IsStoredSheet}
-use Rattle.desk_script.specs.declared.fault.RoomFault.{RoomFault}
 use Rattle.desk_script.specs.declared.sheet_fault.SheetFault.{SheetFault}
 use Rattle.desk_script.specs.declared.sheet.Mode.{Mode}
 use Rattle.program_desk.specs.Causes.{room_cause, stop_cause}

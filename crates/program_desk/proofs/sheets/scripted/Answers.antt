@@ -1,6 +1,5 @@
 use Rattle.std.proofs.Common.{subst, sym, ◌∙◌}
 use Rattle.desk_script.specs.Fault.{IsOfLines}
-use Rattle.desk_script.specs.declared.fault.RunFault.{RunFault}
 use Rattle.desk_script.specs.declared.fault.RunFault.TheVariants as runs
 use Rattle.desk_script.specs.declared.sheet_fault.SheetFault.{SheetFault}
 use Rattle.desk_script.specs.declared.sheet.Mode.{Mode}

@@ -6,5 +6,5 @@ use Rattle.program_desk.proofs.texts.check_ending.Goals as goal
 
 pub returns-in-Err : goal.returns-in-Err
 returns-in-Err g c = said_in (λ yes. (yes ≡ true → c.reported.result.status ≡ 0) × (yes ≡ false → c.reported.result.status ≡ 1) × IsSilent c.reported.result.told.is_whole (g.E.Write.contents c.args.faults.now) (g.E.Write.contents c.reported.new.faults))
-    (λ fault. (c.reported.result.status ≡ 1) × Reports (check_cause  fault) c.reported.result.told.is_whole (g.E.Write.contents c.args.faults.now) (g.E.Write.contents c.reported.new.faults)) c.args.outcome c.in-Err.fault c.in-Err.is
+    (λ fault. (c.reported.result.status ≡ 1) × Reports (check_cause fault) c.reported.result.told.is_whole (g.E.Write.contents c.args.faults.now) (g.E.Write.contents c.reported.new.faults)) c.args.outcome c.in-Err.fault c.in-Err.is
     (c.reported.ensures.0, subst (λ cause. Reports cause c.reported.result.told.is_whole (g.E.Write.contents c.args.faults.now) (g.E.Write.contents c.reported.new.faults)) c.check_cause.ensures c.reported.ensures.1)

@@ -1,4 +1,4 @@
-use Rattle.std.proofs.Common.{◌≡◌, subst, true, false}
+use Rattle.std.proofs.Common.{◌≡◌, subst}
 use Rattle.program_desk.specs.Causes.{replace_cause}
 use Rattle.program_desk.specs.Explained.{Reports}
 use Rattle.program_desk.proofs.Statuses.{said_in}

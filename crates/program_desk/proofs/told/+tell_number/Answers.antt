@@ -1,4 +1,4 @@
-use Rattle.std.proofs.Common.{◌∙◌, ◌≡◌, ◌≤◌, ◌%◌, ◌+◌, ◌/◌, arith, subst, sym, List, ℕ, [], ◌∷◌, ◌++◌}
+use Rattle.std.proofs.Common.{◌≤◌, ◌%◌, ◌+◌, ◌/◌, arith, subst, sym, [], ◌∷◌}
 use Rattle.std.specs.Fmt.{decimal}
 use Rattle.std.proofs.lemmas.Fmt.{decimal_step}
 use Rattle.program_desk.specs.Told.{GoesOn}
