@@ -1,5 +1,5 @@
 -- Feeds joined one after the other.
-use Rattle.std.proofs.Common.{◌≡◌, ℕ, ◌+◌, ◌-◌, ◌<◌, ◌&&◌, Bool, true, false, List, [], ◌∷◌, ◌++◌, length, map, take, drop, get_or, inr, refl, sym, ap, ap₂, subst, ◌∙◌, append_assoc, arith, take-append-drop, add-one, drop-cons}
+use Rattle.std.proofs.Common.{◌≡◌, ℕ, ◌+◌, ◌<◌, ◌&&◌, Bool, true, false, List, [], ◌∷◌, ◌++◌, length, map, take, drop, get_or, inr, refl, sym, ap, ap₂, subst, ◌∙◌, append_assoc, arith, take-append-drop, add-one, drop-cons}
 use Rattle.std.specs.Prelude.{◌≢◌}
 use Rattle.std.proofs.lemmas.List.{append-nil, length-map, length-take-le, map-append, map_more}
 use Rattle.desk_ops.specs.declared.op.Op.{Op}
@@ -9,7 +9,6 @@ use Rattle.desk_held.specs.declared.AddRefusal.{AddRefusal}
 use Rattle.desk_held.specs.declared.AddRefusal.TheVariants as adds
 use Rattle.desk_held.specs.Joining.{IsStopped}
 use Rattle.desk_replica.specs.State.{IsCounted}
-use Rattle.desk_replica.specs.declared.Count.{Count}
 use Rattle.desk_held.specs.declared.join.Stopped.{Stopped}
 use Rattle.feed_readings.specs.Before.{IsJoin}
 use Rattle.feed_edit.specs.Fault.{of_adding}

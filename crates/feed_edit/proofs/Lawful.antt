@@ -1,5 +1,5 @@
 -- The symbols of a copy are lawful.
-use Rattle.std.proofs.Common.{◌≡◌, ℕ, zero, suc, List, [], ◌∷◌, ◌++◌, Some, inl, inr, map, take, drop, refl, subst}
+use Rattle.std.proofs.Common.{◌≡◌, ℕ, zero, suc, ◌+◌, List, [], ◌∷◌, ◌++◌, Some, inl, inr, map, take, drop, refl, subst}
 use Rattle.desk_ops.specs.declared.op.Op.{Op}
 use Rattle.desk_ops.specs.declared.op.Op.TheVariants.{Insert, Delete, Set}
 use Rattle.desk_ops.specs.declared.op.Symbol.{Symbol}
@@ -11,6 +11,7 @@ use Rattle.desk_ops.proofs.Lists.{each-among}
 use Rattle.desk_ops.proofs.Means.{clear_insert, live-parts, some-same}
 use Rattle.desk_ops.proofs.Parts.{shown_live}
 use Rattle.text_copy.specs.Laws.{AreLawful}
+use Rattle.feed_edit.specs.Replacing.{replaced_at}
 
 insert_symbol : (o : Op) (x : Insertion) → insertion o ≡ Some x → IsLawful o → IsSymbol x.symbol
 insert_symbol (Insert s p y) x e l = subst (λ (x : Insertion). IsSymbol x.symbol) (some-same (record { stamp = s; parent = p; symbol = y }) x e) l.3
@@ -44,5 +45,10 @@ lawful_append [] ys l m = m
 lawful_append (x ∷ xs) ys l m = (l.0, lawful_append xs ys l.1 m)
 
 -- what stands where one text was made another
-pub replaced_lawful : (place past : ℕ) (new copy : List Symbol) → AreLawful new → AreLawful copy → AreLawful (take place copy ++ new ++ drop past copy)
+replaced_lawful : (place past : ℕ) (new copy : List Symbol) → AreLawful new → AreLawful copy → AreLawful (take place copy ++ new ++ drop past copy)
 replaced_lawful place past new copy l m = lawful_append (take place copy ++ new) (drop past copy) (lawful_append (take place copy) new (lawful_take place copy m) l) (lawful_drop past copy m)
+
+-- and at each of some places
+pub exchanged_lawful : (places : List ℕ) (count : ℕ) (new copy : List Symbol) → AreLawful new → AreLawful copy → AreLawful (replaced_at places count new copy)
+exchanged_lawful [] count new copy l m = m
+exchanged_lawful (place ∷ places) count new copy l m = replaced_lawful place (place + count) new (replaced_at places count new copy) l (exchanged_lawful places count new copy l m)

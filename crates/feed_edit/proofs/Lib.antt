@@ -10,5 +10,6 @@ pub mod Fresh
 pub mod Forking
 pub mod Unmerged
 pub mod Barred
-pub mod Once
+pub mod Apart
 pub mod Lawful
+pub mod Exchanging

@@ -1,21 +1,23 @@
--- A text in the copy of a stored feed, made another at the one place where it stands.
-use Rattle.std.specs.Prelude.{◌≡◌, ◌≢◌, ℕ, ◌+◌, Bool, List, [], ◌∷◌, ◌++◌, Option, Ok, Err, length, take, drop}
+-- A text in the copy of a stored feed, made another at its one place, at one of its places, or at all of them.
+use Rattle.std.specs.Prelude.{◌≡◌, ◌≢◌, ◌⊎◌, ℕ, ◌+◌, ◌<◌, Bool, List, [], ◌∷◌, ◌++◌, length, take, drop}
+use Rattle.std.specs.Prelude.{Option, Ok, Err}
 use Rattle.desk_ops.specs.declared.op.Symbol.{Symbol}
-use Rattle.desk_ops.specs.OpSet.{OpSet}
+use Rattle.desk_ops.specs.OpSet.{OpSet, max_ops}
 use Rattle.desk_ops.specs.Shown.{copy_of}
 use Rattle.text_copy.specs.Reading.{reading}
 use Rattle.text_copy.specs.declared.fault.TextFault.{TextFault}
 use Rattle.text_copy.specs.declared.fault.TextFault.TheVariants as texts
 use Rattle.feed_files.specs.Files.{Shelf}
-use Rattle.text_copy.specs.Places.{places_of}
 use Rattle.feed_edit.specs.Editing.{IsRevised, IsSparing, IsUnrevised}
 use Rattle.feed_edit.specs.Keeping.{IsKept, IsUnkept, edited_line}
 use Rattle.feed_edit.specs.Merging.{IsBarred}
 use Rattle.feed_edit.specs.Room.{IsBarredHere, IsOpenedHere}
 use Rattle.feed_stored.specs.Room.{IsMarked}
+use Rattle.feed_edit.specs.declared.fault.RevisionFault.{RevisionFault}
 use Rattle.feed_edit.specs.declared.fault.RevisionFault.TheVariants as revisions
-use Rattle.feed_edit.specs.Reporting.{IsReported}
+use Rattle.feed_edit.specs.Reporting.{IsReported, taken}
 use Rattle.feed_edit.specs.declared.texts.Exchange.{Exchange}
+use Rattle.feed_edit.specs.declared.texts.Where.{Where}
 use Rattle.feed_edit.specs.declared.replace_fault.ExchangeFault.{ExchangeFault}
 use Rattle.feed_edit.specs.declared.replace_fault.ExchangeFault.TheVariants as exchanges
 use Rattle.feed_edit.specs.declared.replace_fault.ReplaceFault.{ReplaceFault}
@@ -46,29 +48,41 @@ fault_of texts.NoMemory named = exchanges.NoMemory
 abbrev pub replaced : ℕ → ℕ → List Symbol → List Symbol → List Symbol
 replaced place count new copy = take place copy ++ new ++ drop (place + count) copy
 
--- the one text stands at exactly one place of a copy, and this is the copy with the other there instead
-abbrev pub IsExchanged : List Symbol → List Symbol → List Symbol → List Symbol → Type 0
-IsExchanged old new copy text = (place : ℕ) × (places_of old copy ≡ place ∷ [])
-    × (text ≡ replaced place (length old) new copy)
+-- at each of these places, which ascend and do not overlap; the last one first, so that the others stay where they are
+abbrev pub replaced_at : List ℕ → ℕ → List Symbol → List Symbol → List Symbol
+replaced_at [] count new copy = copy
+replaced_at (place ∷ places) count new copy = replaced place count new (replaced_at places count new copy)
 
--- The one text stands at exactly one place of the copy of the old set. In that of the new set the other stands there
--- instead, by so many inserts and so many deletes of the site: no more than both copies have symbols between what they
--- begin and end with alike, and none where the copy stays.
-abbrev pub Replaces : ℕ → List Symbol → List Symbol → OpSet → OpSet → ℕ → ℕ → Type 0
-Replaces site old new was set inserted deleted = (text : List Symbol) × IsExchanged old new (copy_of was) text
+-- the one text has a place that is taken in a copy, and this is the copy with the other at each place taken
+abbrev pub IsExchanged : Where → List Symbol → List Symbol → List Symbol → List Symbol → Type 0
+IsExchanged at old new copy text = (taken at old copy ≢ [])
+    × (text ≡ replaced_at (taken at old copy) (length old) new copy)
+
+-- The one text has a place that is taken in the copy of the old set. In that of the new set the other is at each place
+-- taken instead, by so many inserts and so many deletes of the site: no more than both copies have symbols between what
+-- they begin and end with alike, and none where the copy stays.
+abbrev pub Replaces : ℕ → Where → List Symbol → List Symbol → OpSet → OpSet → ℕ → ℕ → Type 0
+Replaces site at old new was set inserted deleted = (text : List Symbol) × IsExchanged at old new (copy_of was) text
     × IsRevised site was set text inserted deleted
     × IsSparing (copy_of was) text (inserted + deleted) × (copy_of was ≡ text → set ≡ was)
+
+-- Why the copy of a set was not made a text by a site: the text is longer than the copy of any set; or an edit was
+-- refused, or memory ran out.
+abbrev pub IsUnmade : ℕ → OpSet → List Symbol → RevisionFault → Type 0
+IsUnmade site was text why = ((why ≡ revisions.Full) × (max_ops < length text))
+    ⊎ ((now : OpSet) × IsUnrevised site was now text why
+    × (copy_of was ≡ text → why ≡ revisions.NoMemory) × (why ≢ revisions.Value))
 
 -- ---- a replacement
 
 -- The set is that of the stored feed, which was let in, with operations of the site that make the one text the other at
--- the one place where it stands. The line was written, its feed stands under the name, and FEED.last has its greatest
--- counter, or is as it was.
+-- each place taken. The line was written, its feed stands under the name, and FEED.last has its greatest counter, or is
+-- as it was.
 abbrev pub IsReplaced : List ℕ → ℕ → Bool → Exchange → Shelf → Shelf → Option (List ℕ) → Option (List ℕ) → Type 0
 IsReplaced name site older exchange first last before after =
     (old new : List Symbol) × AreRead exchange old new × (opened : Shelf) × (read : Option (List ℕ)) × (was : OpSet)
     × IsOpenedHere name site older first opened read was
-    × (set : OpSet) × (inserted deleted : ℕ) × Replaces site old new was set inserted deleted
+    × (set : OpSet) × (inserted deleted : ℕ) × Replaces site exchange.at old new was set inserted deleted
     × (stored : Shelf) × IsKept name set (edited_line inserted deleted) read opened stored before after
     × IsMarked name site set stored last
 
@@ -84,14 +98,13 @@ IsUnreplaced name site older exchange first last before after (faults.Last why) 
     (after ≡ before) × (old new : List Symbol) × AreRead exchange old new × IsBarredHere name site older first last why
 IsUnreplaced name site older exchange first last before after (faults.Place why) =
     (old new : List Symbol) × AreRead exchange old new × (read : Option (List ℕ)) × (was : OpSet)
-    × IsOpenedHere name site older first last read was × IsReported old (copy_of was) before after why
+    × IsOpenedHere name site older first last read was × IsReported exchange.at old (copy_of was) before after why
 IsUnreplaced name site older exchange first last before after (faults.Revision why) =
     (after ≡ before) × (old new : List Symbol) × AreRead exchange old new × (read : Option (List ℕ)) × (was : OpSet)
     × IsOpenedHere name site older first last read was
-    × (text : List Symbol) × IsExchanged old new (copy_of was) text × (now : OpSet) × IsUnrevised site was now text why
-    × (copy_of was ≡ text → why ≡ revisions.NoMemory) × (why ≢ revisions.Value)
+    × (text : List Symbol) × IsExchanged exchange.at old new (copy_of was) text × IsUnmade site was text why
 IsUnreplaced name site older exchange first last before after (faults.Keep why) =
     (old new : List Symbol) × AreRead exchange old new × (opened : Shelf) × (read : Option (List ℕ)) × (was : OpSet)
     × IsOpenedHere name site older first opened read was
-    × (set : OpSet) × (inserted deleted : ℕ) × Replaces site old new was set inserted deleted
+    × (set : OpSet) × (inserted deleted : ℕ) × Replaces site exchange.at old new was set inserted deleted
     × IsUnkept name (edited_line inserted deleted) opened last before after why

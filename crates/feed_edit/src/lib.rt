@@ -11,7 +11,7 @@
 //! A merge refuses to fork a stamp. An import refuses to wipe the copy, and neither it nor a replacement goes on with
 //! an older feed (`feed_stored`). The caller can ask for each of these. Each fault names the phase that stopped.
 //!
-//! `take_feed`, `open_feed`, `revise` and `report_and_keep` are steps of these calls, for the crates above.
+//! `take_feed`, `open_feed`, `open_version`, `revise` and `report_and_keep` are steps of these calls, for the crates above.
 #![tactic(auto)]
 
 mod counters;
@@ -30,7 +30,7 @@ mod texts;
 
 pub use counters::{Naming, put_counters};
 pub use editing::{Tally, revise};
-pub use exporting::{export_feed, open_feed};
+pub use exporting::{Version, export_feed, open_feed, open_version};
 pub use fault::{
     ExportFault, FeedTrouble, ImportFault, InputFault, KeepFault, MergeFault, RevisionFault,
     TakeFault,
@@ -41,5 +41,6 @@ pub use keeping::{report_and_keep, write_and_keep};
 pub use merging::{ANY_SITE, merge_feeds, take_feed};
 pub use replace_fault::{ExchangeFault, PlaceFault, ReplaceFault};
 pub use replacing::replace_text;
+pub use reporting::taken_cover_all;
 pub use stamps::{SiteStamp, SiteStamps};
-pub use texts::Exchange;
+pub use texts::{Exchange, Where};

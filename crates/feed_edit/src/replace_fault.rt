@@ -25,17 +25,17 @@ pub enum ExchangeFault {
     NoMemory,
 }
 
-/// Why a text does not stand at exactly one place of a copy, or that memory ran out. No file has changed.
+/// Why no place of a text is taken in a copy, or that memory ran out. No file has changed.
 #[derive(Clone, Copy, Debug, PartialEq, Eq, Error)]
 pub enum PlaceFault {
     /// It stands nowhere in the copy, and that was written.
     #[error("no place")]
     NoPlace,
-    /// It stands at so many places, two at least; a line for each of the first 100 was written, and how many more
-    /// there are.
+    /// It stands at so many places, and the one that was to be taken is not alone, or not one of them; a line for each
+    /// of the first 100 was written, and how many more there are.
     #[error("{0} places")]
     ManyPlaces(usize),
-    /// It does not stand at one place, and the writer failed, or took no byte.
+    /// No place is taken, and the writer failed, or took no byte.
     #[error("write fault")]
     Write,
     /// Memory ran out before anything was written.
@@ -56,11 +56,10 @@ pub enum ReplaceFault {
     /// compared. No file has changed.
     #[error("{0}")]
     Last(LastFault),
-    /// The feed was let in, and the one text has not one place in its copy, or memory ran out before the other stood
-    /// there.
+    /// The feed was let in, and no place of the one text is taken in its copy, or memory ran out before one was.
     #[error("{0}")]
     Place(PlaceFault),
-    /// It has one, and the copy was not made that with the other text there.
+    /// One is, and the copy was not made that with the other text there.
     #[error("{0}")]
     Revision(RevisionFault),
     /// The copy was made that, and the line was not written, or the feed not stored.

@@ -9,6 +9,17 @@ use desk_ops::Symbol;
 use std::alloc::Allocator;
 use text_copy::{TextFault, read_text};
 
+/// At which of its places a text is to be replaced. Places count from 0.
+#[derive(Clone, Copy, Debug, PartialEq, Eq)]
+pub enum Where {
+    /// At the only one.
+    Once,
+    /// At this one.
+    At(usize),
+    /// At each, from the left, that overlaps none taken before. An empty text has to have a single place.
+    All,
+}
+
 /// A text that is to be replaced, and one that is to take its place. Both have marks for their styles, as `text_copy`
 /// reads them, or both are plain.
 #[derive(Clone, Copy)]
@@ -16,6 +27,7 @@ pub struct Exchange<'a> {
     pub from: &'a str,
     pub to: &'a str,
     pub plain: bool,
+    pub at: Where,
 }
 
 /// The fault of a text that is not read: the one that names the text, unless memory ran out.

@@ -1,5 +1,4 @@
-use Rattle.std.proofs.Common.{◌∙◌, inl, refl, subst}
-use Rattle.std.specs.Prelude.{Bool}
+use Rattle.std.proofs.Common.{inl, refl, subst}
 use Rattle.std.proofs.lemmas.Result.{err_from_is_err_and}
 use Rattle.feed_files.proofs.Shelves.{held_alone}
 use Rattle.feed_files.specs.Files.{HoldsOn, Shelf}
