@@ -16,7 +16,8 @@ use Rattle.feed_files.specs.declared.output_fault.OutputFault.{OutputFault}
 use Rattle.feed_files.specs.declared.kinds.Kind.TheVariants as kinds
 use Rattle.view_punch.specs.Proofing.{LacksGalley, reason_of}
 use Rattle.view_punch.specs.Punching.{of_output}
-use Rattle.view_punch.specs.Sources.{AreRefused, Give, GiveAll, Sources, of_sources}
+use Rattle.view_punch.specs.Sources.{AreRefused, Give, GiveAll, of_sources}
+use Rattle.view_punch.specs.declared.sources.Sources.{Sources}
 use Rattle.view_punch.specs.declared.fault.PreviewFault.{PreviewFault}
 use Rattle.view_punch.specs.declared.fault.PreviewFault.TheVariants as faults
 use Rattle.view_punch.specs.declared.fault.SourcesFault.{SourcesFault}

@@ -6,7 +6,6 @@ ghost use Rattle.desk_lines.specs.Words.{most_symbols};
 ghost use Rattle.feed_files.specs.Outputs.{destination};
 ghost use Rattle.view_galley.specs.Galley.{Stands};
 ghost use Rattle.desk_job.specs.Answer.{AreValues};
-ghost use Rattle.view_punch.specs.Sources.{sources};
 ghost use Rattle.view_picture.specs.Picture.{no_galley_picture, picture_text};
 ghost use Rattle.view_picture.specs.Picturing.{IsDrawn, IsPictured, IsUnpictured};
 
@@ -22,7 +21,7 @@ use script_answers::Memory;
 use std::alloc::Allocator;
 use view_galley::{Galley, GalleyRefusal, make_galley};
 use view_proof::{NoGalley, why_none};
-use view_punch::{PreviewFault, take_in, tried};
+use view_punch::{PreviewFault, Sources, take_in, tried};
 
 /// The picture of a galley of a copy.
 fn picture_of<'a, A: Allocator + Copy>(
@@ -82,7 +81,7 @@ fn drawn_of<A: Allocator + Copy>(
     }
 }
 
-/// Draws the galley of a stored feed by a case and a wedge, as `put_picture` does, and stores the picture under the
+/// Draws the galley of a version of a stored feed by a case and a wedge, as `put_picture` does, and stores the picture under the
 /// name of a target; where there is no galley, a picture that says why. A line that can't be set is drawn with its
 /// fault, and no refusal. Settings that are tried count in place of the copy's, and are stored nowhere. No name is
 /// taken: a feed is stored by a rename, so what is read is a whole feed. Where a file that is no picture stands under
@@ -91,23 +90,21 @@ fn drawn_of<A: Allocator + Copy>(
 pub fn picture_feed<F: Files, A: Allocator + Copy>(
     memory: Memory<A>,
     files: &mut F,
-    feed: &str,
-    case: &str,
-    wedge: &str,
+    from: &Sources<'_>,
     trial: &Settings,
     target: &Target<'_>,
 ) -> Result<(), PreviewFault>
     requires { AreValues trial.now }
     ensures ok { OnOk result
-        (IsPictured (sources feed.now case.now wedge.now) trial.now (destination target.now.name.now target.now.force)
+        (IsPictured from.now trial.now (destination target.now.name.now target.now.force)
         (F.shelf files.old) (F.shelf files.new)) }
     ensures counted { OnOk result ((F.shelf files.new).failures ≡ (F.shelf files.old).failures) }
     ensures err { IfErr result
-        (IsUnpictured (sources feed.now case.now wedge.now) trial.now (destination target.now.name.now target.now.force)
+        (IsUnpictured from.now trial.now (destination target.now.name.now target.now.force)
         (F.shelf files.old) (F.shelf files.new)) }
     ensures held { HoldsOn (F.shelf files.old).held (F.shelf files.new).held }
 {
-    let (replica, case, wedge) = take_in(memory, files, feed, case, wedge)?;
+    let (replica, case, wedge) = take_in(memory, files, from)?;
     let drawn = drawn_of(memory.own, &replica, &case, &wedge, trial)?;
     store_over(memory.own, files, target, drawn.as_bytes(), Kind::Picture)?;
     Ok(())

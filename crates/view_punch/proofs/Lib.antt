@@ -3,7 +3,8 @@ pub mod Punches
 pub mod Galleys
 mod Turns
 pub mod Tallies
-pub mod Finding
+pub mod PlaceByPlace
+pub mod Found
 pub mod Standing
 pub mod Texts
 pub mod Within

@@ -17,7 +17,8 @@ use Rattle.feed_files.specs.declared.output_fault.OutputFault.TheVariants as out
 use Rattle.feed_files.specs.declared.kinds.Kind.TheVariants as kinds
 use Rattle.view_punch.specs.Lines.{IsUnreported, job_line}
 use Rattle.view_punch.specs.Punching.{IsLetThrough, IsMadeOnly, IsStopped, IsUnpunched, missing_of, of_line, of_output, other_of}
-use Rattle.view_punch.specs.Sources.{Give, Sources}
+use Rattle.view_punch.specs.Sources.{Give}
+use Rattle.view_punch.specs.declared.sources.Sources.{Sources}
 use Rattle.view_punch.specs.declared.fault.LineFault.{LineFault}
 use Rattle.view_punch.specs.declared.fault.LineFault.TheVariants as lines
 use Rattle.view_punch.specs.declared.fault.PreviewFault.{PreviewFault}

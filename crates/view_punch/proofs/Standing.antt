@@ -16,7 +16,7 @@ use Rattle.desk_ops.proofs.Symbols.{symbol_same}
 use Rattle.view_punch.specs.SortsLaws.{AreAllPlaces}
 use Rattle.view_punch.specs.Places.{places_of, places_to}
 use Rattle.view_punch.specs.Sorts.{StandsAt, wanted_of}
-use Rattle.view_punch.proofs.Finding.{places_more}
+use Rattle.view_punch.proofs.PlaceByPlace.{places_more}
 use Rattle.view_punch.proofs.Tallies.{wanted_no, wanted_yes}
 
 -- ---- they are those at which it stands

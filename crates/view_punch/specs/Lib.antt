@@ -13,3 +13,4 @@ pub mod Layout
 pub mod Reported
 pub mod SortsSources
 pub mod Reporting
+pub mod Finding

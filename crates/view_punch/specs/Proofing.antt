@@ -21,7 +21,8 @@ use Rattle.desk_replica.specs.declared.settings.Settings.{Settings}
 use Rattle.desk_job.specs.Job.{job, values_of}
 use Rattle.desk_replica.specs.JobSettings.{settings_of}
 use Rattle.view_punch.specs.Trial.{tried, tried_with}
-use Rattle.view_punch.specs.Sources.{AreRefused, Give, GiveAll, Sources, of_sources}
+use Rattle.view_punch.specs.Sources.{AreRefused, Give, GiveAll, of_sources}
+use Rattle.view_punch.specs.declared.sources.Sources.{Sources}
 use Rattle.view_punch.specs.declared.fault.PreviewFault.{PreviewFault}
 use Rattle.view_punch.specs.declared.fault.PreviewFault.TheVariants as faults
 use Rattle.view_punch.specs.declared.fault.SourcesFault.{SourcesFault}

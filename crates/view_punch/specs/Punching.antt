@@ -22,7 +22,8 @@ use Rattle.feed_files.specs.declared.kinds.Kind.TheVariants as kinds
 use Rattle.feed_stored.specs.Sending.{WritesPrefix}
 use Rattle.feed_edit.specs.Merging.{faults_line}
 use Rattle.script_answers.specs.Job.{job_of}
-use Rattle.view_punch.specs.Sources.{AreRefused, Give, LackMemory, Sources}
+use Rattle.view_punch.specs.Sources.{AreRefused, Give, LackMemory}
+use Rattle.view_punch.specs.declared.sources.Sources.{Sources}
 use Rattle.view_punch.specs.declared.fault.LineFault.{LineFault}
 use Rattle.view_punch.specs.declared.fault.LineFault.TheVariants as lines
 use Rattle.view_punch.specs.declared.fault.PreviewFault.{PreviewFault}
@@ -119,4 +120,5 @@ IsUnpunched from to faulty first last before after (faults.Taken kind) =
     (after ≡ before) × IsMadeOnly from to faulty first last (outputs.Taken kind)
 IsUnpunched from to faulty first last before after (faults.Unstored why) =
     (after ≡ before) × IsMadeOnly from to faulty first last (outputs.File why)
+IsUnpunched from to faulty first last before after (faults.Text why) = ⊥
 IsUnpunched from to faulty first last before after faults.NoMemory = (after ≡ before) × LackMemory from first last

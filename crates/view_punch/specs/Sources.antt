@@ -1,13 +1,15 @@
 -- What a preview is made of: a stored feed, a case and a wedge.
-use Rattle.std.specs.Prelude.{◌≡◌, ◌⊎◌, ℕ, List, Ok, Err}
+use Rattle.std.specs.Prelude.{◌≡◌, ◌⊎◌, ℕ, List, None, Ok, Err}
+use Rattle.std.specs.Borrow.{Bor}
 use Rattle.desk_ops.specs.OpSet.{OpSet}
 use Rattle.desk_case.specs.Case.{CaseValues}
 use Rattle.desk_wedge.specs.Wedge.{WedgeValues}
 use Rattle.script_answers.specs.declared.failure.Failure.{Failure}
 use Rattle.script_answers.specs.declared.failure.Failure.TheVariants as failures
 use Rattle.feed_files.specs.Files.{Shelf}
-use Rattle.feed_edit.specs.Exporting.{IsClosedBy, IsSetOf}
+use Rattle.feed_edit.specs.Exporting.{IsUnversioned, IsVersion}
 use Rattle.script_answers.specs.Inputs.{BothGive, BothLackMemory}
+use Rattle.view_punch.specs.declared.sources.Sources.{Sources}
 use Rattle.view_punch.specs.declared.fault.PreviewFault.{PreviewFault}
 use Rattle.view_punch.specs.declared.fault.PreviewFault.TheVariants as faults
 use Rattle.view_punch.specs.declared.fault.SourcesFault.{SourcesFault}
@@ -24,19 +26,14 @@ of_sources (refusals.Feed why) = faults.Feed why
 of_sources (refusals.Input why) = faults.Input why
 of_sources refusals.NoMemory = faults.NoMemory
 
--- the names of a stored feed, of a case file and of a wedge file
-pub record Sources : Type 0 where
-  pub feed : List ℕ
-  pub case : List ℕ
-  pub wedge : List ℕ
+-- a feed as it is, a case and a wedge
+abbrev pub sources : (feed case wedge : Bor (List ℕ)) → Sources
+sources feed case wedge = record { version = record { feed = feed; until = None }; case = case; wedge = wedge }
 
-abbrev pub sources : (feed case wedge : List ℕ) → Sources
-sources feed case wedge = record { feed = feed; case = case; wedge = wedge }
-
--- the feed's name stands for this set, and the two files give this case and this wedge
+-- the version of the feed has this set, and the two files give this case and this wedge
 abbrev pub Give : Sources → Shelf → OpSet → CaseValues → WedgeValues → Type 0
-Give from shelf set case wedge = IsSetOf from.feed shelf set
-    × BothGive from.case from.wedge shelf (Ok (case, wedge)) shelf
+Give from shelf set case wedge = IsVersion from.version shelf set
+    × BothGive from.case.now from.wedge.now shelf (Ok (case, wedge)) shelf
 
 -- they give a set, a case and a wedge
 abbrev pub GiveAll : Sources → Shelf → Type 0
@@ -45,11 +42,11 @@ GiveAll from shelf = (set : OpSet) × (case : CaseValues) × (wedge : WedgeValue
 -- why they give nothing: the feed is not opened; or it is, and then the case or the wedge is refused, or memory runs
 -- out by one of them
 abbrev pub AreRefused : Sources → Shelf → Shelf → SourcesFault → Type 0
-AreRefused from before after (refusals.Feed why) = IsClosedBy from.feed before after why
-AreRefused from before after (refusals.Input why) = (set : OpSet) × IsSetOf from.feed before set
-    × BothGive from.case from.wedge before (Err why) after
-AreRefused from before after refusals.NoMemory = (set : OpSet) × IsSetOf from.feed before set
-    × BothLackMemory from.case from.wedge before after
+AreRefused from before after (refusals.Feed why) = IsUnversioned from.version before after why
+AreRefused from before after (refusals.Input why) = (set : OpSet) × IsVersion from.version before set
+    × BothGive from.case.now from.wedge.now before (Err why) after
+AreRefused from before after refusals.NoMemory = (set : OpSet) × IsVersion from.version before set
+    × BothLackMemory from.case.now from.wedge.now before after
 
 -- memory ran out by the case or the wedge, or once all was given, and then no file has changed and the device did not
 -- fail

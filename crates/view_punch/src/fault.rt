@@ -1,6 +1,7 @@
 //! Why there is no preview, by the phase in which it stopped.
 
 ghost use Rattle.std.specs.Prelude.{◌≡◌};
+ghost use Rattle.view_punch.specs.Finding.{of_text};
 ghost use Rattle.view_punch.specs.Punching.{of_line, of_output};
 ghost use Rattle.view_punch.specs.Sources.{of_input, of_sources};
 ghost use Rattle.view_punch.specs.declared.fault.LineFault.TheVariants as lines;
@@ -12,6 +13,7 @@ use feed_edit::FeedTrouble;
 use feed_files::{FileRefusal, Kind, OutputFault};
 use feed_stored::Unsent;
 use script_answers::{Failure, Refusal};
+use text_copy::TextFault;
 use thiserror::Error;
 use view_proof::OtherNumber;
 
@@ -63,6 +65,9 @@ pub enum PreviewFault {
     /// The ribbon or the picture was made, and not stored, or what stands under the target was not read.
     #[error("file fault")]
     Unstored(FileRefusal),
+    /// The text that is looked for is none: its first fault. Out of memory is `NoMemory`.
+    #[error("{0}")]
+    Text(TextFault),
     #[error("no memory")]
     NoMemory,
 }
@@ -74,6 +79,14 @@ impl From<FeedTrouble> for SourcesFault {
 
     fn from(why: FeedTrouble) -> SourcesFault {
         SourcesFault::Feed(why)
+    }
+}
+
+impl From<NoMemory> for SourcesFault {
+    ghost from_gives = { λ _ fault. fault ≡ refusals.NoMemory };
+
+    fn from(_: NoMemory) -> SourcesFault {
+        SourcesFault::NoMemory
     }
 }
 
@@ -142,6 +155,17 @@ impl From<Unsent> for PreviewFault {
 
     fn from(_: Unsent) -> PreviewFault {
         PreviewFault::Write
+    }
+}
+
+impl From<TextFault> for PreviewFault {
+    ghost from_gives = { λ why fault. fault ≡ of_text why };
+
+    fn from(why: TextFault) -> PreviewFault {
+        match why {
+            TextFault::At { .. } => PreviewFault::Text(why),
+            TextFault::NoMemory => PreviewFault::NoMemory,
+        }
     }
 }
 

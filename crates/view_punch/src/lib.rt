@@ -21,6 +21,7 @@
 
 mod cells;
 mod fault;
+mod finding;
 mod job_line;
 pub mod laws;
 mod layout;
@@ -31,7 +32,6 @@ mod punching;
 mod reported;
 mod reporting;
 mod sorts;
-mod sorts_fault;
 mod sorts_laws;
 mod sorts_sources;
 mod sources;
@@ -39,13 +39,13 @@ mod trial;
 pub mod trial_laws;
 
 pub use fault::{PreviewFault, SourcesFault};
+pub use finding::{Wanted, find_text};
 pub use layout::put_case;
 pub use listing::{missing_of, put_sorts};
 pub use proofing::proof_feed;
 pub use punching::punch_feed;
 pub use reporting::report_sorts;
 pub use sorts::{Sort, sorts_of};
-pub use sorts_fault::SortsFault;
 pub use sorts_laws::places_are_all;
-pub use sources::take_in;
+pub use sources::{Sources, take_in};
 pub use trial::{TrialFault, no_trial, trial_of, tried};

@@ -6,10 +6,9 @@ ghost use Rattle.desk_job.specs.Answer.{AreValues};
 ghost use Rattle.view_proof.specs.Proof.{no_galley_text, proof_text};
 ghost use Rattle.view_proof.specs.Lines.{HasWords};
 ghost use Rattle.view_punch.specs.Proofing.{IsProofed, IsReported, IsUnproofed, are_set, is_clean};
-ghost use Rattle.view_punch.specs.Sources.{sources};
 
 use crate::fault::PreviewFault;
-use crate::sources::take_in;
+use crate::sources::{Sources, take_in};
 use crate::tried;
 use desk_blocks::Blocks;
 use desk_case::MatrixCase;
@@ -103,7 +102,7 @@ fn reported_of<A: Allocator + Copy>(
     }
 }
 
-/// Writes the proof of a stored feed by a case and a wedge: the faults of its copy, and its galley as text, as
+/// Writes the proof of a version of a stored feed by a case and a wedge: the faults of its copy, and its galley as text, as
 /// `view_proof` writes it; or why there is no galley. It is true exactly where no fault stands at all: no correction is
 /// missing, the case has every symbol, and each line is set. Settings that are tried count in place of the copy's, and
 /// are stored nowhere; where none is tried it is the galley that would be cast. No name is taken, and no file changes.
@@ -112,23 +111,21 @@ pub fn proof_feed<W: Write, F: Files, A: Allocator + Copy>(
     memory: Memory<A>,
     writer: &mut W,
     files: &mut F,
-    feed: &str,
-    case: &str,
-    wedge: &str,
+    from: &Sources<'_>,
     trial: &Settings,
     extent: Extent,
 ) -> Result<bool, PreviewFault>
     requires { AreValues trial.now }
     ensures ok { IfOk result
-        (IsProofed (sources feed.now case.now wedge.now) trial.now extent (F.shelf files.old) (W.contents writer.old)
+        (IsProofed from.now trial.now extent (F.shelf files.old) (W.contents writer.old)
         (W.contents writer.new)) }
     ensures counted { OnOk result ((F.shelf files.new).failures ≡ (F.shelf files.old).failures) }
     ensures err { IfErr result
-        (IsUnproofed (sources feed.now case.now wedge.now) trial.now extent (F.shelf files.old) (F.shelf files.new)
+        (IsUnproofed from.now trial.now extent (F.shelf files.old) (F.shelf files.new)
         (W.contents writer.old) (W.contents writer.new)) }
     ensures stays { Stays (F.shelf files.old) (F.shelf files.new) }
 {
-    let (replica, case, wedge) = take_in(memory, files, feed, case, wedge)?;
+    let (replica, case, wedge) = take_in(memory, files, from)?;
     let (text, clean) = reported_of(memory.own, &replica, &case, &wedge, trial, extent)?;
     write_out(writer, text.as_bytes())?;
     Ok(clean)

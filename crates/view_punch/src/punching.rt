@@ -4,11 +4,10 @@ ghost use Rattle.std.specs.Prelude.{◌≡◌, IfErr, OnOk};
 ghost use Rattle.feed_files.specs.Files.{HoldsOn};
 ghost use Rattle.feed_files.specs.Outputs.{destination};
 ghost use Rattle.view_punch.specs.Punching.{IsLetThrough, IsPunched, IsStopped, IsUnpunched};
-ghost use Rattle.view_punch.specs.Sources.{sources};
 
 use crate::fault::PreviewFault;
 use crate::job_line::{report, report_job};
-use crate::sources::take_in;
+use crate::sources::{Sources, take_in};
 use desk_blocks::Blocks;
 use desk_job::{JobRefusal, make};
 use desk_replica::Replica;
@@ -41,7 +40,7 @@ fn let_through<W: Write, A: Allocator + Copy>(
     Err(PreviewFault::CopyFaults)
 }
 
-/// Makes the ribbon of a stored feed by a case and a wedge, and stores it under the name of a target; nothing is
+/// Makes the ribbon of a version of a stored feed by a case and a wedge, and stores it under the name of a target; nothing is
 /// written then. Where the copy has faults, and these are not let through as `faulty`, the line that the command
 /// `faults` has for them is written, and the fault is `CopyFaults`. Else, where the job has faults, the line that the
 /// command `ribbon` has for them is written, with all the settings that are missing, and the fault is `Faulty`, with
@@ -53,23 +52,21 @@ pub fn punch_feed<W: Write, F: Files, A: Allocator + Copy>(
     memory: Memory<A>,
     writer: &mut W,
     files: &mut F,
-    feed: &str,
-    case: &str,
-    wedge: &str,
+    from: &Sources<'_>,
     target: &Target<'_>,
     faulty: bool,
 ) -> Result<(), PreviewFault>
     ensures ok { OnOk result
-        (IsPunched (sources feed.now case.now wedge.now) (destination target.now.name.now target.now.force) faulty
+        (IsPunched from.now (destination target.now.name.now target.now.force) faulty
         (F.shelf files.old) (F.shelf files.new)) }
     ensures silent { OnOk result (W.contents writer.new ≡ W.contents writer.old) }
     ensures counted { OnOk result ((F.shelf files.new).failures ≡ (F.shelf files.old).failures) }
     ensures err { IfErr result
-        (IsUnpunched (sources feed.now case.now wedge.now) (destination target.now.name.now target.now.force) faulty
+        (IsUnpunched from.now (destination target.now.name.now target.now.force) faulty
         (F.shelf files.old) (F.shelf files.new) (W.contents writer.old) (W.contents writer.new)) }
     ensures held { HoldsOn (F.shelf files.old).held (F.shelf files.new).held }
 {
-    let (replica, case, wedge) = take_in(memory, files, feed, case, wedge)?;
+    let (replica, case, wedge) = take_in(memory, files, from)?;
     let_through(memory.own, writer, &replica, faulty)?;
     match make(memory.own, &replica, &case, &wedge) {
         Ok(ribbon) => {

@@ -5,7 +5,7 @@ use Rattle.std.proofs.lemmas.Option.{slice_get-get_or}
 use Rattle.desk_ops.specs.declared.op.Symbol.{Symbol}
 use Rattle.desk_ops.specs.declared.op.Style.TheVariants.{Roman}
 use Rattle.view_punch.specs.Sorts.{symbol_cmp}
-use Rattle.view_punch.proofs.Finding.{found_more, found_none, found_skipped}
+use Rattle.view_punch.proofs.PlaceByPlace.{found_more, found_none, found_skipped}
 use Rattle.view_punch.proofs.places.find.Goals as goal
 use Rattle.view_punch.proofs.places.find.Goals.{then-lacks+in_ok-add, else-lacks}
 

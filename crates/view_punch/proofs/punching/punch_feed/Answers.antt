@@ -12,21 +12,20 @@ use Rattle.feed_files.specs.Outputs.{GivesWay, IsNotPut, destination}
 use Rattle.feed_files.specs.declared.kinds.Kind.TheVariants as kinds
 use Rattle.view_punch.specs.Lines.{IsUnreported, job_line}
 use Rattle.view_punch.specs.Punching.{missing_of, other_of}
-use Rattle.view_punch.specs.Sources.{sources}
 use Rattle.view_punch.proofs.Gives.{unpunched}
 use Rattle.view_punch.proofs.Punches.{made_only, made_rows, stopped_copy, unreported_faults}
 use Rattle.view_punch.proofs.punching.punch_feed.Goals as goal
 
 pub returns-in_err-replica-clause-err : goal.returns-in_err-replica-clause-err
 returns-in_err-replica-clause-err g c =
-    let from = sources c.args.feed.now c.args.case.now c.args.wedge.now in
+    let from = c.args.from.now in
     let to = destination c.args.target.now.name.now c.args.target.now.force in
     let p = err_from_is_err_and c.from_residual.result c.from_residual.ensures.1 in
     rw p.1 (rw p.2 (unpunched from to c.args.faulty (g.F.Files.shelf c.args.files.now) (g.F.Files.shelf c.take_in.new.files) (g.W.Write.contents c.args.writer.now) c.in_err-replica.field-0.0 c.take_in.ensures.stays c.in_err-replica.ensures.err))
 
 pub returns-in_err-let_through-clause-err : goal.returns-in_err-let_through-clause-err
 returns-in_err-let_through-clause-err g c =
-    let from = sources c.args.feed.now c.args.case.now c.args.wedge.now in
+    let from = c.args.from.now in
     let to = destination c.args.target.now.name.now c.args.target.now.force in
     let t = c.in_ok-replica in
     let p = err_from_is_err_and c.from_residual-in_err-let_through.result c.from_residual-in_err-let_through.ensures.1 in
@@ -49,7 +48,7 @@ returns-in-Ok-clause-ok g c =
 pub returns-in_err-store_over-in-Ok-clause-err : goal.returns-in_err-store_over-in-Ok-clause-err
 returns-in_err-store_over-in-Ok-clause-err g c =
     let last : Shelf = g.F.Files.shelf c.store_over.new.files in
-    let from = sources c.args.feed.now c.args.case.now c.args.wedge.now in
+    let from = c.args.from.now in
     let to = destination c.args.target.now.name.now c.args.target.now.force in
     let t = c.in_ok-replica in
     let why = c.in_err-store_over-in-Ok.field-0.0 in
@@ -73,7 +72,7 @@ returns-in-Err-Faults-clause-err g c =
 
 pub returns-in_err-report_job-in-Err-Faults-clause-err : goal.returns-in_err-report_job-in-Err-Faults-clause-err
 returns-in_err-report_job-in-Err-Faults-clause-err g c =
-    let from = sources c.args.feed.now c.args.case.now c.args.wedge.now in
+    let from = c.args.from.now in
     let to = destination c.args.target.now.name.now c.args.target.now.force in
     let after = g.W.Write.contents c.report_job.new.writer in
     let t = c.in_ok-replica in

@@ -1,22 +1,20 @@
-use Rattle.std.proofs.Common.{inr, refl, subst}
+use Rattle.std.proofs.Common.{inl, inr, refl, subst}
 use Rattle.std.proofs.lemmas.Result.{err_from_is_err_and}
 use Rattle.std.specs.Io.KnownBytes.{Appends}
 use Rattle.std.specs.Prelude.{string_bytes}
 use Rattle.feed_stored.specs.Sending.{WritesPrefix}
-use Rattle.view_punch.specs.SortsSources.{sources}
-use Rattle.view_punch.proofs.SortsGives.{unlisted}
 use Rattle.view_punch.proofs.reporting.report_sorts.Goals as goal
 
 pub returns-in_err-replica-clause-err : goal.returns-in_err-replica-clause-err
 returns-in_err-replica-clause-err g c =
     let p = err_from_is_err_and c.from_residual.result c.from_residual.ensures.1 in
-    rw p.1 (rw p.2 (unlisted (sources c.args.feed.now c.args.case.now) c.args.layout (g.F.Files.shelf c.args.files.now) (g.F.Files.shelf c.take_in.new.files) (g.W.Write.contents c.args.writer.now) c.in_err-replica.field-0.0 c.in_err-replica.ensures.err))
+    rw p.1 (inl (refl, c.in_err-replica.field-0.0, p.2, c.in_err-replica.ensures.err))
 
 pub returns-in_err-text-clause-err : goal.returns-in_err-text-clause-err
 returns-in_err-text-clause-err g c =
     let t = c.in_ok-replica in
     let p = err_from_is_err_and c.from_residual-in_err-text.result c.from_residual-in_err-text.ensures.1 in
-    rw p.1 (rw p.2 (refl, inr (t.ensures.still, t.replica.ops, t.case, t.ensures.ok)))
+    rw p.1 (inr (inl (refl, p.2, t.ensures.still, t.replica.ops, t.case, t.ensures.ok)))
 
 pub returns-in_err-write_out-clause-err : goal.returns-in_err-write_out-clause-err
 returns-in_err-write_out-clause-err g c =
@@ -24,7 +22,7 @@ returns-in_err-write_out-clause-err g c =
     let text = string_bytes c.in_ok-text.text in
     let prefix = subst (λ l. WritesPrefix (g.W.Write.contents c.args.writer.now) (g.W.Write.contents c.write_out.new.writer) l) c.as_bytes.ensures.value c.in_err-write_out.ensures.err in
     let p = err_from_is_err_and c.from_residual-in_err-write_out.result c.from_residual-in_err-write_out.ensures.1 in
-    rw p.1 (rw p.2 (t.ensures.still, text, c.in_ok-text.complete, (t.replica.ops, t.case, t.ensures.ok, c.in_ok-text.ensures), prefix))
+    rw p.1 (inr (inr (p.2, t.ensures.still, text, c.in_ok-text.complete, (t.replica.ops, t.case, t.ensures.ok, c.in_ok-text.ensures), prefix)))
 
 pub returns-clause-ok : goal.returns-clause-ok
 returns-clause-ok g c =
