@@ -1,0 +1,10 @@
+pub mod RoomsTables
+pub mod RoomsLines
+pub mod RoomsSums
+pub mod RoomsSpans
+pub mod Alike
+pub mod Elements
+pub mod Ends
+pub mod Parts
+pub mod Rows
+pub mod WorkedLines

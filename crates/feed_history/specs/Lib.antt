@@ -1,0 +1,12 @@
+pub mod Rooms
+pub mod RoomsTables
+pub mod RoomsLaws
+pub mod Rows
+pub mod Corrections
+pub mod Spots
+pub mod Texts
+pub mod Lines
+pub mod Asked
+pub mod Log
+pub mod CorrectionLaws
+pub mod WorkedLog
