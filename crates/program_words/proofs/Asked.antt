@@ -1,14 +1,14 @@
 -- What matches hold, by what their getters answered.
-use Rattle.std.proofs.Common.{◌≡◌, ◌<◌, ℕ, List, [], Option, Some, None, sym, subst, ap, ◌∙◌, codes, refl, arith}
-use Rattle.std.specs.Prelude.{◌≤◌, Ok, Err, Result, if◌then◌else◌, option_map}
+use Rattle.std.proofs.Common.{◌≡◌, ◌<◌, ℕ, List, [], Option, Some, None, sym, subst, ap, ap₂, ◌∙◌, codes, refl, arith}
+use Rattle.std.specs.Prelude.{◌≤◌, ◌||◌, ◌&&◌, Bool, true, false, Ok, Err, Result, if◌then◌else◌, is_some, option_map}
 use Rattle.std.specs.Str.{bytes_eq}
-use Rattle.std.specs.Str.Parse.{ParsesUnsigned}
+use Rattle.std.specs.Str.Parse.{ParsesBool, ParsesUnsigned}
 use Rattle.std.specs.Borrow.{Bor}
 use Rattle.clap.specs.Matches.{ReadsOne}
 use Rattle.clap.specs.Words.{Row, Text, all_of, fault_of, first_value, one_of, rows_of, subcommand_of}
 use Rattle.clap.specs.declared.parser.matches.Found.{Found}
 use Rattle.clap.proofs.WalkLemmas.{first_value-rows}
-use Rattle.program_words.specs.Words.{HasSite, IsAsked, IsReported, IsWished, Names, NamesDesk, NamesFeed, NamesRibbon, NamesSources, Reports, copydesk, name_of, subcommand_asked, texts_of}
+use Rattle.program_words.specs.Words.{Chooses, ChoosesMetal, HasFlag, HasNumber, HasSite, IsAsked, IsLeftOut, IsReported, IsUntil, IsWished, Names, NamesDesk, NamesFeed, NamesRibbon, NamesSources, Reports, copydesk, name_of, subcommand_asked, texts_of}
 use Rattle.program_words.specs.declared.wishes.Sources.{Sources}
 use Rattle.program_words.specs.declared.wishes.Subcommand.{Subcommand}
 use Rattle.program_words.specs.declared.wishes.Subcommand.TheVariants as subcommands
@@ -17,6 +17,11 @@ use Rattle.program_words.specs.declared.wishes.Wish.TheVariants as wishes
 
 abbrev pub Reads : {E : Type 0} → (Text → Result ℕ E → Type 0) → Type 0
 Reads G = (t : _) (r : _) → G t r → ParsesUnsigned 16 10 t r
+
+-- whether a text is that of a flag that is set
+abbrev is_true : Option Text → Bool
+is_true None = false
+is_true (Some text) = bytes_eq text (codes "true")
 
 -- the number that a getter answered
 pub held_site : (E : Type 0) (G : Text → Result ℕ E → Type 0) (only : Reads G) (rows : List Row) (asked : Option Text) (n : ℕ) (r : Option ℕ) → r ≡ Some n
@@ -44,6 +49,95 @@ zero_site E G only rows asked r is same value n (text, found, (numeral, number),
     let bad : 1 ≤ 0 = subst (λ k. 1 ≤ k) none least in
     absurd (omega arith)
 
+-- ---- a flag, and a number that an option gives
+
+abbrev pub Says : {E : Type 0} → (Text → Result Bool E → Type 0) → Type 0
+Says {E} G = (t : Text) (r : Result Bool E) → G t r → ParsesBool t r
+
+-- a flag that a getter answered
+pub held_flag : (E : Type 0) (G : Text → Result Bool E → Type 0) (only : Says G) (name : Text) (rows : List Row) (asked : Option Text) (flag : Bool) (r : Option Bool) → r ≡ Some flag
+    → asked ≡ one_of name rows → (asked ≡ None → r ≡ None) → ((t : Text) → asked ≡ Some t → ReadsOne G t r) → HasFlag name rows flag
+held_flag E G only name rows None flag r is same none value =
+    let bad : Some flag ≡ None = sym is ∙ none refl in
+    cc
+held_flag E G only name rows (Some t) true r is same none value =
+    let parsed : t ≡ codes "true" = only t (Ok true) (subst (λ o. ReadsOne G t o) is (value t refl)) in
+    ((λ _. sym same ∙ ap Some parsed), (λ _. refl))
+held_flag E G only name rows (Some t) false r is same none value =
+    let parsed : t ≡ codes "false" = only t (Ok false) (subst (λ o. ReadsOne G t o) is (value t refl)) in (
+      (λ set. let bad : false ≡ true = set in cc),
+      (λ yes. ap (λ o. is_true o) (sym (ap Some parsed) ∙ same ∙ yes)),
+    )
+
+-- a flag that is not given, or whose text is neither
+pub no_flag : (E : Type 0) (G : Text → Result Bool E → Type 0) (only : Says G) (name : Text) (rows : List Row) (asked : Option Text) (r : Option Bool) → r ≡ None
+    → asked ≡ one_of name rows → ((t : Text) → asked ≡ Some t → ReadsOne G t r) → HasFlag name rows false
+no_flag E G only name rows asked r is same value = (
+  (λ set. let bad : false ≡ true = set in cc),
+  (λ yes.
+      let read : ReadsOne G (codes "true") None = subst (λ o. ReadsOne G (codes "true") o) is (value (codes "true") (same ∙ yes)) in
+      absurd ((only (codes "true") (Err read.0) read.1).0 refl)),
+)
+
+-- one text is not set twice
+pub one_flag : (name : Text) (rows : List Row) (flag other : Bool) → HasFlag name rows flag → HasFlag name rows other → flag ≡ true → other ≡ true
+one_flag name rows flag other held too set = too.1 (held.0 set)
+
+abbrev pub Counts : {E : Type 0} → (Text → Result ℕ E → Type 0) → Type 0
+Counts G = (t : _) (r : _) → G t r → ParsesUnsigned 64 10 t r
+
+-- a number that a getter answered, or none
+pub number : (E : Type 0) (G : Text → Result ℕ E → Type 0) (only : Counts G) (name : Text) (rows : List Row) (asked : Option Text) (r : Option ℕ) → ((n : ℕ) → r ≡ Some n → n < 18446744073709551616)
+    → asked ≡ one_of name rows → (asked ≡ None → r ≡ None) → ((t : Text) → asked ≡ Some t → ReadsOne G t r) → HasNumber name rows r
+number E G only name rows None (Some n) most same none value =
+    let bad : Some n ≡ None = none refl in
+    cc
+number E G only name rows (Some t) (Some n) most same none value =
+    let parsed = only t (Ok n) (value t refl) in
+    (t, sym same, (parsed.0.0, sym parsed.1), most n refl)
+number E G only name rows asked None most same none value = λ n gives.
+    let read : ReadsOne G gives.0 None = value gives.0 (same ∙ gives.1) in
+    only gives.0 (Err read.0) read.1 (gives.2.0, subst (λ k. k < 18446744073709551616) (sym gives.2.1) gives.3)
+
+-- where one number is given, another list of the same rows gives one too
+pub is_given : (name : Text) (rows : List Row) (n other : Option ℕ) → HasNumber name rows n → HasNumber name rows other → is_some n ≡ true → is_some other ≡ true
+is_given name rows (Some n) (Some m) held too some = refl
+is_given name rows (Some n) None held too some = absurd (too n held)
+is_given name rows None other held too some = let bad : false ≡ true = some in cc
+
+-- neither a counter nor another feed
+pub nothing_to_compare : (rows : List Row) (until other : Option ℕ) (name given : Option (Bor Text)) → until ≡ None → name ≡ None → IsUntil rows until → Chooses (codes "other") rows name
+    → IsUntil rows other → Chooses (codes "other") rows given → (is_some other || is_some given) ≡ true → ⊥
+nothing_to_compare rows None None None None u n held chosen too got some = let bad : false ≡ true = some in cc
+nothing_to_compare rows None (Some m) name given u n held chosen too got some = held m too
+nothing_to_compare rows None None None (Some g) u n held chosen too got some =
+    let bad : None ≡ Some g.now = sym chosen ∙ got in
+    cc
+nothing_to_compare rows (Some m) other name given u n held chosen too got some = let bad : Some m ≡ None = u in cc
+nothing_to_compare rows None None (Some m) given u n held chosen too got some = let bad : Some m ≡ None = n in cc
+
+-- a place and all places
+pub both_places : (rows : List Row) (at other : Option ℕ) (all every : Bool) → is_some at ≡ true → all ≡ true → HasNumber (codes "at") rows at → HasFlag (codes "all") rows all
+    → HasNumber (codes "at") rows other → HasFlag (codes "all") rows every → (is_some other && every) ≡ false → ⊥
+both_places rows at other all every some set held flag too flags not =
+    let one : is_some other ≡ true = is_given (codes "at") rows at other held too some in
+    let two : every ≡ true = one_flag (codes "all") rows all every flag flags set in
+    let bad : true ≡ false = sym (ap₂ (λ a b. a && b) one two) ∙ not in
+    cc
+
+-- a case without a wedge, or a wedge without a case
+pub half_metal : (rows : List Row) (metal : Option (Bor Text × Bor Text)) → ChoosesMetal rows metal → (IsLeftOut (codes "case") rows → ⊥) → IsLeftOut (codes "wedge") rows → ⊥
+half_metal rows (Some m) chosen case wedge =
+    let bad : None ≡ Some m.1.now = sym wedge ∙ chosen.1 in
+    cc
+half_metal rows None chosen case wedge = case chosen.0
+
+pub other_half : (rows : List Row) (metal : Option (Bor Text × Bor Text)) → ChoosesMetal rows metal → IsLeftOut (codes "case") rows → (IsLeftOut (codes "wedge") rows → ⊥) → ⊥
+other_half rows (Some m) chosen case wedge =
+    let bad : None ≡ Some m.0.now = sym case ∙ chosen.0 in
+    cc
+other_half rows None chosen case wedge = wedge chosen.1
+
 -- ---- the name that an argument gives
 
 pub named : (argument : Text) (f : Found) (r : Option (Bor Text)) (name : Bor Text) → option_map (λ s. s.now) r ≡ first_value f argument → r ≡ Some name → Names argument (rows_of f) name.now
@@ -61,10 +155,10 @@ abbrev pub Lacks : List Row → Subcommand → Type 0
 Lacks rows subcommands.Script = ⊥
 Lacks rows subcommands.Desk = (feed : Text) (site : ℕ) → NamesDesk rows feed site → ⊥
 Lacks rows subcommands.Merge = (feed : Text) (others : List Text) → NamesFeed rows feed → all_of (codes "other") rows ≡ Some others → ⊥
-Lacks rows subcommands.Diff = (feed other : Text) → NamesFeed rows feed → Names (codes "other") rows other → ⊥
+Lacks rows subcommands.Diff = (feed : Text) (until : Option ℕ) (other : Option (Bor Text)) → NamesFeed rows feed → IsUntil rows until → Chooses (codes "other") rows other → (is_some until || is_some other) ≡ true → ⊥
 Lacks rows subcommands.Export = (feed : Text) → NamesFeed rows feed → ⊥
 Lacks rows subcommands.Import = (feed : Text) (site : ℕ) → NamesDesk rows feed site → ⊥
-Lacks rows subcommands.Replace = (feed : Text) (site : ℕ) (old new : Text) → NamesDesk rows feed site → Names (codes "old") rows old → Names (codes "new") rows new → ⊥
+Lacks rows subcommands.Replace = (feed : Text) (site : ℕ) (old new : Text) (at : Option ℕ) (all : Bool) → NamesDesk rows feed site → Names (codes "old") rows old → Names (codes "new") rows new → HasNumber (codes "at") rows at → HasFlag (codes "all") rows all → (is_some at && all) ≡ false → ⊥
 Lacks rows subcommands.Check = all_of (codes "file") rows ≡ None
 Lacks rows subcommands.Proof = (from : Sources) → NamesSources rows from → ⊥
 Lacks rows subcommands.Punch = (from : Sources) (target : Text) → NamesSources rows from → Names (codes "output") rows target → ⊥
@@ -72,25 +166,31 @@ Lacks rows subcommands.Read = (ribbon case wedge : Text) → NamesRibbon rows ri
 Lacks rows subcommands.Sorts = (feed case : Text) → NamesFeed rows feed → Names (codes "case") rows case → ⊥
 Lacks rows subcommands.Renumber = (feed : Text) (site : ℕ) (other : Text) → NamesDesk rows feed site → Names (codes "other") rows other → ⊥
 Lacks rows subcommands.Renew = (feed : Text) (site : ℕ) (new : Text) → NamesDesk rows feed site → Names (codes "new") rows new → ⊥
+Lacks rows subcommands.Rooms = (feed : Text) → NamesFeed rows feed → ⊥
+Lacks rows subcommands.Log = (feed : Text) → NamesFeed rows feed → ⊥
+Lacks rows subcommands.Find = (feed text : Text) (metal : Option (Bor Text × Bor Text)) → NamesFeed rows feed → Names (codes "text") rows text → ChoosesMetal rows metal → ⊥
 
 -- matches that lack what its subcommand wants ask for no wish
 none_reported : (rows : List Row) (wish : Wish) → Lacks rows (subcommand_asked wish) → Reports rows wish → ⊥
 none_reported rows (wishes.Script manner) lacks reports = lacks
 none_reported rows (wishes.Desk feed site older why manner) lacks reports = lacks feed.now site reports.0.0
 none_reported rows (wishes.Merge feed others forks review) lacks reports = lacks feed.now (texts_of others.items) reports.0 reports.1
-none_reported rows (wishes.Diff one other) lacks reports = lacks one.now other.now reports.0 reports.1
-none_reported rows (wishes.Export feed) lacks reports = lacks feed.now reports
+none_reported rows (wishes.Diff one until other) lacks reports = lacks one.now until other reports.0 reports.1 reports.2 reports.3
+none_reported rows (wishes.Export feed until) lacks reports = lacks feed.now reports.0
 none_reported rows (wishes.Import feed site older plain all) lacks reports = lacks feed.now site reports.0.0
-none_reported rows (wishes.Replace feed site older old new plain) lacks reports = lacks feed.now site old.now new.now reports.0.0 reports.1 reports.2
+none_reported rows (wishes.Replace feed site older old new plain at all) lacks reports = lacks feed.now site old.now new.now at all reports.0.0 reports.1 reports.2 reports.4 reports.5 reports.6
 none_reported rows (wishes.Check files) lacks reports =
     let bad = sym lacks ∙ reports in
     cc
-none_reported rows (wishes.Proof from faults picture force sets) lacks reports = lacks from reports.0
+none_reported rows (wishes.Proof from until faults picture force sets) lacks reports = lacks from reports.0
 none_reported rows (wishes.Punch from target force faulty) lacks reports = lacks from target.now reports.0 reports.1
 none_reported rows (wishes.Read ribbon case wedge picture force) lacks reports = lacks ribbon.now case.now wedge.now reports.0
-none_reported rows (wishes.Sorts feed case layout) lacks reports = lacks feed.now case.now reports.0 reports.1
+none_reported rows (wishes.Sorts feed until case layout) lacks reports = lacks feed.now case.now reports.0 reports.2
 none_reported rows (wishes.Renumber feed other site) lacks reports = lacks feed.now site other.now reports.0 reports.1
 none_reported rows (wishes.Renew new feed site) lacks reports = lacks feed.now site new.now reports.0 reports.1
+none_reported rows (wishes.Rooms feed) lacks reports = lacks feed.now reports
+none_reported rows (wishes.Log feed site since text) lacks reports = lacks feed.now reports.0
+none_reported rows (wishes.Find feed text plain metal) lacks reports = lacks feed.now text.now metal reports.0 reports.1 reports.3
 
 pub no_wish : (rows : List Row) (subcommand : Subcommand) → Lacks rows subcommand → (wish : Wish) → subcommand_asked wish ≡ subcommand → Reports rows wish → ⊥
 no_wish rows subcommand lacks wish is = none_reported rows wish (subst (λ t. Lacks rows t) (sym is) lacks)
@@ -113,6 +213,9 @@ called name =
     if bytes_eq name (codes "sorts") then subcommands.Sorts else
     if bytes_eq name (codes "renumber") then subcommands.Renumber else
     if bytes_eq name (codes "renew") then subcommands.Renew else
+    if bytes_eq name (codes "rooms") then subcommands.Rooms else
+    if bytes_eq name (codes "log") then subcommands.Log else
+    if bytes_eq name (codes "find") then subcommands.Find else
     subcommands.Script
 
 called_of : (subcommand : Subcommand) → called (name_of subcommand) ≡ subcommand
@@ -131,6 +234,9 @@ called_of subcommands.Read = refl
 called_of subcommands.Sorts = refl
 called_of subcommands.Renumber = refl
 called_of subcommands.Renew = refl
+called_of subcommands.Rooms = refl
+called_of subcommands.Log = refl
+called_of subcommands.Find = refl
 
 -- two subcommands have two names
 pub same_subcommand : (subcommand other : Subcommand) → name_of subcommand ≡ name_of other → subcommand ≡ other

@@ -191,3 +191,46 @@ a_renewal : renewed (subcommand_of copydesk (codes "renew" ∷ codes "b.feed" �
     ≡ Some (codes "renew", (Some (codes "b.feed"), (Some (codes "a.feed"), Some (codes "1"))))
 unfolding clap_on_literals renewed
 a_renewal = refl
+
+then : Option (Text × List Row) → Option (Text × (Option Text × (Option Text × Option Text)))
+then = option_map
+    (λ p. (p.0, (first_of (codes "feed") p.1, (first_of (codes "other") p.1, one_of (codes "at") p.1))))
+
+a_copy_as_it_was : then (subcommand_of copydesk (codes "export" ∷ codes "a.feed" ∷ codes "--at" ∷ codes "774" ∷ []))
+    ≡ Some (codes "export", (Some (codes "a.feed"), (None, Some (codes "774"))))
+unfolding clap_on_literals then
+a_copy_as_it_was = refl
+
+a_feed_then_and_now : then (subcommand_of copydesk (codes "diff" ∷ codes "a.feed" ∷ codes "--at" ∷ codes "774" ∷ []))
+    ≡ Some (codes "diff", (Some (codes "a.feed"), (None, Some (codes "774"))))
+unfolding clap_on_literals then
+a_feed_then_and_now = refl
+
+no_counter : fault_of copydesk (codes "export" ∷ codes "a.feed" ∷ codes "--at" ∷ codes "now" ∷ [])
+    ≡ kind.ValueValidation ∷ []
+unfolding clap_on_literals
+no_counter = refl
+
+some_rooms : fault_of copydesk (codes "rooms" ∷ codes "a.feed" ∷ []) ≡ []
+unfolding clap_on_literals
+some_rooms = refl
+
+logged : Option (Text × List Row) → Option (Text × (Option Text × (Option Text × Option Text)))
+logged = option_map
+    (λ p. (p.0, (first_of (codes "text") p.1, (one_of (codes "site") p.1, one_of (codes "since") p.1))))
+
+a_log : logged (subcommand_of copydesk (codes "log" ∷ codes "a.feed" ∷ codes "--site" ∷ codes "2" ∷ codes "--since"
+    ∷ codes "70" ∷ codes "noon" ∷ []))
+    ≡ Some (codes "log", (Some (codes "noon"), (Some (codes "2"), Some (codes "70"))))
+unfolding clap_on_literals logged
+a_log = refl
+
+found_by : Option (Text × List Row) → Option (Text × (Option Text × (Option Text × Option Text)))
+found_by = option_map
+    (λ p. (p.0, (first_of (codes "text") p.1, (first_of (codes "case") p.1, first_of (codes "wedge") p.1))))
+
+a_search : found_by (subcommand_of copydesk (codes "find" ∷ codes "a.feed" ∷ codes "noon" ∷ codes "--case"
+    ∷ codes "c.toml" ∷ codes "--wedge" ∷ codes "w.toml" ∷ []))
+    ≡ Some (codes "find", (Some (codes "noon"), (Some (codes "c.toml"), Some (codes "w.toml"))))
+unfolding clap_on_literals found_by
+a_search = refl

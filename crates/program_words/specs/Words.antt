@@ -1,6 +1,6 @@
 -- What the words of the command line ask for, as `clap` reads them.
 use Rattle.std.specs.Prelude.{◌≡◌, ◌≢◌, ◌≤◌, ◌<◌, ◌⊎◌, ℕ, Bool, List, [], Option, Some, None, Vec, true, false, map}
-use Rattle.std.specs.Prelude.{option_map, pos, codes}
+use Rattle.std.specs.Prelude.{◌↔◌, ◌||◌, ◌&&◌, is_some, option_map, pos, codes}
 use Rattle.std.specs.Borrow.{Bor}
 use Rattle.std.specs.Str.Parse.{IsNumeral, digits_value, without_leading_plus}
 use Rattle.std.specs.declared.alloc.Global.{Global}
@@ -50,6 +50,18 @@ file_rule name = record (new_rule name) { long = Some name; required = true }
 abbrev pub choice_rule : Text → Rule
 choice_rule name = record (new_rule name) { long = Some name }
 
+-- an option with a number of 64 bits, a counter or a place, which may be left out
+abbrev pub number_rule : Text → Rule
+number_rule name = record (choice_rule name) { parser = Some (parsers.Unsigned 0 18446744073709551615) }
+
+-- an option with the number of a site, which may be left out
+abbrev pub room_rule : Rule
+room_rule = record (choice_rule (codes "site")) { parser = Some (parsers.Signed (pos 1) (pos 65535)) }
+
+-- the counter up to which a feed is taken
+abbrev pub at_rule : Rule
+at_rule = number_rule (codes "at")
+
 -- an option that may stand more than once
 abbrev pub each_rule : Text → Rule
 each_rule name = record (new_rule name) { long = Some name; action = Some Append }
@@ -81,10 +93,21 @@ merge_app = with_rule (with_rule (with_rule (with_rule (new_app (codes "merge"))
     (flag_rule (codes "forks"))) (flag_rule (codes "review"))
 
 abbrev pub diff_app : App
-diff_app = with_rule (with_rule (new_app (codes "diff")) feed_rule) (text_rule (codes "other"))
+diff_app = with_rule (with_rule (with_rule (new_app (codes "diff")) feed_rule) (new_rule (codes "other"))) at_rule
 
 abbrev pub export_app : App
-export_app = with_rule (new_app (codes "export")) feed_rule
+export_app = with_rule (with_rule (new_app (codes "export")) feed_rule) at_rule
+
+abbrev pub rooms_app : App
+rooms_app = with_rule (new_app (codes "rooms")) feed_rule
+
+abbrev pub log_app : App
+log_app = with_rule (with_rule (with_rule (with_rule (new_app (codes "log")) feed_rule) (new_rule (codes "text")))
+    room_rule) (number_rule (codes "since"))
+
+abbrev pub find_app : App
+find_app = with_rule (with_rule (with_rule (with_rule (with_rule (new_app (codes "find")) feed_rule)
+    (text_rule (codes "text"))) (flag_rule (codes "plain"))) (choice_rule (codes "case"))) (choice_rule (codes "wedge"))
 
 abbrev pub import_app : App
 import_app = with_rule (with_rule (on_site (codes "import")) (flag_rule (codes "plain"))) (flag_rule (codes "all"))
@@ -103,8 +126,8 @@ abbrev pub with_picture : App → App
 with_picture app = with_rule (with_rule app (choice_rule (codes "svg"))) force_rule
 
 abbrev pub proof_app : App
-proof_app = with_rule (with_picture (with_rule (sources_app (codes "proof")) (flag_rule (codes "faults"))))
-    (each_rule (codes "set"))
+proof_app = with_rule (with_rule (with_picture (with_rule (sources_app (codes "proof")) (flag_rule (codes "faults"))))
+    (each_rule (codes "set"))) at_rule
 
 abbrev pub punch_app : App
 punch_app = with_rule (with_rule (with_rule (sources_app (codes "punch")) target_rule) force_rule)
@@ -119,12 +142,12 @@ abbrev pub read_app : App
 read_app = with_picture ribbon_app
 
 abbrev pub sorts_app : App
-sorts_app = with_rule (with_rule (with_rule (new_app (codes "sorts")) feed_rule) (file_rule (codes "case")))
-    (flag_rule (codes "layout"))
+sorts_app = with_rule (with_rule (with_rule (with_rule (new_app (codes "sorts")) feed_rule)
+    (file_rule (codes "case"))) (flag_rule (codes "layout"))) at_rule
 
 abbrev pub replace_app : App
-replace_app = with_rule (with_rule (with_rule (on_site (codes "replace")) (flag_rule (codes "plain")))
-    (text_rule (codes "old"))) (text_rule (codes "new"))
+replace_app = with_rule (with_rule (with_rule (with_rule (with_rule (on_site (codes "replace"))
+    (flag_rule (codes "plain"))) (text_rule (codes "old"))) (text_rule (codes "new"))) at_rule) (flag_rule (codes "all"))
 
 abbrev pub check_app : App
 check_app = with_rule (new_app (codes "check")) files_rule
@@ -161,13 +184,18 @@ up_to_proof = with_subcommand (with_subcommand (with_subcommand up_to_import rep
 abbrev pub up_to_sorts : App
 up_to_sorts = with_subcommand (with_subcommand (with_subcommand up_to_proof punch_app.top) read_app.top) sorts_app.top
 
+-- with those up to `rooms`
+abbrev pub up_to_rooms : App
+up_to_rooms = with_subcommand (with_subcommand (with_subcommand up_to_sorts renumber_app.top) renew_app.top)
+    rooms_app.top
+
 -- with a version
 abbrev pub with_version : App → App
 with_version app = record app { top = record app.top { has_version = true } }
 
 -- the program with its subcommands
 abbrev pub copydesk : App
-copydesk = with_version (with_subcommand (with_subcommand up_to_sorts renumber_app.top) renew_app.top)
+copydesk = with_version (with_subcommand (with_subcommand up_to_rooms log_app.top) find_app.top)
 
 -- ---- what a subcommand's matches hold
 
@@ -179,6 +207,24 @@ IsNumber text n = IsNumeral 10 (without_leading_plus text) × (digits_value 10 (
 abbrev pub HasSite : List Row → ℕ → Type 0
 HasSite rows site = (text : Text) × (one_of (codes "site") rows ≡ Some text) × IsNumber text site × (1 ≤ site)
     × (site < 65536)
+
+-- a number of 64 bits
+abbrev pub GivesNumber : Text → List Row → ℕ → Type 0
+GivesNumber name rows n = (text : Text) × (one_of name rows ≡ Some text) × IsNumber text n × (n < 18446744073709551616)
+
+-- the number that an option gives, or that it gives none
+abbrev pub HasNumber : Text → List Row → Option ℕ → Type 0
+HasNumber name rows (Some n) = GivesNumber name rows n
+HasNumber name rows None = (n : ℕ) → GivesNumber name rows n → ⊥
+
+-- the counter up to which a feed is taken, or all of it
+abbrev pub IsUntil : List Row → Option ℕ → Type 0
+IsUntil = HasNumber (codes "at")
+
+-- the number of a site, or that none is given
+abbrev pub HasRoom : List Row → Option ℕ → Type 0
+HasRoom rows (Some site) = HasSite rows site
+HasRoom rows None = (site : ℕ) → HasSite rows site → ⊥
 
 -- the name that an argument gives
 abbrev pub Names : Text → List Row → Text → Type 0
@@ -206,6 +252,15 @@ NamesRibbon rows ribbon case wedge = Names (codes "ribbon") rows ribbon × Names
 abbrev pub Chooses : Text → List Row → Option (Bor Text) → Type 0
 Chooses argument rows name = first_of argument rows ≡ option_map (λ n. n.now) name
 
+-- an argument was left out
+abbrev pub IsLeftOut : Text → List Row → Type 0
+IsLeftOut argument rows = first_of argument rows ≡ None
+
+-- the names of a case and a wedge, or that both were left out
+abbrev pub ChoosesMetal : List Row → Option (Bor Text × Bor Text) → Type 0
+ChoosesMetal rows (Some metal) = Names (codes "case") rows metal.0.now × Names (codes "wedge") rows metal.1.now
+ChoosesMetal rows None = IsLeftOut (codes "case") rows × IsLeftOut (codes "wedge") rows
+
 -- the texts behind names
 abbrev pub texts_of : List (Bor Text) → List Text
 texts_of = map (λ name. name.now)
@@ -217,9 +272,7 @@ all_given None = []
 
 -- the flag is set or not
 abbrev pub HasFlag : Text → List Row → Bool → Type 0
-HasFlag name rows flag =
-    (one_of name rows ≡ None → flag ≡ false) × (one_of name rows ≡ Some (codes "false") → flag ≡ false)
-    × (one_of name rows ≡ Some (codes "true") → flag ≡ true)
+HasFlag name rows flag = flag ≡ true ↔ one_of name rows ≡ Some (codes "true")
 
 -- both, and whether a feed that is older is taken
 abbrev pub NamesRoom : List Row → Text → ℕ → Bool → Type 0
@@ -251,23 +304,29 @@ name_of subcommands.Read = codes "read"
 name_of subcommands.Sorts = codes "sorts"
 name_of subcommands.Renumber = codes "renumber"
 name_of subcommands.Renew = codes "renew"
+name_of subcommands.Rooms = codes "rooms"
+name_of subcommands.Log = codes "log"
+name_of subcommands.Find = codes "find"
 
 -- the subcommand of a wish
 abbrev pub subcommand_asked : Wish → Subcommand
 subcommand_asked (wishes.Script manner) = subcommands.Script
 subcommand_asked (wishes.Desk feed site older why manner) = subcommands.Desk
 subcommand_asked (wishes.Merge feed others forks review) = subcommands.Merge
-subcommand_asked (wishes.Diff one other) = subcommands.Diff
-subcommand_asked (wishes.Export feed) = subcommands.Export
+subcommand_asked (wishes.Diff one until other) = subcommands.Diff
+subcommand_asked (wishes.Export feed until) = subcommands.Export
 subcommand_asked (wishes.Import feed site older plain all) = subcommands.Import
-subcommand_asked (wishes.Replace feed site older old new plain) = subcommands.Replace
+subcommand_asked (wishes.Replace feed site older old new plain at all) = subcommands.Replace
 subcommand_asked (wishes.Check files) = subcommands.Check
-subcommand_asked (wishes.Proof from faults picture force sets) = subcommands.Proof
+subcommand_asked (wishes.Proof from until faults picture force sets) = subcommands.Proof
 subcommand_asked (wishes.Punch from target force faulty) = subcommands.Punch
 subcommand_asked (wishes.Read ribbon case wedge picture force) = subcommands.Read
-subcommand_asked (wishes.Sorts feed case layout) = subcommands.Sorts
+subcommand_asked (wishes.Sorts feed until case layout) = subcommands.Sorts
 subcommand_asked (wishes.Renumber feed other site) = subcommands.Renumber
 subcommand_asked (wishes.Renew new feed site) = subcommands.Renew
+subcommand_asked (wishes.Rooms feed) = subcommands.Rooms
+subcommand_asked (wishes.Log feed site since text) = subcommands.Log
+subcommand_asked (wishes.Find feed text plain metal) = subcommands.Find
 
 -- its matches hold what the wish says
 abbrev pub Reports : List Row → Wish → Type 0
@@ -277,26 +336,33 @@ Reports rows (wishes.Desk feed site older why manner) = NamesRoom rows feed.now 
 Reports rows (wishes.Merge feed others forks review) =
     NamesFeed rows feed.now × (all_of (codes "other") rows ≡ Some (texts_of others.items))
     × HasFlag (codes "forks") rows forks × HasFlag (codes "review") rows review
-Reports rows (wishes.Diff one other) = NamesFeed rows one.now × Names (codes "other") rows other.now
-Reports rows (wishes.Export feed) = NamesFeed rows feed.now
+Reports rows (wishes.Diff one until other) = NamesFeed rows one.now × IsUntil rows until
+    × Chooses (codes "other") rows other × ((is_some until || is_some other) ≡ true)
+Reports rows (wishes.Export feed until) = NamesFeed rows feed.now × IsUntil rows until
 Reports rows (wishes.Import feed site older plain all) = NamesRoom rows feed.now site older
     × HasFlag (codes "plain") rows plain × HasFlag (codes "all") rows all
-Reports rows (wishes.Replace feed site older old new plain) =
+Reports rows (wishes.Replace feed site older old new plain at all) =
     NamesRoom rows feed.now site older × Names (codes "old") rows old.now × Names (codes "new") rows new.now
-    × HasFlag (codes "plain") rows plain
+    × HasFlag (codes "plain") rows plain × HasNumber (codes "at") rows at × HasFlag (codes "all") rows all
+    × ((is_some at && all) ≡ false)
 Reports rows (wishes.Check files) = all_of (codes "file") rows ≡ Some (texts_of files.items)
-Reports rows (wishes.Proof from faults picture force sets) =
-    NamesSources rows from × HasFlag (codes "faults") rows faults × Pictures rows picture force
+Reports rows (wishes.Proof from until faults picture force sets) =
+    NamesSources rows from × IsUntil rows until × HasFlag (codes "faults") rows faults × Pictures rows picture force
     × (texts_of sets.items ≡ all_given (all_of (codes "set") rows))
 Reports rows (wishes.Punch from target force faulty) =
     NamesSources rows from × Names (codes "output") rows target.now × HasFlag (codes "force") rows force
     × HasFlag (codes "faulty") rows faulty
 Reports rows (wishes.Read ribbon case wedge picture force) = NamesRibbon rows ribbon.now case.now wedge.now
     × Pictures rows picture force
-Reports rows (wishes.Sorts feed case layout) = NamesFeed rows feed.now × Names (codes "case") rows case.now
-    × HasFlag (codes "layout") rows layout
+Reports rows (wishes.Sorts feed until case layout) = NamesFeed rows feed.now × IsUntil rows until
+    × Names (codes "case") rows case.now × HasFlag (codes "layout") rows layout
 Reports rows (wishes.Renumber feed other site) = NamesDesk rows feed.now site × Names (codes "other") rows other.now
 Reports rows (wishes.Renew new feed site) = NamesDesk rows feed.now site × Names (codes "new") rows new.now
+Reports rows (wishes.Rooms feed) = NamesFeed rows feed.now
+Reports rows (wishes.Log feed site since text) = NamesFeed rows feed.now × HasRoom rows site
+    × HasNumber (codes "since") rows since × Chooses (codes "text") rows text
+Reports rows (wishes.Find feed text plain metal) = NamesFeed rows feed.now × Names (codes "text") rows text.now
+    × HasFlag (codes "plain") rows plain × ChoosesMetal rows metal
 
 -- a subcommand with its matches asks for this
 abbrev pub Wishes : Option (Text × List Row) → Wish → Type 0
@@ -327,6 +393,11 @@ abbrev pub AreNames : Option (List Text) → Option (Vec (Bor Text) Global) → 
 AreNames asked (Some names) = asked ≡ Some (texts_of names.items)
 AreNames asked None = asked ≡ None
 
+-- the names of a case and a wedge, if any, or that one alone is there
+abbrev pub AreMetal : List Row → Option (Option (Bor Text × Bor Text)) → Type 0
+AreMetal rows (Some metal) = ChoosesMetal rows metal
+AreMetal rows None = (metal : _) → ChoosesMetal rows metal → ⊥
+
 -- the names of a feed, a case and a wedge, or that they are not all there
 abbrev pub AreSources : List Row → Option Sources → Type 0
 AreSources rows (Some from) = NamesSources rows from
@@ -353,6 +424,9 @@ HasList rows subcommands.Read = ⊥
 HasList rows subcommands.Sorts = ⊥
 HasList rows subcommands.Renumber = ⊥
 HasList rows subcommands.Renew = ⊥
+HasList rows subcommands.Rooms = ⊥
+HasList rows subcommands.Log = ⊥
+HasList rows subcommands.Find = ⊥
 
 -- a subcommand was given such a list
 abbrev pub ListsNames : Option (Text × List Row) → Type 0
@@ -374,14 +448,17 @@ abbrev pub IsLawful : Wish → Type 0
 IsLawful (wishes.Script manner) = Unit {0}
 IsLawful (wishes.Desk feed site older why manner) = 1 ≤ site
 IsLawful (wishes.Merge feed others forks review) = Unit {0}
-IsLawful (wishes.Diff one other) = Unit {0}
-IsLawful (wishes.Export feed) = Unit {0}
+IsLawful (wishes.Diff one until other) = Unit {0}
+IsLawful (wishes.Export feed until) = Unit {0}
 IsLawful (wishes.Import feed site older plain all) = 1 ≤ site
-IsLawful (wishes.Replace feed site older old new plain) = 1 ≤ site
+IsLawful (wishes.Replace feed site older old new plain at all) = 1 ≤ site
 IsLawful (wishes.Check files) = Unit {0}
-IsLawful (wishes.Proof from faults picture force sets) = Unit {0}
+IsLawful (wishes.Proof from until faults picture force sets) = Unit {0}
 IsLawful (wishes.Punch from target force faulty) = Unit {0}
 IsLawful (wishes.Read ribbon case wedge picture force) = Unit {0}
-IsLawful (wishes.Sorts feed case layout) = Unit {0}
+IsLawful (wishes.Sorts feed until case layout) = Unit {0}
 IsLawful (wishes.Renumber feed other site) = 1 ≤ site
 IsLawful (wishes.Renew new feed site) = 1 ≤ site
+IsLawful (wishes.Rooms feed) = Unit {0}
+IsLawful (wishes.Log feed site since text) = Unit {0}
+IsLawful (wishes.Find feed text plain metal) = Unit {0}

@@ -5,15 +5,16 @@ ghost use Rattle.clap.specs.Words.{app_of, new_app, new_rule, rule_of};
 ghost use Rattle.clap.specs.declared.builder.command.Command.TheViews.{out-Command};
 ghost use Rattle.program_words.specs.Arguments.{read_as, with_all};
 ghost use Rattle.program_words.specs.Help.{HasTexts, IsMade, IsShown, version_of};
-ghost use Rattle.program_words.specs.Words.{check_app, copydesk, desk_app, diff_app, export_app, import_app, merge_app};
-ghost use Rattle.program_words.specs.Words.{no_subcommand, proof_app, punch_app, read_app, renew_app, renumber_app};
-ghost use Rattle.program_words.specs.Words.{replace_app, script_app, sorts_app, up_to_import, up_to_merge, up_to_proof};
-ghost use Rattle.program_words.specs.Words.{up_to_sorts, with_version};
+ghost use Rattle.program_words.specs.Words.{check_app, copydesk, desk_app, diff_app, export_app, find_app, import_app};
+ghost use Rattle.program_words.specs.Words.{log_app, merge_app, no_subcommand, proof_app, punch_app, read_app, renew_app};
+ghost use Rattle.program_words.specs.Words.{renumber_app, replace_app, rooms_app, script_app, sorts_app, up_to_import};
+ghost use Rattle.program_words.specs.Words.{up_to_merge, up_to_proof, up_to_rooms, up_to_sorts, with_version};
 
 use crate::help::{
-    ABOUT, CHECK, COMMANDS, DESK, DIFF, EXPORT, IMPORT, MERGE, ON_A_FEED, ON_CHECK, ON_DIFF,
-    ON_EXPORT, ON_IMPORT, ON_MERGE, ON_PROOF, ON_PUNCH, ON_READ, ON_RENEW, ON_RENUMBER, ON_REPLACE,
-    ON_SORTS, ON_SUBCOMMANDS, PROOF, PUNCH, READ, RENEW, RENUMBER, REPLACE, SCRIPT, SORTS, VERSION,
+    ABOUT, CHECK, COMMANDS, DESK, DIFF, EXPORT, FIND, IMPORT, LOG, MERGE, ON_A_FEED, ON_CHECK,
+    ON_DIFF, ON_EXPORT, ON_FIND, ON_IMPORT, ON_LOG, ON_MERGE, ON_PROOF, ON_PUNCH, ON_READ,
+    ON_RENEW, ON_RENUMBER, ON_REPLACE, ON_ROOMS, ON_SORTS, ON_SUBCOMMANDS, PROOF, PUNCH, READ,
+    RENEW, RENUMBER, REPLACE, ROOMS, SCRIPT, SORTS, VERSION,
 };
 use clap::{Arg, ArgAction, Command, value_parser};
 use std::alloc::{AllocError, Global};
@@ -35,6 +36,12 @@ enum Kind {
     Target,
     /// An option with the name of a file, which may be left out.
     Choice,
+    /// One text, which may be left out.
+    Extra,
+    /// An option with a counter or a place.
+    Number,
+    /// An option with the number of a site.
+    Room,
     /// An option that may stand more than once.
     Each,
 }
@@ -68,6 +75,12 @@ const OLDER: Argument = (
     Kind::Flag,
     "older",
     "Goes on with a feed that is older than what this room stored there.",
+);
+
+const AT: Argument = (
+    Kind::Number,
+    "at",
+    "Takes the feed as it was: its operations with a counter up to this one.",
 );
 
 const STRICT: Argument = (
@@ -113,6 +126,9 @@ fn with_kind<'a>(arg: Arg<'a>, kind: Kind, name: &'a str) -> Arg<'a>
         Kind::File => arg.long(name).required(true),
         Kind::Target => arg.long(name).short('o').required(true),
         Kind::Choice => arg.long(name),
+        Kind::Extra => arg,
+        Kind::Number => arg.long(name).value_parser(value_parser!(u64)),
+        Kind::Room => arg.long(name).value_parser(value_parser!(u16).range(1..)),
         Kind::Each => arg.long(name).action(ArgAction::Append),
     }
 }
@@ -222,7 +238,12 @@ fn diff_command<'a>(alloc: Global) -> Result<Command<'a>, AllocError>
 {
     let arguments = [
         FEED,
-        (Kind::Text, "other", "The name of the other feed's file."),
+        (
+            Kind::Extra,
+            "other",
+            "The name of the other feed's file; with --at the same feed, if left out.",
+        ),
+        AT,
     ];
     subcommand(alloc, "diff", &arguments, DIFF, ON_DIFF)
 }
@@ -230,8 +251,68 @@ fn diff_command<'a>(alloc: Global) -> Result<Command<'a>, AllocError>
 fn export_command<'a>(alloc: Global) -> Result<Command<'a>, AllocError>
     ensures { IfOk result (IsMade export_app EXPORT.now ON_EXPORT.now) }
 {
-    let arguments = [FEED];
+    let arguments = [FEED, AT];
     subcommand(alloc, "export", &arguments, EXPORT, ON_EXPORT)
+}
+
+fn rooms_command<'a>(alloc: Global) -> Result<Command<'a>, AllocError>
+    ensures { IfOk result (IsMade rooms_app ROOMS.now ON_ROOMS.now) }
+{
+    let arguments = [FEED];
+    subcommand(alloc, "rooms", &arguments, ROOMS, ON_ROOMS)
+}
+
+fn log_command<'a>(alloc: Global) -> Result<Command<'a>, AllocError>
+    ensures { IfOk result (IsMade log_app LOG.now ON_LOG.now) }
+{
+    let arguments = [
+        FEED,
+        (
+            Kind::Extra,
+            "text",
+            "The text that a correction inserted or deleted, with marks.",
+        ),
+        (
+            Kind::Room,
+            "site",
+            "Lists the corrections of this site alone.",
+        ),
+        (
+            Kind::Number,
+            "since",
+            "Lists the corrections that end at this counter or later.",
+        ),
+    ];
+    subcommand(alloc, "log", &arguments, LOG, ON_LOG)
+}
+
+fn find_command<'a>(alloc: Global) -> Result<Command<'a>, AllocError>
+    ensures { IfOk result (IsMade find_app FIND.now ON_FIND.now) }
+{
+    let arguments = [
+        FEED,
+        (
+            Kind::Text,
+            "text",
+            "The text that stands in the copy, with marks.",
+        ),
+        (
+            Kind::Flag,
+            "plain",
+            "Takes every character of the text as Roman: it has no marks.",
+        ),
+        (
+            Kind::Choice,
+            "case",
+            "The name of the case file, for the line of a place.",
+        ),
+        (
+            Kind::Choice,
+            "wedge",
+            "The name of the wedge file, for the line of a place.",
+        ),
+    ];
+    subcommand(alloc, "find", &arguments, FIND, ON_FIND)
 }
 
 fn import_command<'a>(alloc: Global) -> Result<Command<'a>, AllocError>
@@ -277,6 +358,12 @@ fn replace_command<'a>(alloc: Global) -> Result<Command<'a>, AllocError>
             "new",
             "The text that takes its place, with marks.",
         ),
+        (
+            Kind::Number,
+            "at",
+            "Exchanges the text at this place alone.",
+        ),
+        (Kind::Flag, "all", "Exchanges the text at each place."),
     ];
     subcommand(alloc, "replace", &arguments, REPLACE, ON_REPLACE)
 }
@@ -311,6 +398,7 @@ fn proof_command<'a>(alloc: Global) -> Result<Command<'a>, AllocError>
             "set",
             "Tries a setting, as loose=200, in place of the copy's; nothing is stored.",
         ),
+        AT,
     ];
     subcommand(alloc, "proof", &arguments, PROOF, ON_PROOF)
 }
@@ -365,6 +453,7 @@ fn sorts_command<'a>(alloc: Global) -> Result<Command<'a>, AllocError>
         FEED,
         CASE,
         (Kind::Flag, "layout", "Writes the layout of the case too."),
+        AT,
     ];
     subcommand(alloc, "sorts", &arguments, SORTS, ON_SORTS)
 }
@@ -472,16 +561,29 @@ fn up_to_sorts<'a>(alloc: Global) -> Result<Command<'a>, AllocError>
     with_read.subcommand(sorts)
 }
 
-/// The program's command, with its subcommands.
-pub fn command<'a>(alloc: Global) -> Result<Command<'a>, AllocError>
-    ensures app { IfOk result (λ c. app_of c ≡ copydesk) }
-    ensures version { IfOk result (λ c. version_of c ≡ Some VERSION.now) }
-    ensures texts { IfOk result (λ c. HasTexts c ABOUT.now ON_SUBCOMMANDS.now) }
+/// With those up to `rooms`.
+fn up_to_rooms<'a>(alloc: Global) -> Result<Command<'a>, AllocError>
+    ensures { IfOk result (λ c. app_of c ≡ up_to_rooms) }
 {
     let first = up_to_sorts(alloc)?;
     let renumber = renumber_command(alloc)?;
     let with_renumber = first.subcommand(renumber)?;
     let renew = renew_command(alloc)?;
     let with_renew = with_renumber.subcommand(renew)?;
-    Ok(with_version(with_renew))
+    let rooms = rooms_command(alloc)?;
+    with_renew.subcommand(rooms)
+}
+
+/// The program's command, with its subcommands.
+pub fn command<'a>(alloc: Global) -> Result<Command<'a>, AllocError>
+    ensures app { IfOk result (λ c. app_of c ≡ copydesk) }
+    ensures version { IfOk result (λ c. version_of c ≡ Some VERSION.now) }
+    ensures texts { IfOk result (λ c. HasTexts c ABOUT.now ON_SUBCOMMANDS.now) }
+{
+    let first = up_to_rooms(alloc)?;
+    let log = log_command(alloc)?;
+    let with_log = first.subcommand(log)?;
+    let find = find_command(alloc)?;
+    let with_find = with_log.subcommand(find)?;
+    Ok(with_version(with_find))
 }

@@ -21,9 +21,15 @@ pub const EXPORT: &str = "Writes the copy of a stored feed to standard output as
 pub const IMPORT: &str = "Makes the copy of a stored feed the text of standard input.";
 
 pub const REPLACE: &str =
-    "Makes a text of the copy of a stored feed another, where it stands once.";
+    "Makes a text of the copy of a stored feed another, where it stands once, at a place, or everywhere.";
 
 pub const CHECK: &str = "Says of files what they are, and what is wrong in them.";
+
+pub const ROOMS: &str = "Lists the sites of a stored feed, and what each made.";
+
+pub const LOG: &str = "Lists the corrections of a stored feed, newest last.";
+
+pub const FIND: &str = "Lists the places of a text in the copy of a stored feed.";
 
 pub const RENUMBER: &str = "Gives another number to what another feed has made under the same.";
 
@@ -50,11 +56,15 @@ As in:
                                             another number for what both rooms made under one
   copydesk diff one.feed two.feed           what each has alone
   copydesk export one.feed > one.txt        the copy as text
+  copydesk export one.feed --at 774         the copy as it was once counter 774 was made
   copydesk import one.feed --site 1 < one.txt
                                             makes that text the copy
   copydesk replace one.feed --site 1 Tuesday Thursday
                                             one text for another, where it stands once
   copydesk renew new.feed one.feed --site 1 a new feed with that copy and its settings
+  copydesk rooms one.feed                   the sites, and what each made
+  copydesk log one.feed --site 1            the corrections of a site, newest last
+  copydesk find one.feed Tuesday            the places of a text
   copydesk check one.feed case12.toml wedge5.toml one.rib
                                             what files are, and what is wrong in them
   copydesk proof one.feed --case case12.toml --wedge wedge5.toml
@@ -150,17 +160,51 @@ As in: copydesk diff one.feed two.feed
 First stand the stamps of what each feed has alone, by site and counters: `one.feed alone 1: 20..25 31, 3: 7`. Then
 each stretch of words that differ, with its place in the one copy and in the other: `- 12 the quick` and
 `+ 12 the slow`. Last stand the words that a merge of the two would leave open, as `copydesk merge` writes them.
-Nothing changes.
+Nothing changes. With `--at 774` the first is the feed as it was: its operations with a counter up to 774. Without
+TWO it is compared with the same feed as it is now.
 
 Status: 0 the two hold the same; 1 they do not, or a feed cannot be read, or the text not be written, and then
 standard error says why; 2 the words were refused.";
+
+/// What the rooms are.
+pub const ON_ROOMS: &str = "\
+As in: copydesk rooms one.feed
+
+Each site has a line: its first and last stamp, its inserts, deletes and settings, its symbols in the copy, and the
+faults of its operations. `with gaps` follows where counters between the two are not its own. The last line has the
+sums. Nothing changes.
+
+Status: 0 done; 1 the feed cannot be read, or the text not be written; 2 the words were refused.";
+
+/// What a log is.
+pub const ON_LOG: &str = "\
+As in: copydesk log one.feed --site 1 --since 700 Tuesday
+
+A correction is a row of operations of one site whose counters follow one another. Each has a line, newest last: its
+stamps, its place in the copy, what it inserted and deleted, the settings, and its faults. `--site` lists those of one
+site, `--since` those that end at this counter or later, TEXT those that inserted or deleted this text, with the marks
+of `copydesk export`. Nothing changes.
+
+Status: 0 done; 1 the feed cannot be read, or the text not be written; 2 the words were refused.";
+
+/// What a search is.
+pub const ON_FIND: &str = "\
+As in: copydesk find one.feed Tuesday --case case12.toml --wedge wedge5.toml
+
+Each place of the text, with the marks of `copydesk export`, has a line with the words around:
+`place 17, line 2: sent out on Tuesday by the`. With `--plain` the text has no marks. The line of the galley is there
+only with `--case` and `--wedge`. Nothing changes. A TEXT that begins with `-` comes after `--`.
+
+Status: 0 the text is there; 1 it is not, or the feed cannot be read, or the text not be written, and then standard
+error says why; 2 the words were refused.";
 
 /// What an export is.
 pub const ON_EXPORT: &str = "\
 As in: copydesk export one.feed > one.txt
 
 The text is UTF-8. Italic stands as _italic_, small capitals as ^small capitals^; a backslash stands before
-`_`, `^` and `\\` where they are symbols of the copy. The feed is not taken and does not change.
+`_`, `^` and `\\` where they are symbols of the copy. The feed is not taken and does not change. With `--at 774` it is
+the copy as it was: of the operations with a counter up to 774, of every site.
 
 Status: 0 done; 1 the feed cannot be read, or the text not be written; 2 the words were refused.";
 
@@ -183,6 +227,7 @@ As in: copydesk replace one.feed --site 1 'on Tuesday' 'on _Thursday_'
 Both are texts with the marks of `copydesk export`. Where OLD stands once in the copy NEW takes its place, and the
 answer is `ok inserted 8 deleted 2`. Where it stands nowhere, or more than once, nothing is done, and its places stand
 on standard output with what is around them: `place 17: sent out on Tuesday by the`.
+With `--at 17` the text at this place alone is exchanged, with `--all` that at each place, from the left.
 An OLD or a NEW that begins with `-` comes after `--`.
 
 Status: 0 the feed is stored; 1 it is not, and nothing has changed: standard error says why; 2 the words were refused.";
@@ -205,8 +250,8 @@ First stand the faults of the copy: each is a correction that is not shown. Then
 places in the copy, its wedge pair with a gauge between tight and loose, its words, and its fills; at the end
 each fault stands at its text, with the way out in figures. With `--faults` the faults stand alone.
 `--svg one.svg` stores a picture of the galley too, for any browser. It replaces only a picture or an empty file:
-`--force` replaces any. `--set loose=200` tries a setting in place of the copy's, and may stand more than once. The
-feed does not change.
+`--force` replaces any. `--set loose=200` tries a setting in place of the copy's, and may stand more than once. With
+`--at 774` it is the galley of the copy as it was. The feed does not change.
 
 Status: 0 no fault stands; 1 a fault stands, or the proof was not written, and standard error says so; 2 the
 words were refused.";
@@ -239,7 +284,8 @@ pub const ON_SORTS: &str = "\
 As in: copydesk sorts one.feed --case case12.toml
 
 Each symbol of the copy has its cell in the case and how often it is wanted; those that the case lacks stand first,
-with their places. With `--layout` the case stands below as a table. Nothing changes.
+with their places. With `--layout` the case stands below as a table, with `--at 774` the copy is as it was. Nothing
+changes.
 
 Status: 0 the case has every sort; 1 a sort is missing, or a file cannot be read, or the text not be written, and
 standard error says so; 2 the words were refused.";

@@ -2,7 +2,8 @@
 
 ghost use Rattle.std.specs.Prelude.{◌≡◌, ◌≢◌, ℕ, None, IfOk, IfSome, IsErr, IsNone, codes};
 ghost use Rattle.clap.specs.Words.{Text, all_of, found_of, rows_of, subcommand_rows_of};
-ghost use Rattle.program_words.specs.Words.{AreNames, AreSources, Chooses, HasFlag, HasList, HasManner, HasSite};
+ghost use Rattle.program_words.specs.Words.{AreMetal, AreNames, AreSources, Chooses, HasFlag, HasList, HasManner};
+ghost use Rattle.program_words.specs.Words.{HasNumber, HasRoom, HasSite};
 ghost use Rattle.program_words.specs.Words.{IsReported, IsWished, ListsNames, NamesDesk, all_given, name_of, texts_of};
 
 use clap::ArgMatches;
@@ -25,6 +26,9 @@ pub enum Subcommand {
     Sorts,
     Renumber,
     Renew,
+    Rooms,
+    Log,
+    Find,
 }
 
 /// The names of a stored feed, of a case file and of a wedge file.
@@ -68,14 +72,17 @@ pub enum Wish<'a> {
         forks: bool,
         review: bool,
     },
-    /// What each of two stored feeds has alone.
+    /// What each of two stored feeds has alone: of one as it was at a counter, where one is given, and the other feed or,
+    /// where none is named, the same.
     Diff {
         one: &'a str,
-        other: &'a str,
+        until: Option<u64>,
+        other: Option<&'a str>,
     },
-    /// The copy of a stored feed as text.
+    /// The copy of a stored feed as text, as it was at a counter, where one is given.
     Export {
         feed: &'a str,
+        until: Option<u64>,
     },
     /// A text, made the copy of a stored feed by operations of a site, whether an older feed is taken, whether all of
     /// the text is Roman, and whether it may delete most of the copy.
@@ -86,8 +93,8 @@ pub enum Wish<'a> {
         plain: bool,
         all: bool,
     },
-    /// A text in the copy of a stored feed, made another by operations of a site, whether an older feed is taken, and
-    /// whether all of both is Roman.
+    /// A text in the copy of a stored feed, made another by operations of a site, whether an older feed is taken,
+    /// whether all of both is Roman, and the place at which it is, or whether all places are meant; not both.
     Replace {
         feed: &'a str,
         site: u16,
@@ -95,16 +102,19 @@ pub enum Wish<'a> {
         old: &'a str,
         new: &'a str,
         plain: bool,
+        at: Option<u64>,
+        all: bool,
     },
     /// Files, known by their content.
     Check {
         files: Vec<&'a str>,
     },
-    /// The galley of a stored feed by a case and a wedge, whether its faults alone are wanted, the name of the file
+    /// The galley of a stored feed by a case and a wedge, as it was at a counter, where one is given, whether its faults alone are wanted, the name of the file
     /// that its picture is stored in, whether whatever stands there is replaced, and the settings that are tried in
     /// place of the copy's.
     Proof {
         from: Sources<'a>,
+        until: Option<u64>,
         faults: bool,
         picture: Option<&'a str>,
         force: bool,
@@ -127,9 +137,11 @@ pub enum Wish<'a> {
         picture: Option<&'a str>,
         force: bool,
     },
-    /// The sorts that the copy of a stored feed wants of a case, and whether the case's layout is wanted too.
+    /// The sorts that the copy of a stored feed wants of a case, as it was at a counter, where one is given, and whether
+    /// the case's layout is wanted too.
     Sorts {
         feed: &'a str,
+        until: Option<u64>,
         case: &'a str,
         layout: bool,
     },
@@ -144,6 +156,25 @@ pub enum Wish<'a> {
         new: &'a str,
         feed: &'a str,
         site: u16,
+    },
+    /// The sites of a stored feed.
+    Rooms {
+        feed: &'a str,
+    },
+    /// The corrections of a stored feed: of a site, from a counter on, and with a text, where these are given.
+    Log {
+        feed: &'a str,
+        site: Option<u16>,
+        since: Option<u64>,
+        text: Option<&'a str>,
+    },
+    /// The places of a text in the copy of a stored feed, whether all of it is Roman, and the case and the wedge by
+    /// which places have lines, if any.
+    Find {
+        feed: &'a str,
+        text: &'a str,
+        plain: bool,
+        metal: Option<(&'a str, &'a str)>,
     },
 }
 
@@ -167,6 +198,9 @@ fn subcommand_named(name: &str) -> Option<Subcommand>
         "sorts" => Some(Subcommand::Sorts),
         "renumber" => Some(Subcommand::Renumber),
         "renew" => Some(Subcommand::Renew),
+        "rooms" => Some(Subcommand::Rooms),
+        "log" => Some(Subcommand::Log),
+        "find" => Some(Subcommand::Find),
         _ => None,
     }
 }
@@ -191,7 +225,27 @@ fn site_of(matches: &ArgMatches<'_>) -> Option<u16>
 fn flag_of(matches: &ArgMatches<'_>, name: &str) -> bool
     ensures { HasFlag name.now (rows_of (found_of matches.now)) result }
 {
-    matches.get_flag(name)
+    match matches.get_one::<bool>(name) {
+        Some(flag) => flag,
+        None => false,
+    }
+}
+
+/// The number that an option gives.
+fn number_of(matches: &ArgMatches<'_>, name: &str) -> Option<u64>
+    ensures { HasNumber name.now (rows_of (found_of matches.now)) result }
+{
+    matches.get_one::<u64>(name)
+}
+
+/// The number of a site that an option gives.
+fn room_of(matches: &ArgMatches<'_>) -> Option<u16>
+    ensures { HasRoom (rows_of (found_of matches.now)) result }
+{
+    match site_of(matches) {
+        Some(site) => Some(site),
+        None => None,
+    }
 }
 
 /// The feed's name and the site's number that a subcommand's matches hold.
@@ -276,17 +330,22 @@ fn diff_wish<'a>(matches: &ArgMatches<'a>) -> Option<Wish<'a>>
     let Some(one) = matches.get_str("feed") else {
         return None;
     };
-    match matches.get_str("other") {
-        Some(other) => Some(Wish::Diff { one, other }),
-        None => None,
+    let until = number_of(matches, "at");
+    let other = choice_of(matches, "other");
+    if until.is_none() && other.is_none() {
+        return None;
     }
+    Some(Wish::Diff { one, until, other })
 }
 
 fn export_wish<'a>(matches: &ArgMatches<'a>) -> Option<Wish<'a>>
     ensures { IsReported (rows_of (found_of matches.now)) Subcommand.Export result }
 {
     match matches.get_str("feed") {
-        Some(feed) => Some(Wish::Export { feed }),
+        Some(feed) => {
+            let until = number_of(matches, "at");
+            Some(Wish::Export { feed, until })
+        }
         None => None,
     }
 }
@@ -315,21 +374,26 @@ fn replace_wish<'a>(matches: &ArgMatches<'a>) -> Option<Wish<'a>>
     let Some(old) = matches.get_str("old") else {
         return None;
     };
-    match matches.get_str("new") {
-        Some(new) => {
-            let plain = flag_of(matches, "plain");
-            let older = flag_of(matches, "older");
-            Some(Wish::Replace {
-                feed,
-                site,
-                older,
-                old,
-                new,
-                plain,
-            })
-        }
-        None => None,
+    let Some(new) = matches.get_str("new") else {
+        return None;
+    };
+    let at = number_of(matches, "at");
+    let all = flag_of(matches, "all");
+    if at.is_some() && all {
+        return None;
     }
+    let plain = flag_of(matches, "plain");
+    let older = flag_of(matches, "older");
+    Some(Wish::Replace {
+        feed,
+        site,
+        older,
+        old,
+        new,
+        plain,
+        at,
+        all,
+    })
 }
 
 fn check_wish<'a>(alloc: Global, matches: &ArgMatches<'a>) -> Result<Option<Wish<'a>>, AllocError>
@@ -384,12 +448,14 @@ fn proof_wish<'a>(alloc: Global, matches: &ArgMatches<'a>) -> Result<Option<Wish
     let Some(from) = sources_of(matches) else {
         return Ok(None);
     };
+    let until = number_of(matches, "at");
     let faults = flag_of(matches, "faults");
     let picture = choice_of(matches, "svg");
     let force = flag_of(matches, "force");
     let sets = sets_of(alloc, matches)?;
     Ok(Some(Wish::Proof {
         from,
+        until,
         faults,
         picture,
         force,
@@ -430,8 +496,14 @@ fn sorts_wish<'a>(matches: &ArgMatches<'a>) -> Option<Wish<'a>>
     };
     match matches.get_str("case") {
         Some(case) => {
+            let until = number_of(matches, "at");
             let layout = flag_of(matches, "layout");
-            Some(Wish::Sorts { feed, case, layout })
+            Some(Wish::Sorts {
+                feed,
+                until,
+                case,
+                layout,
+            })
         }
         None => None,
     }
@@ -482,6 +554,73 @@ fn renew_wish<'a>(matches: &ArgMatches<'a>) -> Option<Wish<'a>>
     }
 }
 
+fn rooms_wish<'a>(matches: &ArgMatches<'a>) -> Option<Wish<'a>>
+    ensures { IsReported (rows_of (found_of matches.now)) Subcommand.Rooms result }
+{
+    match matches.get_str("feed") {
+        Some(feed) => Some(Wish::Rooms { feed }),
+        None => None,
+    }
+}
+
+fn log_wish<'a>(matches: &ArgMatches<'a>) -> Option<Wish<'a>>
+    ensures { IsReported (rows_of (found_of matches.now)) Subcommand.Log result }
+{
+    match matches.get_str("feed") {
+        Some(feed) => {
+            let site = room_of(matches);
+            let since = number_of(matches, "since");
+            let text = choice_of(matches, "text");
+            Some(Wish::Log {
+                feed,
+                site,
+                since,
+                text,
+            })
+        }
+        None => None,
+    }
+}
+
+/// The names of a case and a wedge, if any; nothing where one alone is there.
+fn metal_of<'a>(matches: &ArgMatches<'a>) -> Option<Option<(&'a str, &'a str)>>
+    ensures { AreMetal (rows_of (found_of matches.now)) result }
+{
+    match matches.get_str("case") {
+        Some(case) => match matches.get_str("wedge") {
+            Some(wedge) => Some(Some((case, wedge))),
+            None => None,
+        },
+        None => match matches.get_str("wedge") {
+            Some(_) => None,
+            None => Some(None),
+        },
+    }
+}
+
+fn find_wish<'a>(matches: &ArgMatches<'a>) -> Option<Wish<'a>>
+    ensures { IsReported (rows_of (found_of matches.now)) Subcommand.Find result }
+{
+    let Some(feed) = matches.get_str("feed") else {
+        return None;
+    };
+    let Some(text) = matches.get_str("text") else {
+        return None;
+    };
+    match metal_of(matches) {
+        Some(metal) => {
+            let plain = flag_of(matches, "plain");
+            Some(Wish::Find {
+                feed,
+                text,
+                plain,
+                metal,
+            })
+        }
+        None => None,
+    }
+}
+
 /// What the matches of a subcommand hold.
 fn reported<'a>(
     alloc: Global,
@@ -508,6 +647,9 @@ fn reported<'a>(
         Subcommand::Sorts => Ok(sorts_wish(matches)),
         Subcommand::Renumber => Ok(renumber_wish(matches)),
         Subcommand::Renew => Ok(renew_wish(matches)),
+        Subcommand::Rooms => Ok(rooms_wish(matches)),
+        Subcommand::Log => Ok(log_wish(matches)),
+        Subcommand::Find => Ok(find_wish(matches)),
     }
 }
 

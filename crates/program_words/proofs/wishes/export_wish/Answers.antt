@@ -5,7 +5,7 @@ use Rattle.program_words.proofs.Asked.{named, no_wish, unnamed}
 use Rattle.program_words.proofs.wishes.export_wish.Goals as goal
 
 pub returns-in-Some : goal.returns-in-Some
-returns-in-Some c = (refl, named (codes "feed") (found_of c.args.matches.now) c.get_str.result c.in-Some.feed c.get_str.ensures c.in-Some.is)
+returns-in-Some c = (refl, (named (codes "feed") (found_of c.args.matches.now) c.get_str.result c.in-Some.feed c.get_str.ensures c.in-Some.is, c.number_of-until.ensures))
 
 pub returns-in-None : goal.returns-in-None
 returns-in-None c = no_wish (rows_of (found_of c.args.matches.now)) subcommands.Export (unnamed (codes "feed") (found_of c.args.matches.now) c.get_str.result c.get_str.ensures c.in-None.is)

@@ -12,6 +12,7 @@ returns-in-Some-get_str c = (
   refl,
   (
     named (codes "feed") (found_of c.args.matches.now) c.get_str.result c.in-Some.feed c.get_str.ensures c.in-Some.is,
+    c.number_of-until.ensures,
     named (codes "case") (found_of c.args.matches.now) c.get_str-2.result c.in-Some-get_str.case c.get_str-2.ensures c.in-Some-get_str.is,
     c.flag_of-layout.ensures,
   ),
