@@ -10,6 +10,7 @@ use Rattle.feed_files.specs.Files.{Shelf, Stays}
 use Rattle.feed_edit.specs.Exporting.{IsUnexported}
 use Rattle.feed_edit.specs.Importing.{IsUnimported}
 use Rattle.feed_edit.specs.Merging.{IsMerged, IsUnmerged}
+use Rattle.feed_edit.specs.declared.exporting.Version.{Version}
 use Rattle.feed_edit.specs.declared.fault.ExportFault.{ExportFault}
 use Rattle.feed_edit.specs.declared.fault.ImportFault.{ImportFault}
 use Rattle.feed_edit.specs.declared.fault.MergeFault.{MergeFault}
@@ -57,10 +58,10 @@ IsNotMerged feed others forks review first last before after whole quiet said =
     × IsSilent whole quiet said)
 
 -- a copy was not written as text, and no file has changed
-abbrev pub IsNotExported : Bor Text → Shelf → Shelf → Option (List ℕ) → Option (List ℕ)
+abbrev pub IsNotExported : Version → Shelf → Shelf → Option (List ℕ) → Option (List ℕ)
     → Bool → Option (List ℕ) → Option (List ℕ) → Type 0
-IsNotExported feed first last before after whole quiet said = Stays first last × (fault : ExportFault)
-    × IsUnexported feed.now first last before after fault × Reports (export_cause feed fault) whole quiet said
+IsNotExported version first last before after whole quiet said = Stays first last × (fault : ExportFault)
+    × IsUnexported version first last before after fault × Reports (export_cause version.feed fault) whole quiet said
 
 -- a copy was not made a text
 abbrev pub IsNotImported : Bor Text → ℕ → Bool → Bool → Bool → Shelf → Shelf → Option (List ℕ) → Option (List ℕ)

@@ -42,9 +42,7 @@ use Rattle.view_punch.specs.declared.fault.PreviewFault.{PreviewFault}
 use Rattle.view_punch.specs.declared.fault.PreviewFault.TheVariants as previews
 use Rattle.view_ribbon.specs.declared.fault.ReadingFault.{ReadingFault}
 use Rattle.view_ribbon.specs.declared.fault.ReadingFault.TheVariants as readings
-use Rattle.view_punch.specs.declared.sorts_fault.SortsFault.{SortsFault}
-use Rattle.view_punch.specs.declared.sorts_fault.SortsFault.TheVariants as sorts
-use Rattle.program_words.specs.declared.wishes.Sources.{Sources}
+use Rattle.view_punch.specs.declared.sources.Sources.{Sources}
 use Rattle.feed_stored.specs.declared.last_fault.LastFault.{LastFault}
 use Rattle.feed_stored.specs.declared.last_fault.LastFault.TheVariants as lasts
 use Rattle.feed_sites.specs.declared.fault.NumberFault.TheVariants as numbers
@@ -227,15 +225,16 @@ number_cause from (others.Wedge set number) = causes.Other from.wedge (others.We
 
 -- the faults of a copy or of a job are on standard output
 abbrev pub preview_cause : Sources → Bor Text → PreviewFault → Cause
-preview_cause from target (previews.Feed why) = feed_cause from.feed why
+preview_cause from target (previews.Feed why) = feed_cause from.version.feed why
+preview_cause from target (previews.Text why) = text_cause from.version.feed origins.Sought why
 preview_cause from target (previews.Input why) = causes.CaseOrWedge from.case from.wedge why
 preview_cause from target previews.CopyFaults = causes.Said saids.CopyFaults
 preview_cause from target (previews.Faulty None) = causes.Said saids.NoRibbon
 preview_cause from target (previews.Faulty (Some other)) = number_cause from other
 preview_cause from target previews.Write = causes.ReportOutput
 preview_cause from target (previews.Taken kind) = causes.Taken target kind
-preview_cause from target (previews.Unstored why) = unstored_cause from.feed target why
-preview_cause from target previews.NoMemory = causes.NoMemory from.feed
+preview_cause from target (previews.Unstored why) = unstored_cause from.version.feed target why
+preview_cause from target previews.NoMemory = causes.NoMemory from.version.feed
 
 abbrev pub reading_cause : ReadingSources → Bor Text → ReadingFault → Cause
 reading_cause from target (readings.Ribbon why) = causes.File from.ribbon
@@ -245,11 +244,20 @@ reading_cause from target (readings.Taken kind) = causes.Taken target kind
 reading_cause from target (readings.Unstored why) = unstored_cause from.ribbon target why
 reading_cause from target readings.NoMemory = causes.NoMemory from.ribbon
 
-abbrev pub sorts_cause : Bor Text → Bor Text → SortsFault → Cause
-sorts_cause feed case (sorts.Feed why) = feed_cause feed why
-sorts_cause feed case (sorts.Input why) = causes.Case case why
-sorts_cause feed case sorts.Write = causes.ReportOutput
-sorts_cause feed case sorts.NoMemory = causes.NoMemory feed
+-- the files of a list of sorts, which has no wedge and no target
+abbrev pub listed_from : Bor Text → Bor Text → Sources
+listed_from feed case = record { version = record { feed = feed; until = None }; case = case; wedge = case }
+
+abbrev pub sorts_cause : Bor Text → Bor Text → PreviewFault → Cause
+sorts_cause feed case (previews.Input why) = causes.Case case why
+sorts_cause feed case (previews.Feed why) = preview_cause (listed_from feed case) case (previews.Feed why)
+sorts_cause feed case (previews.Text why) = preview_cause (listed_from feed case) case (previews.Text why)
+sorts_cause feed case previews.CopyFaults = preview_cause (listed_from feed case) case previews.CopyFaults
+sorts_cause feed case (previews.Faulty other) = preview_cause (listed_from feed case) case (previews.Faulty other)
+sorts_cause feed case previews.Write = preview_cause (listed_from feed case) case previews.Write
+sorts_cause feed case (previews.Taken kind) = preview_cause (listed_from feed case) case (previews.Taken kind)
+sorts_cause feed case (previews.Unstored why) = preview_cause (listed_from feed case) case (previews.Unstored why)
+sorts_cause feed case previews.NoMemory = preview_cause (listed_from feed case) case previews.NoMemory
 
 -- the text at a place tries no setting
 abbrev pub unset_cause : Option (Bor Text) → Cause

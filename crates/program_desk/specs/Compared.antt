@@ -3,23 +3,24 @@ use Rattle.std.specs.Prelude.{◌⊎◌, ℕ, Bool, true, false, List, Option}
 use Rattle.std.specs.Borrow.{Bor}
 use Rattle.clap.specs.Words.{Text}
 use Rattle.feed_files.specs.Files.{Shelf, Stays}
+use Rattle.feed_edit.specs.declared.exporting.Version.{Version}
 use Rattle.feed_compare.specs.Reporting.{IsReported, IsUnreported}
 use Rattle.feed_compare.specs.declared.fault.DifferenceFault.{DifferenceFault}
 use Rattle.program_desk.specs.Causes.{difference_cause}
 use Rattle.program_desk.specs.Explained.{IsSilent, Reports}
 
--- what is said of two feeds was written, they hold the same or not; no file has changed
-abbrev pub IsCompared : (one other : Text) → Shelf → Shelf → Option (List ℕ) → Option (List ℕ) → Bool → Type 0
+-- what is reported of a version of a feed and of another feed was written, they hold the same or not; no file has changed
+abbrev pub IsCompared : Version → Text → Shelf → Shelf → Option (List ℕ) → Option (List ℕ) → Bool → Type 0
 IsCompared one other first last before after same = Stays first last × IsReported one other first before after same
 
 -- they hold the same
-abbrev pub AreOne : (one other : Text) → Shelf → Shelf → Option (List ℕ) → Option (List ℕ) → Type 0
+abbrev pub AreOne : Version → Text → Shelf → Shelf → Option (List ℕ) → Option (List ℕ) → Type 0
 AreOne one other first last before after = IsCompared one other first last before after true
 
 -- they do not; or it was not written, and standard error has the lines on the fault
-abbrev pub AreNotOne : (one other : Bor Text) → Shelf → Shelf → Option (List ℕ) → Option (List ℕ)
+abbrev pub AreNotOne : Version → Bor Text → Shelf → Shelf → Option (List ℕ) → Option (List ℕ)
     → Bool → Option (List ℕ) → Option (List ℕ) → Type 0
 AreNotOne one other first last before after whole quiet said =
-    (IsCompared one.now other.now first last before after false × IsSilent whole quiet said)
-    ⊎ (Stays first last × (fault : DifferenceFault) × IsUnreported one.now other.now first last before after fault
-    × Reports (difference_cause one other fault) whole quiet said)
+    (IsCompared one other.now first last before after false × IsSilent whole quiet said)
+    ⊎ (Stays first last × (fault : DifferenceFault) × IsUnreported one other.now first last before after fault
+    × Reports (difference_cause one.feed other fault) whole quiet said)

@@ -19,6 +19,7 @@ abbrev pub origin_words : Origin → List ℕ
 origin_words origins.Input = codes "copydesk: line "
 origin_words origins.Old = codes "copydesk: OLD, line "
 origin_words origins.New = codes "copydesk: NEW, line "
+origin_words origins.Sought = codes "copydesk: TEXT, line "
 
 -- what is wrong at a place of a text
 abbrev pub flaw_words : texts.Cause → List ℕ

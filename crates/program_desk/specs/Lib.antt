@@ -9,3 +9,4 @@ pub mod Compared
 pub mod Told
 pub mod Headlines
 pub mod Explained
+pub mod History

@@ -4,7 +4,6 @@ use Rattle.std.specs.Borrow.{Bor}
 use Rattle.std.specs.Option.{option_copied}
 use Rattle.feed_files.specs.Files.{Shelf, Stays}
 use Rattle.feed_files.specs.Outputs.{destination}
-use Rattle.view_punch.specs.Sources.{sources}
 use Rattle.view_punch.specs.Proofing.{IsProofed, IsUnproofed}
 use Rattle.view_punch.specs.Punching.{IsPunched, IsUnpunched}
 use Rattle.view_punch.specs.declared.fault.PreviewFault.{PreviewFault}
@@ -16,7 +15,7 @@ use Rattle.view_punch.specs.declared.trial.TrialFault.{TrialFault}
 use Rattle.view_punch.specs.declared.trial.TrialFault.TheVariants as trials
 use Rattle.view_proof.specs.declared.proof.Extent.{Extent}
 use Rattle.view_proof.specs.declared.proof.Extent.TheVariants as extents
-use Rattle.program_words.specs.declared.wishes.Sources.{Sources}
+use Rattle.view_punch.specs.declared.sources.Sources.{Sources}
 use Rattle.program_desk.specs.Causes.{preview_cause, trial_cause}
 use Rattle.program_desk.specs.Explained.{IsSilent, Reports, ReportsMore, StaysSo, TellsOf}
 use Rattle.program_desk.specs.declared.causes.Cause.TheVariants as causes
@@ -31,22 +30,20 @@ extent_of false = extents.Whole
 abbrev pub IsShown : Sources → Bool → Settings → Shelf → Shelf → Option (List ℕ) → Option (List ℕ) → Bool → Type 0
 IsShown from alone trial first last before after clean =
     Stays first last
-    × IsProofed (sources from.feed.now from.case.now from.wedge.now) trial
-    (extent_of alone) first before after clean
+    × IsProofed from trial (extent_of alone) first before after clean
 
 -- it was not written, for this fault
 abbrev pub IsUnshown : Sources → Bool → Settings → Shelf → Shelf → Option (List ℕ) → Option (List ℕ) → PreviewFault
     → Type 0
 IsUnshown from alone trial first last before after fault =
     Stays first last
-    × IsUnproofed (sources from.feed.now from.case.now from.wedge.now) trial
-    (extent_of alone) first last before after fault
+    × IsUnproofed from trial (extent_of alone) first last before after fault
 
 -- the picture that is asked for stands under its name, if one is; it took the place of another file only by force
 abbrev pub IsPictureThere : Sources → Settings → Option (List ℕ) → Bool → Shelf → Shelf → Type 0
 IsPictureThere from trial None force first last = last ≡ first
 IsPictureThere from trial (Some target) force first last =
-    IsPictured (sources from.feed.now from.case.now from.wedge.now) trial (destination target force) first last
+    IsPictured from trial (destination target force) first last
 
 -- one is asked for, and it does not; what was written on standard error goes on by the lines on the fault
 abbrev pub IsPictureAbsent : Sources → Settings → Option (Bor (List ℕ)) → Bool → Shelf → Shelf → Bool → Bool
@@ -54,8 +51,7 @@ abbrev pub IsPictureAbsent : Sources → Settings → Option (Bor (List ℕ)) �
 IsPictureAbsent from trial None force first last begun whole quiet said = ⊥
 IsPictureAbsent from trial (Some target) force first last begun whole quiet said =
     (fault : PreviewFault)
-    × IsUnpictured (sources from.feed.now from.case.now from.wedge.now) trial
-    (destination target.now force) first last fault
+    × IsUnpictured from trial (destination target.now force) first last fault
     × ReportsMore (preview_cause from target fault) begun whole quiet said
 
 -- the proof by these settings was written, no fault stands, and then the picture was stored, if one is asked for
@@ -95,7 +91,7 @@ IsSeen from alone picture force sets first last before after =
 
 -- the name is that of what a ribbon and a picture are made of
 abbrev pub IsSource : Sources → List ℕ → Type 0
-IsSource from target = (target ≡ from.feed.now) ⊎ (target ≡ from.case.now) ⊎ (target ≡ from.wedge.now)
+IsSource from target = (target ≡ from.version.feed.now) ⊎ (target ≡ from.case.now) ⊎ (target ≡ from.wedge.now)
 
 -- a picture is asked for, and its name is that of what it is made of; standard error says so
 abbrev pub TakesSource : Sources → Option (Bor (List ℕ)) → Bool → Option (List ℕ) → Option (List ℕ) → Type 0
@@ -124,7 +120,7 @@ IsUnseen from alone picture force sets first last before after whole quiet said 
 abbrev pub IsInFile : Sources → List ℕ → Bool → Bool → Shelf → Shelf → Option (List ℕ) → Option (List ℕ) → Type 0
 IsInFile from target force faulty first last before after =
     (after ≡ before)
-    × IsPunched (sources from.feed.now from.case.now from.wedge.now) (destination target force) faulty first last
+    × IsPunched from (destination target force) faulty first last
 
 -- why there is no ribbon, what was left, and what standard error has: it would take the place of what it is made of,
 -- and nothing was begun; or it was not made, or not stored
@@ -134,6 +130,5 @@ IsInNoFile from target force faulty first last before after whole quiet said =
     (IsSource from target.now × (last ≡ first) × (after ≡ before)
     × TellsOf true (causes.Source target outputs.Ribbon) whole quiet said)
     ⊎ ((fault : PreviewFault)
-    × IsUnpunched (sources from.feed.now from.case.now from.wedge.now)
-    (destination target.now force) faulty first last before after fault
+    × IsUnpunched from (destination target.now force) faulty first last before after fault
     × Reports (preview_cause from target fault) whole quiet said)

@@ -9,9 +9,9 @@ use Rattle.view_ribbon.specs.Reading.{IsRead, IsUnread}
 use Rattle.view_ribbon.specs.Sources.{Sources, sources}
 use Rattle.view_ribbon.specs.declared.fault.ReadingFault.{ReadingFault}
 use Rattle.view_ribbon.specs.declared.fault.ReadingFault.TheVariants as faults
-use Rattle.view_punch.specs.SortsSources as of_sorts
 use Rattle.view_punch.specs.Reporting.{AreListed, AreUnlisted}
-use Rattle.view_punch.specs.declared.sorts_fault.SortsFault.{SortsFault}
+use Rattle.feed_edit.specs.declared.exporting.Version.{Version}
+use Rattle.view_punch.specs.declared.fault.PreviewFault.{PreviewFault}
 use Rattle.program_desk.specs.Causes.{reading_cause, sorts_cause}
 use Rattle.program_desk.specs.Explained.{IsSilent, Reports, ReportsMore, StaysSo, TellsOf}
 use Rattle.program_desk.specs.declared.causes.Cause.TheVariants as causes
@@ -94,15 +94,15 @@ IsNotReadWhole from picture force first last before after whole quiet said =
 -- ---- sorts
 
 -- the list was written, and the case has every sort or not; no file has changed
-abbrev pub IsListed : of_sorts.Sources → Bool → Shelf → Shelf → Option (List ℕ) → Option (List ℕ) → Bool → Type 0
-IsListed from layout first last before after complete =
-    Stays first last × AreListed from layout first before after complete
+abbrev pub IsListed : Version → List ℕ → Bool → Shelf → Shelf → Option (List ℕ) → Option (List ℕ) → Bool → Type 0
+IsListed version case layout first last before after complete =
+    Stays first last × AreListed version case layout first before after complete
 
 -- it was written, and a sort is missing; or it was not written, and standard error has the lines on the fault
-abbrev pub IsNotListed : (feed case : Bor (List ℕ)) → Bool → Shelf → Shelf → Option (List ℕ) → Option (List ℕ)
+abbrev pub IsNotListed : Version → Bor (List ℕ) → Bool → Shelf → Shelf → Option (List ℕ) → Option (List ℕ)
     → Bool → Option (List ℕ) → Option (List ℕ) → Type 0
-IsNotListed feed case layout first last before after whole quiet said =
-    (IsListed (of_sorts.sources feed.now case.now) layout first last before after false × IsSilent whole quiet said)
-    ⊎ (Stays first last × (fault : SortsFault)
-    × AreUnlisted (of_sorts.sources feed.now case.now) layout first last before after fault
-    × Reports (sorts_cause feed case fault) whole quiet said)
+IsNotListed version case layout first last before after whole quiet said =
+    (IsListed version case.now layout first last before after false × IsSilent whole quiet said)
+    ⊎ (Stays first last × (fault : PreviewFault)
+    × AreUnlisted version case.now layout first last before after fault
+    × Reports (sorts_cause version.feed case fault) whole quiet said)

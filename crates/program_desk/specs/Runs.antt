@@ -1,6 +1,7 @@
 -- What the program has done, by its status and by the files before and after.
-use Rattle.std.specs.Prelude.{ℕ, Bool, true, List, Option}
+use Rattle.std.specs.Prelude.{ℕ, Bool, true, false, List, Option, None, Some}
 use Rattle.std.specs.Option.{option_copied}
+use Rattle.std.specs.Borrow.{Bor}
 use Rattle.clap.specs.Words.{Text}
 use Rattle.feed_files.specs.Files.{Shelf, Stays}
 use Rattle.feed_edit.specs.Exporting.{IsExported}
@@ -15,11 +16,36 @@ use Rattle.program_desk.specs.Sheets.{IsOffDesk, IsOnDesk, IsScripted, IsUnscrip
 use Rattle.program_desk.specs.Previews.{IsInFile, IsInNoFile, IsSeen, IsUnseen}
 use Rattle.program_desk.specs.Readings.{IsListed, IsNotListed, IsNotReadWhole, IsReadWhole, reading_sources}
 use Rattle.view_ribbon.specs.Sources.{sources}
-use Rattle.view_punch.specs.SortsSources as sorts
+use Rattle.view_punch.specs.declared.sources.Sources.{Sources}
+use Rattle.feed_edit.specs.declared.exporting.Version.{Version}
+use Rattle.feed_edit.specs.declared.texts.Where.{Where}
+use Rattle.feed_edit.specs.declared.texts.Where.TheVariants as wheres
+use Rattle.feed_history.specs.Rooms.{IsRoomsOf}
+use Rattle.program_desk.specs.History.{AreNoRooms, IsFoundThere, IsLoggedThere, IsNotFound, IsNotLogged, sieve, wanted}
+use Rattle.program_words.specs.declared.wishes.Sources as words
 use Rattle.feed_edit.specs.Replacing.{IsReplaced}
 use Rattle.program_desk.specs.Texts.{AreFound, AreNotInOrder, IsUnchanged, exchange}
 use Rattle.program_words.specs.declared.wishes.Wish.{Wish}
 use Rattle.program_words.specs.declared.wishes.Wish.TheVariants as wishes
+
+-- the feed that is compared with a version of one: the other, or the same
+abbrev pub other_of : Bor Text → Option (Bor Text) → Bor Text
+other_of one None = one
+other_of one (Some other) = other
+
+-- where a text is replaced: at a place, at all, or at the only one
+abbrev pub where_of : Option ℕ → Bool → Where
+where_of (Some place) all = wheres.At place
+where_of None true = wheres.All
+where_of None false = wheres.Once
+
+-- a version of a feed
+abbrev pub version_of : Bor Text → Option ℕ → Version
+version_of feed until = record { feed = feed; until = until }
+
+-- a version of a feed, and the files of a case and a wedge
+abbrev pub sources_at : words.Sources → Option ℕ → Sources
+sources_at from until = record { version = version_of from.feed until; case = from.case; wedge = from.wedge }
 
 -- what is asked for was done; a script, an export, a check, a proof and a reading without a picture, and a list of
 -- sorts change no file
@@ -29,25 +55,32 @@ Does (wishes.Desk feed site older why manner) first last input before after =
     IsOnDesk manner feed.now site older first last input before after
 Does (wishes.Merge feed others forks review) first last input before after =
     IsMergedAs feed.now (texts_of others.items) forks review first last before after
-Does (wishes.Diff one other) first last input before after = AreOne one.now other.now first last before after
-Does (wishes.Export feed) first last input before after = Stays first last × IsExported feed.now first before after
+Does (wishes.Diff one until other) first last input before after =
+    AreOne (version_of one until) (other_of one other).now first last before after
+Does (wishes.Export feed until) first last input before after =
+    Stays first last × IsExported (version_of feed until) first before after
 Does (wishes.Import feed site older plain all) first last input before after =
     IsImported feed.now site older plain all first last input before after
-Does (wishes.Replace feed site older old new plain) first last input before after =
-    IsReplaced feed.now site older (exchange old new plain) first last before after
+Does (wishes.Replace feed site older old new plain at all) first last input before after =
+    IsReplaced feed.now site older (exchange old new plain (where_of at all)) first last before after
 Does (wishes.Check files) first last input before after = AreFound (texts_of files.items) first last before after
-Does (wishes.Proof from faults picture force sets) first last input before after =
-    IsSeen from faults (option_copied picture) force sets.items first last before after
+Does (wishes.Proof from until faults picture force sets) first last input before after =
+    IsSeen (sources_at from until) faults (option_copied picture) force sets.items first last before after
 Does (wishes.Punch from target force faulty) first last input before after =
-    IsInFile from target.now force faulty first last before after
+    IsInFile (sources_at from None) target.now force faulty first last before after
 Does (wishes.Read ribbon case wedge picture force) first last input before after =
     IsReadWhole (sources ribbon.now case.now wedge.now) (option_copied picture) force first last before after
-Does (wishes.Sorts feed case layout) first last input before after =
-    IsListed (sorts.sources feed.now case.now) layout first last before after true
+Does (wishes.Sorts feed until case layout) first last input before after =
+    IsListed (version_of feed until) case.now layout first last before after true
 Does (wishes.Renumber feed other site) first last input before after =
     IsRenumbered feed.now other.now site first last before after
 Does (wishes.Renew new feed site) first last input before after =
     IsRenewed new.now feed.now site first last before after
+Does (wishes.Rooms feed) first last input before after = Stays first last × IsRoomsOf feed.now first before after
+Does (wishes.Log feed site since text) first last input before after =
+    IsLoggedThere feed.now (sieve site since text) first last before after
+Does (wishes.Find feed text plain metal) first last input before after =
+    IsFoundThere feed (wanted text plain metal) first last before after true
 
 -- It stopped or was not begun, or a fault or a difference was found, and this is what it left. Standard error has the
 -- lines on the fault, or a prefix of them where it failed.
@@ -59,28 +92,34 @@ Stops (wishes.Desk feed site older why manner) first last input before after who
     IsOffDesk manner feed site older why first last input before after whole quiet said
 Stops (wishes.Merge feed others forks review) first last input before after whole quiet said =
     IsNotMerged feed others.items forks review first last before after whole quiet said
-Stops (wishes.Diff one other) first last input before after whole quiet said =
-    AreNotOne one other first last before after whole quiet said
-Stops (wishes.Export feed) first last input before after whole quiet said =
-    IsNotExported feed first last before after whole quiet said
+Stops (wishes.Diff one until other) first last input before after whole quiet said =
+    AreNotOne (version_of one until) (other_of one other) first last before after whole quiet said
+Stops (wishes.Export feed until) first last input before after whole quiet said =
+    IsNotExported (version_of feed until) first last before after whole quiet said
 Stops (wishes.Import feed site older plain all) first last input before after whole quiet said =
     IsNotImported feed site older plain all first last input before after whole quiet said
-Stops (wishes.Replace feed site older old new plain) first last input before after whole quiet said =
-    IsUnchanged feed site older (exchange old new plain) first last before after whole quiet said
+Stops (wishes.Replace feed site older old new plain at all) first last input before after whole quiet said =
+    IsUnchanged feed site older (exchange old new plain (where_of at all)) first last before after whole quiet said
 Stops (wishes.Check files) first last input before after whole quiet said =
     AreNotInOrder (texts_of files.items) first last before after whole quiet said
-Stops (wishes.Proof from faults picture force sets) first last input before after whole quiet said =
-    IsUnseen from faults picture force sets.items first last before after whole quiet said
+Stops (wishes.Proof from until faults picture force sets) first last input before after whole quiet said =
+    IsUnseen (sources_at from until) faults picture force sets.items first last before after whole quiet said
 Stops (wishes.Punch from target force faulty) first last input before after whole quiet said =
-    IsInNoFile from target force faulty first last before after whole quiet said
+    IsInNoFile (sources_at from None) target force faulty first last before after whole quiet said
 Stops (wishes.Read ribbon case wedge picture force) first last input before after whole quiet said =
     IsNotReadWhole (reading_sources ribbon case wedge) picture force first last before after whole quiet said
-Stops (wishes.Sorts feed case layout) first last input before after whole quiet said =
-    IsNotListed feed case layout first last before after whole quiet said
+Stops (wishes.Sorts feed until case layout) first last input before after whole quiet said =
+    IsNotListed (version_of feed until) case layout first last before after whole quiet said
 Stops (wishes.Renumber feed other site) first last input before after whole quiet said =
     IsNotNumbered feed other site first last before after whole quiet said
 Stops (wishes.Renew new feed site) first last input before after whole quiet said =
     IsNotMadeAnew new feed first last before after whole quiet said
+Stops (wishes.Rooms feed) first last input before after whole quiet said =
+    AreNoRooms feed first last before after whole quiet said
+Stops (wishes.Log feed site since text) first last input before after whole quiet said =
+    IsNotLogged feed (sieve site since text) first last before after whole quiet said
+Stops (wishes.Find feed text plain metal) first last input before after whole quiet said =
+    IsNotFound feed (wanted text plain metal) first last before after whole quiet said
 
 -- what the words ask for was done
 abbrev pub IsRun : Shelf → Shelf → List Text → Option (List ℕ) → Option (List ℕ) → Option (List ℕ) → Type 0

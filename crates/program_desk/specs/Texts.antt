@@ -8,12 +8,13 @@ use Rattle.feed_check.specs.declared.fault.CheckFault.{CheckFault}
 use Rattle.feed_edit.specs.Replacing.{IsUnreplaced}
 use Rattle.feed_edit.specs.declared.replace_fault.ReplaceFault.{ReplaceFault}
 use Rattle.feed_edit.specs.declared.texts.Exchange.{Exchange}
+use Rattle.feed_edit.specs.declared.texts.Where.{Where}
 use Rattle.program_desk.specs.Causes.{check_cause, replace_cause}
 use Rattle.program_desk.specs.Explained.{IsSilent, Reports}
 
--- a text, and the one that takes its place
-abbrev pub exchange : Bor Text → Bor Text → Bool → Exchange
-exchange old new plain = record { from = old; to = new; plain = plain }
+-- a text, the one that takes its place, and where
+abbrev pub exchange : Bor Text → Bor Text → Bool → Where → Exchange
+exchange old new plain at = record { from = old; to = new; plain = plain; at = at }
 
 -- why the one text was not made the other, what was left, and what standard error has
 abbrev pub IsUnchanged : Bor Text → ℕ → Bool → Exchange → Shelf → Shelf → Option (List ℕ) → Option (List ℕ)

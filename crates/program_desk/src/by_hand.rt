@@ -19,8 +19,8 @@ use crate::causes::{export_cause, import_cause, merge_cause, renew_cause, renumb
 use crate::reporting::{reported, stopped};
 use crate::told::{Ending, Told, ended, tell_more};
 use feed_edit::{
-    ExportFault, ImportFault, MergeFault, SiteStamps, export_feed, forks_line, import_text,
-    merge_feeds,
+    ExportFault, ImportFault, MergeFault, SiteStamps, Version, export_feed, forks_line,
+    import_text, merge_feeds,
 };
 use feed_files::Files;
 use feed_sites::{RenewFault, RenumberFault, renew_feed, renumber_feed};
@@ -134,8 +134,8 @@ pub fn merged<W: Write, E: Write, F: Files + Explains>(
     merge_ending(alloc, faults, files, feed, others, review, outcome)
 }
 
-/// How an export ended.
-fn export_ending<E: Write, F: Explains>(
+/// How an export, or another report of a feed alone, ended.
+pub fn export_ending<E: Write, F: Explains>(
     alloc: Global,
     faults: &mut E,
     files: &F,
@@ -152,23 +152,23 @@ fn export_ending<E: Write, F: Explains>(
     }
 }
 
-/// Writes the copy of a stored feed as text, and says how that ended.
+/// Writes the copy of a version of a stored feed as text, and says how that ended.
 pub fn exported<W: Write, E: Write, F: Files + Explains>(
     alloc: Global,
-    feed: &str,
+    version: Version<'_>,
     writer: &mut W,
     faults: &mut E,
     files: &mut F,
 ) -> Ending
     ensures within { result.status ≤ 1 }
     ensures done { result.status ≡ 0 → Stays (F.shelf files.old) (F.shelf files.new)
-        × IsExported feed.now (F.shelf files.old) (W.contents writer.old) (W.contents writer.new) }
+        × IsExported version.entry (F.shelf files.old) (W.contents writer.old) (W.contents writer.new) }
     ensures stopped { result.status ≡ 1
-        → IsNotExported feed.entry (F.shelf files.old) (F.shelf files.new) (W.contents writer.old)
+        → IsNotExported version.entry (F.shelf files.old) (F.shelf files.new) (W.contents writer.old)
         (W.contents writer.new) result.told.is_whole (E.contents faults.old) (E.contents faults.new) }
 {
-    let outcome = export_feed(alloc, writer, files, feed);
-    export_ending(alloc, faults, files, feed, outcome)
+    let outcome = export_feed(alloc, writer, files, version);
+    export_ending(alloc, faults, files, version.feed, outcome)
 }
 
 /// How an import ended.

@@ -15,17 +15,16 @@ use feed_check::CheckFault;
 use feed_compare::DifferenceFault;
 use feed_edit::{
     ExchangeFault, ExportFault, FeedTrouble, ImportFault, InputFault, KeepFault, MAX_TEXT,
-    MergeFault, PlaceFault, ReplaceFault, RevisionFault, TakeFault,
+    MergeFault, PlaceFault, ReplaceFault, RevisionFault, TakeFault, Version,
 };
 use feed_files::{FileRefusal, Kind};
 use feed_sites::{NumberFault, RenewFault, RenumberFault};
 use feed_stored::LastFault;
-use program_words::Sources;
 use script_answers::Refusal;
 use std::alloc::Allocator;
 use text_copy::TextFault;
 use view_proof::OtherNumber;
-use view_punch::{PreviewFault, SortsFault, TrialFault};
+use view_punch::{PreviewFault, Sources, TrialFault};
 use view_ribbon::ReadingFault;
 
 /// The names of a stored ribbon, of a case file and of a wedge file.
@@ -45,6 +44,8 @@ pub enum Origin {
     Old,
     /// The text that is to take its place.
     New,
+    /// The text that is looked for.
+    Sought,
 }
 
 /// What stopped something, where the first line says all.
@@ -219,7 +220,7 @@ fn take_cause<'a>(feed: &'a str, why: TakeFault) -> Cause<'a>
 }
 
 /// The cause where a text is no copy.
-fn text_cause<'a>(feed: &'a str, origin: Origin, why: TextFault) -> Cause<'a>
+pub fn text_cause<'a>(feed: &'a str, origin: Origin, why: TextFault) -> Cause<'a>
     ensures { result ≡ text_cause feed.entry origin why }
 {
     match why {
@@ -404,15 +405,16 @@ pub fn preview_cause<'a>(from: &Sources<'a>, target: &'a str, fault: PreviewFaul
     ensures { result ≡ preview_cause from.now target.entry fault }
 {
     match fault {
-        PreviewFault::Feed(why) => feed_cause(from.feed, why),
+        PreviewFault::Feed(why) => feed_cause(from.version.feed, why),
+        PreviewFault::Text(why) => text_cause(from.version.feed, Origin::Sought, why),
         PreviewFault::Input(why) => Cause::CaseOrWedge(from.case, from.wedge, why),
         PreviewFault::CopyFaults => Cause::Said(Said::CopyFaults),
         PreviewFault::Faulty(None) => Cause::Said(Said::NoRibbon),
         PreviewFault::Faulty(Some(other)) => number_cause(from, other),
         PreviewFault::Write => Cause::ReportOutput,
         PreviewFault::Taken(kind) => Cause::Taken(target, kind),
-        PreviewFault::Unstored(why) => unstored_cause(from.feed, target, why),
-        PreviewFault::NoMemory => Cause::NoMemory(from.feed),
+        PreviewFault::Unstored(why) => unstored_cause(from.version.feed, target, why),
+        PreviewFault::NoMemory => Cause::NoMemory(from.version.feed),
     }
 }
 
@@ -435,14 +437,18 @@ pub fn reading_cause<'a>(
 }
 
 /// The cause where sorts are not listed.
-pub fn sorts_cause<'a>(feed: &'a str, case: &'a str, fault: SortsFault) -> Cause<'a>
+pub fn sorts_cause<'a>(feed: &'a str, case: &'a str, fault: PreviewFault) -> Cause<'a>
     ensures { result ≡ sorts_cause feed.entry case.entry fault }
 {
+    let version = Version { feed, until: None };
+    let from = Sources {
+        version,
+        case,
+        wedge: case,
+    };
     match fault {
-        SortsFault::Feed(why) => feed_cause(feed, why),
-        SortsFault::Input(why) => Cause::Case(case, why),
-        SortsFault::Write => Cause::ReportOutput,
-        SortsFault::NoMemory => Cause::NoMemory(feed),
+        PreviewFault::Input(why) => Cause::Case(case, why),
+        other => preview_cause(&from, case, other),
     }
 }
 

@@ -9,6 +9,7 @@ use crate::causes::difference_cause;
 use crate::reporting::reported;
 use crate::told::{Ending, ended};
 use feed_compare::{DifferenceFault, report_difference};
+use feed_edit::Version;
 use feed_files::Files;
 use program_host::Explains;
 use std::alloc::Global;
@@ -39,10 +40,10 @@ fn difference_ending<E: Write, F: Explains>(
     }
 }
 
-/// Says in what two stored feeds differ, and how that ended: with status 0 only where they hold the same.
+/// Says in what a version of a stored feed and another feed differ, and how that ended: with status 0 only where they hold the same.
 pub fn compared<W: Write, E: Write, F: Files + Explains>(
     alloc: Global,
-    one: &str,
+    one: Version<'_>,
     other: &str,
     writer: &mut W,
     faults: &mut E,
@@ -50,12 +51,12 @@ pub fn compared<W: Write, E: Write, F: Files + Explains>(
 ) -> Ending
     ensures within { result.status ≤ 1 }
     ensures done { result.status ≡ 0
-        → AreOne one.now other.now (F.shelf files.old) (F.shelf files.new) (W.contents writer.old)
+        → AreOne one.entry other.now (F.shelf files.old) (F.shelf files.new) (W.contents writer.old)
         (W.contents writer.new) }
     ensures stopped { result.status ≡ 1
         → AreNotOne one.entry other.entry (F.shelf files.old) (F.shelf files.new) (W.contents writer.old)
         (W.contents writer.new) result.told.is_whole (E.contents faults.old) (E.contents faults.new) }
 {
     let outcome = report_difference(alloc, writer, files, one, other);
-    difference_ending(alloc, faults, files, one, other, outcome)
+    difference_ending(alloc, faults, files, one.feed, other, outcome)
 }

@@ -20,6 +20,7 @@ fn origin_words(origin: Origin) -> &'static str
         Origin::Input => "copydesk: line ",
         Origin::Old => "copydesk: OLD, line ",
         Origin::New => "copydesk: NEW, line ",
+        Origin::Sought => "copydesk: TEXT, line ",
     }
 }
 

@@ -11,6 +11,7 @@ mod causes;
 mod compared;
 mod explained;
 mod headlines;
+mod history;
 mod previews;
 mod readings;
 mod reporting;

@@ -14,13 +14,12 @@ use crate::told::{Ending, Told, ended, silent};
 use desk_replica::Settings;
 use feed_files::{Files, Target};
 use program_host::Explains;
-use program_words::Sources;
 use script_answers::Memory;
 use std::alloc::Global;
 use std::io::Write;
 use view_picture::picture_feed;
 use view_proof::Extent;
-use view_punch::{PreviewFault, proof_feed, punch_feed, trial_of};
+use view_punch::{PreviewFault, Sources, proof_feed, punch_feed, trial_of};
 
 /// The memory of all that a preview is made of.
 pub fn memory_of(alloc: Global) -> Memory<Global> {
@@ -41,7 +40,7 @@ fn extent_of(alone: bool) -> Extent
 fn is_source(from: &Sources<'_>, target: &str) -> bool
     ensures { result ≡ true ↔ IsSource from.now target.now }
 {
-    target == from.feed || target == from.case || target == from.wedge
+    target == from.version.feed || target == from.case || target == from.wedge
 }
 
 /// Writes the proof of a stored feed by its settings and those that are tried, and says whether it is clean, or why it
@@ -63,8 +62,7 @@ fn shown<W: Write, F: Files>(
         (W.contents writer.new)) }
 {
     let (memory, extent) = (memory_of(alloc), extent_of(alone));
-    let Sources { feed, case, wedge } = *from;
-    proof_feed(memory, writer, files, feed, case, wedge, trial, extent)
+    proof_feed(memory, writer, files, from, trial, extent)
 }
 
 /// Stores the picture of a stored feed's galley, where one is asked for, after what was written on standard error: with
@@ -93,9 +91,7 @@ fn pictured<E: Write, F: Files + Explains>(
     };
     let target = Target { name, force };
     let memory = memory_of(alloc);
-    match picture_feed(
-        memory, files, from.feed, from.case, from.wedge, trial, &target,
-    ) {
+    match picture_feed(memory, files, from, trial, &target) {
         Ok(()) => Ending { status: 0, told },
         Err(fault) => {
             let cause = preview_cause(from, name, fault);
@@ -232,15 +228,6 @@ pub fn punched<W: Write, E: Write, F: Files + Explains>(
         let cause = Cause::Source(target.name, Output::Ribbon);
         return stopped(alloc, faults, files, true, cause);
     }
-    let outcome = punch_feed(
-        memory_of(alloc),
-        writer,
-        files,
-        from.feed,
-        from.case,
-        from.wedge,
-        target,
-        faulty,
-    );
+    let outcome = punch_feed(memory_of(alloc), writer, files, from, target, faulty);
     punch_ending(alloc, faults, files, from, target.name, outcome)
 }

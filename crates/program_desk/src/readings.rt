@@ -6,17 +6,17 @@ ghost use Rattle.program_desk.specs.Causes.{sorts_cause};
 ghost use Rattle.program_desk.specs.Explained.{IsSilent, Reports, StaysSo};
 ghost use Rattle.program_desk.specs.Readings.{AreHolesAbsent, AreHolesThere, IsListed, IsNotListed, IsNotReadOut};
 ghost use Rattle.program_desk.specs.Readings.{IsNotReadWhole, IsReadOut, IsReadWhole, IsSource, names_of};
-ghost use Rattle.view_punch.specs.SortsSources as of_sorts;
 
 use crate::causes::{Cause, Output, ReadingSources, reading_cause, sorts_cause};
 use crate::previews::memory_of;
 use crate::reporting::{reported, reported_more, stopped};
 use crate::told::{Ending, Told, ended, silent};
+use feed_edit::Version;
 use feed_files::{Files, Target};
 use program_host::Explains;
 use std::alloc::Global;
 use std::io::Write;
-use view_punch::{SortsFault, report_sorts};
+use view_punch::{PreviewFault, report_sorts};
 use view_ribbon::{ReadingFault, draw_ribbon, read_job};
 
 /// Writes the reading of a ribbon, and says whether it is cast whole, or why it was not written.
@@ -140,7 +140,7 @@ fn sorts_ending<E: Write, F: Explains>(
     files: &F,
     feed: &str,
     case: &str,
-    outcome: Result<bool, SortsFault>,
+    outcome: Result<bool, PreviewFault>,
 ) -> Ending
     ensures { MatchResult outcome
         (λ complete. (complete ≡ true → result.status ≡ 0) × (complete ≡ false → result.status ≡ 1)
@@ -159,7 +159,7 @@ fn sorts_ending<E: Write, F: Explains>(
 /// is missing.
 pub fn listed<W: Write, E: Write, F: Files + Explains>(
     alloc: Global,
-    feed: &str,
+    version: Version<'_>,
     case: &str,
     layout: bool,
     writer: &mut W,
@@ -168,12 +168,12 @@ pub fn listed<W: Write, E: Write, F: Files + Explains>(
 ) -> Ending
     ensures within { result.status ≤ 1 }
     ensures done { result.status ≡ 0
-        → IsListed (of_sorts.sources feed.now case.now) layout (F.shelf files.old) (F.shelf files.new)
+        → IsListed version.entry case.now layout (F.shelf files.old) (F.shelf files.new)
         (W.contents writer.old) (W.contents writer.new) true }
     ensures stopped { result.status ≡ 1
-        → IsNotListed feed.entry case.entry layout (F.shelf files.old) (F.shelf files.new) (W.contents writer.old)
+        → IsNotListed version.entry case.entry layout (F.shelf files.old) (F.shelf files.new) (W.contents writer.old)
         (W.contents writer.new) result.told.is_whole (E.contents faults.old) (E.contents faults.new) }
 {
-    let outcome = report_sorts(memory_of(alloc), writer, files, feed, case, layout);
-    sorts_ending(alloc, faults, files, feed, case, outcome)
+    let outcome = report_sorts(memory_of(alloc), writer, files, version, case, layout);
+    sorts_ending(alloc, faults, files, version.feed, case, outcome)
 }

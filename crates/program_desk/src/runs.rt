@@ -3,13 +3,14 @@
 ghost use Rattle.std.specs.Prelude.{◌≡◌, ◌≢◌, ◌≤◌, ◌⊎◌, Bool, map, string_bytes};
 ghost use Rattle.clap.specs.Words.{kind_of};
 ghost use Rattle.program_desk.specs.Headlines.{said_line};
-ghost use Rattle.program_desk.specs.Runs.{Does, IsRun, IsStopped, Stops};
+ghost use Rattle.program_desk.specs.Runs.{Does, IsRun, IsStopped, Stops, other_of, sources_at, where_of};
 ghost use Rattle.program_desk.specs.Told.{Tells};
 ghost use Rattle.program_words.specs.Words.{AsksHelp, AsksNothing, IsLawful};
 
 use crate::by_hand::{exported, imported, merged, renewed, renumbered};
 use crate::causes::{ReadingSources, Said};
 use crate::compared::compared;
+use crate::history::{Sieve, logged, roomed, sought};
 use crate::previews::{proofed, punched};
 use crate::readings::{listed, read_whole};
 use crate::reporting::out_of_memory;
@@ -18,12 +19,48 @@ use crate::texts::{checked, replaced};
 use crate::told::{Ending, ended};
 use clap::Error;
 use clap::error::ErrorKind;
-use feed_edit::Exchange;
+use feed_edit::{Exchange, Version, Where};
 use feed_files::{Files, Target};
 use program_host::{Explains, Plain};
 use program_words::{Wish, read_words};
 use std::alloc::Global;
 use std::io::{Read, Write};
+use view_punch::{Sources, Wanted};
+
+/// The feed that is compared with a version of one: the other, or the same.
+fn other_of<'a>(one: &'a str, other: Option<&'a str>) -> &'a str
+    ensures { result ≡ other_of one.entry other.entry }
+{
+    match other {
+        Some(other) => other,
+        None => one,
+    }
+}
+
+/// Where a text is replaced: at a place, at all, or at the only one.
+fn where_of(at: Option<u64>, all: bool) -> Where
+    ensures { result ≡ where_of at all }
+{
+    match at {
+        Some(place) => Where::At(place as usize),
+        None if all => Where::All,
+        None => Where::Once,
+    }
+}
+
+/// A version of a feed, and the files of a case and a wedge.
+fn sources_at<'a>(from: &program_words::Sources<'a>, until: Option<u64>) -> Sources<'a>
+    ensures { result ≡ sources_at from.now until }
+{
+    Sources {
+        version: Version {
+            feed: from.feed,
+            until,
+        },
+        case: from.case,
+        wedge: from.wedge,
+    }
+}
 
 /// Does what is asked for, and says how it ended, and whether the lines on a stop were written whole.
 fn fulfilled<R: Read, W: Write, E: Write, F: Files + Explains>(
@@ -60,8 +97,20 @@ fn fulfilled<R: Read, W: Write, E: Write, F: Files + Explains>(
             forks,
             review,
         } => merged(alloc, feed, others, *forks, *review, writer, faults, files),
-        Wish::Diff { one, other } => compared(alloc, one, other, writer, faults, files),
-        Wish::Export { feed } => exported(alloc, feed, writer, faults, files),
+        Wish::Diff { one, until, other } => {
+            let version = Version {
+                feed: one,
+                until: *until,
+            };
+            compared(alloc, version, other_of(one, *other), writer, faults, files)
+        }
+        Wish::Export { feed, until } => {
+            let version = Version {
+                feed,
+                until: *until,
+            };
+            exported(alloc, version, writer, faults, files)
+        }
         Wish::Import {
             feed,
             site,
@@ -78,24 +127,31 @@ fn fulfilled<R: Read, W: Write, E: Write, F: Files + Explains>(
             old,
             new,
             plain,
+            at,
+            all,
         } => {
             let exchange = Exchange {
                 from: old,
                 to: new,
                 plain: *plain,
+                at: where_of(*at, *all),
             };
             replaced(alloc, feed, *site, *older, &exchange, writer, faults, files)
         }
         Wish::Check { files: names } => checked(alloc, names, writer, faults, files),
         Wish::Proof {
             from,
+            until,
             faults: alone,
             picture,
             force,
             sets,
-        } => proofed(
-            alloc, from, *alone, *picture, *force, sets, writer, faults, files,
-        ),
+        } => {
+            let from = sources_at(from, *until);
+            proofed(
+                alloc, &from, *alone, *picture, *force, sets, writer, faults, files,
+            )
+        }
         Wish::Punch {
             from,
             target,
@@ -106,7 +162,8 @@ fn fulfilled<R: Read, W: Write, E: Write, F: Files + Explains>(
                 name: target,
                 force: *force,
             };
-            punched(alloc, from, &to, *faulty, writer, faults, files)
+            let from = sources_at(from, None);
+            punched(alloc, &from, &to, *faulty, writer, faults, files)
         }
         Wish::Read {
             ribbon,
@@ -122,14 +179,50 @@ fn fulfilled<R: Read, W: Write, E: Write, F: Files + Explains>(
             };
             read_whole(alloc, &from, *picture, *force, writer, faults, files)
         }
-        Wish::Sorts { feed, case, layout } => {
-            listed(alloc, feed, case, *layout, writer, faults, files)
+        Wish::Sorts {
+            feed,
+            until,
+            case,
+            layout,
+        } => {
+            let version = Version {
+                feed,
+                until: *until,
+            };
+            listed(alloc, version, case, *layout, writer, faults, files)
         }
         Wish::Renumber { feed, other, site } => {
             renumbered(alloc, feed, other, *site, writer, faults, files)
         }
         Wish::Renew { new, feed, site } => {
             renewed(alloc, new, feed, *site, writer, faults, files)
+        }
+        Wish::Rooms { feed } => roomed(alloc, feed, writer, faults, files),
+        Wish::Log {
+            feed,
+            site,
+            since,
+            text,
+        } => {
+            let sieve = Sieve {
+                site: *site,
+                since: *since,
+                text: *text,
+            };
+            logged(alloc, feed, &sieve, writer, faults, files)
+        }
+        Wish::Find {
+            feed,
+            text,
+            plain,
+            metal,
+        } => {
+            let asked = Wanted {
+                text,
+                plain: *plain,
+                metal: *metal,
+            };
+            sought(alloc, feed, &asked, writer, faults, files)
         }
     }
 }
@@ -173,6 +266,14 @@ fn refused<W: Write, E: Write>(
     ended(2)
 }
 
+/// Says that words do not go together, and gives the status of it.
+fn idle<E: Write>(faults: &mut E) -> u8
+    ensures { result ≡ 2 }
+{
+    let _ = writeln!(faults, "error: these words do not go together; see --help");
+    2
+}
+
 /// Does what the words ask for, and gives the status: 0 only where it was done and no fault or difference found, or
 /// help or the version was asked for; 1 where it stopped, or a fault or a difference was found; and 2 where the words
 /// were refused. A failure to write the help or a fault's line changes no status.
@@ -199,7 +300,7 @@ pub fn program<R: Read, W: Write, E: Write, F: Files + Explains>(
 {
     match read_words(alloc, words) {
         Ok(Some(wish)) => fulfilled(alloc, &wish, reader, writer, faults, files).status,
-        Ok(None) => 2,
+        Ok(None) => idle(faults),
         Err(error) => refused(alloc, writer, faults, &error).status,
     }
 }

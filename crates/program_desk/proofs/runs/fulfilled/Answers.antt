@@ -4,9 +4,13 @@ use Rattle.std.specs.Option.{option_copied}
 use Rattle.clap.specs.Words.{Text}
 use Rattle.program_words.specs.Words.{texts_of}
 use Rattle.program_desk.specs.ByHand.{IsMergedAs, IsNotMerged}
-use Rattle.program_desk.specs.Previews.{IsSeen, IsUnseen}
-use Rattle.program_desk.specs.Runs.{Does, Stops}
-use Rattle.program_desk.specs.Texts.{AreFound, AreNotInOrder}
+use Rattle.view_punch.specs.declared.sources.Sources.{Sources}
+use Rattle.program_desk.specs.Compared.{AreNotOne, AreOne}
+use Rattle.program_desk.specs.Previews.{IsInFile, IsInNoFile, IsSeen, IsUnseen}
+use Rattle.program_desk.specs.Runs.{Does, Stops, version_of}
+use Rattle.feed_edit.specs.declared.texts.Where.{Where}
+use Rattle.feed_edit.specs.Replacing.{IsReplaced}
+use Rattle.program_desk.specs.Texts.{AreFound, AreNotInOrder, IsUnchanged, exchange}
 use Rattle.program_desk.proofs.runs.fulfilled.Goals as goal
 
 pub returns-in-Script-clause-done : goal.returns-in-Script-clause-done
@@ -64,34 +68,36 @@ returns-in-Export-clause-stopped g c one =
 pub returns-in-Proof-clause-done : goal.returns-in-Proof-clause-done
 returns-in-Proof-clause-done g c zero =
     subst (λ w. Does w (g.F.Files.shelf c.args.files.now) (g.F.Files.shelf c.proofed.new.files) (g.R.Read.remaining c.args.reader.now) (g.W.Write.contents c.args.writer.now) (g.W.Write.contents c.proofed.new.writer)) (sym c.in-Proof.is)
-    (subst (λ (l : List (Bor Text)). IsSeen c.in-Proof.from c.in-Proof.alone (option_copied c.in-Proof.picture) c.in-Proof.force l (g.F.Files.shelf c.args.files.now) (g.F.Files.shelf c.proofed.new.files) (g.W.Write.contents c.args.writer.now) (g.W.Write.contents c.proofed.new.writer)) c.deref-in-Proof.ensures.value
-    (c.proofed.ensures.done zero))
+    (subst (λ (s : Sources). IsSeen s c.in-Proof.alone (option_copied c.in-Proof.picture) c.in-Proof.force c.in-Proof.sets.items (g.F.Files.shelf c.args.files.now) (g.F.Files.shelf c.proofed.new.files) (g.W.Write.contents c.args.writer.now) (g.W.Write.contents c.proofed.new.writer)) c.sources_at-from.ensures
+    (subst (λ (l : List (Bor Text)). IsSeen c.sources_at-from.result c.in-Proof.alone (option_copied c.in-Proof.picture) c.in-Proof.force l (g.F.Files.shelf c.args.files.now) (g.F.Files.shelf c.proofed.new.files) (g.W.Write.contents c.args.writer.now) (g.W.Write.contents c.proofed.new.writer)) c.deref-in-Proof.ensures.value
+    (c.proofed.ensures.done zero)))
 
 pub returns-in-Proof-clause-stopped : goal.returns-in-Proof-clause-stopped
 returns-in-Proof-clause-stopped g c one =
     subst (λ w. Stops w (g.F.Files.shelf c.args.files.now) (g.F.Files.shelf c.proofed.new.files) (g.R.Read.remaining c.args.reader.now) (g.W.Write.contents c.args.writer.now) (g.W.Write.contents c.proofed.new.writer) c.proofed.result.told.is_whole (g.E.Write.contents c.args.faults.now) (g.E.Write.contents c.proofed.new.faults)) (sym c.in-Proof.is)
-    (subst (λ (l : List (Bor Text)). IsUnseen c.in-Proof.from c.in-Proof.alone c.in-Proof.picture c.in-Proof.force l (g.F.Files.shelf c.args.files.now) (g.F.Files.shelf c.proofed.new.files) (g.W.Write.contents c.args.writer.now) (g.W.Write.contents c.proofed.new.writer) c.proofed.result.told.is_whole (g.E.Write.contents c.args.faults.now) (g.E.Write.contents c.proofed.new.faults)) c.deref-in-Proof.ensures.value
-    (c.proofed.ensures.stopped one))
+    (subst (λ (s : Sources). IsUnseen s c.in-Proof.alone c.in-Proof.picture c.in-Proof.force c.in-Proof.sets.items (g.F.Files.shelf c.args.files.now) (g.F.Files.shelf c.proofed.new.files) (g.W.Write.contents c.args.writer.now) (g.W.Write.contents c.proofed.new.writer) c.proofed.result.told.is_whole (g.E.Write.contents c.args.faults.now) (g.E.Write.contents c.proofed.new.faults)) c.sources_at-from.ensures
+    (subst (λ (l : List (Bor Text)). IsUnseen c.sources_at-from.result c.in-Proof.alone c.in-Proof.picture c.in-Proof.force l (g.F.Files.shelf c.args.files.now) (g.F.Files.shelf c.proofed.new.files) (g.W.Write.contents c.args.writer.now) (g.W.Write.contents c.proofed.new.writer) c.proofed.result.told.is_whole (g.E.Write.contents c.args.faults.now) (g.E.Write.contents c.proofed.new.faults)) c.deref-in-Proof.ensures.value
+    (c.proofed.ensures.stopped one)))
 
 pub returns-in-Punch-clause-done : goal.returns-in-Punch-clause-done
 returns-in-Punch-clause-done g c zero =
     subst (λ w. Does w (g.F.Files.shelf c.args.files.now) (g.F.Files.shelf c.punched.new.files) (g.R.Read.remaining c.args.reader.now) (g.W.Write.contents c.args.writer.now) (g.W.Write.contents c.punched.new.writer)) (sym c.in-Punch.is)
-    (c.punched.ensures.done zero)
+    (subst (λ (s : Sources). IsInFile s c.in-Punch.target.now c.in-Punch.force c.in-Punch.faulty (g.F.Files.shelf c.args.files.now) (g.F.Files.shelf c.punched.new.files) (g.W.Write.contents c.args.writer.now) (g.W.Write.contents c.punched.new.writer)) c.sources_at-from-in-Punch.ensures (c.punched.ensures.done zero))
 
 pub returns-in-Punch-clause-stopped : goal.returns-in-Punch-clause-stopped
 returns-in-Punch-clause-stopped g c one =
     subst (λ w. Stops w (g.F.Files.shelf c.args.files.now) (g.F.Files.shelf c.punched.new.files) (g.R.Read.remaining c.args.reader.now) (g.W.Write.contents c.args.writer.now) (g.W.Write.contents c.punched.new.writer) c.punched.result.told.is_whole (g.E.Write.contents c.args.faults.now) (g.E.Write.contents c.punched.new.faults)) (sym c.in-Punch.is)
-    (c.punched.ensures.stopped one)
+    (subst (λ (s : Sources). IsInNoFile s c.in-Punch.target c.in-Punch.force c.in-Punch.faulty (g.F.Files.shelf c.args.files.now) (g.F.Files.shelf c.punched.new.files) (g.W.Write.contents c.args.writer.now) (g.W.Write.contents c.punched.new.writer) c.punched.result.told.is_whole (g.E.Write.contents c.args.faults.now) (g.E.Write.contents c.punched.new.faults)) c.sources_at-from-in-Punch.ensures (c.punched.ensures.stopped one))
 
 pub returns-in-Replace-clause-done : goal.returns-in-Replace-clause-done
 returns-in-Replace-clause-done g c zero =
     subst (λ w. Does w (g.F.Files.shelf c.args.files.now) (g.F.Files.shelf c.replaced.new.files) (g.R.Read.remaining c.args.reader.now) (g.W.Write.contents c.args.writer.now) (g.W.Write.contents c.replaced.new.writer)) (sym c.in-Replace.is)
-    (c.replaced.ensures.done zero)
+    (subst (λ (w : Where). IsReplaced c.in-Replace.feed.now c.in-Replace.site c.in-Replace.older (exchange c.in-Replace.old c.in-Replace.new c.in-Replace.plain w) (g.F.Files.shelf c.args.files.now) (g.F.Files.shelf c.replaced.new.files) (g.W.Write.contents c.args.writer.now) (g.W.Write.contents c.replaced.new.writer)) c.where_of.ensures (c.replaced.ensures.done zero))
 
 pub returns-in-Replace-clause-stopped : goal.returns-in-Replace-clause-stopped
 returns-in-Replace-clause-stopped g c one =
     subst (λ w. Stops w (g.F.Files.shelf c.args.files.now) (g.F.Files.shelf c.replaced.new.files) (g.R.Read.remaining c.args.reader.now) (g.W.Write.contents c.args.writer.now) (g.W.Write.contents c.replaced.new.writer) c.replaced.result.told.is_whole (g.E.Write.contents c.args.faults.now) (g.E.Write.contents c.replaced.new.faults)) (sym c.in-Replace.is)
-    (c.replaced.ensures.stopped one)
+    (subst (λ (w : Where). IsUnchanged c.in-Replace.feed c.in-Replace.site c.in-Replace.older (exchange c.in-Replace.old c.in-Replace.new c.in-Replace.plain w) (g.F.Files.shelf c.args.files.now) (g.F.Files.shelf c.replaced.new.files) (g.W.Write.contents c.args.writer.now) (g.W.Write.contents c.replaced.new.writer) c.replaced.result.told.is_whole (g.E.Write.contents c.args.faults.now) (g.E.Write.contents c.replaced.new.faults)) c.where_of.ensures (c.replaced.ensures.stopped one))
 
 pub returns-in-Check-clause-done : goal.returns-in-Check-clause-done
 returns-in-Check-clause-done g c zero =
@@ -108,12 +114,12 @@ returns-in-Check-clause-stopped g c one =
 pub returns-in-Diff-clause-done : goal.returns-in-Diff-clause-done
 returns-in-Diff-clause-done g c zero =
     subst (λ w. Does w (g.F.Files.shelf c.args.files.now) (g.F.Files.shelf c.compared.new.files) (g.R.Read.remaining c.args.reader.now) (g.W.Write.contents c.args.writer.now) (g.W.Write.contents c.compared.new.writer)) (sym c.in-Diff.is)
-    (c.compared.ensures.done zero)
+    (subst (λ (o : Bor Text). AreOne (version_of c.in-Diff.one c.in-Diff.until) o.now (g.F.Files.shelf c.args.files.now) (g.F.Files.shelf c.compared.new.files) (g.W.Write.contents c.args.writer.now) (g.W.Write.contents c.compared.new.writer)) c.other_of.ensures (c.compared.ensures.done zero))
 
 pub returns-in-Diff-clause-stopped : goal.returns-in-Diff-clause-stopped
 returns-in-Diff-clause-stopped g c one =
     subst (λ w. Stops w (g.F.Files.shelf c.args.files.now) (g.F.Files.shelf c.compared.new.files) (g.R.Read.remaining c.args.reader.now) (g.W.Write.contents c.args.writer.now) (g.W.Write.contents c.compared.new.writer) c.compared.result.told.is_whole (g.E.Write.contents c.args.faults.now) (g.E.Write.contents c.compared.new.faults)) (sym c.in-Diff.is)
-    (c.compared.ensures.stopped one)
+    (subst (λ (o : Bor Text). AreNotOne (version_of c.in-Diff.one c.in-Diff.until) o (g.F.Files.shelf c.args.files.now) (g.F.Files.shelf c.compared.new.files) (g.W.Write.contents c.args.writer.now) (g.W.Write.contents c.compared.new.writer) c.compared.result.told.is_whole (g.E.Write.contents c.args.faults.now) (g.E.Write.contents c.compared.new.faults)) c.other_of.ensures (c.compared.ensures.stopped one))
 
 pub returns-in-Read-clause-done : goal.returns-in-Read-clause-done
 returns-in-Read-clause-done g c zero =
@@ -154,3 +160,33 @@ pub returns-in-Renumber-clause-stopped : goal.returns-in-Renumber-clause-stopped
 returns-in-Renumber-clause-stopped g c one =
     subst (λ w. Stops w (g.F.Files.shelf c.args.files.now) (g.F.Files.shelf c.renumbered.new.files) (g.R.Read.remaining c.args.reader.now) (g.W.Write.contents c.args.writer.now) (g.W.Write.contents c.renumbered.new.writer) c.renumbered.result.told.is_whole (g.E.Write.contents c.args.faults.now) (g.E.Write.contents c.renumbered.new.faults)) (sym c.in-Renumber.is)
     (c.renumbered.ensures.stopped one)
+
+pub returns-in-Rooms-clause-done : goal.returns-in-Rooms-clause-done
+returns-in-Rooms-clause-done g c zero =
+    subst (λ w. Does w (g.F.Files.shelf c.args.files.now) (g.F.Files.shelf c.roomed.new.files) (g.R.Read.remaining c.args.reader.now) (g.W.Write.contents c.args.writer.now) (g.W.Write.contents c.roomed.new.writer)) (sym c.in-Rooms.is)
+    (c.roomed.ensures.done zero)
+
+pub returns-in-Rooms-clause-stopped : goal.returns-in-Rooms-clause-stopped
+returns-in-Rooms-clause-stopped g c one =
+    subst (λ w. Stops w (g.F.Files.shelf c.args.files.now) (g.F.Files.shelf c.roomed.new.files) (g.R.Read.remaining c.args.reader.now) (g.W.Write.contents c.args.writer.now) (g.W.Write.contents c.roomed.new.writer) c.roomed.result.told.is_whole (g.E.Write.contents c.args.faults.now) (g.E.Write.contents c.roomed.new.faults)) (sym c.in-Rooms.is)
+    (c.roomed.ensures.stopped one)
+
+pub returns-in-Find-clause-done : goal.returns-in-Find-clause-done
+returns-in-Find-clause-done g c zero =
+    subst (λ w. Does w (g.F.Files.shelf c.args.files.now) (g.F.Files.shelf c.sought.new.files) (g.R.Read.remaining c.args.reader.now) (g.W.Write.contents c.args.writer.now) (g.W.Write.contents c.sought.new.writer)) (sym c.in-Find.is)
+    (c.sought.ensures.done zero)
+
+pub returns-in-Find-clause-stopped : goal.returns-in-Find-clause-stopped
+returns-in-Find-clause-stopped g c one =
+    subst (λ w. Stops w (g.F.Files.shelf c.args.files.now) (g.F.Files.shelf c.sought.new.files) (g.R.Read.remaining c.args.reader.now) (g.W.Write.contents c.args.writer.now) (g.W.Write.contents c.sought.new.writer) c.sought.result.told.is_whole (g.E.Write.contents c.args.faults.now) (g.E.Write.contents c.sought.new.faults)) (sym c.in-Find.is)
+    (c.sought.ensures.stopped one)
+
+pub returns-in-Log-clause-done : goal.returns-in-Log-clause-done
+returns-in-Log-clause-done g c zero =
+    subst (λ w. Does w (g.F.Files.shelf c.args.files.now) (g.F.Files.shelf c.logged.new.files) (g.R.Read.remaining c.args.reader.now) (g.W.Write.contents c.args.writer.now) (g.W.Write.contents c.logged.new.writer)) (sym c.in-Log.is)
+    (c.logged.ensures.done zero)
+
+pub returns-in-Log-clause-stopped : goal.returns-in-Log-clause-stopped
+returns-in-Log-clause-stopped g c one =
+    subst (λ w. Stops w (g.F.Files.shelf c.args.files.now) (g.F.Files.shelf c.logged.new.files) (g.R.Read.remaining c.args.reader.now) (g.W.Write.contents c.args.writer.now) (g.W.Write.contents c.logged.new.writer) c.logged.result.told.is_whole (g.E.Write.contents c.args.faults.now) (g.E.Write.contents c.logged.new.faults)) (sym c.in-Log.is)
+    (c.logged.ensures.stopped one)
