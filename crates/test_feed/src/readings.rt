@@ -4,7 +4,7 @@ use desk_ops::{Style, Symbol};
 use desk_replica::Replica;
 use desk_seq::Flat;
 use feed_compare::{DifferenceFault, report_difference};
-use feed_edit::{FeedTrouble, KeepFault, MergeFault, TakeFault, merge_feeds};
+use feed_edit::{FeedTrouble, KeepFault, MergeFault, TakeFault, Version, merge_feeds};
 use feed_files::FileRefusal;
 use feed_files::trial::TrialFiles;
 use linked_list_allocator::LocalHeap;
@@ -238,7 +238,13 @@ fn second_feed_opens_a_reading(rt: HostRuntime) -> Result<(), Fail> {
 fn differ(alloc: Global, one: &Room, two: &Room, text: &str) -> Result<bool, Fail> {
     let mut files = files_of(alloc, one, two)?;
     let mut written = Vec::new(alloc);
-    let ended = report_difference(alloc, &mut written, &mut files, "one.feed", "two.feed");
+    let ended = report_difference(
+        alloc,
+        &mut written,
+        &mut files,
+        Version::whole("one.feed"),
+        "two.feed",
+    );
     let stays = files.holds("one.feed", &one.write_feed()?);
     Ok(ended == Ok(false) && written.as_slice() == text.as_bytes() && stays)
 }
@@ -341,7 +347,13 @@ fn is_unwritten(alloc: Global, cut: usize) -> Result<bool, Fail> {
     let ballast: Option<Vec<u8, &LocalHeap>> = Vec::with_capacity(&heap, kept).ok();
     let mut files = mended(alloc)?;
     let mut written = Vec::new(alloc);
-    let ended = report_difference(&heap, &mut written, &mut files, "one.feed", "two.feed");
+    let ended = report_difference(
+        &heap,
+        &mut written,
+        &mut files,
+        Version::whole("one.feed"),
+        "two.feed",
+    );
     drop(ballast);
     match ended {
         Ok(false) if written.ends_with(b"  there again.\n  was   agian.\n") => Ok(false),

@@ -1,6 +1,8 @@
-//! The tests of feed_edit, feed_sites, feed_sites and desk_script.
+//! The tests of feed_edit, feed_sites, feed_history and desk_script.
 #![tactic(auto)]
 
+#[cfg(test)]
+mod log;
 #[cfg(test)]
 mod older;
 #[cfg(test)]
@@ -9,5 +11,7 @@ mod renewing;
 mod renumbering;
 #[cfg(test)]
 mod replace;
+#[cfg(test)]
+mod rooms;
 #[cfg(test)]
 mod sheet;

@@ -1,7 +1,7 @@
 //! The tests of feed_sites.
 
 use desk_codec::{FeedFault, FeedWhy};
-use feed_edit::{FeedTrouble, KeepFault, TakeFault, export_feed, import_text};
+use feed_edit::{FeedTrouble, KeepFault, TakeFault, Version, export_feed, import_text};
 use feed_files::trial::{AtEnd, TrialFiles, TrialReader, TrialWriter};
 use feed_files::{FileRefusal, Files};
 use feed_sites::{RenewFault, renew_feed};
@@ -109,7 +109,7 @@ fn long_copy_is_renewed(rt: HostRuntime) -> Result<(), Fail> {
     renew_feed(rt.alloc(), &mut written, &mut files, "new", "long", 7)?;
     assert!(rt; written.as_slice() == b"ok renewed 20000\n".as_slice());
     let mut shown = Vec::new(rt.alloc());
-    export_feed(rt.alloc(), &mut shown, &mut files, "new")?;
+    export_feed(rt.alloc(), &mut shown, &mut files, Version::whole("new"))?;
     assert!(rt; shown.as_slice() == text.as_slice());
     let length = files.bytes_of("new").map(|bytes| bytes.len());
     assert_eq!(rt; length, Some(106_890));
@@ -117,7 +117,7 @@ fn long_copy_is_renewed(rt: HostRuntime) -> Result<(), Fail> {
 }
 
 /// As many operations as a replica holds: 16,384 runs of 64 inserts of an n, typed by site 3 from front to back.
-fn full_feed(alloc: Global) -> Result<Vec<u8>, AllocError> {
+pub fn full_feed(alloc: Global) -> Result<Vec<u8>, AllocError> {
     let mut bytes = Vec::with_capacity(alloc, 5_603_332)?;
     bytes.extend_from_slice(b"MFD2")?;
     for run in 0..16_384u64 {

@@ -1,6 +1,8 @@
 //! The tests of feed_sites.
 use desk_ops::Stamp;
-use feed_edit::{FeedTrouble, KeepFault, TakeFault, export_feed, import_text, merge_feeds};
+use feed_edit::{
+    FeedTrouble, KeepFault, TakeFault, Version, export_feed, import_text, merge_feeds,
+};
 use feed_files::trial::{AtEnd, TrialFiles, TrialReader, TrialWriter};
 use feed_files::{FileRefusal, Files};
 use feed_sites::{NumberFault, RenumberFault, renumber_feed};
@@ -166,7 +168,7 @@ fn merges(
     let mut written = Vec::new(alloc);
     merge_feeds(alloc, &mut written, files, "two.feed", &["one.feed"], false)?;
     let mut copy = Vec::new(alloc);
-    export_feed(alloc, &mut copy, files, "two.feed")?;
+    export_feed(alloc, &mut copy, files, Version::whole("two.feed"))?;
     Ok(written.as_slice() == lines && copy.as_slice() == text)
 }
 

@@ -1,5 +1,6 @@
 //! The tests of view_punch.
 mod faults;
+mod finding;
 mod proofing;
 mod punching;
 mod rooms;

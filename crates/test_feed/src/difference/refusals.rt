@@ -1,7 +1,7 @@
 use crate::difference::rooms::{keyed, reported};
 use desk_codec::{FeedFault, FeedWhy};
 use feed_compare::{DifferenceFault, report_difference};
-use feed_edit::FeedTrouble;
+use feed_edit::{FeedTrouble, Version};
 use feed_files::trial::{AtEnd, TrialFiles, TrialWriter};
 use feed_files::{FileRefusal, Files};
 use linked_list_allocator::LocalHeap;
@@ -91,7 +91,7 @@ fn closed_output_of_a_difference(rt: HostRuntime) -> Result<(), Fail> {
                 rt.alloc(),
                 &mut writer,
                 &mut files,
-                "x.feed",
+                Version::whole("x.feed"),
                 "none.feed",
             );
             assert_eq!(rt; ended, Err(DifferenceFault::Write));
@@ -122,7 +122,13 @@ fn is_refused(alloc: Global, cut: usize) -> Result<bool, Fail> {
     let ballast: Option<Vec<u8, &LocalHeap>> = Vec::with_capacity(&heap, kept).ok();
     let mut files = keyed(alloc, b"a quick fox", b"a slow fox")?;
     let mut written = Vec::new(alloc);
-    let ended = report_difference(&heap, &mut written, &mut files, "one.feed", "two.feed");
+    let ended = report_difference(
+        &heap,
+        &mut written,
+        &mut files,
+        Version::whole("one.feed"),
+        "two.feed",
+    );
     drop(ballast);
     if let Err(fault) = ended {
         if !is_of_memory(fault) || !written.is_empty() {

@@ -1,7 +1,7 @@
 //! Feeds of texts, and what is said of two.
 
 use feed_compare::{DifferenceFault, report_difference};
-use feed_edit::import_text;
+use feed_edit::{Version, import_text};
 use feed_files::trial::{TrialFiles, TrialReader};
 use std::alloc::Global;
 use std::test::Fail;
@@ -90,7 +90,7 @@ pub fn reported(
     other: &str,
 ) -> Result<Left, Fail> {
     let mut text = Vec::new(alloc);
-    let ended = report_difference(alloc, &mut text, files, one, other);
+    let ended = report_difference(alloc, &mut text, files, Version::whole(one), other);
     Ok(Left { text, ended })
 }
 

@@ -1,4 +1,6 @@
 use crate::difference::rooms::{feed_of, keyed, reported, reports};
+use feed_compare::report_difference;
+use feed_edit::Version;
 use feed_files::trial::TrialFiles;
 use std::alloc::Global;
 use std::test::Fail;
@@ -9,6 +11,22 @@ fn letter_that_was_corrected(rt: HostRuntime) -> Result<(), Fail> {
     let mut files = keyed(rt.alloc(), b"Send word.", b"Send word by noon.")?;
     let text = "one.feed alone none\ntwo.feed alone 2: 11..18\n- 5 word.\n+ 5 word by noon.\n";
     assert!(rt; reports(rt.alloc(), &mut files, text, false)?);
+    Ok(())
+}
+
+/// The same letter, as it was and as it is.
+#[test]
+fn letter_then_and_now(rt: HostRuntime) -> Result<(), Fail> {
+    let mut files = keyed(rt.alloc(), b"Send word.", b"Send word by noon.")?;
+    let then = Version {
+        feed: "two.feed",
+        until: Some(10),
+    };
+    let mut text = Vec::new(rt.alloc());
+    let ended = report_difference(rt.alloc(), &mut text, &mut files, then, "two.feed");
+    assert_eq!(rt; ended, Ok(false));
+    let wanted = "two.feed alone none\ntwo.feed alone 2: 11..18\n- 5 word.\n+ 5 word by noon.\n";
+    assert!(rt; text.as_slice() == wanted.as_bytes());
     Ok(())
 }
 

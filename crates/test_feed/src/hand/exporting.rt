@@ -1,5 +1,5 @@
 use desk_codec::{FeedFault, FeedWhy};
-use feed_edit::{ExportFault, FeedTrouble, export_feed};
+use feed_edit::{ExportFault, FeedTrouble, Version, export_feed};
 use feed_files::trial::{AtEnd, TrialFiles, TrialWriter};
 use feed_files::{FileRefusal, Files};
 use linked_list_allocator::LocalHeap;
@@ -30,10 +30,10 @@ enum End {
 }
 
 /// How an export ends, if the files stay.
-fn exported(alloc: Global, k: u64, name: &str) -> Result<End, Fail> {
+fn exported(alloc: Global, k: u64, version: Version<'_>) -> Result<End, Fail> {
     let mut files = rooms(alloc, k)?;
     let mut written = Vec::new(alloc);
-    let ended = export_feed(alloc, &mut written, &mut files, name);
+    let ended = export_feed(alloc, &mut written, &mut files, version);
     if !files.holds("a.feed", MIXED) || files.bytes_of("a.feed.new").is_some() {
         return Err(Fail::new("a file changed"));
     }
@@ -45,8 +45,8 @@ fn exported(alloc: Global, k: u64, name: &str) -> Result<End, Fail> {
 }
 
 /// Whether an export writes this text.
-fn writes(alloc: Global, name: &str, text: &[u8]) -> Result<bool, Fail> {
-    match exported(alloc, 0, name)? {
+fn writes(alloc: Global, version: Version<'_>, text: &[u8]) -> Result<bool, Fail> {
+    match exported(alloc, 0, version)? {
         End::Text(written) => Ok(written.as_slice() == text),
         End::Nothing(_) => Ok(false),
     }
@@ -54,7 +54,7 @@ fn writes(alloc: Global, name: &str, text: &[u8]) -> Result<bool, Fail> {
 
 /// Why an export writes nothing.
 fn fault_of(alloc: Global, k: u64, name: &str) -> Result<Option<ExportFault>, Fail> {
-    match exported(alloc, k, name)? {
+    match exported(alloc, k, Version::whole(name))? {
         End::Text(_) => Ok(None),
         End::Nothing(fault) => Ok(Some(fault)),
     }
@@ -62,8 +62,30 @@ fn fault_of(alloc: Global, k: u64, name: &str) -> Result<Option<ExportFault>, Fa
 
 #[test]
 fn copies_are_exported(rt: HostRuntime) -> Result<(), Fail> {
-    assert!(rt; writes(rt.alloc(), "a.feed", TEXT)?);
-    assert!(rt; writes(rt.alloc(), "none.feed", b"")?);
+    assert!(rt; writes(rt.alloc(), Version::whole("a.feed"), TEXT)?);
+    assert!(rt; writes(rt.alloc(), Version::whole("none.feed"), b"")?);
+    Ok(())
+}
+
+/// The operations have the counters 1 to 4.
+const EARLIER: [(u64, &[u8]); 6] = [
+    (0, b""),
+    (1, b"a"),
+    (2, b"a "),
+    (3, b"a _b_"),
+    (4, TEXT),
+    (u64::MAX, TEXT),
+];
+
+#[test]
+fn earlier_copies_are_exported(rt: HostRuntime) -> Result<(), Fail> {
+    for &(counter, text) in &EARLIER {
+        let version = Version {
+            feed: "a.feed",
+            until: Some(counter),
+        };
+        assert!(rt; writes(rt.alloc(), version, text)?, "at {counter}");
+    }
     Ok(())
 }
 
@@ -88,7 +110,12 @@ fn held_feed_is_exported(rt: HostRuntime) -> Result<(), Fail> {
     files.hold("a.feed")?;
     let mut written = Vec::new(rt.alloc());
     assert_eq!(rt;
-        export_feed(rt.alloc(), &mut written, &mut files, "a.feed"),
+        export_feed(
+            rt.alloc(),
+            &mut written,
+            &mut files,
+            Version::whole("a.feed")
+        ),
         Ok(())
     );
     assert!(rt; written.as_slice() == TEXT);
@@ -99,7 +126,12 @@ fn held_feed_is_exported(rt: HostRuntime) -> Result<(), Fail> {
 fn closed_output_of_an_export(rt: HostRuntime) -> Result<(), Fail> {
     let mut files = rooms(rt.alloc(), 0)?;
     let mut writer = TrialWriter::new(rt.alloc()).with_room(3, AtEnd::TakesNone);
-    let ended = export_feed(rt.alloc(), &mut writer, &mut files, "a.feed");
+    let ended = export_feed(
+        rt.alloc(),
+        &mut writer,
+        &mut files,
+        Version::whole("a.feed"),
+    );
     assert_eq!(rt; ended, Err(ExportFault::Write));
     assert!(rt; TEXT.starts_with(writer.written()));
     Ok(())
@@ -115,7 +147,7 @@ fn is_refused(alloc: Global, cut: usize) -> Result<bool, Fail> {
     let ballast: Option<Vec<u8, &LocalHeap>> = Vec::with_capacity(&heap, kept).ok();
     let mut files = rooms(alloc, 0)?;
     let mut written = Vec::new(alloc);
-    let refused = match export_feed(&heap, &mut written, &mut files, "a.feed") {
+    let refused = match export_feed(&heap, &mut written, &mut files, Version::whole("a.feed")) {
         Ok(()) => false,
         Err(ExportFault::NoMemory) => true,
         Err(ExportFault::Feed(FeedTrouble::NoMemory)) => true,
@@ -128,7 +160,7 @@ fn is_refused(alloc: Global, cut: usize) -> Result<bool, Fail> {
     }
     drop(ballast);
     written.clear();
-    if export_feed(&heap, &mut written, &mut files, "a.feed").is_err() {
+    if export_feed(&heap, &mut written, &mut files, Version::whole("a.feed")).is_err() {
         return Err(Fail::new("refused with memory"));
     }
     Ok(refused)

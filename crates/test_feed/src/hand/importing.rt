@@ -1,7 +1,7 @@
 use crate::hand::feeds::X;
 use desk_codec::{FeedFault, FeedWhy};
 use feed_edit::{
-    FeedTrouble, ImportFault, InputFault, KeepFault, MAX_TEXT, RevisionFault, TakeFault,
+    FeedTrouble, ImportFault, InputFault, KeepFault, MAX_TEXT, RevisionFault, TakeFault, Version,
     export_feed, import_text,
 };
 use feed_files::trial::{AtEnd, TrialFiles, TrialReader, TrialWriter};
@@ -97,7 +97,7 @@ fn exports(
     text: &[u8],
 ) -> Result<bool, Fail> {
     let mut written = Vec::new(alloc);
-    export_feed(alloc, &mut written, files, name)?;
+    export_feed(alloc, &mut written, files, Version::whole(name))?;
     Ok(written.as_slice() == text)
 }
 

@@ -4,7 +4,7 @@ ghost use Rattle.std.specs.Prelude.{◌≤◌};
 
 use crate::replace::rooms::{X, feed_of, text_of};
 use feed_edit::{
-    Exchange, FeedTrouble, KeepFault, PlaceFault, ReplaceFault, TakeFault, replace_text,
+    Exchange, FeedTrouble, KeepFault, PlaceFault, ReplaceFault, TakeFault, Where, replace_text,
 };
 use feed_files::trial::{AtEnd, TrialFiles, TrialWriter};
 use feed_files::{FileRefusal, Files};
@@ -22,6 +22,7 @@ const LONGER: Exchange<'static> = Exchange {
     from: "x",
     to: "xz",
     plain: false,
+    at: Where::Once,
 };
 
 /// A text that does not stand in it.
@@ -29,6 +30,7 @@ const NOWHERE: Exchange<'static> = Exchange {
     from: "q",
     to: "z",
     plain: false,
+    at: Where::Once,
 };
 
 /// Files with a feed of one x, and what was kept of it here.
@@ -144,6 +146,7 @@ fn missing_feed_is_no_older_one(rt: HostRuntime) -> Result<(), Fail> {
         from: "",
         to: "a",
         plain: false,
+        at: Where::Once,
     };
     let mut files = TrialFiles::new(rt.alloc());
     files.put("x.feed.last", b"site 4 785\n")?;

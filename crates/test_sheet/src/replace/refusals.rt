@@ -2,7 +2,7 @@ use crate::replace::rooms::{X, feed_of, left_by, text_of};
 use desk_codec::{FeedFault, FeedWhy};
 use feed_edit::{
     Exchange, ExchangeFault, FeedTrouble, KeepFault, PlaceFault, ReplaceFault, RevisionFault,
-    TakeFault, replace_text,
+    TakeFault, Where, replace_text,
 };
 use feed_files::trial::{AtEnd, TrialFiles, TrialWriter};
 use feed_files::{FileRefusal, Files};
@@ -20,6 +20,7 @@ const LONGER: Exchange<'static> = Exchange {
     from: "x",
     to: "xz",
     plain: false,
+    at: Where::Once,
 };
 
 /// Files of which the k-th call fails, with a feed, one with the greatest counter, and one that is refused.
@@ -74,7 +75,12 @@ fn fault_of(
     plain: bool,
 ) -> Result<Option<ReplaceFault>, Fail> {
     let mut files = rooms(alloc, 0)?;
-    let exchange = Exchange { from, to, plain };
+    let exchange = Exchange {
+        from,
+        to,
+        plain,
+        at: Where::Once,
+    };
     let fault = stop_of(alloc, &mut files, "x.feed", &exchange)?;
     files.hold("x.feed")?;
     Ok(fault)
@@ -234,16 +240,26 @@ fn is_of_memory(fault: ReplaceFault) -> bool {
 fn is_refused(
     alloc: Global,
     cut: usize,
+    at: Where,
     text: &[u8],
     wanted: Result<(), ReplaceFault>,
     after: &[u8],
 ) -> Result<bool, Fail> {
+    let exchange = Exchange { at, ..LONGER };
     let heap = LocalHeap::new(alloc, HEAP)?;
     let kept = HEAP.saturating_sub(cut.saturating_mul(512));
     let ballast: Option<Vec<u8, &LocalHeap>> = Vec::with_capacity(&heap, kept).ok();
     let mut files = feed_of(alloc, text)?;
     let mut written = Vec::new(alloc);
-    let ended = replace_text(&heap, &mut written, &mut files, "a.feed", 4, false, &LONGER);
+    let ended = replace_text(
+        &heap,
+        &mut written,
+        &mut files,
+        "a.feed",
+        4,
+        false,
+        &exchange,
+    );
     drop(ballast);
     let is_refused = match ended {
         Ok(()) => false,
@@ -263,7 +279,7 @@ fn is_refused(
 fn growths_of_an_exchange_refused(rt: HostRuntime) -> Result<(), Fail> {
     let mut refused = 0u32;
     for cut in 0..384usize {
-        let out = is_refused(rt.alloc(), cut, b"x", Ok(()), b"xz")?;
+        let out = is_refused(rt.alloc(), cut, Where::Once, b"x", Ok(()), b"xz")?;
         refused = refused.saturating_add(u32::from(out));
     }
     assert!(rt; 6 <= refused && refused <= 380, "refused {refused} times");
@@ -275,10 +291,23 @@ fn growths_of_places_refused(rt: HostRuntime) -> Result<(), Fail> {
     let several = Err(ReplaceFault::Place(PlaceFault::ManyPlaces(2)));
     let mut refused = 0u32;
     for cut in 0..384usize {
-        let out = is_refused(rt.alloc(), cut, b"x x", several, b"x x")?;
+        let out = is_refused(rt.alloc(), cut, Where::Once, b"x x", several, b"x x")?;
         refused = refused.saturating_add(u32::from(out));
     }
     assert!(rt; 6 <= refused && refused <= 380, "refused {refused} times");
+    Ok(())
+}
+
+#[test]
+fn growths_of_all_places_refused(rt: HostRuntime) -> Result<(), Fail> {
+    let mut refused = 0u32;
+    for cut in 0..384usize {
+        let all = is_refused(rt.alloc(), cut, Where::All, b"x x", Ok(()), b"xz xz")?;
+        let second = is_refused(rt.alloc(), cut, Where::At(2), b"x x", Ok(()), b"x xz")?;
+        refused = refused.saturating_add(u32::from(all));
+        refused = refused.saturating_add(u32::from(second));
+    }
+    assert!(rt; 12 <= refused && refused <= 760, "refused {refused} times");
     Ok(())
 }
 

@@ -1,5 +1,5 @@
 use crate::replace::rooms::{X, left_by};
-use feed_edit::{Exchange, replace_text};
+use feed_edit::{Exchange, Where, replace_text};
 use feed_files::trial::TrialFiles;
 use std::alloc::Global;
 use std::test::Fail;
@@ -114,6 +114,7 @@ fn makes(alloc: Global, from: &str, to: &str, line: &str, bytes: &[u8]) -> Resul
         from,
         to,
         plain: false,
+        at: Where::Once,
     };
     replace_text(
         alloc,

@@ -1,6 +1,6 @@
 //! Feeds of texts, and what a run on one leaves.
 
-use feed_edit::{Exchange, ReplaceFault, export_feed, import_text, replace_text};
+use feed_edit::{Exchange, ReplaceFault, Version, Where, export_feed, import_text, replace_text};
 use feed_files::trial::{TrialFiles, TrialReader};
 use std::alloc::Global;
 use std::test::Fail;
@@ -38,21 +38,14 @@ pub fn feed_of(alloc: Global, text: &[u8]) -> Result<TrialFiles<Global>, Fail> {
 /// The text of the copy of a feed.
 pub fn text_of(alloc: Global, files: &mut TrialFiles<Global>) -> Result<Vec<u8>, Fail> {
     let mut written = Vec::new(alloc);
-    export_feed(alloc, &mut written, files, "a.feed")?;
+    export_feed(alloc, &mut written, files, Version::whole("a.feed"))?;
     Ok(written)
 }
 
 /// What a replacement by site 4 in the copy of a text leaves.
-pub fn left_by(
-    alloc: Global,
-    text: &[u8],
-    from: &str,
-    to: &str,
-    plain: bool,
-) -> Result<Left, Fail> {
+pub fn left_after(alloc: Global, text: &[u8], exchange: &Exchange<'_>) -> Result<Left, Fail> {
     let mut files = feed_of(alloc, text)?;
     let mut written = Vec::new(alloc);
-    let exchange = Exchange { from, to, plain };
     let ended = replace_text(
         alloc,
         &mut written,
@@ -60,7 +53,7 @@ pub fn left_by(
         "a.feed",
         4,
         false,
-        &exchange,
+        exchange,
     );
     let text = text_of(alloc, &mut files)?;
     Ok(Left {
@@ -68,4 +61,25 @@ pub fn left_by(
         ended,
         text,
     })
+}
+
+/// The same of a text that has one place.
+pub fn left_by(
+    alloc: Global,
+    text: &[u8],
+    from: &str,
+    to: &str,
+    plain: bool,
+) -> Result<Left, Fail> {
+    let at = Where::Once;
+    left_after(
+        alloc,
+        text,
+        &Exchange {
+            from,
+            to,
+            plain,
+            at,
+        },
+    )
 }

@@ -1,6 +1,6 @@
 use crate::picture::galleys::{WEDGE, case_text};
 use crate::picture::pictures::LINE;
-use feed_edit::FeedTrouble;
+use feed_edit::{FeedTrouble, Version};
 use feed_files::trial::TrialFiles;
 use feed_files::{FileRefusal, Kind, Target};
 use linked_list_allocator::LocalHeap;
@@ -8,7 +8,7 @@ use script_answers::{Memory, Refusal};
 use std::alloc::{AllocError, Allocator, Global};
 use std::test::Fail;
 use view_picture::picture_feed;
-use view_punch::{PreviewFault, no_trial};
+use view_punch::{PreviewFault, Sources, no_trial};
 
 /// What stands under the target before a picture is stored there.
 const OLD: &[u8] = b"<svg old";
@@ -52,6 +52,15 @@ fn ends_with(files: &TrialFiles<Global>, bytes: &[u8]) -> bool {
     }
 }
 
+/// A feed as it is, a case and a wedge.
+fn sources<'a>(feed: &'a str, case: &'a str, wedge: &'a str) -> Sources<'a> {
+    Sources {
+        version: Version::whole(feed),
+        case,
+        wedge,
+    }
+}
+
 /// Why a picture whose k-th call fails is not stored; where it is, the target ends with these bytes afterwards.
 fn pictured<A: Allocator + Copy>(
     alloc: Global,
@@ -66,7 +75,13 @@ fn pictured<A: Allocator + Copy>(
         name: "a.svg",
         force: false,
     };
-    let ended = picture_feed(memory, &mut files, feed, "c", "w", &no_trial(), &target);
+    let ended = picture_feed(
+        memory,
+        &mut files,
+        &sources(feed, "c", "w"),
+        &no_trial(),
+        &target,
+    );
     let wanted = if ended.is_ok() { end } else { OLD };
     if !ends_with(&files, wanted) {
         return Err(Fail::new("another picture"));
@@ -117,9 +132,7 @@ fn drawn_over(alloc: Global, old: &[u8], force: bool) -> Result<Option<PreviewFa
     let ended = picture_feed(
         memory,
         &mut files,
-        "set.feed",
-        "c",
-        "w",
+        &sources("set.feed", "c", "w"),
         &no_trial(),
         &target,
     );
@@ -157,7 +170,13 @@ fn picture_over_its_own(rt: HostRuntime) -> Result<(), Fail> {
             own: alloc,
             global: alloc,
         };
-        let ended = picture_feed(memory, &mut files, feed, "c", "w", &no_trial(), &target);
+        let ended = picture_feed(
+            memory,
+            &mut files,
+            &sources(feed, "c", "w"),
+            &no_trial(),
+            &target,
+        );
         assert_eq!(rt; ended, Ok(()));
     }
     assert!(rt; matches!(files.bytes_of("b.svg"), Some(kept) if kept.ends_with(LINE.as_bytes())));

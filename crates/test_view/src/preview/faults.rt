@@ -1,7 +1,7 @@
 //! A punch of a copy that has faults.
 
 use crate::preview::punching::{LINE, RIBBON, is_of_memory};
-use crate::preview::rooms::{OLD, TARGET, memory, rooms};
+use crate::preview::rooms::{OLD, TARGET, memory, rooms, sources};
 use feed_files::trial::{AtEnd, TrialWriter};
 use linked_list_allocator::LocalHeap;
 use script_answers::Memory;
@@ -26,9 +26,7 @@ fn punched(
         memory(alloc),
         &mut written,
         &mut files,
-        feed,
-        "c",
-        "w",
+        &sources(feed, "c", "w"),
         &TARGET,
         faulty,
     );
@@ -72,9 +70,7 @@ fn closed_output_of_copy_faults(rt: HostRuntime) -> Result<(), Fail> {
         memory(rt.alloc()),
         &mut writer,
         &mut files,
-        "faulty.feed",
-        "c",
-        "w",
+        &sources("faulty.feed", "c", "w"),
         &TARGET,
         false,
     );
@@ -102,9 +98,7 @@ fn is_refused(alloc: Global, cut: usize) -> Result<bool, Fail> {
         cut_memory,
         &mut written,
         &mut files,
-        "faulty.feed",
-        "c",
-        "w",
+        &sources("faulty.feed", "c", "w"),
         &TARGET,
         false,
     );

@@ -1,4 +1,4 @@
-use crate::preview::rooms::{OLD, memory, rooms};
+use crate::preview::rooms::{OLD, memory, rooms, sources};
 use feed_edit::FeedTrouble;
 use feed_files::FileRefusal;
 use feed_files::trial::{AtEnd, TrialWriter};
@@ -78,9 +78,7 @@ fn proofed(alloc: Global, k: u64, names: (&str, &str, &str), extent: Extent) -> 
         memory(alloc),
         &mut written,
         &mut files,
-        feed,
-        case,
-        wedge,
+        &sources(feed, case, wedge),
         &no_trial(),
         extent,
     );
@@ -170,9 +168,7 @@ fn closed_output_of_a_proof(rt: HostRuntime) -> Result<(), Fail> {
         memory(rt.alloc()),
         &mut writer,
         &mut files,
-        "loose.feed",
-        "c",
-        "w",
+        &sources("loose.feed", "c", "w"),
         &no_trial(),
         Extent::Faults,
     );
@@ -194,14 +190,32 @@ fn settings_are_tried(rt: HostRuntime) -> Result<(), Fail> {
         memory(rt.alloc()),
         &mut written,
         &mut files,
-        "loose.feed",
-        "c",
-        "w",
+        &sources("loose.feed", "c", "w"),
         &trial,
         Extent::Faults,
     );
     assert_eq!(rt; ended, Ok(true));
     assert!(rt; has_proof(rt.alloc(), "loose.feed", Extent::Faults, LOOSE, false)?);
+    Ok(())
+}
+
+/// The settings are the operations up to the fifth: with four of them the wedge has no value.
+#[test]
+fn galley_as_it_was(rt: HostRuntime) -> Result<(), Fail> {
+    let mut files = rooms(rt.alloc(), 0)?;
+    let mut written = Vec::new(rt.alloc());
+    let mut from = sources("loose.feed", "c", "w");
+    from.version.until = Some(4);
+    let ended = proof_feed(
+        memory(rt.alloc()),
+        &mut written,
+        &mut files,
+        &from,
+        &no_trial(),
+        Extent::Faults,
+    );
+    assert_eq!(rt; ended, Ok(false));
+    assert!(rt; written.as_slice() == b"no galley: the setting wedge has no value\n".as_slice());
     Ok(())
 }
 

@@ -1,4 +1,4 @@
-use crate::preview::rooms::{OLD, TARGET, memory, rooms};
+use crate::preview::rooms::{OLD, TARGET, memory, rooms, sources};
 use feed_edit::FeedTrouble;
 use feed_files::FileRefusal;
 use feed_files::trial::{AtEnd, TrialFiles, TrialWriter};
@@ -29,9 +29,7 @@ fn punched(
         memory(alloc),
         &mut written,
         files,
-        feed,
-        case,
-        wedge,
+        &sources(feed, case, wedge),
         &TARGET,
         false,
     );
@@ -146,9 +144,7 @@ fn closed_output_of_a_punch(rt: HostRuntime) -> Result<(), Fail> {
         memory(rt.alloc()),
         &mut writer,
         &mut files,
-        "loose.feed",
-        "c",
-        "w",
+        &sources("loose.feed", "c", "w"),
         &TARGET,
         false,
     );
@@ -187,9 +183,7 @@ fn is_refused(alloc: Global, cut: usize) -> Result<bool, Fail> {
         cut_memory,
         &mut written,
         &mut files,
-        "set.feed",
-        "c",
-        "w",
+        &sources("set.feed", "c", "w"),
         &TARGET,
         false,
     );

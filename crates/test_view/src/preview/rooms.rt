@@ -1,10 +1,12 @@
 //! The files of the tests.
 
 use crate::metal::{ROWS, WEDGE, case_with};
+use feed_edit::Version;
 use feed_files::Target;
 use feed_files::trial::TrialFiles;
 use script_answers::Memory;
 use std::alloc::{AllocError, Global};
+use view_punch::Sources;
 
 /// What stands under the target before a ribbon is stored there.
 pub const OLD: &[u8] = b"MRB1 old";
@@ -124,6 +126,11 @@ pub fn rooms(alloc: Global, k: u64) -> Result<TrialFiles<Global>, AllocError> {
     let mut files = TrialFiles::new(alloc).failing_at_call(k);
     files.put("set.feed", &feed(alloc, 150, b"\n")?)?;
     files.put("loose.feed", &feed(alloc, 60, b"nnn nnn nnn nnn nnn nnn")?)?;
+    files.put(
+        "lines.feed",
+        &feed(alloc, 60, b"nnn nnn nnn nnn nnn nnn\nn")?,
+    )?;
+    files.put("bare.feed", &feed_of_settings(alloc, 150)?)?;
     files.put("above.feed", &feed(alloc, 100, b"\n")?)?;
     files.put("lone.feed", &feed(alloc, 150, b"nnnnnnnnnnnnnnnnnt")?)?;
     files.put("styles.feed", &feed_of_styles(alloc)?)?;
@@ -144,6 +151,15 @@ pub fn rooms(alloc: Global, k: u64) -> Result<TrialFiles<Global>, AllocError> {
     files.put("broken", b"wedge =")?;
     files.put("a.ribbon", OLD)?;
     Ok(files)
+}
+
+/// A feed as it is, a case and a wedge.
+pub fn sources<'a>(feed: &'a str, case: &'a str, wedge: &'a str) -> Sources<'a> {
+    Sources {
+        version: Version::whole(feed),
+        case,
+        wedge,
+    }
 }
 
 /// All memory is the global.

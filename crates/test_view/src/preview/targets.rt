@@ -1,7 +1,7 @@
 //! What stands under the target of a punch.
 
 use crate::preview::punching::RIBBON;
-use crate::preview::rooms::{memory, rooms};
+use crate::preview::rooms::{memory, rooms, sources};
 use feed_files::{FileRefusal, Kind, Target};
 use std::alloc::Global;
 use std::test::Fail;
@@ -25,9 +25,7 @@ fn punched_over(
         memory(alloc),
         &mut written,
         &mut files,
-        "set.feed",
-        "c",
-        "w",
+        &sources("set.feed", "c", "w"),
         &target,
         false,
     );

@@ -4,11 +4,12 @@ use feed_edit::FeedTrouble;
 use feed_files::{FileRefusal, Kind};
 use script_answers::Refusal;
 use std::alloc::{AllocError, Global};
+use text_copy::{Cause, TextFault};
 use view_proof::OtherNumber;
 use view_punch::{PreviewFault, TrialFault};
 
 /// Of a feed they are those of its trouble.
-const WORDS: [(PreviewFault, &str); 10] = [
+const WORDS: [(PreviewFault, &str); 11] = [
     (
         PreviewFault::Feed(FeedTrouble::File(FileRefusal::Missing)),
         "file fault",
@@ -24,6 +25,14 @@ const WORDS: [(PreviewFault, &str); 10] = [
     (PreviewFault::Write, "write fault"),
     (PreviewFault::Taken(Kind::Feed), "not replaced"),
     (PreviewFault::Unstored(FileRefusal::Device), "file fault"),
+    (
+        PreviewFault::Text(TextFault::At {
+            line: 1,
+            column: 3,
+            cause: Cause::Unclosed,
+        }),
+        "line 1, column 3: a style that is open at the end of the line",
+    ),
     (PreviewFault::NoMemory, "no memory"),
 ];
 

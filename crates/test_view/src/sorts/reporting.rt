@@ -1,12 +1,12 @@
 use crate::sorts::rooms::{memory, rooms};
-use feed_edit::FeedTrouble;
+use feed_edit::{FeedTrouble, Version};
 use feed_files::FileRefusal;
 use feed_files::trial::{AtEnd, TrialWriter};
 use linked_list_allocator::LocalHeap;
 use script_answers::{Memory, Refusal};
 use std::alloc::Global;
 use std::test::Fail;
-use view_punch::{SortsFault, report_sorts};
+use view_punch::{PreviewFault, report_sorts};
 
 /// The nine symbols have six sorts and a line feed; `é` stands at places 4 and 7.
 const LACKING: &str = "SORTS 6 kinds, 8 wanted, 1 missing\n\
@@ -72,7 +72,7 @@ const NONE: &str = "SORTS 0 kinds, 0 wanted, 0 missing\n\n  cell   wanted  sort\
 #[derive(Drop)]
 struct Left {
     written: Vec<u8, Global>,
-    ended: Result<bool, SortsFault>,
+    ended: Result<bool, PreviewFault>,
 }
 
 /// Writes the list of a feed, where the k-th call of the files fails: after a fault nothing is written.
@@ -80,7 +80,14 @@ fn reported(alloc: Global, k: u64, names: (&str, &str), layout: bool) -> Result<
     let (feed, case) = names;
     let mut files = rooms(alloc, k)?;
     let mut written = Vec::new(alloc);
-    let ended = report_sorts(memory(alloc), &mut written, &mut files, feed, case, layout);
+    let ended = report_sorts(
+        memory(alloc),
+        &mut written,
+        &mut files,
+        Version::whole(feed),
+        case,
+        layout,
+    );
     if ended.is_err() && !written.is_empty() {
         return Err(Fail::new("bytes before a fault"));
     }
@@ -121,21 +128,21 @@ fn mark_in_a_table(rt: HostRuntime) -> Result<(), Fail> {
 }
 
 /// Why nothing is written.
-fn fault_of(alloc: Global, k: u64, names: (&str, &str)) -> Result<Option<SortsFault>, Fail> {
+fn fault_of(alloc: Global, k: u64, names: (&str, &str)) -> Result<Option<PreviewFault>, Fail> {
     let list = reported(alloc, k, names, true)?;
     Ok(list.ended.err())
 }
 
 #[test]
 fn sources_that_give_no_list(rt: HostRuntime) -> Result<(), Fail> {
-    let missing = SortsFault::Feed(FeedTrouble::File(FileRefusal::Missing));
+    let missing = PreviewFault::Feed(FeedTrouble::File(FileRefusal::Missing));
     assert_eq!(rt; fault_of(rt.alloc(), 0, ("b.feed", "c"))?, Some(missing));
-    let no_case = SortsFault::Input(Refusal::Case(1));
+    let no_case = PreviewFault::Input(Refusal::Case(1));
     assert_eq!(rt;
         fault_of(rt.alloc(), 0, ("whole.feed", "broken"))?,
         Some(no_case)
     );
-    let no_file = SortsFault::Input(Refusal::FileMissing);
+    let no_file = PreviewFault::Input(Refusal::FileMissing);
     assert_eq!(rt;
         fault_of(rt.alloc(), 0, ("whole.feed", "d"))?,
         Some(no_file)
@@ -146,9 +153,9 @@ fn sources_that_give_no_list(rt: HostRuntime) -> Result<(), Fail> {
 #[test]
 fn files_that_fail_under_a_list(rt: HostRuntime) -> Result<(), Fail> {
     let names = ("whole.feed", "c");
-    let feed = SortsFault::Feed(FeedTrouble::File(FileRefusal::Device));
+    let feed = PreviewFault::Feed(FeedTrouble::File(FileRefusal::Device));
     assert_eq!(rt; fault_of(rt.alloc(), 1, names)?, Some(feed));
-    let case = SortsFault::Input(Refusal::FileDevice);
+    let case = PreviewFault::Input(Refusal::FileDevice);
     assert_eq!(rt; fault_of(rt.alloc(), 2, names)?, Some(case));
     assert_eq!(rt; fault_of(rt.alloc(), 3, names)?, None);
     Ok(())
@@ -165,7 +172,14 @@ fn is_refused(alloc: Global, cut: usize) -> Result<bool, Fail> {
         own: &heap,
         global: alloc,
     };
-    let ended = report_sorts(memory, &mut written, &mut files, "many.feed", "c", false);
+    let ended = report_sorts(
+        memory,
+        &mut written,
+        &mut files,
+        Version::whole("many.feed"),
+        "c",
+        false,
+    );
     drop(ballast);
     match ended {
         Ok(_) if written.as_slice() != MANY.as_bytes() => Err(Fail::new("another list")),
@@ -186,6 +200,27 @@ fn growths_of_a_list_refused(rt: HostRuntime) -> Result<(), Fail> {
 }
 
 #[test]
+fn sorts_as_they_were(rt: HostRuntime) -> Result<(), Fail> {
+    let mut files = rooms(rt.alloc(), 0)?;
+    let mut written = Vec::new(rt.alloc());
+    let version = Version {
+        feed: "many.feed",
+        until: Some(0),
+    };
+    let ended = report_sorts(
+        memory(rt.alloc()),
+        &mut written,
+        &mut files,
+        version,
+        "c",
+        false,
+    );
+    assert_eq!(rt; ended, Ok(true));
+    assert!(rt; written.as_slice() == NONE.as_bytes());
+    Ok(())
+}
+
+#[test]
 fn closed_output_of_a_list(rt: HostRuntime) -> Result<(), Fail> {
     let mut files = rooms(rt.alloc(), 0)?;
     let mut writer = TrialWriter::new(rt.alloc()).with_room(5, AtEnd::Fails);
@@ -193,11 +228,11 @@ fn closed_output_of_a_list(rt: HostRuntime) -> Result<(), Fail> {
         memory(rt.alloc()),
         &mut writer,
         &mut files,
-        "lacking.feed",
+        Version::whole("lacking.feed"),
         "c",
         false,
     );
-    assert_eq!(rt; ended, Err(SortsFault::Write));
+    assert_eq!(rt; ended, Err(PreviewFault::Write));
     assert!(rt; LACKING.as_bytes().starts_with(writer.written()));
     Ok(())
 }

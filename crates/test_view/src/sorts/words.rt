@@ -4,22 +4,22 @@ use feed_edit::FeedTrouble;
 use feed_files::FileRefusal;
 use script_answers::Refusal;
 use std::alloc::{AllocError, Global};
-use view_punch::SortsFault;
+use view_punch::PreviewFault;
 
 /// Of a feed they are those of its trouble.
-const WORDS: [(SortsFault, &str); 5] = [
+const WORDS: [(PreviewFault, &str); 5] = [
     (
-        SortsFault::Feed(FeedTrouble::File(FileRefusal::Missing)),
+        PreviewFault::Feed(FeedTrouble::File(FileRefusal::Missing)),
         "file fault",
     ),
-    (SortsFault::Feed(FeedTrouble::Full), "full"),
-    (SortsFault::Input(Refusal::Case(4)), "input refused"),
-    (SortsFault::Write, "write fault"),
-    (SortsFault::NoMemory, "no memory"),
+    (PreviewFault::Feed(FeedTrouble::Full), "full"),
+    (PreviewFault::Input(Refusal::Case(4)), "input refused"),
+    (PreviewFault::Write, "write fault"),
+    (PreviewFault::NoMemory, "no memory"),
 ];
 
 /// Whether these are the words of a fault.
-fn is_worded(alloc: Global, fault: SortsFault, words: &str) -> bool {
+fn is_worded(alloc: Global, fault: PreviewFault, words: &str) -> bool {
     match format!(in alloc; "{fault}") {
         Ok(reported) => reported.as_str() == words,
         Err(AllocError) => false,
