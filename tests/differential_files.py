@@ -1,6 +1,6 @@
 """Random commands on files, for differential.py: merges with and without forks, imports around their limits, replacements,
-renewals, renumberings, and ribbons and pictures that would take the place of other files; and merges of rooms that correct one
-text, with what they leave open."""
+renewals, renumberings, what rooms made, logs, texts that are looked for, and ribbons and pictures that would take the place of
+other files; and merges of rooms that correct one text, with what they leave open."""
 import os
 import random
 import subprocess
@@ -9,6 +9,7 @@ import tempfile
 import differential
 import fuzz_asks
 import oracle
+import oracle_log
 import oracle_readings
 import oracle_runs
 import reported
@@ -23,7 +24,8 @@ STANDS = [None, None, b"", b"MRB1", b"MRB1\0\0\0\0", b"<svg></svg>", b"<svg", b"
 class Asked:
     """A random command: its words, what it reads from standard input, and the files that are there."""
 
-    often = {"merge": 3, "diff": 1, "renumber": 4, "import": 3, "replace": 2, "punch": 2, "proof": 1, "read": 1, "renew": 1}
+    often = {"merge": 3, "diff": 1, "renumber": 4, "import": 3, "replace": 3, "find": 2, "punch": 2, "proof": 1, "read": 1, "renew": 1,
+             "rooms": 1, "log": 2, "export": 1, "sorts": 1}
 
     def __init__(self, seed, k):
         self.pick = random.Random(seed * 1000081 + k)
@@ -130,7 +132,26 @@ class Asked:
         return self.differing(*self.pick.choice([("one", "two")] * 9 + [("one", "one")]))
 
     def differing(self, *names):
-        return oracle_runs.diff, list(names), ["diff", *names], {}
+        """A difference of two feeds, of the one as it is or as it was; of that and itself without the second name, at times."""
+        until, asked = self.until(0.3)
+        short = until is not None and names[0] == names[1] and self.pick.random() < 0.7
+        return oracle_runs.diff, list(names), ["diff", *names[:1 if short else 2], *asked], {"until": until}
+
+    def until(self, often):
+        """A counter up to which a feed is taken, or none; and how it is asked for."""
+        if self.pick.random() >= often:
+            return None, []
+        until = self.pick.choice([0, 1, 2, 5, 6, 9, 20, 40, 90, 95, oracle.MAX_COUNTER, 2 ** 64 - 1])
+        return until, ["--at", str(until)]
+
+    def of_export(self):
+        self.feeds("one")
+        until, asked = self.until(0.7)
+        return oracle_runs.export, ["one"], ["export", "one", *asked], {"until": until}
+
+    def of_sorts(self):
+        job, (until, asked) = self.job(), self.until(0.7)
+        return oracle_runs.sorts, job[:2], ["sorts", "one", "--case", job[1], *asked], {"until": until}
 
     def of_renumber(self):
         self.feeds("one", "two")
@@ -141,7 +162,7 @@ class Asked:
         self.feeds("one", "two")
         new, feed = self.pick.choice(["three"] * 5 + ["one", "two"]), self.pick.choice(["one", "two"])
         site = self.site()
-        if self.pick.random() < 0.05:
+        if self.pick.random() < 0.2:
             self.files["three"] = b""
         if self.pick.random() < 0.3 and feed in self.files and reported.held_in(self.files[feed]):
             world = reported.world_of(2, reported.held_in(self.files[feed]))
@@ -149,6 +170,56 @@ class Asked:
                 world.answer(b"set 2 %s" % differential.Scripts(self.pick, None).setting().encode())
             self.files[feed] = oracle.runs_feed(world.sites[2])
         return oracle_runs.renew, [new, feed, site], ["renew", new, feed, "--site", str(site)], {}
+
+    def of_rooms(self):
+        """A feed of what some rooms hold together, with forks and with what no site may have made."""
+        self.feeds("one")
+        if self.pick.random() < 0.8:
+            held = set().union(*self.rooms(), self.forged(self.pick.choice([0, 0, 1, 3, 9])))
+            self.files["one"] = self.feed(held)
+        return oracle_runs.rooms, ["one"], ["rooms", "one"], {}
+
+    def of_log(self):
+        """A feed of what some rooms hold together, with forks, with what no site may have made, and with long texts."""
+        pick = self.pick
+        self.feeds("one")
+        if pick.random() < 0.8:
+            held = set().union(*self.rooms(), self.forged(pick.choice([0, 0, 1, 3, 9])))
+            world = reported.world_of(2, held)
+            if pick.random() < 0.3:  # about as many symbols as are shown whole
+                world.insert(2, 0, [(pick.choice([0, 0, 0, 1]), ord(pick.choice("nmta"))) for _ in range(pick.choice([39, 40, 41, 65, 130]))])
+            held = self.edits(world.sites[2], pick.choice([1, 2, 3]), pick.choice([0, 1]))
+            if pick.random() < 0.3:  # a room that only deletes
+                world = reported.world_of(3, held)
+                for _ in range(3):
+                    world.answer(b"delete 3 %d" % pick.randrange(1 + len(oracle.Meaning(held).copy)))
+                held = world.sites[3]
+            self.files["one"] = self.feed(held)
+        held = reported.held_in(self.files.get("one", b"MFD2")) or set()
+        is_gone = pick.random() < 0.06
+        if is_gone:
+            self.files.pop("one", None)
+        rows = oracle_log.corrections(held) or [[("set", oracle.HEAD)]]
+        row = pick.choice(rows) if pick.random() < 0.6 else max(rows, key=len)
+        words, flags = ["log", "one"], {}
+        if pick.random() < 0.3:
+            flags["site"] = max(1, row[0][1][1])
+            words += ["--site", str(flags["site"])]
+        if pick.random() < 0.3:
+            flags["since"] = max(0, pick.choice([row[0], row[-1]])[1][0] + pick.choice([-1, 0, 0, 1]))
+            words += ["--since", str(flags["since"])]
+        if pick.random() < 0.6:
+            inserted, deleted = oracle_log.texts_of(row, oracle_log.bearing_of(held))
+            text = pick.choice([inserted, deleted, oracle.Meaning(held).copy])
+            at = pick.randrange(len(text) + 1)
+            text = [((style + 1) % 3 if ch not in (10, 32) and pick.random() < 0.15 else style, ch) for style, ch in text[at:at + pick.choice([0, 1, 2, 3])]]
+            if len(inserted) > 40 and pick.random() < 0.5:
+                text = inserted[14:22]
+            elif inserted and deleted and pick.random() < 0.4:
+                text = inserted[-2:] + deleted[:2]
+            text = pick.choice([reported.exported(text)] * 6 + ["n", " ", "\n", "", "_n", "_a_"] + ["_n"] * 9 * is_gone)
+            words, flags["text"] = [*words, "--", text], text.encode()
+        return oracle_runs.log, ["one"], words, flags
 
     def of_import(self):
         """A copy of about as many symbols as have a limit, and a text that deletes about as many of them as may go."""
@@ -189,7 +260,7 @@ class Asked:
         return site, self.pick.random() < 0.25
 
     def of_replace(self):
-        """A text that stands in a copy once, or nowhere, or often, and another in its place."""
+        """A text that stands in a copy once, or nowhere, or often, and another in its place, at a place that is asked for, or everywhere."""
         self.feeds("one")
         if self.pick.random() < 0.05:
             self.files.pop("one", None)
@@ -198,10 +269,65 @@ class Asked:
         old = reported.exported(copy[at:at + self.pick.choice([1, 2, 3, 5])])
         new = self.pick.choice(WORDS + ["", "_a_", "^M^", "a b", "_a", "\\", "t"])
         old = self.pick.choice([old] * 8 + ["n", "zz", "", "_n", "^n_"])
+        if self.pick.random() < 0.3:  # what has several places, some of which may overlap
+            old = self.pick.choice(["n", "nn", "a", "t", " ", "n n", ""])
         plain, (site, older) = self.pick.random() < 0.1, self.room()
-        words = ["replace", "one", "--site", str(site)] + ["--plain"] * plain + ["--older"] * older + ["--", old, new]
-        flags = {"old": old.encode(), "new": new.encode(), "site": site, "plain": plain, "older": older}
+        here, everywhere = self.where(copy, old)
+        words = ["replace", "one", "--site", str(site)] + ["--plain"] * plain + ["--older"] * older
+        words += ["--all"] * everywhere + ([] if here is None else ["--at", str(here)]) + ["--", old, new]
+        flags = {"old": old.encode(), "new": new.encode(), "site": site, "plain": plain, "older": older, "at": here, "everywhere": everywhere}
         return oracle_runs.replace, ["one"], words, flags
+
+    def where(self, copy, old):
+        """The place that is asked for, mostly one of the text's, or none; and whether all are to be taken."""
+        kind = self.pick.random()
+        if kind < 0.4:
+            return None, False
+        if kind < 0.7:
+            return None, True
+        try:
+            places = reported_copy.places_of(reported_copy.read_text(old.encode()), copy)
+        except reported_copy.NoText:
+            places = []
+        if places and self.pick.random() < 0.7:
+            return self.pick.choice(places), False
+        return self.pick.choice([0, 1, len(copy), len(copy) + 1, self.pick.randrange(len(copy) + 1)]), False
+
+    def of_find(self):
+        """A text that is looked for in a copy of some lines, or in any, with its lines in the galley or without."""
+        metal = ()
+        if self.pick.random() < 0.75:
+            metal = ("c", self.pick.choice(["w"] * 9 + ["w6"]))
+            self.galley()
+        else:
+            self.feeds("one")
+        if self.pick.random() < 0.06:
+            self.files.pop("one", None)
+        copy = oracle.Meaning(reported.held_in(self.files.get("one", b"MFD2")) or ()).copy
+        at = self.pick.randrange(len(copy) + 1)
+        text = reported.exported(copy[at:at + self.pick.choice([0, 1, 1, 2, 3])])
+        text = self.pick.choice([text] * 6 + ["n", "nn", " ", "\n", "zz", "", "_n", "_a_"])
+        plain = self.pick.random() < 0.1
+        words = ["find", "one"] + ["--plain"] * plain
+        if metal:
+            words += ["--case", metal[0], "--wedge", metal[1]]
+        return oracle_runs.find, ["one"], words + ["--", text], {"text": text.encode(), "plain": plain, "metal": metal}
+
+    def galley(self):
+        """A feed of a copy of some lines, or of none, of which a setting may be missing or another."""
+        world = reported.world_of(1, set())
+        for line in JOB + [b"set 1 measure %d" % self.pick.choice([24, 36, 60, 120])]:
+            if self.pick.random() < 0.98:
+                world.answer(line)
+        if self.pick.random() < 0.06:
+            world.answer(self.pick.choice([b"set 1 case 2", b"set 1 wedge 6", b"set 1 tight 151"]))
+        copy = []
+        for _ in range(self.pick.choice([0, 1, 3, 9, 20])):
+            word = self.pick.choice(WORDS)
+            copy += [(0, ord(ch)) for ch in word] + self.pick.choice([[(0, 32)]] * 5 + [[(0, 32)] * 2, [(0, 10)], [(0, 10)] * 2])
+        if copy:
+            world.insert(1, 0, copy)
+        self.files["one"] = oracle.runs_feed(self.edits(world.sites[1], 2, self.pick.choice([0, 0, 1])))
 
     def stands(self, *sources):
         """A target: nothing, one of the files that it is made of, or something else."""
@@ -235,7 +361,9 @@ class Asked:
         return oracle_runs.punch, [*job, to], words, {"force": force, "faulty": faulty}
 
     def of_proof(self):
-        return self.drawn(oracle_runs.proof, self.job())
+        command, names, words, flags = self.drawn(oracle_runs.proof, self.job())
+        until, asked = self.until(0.4)
+        return command, names, words + asked, {**flags, "until": until}
 
     def of_read(self):
         """A ribbon with a picture: that of a job, or one that is damaged."""
@@ -295,6 +423,7 @@ class Asked:
         """What is wrong with what `diff` has written of two feeds: what each has alone, the words that differ, and the readings."""
         status, out, why, left = got
         sets = [set(oracle.read_feed(self.files[name])) for name in self.names]
+        sets[0] = oracle_runs.held_in(self.files, self.names[0], until=self.flags["until"])
         copies = [oracle.Meaning(held).copy for held in sets]
         out = out.decode()
         due = (0 if sets[0] == sets[1] else 1, b"", self.files)
@@ -312,7 +441,8 @@ class Asked:
             return reported_copy.read_text(self.text, self.flags["plain"])
         old, new = (reported_copy.read_text(self.flags[name], self.flags["plain"]) for name in ("old", "new"))
         copy = oracle.Meaning(reported.held_in(self.files.get("one", b"MFD2"))).copy
-        return oracle_runs.replaced(copy, reported_copy.places_of(old, copy)[0], old, new)
+        places = reported_copy.taken(reported_copy.places_of(old, copy), len(old), self.flags["at"], self.flags["everywhere"])
+        return oracle_runs.replaced(copy, places, old, new)
 
     def differs_in_edits(self, left, out):
         before, after = (reported.held_in(files.get("one", b"MFD2")) for files in (self.files, left))

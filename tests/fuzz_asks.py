@@ -150,10 +150,16 @@ def imported(program, data, text, plain, everything):
 
 
 def replaced(program, data, old, new, plain):
-    """A text in place of another."""
+    """A text in place of another: where it has its one place, at a place that the feed's bytes pick, or everywhere."""
     write("one", data)
-    name, site = "replace %r %r%s" % (old[:200], new[:200], " --plain" if plain else ""), 9
-    got = ran(program, ["replace", "one", "--site", str(site), *["--plain"] * plain, "--", old, new])
+    number, site, at = pick_of(data, b"where"), 9, None
+    everywhere = number % 3 == 0
+    if number % 3 == 1:
+        at = (number >> 4) % (len(oracle.Meaning(reported.held_in(data) or set()).copy) + 2)
+        if number & 8:
+            at = next(iter(places_in(data, old, plain)), at)
+    words = ["replace", "one", "--site", str(site), *["--plain"] * plain, *["--all"] * everywhere, *([] if at is None else ["--at", str(at)])]
+    got, name = ran(program, [*words, "--", old, new]), " ".join(words) + " %r %r" % (old[:200], new[:200])
     out, why = "", ""
     try:
         for called, text in (("OLD", old), ("NEW", new)):
@@ -165,11 +171,41 @@ def replaced(program, data, old, new, plain):
     if not why:
         copy = oracle.Meaning(reported.held_in(data)).copy
         places = reported_copy.places_of(old_of, copy)
-        if len(places) == 1:
-            return changed_by_hand(name, data, site, copy[:places[0]] + new_of + copy[places[0] + len(old_of):], got), {"replace done"}
+        taken = reported_copy.taken(places, len(old_of), at, everywhere)
+        if taken:
+            return changed_by_hand(name, data, site, oracle_runs.replaced(copy, taken, old_of, new_of), got), {"replace done" + " at a place" * (at is not None) + " everywhere" * everywhere}
         out, why = reported_copy.reported_places(old_of, copy), "copydesk: %s\n" % ("%d places" % len(places) if places else "no place")
     wrong = differing(name, got, (1, out.encode(), why.encode())) or (None if read("one") == data else name + ": the feed changed")
     return wrong, forms_of("replace", why)
+
+
+def places_in(data, text, plain):
+    """The last place of a text in the copy of a feed, if it has one, and those before it."""
+    try:
+        sought = reported_copy.read_text(text.encode("utf-8", "surrogateescape"), plain)
+    except reported_copy.NoText:
+        return []
+    return reversed(reported_copy.places_of(sought, oracle.Meaning(reported.held_in(data) or set()).copy))
+
+
+def found(program, feed, data, case_data, wedge_data):
+    """The places of a piece of a feed's copy, with their lines by a case and a wedge, or without."""
+    number = pick_of(data, b"find")
+    held, both = reported.held_in(data), reported_galley.inputs(("case", "wedge"), case_data, wedge_data)
+    if number & 3 and held and not isinstance(both, str):  # the settings of a galley, by a site that comes last
+        world = reported.world_of(9, held)
+        given = {"measure": 12 + number % 90, "tight": 38, "loose": 150, "case": both[0]["number"], "wedge": both[1]["wedge"]}
+        for key, value in given.items():
+            world.answer(b"set 9 %s %d" % (key.encode(), value))
+        data = oracle.runs_feed(world.sites[9])
+    copy = oracle.Meaning(held or set()).copy
+    at = (number >> 5) % (len(copy) + 1)
+    text = reported.exported(copy[at:at + (number >> 3) % 4]) + "_" * (number % 19 == 0)
+    files, metal, plain = {feed: data}, (), number % 13 == 0
+    if number & 5:
+        metal, files = ("case", "wedge"), {feed: data, "case": case_data, "wedge": wedge_data}
+    words = ["find", feed, *["--plain"] * plain, *(["--case", "case", "--wedge", "wedge"] if metal else []), "--", text]
+    return on_files(program, words, files, oracle_runs.find, feed, text=text.encode("utf-8", "surrogateescape"), plain=plain, metal=metal)
 
 
 def with_piece(text, number):
@@ -238,6 +274,33 @@ def renewed(program, data, other):
         return wrong, forms
     wrong, more = renumbered(program, {"one": data, "two": other}, "one", "two", (1, 2, 4, 9)[number >> 2 & 3])
     return wrong, forms | more
+
+
+def as_it_was(program, data):
+    """The copy of a feed as it was at a counter."""
+    until = (0, 1, 2, 3, 5, 8, 63, 64, 1 << 62, (1 << 64) - 1)[pick_of(data) % 10]
+    return on_files(program, ["export", "one", "--at", str(until)], {"one": data}, oracle_runs.export, "one", until=until)
+
+
+def roomed(program, data):
+    """What each site made of a feed."""
+    return on_files(program, ["rooms", "one"], {"one": data}, oracle_runs.rooms, "one")
+
+
+def logged(program, data):
+    """The corrections of a feed, some of them, or those with a piece of its copy."""
+    number, flags = pick_of(data, b"log"), {}
+    copy = oracle.Meaning(reported.held_in(data) or set()).copy
+    at = (number >> 6) % (len(copy) + 1)
+    if number % 3 == 0:
+        flags["site"] = 1 + (number >> 3) % 4
+    if number % 5 == 0:
+        flags["since"] = (number >> 4) % 40
+    words = ["log", "one", *(word for name in flags for word in ("--" + name, str(flags[name])))]
+    if number % 2:
+        text = reported.exported(copy[at:at + (number >> 2) % 4]) + "_" * (number % 19 == 0)
+        words, flags["text"] = [*words, "--", text], text.encode("utf-8", "surrogateescape")
+    return on_files(program, words, {"one": data}, oracle_runs.log, "one", **flags)
 
 
 def renumbered(program, files, feed, other, site):

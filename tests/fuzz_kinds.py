@@ -200,7 +200,7 @@ def changed_bytes(pick, data):
 
 
 class Feeds(Kind):
-    """Two feeds: `check` and `take` of both, the set of both, and `desk`, `merge`, `export`, `diff`, `import`, `replace`, `sorts` and `proof`."""
+    """Two feeds: `check` and `take` of both, the set of both, and `desk`, `merge`, `export`, `diff`, `import`, `replace`, `find`, `sorts`, `proof`, `rooms` and `log`."""
     name, batch = "feeds", 8
     metal = [(differential.FILES[case].encode(), differential.FILES[wedge].encode()) for case, wedge in (("c", "w"), ("c_four", "w_american"), ("c17", "w"), ("c_held", "w"))]
     trial = [("measure", 60), ("tight", 38), ("loose", 150), ("case", 1), ("wedge", 5)]
@@ -388,7 +388,10 @@ class Feeds(Kind):
         trial = self.trial + [("measure", 12 + number % 200), ("loose", number % 260)][:number % 3]
         asks = [lambda: fuzz_asks.by_hand(program, data, other), lambda: fuzz_asks.sorted_out(program, "two", other, case),
                 lambda: fuzz_asks.merged(program, data, other),
-                lambda: fuzz_asks.proofed(program, "two", other, case, wedge, trial, True), lambda: fuzz_asks.renewed(program, data, other)]
+                lambda: fuzz_asks.proofed(program, "two", other, case, wedge, trial, True),
+                lambda: fuzz_asks.renewed(program, data, other), lambda: fuzz_asks.found(program, "two", other, case, wedge),
+                lambda: fuzz_asks.roomed(program, other), lambda: fuzz_asks.as_it_was(program, data),
+                lambda: fuzz_asks.logged(program, other)]
         for ask in asks[number >> 8 & 1::2]:
             wrong, more = ask()
             if wrong:

@@ -365,6 +365,14 @@ def by_hand(program, folder, library):
         ("merge hand.feed twin.feed other.feed --forks", "", ""),
         ("export hand.feed", "", ""),
         ("diff hand.feed hand.feed", "", ""),
+        ("export hand.feed --at 9", "", ""),
+        ("diff hand.feed --at 9", "", ""),
+        ("rooms hand.feed", "", ""),
+        ("log hand.feed", "", ""),
+        ("log hand.feed noon --site 1 --since 1", "", ""),
+        ("find hand.feed o", "", ""),
+        ("replace hand.feed --site 1 o _o_ --all", "", ""),
+        ("replace hand.feed --site 1 o _o_ --at 14", "", ""),
         ("import hand.feed --site 1", "Sent _word_ by ^noon^.\n", ""),
         ("import hand.feed --site 1", "", "19 of 19 symbols would be deleted"),
         ("import hand.feed --site 1 --all", "", ""),
@@ -384,7 +392,7 @@ def by_hand(program, folder, library):
         runs = Runs(program, words.split(), text, folder, library)
         whole = once(runs, 0, False)
         review = words.startswith("merge --review") and whole[0] == 1 and whole[2] in (b"", b"copydesk: open readings\n")
-        sweep.note(words, None if review else unlike_due(whole, 1 if why or words.startswith("diff hand.feed other") else 0, why))
+        sweep.note(words, None if review else unlike_due(whole, 1 if why or words.startswith(("diff hand.feed other", "diff hand.feed --at")) else 0, why))
         growths, named = runs.count(), words.startswith(("check ", "desk ", "renew other")) or why == "older feed"
         for number, always in [(k, False) for k in range(1, growths + 1)] + [(k, True) for k in range(1, growths + 1, 20)]:
             *got, beside = once(runs, number, always)
@@ -467,6 +475,8 @@ def previews(program, folder, library):
     kinds = (
         ("proof " + metal, 0, ""),
         ("proof --faults " + metal, 0, ""),
+        ("find preview.feed noon --case case12.toml --wedge wedge5.toml", 0, ""),
+        ("find preview.feed nowhere", 1, ""),
         ("punch -o preview.rib " + metal, 0, ""),
         ("punch -o made.rib " + metal, 0, ""),
         ("punch -o note.txt " + metal, 1, "not replaced"),

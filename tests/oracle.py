@@ -183,6 +183,7 @@ class Meaning:
             one = stack.pop()
             walk.append(one)
             stack.extend(kids.get(one[1], []))
+        self.walk, self.deleted = walk, deleted
         self.shown = [op for op in walk if op[1] not in deleted]
         self.settings = {key: None for key in KEYS}
         for op in ops:

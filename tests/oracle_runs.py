@@ -7,6 +7,7 @@ usage: oracle_runs.py < LIST     writes what script_plays is to write of a list 
 import sys
 
 import oracle
+import oracle_log
 import oracle_readings
 import reported
 import reported_copy
@@ -127,8 +128,9 @@ def run(command, files, *words, **flags):
         return 1, stop.written, stop.told, after
 
 
-def held_in(files, name, missing=None):
-    """The operations of a feed among files; one that is not there is refused, or holds what is given."""
+def held_in(files, name, missing=None, until=None):
+    """The operations of a feed among files, all or those with a counter up to one; one that is not there is refused, or holds
+    what is given."""
     if name not in files and missing is not None:
         return missing
     if name not in files:
@@ -137,6 +139,7 @@ def held_in(files, name, missing=None):
         held = set(oracle.read_feed(files[name]))
     except oracle.Feed as fault:
         raise Stops("copydesk: feed refused\n%s: byte %d: %s\n" % (name, fault.at, reported.CAUSES[fault.word]))
+    held = {op for op in held if until is None or op[1][0] <= until}
     if len(held) > oracle.LIMIT:
         raise Stops("copydesk: full\n%s: .." % name)
     return held
@@ -175,9 +178,14 @@ def mark(files, feed, site, held):
     files[feed + ".last"] = oracle_readings.noted(files.get(feed + ".last"), site, held)
 
 
-def diff(files, feed, other):
+def export(files, feed, until=None):
+    """The copy of a feed as text, as it is or as it was."""
+    return reported.exported(oracle.Meaning(held_in(files, feed, until=until)).copy)
+
+
+def diff(files, feed, other, until=None):
     """What `diff` writes after the words that differ: how the merge that would be reads."""
-    one, two = held_in(files, feed), held_in(files, other)
+    one, two = held_in(files, feed, until=until), held_in(files, other)
     return oracle_readings.reported(oracle_readings.readings(one, two))
 
 
@@ -228,8 +236,9 @@ def import_text(files, feed, text, plain=False, everything=False, site=1, older=
     return "ok inserted %d deleted %d\n" % (inserted, deleted)
 
 
-def replace(files, feed, old, new, site=1, plain=False, older=False):
-    """What is said where a text takes the place of another: both are read before the feed."""
+def replace(files, feed, old, new, site=1, plain=False, older=False, at=None, everywhere=False):
+    """What is said where a text takes the place of another, at its one place, at a place that is asked for, or everywhere: both
+    are read before the feed."""
     texts = []
     for called, text in (("OLD", old), ("NEW", new)):
         try:
@@ -239,14 +248,42 @@ def replace(files, feed, old, new, site=1, plain=False, older=False):
     held = room_in(files, feed, site, older)
     copy = oracle.Meaning(held).copy
     places = reported_copy.places_of(texts[0], copy)
-    if len(places) != 1:
+    taken = reported_copy.taken(places, len(texts[0]), at, everywhere)
+    if not taken:
         why = "%d places" % len(places) if places else "no place"
         raise Stops("copydesk: %s\n" % why, reported_copy.reported_places(texts[0], copy))
-    return "ok inserted %d deleted %d\n" % changes_of(held, feed, copy, replaced(copy, places[0], *texts))
+    new_copy = replaced(copy, taken, *texts)
+    if len(new_copy) > oracle.LIMIT:
+        raise Stops("copydesk: full\n%s: .." % feed)
+    return "ok inserted %d deleted %d\n" % changes_of(held, feed, copy, new_copy)
 
 
-def replaced(copy, place, old, new):
-    return copy[:place] + new + copy[place + len(old):]
+def replaced(copy, places, old, new):
+    """A copy with a text at these places of another, which do not overlap."""
+    out, behind = [], 0
+    for place in places:
+        out += copy[behind:place] + new
+        behind = place + len(old)
+    return out + copy[behind:]
+
+
+def find(files, feed, text, plain=False, metal=()):
+    """Each place of a text in the copy of a feed, with its line of the galley by a case and a wedge, where these are given."""
+    try:
+        sought = reported_copy.read_text(text, plain)
+    except reported_copy.NoText as fault:
+        raise Stops("copydesk: TEXT, %s\n" % fault)
+    meaning = oracle.Meaning(held_in(files, feed))
+    galley = reported_galley.galley_in(meaning.copy, meaning.settings, *metal_in(files, *metal)) if metal else None
+    out = galley if isinstance(galley, str) else ""
+    lines = [] if isinstance(galley, str) or galley is None else galley.lines
+    places = reported_copy.places_of(sought, meaning.copy)
+    if not places:
+        raise Stops("", out + "no place\n")
+    for place in places:
+        line = next((line.number for line in reversed(lines) if line.begin <= place), None)
+        out += reported_copy.place_line(sought, meaning.copy, place, line)
+    return out
 
 
 def spare(name, sources, what):
@@ -290,10 +327,19 @@ def punch(files, feed, case, wedge, to, force=False, faulty=False):
     return ""
 
 
-def proof(files, feed, case, wedge, to, force=False):
+def sorts(files, feed, case, until=None):
+    """The sorts of a feed's copy, as it is or as it was, by a case that is in order."""
+    copy = oracle.Meaning(held_in(files, feed, until=until)).copy
+    out, whole = reported_galley.sorts(copy, metal_in(files, case, "w")[0])
+    if not whole:
+        raise Stops("", out)
+    return out
+
+
+def proof(files, feed, case, wedge, to, force=False, until=None):
     """The galley of a feed as text, and then its picture, of which only the beginning is given here."""
     spare(to, (feed, case, wedge), "picture")
-    held, metal = held_in(files, feed), metal_in(files, case, wedge)
+    held, metal = held_in(files, feed, until=until), metal_in(files, case, wedge)
     meaning = oracle.Meaning(held)
     return drawn(files, to, force, *reported_galley.proof(meaning, meaning.settings, *metal, False)[:2])
 
@@ -321,6 +367,37 @@ def renew(files, new, feed, site):
     held = held_in(files, feed)
     files[new] = oracle.runs_feed(oracle.renewed(held, site))
     return "ok renewed %d\n" % len(oracle.Meaning(held).copy)
+
+
+def rooms(files, feed):
+    """A line for each site with an operation in a feed: from its least stamp to its greatest, whether some counter between is
+    borne by none of its operations, its inserts, deletes and sets, the symbols that are shown of it, and its copy faults. Last
+    are the sums."""
+    held, lines, sums = held_in(files, feed), [], [0] * 5
+    meaning = oracle.Meaning(held)
+    for site in sorted({op[1][1] for op in held}):
+        made = [op for op in held if op[1][1] == site]
+        counters = {op[1][0] for op in made}
+        least, greatest = min(counters), max(counters)
+        counts = [sum(op[0] == kind for op in made) for kind in ("insert", "delete", "set")]
+        counts += [sum(op[1][1] == site for op in meaning.shown), sum(stamp[1] == site for _, stamp in meaning.faults)]
+        gaps = " with gaps" if len(counters) <= greatest - least else ""
+        lines.append("site %d from %d.%d to %d.%d%s%s" % (site, least, site, greatest, site, gaps, counted(counts)))
+        sums = [one + more for one, more in zip(sums, counts)]
+    return "".join(lines) + "copy" + counted(sums)
+
+
+def counted(counts):
+    return ": inserts %d, deletes %d, sets %d, shown %d, faults %d\n" % tuple(counts)
+
+
+def log(files, feed, site=None, since=None, text=None):
+    """The corrections of a feed, or those of them that are asked for; a text is read before the feed."""
+    try:
+        sought = None if text is None else reported_copy.read_text(text)
+    except reported_copy.NoText as fault:
+        raise Stops("copydesk: TEXT, %s\n" % fault)
+    return oracle_log.log(held_in(files, feed), site, since, sought)
 
 
 def renumber(files, feed, other, site):

@@ -151,14 +151,19 @@ def no_ribbon(faults, settings):
     return "no ribbon: %s\n" % ", ".join(["missing " + key for key in missing_in(settings)] or faults)
 
 
+def galley_in(copy, settings, case, wedge):
+    """The galley of a copy by settings, or the line that says why there is none."""
+    first = (oracle.job(copy, settings, case, wedge)[0] or [""])[0]
+    why = no_galley(first, settings, case, wedge)
+    return "no galley: %s\n" % why if why else Galley(copy, settings, case, wedge)
+
+
 def proof(meaning, settings, case, wedge, alone=False):
     """What `proof` writes of a copy by settings, whether no fault stands, and the galley, if there is one."""
     above = "".join("%s %s: %s\n" % (kind, oracle.stamp_text(stamp), COPY_FAULTS[kind]) for kind, stamp in meaning.faults)
-    first = (oracle.job(meaning.copy, settings, case, wedge)[0] or [""])[0]
-    why = no_galley(first, settings, case, wedge)
-    if why:
-        return above + "no galley: %s\n" % why, False, None
-    galley = Galley(meaning.copy, settings, case, wedge)
+    galley = galley_in(meaning.copy, settings, case, wedge)
+    if isinstance(galley, str):
+        return above + galley, False, None
     return above + galley.text(alone), galley.is_clean() and not meaning.faults, galley
 
 

@@ -875,10 +875,62 @@ given=given.txt closed "copydesk: write fault" script --number
 given=given.txt closed "copydesk: write fault" desk wide.feed --site 1
 cmp wide.feed before.feed
 
+# A feed as it was, who made it, and where a text is.
+printf 'Send word.' | "$program" import past.feed --site 1 > /dev/null
+printf 'Send word by noon.' | "$program" import past.feed --site 2 > /dev/null
+[ "$("$program" export past.feed --at 10)" = "Send word." ]
+[ "$("$program" export past.feed --at 0)" = "" ]
+[ "$("$program" export past.feed --at 18446744073709551615)" = "Send word by noon." ]
+expect 2 error: export past.feed --at
+expect 2 error: export past.feed --at now
+expect 2 error: export past.feed --at -1
+expect 2 error: export past.feed --at 18446744073709551616
+expect 1 "" diff past.feed --at 10
+[ "$(cat written)" = "past.feed alone none
+past.feed alone 2: 11..18
+- 5 word.
++ 5 word by noon." ]
+expect 0 "" diff past.feed --at 18
+expect 2 "error: these words do not go together" diff past.feed
+expect 2 "error: these words do not go together" find past.feed word --case case12.toml
+expect 2 "error: these words do not go together" find past.feed word --wedge wedge5.toml
+expect 2 "error: these words do not go together" replace past.feed --site 1 word words --at 5 --all
+expect 2 error: log past.feed --site 0
+expect 2 error: log past.feed --since x
+[ "$("$program" rooms past.feed)" = "site 1 from 1.1 to 10.1: inserts 10, deletes 0, sets 0, shown 10, faults 0
+site 2 from 11.2 to 18.2: inserts 8, deletes 0, sets 0, shown 8, faults 0
+copy: inserts 18, deletes 0, sets 0, shown 18, faults 0" ]
+[ "$("$program" log past.feed)" = '1.1..10.1 at 0 + "Send word."
+11.2..18.2 at 9 + " by noon"' ]
+[ "$("$program" log past.feed noon)" = '11.2..18.2 at 9 + " by noon"' ]
+[ "$("$program" log past.feed --site 1 noon)" = "" ]
+[ "$("$program" log past.feed --since 11)" = "$("$program" log past.feed --site 2)" ]
+[ "$("$program" find past.feed o)" = "place 6: Send word by noon.
+place 14: Send word by noon.
+place 15: Send word by noon." ]
+expect 1 "" find past.feed moon
+[ "$(cat written)" = "no place" ]
+refused "copydesk: TEXT, line 1, column 3: a style that is open at the end of the line" find past.feed _o
+refused "copydesk: TEXT, line 1, column 3: a style that is open at the end of the line" log past.feed _o
+expect 1 "" find past.feed _o --plain
+for command in "export" "rooms" "log" "find" "diff"; do
+  more=$([ "$command" = find ] && echo x || [ "$command" != diff ] || echo past.feed)
+  expect 1 "copydesk: file fault
+none.feed: it cannot be read" "$command" none.feed $more
+done
+expect 1 "copydesk: 3 places" replace past.feed --site 1 o 0 --at 5
+[ "$("$program" replace past.feed --site 1 o 0 --at 14)" = "ok inserted 1 deleted 1" ]
+[ "$("$program" replace past.feed --site 1 o 0 --all)" = "ok inserted 2 deleted 2" ]
+[ "$("$program" export past.feed)" = "Send w0rd by n00n." ]
+cp past.feed past.before
+"$program" rooms past.feed > /dev/null
+"$program" log past.feed > /dev/null
+cmp past.feed past.before
+
 # Help names the program, the words and every command.
 [ "$("$program" --version)" = "copydesk 0.2.0" ]
 told=$("$program" --help)
-for command in script desk merge diff export import replace check proof punch read sorts renew renumber; do
+for command in script desk merge diff export import replace rooms log find check proof punch read sorts renew renumber; do
   if [[ "$told" != *"copydesk $command"* ]] || [[ "$("$program" "$command" --help)" != *"As in: copydesk $command "*"Status: 0"* && $command != script ]]; then
     echo "the help does not name $command" >&2
     exit 1

@@ -29,7 +29,7 @@ import jobs
 import oracle
 import reported
 
-SOURCE = ("oracle.py", "oracle_runs.py", "oracle_readings.py", "reported_copy.py", "reported_galley.py")
+SOURCE = ("oracle.py", "oracle_runs.py", "oracle_readings.py", "reported_copy.py", "reported_galley.py", "oracle_log.py")
 
 # Of the ribbon half: lines, justification, faults, units, rows, the caster, the two files.
 RIBBON = {
@@ -335,7 +335,7 @@ REPORTED = {
     "NI and NL stand last": [("order = [15, 16] + list(range(15))", "order = list(range(17))")],
 }
 
-# Of commands on files: numbers used twice, imports that delete most, outputs in the place of others, renewals, renumberings.
+# Of commands on files: numbers used twice, imports that delete most, outputs in the place of others, renewals, rooms, logs, renumberings.
 FILES = {
     # merges
     "a fork that the other holds already is missed": [("twice = oracle.forked(both) - oracle.forked(held)", "twice = oracle.forked(both) - oracle.forked(held) - oracle.forked(theirs)")],
@@ -390,6 +390,11 @@ FILES = {
     "copy faults come after those of the job": [("    if meaning.faults and not faulty:", "    if meaning.faults and not faulty and not oracle.job(meaning.copy, meaning.settings, *metal)[0]:")],
     "a faulty copy is punched, faulty job or not": [("    faults, images = oracle.job(meaning.copy, meaning.settings, *metal)\n    if faults:", "    faults, images = oracle.job(meaning.copy, meaning.settings, *metal)\n    images = images or []\n    if faults and not faulty:")],
     "copy faults are not written": [("raise Stops(\"copydesk: copy faults\\n\", faults_of(held))", "raise Stops(\"copydesk: copy faults\\n\")")],
+    # feeds as they were
+    "the counter itself is left out": [("until is None or op[1][0] <= until", "until is None or op[1][0] < until")],
+    "the operations from a counter on": [("until is None or op[1][0] <= until", "until is None or op[1][0] >= until")],
+    "feeds are always as they are": [("until is None or op[1][0] <= until", "True")],
+    "what fails then is refused": [("    held = {op for op in held if until", "    if len(oracle.Meaning(held).faults) and until is not None:\n        raise Stops(\"\")\n    held = {op for op in held if until")],
     # renewals
     "settings are left out": [("        if meaning.settings[key] is not None:\n", "        if False:\n")],
     "settings in another order": [("    meaning, ops = Meaning(held), []\n    for key in KEYS:", "    meaning, ops = Meaning(held), []\n    for key in sorted(KEYS):")],
@@ -402,6 +407,60 @@ FILES = {
     "an empty file is renewed": [("    if new in files:", "    if files.get(new):")],
     "a feed is renewed in its place": [("    if new in files:", "    if new in files and new != feed:")],
     "all operations are counted": [("\"ok renewed %d\\n\" % len(oracle.Meaning(held).copy)", "\"ok renewed %d\\n\" % len(oracle.renewed(held, site))")],
+    # what rooms made
+    "a fork counts once": [("        made = [op for op in held if op[1][1] == site]\n", "        made = list({op[1]: op for op in held if op[1][1] == site}.values())\n")],
+    "no gap is told": [("if len(counters) <= greatest - least else", "if False else")],
+    "a counter that another site bears is no gap": [("if len(counters) <= greatest - least else", "if len({op[1][0] for op in held if least <= op[1][0] <= greatest}) <= greatest - least else")],
+    "a fork hides a gap": [("if len(counters) <= greatest - least else", "if len(made) <= greatest - least else")],
+    "deleted symbols are counted as shown": [("counts += [sum(op[1][1] == site for op in meaning.shown)", "counts += [counts[0]")],
+    "faults of all sites in each line": [("sum(stamp[1] == site for _, stamp in meaning.faults)", "len(meaning.faults)")],
+    "a site that shows nothing is left out": [("        lines.append(\"site", "        if not counts[3]:\n            continue\n        lines.append(\"site")],
+    # logs
+    "corrections of two sites are joined": [("sorted(held, key=lambda op: (op[1][1], oracle.order(op)))", "sorted(held, key=oracle.order)"), ("rows[-1][-1][1] in ((counter, site), (counter - 1, site))", "rows[-1][-1][1][0] >= counter - 1")],
+    "a correction is cut at 64": [("        if rows and rows[-1][-1][1] in (", "        if rows and len(rows[-1]) < 64 and rows[-1][-1][1] in (")],
+    "a correction is cut at a fork": [("in ((counter, site), (counter - 1, site))", "in ((counter - 1, site),)")],
+    "a gap does not cut a correction": [("in ((counter, site), (counter - 1, site))", "in [(counter - k, site) for k in (0, 1, 2)]")],
+    "every operation is a correction": [("in ((counter, site), (counter - 1, site))", "in ((counter, site),)")],
+    "the newest correction first": [("    return sorted(rows, key=lambda row: row[-1][1])", "    return sorted(rows, key=lambda row: row[-1][1], reverse=True)")],
+    "corrections by their first stamps": [("    return sorted(rows, key=lambda row: row[-1][1])", "    return sorted(rows, key=lambda row: row[0][1])")],
+    "corrections site by site": [("    return sorted(rows, key=lambda row: row[-1][1])", "    return rows")],
+    "since by the first counter": [("        counter, number = row[-1][1]\n", "        counter, number = row[0][1]\n")],
+    "since leaves out the counter itself": [("since is not None and counter < since", "since is not None and counter <= since")],
+    "since is not heard": [("since is not None and counter < since", "False")],
+    "lines of all other sites": [("site not in (None, number)", "site == number")],
+    "a text is looked for in what came alone": [("for one in texts_of(row, bearing)):", "for one in texts_of(row, bearing)[:1]):")],
+    "a text is looked for in what went alone": [("for one in texts_of(row, bearing)):", "for one in texts_of(row, bearing)[1:]):")],
+    "a text is looked for across what came and went": [("any(reported_copy.places_of(text, one) for one in texts_of(row, bearing))", "reported_copy.places_of(text, sum(texts_of(row, bearing), []))")],
+    "a text is looked for without its style": [("any(reported_copy.places_of(text, one) for one", "any(reported_copy.places_of([ch for _, ch in text], [ch for _, ch in one]) for one")],
+    "a text is looked for in what is shown of long ones": [("any(reported_copy.places_of(text, one) for one", "any(reported_copy.places_of(text, one if len(one) <= MOST else one[:END] + one[-END:]) for one")],
+    "places count deleted symbols": [("        before += is_shown\n", "        before += 1\n")],
+    "places count from 1 in a log": [("        out[op[1]] = (before, is_shown)", "        out[op[1]] = (before + 1, is_shown)")],
+    "a deleted element has its place": [("next((at for at, is_shown in own if is_shown), ", "next((at for at, is_shown in own), ")],
+    "the last element has the place": [("    own = [places[op[1]] for op in row if", "    own = [places[op[1]] for op in row[::-1] if")],
+    "the last target has the place": [("targets[0] if targets else None", "targets[-1] if targets else None")],
+    "a delete has no place": [("targets[0] if targets else None", "None")],
+    "a place by a delete first": [("    return next((at for at, is_shown in own if is_shown), targets[0] if targets else None)", "    return (targets + [at for at, is_shown in own if is_shown] + [None])[0]")],
+    "what a delete took is shown as put in": [("    return inserted, deleted\n", "    return inserted + deleted, []\n")],
+    "what came and went are exchanged": [("    return inserted, deleted\n", "    return deleted, inserted\n")],
+    "a forked target has all its symbols": [("for one in bearing.get(op[2], ())[:1] if", "for one in bearing.get(op[2], ()) if")],
+    "a forked target has no symbol": [("for one in bearing.get(op[2], ())[:1] if", "for one in bearing.get(op[2], ()) if len(bearing[op[2]]) == 1 and")],
+    "a delete of what has not come has quotes": [("\" %s %s\" % (sign, shown(text)) if text else \"\"", "\" %s %s\" % (sign, shown(text)) if text or any(op[0] == (\"insert\" if sign == \"+\" else \"delete\") for op in row) else \"\"")],
+    "39 symbols are shown": [("MOST, END = 40, 18", "MOST, END = 39, 18")],
+    "41 symbols are shown": [("MOST, END = 40, 18", "MOST, END = 41, 18")],
+    "of a long text 19 at each end": [("MOST, END = 40, 18", "MOST, END = 40, 19")],
+    "of a long text its beginning alone": [(" + copy[-END:]", "")],
+    "a gap in a long text has its style": [("[(0, ord(ch)) for ch in \" .. \"]", "[(copy[0][0] if ch == \".\" else 0, ord(ch)) for ch in \" .. \"]")],
+    "one stamp as two": [(" if first != last else \"\")", ")")],
+    "settings are not shown": [("\"\".join(\" %s %d\" % op[2:] for op in row if op[0] == \"set\")", "\"\"")],
+    "the last setting alone": [("\"\".join(\" %s %d\" % op[2:] for op in row if op[0] == \"set\")", "\"\".join([\" %s %d\" % op[2:] for op in row if op[0] == \"set\"][-1:])")],
+    "settings alone are not shown": [("    elif any(op[0] != \"set\" for op in row):\n", "    else:\n")],
+    "a delete alone is never not shown": [("    elif any(op[0] != \"set\" for op in row):\n", "    elif any(op[0] == \"insert\" for op in row):\n")],
+    "faults of all corrections in each line": [("what == kind and stamp in stamps", "what == kind")],
+    "forks are not counted": [("for kind in (\"forked\", \"void\", \"waiting\"):", "for kind in (\"void\", \"waiting\"):")],
+    "void counts as waiting": [("what == kind and stamp in stamps", "{\"void\": \"waiting\"}.get(what, what) == kind and stamp in stamps")],
+    "each operation of a fork is counted": [("sum(1 for what, stamp in faults if what == kind and stamp in stamps)", "sum(1 for op in row if (kind, op[1]) in faults)")],
+    "a missing feed has an empty log": [("    return oracle_log.log(held_in(files, feed), site", "    return oracle_log.log(held_in(files, feed, set()), site")],
+    "a feed before a text": [("    try:\n        sought = None if", "    held_in(files, feed)\n    try:\n        sought = None if")],
     # renumberings
     "a moved operation's parent is left": [("(op[0], anew(op[1]), anew(op[2]), *op[3:])", "(op[0], anew(op[1]), op[2], *op[3:])")],
     "a delete's target is left": [("(op[0], anew(op[1]), anew(op[2]), *op[3:])", "(op[0], anew(op[1]), op[2] if op[0] == \"delete\" else anew(op[2]), *op[3:])")],
@@ -437,8 +496,40 @@ FILES |= {
     "a missing feed is guarded by hand": [("    if why and feed in files and not older:", "    if why and not older:")],
     "a replacement takes the feed first": [("    texts = []\n    for called", "    room_in(files, feed, site, older)\n    texts = []\n    for called")],
     "an import reads its text first": [("    held = room_in(files, feed, site, older)\n    try:", "    reported_copy.read_text(text, plain)\n    held = room_in(files, feed, site, older)\n    try:")],
-    "a text is replaced at the first of its places": [("    if len(places) != 1:", "    if not places:")],
-    "a text that stands nowhere is put at the end": [("    if len(places) != 1:", "    places = places or [len(copy)]\n    if len(places) != 1:")],
+    "a text is replaced at the first of its places": [("        return places if len(places) == 1 else []", "        return places[:1]")],
+    "a text that is nowhere is put at the end": [("    if not taken:\n        why", "    taken = taken or [len(copy)][len(places):]\n    if not taken:\n        why")],
+}
+
+# Of replacements at a place or everywhere, and of texts that are looked for.
+FILES |= {
+    "a place that is asked for is not heard": [("    if at is not None:\n        return", "    if False:\n        return")],
+    "a place that is none is taken": [("[place for place in places if place == at]", "[at]")],
+    "a place is asked for by its number among all": [("[place for place in places if place == at]", "places[at:at + 1]")],
+    "asked-for places count from 1": [("if place == at]", "if place == at - 1]")],
+    "the one place is taken where another is asked for": [("if place == at]", "if place == at or len(places) == 1]")],
+    "everywhere is not heard": [("    if not everywhere or size == 0:", "    if True:")],
+    "everywhere, the first alone": [("        if not out or place >= out[-1] + size:", "        if not out:")],
+    "everywhere, the first is left": [("        if not out or place >= out[-1] + size:", "        if place and (not out or place >= out[-1] + size):")],
+    "everywhere, what touches is passed over": [("place >= out[-1] + size", "place > out[-1] + size")],
+    "everywhere, what overlaps is taken": [("place >= out[-1] + size", "place >= out[-1] + min(size, 1)")],
+    "an empty text is put everywhere": [("    if not everywhere or size == 0:", "    if not everywhere:")],
+    "an empty text is nowhere everywhere": [("    if not everywhere or size == 0:\n", "    if everywhere and size == 0:\n        return []\n    if not everywhere:\n")],
+    "what is found has status 1": [("        out += reported_copy.place_line(sought, meaning.copy, place, line)\n    return out", "        out += reported_copy.place_line(sought, meaning.copy, place, line)\n    raise Stops(\"\", out)")],
+    "what is not found has status 0": [("        raise Stops(\"\", out + \"no place\\n\")", "        return out + \"no place\\n\"")],
+    "what is not found is not told": [("        raise Stops(\"\", out + \"no place\\n\")", "        raise Stops(\"\", out)")],
+    "a place that overlaps the one before is not found": [("    places = reported_copy.places_of(sought, meaning.copy)\n", "    places = reported_copy.taken(reported_copy.places_of(sought, meaning.copy), len(sought), None, len(sought) > 0)\n    places = places or reported_copy.places_of(sought, meaning.copy)\n")],
+    "the first place alone is found": [("    for place in places:\n        line = next(", "    for place in places[:1]:\n        line = next(")],
+    "the last place is not found": [("    for place in places:\n        line = next(", "    for place in places[:max(1, len(places) - 1)]:\n        line = next(")],
+    "lines count from 0": [("next((line.number for line", "next((line.number - 1 for line")],
+    "the line of a text's end": [("if line.begin <= place), None)", "if line.begin <= min(place + max(0, len(sought) - 1), len(meaning.copy))), None)")],
+    "a space between two lines is in none": [("if line.begin <= place), None)", "if line.begin <= place < line.end), None)")],
+    "a space between two lines is in the one behind": [("if line.begin <= place), None)", "if line.begin - 1 <= place), None)")],
+    "the first line for all": [("next((line.number for line in reversed(lines) if", "next((line.number for line in lines[:1] if")],
+    "lines are paragraphs": [("next((line.number for line in reversed(lines) if line.begin <= place)", "next((1 + meaning.copy[:place].count((0, 10)) for line in reversed(lines) if line.begin <= place)")],
+    "why there is no galley is not told": [("    out = galley if isinstance(galley, str) else \"\"", "    out = \"\"")],
+    "no places where there is no galley": [("    places = reported_copy.places_of(sought, meaning.copy)\n", "    places = [] if out else reported_copy.places_of(sought, meaning.copy)\n")],
+    "a text is found by marks alone": [("        sought = reported_copy.read_text(text, plain)", "        sought = reported_copy.read_text(text)")],
+    "a missing feed holds nothing where one looks": [("    meaning = oracle.Meaning(held_in(files, feed))\n    galley", "    meaning = oracle.Meaning(held_in(files, feed, set()))\n    galley")],
 }
 
 # Of merges and differences of rooms that correct one text: what they leave open.
@@ -508,12 +599,13 @@ def model(changes, files):
         if len(stands) != 1:
             raise ValueError("`%s` stands %d times in %s" % (old.strip(), len(stands), ", ".join(SOURCE)))
         texts[stands[0]] = texts[stands[0]].replace(old, new)
-    made, runs, readings, copies, galleys = modules = [types.ModuleType("wrong " + name) for name in SOURCE]
+    made, runs, readings, copies, galleys, logs = modules = [types.ModuleType("wrong " + name) for name in SOURCE]
     for module, name in zip(modules, SOURCE):
         exec(compile(texts[name], "wrong " + name, "exec"), module.__dict__)
     made.runs, made.copies, made.galleys, runs.oracle = runs, copies, galleys, made
     runs.reported_copy, runs.reported_galley, runs.oracle_readings = copies, galleys, readings
     readings.oracle, readings.reported_copy = made, copies
+    runs.oracle_log, logs.oracle, logs.reported_copy = logs, made, copies
     made.tomllib = TOML
     made.first_fault_case = functools.lru_cache(None)(made.first_fault_case)
     made.first_fault_wedge = functools.lru_cache(None)(made.first_fault_wedge)
@@ -657,7 +749,7 @@ class Played:
 class Filed:
     """Random commands on files."""
 
-    models, kind, count = FILES, differential_files.Asked, 3000
+    models, kind, count = FILES, differential_files.Asked, 4200
 
     def __init__(self):
         self.files = {}
