@@ -1,33 +1,43 @@
 -- Files checked by their names, in order.
 use Rattle.std.specs.Prelude.{◌≡◌, ◌⊎◌, ℕ, Bool, true, false, ◌&&◌, List, [], ◌∷◌, ◌++◌, Option, Some, None, Result, Ok}
-use Rattle.std.specs.Prelude.{Err}
+use Rattle.std.specs.Prelude.{Err, MatchBool, if◌then◌else◌}
 use Rattle.std.specs.Io.KnownBytes.{Appends}
 use Rattle.feed_files.specs.Files.{Counts, Reads, Shelf, Stays}
 use Rattle.feed_files.specs.declared.files.FileRefusal.{FileRefusal}
 use Rattle.feed_stored.specs.Sending.{WritesPrefix}
 use Rattle.feed_check.specs.Lines.{SaysBytes, line_of}
 use Rattle.feed_check.specs.Metal.{found_in, unfit_among}
+use Rattle.feed_check.specs.Room.{SaysRoomFile, is_room_name}
 use Rattle.feed_check.specs.Words.{refusal_words}
 use Rattle.feed_check.specs.declared.fault.CheckFault.{CheckFault}
 use Rattle.feed_check.specs.declared.fault.CheckFault.TheVariants as faults
 use Rattle.feed_check.specs.declared.metal.Found.{Found}
 use Rattle.feed_check.specs.declared.metal.Found.TheVariants as founds
 
+-- what is said of bytes under a name: as a room's file where it is its name, and else by their kind
+unfoldable pub SaysNamed : List ℕ → List ℕ → List ℕ → Bool → Type 0
+SaysNamed name bytes said well =
+    MatchBool (is_room_name name) (SaysRoomFile bytes said well) (SaysBytes bytes said well)
+
+-- what bytes under a name give for a cast
+unfoldable pub found_under : List ℕ → List ℕ → Found
+found_under name bytes = if is_room_name name then founds.Neither else found_in bytes
+
 -- what is said of what a read gave
-abbrev pub SaysRead : Result (List ℕ) FileRefusal → List ℕ → Bool → Type 0
-SaysRead (Ok bytes) said well = SaysBytes bytes said well
-SaysRead (Err why) said well = (refusal_words why ≡ Some said) × (well ≡ false)
+abbrev pub SaysRead : List ℕ → Result (List ℕ) FileRefusal → List ℕ → Bool → Type 0
+SaysRead name (Ok bytes) said well = SaysNamed name bytes said well
+SaysRead name (Err why) said well = (refusal_words why ≡ Some said) × (well ≡ false)
 
 -- what a read gave for a cast
-abbrev pub found_by : Result (List ℕ) FileRefusal → Found
-found_by (Ok bytes) = found_in bytes
-found_by (Err why) = founds.Neither
+abbrev pub found_by : List ℕ → Result (List ℕ) FileRefusal → Found
+found_by name (Ok bytes) = found_under name bytes
+found_by name (Err why) = founds.Neither
 
 -- a name was read, this is its line, and this is what the file gives for a cast; no file changes
 abbrev pub IsLine : List ℕ → Shelf → Shelf → List ℕ → Bool → Found → Type 0
 IsLine name before after line well found =
     Stays before after × (read : Result (List ℕ) FileRefusal) × Reads (before.kept name) read × Counts read before after
-    × (said : List ℕ) × SaysRead read said well × (line ≡ line_of name said) × (found ≡ found_by read)
+    × (said : List ℕ) × SaysRead name read said well × (line ≡ line_of name said) × (found ≡ found_by name read)
 
 -- the lines of names, one after the other, whether all the files are in order, and what each gives for a cast
 abbrev pub AreLines : List (List ℕ) → Shelf → Shelf → List ℕ → Bool → List (List ℕ × Found) → Type 0

@@ -5,5 +5,8 @@ pub mod Rows
 pub mod Strange
 pub mod Words
 pub mod Metal
+pub mod RoomOptions
+pub mod RoomFlaws
+pub mod Room
 pub mod Lines
 pub mod Checking

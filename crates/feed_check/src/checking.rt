@@ -3,7 +3,7 @@
 ghost use Rattle.std.specs.Prelude.{◌≡◌, ◌&&◌, false, IfErr, IfOk, OnErr, Some, map, option_map, string_bytes};
 ghost use Rattle.feed_files.specs.Files.{Stays};
 ghost use Rattle.feed_check.specs.Checking.{IsChecked, IsEnded, IsLine, IsRead, IsUnchecked, IsUnended, IsUnsaid};
-ghost use Rattle.feed_check.specs.Checking.{SaysLine};
+ghost use Rattle.feed_check.specs.Checking.{SaysLine, SaysNamed, found_under};
 ghost use Rattle.feed_check.specs.Lines.{line_of};
 ghost use Rattle.feed_check.specs.Metal.{unfit_of};
 ghost use Rattle.feed_check.specs.Words.{refusal_words};
@@ -11,6 +11,7 @@ ghost use Rattle.feed_check.specs.Words.{refusal_words};
 use crate::fault::CheckFault;
 use crate::metal::{Found, Metal, unfit};
 use crate::reported::{Reported, reported_of};
+use crate::room::{is_room_file, room_reported};
 use desk_memory::NoMemory;
 use feed_files::{FileRefusal, Files};
 use feed_stored::write_out;
@@ -41,6 +42,24 @@ fn unread<A: Allocator + Copy>(alloc: A, why: FileRefusal) -> Result<Reported<A>
     Ok(Reported { text, well: false })
 }
 
+/// What is said of bytes, as those of a room's file where they have its name, and else by their kind; and what they give
+/// for a cast.
+#[tactic(auto, unfolding(crate::specs::Checking::SaysNamed, crate::specs::Checking::found_under))]
+fn reported_by<A: Allocator + Copy>(
+    memory: Memory<A>,
+    name: &str,
+    bytes: Vec<u8, A>,
+) -> Result<(Reported<A>, Found), NoMemory>
+    ensures said { IfOk result (λ t. SaysNamed name.now bytes.items (string_bytes t.0.text) t.0.well) }
+    ensures found { IfOk result (λ t. t.1 ≡ found_under name.now bytes.items) }
+{
+    if is_room_file(name) {
+        let reported = room_reported(memory.own, memory.global, &bytes)?;
+        return Ok((reported, Found::Neither));
+    }
+    reported_of(memory, bytes)
+}
+
 /// The line of a file.
 fn line_of<A: Allocator + Copy>(alloc: A, name: &str, said: &str) -> Result<String<A>, NoMemory>
     ensures { IfOk result (λ s. string_bytes s ≡ line_of name.now said.now) }
@@ -64,7 +83,7 @@ fn look<F: Files, A: Allocator + Copy>(
     ensures stays { Stays (F.shelf files.old) (F.shelf files.new) }
 {
     let (reported, found) = match files.read(memory.own, name) {
-        Ok(bytes) => reported_of(memory, bytes)?,
+        Ok(bytes) => reported_by(memory, name, bytes)?,
         Err(why) => (unread(memory.own, why)?, Found::Neither),
     };
     let line = line_of(memory.own, name, reported.text.as_str())?;
@@ -117,7 +136,7 @@ fn both(before: bool, one: bool) -> bool
 }
 
 /// Checks files by their names, in their order. Each has one line, written before the next file is read: what is in it
-/// as a feed, a ribbon, a case or a wedge, by its content, or its first fault, or that it is none of these, or why it
+/// as a feed, a ribbon, a case or a wedge, by its content, or as a room's file, by its name, or its first fault, or that it is none of these, or why it
 /// was not read. Where exactly one is a case in order and exactly one a wedge in order, and they do not go together, a
 /// last line says so. It is true exactly where every file is in order and there is no such line. No name is taken, and
 /// no file changes.

@@ -39,7 +39,7 @@ fn fault_place(global: Global, bytes: &[u8]) -> Result<Option<usize>, NoMemory>
 }
 
 /// The line of a place, from 1.
-fn line_at(bytes: &[u8], place: usize) -> usize
+pub fn line_at(bytes: &[u8], place: usize) -> usize
     requires { place ≤ length bytes.now }
     ensures { result ≡ line_at bytes.now place }
 {
