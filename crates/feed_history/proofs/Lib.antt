@@ -7,4 +7,5 @@ pub mod Elements
 pub mod Ends
 pub mod Parts
 pub mod Rows
+pub mod Shown
 pub mod WorkedLines

@@ -28,16 +28,17 @@ pub partitioned : {X : Type 0} (borne : X → Stamp) (xs : List X) (s : Stamp) �
 partitioned borne xs s up i j d le lt e = by_cases (before (borne (get_or xs i d)) s) (λ k. k)
     (λ k. absurd (true≢false (sym (before-squeeze (borne (get_or xs j d)) (borne (get_or xs i d)) s e k) ∙ up i j d le lt)))
 
--- a place is a seat by what stands before it and at it
-pub seat_from : {X : Type 0} (borne : X → Stamp) (xs : List X) (s : Stamp) (place : ℕ) → Rise borne xs → place ≤ length xs → ((d : X) → 0 < place → before (borne (get_or xs (place - 1) d)) s ≡ true)
-    → ((d : X) → place < length xs → before (borne (get_or xs place d)) s ≡ false) → IsSeat borne xs s place
-seat_from borne xs s place up within last next = record {
-  within = within;
-  early = λ k d low high. partitioned borne xs s up k (place - 1) d (omega arith) (omega arith) (last d (omega arith));
-  late = λ k d low high. by_cases (before (borne (get_or xs k d)) s)
-      (λ e. absurd (true≢false (sym (partitioned borne xs s up place k d low high e) ∙ next d (omega arith))))
-      (λ e. e);
-}
+-- where one is smaller, all before it are, too
+pub early_more : {X : Type 0} (borne : X → Stamp) (xs : List X) (s : Stamp) (place : ℕ) → Rise borne xs → place < length xs → ((d : X) → before (borne (get_or xs place d)) s ≡ true)
+    → AllWithin (λ x. before (borne x) s ≡ true) xs 0 (place + 1)
+early_more borne xs s place up within here = λ k d low high. partitioned borne xs s up k place d (omega arith) within (here d)
+
+-- where one is not, none behind it is
+pub late_more : {X : Type 0} (borne : X → Stamp) (xs : List X) (s : Stamp) (place : ℕ) → Rise borne xs → ((d : X) → before (borne (get_or xs place d)) s ≡ false)
+    → AllWithin (λ x. before (borne x) s ≡ false) xs place (length xs)
+late_more borne xs s place up here = λ k d low high. by_cases (before (borne (get_or xs k d)) s)
+    (λ e. absurd (true≢false (sym (partitioned borne xs s up place k d low high e) ∙ here d)))
+    (λ e. e)
 
 -- what comes behind a greater stamp bears none that is smaller
 behind : (s t u : Stamp) → before s t ≡ true → before u t ≡ false → same u s ≡ false

@@ -1,5 +1,5 @@
 -- The texts that operations insert and delete.
-use Rattle.std.specs.Prelude.{ℕ, ◌-◌, Bool, not, ◌==◌, nat_lt, List, [], ◌∷◌, ◌++◌, length, take, drop, Option, Some, None, if◌then◌else◌}
+use Rattle.std.specs.Prelude.{ℕ, ◌-◌, Bool, not, ◌&&◌, ◌==◌, nat_lt, List, [], ◌∷◌, ◌++◌, length, take, drop, Option, Some, None, if◌then◌else◌}
 use Rattle.desk_ops.specs.declared.op.Style.TheVariants.{Roman}
 use Rattle.desk_ops.specs.declared.op.Symbol.{Symbol}
 use Rattle.desk_ops.specs.declared.op.Op.{Op}
@@ -8,7 +8,7 @@ use Rattle.desk_ops.specs.Op.{space}
 use Rattle.desk_ops.specs.Held.{bearing}
 use Rattle.feed_history.specs.Rows.{first}
 use Rattle.text_copy.specs.Places.{places_of}
-use Rattle.text_copy.specs.Plain.{all_shown}
+use Rattle.text_copy.specs.Plain.{all_shown, is_directional}
 use Rattle.text_copy.specs.Writing.{text_bytes}
 
 -- of an insert its symbol
@@ -52,6 +52,10 @@ gap = space ∷ point ∷ point ∷ space ∷ []
 abbrev pub shortened : List Symbol → List Symbol
 shortened symbols =
     if nat_lt 40 (length symbols) then take 18 symbols ++ gap ++ drop (length symbols - 18) symbols else symbols
+
+-- it is shown as it is
+abbrev pub is_kept : Symbol → Bool
+is_kept s = not (s.ch == 10) && not (is_directional s.ch)
 
 -- with marks for styles, as one line
 abbrev pub shown_text : List Symbol → List ℕ

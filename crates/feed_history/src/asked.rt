@@ -1,18 +1,18 @@
 //! Which corrections are asked for, and their lines.
 
-ghost use Rattle.std.specs.Prelude.{◌≡◌, ◌<◌, ◌^◌, All, IfOk, length};
+ghost use Rattle.std.specs.Prelude.{◌≡◌, ◌++◌, ◌<◌, ◌^◌, All, IfOk, OnOk, length, string_bytes};
 ghost use Rattle.desk_ops.specs.Op.{IsLawful, stamp_of};
 ghost use Rattle.feed_history.specs.Asked.{asked_line, asked_lines, has_text, is_of, is_since, lines_from};
 ghost use Rattle.feed_history.specs.Rows.{Rise, fault_stamp};
 ghost use Rattle.feed_history.specs.Spots.{spot_stamp};
 
 use crate::corrections::{correction_to, ends_of};
-use crate::lines::{Texts, line};
-use crate::spots::{Spot, place_of};
-use crate::stamped::row_of;
-use crate::texts::{contains, deleted, inserted};
+use crate::line_parts::{History, Near, Parts};
+use crate::lines::put_correction;
+use crate::spots::place_of;
+use crate::texts::contains;
 use desk_memory::NoMemory;
-use desk_ops::{CopyFault, Op, Stamp, Symbol};
+use desk_ops::{Stamp, Symbol};
 use std::alloc::Allocator;
 
 /// Which corrections are asked for: those of a site, those whose last counter is no smaller, and those that inserted or
@@ -48,105 +48,107 @@ fn is_since(since: Option<u64>, last: Stamp) -> bool
 fn has_text<A: Allocator + Copy>(
     alloc: A,
     asked: &Asked<'_>,
-    texts: &Texts<A>,
+    parts: &Parts<A>,
 ) -> Result<bool, NoMemory>
-    ensures { IfOk result (λ found. found ≡ has_text asked.now.text texts.now.inserted.items texts.now.deleted.items) }
+    ensures { IfOk result (λ found. found ≡ has_text asked.now.text parts.now.inserted.items parts.now.deleted.items) }
 {
     match asked.text {
         Some(text) => {
-            if contains(alloc, text, &texts.inserted)? {
+            if contains(alloc, text, &parts.inserted)? {
                 return Ok(true);
             }
-            contains(alloc, text, &texts.deleted)
+            contains(alloc, text, &parts.deleted)
         }
         None => Ok(true),
     }
 }
 
-/// The line of the correction that ends with a stamp, and nothing where it is not asked for.
-fn asked_line<A: Allocator + Copy>(
-    alloc: A,
-    ops: &[Op],
-    spots: &[Spot],
-    faults: &[CopyFault],
-    asked: &Asked<'_>,
-    last: Stamp,
-) -> Result<Vec<u8, A>, NoMemory>
-    requires rising { Rise stamp_of ops.now }
-    requires few { length ops.now < 2 ^ 63 }
-    requires spots { Rise spot_stamp spots.now }
-    requires few_spots { length spots.now < 2 ^ 63 }
-    requires faults { Rise fault_stamp faults.now }
-    requires few_faults { length faults.now < 2 ^ 63 }
-    requires last { last.counter < 2 ^ 63 }
-    ensures { IfOk result (λ v. v.items ≡ asked_line ops.now spots.now faults.now asked.now last) }
-{
-    if !is_of(asked.site, last) || !is_since(asked.since, last) {
-        return Ok(Vec::new(alloc));
-    }
-    let correction = correction_to(ops, last);
-    let row = row_of(alloc, ops, correction)?;
-    let texts = Texts {
-        inserted: inserted(alloc, &row)?,
-        deleted: deleted(alloc, ops, &row)?,
-    };
-    if !has_text(alloc, asked, &texts)? {
-        return Ok(Vec::new(alloc));
-    }
-    let faults = row_of(alloc, faults, correction)?;
-    line(
-        alloc,
-        correction,
-        place_of(spots, &row),
-        &row,
-        &texts,
-        &faults,
-    )
+/// A log as far as it is written, and what the next line needs.
+#[derive(Drop)]
+struct Lines<A: Allocator> {
+    out: String<A>,
+    near: Near,
+    parts: Parts<A>,
 }
 
-/// The lines of the corrections that end with these stamps and are asked for.
-fn lines_from<A: Allocator + Copy>(
+/// Writes the line of the correction that ends with a stamp at the end, if it is asked for.
+fn put_asked_line<A: Allocator + Copy>(
     alloc: A,
-    ops: &[Op],
-    spots: &[Spot],
-    faults: &[CopyFault],
+    lines: &mut Lines<A>,
+    history: &History<'_>,
+    asked: &Asked<'_>,
+    last: Stamp,
+) -> Result<(), NoMemory>
+    requires rising { Rise stamp_of history.now.ops.now }
+    requires few { length history.now.ops.now < 2 ^ 63 }
+    requires spots { Rise spot_stamp history.now.spots.now }
+    requires few_spots { length history.now.spots.now < 2 ^ 63 }
+    requires faults { Rise fault_stamp history.now.faults.now }
+    requires few_faults { length history.now.faults.now < 2 ^ 63 }
+    requires last { last.counter < 2 ^ 63 }
+    ensures { OnOk result (string_bytes lines.new.out
+        ≡ string_bytes lines.old.out
+        ++ asked_line history.now.ops.now history.now.spots.now history.now.faults.now asked.now last) }
+{
+    if !is_of(asked.site, last) || !is_since(asked.since, last) {
+        return Ok(());
+    }
+    let correction = correction_to(history.ops, &mut lines.near.ops, last);
+    lines.parts.take(history, &mut lines.near, correction)?;
+    if !has_text(alloc, asked, &lines.parts)? {
+        return Ok(());
+    }
+    let place = place_of(history.spots, &mut lines.near.spots, &lines.parts.ops);
+    put_correction(alloc, &mut lines.out, correction, place, &lines.parts)
+}
+
+/// Writes the lines of the corrections that end with these stamps and are asked for at the end.
+fn put_asked_lines<A: Allocator + Copy>(
+    alloc: A,
+    lines: &mut Lines<A>,
+    history: &History<'_>,
     asked: &Asked<'_>,
     ends: &[Stamp],
-) -> Result<Vec<u8, A>, NoMemory>
-    requires rising { Rise stamp_of ops.now }
-    requires few { length ops.now < 2 ^ 63 }
-    requires spots { Rise spot_stamp spots.now }
-    requires few_spots { length spots.now < 2 ^ 63 }
-    requires faults { Rise fault_stamp faults.now }
-    requires few_faults { length faults.now < 2 ^ 63 }
+) -> Result<(), NoMemory>
+    requires rising { Rise stamp_of history.now.ops.now }
+    requires few { length history.now.ops.now < 2 ^ 63 }
+    requires spots { Rise spot_stamp history.now.spots.now }
+    requires few_spots { length history.now.spots.now < 2 ^ 63 }
+    requires faults { Rise fault_stamp history.now.faults.now }
+    requires few_faults { length history.now.faults.now < 2 ^ 63 }
     requires small { All (λ s. s.counter < 2 ^ 63) ends.now }
-    ensures { IfOk result (λ v. v.items ≡ lines_from ops.now spots.now faults.now asked.now ends.now) }
+    ensures { OnOk result (string_bytes lines.new.out
+        ≡ string_bytes lines.old.out
+        ++ lines_from history.now.ops.now history.now.spots.now history.now.faults.now asked.now ends.now) }
 {
-    let mut out = Vec::new(alloc);
     for end in ends {
-        let line = asked_line(alloc, ops, spots, faults, asked, *end)?;
-        out.extend_from_slice(&line)?;
+        put_asked_line(alloc, lines, history, asked, *end)?;
     }
-    Ok(out)
+    Ok(())
 }
 
 /// The lines of the corrections that are asked for, by their last stamps.
 pub fn asked_lines<A: Allocator + Copy>(
     alloc: A,
-    ops: &[Op],
-    spots: &[Spot],
-    faults: &[CopyFault],
+    history: &History<'_>,
     asked: &Asked<'_>,
 ) -> Result<Vec<u8, A>, NoMemory>
-    requires rising { Rise stamp_of ops.now }
-    requires lawful { All IsLawful ops.now }
-    requires few { length ops.now < 2 ^ 63 }
-    requires spots { Rise spot_stamp spots.now }
-    requires few_spots { length spots.now < 2 ^ 63 }
-    requires faults { Rise fault_stamp faults.now }
-    requires few_faults { length faults.now < 2 ^ 63 }
-    ensures { IfOk result (λ v. v.items ≡ asked_lines ops.now spots.now faults.now asked.now) }
+    requires rising { Rise stamp_of history.now.ops.now }
+    requires lawful { All IsLawful history.now.ops.now }
+    requires few { length history.now.ops.now < 2 ^ 63 }
+    requires spots { Rise spot_stamp history.now.spots.now }
+    requires few_spots { length history.now.spots.now < 2 ^ 63 }
+    requires faults { Rise fault_stamp history.now.faults.now }
+    requires few_faults { length history.now.faults.now < 2 ^ 63 }
+    ensures { IfOk result (λ v. v.items
+        ≡ asked_lines history.now.ops.now history.now.spots.now history.now.faults.now asked.now) }
 {
-    let ends = ends_of(alloc, ops)?;
-    lines_from(alloc, ops, spots, faults, asked, &ends)
+    let ends = ends_of(alloc, history.ops)?;
+    let mut lines = Lines {
+        out: String::new(alloc),
+        near: Near::default(),
+        parts: Parts::new(alloc),
+    };
+    put_asked_lines(alloc, &mut lines, history, asked, &ends)?;
+    Ok(lines.out.into_bytes())
 }

@@ -29,18 +29,18 @@ fn is_borne(ops: &[Op], near: &mut usize, stamp: Stamp) -> bool
     first_bearing(ops, near, stamp).is_some()
 }
 
-/// The first counter of the longest row of a site that comes to a counter.
-fn first_to(ops: &[Op], site: u16, last: u64) -> u64
+/// The first counter of the longest row of a site that comes to a counter. Its operations are looked for near a place
+/// first.
+fn first_to(ops: &[Op], near: &mut usize, site: u16, last: u64) -> u64
     requires rising { Rise stamp_of ops.now }
     requires few { length ops.now < 2 ^ 63 }
     ensures value { result ≡ first_to ops.now site last }
     ensures within { result ≤ last }
 {
-    let mut near = 0;
     let mut first = last;
     while first > 0 {
         let counter = first - 1;
-        if !is_borne(ops, &mut near, Stamp { counter, site }) {
+        if !is_borne(ops, near, Stamp { counter, site }) {
             return first;
         }
         first = counter;
@@ -48,15 +48,15 @@ fn first_to(ops: &[Op], site: u16, last: u64) -> u64
     first
 }
 
-/// The correction that ends with a stamp.
-pub fn correction_to(ops: &[Op], last: Stamp) -> Correction
+/// The correction that ends with a stamp. Its operations are looked for near a place first.
+pub fn correction_to(ops: &[Op], near: &mut usize, last: Stamp) -> Correction
     requires rising { Rise stamp_of ops.now }
     requires few { length ops.now < 2 ^ 63 }
     ensures { result ≡ correction_to ops.now last }
 {
     Correction {
         site: last.site,
-        first: first_to(ops, last.site, last.counter),
+        first: first_to(ops, near, last.site, last.counter),
         last: last.counter,
     }
 }

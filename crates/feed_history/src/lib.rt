@@ -9,6 +9,7 @@
 
 mod asked;
 mod corrections;
+mod line_parts;
 mod lines;
 mod log;
 mod log_laws;

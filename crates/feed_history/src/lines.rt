@@ -1,6 +1,6 @@
 //! The line of a correction.
 
-ghost use Rattle.std.specs.Prelude.{◌≡◌, ◌++◌, IfOk, OnOk, codes, string_bytes};
+ghost use Rattle.std.specs.Prelude.{◌≡◌, ◌++◌, OnOk, codes, string_bytes};
 ghost use Rattle.desk_ops.specs.declared.fault.CopyFault.{CopyFault};
 ghost use Rattle.std.specs.Fmt.{decimal};
 ghost use Rattle.desk_ops.specs.Words.{stamp_words};
@@ -8,16 +8,28 @@ ghost use Rattle.feed_history.specs.Lines.{count_of, count_words, edits, faults_
 ghost use Rattle.feed_history.specs.Lines.{set_words, settings_words, stamps_words, text_words};
 
 use crate::corrections::Correction;
-use crate::texts::shown_text;
+use crate::line_parts::Parts;
+use crate::texts::put_shown_text;
 use desk_memory::NoMemory;
 use desk_ops::{CopyFault, FaultKind, Op, Stamp, Symbol};
+use itoa::Buffer;
 use std::alloc::{AllocError, Allocator};
 
-/// What a correction inserted and deleted.
-#[derive(Drop)]
-pub struct Texts<A: Allocator> {
-    pub inserted: Vec<Symbol, A>,
-    pub deleted: Vec<Symbol, A>,
+/// Writes a number at the end.
+fn put_number<A: Allocator + Copy>(out: &mut String<A>, n: u64) -> Result<(), AllocError>
+    ensures { OnOk result (string_bytes out.new ≡ string_bytes out.old ++ decimal n) }
+{
+    let mut digits = Buffer::new();
+    out.push_str(digits.format(n))
+}
+
+/// Writes a stamp at the end.
+fn put_stamp<A: Allocator + Copy>(out: &mut String<A>, stamp: Stamp) -> Result<(), AllocError>
+    ensures { OnOk result (string_bytes out.new ≡ string_bytes out.old ++ stamp_words stamp) }
+{
+    put_number(out, stamp.counter)?;
+    out.push('.')?;
+    put_number(out, u64::from(stamp.site))
 }
 
 /// Writes the stamps of a correction at the end: the first and the last, or the one that there is.
@@ -30,10 +42,11 @@ fn put_stamps<A: Allocator + Copy>(
     let site = correction.site;
     if correction.first != correction.last {
         let counter = correction.first;
-        write!(out, "{counter}.{site}..")?;
+        put_stamp(out, Stamp { counter, site })?;
+        out.push_str("..")?;
     }
     let counter = correction.last;
-    write!(out, "{counter}.{site}")
+    put_stamp(out, Stamp { counter, site })
 }
 
 /// Whether an operation inserts or deletes.
@@ -53,7 +66,8 @@ fn put_place<A: Allocator + Copy>(
     ensures { OnOk result (string_bytes out.new ≡ string_bytes out.old ++ place_words place ops.now) }
 {
     if let Some(place) = place {
-        return write!(out, " at {place}");
+        out.push_str(" at ")?;
+        return put_number(out, place as u64);
     }
     if edits(ops) {
         return out.push_str(" not shown");
@@ -61,38 +75,21 @@ fn put_place<A: Allocator + Copy>(
     Ok(())
 }
 
-/// The beginning of the line: the stamps, and the place.
-fn head<A: Allocator + Copy>(
-    alloc: A,
-    correction: Correction,
-    place: Option<usize>,
-    ops: &[Op],
-) -> Result<String<A>, AllocError>
-    ensures { IfOk result (λ s. string_bytes s ≡ stamps_words correction ++ place_words place ops.now) }
-{
-    let mut out = String::new(alloc);
-    put_stamps(&mut out, correction)?;
-    put_place(&mut out, place, ops)?;
-    Ok(out)
-}
-
 /// Writes a text behind a sign at the end, if it has symbols.
 fn put_text<A: Allocator + Copy>(
     alloc: A,
-    out: &mut Vec<u8, A>,
+    out: &mut String<A>,
     sign: &str,
     symbols: &[Symbol],
 ) -> Result<(), NoMemory>
-    ensures { OnOk result (out.new.items ≡ out.old.items ++ text_words sign.now symbols.now) }
+    ensures { OnOk result (string_bytes out.new ≡ string_bytes out.old ++ text_words sign.now symbols.now) }
 {
     if symbols.is_empty() {
         return Ok(());
     }
-    let text = shown_text(alloc, symbols)?;
-    out.extend_from_slice(sign.as_bytes())?;
-    out.extend_from_slice(&text)?;
-    out.push(b'"')?;
-    Ok(())
+    out.push_str(sign)?;
+    put_shown_text(alloc, out, symbols)?;
+    Ok(out.push('"')?)
 }
 
 /// Writes the setting that an operation makes at the end, if it makes one.
@@ -100,7 +97,10 @@ fn put_set<A: Allocator + Copy>(out: &mut String<A>, op: &Op) -> Result<(), Allo
     ensures { OnOk result (string_bytes out.new ≡ string_bytes out.old ++ set_words op.now) }
 {
     if let Op::Set { key, value, .. } = op {
-        return write!(out, " {key} {value}");
+        out.push(' ')?;
+        out.push_str(key.name())?;
+        out.push(' ')?;
+        return put_number(out, u64::from(*value));
     }
     Ok(())
 }
@@ -139,7 +139,10 @@ fn put_count<A: Allocator + Copy>(
     if count == 0 {
         return Ok(());
     }
-    write!(out, " {kind} {count}")
+    out.push(' ')?;
+    out.push_str(kind.name())?;
+    out.push(' ')?;
+    put_number(out, count as u64)
 }
 
 /// Writes how many copy faults are of each kind at the end.
@@ -158,38 +161,35 @@ fn put_faults<A: Allocator + Copy>(
     )
 }
 
-/// The end of the line: the settings, and the copy faults.
-fn tail<A: Allocator + Copy>(
-    alloc: A,
+/// Writes the end of the line at the end: the settings, and the copy faults.
+fn put_tail<A: Allocator + Copy>(
+    out: &mut String<A>,
     ops: &[Op],
     faults: &[CopyFault],
-) -> Result<String<A>, AllocError>
-    ensures { IfOk result (λ s. string_bytes s ≡ settings_words ops.now ++ faults_words faults.now ++ codes "\n") }
+) -> Result<(), AllocError>
+    ensures { OnOk result (string_bytes out.new
+        ≡ string_bytes out.old ++ (settings_words ops.now ++ faults_words faults.now ++ codes "\n")) }
 {
-    let mut out = String::new(alloc);
-    put_settings(&mut out, ops)?;
-    put_faults(&mut out, faults)?;
-    out.push_str("\n")?;
-    Ok(out)
+    put_settings(out, ops)?;
+    put_faults(out, faults)?;
+    out.push('\n')
 }
 
-/// The line of a correction.
-pub fn line<A: Allocator + Copy>(
+/// Writes the line of a correction at the end, by its place and what it is made of.
+pub fn put_correction<A: Allocator + Copy>(
     alloc: A,
+    out: &mut String<A>,
     correction: Correction,
     place: Option<usize>,
-    ops: &[Op],
-    texts: &Texts<A>,
-    faults: &[CopyFault],
-) -> Result<Vec<u8, A>, NoMemory>
-    ensures { IfOk result (λ v. v.items
-        ≡ line correction place ops.now texts.now.inserted.items texts.now.deleted.items faults.now) }
+    parts: &Parts<A>,
+) -> Result<(), NoMemory>
+    ensures { OnOk result (string_bytes out.new
+        ≡ string_bytes out.old ++ line correction place parts.now.ops.items parts.now.inserted.items
+        parts.now.deleted.items parts.now.faults.items) }
 {
-    let head = head(alloc, correction, place, ops)?;
-    let mut out = head.into_bytes();
-    put_text(alloc, &mut out, " + \"", &texts.inserted)?;
-    put_text(alloc, &mut out, " - \"", &texts.deleted)?;
-    let tail = tail(alloc, ops, faults)?;
-    out.extend_from_slice(tail.as_bytes())?;
-    Ok(out)
+    put_stamps(out, correction)?;
+    put_place(out, place, &parts.ops)?;
+    put_text(alloc, out, " + \"", &parts.inserted)?;
+    put_text(alloc, out, " - \"", &parts.deleted)?;
+    Ok(put_tail(out, &parts.ops, &parts.faults)?)
 }

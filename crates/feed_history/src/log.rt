@@ -5,6 +5,7 @@ ghost use Rattle.feed_files.specs.Files.{Stays};
 ghost use Rattle.feed_history.specs.Log.{IsLogged, IsUnlogged, log_bytes};
 
 use crate::asked::{Asked, asked_lines};
+use crate::line_parts::History;
 use crate::spots::spots_of;
 use desk_blocks::Blocks;
 use desk_memory::NoMemory;
@@ -26,7 +27,12 @@ fn log_of<A: Allocator + Copy>(
     let ops = replica.in_order()?;
     let faults = replica.copy_faults()?;
     let spots = spots_of(alloc, replica.sequence())?;
-    asked_lines(alloc, &ops, &spots, &faults, asked)
+    let history = History {
+        ops: &ops,
+        spots: &spots,
+        faults: &faults,
+    };
+    asked_lines(alloc, &history, asked)
 }
 
 /// Writes the log of a stored feed: a line for each correction that is asked for, newest last, as `11.1..20.1 at 9 + "

@@ -5,7 +5,7 @@ ghost use Rattle.desk_ops.specs.declared.op.Stamp.{Stamp};
 ghost use Rattle.feed_history.specs.Rows.{Rise, bearing_by};
 ghost use Rattle.feed_history.specs.Spots.{own_place, place_of, spot_stamp, spots_from, target_place};
 
-use crate::stamped::{Stamped, first_bearing};
+use crate::stamped::{Stamped, any_bearing, first_bearing};
 use desk_memory::NoMemory;
 use desk_ops::{Op, Stamp};
 use desk_seq::Sequence;
@@ -72,7 +72,7 @@ fn own_place(spots: &[Spot], near: &mut usize, op: &Op) -> Option<usize>
 }
 
 /// The place of the element that a delete targets, shown or not.
-fn target_place(spots: &[Spot], near: &mut usize, op: &Op) -> Option<usize>
+fn target_place(spots: &[Spot], op: &Op) -> Option<usize>
     requires rising { Rise spot_stamp spots.now }
     requires few { length spots.now < 2 ^ 63 }
     ensures { result ≡ target_place spots.now op.now }
@@ -80,27 +80,26 @@ fn target_place(spots: &[Spot], near: &mut usize, op: &Op) -> Option<usize>
     let Op::Delete { target, .. } = op else {
         return None;
     };
-    match first_bearing(spots, near, *target) {
+    match any_bearing(spots, *target) {
         Some(spot) => Some(spot.place),
         None => None,
     }
 }
 
 /// Where operations are in the copy: at the first element of theirs that is shown; where there is none, at the first
-/// that they target.
-pub fn place_of(spots: &[Spot], ops: &[Op]) -> Option<usize>
+/// that they target. Their own are looked for near a place first.
+pub fn place_of(spots: &[Spot], near: &mut usize, ops: &[Op]) -> Option<usize>
     requires rising { Rise spot_stamp spots.now }
     requires few { length spots.now < 2 ^ 63 }
     ensures { result ≡ place_of spots.now ops.now }
 {
-    let mut near = 0;
     for op in ops {
-        if let Some(place) = own_place(spots, &mut near, op) {
+        if let Some(place) = own_place(spots, near, op) {
             return Some(place);
         }
     }
     for op in ops {
-        if let Some(place) = target_place(spots, &mut near, op) {
+        if let Some(place) = target_place(spots, op) {
             return Some(place);
         }
     }

@@ -1,13 +1,12 @@
 //! Lists by stamp, and what in them bears a stamp.
 
-ghost use Rattle.std.specs.Prelude.{◌≡◌, ◌+◌, ◌<◌, ◌^◌, IfOk, length, true};
+ghost use Rattle.std.specs.Prelude.{◌≡◌, ◌<◌, ◌^◌, ◌++◌, OnOk, length};
 ghost use Rattle.desk_ops.specs.declared.op.Stamp.{Stamp};
 ghost use Rattle.feed_history.specs.Rows.{IsSeat, Rise, bearing_by, first, row_of};
 
 use crate::corrections::Correction;
-use desk_memory::NoMemory;
 use desk_ops::{CopyFault, Op, Stamp};
-use std::alloc::Allocator;
+use std::alloc::{AllocError, Allocator};
 
 /// What bears a stamp.
 pub trait Stamped: Copy {
@@ -38,31 +37,39 @@ impl Stamped for CopyFault {
     }
 }
 
-/// Whether a place is the first whose stamp is not smaller.
-fn is_seat<T: Stamped>(items: &[T], place: usize, stamp: Stamp) -> bool
-    requires { Rise T.borne items.now }
-    ensures { result ≡ true → IsSeat T.borne items.now stamp place }
-{
-    if place > items.len() {
-        return false;
+/// Some steps behind a place or before another where the other is an end of a list, and else between the two.
+fn next_place(from: usize, until: usize, len: usize, steps: usize) -> usize {
+    if until == len {
+        return from.saturating_add(steps);
     }
-    if place > 0 && !items[place - 1].stamp_of().is_before(stamp) {
-        return false;
+    if from == 0 {
+        return until.saturating_sub(steps);
     }
-    place == items.len() || !items[place].stamp_of().is_before(stamp)
+    from.saturating_add(until.saturating_sub(from) / 2)
 }
 
-/// The first place whose stamp is not smaller. It is looked for near a place first.
+/// The first place whose stamp is not smaller. It is looked for near a place first, by steps that double, and then by
+/// halves.
 fn seat<T: Stamped>(items: &[T], near: usize, stamp: Stamp) -> usize
     requires { Rise T.borne items.now }
     ensures { IsSeat T.borne items.now stamp result }
 {
-    for place in near.saturating_sub(2)..near.saturating_add(3) {
-        if is_seat(items, place, stamp) {
-            return place;
+    let mut from = 0;
+    let mut until = items.len();
+    let mut steps = near;
+    let mut next: usize = 0;
+    while from < until {
+        let place = next_place(from, until, items.len(), steps);
+        let at = place.max(from).min(until - 1);
+        if items[at].stamp_of().is_before(stamp) {
+            from = at + 1;
+        } else {
+            until = at;
         }
+        steps = next;
+        next = next.saturating_add(next).saturating_add(1);
     }
-    items.partition_point(|item| item.stamp_of().is_before(stamp))
+    from
 }
 
 /// The first that bears a stamp, of a list by stamp. It is looked for near a place first, which then is where it would be.
@@ -76,6 +83,29 @@ pub fn first_bearing<T: Stamped>(items: &[T], near: &mut usize, stamp: Stamp) ->
         return None;
     }
     Some(items[from])
+}
+
+/// Where a counter is about in a list by stamp, if its counters are spread evenly.
+fn even_place<T: Stamped>(items: &[T], counter: u64) -> usize {
+    let (Some(first), Some(last)) = (items.first(), items.last()) else {
+        return 0;
+    };
+    let least = first.stamp_of().counter;
+    let spread = last.stamp_of().counter.saturating_sub(least);
+    if spread == 0 {
+        return 0;
+    }
+    let steps = items.len().saturating_sub(1) as u64;
+    (steps.saturating_mul(counter.saturating_sub(least)) / spread) as usize
+}
+
+/// The first that bears a stamp, of a list by stamp. It is looked for first where its counter is about.
+pub fn any_bearing<T: Stamped>(items: &[T], stamp: Stamp) -> Option<T>
+    requires { Rise T.borne items.now }
+    ensures { result ≡ first (bearing_by T.borne items.now stamp) }
+{
+    let mut near = even_place(items, stamp.counter);
+    first_bearing(items, &mut near, stamp)
 }
 
 /// Those that bear a stamp, of a list by stamp. They are looked for near a place first, which then is that of the first.
@@ -93,22 +123,22 @@ fn bearing<'a, T: Stamped>(items: &'a [T], near: &mut usize, stamp: Stamp) -> &'
     &items[from..until]
 }
 
-/// Those that bear the stamps of a correction, by stamp, of a list by stamp.
-pub fn row_of<T: Stamped, A: Allocator + Copy>(
-    alloc: A,
+/// Adds those that bear the stamps of a correction, by stamp, of a list by stamp. They are looked for near a place
+/// first, which then is that of the last.
+pub fn put_row<T: Stamped, A: Allocator + Copy>(
+    row: &mut Vec<T, A>,
     items: &[T],
+    near: &mut usize,
     correction: Correction,
-) -> Result<Vec<T, A>, NoMemory>
+) -> Result<(), AllocError>
     requires rising { Rise T.borne items.now }
     requires few { length items.now < 2 ^ 63 }
     requires last { correction.last < 2 ^ 63 }
-    ensures { IfOk result (λ v. v.items ≡ row_of T.borne items.now correction) }
+    ensures { OnOk result (row.new.items ≡ row.old.items ++ row_of T.borne items.now correction) }
 {
-    let mut row = Vec::new(alloc);
-    let mut near = 0;
     let site = correction.site;
     for counter in correction.first..correction.last + 1 {
-        row.extend_from_slice(bearing(items, &mut near, Stamp { counter, site }))?;
+        row.extend_from_slice(bearing(items, near, Stamp { counter, site }))?;
     }
-    Ok(row)
+    Ok(())
 }

@@ -1,16 +1,18 @@
 //! The texts that a correction inserted and deleted.
 
-ghost use Rattle.std.specs.Prelude.{◌≡◌, ◌++◌, ◌<◌, ◌^◌, IfOk, OnOk, length};
+ghost use Rattle.std.specs.Prelude.{◌≡◌, ◌++◌, ◌<◌, ◌^◌, IfOk, OnOk, length, string_bytes};
+ghost use Rattle.std.specs.List.{list_all};
 ghost use Rattle.desk_ops.specs.Op.{stamp_of};
 ghost use Rattle.feed_history.specs.Rows.{Rise};
-ghost use Rattle.feed_history.specs.Texts.{contains, deleted, inserted, own_symbols, shortened, shown_text};
+ghost use Rattle.feed_history.specs.Texts.{contains, deleted, inserted, is_kept, own_symbols, shortened, shown_text};
 ghost use Rattle.feed_history.specs.Texts.{taken_symbols};
+ghost use Rattle.text_copy.specs.Writing.{text_bytes};
 
-use crate::stamped::first_bearing;
+use crate::stamped::any_bearing;
 use desk_memory::NoMemory;
 use desk_ops::{Op, Style, Symbol};
 use std::alloc::{AllocError, Allocator};
-use text_copy::{all_shown, places_of, write_text};
+use text_copy::{all_shown, is_directional, places_of, put_quoted, put_turn};
 
 /// So many symbols of a text are shown.
 const MOST: usize = 40;
@@ -36,8 +38,8 @@ fn add_own<A: Allocator + Copy>(symbols: &mut Vec<Symbol, A>, op: &Op) -> Result
     Ok(())
 }
 
-/// Adds the symbols of the inserts among operations.
-fn add_inserted<A: Allocator + Copy>(
+/// Adds the symbols that operations insert, in their order.
+pub fn add_inserted<A: Allocator + Copy>(
     symbols: &mut Vec<Symbol, A>,
     ops: &[Op],
 ) -> Result<(), AllocError>
@@ -54,7 +56,6 @@ fn add_inserted<A: Allocator + Copy>(
 fn add_taken<A: Allocator + Copy>(
     symbols: &mut Vec<Symbol, A>,
     all: &[Op],
-    near: &mut usize,
     op: &Op,
 ) -> Result<(), AllocError>
     requires rising { Rise stamp_of all.now }
@@ -62,38 +63,27 @@ fn add_taken<A: Allocator + Copy>(
     ensures { OnOk result (symbols.new.items ≡ symbols.old.items ++ taken_symbols all.now op.now) }
 {
     if let Op::Delete { target, .. } = op {
-        if let Some(first) = first_bearing(all, near, *target) {
+        if let Some(first) = any_bearing(all, *target) {
             add_own(symbols, &first)?;
         }
     }
     Ok(())
 }
 
-/// The symbols that operations insert, in their order.
-pub fn inserted<A: Allocator + Copy>(alloc: A, ops: &[Op]) -> Result<Vec<Symbol, A>, NoMemory>
-    ensures { IfOk result (λ v. v.items ≡ inserted ops.now) }
-{
-    let mut symbols = Vec::new(alloc);
-    add_inserted(&mut symbols, ops)?;
-    Ok(symbols)
-}
-
-/// The symbols that operations of a set delete, in the order of the deletes.
-pub fn deleted<A: Allocator + Copy>(
-    alloc: A,
+/// Adds the symbols that operations of a set delete, in the order of the deletes.
+pub fn add_deleted<A: Allocator + Copy>(
+    symbols: &mut Vec<Symbol, A>,
     all: &[Op],
     ops: &[Op],
-) -> Result<Vec<Symbol, A>, NoMemory>
+) -> Result<(), AllocError>
     requires rising { Rise stamp_of all.now }
     requires few { length all.now < 2 ^ 63 }
-    ensures { IfOk result (λ v. v.items ≡ deleted all.now ops.now) }
+    ensures { OnOk result (symbols.new.items ≡ symbols.old.items ++ deleted all.now ops.now) }
 {
-    let mut symbols = Vec::new(alloc);
-    let mut near = 0;
     for op in ops {
-        add_taken(&mut symbols, all, &mut near, op)?;
+        add_taken(symbols, all, op)?;
     }
-    Ok(symbols)
+    Ok(())
 }
 
 /// Whether a text stands somewhere in symbols.
@@ -126,12 +116,48 @@ fn shortened<A: Allocator + Copy>(
     Ok(text)
 }
 
-/// A text as it is shown: shortened, with marks for its styles, the end of a line as a space, and a directional mark by
-/// its name.
-pub fn shown_text<A: Allocator + Copy>(alloc: A, symbols: &[Symbol]) -> Result<Vec<u8, A>, NoMemory>
-    ensures { IfOk result (λ v. v.items ≡ shown_text symbols.now) }
+/// Whether each symbol is shown as it is.
+fn are_kept(symbols: &[Symbol]) -> bool
+    ensures { result ≡ list_all is_kept symbols.now }
 {
+    symbols
+        .iter()
+        .all(|symbol| symbol.ch != '\n' && !is_directional(symbol.ch))
+}
+
+/// Writes symbols as text at the end, each style between its marks.
+fn put_symbols<A: Allocator + Copy>(out: &mut String<A>, copy: &[Symbol]) -> Result<(), AllocError>
+    ensures { OnOk result (string_bytes out.new ≡ string_bytes out.old ++ text_bytes copy.now) }
+{
+    let mut run = Style::Roman;
+    let mut count: u64 = 0;
+    for symbol in copy {
+        if symbol.ch == ' ' {
+            count += 1;
+            continue;
+        }
+        put_turn(out, run, count, symbol.style)?;
+        put_quoted(out, symbol.ch)?;
+        run = symbol.style;
+        count = 0;
+    }
+    put_turn(out, run, count, Style::Roman)
+}
+
+/// Writes a text at the end as it is shown: shortened, with marks for its styles, the end of a line as a space, and a
+/// directional mark by its name.
+#[tactic(auto, using(crate::proofs::Shown::kept_text))]
+pub fn put_shown_text<A: Allocator + Copy>(
+    alloc: A,
+    out: &mut String<A>,
+    symbols: &[Symbol],
+) -> Result<(), NoMemory>
+    ensures { OnOk result (string_bytes out.new ≡ string_bytes out.old ++ shown_text symbols.now) }
+{
+    if symbols.len() <= MOST && are_kept(symbols) {
+        return Ok(put_symbols(out, symbols)?);
+    }
     let text = shortened(alloc, symbols)?;
     let shown = all_shown(alloc, &text)?;
-    write_text(alloc, &shown)
+    Ok(put_symbols(out, &shown)?)
 }
