@@ -21,6 +21,11 @@ held_in None = files.Free
 held_in (Some hold) = if hold.is_touched then files.Touched (string_bytes hold.name) else files.Untouched
     (string_bytes hold.name)
 
+-- a name is that of what is held
+abbrev pub IsHeldAs : Option Hold → List ℕ → Type 0
+IsHeldAs None name = ⊥
+IsHeldAs (Some hold) name = string_bytes hold.name ≡ name
+
 -- Where a name leads: the held one and that of its writing to their places, any other to itself.
 pub record LeadsTo (hold : Hold) (name place : List ℕ) : Type 0 where
   pub held : name ≡ string_bytes hold.name → place ≡ string_bytes hold.place

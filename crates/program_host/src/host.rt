@@ -1,11 +1,11 @@
 //! Files of the machine.
 
-ghost use Rattle.std.specs.Prelude.{◌≡◌, ◌≢◌, ◌<◌, ◌≤◌, Err, IfErr, IfOk, IfSome, IsErrAnd, IsNone, IsSomeAnd};
-ghost use Rattle.std.specs.Prelude.{MatchOption, MatchResult, None, Ok, Some, length, string_bytes};
+ghost use Rattle.std.specs.Prelude.{◌≡◌, ◌≢◌, ◌↔◌, ◌<◌, ◌≤◌, Err, IfErr, IfOk, IfSome, IsErr, IsErrAnd, IsNone, IsOk};
+ghost use Rattle.std.specs.Prelude.{IsSomeAnd, IsTrue, MatchOption, MatchResult, None, Ok, Some, length, string_bytes, true};
 ghost use Rattle.std.specs.Fs.{metadata_mode};
 ghost use Rattle.std.specs.IoError.{error_kind};
 ghost use Rattle.feed_files.specs.Files.{Counts, Free, IsCounted, Unknown, max_file, shelf, touched};
-ghost use Rattle.program_host.specs.Host.{IsReportedOf, LeadsTo, held_in};
+ghost use Rattle.program_host.specs.Host.{IsHeldAs, IsReportedOf, LeadsTo, held_in};
 
 use crate::hold::{Hold, missing_or};
 use crate::plain::Plain;
@@ -29,6 +29,8 @@ pub struct HostFiles<'a> {
     trouble: Option<Trouble>,
     /// The name of the file whose reading was refused last, where there was memory for it.
     unread: Option<String>,
+    /// Whether a file has taken the held feed's name since.
+    is_stored: bool,
 }
 
 impl<'a> HostFiles<'a> {
@@ -44,6 +46,7 @@ impl<'a> HostFiles<'a> {
             hold: None,
             trouble: None,
             unread: None,
+            is_stored: false,
         }
     }
 
@@ -54,6 +57,7 @@ impl<'a> HostFiles<'a> {
             (shelf (λ _. Unknown) self.new.failures Free) }
         ensures held { self.new.hold ≡ self.old.hold }
         ensures kept { self.new.trouble ≡ Some trouble }
+        ensures stored { self.new.is_stored ≡ self.old.is_stored }
     {
         let why = refusal_of(&trouble.error);
         if why == FileRefusal::Device {
@@ -74,7 +78,9 @@ impl<'a> HostFiles<'a> {
     }
 
     /// Whether a name is that of the held feed.
-    fn is_held(&self, name: &str) -> bool {
+    fn is_held(&self, name: &str) -> bool
+        ensures { IsTrue result ↔ IsHeldAs self.now.hold name.now }
+    {
         match &self.hold {
             Some(hold) => hold.name.as_str() == name,
             None => false,
@@ -92,6 +98,31 @@ impl<'a> HostFiles<'a> {
             self.progress.note(Step::New(name));
         }
         self.unread = String::from_str(self.host.alloc(), name).ok();
+    }
+
+    /// A file has taken a name: that of the held feed is stored then, which a conversation reports at once.
+    fn note_stored(&mut self, name: &str)
+        ensures stored { IsHeldAs self.old.hold name.now → self.new.is_stored ≡ true }
+        ensures other { ¬ IsHeldAs self.old.hold name.now → self.new.is_stored ≡ self.old.is_stored }
+        ensures failures { self.new.failures ≡ self.old.failures }
+        ensures held { self.new.hold ≡ self.old.hold }
+    {
+        if self.is_held(name) {
+            self.is_stored = true;
+            self.progress.report_stored(name);
+        } else {
+            self.progress.report(Step::Stored(name));
+        }
+    }
+
+    /// Says at the end of a conversation that the held feed has not changed, where it was not stored.
+    pub fn report_end(&self) {
+        if self.is_stored {
+            return;
+        }
+        if let Some(hold) = &self.hold {
+            self.progress.tell_same(hold.name.as_str());
+        }
     }
 
     /// Where a name leads: that of the held feed and that of its writing past their links, any other as it is.
@@ -156,6 +187,28 @@ impl<'a> HostFiles<'a> {
             }
             Err(error) => {
                 let asked = Asked::Read;
+                Err(self.refused(Trouble { asked, error }))
+            }
+        }
+    }
+
+    /// What a renaming to a name comes to. Only one that is done, to that of the held feed, stores the feed.
+    fn renamed(&mut self, name: &str, done: io::Result<()>) -> Result<(), FileRefusal>
+        ensures given { MatchResult done (λ _. IsOk result) (λ error. IsErrAnd result (IsReportedOf (error_kind error))) }
+        ensures stored { IsOk done → IsHeldAs self.old.hold name.now → self.new.is_stored ≡ true }
+        ensures other { IsOk done → ¬ IsHeldAs self.old.hold name.now → self.new.is_stored ≡ self.old.is_stored }
+        ensures failed { IsErr done → self.new.is_stored ≡ self.old.is_stored }
+        ensures counted { Counts result (shelf (λ _. Unknown) self.old.failures Free)
+            (shelf (λ _. Unknown) self.new.failures Free) }
+        ensures held { self.new.hold ≡ self.old.hold }
+    {
+        match done {
+            Ok(()) => {
+                self.note_stored(name);
+                Ok(())
+            }
+            Err(error) => {
+                let asked = Asked::Rename;
                 Err(self.refused(Trouble { asked, error }))
             }
         }
@@ -317,16 +370,8 @@ impl<'a> Files for HostFiles<'a> {
 
     fn rename(&mut self, from: &str, to: &str) -> Result<(), FileRefusal> {
         self.touch();
-        match rename_file(self.host, self.place(from), self.place(to)) {
-            Ok(()) => {
-                self.progress.report(Step::Stored(to));
-                Ok(())
-            }
-            Err(error) => {
-                let asked = Asked::Rename;
-                Err(self.refused(Trouble { asked, error }))
-            }
-        }
+        let done = rename_file(self.host, self.place(from), self.place(to));
+        self.renamed(to, done)
     }
 }
 

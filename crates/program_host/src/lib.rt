@@ -7,9 +7,11 @@ mod hold;
 mod host;
 mod plain;
 mod progress;
+mod prompted;
 mod trouble;
 
 pub use host::HostFiles;
 pub use plain::Plain;
 pub use progress::{Progress, Step, Watched};
+pub use prompted::Prompted;
 pub use trouble::Explains;

@@ -1,6 +1,6 @@
 //! How far a run is, reported on standard error as bytes are read and written, once a second at most.
 
-ghost use Rattle.std.specs.Prelude.{◌≡◌};
+ghost use Rattle.std.specs.Prelude.{◌≡◌, false};
 
 use crate::plain::Plain;
 use std::cell::Cell;
@@ -19,11 +19,15 @@ pub struct Progress<'a> {
     last: Cell<Option<Instant>>,
     /// Whether the reader of standard output has closed it.
     closed: Cell<bool>,
+    /// Whether the run is a conversation: somebody types the commands, and sees what standard error has.
+    talks: bool,
 }
 
 impl<'a> Progress<'a> {
-    /// A run that begins now.
-    pub fn new(host: &'a HostRuntime) -> Self {
+    /// A run that begins now, and is no conversation.
+    pub fn new(host: &'a HostRuntime) -> Self
+        ensures { result.talks ≡ false }
+    {
         let last = if host.stderr().is_terminal() {
             Instant::now(host).ok()
         } else {
@@ -33,7 +37,24 @@ impl<'a> Progress<'a> {
             host,
             last: Cell::new(last),
             closed: Cell::new(false),
+            talks: false,
         }
+    }
+
+    /// The run of a desk that begins now. It is a conversation where standard input and standard error are terminals.
+    pub fn of_desk(host: &'a HostRuntime) -> Self {
+        let talks = host.stdin().is_terminal() && host.stderr().is_terminal();
+        Progress {
+            talks,
+            ..Progress::new(host)
+        }
+    }
+
+    /// Whether the run is a conversation.
+    pub fn talks(&self) -> bool
+        ensures { result ≡ self.now.talks }
+    {
+        self.talks
     }
 
     /// Whether the reader of standard output has closed it, as `head` does: then a write to it has failed.
@@ -63,18 +84,44 @@ impl<'a> Progress<'a> {
         true
     }
 
-    /// Reports how far the run is, where a second has passed. Whether the line can be written changes nothing.
+    /// Writes a line on the run. Whether it can be written changes nothing.
+    fn tell(&self, step: Step<'_>) {
+        let _ = writeln!(self.host.stderr(), "copydesk: {step}");
+    }
+
+    /// Reports how far the run is, where a second has passed.
     pub fn report(&self, step: Step<'_>) {
         if self.is_due() {
-            let _ = writeln!(self.host.stderr(), "copydesk: {step}");
+            self.tell(step);
         }
     }
 
-    /// Reports at once, at a terminal. Whether the line can be written changes nothing.
+    /// Reports at once, at a terminal.
     pub fn note(&self, step: Step<'_>) {
         if self.last.get().is_some() {
-            let _ = writeln!(self.host.stderr(), "copydesk: {step}");
+            self.tell(step);
         }
+    }
+
+    /// Reports at once in a conversation, and else where a second has passed.
+    pub fn report_stored(&self, name: &str) {
+        if self.talks {
+            self.tell(Step::Stored(name));
+        } else {
+            self.report(Step::Stored(name));
+        }
+    }
+
+    /// Says at the end of a conversation that the feed of this name is as it was.
+    pub fn tell_same(&self, name: &str) {
+        if self.talks {
+            self.tell(Step::Same(name));
+        }
+    }
+
+    /// Writes to standard error in a conversation. Whether that can be written changes nothing.
+    pub fn say(&self, text: &str) {
+        let _ = write!(self.host.stderr(), "{text}");
     }
 }
 
@@ -93,6 +140,8 @@ pub enum Step<'a> {
     Answer(u64),
     /// The feed of this name was not there before.
     New(&'a str),
+    /// The feed of this name has not changed.
+    Same(&'a str),
 }
 
 impl<'a> Display for Step<'a> {
@@ -104,6 +153,11 @@ impl<'a> Display for Step<'a> {
             Step::Stored(name) => write!(f, "{} is stored", Plain(name)),
             Step::Answer(bytes) => write!(f, "{bytes} bytes of the answer are written"),
             Step::New(name) => write!(f, "{} is new", Plain(name)),
+            Step::Same(name) => write!(
+                f,
+                "{} has not changed, and is not stored anew",
+                Plain(name)
+            ),
         }
     }
 }
