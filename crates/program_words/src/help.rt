@@ -76,6 +76,14 @@ As in:
   copydesk sorts one.feed --case case12.toml
                                             the sorts that the copy wants, and those that are missing
 
+The file copydesk.toml in the current folder gives what is required and not typed, and settings to be tried:
+  site = 1
+  case = \"case12.toml\"
+  wedge = \"wedge5.toml\"
+  [set]
+  measure = 150
+`copydesk check copydesk.toml` says what it gives. `renumber` takes no number from it.
+
 Status: 0 done; 1 it stopped, with a line on standard error; 2 the words were refused.
 `copydesk SUBCOMMAND --help` says more; `copydesk script --help` lists the commands.";
 
@@ -106,6 +114,8 @@ pub const ON_A_FEED: &str = "\
 As in: copydesk desk one.feed --site 1 < commands
 
 The feed is stored once all commands were answered: an `ok` stands when the run has ended with status 0.
+At a terminal it prompts for each command: `help` lists them, Ctrl-D ends them, and a last line says whether the feed is
+stored.
 While a run has a feed, no other can have it. FEED.lock, beside it, is the sign of that, and stays.
 A number belongs to one feed: go on with a copied or restored feed under a new number. FEED.last, beside it, has the
 last counter that each site stored there: a feed that holds less is refused, unless `--older` is given.

@@ -6,6 +6,6 @@ mod help;
 mod reading;
 mod wishes;
 
-pub use help::VERSION;
+pub use help::{COMMANDS, VERSION};
 pub use reading::read_words;
 pub use wishes::{Manner, Sources, Subcommand, Wish};
