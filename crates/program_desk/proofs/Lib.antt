@@ -3,3 +3,5 @@ pub mod Merged
 pub mod Telling
 pub mod Explaining
 pub mod Previewing
+pub mod Typed
+pub mod InRooms

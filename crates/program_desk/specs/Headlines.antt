@@ -1,5 +1,5 @@
 -- The first line on standard error of a run that stopped: what stopped it.
-use Rattle.std.specs.Prelude.{ℕ, List, ◌++◌, codes}
+use Rattle.std.specs.Prelude.{ℕ, List, ◌++◌, ◌==◌, if◌then◌else◌, codes}
 use Rattle.std.specs.Fmt.{decimal}
 use Rattle.feed_edit.specs.declared.fault.RevisionFault.{RevisionFault}
 use Rattle.feed_edit.specs.declared.fault.RevisionFault.TheVariants as revisions
@@ -29,6 +29,10 @@ flaw_words flaws.Escape = codes ": a backslash that escapes nothing\n"
 flaw_words flaws.Inside = codes ": a style mark inside the other style\n"
 flaw_words flaws.Unclosed = codes ": a style that is open at the end of the line\n"
 
+-- what follows so many places
+abbrev pub places_words : ℕ → List ℕ
+places_words count = if count == 1 then codes " place\n" else codes " places\n"
+
 -- the line that says all
 abbrev pub said_line : Said → List ℕ
 said_line saids.NoMemory = codes "copydesk: no memory\n"
@@ -36,7 +40,7 @@ said_line saids.CopyFaults = codes "copydesk: copy faults\n"
 said_line saids.NoRibbon = codes "copydesk: no ribbon\n"
 said_line saids.Forks = codes "copydesk: number used twice\n"
 said_line saids.NoPlace = codes "copydesk: no place\n"
-said_line (saids.ManyPlaces count) = codes "copydesk: " ++ (decimal count ++ codes " places\n")
+said_line (saids.ManyPlaces count) = codes "copydesk: " ++ (decimal count ++ places_words count)
 said_line (saids.Wipes deleted of) =
     codes "copydesk: " ++ (decimal deleted ++ (codes " of " ++ (decimal of ++ codes " symbols would be deleted\n")))
 said_line (saids.Text origin line column why) =

@@ -10,3 +10,6 @@ pub mod Told
 pub mod Headlines
 pub mod Explained
 pub mod History
+pub mod Completed
+pub mod Rooms
+pub mod RoomLaws

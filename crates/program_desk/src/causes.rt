@@ -127,7 +127,7 @@ pub enum Output {
 }
 
 /// The cause where a file was refused.
-fn file_cause<'a>(name: &'a str, why: FileRefusal) -> Cause<'a>
+pub fn file_cause<'a>(name: &'a str, why: FileRefusal) -> Cause<'a>
     ensures { result ≡ file_cause name.entry why }
 {
     match why {

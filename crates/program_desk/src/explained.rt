@@ -27,7 +27,7 @@ fn is_printable(name: &[u8]) -> bool
 
 /// Writes a name as a terminal shows it. A name that is not printable takes memory, and is cut off where that is
 /// refused.
-fn tell_name<E: Write>(alloc: Global, faults: &mut E, told: Told, name: &str) -> Told
+pub fn tell_name<E: Write>(alloc: Global, faults: &mut E, told: Told, name: &str) -> Told
     ensures { (shown : List ℕ) × IsShown name.now shown
         × GoesOn told.is_whole result.is_whole (E.contents faults.old) (E.contents faults.new) shown }
 {

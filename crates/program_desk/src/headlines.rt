@@ -2,8 +2,8 @@
 
 ghost use Rattle.std.specs.Prelude.{◌≡◌, ◌++◌, codes};
 ghost use Rattle.std.specs.Fmt.{decimal};
-ghost use Rattle.program_desk.specs.Headlines.{flaw_words, head_line, number_line, origin_words, said_line};
-ghost use Rattle.program_desk.specs.Headlines.{unfit_line};
+ghost use Rattle.program_desk.specs.Headlines.{flaw_words, head_line, number_line, origin_words, places_words};
+ghost use Rattle.program_desk.specs.Headlines.{said_line, unfit_line};
 ghost use Rattle.program_desk.specs.Told.{GoesOn};
 
 use crate::causes::{Cause, Origin, Said};
@@ -94,6 +94,13 @@ fn tell_two<E: Write>(
     tell_count(faults, counted, words.1, other, words.2)
 }
 
+/// What follows so many places.
+fn places_words(count: usize) -> &'static str
+    ensures { result.now ≡ places_words count }
+{
+    if count == 1 { " place\n" } else { " places\n" }
+}
+
 /// Writes the line that says all.
 fn tell_said<E: Write>(faults: &mut E, told: Told, said: Said) -> Told
     ensures { GoesOn told.is_whole result.is_whole (E.contents faults.old) (E.contents faults.new) (said_line said) }
@@ -105,7 +112,8 @@ fn tell_said<E: Write>(faults: &mut E, told: Told, said: Said) -> Told
         Said::Forks => tell_more(faults, told, b"copydesk: number used twice\n"),
         Said::NoPlace => tell_more(faults, told, b"copydesk: no place\n"),
         Said::ManyPlaces(count) => {
-            tell_count(faults, told, "copydesk: ", count as u64, " places\n")
+            let after = places_words(count);
+            tell_count(faults, told, "copydesk: ", count as u64, after)
         }
         Said::Wipes(deleted, of) => {
             let words = ("copydesk: ", " of ", " symbols would be deleted\n");
