@@ -1,12 +1,12 @@
 use crate::preview::rooms::{OLD, memory, rooms, sources};
-use feed_edit::FeedTrouble;
+use feed_edit::{FeedTrouble, Version};
 use feed_files::FileRefusal;
 use feed_files::trial::{AtEnd, TrialWriter};
 use script_answers::Refusal;
 use std::alloc::Global;
 use std::test::Fail;
 use view_proof::Extent;
-use view_punch::{PreviewFault, TrialFault, no_trial, proof_feed, trial_of};
+use view_punch::{PreviewFault, Sources, TrialFault, no_trial, proof_feed, trial_of};
 
 /// The galley of one empty paragraph: its wedge sum is 127 of 38 to 150, and ten fills stand in it.
 const SET: &str = "GALLEY 1 lines, 0 at fault, measure 120 points, tight 38, loose 150\n\
@@ -204,8 +204,14 @@ fn settings_are_tried(rt: HostRuntime) -> Result<(), Fail> {
 fn galley_as_it_was(rt: HostRuntime) -> Result<(), Fail> {
     let mut files = rooms(rt.alloc(), 0)?;
     let mut written = Vec::new(rt.alloc());
-    let mut from = sources("loose.feed", "c", "w");
-    from.version.until = Some(4);
+    let from = Sources {
+        version: Version {
+            feed: "loose.feed",
+            until: Some(4),
+        },
+        case: "c",
+        wedge: "w",
+    };
     let ended = proof_feed(
         memory(rt.alloc()),
         &mut written,
