@@ -1,6 +1,7 @@
 //! The tests of feed_check.
 mod cases;
 mod feeds;
+mod files;
 mod metal;
 mod ribbons;
 mod rooms;

@@ -5,3 +5,5 @@
 mod host;
 #[cfg(test)]
 mod program;
+#[cfg(test)]
+mod room;
