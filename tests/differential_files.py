@@ -11,6 +11,7 @@ import fuzz_asks
 import oracle
 import oracle_log
 import oracle_readings
+import oracle_room
 import oracle_runs
 import reported
 import reported_copy
@@ -19,6 +20,24 @@ JOB = [b"set 1 measure 120", b"set 1 tight 38", b"set 1 loose 150", b"set 1 case
 WORDS = ["nn", "mtn", "a", "n.", "Mnt", "tnmn", "nnnnn"]
 STANDS = [None, None, b"", b"MRB1", b"MRB1\0\0\0\0", b"<svg></svg>", b"<svg", b"<sv", b"MR", b"MRB2\0\0\0\0", b"MR\0\0\0\0",
           b"MFD1", b"MFD2", b"MFD3", b"MF", b"<svG>", b"\n<svg>", b" MRB1", b"case = 1\n", b"\0"]
+
+
+FLAWS = ["site = 0", "site = 65536", "site = \"1\"", "case = 12", "wedge = \"\"", "sit = 1", "set = 1", "[set]\nmeasure = 11", "[set]\nloose = 240\ntight = 241",
+         "[set]\nmeasures = 24", "case", "x = [\n1,\n2]", "\"a\\u001bb\" = 1", "# " + 8200 * "c"]
+
+
+def options_of(words):
+    """The words, where those of options of a room's file stand last, by their names and values."""
+    plain, options, last = [], [], False
+    for word in words:
+        last, key = last or word == "--", word[2:].split("=")[0]
+        if options and options[-1].endswith("="):
+            options[-1] += word
+        elif not last and word[:2] == "--" and key in ("site", "case", "wedge"):
+            options.append(word if "=" in word else word + "=")
+        else:
+            plain.append(word)
+    return plain, sorted(options)
 
 
 class Asked:
@@ -32,7 +51,30 @@ class Asked:
         self.files, self.text = {name: differential.FILES[name].encode() for name in ("c", "w", "w6")}, b""
         kind = self.pick.choice([kind for kind, times in self.often.items() for _ in range(times)])
         self.command, self.names, self.words, self.flags = getattr(self, "of_" + kind)()
+        self.full = self.words
+        if self.pick.random() < 0.25:
+            self.in_room()
         self.name = " ".join(self.words)
+
+    def in_room(self):
+        """The file of a room gives some of the options, and others that are typed, or not wanted; in a few something is wrong."""
+        pick, words, lines = self.pick, list(self.words), []
+        for key, other in (("site", "3"), ("case", '"w"'), ("wedge", '"c"')):
+            option, value = "--" + key, other
+            if option in words and key in oracle_room.TAKES.get(words[0], ()) and pick.random() < 0.7:
+                at = words.index(option)
+                value = words[at + 1] if key == "site" else '"%s"' % words[at + 1]
+                del words[at:at + 2]
+            elif option not in words and key in oracle_room.TAKES.get(words[0], ()) or pick.random() < 0.3:
+                continue
+            lines.append("%s = %s" % (key, value))
+        pick.shuffle(lines)
+        if pick.random() < 0.4:
+            flaw = pick.choice(FLAWS)
+            lines = [line for line in lines if line.split()[0] != flaw.split()[0]]
+            lines.insert(pick.randrange(len(lines) + 1), flaw)
+        self.words = words
+        self.files[oracle_room.NAME] = "".join(line + "\n" for line in lines).encode()[:-1 if pick.random() < 0.3 else None]
 
     def edits(self, held, site, count):
         """A set after some edits by one site."""
@@ -381,6 +423,11 @@ class Asked:
 
     def due(self, runs=oracle_runs):
         """Its status, what it writes and says, and the files after it."""
+        words, wrong = runs.oracle_room.filled(self.words, self.files)
+        if wrong is not None:
+            return 1, "", "copydesk: input refused\n%s: %s\n" % (oracle_room.NAME, reported.plain(wrong)), dict(self.files)
+        if options_of(words) != options_of(self.full):
+            return 2, "", "other words than were meant", dict(self.files)
         return runs.run(getattr(runs, self.command.__name__), self.files, *self.names, **self.flags)
 
     def got(self, program):
@@ -401,6 +448,8 @@ class Asked:
         """What differs from what is due, or none."""
         due, kind = self.due(), self.words[0]
         status, out, why, left = got
+        if oracle_room.NO_TOML in due[2]:
+            why = oracle_room.alike(why.decode()).encode()
         if kind == "diff" and not due[0]:
             return self.differs_in_diff(got, due[1])
         if self.flags.get("review") and due[0] and not due[2] and why == b"copydesk: open readings\n":

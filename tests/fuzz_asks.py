@@ -174,7 +174,7 @@ def replaced(program, data, old, new, plain):
         taken = reported_copy.taken(places, len(old_of), at, everywhere)
         if taken:
             return changed_by_hand(name, data, site, oracle_runs.replaced(copy, taken, old_of, new_of), got), {"replace done" + " at a place" * (at is not None) + " everywhere" * everywhere}
-        out, why = reported_copy.reported_places(old_of, copy), "copydesk: %s\n" % ("%d places" % len(places) if places else "no place")
+        out, why = reported_copy.reported_places(old_of, copy), "copydesk: %s\n" % ("%d place%s" % (len(places), "s" * (len(places) > 1)) if places else "no place")
     wrong = differing(name, got, (1, out.encode(), why.encode())) or (None if read("one") == data else name + ": the feed changed")
     return wrong, forms_of("replace", why)
 

@@ -16,6 +16,7 @@ import fuzz_asks
 import jobs
 import oracle
 import oracle_readings
+import oracle_room
 import oracle_runs
 import reported
 import reported_copy
@@ -435,7 +436,7 @@ class Files(Kind):
     Which text is TOML is the affair of `toml`: tomllib of Python reads TOML 1.0, whole numbers of any size, and is cut off by its own depth.
     Where the two do not agree on that, it is told apart from what differs.
     """
-    name, batch = "files", 12
+    name, batch, texts = "files", 12, ("case", "wedge")
     pieces = ['"', "'", '"""', "'''", "\\", "\\u0041", "\\U0001D510", "\\e", "\\x41", "\\q", "#", "\n", "\r\n", "\r", "\t", "=", ".", ",", "[", "]", "{", "}", "[[", "]]", "{}", "[]", " ",
               "0x5", "0o5", "0b1", "1_0", "_1", "+5", "-0", "05", "5.0", "5e0", "inf", "nan", "true", "1979-05-27", "07:32:00", "07:32", "1979-05-27T07:32:00Z", "9223372036854775807", "9223372036854775808",
               "case", "rows", "space", "fill", "wedge", "set_q", "pica", "units", '"case"', "a.b", "x = 1\n", "[t]\n", "[[t]]\n", "x = {a = 1, b = [1]}\n", "# \u20ac\n", "\ufeff", "\x00", "\x7f", "\u0085", "\u2028", "\xff", "n", "i:a", "s:M",
@@ -455,19 +456,19 @@ class Files(Kind):
         return [{"case": case.encode().decode("latin1"), "wedge": wedge.encode().decode("latin1")} for case, wedge in out]
 
     def parts(self, one):
-        return [(key, part) for key in ("case", "wedge") for part in re.split(r"(?<=[\n,])", one[key])]
+        return [(key, part) for key in self.texts for part in re.split(r"(?<=[\n,])", one[key])]
 
     def joined(self, one, parts):
-        return dict(one, **{key: "".join(part for name, part in parts if name == key) for key in ("case", "wedge")})
+        return dict(one, **{key: "".join(part for name, part in parts if name == key) for key in self.texts})
 
     def changed(self, pick, one, other):
         new = dict(one)
-        for key in pick.choice([("case",), ("wedge",), ("case", "wedge")]):
+        for key in pick.choice([*((key,) for key in self.texts), self.texts]):
             if pick.random() < 0.1:
                 new[key] = other[key]
             text = new[key]
             for _ in range(pick.choice([1, 1, 1, 2, 4])):
-                text = self.changed_text(pick, text, other[pick.choice(("case", "wedge"))])
+                text = self.changed_text(pick, text, other[pick.choice(self.texts)])
             new[key] = text[:3500] if pick.random() < 0.98 else text[:20000]
         if pick.random() < 0.2:
             new["settings"] = [pick.choice([12, 40, 120, 720]), pick.choice([16, 38, 53]), pick.choice([53, 150, 240])]
@@ -576,6 +577,35 @@ def value_forms(data, line):
     return {form[:60] for form in forms}
 
 
+class Rooms(Files):
+    """The file of a room: what `check` says of it."""
+    name, batch, texts = "rooms", 24, ("room",)
+    pieces = Files.pieces + ["site", "set", "measure", "tight", "loose", "[set]\n", "set.", "site = 1\n", 'case = "c"\n', "loose = 200\n", "65535", "65536", "12", "720", "240"]
+
+    def seeds(self):
+        rows = ["", 'site = 3\ncase = "case12.toml"\nwedge = "wedge5.toml"\n\n[set]\nmeasure = 150\nloose = 200\n', '# a room\r\nset.tight = 40\r\nsite = 65535\r\n',
+                'set = {measure = 12, tight = 16, loose = 240, case = 1, wedge = 65535}\n', 'x = [\n1,\n2]\nsite = 0\n', 'case = """\n\na"""\nwedge = \'w\'']
+        return [{"room": row} for row in rows]
+
+    def ask_once(self, program, inputs, whole):
+        names, forms = [], []
+        for k, one in enumerate(inputs, 1):
+            os.makedirs("r%d" % k, exist_ok=True)
+            names.append("r%d/%s" % (k, oracle_room.NAME))
+            write(names[-1], one["room"].encode("latin1"))
+        status, out, why = ran(program, ["check", *names])
+        lines = out.decode("utf-8", "surrogatepass").split("\n")[:-1]
+        if status not in (0, 1) or why or len(lines) != len(names):
+            return "check: status %s, %d lines of %d, %r" % (status, len(lines), len(names), why), []
+        for name, line, one in zip(names, lines, inputs):
+            got = oracle_room.alike(line[len(name) + 1:]).replace("\\x0d\\x0a", "\\x0a")  # inside a text tomllib makes these one
+            data = one["room"].encode("latin1")
+            if got != reported.plain(oracle_room.said(data)) and not (reported.toml(data) is None) ^ (oracle_room.NO_TOML in got):
+                return "check said %r of %r and not %r" % (line, data, oracle_room.said(data)), []
+            forms.append({"room " + re.sub(r"[0-9]+|`.*`|(?<=case ).*|(?<=wedge ).*", "#", got)[:60]})
+        return None, forms
+
+
 class Ribbons(Kind):
     """A ribbon, as `check` and `read` read it."""
     name, batch = "ribbons", 40
@@ -679,4 +709,4 @@ def row_forms(data, line):
     return {"row %d letters, %d numbers, %d" % (min(3, (image >> 17 & 0x3FFF).bit_count()), min(3, (image >> 3 & 0x3FFF).bit_count()), image & 7 | image >> 28 & 8) for image in rows}
 
 
-KINDS = {kind.name: kind for kind in (Scripts(), Feeds(), Files(), Ribbons())}
+KINDS = {kind.name: kind for kind in (Scripts(), Feeds(), Files(), Rooms(), Ribbons())}

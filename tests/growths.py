@@ -460,6 +460,10 @@ def previews(program, folder, library):
     for feed, commands in (("preview.feed", SETTINGS), ("lacking.feed", LACKED), ("faulty.feed", SETTINGS + FAULTY)):
         subprocess.run([program, "desk", feed, "--site", "1"], input=commands.encode(), cwd=folder, capture_output=True, check=True)
     old = [None, b"a note"]
+    os.mkdir(os.path.join(folder, "bad"))
+    for name, room in (("copydesk.toml", b'site = 1\ncase = "case12.toml"\nwedge = "wedge5.toml"\n[set]\nloose = 150\n'), ("bad/copydesk.toml", b"site = 1\n\n[set]\nloose = 9\n")):
+        with open(os.path.join(folder, name), "wb") as file:
+            file.write(room)
 
     def once(runs, number, always):
         if os.path.exists(ribbon):
@@ -490,12 +494,16 @@ def previews(program, folder, library):
         (of_ribbon + " --svg note.txt", 1, "not replaced"),
         ("sorts preview.feed --case case12.toml --layout", 0, ""),
         ("sorts lacking.feed --case case12.toml", 1, ""),
+        ("sorts preview.feed", 0, ""),
+        ("proof preview.feed --set tight=40", 0, ""),
+        ("check copydesk.toml", 0, ""),
+        ("check bad/copydesk.toml", 1, ""),
     )
     for words, due, why in kinds:
         runs = Runs(program, words.split(), "", folder, library)
         whole = once(runs, 0, False)
         sweep.note(words, unlike_due(whole, due, why))
-        growths, named = runs.count(), False
+        growths, named = runs.count(), words.startswith("check ")
         for number, always in [(k, False) for k in range(1, growths + 1)] + [(k, True) for k in range(1, growths + 1, 20)]:
             got = once(runs, number, always)
             ended = got[0] == 1 and bool(NO_MEMORY.fullmatch(got[2])) and whole[1].startswith(got[1]) and got[3] == old

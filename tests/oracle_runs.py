@@ -9,6 +9,7 @@ import sys
 import oracle
 import oracle_log
 import oracle_readings
+import oracle_room
 import reported
 import reported_copy
 import reported_galley
@@ -250,7 +251,7 @@ def replace(files, feed, old, new, site=1, plain=False, older=False, at=None, ev
     places = reported_copy.places_of(texts[0], copy)
     taken = reported_copy.taken(places, len(texts[0]), at, everywhere)
     if not taken:
-        why = "%d places" % len(places) if places else "no place"
+        why = "%d place%s" % (len(places), "s" * (len(places) > 1)) if places else "no place"
         raise Stops("copydesk: %s\n" % why, reported_copy.reported_places(texts[0], copy))
     new_copy = replaced(copy, taken, *texts)
     if len(new_copy) > oracle.LIMIT:

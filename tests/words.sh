@@ -919,6 +919,8 @@ for command in "export" "rooms" "log" "find" "diff"; do
 none.feed: it cannot be read" "$command" none.feed $more
 done
 expect 1 "copydesk: 3 places" replace past.feed --site 1 o 0 --at 5
+expect 1 "copydesk: 1 place" replace past.feed --site 1 Send Sent --at 5
+[ "$(cat faults)" = "copydesk: 1 place" ]
 [ "$("$program" replace past.feed --site 1 o 0 --at 14)" = "ok inserted 1 deleted 1" ]
 [ "$("$program" replace past.feed --site 1 o 0 --all)" = "ok inserted 2 deleted 2" ]
 [ "$("$program" export past.feed)" = "Send w0rd by n00n." ]
@@ -945,4 +947,58 @@ for command in site insert delete set send take merge restart show faults settin
     exit 1
   fi
 done
+# The file of a room gives what is not typed. What is typed goes before it, and where nothing is wanted it is not read.
+mkdir room
+cd room
+cp ../case12.toml ../wedge5.toml .
+room() { printf '%s\n' "$@" > copydesk.toml; }
+room 'site = 3' 'case = "case12.toml"' 'wedge = "wedge5.toml"' '[set]' 'measure = 150' 'loose = 150'
+expect 0 "" check copydesk.toml
+[ "$(cat written)" = "copydesk.toml ok: room file, site 3, case case12.toml, wedge wedge5.toml, set measure=150, set loose=150" ]
+printf 'The sheets.' > text
+given=text
+"$program" import a.feed < text > written
+[ "$(cat written)" = "ok inserted 11 deleted 0" ]
+[ "$("$program" rooms a.feed | head -c 8)" = "site 3 f" ]
+"$program" replace a.feed sheets galleys > written
+"$program" replace a.feed --site=4 galleys sheets > written
+[ "$("$program" rooms a.feed | grep -c '^site 4 ')" = 1 ]
+"$program" renew b.feed a.feed > written
+[ "$("$program" rooms b.feed | head -c 8)" = "site 3 f" ]
+expect 2 error: renumber a.feed b.feed
+expect 2 error: find a.feed sheets --case case12.toml
+expect 0 "" find a.feed sheets
+[ "$("$program" log a.feed | grep -c .)" = 2 ]
+printf 'set 3 tight 40\nset 3 case 12\nset 3 wedge 5\n' | "$program" desk a.feed > written
+"$program" proof a.feed > written
+grep -q 'measure 150 points, tight 40, loose 150' written
+"$program" proof a.feed --set measure=72 --set tight=50 > written || true
+grep -q 'measure 72 points, tight 50, loose 150' written
+expect 1 "copydesk: no ribbon" punch b.feed -o b.rib
+printf 'set 3 measure 150\nset 3 loose 150\n' | "$program" desk a.feed > written
+expect 0 "" punch a.feed -o a.rib
+expect 0 "" read a.rib
+expect 0 "" sorts a.feed
+for line in 'site = 0' 'sit = 3' 'case = ""' 'wedge = 5' 'set = 1' 'set.loose = 241' 'set.measures = 60' 'site ='; do
+  room '# the file of this room' "$line"
+  why="\`${line%% *}\` is of another type or value"
+  case $line in
+    sit* | *measures*) [ "$line" = 'site = 0' ] || why="\`${line%% *}\` is no key of it" ;;
+  esac
+  [ "$line" != 'site =' ] || why="it is not TOML"
+  refused "copydesk: input refused
+copydesk.toml: line 2: $why" proof a.feed
+  expect 1 "" check copydesk.toml
+  expect 0 "" export a.feed
+  expect 0 "" desk a.feed --site 3
+  expect 0 "" proof --help
+done
+rm copydesk.toml
+expect 2 error: desk a.feed
+mkdir copydesk.toml
+refused "copydesk: file fault
+copydesk.toml: it cannot be read: Is a directory (os error 21)" desk a.feed
+cd ..
+unset given
+
 echo "words: as they must be"

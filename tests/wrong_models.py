@@ -29,7 +29,7 @@ import jobs
 import oracle
 import reported
 
-SOURCE = ("oracle.py", "oracle_runs.py", "oracle_readings.py", "reported_copy.py", "reported_galley.py", "oracle_log.py")
+SOURCE = ("oracle.py", "oracle_runs.py", "oracle_readings.py", "reported_copy.py", "reported_galley.py", "oracle_log.py", "oracle_room.py")
 
 # Of the ribbon half: lines, justification, faults, units, rows, the caster, the two files.
 RIBBON = {
@@ -407,6 +407,14 @@ FILES = {
     "an empty file is renewed": [("    if new in files:", "    if files.get(new):")],
     "a feed is renewed in its place": [("    if new in files:", "    if new in files and new != feed:")],
     "all operations are counted": [("\"ok renewed %d\\n\" % len(oracle.Meaning(held).copy)", "\"ok renewed %d\\n\" % len(oracle.renewed(held, site))")],
+    # the file of a room
+    "what is typed is given by the file too": [("if key == \"set\" or not is_given(\"--\" + key, words[1:])]", "if True]")],
+    "find takes its case from the file": [("\"sorts\": [\"case\"]}", "\"sorts\": [\"case\"], \"find\": [\"case\", \"wedge\"]}")],
+    "a room's file of site 0": [("return is_number(value, 1, 65535)", "return is_number(value, 0, 65535)")],
+    "an empty name of a case": [("isinstance(value, str) and value != \"\"", "isinstance(value, str)")],
+    "other keys of a room's file": [("return \"`%s` is no key of it\" % key", "continue")],
+    "lines of a room's file from 0": [("for count in range(1, len(lines) + 1):\n        part", "for count in range(len(lines)):\n        part")],
+    "a wrong file is read where nothing is wanted": [("    if not want or NAME not in files:", "    if NAME not in files:")],
     # what rooms made
     "a fork counts once": [("        made = [op for op in held if op[1][1] == site]\n", "        made = list({op[1]: op for op in held if op[1][1] == site}.values())\n")],
     "no gap is told": [("if len(counters) <= greatest - least else", "if False else")],
@@ -599,13 +607,13 @@ def model(changes, files):
         if len(stands) != 1:
             raise ValueError("`%s` stands %d times in %s" % (old.strip(), len(stands), ", ".join(SOURCE)))
         texts[stands[0]] = texts[stands[0]].replace(old, new)
-    made, runs, readings, copies, galleys, logs = modules = [types.ModuleType("wrong " + name) for name in SOURCE]
+    made, runs, readings, copies, galleys, logs, rooms = modules = [types.ModuleType("wrong " + name) for name in SOURCE]
     for module, name in zip(modules, SOURCE):
         exec(compile(texts[name], "wrong " + name, "exec"), module.__dict__)
     made.runs, made.copies, made.galleys, runs.oracle = runs, copies, galleys, made
     runs.reported_copy, runs.reported_galley, runs.oracle_readings = copies, galleys, readings
     readings.oracle, readings.reported_copy = made, copies
-    runs.oracle_log, logs.oracle, logs.reported_copy = logs, made, copies
+    runs.oracle_log, logs.oracle, logs.reported_copy, runs.oracle_room = logs, made, copies, rooms
     made.tomllib = TOML
     made.first_fault_case = functools.lru_cache(None)(made.first_fault_case)
     made.first_fault_wedge = functools.lru_cache(None)(made.first_fault_wedge)
