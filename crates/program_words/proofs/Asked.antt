@@ -2,13 +2,19 @@
 use Rattle.std.proofs.Common.{◌≡◌, ◌<◌, ℕ, List, [], Option, Some, None, sym, subst, ap, ap₂, ◌∙◌, codes, refl, arith}
 use Rattle.std.specs.Prelude.{◌≤◌, ◌||◌, ◌&&◌, Bool, true, false, Ok, Err, Result, if◌then◌else◌, is_some, option_map}
 use Rattle.std.specs.Str.{bytes_eq}
-use Rattle.std.specs.Str.Parse.{ParsesBool, ParsesUnsigned}
+use Rattle.std.specs.Str.Parse.{ParsesBool, ParsesUnsigned, digits_value, without_leading_plus}
 use Rattle.std.specs.Borrow.{Bor}
 use Rattle.clap.specs.Matches.{ReadsOne}
-use Rattle.clap.specs.Words.{Row, Text, all_of, fault_of, first_value, one_of, rows_of, subcommand_of}
+use Rattle.clap.specs.Words.{Row, Text, all_of, fault_of, first_of, first_value, one_of, rows_of, subcommand_of}
 use Rattle.clap.specs.declared.parser.matches.Found.{Found}
 use Rattle.clap.proofs.WalkLemmas.{first_value-rows}
-use Rattle.program_words.specs.Words.{Chooses, ChoosesMetal, HasFlag, HasNumber, HasSite, IsAsked, IsLeftOut, IsReported, IsUntil, IsWished, Names, NamesDesk, NamesFeed, NamesRibbon, NamesSources, Reports, copydesk, name_of, subcommand_asked, texts_of}
+use Rattle.program_words.specs.Choices.{IsChosen, IsForm, IsShown, IsShownBy, IsSource, IsWritten}
+use Rattle.program_words.specs.declared.choices.Extent.{Extent}
+use Rattle.program_words.specs.declared.choices.Form.{Form}
+use Rattle.program_words.specs.declared.choices.Source.{Source}
+use Rattle.program_words.specs.declared.wishes.Galley.{Galley}
+use Rattle.program_words.specs.declared.wishes.Ribbon.{Ribbon}
+use Rattle.program_words.specs.Words.{AreCopied, AreFormed, AreShown, AsksGalley, Chooses, ChoosesMetal, Copies, Forms, HasFlag, HasNumber, HasSite, IsAsked, IsLeftOut, IsReported, IsUntil, IsWished, Names, NamesDesk, NamesFeed, NamesRibbon, NamesSources, Reports, Shows, copydesk, name_of, subcommand_asked, texts_of}
 use Rattle.program_words.specs.declared.wishes.Sources.{Sources}
 use Rattle.program_words.specs.declared.wishes.Subcommand.{Subcommand}
 use Rattle.program_words.specs.declared.wishes.Subcommand.TheVariants as subcommands
@@ -22,6 +28,11 @@ Reads G = (t : _) (r : _) → G t r → ParsesUnsigned 16 10 t r
 abbrev is_true : Option Text → Bool
 is_true None = false
 is_true (Some text) = bytes_eq text (codes "true")
+
+-- the text that is given
+abbrev text_in : Option Text → Text
+text_in None = []
+text_in (Some text) = text
 
 -- the number that a getter answered
 pub held_site : (E : Type 0) (G : Text → Result ℕ E → Type 0) (only : Reads G) (rows : List Row) (asked : Option Text) (n : ℕ) (r : Option ℕ) → r ≡ Some n
@@ -105,6 +116,10 @@ is_given name rows (Some n) (Some m) held too some = refl
 is_given name rows (Some n) None held too some = absurd (too n held)
 is_given name rows None other held too some = let bad : false ≡ true = some in cc
 
+pub none_given : (name : Text) (rows : List Row) (n : Option ℕ) → HasNumber name rows n → is_some n ≡ false → HasNumber name rows None
+none_given name rows None held none = held
+none_given name rows (Some n) held none = let bad : true ≡ false = none in cc
+
 -- neither a counter nor another feed
 pub nothing_to_compare : (rows : List Row) (until other : Option ℕ) (name given : Option (Bor Text)) → until ≡ None → name ≡ None → IsUntil rows until → Chooses (codes "other") rows name
     → IsUntil rows other → Chooses (codes "other") rows given → (is_some other || is_some given) ≡ true → ⊥
@@ -138,6 +153,74 @@ other_half rows (Some m) chosen case wedge =
     cc
 other_half rows None chosen case wedge = wedge chosen.1
 
+-- both, where both are left out
+pub with_metal : (rows : List Row) (case : Text) → Names (codes "case") rows case → ChoosesMetal rows None → ⊥
+with_metal rows case names chosen =
+    let bad : None ≡ Some case = sym chosen.0 ∙ names in
+    cc
+
+-- ---- what options choose together
+
+-- a flag has one value
+pub same_flag : (name : Text) (rows : List Row) (flag other : Bool) → HasFlag name rows flag → HasFlag name rows other → flag ≡ other
+same_flag name rows true true held too = refl
+same_flag name rows false false held too = refl
+same_flag name rows true false held too = sym (too.1 (held.0 refl))
+same_flag name rows false true held too = held.1 (too.0 refl)
+
+-- an option gives one number
+pub same_number : (name : Text) (rows : List Row) (n other : Option ℕ) → HasNumber name rows n → HasNumber name rows other → n ≡ other
+same_number name rows None None held too = refl
+same_number name rows (Some n) None held too = absurd (too n held)
+same_number name rows None (Some m) held too = absurd (held m too)
+same_number name rows (Some n) (Some m) held too =
+    let text : Some held.0 ≡ Some too.0 = sym held.1 ∙ too.1 in
+    let one : held.0 ≡ too.0 = ap text_in text in
+    ap Some (sym held.2.1 ∙ ap (λ t. digits_value 10 (without_leading_plus t)) one ∙ too.2.1)
+
+pub not_shown : (rows : List Row) (stats : Bool) → HasFlag (codes "stats") rows stats → ((extent : Extent) → IsShownBy (first_of (codes "lines") rows) stats (first_of (codes "pitch") rows) extent → ⊥) → (extent : Extent) → Shows rows extent → ⊥
+not_shown rows stats held none extent shows =
+    none extent (subst (λ flag. IsShownBy (first_of (codes "lines") rows) flag (first_of (codes "pitch") rows) extent) (same_flag (codes "stats") rows shows.0 stats shows.1 held) shows.2)
+
+pub not_copied : (rows : List Row) (until : Option ℕ) (plain : Bool) → IsUntil rows until → HasFlag (codes "plain") rows plain
+    → ((source : Source) → IsSource (first_of (codes "feed") rows) (first_of (codes "text") rows) until plain source → ⊥) → (source : Source) → Copies rows source → ⊥
+not_copied rows until plain counter held none source copies =
+    let one : copies.0 ≡ until = same_number (codes "at") rows copies.0 until copies.2 counter in
+    let two : copies.1 ≡ plain = same_flag (codes "plain") rows copies.1 plain copies.3 held in
+    none source (subst (λ flag. IsSource (first_of (codes "feed") rows) (first_of (codes "text") rows) until flag source) two
+    (subst (λ n. IsSource (first_of (codes "feed") rows) (first_of (codes "text") rows) n copies.1 source) one copies.4))
+
+pub not_formed : (rows : List Row) (faults : Bool) → HasFlag (codes "faults") rows faults → ((form : Form) → IsForm (first_of (codes "format") rows) faults form → ⊥) → (form : Form) → Forms rows form → ⊥
+not_formed rows faults held none form forms =
+    none form (subst (λ flag. IsForm (first_of (codes "format") rows) flag form) (same_flag (codes "faults") rows forms.0 faults forms.1 held) forms.2)
+
+shown_by : (rows : List Row) (stats : Bool) (o : Option Extent) → HasFlag (codes "stats") rows stats → IsShown (first_of (codes "lines") rows) stats (first_of (codes "pitch") rows) o → AreShown rows o
+shown_by rows stats (Some extent) held is = (stats, held, is)
+shown_by rows stats None held none = not_shown rows stats held none
+
+copied_by : (rows : List Row) (until : Option ℕ) (plain : Bool) (o : Option Source) → IsUntil rows until → HasFlag (codes "plain") rows plain → IsChosen (first_of (codes "feed") rows) (first_of (codes "text") rows) until plain o
+    → AreCopied rows o
+copied_by rows until plain (Some source) counter held is = (until, plain, counter, held, is)
+copied_by rows until plain None counter held none = not_copied rows until plain counter held none
+
+formed_by : (rows : List Row) (faults : Bool) (o : Option Form) → HasFlag (codes "faults") rows faults → IsWritten (first_of (codes "format") rows) faults o → AreFormed rows o
+formed_by rows faults (Some form) held is = (faults, held, is)
+formed_by rows faults None held none = not_formed rows faults held none
+
+-- what is made of the options is what the matches hold
+pub shown : (rows : List Row) (stats : Bool) (lines pitch : Option Text) (o : Option Extent) → HasFlag (codes "stats") rows stats → first_of (codes "lines") rows ≡ lines → first_of (codes "pitch") rows ≡ pitch
+    → IsShown lines stats pitch o → AreShown rows o
+shown rows stats lines pitch o held one two is =
+    shown_by rows stats o held (subst (λ t. IsShown t stats (first_of (codes "pitch") rows) o) (sym one) (subst (λ t. IsShown lines stats t o) (sym two) is))
+
+pub copied : (rows : List Row) (until : Option ℕ) (plain : Bool) (feed text : Option Text) (o : Option Source) → IsUntil rows until → HasFlag (codes "plain") rows plain → first_of (codes "feed") rows ≡ feed
+    → first_of (codes "text") rows ≡ text → IsChosen feed text until plain o → AreCopied rows o
+copied rows until plain feed text o counter held one two is =
+    copied_by rows until plain o counter held (subst (λ t. IsChosen t (first_of (codes "text") rows) until plain o) (sym one) (subst (λ t. IsChosen feed t until plain o) (sym two) is))
+
+pub formed : (rows : List Row) (faults : Bool) (format : Option Text) (o : Option Form) → HasFlag (codes "faults") rows faults → first_of (codes "format") rows ≡ format → IsWritten format faults o → AreFormed rows o
+formed rows faults format o held one is = formed_by rows faults o held (subst (λ t. IsWritten t faults o) (sym one) is)
+
 -- ---- the name that an argument gives
 
 pub named : (argument : Text) (f : Found) (r : Option (Bor Text)) (name : Bor Text) → option_map (λ s. s.now) r ≡ first_value f argument → r ≡ Some name → Names argument (rows_of f) name.now
@@ -150,19 +233,27 @@ unnamed argument f r got is name names =
 
 -- ---- what is lacking
 
+-- two feeds, or one and a counter
+abbrev pub LacksFeeds : List Row → Type 0
+LacksFeeds rows = (feed : Text) (until : Option ℕ) (other : Option (Bor Text)) → NamesFeed rows feed → IsUntil rows until → Chooses (codes "other") rows other → (is_some until || is_some other) ≡ true → ChoosesMetal rows None → ⊥
+
+-- two ribbons, a case and a wedge
+abbrev pub LacksRibbons : List Row → Type 0
+LacksRibbons rows = (one other case wedge : Bor Text) → NamesFeed rows one.now → Names (codes "other") rows other.now → IsUntil rows None → Names (codes "case") rows case.now → Names (codes "wedge") rows wedge.now → ⊥
+
 -- what the matches of a subcommand lack, where they hold nothing that can be done
 abbrev pub Lacks : List Row → Subcommand → Type 0
 Lacks rows subcommands.Script = ⊥
 Lacks rows subcommands.Desk = (feed : Text) (site : ℕ) → NamesDesk rows feed site → ⊥
 Lacks rows subcommands.Merge = (feed : Text) (others : List Text) → NamesFeed rows feed → all_of (codes "other") rows ≡ Some others → ⊥
-Lacks rows subcommands.Diff = (feed : Text) (until : Option ℕ) (other : Option (Bor Text)) → NamesFeed rows feed → IsUntil rows until → Chooses (codes "other") rows other → (is_some until || is_some other) ≡ true → ⊥
+Lacks rows subcommands.Diff = LacksFeeds rows × LacksRibbons rows
 Lacks rows subcommands.Export = (feed : Text) → NamesFeed rows feed → ⊥
 Lacks rows subcommands.Import = (feed : Text) (site : ℕ) → NamesDesk rows feed site → ⊥
 Lacks rows subcommands.Replace = (feed : Text) (site : ℕ) (old new : Text) (at : Option ℕ) (all : Bool) → NamesDesk rows feed site → Names (codes "old") rows old → Names (codes "new") rows new → HasNumber (codes "at") rows at → HasFlag (codes "all") rows all → (is_some at && all) ≡ false → ⊥
 Lacks rows subcommands.Check = all_of (codes "file") rows ≡ None
-Lacks rows subcommands.Proof = (from : Sources) → NamesSources rows from → ⊥
+Lacks rows subcommands.Proof = (galley : Galley) → AsksGalley rows galley → ⊥
 Lacks rows subcommands.Punch = (from : Sources) (target : Text) → NamesSources rows from → Names (codes "output") rows target → ⊥
-Lacks rows subcommands.Read = (ribbon case wedge : Text) → NamesRibbon rows ribbon case wedge → ⊥
+Lacks rows subcommands.Read = (from : Ribbon) (extent : Extent) → NamesRibbon rows from → Shows rows extent → ⊥
 Lacks rows subcommands.Sorts = (feed case : Text) → NamesFeed rows feed → Names (codes "case") rows case → ⊥
 Lacks rows subcommands.Renumber = (feed : Text) (site : ℕ) (other : Text) → NamesDesk rows feed site → Names (codes "other") rows other → ⊥
 Lacks rows subcommands.Renew = (feed : Text) (site : ℕ) (new : Text) → NamesDesk rows feed site → Names (codes "new") rows new → ⊥
@@ -175,16 +266,17 @@ none_reported : (rows : List Row) (wish : Wish) → Lacks rows (subcommand_asked
 none_reported rows (wishes.Script manner) lacks reports = lacks
 none_reported rows (wishes.Desk feed site older why manner) lacks reports = lacks feed.now site reports.0.0
 none_reported rows (wishes.Merge feed others forks review) lacks reports = lacks feed.now (texts_of others.items) reports.0 reports.1
-none_reported rows (wishes.Diff one until other) lacks reports = lacks one.now until other reports.0 reports.1 reports.2 reports.3
+none_reported rows (wishes.Diff one until other) lacks reports = lacks.0 one.now until other reports.0 reports.1 reports.2 reports.3 reports.4
+none_reported rows (wishes.Compare one other case wedge) lacks reports = lacks.1 one other case wedge reports.0 reports.1 reports.2 reports.3 reports.4
 none_reported rows (wishes.Export feed until) lacks reports = lacks feed.now reports.0
 none_reported rows (wishes.Import feed site older plain all) lacks reports = lacks feed.now site reports.0.0
 none_reported rows (wishes.Replace feed site older old new plain at all) lacks reports = lacks feed.now site old.now new.now at all reports.0.0 reports.1 reports.2 reports.4 reports.5 reports.6
 none_reported rows (wishes.Check files) lacks reports =
     let bad = sym lacks ∙ reports in
     cc
-none_reported rows (wishes.Proof from until faults picture force sets) lacks reports = lacks from reports.0
+none_reported rows (wishes.Proof galley picture force sets) lacks reports = lacks galley reports.0
 none_reported rows (wishes.Punch from target force faulty) lacks reports = lacks from target.now reports.0 reports.1
-none_reported rows (wishes.Read ribbon case wedge picture force) lacks reports = lacks ribbon.now case.now wedge.now reports.0
+none_reported rows (wishes.Read from extent picture force) lacks reports = lacks from extent reports.0 reports.1
 none_reported rows (wishes.Sorts feed until case layout) lacks reports = lacks feed.now case.now reports.0 reports.2
 none_reported rows (wishes.Renumber feed other site) lacks reports = lacks feed.now site other.now reports.0 reports.1
 none_reported rows (wishes.Renew new feed site) lacks reports = lacks feed.now site new.now reports.0 reports.1

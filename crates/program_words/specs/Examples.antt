@@ -234,3 +234,19 @@ a_search : found_by (subcommand_of copydesk (codes "find" ∷ codes "a.feed" ∷
     ≡ Some (codes "find", (Some (codes "noon"), (Some (codes "c.toml"), Some (codes "w.toml"))))
 unfolding clap_on_literals found_by
 a_search = refl
+
+chosen : Option (Text × List Row) → Option (Text × (Option Text × (Option Text × Option Text)))
+chosen = option_map
+    (λ p. (p.0, (first_of (codes "feed") p.1, (first_of (codes "text") p.1, first_of (codes "format") p.1))))
+
+a_text : chosen (subcommand_of copydesk (codes "proof" ∷ codes "--text" ∷ codes "a.txt" ∷ codes "--case"
+    ∷ codes "c.toml" ∷ codes "--wedge" ∷ codes "w.toml" ∷ codes "--format" ∷ codes "gcc" ∷ []))
+    ≡ Some (codes "proof", (None, (Some (codes "a.txt"), Some (codes "gcc"))))
+unfolding clap_on_literals chosen
+a_text = refl
+
+some_lines : option_map (λ p. first_of (codes "lines") p.1) (subcommand_of copydesk (codes "read" ∷ codes "a.rib"
+    ∷ codes "--case" ∷ codes "c.toml" ∷ codes "--wedge" ∷ codes "w.toml" ∷ codes "--lines" ∷ codes "2..4" ∷ []))
+    ≡ Some (Some (codes "2..4"))
+unfolding clap_on_literals
+some_lines = refl

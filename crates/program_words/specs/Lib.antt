@@ -1,4 +1,5 @@
 pub mod Words
+pub mod Choices
 pub mod Help
 pub mod Arguments
 pub mod Examples

@@ -2,7 +2,6 @@
 use Rattle.std.specs.Prelude.{◌≡◌, ◌≢◌, ◌≤◌, ◌<◌, ◌⊎◌, ℕ, Bool, List, [], Option, Some, None, Vec, true, false, map}
 use Rattle.std.specs.Prelude.{◌↔◌, ◌||◌, ◌&&◌, is_some, option_map, pos, codes}
 use Rattle.std.specs.Borrow.{Bor}
-use Rattle.std.specs.Str.Parse.{IsNumeral, digits_value, without_leading_plus}
 use Rattle.std.specs.declared.alloc.Global.{Global}
 use Rattle.clap.specs.Words.{App, IsAmong, Row, Rule, Text, all_of, fault_of, first_of, new_app, new_rule, one_of}
 use Rattle.clap.specs.Words.{subcommand_of, with_rule, with_subcommand}
@@ -10,7 +9,13 @@ use Rattle.clap.specs.declared.builder.action.ArgAction.TheVariants.{Append, Set
 use Rattle.clap.specs.declared.builder.value_parser.ValueParser.TheVariants as parsers
 use Rattle.clap.specs.declared.error.kind.ErrorKind.{ErrorKind}
 use Rattle.clap.specs.declared.error.kind.ErrorKind.TheVariants as kind
+use Rattle.program_words.specs.Choices.{IsForm, IsNumber, IsShownBy, IsSource}
+use Rattle.program_words.specs.declared.choices.Extent.{Extent}
+use Rattle.program_words.specs.declared.choices.Form.{Form}
+use Rattle.program_words.specs.declared.choices.Source.{Source}
+use Rattle.program_words.specs.declared.wishes.Galley.{Galley}
 use Rattle.program_words.specs.declared.wishes.Manner.{Manner}
+use Rattle.program_words.specs.declared.wishes.Ribbon.{Ribbon}
 use Rattle.program_words.specs.declared.wishes.Sources.{Sources}
 use Rattle.program_words.specs.declared.wishes.Subcommand.{Subcommand}
 use Rattle.program_words.specs.declared.wishes.Subcommand.TheVariants as subcommands
@@ -93,7 +98,8 @@ merge_app = with_rule (with_rule (with_rule (with_rule (new_app (codes "merge"))
     (flag_rule (codes "forks"))) (flag_rule (codes "review"))
 
 abbrev pub diff_app : App
-diff_app = with_rule (with_rule (with_rule (new_app (codes "diff")) feed_rule) (new_rule (codes "other"))) at_rule
+diff_app = with_rule (with_rule (with_rule (with_rule (with_rule (new_app (codes "diff")) feed_rule)
+    (new_rule (codes "other"))) at_rule) (choice_rule (codes "case"))) (choice_rule (codes "wedge"))
 
 abbrev pub export_app : App
 export_app = with_rule (with_rule (new_app (codes "export")) feed_rule) at_rule
@@ -125,9 +131,18 @@ force_rule = flag_rule (codes "force")
 abbrev pub with_picture : App → App
 with_picture app = with_rule (with_rule app (choice_rule (codes "svg"))) force_rule
 
+-- a feed, which may be left out, a case and a wedge; the name of a text, and whether all of that is Roman
+abbrev pub text_app : App
+text_app = with_rule (with_rule (with_rule (with_rule (with_rule (new_app (codes "proof")) (new_rule (codes "feed")))
+    (file_rule (codes "case"))) (file_rule (codes "wedge"))) (choice_rule (codes "text"))) (flag_rule (codes "plain"))
+
+-- with how a galley is written
+abbrev pub form_app : App
+form_app = with_rule (with_rule (with_rule text_app (flag_rule (codes "faults"))) (choice_rule (codes "format")))
+    (flag_rule (codes "warn"))
+
 abbrev pub proof_app : App
-proof_app = with_rule (with_rule (with_picture (with_rule (sources_app (codes "proof")) (flag_rule (codes "faults"))))
-    (each_rule (codes "set"))) at_rule
+proof_app = with_rule (with_rule (with_picture form_app) (each_rule (codes "set"))) at_rule
 
 abbrev pub punch_app : App
 punch_app = with_rule (with_rule (with_rule (sources_app (codes "punch")) target_rule) force_rule)
@@ -138,8 +153,13 @@ abbrev pub ribbon_app : App
 ribbon_app = with_rule (with_rule (with_rule (new_app (codes "read")) (text_rule (codes "ribbon")))
     (file_rule (codes "case"))) (file_rule (codes "wedge"))
 
+-- with how much of it is written
+abbrev pub extent_app : App
+extent_app = with_rule (with_rule (with_rule ribbon_app (choice_rule (codes "lines"))) (flag_rule (codes "stats")))
+    (choice_rule (codes "pitch"))
+
 abbrev pub read_app : App
-read_app = with_picture ribbon_app
+read_app = with_picture extent_app
 
 abbrev pub sorts_app : App
 sorts_app = with_rule (with_rule (with_rule (with_rule (new_app (codes "sorts")) feed_rule)
@@ -199,10 +219,6 @@ copydesk = with_version (with_subcommand (with_subcommand up_to_rooms log_app.to
 
 -- ---- what a subcommand's matches hold
 
--- the text is a whole number in digits, where a plus may stand first
-abbrev pub IsNumber : Text → ℕ → Type 0
-IsNumber text n = IsNumeral 10 (without_leading_plus text) × (digits_value 10 (without_leading_plus text) ≡ n)
-
 -- the number of a site
 abbrev pub HasSite : List Row → ℕ → Type 0
 HasSite rows site = (text : Text) × (one_of (codes "site") rows ≡ Some text) × IsNumber text site × (1 ≤ site)
@@ -244,9 +260,9 @@ abbrev pub NamesDesk : List Row → Text → ℕ → Type 0
 NamesDesk rows feed site = NamesFeed rows feed × HasSite rows site
 
 -- the names of a ribbon, a case and a wedge
-abbrev pub NamesRibbon : List Row → Text → Text → Text → Type 0
-NamesRibbon rows ribbon case wedge = Names (codes "ribbon") rows ribbon × Names (codes "case") rows case
-    × Names (codes "wedge") rows wedge
+abbrev pub NamesRibbon : List Row → Ribbon → Type 0
+NamesRibbon rows from = Names (codes "ribbon") rows from.ribbon.now × Names (codes "case") rows from.case.now
+    × Names (codes "wedge") rows from.wedge.now
 
 -- the name that an option gives, or that it was left out
 abbrev pub Chooses : Text → List Row → Option (Bor Text) → Type 0
@@ -273,6 +289,26 @@ all_given None = []
 -- the flag is set or not
 abbrev pub HasFlag : Text → List Row → Bool → Type 0
 HasFlag name rows flag = flag ≡ true ↔ one_of name rows ≡ Some (codes "true")
+
+-- how much is written of a ribbon
+abbrev pub Shows : List Row → Extent → Type 0
+Shows rows extent = (stats : Bool) × HasFlag (codes "stats") rows stats
+    × IsShownBy (first_of (codes "lines") rows) stats (first_of (codes "pitch") rows) extent
+
+-- what a galley is of
+abbrev pub Copies : List Row → Source → Type 0
+Copies rows source = (until : Option ℕ) × (plain : Bool) × IsUntil rows until × HasFlag (codes "plain") rows plain
+    × IsSource (first_of (codes "feed") rows) (first_of (codes "text") rows) until plain source
+
+-- how it is written
+abbrev pub Forms : List Row → Form → Type 0
+Forms rows form = (faults : Bool) × HasFlag (codes "faults") rows faults
+    × IsForm (first_of (codes "format") rows) faults form
+
+-- a galley, by a case and a wedge, and whether second looks are wanted
+abbrev pub AsksGalley : List Row → Galley → Type 0
+AsksGalley rows galley = Copies rows galley.source × Names (codes "case") rows galley.case.now
+    × Names (codes "wedge") rows galley.wedge.now × Forms rows galley.form × HasFlag (codes "warn") rows galley.looks
 
 -- both, and whether a feed that is older is taken
 abbrev pub NamesRoom : List Row → Text → ℕ → Bool → Type 0
@@ -314,13 +350,14 @@ subcommand_asked (wishes.Script manner) = subcommands.Script
 subcommand_asked (wishes.Desk feed site older why manner) = subcommands.Desk
 subcommand_asked (wishes.Merge feed others forks review) = subcommands.Merge
 subcommand_asked (wishes.Diff one until other) = subcommands.Diff
+subcommand_asked (wishes.Compare one other case wedge) = subcommands.Diff
 subcommand_asked (wishes.Export feed until) = subcommands.Export
 subcommand_asked (wishes.Import feed site older plain all) = subcommands.Import
 subcommand_asked (wishes.Replace feed site older old new plain at all) = subcommands.Replace
 subcommand_asked (wishes.Check files) = subcommands.Check
-subcommand_asked (wishes.Proof from until faults picture force sets) = subcommands.Proof
+subcommand_asked (wishes.Proof galley picture force sets) = subcommands.Proof
 subcommand_asked (wishes.Punch from target force faulty) = subcommands.Punch
-subcommand_asked (wishes.Read ribbon case wedge picture force) = subcommands.Read
+subcommand_asked (wishes.Read from extent picture force) = subcommands.Read
 subcommand_asked (wishes.Sorts feed until case layout) = subcommands.Sorts
 subcommand_asked (wishes.Renumber feed other site) = subcommands.Renumber
 subcommand_asked (wishes.Renew new feed site) = subcommands.Renew
@@ -337,7 +374,9 @@ Reports rows (wishes.Merge feed others forks review) =
     NamesFeed rows feed.now × (all_of (codes "other") rows ≡ Some (texts_of others.items))
     × HasFlag (codes "forks") rows forks × HasFlag (codes "review") rows review
 Reports rows (wishes.Diff one until other) = NamesFeed rows one.now × IsUntil rows until
-    × Chooses (codes "other") rows other × ((is_some until || is_some other) ≡ true)
+    × Chooses (codes "other") rows other × ((is_some until || is_some other) ≡ true) × ChoosesMetal rows None
+Reports rows (wishes.Compare one other case wedge) = NamesFeed rows one.now × Names (codes "other") rows other.now
+    × IsUntil rows None × Names (codes "case") rows case.now × Names (codes "wedge") rows wedge.now
 Reports rows (wishes.Export feed until) = NamesFeed rows feed.now × IsUntil rows until
 Reports rows (wishes.Import feed site older plain all) = NamesRoom rows feed.now site older
     × HasFlag (codes "plain") rows plain × HasFlag (codes "all") rows all
@@ -346,13 +385,12 @@ Reports rows (wishes.Replace feed site older old new plain at all) =
     × HasFlag (codes "plain") rows plain × HasNumber (codes "at") rows at × HasFlag (codes "all") rows all
     × ((is_some at && all) ≡ false)
 Reports rows (wishes.Check files) = all_of (codes "file") rows ≡ Some (texts_of files.items)
-Reports rows (wishes.Proof from until faults picture force sets) =
-    NamesSources rows from × IsUntil rows until × HasFlag (codes "faults") rows faults × Pictures rows picture force
+Reports rows (wishes.Proof galley picture force sets) = AsksGalley rows galley × Pictures rows picture force
     × (texts_of sets.items ≡ all_given (all_of (codes "set") rows))
 Reports rows (wishes.Punch from target force faulty) =
     NamesSources rows from × Names (codes "output") rows target.now × HasFlag (codes "force") rows force
     × HasFlag (codes "faulty") rows faulty
-Reports rows (wishes.Read ribbon case wedge picture force) = NamesRibbon rows ribbon.now case.now wedge.now
+Reports rows (wishes.Read from extent picture force) = NamesRibbon rows from × Shows rows extent
     × Pictures rows picture force
 Reports rows (wishes.Sorts feed until case layout) = NamesFeed rows feed.now × IsUntil rows until
     × Names (codes "case") rows case.now × HasFlag (codes "layout") rows layout
@@ -403,6 +441,28 @@ abbrev pub AreSources : List Row → Option Sources → Type 0
 AreSources rows (Some from) = NamesSources rows from
 AreSources rows None = (from : Sources) → NamesSources rows from → ⊥
 
+-- what is written of a ribbon, what a galley is of, how it is written, the galley, or that none is asked for
+abbrev pub AreShown : List Row → Option Extent → Type 0
+AreShown rows (Some extent) = Shows rows extent
+AreShown rows None = (extent : Extent) → Shows rows extent → ⊥
+
+abbrev pub AreCopied : List Row → Option Source → Type 0
+AreCopied rows (Some source) = Copies rows source
+AreCopied rows None = (source : Source) → Copies rows source → ⊥
+
+abbrev pub AreFormed : List Row → Option Form → Type 0
+AreFormed rows (Some form) = Forms rows form
+AreFormed rows None = (form : Form) → Forms rows form → ⊥
+
+abbrev pub AreGalley : List Row → Option Galley → Type 0
+AreGalley rows (Some galley) = AsksGalley rows galley
+AreGalley rows None = (galley : Galley) → AsksGalley rows galley → ⊥
+
+-- the names of a ribbon, a case and a wedge, or that they are not all there
+abbrev pub AreRibbon : List Row → Option Ribbon → Type 0
+AreRibbon rows (Some from) = NamesRibbon rows from
+AreRibbon rows None = (from : Ribbon) → NamesRibbon rows from → ⊥
+
 -- what the matches of a subcommand hold, or that they hold nothing that can be done
 abbrev pub IsReported : List Row → Subcommand → Option Wish → Type 0
 IsReported rows subcommand (Some wish) = (subcommand_asked wish ≡ subcommand) × Reports rows wish
@@ -449,13 +509,14 @@ IsLawful (wishes.Script manner) = Unit {0}
 IsLawful (wishes.Desk feed site older why manner) = 1 ≤ site
 IsLawful (wishes.Merge feed others forks review) = Unit {0}
 IsLawful (wishes.Diff one until other) = Unit {0}
+IsLawful (wishes.Compare one other case wedge) = Unit {0}
 IsLawful (wishes.Export feed until) = Unit {0}
 IsLawful (wishes.Import feed site older plain all) = 1 ≤ site
 IsLawful (wishes.Replace feed site older old new plain at all) = 1 ≤ site
 IsLawful (wishes.Check files) = Unit {0}
-IsLawful (wishes.Proof from until faults picture force sets) = Unit {0}
+IsLawful (wishes.Proof galley picture force sets) = Unit {0}
 IsLawful (wishes.Punch from target force faulty) = Unit {0}
-IsLawful (wishes.Read ribbon case wedge picture force) = Unit {0}
+IsLawful (wishes.Read from extent picture force) = Unit {0}
 IsLawful (wishes.Sorts feed until case layout) = Unit {0}
 IsLawful (wishes.Renumber feed other site) = 1 ≤ site
 IsLawful (wishes.Renew new feed site) = 1 ≤ site

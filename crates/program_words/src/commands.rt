@@ -241,9 +241,19 @@ fn diff_command<'a>(alloc: Global) -> Result<Command<'a>, AllocError>
         (
             Kind::Extra,
             "other",
-            "The name of the other feed's file; with --at the same feed, if left out.",
+            "The name of the other feed's file, or ribbon's; with --at the same feed, if left out.",
         ),
         AT,
+        (
+            Kind::Choice,
+            "case",
+            "The name of the case file, for two ribbons.",
+        ),
+        (
+            Kind::Choice,
+            "wedge",
+            "The name of the wedge file, for two ribbons.",
+        ),
     ];
     subcommand(alloc, "diff", &arguments, DIFF, ON_DIFF)
 }
@@ -383,10 +393,34 @@ fn proof_command<'a>(alloc: Global) -> Result<Command<'a>, AllocError>
     ensures { IfOk result (IsMade proof_app PROOF.now ON_PROOF.now) }
 {
     let arguments = [
-        FEED,
+        (
+            Kind::Extra,
+            "feed",
+            "The name of the file that the feed is stored in.",
+        ),
         CASE,
         WEDGE,
+        (
+            Kind::Choice,
+            "text",
+            "Sets the text of this file, in place of a feed's copy.",
+        ),
+        (
+            Kind::Flag,
+            "plain",
+            "Takes every character of that text as Roman: it has no marks.",
+        ),
         (Kind::Flag, "faults", "Writes the faults alone."),
+        (
+            Kind::Choice,
+            "format",
+            "With gcc writes each fault on one line with its place in the text, for editors.",
+        ),
+        (
+            Kind::Flag,
+            "warn",
+            "Writes what may deserve a second look too.",
+        ),
         (
             Kind::Choice,
             "svg",
@@ -436,6 +470,17 @@ fn read_command<'a>(alloc: Global) -> Result<Command<'a>, AllocError>
         ),
         CASE,
         WEDGE,
+        (Kind::Choice, "lines", "Takes these lines alone, as 2..4."),
+        (
+            Kind::Flag,
+            "stats",
+            "Writes figures of the whole ribbon in place of its lines.",
+        ),
+        (
+            Kind::Choice,
+            "pitch",
+            "With --stats: the way of a row in inches, as 1/8.",
+        ),
         (
             Kind::Choice,
             "svg",

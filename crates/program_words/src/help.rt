@@ -14,7 +14,7 @@ pub const DESK: &str = "Runs commands from standard input to standard output on 
 pub const MERGE: &str = "Merges the feeds of other files into a stored feed.";
 
 pub const DIFF: &str =
-    "Says what each of two stored feeds has alone, and which words of their copies differ.";
+    "Says what each of two stored feeds has alone, and which words differ; or which lines of two ribbons.";
 
 pub const EXPORT: &str = "Writes the copy of a stored feed to standard output as text.";
 
@@ -35,7 +35,8 @@ pub const RENUMBER: &str = "Gives another number to what another feed has made u
 
 pub const RENEW: &str = "Begins a new feed with the copy and the settings of a stored feed.";
 
-pub const PROOF: &str = "Writes the galley of a stored feed, and each fault at its text.";
+pub const PROOF: &str =
+    "Writes the galley of a stored feed or of a text, and each fault at its text.";
 
 pub const PUNCH: &str = "Stores the ribbon of a stored feed in a file.";
 
@@ -55,6 +56,8 @@ As in:
   copydesk renumber one.feed two.feed --site 9
                                             another number for what both rooms made under one
   copydesk diff one.feed two.feed           what each has alone
+  copydesk diff one.rib two.rib --case case12.toml --wedge wedge5.toml
+                                            the lines that the two cast otherwise
   copydesk export one.feed > one.txt        the copy as text
   copydesk export one.feed --at 774         the copy as it was once counter 774 was made
   copydesk import one.feed --site 1 < one.txt
@@ -69,6 +72,8 @@ As in:
                                             what files are, and what is wrong in them
   copydesk proof one.feed --case case12.toml --wedge wedge5.toml
                                             its lines as they are cast, and each fault at its text
+  copydesk proof --text one.txt --case case12.toml --wedge wedge5.toml --set measure=150 --set tight=40 --set loose=150
+                                            the same, of a text
   copydesk punch one.feed --case case12.toml --wedge wedge5.toml -o one.rib
                                             the ribbon, in a file
   copydesk read one.rib --case case12.toml --wedge wedge5.toml
@@ -172,8 +177,10 @@ each stretch of words that differ, with its place in the one copy and in the oth
 `+ 12 the slow`. Last stand the words that a merge of the two would leave open, as `copydesk merge` writes them.
 Nothing changes. With `--at 774` the first is the feed as it was: its operations with a counter up to 774. Without
 TWO it is compared with the same feed as it is now.
+With `--case` and `--wedge` the two are ribbons. Their lines are compared in turn by what a caster casts, and those that
+differ follow, as `copydesk read` writes them: `-` of the first ribbon, `+` of the second.
 
-Status: 0 the two hold the same; 1 they do not, or a feed cannot be read, or the text not be written, and then
+Status: 0 the two hold the same; 1 they do not, or a file cannot be read, or the text not be written, and then
 standard error says why; 2 the words were refused.";
 
 /// What the rooms are.
@@ -262,6 +269,11 @@ each fault stands at its text, with the way out in figures. With `--faults` the 
 `--svg one.svg` stores a picture of the galley too, for any browser. It replaces only a picture or an empty file:
 `--force` replaces any. `--set loose=200` tries a setting in place of the copy's, and may stand more than once. With
 `--at 774` it is the galley of the copy as it was. The feed does not change.
+`--text one.txt` sets the text of a file, with the marks of `copydesk export`: `--set` gives its measure, tight and
+loose. With `--plain` it has no marks. `--format gcc` writes each fault on one line for editors, `one.txt:12:40: too
+loose (wedge sum 190, limit 150)`, with line and column of the text, or of what `copydesk export` writes. `--warn`
+adds second looks, which are no faults: a hyphen inside a line, two spaces, a space before a point or a comma, a
+straight quote, a word repeated, three lines that end alike.
 
 Status: 0 no fault stands; 1 a fault stands, or the proof was not written, and standard error says so; 2 the
 words were refused.";
@@ -282,7 +294,9 @@ pub const ON_READ: &str = "\
 As in: copydesk read one.rib --case case12.toml --wedge wedge5.toml
 
 Each line that a caster would cast has its number, its wedge pair, its width, how short of the longest it is, and
-its text as read; or the first fault stands there with its row. `--svg one.svg` stores a picture of the ribbon
+its text as read; or the first fault stands there with its row. `--lines 2..4` takes these lines alone. `--stats`
+writes figures in place of lines: the widest and the tightest line, how long the ribbon is, its matrices by the rows of
+the case. A row takes 1/8 inch, or the `--pitch` that is given. `--svg one.svg` stores a picture of the ribbon
 too: its rows as the caster meets them, with the meaning of each. It replaces only a picture or an empty file:
 `--force` replaces any.
 

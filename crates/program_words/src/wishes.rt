@@ -2,10 +2,12 @@
 
 ghost use Rattle.std.specs.Prelude.{◌≡◌, ◌≢◌, ℕ, None, IfOk, IfSome, IsErr, IsNone, codes};
 ghost use Rattle.clap.specs.Words.{Text, all_of, found_of, rows_of, subcommand_rows_of};
+ghost use Rattle.program_words.specs.Words.{AreCopied, AreFormed, AreGalley, AreRibbon, AreShown};
 ghost use Rattle.program_words.specs.Words.{AreMetal, AreNames, AreSources, Chooses, HasFlag, HasList, HasManner};
 ghost use Rattle.program_words.specs.Words.{HasNumber, HasRoom, HasSite};
 ghost use Rattle.program_words.specs.Words.{IsReported, IsWished, ListsNames, NamesDesk, all_given, name_of, texts_of};
 
+use crate::choices::{Extent, Form, Source, extent_by, form_by, source_by};
 use clap::ArgMatches;
 use std::alloc::{AllocError, Global};
 
@@ -29,6 +31,25 @@ pub enum Subcommand {
     Rooms,
     Log,
     Find,
+}
+
+/// The galley that is asked for: what it is of, the names of a case file and of a wedge file, how it is written, and
+/// whether second looks are wanted.
+#[derive(Clone, Copy, Debug, PartialEq, Eq)]
+pub struct Galley<'a> {
+    pub source: Source<'a>,
+    pub case: &'a str,
+    pub wedge: &'a str,
+    pub form: Form,
+    pub looks: bool,
+}
+
+/// The names of a stored ribbon, of a case file and of a wedge file.
+#[derive(Clone, Copy, Debug, PartialEq, Eq)]
+pub struct Ribbon<'a> {
+    pub ribbon: &'a str,
+    pub case: &'a str,
+    pub wedge: &'a str,
 }
 
 /// The names of a stored feed, of a case file and of a wedge file.
@@ -79,6 +100,13 @@ pub enum Wish<'a> {
         until: Option<u64>,
         other: Option<&'a str>,
     },
+    /// What a caster casts of each of two ribbons, line by line, by a case and a wedge.
+    Compare {
+        one: &'a str,
+        other: &'a str,
+        case: &'a str,
+        wedge: &'a str,
+    },
     /// The copy of a stored feed as text, as it was at a counter, where one is given.
     Export {
         feed: &'a str,
@@ -109,13 +137,10 @@ pub enum Wish<'a> {
     Check {
         files: Vec<&'a str>,
     },
-    /// The galley of a stored feed by a case and a wedge, as it was at a counter, where one is given, whether its faults alone are wanted, the name of the file
-    /// that its picture is stored in, whether whatever stands there is replaced, and the settings that are tried in
-    /// place of the copy's.
+    /// A galley, the name of the file that its picture is stored in, whether whatever stands there is replaced, and the
+    /// settings that are tried in place of the copy's.
     Proof {
-        from: Sources<'a>,
-        until: Option<u64>,
-        faults: bool,
+        galley: Galley<'a>,
         picture: Option<&'a str>,
         force: bool,
         sets: Vec<&'a str>,
@@ -128,12 +153,11 @@ pub enum Wish<'a> {
         force: bool,
         faulty: bool,
     },
-    /// What a caster would cast of a stored ribbon by a case and a wedge, the name of the file that its picture is
-    /// stored in, and whether whatever stands there is replaced.
+    /// What a caster would cast of a stored ribbon by a case and a wedge, how much of that is written, the name of the
+    /// file that its picture is stored in, and whether whatever stands there is replaced.
     Read {
-        ribbon: &'a str,
-        case: &'a str,
-        wedge: &'a str,
+        from: Ribbon<'a>,
+        extent: Extent,
         picture: Option<&'a str>,
         force: bool,
     },
@@ -332,10 +356,29 @@ fn diff_wish<'a>(matches: &ArgMatches<'a>) -> Option<Wish<'a>>
     };
     let until = number_of(matches, "at");
     let other = choice_of(matches, "other");
-    if until.is_none() && other.is_none() {
-        return None;
+    match metal_of(matches) {
+        Some(Some((case, wedge))) => {
+            if until.is_some() {
+                return None;
+            }
+            match other {
+                Some(other) => Some(Wish::Compare {
+                    one,
+                    other,
+                    case,
+                    wedge,
+                }),
+                None => None,
+            }
+        }
+        Some(None) => {
+            if until.is_none() && other.is_none() {
+                return None;
+            }
+            Some(Wish::Diff { one, until, other })
+        }
+        None => None,
     }
-    Some(Wish::Diff { one, until, other })
 }
 
 fn export_wish<'a>(matches: &ArgMatches<'a>) -> Option<Wish<'a>>
@@ -441,30 +484,85 @@ fn sets_of<'a>(alloc: Global, matches: &ArgMatches<'a>) -> Result<Vec<&'a str>, 
     }
 }
 
+/// What the galley that a subcommand's matches ask for is of.
+fn source_of<'a>(matches: &ArgMatches<'a>) -> Option<Source<'a>>
+    ensures { AreCopied (rows_of (found_of matches.now)) result }
+{
+    source_by(
+        choice_of(matches, "feed"),
+        choice_of(matches, "text"),
+        number_of(matches, "at"),
+        flag_of(matches, "plain"),
+    )
+}
+
+/// How that galley is written.
+fn form_of(matches: &ArgMatches<'_>) -> Option<Form>
+    ensures { AreFormed (rows_of (found_of matches.now)) result }
+{
+    form_by(choice_of(matches, "format"), flag_of(matches, "faults"))
+}
+
+/// The galley that a subcommand's matches ask for.
+fn galley_of<'a>(matches: &ArgMatches<'a>) -> Option<Galley<'a>>
+    ensures { AreGalley (rows_of (found_of matches.now)) result }
+{
+    let Some(source) = source_of(matches) else {
+        return None;
+    };
+    let Some(form) = form_of(matches) else {
+        return None;
+    };
+    let Some(case) = matches.get_str("case") else {
+        return None;
+    };
+    match matches.get_str("wedge") {
+        Some(wedge) => {
+            let looks = flag_of(matches, "warn");
+            Some(Galley {
+                source,
+                case,
+                wedge,
+                form,
+                looks,
+            })
+        }
+        None => None,
+    }
+}
+
 fn proof_wish<'a>(alloc: Global, matches: &ArgMatches<'a>) -> Result<Option<Wish<'a>>, AllocError>
     ensures wish { IfOk result (IsReported (rows_of (found_of matches.now)) Subcommand.Proof) }
     ensures memory { IsErr result → HasList (rows_of (found_of matches.now)) Subcommand.Proof }
 {
-    let Some(from) = sources_of(matches) else {
+    let Some(galley) = galley_of(matches) else {
         return Ok(None);
     };
-    let until = number_of(matches, "at");
-    let faults = flag_of(matches, "faults");
     let picture = choice_of(matches, "svg");
     let force = flag_of(matches, "force");
     let sets = sets_of(alloc, matches)?;
     Ok(Some(Wish::Proof {
-        from,
-        until,
-        faults,
+        galley,
         picture,
         force,
         sets,
     }))
 }
 
-fn read_wish<'a>(matches: &ArgMatches<'a>) -> Option<Wish<'a>>
-    ensures { IsReported (rows_of (found_of matches.now)) Subcommand.Read result }
+/// How much is written of the ribbon that a subcommand's matches ask for.
+fn extent_of(matches: &ArgMatches<'_>) -> Option<Extent>
+    ensures { AreShown (rows_of (found_of matches.now)) result }
+{
+    extent_by(
+        choice_of(matches, "lines"),
+        flag_of(matches, "stats"),
+        choice_of(matches, "pitch"),
+    )
+}
+
+/// The names of a ribbon, a case and a wedge that a subcommand's matches hold.
+fn ribbon_of<'a>(matches: &ArgMatches<'a>) -> Option<Ribbon<'a>>
+    ensures { AreRibbon (rows_of (found_of matches.now)) result }
 {
     let Some(ribbon) = matches.get_str("ribbon") else {
         return None;
@@ -473,13 +571,28 @@ fn read_wish<'a>(matches: &ArgMatches<'a>) -> Option<Wish<'a>>
         return None;
     };
     match matches.get_str("wedge") {
-        Some(wedge) => {
+        Some(wedge) => Some(Ribbon {
+            ribbon,
+            case,
+            wedge,
+        }),
+        None => None,
+    }
+}
+
+fn read_wish<'a>(matches: &ArgMatches<'a>) -> Option<Wish<'a>>
+    ensures { IsReported (rows_of (found_of matches.now)) Subcommand.Read result }
+{
+    let Some(from) = ribbon_of(matches) else {
+        return None;
+    };
+    match extent_of(matches) {
+        Some(extent) => {
             let picture = choice_of(matches, "svg");
             let force = flag_of(matches, "force");
             Some(Wish::Read {
-                ribbon,
-                case,
-                wedge,
+                from,
+                extent,
                 picture,
                 force,
             })

@@ -1,4 +1,3 @@
-use Rattle.std.proofs.Common.{ap, sym, ◌∙◌, subst}
 use Rattle.std.specs.Str.Parse.{ParsesBool}
 use Rattle.clap.specs.Words.{found_of, one_text, rows_of}
 use Rattle.clap.proofs.WalkLemmas.{one_text-rows}

@@ -1,27 +1,9 @@
-use Rattle.std.proofs.Common.{codes, refl}
+use Rattle.std.proofs.Common.{subst}
 use Rattle.clap.specs.Words.{found_of, rows_of}
+use Rattle.program_words.specs.Words.{AreShown}
 use Rattle.program_words.specs.declared.wishes.Subcommand.TheVariants as subcommands
-use Rattle.program_words.proofs.Asked.{named, no_wish, unnamed}
+use Rattle.program_words.proofs.Asked.{no_wish}
 use Rattle.program_words.proofs.wishes.read_wish.Goals as goal
 
-pub returns-in_default : goal.returns-in_default
-returns-in_default c = no_wish (rows_of (found_of c.args.matches.now)) subcommands.Read (λ ribbon case wedge names. unnamed (codes "ribbon") (found_of c.args.matches.now) c.get_str.result c.get_str.ensures c.in_default.is ribbon names.0)
-
-pub returns-in_default-get_str : goal.returns-in_default-get_str
-returns-in_default-get_str c = no_wish (rows_of (found_of c.args.matches.now)) subcommands.Read (λ ribbon case wedge names. unnamed (codes "case") (found_of c.args.matches.now) c.get_str-2.result c.get_str-2.ensures c.in_default-get_str.is case names.1)
-
-pub returns-in-Some-get_str-2 : goal.returns-in-Some-get_str-2
-returns-in-Some-get_str-2 c = (
-  refl,
-  (
-    (
-      named (codes "ribbon") (found_of c.args.matches.now) c.get_str.result c.in-Some.ribbon c.get_str.ensures c.in-Some.is,
-      named (codes "case") (found_of c.args.matches.now) c.get_str-2.result c.in-Some-get_str.case c.get_str-2.ensures c.in-Some-get_str.is,
-      named (codes "wedge") (found_of c.args.matches.now) c.get_str-3.result c.in-Some-get_str-2.wedge c.get_str-3.ensures c.in-Some-get_str-2.is,
-    ),
-    (c.choice_of-picture.ensures, c.flag_of-force.ensures),
-  ),
-)
-
 pub returns-in-None : goal.returns-in-None
-returns-in-None c = no_wish (rows_of (found_of c.args.matches.now)) subcommands.Read (λ ribbon case wedge names. unnamed (codes "wedge") (found_of c.args.matches.now) c.get_str-3.result c.get_str-3.ensures c.in-None.is wedge names.2)
+returns-in-None c = no_wish (rows_of (found_of c.args.matches.now)) subcommands.Read (λ from extent names. subst (AreShown (rows_of (found_of c.args.matches.now))) c.in-None.is c.extent_of.ensures extent)
