@@ -10,7 +10,8 @@ use desk_job::JobFault;
 use desk_ops::{Style, Symbol};
 use std::alloc::{AllocError, Allocator};
 
-fn style_word(style: Style) -> &'static str
+/// The name of a style, as it stands before a symbol.
+pub fn style_word(style: Style) -> &'static str
     ensures { result.now ≡ style_text style }
 {
     match style {

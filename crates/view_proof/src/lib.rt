@@ -22,7 +22,8 @@ mod reasons;
 mod scale;
 
 pub use faults::{cause, meaning, put_cause};
-pub use lacking::{put_around, put_code, put_name};
+pub use lacking::{put_around, put_code, put_name, style_word};
+pub use marked::put_marked;
 pub use parts::{
     begin_of, put_left, put_number, put_points_down, put_points_up, put_right, put_symbols,
 };
