@@ -1,3 +1,6 @@
-pub mod Reportings
+pub mod Comparisons
 pub mod Gives
+pub mod Pairs
+pub mod Rising
+pub mod Stretches
 pub mod Texts

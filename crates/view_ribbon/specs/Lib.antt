@@ -1,10 +1,17 @@
+pub mod Extent
 pub mod Lines
+pub mod Figures
 pub mod Faults
+pub mod Casting
 pub mod Reported
 pub mod Sources
 pub mod Reading
+pub mod Differences
+pub mod Comparing
 pub mod Parts
 pub mod Channels
 pub mod Rows
+pub mod Stretch
+pub mod StretchLaws
 pub mod Picture
 pub mod Drawing

@@ -1,6 +1,6 @@
 -- The lines of a ribbon as text.
 use Rattle.std.specs.Prelude.{ℕ, ◌+◌, ℤ, pos, ◌-ℤ◌, int_lt, unsigned_abs, List, [], ◌∷◌, ◌++◌, length, codes}
-use Rattle.std.specs.Prelude.{if◌then◌else◌}
+use Rattle.std.specs.Prelude.{if◌then◌else◌, Option}
 use Rattle.std.specs.Char.{encode_utf8}
 use Rattle.std.specs.Fmt.{decimal}
 use Rattle.desk_ops.specs.declared.op.Symbol.{Symbol}
@@ -9,6 +9,8 @@ use Rattle.desk_caster.specs.declared.CastMatrix.{CastMatrix}
 use Rattle.desk_caster.specs.Caster.{Line}
 use Rattle.desk_caster.specs.Lines.{meaning}
 use Rattle.view_proof.specs.Parts.{right, left, symbols_text, points_down, points_up}
+use Rattle.view_ribbon.specs.Extent.{is_shown}
+use Rattle.view_ribbon.specs.declared.extent.Lines.{Lines}
 
 -- ---- widths
 
@@ -60,11 +62,15 @@ abbrev pub line_text : Pica → ℤ → ℕ → Line → List ℕ
 line_text pica longest number line = figures_text pica longest number line
     ++ (codes "  " ++ (matrices_text line.matrices ++ codes "\n"))
 
--- lines, where so many stand before them
-abbrev pub lines_from : Pica → ℤ → ℕ → List Line → List ℕ
-lines_from pica longest before [] = []
-lines_from pica longest before (line ∷ lines) = line_text pica longest (before + 1) line
-    ++ lines_from pica longest (before + 1) lines
+-- a line, where it is shown
+abbrev pub shown_text : Pica → ℤ → Option Lines → ℕ → Line → List ℕ
+shown_text pica longest shown number line = if is_shown shown number then line_text pica longest number line else []
+
+-- those of lines that are shown, where so many stand before them
+abbrev pub lines_from : Pica → ℤ → Option Lines → ℕ → List Line → List ℕ
+lines_from pica longest shown before [] = []
+lines_from pica longest shown before (line ∷ lines) = shown_text pica longest shown (before + 1) line
+    ++ lines_from pica longest shown (before + 1) lines
 
 -- ---- the whole
 
@@ -81,6 +87,7 @@ head_text pica rows lines = counts_text (length lines) rows
 abbrev pub columns_text : List ℕ
 columns_text = codes "\n  line    c/f     points   short  text\n"
 
--- the lines that the rows of a ribbon cast, in reading order
-abbrev pub ribbon_text : Pica → ℕ → List Line → List ℕ
-ribbon_text pica rows lines = head_text pica rows lines ++ (columns_text ++ lines_from pica (longest_of lines) 0 lines)
+-- the lines that the rows of a ribbon cast, in reading order: the counts of all, and those that are shown
+abbrev pub ribbon_text : Pica → ℕ → Option Lines → List Line → List ℕ
+ribbon_text pica rows shown lines =
+    head_text pica rows lines ++ (columns_text ++ lines_from pica (longest_of lines) shown 0 lines)

@@ -8,6 +8,7 @@ use Rattle.feed_files.specs.Files.{IsCounted, Reads, Shelf}
 use Rattle.feed_files.specs.declared.files.FileRefusal.{FileRefusal}
 use Rattle.feed_files.specs.declared.files.FileRefusal.TheVariants as files
 use Rattle.script_answers.specs.Inputs.{BothGive, BothLackMemory}
+use Rattle.view_ribbon.specs.declared.sources.Sources.{Sources}
 use Rattle.view_ribbon.specs.declared.fault.ReadingFault.{ReadingFault}
 use Rattle.view_ribbon.specs.declared.fault.ReadingFault.TheVariants as faults
 use Rattle.view_ribbon.specs.declared.fault.SourcesFault.{SourcesFault}
@@ -31,19 +32,10 @@ of_sources (refusals.Ribbon why) = faults.Ribbon why
 of_sources (refusals.Input why) = faults.Input why
 of_sources refusals.NoMemory = faults.NoMemory
 
--- the names of a ribbon, of a case file and of a wedge file
-pub record Sources : Type 0 where
-  pub ribbon : List ℕ
-  pub case : List ℕ
-  pub wedge : List ℕ
-
-abbrev pub sources : (ribbon case wedge : List ℕ) → Sources
-sources ribbon case wedge = record { ribbon = ribbon; case = case; wedge = wedge }
-
 -- the ribbon's name stands for these bytes, and the two files give this case and this wedge
 abbrev pub Give : Sources → Shelf → List ℕ → CaseValues → WedgeValues → Type 0
-Give from shelf bytes case wedge = Reads (shelf.kept from.ribbon) (Ok bytes)
-    × BothGive from.case from.wedge shelf (Ok (case, wedge)) shelf
+Give from shelf bytes case wedge = Reads (shelf.kept from.ribbon.now) (Ok bytes)
+    × BothGive from.case.now from.wedge.now shelf (Ok (case, wedge)) shelf
 
 -- they give bytes, a case and a wedge
 abbrev pub GiveAll : Sources → Shelf → Type 0
@@ -52,10 +44,10 @@ GiveAll from shelf = (bytes : List ℕ) × (case : CaseValues) × (wedge : Wedge
 -- why they give nothing: the ribbon is not read; or it is, and then the case or the wedge is refused; or memory runs
 -- out by one of the three, and the device did not fail
 abbrev pub AreRefused : Sources → Shelf → Shelf → SourcesFault → Type 0
-AreRefused from before after (refusals.Ribbon why) = (why ≢ files.NoMemory) × Reads (before.kept from.ribbon) (Err why)
+AreRefused from before after (refusals.Ribbon why) = (why ≢ files.NoMemory) × Reads (before.kept from.ribbon.now) (Err why)
     × IsCounted why before after
-AreRefused from before after (refusals.Input why) = (bytes : List ℕ) × Reads (before.kept from.ribbon) (Ok bytes)
-    × BothGive from.case from.wedge before (Err why) after
+AreRefused from before after (refusals.Input why) = (bytes : List ℕ) × Reads (before.kept from.ribbon.now) (Ok bytes)
+    × BothGive from.case.now from.wedge.now before (Err why) after
 AreRefused from before after refusals.NoMemory =
-    (Reads (before.kept from.ribbon) (Err files.NoMemory) × (after ≡ before))
-    ⊎ ((bytes : List ℕ) × Reads (before.kept from.ribbon) (Ok bytes) × BothLackMemory from.case from.wedge before after)
+    (Reads (before.kept from.ribbon.now) (Err files.NoMemory) × (after ≡ before))
+    ⊎ ((bytes : List ℕ) × Reads (before.kept from.ribbon.now) (Ok bytes) × BothLackMemory from.case.now from.wedge.now before after)

@@ -1,7 +1,9 @@
 //! Why there is no reading, by the phase in which it stopped.
 
 ghost use Rattle.std.specs.Prelude.{◌≡◌};
+ghost use Rattle.view_ribbon.specs.Comparing.{of_one, of_others};
 ghost use Rattle.view_ribbon.specs.Sources.{of_input, of_ribbon, of_sources};
+ghost use Rattle.view_ribbon.specs.declared.fault.ComparisonFault.TheVariants as comparisons;
 ghost use Rattle.view_ribbon.specs.declared.fault.ReadingFault.TheVariants as faults;
 
 use desk_memory::NoMemory;
@@ -42,6 +44,25 @@ pub enum ReadingFault {
     /// The picture was made, and not stored, or what stands under the target was not read.
     #[error("file fault")]
     Unstored(FileRefusal),
+    #[error("no memory")]
+    NoMemory,
+}
+
+/// Why two ribbons are not compared, by the phase in which it stopped.
+#[derive(Clone, Copy, Debug, PartialEq, Eq, Error)]
+pub enum ComparisonFault {
+    /// The first ribbon's file is not read, for another cause than memory: `MAX_FILE` bytes are the most.
+    #[error("file fault")]
+    One(FileRefusal),
+    /// The first is, and the second is not, as there.
+    #[error("file fault")]
+    Other(FileRefusal),
+    /// Both are, and the case or the wedge is not read, or is refused.
+    #[error("input refused")]
+    Input(Refusal),
+    /// The writer failed, or took no byte.
+    #[error("write fault")]
+    Write,
     #[error("no memory")]
     NoMemory,
 }
@@ -98,5 +119,46 @@ impl From<Unsent> for ReadingFault {
 
     fn from(_: Unsent) -> ReadingFault {
         ReadingFault::Write
+    }
+}
+
+/// A first ribbon's file that is not read.
+impl From<FileRefusal> for ComparisonFault {
+    ghost from_gives = { λ why fault. fault ≡ of_one why };
+
+    fn from(why: FileRefusal) -> ComparisonFault {
+        match why {
+            FileRefusal::NoMemory => ComparisonFault::NoMemory,
+            other => ComparisonFault::One(other),
+        }
+    }
+}
+
+/// The sources behind it that give nothing.
+impl From<SourcesFault> for ComparisonFault {
+    ghost from_gives = { λ why fault. fault ≡ of_others why };
+
+    fn from(why: SourcesFault) -> ComparisonFault {
+        match why {
+            SourcesFault::Ribbon(why) => ComparisonFault::Other(why),
+            SourcesFault::Input(why) => ComparisonFault::Input(why),
+            SourcesFault::NoMemory => ComparisonFault::NoMemory,
+        }
+    }
+}
+
+impl From<NoMemory> for ComparisonFault {
+    ghost from_gives = { λ _ fault. fault ≡ comparisons.NoMemory };
+
+    fn from(_: NoMemory) -> ComparisonFault {
+        ComparisonFault::NoMemory
+    }
+}
+
+impl From<Unsent> for ComparisonFault {
+    ghost from_gives = { λ _ fault. fault ≡ comparisons.Write };
+
+    fn from(_: Unsent) -> ComparisonFault {
+        ComparisonFault::Write
     }
 }

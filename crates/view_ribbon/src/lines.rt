@@ -6,6 +6,7 @@ ghost use Rattle.view_ribbon.specs.Lines.{columns_text, counts_text, figures_tex
 ghost use Rattle.view_ribbon.specs.Lines.{longest_from, longest_of, matrices_text, meaning_text, pair_text};
 ghost use Rattle.view_ribbon.specs.Lines.{ribbon_text, short_text, width_text, widths_text};
 
+use crate::extent::{Lines, is_shown};
 use desk_caster::{CastLine, CastMatrix};
 use desk_ops::Symbol;
 use desk_signals::Position;
@@ -28,7 +29,7 @@ fn longest_from<A: Allocator>(width: Atoms, lines: &[CastLine<A>]) -> Atoms
 }
 
 /// The width of the longest line, or nothing where there is none.
-fn longest_of<A: Allocator>(lines: &[CastLine<A>]) -> Atoms
+pub fn longest_of<A: Allocator>(lines: &[CastLine<A>]) -> Atoms
     ensures { result ≡ longest_of lines.now }
 {
     match lines {
@@ -38,7 +39,7 @@ fn longest_of<A: Allocator>(lines: &[CastLine<A>]) -> Atoms
 }
 
 /// Writes a width in points, rounded down to a tenth.
-fn put_width<A: Allocator + Copy>(
+pub fn put_width<A: Allocator + Copy>(
     out: &mut String<A>,
     pica: Pica,
     width: Atoms,
@@ -165,7 +166,7 @@ fn put_figures<A: Allocator + Copy>(
 }
 
 /// Writes a line.
-fn put_line<A: Allocator + Copy>(
+pub fn put_line<A: Allocator + Copy>(
     alloc: A,
     out: &mut String<A>,
     pica: Pica,
@@ -181,19 +182,22 @@ fn put_line<A: Allocator + Copy>(
     out.push_str("\n")
 }
 
-/// Writes lines, numbered from 1.
+/// Writes those of lines, numbered from 1, that are shown.
 fn put_lines<A: Allocator + Copy>(
     alloc: A,
     out: &mut String<A>,
     pica: Pica,
     longest: Atoms,
+    shown: Option<Lines>,
     lines: &[CastLine<A>],
 ) -> Result<(), AllocError>
-    ensures { OnOk result (string_bytes out.new ≡ string_bytes out.old ++ lines_from pica longest 0 lines.now) }
+    ensures { OnOk result (string_bytes out.new ≡ string_bytes out.old ++ lines_from pica longest shown 0 lines.now) }
 {
     let mut before = 0;
     for line in lines {
-        put_line(alloc, out, pica, longest, before + 1, line)?;
+        if is_shown(shown, before as u64 + 1) {
+            put_line(alloc, out, pica, longest, before + 1, line)?;
+        }
         before += 1;
     }
     Ok(())
@@ -210,7 +214,8 @@ fn put_counts<A: Allocator + Copy>(
     write!(out, "RIBBON {lines} lines, {rows} rows")
 }
 
-fn put_head<A: Allocator + Copy>(
+/// Writes how many lines there are, of how many rows, and how long the longest is.
+pub fn put_head<A: Allocator + Copy>(
     out: &mut String<A>,
     pica: Pica,
     rows: usize,
@@ -232,19 +237,20 @@ fn columns() -> &'static str
 }
 
 /// Writes the lines that so many rows cast, in reading order: how many there are and how long the longest is; then each
-/// with its number from 1, the positions of its wedges, its width and how short of the longest it is, both in points to
-/// a tenth, the width rounded down and what it is short rounded up; and its text, where a space stands for a matrix
-/// with S, and a middle dot for one that means nothing, as a fill.
+/// that is shown, with its number from 1, the positions of its wedges, its width and how short of the longest of all it
+/// is, both in points to a tenth, the width rounded down and what it is short rounded up; and its text, where a space
+/// stands for a matrix with S, and a middle dot for one that means nothing, as a fill.
 pub fn put_ribbon<A: Allocator + Copy>(
     alloc: A,
     out: &mut String<A>,
     pica: Pica,
     rows: usize,
+    shown: Option<Lines>,
     lines: &[CastLine<A>],
 ) -> Result<(), AllocError>
-    ensures { OnOk result (string_bytes out.new ≡ string_bytes out.old ++ ribbon_text pica rows lines.now) }
+    ensures { OnOk result (string_bytes out.new ≡ string_bytes out.old ++ ribbon_text pica rows shown lines.now) }
 {
     put_head(out, pica, rows, lines)?;
     out.push_str(columns())?;
-    put_lines(alloc, out, pica, longest_of(lines), lines)
+    put_lines(alloc, out, pica, longest_of(lines), shown, lines)
 }

@@ -1,93 +1,65 @@
 //! What is reported of the bytes of a ribbon.
 
-ghost use Rattle.std.specs.Prelude.{◌≡◌, ◌≢◌, ◌<◌, ◌^◌, IfOk, OnOk, false, length, string_bytes, true};
-ghost use Rattle.std.specs.Result.{is_ok};
-ghost use Rattle.desk_caster.specs.Caster.{cast};
-ghost use Rattle.desk_caster.specs.declared.CastFault.TheVariants as casts;
-ghost use Rattle.desk_caster.specs.declared.RibbonFault.TheVariants as ribbons;
-ghost use Rattle.view_ribbon.specs.Faults.{cast_fault_text, ribbon_fault_text};
-ghost use Rattle.view_ribbon.specs.Lines.{ribbon_text};
-ghost use Rattle.view_ribbon.specs.Reported.{IsReported, rows_text};
+ghost use Rattle.std.specs.Prelude.{◌≡◌, ◌++◌, IfOk, OnOk, string_bytes};
+ghost use Rattle.view_ribbon.specs.Reported.{IsReported, extent_text};
 
-use crate::faults::{put_cast_fault, put_ribbon_fault};
+use crate::casting::{Casting, cast_of};
+use crate::extent::Extent;
+use crate::figures::put_summary;
 use crate::lines::put_ribbon;
 use desk_case::MatrixCase;
-use desk_caster::{CastFault, CastLine, RibbonFault, cast, read_ribbon};
+use desk_caster::CastLine;
 use desk_memory::NoMemory;
-use desk_signals::RibbonRow;
 use desk_units::Pica;
 use desk_wedge::Wedge;
-use std::alloc::Allocator;
+use std::alloc::{AllocError, Allocator};
 
-/// The line of bytes that are no ribbon; out of memory where that is the fault.
-fn no_ribbon<A: Allocator + Copy>(
+/// Writes lines, or their figures.
+fn put_extent<A: Allocator + Copy>(
     alloc: A,
-    fault: RibbonFault,
-) -> Result<(String<A>, bool), NoMemory>
-    ensures text { IfOk result (λ t. string_bytes t.0 ≡ ribbon_fault_text fault) }
-    ensures whole { IfOk result (λ t. t.1 ≡ false) }
-    ensures cause { OnOk result (fault ≢ ribbons.NoMemory) }
-{
-    let mut out = String::new(alloc);
-    put_ribbon_fault(&mut out, fault)?;
-    Ok((out, false))
-}
-
-/// The line of rows that are not cast; out of memory where that is the fault.
-fn not_cast<A: Allocator + Copy>(alloc: A, fault: CastFault) -> Result<(String<A>, bool), NoMemory>
-    ensures text { IfOk result (λ t. string_bytes t.0 ≡ cast_fault_text fault) }
-    ensures whole { IfOk result (λ t. t.1 ≡ false) }
-    ensures cause { OnOk result (fault ≢ casts.NoMemory) }
-{
-    let mut out = String::new(alloc);
-    put_cast_fault(&mut out, fault)?;
-    Ok((out, false))
-}
-
-/// The text of the lines that so many rows cast.
-fn lines_reported<A: Allocator + Copy>(
-    alloc: A,
+    out: &mut String<A>,
     pica: Pica,
+    extent: Extent,
     rows: usize,
     lines: &[CastLine<A>],
-) -> Result<(String<A>, bool), NoMemory>
-    ensures text { IfOk result (λ t. string_bytes t.0 ≡ ribbon_text pica rows lines.now) }
-    ensures whole { IfOk result (λ t. t.1 ≡ true) }
+) -> Result<(), AllocError>
+    ensures { OnOk result
+        (string_bytes out.new ≡ string_bytes out.old ++ extent_text pica extent rows lines.now) }
 {
-    let mut out = String::new(alloc);
-    put_ribbon(alloc, &mut out, pica, rows, lines)?;
-    Ok((out, true))
-}
-
-/// What is reported of rows by a case and a wedge, and whether they are cast without a fault.
-fn rows_reported<A: Allocator + Copy>(
-    alloc: A,
-    rows: &[RibbonRow],
-    case: &MatrixCase,
-    wedge: &Wedge,
-) -> Result<(String<A>, bool), NoMemory>
-    requires { length rows.now < 2 ^ 32 }
-    ensures text { IfOk result (λ t. string_bytes t.0 ≡ rows_text case.now wedge.now rows.now) }
-    ensures whole { IfOk result (λ t. t.1 ≡ is_ok (cast case.now wedge.now rows.now)) }
-{
-    match cast(alloc, rows, case, wedge) {
-        Ok(lines) => lines_reported(alloc, wedge.pica(), rows.len(), &lines),
-        Err(fault) => not_cast(alloc, fault),
+    match extent {
+        Extent::Lines(shown) => put_ribbon(alloc, out, pica, rows, shown, lines),
+        Extent::Figures(pitch) => put_summary(out, pica, pitch, rows, lines),
     }
 }
 
-/// What is reported of the bytes of a ribbon by a case and a wedge: the lines that it casts, or its first fault on one
-/// line; and whether it is cast without a fault.
+/// The text of them.
+fn extent_text<A: Allocator + Copy>(
+    alloc: A,
+    pica: Pica,
+    extent: Extent,
+    cast: &Casting<A>,
+) -> Result<String<A>, NoMemory>
+    ensures { IfOk result
+        (λ s. string_bytes s ≡ extent_text pica extent (cast.now).rows ((cast.now).lines).items) }
+{
+    let mut out = String::new(alloc);
+    put_extent(alloc, &mut out, pica, extent, cast.rows, &cast.lines)?;
+    Ok(out)
+}
+
+/// What is reported of the bytes of a ribbon by a case and a wedge: the lines that it casts or their figures, or its
+/// first fault on one line; and whether it is cast without a fault.
 pub fn reported_of<A: Allocator + Copy>(
     alloc: A,
     bytes: &[u8],
     case: &MatrixCase,
     wedge: &Wedge,
+    extent: Extent,
 ) -> Result<(String<A>, bool), NoMemory>
-    ensures { IfOk result (λ t. IsReported bytes.now case.now wedge.now (string_bytes t.0) t.1) }
+    ensures { IfOk result (λ t. IsReported bytes.now case.now wedge.now extent (string_bytes t.0) t.1) }
 {
-    match read_ribbon(alloc, bytes) {
-        Ok(rows) => rows_reported(alloc, &rows, case, wedge),
-        Err(fault) => no_ribbon(alloc, fault),
+    match cast_of(alloc, bytes, case, wedge)? {
+        Ok(cast) => Ok((extent_text(alloc, wedge.pica(), extent, &cast)?, true)),
+        Err(line) => Ok((line, false)),
     }
 }

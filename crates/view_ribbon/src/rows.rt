@@ -240,20 +240,23 @@ fn put_row<A: Allocator + Copy>(
     put_row_at(out, case, y_of(count, place), place, row)
 }
 
-/// Writes rows as the caster meets them, the last first.
+/// Writes rows, of which the first has this place, as the caster meets them, the last first.
 pub fn put_rows<A: Allocator + Copy>(
     out: &mut String<A>,
+    first: usize,
     rows: &[RibbonRow],
     case: &MatrixCase,
 ) -> Result<(), AllocError>
+    requires { first + length rows.now < 2 ^ 64 }
     ensures { OnOk result
-        (string_bytes out.new ≡ string_bytes out.old ++ rows_text case.now (length rows.now) 0 rows.now) }
+        (string_bytes out.new ≡ string_bytes out.old
+        ++ rows_text case.now (first + length rows.now) first rows.now) }
 {
     let count = rows.len();
     let mut place = count;
     'rows: while place > 0 {
         place -= 1;
-        put_row(out, case, count, place, &rows[place])?;
+        put_row(out, case, first + count, first + place, &rows[place])?;
     }
     Ok(())
 }

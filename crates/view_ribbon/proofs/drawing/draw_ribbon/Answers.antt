@@ -25,7 +25,7 @@ returns-clause-err g c =
     let t = c.in_ok-bytes in
     let why = c.in-Err.why in
     let picture = string_bytes c.in-Some.picture in
-    let drawn : IsPicture t.bytes.items t.case picture = search rules in
+    let drawn : IsPicture c.args.lines t.bytes.items t.case picture = search rules in
     let unput = subst (λ (s : Shelf). IsNotPut to kinds.Picture s last why) t.ensures.still c.in-Err.ensures.err in
     inr (inr (why, c.of_output.ensures, picture, (t.bytes.items, t.case, _, t.ensures.ok, drawn), unput))
 
@@ -36,7 +36,7 @@ returns-in-Ok-clause-ok g c =
     let to = destination c.args.target.now.name.now c.args.target.now.force in
     let t = c.in_ok-bytes in
     let picture = string_bytes c.in-Some.picture in
-    let drawn : IsPicture t.bytes.items t.case picture = search rules in
+    let drawn : IsPicture c.args.lines t.bytes.items t.case picture = search rules in
     let free = subst (λ (s : Shelf). GivesWay to kinds.Picture s.kept) t.ensures.still c.in-Ok.ensures.free in
     let stored = subst (λ bytes. IsReplaced to.name bytes mid.kept last.kept) c.as_bytes.ensures.value c.in-Ok.ensures.ok in
     (picture, (t.bytes.items, t.case, _, t.ensures.ok, drawn), free, subst (λ (s : Shelf). IsReplaced to.name picture s.kept last.kept) t.ensures.still stored)

@@ -4,5 +4,5 @@ use Rattle.view_ribbon.proofs.lines.put_lines.Given as goal
 
 abbrev pub invariant-loop-line : goal.invariant-loop-line
 invariant-loop-line g l =
-    (string_bytes l.out ++ lines_from l.pica l.longest l.before (drop l.line-index l.lines) ≡ string_bytes l.fn.out ++ lines_from l.pica l.longest 0 l.lines)
+    (string_bytes l.out ++ lines_from l.pica l.longest l.shown l.before (drop l.line-index l.lines) ≡ string_bytes l.fn.out ++ lines_from l.pica l.longest l.shown 0 l.lines)
     × (l.before ≡ l.line-index)

@@ -23,11 +23,11 @@ returns-in_err-write_out-clause-err g c =
     let text = string_bytes c.in_ok-text.text in
     let prefix = subst (λ l. WritesPrefix (g.W.Write.contents c.args.writer.now) (g.W.Write.contents c.write_out.new.writer) l) c.as_bytes.ensures.value c.in_err-write_out.ensures.err in
     let p = err_from_is_err_and c.from_residual-in_err-write_out.result c.from_residual-in_err-write_out.ensures.1 in
-    rw p.1 (inr (inr (p.2, t.ensures.still, text, c.in_ok-text.whole, (t.bytes.items, t.case, t.wedge, t.ensures.ok, subst (λ l. IsReported l t.case t.wedge text c.in_ok-text.whole) c.deref.ensures.value c.in_ok-text.ensures), prefix)))
+    rw p.1 (inr (inr (p.2, t.ensures.still, text, c.in_ok-text.whole, (t.bytes.items, t.case, t.wedge, t.ensures.ok, subst (λ l. IsReported l t.case t.wedge c.args.extent text c.in_ok-text.whole) c.deref.ensures.value c.in_ok-text.ensures), prefix)))
 
 pub returns-clause-ok : goal.returns-clause-ok
 returns-clause-ok g c =
     let t = c.in_ok-bytes in
     let text = string_bytes c.in_ok-text.text in
     let written = subst (λ l. Appends (g.W.Write.contents c.args.writer.now) (g.W.Write.contents c.write_out.new.writer) l) c.as_bytes.ensures.value c.in_ok-write_out.ensures.ok in
-    (text, (t.bytes.items, t.case, t.wedge, t.ensures.ok, subst (λ l. IsReported l t.case t.wedge text c.in_ok-text.whole) c.deref.ensures.value c.in_ok-text.ensures), written)
+    (text, (t.bytes.items, t.case, t.wedge, t.ensures.ok, subst (λ l. IsReported l t.case t.wedge c.args.extent text c.in_ok-text.whole) c.deref.ensures.value c.in_ok-text.ensures), written)
