@@ -2,4 +2,3 @@ pub mod Texts
 pub mod NextBox
 pub mod NextPlace
 pub mod NextLine
-pub mod Standing

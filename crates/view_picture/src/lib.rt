@@ -24,4 +24,4 @@ mod widths;
 mod words;
 
 pub use picture::{put_no_galley_picture, put_picture};
-pub use picturing::picture_feed;
+pub use picturing::picture_job;

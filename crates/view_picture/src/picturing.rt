@@ -1,4 +1,4 @@
-//! The picture of a stored feed's galley, stored under a name.
+//! The picture of the galley of a stored feed or of a text, stored under a name.
 
 ghost use Rattle.std.specs.Prelude.{◌≡◌, ◌≤◌, length, All, IfErr, IfOk, OnOk, string_bytes};
 ghost use Rattle.feed_files.specs.Files.{HoldsOn};
@@ -10,18 +10,15 @@ ghost use Rattle.view_picture.specs.Picture.{no_galley_picture, picture_text};
 ghost use Rattle.view_picture.specs.Picturing.{IsDrawn, IsPictured, IsUnpictured};
 
 use crate::picture::{put_no_galley_picture, put_picture};
-use desk_blocks::Blocks;
-use desk_case::MatrixCase;
 use desk_memory::NoMemory;
 use desk_ops::{CopyFault, Symbol};
-use desk_replica::{Replica, Settings};
-use desk_wedge::Wedge;
+use desk_replica::Settings;
 use feed_files::{Files, Kind, Target, store_over};
 use script_answers::Memory;
 use std::alloc::Allocator;
-use view_galley::{Galley, GalleyRefusal, make_galley};
-use view_proof::{NoGalley, why_none};
-use view_punch::{PreviewFault, Sources, take_in, tried};
+use view_galley::Galley;
+use view_preview::{Job, Matter, PreviewFault, Unset, take_job};
+use view_proof::NoGalley;
 
 /// The picture of a galley of a copy.
 fn picture_of<'a, A: Allocator + Copy>(
@@ -52,60 +49,47 @@ fn refusal_of<A: Allocator + Copy>(
     Ok(out)
 }
 
-/// What is drawn of the copy of a replica by a case and a wedge.
+/// What is drawn of a matter by its settings and those that are tried.
 fn drawn_of<A: Allocator + Copy>(
     alloc: A,
-    replica: &Replica<Blocks<A>>,
-    case: &MatrixCase,
-    wedge: &Wedge,
+    matter: &Matter<A>,
     trial: &Settings,
 ) -> Result<String<A>, NoMemory>
     requires { AreValues trial.now }
-    ensures { IfOk result (λ s. IsDrawn replica.now.ops case.now wedge.now trial.now (string_bytes s)) }
+    ensures { IfOk result (λ s. IsDrawn matter.now trial.now (string_bytes s)) }
 {
-    let copy = replica.copy()?;
-    let faults = replica.copy_faults()?;
-    let given = replica.settings();
-    let settings = tried(trial, &given);
-    match make_galley(alloc, &copy, &settings, case, wedge) {
-        Ok(galley) => {
-            let drawn = picture_of(alloc, &copy, &faults, &galley)?;
-            Ok(drawn)
-        }
-        Err(GalleyRefusal::Fault(why)) => {
-            let why = why_none(&settings, case, wedge, why);
-            let drawn = refusal_of(alloc, &faults, &why)?;
-            Ok(drawn)
-        }
-        Err(GalleyRefusal::NoMemory) => Err(NoMemory),
+    match matter.galley(alloc, trial) {
+        Ok(galley) => picture_of(alloc, matter.copy(), matter.faults(), &galley),
+        Err(Unset::Reason(why)) => refusal_of(alloc, matter.faults(), &why),
+        Err(Unset::NoMemory) => Err(NoMemory),
     }
 }
 
-/// Draws the galley of a version of a stored feed by a case and a wedge, as `put_picture` does, and stores the picture under the
-/// name of a target; where there is no galley, a picture that says why. A line that can't be set is drawn with its
-/// fault, and no refusal. Settings that are tried count in place of the copy's, and are stored nowhere. No name is
-/// taken: a feed is stored by a rename, so what is read is a whole feed. Where a file that is no picture stands under
-/// the target, which is not forced, the fault is `Taken`. A target that is forced, and is the feed, the case or the
-/// wedge, is replaced as any other. After an `Err` the target has its old bytes.
-pub fn picture_feed<F: Files, A: Allocator + Copy>(
+/// Draws the galley of a version of a stored feed, or of a text, by a case and a wedge, as `put_picture` does, and
+/// stores the picture under the name of a target; where there is no galley, a picture that says why. A line that can't
+/// be set is drawn with its fault, and no refusal. Settings that are tried count in place of the copy's, and are stored
+/// nowhere. No name is taken: a feed is stored by a rename, so what is read is a whole feed. Where a file that is no
+/// picture stands under the target, which is not forced, the fault is `Taken`. A target that is forced, and is the feed,
+/// the text, the case or the wedge, is replaced as any other. After an `Err` the target has its old bytes.
+pub fn picture_job<F: Files, A: Allocator + Copy>(
     memory: Memory<A>,
     files: &mut F,
-    from: &Sources<'_>,
+    job: &Job<'_>,
     trial: &Settings,
     target: &Target<'_>,
 ) -> Result<(), PreviewFault>
     requires { AreValues trial.now }
     ensures ok { OnOk result
-        (IsPictured from.now trial.now (destination target.now.name.now target.now.force)
+        (IsPictured job.now trial.now (destination target.now.name.now target.now.force)
         (F.shelf files.old) (F.shelf files.new)) }
     ensures counted { OnOk result ((F.shelf files.new).failures ≡ (F.shelf files.old).failures) }
     ensures err { IfErr result
-        (IsUnpictured from.now trial.now (destination target.now.name.now target.now.force)
+        (IsUnpictured job.now trial.now (destination target.now.name.now target.now.force)
         (F.shelf files.old) (F.shelf files.new)) }
     ensures held { HoldsOn (F.shelf files.old).held (F.shelf files.new).held }
 {
-    let (replica, case, wedge) = take_in(memory, files, from)?;
-    let drawn = drawn_of(memory.own, &replica, &case, &wedge, trial)?;
+    let matter = take_job(memory, files, job)?;
+    let drawn = drawn_of(memory.own, &matter, trial)?;
     store_over(memory.own, files, target, drawn.as_bytes(), Kind::Picture)?;
     Ok(())
 }

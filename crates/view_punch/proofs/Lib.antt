@@ -1,7 +1,5 @@
 pub mod Gives
 pub mod Punches
-pub mod Galleys
-mod Turns
 pub mod Tallies
 pub mod PlaceByPlace
 pub mod Found

@@ -16,12 +16,13 @@ use Rattle.feed_files.specs.declared.output_fault.OutputFault.{OutputFault}
 use Rattle.feed_files.specs.declared.output_fault.OutputFault.TheVariants as outputs
 use Rattle.feed_files.specs.declared.kinds.Kind.TheVariants as kinds
 use Rattle.view_punch.specs.Lines.{IsUnreported, job_line}
-use Rattle.view_punch.specs.Punching.{IsLetThrough, IsMadeOnly, IsStopped, IsUnpunched, missing_of, of_line, of_output, other_of}
-use Rattle.view_punch.specs.Sources.{Give}
-use Rattle.view_punch.specs.declared.sources.Sources.{Sources}
+use Rattle.view_punch.specs.Punching.{IsLetThrough, IsStopped, IsUnpunched, missing_of, of_line, other_of}
+use Rattle.view_preview.specs.Faults.{of_output}
+use Rattle.view_preview.specs.Sources.{Give}
+use Rattle.view_preview.specs.declared.sources.Sources.{Sources}
 use Rattle.view_punch.specs.declared.fault.LineFault.{LineFault}
 use Rattle.view_punch.specs.declared.fault.LineFault.TheVariants as lines
-use Rattle.view_punch.specs.declared.fault.PreviewFault.{PreviewFault}
+use Rattle.view_preview.specs.declared.fault.PreviewFault.{PreviewFault}
 
 -- bytes that are made are the ribbon of the rows of the job
 pub made_rows : (bytes : List ℕ) (made : Result (List RibbonRow) (List JobFault)) → IsMade bytes made → (rows : List RibbonRow) × (made ≡ Ok rows) × (bytes ≡ ribbon rows)

@@ -11,7 +11,7 @@ use Rattle.feed_files.specs.Files.{Shelf}
 use Rattle.feed_edit.specs.Exporting.{IsVersion}
 use Rattle.feed_edit.specs.declared.exporting.Version.{Version}
 use Rattle.script_answers.specs.Inputs.{Answers, FileGives, FileLacksMemory}
-use Rattle.view_punch.specs.Sources.{of_input}
+use Rattle.view_preview.specs.Sources.{of_input}
 use Rattle.view_punch.specs.SortsSources.{AreRefused}
 
 -- the case is not given, where nothing changed as the feed was opened

@@ -8,30 +8,30 @@ use Rattle.std.specs.Io.KnownBytes.{Appends}
 use Rattle.desk_ops.specs.OpSet.{OpSet}
 use Rattle.desk_ops.specs.Shown.{copy_of}
 use Rattle.desk_ops.specs.declared.op.Symbol.{Symbol}
-use Rattle.desk_case.specs.Case.{CaseValues}
-use Rattle.desk_wedge.specs.Wedge.{WedgeValues}
-use Rattle.desk_job.specs.declared.JobFault.{JobFault}
 use Rattle.text_copy.specs.Places.{places_of}
 use Rattle.text_copy.specs.Reading.{Fails, reading}
 use Rattle.text_copy.specs.Reporting.{around}
 use Rattle.text_copy.specs.Writing.{text_bytes}
 use Rattle.text_copy.specs.declared.fault.TextFault.{TextFault}
-use Rattle.text_copy.specs.declared.fault.TextFault.TheVariants as texts
 use Rattle.feed_files.specs.Files.{Shelf}
 use Rattle.feed_stored.specs.Sending.{WritesPrefix}
 use Rattle.feed_edit.specs.Exporting.{IsClosedBy, IsSetOf}
 use Rattle.view_galley.specs.Values.{GalleyValues, LineValues}
-use Rattle.view_galley.specs.Galley.{IsGalley}
 use Rattle.view_proof.specs.Parts.{begin_of}
 use Rattle.view_proof.specs.Proof.{no_galley_text}
-use Rattle.view_punch.specs.Trial.{no_trial, tried}
-use Rattle.view_punch.specs.Proofing.{LacksGalley, reason_of}
-use Rattle.view_punch.specs.Sources.{AreRefused, Give, GiveAll, of_sources, sources}
+use Rattle.view_proof.specs.declared.reasons.NoGalley.{NoGalley}
+use Rattle.view_preview.specs.Faults.{of_text}
+use Rattle.view_preview.specs.Trial.{no_trial}
+use Rattle.view_preview.specs.Matter.{HasGalley, HasNone, MatterValues}
+use Rattle.view_preview.specs.Sources.{of_sources}
+use Rattle.view_preview.specs.Taking.{Gives, GivesAll, GivesNone}
+use Rattle.view_preview.specs.declared.job.Job.{Job}
+use Rattle.view_preview.specs.declared.job.Source.TheVariants as sources
 use Rattle.view_punch.specs.declared.finding.Wanted.{Wanted}
-use Rattle.view_punch.specs.declared.fault.PreviewFault.{PreviewFault}
-use Rattle.view_punch.specs.declared.fault.PreviewFault.TheVariants as faults
-use Rattle.view_punch.specs.declared.fault.SourcesFault.{SourcesFault}
-use Rattle.view_punch.specs.declared.fault.SourcesFault.TheVariants as refusals
+use Rattle.view_preview.specs.declared.fault.PreviewFault.{PreviewFault}
+use Rattle.view_preview.specs.declared.fault.PreviewFault.TheVariants as faults
+use Rattle.view_preview.specs.declared.fault.SourcesFault.{SourcesFault}
+use Rattle.view_preview.specs.declared.fault.SourcesFault.TheVariants as refusals
 
 -- ---- lines of the galley
 
@@ -82,27 +82,29 @@ is_found text copy = not (length (places_of text copy) == 0)
 
 -- ---- in a stored feed
 
--- the lines of a set's galley begin at these places; or it has none, and this line says why, as a proof does
-abbrev pub HasLines : OpSet → CaseValues → WedgeValues → List ℕ → List ℕ → Type 0
-HasLines set case wedge head begins =
-    ((galley : GalleyValues) × IsGalley (copy_of set) (tried no_trial set) case wedge galley
-    × (head ≡ []) × (begins ≡ begins_of galley.lines))
-    ⊎ ((why : JobFault) × LacksGalley set case wedge no_trial why
-    × (head ≡ no_galley_text [] (reason_of set case wedge no_trial why)) × (begins ≡ []))
+-- the lines of a matter's galley begin at these places; or it has none, and this line says why, as a proof does
+abbrev pub HasLines : MatterValues → List ℕ → List ℕ → Type 0
+HasLines matter head begins =
+    ((galley : GalleyValues) × HasGalley matter no_trial galley × (head ≡ []) × (begins ≡ begins_of galley.lines))
+    ⊎ ((why : NoGalley) × HasNone matter no_trial why × (head ≡ no_galley_text [] why) × (begins ≡ []))
 
 -- the names of a case and a wedge, where lines are wanted by them
 abbrev pub Metal : Type 0
 Metal = Option (Bor (List ℕ) × Bor (List ℕ))
+
+-- a feed as it is, a case and a wedge
+abbrev pub job : (feed case wedge : Bor (List ℕ)) → Job
+job feed case wedge =
+    record { source = sources.Feed (record { feed = feed; until = None }); case = case; wedge = wedge }
 
 -- what is written of a text in a set, and whether it has a place: without lines, or with those by a case and a wedge
 abbrev pub IsFoundIn : Bor (List ℕ) → Metal → List Symbol → Shelf → List ℕ → Bool → Type 0
 IsFoundIn feed None text shelf reported found = (set : OpSet) × IsSetOf feed.now shelf set
     × (reported ≡ found_text text (copy_of set) []) × (found ≡ is_found text (copy_of set))
 IsFoundIn feed (Some (case, wedge)) text shelf reported found =
-    (set : OpSet) × (read : CaseValues) × (known : WedgeValues)
-    × Give (sources feed case wedge) shelf set read known
-    × (head begins : List ℕ) × HasLines set read known head begins
-    × (reported ≡ head ++ found_text text (copy_of set) begins) × (found ≡ is_found text (copy_of set))
+    (matter : MatterValues) × Gives (job feed case wedge) shelf matter
+    × (head begins : List ℕ) × HasLines matter head begins
+    × (reported ≡ head ++ found_text text matter.copy begins) × (found ≡ is_found text matter.copy)
 
 -- it was written
 abbrev pub IsFound : Bor (List ℕ) → Wanted → Shelf → Option (List ℕ) → Option (List ℕ) → Bool → Type 0
@@ -115,24 +117,21 @@ IsFound feed asked shelf before after found = (text : List Symbol) × (reading a
 -- all that is to be read gives something
 abbrev pub AllGive : Bor (List ℕ) → Metal → Shelf → Type 0
 AllGive feed None shelf = (set : OpSet) × IsSetOf feed.now shelf set
-AllGive feed (Some (case, wedge)) shelf = GiveAll (sources feed case wedge) shelf
+AllGive feed (Some (case, wedge)) shelf = GivesAll (job feed case wedge) shelf
 
 -- why it does not
 abbrev pub GiveNothing : Bor (List ℕ) → Metal → Shelf → Shelf → SourcesFault → Type 0
 GiveNothing feed None first last (refusals.Feed why) = IsClosedBy feed.now first last why
+GiveNothing feed None first last refusals.TooLong = ⊥
+GiveNothing feed None first last (refusals.Text why) = ⊥
 GiveNothing feed None first last (refusals.Input why) = ⊥
 GiveNothing feed None first last refusals.NoMemory = ⊥
-GiveNothing feed (Some (case, wedge)) first last why = AreRefused (sources feed case wedge) first last why
+GiveNothing feed (Some (case, wedge)) first last why = GivesNone (job feed case wedge) first last why
 
 -- nothing is given, for this cause; or all is, and memory ran out, and then no file has changed
 abbrev pub IsSearchless : Bor (List ℕ) → Metal → Shelf → Shelf → SourcesFault → Type 0
 IsSearchless feed metal first last why = GiveNothing feed metal first last why
     ⊎ ((why ≡ refusals.NoMemory) × (last ≡ first) × AllGive feed metal first)
-
--- what a text that is not read is for a search
-abbrev pub of_text : TextFault → PreviewFault
-of_text (texts.At line column cause) = faults.Text (texts.At line column cause)
-of_text texts.NoMemory = faults.NoMemory
 
 -- the text is not read, or memory ran out as it was
 abbrev pub IsUnread : Wanted → PreviewFault → Type 0

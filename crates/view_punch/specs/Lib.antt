@@ -1,9 +1,6 @@
 pub mod Laws
-pub mod Sources
 pub mod Lines
 pub mod Punching
-pub mod Proofing
-pub mod Trial
 pub mod Sorts
 pub mod Places
 pub mod SortsLaws

@@ -22,13 +22,13 @@ use Rattle.feed_files.specs.declared.kinds.Kind.TheVariants as kinds
 use Rattle.feed_stored.specs.Sending.{WritesPrefix}
 use Rattle.feed_edit.specs.Merging.{faults_line}
 use Rattle.script_answers.specs.Job.{job_of}
-use Rattle.view_punch.specs.Sources.{AreRefused, Give, LackMemory}
-use Rattle.view_punch.specs.declared.sources.Sources.{Sources}
+use Rattle.view_preview.specs.Sources.{AreRefused, Give, LackMemory}
+use Rattle.view_preview.specs.declared.sources.Sources.{Sources}
 use Rattle.view_punch.specs.declared.fault.LineFault.{LineFault}
 use Rattle.view_punch.specs.declared.fault.LineFault.TheVariants as lines
-use Rattle.view_punch.specs.declared.fault.PreviewFault.{PreviewFault}
-use Rattle.view_punch.specs.declared.fault.PreviewFault.TheVariants as faults
-use Rattle.view_punch.specs.declared.fault.SourcesFault.TheVariants as refusals
+use Rattle.view_preview.specs.declared.fault.PreviewFault.{PreviewFault}
+use Rattle.view_preview.specs.declared.fault.PreviewFault.TheVariants as faults
+use Rattle.view_preview.specs.declared.fault.SourcesFault.TheVariants as refusals
 
 -- ---- what is written
 
@@ -83,11 +83,6 @@ HasJobFaults from faulty shelf other line =
     × Give from shelf set case wedge × IsLetThrough faulty set × (job_of set case wedge ≡ Err found)
     × (line ≡ job_line (missing_of set) found) × (other ≡ other_of set case wedge)
 
--- what a ribbon or a picture that is not stored is for a preview
-abbrev pub of_output : OutputFault → PreviewFault
-of_output (outputs.Taken kind) = faults.Taken kind
-of_output (outputs.File why) = faults.Unstored why
-
 -- the job has rows, and the target, where nothing stood but a ribbon, or which is forced, stands for their ribbon
 abbrev pub IsPunched : Sources → Destination → Bool → Shelf → Shelf → Type 0
 IsPunched from to faulty before after =
@@ -120,5 +115,6 @@ IsUnpunched from to faulty first last before after (faults.Taken kind) =
     (after ≡ before) × IsMadeOnly from to faulty first last (outputs.Taken kind)
 IsUnpunched from to faulty first last before after (faults.Unstored why) =
     (after ≡ before) × IsMadeOnly from to faulty first last (outputs.File why)
+IsUnpunched from to faulty first last before after faults.TooLong = ⊥
 IsUnpunched from to faulty first last before after (faults.Text why) = ⊥
 IsUnpunched from to faulty first last before after faults.NoMemory = (after ≡ before) × LackMemory from first last

@@ -7,10 +7,10 @@ use Rattle.desk_case.specs.Case.{CaseValues}
 use Rattle.feed_files.specs.Files.{Shelf}
 use Rattle.feed_stored.specs.Sending.{WritesPrefix}
 use Rattle.feed_edit.specs.declared.exporting.Version.{Version}
-use Rattle.view_punch.specs.Sources.{of_sources}
-use Rattle.view_punch.specs.declared.fault.PreviewFault.{PreviewFault}
-use Rattle.view_punch.specs.declared.fault.PreviewFault.TheVariants as faults
-use Rattle.view_punch.specs.declared.fault.SourcesFault.{SourcesFault}
+use Rattle.view_preview.specs.Sources.{of_sources}
+use Rattle.view_preview.specs.declared.fault.PreviewFault.{PreviewFault}
+use Rattle.view_preview.specs.declared.fault.PreviewFault.TheVariants as faults
+use Rattle.view_preview.specs.declared.fault.SourcesFault.{SourcesFault}
 use Rattle.view_punch.specs.SortsSources.{AreRefused, Give}
 use Rattle.view_punch.specs.Reported.{IsReportedOf}
 

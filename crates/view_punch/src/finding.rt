@@ -10,15 +10,10 @@ ghost use Rattle.view_punch.specs.Finding.{HasLines, IsFound, IsFoundIn, IsSearc
 ghost use Rattle.view_punch.specs.Finding.{found_text, is_found, line_of, line_text, numbered, place_text};
 ghost use Rattle.view_proof.specs.Proof.{no_galley_text};
 
-use crate::fault::{PreviewFault, SourcesFault};
-use crate::sources::{Sources, take_in};
-use crate::trial::{no_trial, tried};
 use desk_blocks::Blocks;
-use desk_case::MatrixCase;
 use desk_memory::NoMemory;
 use desk_ops::Symbol;
 use desk_replica::Replica;
-use desk_wedge::Wedge;
 use feed_edit::{Version, open_feed};
 use feed_files::Files;
 use feed_stored::write_out;
@@ -26,8 +21,9 @@ use script_answers::Memory;
 use std::alloc::{AllocError, Allocator};
 use std::io::Write;
 use text_copy::{places_of, read_text, reported_places};
-use view_galley::{GalleyRefusal, Line, make_galley};
-use view_proof::{NoGalley, begin_of, put_no_galley, why_none};
+use view_galley::Line;
+use view_preview::{Job, Matter, PreviewFault, Source, SourcesFault, Unset, no_trial, take_job};
+use view_proof::{NoGalley, begin_of, put_no_galley};
 
 /// What is looked for: a text, with marks for its styles or plain. The names of a case and a wedge are given where the
 /// line of each place is wanted.
@@ -188,32 +184,26 @@ fn found_of<A: Allocator + Copy>(
     found_behind(alloc, b"", text, &copy, &[])
 }
 
-/// The places of a text in the copy of a replica, each with its line of the galley by a case and a wedge, or first why
-/// there is none.
+/// The places of a text in the copy of a matter, each with its line of the galley, or first why there is none.
 fn found_by<A: Allocator + Copy>(
     alloc: A,
-    replica: &Replica<Blocks<A>>,
-    case: &MatrixCase,
-    wedge: &Wedge,
+    matter: &Matter<A>,
     text: &[Symbol],
 ) -> Result<(Vec<u8, A>, bool), NoMemory>
-    ensures text { IfOk result (λ t. (head : List ℕ) × (begins : List ℕ)
-        × HasLines replica.now.ops case.now wedge.now head begins
-        × (t.0.items ≡ head ++ found_text text.now (copy_of replica.now.ops) begins)) }
-    ensures found { IfOk result (λ t. t.1 ≡ is_found text.now (copy_of replica.now.ops)) }
+    ensures text { IfOk result (λ t. (head : List ℕ) × (begins : List ℕ) × HasLines matter.now head begins
+        × (t.0.items ≡ head ++ found_text text.now (matter.now).copy begins)) }
+    ensures found { IfOk result (λ t. t.1 ≡ is_found text.now (matter.now).copy) }
 {
-    let copy = replica.copy()?;
-    let settings = tried(&no_trial(), &replica.settings());
-    match make_galley(alloc, &copy, &settings, case, wedge) {
+    match matter.galley(alloc, &no_trial()) {
         Ok(galley) => {
             let begins = begins_of(alloc, galley.lines())?;
-            Ok(found_behind(alloc, b"", text, &copy, &begins)?)
+            found_behind(alloc, b"", text, matter.copy(), &begins)
         }
-        Err(GalleyRefusal::Fault(why)) => {
-            let head = refusal_of(alloc, &why_none(&settings, case, wedge, why))?;
-            Ok(found_behind(alloc, head.as_bytes(), text, &copy, &[])?)
+        Err(Unset::Reason(why)) => {
+            let head = refusal_of(alloc, &why)?;
+            found_behind(alloc, head.as_bytes(), text, matter.copy(), &[])
         }
-        Err(GalleyRefusal::NoMemory) => Err(NoMemory),
+        Err(Unset::NoMemory) => Err(NoMemory),
     }
 }
 
@@ -252,13 +242,13 @@ fn found_with<F: Files, A: Allocator + Copy>(
     ensures stays { Stays (F.shelf files.old) (F.shelf files.new) }
 {
     let version = Version { feed, until: None };
-    let from = Sources {
-        version,
+    let job = Job {
+        source: Source::Feed(version),
         case,
         wedge,
     };
-    let (replica, case, wedge) = take_in(memory, files, &from)?;
-    Ok(found_by(memory.own, &replica, &case, &wedge, text)?)
+    let matter = take_job(memory, files, &job)?;
+    Ok(found_by(memory.own, &matter, text)?)
 }
 
 /// The places of a text in the copy of a stored feed, with their lines where a case and a wedge are given.

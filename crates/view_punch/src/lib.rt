@@ -1,14 +1,10 @@
-//! What one sees of a stored feed before it is cast: its ribbon in a file, its faults, its galley as text, or its sorts.
+//! What one sees of a stored feed before it is cast: its ribbon in a file, its faults, its sorts, or the places of a
+//! text.
 //!
-//! It reads the feed, then the case, then the wedge; each file must be there. It takes no name: a store is a rename, so
-//! it reads a whole feed.
+//! What it reads must be there. It takes no name: a store is a rename, so it reads a whole feed.
 //!
 //! A punch refuses a copy with faults, since a correction is not in it, unless the caller lets them through. It refuses
-//! a job with faults. It refuses a target that holds a file of another kind, unless the caller forces it. A proof
-//! refuses only for its sources.
-//!
-//! `trial` has settings that are tried in place of those of a copy, each a text KEY=VALUE as `loose=200`. Nothing of
-//! them is stored.
+//! a job with faults. It refuses a target that holds a file of another kind, unless the caller forces it.
 //!
 //! A list of sorts reads no wedge: what a copy needs, and what a case holds, as values and as text. A sort is a symbol
 //! of a style. The space is one, and the line feed is none. Fills are not counted, since their number depends on the
@@ -27,25 +23,17 @@ pub mod laws;
 mod layout;
 mod listing;
 mod places;
-mod proofing;
 mod punching;
 mod reported;
 mod reporting;
 mod sorts;
 mod sorts_laws;
 mod sorts_sources;
-mod sources;
-mod trial;
-pub mod trial_laws;
 
-pub use fault::{PreviewFault, SourcesFault};
 pub use finding::{Wanted, find_text};
 pub use layout::put_case;
 pub use listing::{missing_of, put_sorts};
-pub use proofing::proof_feed;
 pub use punching::punch_feed;
 pub use reporting::report_sorts;
 pub use sorts::{Sort, sorts_of};
 pub use sorts_laws::places_are_all;
-pub use sources::{Sources, take_in};
-pub use trial::{TrialFault, no_trial, trial_of, tried};

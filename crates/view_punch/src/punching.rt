@@ -5,9 +5,7 @@ ghost use Rattle.feed_files.specs.Files.{HoldsOn};
 ghost use Rattle.feed_files.specs.Outputs.{destination};
 ghost use Rattle.view_punch.specs.Punching.{IsLetThrough, IsPunched, IsStopped, IsUnpunched};
 
-use crate::fault::PreviewFault;
 use crate::job_line::{report, report_job};
-use crate::sources::{Sources, take_in};
 use desk_blocks::Blocks;
 use desk_job::{JobRefusal, make};
 use desk_replica::Replica;
@@ -15,6 +13,7 @@ use feed_files::{Files, Kind, Target, store_over};
 use script_answers::{Memory, Reply};
 use std::alloc::Allocator;
 use std::io::Write;
+use view_preview::{PreviewFault, Sources, take_in};
 use view_proof::other_number;
 
 /// Lets the copy of a replica through where it has no fault, or where faults are let through. Else the line that the

@@ -6,7 +6,6 @@ ghost use Rattle.desk_ops.specs.Shown.{copy_of};
 ghost use Rattle.view_punch.specs.Reporting.{AreListed, AreUnlisted};
 ghost use Rattle.view_punch.specs.Reported.{IsReportedOf};
 
-use crate::fault::PreviewFault;
 use crate::reported::reported_of;
 use crate::sorts_sources::take_in;
 use desk_blocks::Blocks;
@@ -19,6 +18,7 @@ use feed_stored::write_out;
 use script_answers::Memory;
 use std::alloc::Allocator;
 use std::io::Write;
+use view_preview::PreviewFault;
 
 /// What is reported of the copy of a replica.
 fn reported_of_replica<A: Allocator + Copy>(

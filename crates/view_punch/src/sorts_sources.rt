@@ -4,7 +4,6 @@ ghost use Rattle.std.specs.Prelude.{◌≡◌, IfErr, IfOk, OnOk};
 ghost use Rattle.feed_files.specs.Files.{Stays};
 ghost use Rattle.view_punch.specs.SortsSources.{AreRefused, Give};
 
-use crate::fault::SourcesFault;
 use desk_blocks::Blocks;
 use desk_case::MatrixCase;
 use desk_replica::Replica;
@@ -12,6 +11,7 @@ use feed_edit::{Version, open_version};
 use feed_files::Files;
 use script_answers::{Memory, case_in};
 use std::alloc::Allocator;
+use view_preview::SourcesFault;
 
 /// Opens a version of a stored feed, and reads a case. No name is taken, and no file changes. `NoMemory` comes only where the
 /// device did not fail in the call and the feed was opened.

@@ -11,7 +11,7 @@ use Rattle.script_answers.specs.Job.{job_of}
 use Rattle.feed_files.specs.Outputs.{GivesWay, IsNotPut, destination}
 use Rattle.feed_files.specs.declared.kinds.Kind.TheVariants as kinds
 use Rattle.view_punch.specs.Lines.{IsUnreported, job_line}
-use Rattle.view_punch.specs.Punching.{missing_of, other_of}
+use Rattle.view_punch.specs.Punching.{missing_of}
 use Rattle.view_punch.proofs.Gives.{unpunched}
 use Rattle.view_punch.proofs.Punches.{made_only, made_rows, stopped_copy, unreported_faults}
 use Rattle.view_punch.proofs.punching.punch_feed.Goals as goal

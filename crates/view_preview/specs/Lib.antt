@@ -1,0 +1,13 @@
+pub mod Faults
+pub mod Sources
+pub mod Trial
+pub mod Texts
+pub mod Matter
+pub mod Taking
+pub mod Places
+pub mod Looks
+pub mod LookLines
+pub mod LookLaws
+pub mod LocatedFaults
+pub mod Written
+pub mod Proofing

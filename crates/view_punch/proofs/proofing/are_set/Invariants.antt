@@ -1,6 +1,0 @@
-use Rattle.std.proofs.Common.{◌≡◌, drop}
-use Rattle.view_punch.specs.Proofing.{are_set}
-use Rattle.view_punch.proofs.proofing.are_set.Given as goal
-
-abbrev pub invariant-loop-line : goal.invariant-loop-line
-invariant-loop-line g l = are_set (drop l.line-index l.lines) ≡ are_set l.lines
