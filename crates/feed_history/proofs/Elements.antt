@@ -1,8 +1,8 @@
 -- The elements of a walk, in its order and by stamp.
-use Rattle.std.proofs.Common.{◌≡◌, ℕ, suc, ◌+◌, ◌≤◌, Bool, false, not, cond, List, [], ◌∷◌, ◌++◌, length, drop, refl, sym, ap, ◌∙◌, subst, inl, inr, arith, IsPermutation}
+use Rattle.std.proofs.Common.{◌≡◌, ℕ, suc, ◌+◌, ◌≤◌, Bool, false, not, cond, List, [], ◌∷◌, ◌++◌, length, get_or, drop, refl, sym, ap, ◌∙◌, subst, inl, inr, arith, IsPermutation}
 use Rattle.std.specs.List.{Contains, filter}
 use Rattle.std.specs.List.Sorted.{IsSorted}
-use Rattle.std.specs.Ordering.{is_lt, ordering_then}
+use Rattle.std.specs.Ordering.{is_lt, nat_cmp, ordering_then}
 use Rattle.std.specs.declared.cmp.Ordering.{Ordering}
 use Rattle.std.specs.declared.cmp.Ordering.TheVariants.{Less, Equal, Greater}
 use Rattle.std.proofs.lemmas.List.{append-nil, at_drop_all}
@@ -17,6 +17,10 @@ use Rattle.desk_ops.proofs.Tree.{filter-hit, filter-miss}
 use Rattle.desk_seq.specs.declared.Entry.{Entry}
 use Rattle.desk_seq.specs.Entries.{AreDistinct, IsAbsent}
 use Rattle.feed_history.specs.declared.spots.Spot.{Spot}
+use Rattle.std.specs.contracts.prelude.BoolOrd.TheImpl as bool_ord
+use Rattle.std.specs.contracts.prelude.CharOrd.TheImpl as char_ord
+use Rattle.std.specs.contracts.prelude.UsizeOrd.TheImpl as usize_ord
+use Rattle.desk_ops.specs.contracts.op.StyleOrd.TheImpl as style_ord
 use Rattle.feed_history.specs.contracts.spots.SpotOrd.TheImpl as spot_ord
 use Rattle.feed_history.specs.Rows.{Rise, bearing_by}
 use Rattle.feed_history.specs.Spots.{spot_stamp, spots_from}
@@ -28,10 +32,20 @@ lt_first Less t e = e
 lt_first Equal t e = refl
 lt_first Greater t e = refl
 
+lt_second : (r s t : Ordering) → is_lt (ordering_then r (ordering_then s t)) ≡ false → is_lt (ordering_then r s) ≡ false
+lt_second Less s t e = e
+lt_second Equal s t e = lt_first s t e
+lt_second Greater s t e = refl
+
+spot_lt : (x y : Spot) → is_lt ((spot_ord.ghosts).cmp x y) ≡ false → is_lt (stamp_cmp (spot_stamp x) (spot_stamp y)) ≡ false
+unfolding stamp_cmp
+spot_lt x y e = lt_second (nat_cmp x.counter y.counter) (nat_cmp x.site y.site)
+    (ordering_then ((bool_ord.ghosts).cmp x.shown y.shown) (ordering_then ((style_ord.ghosts).cmp x.style y.style) (ordering_then ((char_ord.ghosts).cmp x.ch y.ch) ((usize_ord.ghosts).cmp x.place y.place)))) e
+
 -- sorted, they are by stamp
 pub spots_rise : (spots : List Spot) → IsSorted (spot_ord.ghosts).cmp spots → Rise spot_stamp spots
 unfolding before stamp_cmp
-spots_rise spots up i j d le lt = sorted_far (λ x y. is_lt (stamp_cmp x.stamp y.stamp)) (ranks_by stamp_total spot_stamp) spots (λ k d low high. lt_first _ _ (up k d low high)) i j d le lt
+spots_rise spots up i j d le lt = sorted_far (λ x y. is_lt (stamp_cmp (spot_stamp x) (spot_stamp y))) (ranks_by stamp_total spot_stamp) spots (λ k d low high. spot_lt (get_or spots (k + 1) d) (get_or spots k d) (up k d low high)) i j d le lt
 
 -- ---- moved
 
@@ -76,7 +90,7 @@ few_of s place [] distinct = omega arith
 few_of s place (e ∷ es) distinct =
     let next : ℕ = cond e.deleted place (place + 1) in
     let rest : List Spot = spots_from next es in
-    let own : Spot = record { stamp = e.stamp; place = place; shown = not e.deleted } in
+    let own : Spot = record { counter = e.stamp.counter; site = e.stamp.site; shown = not e.deleted; style = e.symbol.style; ch = e.symbol.ch; place = place } in
     by_cases (same e.stamp s)
     (λ k.
     let none : bearing_by spot_stamp rest s ≡ [] = none_of s next es (subst (λ t. IsAbsent t es) (same-true e.stamp s k) distinct.0) in

@@ -8,4 +8,5 @@ pub mod Ends
 pub mod Parts
 pub mod Rows
 pub mod Shown
+pub mod Told
 pub mod WorkedLines

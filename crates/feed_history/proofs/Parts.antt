@@ -160,7 +160,7 @@ last_of h site (suc fuel) n here few = by_cases (is_borne_in h (at site (n + 1))
 
 -- ---- the corrections
 
-among_map : {A B : Type 0} (f : A → B) (xs : List A) (y : B) → Among y (map f xs) → (x : A) × Among x xs × (f x ≡ y)
+pub among_map : {A B : Type 0} (f : A → B) (xs : List A) (y : B) → Among y (map f xs) → (x : A) × Among x xs × (f x ≡ y)
 among_map f [] y m = absurd m
 among_map f (x ∷ xs) y (inl e) = (x, inl refl, e)
 among_map f (x ∷ xs) y (inr m) = let r = among_map f xs y m in (r.0, inr r.1, r.2)

@@ -1,9 +1,11 @@
 -- Lists by stamp, and what in them bears a stamp.
 use Rattle.std.proofs.Common.{◌≡◌, ℕ, zero, suc, ◌+◌, ◌-◌, ◌<◌, ◌≤◌, Bool, true, false, ◌||◌, List, [], ◌∷◌, ◌++◌, append_assoc, length, get_or, take, drop, refl, sym, ap, ◌∙◌, subst, arith}
-use Rattle.std.specs.Prelude.{None, Some, is_some}
+use Rattle.std.specs.Prelude.{◌==◌, None, Some, is_some}
 use Rattle.std.specs.List.{AllWithin, filter, list_any}
 use Rattle.std.specs.List.Sorted.{IsPartitionedBy}
 use Rattle.std.proofs.lemmas.Bool.{true≢false}
+use Rattle.std.proofs.lemmas.Bool.Decides.{nat_tests}
+use Rattle.std.proofs.lemmas.List.{append-nil}
 use Rattle.desk_ops.specs.declared.op.Stamp.{Stamp}
 use Rattle.desk_ops.specs.declared.op.Op.{Op}
 use Rattle.desk_ops.specs.Stamp.{before, same}
@@ -17,7 +19,8 @@ use Rattle.desk_ops.specs.Order.{op_cmp}
 use Rattle.std.specs.declared.cmp.Ordering.TheVariants.{Less}
 use Rattle.desk_ops.specs.Faults.{IsByStamp}
 use Rattle.desk_ops.specs.declared.fault.CopyFault.{CopyFault}
-use Rattle.feed_history.specs.Rows.{IsSeat, Rise, at, bearing_by, fault_stamp, first, row_from}
+use Rattle.feed_history.specs.declared.corrections.Correction.{Correction}
+use Rattle.feed_history.specs.Rows.{IsSeat, Rise, at, bearing_by, fault_stamp, first, row_from, row_of}
 
 -- what is not before itself
 pub not_before : (s : Stamp) → before s s ≡ false
@@ -94,6 +97,17 @@ next_row borne xs row longer whole site counter last lt is so_far =
     ap (λ l. l ++ row_from borne xs site (counter + 1) (last + 1 - (counter + 1))) is
     ∙ append_assoc row (bearing_by borne xs (at site counter)) (row_from borne xs site (counter + 1) (last + 1 - (counter + 1)))
     ∙ ap (λ n. row ++ row_from borne xs site counter n) (sym e) ∙ so_far
+
+-- of an empty list there is none
+row_none : {X : Type 0} (borne : X → Stamp) (site counter n : ℕ) → row_from borne [] site counter n ≡ []
+row_none borne site counter zero = refl
+row_none borne site counter (suc n) = row_none borne site (counter + 1) n
+
+pub row_of_none : {X : Type 0} (borne : X → Stamp) (xs row : List X) (c : Correction) (b : Bool) → b ≡ true → b ≡ (length xs == 0) → row ≡ row ++ row_of borne xs c
+row_of_none borne [] row c b is e = sym (append-nil row) ∙ ap (λ l. row ++ l) (sym (row_none borne c.site c.first (c.last + 1 - c.first)))
+row_of_none borne (x ∷ xs) row c b is e =
+    let none : length (x ∷ xs) ≡ 0 = grind (arith, nat_tests) in
+    absurd (omega (arith, none))
 
 -- ---- operations and copy faults
 

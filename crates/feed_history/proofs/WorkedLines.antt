@@ -3,6 +3,7 @@ use Rattle.std.proofs.Common.{◌≡◌, ℕ, List, [], ◌∷◌, map, refl, ap
 use Rattle.std.specs.Prelude.{codes}
 use Rattle.std.specs.Fmt.{digits}
 use lib.Utf8.{encode}
+use Rattle.desk_ops.specs.declared.op.Style.TheVariants.{Roman}
 use Rattle.desk_ops.specs.declared.op.Op.{Op}
 use Rattle.desk_ops.specs.declared.fault.CopyFault.{CopyFault}
 use Rattle.desk_ops.specs.declared.fault.FaultKind.TheVariants.{Waiting}
@@ -34,8 +35,9 @@ in_turn = arrived two_sites
 
 abbrev spots : List Spot
 spots =
-    (record { stamp = at 1 1; place = 0; shown = false }) ∷ (record { stamp = at 2 1; place = 0; shown = true })
-    ∷ (record { stamp = at 6 1; place = 1; shown = true }) ∷ []
+    (record { counter = 1; site = 1; shown = false; style = Roman; ch = 97; place = 0 })
+    ∷ (record { counter = 2; site = 1; shown = true; style = Roman; ch = 98; place = 0 })
+    ∷ (record { counter = 6; site = 1; shown = true; style = Roman; ch = 99; place = 1 }) ∷ []
 
 spots_are : spots_from 0 (entries two_sites) ≡ spots
 unfolding is_clear is_borne clear_ops clear_inserts way_end live_inserts walk walk_from is_deleted same

@@ -5,6 +5,7 @@ pub mod Rows
 pub mod Corrections
 pub mod Spots
 pub mod Texts
+pub mod Taken
 pub mod Lines
 pub mod Asked
 pub mod Log

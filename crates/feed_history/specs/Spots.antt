@@ -1,6 +1,7 @@
 -- Where elements are in the copy.
 use Rattle.std.specs.Prelude.{ℕ, ◌+◌, not, cond, List, [], ◌∷◌, Option, Some, None, if◌then◌else◌}
 use Rattle.desk_ops.specs.declared.op.Stamp.{Stamp}
+use Rattle.desk_ops.specs.declared.op.Symbol.{Symbol}
 use Rattle.desk_ops.specs.declared.op.Op.{Op}
 use Rattle.desk_ops.specs.declared.op.Op.TheVariants.{Insert, Delete, Set}
 use Rattle.desk_seq.specs.declared.Entry.{Entry}
@@ -8,13 +9,23 @@ use Rattle.feed_history.specs.declared.spots.Spot.{Spot}
 use Rattle.feed_history.specs.Rows.{bearing_by, first}
 
 abbrev pub spot_stamp : Spot → Stamp
-spot_stamp spot = spot.stamp
+spot_stamp spot = record { counter = spot.counter; site = spot.site }
 
--- the elements of a walk, each with the number of those before it that are shown; so many are shown before them all
+abbrev pub symbol_of : Spot → Symbol
+symbol_of spot = record { style = spot.style; ch = spot.ch }
+
+-- the elements of a walk with their symbols, each with the number of those before it that are shown; so many are shown before them all
 abbrev pub spots_from : ℕ → List Entry → List Spot
 spots_from place [] = []
 spots_from place (e ∷ es) =
-    (record { stamp = e.stamp; place = place; shown = not e.deleted })
+    (record {
+      counter = e.stamp.counter;
+      site = e.stamp.site;
+      shown = not e.deleted;
+      style = e.symbol.style;
+      ch = e.symbol.ch;
+      place = place;
+    })
     ∷ spots_from (cond e.deleted place (place + 1)) es
 
 abbrev pub any_place : Option Spot → Option ℕ

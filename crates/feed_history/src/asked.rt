@@ -5,6 +5,7 @@ ghost use Rattle.desk_ops.specs.Op.{IsLawful, stamp_of};
 ghost use Rattle.feed_history.specs.Asked.{asked_line, asked_lines, has_text, is_of, is_since, lines_from};
 ghost use Rattle.feed_history.specs.Rows.{Rise, fault_stamp};
 ghost use Rattle.feed_history.specs.Spots.{spot_stamp};
+ghost use Rattle.feed_history.specs.Taken.{AreTold};
 
 use crate::corrections::{correction_to, ends_of};
 use crate::line_parts::{History, Near, Parts};
@@ -50,14 +51,14 @@ fn has_text<A: Allocator + Copy>(
     asked: &Asked<'_>,
     parts: &Parts<A>,
 ) -> Result<bool, NoMemory>
-    ensures { IfOk result (λ found. found ≡ has_text asked.now.text parts.now.inserted.items parts.now.deleted.items) }
+    ensures { IfOk result (λ found. found ≡ has_text asked.now.text parts.now.inserted.items parts.now.taken.symbols.items) }
 {
     match asked.text {
         Some(text) => {
             if contains(alloc, text, &parts.inserted)? {
                 return Ok(true);
             }
-            contains(alloc, text, &parts.deleted)
+            contains(alloc, text, &parts.taken.symbols)
         }
         None => Ok(true),
     }
@@ -83,6 +84,7 @@ fn put_asked_line<A: Allocator + Copy>(
     requires few { length history.now.ops.now < 2 ^ 63 }
     requires spots { Rise spot_stamp history.now.spots.now }
     requires few_spots { length history.now.spots.now < 2 ^ 63 }
+    requires told { AreTold history.now.ops.now history.now.spots.now }
     requires faults { Rise fault_stamp history.now.faults.now }
     requires few_faults { length history.now.faults.now < 2 ^ 63 }
     requires last { last.counter < 2 ^ 63 }
@@ -98,7 +100,12 @@ fn put_asked_line<A: Allocator + Copy>(
     if !has_text(alloc, asked, &lines.parts)? {
         return Ok(());
     }
-    let place = place_of(history.spots, &mut lines.near.spots, &lines.parts.ops);
+    let place = place_of(
+        history.spots,
+        &mut lines.near.spots,
+        &lines.parts.ops,
+        lines.parts.taken.place,
+    );
     put_correction(alloc, &mut lines.out, correction, place, &lines.parts)
 }
 
@@ -114,6 +121,7 @@ fn put_asked_lines<A: Allocator + Copy>(
     requires few { length history.now.ops.now < 2 ^ 63 }
     requires spots { Rise spot_stamp history.now.spots.now }
     requires few_spots { length history.now.spots.now < 2 ^ 63 }
+    requires told { AreTold history.now.ops.now history.now.spots.now }
     requires faults { Rise fault_stamp history.now.faults.now }
     requires few_faults { length history.now.faults.now < 2 ^ 63 }
     requires small { All (λ s. s.counter < 2 ^ 63) ends.now }
@@ -138,6 +146,7 @@ pub fn asked_lines<A: Allocator + Copy>(
     requires few { length history.now.ops.now < 2 ^ 63 }
     requires spots { Rise spot_stamp history.now.spots.now }
     requires few_spots { length history.now.spots.now < 2 ^ 63 }
+    requires told { AreTold history.now.ops.now history.now.spots.now }
     requires faults { Rise fault_stamp history.now.faults.now }
     requires few_faults { length history.now.faults.now < 2 ^ 63 }
     ensures { IfOk result (λ v. v.items

@@ -1,11 +1,10 @@
 //! The corrections of a set: the longest rows of operations of one site whose counters follow one another.
 
-ghost use Rattle.std.specs.Prelude.{◌≡◌, ◌+◌, ◌≤◌, ◌<◌, ◌^◌, All, IfOk, OnOk, length, slice_index_or, take};
-ghost use Rattle.desk_ops.specs.declared.op.Op.{Op};
+ghost use Rattle.std.specs.Prelude.{◌≡◌, ℕ, ◌+◌, ◌≤◌, ◌<◌, ◌^◌, All, IfOk, OnOk, drop, length, slice_index_or};
 ghost use Rattle.desk_ops.specs.Held.{is_borne};
 ghost use Rattle.desk_ops.specs.Op.{IsLawful, stamp_of};
 ghost use Rattle.feed_history.specs.Rows.{Rise};
-ghost use Rattle.feed_history.specs.Corrections.{correction_to, ends, ends_before, first_to};
+ghost use Rattle.feed_history.specs.Corrections.{AreEnds, correction_to, ends, first_to};
 
 use crate::stamped::first_bearing;
 use desk_memory::NoMemory;
@@ -61,44 +60,41 @@ pub fn correction_to(ops: &[Op], near: &mut usize, last: Stamp) -> Correction
     }
 }
 
-/// Whether the operation before a place bears the stamp of the one there.
-fn is_repeated(ops: &[Op], at: usize, stamp: Stamp) -> bool
-    requires rising { Rise stamp_of ops.now }
-    requires within { at < length ops.now }
-    requires there { (d : Op) → stamp ≡ stamp_of (slice_index_or ops.now at d) }
-    ensures { result ≡ is_borne (take at ops.now) stamp }
+/// Makes a list reach to a site, by zeros.
+fn reach<A: Allocator + Copy>(next: &mut Vec<u64, A>, site: usize) -> Result<(), AllocError>
+    requires { site < 65536 }
+    ensures reached { OnOk result (site < length next.new.items) }
+    ensures same { OnOk result
+        ((k : ℕ) → slice_index_or next.new.items k 0 ≡ slice_index_or next.old.items k 0) }
 {
-    if at == 0 {
-        return false;
+    while next.len() <= site {
+        next.push(0)?;
     }
-    ops[at - 1].stamp().is_same(stamp)
+    Ok(())
 }
 
-/// Adds the stamp of the operation at a place, where it is its first bearer and ends a correction.
+/// Adds the stamp of the operation at a place, where it ends a correction, newest first. Of each site `next` has the
+/// counter of its first operation behind the place, and then of the first from the place on.
 fn add_end<A: Allocator + Copy>(
     ends: &mut Vec<Stamp, A>,
+    next: &mut Vec<u64, A>,
     ops: &[Op],
     at: usize,
 ) -> Result<(), AllocError>
     requires rising { Rise stamp_of ops.now }
     requires lawful { All IsLawful ops.now }
-    requires few { length ops.now < 2 ^ 63 }
     requires within { at < length ops.now }
-    requires so_far { ends.old.items ≡ ends_before ops.now at }
-    ensures ends { OnOk result (ends.new.items ≡ ends_before ops.now (at + 1)) }
+    requires so_far { AreEnds (drop (at + 1) ops.now) ends.old.items next.old.items }
+    ensures ends { OnOk result (AreEnds (drop at ops.now) ends.new.items next.new.items) }
     ensures small { All (λ s. s.counter < 2 ^ 63) ends.old.items
         → OnOk result (All (λ s. s.counter < 2 ^ 63) ends.new.items) }
 {
     let stamp = ops[at].stamp();
-    if is_repeated(ops, at, stamp) {
-        return Ok(());
-    }
-    let next = Stamp {
-        counter: stamp.counter + 1,
-        site: stamp.site,
-    };
-    let mut near = at;
-    if is_borne(ops, &mut near, next) {
+    let site = usize::from(stamp.site);
+    reach(next, site)?;
+    let later = next[site];
+    next[site] = stamp.counter;
+    if later == stamp.counter || later == stamp.counter + 1 {
         return Ok(());
     }
     ends.push(stamp)?;
@@ -113,9 +109,13 @@ pub fn ends_of<A: Allocator + Copy>(alloc: A, ops: &[Op]) -> Result<Vec<Stamp, A
     ensures ends { IfOk result (λ v. v.items ≡ ends ops.now) }
     ensures small { IfOk result (λ v. All (λ s. s.counter < 2 ^ 63) v.items) }
 {
+    let mut next = Vec::new(alloc);
     let mut ends = Vec::new(alloc);
-    for at in 0..ops.len() {
-        add_end(&mut ends, ops, at)?;
+    let mut at = ops.len();
+    while at > 0 {
+        at -= 1;
+        add_end(&mut ends, &mut next, ops, at)?;
     }
+    ends.reverse();
     Ok(ends)
 }

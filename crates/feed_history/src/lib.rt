@@ -18,6 +18,7 @@ mod rooms_laws;
 mod rooms_made;
 mod spots;
 mod stamped;
+mod taken;
 mod texts;
 
 pub use asked::Asked;

@@ -3,13 +3,15 @@
 ghost use Rattle.std.specs.Prelude.{◌≡◌, ◌<◌, ◌^◌, OnOk, length};
 ghost use Rattle.desk_ops.specs.Op.{stamp_of};
 ghost use Rattle.feed_history.specs.Rows.{Rise, fault_stamp, row_of};
-ghost use Rattle.feed_history.specs.Spots.{spot_stamp};
+ghost use Rattle.feed_history.specs.Spots.{first_of, spot_stamp, target_place};
+ghost use Rattle.feed_history.specs.Taken.{AreTold};
 ghost use Rattle.feed_history.specs.Texts.{deleted, inserted};
 
 use crate::corrections::Correction;
 use crate::spots::Spot;
 use crate::stamped::put_row;
-use crate::texts::{add_deleted, add_inserted};
+use crate::taken::Taken;
+use crate::texts::add_inserted;
 use desk_ops::{CopyFault, Op, Symbol};
 use std::alloc::{AllocError, Allocator};
 
@@ -35,7 +37,7 @@ pub struct Near {
 pub struct Parts<A: Allocator> {
     pub ops: Vec<Op, A>,
     pub inserted: Vec<Symbol, A>,
-    pub deleted: Vec<Symbol, A>,
+    pub taken: Taken<A>,
     pub faults: Vec<CopyFault, A>,
 }
 
@@ -45,7 +47,7 @@ impl<A: Allocator + Copy> Parts<A> {
         Parts {
             ops: Vec::new(alloc),
             inserted: Vec::new(alloc),
-            deleted: Vec::new(alloc),
+            taken: Taken::new(alloc),
             faults: Vec::new(alloc),
         }
     }
@@ -59,6 +61,9 @@ impl<A: Allocator + Copy> Parts<A> {
     ) -> Result<(), AllocError>
         requires rising { Rise stamp_of history.now.ops.now }
         requires few { length history.now.ops.now < 2 ^ 63 }
+        requires spots { Rise spot_stamp history.now.spots.now }
+        requires few_spots { length history.now.spots.now < 2 ^ 63 }
+        requires told { AreTold history.now.ops.now history.now.spots.now }
         requires faults { Rise fault_stamp history.now.faults.now }
         requires few_faults { length history.now.faults.now < 2 ^ 63 }
         requires last { correction.last < 2 ^ 63 }
@@ -66,16 +71,19 @@ impl<A: Allocator + Copy> Parts<A> {
         ensures inserted { OnOk result
             (self.new.inserted.items ≡ inserted (row_of stamp_of history.now.ops.now correction)) }
         ensures deleted { OnOk result
-            (self.new.deleted.items ≡ deleted history.now.ops.now (row_of stamp_of history.now.ops.now correction)) }
+            (self.new.taken.symbols.items
+            ≡ deleted history.now.ops.now (row_of stamp_of history.now.ops.now correction)) }
+        ensures target { OnOk result (self.new.taken.place
+            ≡ first_of (target_place history.now.spots.now) (row_of stamp_of history.now.ops.now correction)) }
         ensures faults { OnOk result (self.new.faults.items ≡ row_of fault_stamp history.now.faults.now correction) }
     {
         self.ops.clear();
         self.inserted.clear();
-        self.deleted.clear();
+        self.taken.clear();
         self.faults.clear();
         put_row(&mut self.ops, history.ops, &mut near.ops, correction)?;
         add_inserted(&mut self.inserted, &self.ops)?;
-        add_deleted(&mut self.deleted, history.ops, &self.ops)?;
+        self.taken.add_all(history.ops, history.spots, &self.ops)?;
         put_row(
             &mut self.faults,
             history.faults,

@@ -185,11 +185,11 @@ pub fn put_correction<A: Allocator + Copy>(
 ) -> Result<(), NoMemory>
     ensures { OnOk result (string_bytes out.new
         ≡ string_bytes out.old ++ line correction place parts.now.ops.items parts.now.inserted.items
-        parts.now.deleted.items parts.now.faults.items) }
+        parts.now.taken.symbols.items parts.now.faults.items) }
 {
     put_stamps(out, correction)?;
     put_place(out, place, &parts.ops)?;
     put_text(alloc, out, " + \"", &parts.inserted)?;
-    put_text(alloc, out, " - \"", &parts.deleted)?;
+    put_text(alloc, out, " - \"", &parts.taken.symbols)?;
     Ok(put_tail(out, &parts.ops, &parts.faults)?)
 }

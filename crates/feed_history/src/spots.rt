@@ -3,20 +3,38 @@
 ghost use Rattle.std.specs.Prelude.{◌≡◌, ◌<◌, ◌^◌, IfOk, length};
 ghost use Rattle.desk_ops.specs.declared.op.Stamp.{Stamp};
 ghost use Rattle.feed_history.specs.Rows.{Rise, bearing_by};
-ghost use Rattle.feed_history.specs.Spots.{own_place, place_of, spot_stamp, spots_from, target_place};
+ghost use Rattle.feed_history.specs.Spots.{first_of, own_place, place_of, spot_stamp, spots_from, symbol_of};
+ghost use Rattle.feed_history.specs.Spots.{target_place};
 
-use crate::stamped::{Stamped, any_bearing, first_bearing};
+use crate::stamped::{Stamped, first_bearing};
 use desk_memory::NoMemory;
-use desk_ops::{Op, Stamp};
+use desk_ops::{Op, Stamp, Style, Symbol};
 use desk_seq::Sequence;
 use std::alloc::Allocator;
 
-/// An element of the walk: how many are shown before it, and whether it is shown.
+/// An element of the walk, by its stamp: whether it is shown, its symbol, and how many are shown before it. It has the
+/// parts of both and not them, so that it is small: a log of deletes looks at these in any order.
 #[derive(Clone, Copy, Debug, PartialEq, Eq, PartialOrd, Ord)]
 pub struct Spot {
-    pub stamp: Stamp,
-    pub place: usize,
+    pub counter: u64,
+    pub site: u16,
     pub shown: bool,
+    pub style: Style,
+    pub ch: char,
+    pub place: usize,
+}
+
+impl Spot {
+    /// Its symbol.
+    pub fn symbol(&self) -> Symbol
+        ensures { result ≡ symbol_of self.now }
+    {
+        let ch = self.ch;
+        Symbol {
+            style: self.style,
+            ch,
+        }
+    }
 }
 
 impl Stamped for Spot {
@@ -25,7 +43,10 @@ impl Stamped for Spot {
     ghost borne = { spot_stamp };
 
     fn stamp_of(&self) -> Stamp {
-        self.stamp
+        Stamp {
+            counter: self.counter,
+            site: self.site,
+        }
     }
 }
 
@@ -43,10 +64,14 @@ pub fn spots_of<Q: Sequence>(
     for at in 0..sequence.len() {
         let entry = sequence.entry(at);
         let shown = !entry.deleted;
+        let ch = entry.symbol.ch;
         spots.push(Spot {
-            stamp: entry.stamp,
-            place,
+            counter: entry.stamp.counter,
+            site: entry.stamp.site,
             shown,
+            style: entry.symbol.style,
+            ch,
+            place,
         })?;
         if shown {
             place += 1;
@@ -71,26 +96,17 @@ fn own_place(spots: &[Spot], near: &mut usize, op: &Op) -> Option<usize>
     }
 }
 
-/// The place of the element that a delete targets, shown or not.
-fn target_place(spots: &[Spot], op: &Op) -> Option<usize>
+/// Where operations are in the copy: at the first element of theirs that is shown, which is looked for near a place
+/// first; where there is none, at the first that they target.
+pub fn place_of(
+    spots: &[Spot],
+    near: &mut usize,
+    ops: &[Op],
+    target: Option<usize>,
+) -> Option<usize>
     requires rising { Rise spot_stamp spots.now }
     requires few { length spots.now < 2 ^ 63 }
-    ensures { result ≡ target_place spots.now op.now }
-{
-    let Op::Delete { target, .. } = op else {
-        return None;
-    };
-    match any_bearing(spots, *target) {
-        Some(spot) => Some(spot.place),
-        None => None,
-    }
-}
-
-/// Where operations are in the copy: at the first element of theirs that is shown; where there is none, at the first
-/// that they target. Their own are looked for near a place first.
-pub fn place_of(spots: &[Spot], near: &mut usize, ops: &[Op]) -> Option<usize>
-    requires rising { Rise spot_stamp spots.now }
-    requires few { length spots.now < 2 ^ 63 }
+    requires target { target ≡ first_of (target_place spots.now) ops.now }
     ensures { result ≡ place_of spots.now ops.now }
 {
     for op in ops {
@@ -98,10 +114,5 @@ pub fn place_of(spots: &[Spot], near: &mut usize, ops: &[Op]) -> Option<usize>
             return Some(place);
         }
     }
-    for op in ops {
-        if let Some(place) = target_place(spots, op) {
-            return Some(place);
-        }
-    }
-    None
+    target
 }

@@ -1,6 +1,6 @@
 //! Lists by stamp, and what in them bears a stamp.
 
-ghost use Rattle.std.specs.Prelude.{◌≡◌, ◌<◌, ◌^◌, ◌++◌, OnOk, length};
+ghost use Rattle.std.specs.Prelude.{◌≡◌, ◌<◌, ◌^◌, ◌++◌, OnOk, length, true};
 ghost use Rattle.desk_ops.specs.declared.op.Stamp.{Stamp};
 ghost use Rattle.feed_history.specs.Rows.{IsSeat, Rise, bearing_by, first, row_of};
 
@@ -48,12 +48,26 @@ fn next_place(from: usize, until: usize, len: usize, steps: usize) -> usize {
     from.saturating_add(until.saturating_sub(from) / 2)
 }
 
+/// Whether a place is the first whose stamp is not smaller, and not behind all.
+fn is_seat<T: Stamped>(items: &[T], place: usize, stamp: Stamp) -> bool
+    requires { Rise T.borne items.now }
+    ensures { result ≡ true → IsSeat T.borne items.now stamp place }
+{
+    if place >= items.len() || items[place].stamp_of().is_before(stamp) {
+        return false;
+    }
+    place == 0 || items[place - 1].stamp_of().is_before(stamp)
+}
+
 /// The first place whose stamp is not smaller. It is looked for near a place first, by steps that double, and then by
 /// halves.
 fn seat<T: Stamped>(items: &[T], near: usize, stamp: Stamp) -> usize
     requires { Rise T.borne items.now }
     ensures { IsSeat T.borne items.now stamp result }
 {
+    if is_seat(items, near, stamp) {
+        return near;
+    }
     let mut from = 0;
     let mut until = items.len();
     let mut steps = near;
@@ -85,18 +99,38 @@ pub fn first_bearing<T: Stamped>(items: &[T], near: &mut usize, stamp: Stamp) ->
     Some(items[from])
 }
 
-/// Where a counter is about in a list by stamp, if its counters are spread evenly.
-fn even_place<T: Stamped>(items: &[T], counter: u64) -> usize {
+/// About so many places of a list by stamp have so many counters, if its counters are spread evenly.
+fn even_steps<T: Stamped>(items: &[T], counters: u64) -> usize {
     let (Some(first), Some(last)) = (items.first(), items.last()) else {
         return 0;
     };
-    let least = first.stamp_of().counter;
-    let spread = last.stamp_of().counter.saturating_sub(least);
+    let spread = last
+        .stamp_of()
+        .counter
+        .saturating_sub(first.stamp_of().counter);
     if spread == 0 {
         return 0;
     }
     let steps = items.len().saturating_sub(1) as u64;
-    (steps.saturating_mul(counter.saturating_sub(least)) / spread) as usize
+    (steps.saturating_mul(counters) / spread) as usize
+}
+
+/// Where a counter is about in a list by stamp: as far from the first as it is if the counters are spread evenly, and
+/// from there as far as that misses it.
+fn even_place<T: Stamped>(items: &[T], counter: u64) -> usize {
+    let Some(first) = items.first() else {
+        return 0;
+    };
+    let least = first.stamp_of().counter;
+    let place = even_steps(items, counter.saturating_sub(least));
+    let Some(met) = items.get(place) else {
+        return place;
+    };
+    let there = met.stamp_of().counter;
+    if there < counter {
+        return place.saturating_add(even_steps(items, counter - there));
+    }
+    place.saturating_sub(even_steps(items, there - counter))
 }
 
 /// The first that bears a stamp, of a list by stamp. It is looked for first where its counter is about.
@@ -136,9 +170,16 @@ pub fn put_row<T: Stamped, A: Allocator + Copy>(
     requires last { correction.last < 2 ^ 63 }
     ensures { OnOk result (row.new.items ≡ row.old.items ++ row_of T.borne items.now correction) }
 {
+    if items.is_empty() {
+        return Ok(());
+    }
     let site = correction.site;
+    let mut steps = 1;
     for counter in correction.first..correction.last + 1 {
-        row.extend_from_slice(bearing(items, near, Stamp { counter, site }))?;
+        let mut place = near.saturating_add(steps);
+        row.extend_from_slice(bearing(items, &mut place, Stamp { counter, site }))?;
+        steps = place.saturating_sub(*near);
+        *near = place;
     }
     Ok(())
 }

@@ -1,14 +1,10 @@
 //! The texts that a correction inserted and deleted.
 
-ghost use Rattle.std.specs.Prelude.{◌≡◌, ◌++◌, ◌<◌, ◌^◌, IfOk, OnOk, length, string_bytes};
+ghost use Rattle.std.specs.Prelude.{◌≡◌, ◌++◌, IfOk, OnOk, string_bytes};
 ghost use Rattle.std.specs.List.{list_all};
-ghost use Rattle.desk_ops.specs.Op.{stamp_of};
-ghost use Rattle.feed_history.specs.Rows.{Rise};
-ghost use Rattle.feed_history.specs.Texts.{contains, deleted, inserted, is_kept, own_symbols, shortened, shown_text};
-ghost use Rattle.feed_history.specs.Texts.{taken_symbols};
+ghost use Rattle.feed_history.specs.Texts.{contains, inserted, is_kept, own_symbols, shortened, shown_text};
 ghost use Rattle.text_copy.specs.Writing.{text_bytes};
 
-use crate::stamped::any_bearing;
 use desk_memory::NoMemory;
 use desk_ops::{Op, Style, Symbol};
 use std::alloc::{AllocError, Allocator};
@@ -29,7 +25,7 @@ const POINT: Symbol = Symbol {
 };
 
 /// Adds the symbol of an operation, if it is an insert.
-fn add_own<A: Allocator + Copy>(symbols: &mut Vec<Symbol, A>, op: &Op) -> Result<(), AllocError>
+pub fn add_own<A: Allocator + Copy>(symbols: &mut Vec<Symbol, A>, op: &Op) -> Result<(), AllocError>
     ensures { OnOk result (symbols.new.items ≡ symbols.old.items ++ own_symbols op.now) }
 {
     if let Op::Insert { symbol, .. } = op {
@@ -47,41 +43,6 @@ pub fn add_inserted<A: Allocator + Copy>(
 {
     for op in ops {
         add_own(symbols, op)?;
-    }
-    Ok(())
-}
-
-/// Adds the symbol that a delete targets, among all operations of a set, if it is there.
-/// Of the operations of one stamp the inserts come first, and the first alone counts.
-fn add_taken<A: Allocator + Copy>(
-    symbols: &mut Vec<Symbol, A>,
-    all: &[Op],
-    op: &Op,
-) -> Result<(), AllocError>
-    requires rising { Rise stamp_of all.now }
-    requires few { length all.now < 2 ^ 63 }
-    ensures { OnOk result (symbols.new.items ≡ symbols.old.items ++ taken_symbols all.now op.now) }
-{
-    if let Op::Delete { target, .. } = op {
-        if let Some(first) = any_bearing(all, *target) {
-            add_own(symbols, &first)?;
-        }
-    }
-    Ok(())
-}
-
-/// Adds the symbols that operations of a set delete, in the order of the deletes.
-pub fn add_deleted<A: Allocator + Copy>(
-    symbols: &mut Vec<Symbol, A>,
-    all: &[Op],
-    ops: &[Op],
-) -> Result<(), AllocError>
-    requires rising { Rise stamp_of all.now }
-    requires few { length all.now < 2 ^ 63 }
-    ensures { OnOk result (symbols.new.items ≡ symbols.old.items ++ deleted all.now ops.now) }
-{
-    for op in ops {
-        add_taken(symbols, all, op)?;
     }
     Ok(())
 }

@@ -9,7 +9,7 @@ joined out first second third fourth last stamps place inserts deletes sets faul
 pub returns : goal.returns
 returns g c =
     joined (string_bytes c.args.out.now) (string_bytes c.put_stamps.new.out) (string_bytes c.put_place.new.out) (string_bytes c.put_text.new.out) (string_bytes c.put_text-2.new.out) (string_bytes c.put_tail.new.out)
-    (stamps_words c.args.correction) (place_words c.args.place c.args.parts.now.ops.items) (text_words (codes " + \"") c.args.parts.now.inserted.items) (text_words (codes " - \"") c.args.parts.now.deleted.items)
+    (stamps_words c.args.correction) (place_words c.args.place c.args.parts.now.ops.items) (text_words (codes " + \"") c.args.parts.now.inserted.items) (text_words (codes " - \"") c.args.parts.now.taken.symbols.items)
     (settings_words c.args.parts.now.ops.items) (faults_words c.args.parts.now.faults.items) (codes "\n")
     c.in_ok-put_stamps.ensures
     (c.in_ok-put_place.ensures ∙ ap (λ l. string_bytes c.put_stamps.new.out ++ place_words c.args.place l) c.deref.ensures.value)

@@ -10,11 +10,19 @@ use Rattle.feed_history.specs.Rows.{Rise, bearing_by, fault_stamp}
 use Rattle.feed_history.specs.Spots.{spot_stamp, spots_from}
 use Rattle.feed_history.specs.Asked.{asked_lines}
 use Rattle.feed_history.proofs.Alike.{asked_alike}
+use Rattle.feed_history.specs.Taken.{AreTold}
 use Rattle.feed_history.proofs.Rows.{faults_rise, ops_rise}
+use Rattle.feed_history.proofs.Told.{told}
 use Rattle.feed_history.proofs.log.log_of.Goals as goal
 
 pub asked_lines-requires-clause-rising : goal.asked_lines-requires-clause-rising
 asked_lines-requires-clause-rising g c = subst (Rise stamp_of) (sym (c.deref.ensures.value ∙ c.in_ok-ops.ensures.items)) (ops_rise (in_order c.args.replica.now.ops) (ordered c.args.replica.now.ops))
+
+pub asked_lines-requires-clause-told : goal.asked_lines-requires-clause-told
+asked_lines-requires-clause-told g c =
+    let h = c.args.replica.now.ops in
+    subst (λ l. AreTold l c.deref-2.result.now) (sym (c.deref.ensures.value ∙ c.in_ok-ops.ensures.items)) (subst (λ l. AreTold (in_order h) l) (sym c.deref-2.ensures.value)
+    (told h c.in_ok-spots.spots.items (λ s. c.in_ok-spots.ensures.same s ∙ ap (λ es. bearing_by spot_stamp (spots_from 0 es) s) c.sequence.ensures)))
 
 pub asked_lines-requires-clause-faults : goal.asked_lines-requires-clause-faults
 asked_lines-requires-clause-faults g c = subst (Rise fault_stamp) (sym (c.deref-3.ensures.value ∙ c.in_ok-faults.ensures.faults)) (faults_rise (faults_of c.args.replica.now.ops) (faults_by_stamp c.args.replica.now.ops))
