@@ -38,11 +38,18 @@ use Rattle.feed_compare.specs.declared.fault.DifferenceFault.{DifferenceFault}
 use Rattle.feed_compare.specs.declared.fault.DifferenceFault.TheVariants as differences
 use Rattle.view_proof.specs.declared.reasons.OtherNumber.{OtherNumber}
 use Rattle.view_proof.specs.declared.reasons.OtherNumber.TheVariants as others
-use Rattle.view_punch.specs.declared.fault.PreviewFault.{PreviewFault}
-use Rattle.view_punch.specs.declared.fault.PreviewFault.TheVariants as previews
+use Rattle.view_preview.specs.declared.fault.PreviewFault.{PreviewFault}
+use Rattle.view_preview.specs.declared.fault.PreviewFault.TheVariants as previews
+use Rattle.view_ribbon.specs.declared.comparing.Pair.{Pair}
+use Rattle.view_ribbon.specs.declared.fault.ComparisonFault.{ComparisonFault}
+use Rattle.view_ribbon.specs.declared.fault.ComparisonFault.TheVariants as comparisons
+use Rattle.view_ribbon.specs.declared.sources.Sources as ribbons
 use Rattle.view_ribbon.specs.declared.fault.ReadingFault.{ReadingFault}
 use Rattle.view_ribbon.specs.declared.fault.ReadingFault.TheVariants as readings
-use Rattle.view_punch.specs.declared.sources.Sources.{Sources}
+use Rattle.view_preview.specs.declared.sources.Sources.{Sources}
+use Rattle.view_preview.specs.declared.job.Job.{Job}
+use Rattle.view_preview.specs.declared.job.Source.{Source}
+use Rattle.view_preview.specs.declared.job.Source.TheVariants as given
 use Rattle.feed_stored.specs.declared.last_fault.LastFault.{LastFault}
 use Rattle.feed_stored.specs.declared.last_fault.LastFault.TheVariants as lasts
 use Rattle.feed_sites.specs.declared.fault.NumberFault.TheVariants as numbers
@@ -52,14 +59,13 @@ use Rattle.feed_sites.specs.declared.renew_fault.RenewFault.{RenewFault}
 use Rattle.feed_sites.specs.declared.renew_fault.RenewFault.TheVariants as renewals
 use Rattle.text_copy.specs.declared.fault.TextFault.{TextFault}
 use Rattle.text_copy.specs.declared.fault.TextFault.TheVariants as texts
-use Rattle.view_punch.specs.declared.trial.TrialFault.{TrialFault}
-use Rattle.view_punch.specs.declared.trial.TrialFault.TheVariants as trials
+use Rattle.view_preview.specs.declared.trial.TrialFault.{TrialFault}
+use Rattle.view_preview.specs.declared.trial.TrialFault.TheVariants as trials
 use Rattle.program_desk.specs.declared.causes.Cause.{Cause}
 use Rattle.program_desk.specs.declared.causes.Cause.TheVariants as causes
 use Rattle.program_desk.specs.declared.causes.Origin.{Origin}
 use Rattle.program_desk.specs.declared.causes.Origin.TheVariants as origins
 use Rattle.program_desk.specs.declared.causes.Said.TheVariants as saids
-use Rattle.program_desk.specs.declared.causes.ReadingSources.{ReadingSources}
 
 -- ---- files and feeds
 
@@ -227,6 +233,7 @@ number_cause from (others.Wedge set number) = causes.Other from.wedge (others.We
 abbrev pub preview_cause : Sources → Bor Text → PreviewFault → Cause
 preview_cause from target (previews.Feed why) = feed_cause from.version.feed why
 preview_cause from target (previews.Text why) = text_cause from.version.feed origins.Sought why
+preview_cause from target previews.TooLong = causes.LongText from.version.feed
 preview_cause from target (previews.Input why) = causes.CaseOrWedge from.case from.wedge why
 preview_cause from target previews.CopyFaults = causes.Said saids.CopyFaults
 preview_cause from target (previews.Faulty None) = causes.Said saids.NoRibbon
@@ -236,13 +243,51 @@ preview_cause from target (previews.Taken kind) = causes.Taken target kind
 preview_cause from target (previews.Unstored why) = unstored_cause from.version.feed target why
 preview_cause from target previews.NoMemory = causes.NoMemory from.version.feed
 
-abbrev pub reading_cause : ReadingSources → Bor Text → ReadingFault → Cause
+-- the name of what is set
+abbrev pub name_of : Source → Bor Text
+name_of (given.Feed version) = version.feed
+name_of (given.Text name plain) = name
+
+-- that, and the names of the case and the wedge
+abbrev pub named_by : Job → Sources
+named_by job = record {
+  version = record { feed = name_of job.source; until = None };
+  case = job.case;
+  wedge = job.wedge;
+}
+
+-- a file's text is no copy
+abbrev pub unread_cause : Bor Text → TextFault → Cause
+unread_cause name (texts.At line column why) = causes.Unread name line column why
+unread_cause name texts.NoMemory = causes.NoMemory name
+
+-- of a galley, where a text that is refused is that of a file
+abbrev pub proof_cause : Job → Bor Text → PreviewFault → Cause
+proof_cause job target (previews.Text why) = unread_cause (name_of job.source) why
+proof_cause job target (previews.Feed why) = preview_cause (named_by job) target (previews.Feed why)
+proof_cause job target previews.TooLong = preview_cause (named_by job) target previews.TooLong
+proof_cause job target (previews.Input why) = preview_cause (named_by job) target (previews.Input why)
+proof_cause job target previews.CopyFaults = preview_cause (named_by job) target previews.CopyFaults
+proof_cause job target (previews.Faulty other) = preview_cause (named_by job) target (previews.Faulty other)
+proof_cause job target previews.Write = preview_cause (named_by job) target previews.Write
+proof_cause job target (previews.Taken kind) = preview_cause (named_by job) target (previews.Taken kind)
+proof_cause job target (previews.Unstored why) = preview_cause (named_by job) target (previews.Unstored why)
+proof_cause job target previews.NoMemory = preview_cause (named_by job) target previews.NoMemory
+
+abbrev pub reading_cause : ribbons.Sources → Bor Text → ReadingFault → Cause
 reading_cause from target (readings.Ribbon why) = causes.File from.ribbon
 reading_cause from target (readings.Input why) = causes.CaseOrWedge from.case from.wedge why
 reading_cause from target readings.Write = causes.ReportOutput
 reading_cause from target (readings.Taken kind) = causes.Taken target kind
 reading_cause from target (readings.Unstored why) = unstored_cause from.ribbon target why
 reading_cause from target readings.NoMemory = causes.NoMemory from.ribbon
+
+abbrev pub comparison_cause : Pair → ComparisonFault → Cause
+comparison_cause pair (comparisons.One why) = causes.File pair.one
+comparison_cause pair (comparisons.Other why) = causes.File pair.other
+comparison_cause pair (comparisons.Input why) = causes.CaseOrWedge pair.case pair.wedge why
+comparison_cause pair comparisons.Write = causes.ReportOutput
+comparison_cause pair comparisons.NoMemory = causes.NoMemory pair.one
 
 -- the files of a list of sorts, which has no wedge and no target
 abbrev pub listed_from : Bor Text → Bor Text → Sources
@@ -251,6 +296,7 @@ listed_from feed case = record { version = record { feed = feed; until = None };
 abbrev pub sorts_cause : Bor Text → Bor Text → PreviewFault → Cause
 sorts_cause feed case (previews.Input why) = causes.Case case why
 sorts_cause feed case (previews.Feed why) = preview_cause (listed_from feed case) case (previews.Feed why)
+sorts_cause feed case previews.TooLong = preview_cause (listed_from feed case) case previews.TooLong
 sorts_cause feed case (previews.Text why) = preview_cause (listed_from feed case) case (previews.Text why)
 sorts_cause feed case previews.CopyFaults = preview_cause (listed_from feed case) case previews.CopyFaults
 sorts_cause feed case (previews.Faulty other) = preview_cause (listed_from feed case) case (previews.Faulty other)

@@ -3,11 +3,12 @@ use Rattle.std.specs.Prelude.{◌≡◌, ◌⊎◌, ⊤, ℕ, Bool, true, List, 
 use Rattle.std.specs.Fmt.{decimal}
 use Rattle.clap.specs.Words.{Text}
 use Rattle.program_desk.specs.Told.{GoesOn, IsNamed, IsShown, Tells}
+use Rattle.text_copy.specs.declared.fault.Cause as texts
 use Rattle.program_desk.specs.declared.causes.Cause.{Cause}
 use Rattle.program_desk.specs.declared.causes.Cause.TheVariants as causes
 use Rattle.program_desk.specs.declared.causes.Output.{Output}
 use Rattle.program_desk.specs.declared.causes.Output.TheVariants as outputs
-use Rattle.program_desk.specs.Headlines.{head_line}
+use Rattle.program_desk.specs.Headlines.{flaw_words, head_line}
 
 -- a line on a file, which says something of it
 abbrev pub IsOf : Text → List ℕ → Type 0
@@ -17,6 +18,10 @@ IsOf name line = (words : List ℕ) × IsNamed name words line
 abbrev pub older_words : ℕ → ℕ → ℕ → List ℕ
 older_words site made held = codes ": site " ++ (decimal site ++ (codes " made " ++ (decimal made
     ++ (codes " here, and it holds " ++ (decimal held ++ codes "\n")))))
+
+-- the place of a text that is no symbol of a copy, and why
+abbrev pub place_words : ℕ → ℕ → texts.Cause → List ℕ
+place_words line column why = codes ": line " ++ (decimal line ++ (codes ", column " ++ (decimal column ++ flaw_words why)))
 
 -- what is said of an output that would take the place of its source
 abbrev pub source_words : Output → List ℕ
@@ -43,6 +48,10 @@ IsExplained (causes.Number site why) line = ⊤
 IsExplained (causes.CaseOrWedge case wedge why) line = ⊤
 IsExplained (causes.Case case why) line = ⊤
 IsExplained (causes.Other name other) line = IsOf name.now line
+IsExplained (causes.Unread name row column why) line = (shown : List ℕ) × IsShown name.now shown
+    × (line ≡ shown ++ place_words row column why)
+IsExplained (causes.LongText name) line =
+    IsNamed name.now (codes ": it has more than 8388608 bytes, or 1048576 symbols\n") line
 IsExplained (causes.NoSetting text) line = (shown : List ℕ) × IsShown text.now shown
     × (line ≡ codes "--set " ++ (shown ++ codes ": no setting, or no value that it may have\n"))
 IsExplained (causes.Line feed number) line = (shown : List ℕ) × IsShown feed.now shown

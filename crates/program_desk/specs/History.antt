@@ -14,8 +14,8 @@ use Rattle.program_desk.specs.declared.history.Sieve.{Sieve}
 use Rattle.program_desk.specs.declared.causes.Origin.TheVariants as origins
 use Rattle.view_punch.specs.Finding.{IsFound, IsUnfound}
 use Rattle.view_punch.specs.declared.finding.Wanted.{Wanted}
-use Rattle.view_punch.specs.declared.sources.Sources.{Sources}
-use Rattle.view_punch.specs.declared.fault.PreviewFault.{PreviewFault}
+use Rattle.view_preview.specs.declared.sources.Sources.{Sources}
+use Rattle.view_preview.specs.declared.fault.PreviewFault.{PreviewFault}
 use Rattle.program_desk.specs.Causes.{export_cause, preview_cause, text_cause}
 use Rattle.program_desk.specs.Explained.{IsSilent, Reports}
 

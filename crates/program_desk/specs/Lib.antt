@@ -6,6 +6,7 @@ pub mod Texts
 pub mod Runs
 pub mod Sheets
 pub mod Compared
+pub mod Wanted
 pub mod Told
 pub mod Headlines
 pub mod Explained

@@ -11,18 +11,17 @@ use Rattle.feed_sites.specs.Renewing.{IsRenewed}
 use Rattle.feed_sites.specs.Renumbering.{IsRenumbered}
 use Rattle.program_desk.specs.ByHand.{IsMergedAs, IsNotExported, IsNotImported, IsNotMadeAnew, IsNotMerged}
 use Rattle.program_desk.specs.ByHand.{IsNotNumbered}
-use Rattle.program_desk.specs.Compared.{AreNotOne, AreOne}
+use Rattle.program_desk.specs.Compared.{AreCastAlike, AreNotCastAlike, AreNotOne, AreOne}
 use Rattle.program_desk.specs.Sheets.{IsOffDesk, IsOnDesk, IsScripted, IsUnscripted}
 use Rattle.program_desk.specs.Previews.{IsInFile, IsInNoFile, IsSeen, IsUnseen}
-use Rattle.program_desk.specs.Readings.{IsListed, IsNotListed, IsNotReadWhole, IsReadWhole, reading_sources}
-use Rattle.view_ribbon.specs.Sources.{sources}
-use Rattle.view_punch.specs.declared.sources.Sources.{Sources}
+use Rattle.program_desk.specs.Readings.{IsListed, IsNotListed, IsNotReadWhole, IsReadWhole}
+use Rattle.program_desk.specs.Wanted.{preview_of, reading_of, sources_of}
+use Rattle.view_ribbon.specs.declared.comparing.Pair.{Pair}
 use Rattle.feed_edit.specs.declared.exporting.Version.{Version}
 use Rattle.feed_edit.specs.declared.texts.Where.{Where}
 use Rattle.feed_edit.specs.declared.texts.Where.TheVariants as wheres
 use Rattle.feed_history.specs.Rooms.{IsRoomsOf}
 use Rattle.program_desk.specs.History.{AreNoRooms, IsFoundThere, IsLoggedThere, IsNotFound, IsNotLogged, sieve, wanted}
-use Rattle.program_words.specs.declared.wishes.Sources as words
 use Rattle.feed_edit.specs.Replacing.{IsReplaced}
 use Rattle.program_desk.specs.Texts.{AreFound, AreNotInOrder, IsUnchanged, exchange}
 use Rattle.program_words.specs.declared.wishes.Wish.{Wish}
@@ -43,9 +42,9 @@ where_of None false = wheres.Once
 abbrev pub version_of : Bor Text → Option ℕ → Version
 version_of feed until = record { feed = feed; until = until }
 
--- a version of a feed, and the files of a case and a wedge
-abbrev pub sources_at : words.Sources → Option ℕ → Sources
-sources_at from until = record { version = version_of from.feed until; case = from.case; wedge = from.wedge }
+-- two ribbons, a case and a wedge
+abbrev pub pair_of : Bor Text → Bor Text → Bor Text → Bor Text → Pair
+pair_of one other case wedge = record { one = one; other = other; case = case; wedge = wedge }
 
 -- what is asked for was done; a script, an export, a check, a proof and a reading without a picture, and a list of
 -- sorts change no file
@@ -57,6 +56,8 @@ Does (wishes.Merge feed others forks review) first last input before after =
     IsMergedAs feed.now (texts_of others.items) forks review first last before after
 Does (wishes.Diff one until other) first last input before after =
     AreOne (version_of one until) (other_of one other).now first last before after
+Does (wishes.Compare one other case wedge) first last input before after =
+    AreCastAlike (pair_of one other case wedge) first last before after
 Does (wishes.Export feed until) first last input before after =
     Stays first last × IsExported (version_of feed until) first before after
 Does (wishes.Import feed site older plain all) first last input before after =
@@ -64,12 +65,12 @@ Does (wishes.Import feed site older plain all) first last input before after =
 Does (wishes.Replace feed site older old new plain at all) first last input before after =
     IsReplaced feed.now site older (exchange old new plain (where_of at all)) first last before after
 Does (wishes.Check files) first last input before after = AreFound (texts_of files.items) first last before after
-Does (wishes.Proof from until faults picture force sets) first last input before after =
-    IsSeen (sources_at from until) faults (option_copied picture) force sets.items first last before after
+Does (wishes.Proof galley picture force sets) first last input before after =
+    IsSeen (preview_of galley picture force) sets.items first last before after
 Does (wishes.Punch from target force faulty) first last input before after =
-    IsInFile (sources_at from None) target.now force faulty first last before after
-Does (wishes.Read ribbon case wedge picture force) first last input before after =
-    IsReadWhole (sources ribbon.now case.now wedge.now) (option_copied picture) force first last before after
+    IsInFile (sources_of from) target.now force faulty first last before after
+Does (wishes.Read from extent picture force) first last input before after =
+    IsReadWhole (reading_of from extent picture force) first last before after
 Does (wishes.Sorts feed until case layout) first last input before after =
     IsListed (version_of feed until) case.now layout first last before after true
 Does (wishes.Renumber feed other site) first last input before after =
@@ -94,6 +95,8 @@ Stops (wishes.Merge feed others forks review) first last input before after whol
     IsNotMerged feed others.items forks review first last before after whole quiet said
 Stops (wishes.Diff one until other) first last input before after whole quiet said =
     AreNotOne (version_of one until) (other_of one other) first last before after whole quiet said
+Stops (wishes.Compare one other case wedge) first last input before after whole quiet said =
+    AreNotCastAlike (pair_of one other case wedge) first last before after whole quiet said
 Stops (wishes.Export feed until) first last input before after whole quiet said =
     IsNotExported (version_of feed until) first last before after whole quiet said
 Stops (wishes.Import feed site older plain all) first last input before after whole quiet said =
@@ -102,12 +105,12 @@ Stops (wishes.Replace feed site older old new plain at all) first last input bef
     IsUnchanged feed site older (exchange old new plain (where_of at all)) first last before after whole quiet said
 Stops (wishes.Check files) first last input before after whole quiet said =
     AreNotInOrder (texts_of files.items) first last before after whole quiet said
-Stops (wishes.Proof from until faults picture force sets) first last input before after whole quiet said =
-    IsUnseen (sources_at from until) faults picture force sets.items first last before after whole quiet said
+Stops (wishes.Proof galley picture force sets) first last input before after whole quiet said =
+    IsUnseen (preview_of galley picture force) sets.items first last before after whole quiet said
 Stops (wishes.Punch from target force faulty) first last input before after whole quiet said =
-    IsInNoFile (sources_at from None) target force faulty first last before after whole quiet said
-Stops (wishes.Read ribbon case wedge picture force) first last input before after whole quiet said =
-    IsNotReadWhole (reading_sources ribbon case wedge) picture force first last before after whole quiet said
+    IsInNoFile (sources_of from) target force faulty first last before after whole quiet said
+Stops (wishes.Read from extent picture force) first last input before after whole quiet said =
+    IsNotReadWhole (reading_of from extent picture force) first last before after whole quiet said
 Stops (wishes.Sorts feed until case layout) first last input before after whole quiet said =
     IsNotListed (version_of feed until) case layout first last before after whole quiet said
 Stops (wishes.Renumber feed other site) first last input before after whole quiet said =

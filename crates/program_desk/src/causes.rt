@@ -6,6 +6,7 @@ ghost use Rattle.program_desk.specs.Causes.{file_cause};
 ghost use Rattle.program_desk.specs.Causes.{import_cause, input_cause, keep_cause, last_cause, merge_cause};
 ghost use Rattle.program_desk.specs.Causes.{number_cause, other_cause, preview_cause, reading_cause, renew_cause};
 ghost use Rattle.program_desk.specs.Causes.{renumber_cause, replace_cause, revision_cause, room_cause, sheet_cause};
+ghost use Rattle.program_desk.specs.Causes.{comparison_cause, name_of, named_by, proof_cause, unread_cause};
 ghost use Rattle.program_desk.specs.Causes.{sorts_cause, stop_cause, take_cause, text_cause, trial_cause};
 ghost use Rattle.program_desk.specs.Causes.{unset_cause, unstored_cause};
 
@@ -23,17 +24,9 @@ use feed_stored::LastFault;
 use script_answers::Refusal;
 use std::alloc::Allocator;
 use text_copy::TextFault;
+use view_preview::{Job, PreviewFault, Source, Sources, TrialFault};
 use view_proof::OtherNumber;
-use view_punch::{PreviewFault, Sources, TrialFault};
-use view_ribbon::ReadingFault;
-
-/// The names of a stored ribbon, of a case file and of a wedge file.
-#[derive(Clone, Copy)]
-pub struct ReadingSources<'a> {
-    pub ribbon: &'a str,
-    pub case: &'a str,
-    pub wedge: &'a str,
-}
+use view_ribbon::{ComparisonFault, Pair, ReadingFault};
 
 /// Which text is no copy.
 #[derive(Clone, Copy)]
@@ -103,6 +96,10 @@ pub enum Cause<'a> {
     Case(&'a str, Refusal),
     /// The number of the case or of the wedge of this file is not that of its setting.
     Other(&'a str, OtherNumber),
+    /// This file's text is no copy: its first fault, by line and column.
+    Unread(&'a str, u64, u64, text_copy::Cause),
+    /// This file's text is longer than any that is set.
+    LongText(&'a str),
     /// This text of `--set` names no setting, or gives it no value that it may have.
     NoSetting(&'a str),
     /// The line of this number of a sheet was refused: its answer says why, and this feed is as it was.
@@ -407,6 +404,7 @@ pub fn preview_cause<'a>(from: &Sources<'a>, target: &'a str, fault: PreviewFaul
     match fault {
         PreviewFault::Feed(why) => feed_cause(from.version.feed, why),
         PreviewFault::Text(why) => text_cause(from.version.feed, Origin::Sought, why),
+        PreviewFault::TooLong => Cause::LongText(from.version.feed),
         PreviewFault::Input(why) => Cause::CaseOrWedge(from.case, from.wedge, why),
         PreviewFault::CopyFaults => Cause::Said(Said::CopyFaults),
         PreviewFault::Faulty(None) => Cause::Said(Said::NoRibbon),
@@ -418,9 +416,58 @@ pub fn preview_cause<'a>(from: &Sources<'a>, target: &'a str, fault: PreviewFaul
     }
 }
 
+/// The name of what is set.
+pub fn name_of<'a>(source: Source<'a>) -> &'a str
+    ensures { result ≡ name_of source.entry }
+{
+    match source {
+        Source::Feed(version) => version.feed,
+        Source::Text { name, .. } => name,
+    }
+}
+
+/// The names of what is set, and of the case and the wedge.
+fn named_by<'a>(job: &Job<'a>) -> Sources<'a>
+    ensures { result ≡ named_by job.now }
+{
+    let version = Version {
+        feed: name_of(job.source),
+        until: None,
+    };
+    Sources {
+        version,
+        case: job.case,
+        wedge: job.wedge,
+    }
+}
+
+/// The cause where a file's text is no copy.
+fn unread_cause<'a>(name: &'a str, why: TextFault) -> Cause<'a>
+    ensures { result ≡ unread_cause name.entry why }
+{
+    match why {
+        TextFault::At {
+            line,
+            column,
+            cause,
+        } => Cause::Unread(name, line, column, cause),
+        TextFault::NoMemory => Cause::NoMemory(name),
+    }
+}
+
+/// The cause where one does not see a galley that one asked for.
+pub fn proof_cause<'a>(job: &Job<'a>, target: &'a str, fault: PreviewFault) -> Cause<'a>
+    ensures { result ≡ proof_cause job.now target.entry fault }
+{
+    match fault {
+        PreviewFault::Text(why) => unread_cause(name_of(job.source), why),
+        other => preview_cause(&named_by(job), target, other),
+    }
+}
+
 /// The cause where a ribbon is not read or not drawn.
 pub fn reading_cause<'a>(
-    from: &ReadingSources<'a>,
+    from: &view_ribbon::Sources<'a>,
     target: &'a str,
     fault: ReadingFault,
 ) -> Cause<'a>
@@ -433,6 +480,19 @@ pub fn reading_cause<'a>(
         ReadingFault::Taken(kind) => Cause::Taken(target, kind),
         ReadingFault::Unstored(why) => unstored_cause(from.ribbon, target, why),
         ReadingFault::NoMemory => Cause::NoMemory(from.ribbon),
+    }
+}
+
+/// The cause where ribbons are not compared.
+pub fn comparison_cause<'a>(pair: &Pair<'a>, fault: ComparisonFault) -> Cause<'a>
+    ensures { result ≡ comparison_cause pair.now fault }
+{
+    match fault {
+        ComparisonFault::One(_) => Cause::File(pair.one),
+        ComparisonFault::Other(_) => Cause::File(pair.other),
+        ComparisonFault::Input(why) => Cause::CaseOrWedge(pair.case, pair.wedge, why),
+        ComparisonFault::Write => Cause::ReportOutput,
+        ComparisonFault::NoMemory => Cause::NoMemory(pair.one),
     }
 }
 

@@ -2,11 +2,12 @@
 
 ghost use Rattle.std.specs.Prelude.{◌≡◌, ◌++◌, ℕ, List, true, codes};
 ghost use Rattle.std.specs.Fmt.{decimal};
-ghost use Rattle.program_desk.specs.Explained.{IsExplainedBy, ExplainsIf, TellsMore, older_words, source_words};
+ghost use Rattle.program_desk.specs.Explained.{IsExplainedBy, ExplainsIf, TellsMore, older_words, place_words};
+ghost use Rattle.program_desk.specs.Explained.{source_words};
 ghost use Rattle.program_desk.specs.Told.{GoesOn, IsNamed, IsPrintable, IsShown};
 
 use crate::causes::{Cause, Output};
-use crate::headlines::tell_head;
+use crate::headlines::{flaw_words, tell_head, tell_two};
 use crate::told::{Told, tell_more, tell_number};
 use crate::words::{explain_case, explain_input, explain_number, explain_other};
 use program_host::{Explains, Plain};
@@ -61,6 +62,21 @@ fn tell_counters<E: Write>(faults: &mut E, told: Told, site: u16, made: u64, hel
     let and = tell_more(faults, here, b" here, and it holds ");
     let there = tell_number(faults, and, held);
     tell_more(faults, there, b"\n")
+}
+
+/// Writes the place of a text that is no symbol of a copy, and why.
+fn tell_place<E: Write>(
+    faults: &mut E,
+    told: Told,
+    line: u64,
+    column: u64,
+    why: text_copy::Cause,
+) -> Told
+    ensures { GoesOn told.is_whole result.is_whole (E.contents faults.old) (E.contents faults.new)
+        (place_words line column why) }
+{
+    let words = (": line ", ", column ", flaw_words(why));
+    tell_two(faults, told, words, line, column)
 }
 
 /// Writes that a sheet has more bytes than this.
@@ -188,6 +204,14 @@ fn explain<E: Write, F: Explains>(
             tell_named(alloc, faults, told, name, source_words(output).as_bytes())
         }
         Cause::Other(name, _) => tell_of(alloc, faults, told, files, name, cause),
+        Cause::Unread(name, line, column, why) => {
+            let named = tell_name(alloc, faults, told, name);
+            tell_place(faults, named, line, column, why)
+        }
+        Cause::LongText(name) => {
+            let words = b": it has more than 8388608 bytes, or 1048576 symbols\n";
+            tell_named(alloc, faults, told, name, words)
+        }
         Cause::NoSetting(text) => tell_setting(alloc, faults, told, text),
         Cause::Line(feed, number) => tell_line(alloc, faults, told, feed, number),
         Cause::Input => tell_more(faults, told, b"standard input: it cannot be read\n"),

@@ -25,7 +25,7 @@ fn origin_words(origin: Origin) -> &'static str
 }
 
 /// What is wrong at a place of a text.
-fn flaw_words(why: text_copy::Cause) -> &'static str
+pub fn flaw_words(why: text_copy::Cause) -> &'static str
     ensures { result.now ≡ flaw_words why }
 {
     match why {
@@ -79,7 +79,7 @@ fn tell_count<E: Write>(faults: &mut E, told: Told, before: &str, number: u64, a
 }
 
 /// Writes two numbers, each between texts.
-fn tell_two<E: Write>(
+pub fn tell_two<E: Write>(
     faults: &mut E,
     told: Told,
     words: (&str, &str, &str),
@@ -147,6 +147,8 @@ pub fn tell_head<E: Write>(faults: &mut E, told: Told, cause: Cause<'_>) -> Told
         Cause::CaseOrWedge(_, _, _) => tell_more(faults, told, b"copydesk: input refused\n"),
         Cause::Case(_, _) => tell_more(faults, told, b"copydesk: input refused\n"),
         Cause::Other(_, _) => tell_more(faults, told, b"copydesk: no ribbon\n"),
+        Cause::Unread(_, _, _, _) => tell_more(faults, told, b"copydesk: input refused\n"),
+        Cause::LongText(_) => tell_more(faults, told, b"copydesk: too long\n"),
         Cause::NoSetting(_) => tell_more(faults, told, b"copydesk: input refused\n"),
         Cause::Line(_, number) => tell_count(faults, told, "copydesk: line ", number, " refused\n"),
         Cause::Input => tell_more(faults, told, b"copydesk: read fault\n"),

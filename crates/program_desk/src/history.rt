@@ -22,7 +22,8 @@ use program_host::Explains;
 use std::alloc::Global;
 use std::io::Write;
 use text_copy::read_text;
-use view_punch::{PreviewFault, Sources, Wanted, find_text};
+use view_preview::{PreviewFault, Sources};
+use view_punch::{Wanted, find_text};
 
 /// Writes what each site of a stored feed made, and says how that ended.
 pub fn roomed<W: Write, E: Write, F: Files + Explains>(

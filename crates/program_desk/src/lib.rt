@@ -21,6 +21,7 @@ mod reporting;
 mod rooms;
 mod runs;
 mod sheets;
+mod sources;
 mod texts;
 mod told;
 mod words;

@@ -1,4 +1,4 @@
-//! A stored feed seen before it is cast: its galley as text, and its ribbon in a file.
+//! A galley seen before it is cast: as text and as a picture, and its ribbon in a file.
 
 ghost use Rattle.std.specs.Option.{option_copied};
 ghost use Rattle.std.specs.Prelude.{◌≡◌, ◌≤◌, ◌↔◌, IfErr, IfOk, MatchResult, true};
@@ -6,9 +6,9 @@ ghost use Rattle.desk_job.specs.Answer.{AreValues};
 ghost use Rattle.program_desk.specs.Causes.{preview_cause};
 ghost use Rattle.program_desk.specs.Explained.{Reports, StaysSo};
 ghost use Rattle.program_desk.specs.Previews.{IsInFile, IsInNoFile, IsPictureAbsent, IsPictureThere, IsSeen, IsSeenBy};
-ghost use Rattle.program_desk.specs.Previews.{IsShown, IsSource, IsUnseen, IsUnseenBy, IsUnshown, extent_of};
+ghost use Rattle.program_desk.specs.Previews.{IsShown, IsSource, IsUnseen, IsUnseenBy, IsUnshown};
 
-use crate::causes::{Cause, Output, preview_cause, trial_cause};
+use crate::causes::{Cause, Output, name_of, preview_cause, proof_cause, trial_cause};
 use crate::reporting::{reported, reported_more, stopped};
 use crate::told::{Ending, Told, ended, silent};
 use desk_replica::Settings;
@@ -17,9 +17,9 @@ use program_host::Explains;
 use script_answers::Memory;
 use std::alloc::Global;
 use std::io::Write;
-use view_picture::picture_feed;
-use view_proof::Extent;
-use view_punch::{PreviewFault, Sources, proof_feed, punch_feed, trial_of};
+use view_picture::picture_job;
+use view_preview::{Job, Manner, PreviewFault, Sources, proof_job, trial_of};
+use view_punch::punch_feed;
 
 /// The memory of all that a preview is made of.
 pub fn memory_of(alloc: Global) -> Memory<Global> {
@@ -29,50 +29,49 @@ pub fn memory_of(alloc: Global) -> Memory<Global> {
     }
 }
 
-/// How much of a proof is wanted.
-fn extent_of(alone: bool) -> Extent
-    ensures { result ≡ extent_of alone }
-{
-    if alone { Extent::Faults } else { Extent::Whole }
+/// A galley that is asked for: what it is of, how it is written, the name of the file that its picture is stored in, if
+/// any, and whether whatever stands there is replaced.
+#[derive(Clone, Copy)]
+pub struct Preview<'a> {
+    pub job: Job<'a>,
+    pub manner: Manner,
+    pub picture: Option<&'a str>,
+    pub force: bool,
 }
 
-/// Whether a name is that of what a ribbon is made of.
-fn is_source(from: &Sources<'_>, target: &str) -> bool
-    ensures { result ≡ true ↔ IsSource from.now target.now }
+/// Whether a name is one of those of what an output is made of.
+pub fn is_source(name: &str, case: &str, wedge: &str, target: &str) -> bool
+    ensures { result ≡ true ↔ IsSource name.now case.now wedge.now target.now }
 {
-    target == from.version.feed || target == from.case || target == from.wedge
+    target == name || target == case || target == wedge
 }
 
-/// Writes the proof of a stored feed by its settings and those that are tried, and says whether it is clean, or why it
-/// was not written.
+/// Writes a galley by its settings and those that are tried, and says whether it is clean, or why it was not written.
 fn shown<W: Write, F: Files>(
     alloc: Global,
-    from: &Sources<'_>,
-    alone: bool,
+    asked: &Preview<'_>,
     trial: &Settings,
     writer: &mut W,
     files: &mut F,
 ) -> Result<bool, PreviewFault>
     requires { AreValues trial.now }
     ensures ok { IfOk result
-        (IsShown from.now alone trial.now (F.shelf files.old) (F.shelf files.new) (W.contents writer.old)
+        (IsShown asked.now trial.now (F.shelf files.old) (F.shelf files.new) (W.contents writer.old)
         (W.contents writer.new)) }
     ensures err { IfErr result
-        (IsUnshown from.now alone trial.now (F.shelf files.old) (F.shelf files.new) (W.contents writer.old)
+        (IsUnshown asked.now trial.now (F.shelf files.old) (F.shelf files.new) (W.contents writer.old)
         (W.contents writer.new)) }
 {
-    let (memory, extent) = (memory_of(alloc), extent_of(alone));
-    proof_feed(memory, writer, files, from, trial, extent)
+    let memory = memory_of(alloc);
+    proof_job(memory, writer, files, &asked.job, trial, asked.manner)
 }
 
-/// Stores the picture of a stored feed's galley, where one is asked for, after what was written on standard error: with
-/// status 0 where none is asked for or it is there.
+/// Stores the picture of a galley, where one is asked for, after what was written on standard error: with status 0 where
+/// none is asked for or it is there.
 fn pictured<E: Write, F: Files + Explains>(
     alloc: Global,
-    from: &Sources<'_>,
+    asked: &Preview<'_>,
     trial: &Settings,
-    picture: Option<&str>,
-    force: bool,
     told: Told,
     faults: &mut E,
     files: &mut F,
@@ -80,36 +79,35 @@ fn pictured<E: Write, F: Files + Explains>(
     requires { AreValues trial.now }
     ensures within { result.status ≤ 1 }
     ensures there { result.status ≡ 0
-        → IsPictureThere from.now trial.now (option_copied picture.entry) force (F.shelf files.old) (F.shelf files.new)
-        × StaysSo told.is_whole result.told.is_whole (E.contents faults.old) (E.contents faults.new) }
+        → IsPictureThere asked.now.job trial.now (option_copied asked.now.picture) asked.now.force (F.shelf files.old)
+        (F.shelf files.new) × StaysSo told.is_whole result.told.is_whole (E.contents faults.old)
+        (E.contents faults.new) }
     ensures absent { result.status ≡ 1
-        → IsPictureAbsent from.now trial.now picture.entry force (F.shelf files.old) (F.shelf files.new) told.is_whole
-        result.told.is_whole (E.contents faults.old) (E.contents faults.new) }
+        → IsPictureAbsent asked.now.job trial.now asked.now.picture asked.now.force (F.shelf files.old)
+        (F.shelf files.new) told.is_whole result.told.is_whole (E.contents faults.old) (E.contents faults.new) }
 {
-    let Some(name) = picture else {
+    let Some(name) = asked.picture else {
         return Ending { status: 0, told };
     };
+    let force = asked.force;
     let target = Target { name, force };
     let memory = memory_of(alloc);
-    match picture_feed(memory, files, from, trial, &target) {
+    match picture_job(memory, files, &asked.job, trial, &target) {
         Ok(()) => Ending { status: 0, told },
         Err(fault) => {
-            let cause = preview_cause(from, name, fault);
+            let cause = proof_cause(&asked.job, name, fault);
             let told = reported_more(alloc, faults, told, files, cause);
             Ending { status: 1, told }
         }
     }
 }
 
-/// Writes the proof of a stored feed, stores its picture where one is asked for, and says how that ended. The picture is
-/// stored also where the writer failed: whoever reads the proof may have seen enough of it.
+/// Writes a galley, stores its picture where one is asked for, and says how that ended. The picture is stored also where
+/// the writer failed: whoever reads the galley may have seen enough of it.
 fn seen_by<W: Write, E: Write, F: Files + Explains>(
     alloc: Global,
-    from: &Sources<'_>,
-    alone: bool,
+    asked: &Preview<'_>,
     trial: &Settings,
-    picture: Option<&str>,
-    force: bool,
     writer: &mut W,
     faults: &mut E,
     files: &mut F,
@@ -117,16 +115,15 @@ fn seen_by<W: Write, E: Write, F: Files + Explains>(
     requires { AreValues trial.now }
     ensures within { result.status ≤ 1 }
     ensures done { result.status ≡ 0
-        → IsSeenBy from.now alone trial.now (option_copied picture.entry) force (F.shelf files.old) (F.shelf files.new)
-        (W.contents writer.old) (W.contents writer.new) }
+        → IsSeenBy asked.now trial.now (F.shelf files.old) (F.shelf files.new) (W.contents writer.old)
+        (W.contents writer.new) }
     ensures stopped { result.status ≡ 1
-        → IsUnseenBy from.now alone trial.now picture.entry force (F.shelf files.old) (F.shelf files.new)
-        (W.contents writer.old) (W.contents writer.new) result.told.is_whole (E.contents faults.old)
-        (E.contents faults.new) }
+        → IsUnseenBy asked.now trial.now (F.shelf files.old) (F.shelf files.new) (W.contents writer.old)
+        (W.contents writer.new) result.told.is_whole (E.contents faults.old) (E.contents faults.new) }
 {
-    match shown(alloc, from, alone, trial, writer, files) {
+    match shown(alloc, asked, trial, writer, files) {
         Ok(clean) => {
-            let ending = pictured(alloc, from, trial, picture, force, silent(), faults, files);
+            let ending = pictured(alloc, asked, trial, silent(), faults, files);
             if clean {
                 return ending;
             }
@@ -137,25 +134,22 @@ fn seen_by<W: Write, E: Write, F: Files + Explains>(
         }
         Err(PreviewFault::Write) => {
             let told = reported(alloc, faults, files, Cause::ReportOutput).told;
-            let ending = pictured(alloc, from, trial, picture, force, told, faults, files);
+            let ending = pictured(alloc, asked, trial, told, faults, files);
             Ending {
                 status: 1,
                 told: ending.told,
             }
         }
-        Err(fault) => reported(alloc, faults, files, preview_cause(from, "", fault)),
+        Err(fault) => reported(alloc, faults, files, proof_cause(&asked.job, "", fault)),
     }
 }
 
-/// Writes the proof of a stored feed by its settings and those that texts as `loose=200` try, stores its picture where
-/// one is asked for, and says how that ended: with status 0 where there is no fault and all was written. The picture
-/// replaces only a picture, or, by force, any file but the feed, the case and the wedge.
+/// Writes a galley by its settings and those that texts as `loose=200` try, stores its picture where one is asked for,
+/// and says how that ended: with status 0 where there is no fault and all was written. The picture replaces only a
+/// picture, or, by force, any file but the feed or the text, the case and the wedge.
 pub fn proofed<W: Write, E: Write, F: Files + Explains>(
     alloc: Global,
-    from: &Sources<'_>,
-    alone: bool,
-    picture: Option<&str>,
-    force: bool,
+    asked: &Preview<'_>,
     sets: &[&str],
     writer: &mut W,
     faults: &mut E,
@@ -163,23 +157,21 @@ pub fn proofed<W: Write, E: Write, F: Files + Explains>(
 ) -> Ending
     ensures within { result.status ≤ 1 }
     ensures done { result.status ≡ 0
-        → IsSeen from.now alone (option_copied picture.entry) force sets.now (F.shelf files.old) (F.shelf files.new)
-        (W.contents writer.old) (W.contents writer.new) }
+        → IsSeen asked.now sets.now (F.shelf files.old) (F.shelf files.new) (W.contents writer.old)
+        (W.contents writer.new) }
     ensures stopped { result.status ≡ 1
-        → IsUnseen from.now alone picture.entry force sets.now (F.shelf files.old) (F.shelf files.new)
-        (W.contents writer.old) (W.contents writer.new) result.told.is_whole (E.contents faults.old)
-        (E.contents faults.new) }
+        → IsUnseen asked.now sets.now (F.shelf files.old) (F.shelf files.new) (W.contents writer.old)
+        (W.contents writer.new) result.told.is_whole (E.contents faults.old) (E.contents faults.new) }
 {
-    if let Some(target) = picture {
-        if is_source(from, target) {
+    if let Some(target) = asked.picture {
+        let job = &asked.job;
+        if is_source(name_of(job.source), job.case, job.wedge, target) {
             let cause = Cause::Source(target, Output::Picture);
             return stopped(alloc, faults, files, true, cause);
         }
     }
     match trial_of(alloc, sets) {
-        Ok(trial) => seen_by(
-            alloc, from, alone, &trial, picture, force, writer, faults, files,
-        ),
+        Ok(trial) => seen_by(alloc, asked, &trial, writer, faults, files),
         Err(fault) => stopped(alloc, faults, files, true, trial_cause(sets, fault)),
     }
 }
@@ -224,7 +216,7 @@ pub fn punched<W: Write, E: Write, F: Files + Explains>(
         (W.contents writer.old) (W.contents writer.new) result.told.is_whole (E.contents faults.old)
         (E.contents faults.new) }
 {
-    if is_source(from, target.name) {
+    if is_source(from.version.feed, from.case, from.wedge, target.name) {
         let cause = Cause::Source(target.name, Output::Ribbon);
         return stopped(alloc, faults, files, true, cause);
     }

@@ -1,14 +1,14 @@
 //! A stored ribbon read as the caster would, and the sorts of a stored feed.
 
 ghost use Rattle.std.specs.Option.{option_copied};
-ghost use Rattle.std.specs.Prelude.{◌≡◌, ◌≤◌, ◌↔◌, IfErr, IfOk, MatchResult, false, true};
+ghost use Rattle.std.specs.Prelude.{◌≡◌, ◌≤◌, IfErr, IfOk, MatchResult, false, true};
 ghost use Rattle.program_desk.specs.Causes.{sorts_cause};
 ghost use Rattle.program_desk.specs.Explained.{IsSilent, Reports, StaysSo};
 ghost use Rattle.program_desk.specs.Readings.{AreHolesAbsent, AreHolesThere, IsListed, IsNotListed, IsNotReadOut};
-ghost use Rattle.program_desk.specs.Readings.{IsNotReadWhole, IsReadOut, IsReadWhole, IsSource, names_of};
+ghost use Rattle.program_desk.specs.Readings.{IsNotReadWhole, IsReadOut, IsReadWhole, lines_of};
 
-use crate::causes::{Cause, Output, ReadingSources, reading_cause, sorts_cause};
-use crate::previews::memory_of;
+use crate::causes::{Cause, Output, reading_cause, sorts_cause};
+use crate::previews::{is_source, memory_of};
 use crate::reporting::{reported, reported_more, stopped};
 use crate::told::{Ending, Told, ended, silent};
 use feed_edit::Version;
@@ -16,72 +16,79 @@ use feed_files::{Files, Target};
 use program_host::Explains;
 use std::alloc::Global;
 use std::io::Write;
-use view_punch::{PreviewFault, report_sorts};
-use view_ribbon::{ReadingFault, draw_ribbon, read_job};
+use view_preview::PreviewFault;
+use view_punch::report_sorts;
+use view_ribbon::{Extent, Lines, ReadingFault, Sources, draw_ribbon, read_job};
+
+/// A reading that is asked for: what it is made of, how much is written, the name of the file that the ribbon's picture
+/// is stored in, if any, and whether whatever stands there is replaced.
+#[derive(Clone, Copy)]
+pub struct Reading<'a> {
+    pub from: Sources<'a>,
+    pub extent: Extent,
+    pub picture: Option<&'a str>,
+    pub force: bool,
+}
+
+/// The lines that a picture has, or nothing where it has all.
+fn lines_of(extent: Extent) -> Option<Lines>
+    ensures { result ≡ lines_of extent }
+{
+    match extent {
+        Extent::Lines(lines) => lines,
+        Extent::Figures(_) => None,
+    }
+}
 
 /// Writes the reading of a ribbon, and says whether it is cast whole, or why it was not written.
 fn read_out<W: Write, F: Files>(
     alloc: Global,
-    from: &ReadingSources<'_>,
+    asked: &Reading<'_>,
     writer: &mut W,
     files: &mut F,
 ) -> Result<bool, ReadingFault>
     ensures ok { IfOk result
-        (IsReadOut (names_of from.now) (F.shelf files.old) (F.shelf files.new) (W.contents writer.old)
-        (W.contents writer.new)) }
+        (IsReadOut asked.now (F.shelf files.old) (F.shelf files.new) (W.contents writer.old) (W.contents writer.new)) }
     ensures err { IfErr result
-        (IsNotReadOut (names_of from.now) (F.shelf files.old) (F.shelf files.new) (W.contents writer.old)
+        (IsNotReadOut asked.now (F.shelf files.old) (F.shelf files.new) (W.contents writer.old)
         (W.contents writer.new)) }
 {
-    let ReadingSources {
-        ribbon,
-        case,
-        wedge,
-    } = *from;
-    read_job(memory_of(alloc), writer, files, ribbon, case, wedge)
+    read_job(memory_of(alloc), writer, files, &asked.from, asked.extent)
 }
 
 /// Stores the picture of a ribbon, where one is asked for, after what was written on standard error: with status 0 where
 /// none is asked for or it is there.
 fn drawn<E: Write, F: Files + Explains>(
     alloc: Global,
-    from: &ReadingSources<'_>,
-    picture: Option<&str>,
-    force: bool,
+    asked: &Reading<'_>,
     told: Told,
     faults: &mut E,
     files: &mut F,
 ) -> Ending
     ensures within { result.status ≤ 1 }
     ensures there { result.status ≡ 0
-        → AreHolesThere (names_of from.now) (option_copied picture.entry) force (F.shelf files.old)
-        (F.shelf files.new) × StaysSo told.is_whole result.told.is_whole (E.contents faults.old)
-        (E.contents faults.new) }
+        → AreHolesThere asked.now (option_copied asked.now.picture) (F.shelf files.old) (F.shelf files.new)
+        × StaysSo told.is_whole result.told.is_whole (E.contents faults.old) (E.contents faults.new) }
     ensures absent { result.status ≡ 1
-        → AreHolesAbsent from.now picture.entry force (F.shelf files.old) (F.shelf files.new) told.is_whole
+        → AreHolesAbsent asked.now asked.now.picture (F.shelf files.old) (F.shelf files.new) told.is_whole
         result.told.is_whole (E.contents faults.old) (E.contents faults.new) }
 {
-    let Some(name) = picture else {
+    let Some(name) = asked.picture else {
         return Ending { status: 0, told };
     };
+    let force = asked.force;
     let target = Target { name, force };
     let memory = memory_of(alloc);
-    match draw_ribbon(memory, files, from.ribbon, from.case, from.wedge, &target) {
+    let lines = lines_of(asked.extent);
+    match draw_ribbon(memory, files, &asked.from, lines, &target) {
         Ok(true) => Ending { status: 0, told },
         Ok(false) => Ending { status: 1, told },
         Err(fault) => {
-            let cause = reading_cause(from, name, fault);
+            let cause = reading_cause(&asked.from, name, fault);
             let told = reported_more(alloc, faults, told, files, cause);
             Ending { status: 1, told }
         }
     }
-}
-
-/// Whether a name is that of what a reading is made of.
-fn is_source(from: &ReadingSources<'_>, target: &str) -> bool
-    ensures { result ≡ true ↔ IsSource from.now target.now }
-{
-    target == from.ribbon || target == from.case || target == from.wedge
 }
 
 /// Writes what a caster would cast of a stored ribbon by a case and a wedge, stores its picture where one is asked for,
@@ -89,30 +96,29 @@ fn is_source(from: &ReadingSources<'_>, target: &str) -> bool
 /// the writer failed. It replaces only a picture, or, by force, any file but the ribbon, the case and the wedge.
 pub fn read_whole<W: Write, E: Write, F: Files + Explains>(
     alloc: Global,
-    from: &ReadingSources<'_>,
-    picture: Option<&str>,
-    force: bool,
+    asked: &Reading<'_>,
     writer: &mut W,
     faults: &mut E,
     files: &mut F,
 ) -> Ending
     ensures within { result.status ≤ 1 }
     ensures done { result.status ≡ 0
-        → IsReadWhole (names_of from.now) (option_copied picture.entry) force (F.shelf files.old) (F.shelf files.new)
-        (W.contents writer.old) (W.contents writer.new) }
+        → IsReadWhole asked.now (F.shelf files.old) (F.shelf files.new) (W.contents writer.old)
+        (W.contents writer.new) }
     ensures stopped { result.status ≡ 1
-        → IsNotReadWhole from.now picture.entry force (F.shelf files.old) (F.shelf files.new) (W.contents writer.old)
+        → IsNotReadWhole asked.now (F.shelf files.old) (F.shelf files.new) (W.contents writer.old)
         (W.contents writer.new) result.told.is_whole (E.contents faults.old) (E.contents faults.new) }
 {
-    if let Some(target) = picture {
-        if is_source(from, target) {
+    if let Some(target) = asked.picture {
+        let from = &asked.from;
+        if is_source(from.ribbon, from.case, from.wedge, target) {
             let cause = Cause::Source(target, Output::Picture);
             return stopped(alloc, faults, files, true, cause);
         }
     }
-    match read_out(alloc, from, writer, files) {
+    match read_out(alloc, asked, writer, files) {
         Ok(whole) => {
-            let ending = drawn(alloc, from, picture, force, silent(), faults, files);
+            let ending = drawn(alloc, asked, silent(), faults, files);
             if whole {
                 return ending;
             }
@@ -123,13 +129,13 @@ pub fn read_whole<W: Write, E: Write, F: Files + Explains>(
         }
         Err(ReadingFault::Write) => {
             let told = reported(alloc, faults, files, Cause::ReportOutput).told;
-            let ending = drawn(alloc, from, picture, force, told, faults, files);
+            let ending = drawn(alloc, asked, told, faults, files);
             Ending {
                 status: 1,
                 told: ending.told,
             }
         }
-        Err(fault) => reported(alloc, faults, files, reading_cause(from, "", fault)),
+        Err(fault) => reported(alloc, faults, files, reading_cause(&asked.from, "", fault)),
     }
 }
 

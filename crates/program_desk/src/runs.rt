@@ -3,18 +3,19 @@
 ghost use Rattle.std.specs.Prelude.{◌≡◌, ◌≢◌, ◌≤◌, ◌⊎◌, Bool, map, string_bytes};
 ghost use Rattle.clap.specs.Words.{kind_of};
 ghost use Rattle.program_desk.specs.Headlines.{said_line};
-ghost use Rattle.program_desk.specs.Runs.{Does, IsRun, IsStopped, Stops, other_of, sources_at, where_of};
+ghost use Rattle.program_desk.specs.Runs.{Does, IsRun, IsStopped, Stops, other_of, where_of};
 ghost use Rattle.program_desk.specs.Told.{Tells};
 ghost use Rattle.program_words.specs.Words.{AsksHelp, AsksNothing, IsLawful};
 
 use crate::by_hand::{exported, imported, merged, renewed, renumbered};
-use crate::causes::{ReadingSources, Said};
-use crate::compared::compared;
+use crate::causes::Said;
+use crate::compared::{cast_compared, compared};
 use crate::history::{Sieve, logged, roomed, sought};
 use crate::previews::{proofed, punched};
 use crate::readings::{listed, read_whole};
 use crate::reporting::out_of_memory;
 use crate::sheets::{on_desk, scripted};
+use crate::sources::{preview_of, reading_of, sources_of};
 use crate::texts::{checked, replaced};
 use crate::told::{Ending, ended};
 use clap::Error;
@@ -25,7 +26,8 @@ use program_host::{Explains, Plain};
 use program_words::{Wish, read_words};
 use std::alloc::Global;
 use std::io::{Read, Write};
-use view_punch::{Sources, Wanted};
+use view_punch::Wanted;
+use view_ribbon::Pair;
 
 /// The feed that is compared with a version of one: the other, or the same.
 fn other_of<'a>(one: &'a str, other: Option<&'a str>) -> &'a str
@@ -45,20 +47,6 @@ fn where_of(at: Option<u64>, all: bool) -> Where
         Some(place) => Where::At(place as usize),
         None if all => Where::All,
         None => Where::Once,
-    }
-}
-
-/// A version of a feed, and the files of a case and a wedge.
-fn sources_at<'a>(from: &program_words::Sources<'a>, until: Option<u64>) -> Sources<'a>
-    ensures { result ≡ sources_at from.now until }
-{
-    Sources {
-        version: Version {
-            feed: from.feed,
-            until,
-        },
-        case: from.case,
-        wedge: from.wedge,
     }
 }
 
@@ -104,6 +92,20 @@ fn fulfilled<R: Read, W: Write, E: Write, F: Files + Explains>(
             };
             compared(alloc, version, other_of(one, *other), writer, faults, files)
         }
+        Wish::Compare {
+            one,
+            other,
+            case,
+            wedge,
+        } => {
+            let pair = Pair {
+                one,
+                other,
+                case,
+                wedge,
+            };
+            cast_compared(alloc, &pair, writer, faults, files)
+        }
         Wish::Export { feed, until } => {
             let version = Version {
                 feed,
@@ -140,17 +142,13 @@ fn fulfilled<R: Read, W: Write, E: Write, F: Files + Explains>(
         }
         Wish::Check { files: names } => checked(alloc, names, writer, faults, files),
         Wish::Proof {
-            from,
-            until,
-            faults: alone,
+            galley,
             picture,
             force,
             sets,
         } => {
-            let from = sources_at(from, *until);
-            proofed(
-                alloc, &from, *alone, *picture, *force, sets, writer, faults, files,
-            )
+            let asked = preview_of(galley, *picture, *force);
+            proofed(alloc, &asked, sets, writer, faults, files)
         }
         Wish::Punch {
             from,
@@ -162,22 +160,17 @@ fn fulfilled<R: Read, W: Write, E: Write, F: Files + Explains>(
                 name: target,
                 force: *force,
             };
-            let from = sources_at(from, None);
+            let from = sources_of(from);
             punched(alloc, &from, &to, *faulty, writer, faults, files)
         }
         Wish::Read {
-            ribbon,
-            case,
-            wedge,
+            from,
+            extent,
             picture,
             force,
         } => {
-            let from = ReadingSources {
-                ribbon,
-                case,
-                wedge,
-            };
-            read_whole(alloc, &from, *picture, *force, writer, faults, files)
+            let asked = reading_of(from, *extent, *picture, *force);
+            read_whole(alloc, &asked, writer, faults, files)
         }
         Wish::Sorts {
             feed,

@@ -1,5 +1,5 @@
 use Rattle.std.proofs.Common.{refl, sym, subst, ◌∙◌, ◌++◌, []}
-use Rattle.program_desk.specs.Explained.{IsExplainedBy, older_words}
+use Rattle.program_desk.specs.Explained.{IsExplainedBy, older_words, place_words}
 use Rattle.program_desk.specs.Told.{IsNamed}
 use Rattle.program_desk.proofs.Telling.{goes_on_twice, stays}
 use Rattle.program_desk.proofs.explained.explain.Goals as goal
@@ -74,3 +74,10 @@ returns-in-Source g c = subst (λ cause. IsExplainedBy cause c.args.told.is_whol
 
 pub returns-in-NoSetting : goal.returns-in-NoSetting
 returns-in-NoSetting g c = subst (λ cause. IsExplainedBy cause c.args.told.is_whole c.tell_setting.result.is_whole (g.E.Write.contents c.args.faults.now) (g.E.Write.contents c.tell_setting.new.faults)) (sym c.in-NoSetting.is) (c.tell_setting.ensures)
+
+pub returns-in-Unread : goal.returns-in-Unread
+returns-in-Unread g c =
+    let shown = c.tell_name-named-in-Unread.ensures in
+    let words = place_words c.in-Unread.line c.in-Unread.column c.in-Unread.why in
+    subst (λ cause. IsExplainedBy cause c.args.told.is_whole c.tell_place.result.is_whole (g.E.Write.contents c.args.faults.now) (g.E.Write.contents c.tell_place.new.faults)) (sym c.in-Unread.is)
+    (shown.0 ++ words, (shown.0, shown.1, refl), goes_on_twice c.args.told.is_whole c.tell_name-named-in-Unread.result.is_whole c.tell_place.result.is_whole (g.E.Write.contents c.args.faults.now) (g.E.Write.contents c.tell_name-named-in-Unread.new.faults) (g.E.Write.contents c.tell_place.new.faults) shown.0 words shown.2 c.tell_place.ensures)

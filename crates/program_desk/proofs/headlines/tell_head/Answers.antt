@@ -59,3 +59,9 @@ returns-in-Output g c = subst (λ cause. GoesOn c.args.told.is_whole c.tell_more
 
 pub returns-in-ReportOutput : goal.returns-in-ReportOutput
 returns-in-ReportOutput g c = subst (λ cause. GoesOn c.args.told.is_whole c.tell_more-in-ReportOutput.result.is_whole (g.E.Write.contents c.args.faults.now) (g.E.Write.contents c.tell_more-in-ReportOutput.new.faults) (head_line cause)) (sym c.in-ReportOutput.is) c.tell_more-in-ReportOutput.ensures
+
+pub returns-in-Unread : goal.returns-in-Unread
+returns-in-Unread g c = subst (λ cause. GoesOn c.args.told.is_whole c.tell_more-in-Unread.result.is_whole (g.E.Write.contents c.args.faults.now) (g.E.Write.contents c.tell_more-in-Unread.new.faults) (head_line cause)) (sym c.in-Unread.is) c.tell_more-in-Unread.ensures
+
+pub returns-in-LongText : goal.returns-in-LongText
+returns-in-LongText g c = subst (λ cause. GoesOn c.args.told.is_whole c.tell_more-in-LongText.result.is_whole (g.E.Write.contents c.args.faults.now) (g.E.Write.contents c.tell_more-in-LongText.new.faults) (head_line cause)) (sym c.in-LongText.is) c.tell_more-in-LongText.ensures

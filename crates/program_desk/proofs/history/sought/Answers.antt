@@ -1,6 +1,6 @@
 use Rattle.std.proofs.Common.{inl, inr, subst}
 use Rattle.view_punch.specs.Finding.{IsFound, IsUnfound}
-use Rattle.view_punch.specs.declared.sources.Sources.{Sources}
+use Rattle.view_preview.specs.declared.sources.Sources.{Sources}
 use Rattle.program_desk.specs.Causes.{preview_cause}
 use Rattle.program_desk.specs.Explained.{Reports}
 use Rattle.program_desk.proofs.Statuses.{no_of, yes_of}

@@ -7,5 +7,5 @@ use Rattle.program_desk.proofs.previews.pictured.Goals as goal
 
 pub returns-in-Err-clause-absent : goal.returns-in-Err-clause-absent
 returns-in-Err-clause-absent g c one =
-    subst (λ (picture : Option (Bor (List ℕ))). IsPictureAbsent c.args.from.now c.args.trial.now picture c.args.force (g.F.Files.shelf c.args.files.now) (g.F.Files.shelf c.picture_feed.new.files) c.args.told.is_whole c.reported_more-told.result.is_whole (g.E.Write.contents c.args.faults.now) (g.E.Write.contents c.reported_more-told.new.faults)) (sym c.in-Some.is)
-    (c.in-Err.fault, c.in-Err.ensures.err, subst (λ cause. ReportsMore cause c.args.told.is_whole c.reported_more-told.result.is_whole (g.E.Write.contents c.args.faults.now) (g.E.Write.contents c.reported_more-told.new.faults)) c.preview_cause-cause.ensures c.reported_more-told.ensures)
+    subst (λ (picture : Option (Bor (List ℕ))). IsPictureAbsent c.args.asked.now.job c.args.trial.now picture c.args.asked.now.force (g.F.Files.shelf c.args.files.now) (g.F.Files.shelf c.picture_job.new.files) c.args.told.is_whole c.reported_more-told.result.is_whole (g.E.Write.contents c.args.faults.now) (g.E.Write.contents c.reported_more-told.new.faults)) (sym c.in-Some.is)
+    (c.in-Err.fault, c.in-Err.ensures.err, subst (λ cause. ReportsMore cause c.args.told.is_whole c.reported_more-told.result.is_whole (g.E.Write.contents c.args.faults.now) (g.E.Write.contents c.reported_more-told.new.faults)) c.proof_cause-cause.ensures c.reported_more-told.ensures)

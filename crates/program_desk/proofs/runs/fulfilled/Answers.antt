@@ -1,11 +1,13 @@
 use Rattle.std.proofs.Common.{List, sym, subst}
 use Rattle.std.specs.Borrow.{Bor}
-use Rattle.std.specs.Option.{option_copied}
 use Rattle.clap.specs.Words.{Text}
 use Rattle.program_words.specs.Words.{texts_of}
 use Rattle.program_desk.specs.ByHand.{IsMergedAs, IsNotMerged}
-use Rattle.view_punch.specs.declared.sources.Sources.{Sources}
+use Rattle.view_preview.specs.declared.sources.Sources.{Sources}
 use Rattle.program_desk.specs.Compared.{AreNotOne, AreOne}
+use Rattle.program_desk.specs.Readings.{IsNotReadWhole, IsReadWhole}
+use Rattle.program_desk.specs.declared.previews.Preview.{Preview}
+use Rattle.program_desk.specs.declared.readings.Reading.{Reading}
 use Rattle.program_desk.specs.Previews.{IsInFile, IsInNoFile, IsSeen, IsUnseen}
 use Rattle.program_desk.specs.Runs.{Does, Stops, version_of}
 use Rattle.feed_edit.specs.declared.texts.Where.{Where}
@@ -68,26 +70,46 @@ returns-in-Export-clause-stopped g c one =
 pub returns-in-Proof-clause-done : goal.returns-in-Proof-clause-done
 returns-in-Proof-clause-done g c zero =
     subst (λ w. Does w (g.F.Files.shelf c.args.files.now) (g.F.Files.shelf c.proofed.new.files) (g.R.Read.remaining c.args.reader.now) (g.W.Write.contents c.args.writer.now) (g.W.Write.contents c.proofed.new.writer)) (sym c.in-Proof.is)
-    (subst (λ (s : Sources). IsSeen s c.in-Proof.alone (option_copied c.in-Proof.picture) c.in-Proof.force c.in-Proof.sets.items (g.F.Files.shelf c.args.files.now) (g.F.Files.shelf c.proofed.new.files) (g.W.Write.contents c.args.writer.now) (g.W.Write.contents c.proofed.new.writer)) c.sources_at-from.ensures
-    (subst (λ (l : List (Bor Text)). IsSeen c.sources_at-from.result c.in-Proof.alone (option_copied c.in-Proof.picture) c.in-Proof.force l (g.F.Files.shelf c.args.files.now) (g.F.Files.shelf c.proofed.new.files) (g.W.Write.contents c.args.writer.now) (g.W.Write.contents c.proofed.new.writer)) c.deref-in-Proof.ensures.value
+    (subst (λ (asked : Preview). IsSeen asked c.in-Proof.sets.items (g.F.Files.shelf c.args.files.now) (g.F.Files.shelf c.proofed.new.files) (g.W.Write.contents c.args.writer.now) (g.W.Write.contents c.proofed.new.writer)) c.preview_of-asked.ensures
+    (subst (λ (l : List (Bor Text)). IsSeen c.preview_of-asked.result l (g.F.Files.shelf c.args.files.now) (g.F.Files.shelf c.proofed.new.files) (g.W.Write.contents c.args.writer.now) (g.W.Write.contents c.proofed.new.writer)) c.deref-in-Proof.ensures.value
     (c.proofed.ensures.done zero)))
 
 pub returns-in-Proof-clause-stopped : goal.returns-in-Proof-clause-stopped
 returns-in-Proof-clause-stopped g c one =
     subst (λ w. Stops w (g.F.Files.shelf c.args.files.now) (g.F.Files.shelf c.proofed.new.files) (g.R.Read.remaining c.args.reader.now) (g.W.Write.contents c.args.writer.now) (g.W.Write.contents c.proofed.new.writer) c.proofed.result.told.is_whole (g.E.Write.contents c.args.faults.now) (g.E.Write.contents c.proofed.new.faults)) (sym c.in-Proof.is)
-    (subst (λ (s : Sources). IsUnseen s c.in-Proof.alone c.in-Proof.picture c.in-Proof.force c.in-Proof.sets.items (g.F.Files.shelf c.args.files.now) (g.F.Files.shelf c.proofed.new.files) (g.W.Write.contents c.args.writer.now) (g.W.Write.contents c.proofed.new.writer) c.proofed.result.told.is_whole (g.E.Write.contents c.args.faults.now) (g.E.Write.contents c.proofed.new.faults)) c.sources_at-from.ensures
-    (subst (λ (l : List (Bor Text)). IsUnseen c.sources_at-from.result c.in-Proof.alone c.in-Proof.picture c.in-Proof.force l (g.F.Files.shelf c.args.files.now) (g.F.Files.shelf c.proofed.new.files) (g.W.Write.contents c.args.writer.now) (g.W.Write.contents c.proofed.new.writer) c.proofed.result.told.is_whole (g.E.Write.contents c.args.faults.now) (g.E.Write.contents c.proofed.new.faults)) c.deref-in-Proof.ensures.value
+    (subst (λ (asked : Preview). IsUnseen asked c.in-Proof.sets.items (g.F.Files.shelf c.args.files.now) (g.F.Files.shelf c.proofed.new.files) (g.W.Write.contents c.args.writer.now) (g.W.Write.contents c.proofed.new.writer) c.proofed.result.told.is_whole (g.E.Write.contents c.args.faults.now) (g.E.Write.contents c.proofed.new.faults)) c.preview_of-asked.ensures
+    (subst (λ (l : List (Bor Text)). IsUnseen c.preview_of-asked.result l (g.F.Files.shelf c.args.files.now) (g.F.Files.shelf c.proofed.new.files) (g.W.Write.contents c.args.writer.now) (g.W.Write.contents c.proofed.new.writer) c.proofed.result.told.is_whole (g.E.Write.contents c.args.faults.now) (g.E.Write.contents c.proofed.new.faults)) c.deref-in-Proof.ensures.value
     (c.proofed.ensures.stopped one)))
 
 pub returns-in-Punch-clause-done : goal.returns-in-Punch-clause-done
 returns-in-Punch-clause-done g c zero =
     subst (λ w. Does w (g.F.Files.shelf c.args.files.now) (g.F.Files.shelf c.punched.new.files) (g.R.Read.remaining c.args.reader.now) (g.W.Write.contents c.args.writer.now) (g.W.Write.contents c.punched.new.writer)) (sym c.in-Punch.is)
-    (subst (λ (s : Sources). IsInFile s c.in-Punch.target.now c.in-Punch.force c.in-Punch.faulty (g.F.Files.shelf c.args.files.now) (g.F.Files.shelf c.punched.new.files) (g.W.Write.contents c.args.writer.now) (g.W.Write.contents c.punched.new.writer)) c.sources_at-from-in-Punch.ensures (c.punched.ensures.done zero))
+    (subst (λ (s : Sources). IsInFile s c.in-Punch.target.now c.in-Punch.force c.in-Punch.faulty (g.F.Files.shelf c.args.files.now) (g.F.Files.shelf c.punched.new.files) (g.W.Write.contents c.args.writer.now) (g.W.Write.contents c.punched.new.writer)) c.sources_of-from.ensures (c.punched.ensures.done zero))
 
 pub returns-in-Punch-clause-stopped : goal.returns-in-Punch-clause-stopped
 returns-in-Punch-clause-stopped g c one =
     subst (λ w. Stops w (g.F.Files.shelf c.args.files.now) (g.F.Files.shelf c.punched.new.files) (g.R.Read.remaining c.args.reader.now) (g.W.Write.contents c.args.writer.now) (g.W.Write.contents c.punched.new.writer) c.punched.result.told.is_whole (g.E.Write.contents c.args.faults.now) (g.E.Write.contents c.punched.new.faults)) (sym c.in-Punch.is)
-    (subst (λ (s : Sources). IsInNoFile s c.in-Punch.target c.in-Punch.force c.in-Punch.faulty (g.F.Files.shelf c.args.files.now) (g.F.Files.shelf c.punched.new.files) (g.W.Write.contents c.args.writer.now) (g.W.Write.contents c.punched.new.writer) c.punched.result.told.is_whole (g.E.Write.contents c.args.faults.now) (g.E.Write.contents c.punched.new.faults)) c.sources_at-from-in-Punch.ensures (c.punched.ensures.stopped one))
+    (subst (λ (s : Sources). IsInNoFile s c.in-Punch.target c.in-Punch.force c.in-Punch.faulty (g.F.Files.shelf c.args.files.now) (g.F.Files.shelf c.punched.new.files) (g.W.Write.contents c.args.writer.now) (g.W.Write.contents c.punched.new.writer) c.punched.result.told.is_whole (g.E.Write.contents c.args.faults.now) (g.E.Write.contents c.punched.new.faults)) c.sources_of-from.ensures (c.punched.ensures.stopped one))
+
+pub returns-in-Read-clause-done : goal.returns-in-Read-clause-done
+returns-in-Read-clause-done g c zero =
+    subst (λ w. Does w (g.F.Files.shelf c.args.files.now) (g.F.Files.shelf c.read_whole.new.files) (g.R.Read.remaining c.args.reader.now) (g.W.Write.contents c.args.writer.now) (g.W.Write.contents c.read_whole.new.writer)) (sym c.in-Read.is)
+    (subst (λ (asked : Reading). IsReadWhole asked (g.F.Files.shelf c.args.files.now) (g.F.Files.shelf c.read_whole.new.files) (g.W.Write.contents c.args.writer.now) (g.W.Write.contents c.read_whole.new.writer)) c.reading_of-asked.ensures (c.read_whole.ensures.done zero))
+
+pub returns-in-Read-clause-stopped : goal.returns-in-Read-clause-stopped
+returns-in-Read-clause-stopped g c one =
+    subst (λ w. Stops w (g.F.Files.shelf c.args.files.now) (g.F.Files.shelf c.read_whole.new.files) (g.R.Read.remaining c.args.reader.now) (g.W.Write.contents c.args.writer.now) (g.W.Write.contents c.read_whole.new.writer) c.read_whole.result.told.is_whole (g.E.Write.contents c.args.faults.now) (g.E.Write.contents c.read_whole.new.faults)) (sym c.in-Read.is)
+    (subst (λ (asked : Reading). IsNotReadWhole asked (g.F.Files.shelf c.args.files.now) (g.F.Files.shelf c.read_whole.new.files) (g.W.Write.contents c.args.writer.now) (g.W.Write.contents c.read_whole.new.writer) c.read_whole.result.told.is_whole (g.E.Write.contents c.args.faults.now) (g.E.Write.contents c.read_whole.new.faults)) c.reading_of-asked.ensures (c.read_whole.ensures.stopped one))
+
+pub returns-in-Compare-clause-done : goal.returns-in-Compare-clause-done
+returns-in-Compare-clause-done g c zero =
+    subst (λ w. Does w (g.F.Files.shelf c.args.files.now) (g.F.Files.shelf c.cast_compared.new.files) (g.R.Read.remaining c.args.reader.now) (g.W.Write.contents c.args.writer.now) (g.W.Write.contents c.cast_compared.new.writer)) (sym c.in-Compare.is)
+    (c.cast_compared.ensures.done zero)
+
+pub returns-in-Compare-clause-stopped : goal.returns-in-Compare-clause-stopped
+returns-in-Compare-clause-stopped g c one =
+    subst (λ w. Stops w (g.F.Files.shelf c.args.files.now) (g.F.Files.shelf c.cast_compared.new.files) (g.R.Read.remaining c.args.reader.now) (g.W.Write.contents c.args.writer.now) (g.W.Write.contents c.cast_compared.new.writer) c.cast_compared.result.told.is_whole (g.E.Write.contents c.args.faults.now) (g.E.Write.contents c.cast_compared.new.faults)) (sym c.in-Compare.is)
+    (c.cast_compared.ensures.stopped one)
 
 pub returns-in-Replace-clause-done : goal.returns-in-Replace-clause-done
 returns-in-Replace-clause-done g c zero =
@@ -120,16 +142,6 @@ pub returns-in-Diff-clause-stopped : goal.returns-in-Diff-clause-stopped
 returns-in-Diff-clause-stopped g c one =
     subst (λ w. Stops w (g.F.Files.shelf c.args.files.now) (g.F.Files.shelf c.compared.new.files) (g.R.Read.remaining c.args.reader.now) (g.W.Write.contents c.args.writer.now) (g.W.Write.contents c.compared.new.writer) c.compared.result.told.is_whole (g.E.Write.contents c.args.faults.now) (g.E.Write.contents c.compared.new.faults)) (sym c.in-Diff.is)
     (subst (λ (o : Bor Text). AreNotOne (version_of c.in-Diff.one c.in-Diff.until) o (g.F.Files.shelf c.args.files.now) (g.F.Files.shelf c.compared.new.files) (g.W.Write.contents c.args.writer.now) (g.W.Write.contents c.compared.new.writer) c.compared.result.told.is_whole (g.E.Write.contents c.args.faults.now) (g.E.Write.contents c.compared.new.faults)) c.other_of.ensures (c.compared.ensures.stopped one))
-
-pub returns-in-Read-clause-done : goal.returns-in-Read-clause-done
-returns-in-Read-clause-done g c zero =
-    subst (λ w. Does w (g.F.Files.shelf c.args.files.now) (g.F.Files.shelf c.read_whole.new.files) (g.R.Read.remaining c.args.reader.now) (g.W.Write.contents c.args.writer.now) (g.W.Write.contents c.read_whole.new.writer)) (sym c.in-Read.is)
-    (c.read_whole.ensures.done zero)
-
-pub returns-in-Read-clause-stopped : goal.returns-in-Read-clause-stopped
-returns-in-Read-clause-stopped g c one =
-    subst (λ w. Stops w (g.F.Files.shelf c.args.files.now) (g.F.Files.shelf c.read_whole.new.files) (g.R.Read.remaining c.args.reader.now) (g.W.Write.contents c.args.writer.now) (g.W.Write.contents c.read_whole.new.writer) c.read_whole.result.told.is_whole (g.E.Write.contents c.args.faults.now) (g.E.Write.contents c.read_whole.new.faults)) (sym c.in-Read.is)
-    (c.read_whole.ensures.stopped one)
 
 pub returns-in-Sorts-clause-done : goal.returns-in-Sorts-clause-done
 returns-in-Sorts-clause-done g c zero =
