@@ -64,7 +64,7 @@ fn ended(got: &Outcome, status: u8, written: &[u8], reported: &[u8]) -> bool {
 }
 
 /// Whether a run on the words of a line, with a reader and a writer that do not fail, ends so.
-fn ends<F: Files + Explains>(
+pub fn ends<F: Files + Explains>(
     alloc: Global,
     files: &mut F,
     line: &str,
@@ -118,7 +118,7 @@ const TWO_SITES_ANSWERS: &[u8] =
     b"ok\nok\nok 1.1..2.1\nok new 2 known 0\ncopy r\"ab\"\ncopy r\"ab\"\nfeed 4d4644320400000000000000010001000000000000000000000200000000610000000062\n";
 
 #[test]
-fn two_sites_show_ab(rt: HostRuntime) {
+fn program_of_two_sites(rt: HostRuntime) {
     let want = TWO_SITES_ANSWERS;
     assert!(rt; ends(rt.alloc(), &mut NoFiles, "script", TWO_SITES, 0, want, b""));
 }
@@ -198,7 +198,7 @@ fn help_is_written(rt: HostRuntime) {
 }
 
 #[test]
-fn failing_writer(rt: HostRuntime) {
+fn writer_of_a_program_fails(rt: HostRuntime) {
     let reader = TrialReader::new(b"site 1\nsite 2\n");
     assert!(rt;
         script_ends(
@@ -212,7 +212,7 @@ fn failing_writer(rt: HostRuntime) {
 }
 
 #[test]
-fn failing_reader(rt: HostRuntime) {
+fn reader_of_a_program_fails(rt: HostRuntime) {
     let reader = TrialReader::new(b"site 1\nsite 2\n")
         .in_steps_of(7)
         .failing_at_call(2);
@@ -331,7 +331,7 @@ fn stopped_sheets_store_nothing(rt: HostRuntime) -> Result<(), Fail> {
 }
 
 #[test]
-fn full_set_and_stored_feed(rt: HostRuntime) {
+fn program_on_a_full_feed(rt: HostRuntime) {
     let mut files = TrialFiles::new(rt.alloc());
     let line = "desk a.feed --site 3";
     let insert = b"insert 3 0 r\"x\"\n";
@@ -370,7 +370,7 @@ fn settings_feed(alloc: Global, count: u64) -> Result<Vec<u8>, AllocError> {
 }
 
 #[test]
-fn too_many_stored(rt: HostRuntime) -> Result<(), Fail> {
+fn program_on_too_many(rt: HostRuntime) -> Result<(), Fail> {
     let feed = settings_feed(rt.alloc(), 1_048_577)?;
     let mut files = one_file(rt.alloc(), "a.feed", &feed)?;
     let line = "desk a.feed --site 3";
@@ -411,7 +411,7 @@ fn stops_in_answer<F: Files + Explains>(alloc: Global, files: &mut F) -> bool {
 }
 
 #[test]
-fn feed_stored_after_stopped_run(rt: HostRuntime) -> Result<(), Fail> {
+fn program_stores_after_a_stopped_run(rt: HostRuntime) -> Result<(), Fail> {
     let mut files = one_file(rt.alloc(), "a.feed", ONE_INSERT)?;
     assert!(rt; stops_in_answer(rt.alloc(), &mut files));
     assert!(rt; files.holds("a.feed", ONE_INSERT));
@@ -518,7 +518,7 @@ const WEDGE: &[u8] =
     b"wedge = 5\nset_q = 48\npica = \"sixth\"\nunits = [5, 6, 7, 8, 9, 9, 9, 10, 10, 11, 12, 13, 14, 15, 18]\n";
 
 /// A case without symbols, a wedge, and a feed without settings.
-fn metal(alloc: Global) -> Result<TrialFiles<Global>, AllocError> {
+pub fn metal(alloc: Global) -> Result<TrialFiles<Global>, AllocError> {
     let mut case = Vec::new(alloc);
     case.extend_from_slice(b"case = 1\nspace = \"G1\"\nfill = [\"O15\", \"A5\"]\nrows = [")?;
     for _ in 0..15 {
@@ -534,7 +534,7 @@ fn metal(alloc: Global) -> Result<TrialFiles<Global>, AllocError> {
 }
 
 /// Gives the feed its settings, and a copy of one empty paragraph.
-fn set(alloc: Global, files: &mut TrialFiles<Global>) -> bool {
+pub fn set(alloc: Global, files: &mut TrialFiles<Global>) -> bool {
     let commands =
         b"set 1 measure 120\nset 1 tight 38\nset 1 loose 150\nset 1 case 1\nset 1 wedge 5\ninsert 1 0 r\"\\n\"\n";
     match tried_on(alloc, "desk a.feed --site 1", commands, files) {
